@@ -1,0 +1,24 @@
+//! The characters of International Alphabet No. 5 that frame a message, numbers of a fixed count of digits, and
+//! the one answer that every call has which may find no memory.
+#![tactic(auto)]
+
+mod characters;
+mod digits;
+mod memory;
+
+pub use characters::{BLANK, CR, EOL, ETX, LF, SOH};
+pub use digits::{dec_is_read_back, dec_writes_every_number, number_of};
+pub use memory::NoMemory;
+
+#[cfg(test)]
+mod tests {
+    use super::*;
+
+    #[test]
+    fn digits_are_read_as_a_number(rt: HostRuntime) {
+        assert_eq!(rt; number_of(b""), Some(0));
+        assert_eq!(rt; number_of(b"00499998"), Some(499_998));
+        assert_eq!(rt; number_of(b"0000039 "), None);
+        assert_eq!(rt; number_of(b"12a"), None);
+    }
+}
