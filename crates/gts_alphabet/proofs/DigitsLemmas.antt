@@ -1,8 +1,8 @@
 -- Numbers in a fixed count of decimal digits, written and read again.
-use Rattle.std.proofs.Common.{◌≡◌, ℕ, zero, suc, ◌+◌, ◌*◌, ◌/◌, ◌%◌, ◌^◌, ◌<◌, List, [], ◌∷◌, length, get_or, refl, ◌∙◌, arith}
+use Rattle.std.proofs.Common.{◌≡◌, ℕ, zero, suc, ◌+◌, ◌*◌, ◌/◌, ◌%◌, ◌^◌, ◌<◌, List, [], ◌∷◌, ◌++◌, length, get_or, drop, set, add-one, refl, sym, ◌∙◌, arith}
 use Rattle.std.specs.Char.{digit_value}
 use Rattle.std.specs.Str.Parse.{digits_value, AllDigits}
-use Rattle.std.proofs.lemmas.List.{length_push}
+use Rattle.std.proofs.lemmas.List.{length_push, drop-set, append_assoc}
 use Rattle.std.proofs.lemmas.Int.Digits.{digits_push, digits_value_push, digits_value-lt}
 use Rattle.std.proofs.lemmas.Str.{digit_value_digit}
 use Rattle.std.proofs.lemmas.Str.Parse.{digit_from_value}
@@ -57,3 +57,14 @@ pub AllDigits-get_or : (radix : ℕ) (cs : List ℕ) (i : ℕ) → i < length cs
 AllDigits-get_or radix [] i inside all = absurd (omega (arith, inside))
 AllDigits-get_or radix (c ∷ cs) zero inside all = all.0
 AllDigits-get_or radix (c ∷ cs) (suc i) inside all = AllDigits-get_or radix cs i (omega (arith, inside)) all.1
+
+pub dec-zero : (n : ℕ) → dec 0 n ≡ []
+unfolding dec
+dec-zero n = refl
+
+-- one more digit is written in front of those that are there
+pub dec_written : (k rest : ℕ) (digits : List ℕ) → k < length digits → dec k (rest / 10) ++ drop k (set digits k (48 + rest % 10)) ≡ dec (k + 1) rest ++ drop (k + 1) digits
+unfolding dec
+dec_written k rest digits inside =
+    let there : k < length digits = inside in
+    rw drop-set (rw add-one (sym (append_assoc (dec k (rest / 10)) ((48 + rest % 10) ∷ []) (drop (suc k) digits))))

@@ -20,6 +20,21 @@ pub fn number_of(digits: &[u8]) -> Option<u32>
     Some(number)
 }
 
+/// The last `W` decimal digits of a number, the most significant first.
+pub fn digits_of<const W: usize>(number: u32) -> [u8; W]
+    ensures { result ≡ dec W number }
+{
+    let mut digits = [b'0'; W];
+    let mut rest = number;
+    let mut i = W;
+    while i > 0 {
+        i -= 1;
+        digits[i] = b'0' + (rest % 10) as u8;
+        rest /= 10;
+    }
+    digits
+}
+
 /// What was written in a fixed count of digits is read again.
 pub fn dec_is_read_back()
     ensures digits { (w n : ℕ) → AllDigits 10 (dec w n) }

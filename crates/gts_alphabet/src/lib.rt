@@ -7,7 +7,7 @@ mod digits;
 mod memory;
 
 pub use characters::{BLANK, CR, EOL, ETX, LF, SOH};
-pub use digits::{dec_is_read_back, dec_writes_every_number, number_of};
+pub use digits::{dec_is_read_back, dec_writes_every_number, digits_of, number_of};
 pub use memory::NoMemory;
 
 #[cfg(test)]
@@ -20,5 +20,11 @@ mod tests {
         assert_eq!(rt; number_of(b"00499998"), Some(499_998));
         assert_eq!(rt; number_of(b"0000039 "), None);
         assert_eq!(rt; number_of(b"12a"), None);
+    }
+
+    #[test]
+    fn a_number_is_written_in_its_last_digits(rt: HostRuntime) {
+        assert_eq!(rt; digits_of::<8>(39), *b"00000039");
+        assert_eq!(rt; digits_of::<3>(1000), *b"000");
     }
 }
