@@ -1,13 +1,22 @@
-// A library with one function.
+//! The frames that carry messages between centres: a length in eight digits, the two letters of the frame type, and
+//! the message.
 #![tactic(auto)]
 
-ghost use Rattle.std.specs.Prelude.{◌≡◌};
-ghost use Rattle.gts_frame.specs.Echo.{echo_of};
+mod buffer;
+mod kind;
+mod laws;
+mod reading;
+mod writing;
 
-// The `ensures` clause is the contract: what `echo` returns is `echo_of` of its argument, a definition
-// in `specs/Echo.antt`, which a caller's clause can cite too.
-pub fn echo(x: usize) -> usize
-    ensures { result ≡ echo_of x }
-{
-    x
-}
+pub use buffer::FrameBuf;
+pub use gts_alphabet::NoMemory;
+pub use kind::Kind;
+pub use laws::{
+    a_written_message_is_framed, frames_are_told_apart, keep_alives_and_frames_are_told_apart,
+    the_first_frame_is_made,
+};
+pub use reading::read_one;
+pub use writing::write_frame;
+
+#[cfg(test)]
+mod tests;

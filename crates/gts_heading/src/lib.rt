@@ -1,13 +1,20 @@
-// A library with one function.
+//! The abbreviated heading of a bulletin: `TTAAii CCCC YYGGgg`, and a BBB group where there is one. Also the cursor
+//! that every reader of a message moves, and the names of the fields that can be at fault.
 #![tactic(auto)]
 
-ghost use Rattle.std.specs.Prelude.{◌≡◌};
-ghost use Rattle.gts_heading.specs.Echo.{echo_of};
+mod cursor;
+mod field;
+mod heading;
+mod laws;
+mod letters;
 
-// The `ensures` clause is the contract: what `echo` returns is `echo_of` of its argument, a definition
-// in `specs/Echo.antt`, which a caller's clause can cite too.
-pub fn echo(x: usize) -> usize
-    ensures { result ≡ echo_of x }
-{
-    x
-}
+pub use cursor::Cursor;
+pub use field::Field;
+pub use heading::Heading;
+pub use laws::{
+    read_heading_is_spelled, spelled_heading_is_read, worked_headings, worked_refusals,
+};
+pub use letters::is_bbb;
+
+#[cfg(test)]
+mod tests;

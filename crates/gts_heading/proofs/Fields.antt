@@ -1,0 +1,200 @@
+-- One pair of laws for each field: what was read is spelled so, and what is spelled so is read.
+use Rattle.std.proofs.Common.{◌≡◌, ℕ, ◌<◌, ◌≤◌, ◌⊎◌, inl, inr, Bool, true, false, ◌&&◌, cond, eqb, leb, List, [], ◌∷◌, ◌++◌, length, take, drop, Option, Some, None, Result, Ok, Err, IsTrue, nat_eq, nat_le, refl, sym, ap, subst, ◌∙◌, arith}
+use Rattle.std.specs.Char.{is_ascii_digit, is_ascii_uppercase, digit_value}
+use Rattle.std.specs.List.{list_all, starts_with}
+use Rattle.std.specs.Str.Parse.{digits_value, AllDigits}
+use Rattle.std.proofs.lemmas.Bool.{leb-true, le-leb, ne_eqb, and_parts, and_from, false≢true}
+use Rattle.std.proofs.lemmas.Bool.Decides.{Decides-eqb}
+use Rattle.std.proofs.lemmas.List.{take_at, drop_at, take-append-drop, length-append, length-take-le}
+use Rattle.std.proofs.lemmas.Slice.Eq.{starts_is}
+use Rattle.std.proofs.lemmas.Str.{digit_value_digit}
+use Rattle.std.proofs.lemmas.Str.Parse.{digit_from_value}
+use Rattle.gts_alphabet.specs.Digits.{dec}
+use Rattle.gts_alphabet.specs.declared.characters.TheConstants.{EOL}
+use Rattle.gts_alphabet.proofs.DigitsLemmas.{length-dec, AllDigits-dec, digits_value-dec, dec-digits_value}
+use Rattle.gts_heading.specs.declared.field.Field.{Field}
+use Rattle.gts_heading.specs.declared.field.Field.TheVariants.{Bbb}
+use Rattle.gts_heading.specs.Letters.{are_capitals, is_bbb, is_group}
+use Rattle.gts_heading.specs.Heading.{group_text, IsGap}
+use Rattle.gts_heading.specs.Reading.{◌>>=◌, after_word, capitals_at, two_digits_at, letters_at, group_at, bare_group_at, message_group_at, after_gap, NoBlank}
+
+-- the value of a step that did not fail
+pub bind_ok : {A B : Type 0} (r : Result A Field) (f : A → Result B Field) (y : B) → (r >>= f) ≡ Ok y → (x : A) × (r ≡ Ok x) × (f x ≡ Ok y)
+bind_ok (Ok x) f y e = (x, refl, e)
+bind_ok (Err d) f y e = absurd cc
+
+-- a test that passed
+pub chosen : {A : Type 0} (b : Bool) (d : Field) (x y : A) → cond b (Ok x) (Err d) ≡ Ok y → (b ≡ true) × (x ≡ y)
+chosen true d x y e = (refl, cc)
+chosen false d x y e = absurd cc
+
+-- which way a test went
+pub chosen_of : {A : Type 0} (b : Bool) (x y z : A) → cond b x y ≡ z → ((b ≡ true) × (x ≡ z)) ⊎ ((b ≡ false) × (y ≡ z))
+chosen_of true x y z e = inl (refl, e)
+chosen_of false x y z e = inr (refl, e)
+
+abbrev done : {A : Type 0} → A → Result A Field
+done x = Ok x
+
+pub ok_is : {A : Type 0} (x y : A) → done x ≡ done y → x ≡ y
+ok_is x y e = cc
+
+-- ---- words
+
+pub starts_so : (bytes word : List ℕ) → starts_with nat_eq bytes word ≡ true → bytes ≡ word ++ drop (length word) bytes
+starts_so bytes word e = (starts_is Decides-eqb bytes word (starts_with nat_eq bytes word) refl).0 e
+
+pub word_takes : (word : List ℕ) (field : Field) (bytes rest : List ℕ) → after_word word field bytes ≡ Ok rest → bytes ≡ word ++ rest
+word_takes word field bytes rest e =
+    let passed = chosen (starts_with nat_eq bytes word) field (drop (length word) bytes) rest e in
+    starts_so bytes word passed.0 ∙ ap (λ (r : List ℕ). word ++ r) passed.1
+
+pub word_again : (word : List ℕ) (field : Field) (rest : List ℕ) → after_word word field (word ++ rest) ≡ Ok rest
+word_again word field rest =
+    let starts = (starts_is Decides-eqb (word ++ rest) word (starts_with nat_eq (word ++ rest) word) refl).1 rest refl in
+    rw (starts, drop_at word rest (length word) refl) refl
+
+-- ---- capitals
+
+pub capitals_take : (count : ℕ) (field : Field) (bytes : List ℕ) (x : List ℕ × List ℕ) → capitals_at count field bytes ≡ Ok x
+    → (bytes ≡ x.0 ++ x.1) × (length x.0 ≡ count) × IsTrue (are_capitals x.0)
+capitals_take count field bytes x e =
+    let passed = chosen (nat_le count (length bytes) && are_capitals (take count bytes)) field (take count bytes, drop count bytes) x e in
+    let both = and_parts (nat_le count (length bytes)) (are_capitals (take count bytes)) passed.0 in
+    let long : count ≤ length bytes = leb-true _ _ both.0 in
+    subst (λ (y : List ℕ × List ℕ). (bytes ≡ y.0 ++ y.1) × (length y.0 ≡ count) × IsTrue (are_capitals y.0)) passed.1
+    (sym (take-append-drop count bytes), length-take-le count bytes long, both.1)
+
+pub capitals_again : (count : ℕ) (field : Field) (letters rest : List ℕ) → length letters ≡ count → IsTrue (are_capitals letters)
+    → capitals_at count field (letters ++ rest) ≡ Ok (letters, rest)
+capitals_again count field letters rest len capitals =
+    let long : leb count (length (letters ++ rest)) ≡ true = le-leb _ _ (omega (arith, length-append letters rest)) in
+    rw (long, take_at letters rest count len, drop_at letters rest count len, capitals) refl
+
+-- ---- two digits
+
+is_digit_from_value : (c : ℕ) → digit_value c < 10 → is_ascii_digit c ≡ true
+is_digit_from_value c small =
+    let range = digit_from_value c small in
+    and_from _ _ (le-leb _ _ range.0) (le-leb _ _ range.1)
+
+value_from_is_digit : (c : ℕ) → is_ascii_digit c ≡ true → digit_value c < 10
+value_from_is_digit c e =
+    let range = and_parts _ _ e in
+    let low : 48 ≤ c = leb-true _ _ range.0 in
+    let high : c ≤ 57 = leb-true _ _ range.1 in
+    omega (arith, digit_value_digit c (low, high))
+
+pub AllDigits-from_test : (digits : List ℕ) → list_all is_ascii_digit digits ≡ true → AllDigits 10 digits
+AllDigits-from_test [] e = tt
+AllDigits-from_test (c ∷ cs) e =
+    let both = and_parts (is_ascii_digit c) (list_all is_ascii_digit cs) e in
+    (value_from_is_digit c both.0, AllDigits-from_test cs both.1)
+
+pub test_from_AllDigits : (digits : List ℕ) → AllDigits 10 digits → list_all is_ascii_digit digits ≡ true
+test_from_AllDigits [] all = refl
+test_from_AllDigits (c ∷ cs) all = and_from _ _ (is_digit_from_value c all.0) (test_from_AllDigits cs all.1)
+
+pub digits_take : (low high : ℕ) (field : Field) (bytes : List ℕ) (x : ℕ × List ℕ) → two_digits_at low high field bytes ≡ Ok x
+    → (bytes ≡ dec 2 x.0 ++ x.1) × (low ≤ x.0) × (x.0 ≤ high)
+digits_take low high field bytes x e =
+    let two = take 2 bytes in
+    let number = digits_value 10 (take 2 bytes) in
+    let passed = chosen (nat_le 2 (length bytes) && list_all is_ascii_digit (take 2 bytes) && nat_le low (digits_value 10 (take 2 bytes)) && nat_le (digits_value 10 (take 2 bytes)) high) field (digits_value 10 (take 2 bytes), drop 2 bytes) x e in
+    let below = and_parts (nat_le 2 (length bytes) && list_all is_ascii_digit (take 2 bytes) && nat_le low (digits_value 10 (take 2 bytes))) (nat_le (digits_value 10 (take 2 bytes)) high) passed.0 in
+    let above = and_parts (nat_le 2 (length bytes) && list_all is_ascii_digit (take 2 bytes)) (nat_le low (digits_value 10 (take 2 bytes))) below.0 in
+    let there = and_parts (nat_le 2 (length bytes)) (list_all is_ascii_digit (take 2 bytes)) above.0 in
+    let width : length two ≡ 2 = length-take-le 2 bytes (leb-true _ _ there.0) in
+    let written : dec 2 number ≡ two = ap (λ (w : ℕ). dec w number) (sym width) ∙ dec-digits_value two (AllDigits-from_test two there.1) in
+    let parts : bytes ≡ dec 2 number ++ drop 2 bytes = sym (take-append-drop 2 bytes) ∙ ap (λ (front : List ℕ). front ++ drop 2 bytes) (sym written) in
+    subst (λ (y : ℕ × List ℕ). (bytes ≡ dec 2 y.0 ++ y.1) × (low ≤ y.0) × (y.0 ≤ high)) passed.1
+    (parts, leb-true _ _ above.1, leb-true _ _ below.1)
+
+pub digits_again : (low high : ℕ) (field : Field) (n : ℕ) (rest : List ℕ) → low ≤ n → n ≤ high → n < 100
+    → two_digits_at low high field (dec 2 n ++ rest) ≡ Ok (n, rest)
+digits_again low high field n rest above below small =
+    let width = length-dec 2 n in
+    let long : leb 2 (length (dec 2 n ++ rest)) ≡ true = le-leb _ _ (omega (arith, length-append (dec 2 n) rest, width)) in
+    let digits = test_from_AllDigits (dec 2 n) (AllDigits-dec 2 n) in
+    let value : digits_value 10 (dec 2 n) ≡ n = digits_value-dec 2 n (omega arith) in
+    let at_least : leb low n ≡ true = le-leb _ _ above in
+    let at_most : leb n high ≡ true = le-leb _ _ below in
+    rw (long, take_at (dec 2 n) rest 2 width, drop_at (dec 2 n) rest 2 width, digits, value, at_least, at_most) refl
+
+-- ---- groups
+
+letters_take : (bytes : List ℕ) (x : List ℕ × List ℕ) → letters_at bytes ≡ Ok x → (bytes ≡ x.0 ++ x.1) × IsTrue (is_bbb x.0)
+letters_take bytes x e =
+    let passed = chosen (is_bbb (take 3 bytes)) Bbb (take 3 bytes, drop 3 bytes) x e in
+    subst (λ (y : List ℕ × List ℕ). (bytes ≡ y.0 ++ y.1) × IsTrue (is_bbb y.0)) passed.1 (sym (take-append-drop 3 bytes), passed.0)
+
+letters_again : (letters rest : List ℕ) → IsTrue (is_bbb letters) → letters_at (letters ++ rest) ≡ Ok (letters, rest)
+letters_again (a ∷ b ∷ c ∷ []) rest e = rw e refl
+letters_again [] rest e = absurd cc
+letters_again (a ∷ []) rest e = absurd cc
+letters_again (a ∷ b ∷ []) rest e = absurd cc
+letters_again (a ∷ b ∷ c ∷ d ∷ more) rest e = absurd cc
+
+pub bare_group_takes : (bytes : List ℕ) (x : Option (List ℕ) × List ℕ) → bare_group_at bytes ≡ Ok x
+    → (bytes ≡ group_text x.0 ++ x.1) × IsTrue (is_group x.0)
+unfolding bare_group_at
+bare_group_takes bytes x e =
+    let none : Option (List ℕ) × List ℕ = (None, bytes) in
+    elim (chosen_of (starts_with nat_eq bytes (32 ∷ [])) (group_at bytes) (done none) (done x) e) [
+      | inl h ↦
+          let step = bind_ok (letters_at (drop 1 bytes)) (λ letters. Ok (Some letters.0, letters.1)) x h.1 in
+          let letters = letters_take (drop 1 bytes) step.0 step.1 in
+          let some : Option (List ℕ) × List ℕ = (Some step.0.0, step.0.1) in
+          let parts : bytes ≡ group_text (Some step.0.0) ++ step.0.1 = starts_so bytes (32 ∷ []) h.0 ∙ ap (λ (r : List ℕ). 32 ∷ r) letters.0 in
+          subst (λ (y : Option (List ℕ) × List ℕ). (bytes ≡ group_text y.0 ++ y.1) × IsTrue (is_group y.0)) (ok_is some x step.2) (parts, letters.1)
+      | inr h ↦ subst (λ (y : Option (List ℕ) × List ℕ). (bytes ≡ group_text y.0 ++ y.1) × IsTrue (is_group y.0)) (ok_is none x h.1) (refl, refl)
+    ]
+
+pub bare_group_again : (group : Option (List ℕ)) (rest : List ℕ) → IsTrue (is_group group) → NoBlank rest
+    → bare_group_at (group_text group ++ rest) ≡ Ok (group, rest)
+unfolding bare_group_at
+bare_group_again None rest is none = rw none refl
+bare_group_again (Some letters) rest is none = rw (letters_again letters rest is) refl
+
+pub message_group_takes : (bytes : List ℕ) (x : Option (List ℕ) × List ℕ) → message_group_at bytes ≡ Ok x
+    → (bytes ≡ group_text x.0 ++ x.1) × IsTrue (is_group x.0)
+unfolding message_group_at
+message_group_takes bytes x e =
+    let none : Option (List ℕ) × List ℕ = (None, bytes) in
+    elim (chosen_of (starts_with nat_eq bytes (32 ∷ 13 ∷ [])) (done none) (bare_group_at bytes) (done x) e) [
+      | inl h ↦ subst (λ (y : Option (List ℕ) × List ℕ). (bytes ≡ group_text y.0 ++ y.1) × IsTrue (is_group y.0)) (ok_is none x h.1) (refl, refl)
+      | inr h ↦ bare_group_takes bytes x h.1
+    ]
+
+-- the first letter of a group is a capital, and so no CR
+no_cr : (a b c : ℕ) → IsTrue (is_bbb (a ∷ b ∷ c ∷ [])) → eqb 13 a ≡ false
+no_cr a b c is =
+    ne_eqb 13 a (λ cr.
+    let at_cr : IsTrue (is_bbb (13 ∷ b ∷ c ∷ [])) = subst (λ (x : ℕ). IsTrue (is_bbb (x ∷ b ∷ c ∷ []))) (sym cr) is in
+    false≢true (and_parts (is_ascii_uppercase c) false at_cr).1)
+
+pub message_group_again : (group : Option (List ℕ)) (gap rest : List ℕ) → IsTrue (is_group group) → IsGap gap
+    → message_group_at (group_text group ++ (gap ++ (EOL ++ rest))) ≡ Ok (group, gap ++ (EOL ++ rest))
+unfolding message_group_at bare_group_at
+message_group_again None gap rest is (inl e) = rw e refl
+message_group_again None gap rest is (inr e) = rw e refl
+message_group_again (Some (a ∷ b ∷ c ∷ [])) gap rest is is_gap = rw (no_cr a b c is, is) refl
+message_group_again (Some []) gap rest is is_gap = absurd cc
+message_group_again (Some (a ∷ [])) gap rest is is_gap = absurd cc
+message_group_again (Some (a ∷ b ∷ [])) gap rest is is_gap = absurd cc
+message_group_again (Some (a ∷ b ∷ c ∷ d ∷ more)) gap rest is is_gap = absurd cc
+
+-- ---- the gap
+
+pub gap_takes : (bytes : List ℕ) → (gap : List ℕ) × IsGap gap × (bytes ≡ gap ++ after_gap bytes)
+gap_takes bytes =
+    let none : List ℕ = [] in
+    let one : List ℕ = 32 ∷ [] in
+    elim (chosen_of (starts_with nat_eq bytes (32 ∷ [])) (drop 1 bytes) bytes (after_gap bytes) refl) [
+      | inl h ↦ (one, inr refl, starts_so bytes (32 ∷ []) h.0 ∙ ap (λ (r : List ℕ). 32 ∷ r) h.1)
+      | inr h ↦ (none, inl refl, h.1)
+    ]
+
+pub gap_again : (gap rest : List ℕ) → IsGap gap → after_gap (gap ++ (EOL ++ rest)) ≡ EOL ++ rest
+gap_again gap rest (inl e) = rw e refl
+gap_again gap rest (inr e) = rw e refl

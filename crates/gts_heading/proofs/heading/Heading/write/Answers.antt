@@ -1,0 +1,21 @@
+use Rattle.std.proofs.Common.{length, sym, ap, ◌∙◌, append_assoc, arith}
+use Rattle.std.proofs.lemmas.List.{append-nil, length-take-le}
+use Rattle.std.proofs.lemmas.Grind.{common_steps}
+use Rattle.gts_heading.specs.Heading.{heading_text}
+use Rattle.gts_heading.proofs.heading.Heading.write.Goals as goal
+
+pub returns-in-None-clause-written : goal.returns-in-None-clause-written
+unfolding heading_text
+returns-in-None-clause-written c = rw (c.in-None.is, append-nil) cc
+
+pub returns-in-Some-clause-written : goal.returns-in-Some-clause-written
+unfolding heading_text
+returns-in-Some-clause-written c = rw c.in-Some.is (grind (arith, append_assoc))
+
+pub returns-in-None-clause-length : goal.returns-in-None-clause-length
+returns-in-None-clause-length c =
+    sym (length-take-le c.put-at-9.result c.put-at-9.new.into (omega arith)) ∙ ap length (returns-in-None-clause-written c)
+
+pub returns-in-Some-clause-length : goal.returns-in-Some-clause-length
+returns-in-Some-clause-length c =
+    sym (length-take-le c.put.result c.put.new.into (grind (arith, common_steps))) ∙ ap length (returns-in-Some-clause-written c)

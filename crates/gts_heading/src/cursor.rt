@@ -1,0 +1,117 @@
+ghost use Rattle.std.specs.Prelude.{◌≡◌, ◌≤◌, List, ℕ, IsTrue, Ok, Err, IfOk, OnErr, MatchResult, length, take, drop, nat_eq};
+ghost use Rattle.std.specs.List.{starts_with};
+ghost use Rattle.gts_heading.specs.Letters as letters;
+ghost use Rattle.gts_heading.specs.Reading.{after_word, capitals_at, two_digits_at, letters_at, after_gap};
+
+use crate::Field;
+use crate::letters::{are_capitals, is_bbb};
+use gts_alphabet::{BLANK, number_of};
+use std::marker::Model;
+
+/// The bytes of a message that are left to read. A field that is there is passed over; one that isn't there is named,
+/// and the cursor stays where it is.
+#[derive(Debug, Drop)]
+pub struct Cursor<'a> {
+    rest: &'a [u8],
+}
+
+impl<'a> Model for Cursor<'a> {
+    ghost Value = { List ℕ };
+
+    ghost view = { λ cursor. cursor.rest.now };
+}
+
+impl<'a> Cursor<'a> {
+    /// A cursor before the first of these bytes.
+    pub fn new(bytes: &'a [u8]) -> Cursor<'a>
+        ensures { result ≡ bytes.now }
+    {
+        Cursor { rest: bytes }
+    }
+
+    /// All that is left.
+    pub fn rest(&self) -> &'a [u8]
+        ensures { result.now ≡ self.now }
+    {
+        self.rest
+    }
+
+    /// Whether this is what comes next.
+    pub fn is_at(&self, word: &[u8]) -> bool
+        ensures { result ≡ starts_with nat_eq self.now word.now }
+    {
+        self.rest.starts_with(word)
+    }
+
+    /// Passes over this word. The refusal is the field that was given.
+    pub fn word(&mut self, word: &[u8], field: Field) -> Result<(), Field>
+        ensures exact { MatchResult result
+            (λ _. after_word word.now field self.old ≡ Ok self.new)
+            (λ refused. after_word word.now field self.old ≡ Err refused) }
+        ensures stays { OnErr result (self.new ≡ self.old) }
+    {
+        if !self.rest.starts_with(word) {
+            return Err(field);
+        }
+        self.rest = &self.rest[word.len()..];
+        Ok(())
+    }
+
+    /// Passes over one blank, where there is one.
+    pub fn gap(&mut self)
+        ensures { self.new ≡ after_gap self.old }
+    {
+        if self.is_at(&[BLANK]) {
+            self.rest = &self.rest[1..];
+        }
+    }
+
+    /// Reads so many capitals. The refusal is the field that was given.
+    pub fn capitals<const N: usize>(&mut self, field: Field) -> Result<[u8; N], Field>
+        ensures exact { MatchResult result
+            (λ letters. capitals_at N field self.old ≡ Ok (letters, self.new))
+            (λ refused. capitals_at N field self.old ≡ Err refused) }
+        ensures capitals { IfOk result (λ capitals. IsTrue (letters.are_capitals capitals)) }
+        ensures stays { OnErr result (self.new ≡ self.old) }
+    {
+        let (letters, rest) = self.rest.split_first_chunk::<N>().ok_or(field)?;
+        if !are_capitals(letters) {
+            return Err(field);
+        }
+        self.rest = rest;
+        Ok(*letters)
+    }
+
+    /// Reads a number of two digits, from low to high. The refusal is the field that was given.
+    pub fn two_digits(&mut self, low: u8, high: u8, field: Field) -> Result<u8, Field>
+        ensures exact { MatchResult result
+            (λ number. two_digits_at low high field self.old ≡ Ok (number, self.new))
+            (λ refused. two_digits_at low high field self.old ≡ Err refused) }
+        ensures range { IfOk result (λ number. (low ≤ number) × (number ≤ high)) }
+        ensures stays { OnErr result (self.new ≡ self.old) }
+    {
+        let (digits, rest) = self.rest.split_first_chunk::<2>().ok_or(field)?;
+        let number = number_of(digits).ok_or(field)? as u8;
+        if number < low || high < number {
+            return Err(field);
+        }
+        self.rest = rest;
+        Ok(number)
+    }
+
+    /// Reads the three letters of a BBB group.
+    pub fn group(&mut self) -> Result<[u8; 3], Field>
+        ensures exact { MatchResult result
+            (λ group. letters_at self.old ≡ Ok (group, self.new))
+            (λ refused. letters_at self.old ≡ Err refused) }
+        ensures group { IfOk result (λ group. IsTrue (letters.is_bbb group)) }
+        ensures stays { OnErr result (self.new ≡ self.old) }
+    {
+        let (letters, rest) = self.rest.split_first_chunk::<3>().ok_or(Field::Bbb)?;
+        if !is_bbb(*letters) {
+            return Err(Field::Bbb);
+        }
+        self.rest = rest;
+        Ok(*letters)
+    }
+}
