@@ -1,13 +1,12 @@
-// A library with one function.
+//! The routing directory: which circuits get a bulletin, and at which level. Until a directory is read from a file,
+//! the switch has a fixed one with two circuits.
 #![tactic(auto)]
 
-ghost use Rattle.std.specs.Prelude.{◌≡◌};
-ghost use Rattle.gts_directory.specs.Echo.{echo_of};
+mod fixed;
+mod rows;
 
-// The `ensures` clause is the contract: what `echo` returns is `echo_of` of its argument, a definition
-// in `specs/Echo.antt`, which a caller's clause can cite too.
-pub fn echo(x: usize) -> usize
-    ensures { result ≡ echo_of x }
-{
-    x
-}
+pub use fixed::FixedDirectory;
+pub use rows::{
+    a_circuit_of_the_same_peer_gets_nothing, a_level_row_gives_the_level, each_bulletin_goes_to_the_other_circuit,
+    rules_that_match_are_joined,
+};

@@ -1,13 +1,38 @@
-// A library with one function.
+//! What the switch knows of the world outside: sources of bytes, sinks for them, the station that says what the
+//! operator and the neighbours get, the lines of the circuits, and gates for tests. Each trait says what its calls
+//! mean where an object tells its content, and counts the faults of every object.
 #![tactic(auto)]
 
-ghost use Rattle.std.specs.Prelude.{◌≡◌};
-ghost use Rattle.gts_traits.specs.Echo.{echo_of};
+mod failed;
+mod gate;
+mod laws;
+mod lines;
+mod mem_lines;
+mod mem_sink;
+mod mem_source;
+mod mem_station;
+mod sayings;
+mod sink;
+mod source;
+mod station;
+mod words;
 
-// The `ensures` clause is the contract: what `echo` returns is `echo_of` of its argument, a definition
-// in `specs/Echo.antt`, which a caller's clause can cite too.
-pub fn echo(x: usize) -> usize
-    ensures { result ≡ echo_of x }
-{
-    x
-}
+pub use failed::Failed;
+pub use gate::{FreeGate, Gate, Point};
+pub use gts_alphabet::NoMemory;
+pub use laws::{
+    a_channel_has_what_was_said_on_it, a_say_says_a_front_of_its_bytes, later_calls_say_more,
+    pieces_on_a_channel_join, what_is_said_chains,
+};
+pub use lines::Lines;
+pub use mem_lines::MemLines;
+pub use mem_sink::MemSink;
+pub use mem_source::MemSource;
+pub use mem_station::MemStation;
+pub use sink::Sink;
+pub use source::Source;
+pub use station::Station;
+pub use words::WordList;
+
+#[cfg(test)]
+mod tests;

@@ -1,0 +1,3 @@
+pub mod OutsideLemmas
+mod ReadingLemmas
+mod ChannelsLemmas

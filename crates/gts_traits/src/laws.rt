@@ -1,0 +1,37 @@
+ghost use Rattle.std.specs.Prelude.{◌≡◌, ℕ, List, [], ◌++◌, Ok, Err};
+ghost use Rattle.gts_traits.specs.declared.failed.Failed.{Failed};
+ghost use Rattle.gts_traits.specs.Station.{Call, Outside, Says, Tries, SaidSince, on, said, channel_bytes};
+
+/// What was said by calls and by later ones is what the first said, and then what the later ones said.
+pub fn later_calls_say_more()
+    ensures { (later earlier : List Call) → said (later ++ earlier) ≡ said earlier ++ said later }
+{}
+
+/// From a moment to the same moment nothing is said, and what is said between three moments chains.
+pub fn what_is_said_chains()
+    ensures nothing { (calls : List Call) → SaidSince calls calls [] }
+    ensures chains { (a b c : List Call) (x y : Outside) → SaidSince a b x → SaidSince b c y → SaidSince a c (x ++ y) }
+{}
+
+/// A say that was done said all its bytes, and one that failed said a front of them.
+pub fn a_say_says_a_front_of_its_bytes()
+    ensures done { (channel : ℕ) (bytes : List ℕ) (told : Unit {0}) (old new : List Call) →
+        Tries {E = Failed} (Says channel bytes) (Ok told) old new → SaidSince old new (on channel bytes) }
+    ensures failed { (channel : ℕ) (bytes : List ℕ) (failed : Failed) (old new : List Call) →
+        Tries {T = Unit {0}} (Says channel bytes) (Err failed) old new →
+        (left : List ℕ) × (rest : List ℕ) × (bytes ≡ left ++ rest) × SaidSince old new (on channel left) }
+{}
+
+/// Two pieces that are said on one channel one after the other are one piece.
+pub fn pieces_on_a_channel_join()
+    ensures { (channel : ℕ) (xs ys : List ℕ) → on channel (xs ++ ys) ≡ on channel xs ++ on channel ys }
+{}
+
+/// On a channel is heard what is said there, in its order, and nothing of what is said elsewhere.
+pub fn a_channel_has_what_was_said_on_it()
+    ensures nothing { (channel : ℕ) → channel_bytes channel [] ≡ [] }
+    ensures joined { (channel : ℕ) (x y : Outside) →
+        channel_bytes channel (x ++ y) ≡ channel_bytes channel x ++ channel_bytes channel y }
+    ensures here { (channel : ℕ) (bytes : List ℕ) → channel_bytes channel (on channel bytes) ≡ bytes }
+    ensures elsewhere { (channel other : ℕ) (bytes : List ℕ) → (other ≡ channel → ⊥) → channel_bytes channel (on other bytes) ≡ [] }
+{}
