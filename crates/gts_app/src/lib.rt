@@ -1,13 +1,13 @@
-// A library with one function.
+//! The switch as one call: words, a capture, a station, and what is said.
 #![tactic(auto)]
 
-ghost use Rattle.std.specs.Prelude.{◌≡◌};
-ghost use Rattle.gts_app.specs.Echo.{echo_of};
+mod reading;
+mod replaying;
+mod running;
+mod status;
 
-// The `ensures` clause is the contract: what `echo` returns is `echo_of` of its argument, a definition
-// in `specs/Echo.antt`, which a caller's clause can cite too.
-pub fn echo(x: usize) -> usize
-    ensures { result ≡ echo_of x }
-{
-    x
-}
+pub use running::run;
+pub use status::Status;
+
+#[cfg(test)]
+mod tests;

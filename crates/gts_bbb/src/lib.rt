@@ -1,13 +1,11 @@
-// A library with one function.
+//! The BBB groups of a heading by kind: delayed bulletins, corrections, amendments and segments.
 #![tactic(auto)]
 
-ghost use Rattle.std.specs.Prelude.{◌≡◌};
-ghost use Rattle.gts_bbb.specs.Echo.{echo_of};
+mod bbb;
+mod laws;
 
-// The `ensures` clause is the contract: what `echo` returns is `echo_of` of its argument, a definition
-// in `specs/Echo.antt`, which a caller's clause can cite too.
-pub fn echo(x: usize) -> usize
-    ensures { result ≡ echo_of x }
-{
-    x
-}
+pub use bbb::Bbb;
+pub use laws::{kinds_are_the_groups, worked_groups};
+
+#[cfg(test)]
+mod tests;

@@ -1,13 +1,13 @@
-// A library with one function.
+//! Captures: what came on the circuits and when something was taken, read as a list of steps.
 #![tactic(auto)]
 
-ghost use Rattle.std.specs.Prelude.{◌≡◌};
-ghost use Rattle.gts_capture.specs.Echo.{echo_of};
+mod laws;
+mod reading;
+mod step;
 
-// The `ensures` clause is the contract: what `echo` returns is `echo_of` of its argument, a definition
-// in `specs/Echo.antt`, which a caller's clause can cite too.
-pub fn echo(x: usize) -> usize
-    ensures { result ≡ echo_of x }
-{
-    x
-}
+pub use laws::captures_are_told_apart;
+pub use reading::{CaptureError, LONGEST_CAPTURE, read_capture};
+pub use step::CaptureStep;
+
+#[cfg(test)]
+mod tests;

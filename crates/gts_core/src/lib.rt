@@ -1,13 +1,10 @@
-// A library with one function.
+//! The switch as a value, without a disk and without threads: what was accepted, and what was drawn.
 #![tactic(auto)]
 
-ghost use Rattle.std.specs.Prelude.{◌≡◌};
-ghost use Rattle.gts_core.specs.Echo.{echo_of};
+mod held;
+mod plain;
 
-// The `ensures` clause is the contract: what `echo` returns is `echo_of` of its argument, a definition
-// in `specs/Echo.antt`, which a caller's clause can cite too.
-pub fn echo(x: usize) -> usize
-    ensures { result ≡ echo_of x }
-{
-    x
-}
+pub use plain::PlainCore;
+
+#[cfg(test)]
+mod tests;

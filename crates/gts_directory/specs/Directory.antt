@@ -1,5 +1,5 @@
 -- The routing directory: which circuits get a bulletin, and at which level (profile).
-use Rattle.std.specs.Prelude.{ℕ, Bool, true, not, ◌&&◌, ◌||◌, ◌==◌, nat_eq, List, [], ◌∷◌, ◌++◌, length, take, drop, map, filter, slice_index, slice_index_or, if◌then◌else◌, codes}
+use Rattle.std.specs.Prelude.{ℕ, Bool, true, not, ◌&&◌, ◌||◌, ◌==◌, nat_eq, List, [], ◌∷◌, length, take, drop, map, filter, slice_index, slice_index_or, if◌then◌else◌, codes}
 use Rattle.std.specs.List.{list_any, range_with_len}
 use Rattle.std.specs.Cmp.Lexicographic.{pointwise}
 use Rattle.gts_alphabet.specs.Digits.{dec}

@@ -7,6 +7,9 @@ mod rows;
 
 pub use fixed::FixedDirectory;
 pub use rows::{
-    a_circuit_of_the_same_peer_gets_nothing, a_level_row_gives_the_level, each_bulletin_goes_to_the_other_circuit,
-    rules_that_match_are_joined,
+    a_circuit_of_the_same_peer_gets_nothing, a_level_row_gives_the_level,
+    each_bulletin_goes_to_the_other_circuit, rules_that_match_are_joined,
 };
+
+#[cfg(test)]
+mod tests;

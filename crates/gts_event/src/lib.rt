@@ -1,13 +1,14 @@
-// A library with one function.
+//! What happened in the switch: events, what each of them led to, the two lists that they leave, and what is said.
+//! The definitions in `specs/` are what every layer above is proved to follow.
 #![tactic(auto)]
 
-ghost use Rattle.std.specs.Prelude.{◌≡◌};
-ghost use Rattle.gts_event.specs.Echo.{echo_of};
+mod laws;
+mod outcome;
+mod receipts;
+mod rows;
 
-// The `ensures` clause is the contract: what `echo` returns is `echo_of` of its argument, a definition
-// in `specs/Echo.antt`, which a caller's clause can cite too.
-pub fn echo(x: usize) -> usize
-    ensures { result ≡ echo_of x }
-{
-    x
-}
+pub use outcome::{Outcome, Refusal};
+pub use receipts::receipt;
+
+#[cfg(test)]
+mod tests;

@@ -1,5 +1,5 @@
 -- One pair of laws for each field: what was read is spelled so, and what is spelled so is read.
-use Rattle.std.proofs.Common.{◌≡◌, ℕ, ◌<◌, ◌≤◌, ◌⊎◌, inl, inr, Bool, true, false, ◌&&◌, cond, eqb, leb, List, [], ◌∷◌, ◌++◌, length, take, drop, Option, Some, None, Result, Ok, Err, IsTrue, nat_eq, nat_le, refl, sym, ap, subst, ◌∙◌, arith}
+use Rattle.std.proofs.Common.{◌≡◌, ℕ, ◌<◌, ◌≤◌, ◌⊎◌, inl, inr, Bool, true, false, ◌&&◌, cond, eqb, leb, List, [], ◌∷◌, ◌++◌, length, take, drop, Option, Some, None, Result, Ok, Err, IsTrue, nat_eq, nat_le, refl, sym, ap, subst, ◌∙◌, append_assoc, arith}
 use Rattle.std.specs.Char.{is_ascii_digit, is_ascii_uppercase, digit_value}
 use Rattle.std.specs.List.{list_all, starts_with}
 use Rattle.std.specs.Str.Parse.{digits_value, AllDigits}
@@ -22,6 +22,14 @@ use Rattle.gts_heading.specs.Reading.{◌>>=◌, after_word, capitals_at, two_di
 pub bind_ok : {A B : Type 0} (r : Result A Field) (f : A → Result B Field) (y : B) → (r >>= f) ≡ Ok y → (x : A) × (r ≡ Ok x) × (f x ≡ Ok y)
 bind_ok (Ok x) f y e = (x, refl, e)
 bind_ok (Err d) f y e = absurd cc
+
+-- what follows from a step that did not fail
+pub step_ok : {A B : Type 0} (r : Result A Field) (f : A → Result B Field) (y : B) (P : Type 0) → (r >>= f) ≡ Ok y → ((x : A) → r ≡ Ok x → f x ≡ Ok y → P) → P
+step_ok r f y P e next = let step = bind_ok r f y e in next step.0 step.1 step.2
+
+-- one more part of the front
+pub and_part : (bytes front rest part more : List ℕ) → bytes ≡ front ++ rest → rest ≡ part ++ more → bytes ≡ front ++ part ++ more
+and_part bytes front rest part more e f = e ∙ ap (λ (r : List ℕ). front ++ r) f ∙ sym (append_assoc front part more)
 
 -- a test that passed
 pub chosen : {A : Type 0} (b : Bool) (d : Field) (x y : A) → cond b (Ok x) (Err d) ≡ Ok y → (b ≡ true) × (x ≡ y)

@@ -10,7 +10,7 @@ use Rattle.gts_heading.specs.declared.heading.Heading.{Heading}
 use Rattle.gts_heading.specs.Letters.{is_group}
 use Rattle.gts_heading.specs.Heading.{HeadingFields, IsHeading, group_text, heading_text, IsGap, fields_of}
 use Rattle.gts_heading.specs.Reading.{◌>>=◌, after_word, capitals_at, two_digits_at, plain_heading_at, bare_group_at, message_group_at, with_group, bare_heading_at, after_gap, heading_at, NoBlank}
-use Rattle.gts_heading.proofs.Fields.{bind_ok, ok_is, word_takes, capitals_take, capitals_again, digits_take, digits_again, bare_group_takes, bare_group_again, message_group_takes, message_group_again, gap_takes, gap_again}
+use Rattle.gts_heading.proofs.Fields.{bind_ok, step_ok, and_part, ok_is, word_takes, capitals_take, capitals_again, digits_take, digits_again, bare_group_takes, bare_group_again, message_group_takes, message_group_again, gap_takes, gap_again}
 
 -- ---- a heading without its group
 
@@ -50,16 +50,8 @@ from_ii tt aa bytes = two_digits_at 0 99 Ii bytes >>= λ ii. before_cccc tt aa i
 abbrev from_aa : List ℕ → List ℕ → Read
 from_aa tt bytes = capitals_at 2 Aa bytes >>= λ aa. from_ii tt aa.0 aa.1
 
--- what follows from a step that did not fail
-step_ok : {A B : Type 0} (r : Result A Field) (f : A → Result B Field) (y : B) (P : Type 0) → (r >>= f) ≡ Ok y → ((x : A) → r ≡ Ok x → f x ≡ Ok y → P) → P
-step_ok r f y P e next = let step = bind_ok r f y e in next step.0 step.1 step.2
-
 at_most_below : (n m : ℕ) → n ≤ m → n < suc m
 at_most_below n m h = omega arith
-
--- one more part of the front
-and_part : (bytes front rest part more : List ℕ) → bytes ≡ front ++ rest → rest ≡ part ++ more → bytes ≡ front ++ part ++ more
-and_part bytes front rest part more e f = e ∙ ap (λ (r : List ℕ). front ++ r) f ∙ sym (append_assoc front part more)
 
 -- nine parts, one behind the other
 joined : (bytes a ra b rb c rc d rd e re f rf g rg h rh i ri : List ℕ)

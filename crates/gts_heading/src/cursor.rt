@@ -99,7 +99,7 @@ impl<'a> Cursor<'a> {
         Ok(number)
     }
 
-    /// Reads the three letters of a BBB group.
+    /// Reads the three letters of a BBB group (this project's profile). The refusal is `Bbb`.
     pub fn group(&mut self) -> Result<[u8; 3], Field>
         ensures exact { MatchResult result
             (λ group. letters_at self.old ≡ Ok (group, self.new))

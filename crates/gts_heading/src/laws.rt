@@ -3,6 +3,7 @@
 ghost use Rattle.std.specs.Prelude.{◌≡◌, ◌++◌, ℕ, List, [], None, Some, Result, Ok, Err, codes};
 ghost use Rattle.gts_alphabet.specs.declared.characters.TheConstants.{EOL};
 ghost use Rattle.gts_heading.specs.Heading.{HeadingFields, IsHeading, IsGap, heading_text};
+ghost use Rattle.gts_heading.specs.Worked.{worked_heading};
 ghost use Rattle.gts_heading.specs.Reading.{NoBlank, bare_heading_at, heading_at};
 
 use crate::Field;
@@ -25,9 +26,9 @@ pub fn read_heading_is_spelled()
 /// Headings read byte for byte, without a group and with one, alone and before the end of their line.
 pub fn worked_headings()
     ensures plain { bare_heading_at (codes "SMVG01 TVSV 280000")
-        ≡ Ok (record { tt = codes "SM"; aa = codes "VG"; ii = 1; cccc = codes "TVSV"; day = 28; hour = 0; minute = 0; bbb = None }, []) }
+        ≡ Ok (worked_heading None, []) }
     ensures grouped { bare_heading_at (codes "SMVG01 TVSV 280000 RRA")
-        ≡ Ok (record { tt = codes "SM"; aa = codes "VG"; ii = 1; cccc = codes "TVSV"; day = 28; hour = 0; minute = 0; bbb = Some (codes "RRA") }, []) }
+        ≡ Ok (worked_heading (Some (codes "RRA")), []) }
     ensures line { heading_at (codes "SMVG01 TVSV 312359 \r\r\nNIL=")
         ≡ Ok (record { tt = codes "SM"; aa = codes "VG"; ii = 1; cccc = codes "TVSV"; day = 31; hour = 23; minute = 59; bbb = None }, codes "NIL=") }
 {}

@@ -1,13 +1,17 @@
-// A library with one function.
+//! A message of the Global Telecommunication System taken apart: starting line, sequence number, abbreviated heading,
+//! text and end.
 #![tactic(auto)]
 
-ghost use Rattle.std.specs.Prelude.{◌≡◌};
-ghost use Rattle.gts_message.specs.Echo.{echo_of};
+mod laws;
+mod message;
+mod reading;
 
-// The `ensures` clause is the contract: what `echo` returns is `echo_of` of its argument, a definition
-// in `specs/Echo.antt`, which a caller's clause can cite too.
-pub fn echo(x: usize) -> usize
-    ensures { result ≡ echo_of x }
-{
-    x
-}
+pub use gts_heading::Field;
+pub use laws::{
+    body_limit, messages_have_no_fault, spelled_message_is_split, split_message_is_spelled,
+    worked_messages, worked_refusals,
+};
+pub use message::{Body, Message, Parts};
+
+#[cfg(test)]
+mod tests;

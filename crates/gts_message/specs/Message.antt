@@ -1,0 +1,92 @@
+-- A message as the concatenation of its parts, and its fields read from left to right (the Manual's message format; the
+-- gaps and the limit are this project's profile).
+use Rattle.std.specs.Prelude.{◌≡◌, ◌⊎◌, ℕ, ◌-◌, ◌<◌, ◌≤◌, ◌^◌, ◌&&◌, ◌||◌, ◌==◌, nat_eq, nat_le, List, [], ◌∷◌, ◌++◌, length, take, drop, take_while, Option, Some, None, Result, Ok, Err, if◌then◌else◌}
+use Rattle.std.specs.Char.{is_ascii_digit}
+use Rattle.std.specs.Str.Parse.{digits_value}
+use Rattle.std.specs.List.{ends_with}
+use Rattle.gts_alphabet.specs.Digits.{dec}
+use Rattle.gts_alphabet.specs.Message.{message_of}
+use Rattle.gts_alphabet.specs.declared.characters.TheConstants.{SOH, ETX, EOL}
+use Rattle.gts_heading.specs.declared.field.Field.{Field}
+use Rattle.gts_heading.specs.declared.field.Field.TheVariants.{StartLine, Number, HeadingStart, End, Size}
+use Rattle.gts_heading.specs.Heading.{HeadingFields, IsHeading, IsGap, heading_text, fields_of}
+use Rattle.gts_heading.specs.Reading.{◌>>=◌, after_word, after_gap, heading_at}
+use Rattle.gts_message.specs.declared.message.Parts.{Parts}
+
+-- the parts of a message, without where they lie in memory
+pub record MessageParts : Type 0 where
+  pub number : ℕ
+  pub digits : ℕ
+  pub heading : HeadingFields
+  pub text : List ℕ
+  pub body : List ℕ
+
+-- the longest body that is accepted (profile): with a five-digit number it still fits a frame
+abbrev pub longest_body : ℕ
+longest_body = 499988
+
+-- the end of a message
+abbrev pub end_text : List ℕ
+end_text = EOL ++ ETX ∷ []
+
+-- heading, one blank or none, CR CR LF, text, CR CR LF, ETX
+pub record IsBody (body : List ℕ) (heading : HeadingFields) (text : List ℕ) : Type 0 where
+  pub heading_is : IsHeading heading
+  pub spelled : (gap : List ℕ) × IsGap gap × (body ≡ heading_text heading ++ gap ++ EOL ++ text ++ end_text)
+
+-- SOH, CR CR LF, a number of three digits or five, one blank or none, CR CR LF, and the body
+pub record IsMessage (message : List ℕ) (parts : MessageParts) : Type 0 where
+  pub digits : (parts.digits ≡ 3) ⊎ (parts.digits ≡ 5)
+  pub number : parts.number < 10 ^ parts.digits
+  pub body : IsBody parts.body parts.heading parts.text
+  pub short : length parts.body ≤ longest_body
+  pub spelled : (gap : List ℕ) × IsGap gap × (message ≡ message_of (dec parts.digits parts.number ++ gap) parts.body)
+
+-- the digits at the front, as many as there are
+abbrev pub digit_run : List ℕ → List ℕ
+digit_run bytes = take_while is_ascii_digit bytes
+
+-- a number of three digits or five, how many, and the bytes behind them
+unfoldable pub number_at : List ℕ → Result (ℕ × ℕ × List ℕ) Field
+number_at bytes =
+    if (length (digit_run bytes) == 3) || (length (digit_run bytes) == 5)
+    then Ok (digits_value 10 (digit_run bytes), length (digit_run bytes), drop (length (digit_run bytes)) bytes)
+    else Err Number
+
+-- the text: all but the end
+unfoldable pub text_at : List ℕ → Result (List ℕ) Field
+text_at bytes = if nat_le 4 (length bytes) && ends_with nat_eq bytes end_text then Ok (take (length bytes - 4) bytes) else Err End
+
+-- the heading and the text of a body
+unfoldable pub body_at : List ℕ → Result (HeadingFields × List ℕ) Field
+body_at body = do
+  heading ← heading_at body
+  text ← text_at heading.1
+  Ok (heading.0, text)
+
+-- the parts of a message, or the first field at fault
+unfoldable pub split_at : List ℕ → Result MessageParts Field
+split_at message = do
+  start ← after_word (SOH ∷ EOL) StartLine message
+  number ← number_at start
+  body ← after_word EOL HeadingStart (after_gap number.2)
+  found ← body_at body
+  if nat_le (length body) longest_body
+      then Ok (record { number = number.0; digits = number.1; heading = found.0; text = found.1; body = body })
+      else Err Size
+
+-- the first field at fault; none exactly where it is a message
+abbrev pub fault : List ℕ → Option Field
+fault message = elim (split_at message) [ Ok _ ↦ None | Err field ↦ Some field ]
+
+-- the parts that a call answers
+abbrev pub parts_of : Parts → MessageParts
+parts_of p = record { number = p.number; digits = p.digits; heading = fields_of p.heading; text = p.text.now; body = p.body.now }
+
+-- a message over these bytes, whatever they are: the line of the number, that of the heading, the text and the end
+abbrev pub message_over : List ℕ → List ℕ → List ℕ → List ℕ
+message_over number heading text = message_of number (heading ++ EOL ++ text ++ end_text)
+
+-- a text of ten bytes, with CR CR LF and ETX among them
+abbrev pub binary_text : List ℕ
+binary_text = 0x42 ∷ 0x55 ∷ 0x46 ∷ 0x52 ∷ 0x03 ∷ 0x0d ∷ 0x0d ∷ 0x0a ∷ 0x03 ∷ 0x37 ∷ []

@@ -1,0 +1,110 @@
+ghost use Rattle.std.specs.Prelude.{◌≡◌, ◌≤◌, List, ℕ, Result, Ok, Err, IfOk, IsOk, MatchResult, length};
+ghost use Rattle.gts_heading.specs.Heading.{HeadingFields, fields_of};
+
+use crate::reading::{number_of_run, text_before_end};
+use gts_alphabet::{CR, EOL, LF, SOH};
+use gts_heading::{Cursor, Field, Heading};
+
+/// How every message begins: SOH CR CR LF.
+const START: [u8; 4] = [SOH, CR, CR, LF];
+
+/// The longest body that is accepted (this project's profile): with a five-digit number it still fits a frame.
+const LONGEST_BODY: usize = 499_988;
+
+/// The parts of a message, which they borrow.
+#[derive(Clone, Copy, Debug)]
+pub struct Parts<'a> {
+    /// The sequence number.
+    pub number: u32,
+    /// How many digits the sequence number has: 3 or 5.
+    pub digits: u8,
+    /// The abbreviated heading.
+    pub heading: Heading,
+    /// The text: what stands between the line of the heading and the end. It may be empty, and hold any bytes.
+    pub text: &'a [u8],
+    /// All from the first byte of the heading to ETX.
+    pub body: &'a [u8],
+}
+
+/// Names the call that takes a message apart.
+pub struct Message;
+
+/// Names the call that takes a body apart.
+pub struct Body;
+
+impl Message {
+    ghost use Rattle.gts_message.specs.Message.{MessageParts, IsMessage, parts_of, split_at};
+
+    /// Takes a message apart. The refusal is the first field, from left to right, that isn't as the Manual and this
+    /// project's profile have it; a byte that isn't there is a fault of the field in which it would stand.
+    pub fn split(message: &[u8]) -> Result<Parts<'_>, Field>
+        // What is read is a message of these parts.
+        ensures found { IfOk result (λ parts. IsMessage message.now (parts_of parts)) }
+        // What is a message is read, and has no other parts.
+        ensures only { (parts : MessageParts) → IsMessage message.now parts → IfOk result (λ found. parts_of found ≡ parts) × IsOk result }
+        // Which field it is.
+        ensures exact { MatchResult result
+            (λ parts. split_at message.now ≡ Ok (parts_of parts))
+            (λ field. split_at message.now ≡ Err field) }
+    {
+        Message::parts(message)
+    }
+
+    /// Reads the fields from left to right.
+    #[tactic(auto, unfolding(crate::specs::Message::split_at))]
+    fn parts(message: &[u8]) -> Result<Parts<'_>, Field>
+        ensures { MatchResult result
+            (λ parts. split_at message.now ≡ Ok (parts_of parts))
+            (λ field. split_at message.now ≡ Err field) }
+    {
+        let mut cursor = Cursor::new(message);
+        cursor.word(&START, Field::StartLine)?;
+        let (number, digits, rest) = number_of_run(cursor.rest())?;
+        let mut cursor = Cursor::new(rest);
+        cursor.gap();
+        cursor.word(&EOL, Field::HeadingStart)?;
+        let body = cursor.rest();
+        let (heading, text) = Body::parts(body)?;
+        if body.len() > LONGEST_BODY {
+            return Err(Field::Size);
+        }
+        Ok(Parts {
+            number,
+            digits,
+            heading,
+            text,
+            body,
+        })
+    }
+}
+
+impl Body {
+    ghost use Rattle.gts_message.specs.Message.{IsBody, body_at};
+
+    /// Takes a body apart: its heading and its text. The refusal is the first field from `Tt` to `End`.
+    pub fn split(body: &[u8]) -> Result<(Heading, &[u8]), Field>
+        // What is read is a body with this heading and this text.
+        ensures found { IfOk result (λ found. IsBody body.now (fields_of found.0) found.1.now) }
+        // What is a body is read, and has no other heading and text.
+        ensures only { (h : HeadingFields) (text : List ℕ) → IsBody body.now h text
+            → IfOk result (λ found. (fields_of found.0 ≡ h) × (found.1.now ≡ text)) × IsOk result }
+        // Which field it is.
+        ensures exact { MatchResult result
+            (λ found. body_at body.now ≡ Ok (fields_of found.0, found.1.now))
+            (λ field. body_at body.now ≡ Err field) }
+    {
+        Body::parts(body)
+    }
+
+    /// Reads the line of the heading, and what stands before the end.
+    #[tactic(auto, unfolding(crate::specs::Message::body_at))]
+    fn parts(body: &[u8]) -> Result<(Heading, &[u8]), Field>
+        ensures { MatchResult result
+            (λ found. body_at body.now ≡ Ok (fields_of found.0, found.1.now))
+            (λ field. body_at body.now ≡ Err field) }
+    {
+        let (heading, length) = Heading::read(body)?;
+        let text = text_before_end(&body[length..])?;
+        Ok((heading, text))
+    }
+}

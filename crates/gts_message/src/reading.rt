@@ -1,0 +1,49 @@
+ghost use Rattle.std.specs.Prelude.{◌≡◌, ◌≤◌, Ok, Err, MatchResult, length};
+ghost use Rattle.std.specs.Str.Parse.{AllDigits};
+ghost use Rattle.gts_message.specs.Message as message;
+
+use gts_alphabet::{CR, ETX, LF, number_of};
+use gts_heading::Field;
+
+/// How every message ends: CR CR LF ETX.
+const END: [u8; 4] = [CR, CR, LF, ETX];
+
+/// The number of three digits or five at the front, how many they are, and the bytes behind them.
+#[tactic(auto, unfolding(crate::specs::Message::number_at))]
+pub(crate) fn number_of_run(bytes: &[u8]) -> Result<(u32, u8, &[u8]), Field>
+    ensures { MatchResult result
+        (λ found. message.number_at bytes.now ≡ Ok (found.0, found.1, found.2.now))
+        (λ field. message.number_at bytes.now ≡ Err field) }
+{
+    let run = digit_count(bytes);
+    if run != 3 && run != 5 {
+        return Err(Field::Number);
+    }
+    let (digits, rest) = bytes.split_at(run);
+    let number = number_of(digits).unwrap();
+    Ok((number, run as u8, rest))
+}
+
+/// How many digits stand at the front.
+fn digit_count(bytes: &[u8]) -> usize
+    ensures count { result ≡ length (message.digit_run bytes.now) }
+    ensures inside { result ≤ length bytes.now }
+{
+    bytes
+        .iter()
+        .take_while(|byte| byte.is_ascii_digit())
+        .count()
+}
+
+/// The text: what stands before the end of the message.
+#[tactic(auto, unfolding(crate::specs::Message::text_at))]
+pub(crate) fn text_before_end(bytes: &[u8]) -> Result<&[u8], Field>
+    ensures { MatchResult result
+        (λ text. message.text_at bytes.now ≡ Ok text.now)
+        (λ field. message.text_at bytes.now ≡ Err field) }
+{
+    if !bytes.ends_with(&END) {
+        return Err(Field::End);
+    }
+    Ok(&bytes[..bytes.len() - END.len()])
+}
