@@ -13,6 +13,8 @@ pub use memory::NoMemory;
 #[cfg(test)]
 mod tests {
     use super::*;
+    use std::alloc::AllocError;
+    use std::test::Fail;
 
     #[test]
     fn digits_are_read_as_a_number(rt: HostRuntime) {
@@ -26,5 +28,13 @@ mod tests {
     fn a_number_is_written_in_its_last_digits(rt: HostRuntime) {
         assert_eq!(rt; digits_of::<8>(39), *b"00000039");
         assert_eq!(rt; digits_of::<3>(1000), *b"000");
+    }
+
+    #[test]
+    fn a_failed_allocation_is_no_memory(rt: HostRuntime) -> Result<(), Fail> {
+        assert_eq!(rt; NoMemory::from(AllocError), NoMemory);
+        let text = NoMemory.to_string(rt.alloc())?;
+        assert_eq!(rt; text.as_str(), "no memory");
+        Ok(())
     }
 }
