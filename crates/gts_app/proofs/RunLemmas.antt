@@ -66,10 +66,16 @@ said-more old mid new steps i x core lt here so_far before last =
 
 -- where a step finds no memory, the steps before it were done
 pub stops_after : (old new : List Call) (steps : List Step) (i : ℕ) → SaidSince old new (said_by steps i) → StopsAfter old new steps
-stops_after old new steps i before =
-    (said_by steps i, before,
-     (entries (take i steps), entries (drop i steps),
-      ap (λ (xs : List Step). entries xs) (sym (take-append-drop i steps)) ∙ map-append entry (take i steps) (drop i steps), refl))
+stops_after old new steps i before = (
+  said_by steps i,
+  before,
+  (
+    entries (take i steps),
+    entries (drop i steps),
+    ap (λ (xs : List Step). entries xs) (sym (take-append-drop i steps)) ∙ map-append entry (take i steps) (drop i steps),
+    refl,
+  ),
+)
 
 -- where saying a step fails, it was done, and a front of its bytes was said
 pub breaks_after : (old mid new : List Call) (steps : List Step) (i : ℕ) (x : Step) (core : State) → i < length steps → x ≡ get_or steps i x → core ≡ state_after steps i → SaidSince old mid (said_by steps i) → SaysFrontOf mid new (spoken two_circuits core (event_of_step x)) → BreaksAfter old new steps
@@ -77,9 +83,18 @@ breaks_after old mid new steps i x core lt here so_far before broken =
     let done = said_by steps i in
     let front = broken.0 in
     let back = broken.1 in
-    let spoken_last = spoken two_circuits core (event_of_step x) in
-    (done ++ front, SaidSince-trans old mid new done front before broken.2,
-     (entries (take i steps), event_of_step x, entries (drop (i + 1) steps), front, back,
-     entries-split steps i x lt here, refl,
-     said-push (entries (take i steps)) (Unsaid (event_of_step x)) core spoken_last so_far (sym (append-nil spoken_last))
-     ∙ ap (λ (o : Outside). done ++ o) broken.3 ∙ sym (append_assoc done front back)))
+    let spoken_last = spoken two_circuits core (event_of_step x) in (
+      done ++ front,
+      SaidSince-trans old mid new done front before broken.2,
+      (
+        entries (take i steps),
+        event_of_step x,
+        entries (drop (i + 1) steps),
+        front,
+        back,
+        entries-split steps i x lt here,
+        refl,
+        said-push (entries (take i steps)) (Unsaid (event_of_step x)) core spoken_last so_far (sym (append-nil spoken_last))
+            ∙ ap (λ (o : Outside). done ++ o) broken.3 ∙ sym (append_assoc done front back),
+      ),
+    )

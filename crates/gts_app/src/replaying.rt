@@ -62,7 +62,13 @@ fn write_receipt(outcome: &Outcome, message: &[u8], line: &mut [u8; 96]) -> usiz
 }
 
 /// A message comes on circuit 0: the core deals with it, and its receipt is said.
-fn feed<P: Station>(alloc: Global, core: &mut PlainCore, station: &mut P, kind: Kind, message: &[u8]) -> Result<(), StepFault>
+fn feed<P: Station>(
+    alloc: Global,
+    core: &mut PlainCore,
+    station: &mut P,
+    kind: Kind,
+    message: &[u8],
+) -> Result<(), StepFault>
     ensures state { OnOk result (core.new ≡ after two_circuits core.old (Heard 0 kind message.now)) }
     ensures said { P.tells → OnOk result (SaidSince (P.calls station.old) (P.calls station.new) (spoken two_circuits core.old (Heard 0 kind message.now))) }
     ensures broken { P.tells → IsErrOf result StepFault.SayFault → SaysFrontOf (P.calls station.old) (P.calls station.new) (spoken two_circuits core.old (Heard 0 kind message.now)) }
@@ -78,7 +84,12 @@ fn feed<P: Station>(alloc: Global, core: &mut PlainCore, station: &mut P, kind: 
 }
 
 /// One take on a circuit: where something is drawn, its frame is said.
-fn take<P: Station>(core: &mut PlainCore, station: &mut P, out: &mut FrameBuf, circuit: u32) -> Result<(), StepFault>
+fn take<P: Station>(
+    core: &mut PlainCore,
+    station: &mut P,
+    out: &mut FrameBuf,
+    circuit: u32,
+) -> Result<(), StepFault>
     requires { circuit < 2 }
     ensures state { OnOk result (core.new ≡ after two_circuits core.old (Taken circuit)) }
     ensures said { P.tells → OnOk result (SaidSince (P.calls station.old) (P.calls station.new) (spoken two_circuits core.old (Taken circuit))) }
@@ -116,7 +127,11 @@ fn do_step<P: Station>(
 }
 
 /// Does the steps of a capture one after another, from the empty history on.
-pub fn replay<P: Station>(alloc: Global, steps: &[CaptureStep<'_>], station: &mut P) -> Result<(), StepFault>
+pub fn replay<P: Station>(
+    alloc: Global,
+    steps: &[CaptureStep<'_>],
+    station: &mut P,
+) -> Result<(), StepFault>
     requires { AllByRecursion IsStep (steps_of steps.now) }
     ensures done { P.tells → OnOk result (SaysAll (P.calls station.old) (P.calls station.new) (steps_of steps.now)) }
     ensures broken { P.tells → IsErrOf result StepFault.SayFault → BreaksAfter (P.calls station.old) (P.calls station.new) (steps_of steps.now) }

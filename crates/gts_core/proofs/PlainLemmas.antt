@@ -90,12 +90,12 @@ wait_from held k m [] low high =
 wait_from held k m (h ∷ hs) low high =
     elim (cases_lt m k) [
       | inl lt ↦
-        let one_less : k - m ≡ suc (k - (m + 1)) = omega arith in
-        rw (has_drawn m 0 k (omega arith) (omega arith)) (wait_from held k (m + 1) hs (omega arith) (omega arith) ∙ sym (ap (λ (j : ℕ). bulletins_from k (drop j (h ∷ hs))) one_less))
+          let one_less : k - m ≡ suc (k - (m + 1)) = omega arith in
+          rw (has_drawn m 0 k (omega arith) (omega arith)) (wait_from held k (m + 1) hs (omega arith) (omega arith) ∙ sym (ap (λ (j : ℕ). bulletins_from k (drop j (h ∷ hs))) one_less))
       | inr le ↦
-        let same : m ≡ k = omega arith in
-        let none : k - m ≡ 0 = omega arith in
-        all_wait held k m (h ∷ hs) le ∙ ap (λ (n : ℕ). bulletins_from n (h ∷ hs)) same ∙ sym (ap (λ (j : ℕ). bulletins_from k (drop j (h ∷ hs))) none)
+          let same : m ≡ k = omega arith in
+          let none : k - m ≡ 0 = omega arith in
+          all_wait held k m (h ∷ hs) le ∙ ap (λ (n : ℕ). bulletins_from n (h ∷ hs)) same ∙ sym (ap (λ (j : ℕ). bulletins_from k (drop j (h ∷ hs))) none)
     ]
 
 -- on circuit 1 all wait but those that were drawn
@@ -154,11 +154,11 @@ find_bulletin m p [] d low high = absurd (omega arith)
 find_bulletin m p (h ∷ hs) d low high =
     elim (cases_eq m p) [
       | inl same ↦
-        let none : p - m ≡ 0 = omega arith in
-        rw (eq-eqb m p same) (ap (λ (n : ℕ). Some (bulletin n h)) same ∙ sym (ap (λ (j : ℕ). Some (bulletin p (get_or (h ∷ hs) j d))) none))
+          let none : p - m ≡ 0 = omega arith in
+          rw (eq-eqb m p same) (ap (λ (n : ℕ). Some (bulletin n h)) same ∙ sym (ap (λ (j : ℕ). Some (bulletin p (get_or (h ∷ hs) j d))) none))
       | inr other ↦
-        let one_less : p - m ≡ suc (p - (m + 1)) = omega arith in
-        rw (ne_eqb m p other) (find_bulletin (m + 1) p hs d (omega arith) (omega arith) ∙ sym (ap (λ (j : ℕ). Some (bulletin p (get_or (h ∷ hs) j d))) one_less))
+          let one_less : p - m ≡ suc (p - (m + 1)) = omega arith in
+          rw (ne_eqb m p other) (find_bulletin (m + 1) p hs d (omega arith) (omega arith) ∙ sym (ap (λ (j : ℕ). Some (bulletin p (get_or (h ∷ hs) j d))) one_less))
     ]
 
 pub bulletin_at-plain : (held : List (Kind × List ℕ)) (k p : ℕ) (d : Kind × List ℕ) → p < length held → bulletin_at (plain_state held k) p ≡ Some (bulletin p (get_or held p d))

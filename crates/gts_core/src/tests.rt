@@ -23,7 +23,10 @@ fn a_bulletin_is_accepted_and_drawn_once(rt: HostRuntime) -> Result<(), Fail> {
     assert_eq!(rt; core.hear(alloc, Kind::Bi, REPORT)?, accepted);
     assert_eq!(rt; core.take(0, &mut out), Outcome::Nothing);
     assert_eq!(rt; core.take(1, &mut out), Outcome::Draw { index: 0 });
-    assert_eq!(rt; out.bytes(), b"00000039BI\x01\r\r\n001\r\r\nSMVG01 TVSV 280000\r\r\nNIL=\r\r\n\x03".as_slice());
+    assert_eq!(rt;
+        out.bytes(),
+        b"00000039BI\x01\r\r\n001\r\r\nSMVG01 TVSV 280000\r\r\nNIL=\r\r\n\x03".as_slice()
+    );
     assert_eq!(rt; core.take(1, &mut out), Outcome::Nothing);
     Ok(())
 }
@@ -35,7 +38,10 @@ fn what_is_refused_is_not_drawn(rt: HostRuntime) -> Result<(), Fail> {
     let mut out = FrameBuf::new(alloc)?;
     let short = Outcome::Refused(Refusal::Message(Field::Number));
     assert_eq!(rt; core.hear(alloc, Kind::An, SHORT)?, short);
-    assert_eq!(rt; core.hear(alloc, Kind::An, REQUEST)?, Outcome::Refused(Refusal::Later));
+    assert_eq!(rt;
+        core.hear(alloc, Kind::An, REQUEST)?,
+        Outcome::Refused(Refusal::Later)
+    );
     assert_eq!(rt; core.take(1, &mut out), Outcome::Nothing);
     Ok(())
 }

@@ -10,11 +10,11 @@ returns-in_err-say-clause-broken g c tells _ =
     let message = c.args.message.now in
     let line = take c.write_receipt-length.result c.write_receipt-length.new.line in
     says_front 0 line (spoken two_circuits c.args.core.now (Heard 0 c.args.kind message)) _ _ (c.in_err-say.ensures.told tells)
-      (spoken-receipt two_circuits c.args.core.now 0 c.args.kind message line c.in_ok-outcome.outcome c.in_ok-outcome.ensures.outcome c.write_receipt-length.ensures.written)
+    (spoken-receipt two_circuits c.args.core.now 0 c.args.kind message line c.in_ok-outcome.outcome c.in_ok-outcome.ensures.outcome c.write_receipt-length.ensures.written)
 
 pub returns-clause-said : goal.returns-clause-said
 returns-clause-said g c tells =
     let message = c.args.message.now in
     let line = take c.write_receipt-length.result c.write_receipt-length.new.line in
     says_all 0 line (spoken two_circuits c.args.core.now (Heard 0 c.args.kind message)) _ _ (c.in_ok-say.ensures.told tells)
-      (spoken-receipt two_circuits c.args.core.now 0 c.args.kind message line c.in_ok-outcome.outcome c.in_ok-outcome.ensures.outcome c.write_receipt-length.ensures.written)
+    (spoken-receipt two_circuits c.args.core.now 0 c.args.kind message line c.in_ok-outcome.outcome c.in_ok-outcome.ensures.outcome c.write_receipt-length.ensures.written)

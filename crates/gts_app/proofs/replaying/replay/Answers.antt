@@ -42,8 +42,8 @@ returns-in_err-do_step-clause-broken g c tells fault =
     let error = err_from_is_err_and c.from_residual-in_err-do_step.result c.from_residual-in_err-do_step.ensures.1 in
     let same : failed c.in_err-do_step.field-0.0 ≡ failed SayFault = same_error c.from_residual-in_err-do_step.result error.0 c.in_err-do_step.field-0.0 SayFault error.1 error.2 fault in
     breaks_after (calls c.args.station.now) (calls c.loop-step.station) (calls c.do_step.new.station) (steps_of steps) i (step_at steps i) c.loop-step.core
-      (inside steps i c.loop-step-test.true) (step_at-get_or steps i c.loop-step-test.true) c.loop-step.invariant.state (c.loop-step.invariant.said tells)
-      (c.in_err-do_step.ensures.broken tells same)
+    (inside steps i c.loop-step-test.true) (step_at-get_or steps i c.loop-step-test.true) c.loop-step.invariant.state (c.loop-step.invariant.said tells)
+    (c.in_err-do_step.ensures.broken tells same)
 
 pub returns-in_err-do_step-clause-memory : goal.returns-in_err-do_step-clause-memory
 returns-in_err-do_step-clause-memory g c tells fault =
@@ -52,7 +52,7 @@ returns-in_err-do_step-clause-memory g c tells fault =
     let same : failed c.in_err-do_step.field-0.0 ≡ failed NoMemory = same_error c.from_residual-in_err-do_step.result error.0 c.in_err-do_step.field-0.0 NoMemory error.1 error.2 fault in
     let still = c.in_err-do_step.ensures.silent same in
     stops_after (calls c.args.station.now) (calls c.do_step.new.station) (steps_of c.args.steps.now) c.loop-step.step-index
-      (rw still (c.loop-step.invariant.said tells))
+    (rw still (c.loop-step.invariant.said tells))
 
 pub loop-step-preserved : goal.loop-step-preserved
 loop-step-preserved g c =

@@ -12,8 +12,9 @@ failed fault = Err fault
 pub returns-in-Err-SayFault-clause-say_fault : goal.returns-in-Err-SayFault-clause-say_fault
 returns-in-Err-SayFault-clause-say_fault g c _ =
     let broken = c.in-Err-SayFault.ensures in
-    let fault : failed c.in-Err-SayFault.field-0 ≡ failed SayFault = ap failed c.in-Err-SayFault.field-0-is in
-    (steps_of c.deref.result.now,
-     subst (λ (steps : List CaptureStep). IsCapture c.args.bytes.now (steps_of steps)) (sym c.deref.ensures.value) c.in-Ok.ensures.steps,
-     λ tells. broken.broken tells fault,
-     broken.failed fault)
+    let fault : failed c.in-Err-SayFault.field-0 ≡ failed SayFault = ap failed c.in-Err-SayFault.field-0-is in (
+      steps_of c.deref.result.now,
+      subst (λ (steps : List CaptureStep). IsCapture c.args.bytes.now (steps_of steps)) (sym c.deref.ensures.value) c.in-Ok.ensures.steps,
+      λ tells. broken.broken tells fault,
+      broken.failed fault,
+    )

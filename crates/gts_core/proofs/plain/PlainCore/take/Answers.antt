@@ -35,7 +35,7 @@ returns-in_default-get-clause-outcome c =
     let held = all_held c.self.inside.held in
     let k = c.self.inside.drawn in
     let all : k ≡ length held =
-      omega (arith, c.self.invariant.drawn, c.in_default-get.ensures.lookup.3, ap length c.deref.ensures.value, length-all_held c.self.inside.held c.in-Some.held c.in-Some.is) in
+    omega (arith, c.self.invariant.drawn, c.in_default-get.ensures.lookup.3, ap length c.deref.ensures.value, length-all_held c.self.inside.held c.in-Some.held c.in-Some.is) in
     let one : 1 ≡ c.args.c = omega (arith, c.requires, c.if-c-eq-FED.false) in
     sym (outcome-nothing (plain_state held k) 1 (next-plain_none held k all))
     ∙ ap (λ (s : State). outcome two_circuits s (Taken 1)) c.self.view_is
@@ -46,7 +46,7 @@ returns-in_default-get-clause-state c =
     let held = all_held c.self.inside.held in
     let k = c.self.inside.drawn in
     let all : k ≡ length held =
-      omega (arith, c.self.invariant.drawn, c.in_default-get.ensures.lookup.3, ap length c.deref.ensures.value, length-all_held c.self.inside.held c.in-Some.held c.in-Some.is) in
+    omega (arith, c.self.invariant.drawn, c.in_default-get.ensures.lookup.3, ap length c.deref.ensures.value, length-all_held c.self.inside.held c.in-Some.held c.in-Some.is) in
     let one : 1 ≡ c.args.c = omega (arith, c.requires, c.if-c-eq-FED.false) in
     sym c.self.view_is ∙ sym (after-nothing (plain_state held k) 1 (next-plain_none held k all))
     ∙ ap (λ (s : State). after two_circuits s (Taken 1)) c.self.view_is
