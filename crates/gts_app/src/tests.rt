@@ -189,7 +189,12 @@ fn a_say_that_fails_ends_the_run(rt: HostRuntime) -> Result<(), Fail> {
 fn sent_on<R: AllocGlobal + Threads + Wait + Sync>(rt: &R, kind: &[u8]) -> Result<Vec<u8>, Fail> {
     let alloc = rt.alloc();
     let mut message = Vec::new(alloc);
-    push_message(&mut message, b"001", b"SMVG01 TVSV 280000", b"BUFR\x03\r\r\n\x037")?;
+    push_message(
+        &mut message,
+        b"001",
+        b"SMVG01 TVSV 280000",
+        b"BUFR\x03\r\r\n\x037",
+    )?;
     let mut capture = Vec::new(alloc);
     push_feed(&mut capture, kind, &message)?;
     capture.extend_from_slice(b"T 01\nE\n")?;
@@ -200,9 +205,15 @@ fn sent_on<R: AllocGlobal + Threads + Wait + Sync>(rt: &R, kind: &[u8]) -> Resul
 #[test]
 fn the_type_of_a_frame_is_kept(rt: HostRuntime) -> Result<(), Fail> {
     let binary = sent_on(&rt, b"BI")?;
-    assert_eq!(rt; binary.as_slice(), b"00000045BI\x01\r\r\n001\r\r\nSMVG01 TVSV 280000\r\r\nBUFR\x03\r\r\n\x037\r\r\n\x03".as_slice());
+    assert_eq!(rt;
+        binary.as_slice(),
+        b"00000045BI\x01\r\r\n001\r\r\nSMVG01 TVSV 280000\r\r\nBUFR\x03\r\r\n\x037\r\r\n\x03".as_slice()
+    );
     let facsimile = sent_on(&rt, b"FX")?;
-    assert_eq!(rt; facsimile.as_slice(), b"00000045FX\x01\r\r\n001\r\r\nSMVG01 TVSV 280000\r\r\nBUFR\x03\r\r\n\x037\r\r\n\x03".as_slice());
+    assert_eq!(rt;
+        facsimile.as_slice(),
+        b"00000045FX\x01\r\r\n001\r\r\nSMVG01 TVSV 280000\r\r\nBUFR\x03\r\r\n\x037\r\r\n\x03".as_slice()
+    );
     Ok(())
 }
 
