@@ -1,15 +1,15 @@
 -- The steps of a run, one after another.
-use Rattle.std.proofs.Common.{◌≡◌, ℕ, zero, suc, ◌+◌, ◌<◌, List, [], ◌∷◌, ◌++◌, length, get_or, take, drop, map, refl, sym, ap, subst, ◌∙◌, arith}
+use Rattle.std.proofs.Common.{◌≡◌, ℕ, zero, suc, ◌+◌, ◌<◌, List, [], ◌∷◌, ◌++◌, length, get_or, take, drop, refl, sym, ap, subst, ◌∙◌, arith}
 use Rattle.std.specs.List.{AllByRecursion}
-use Rattle.std.proofs.lemmas.List.{append-nil, append_assoc, map-append, take_more, drop_more, take-append-drop, get_or-map}
+use Rattle.std.proofs.lemmas.List.{append-nil, append_assoc, map-append, take_more, drop_more, take-append-drop}
 use Rattle.gts_traits.specs.Station.{Call, Outside, SaidSince}
 use Rattle.gts_traits.proofs.OutsideLemmas.{SaidSince-trans}
 use Rattle.gts_directory.specs.Directory.{two_circuits}
-use Rattle.gts_event.specs.History.{Event, Entry, Done, Unsaid, State, empty, after, after_all}
-use Rattle.gts_event.specs.Said.{said, spoken, SaysFront, BreaksOff}
+use Rattle.gts_event.specs.History.{Entry, Done, Unsaid, State, empty, after, after_all}
+use Rattle.gts_event.specs.Said.{said, spoken}
 use Rattle.gts_event.specs.Capture.{Step, IsStep, event_of_step, entries}
 use Rattle.gts_event.proofs.HistoryLemmas.{said-append, after_all-append}
-use Rattle.gts_app.specs.Run.{SaysAll, StopsAfter, BreaksAfter}
+use Rattle.gts_app.specs.Run.{StopsAfter, BreaksAfter}
 use Rattle.gts_app.specs.Replay.{SaysFrontOf}
 
 -- the state after the first of these steps

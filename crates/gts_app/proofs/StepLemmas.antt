@@ -1,5 +1,5 @@
 -- What a step says.
-use Rattle.std.proofs.Common.{◌≡◌, ℕ, ◌+◌, Option, Some, None, Result, Ok, Err, List, [], ◌∷◌, ◌++◌, refl, sym, ap, subst, ◌∙◌}
+use Rattle.std.proofs.Common.{◌≡◌, ℕ, ◌+◌, Result, Ok, Err, List, [], ◌∷◌, refl, sym, ap, subst, ◌∙◌}
 use Rattle.std.specs.Prelude.{IsOk}
 use Rattle.gts_heading.specs.declared.field.Field.{Field}
 use Rattle.gts_heading.specs.Heading.{HeadingFields}
@@ -11,7 +11,7 @@ use Rattle.gts_directory.specs.Directory.{Directory}
 use Rattle.gts_event.specs.declared.outcome.Outcome.{Outcome}
 use Rattle.gts_event.specs.declared.outcome.Outcome.TheVariants.{Accepted, Refused, Draw, Nothing}
 use Rattle.gts_event.specs.declared.outcome.Refusal.TheVariants.{Message}
-use Rattle.gts_event.specs.History.{Event, Heard, Taken, State, IsAccepted, verdict, outcome, after, heading_of, body_of}
+use Rattle.gts_event.specs.History.{Heard, Taken, State, IsAccepted, verdict, outcome, after, heading_of, body_of}
 use Rattle.gts_event.specs.Said.{line, spoken}
 use Rattle.gts_event.specs.Receipt.{receipt_text}
 use Rattle.gts_app.specs.Replay.{SaysFrontOf}

@@ -1,8 +1,8 @@
 -- What a run leaves, in the words of its history.
-use Rattle.std.specs.Prelude.{◌≡◌, ◌⊎◌, ℕ, List, [], ◌∷◌, codes}
+use Rattle.std.specs.Prelude.{ℕ, List, [], ◌∷◌, codes}
 use Rattle.gts_traits.specs.Station.{Call, Outside, SaidSince}
 use Rattle.gts_directory.specs.Directory.{two_circuits}
-use Rattle.gts_event.specs.History.{Entry, empty}
+use Rattle.gts_event.specs.History.{empty}
 use Rattle.gts_event.specs.Said.{said, SaysFront, BreaksOff}
 use Rattle.gts_event.specs.Capture.{Step, IsCapture, entries}
 

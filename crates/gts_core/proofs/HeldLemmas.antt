@@ -1,9 +1,8 @@
 -- Bulletins that fit a frame.
-use Rattle.std.proofs.Common.{◌≡◌, ◌<◌, ◌≤◌, ◌∷◌, ◌++◌, [], zero, suc, List, ℕ, Vec, Option, Some, length, get_or, refl, sym, ap, ◌∙◌, arith}
+use Rattle.std.proofs.Common.{◌≡◌, ◌<◌, ◌∷◌, ◌++◌, [], zero, suc, List, ℕ, Vec, Option, Some, length, get_or, sym, ap, ◌∙◌, arith}
 use Rattle.std.proofs.lemmas.List.{append_assoc, length-map, get_or-map}
 use Rattle.gts_alphabet.specs.declared.characters.TheConstants.{ETX, EOL}
 use Rattle.gts_frame.specs.declared.kind.Kind.{Kind}
-use Rattle.gts_frame.specs.Frame.{EndsWithEtx}
 use Rattle.gts_heading.specs.Heading.{heading_text}
 use Rattle.gts_message.specs.Message.{MessageParts, IsMessage}
 use Rattle.std.specs.declared.alloc.Global.{Global}

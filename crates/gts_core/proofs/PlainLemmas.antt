@@ -1,7 +1,7 @@
 -- What waits, what is next and what a draw carries, over the two lists of the plain core.
-use Rattle.std.proofs.Common.{◌≡◌, ℕ, zero, suc, ◌+◌, ◌-◌, ◌<◌, ◌≤◌, Bool, true, false, not, ◌&&◌, ◌||◌, ◌==◌, nat_lt, cond, List, [], ◌∷◌, ◌++◌, length, get_or, drop, map, filter, fold, Option, Some, None, Result, Ok, Err, inl, inr, refl, sym, ap, ◌∙◌, add-one, arith}
+use Rattle.std.proofs.Common.{◌≡◌, ℕ, zero, suc, ◌+◌, ◌-◌, ◌<◌, ◌≤◌, Bool, true, false, not, ◌&&◌, ◌==◌, cond, List, [], ◌∷◌, ◌++◌, length, get_or, drop, map, filter, fold, Option, Some, None, Result, Ok, Err, inl, inr, refl, sym, ap, ◌∙◌, add-one, arith}
 use Rattle.std.specs.List.{list_any, list_all, find}
-use Rattle.std.proofs.lemmas.Bool.{cases_eq, cases_lt, eq-eqb, ne_eqb, lt-ltb, le-ltb}
+use Rattle.std.proofs.lemmas.Bool.{cases_eq, cases_lt, eq-eqb, ne_eqb, le-ltb}
 use Rattle.std.proofs.lemmas.List.{drop_more, drop_all}
 use Rattle.gts_frame.specs.declared.kind.Kind.{Kind}
 use Rattle.gts_heading.specs.declared.field.Field.{Field}
@@ -10,7 +10,7 @@ use Rattle.gts_directory.specs.Directory.{two_circuits, named}
 use Rattle.gts_event.specs.declared.outcome.Outcome.{Outcome}
 use Rattle.gts_event.specs.declared.outcome.Outcome.TheVariants.{Accepted, Refused, Draw, Nothing}
 use Rattle.gts_event.specs.declared.outcome.Refusal.TheVariants.{Message, Later}
-use Rattle.gts_event.specs.History.{Heard, Taken, Bulletin, Drawn, State, count, draws_on, taken, waits, waiting, next, goes_before, is_request, verdict, outcome, after, body_of, with_bulletin, with_draw}
+use Rattle.gts_event.specs.History.{Heard, Taken, Bulletin, Drawn, State, count, draws_on, waits, waiting, next, goes_before, is_request, verdict, outcome, after, body_of, with_bulletin, with_draw}
 use Rattle.gts_event.specs.Said.{draw_at, bulletin_at, numbered_frame, line}
 use Rattle.gts_event.proofs.HistoryLemmas.{body_of-from_split}
 use Rattle.gts_core.specs.Plain.{bulletins_from, draws_from, plain_state}

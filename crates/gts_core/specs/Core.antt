@@ -1,5 +1,5 @@
 -- The plain core as the two lists.
-use Rattle.std.specs.Prelude.{ℕ, ◌≤◌, List, length}
+use Rattle.std.specs.Prelude.{◌≤◌, length}
 use Rattle.gts_event.specs.History.{State}
 use Rattle.gts_core.specs.Plain.{plain_state}
 use Rattle.gts_core.specs.Held.{all_held, AllFit}

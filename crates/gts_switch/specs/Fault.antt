@@ -1,5 +1,5 @@
 -- What the operator gets of each end (profile).
-use Rattle.std.specs.Prelude.{◌≡◌, ℕ, List, Option, Some, None, codes, IsNone, IsSomeAnd}
+use Rattle.std.specs.Prelude.{◌≡◌, ℕ, List, Option, codes, IsNone, IsSomeAnd}
 use Rattle.std.specs.Borrow.{Bor}
 use Rattle.gts_app.specs.declared.status.Status.{Status}
 use Rattle.gts_app.specs.declared.status.Status.TheVariants.{Done, Words, Later, SourceFault, SayFault, NoMemory}

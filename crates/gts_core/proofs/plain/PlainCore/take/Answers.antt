@@ -1,11 +1,9 @@
-use Rattle.std.proofs.Common.{◌≡◌, ℕ, ◌+◌, ◌<◌, ◌≤◌, ◌∷◌, ◌++◌, List, length, get_or, refl, sym, ap, subst, ◌∙◌, arith}
+use Rattle.std.proofs.Common.{◌≡◌, ℕ, ◌+◌, List, length, sym, ap, subst, ◌∙◌, arith}
 use Rattle.gts_alphabet.specs.Digits.{dec}
 use Rattle.gts_alphabet.specs.Message.{message_of}
 use Rattle.gts_frame.specs.declared.kind.Kind.{Kind}
 use Rattle.gts_frame.specs.Frame.{frame, EndsWithEtx}
 use Rattle.gts_directory.specs.Directory.{two_circuits}
-use Rattle.gts_event.specs.declared.outcome.Outcome.{Outcome}
-use Rattle.gts_event.specs.declared.outcome.Outcome.TheVariants.{Draw, Nothing}
 use Rattle.gts_event.specs.History.{Taken, State, outcome, after}
 use Rattle.gts_event.specs.Said.{line, numbered_frame, number_of}
 use Rattle.gts_core.specs.Plain.{plain_state}
