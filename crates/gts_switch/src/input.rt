@@ -1,4 +1,4 @@
-ghost use Rattle.std.specs.Prelude.{◌≤◌, [], length, IfOk};
+ghost use Rattle.std.specs.Prelude.{◌≡◌, ◌≤◌, [], length, IfOk};
 
 use gts_traits::{Failed, Source};
 use std::fs::File;
@@ -17,7 +17,9 @@ pub struct FileSource<'a, R: Files> {
 
 impl<'a, R: Files> FileSource<'a, R> {
     /// A source over the file of this name. Nothing is opened yet.
-    pub fn new(rt: &'a R, name: &'static str) -> FileSource<'a, R> {
+    pub fn new(rt: &'a R, name: &'static str) -> FileSource<'a, R>
+        ensures { result.faults ≡ 0 }
+    {
         FileSource {
             rt,
             name,

@@ -1,4 +1,4 @@
-ghost use Rattle.std.specs.Prelude.{[]};
+ghost use Rattle.std.specs.Prelude.{◌≡◌, []};
 
 use gts_traits::{Failed, Station};
 use std::fs::OpenOptions;
@@ -16,7 +16,9 @@ pub struct Output<'a, R: Files + Print + AllocGlobal> {
 
 impl<'a, R: Files + Print + AllocGlobal> Output<'a, R> {
     /// A station that has said nothing.
-    pub fn new(rt: &'a R) -> Output<'a, R> {
+    pub fn new(rt: &'a R) -> Output<'a, R>
+        ensures { result.faults ≡ 0 }
+    {
         Output { rt, faults: 0 }
     }
 }
