@@ -198,7 +198,10 @@ fn sent_on<R: AllocGlobal + Threads + Wait + Sync>(rt: &R, kind: &[u8]) -> Resul
     let mut capture = Vec::new(alloc);
     push_feed(&mut capture, kind, &message)?;
     capture.extend_from_slice(b"T 01\nE\n")?;
-    let (_, station) = run_words(rt, &["replay"], &capture, &[], &[])?;
+    let (status, station) = run_words(rt, &["replay"], &capture, &[], &[])?;
+    if status != Status::Done {
+        return Err(Fail::from("the capture was not done"));
+    }
     Ok(Vec::from_slice(alloc, station.said(2))?)
 }
 
