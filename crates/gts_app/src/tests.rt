@@ -279,6 +279,75 @@ fn messages_without_their_parts_are_refused(rt: HostRuntime) -> Result<(), Fail>
     Ok(())
 }
 
+#[test]
+fn refused_messages_take_no_position(rt: HostRuntime) -> Result<(), Fail> {
+    let alloc = rt.alloc();
+    let mut capture = Vec::new(alloc);
+    for heading in [
+        "SMVG01 TVSV 282400",
+        "SMVG01 TVSV 280000 COR",
+        "SMVG01 TVSV 280000",
+    ] {
+        let mut message = Vec::new(alloc);
+        push_message(&mut message, b"001", heading.as_bytes(), b"NIL=")?;
+        push_feed(&mut capture, b"AN", &message)?;
+    }
+    capture.extend_from_slice(b"T 01\nT 01\nE\n")?;
+    let (status, station) = run_words(&rt, &["replay"], &capture, &[], &[])?;
+    assert_eq!(rt; status, Status::Done);
+    assert_eq!(rt;
+        station.said(0),
+        [b"REF 0 Hour\nREF 0 BBB\n", ACCEPTED]
+            .concat(alloc)?
+            .as_slice()
+    );
+    assert_eq!(rt; station.said(2), REPORT);
+    Ok(())
+}
+
+#[test]
+fn a_blank_behind_the_group_is_sent_on(rt: HostRuntime) -> Result<(), Fail> {
+    let alloc = rt.alloc();
+    let mut message = Vec::new(alloc);
+    push_message(&mut message, b"001", b"SMVG01 TVSV 280000 RRA ", b"x")?;
+    let mut capture = Vec::new(alloc);
+    push_feed(&mut capture, b"AN", &message)?;
+    capture.extend_from_slice(b"T 01\nE\n")?;
+    let (status, station) = run_words(&rt, &["replay"], &capture, &[], &[])?;
+    assert_eq!(rt; status, Status::Done);
+    assert_eq!(rt;
+        station.said(0),
+        b"ACC 0 0 1 SMVG01 TVSV 280000 RRA\n".as_slice()
+    );
+    assert_eq!(rt;
+        station.said(2),
+        [b"00000041AN", message.as_slice()]
+            .concat(alloc)?
+            .as_slice()
+    );
+    Ok(())
+}
+
+#[test]
+fn requests_are_refused_for_now(rt: HostRuntime) -> Result<(), Fail> {
+    let alloc = rt.alloc();
+    let mut message = Vec::new(alloc);
+    push_message(
+        &mut message,
+        b"001",
+        b"BMRR01 TVSV 281030",
+        b"BBBB\r\r\nSQN 001=",
+    )?;
+    let mut capture = Vec::new(alloc);
+    push_feed(&mut capture, b"AN", &message)?;
+    capture.extend_from_slice(b"T 01\nE\n")?;
+    let (status, station) = run_words(&rt, &["replay"], &capture, &[], &[])?;
+    assert_eq!(rt; status, Status::Done);
+    assert_eq!(rt; station.said(0), b"REF 0 Later\n".as_slice());
+    assert_eq!(rt; station.said(2), b"".as_slice());
+    Ok(())
+}
+
 /// A message of 500,000 bytes, whose text is as long as that takes.
 fn longest_message(alloc: Global, number: &[u8], text: usize) -> Result<Vec<u8>, Fail> {
     let mut message = Vec::new(alloc);
