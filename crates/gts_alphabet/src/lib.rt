@@ -1,13 +1,17 @@
-//! The characters of International Alphabet No. 5 that frame a message, numbers of a fixed count of digits, and
-//! the one answer that every call has which may find no memory.
+//! What every grammar shares: the characters of International Alphabet No. 5 that frame a message, numbers of a fixed
+//! count of digits, the limits of the switch, and the one answer that every call has which may find no memory.
 #![tactic(auto)]
 
 mod characters;
 mod digits;
+mod limits;
 mod memory;
 
 pub use characters::{BLANK, CR, EOL, ETX, LF, SOH};
 pub use digits::{dec_is_read_back, dec_writes_every_number, digits_of, number_of};
+pub use limits::{
+    CHANNELS, FRAME_HEAD, LONGEST_BODY, LONGEST_FRAME, LONGEST_MESSAGE, MOST_CIRCUITS,
+};
 pub use memory::NoMemory;
 
 #[cfg(test)]

@@ -5,10 +5,10 @@ use Rattle.std.proofs.lemmas.List.{append-nil, append_assoc, map-append, take_mo
 use Rattle.gts_traits.specs.Station.{Call, Outside, SaidSince}
 use Rattle.gts_traits.proofs.OutsideLemmas.{SaidSince-trans}
 use Rattle.gts_directory.specs.Directory.{two_circuits}
-use Rattle.gts_event.specs.History.{Entry, Done, Unsaid, State, empty, after, after_all}
-use Rattle.gts_event.specs.Said.{said, spoken}
-use Rattle.gts_event.specs.Capture.{Step, IsStep, event_of_step, entries}
-use Rattle.gts_event.proofs.HistoryLemmas.{said-append, after_all-append}
+use Rattle.gts_first.specs.History.{Entry, Done, Unsaid, State, empty, after, after_all}
+use Rattle.gts_first.specs.Said.{said, spoken}
+use Rattle.gts_first.specs.Capture.{Step, IsStep, event_of_step, entries}
+use Rattle.gts_first.proofs.HistoryLemmas.{said-append, after_all-append}
 use Rattle.gts_app.specs.Run.{StopsAfter, BreaksAfter}
 use Rattle.gts_app.specs.Replay.{SaysFrontOf}
 

@@ -8,12 +8,12 @@ use Rattle.gts_traits.specs.Station.{Call, Done, Says, Breaks, Outside, SaidSinc
 use Rattle.gts_traits.proofs.OutsideLemmas.{SaidSince-from_say, SaidSince-from_failed_say, on-append}
 use Rattle.gts_frame.specs.declared.kind.Kind.{Kind}
 use Rattle.gts_directory.specs.Directory.{Directory}
-use Rattle.gts_event.specs.declared.outcome.Outcome.{Outcome}
-use Rattle.gts_event.specs.declared.outcome.Outcome.TheVariants.{Accepted, Refused, Draw, Nothing}
-use Rattle.gts_event.specs.declared.outcome.Refusal.TheVariants.{Message}
-use Rattle.gts_event.specs.History.{Heard, Taken, State, IsAccepted, verdict, outcome, after, heading_of, body_of}
-use Rattle.gts_event.specs.Said.{line, spoken}
-use Rattle.gts_event.specs.Receipt.{receipt_text}
+use Rattle.gts_first.specs.declared.outcome.Outcome.{Outcome}
+use Rattle.gts_first.specs.declared.outcome.Outcome.TheVariants.{Accepted, Refused, Draw, Nothing}
+use Rattle.gts_first.specs.declared.outcome.Refusal.TheVariants.{Message}
+use Rattle.gts_first.specs.History.{Heard, Taken, State, IsAccepted, verdict, outcome, after, heading_of, body_of}
+use Rattle.gts_first.specs.Said.{line, spoken}
+use Rattle.gts_first.specs.Receipt.{receipt_text}
 use Rattle.gts_app.specs.Replay.{SaysFrontOf}
 
 -- the receipt of what isn't accepted has no heading

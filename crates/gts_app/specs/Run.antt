@@ -2,9 +2,9 @@
 use Rattle.std.specs.Prelude.{ℕ, List, [], ◌∷◌, codes}
 use Rattle.gts_traits.specs.Station.{Call, Outside, SaidSince}
 use Rattle.gts_directory.specs.Directory.{two_circuits}
-use Rattle.gts_event.specs.History.{empty}
-use Rattle.gts_event.specs.Said.{said, SaysFront, BreaksOff}
-use Rattle.gts_event.specs.Capture.{Step, IsCapture, entries}
+use Rattle.gts_first.specs.History.{empty}
+use Rattle.gts_first.specs.Said.{said, SaysFront, BreaksOff}
+use Rattle.gts_first.specs.Capture.{Step, IsCapture, entries}
 
 -- the one word that is a command so far
 abbrev pub replay_word : List (List ℕ)

@@ -4,10 +4,10 @@ ghost use Rattle.gts_traits.specs.Counts.{Rose};
 ghost use Rattle.gts_traits.specs.Station.{SaidSince};
 ghost use Rattle.gts_message.specs.Message.{split_at};
 ghost use Rattle.gts_directory.specs.Directory.{two_circuits};
-ghost use Rattle.gts_event.specs.History.{Heard, Taken, IsAccepted, after, heading_of, body_of};
-ghost use Rattle.gts_event.specs.Receipt.{receipt_text};
-ghost use Rattle.gts_event.specs.Said.{spoken};
-ghost use Rattle.gts_event.specs.Capture.{IsStep, event_of_step};
+ghost use Rattle.gts_first.specs.History.{Heard, Taken, IsAccepted, after, heading_of, body_of};
+ghost use Rattle.gts_first.specs.Receipt.{receipt_text};
+ghost use Rattle.gts_first.specs.Said.{spoken};
+ghost use Rattle.gts_first.specs.Capture.{IsStep, event_of_step};
 ghost use Rattle.gts_capture.specs.Steps.{step_of, steps_of};
 ghost use Rattle.gts_app.specs.Run.{SaysAll, StopsAfter, BreaksAfter};
 ghost use Rattle.gts_app.specs.Replay.{SaysFrontOf};
@@ -15,7 +15,7 @@ ghost use Rattle.gts_app.specs.declared.replaying.StepFault.TheVariants as fault
 
 use gts_capture::CaptureStep;
 use gts_core::PlainCore;
-use gts_event::{Outcome, receipt};
+use gts_first::{Outcome, receipt};
 use gts_frame::{FrameBuf, Kind};
 use gts_message::Message;
 use gts_traits::{Failed, NoMemory, Station};

@@ -1,6 +1,6 @@
 ghost use Rattle.std.specs.Prelude.{◌≡◌, ◌⊎◌, ◌≤◌, ◌↔◌, ◌++◌, [], List, ℕ, length, IsTrue};
 ghost use Rattle.gts_traits.specs.Counts.{Rose};
-ghost use Rattle.gts_event.specs.Capture.{Step, IsCapture};
+ghost use Rattle.gts_first.specs.Capture.{Step, IsCapture};
 ghost use Rattle.gts_app.specs.Run.{replay_word, SaysAll, StopsAfter, BreaksAfter, IsNoCapture};
 
 use crate::Status;

@@ -10,7 +10,7 @@ use Rattle.gts_alphabet.proofs.DigitsLemmas.{length-dec, digits_value-dec, dec-d
 use Rattle.gts_frame.specs.declared.kind.Kind.{Kind}
 use Rattle.gts_frame.specs.Frame.{frame, letters, IsFramed}
 use Rattle.gts_frame.proofs.FrameLemmas.{same_frames, length-frame}
-use Rattle.gts_event.specs.Capture.{Step, Feed, Take, step_text, IsStep, capture_text, end_text, IsCapture}
+use Rattle.gts_first.specs.Capture.{Step, Feed, Take, step_text, IsStep, capture_text, end_text, IsCapture}
 use Rattle.gts_capture.specs.Steps.{BeginsWithStep}
 
 -- the first byte of a list, or 0

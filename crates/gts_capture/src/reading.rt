@@ -1,7 +1,7 @@
 ghost use Rattle.std.specs.Prelude.{◌≡◌, ◌≢◌, ◌≤◌, ◌++◌, List, ℕ, length, MatchOption, IfSome, IfNone, IfOk, IsErrOf};
 ghost use Rattle.gts_frame.specs.Frame.{IsFramed};
 ghost use Rattle.gts_frame.specs.declared.kind.Kind as frames;
-ghost use Rattle.gts_event.specs.Capture.{Step, Feed, IsStep, step_text, longest_capture, IsCapture};
+ghost use Rattle.gts_first.specs.Capture.{Step, Feed, IsStep, step_text, longest_capture, IsCapture};
 ghost use Rattle.gts_capture.specs.declared.reading.CaptureError.TheVariants.{NoMemory};
 ghost use Rattle.gts_capture.specs.Steps.{step_of, steps_of, BeginsWithStep};
 

@@ -7,12 +7,12 @@ use Rattle.gts_frame.specs.declared.kind.Kind.{Kind}
 use Rattle.gts_heading.specs.declared.field.Field.{Field}
 use Rattle.gts_message.specs.Message.{MessageParts, split_at}
 use Rattle.gts_directory.specs.Directory.{two_circuits, named}
-use Rattle.gts_event.specs.declared.outcome.Outcome.{Outcome}
-use Rattle.gts_event.specs.declared.outcome.Outcome.TheVariants.{Accepted, Refused, Draw, Nothing}
-use Rattle.gts_event.specs.declared.outcome.Refusal.TheVariants.{Message, Later}
-use Rattle.gts_event.specs.History.{Heard, Taken, Bulletin, Drawn, State, count, draws_on, waits, waiting, next, goes_before, is_request, verdict, outcome, after, body_of, with_bulletin, with_draw}
-use Rattle.gts_event.specs.Said.{draw_at, bulletin_at, numbered_frame, line}
-use Rattle.gts_event.proofs.HistoryLemmas.{body_of-from_split}
+use Rattle.gts_first.specs.declared.outcome.Outcome.{Outcome}
+use Rattle.gts_first.specs.declared.outcome.Outcome.TheVariants.{Accepted, Refused, Draw, Nothing}
+use Rattle.gts_first.specs.declared.outcome.Refusal.TheVariants.{Message, Later}
+use Rattle.gts_first.specs.History.{Heard, Taken, Bulletin, Drawn, State, count, draws_on, waits, waiting, next, goes_before, is_request, verdict, outcome, after, body_of, with_bulletin, with_draw}
+use Rattle.gts_first.specs.Said.{draw_at, bulletin_at, numbered_frame, line}
+use Rattle.gts_first.proofs.HistoryLemmas.{body_of-from_split}
 use Rattle.gts_core.specs.Plain.{bulletins_from, draws_from, plain_state}
 
 -- the bulletin at a position

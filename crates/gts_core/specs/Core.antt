@@ -1,6 +1,6 @@
 -- The plain core as the two lists.
 use Rattle.std.specs.Prelude.{◌≤◌, length}
-use Rattle.gts_event.specs.History.{State}
+use Rattle.gts_first.specs.History.{State}
 use Rattle.gts_core.specs.Plain.{plain_state}
 use Rattle.gts_core.specs.Held.{all_held, AllFit}
 use Rattle.gts_core.specs.declared.plain.PlainCore.TheInside.{Inside}

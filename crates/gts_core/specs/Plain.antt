@@ -2,7 +2,7 @@
 -- last.
 use Rattle.std.specs.Prelude.{ℕ, zero, suc, ◌+◌, List, [], ◌∷◌}
 use Rattle.gts_frame.specs.declared.kind.Kind.{Kind}
-use Rattle.gts_event.specs.History.{Bulletin, Drawn, State}
+use Rattle.gts_first.specs.History.{Bulletin, Drawn, State}
 
 -- the bulletins of these frame types and bodies, with positions from n on
 abbrev pub bulletins_from : ℕ → List (Kind × List ℕ) → List Bulletin

@@ -1,13 +1,13 @@
 ghost use Rattle.std.specs.Prelude.{◌≡◌, ◌<◌, ◌^◌, ℕ, IfOk, OnErr, IsErr};
 ghost use Rattle.gts_heading.specs.Heading.{fields_of};
 ghost use Rattle.gts_directory.specs.Directory.{two_circuits};
-ghost use Rattle.gts_event.specs.History as history;
-ghost use Rattle.gts_event.specs.Said.{line, number_of};
+ghost use Rattle.gts_first.specs.History as history;
+ghost use Rattle.gts_first.specs.Said.{line, number_of};
 
 use crate::held::{Held, push};
 use gts_alphabet::NoMemory;
 use gts_directory::FixedDirectory;
-use gts_event::{Outcome, Refusal};
+use gts_first::{Outcome, Refusal};
 use gts_frame::{FrameBuf, Kind, write_frame};
 use gts_heading::Heading;
 use gts_message::Message;
@@ -27,7 +27,7 @@ pub struct PlainCore {
 }
 
 impl Model for PlainCore {
-    ghost use Rattle.gts_event.specs.History.{State};
+    ghost use Rattle.gts_first.specs.History.{State};
 
     ghost Value = { State };
 

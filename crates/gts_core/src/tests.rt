@@ -1,5 +1,5 @@
 use super::*;
-use gts_event::{Outcome, Refusal};
+use gts_first::{Outcome, Refusal};
 use gts_frame::{FrameBuf, Kind};
 use gts_heading::Field;
 use std::test::Fail;

@@ -1,14 +1,17 @@
 -- The routing directory: which circuits get a bulletin, and at which level (profile).
-use Rattle.std.specs.Prelude.{ℕ, Bool, true, not, ◌&&◌, ◌||◌, ◌==◌, nat_eq, List, [], ◌∷◌, length, take, drop, map, filter, slice_index, slice_index_or, if◌then◌else◌, codes}
+use Rattle.std.specs.Prelude.{ℕ, Bool, true, not, ◌&&◌, ◌||◌, ◌==◌, nat_eq, List, [], ◌∷◌, length, take, drop, map, filter, slice_index, slice_index_or, if◌then◌else◌, codes, replicate, ◌^◌}
 use Rattle.std.specs.List.{list_any, range_with_len}
 use Rattle.std.specs.Cmp.Lexicographic.{pointwise}
 use Rattle.gts_alphabet.specs.Digits.{dec}
 use Rattle.gts_heading.specs.Heading.{HeadingFields}
 
--- a circuit, and the centre at its other end
+-- a circuit, the centre at its other end, how many of its last draws can be asked for, and the ports of its two lines
 pub record Circuit : Type 0 where
   pub name : List ℕ
   pub peer : List ℕ
+  pub kept : ℕ
+  pub input : ℕ
+  pub output : ℕ
 
 -- which headings, and the circuits that get their bulletins
 pub record Rule : Type 0 where
@@ -20,9 +23,13 @@ pub record Level : Type 0 where
   pub tt : List ℕ
   pub level : ℕ
 
--- the rows of a directory; circuits are numbered from 0 in their order
+-- The rows of a directory; circuits are numbered from 0 in their order. A duplicate is looked for among the last
+-- `window` accepted bulletins, the journal has at most `limit` bytes, and `mark` is the digest of the directory's text.
 pub record Directory : Type 0 where
   pub centre : List ℕ
+  pub window : ℕ
+  pub limit : ℕ
+  pub mark : List ℕ
   pub circuits : List Circuit
   pub rules : List Rule
   pub levels : List Level
@@ -60,11 +67,18 @@ level_in (row ∷ rows) h = if agrees row.tt h.tt then row.level else level_in r
 abbrev pub level_of : Directory → HeadingFields → ℕ
 level_of d h = level_in d.levels h
 
+-- a circuit that says no more than its name and its peer
+abbrev pub circuit_of : List ℕ → List ℕ → Circuit
+circuit_of name peer = record { name = name; peer = peer; kept = 1000; input = 0; output = 0 }
+
+-- a directory with these rows, which says no more
+abbrev pub directory_of : List Circuit → List Rule → List Level → Directory
+directory_of circuits rules levels =
+    record { centre = codes "TVSV"; window = 1000; limit = 2 ^ 30; mark = replicate 32 0; circuits = circuits; rules = rules; levels = levels }
+
 -- The directory that the switch has until it reads one: circuits A and B, and each bulletin goes on to the other one.
 abbrev pub two_circuits : Directory
-two_circuits = record {
-  centre = codes "TVSV";
-  circuits = record { name = codes "A"; peer = codes "AAAA" } ∷ record { name = codes "B"; peer = codes "BBBB" } ∷ [];
-  rules = record { heading = codes "****** ****"; to = 0 ∷ 1 ∷ [] } ∷ [];
-  levels = [];
-}
+two_circuits = directory_of
+    (circuit_of (codes "A") (codes "AAAA") ∷ circuit_of (codes "B") (codes "BBBB") ∷ [])
+    (record { heading = codes "****** ****"; to = 0 ∷ 1 ∷ [] } ∷ [])
+    []

@@ -1,7 +1,7 @@
 -- Literal directories and headings.
 use Rattle.std.specs.Prelude.{◌≡◌, ℕ, List, [], ◌∷◌, None, codes}
 use Rattle.gts_heading.specs.Heading.{HeadingFields}
-use Rattle.gts_directory.specs.Directory.{Directory, named, level_of, two_circuits}
+use Rattle.gts_directory.specs.Directory.{Directory, circuit_of, directory_of, named, level_of, two_circuits}
 
 -- SMVG01 TVSV 280000
 abbrev pub surface_report : HeadingFields
@@ -13,12 +13,10 @@ warning = record { tt = codes "WW"; aa = codes "VG"; ii = 2; cccc = codes "TVSV"
 
 -- three circuits; what begins with SM goes to A and B, what has the number 01 to B and C; warnings have level 1
 abbrev pub three_circuits : List ℕ → Directory
-three_circuits peer_of_c = record {
-  centre = codes "TVSV";
-  circuits = record { name = codes "A"; peer = codes "AAAA" } ∷ record { name = codes "B"; peer = codes "BBBB" } ∷ record { name = codes "C"; peer = peer_of_c } ∷ [];
-  rules = record { heading = codes "SM**** ****"; to = 0 ∷ 1 ∷ [] } ∷ record { heading = codes "****01 ****"; to = 1 ∷ 2 ∷ [] } ∷ [];
-  levels = record { tt = codes "WW"; level = 1 } ∷ [];
-}
+three_circuits peer_of_c = directory_of
+    (circuit_of (codes "A") (codes "AAAA") ∷ circuit_of (codes "B") (codes "BBBB") ∷ circuit_of (codes "C") peer_of_c ∷ [])
+    (record { heading = codes "SM**** ****"; to = 0 ∷ 1 ∷ [] } ∷ record { heading = codes "****01 ****"; to = 1 ∷ 2 ∷ [] } ∷ [])
+    (record { tt = codes "WW"; level = 1 } ∷ [])
 
 -- The union of the rules that match, without the circuit that the bulletin came in on.
 abbrev pub UnionOfRules : Type 0

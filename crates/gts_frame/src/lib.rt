@@ -5,6 +5,7 @@
 mod buffer;
 mod kind;
 mod laws;
+mod lost;
 mod reading;
 mod writing;
 
@@ -15,6 +16,7 @@ pub use laws::{
     a_written_message_is_framed, frames_are_told_apart, keep_alives_and_frames_are_told_apart,
     the_first_frame_is_made,
 };
+pub use lost::LostField;
 pub use reading::read_one;
 pub use writing::write_frame;
 

@@ -1,6 +1,6 @@
 use Rattle.gts_directory.specs.Directory.{two_circuits}
-use Rattle.gts_event.specs.History.{Heard}
-use Rattle.gts_event.specs.Said.{spoken}
+use Rattle.gts_first.specs.History.{Heard}
+use Rattle.gts_first.specs.Said.{spoken}
 use Rattle.std.proofs.Common.{take}
 use Rattle.gts_app.proofs.StepLemmas.{says_all, says_front, spoken-receipt}
 use Rattle.gts_app.proofs.replaying.feed.Goals as goal

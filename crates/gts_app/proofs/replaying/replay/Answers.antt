@@ -2,7 +2,7 @@ use Rattle.std.proofs.Common.{◌≡◌, ℕ, ◌<◌, List, [], Result, Err, le
 use Rattle.std.proofs.lemmas.List.{length-map, get_or-map}
 use Rattle.std.proofs.lemmas.Result.{err_from_is_err_and}
 use Rattle.gts_frame.specs.declared.kind.Kind.TheVariants.{An}
-use Rattle.gts_event.specs.Capture.{Step, IsStep}
+use Rattle.gts_first.specs.Capture.{Step, IsStep}
 use Rattle.gts_capture.specs.declared.step.CaptureStep.{CaptureStep}
 use Rattle.gts_capture.specs.declared.step.CaptureStep.TheVariants.{Feed}
 use Rattle.gts_capture.specs.Steps.{step_of, steps_of}

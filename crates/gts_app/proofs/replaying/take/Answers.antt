@@ -1,7 +1,7 @@
 use Rattle.std.proofs.Common.{◌+◌, refl, ◌∙◌}
 use Rattle.gts_directory.specs.Directory.{two_circuits}
-use Rattle.gts_event.specs.History.{Taken}
-use Rattle.gts_event.specs.Said.{spoken}
+use Rattle.gts_first.specs.History.{Taken}
+use Rattle.gts_first.specs.Said.{spoken}
 use Rattle.gts_app.proofs.StepLemmas.{says_front, spoken-draw}
 use Rattle.gts_app.proofs.replaying.take.Goals as goal
 

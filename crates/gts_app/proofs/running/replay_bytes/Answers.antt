@@ -1,5 +1,5 @@
 use Rattle.std.proofs.Common.{◌≡◌, List, Result, Err, sym, ap, subst}
-use Rattle.gts_event.specs.Capture.{IsCapture}
+use Rattle.gts_first.specs.Capture.{IsCapture}
 use Rattle.gts_capture.specs.declared.step.CaptureStep.{CaptureStep}
 use Rattle.gts_capture.specs.Steps.{steps_of}
 use Rattle.gts_app.specs.declared.replaying.StepFault.{StepFault}

@@ -1,5 +1,5 @@
 use Rattle.std.proofs.Common.{◌≡◌, length, sym, ap, ◌∙◌, arith}
-use Rattle.gts_event.specs.History.{count}
+use Rattle.gts_first.specs.History.{count}
 use Rattle.gts_core.specs.Held.{all_held}
 use Rattle.gts_core.proofs.HeldLemmas.{length-all_held}
 use Rattle.gts_core.proofs.PlainLemmas.{count-plain}

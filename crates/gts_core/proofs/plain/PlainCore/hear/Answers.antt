@@ -3,7 +3,7 @@ use Rattle.std.proofs.lemmas.List.{length_push}
 use Rattle.gts_frame.specs.declared.kind.Kind.{Kind}
 use Rattle.gts_message.specs.Message.{parts_of}
 use Rattle.gts_directory.specs.Directory.{two_circuits}
-use Rattle.gts_event.specs.History.{Heard, State, after}
+use Rattle.gts_first.specs.History.{Heard, State, after}
 use Rattle.gts_core.specs.Plain.{plain_state}
 use Rattle.gts_core.specs.Held.{all_held, held_of, AllFit}
 use Rattle.gts_core.proofs.PlainLemmas.{after-accepted}

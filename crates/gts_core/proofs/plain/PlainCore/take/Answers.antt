@@ -4,8 +4,8 @@ use Rattle.gts_alphabet.specs.Message.{message_of}
 use Rattle.gts_frame.specs.declared.kind.Kind.{Kind}
 use Rattle.gts_frame.specs.Frame.{frame, EndsWithEtx}
 use Rattle.gts_directory.specs.Directory.{two_circuits}
-use Rattle.gts_event.specs.History.{Taken, State, outcome, after}
-use Rattle.gts_event.specs.Said.{line, numbered_frame, number_of}
+use Rattle.gts_first.specs.History.{Taken, State, outcome, after}
+use Rattle.gts_first.specs.Said.{line, numbered_frame, number_of}
 use Rattle.gts_core.specs.Plain.{plain_state}
 use Rattle.gts_core.specs.Held.{all_held, held_of, FitsFrame}
 use Rattle.gts_core.proofs.PlainLemmas.{bulletin, next-plain_back, next-plain_none, outcome-nothing, after-nothing, outcome-drawn, after-drawn, line-drawn}
