@@ -1,0 +1,82 @@
+-- Captures that differ only in how feeds are cut have the same entries.
+use Rattle.std.proofs.Common.{◌≡◌, ℕ, ◌<◌, Bool, true, false, ◌==◌, cond, List, [], ◌∷◌, ◌++◌, length, get_or, set, refl, sym, ap, ◌∙◌, arith}
+use Rattle.std.proofs.lemmas.Bool.{eqb-true}
+use Rattle.std.proofs.lemmas.List.{append_assoc, map-append, set-set, get_or-set_same, length-set, length-map}
+use Rattle.gts_directory.specs.Directory.{Directory}
+use Rattle.gts_event.specs.State.{State}
+use Rattle.gts_event.specs.declared.event.Event.{Event}
+use Rattle.gts_event.specs.declared.event.Entry.{Entry}
+use Rattle.gts_event.specs.declared.event.Entry.TheVariants.{Done}
+use Rattle.gts_event.specs.History.{after_entry, after_all}
+use Rattle.gts_connection.specs.Connection.{events_added}
+use Rattle.gts_connection.specs.Capture.{Step, Feed, Take, Reopen, Drain, Restart, Compact, AreSteps, Connections, no_bytes, with_bytes, entries_of_step, after_step, entries_from, entries, join, joined}
+use Rattle.gts_event.specs.Drain.{all_done}
+use Rattle.gts_connection.proofs.StreamLemmas.{added-twice}
+
+pub after_all-append : (d : Directory) (s : State) (xs ys : List Entry) → after_all d s (xs ++ ys) ≡ after_all d (after_all d s xs) ys
+after_all-append d s [] ys = refl
+after_all-append d s (x ∷ xs) ys = after_all-append d (after_entry d s x) xs ys
+
+-- one feed or two
+cut_feed : (d : Directory) (s : State) (bs : Connections) (c : ℕ) (x y : List ℕ) (steps : List Step) → c < length bs
+    → entries_from d s bs (Feed c (x ++ y) ∷ steps) ≡ entries_from d s bs (Feed c x ∷ Feed c y ∷ steps)
+cut_feed d s bs c x y steps lt =
+    let b : List ℕ = get_or bs c [] in
+    let first : List Entry = all_done (events_added c b x) in
+    let then_on : List ℕ → List Entry = λ before. all_done (events_added c before y) in
+    let second : List Entry = then_on (b ++ x) in
+    let now : get_or (with_bytes bs c x) c [] ≡ b ++ x = get_or-set_same bs c (b ++ x) [] lt in
+    let bytes : with_bytes bs c (x ++ y) ≡ with_bytes (with_bytes bs c x) c y =
+    ap (set bs c) (sym (append_assoc b x y)) ∙ sym (set-set bs c (b ++ x) (b ++ x ++ y)) ∙ ap (λ (xs : List ℕ). set (with_bytes bs c x) c (xs ++ y)) (sym now) in
+    let all : all_done (events_added c b (x ++ y)) ≡ first ++ second = ap all_done (added-twice c b x y) ∙ map-append (λ (e : Event). Done e) (events_added c b x) (events_added c (b ++ x) y) in
+    let rest : List Entry → Connections → List Entry = λ es cs. es ++ entries_from d (after_all d s es) cs steps in
+    ap (λ (es : List Entry). rest es (with_bytes bs c (x ++ y))) all
+    ∙ ap (rest (first ++ second)) bytes
+    ∙ ap (λ (t : State). first ++ second ++ entries_from d t (with_bytes (with_bytes bs c x) c y) steps) (after_all-append d s first second)
+    ∙ append_assoc first second (entries_from d (after_all d (after_all d s first) second) (with_bytes (with_bytes bs c x) c y) steps)
+    ∙ ap (λ (before : List ℕ). first ++ (then_on before ++ entries_from d (after_all d (after_all d s first) (then_on before)) (with_bytes (with_bytes bs c x) c y) steps)) (sym now)
+
+join_feeds : (d : Directory) (s : State) (bs : Connections) (c e : ℕ) (x y : List ℕ) (steps : List Step) → c < length bs
+    → entries_from d s bs (join (Feed c x) (Feed e y ∷ steps)) ≡ entries_from d s bs (Feed c x ∷ Feed e y ∷ steps)
+join_feeds d s bs c e x y steps lt = go (c == e) refl
+  where
+    go : (b : Bool) → (c == e) ≡ b → entries_from d s bs (cond b (Feed c (x ++ y) ∷ steps) (Feed c x ∷ Feed e y ∷ steps)) ≡ entries_from d s bs (Feed c x ∷ Feed e y ∷ steps)
+    go true h = cut_feed d s bs c x y steps lt ∙ ap (λ (n : ℕ). entries_from d s bs (Feed c x ∷ Feed n y ∷ steps)) (eqb-true c e h)
+    go false h = refl
+
+join_same : (d : Directory) (s : State) (bs : Connections) (step : Step) (steps : List Step) → length bs ≡ length d.circuits → AreSteps d (step ∷ [])
+    → entries_from d s bs (join step steps) ≡ entries_from d s bs (step ∷ steps)
+join_same d s bs (Feed c x) [] len h = refl
+join_same d s bs (Feed c x) (Feed e y ∷ steps) len h = join_feeds d s bs c e x y steps (omega (arith, len, h.0.0))
+join_same d s bs (Feed c x) (Take e ∷ steps) len h = refl
+join_same d s bs (Feed c x) (Reopen e ∷ steps) len h = refl
+join_same d s bs (Feed c x) (Drain e ∷ steps) len h = refl
+join_same d s bs (Feed c x) (Restart ∷ steps) len h = refl
+join_same d s bs (Feed c x) (Compact ∷ steps) len h = refl
+join_same d s bs (Take c) steps len h = refl
+join_same d s bs (Reopen c) steps len h = refl
+join_same d s bs (Drain c) steps len h = refl
+join_same d s bs Restart steps len h = refl
+join_same d s bs Compact steps len h = refl
+
+length-after : (d : Directory) (bs : Connections) (step : Step) → length bs ≡ length d.circuits → length (after_step d bs step) ≡ length d.circuits
+length-after d bs (Feed c x) len = length-set bs c (get_or bs c [] ++ x) ∙ len
+length-after d bs (Take c) len = len
+length-after d bs (Reopen c) len = length-set bs c [] ∙ len
+length-after d bs (Drain c) len = len
+length-after d bs Restart len = length-map d.circuits (λ _. [])
+length-after d bs Compact len = len
+
+joined_from : (d : Directory) (s : State) (bs : Connections) (steps : List Step) → length bs ≡ length d.circuits → AreSteps d steps → entries_from d s bs (joined steps) ≡ entries_from d s bs steps
+joined_from d s bs [] len h = refl
+joined_from d s bs (step ∷ steps) len h =
+    let added : List Entry = entries_of_step s bs step in
+    join_same d s bs step (joined steps) len (h.0, tt)
+    ∙ ap (λ (es : List Entry). added ++ es) (joined_from d (after_all d s added) (after_step d bs step) steps (length-after d bs step len) h.1)
+
+pub joined_same : (d : Directory) (s : State) (steps : List Step) → AreSteps d steps → entries d s (joined steps) ≡ entries d s steps
+joined_same d s steps h = joined_from d s (no_bytes d) steps (length-map d.circuits (λ _. [])) h
+
+-- captures that are one but for how feeds are cut have the same entries
+pub cuts_same : (d : Directory) (s : State) (steps others : List Step) → AreSteps d steps → AreSteps d others → joined steps ≡ joined others → entries d s steps ≡ entries d s others
+cuts_same d s steps others h k e = sym (joined_same d s steps h) ∙ ap (entries d s) e ∙ joined_same d s others k

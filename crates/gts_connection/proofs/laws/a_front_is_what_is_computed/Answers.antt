@@ -1,0 +1,5 @@
+use Rattle.gts_connection.proofs.FrontLemmas.{front-computed, front-is}
+use Rattle.gts_connection.proofs.laws.a_front_is_what_is_computed.Goals as goal
+
+pub returns : goal.returns
+returns c = λ bytes. (front-is bytes, front-computed bytes)

@@ -1,0 +1,133 @@
+-- Captures: what came on the circuits and when something was taken, as a text of steps (profile).
+use Rattle.std.specs.Prelude.{◌≡◌, ℕ, ◌+◌, ◌<◌, ◌≤◌, ◌==◌, if◌then◌else◌, List, [], ◌∷◌, ◌++◌, length, map, codes, flat_map}
+use Rattle.std.specs.List.{AllByRecursion, slice_index_or, slice_set}
+use Rattle.gts_alphabet.specs.Digits.{dec}
+use Rattle.gts_directory.specs.Directory.{Directory}
+use Rattle.gts_event.specs.State.{State}
+use Rattle.gts_event.specs.declared.event.Event.TheVariants.{Taken}
+use Rattle.gts_event.specs.declared.event.Entry.{Entry}
+use Rattle.gts_event.specs.declared.event.Entry.TheVariants.{Done, Restarted}
+use Rattle.gts_event.specs.History.{after_all}
+use Rattle.gts_connection.specs.Connection.{events_added}
+use Rattle.gts_event.specs.Drain.{takes_of_drain, all_done}
+
+-- A step: bytes come on a circuit; one take on a circuit; a circuit begins a new connection; takes on a circuit until one
+-- gives nothing; the journal is opened again; the journal is compacted.
+pub data Step : Type 0 where
+  Feed : (circuit : ℕ) → (bytes : List ℕ) → Step
+  Take : (circuit : ℕ) → Step
+  Reopen : (circuit : ℕ) → Step
+  Drain : (circuit : ℕ) → Step
+  Restart : Step
+  Compact : Step
+
+-- The head line of a step, or of the end. Bytes that come are announced by their number.
+pub data Head : Type 0 where
+  FeedHead : (circuit size : ℕ) → Head
+  TakeHead : (circuit : ℕ) → Head
+  ReopenHead : (circuit : ℕ) → Head
+  DrainHead : (circuit : ℕ) → Head
+  RestartHead : Head
+  CompactHead : Head
+  EndHead : Head
+
+abbrev pub head_text : Head → List ℕ
+head_text (FeedHead circuit size) = codes "F " ++ dec 2 circuit ++ codes " " ++ dec 6 size ++ codes "\n"
+head_text (TakeHead circuit) = codes "T " ++ dec 2 circuit ++ codes "\n"
+head_text (ReopenHead circuit) = codes "O " ++ dec 2 circuit ++ codes "\n"
+head_text (DrainHead circuit) = codes "D " ++ dec 2 circuit ++ codes "\n"
+head_text RestartHead = codes "R\n"
+head_text CompactHead = codes "C\n"
+head_text EndHead = codes "E\n"
+
+-- a head names a circuit of the directory, and at most 999,999 bytes
+abbrev pub IsHead : Directory → Head → Type 0
+IsHead d (FeedHead circuit size) = (circuit < length d.circuits) × (size ≤ 999999)
+IsHead d (TakeHead circuit) = circuit < length d.circuits
+IsHead d (ReopenHead circuit) = circuit < length d.circuits
+IsHead d (DrainHead circuit) = circuit < length d.circuits
+IsHead d _ = Unit {0}
+
+abbrev pub head_of : Step → Head
+head_of (Feed circuit bytes) = FeedHead circuit (length bytes)
+head_of (Take circuit) = TakeHead circuit
+head_of (Reopen circuit) = ReopenHead circuit
+head_of (Drain circuit) = DrainHead circuit
+head_of Restart = RestartHead
+head_of Compact = CompactHead
+
+abbrev pub bytes_of_step : Step → List ℕ
+bytes_of_step (Feed circuit bytes) = bytes
+bytes_of_step _ = []
+
+abbrev pub step_text : Step → List ℕ
+step_text step = head_text (head_of step) ++ bytes_of_step step
+
+abbrev pub AreSteps : Directory → List Step → Type 0
+AreSteps d steps = AllByRecursion (λ step. IsHead d (head_of step)) steps
+
+-- some head begins with these bytes, and goes on behind them
+abbrev pub IsPartialHead : Directory → List ℕ → Type 0
+IsPartialHead d bytes = (head : Head) × (next : ℕ) × (more : List ℕ) × IsHead d head × (head_text head ≡ bytes ++ next ∷ more)
+
+-- some head begins with these bytes
+abbrev pub IsHeadFront : Directory → List ℕ → Type 0
+IsHeadFront d bytes = (head : Head) × (more : List ℕ) × IsHead d head × (head_text head ≡ bytes ++ more)
+
+-- What bytes are read as, and up to which place: steps through the end, behind which nothing is read; steps before the
+-- first byte that no capture has in its place, or before the end of bytes that end too early, in a head or in a feed.
+pub data Reading (d : Directory) (bytes : List ℕ) (steps : List Step) (at : ℕ) : Type 0 where
+  Whole : (unread : List ℕ) → AreSteps d steps → bytes ≡ flat_map step_text steps ++ head_text EndHead ++ unread
+      → at + length unread ≡ length bytes → Reading d bytes steps at
+  Bad : (front : List ℕ) (byte : ℕ) (unread : List ℕ) → AreSteps d steps → IsPartialHead d front → (IsHeadFront d (front ++ byte ∷ []) → ⊥)
+      → bytes ≡ flat_map step_text steps ++ front ++ byte ∷ unread → at + 1 + length unread ≡ length bytes → Reading d bytes steps at
+  EndsInHead : (front : List ℕ) → AreSteps d steps → IsPartialHead d front → bytes ≡ flat_map step_text steps ++ front → at ≡ length bytes → Reading d bytes steps at
+  EndsInFeed : (before : List Step) (circuit size : ℕ) (piece : List ℕ) → AreSteps d before → IsHead d (FeedHead circuit size) → length piece < size
+      → steps ≡ before ++ Feed circuit piece ∷ [] → bytes ≡ flat_map step_text before ++ head_text (FeedHead circuit size) ++ piece
+      → at ≡ length bytes → Reading d bytes steps at
+
+-- the bytes that each circuit's connection had so far
+abbrev pub Connections : Type 0
+Connections = List (List ℕ)
+
+abbrev pub no_bytes : Directory → Connections
+no_bytes d = map (λ _. []) d.circuits
+
+-- the connections with more bytes on one circuit
+abbrev pub with_bytes : Connections → ℕ → List ℕ → Connections
+with_bytes bs circuit bytes = slice_set bs circuit (slice_index_or bs circuit [] ++ bytes)
+
+-- the entries of one step
+abbrev pub entries_of_step : State → Connections → Step → List Entry
+entries_of_step s bs (Feed circuit bytes) = all_done (events_added circuit (slice_index_or bs circuit []) bytes)
+entries_of_step s bs (Take circuit) = Done (Taken circuit) ∷ []
+entries_of_step s bs (Drain circuit) = all_done (takes_of_drain s circuit)
+entries_of_step s bs (Reopen circuit) = []
+entries_of_step s bs Restart = Restarted ∷ []
+entries_of_step s bs Compact = []
+
+-- the connections after a step
+abbrev pub after_step : Directory → Connections → Step → Connections
+after_step d bs (Feed circuit bytes) = with_bytes bs circuit bytes
+after_step d bs (Reopen circuit) = slice_set bs circuit []
+after_step d bs Restart = no_bytes d
+after_step d bs _ = bs
+
+-- the entries of steps
+abbrev pub entries_from : Directory → State → Connections → List Step → List Entry
+entries_from d s bs [] = []
+entries_from d s bs (step ∷ steps) =
+    let added : List Entry = entries_of_step s bs step in added ++ entries_from d (after_all d s added) (after_step d bs step) steps
+
+abbrev pub entries : Directory → State → List Step → List Entry
+entries d s steps = entries_from d s (no_bytes d) steps
+
+-- a feed and a feed of the same circuit behind it are one
+abbrev pub join : Step → List Step → List Step
+join (Feed c x) (Feed e y ∷ steps) = if c == e then Feed c (x ++ y) ∷ steps else Feed c x ∷ Feed e y ∷ steps
+join step steps = step ∷ steps
+
+-- steps in which no feed is cut
+abbrev pub joined : List Step → List Step
+joined [] = []
+joined (step ∷ steps) = join step (joined steps)

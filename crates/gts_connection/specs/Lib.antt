@@ -1,0 +1,3 @@
+pub mod Connection
+pub mod Capture
+pub mod Worked

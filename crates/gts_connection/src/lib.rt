@@ -1,0 +1,19 @@
+//! What comes over connections as events, and captures: what came on the circuits and when something was taken, as a
+//! text of steps.
+#![tactic(auto)]
+
+mod laws;
+mod worked;
+
+pub use laws::{
+    a_capture_comes_on_circuits_of_the_directory, a_capture_has_one_reading,
+    a_connection_has_one_reading, a_frame_at_the_front_is_heard, a_front_is_what_is_computed,
+    feeds_may_be_cut_anywhere, more_bytes_only_add_events,
+};
+pub use worked::{
+    a_capture_is_read_through_its_end, a_capture_may_end_in_a_feed,
+    a_drain_takes_once_more_than_there_is, a_frame_may_come_byte_by_byte,
+    a_keep_alive_is_passed_over, a_new_connection_begins_after_a_loss,
+    a_restart_begins_each_connection_anew, a_small_capture_is_spelled,
+    the_first_byte_that_fits_no_frame_is_a_loss,
+};

@@ -1,0 +1,17 @@
+pub mod Lists
+pub mod NeedLemmas
+pub mod LeftLemmas
+pub mod OutcomeLemmas
+pub mod AfterLemmas
+pub mod OwedLemmas
+pub mod OrderLemmas
+pub mod HistoryLemmas
+pub mod SaidLemmas
+pub mod StartLemmas
+pub mod GrowthLemmas
+pub mod RoutedLemmas
+pub mod NextLemmas
+pub mod DrainLemmas
+pub mod ClimbLemmas
+pub mod RoutedOnceLemmas
+pub mod HeldLemmas

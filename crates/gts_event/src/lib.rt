@@ -1,0 +1,29 @@
+//! What happened in the switch: what comes to it, what that leads to, the state that it leaves, what is said, and the
+//! part of the state that later answers depend on. The definitions in `specs/` are what every layer above is proved to
+//! follow.
+#![tactic(auto)]
+
+mod event;
+mod fault;
+mod laws;
+mod outcome;
+mod worked;
+
+pub use event::{Entry, Event};
+pub use fault::{Device, SwitchFault};
+pub use laws::{
+    a_drain_ends_with_the_first_nothing, a_draw_is_the_next, a_start_is_its_own_need,
+    each_bulletin_is_routed_once, each_bulletin_waits_or_was_drawn_once, each_take_leaves_one_less,
+    nothing_is_given_only_where_nothing_waits, states_are_ordered, the_frame_of_a_draw_stays,
+    the_need_of_each_state_is_sound, what_follows_depends_on_the_need,
+};
+pub use outcome::{Outcome, Refusal};
+pub use worked::{
+    a_circuit_of_the_same_peer_gets_nothing, a_restart_repeats_the_last_draw,
+    a_start_is_sound_in_its_directory, a_warning_is_drawn_first,
+    a_window_of_one_sees_the_last_bulletin, another_text_or_group_is_no_duplicate,
+    draws_that_are_not_kept_are_missing, headings_can_be_asked_for, numbers_come_round_after_999,
+    one_bulletin_is_sent_on, one_request_too_many_is_refused, requests_queue_up,
+    the_first_field_of_a_request_at_fault_is_named, the_later_of_two_draws_is_found,
+    the_need_after_one_bulletin_and_one_draw,
+};

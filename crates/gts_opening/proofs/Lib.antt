@@ -1,0 +1,9 @@
+pub mod ImageLemmas
+pub mod JournalLemmas
+pub mod CheckpointLemmas
+pub mod FileLemmas
+pub mod CausedLemmas
+pub mod WrittenLemmas
+pub mod CrashLemmas
+pub mod AppendLemmas
+pub mod CompactLemmas

@@ -1,0 +1,4 @@
+pub mod Journal
+pub mod Room
+pub mod Images
+pub mod Worked
