@@ -5,6 +5,7 @@ use Rattle.std.proofs.lemmas.List.{take_at, drop_at, take-append-drop, length-ta
 use Rattle.gts_alphabet.specs.Digits.{dec}
 use Rattle.gts_alphabet.specs.Message.{message_of}
 use Rattle.gts_alphabet.specs.declared.characters.TheConstants.{SOH, EOL, ETX}
+use Rattle.gts_alphabet.specs.declared.limits.TheConstants.{LONGEST_BODY}
 use Rattle.gts_alphabet.proofs.DigitsLemmas.{length-dec, AllDigits-dec, digits_value-dec, dec-digits_value}
 use Rattle.gts_frame.specs.Frame.{letters, frame, keep_alive, IsFramed, EndsWithEtx}
 use Rattle.gts_frame.specs.declared.kind.Kind.{Kind}
@@ -105,7 +106,7 @@ keep_alive_or_frame k l m x y framed e =
     let zero = digits_value-dec 8 0 (omega arith) in
     omega (arith, parts.number, digits, zero, framed_length m framed)
 
-pub IsFramed-message_of : (number : ℕ) (body : List ℕ) → length body ≤ 499988 → EndsWithEtx body → IsFramed (message_of (dec 3 number) body)
+pub IsFramed-message_of : (number : ℕ) (body : List ℕ) → length body ≤ LONGEST_BODY → EndsWithEtx body → IsFramed (message_of (dec 3 number) body)
 IsFramed-message_of number body short end =
     let front = EOL ++ dec 3 number ++ EOL in
     let len = length-append (SOH ∷ front) body in

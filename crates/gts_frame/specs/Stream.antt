@@ -60,7 +60,9 @@ length_in bytes = digits_value 10 (take 8 bytes)
 
 -- some frame or keep-alive begins with these bytes
 abbrev pub is_front : List ℕ → Bool
-is_front bytes = begins_length (take 8 bytes) && begins_kind (take 2 (drop 8 bytes)) && begins_message (length_in bytes) (drop FRAME_HEAD bytes)
+is_front bytes =
+    begins_length (take 8 bytes) && begins_kind (take 2 (drop 8 bytes))
+    && begins_message (length_in bytes) (drop FRAME_HEAD bytes)
 
 -- a whole frame or keep-alive stands at the front of these bytes
 abbrev pub has_piece : List ℕ → Bool

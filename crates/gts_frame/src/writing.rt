@@ -4,7 +4,7 @@ ghost use Rattle.gts_alphabet.specs.Message.{message_of};
 ghost use Rattle.gts_frame.specs.Frame.{frame, EndsWithEtx};
 
 use crate::{FrameBuf, Kind};
-use gts_alphabet::{EOL, SOH, digits_of};
+use gts_alphabet::{EOL, LONGEST_BODY, SOH, digits_of};
 
 /// The bytes of a message in front of its body: SOH, CR CR LF, three digits, CR CR LF.
 const FRONT: u32 = 10;
@@ -13,7 +13,7 @@ const FRONT: u32 = 10;
 /// number in three digits, CR CR LF, and the body, which ends with ETX (the Manual's message format).
 pub fn write_frame(kind: Kind, number: u32, body: &[u8], out: &mut FrameBuf)
     requires number { number < 1000 }
-    requires short { length body.now ≤ 499988 }
+    requires short { length body.now ≤ LONGEST_BODY }
     requires end { EndsWithEtx body.now }
     ensures { out.new ≡ frame kind (message_of (dec 3 number) body.now) }
 {

@@ -1,4 +1,4 @@
--- Literal frames.
+-- Frames in literal bytes.
 use Rattle.std.specs.Prelude.{◌≡◌, [], ◌∷◌, ◌++◌, codes}
 use Rattle.gts_alphabet.specs.Digits.{dec}
 use Rattle.gts_alphabet.specs.Message.{message_of}
