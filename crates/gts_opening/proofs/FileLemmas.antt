@@ -22,7 +22,8 @@ use Rattle.gts_event.proofs.StartLemmas.{list_all-parts, all-below}
 use Rattle.gts_event.proofs.LeftLemmas.{waiting-left}
 use Rattle.gts_event.proofs.AfterLemmas.{needs_of}
 use Rattle.gts_event.proofs.HistoryLemmas.{restarted-left}
-use Rattle.gts_opening.proofs.JournalLemmas.{same_bytes, starts_with-append, records_open}
+use Rattle.gts_record.proofs.RecordLemmas.{same_bytes, starts_with-append}
+use Rattle.gts_opening.proofs.JournalLemmas.{records_open}
 use Rattle.gts_event.proofs.HeldLemmas.{eq_turned, bulletin-parts}
 use Rattle.gts_opening.proofs.CheckpointLemmas.{need_in-text, length-numbers}
 
