@@ -18,7 +18,7 @@ use Rattle.gts_event.specs.declared.event.Event.{Event}
 use Rattle.gts_event.specs.declared.event.Event.TheVariants.{Heard}
 use Rattle.gts_frame.specs.Stream.{begins_length, begins_kind, begins_message, length_in, is_front, has_piece}
 use Rattle.gts_connection.specs.Connection.{event_at, loss_at, events_in}
-use Rattle.gts_event.proofs.Lists.{both_true, list_all-append, or_right}
+use Rattle.gts_event.proofs.ListLemmas.{both_true, list_all-append, or_right}
 
 -- ---- the length
 

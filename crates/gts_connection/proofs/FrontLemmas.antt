@@ -15,7 +15,7 @@ use Rattle.gts_frame.specs.declared.kind.Kind.{Kind}
 use Rattle.gts_frame.specs.declared.kind.Kind.TheVariants.{An, Bi, Fx}
 use Rattle.gts_frame.specs.Frame.{letters, Piece, Frame, KeepAlive, piece_text, IsFramed, IsPiece}
 use Rattle.gts_frame.specs.Stream.{IsFront, begins_length, begins_kind, begins_message, length_in, is_front}
-use Rattle.gts_event.proofs.Lists.{and_true, both_true, or_left, or_right, or_cases}
+use Rattle.gts_event.proofs.ListLemmas.{and_true, both_true, or_left, or_right, or_cases}
 use Rattle.gts_connection.proofs.ConnectionLemmas.{is_front-frame}
 use Rattle.gts_connection.proofs.ListLemmas.{starts_with-append}
 

@@ -4,7 +4,7 @@ use Rattle.std.specs.List.{list_all}
 use Rattle.std.proofs.lemmas.Bool.{ltb-true, lt-ltb, eq-eqb, eqb-true, ne_eqb}
 use Rattle.gts_event.specs.State.{has}
 use Rattle.gts_event.specs.Need.{ascends}
-use Rattle.gts_event.proofs.Lists.{and_true, both_true, list_all-append}
+use Rattle.gts_event.proofs.ListLemmas.{and_true, both_true, list_all-append}
 
 -- each number is below all behind it
 abbrev pub Climbs : List ℕ → Type 0

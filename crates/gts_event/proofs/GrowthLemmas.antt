@@ -12,7 +12,7 @@ use Rattle.gts_event.specs.Need.{Need, CircuitNeed, begun, begun_circuit, is_sou
 use Rattle.gts_event.specs.declared.outcome.Outcome.{Outcome}
 use Rattle.gts_event.specs.declared.outcome.Outcome.TheVariants.{Accepted, Duplicate, Asked, Refused, LineLost, Resend, Draw, Nothing}
 use Rattle.gts_event.proofs.AfterLemmas.{owing, drew, routed, draws_waiting, find_passes, has_append, undrawn}
-use Rattle.gts_event.proofs.Lists.{and_true, or_left, or_right, or_cases, has_filter}
+use Rattle.gts_event.proofs.ListLemmas.{and_true, or_left, or_right, or_cases, has_filter}
 use Rattle.gts_event.proofs.OrderLemmas.{ordered-entry, list_all-has}
 use Rattle.gts_event.proofs.StartLemmas.{never_both, circuits-sound}
 use Rattle.std.proofs.lemmas.List.Elements.{filter-append}

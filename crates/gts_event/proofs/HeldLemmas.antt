@@ -18,7 +18,7 @@ use Rattle.gts_request.specs.Request.{Item, request_at}
 use Rattle.gts_event.specs.State.{State, CircuitState, Bulletin, idle, on_circuit, has, draws, drawn, last_of, waiting, next, duplicate, heading_of, no_heading, is_recent, empty}
 use Rattle.gts_event.specs.History.{Event, Heard, Lost, Taken, Entry, Done, Unsaid, Idle, Doubt, Restarted, is_request, kept_on, places, found, items_of, body_of, heading_of_message, most_owed, answer, answer_to, verdict, Choice, choice, Repeats, Draws, Nothing_waits, outcome, with_bulletin, after, after_heard, after_take, after_entry, after_all, owed_last, restarted}
 use Rattle.gts_event.specs.Need.{Need, CircuitNeed, need, circuit_need, circuit_needs, begun, begun_circuit, nothing, is_needed, is_sound, is_circuit_sound, is_bulletin, is_for, owes_kept, ascends, is_distinct, are_below, keeps_one, is_here, circuit_of_event, IsOrdered}
-use Rattle.gts_event.proofs.Lists.{and_true, both_true, or_left, or_right, or_cases, list_all-append, filter_same, has_filter}
+use Rattle.gts_event.proofs.ListLemmas.{and_true, both_true, or_left, or_right, or_cases, list_all-append, filter_same, has_filter}
 use Rattle.gts_event.proofs.NeedLemmas.{circuit_need-sound}
 use Rattle.gts_event.proofs.LeftLemmas.{kept_positions, kept_positions-is, length-kept, has_kept, needs, holds, needs_any, not_has}
 use Rattle.gts_event.proofs.AfterLemmas.{owing, drew, routed, has_append, draws_waiting, find_passes, needs_of}

@@ -1,4 +1,4 @@
-pub mod Lists
+pub mod ListLemmas
 pub mod NeedLemmas
 pub mod LeftLemmas
 pub mod OutcomeLemmas
@@ -15,3 +15,4 @@ pub mod DrainLemmas
 pub mod ClimbLemmas
 pub mod RoutedOnceLemmas
 pub mod HeldLemmas
+pub mod StandLemmas

@@ -8,7 +8,7 @@ use Rattle.gts_directory.specs.Directory.{Directory, Circuit}
 use Rattle.gts_event.specs.State.{CircuitState, Bulletin, has, last_of, draws, drawn, kept_draws, waiting}
 use Rattle.gts_event.specs.Need.{Need, CircuitNeed, need, circuit_need, circuit_needs, begun, begun_circuit, is_needed, is_sound, is_circuit_sound, is_bulletin, is_for, is_kept, ascends, is_distinct}
 use Rattle.gts_event.specs.History.{most_owed}
-use Rattle.gts_event.proofs.Lists.{and_true, filter_all, map-enumerate}
+use Rattle.gts_event.proofs.ListLemmas.{and_true, filter_all, map-enumerate}
 
 -- ---- the need of a start
 

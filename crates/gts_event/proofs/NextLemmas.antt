@@ -5,7 +5,7 @@ use Rattle.std.proofs.lemmas.Bool.{eqb-true, eq-eqb, ltb-true, lt-ltb, le-ltb}
 use Rattle.gts_directory.specs.Directory.{Directory, level_of}
 use Rattle.gts_event.specs.State.{State, CircuitState, has, waiting, goes_before, heading_at_position, next, on_circuit, draws}
 use Rattle.gts_event.specs.History.{choice, choice_of, Nothing_waits}
-use Rattle.gts_event.proofs.Lists.{and_true, both_true, or_left, or_right, or_cases}
+use Rattle.gts_event.proofs.ListLemmas.{and_true, both_true, or_left, or_right, or_cases}
 
 -- a smaller level, or the same level and a smaller position
 abbrev is_before : ℕ → ℕ → ℕ → ℕ → Bool

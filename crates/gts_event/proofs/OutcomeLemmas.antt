@@ -16,7 +16,7 @@ use Rattle.gts_request.specs.declared.fault.ReqField.{ReqField}
 use Rattle.gts_event.specs.declared.outcome.Outcome.{Outcome}
 use Rattle.gts_event.specs.declared.outcome.Outcome.TheVariants.{Refused, Resend, Draw, Nothing}
 use Rattle.gts_event.specs.declared.outcome.Refusal.TheVariants.{Message}
-use Rattle.gts_event.proofs.Lists.{and_true, find_filter, find_same, filter-reverse, each_map, or_left, or_right, reverse_cons}
+use Rattle.gts_event.proofs.ListLemmas.{and_true, find_filter, find_same, filter-reverse, each_map, or_left, or_right, reverse_cons}
 use Rattle.gts_event.proofs.LeftLemmas.{left, kept_positions, needs, holds, needs_any, draws-left, kept-left, on_circuit-left, heading-left, next-left}
 
 -- ---- duplicates

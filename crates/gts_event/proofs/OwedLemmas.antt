@@ -11,7 +11,7 @@ use Rattle.gts_event.specs.State.{State, CircuitState, idle, on_circuit, has, la
 use Rattle.gts_number.specs.Number.{number_of}
 use Rattle.gts_event.specs.History.{kept_on, latest_draws, places_of, places, found, owed_last}
 use Rattle.gts_event.specs.Need.{circuit_need, is_kept, owes_kept}
-use Rattle.gts_event.proofs.Lists.{and_true, both_true, list_all-append, drop-enumerate, each_map}
+use Rattle.gts_event.proofs.ListLemmas.{and_true, both_true, list_all-append, drop-enumerate, each_map}
 use Rattle.gts_event.proofs.LeftLemmas.{kept_positions, length-kept}
 use Rattle.gts_event.proofs.AfterLemmas.{last_last, routed, needs_of}
 use Rattle.gts_event.proofs.OutcomeLemmas.{each_reverse}

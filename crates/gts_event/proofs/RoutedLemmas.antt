@@ -9,7 +9,7 @@ use Rattle.gts_event.specs.History.{Event, Heard, Lost, Taken, Entry, Done, Unsa
 use Rattle.gts_event.specs.Need.{are_below, IsOrdered}
 use Rattle.gts_event.specs.declared.outcome.Outcome.{Outcome}
 use Rattle.gts_event.specs.declared.outcome.Outcome.TheVariants.{Accepted, Duplicate, Asked, Refused, LineLost, Resend, Draw, Nothing}
-use Rattle.gts_event.proofs.Lists.{and_true, or_right}
+use Rattle.gts_event.proofs.ListLemmas.{and_true, or_right}
 use Rattle.gts_event.proofs.AfterLemmas.{owing, drew, routed, has_append, not_below}
 
 -- what is routed below a number stays as it is

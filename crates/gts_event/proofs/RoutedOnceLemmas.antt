@@ -10,7 +10,7 @@ use Rattle.gts_event.specs.Need.{Need, CircuitNeed, begun, begun_circuit, is_sou
 use Rattle.gts_event.specs.Drain.{takes_of_drain, all_done, gives, EndsWithNothing}
 use Rattle.gts_event.specs.declared.outcome.Outcome.{Outcome}
 use Rattle.gts_event.specs.declared.outcome.Outcome.TheVariants.{Accepted, Duplicate, Asked, Refused, LineLost, Resend, Draw, Nothing}
-use Rattle.gts_event.proofs.Lists.{and_true, both_true}
+use Rattle.gts_event.proofs.ListLemmas.{and_true, both_true}
 use Rattle.gts_event.proofs.AfterLemmas.{owing, drew, routed, not_below}
 use Rattle.gts_event.proofs.OrderLemmas.{ordered-entry}
 use Rattle.gts_event.proofs.StartLemmas.{circuits-sound}

@@ -12,7 +12,7 @@ use Rattle.gts_event.specs.Receipt.{receipt_text}
 use Rattle.gts_event.specs.Said.{numbered_frame, line, spoken, spoken_of, said}
 use Rattle.gts_event.specs.Need.{Need, need, circuit_need, begun, is_kept, keeps_one, IsOrdered}
 use Rattle.gts_event.specs.declared.outcome.Outcome.{Outcome}
-use Rattle.gts_event.proofs.Lists.{and_true, both_true, or_right, each_map}
+use Rattle.gts_event.proofs.ListLemmas.{and_true, both_true, or_right, each_map}
 use Rattle.gts_event.proofs.LeftLemmas.{left, kept_positions, length-kept, needs, needs_any, on_circuit-left, drawn-left, bulletin_at-left}
 use Rattle.gts_event.proofs.AfterLemmas.{owing, drew, after-left}
 use Rattle.gts_event.proofs.OutcomeLemmas.{outcome-left, choice-left, has_each_draw}

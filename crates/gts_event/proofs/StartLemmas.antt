@@ -8,7 +8,7 @@ use Rattle.gts_event.specs.State.{State, CircuitState, Bulletin, empty, idle, ha
 use Rattle.gts_event.specs.History.{Entry, after_entry, after_all, outcomes, most_owed}
 use Rattle.gts_event.specs.Said.{said}
 use Rattle.gts_event.specs.Need.{Need, CircuitNeed, need, circuit_need, begun, begun_circuit, is_needed, is_sound, is_circuit_sound, is_bulletin, is_for, ascends, are_below, owes_kept, keeps_one, IsOrdered}
-use Rattle.gts_event.proofs.Lists.{and_true, both_true, or_cases}
+use Rattle.gts_event.proofs.ListLemmas.{and_true, both_true, or_cases}
 use Rattle.gts_event.proofs.NeedLemmas.{need-begun}
 use Rattle.gts_event.proofs.OrderLemmas.{ordered-entry}
 use Rattle.gts_event.proofs.HistoryLemmas.{same_histories}

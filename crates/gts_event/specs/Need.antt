@@ -1,10 +1,10 @@
 -- All that later answers depend on.
-use Rattle.std.specs.Prelude.{◌≡◌, ℕ, ◌+◌, ◌-◌, ◌^◌, min, Bool, true, false, ◌⊎◌, is_ok, drop, ◌==◌, not, ◌&&◌, ◌||◌, nat_lt, nat_le, List, [], ◌++◌, length, map, filter, zip, IsTrue}
+use Rattle.std.specs.Prelude.{◌≡◌, ℕ, ◌+◌, ◌-◌, ◌<◌, min, Bool, true, false, ◌⊎◌, is_ok, drop, ◌==◌, not, ◌&&◌, ◌||◌, nat_lt, nat_le, List, [], ◌++◌, length, map, filter, zip, IsTrue}
 use Rattle.std.specs.List.{list_any, list_all, range_with_len, enumerate_from}
 use Rattle.gts_message.specs.Message.{longest_body, body_at}
-use Rattle.gts_directory.specs.Directory.{Directory, is_named}
-use Rattle.gts_event.specs.State.{State, CircuitState, Bulletin, draws, waiting, kept_draws, has, is_recent, heading_of}
-use Rattle.gts_event.specs.History.{Event, Heard, Lost, Taken, Entry, Done, Unsaid, is_request, most_owed}
+use Rattle.gts_directory.specs.Directory.{Directory, named, is_named}
+use Rattle.gts_event.specs.State.{State, most_accepted, CircuitState, Bulletin, on_circuit, draws, waiting, kept_draws, has, is_recent, heading_of}
+use Rattle.gts_event.specs.History.{Event, Heard, Lost, Taken, Entry, Done, Unsaid, is_request, most_owed, heading_of_message}
 
 -- Of a circuit: the number of draws, the waiting positions, those of the last draws that are kept, and the indices owed.
 pub record CircuitNeed : Type 0 where
@@ -90,7 +90,7 @@ is_circuit_sound d n circuit kept c =
 abbrev pub is_sound : Directory → Need → Bool
 is_sound d n =
     (length n.circuits == length d.circuits)
-    && nat_le n.accepted (2 ^ 62)
+    && nat_le n.accepted most_accepted
     && list_all (is_bulletin d n.accepted) n.bulletins
     && ascends (map (λ b. b.position) n.bulletins)
     && list_all (has (map (λ b. b.position) n.bulletins)) (range_with_len (n.accepted - d.window) (min d.window n.accepted))
@@ -135,3 +135,13 @@ times_drawn q position = length (filter (λ p. p == position) q.taken)
 -- a position that was routed waits and was never drawn, or was drawn once and doesn't wait
 abbrev pub WaitsOrDrawn : CircuitState → ℕ → Type 0
 WaitsOrDrawn q position = ((has (waiting q) position ≡ true) × (times_drawn q position ≡ 0)) ⊎ ((has (waiting q) position ≡ false) × (times_drawn q position ≡ 1))
+
+-- on each circuit, each position that was routed waits or was drawn once
+abbrev pub EachWaitsOrDrawn : State → Type 0
+EachWaitsOrDrawn s = (c position : ℕ) → IsTrue (has (on_circuit s c).routed position) → WaitsOrDrawn (on_circuit s c) position
+
+-- A position was routed to exactly the circuits that the directory names for the message that was heard.
+abbrev pub IsRoutedAsNamed : Directory → Event → ℕ → State → Type 0
+IsRoutedAsNamed d (Heard from kind message) position s =
+    (c : ℕ) → c < length d.circuits → has (on_circuit s c).routed position ≡ has (named d from (heading_of_message message)) c
+IsRoutedAsNamed d _ position s = Unit {0}

@@ -1,5 +1,5 @@
 -- What is said: receipts on channel 0, and the frames of circuit c on channel c + 1.
-use Rattle.std.specs.Prelude.{ℕ, ◌+◌, ◌==◌, List, [], ◌∷◌, ◌++◌, Some, None}
+use Rattle.std.specs.Prelude.{◌≡◌, ℕ, ◌+◌, ◌==◌, List, [], ◌∷◌, ◌++◌, Some, None}
 use Rattle.std.specs.List.{find}
 use Rattle.gts_alphabet.specs.Digits.{dec}
 use Rattle.gts_alphabet.specs.Message.{message_of}
@@ -22,6 +22,11 @@ line s circuit index =
       | None ↦ []
       | Some draw ↦ elim (bulletin_at s draw.1) [ None ↦ [] | Some b ↦ numbered_frame index b ]
     ]
+
+-- the draw of this index, and its bulletin, are among those that the state has
+abbrev pub HasLine : State → ℕ → ℕ → Type 0
+HasLine s circuit index =
+    (draw : ℕ × ℕ) × (b : Bulletin) × (find (λ r. r.0 == index) (drawn (on_circuit s circuit)) ≡ Some draw) × (bulletin_at s draw.1 ≡ Some b)
 
 -- what is said of an event that comes to this state
 abbrev pub spoken : Directory → State → Event → Outside

@@ -1,5 +1,5 @@
 -- What the switch stands at: what was accepted, and for each circuit what was routed to it, drawn on it and is owed.
-use Rattle.std.specs.Prelude.{ℕ, ◌≤◌, ◌+◌, ◌-◌, Bool, not, ◌&&◌, ◌||◌, ◌==◌, nat_eq, nat_lt, nat_le, List, [], length, map, filter, reverse, drop, Option, Some, None, Ok, Err}
+use Rattle.std.specs.Prelude.{ℕ, ◌≤◌, ◌+◌, ◌-◌, ◌^◌, Bool, not, ◌&&◌, ◌||◌, ◌==◌, nat_eq, nat_lt, nat_le, List, [], length, map, filter, reverse, drop, Option, Some, None, Ok, Err}
 use Rattle.std.specs.List.{AllByRecursion, list_any, list_all, find, enumerate_from, slice_index_or}
 use Rattle.std.specs.Cmp.Lexicographic.{pointwise}
 use Rattle.gts_heading.specs.Heading.{HeadingFields, heading_text}
@@ -28,6 +28,14 @@ pub record State : Type 0 where
   pub count : ℕ
   pub accepted : List Bulletin
   pub circuits : List CircuitState
+
+-- the most bulletins that are accepted
+abbrev pub most_accepted : ℕ
+most_accepted = 2 ^ 62
+
+-- no more were accepted than can be
+abbrev pub HasPositions : State → Type 0
+HasPositions s = s.count ≤ most_accepted
 
 -- a circuit that has nothing
 abbrev pub idle : CircuitState

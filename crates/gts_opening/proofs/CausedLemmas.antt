@@ -8,7 +8,7 @@ use Rattle.gts_directory.specs.Directory.{Directory}
 use Rattle.gts_event.specs.declared.event.Entry.{Entry}
 use Rattle.gts_event.specs.declared.event.Entry.TheVariants.{Done, Unsaid, Idle, Doubt, Restarted}
 use Rattle.gts_opening.specs.Room.{History, front_of, done_by, Cause, IsCaused, HasDoubt, HasUnsaid, is_doubt, is_unsaid, IsReading}
-use Rattle.gts_event.proofs.Lists.{filter_first}
+use Rattle.gts_event.proofs.ListLemmas.{filter_first}
 use Rattle.gts_connection.proofs.ReadingLemmas.{shorter_front}
 
 no_more : (front back : List Entry) (entry : Entry) → [] ≡ front ++ entry ∷ back → ⊥

@@ -10,7 +10,7 @@ use Rattle.gts_event.specs.State.{Bulletin}
 use Rattle.gts_event.specs.Need.{Need, CircuitNeed}
 use Rattle.gts_record.specs.Record.{bytes_of, number_in}
 use Rattle.gts_opening.specs.Journal.{bulletin_text, circuit_text, checkpoint_text, bulletin_in, numbers_in, circuit_in, many_in, need_in, unowed_circuit, unowed, FitsBulletin, FitsCircuit, FitsNeed}
-use Rattle.gts_opening.proofs.JournalLemmas.{number_in-bytes_of, take_body}
+use Rattle.gts_record.proofs.RecordLemmas.{number_in-bytes_of, take_body}
 
 -- ---- numbers
 

@@ -16,13 +16,14 @@ use Rattle.gts_opening.specs.Room.{full_compacted}
 use Rattle.gts_record.specs.declared.fault.OpenFault.TheVariants.{NoJournal, NotThis, Damaged}
 use Rattle.gts_opening.specs.Journal.{Files, selected, opens, due, bulletin_text, circuit_text, checkpoint_text, need_in, compacted_bytes, admits_checkpoint, Opened, agreeing, records_at, file_opens, AreAdmitted, after_records, gate_after, unowed_circuit, unowed, FitsBulletin, FitsCircuit, FitsNeed}
 use Rattle.gts_record.specs.Record.{Record, Accept, Drew, record_text, open_gate, magic, bytes_of, file_text}
-use Rattle.gts_event.proofs.Lists.{and_true, both_true}
+use Rattle.gts_event.proofs.ListLemmas.{and_true, both_true}
 use Rattle.gts_event.proofs.OrderLemmas.{list_all_more}
 use Rattle.gts_event.proofs.StartLemmas.{list_all-parts, all-below}
 use Rattle.gts_event.proofs.LeftLemmas.{waiting-left}
 use Rattle.gts_event.proofs.AfterLemmas.{needs_of}
 use Rattle.gts_event.proofs.HistoryLemmas.{restarted-left}
-use Rattle.gts_opening.proofs.JournalLemmas.{same_bytes, starts_with-append, records_open}
+use Rattle.gts_record.proofs.RecordLemmas.{same_bytes, starts_with-append}
+use Rattle.gts_opening.proofs.JournalLemmas.{records_open}
 use Rattle.gts_event.proofs.HeldLemmas.{eq_turned, bulletin-parts}
 use Rattle.gts_opening.proofs.CheckpointLemmas.{need_in-text, length-numbers}
 

@@ -21,7 +21,7 @@ use Rattle.gts_event.specs.declared.outcome.Outcome.TheVariants.{Accepted, Dupli
 use Rattle.gts_event.specs.declared.outcome.Refusal.TheVariants.{Message, Many}
 use Rattle.gts_directory.specs.Directory.{Directory, Circuit, named, is_named}
 use Rattle.gts_request.specs.Request.{Item, request_at}
-use Rattle.gts_event.specs.State.{State, CircuitState, Bulletin, idle, on_circuit, has, draws, waiting, next, duplicate, no_heading, empty}
+use Rattle.gts_event.specs.State.{most_accepted, State, CircuitState, Bulletin, idle, on_circuit, has, draws, waiting, next, duplicate, no_heading, empty}
 use Rattle.gts_event.specs.declared.event.Event.{Event}
 use Rattle.gts_event.specs.declared.event.Event.TheVariants.{Heard, Lost, Taken}
 use Rattle.gts_event.specs.declared.event.Entry.{Entry}
@@ -30,8 +30,8 @@ use Rattle.gts_event.specs.History.{is_request, places, found, items_of, most_ow
 use Rattle.gts_event.specs.Need.{Need, CircuitNeed, need, begun, begun_circuit, circuit_of_event, is_here, keeps_one, is_sound}
 use Rattle.gts_opening.specs.Journal.{Files, selected, opens, files_open, file_opens, Opened, checkpoint_text, compacted_bytes, unowed_state, event_of_record, due, is_outcome, is_result, AreAdmitted, after_records, gate_after, unowed, unowed_circuit}
 use Rattle.gts_record.specs.Record.{open_gate, file_text, Record, Accept, Drew, record_text, record_size}
-use Rattle.gts_opening.specs.Room.{record_bytes, entry_bytes, bytes_of_entries, heard_record, taken_record, event_record, entry_record, records_of, room, full, most_accepted, HadRoom, AllHadRoom, Begins, WithNothing, WithCheckpoint}
-use Rattle.gts_event.proofs.Lists.{and_true, both_true, has_filter}
+use Rattle.gts_opening.specs.Room.{record_bytes, entry_bytes, bytes_of_entries, heard_record, taken_record, event_record, entry_record, records_of, room, full, HadRoom, AllHadRoom, Begins, WithNothing, WithCheckpoint}
+use Rattle.gts_event.proofs.ListLemmas.{and_true, both_true, has_filter}
 use Rattle.gts_event.proofs.AfterLemmas.{owing, drew, routed, draws_waiting, find_passes}
 use Rattle.gts_event.proofs.OrderLemmas.{draws_unowed, list_all-has}
 use Rattle.gts_event.proofs.SaidLemmas.{draws_index}

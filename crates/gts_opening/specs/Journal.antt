@@ -6,7 +6,7 @@ use Rattle.gts_alphabet.specs.Message.{message_of}
 use Rattle.gts_frame.specs.declared.kind.Kind.TheVariants.{An}
 use Rattle.gts_frame.specs.Frame.{letters}
 use Rattle.gts_directory.specs.Directory.{Directory}
-use Rattle.gts_event.specs.State.{State, CircuitState, Bulletin, empty, waiting}
+use Rattle.gts_event.specs.State.{State, most_accepted, CircuitState, Bulletin, empty, waiting}
 use Rattle.gts_event.specs.declared.event.Event.{Event}
 use Rattle.gts_event.specs.declared.event.Event.TheVariants.{Heard, Taken}
 use Rattle.gts_event.specs.History.{Choice, Draws, choice, outcome, after, restarted}
@@ -40,7 +40,7 @@ is_choice position index (Draws k p) = (index == k) && (position == p)
 is_choice position index _ = false
 
 abbrev pub is_result : Directory → State → Record → Bool
-is_result d s (Accept from kind position body) = is_outcome (Accept from kind position body) (outcome d s (event_of_record (Accept from kind position body))) && nat_lt s.count (2 ^ 62)
+is_result d s (Accept from kind position body) = is_outcome (Accept from kind position body) (outcome d s (event_of_record (Accept from kind position body))) && nat_lt s.count most_accepted
 is_result d s (Drew circuit position index) = is_choice position index (choice d s circuit)
 
 -- A record may stand behind this state: its circuit is the directory's, it is what its event leads to, and with it the

@@ -2,7 +2,7 @@
 use Rattle.std.specs.Prelude.{◌≡◌, ◌⊎◌, ℕ, ◌+◌, ◌*◌, ◌^◌, ◌≤◌, Bool, true, false, nat_lt, nat_le, filter, ◌==◌, List, [], ◌∷◌, ◌++◌, length, take, drop, Option, Some, None, if◌then◌else◌, IsTrue}
 use Rattle.std.specs.List.{list_all, last_or}
 use Rattle.gts_directory.specs.Directory.{Directory}
-use Rattle.gts_event.specs.State.{State, empty}
+use Rattle.gts_event.specs.State.{State, most_accepted, empty}
 use Rattle.gts_frame.specs.declared.kind.Kind.{Kind}
 use Rattle.gts_event.specs.declared.event.Event.{Event}
 use Rattle.gts_event.specs.declared.event.Event.TheVariants.{Heard, Lost, Taken}
@@ -78,10 +78,6 @@ since_compaction d h compactions = elim (last_or None compactions) [ None ↦ h 
 -- the bytes of the journal after a history, with compactions after so many of its entries each
 abbrev pub used : Directory → History → List ℕ → ℕ
 used d h compactions = let g : History = since_compaction d h compactions in g.used + bytes_of_entries d (begun g.start) g.entries
-
--- the most bulletins that are accepted
-abbrev pub most_accepted : ℕ
-most_accepted = 2 ^ 62
 
 -- the bytes that must be free for a record and all draws that are due then
 abbrev pub room : Directory → State → ℕ → Event → Outcome → Option SwitchFault
