@@ -7,19 +7,25 @@ use std::io::Write;
 use std::rt::Files;
 
 /// The station of the program: channel 0 is standard output, and channel `c + 1` is appended to `circuit.NN.out`, NN
-/// being `c` in two digits. It tells nothing of what was said.
+/// being `c` in two digits. It has no journal files yet: each call on one fails. It tells nothing of what was done with it.
 #[derive(Drop)]
 pub struct Output<'a, R: Files + Print + AllocGlobal> {
     rt: &'a R,
-    faults: u64,
+    disk_faults: u64,
+    say_faults: u64,
 }
 
 impl<'a, R: Files + Print + AllocGlobal> Output<'a, R> {
     /// A station that has said nothing.
     pub fn new(rt: &'a R) -> Output<'a, R>
-        ensures { result.faults ≡ 0 }
+        ensures disk { result.disk_faults ≡ 0 }
+        ensures say { result.say_faults ≡ 0 }
     {
-        Output { rt, faults: 0 }
+        Output {
+            rt,
+            disk_faults: 0,
+            say_faults: 0,
+        }
     }
 }
 
@@ -44,12 +50,46 @@ impl<R: Files + Print + AllocGlobal> Station for Output<'_, R> {
 
     ghost calls = { λ _. [] };
 
-    ghost say_faults = { λ s. s.faults };
+    ghost disk_faults = { λ s. s.disk_faults };
+
+    ghost say_faults = { λ s. s.say_faults };
+
+    ghost possible = { λ s told. absurd told };
+
+    /// Fails.
+    fn size(&mut self, _file: u32) -> Result<u64, Failed> {
+        self.disk_faults = self.disk_faults.saturating_add(1);
+        Err(Failed)
+    }
+
+    /// Fails.
+    fn read(&mut self, _file: u32, _at: u64, _into: &mut [u8]) -> Result<usize, Failed> {
+        self.disk_faults = self.disk_faults.saturating_add(1);
+        Err(Failed)
+    }
+
+    /// Fails.
+    fn write_at(&mut self, _file: u32, _at: u64, _bytes: &[u8]) -> Result<(), Failed> {
+        self.disk_faults = self.disk_faults.saturating_add(1);
+        Err(Failed)
+    }
+
+    /// Fails.
+    fn cut(&mut self, _file: u32, _size: u64) -> Result<(), Failed> {
+        self.disk_faults = self.disk_faults.saturating_add(1);
+        Err(Failed)
+    }
+
+    /// Fails.
+    fn sync(&mut self) -> Result<(), Failed> {
+        self.disk_faults = self.disk_faults.saturating_add(1);
+        Err(Failed)
+    }
 
     /// Fails where the bytes can't be written.
     fn say(&mut self, channel: u32, bytes: &[u8]) -> Result<(), Failed> {
         if write_out(self.rt, channel, bytes).is_err() {
-            self.faults = self.faults.saturating_add(1);
+            self.say_faults = self.say_faults.saturating_add(1);
             return Err(Failed);
         }
         Ok(())

@@ -4,7 +4,7 @@ use Rattle.std.specs.Prelude.{Vec}
 use Rattle.std.specs.declared.alloc.Global.{Global}
 use Rattle.std.proofs.lemmas.List.{map-set, get_or-map, set-get_or, length-set, get_or-set_same, get_or-set_other, get_or-replicate, append-nil}
 use Rattle.std.proofs.lemmas.Bool.{cases_eq}
-use Rattle.gts_traits.specs.Station.{Call, Done, Says, on, said, channel_bytes}
+use Rattle.gts_traits.specs.Station.{Call, Did, Says, on, said_by, channel_bytes}
 use Rattle.gts_traits.specs.Sayings.{contents, KeepsChannels}
 use Rattle.gts_traits.proofs.OutsideLemmas.{channel_bytes-append, channel_bytes-on, channel_bytes-on_other}
 
@@ -26,15 +26,15 @@ contents-set_same channels channel was now inside is same =
 
 -- a piece was said, and its channel extended
 pub KeepsChannels-say : (channels : List (List ℕ)) (calls : List Call) (channel : ℕ) (bytes : List ℕ) → channel < 65 → KeepsChannels channels calls
-    → KeepsChannels (set channels channel (get_or channels channel [] ++ bytes)) (Done (Says channel bytes) ∷ calls)
+    → KeepsChannels (set channels channel (get_or channels channel [] ++ bytes)) (Did (Says channel bytes) ∷ calls)
 KeepsChannels-say channels calls channel bytes inside kept = record {
   count = length-set channels channel (get_or channels channel [] ++ bytes) ∙ kept.count;
   bytes = λ k small.
       let said_before = kept.bytes k small in
-      let parts = channel_bytes-append k (said calls) (on channel bytes) in
+      let parts = channel_bytes-append k (said_by calls) (on channel bytes) in
       elim (cases_eq channel k) [
-        | inl here ↦ subst (λ (k : ℕ). get_or (set channels channel (get_or channels channel [] ++ bytes)) k [] ≡ channel_bytes k (said calls ++ on channel bytes)) here (get_or-set_same channels channel (get_or channels channel [] ++ bytes) [] (omega (arith, kept.count)) ∙ ap (λ (items : List ℕ). items ++ bytes) (kept.bytes channel (omega arith)) ∙ ap (λ (items : List ℕ). channel_bytes channel (said calls) ++ items) (sym (channel_bytes-on channel bytes)) ∙ sym (channel_bytes-append channel (said calls) (on channel bytes)))
-        | inr elsewhere ↦ get_or-set_other channels channel k (get_or channels channel [] ++ bytes) [] (λ e. elsewhere (sym e)) ∙ kept.bytes k small ∙ sym (append-nil (channel_bytes k (said calls))) ∙ ap (λ (items : List ℕ). channel_bytes k (said calls) ++ items) (sym (channel_bytes-on_other k channel bytes elsewhere)) ∙ sym parts
+        | inl here ↦ subst (λ (k : ℕ). get_or (set channels channel (get_or channels channel [] ++ bytes)) k [] ≡ channel_bytes k (said_by calls ++ on channel bytes)) here (get_or-set_same channels channel (get_or channels channel [] ++ bytes) [] (omega (arith, kept.count)) ∙ ap (λ (items : List ℕ). items ++ bytes) (kept.bytes channel (omega arith)) ∙ ap (λ (items : List ℕ). channel_bytes channel (said_by calls) ++ items) (sym (channel_bytes-on channel bytes)) ∙ sym (channel_bytes-append channel (said_by calls) (on channel bytes)))
+        | inr elsewhere ↦ get_or-set_other channels channel k (get_or channels channel [] ++ bytes) [] (λ e. elsewhere (sym e)) ∙ kept.bytes k small ∙ sym (append-nil (channel_bytes k (said_by calls))) ∙ ap (λ (items : List ℕ). channel_bytes k (said_by calls) ++ items) (sym (channel_bytes-on_other k channel bytes elsewhere)) ∙ sym parts
       ];
 }
 

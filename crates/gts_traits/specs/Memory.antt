@@ -26,6 +26,7 @@ pub record StationInMemory : Type 0 where
   pub done : List Call
   pub failing : List ℕ
   pub calls : ℕ
+  pub disk_faults : ℕ
   pub faults : ℕ
   pub starved : ℕ
 

@@ -1,50 +1,37 @@
--- The station as the list of the calls made on it.
-use Rattle.std.specs.Prelude.{◌≡◌, ◌⊎◌, ℕ, ◌==◌, List, [], ◌∷◌, ◌++◌, map, filter, Result, Ok, Err}
+-- How a call on a station ends.
+use Rattle.std.specs.Prelude.{◌≡◌, ◌⊎◌, ◌≤◌, ℕ, List, [], ◌∷◌, ◌++◌, length, Result, Ok, Err}
+pub use Rattle.gts_traits.specs.Calls.{Doing, Writes, Cuts, Syncs, Says, Call, Did, Broken, Outside, on, to_say, said_by, channel_bytes, SaidSince}
+pub use Rattle.gts_traits.specs.Disk.{Files, overwritten, seen, stable, touches, touched_by, touched, Agree, IsImage, IsImageDuring, IsSynced}
 
--- what a call is to do
-pub data Doing : Type 0 where
-  Says : (channel : ℕ) → (bytes : List ℕ) → Doing
+-- whole begins with front
+abbrev pub IsFront : {A : Type 0} → List A → List A → Type 0
+IsFront {A} front whole = (rest : List A) × (whole ≡ front ++ rest)
 
--- A call that was done, or one that broke in its middle: of a broken say there is what got out.
-pub data Call : Type 0 where
-  Done : Doing → Call
-  Broken : Doing → (left : List ℕ) → Call
-
--- What was said, byte by byte: each with its channel, the first said first.
-abbrev pub Outside : Type 0
-Outside = List (ℕ × ℕ)
-
--- these bytes on this channel
-abbrev pub on : ℕ → List ℕ → Outside
-on channel bytes = map (λ byte. (channel, byte)) bytes
-
--- what a call said
-abbrev pub spoken : Call → Outside
-spoken (Done (Says channel bytes)) = on channel bytes
-spoken (Broken (Says channel bytes) left) = on channel left
-
--- what was said by these calls, the newest of them first
-abbrev pub said : List Call → Outside
-said [] = []
-said (call ∷ calls) = said calls ++ spoken call
-
--- what was said on one channel
-abbrev pub channel_bytes : ℕ → Outside → List ℕ
-channel_bytes channel outside = map (λ byte. byte.1) (filter (λ byte. byte.0 == channel) outside)
-
--- what a call that broke may leave: a front of what it was to say
-abbrev pub MayBreakTo : Doing → List ℕ → Type 0
-MayBreakTo (Says channel bytes) left = (rest : List ℕ) × (bytes ≡ left ++ rest)
+-- what a call that broke may leave of its file, or have said
+abbrev pub MayBreakTo : Doing → List Call → List ℕ → Type 0
+MayBreakTo (Writes file at bytes) calls left = Agree (touches (Writes file at bytes) (length (stable calls file)) file) (seen calls file) left
+MayBreakTo (Cuts file size) calls left = Agree (touches (Cuts file size) (length (stable calls file)) file) (seen calls file) left
+MayBreakTo Syncs calls left = Unit {0}
+MayBreakTo (Says channel bytes) calls left = IsFront left bytes
 
 -- a call failed: before it did anything, or in its middle
 abbrev pub Breaks : Doing → List Call → List Call → Type 0
-Breaks doing old new = (new ≡ old) ⊎ ((left : List ℕ) × MayBreakTo doing left × (new ≡ Broken doing left ∷ old))
+Breaks doing old new = (new ≡ old) ⊎ ((left : List ℕ) × MayBreakTo doing old left × (new ≡ Broken doing left ∷ old))
 
 -- a call was made, with this answer
 abbrev pub Tries : {T E : Type 0} → Doing → Result T E → List Call → List Call → Type 0
-Tries doing (Ok _) old new = new ≡ Done doing ∷ old
+Tries doing (Ok _) old new = new ≡ Did doing ∷ old
 Tries doing (Err _) old new = Breaks doing old new
 
--- from one moment to a later one this was said
-abbrev pub SaidSince : List Call → List Call → Outside → Type 0
-SaidSince old new outside = said new ≡ said old ++ outside
+-- a disk can have done these calls: each write and cut began within its file, and each that broke left what it may
+abbrev pub IsPossible : List Call → Type 0
+IsPossible [] = Unit {0}
+IsPossible (Did (Writes file at bytes) ∷ calls) = (at ≤ length (seen calls file)) × IsPossible calls
+IsPossible (Did (Cuts file size) ∷ calls) = (size ≤ length (seen calls file)) × IsPossible calls
+IsPossible (Did Syncs ∷ calls) = IsPossible calls
+IsPossible (Did (Says channel bytes) ∷ calls) = IsPossible calls
+IsPossible (Broken doing left ∷ calls) = MayBreakTo doing calls left × IsPossible calls
+
+-- the same as Did, for callers of before
+abbrev pub Done : Doing → Call
+Done doing = Did doing

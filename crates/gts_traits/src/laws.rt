@@ -1,10 +1,10 @@
-ghost use Rattle.std.specs.Prelude.{◌≡◌, ℕ, List, [], ◌++◌, Ok, Err};
+ghost use Rattle.std.specs.Prelude.{◌≡◌, ◌≢◌, ℕ, List, [], ◌∷◌, ◌++◌, take, Result, Ok, Err};
 ghost use Rattle.gts_traits.specs.declared.failed.Failed.{Failed};
-ghost use Rattle.gts_traits.specs.Station.{Call, Outside, Says, Tries, SaidSince, on, said, channel_bytes};
+ghost use Rattle.gts_traits.specs.Station.{Call, Did, Outside, Writes, Cuts, Syncs, Says, Tries, SaidSince, on, said_by, channel_bytes, Files, seen, overwritten, IsImage, IsSynced, IsPossible};
 
 /// What was said by calls and by later ones is what the first said, and then what the later ones said.
 pub fn later_calls_say_more()
-    ensures { (later earlier : List Call) → said (later ++ earlier) ≡ said earlier ++ said later }
+    ensures { (later earlier : List Call) → said_by (later ++ earlier) ≡ said_by earlier ++ said_by later }
 {}
 
 /// From a moment to the same moment nothing is said, and what is said between three moments chains.
@@ -34,4 +34,36 @@ pub fn a_channel_has_what_was_said_on_it()
         channel_bytes channel (x ++ y) ≡ channel_bytes channel x ++ channel_bytes channel y }
     ensures here { (channel : ℕ) (bytes : List ℕ) → channel_bytes channel (on channel bytes) ≡ bytes }
     ensures elsewhere { (channel other : ℕ) (bytes : List ℕ) → (other ≡ channel → ⊥) → channel_bytes channel (on other bytes) ≡ [] }
+{}
+
+/// Where a file is as it was at the last sync, a crash leaves what a read gives. A sync makes each file so.
+pub fn a_synced_file_has_one_image()
+    ensures image { (calls : List Call) (k : ℕ) (files : Files)
+        → IsSynced calls k → IsImage calls files → files k ≡ seen calls k }
+    ensures sync { (calls : List Call) (k : ℕ) → IsSynced (Did Syncs ∷ calls) k }
+    ensures nothing { (k : ℕ) → IsSynced [] k }
+{}
+
+/// What a station shows when it is read is one of the images that a crash may leave.
+pub fn what_is_seen_is_an_image()
+    ensures { (calls : List Call) → IsPossible calls → IsImage calls (seen calls) }
+{}
+
+/// A write changes its own file alone, and a cut too.
+pub fn other_files_are_seen_as_before()
+    ensures written { (calls : List Call) (file at : ℕ) (bytes : List ℕ)
+        → seen (Did (Writes file at bytes) ∷ calls) file ≡ overwritten (seen calls file) at bytes }
+    ensures write { (calls : List Call) (file at : ℕ) (bytes : List ℕ) (k : ℕ)
+        → k ≢ file → seen (Did (Writes file at bytes) ∷ calls) k ≡ seen calls k }
+    ensures shortened { (calls : List Call) (file size : ℕ)
+        → seen (Did (Cuts file size) ∷ calls) file ≡ take size (seen calls file) }
+    ensures cut { (calls : List Call) (file size k : ℕ)
+        → k ≢ file → seen (Did (Cuts file size) ∷ calls) k ≡ seen calls k }
+{}
+
+/// A say, done or failed, leaves what is seen and what is synced.
+pub fn a_say_leaves_the_files()
+    ensures { (channel : ℕ) (bytes : List ℕ) (result : Result (Unit {0}) Failed) (old new : List Call) (k : ℕ)
+        → Tries (Says channel bytes) result old new → IsSynced old k
+        → (seen new k ≡ seen old k) × IsSynced new k }
 {}

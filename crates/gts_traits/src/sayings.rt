@@ -1,5 +1,5 @@
 ghost use Rattle.std.specs.Prelude.{◌≡◌, ◌<◌, [], ◌∷◌, ◌++◌, replicate, slice_set, slice_index_or, vec_len, IfOk, OnOk, OnErr};
-ghost use Rattle.gts_traits.specs.Station.{Done, Says};
+ghost use Rattle.gts_traits.specs.Station.{Did, Says};
 ghost use Rattle.gts_traits.specs.Sayings.{calls_of, contents};
 
 use crate::NoMemory;
@@ -35,7 +35,7 @@ pub(crate) fn note(
     bytes: &[u8],
 ) -> Result<(), NoMemory>
     requires { channel < vec_len channels.old }
-    ensures noted { OnOk result (calls_of done.new.items ≡ Done (Says channel bytes.now) ∷ calls_of done.old.items) }
+    ensures noted { OnOk result (calls_of done.new.items ≡ Did (Says channel bytes.now) ∷ calls_of done.old.items) }
     ensures extended { OnOk result (contents channels.new.items
         ≡ slice_set (contents channels.old.items) channel (slice_index_or (contents channels.old.items) channel [] ++ bytes.now)) }
     ensures not_noted { OnErr result (calls_of done.new.items ≡ calls_of done.old.items) }

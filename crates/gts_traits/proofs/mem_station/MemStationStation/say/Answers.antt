@@ -2,7 +2,7 @@ use Rattle.std.proofs.Common.{◌≡◌, true, false, [], ◌∷◌, ◌++◌, s
 use Rattle.std.proofs.lemmas.Bool.{both_ways}
 use Rattle.gts_traits.specs.Memory.{is_listed}
 use Rattle.gts_traits.specs.Sayings.{calls_of, contents}
-use Rattle.gts_traits.specs.Station.{Done, Says}
+use Rattle.gts_traits.specs.Station.{Did, Says}
 use Rattle.gts_traits.proofs.ChannelsLemmas.{KeepsChannels-say}
 use Rattle.gts_traits.proofs.mem_station.MemStationStation.say.Goals as goal
 
@@ -21,7 +21,7 @@ invariant_of-self-else-is_err c =
     let calls = calls_of c.self.inside.done.items in
     let channels = contents c.self.inside.channels.items in
     let bytes = c.args.bytes.now in
-    let noted : calls_of c.note.new.done.items ≡ Done (Says c.args.channel bytes) ∷ calls = search rules in
+    let noted : calls_of c.note.new.done.items ≡ Did (Says c.args.channel bytes) ∷ calls = search rules in
     let extended : contents c.note.new.channels.items ≡ set channels c.args.channel (get_or channels c.args.channel [] ++ bytes) = search rules in
     rw (noted, extended) (KeepsChannels-say channels calls c.args.channel bytes c.requires c.self.invariant)
 
