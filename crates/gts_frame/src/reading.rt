@@ -3,7 +3,7 @@ ghost use Rattle.gts_frame.specs.Frame.{frame, IsFramed};
 ghost use Rattle.gts_frame.specs.declared.kind.Kind.{Kind};
 
 use crate::Kind;
-use gts_alphabet::{ETX, SOH, number_of};
+use gts_alphabet::{ETX, SOH, decimal_value};
 
 /// The digits of a frame's length.
 const DIGITS: usize = 8;
@@ -28,7 +28,7 @@ pub fn read_one(bytes: &[u8]) -> Option<(Kind, u32)>
         return None;
     }
     let (head, rest) = bytes.split_at(HEAD);
-    let length = number_of(&head[..DIGITS])?;
+    let length = decimal_value(&head[..DIGITS])?;
     let kind = Kind::of_letters(&head[DIGITS..])?;
     let message = rest.get(..length as usize)?;
     if is_framed(message) {
