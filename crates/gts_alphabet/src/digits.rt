@@ -1,10 +1,10 @@
-ghost use Rattle.std.specs.Prelude.{◌≡◌, ℕ, ◌<◌, ◌≤◌, ◌^◌, ◌↔◌, List, length, IsSome, IfSome};
+ghost use Rattle.std.specs.Prelude.{◌≡◌, ◌<◌, ◌≤◌, ◌^◌, ◌↔◌, length, IsSome, IfSome};
 ghost use Rattle.std.specs.Str.Parse.{digits_value, AllDigits};
 ghost use Rattle.gts_alphabet.specs.Digits.{dec};
 
-/// The number that decimal digits write, the most significant first; 0 for none.
-/// `None` exactly where a byte is no digit.
-pub fn number_of(digits: &[u8]) -> Option<u32>
+/// The number that at most nine decimal digits write, the most significant first; 0 for none. `None` exactly where a
+/// byte is no digit.
+pub fn decimal_value(digits: &[u8]) -> Option<u32>
     requires { length digits.now ≤ 9 }
     ensures digits { IsSome result ↔ AllDigits 10 digits.now }
     ensures value { IfSome result (λ n. n ≡ digits_value 10 digits.now) }
@@ -34,15 +34,3 @@ pub fn digits_of<const W: usize>(number: u32) -> [u8; W]
     }
     digits
 }
-
-/// What was written in a fixed count of digits is read again.
-pub fn dec_is_read_back()
-    ensures digits { (w n : ℕ) → AllDigits 10 (dec w n) }
-    ensures length { (w n : ℕ) → length (dec w n) ≡ w }
-    ensures value { (w n : ℕ) → n < 10 ^ w → digits_value 10 (dec w n) ≡ n }
-{}
-
-/// Any list of digits is what writing its number in as many digits gives.
-pub fn dec_writes_every_number()
-    ensures { (digits : List ℕ) → AllDigits 10 digits → dec (length digits) (digits_value 10 digits) ≡ digits }
-{}

@@ -4,11 +4,13 @@
 
 mod characters;
 mod digits;
+mod laws;
 mod limits;
 mod memory;
 
 pub use characters::{BLANK, CR, EOL, ETX, LF, SOH};
-pub use digits::{dec_is_read_back, dec_writes_every_number, digits_of, number_of};
+pub use digits::{decimal_value, digits_of};
+pub use laws::{dec_is_read_back, dec_writes_every_number, longest_body_fits_a_message};
 pub use limits::{
     CHANNELS, FRAME_HEAD, LONGEST_BODY, LONGEST_FRAME, LONGEST_MESSAGE, MOST_CIRCUITS,
 };
@@ -22,10 +24,10 @@ mod tests {
 
     #[test]
     fn digits_are_read_as_a_number(rt: HostRuntime) {
-        assert_eq!(rt; number_of(b""), Some(0));
-        assert_eq!(rt; number_of(b"00499998"), Some(499_998));
-        assert_eq!(rt; number_of(b"0000039 "), None);
-        assert_eq!(rt; number_of(b"12a"), None);
+        assert_eq!(rt; decimal_value(b""), Some(0));
+        assert_eq!(rt; decimal_value(b"00499998"), Some(499_998));
+        assert_eq!(rt; decimal_value(b"0000039 "), None);
+        assert_eq!(rt; decimal_value(b"12a"), None);
     }
 
     #[test]

@@ -6,7 +6,7 @@ ghost use Rattle.gts_capture.specs.declared.reading.CaptureError.TheVariants.{No
 ghost use Rattle.gts_capture.specs.Steps.{step_of, steps_of, BeginsWithStep};
 
 use crate::step::CaptureStep;
-use gts_alphabet::number_of;
+use gts_alphabet::decimal_value;
 use gts_frame::{Kind, read_one};
 use std::alloc::{AllocError, AllocFailed, Global};
 
@@ -64,7 +64,7 @@ fn next_feed(bytes: &[u8]) -> Option<(Kind, &[u8], &[u8])>
         return None;
     }
     let (digits, rest) = rest.split_at(DIGITS);
-    let length = number_of(digits)?;
+    let length = decimal_value(digits)?;
     let frames = behind(rest, b"\n")?;
     let (kind, count) = read_one(frames)?;
     if length != count + HEAD {

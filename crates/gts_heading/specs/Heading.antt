@@ -1,6 +1,6 @@
 -- The abbreviated heading, and how it is spelled (the Manual's message format).
 use Rattle.std.specs.Prelude.{◌≡◌, ◌⊎◌, ℕ, ◌<◌, ◌≤◌, List, [], ◌∷◌, ◌++◌, length, Option, Some, None, IsTrue}
-use Rattle.gts_alphabet.specs.Digits.{dec}
+use Rattle.gts_alphabet.specs.{dec}
 use Rattle.gts_heading.specs.Letters.{are_capitals, is_group}
 use Rattle.gts_heading.specs.declared.heading.Heading.{Heading}
 

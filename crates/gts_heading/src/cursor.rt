@@ -5,7 +5,7 @@ ghost use Rattle.gts_heading.specs.Reading.{after_word, capitals_at, two_digits_
 
 use crate::Field;
 use crate::letters::{are_capitals, is_bbb};
-use gts_alphabet::{BLANK, number_of};
+use gts_alphabet::{BLANK, decimal_value};
 use std::marker::Model;
 
 /// The bytes of a message that are left to read. A field that is there is passed over; one that isn't there is named,
@@ -91,7 +91,7 @@ impl<'a> Cursor<'a> {
         ensures stays { OnErr result (self.new ≡ self.old) }
     {
         let (digits, rest) = self.rest.split_first_chunk::<2>().ok_or(field)?;
-        let number = number_of(digits).ok_or(field)? as u8;
+        let number = decimal_value(digits).ok_or(field)? as u8;
         if number < low || high < number {
             return Err(field);
         }

@@ -2,7 +2,7 @@ ghost use Rattle.std.specs.Prelude.{◌≡◌, ◌≤◌, Ok, Err, MatchResult, 
 ghost use Rattle.std.specs.Str.Parse.{AllDigits};
 ghost use Rattle.gts_message.specs.Message as message;
 
-use gts_alphabet::{CR, ETX, LF, number_of};
+use gts_alphabet::{CR, ETX, LF, decimal_value};
 use gts_heading::Field;
 
 /// How every message ends: CR CR LF ETX.
@@ -20,7 +20,7 @@ pub(crate) fn number_of_run(bytes: &[u8]) -> Result<(u32, u8, &[u8]), Field>
         return Err(Field::Number);
     }
     let (digits, rest) = bytes.split_at(run);
-    let number = number_of(digits).unwrap();
+    let number = decimal_value(digits).unwrap();
     Ok((number, run as u8, rest))
 }
 

@@ -1,5 +1,5 @@
 use Rattle.gts_alphabet.proofs.DigitsLemmas.{AllDigits-dec, length-dec, digits_value-dec}
-use Rattle.gts_alphabet.proofs.digits.dec_is_read_back.Goals as goal
+use Rattle.gts_alphabet.proofs.laws.dec_is_read_back.Goals as goal
 
 pub returns-clause-digits : goal.returns-clause-digits
 returns-clause-digits c = AllDigits-dec

@@ -1,6 +1,6 @@
 use Rattle.std.proofs.Common.{◌≡◌, ◌<◌, ◌^◌, take}
 use Rattle.std.specs.Str.Parse.{digits_value, AllDigits}
-use Rattle.gts_alphabet.proofs.digits.number_of.Given as goal
+use Rattle.gts_alphabet.proofs.digits.decimal_value.Given as goal
 
 -- the digits so far, and their number
 abbrev pub invariant-loop-digit : goal.invariant-loop-digit

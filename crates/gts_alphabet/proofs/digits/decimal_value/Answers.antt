@@ -5,7 +5,7 @@ use Rattle.std.proofs.lemmas.Str.Parse.{digit_from_value}
 use Rattle.std.proofs.lemmas.Int.Digits.{digits_more, digits_value_more}
 use Rattle.std.proofs.lemmas.Grind.{pow_more}
 use Rattle.gts_alphabet.proofs.DigitsLemmas.{AllDigits-get_or}
-use Rattle.gts_alphabet.proofs.digits.number_of.Goals as goal
+use Rattle.gts_alphabet.proofs.digits.decimal_value.Goals as goal
 
 pub returns-then-not-is_ascii_digit-clause-digits :
     goal.returns-then-not-is_ascii_digit-clause-digits
