@@ -1,0 +1,17 @@
+//! What the rule of a hall says of two passes at once.
+ghost use Rattle.std.specs.Prelude.{Option};
+ghost use Rattle.atomic_table.specs.Table.{State};
+ghost use Rattle.gts_lock.specs.declared.view.View.{View};
+ghost use Rattle.gts_lock.specs.Rule.{InTurn};
+ghost use Rattle.gts_lock.specs.Parts.{TicketsDiffer, OneHolds, NamesDiffer, JoinedNamesDiffer};
+
+use crate::told::Told;
+
+/// No two passes have one ticket, one holds at most, and all names differ, those of joined passes included.
+pub fn no_two_passes_are_confused<T: Told>()
+    ensures tickets { (s : State (Option T) (View T.Entry)) → InTurn T.stands s → TicketsDiffer s.views }
+    ensures holds { (s : State (Option T) (View T.Entry)) → InTurn T.stands s → OneHolds s.views }
+    ensures names { (s : State (Option T) (View T.Entry)) → InTurn T.stands s → NamesDiffer s.views }
+    ensures joined { (s : State (Option T) (View T.Entry)) → (r : InTurn T.stands s) →
+        JoinedNamesDiffer s.views r.common.joined }
+{}

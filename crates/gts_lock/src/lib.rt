@@ -1,0 +1,27 @@
+//! One lock over one history: all threads of a switch work on one value, each in its turn, and what each of them did
+//! stands in the history that the value stands for. The history is seen by contracts alone and takes no memory.
+#![tactic(auto)]
+
+mod counting;
+mod crossing;
+mod hall;
+mod laws;
+mod limits;
+mod pass;
+mod rule;
+mod steps;
+mod told;
+mod turn;
+mod view;
+
+pub use crossing::halls_passes_and_turns_cross_threads;
+pub use gts_alphabet::NoMemory;
+pub use hall::Hall;
+pub use laws::no_two_passes_are_confused;
+pub use limits::MOST_TURNS;
+pub use pass::Pass;
+pub use told::Told;
+pub use turn::Turn;
+
+#[cfg(test)]
+mod tests;

@@ -1,0 +1,58 @@
+ghost use Rattle.std.specs.Prelude.{◌≡◌, [], ◌∷◌, ◌++◌};
+ghost use Rattle.std.specs.Borrow.{Lends, sem};
+ghost use Rattle.gts_lock.specs.History.{entries, entries_under};
+ghost use Rattle.gts_lock.specs.Passes.{after_adding, with_value};
+ghost use Rattle.gts_lock.specs.contracts.turn.Turn.{the_row};
+ghost use mir.Syntax.{named};
+
+use crate::hall::Hall;
+use crate::pass::Pass;
+use crate::told::Told;
+use crate::view::View;
+use atomic_table::Seat;
+use std::marker::{Brand, Model};
+
+/// The turn of a pass: until it leaves, no other pass has the value.
+pub struct Turn<'a, T: Told> {
+    pub(crate) hall: &'a Hall<T>,
+    pub(crate) seat: Seat<Option<T>, View<T::Entry>>,
+    pub(crate) value: T,
+}
+
+impl<'a, T: Told> Model for Turn<'a, T> {
+    ghost use Rattle.std.specs.Prelude.{◌≡◌, [], ◌∷◌, None};
+    ghost use Rattle.gts_lock.specs.Passes.{Held};
+
+    ghost Value = { Held T T.Entry };
+
+    ghost use Rattle.gts_lock.specs.Views.{known, IsHolding};
+
+    ghost view = { λ t. record { pass = known t.seat.table_id t.seat.me.0; value = t.value } };
+
+    ghost invariant = { λ t. (t.hall.now ≡ t.seat.table_id) × (t.seat.me.1 ≡ (0, None) ∷ []) × IsHolding t.seat.me.0 };
+}
+
+impl<'a, T: Told> Turn<'a, T> {
+    /// Lends the value. What is written through it is the turn's value.
+    pub fn value(&mut self) -> &mut T
+        ensures* writes_back { sem 𝓛 (Lends
+            (the_row (record { mir = named 1; lft = [] }) T.row T.Entry.row T.Told)
+            T.row self.entry result (with_value self.old)) }
+        ensures value { result.now ≡ self.old.value }
+    {
+        &mut self.value
+    }
+
+    /// Puts the value back and serves the next ticket. The turn adds one entry to the history, under its pass's name;
+    /// the value stands for the history with that entry.
+    pub fn leave(self) -> Pass<T>
+        ghost entry: { T.Entry }
+        requires { T.stands self.value (entries self.pass.seen ++ entry ∷ []) }
+        ensures pass { result ≡ after_adding self.entry.pass entry }
+        ensures own { result.own ≡ entries_under result.name result.seen }
+    {
+        let Turn { hall, seat, value } = self;
+        let seat = hall.end_turn::<Brand>(seat, value);
+        Pass { seat }
+    }
+}
