@@ -5,19 +5,27 @@
 
 mod event;
 mod fault;
+mod items;
 mod laws;
 mod outcome;
+mod plain;
+mod receipts;
 mod worked;
 
 pub use event::{Entry, Event};
 pub use fault::{Device, SwitchFault};
+pub use items::Items;
 pub use laws::{
     a_drain_ends_with_the_first_nothing, a_draw_is_the_next, a_start_is_its_own_need,
-    each_bulletin_is_routed_once, each_bulletin_waits_or_was_drawn_once, each_take_leaves_one_less,
-    nothing_is_given_only_where_nothing_waits, states_are_ordered, the_frame_of_a_draw_stays,
-    the_need_of_each_state_is_sound, what_follows_depends_on_the_need,
+    a_step_of_one_state_is_one_of_its_need, each_bulletin_is_routed_once,
+    each_bulletin_waits_or_was_drawn_once, each_step_depends_on_the_need,
+    each_take_leaves_one_less, histories_go_on, nothing_is_given_only_where_nothing_waits,
+    states_are_ordered, the_frame_of_a_draw_stays, the_need_of_each_state_is_sound,
+    what_follows_depends_on_the_need,
 };
 pub use outcome::{Outcome, Refusal};
+pub use plain::{Bulletin, Bulletins, Bytes, CircuitNeed, CircuitNeeds, Need, Places};
+pub use receipts::{LONGEST_RECEIPT, receipt};
 pub use worked::{
     a_circuit_of_the_same_peer_gets_nothing, a_restart_repeats_the_last_draw,
     a_start_is_sound_in_its_directory, a_warning_is_drawn_first,
