@@ -1,5 +1,5 @@
 -- A file of a checkpoint and records opens to what they stand for.
-use Rattle.std.proofs.Common.{◌≡◌, ℕ, suc, ◌+◌, ◌-◌, ◌*◌, ◌^◌, ◌<◌, ◌≤◌, min, Bool, true, false, not, ◌&&◌, ◌||◌, ◌==◌, nat_eq, nat_le, nat_lt, List, [], ◌∷◌, ◌++◌, length, get_or, take, drop, map, zip, cond, Some, None, Result, Ok, Err, refl, sym, ap, ◌∙◌, arith}
+use Rattle.std.proofs.Common.{◌≡◌, ℕ, suc, ◌+◌, ◌-◌, ◌*◌, ◌^◌, ◌<◌, ◌≤◌, min, Bool, true, false, not, ◌&&◌, ◌||◌, ◌==◌, nat_eq, nat_le, nat_lt, List, [], ◌∷◌, ◌++◌, length, take, drop, map, zip, cond, Some, None, Result, Ok, Err, refl, sym, ap, ◌∙◌, arith}
 use Rattle.std.specs.List.{fold, list_any, list_all, flat_map, enumerate_from, range_with_len, starts_with, AllByRecursion}
 use Rattle.std.specs.Cmp.Lexicographic.{pointwise}
 use Rattle.std.proofs.lemmas.Bool.{eqb-true, eq-eqb, ne_eqb, leb-true, le-leb, ltb-true, ltb-false, le-ltb}
@@ -14,7 +14,8 @@ use Rattle.gts_record.specs.declared.fault.OpenFault.{OpenFault}
 use Rattle.gts_event.specs.declared.fault.SwitchFault.TheVariants.{Full}
 use Rattle.gts_opening.specs.Room.{full_compacted}
 use Rattle.gts_record.specs.declared.fault.OpenFault.TheVariants.{NoJournal, NotThis, Damaged}
-use Rattle.gts_opening.specs.Journal.{Files, selected, opens, due, bulletin_text, circuit_text, checkpoint_text, need_in, compacted_bytes, admits_checkpoint, Opened, agreeing, records_at, file_opens, AreAdmitted, after_records, gate_after, unowed_circuit, unowed, FitsBulletin, FitsCircuit, FitsNeed}
+use Rattle.gts_traits.specs.Disk.{Files}
+use Rattle.gts_opening.specs.Journal.{selected, opens, due, bulletin_text, circuit_text, checkpoint_text, need_in, compacted_bytes, admits_checkpoint, Opened, agreeing, records_at, file_opens, AreAdmitted, after_records, gate_after, unowed_circuit, unowed, FitsBulletin, FitsCircuit, FitsNeed}
 use Rattle.gts_record.specs.Record.{Record, Accept, Drew, record_text, open_gate, magic, bytes_of, file_text}
 use Rattle.gts_event.proofs.ListLemmas.{and_true, both_true}
 use Rattle.gts_event.proofs.OrderLemmas.{list_all_more}
@@ -349,7 +350,7 @@ waits_left a (row ∷ rows) [] e = absurd (omega arith)
 pub due-left : (d : Directory) (s : State) → length s.circuits ≡ length d.circuits → due (begun (need d s)) ≡ due s
 due-left d s e = waits_left 0 d.circuits s.circuits e
 
-room_for : (d : Directory) (s : State) → full_compacted d s ≡ None → compacted_bytes (need d s) + 24 * due s ≤ d.limit
+pub room_for : (d : Directory) (s : State) → full_compacted d s ≡ None → compacted_bytes (need d s) + 24 * due s ≤ d.limit
 room_for d s h = go (nat_lt d.limit (42 + (length (checkpoint_text (need d s)) + 24 * due s))) refl h
   where
     go : (b : Bool) → nat_lt d.limit (42 + (length (checkpoint_text (need d s)) + 24 * due s)) ≡ b
@@ -358,18 +359,18 @@ room_for d s h = go (nat_lt d.limit (42 + (length (checkpoint_text (need d s)) +
     go false e f = let l : 42 + (length (checkpoint_text (need d s)) + 24 * due s) ≤ d.limit = ltb-false d.limit (42 + (length (checkpoint_text (need d s)) + 24 * due s)) e in omega arith
 
 -- what the selected file opens to
-opens_selected : (d : Directory) (files : Files) (bytes : List ℕ) (t : State) (used : ℕ) → get_or files (selected files) [] ≡ bytes → file_opens d (selected files) bytes ≡ Ok (t, used) → opens d files ≡ Ok (need d (restarted t))
+opens_selected : (d : Directory) (files : Files) (bytes : List ℕ) (t : State) (used : ℕ) → files (selected files) ≡ bytes → file_opens d (selected files) bytes ≡ Ok (t, used) → opens d files ≡ Ok (need d (restarted t))
 opens_selected d files bytes t used e h =
     ap (λ (r : Opened). elim r as (λ _. Result Need OpenFault) [ Err fault ↦ Err fault | Ok opened ↦ Ok (need d (restarted opened.0)) ]) (ap (file_opens d (selected files)) e ∙ h)
 
 pub records_opened : (d : Directory) (files : Files) (rs : List Record) (closed : ℕ) (rest : List ℕ) → length d.mark ≡ 32 → AreAdmitted d (empty d) 40 rs → (closed == open_gate) ≡ false
-    → get_or files (selected files) [] ≡ file_text d.mark [] rs (closed ∷ rest) → opens d files ≡ Ok (need d (restarted (after_records d (empty d) rs)))
+    → files (selected files) ≡ file_text d.mark [] rs (closed ∷ rest) → opens d files ≡ Ok (need d (restarted (after_records d (empty d) rs)))
 records_opened d files rs closed rest size ok shut e =
     opens_selected d files (file_text d.mark [] rs (closed ∷ rest)) (after_records d (empty d) rs) (gate_after 40 rs + 1) e (file_opens-records d (selected files) rs closed rest size ok shut)
 
 pub checkpoint_opened : (d : Directory) (files : Files) (n : Need) (rs : List Record) (closed : ℕ) (rest : List ℕ) → length d.mark ≡ 32 → d.limit < 256 ^ 4 → is_sound d n ≡ true
     → compacted_bytes n + 24 * due (begun n) ≤ d.limit → AreAdmitted d (begun (unowed n)) (compacted_bytes n - 1) rs → (closed == open_gate) ≡ false
-    → get_or files (selected files) [] ≡ file_text d.mark (open_gate ∷ checkpoint_text n) rs (closed ∷ rest) → opens d files ≡ Ok (need d (restarted (after_records d (begun (unowed n)) rs)))
+    → files (selected files) ≡ file_text d.mark (open_gate ∷ checkpoint_text n) rs (closed ∷ rest) → opens d files ≡ Ok (need d (restarted (after_records d (begun (unowed n)) rs)))
 checkpoint_opened d files n rs closed rest size limit sound room ok shut e =
     opens_selected d files (file_text d.mark (open_gate ∷ checkpoint_text n) rs (closed ∷ rest)) (after_records d (begun (unowed n)) rs) (gate_after (compacted_bytes n - 1) rs + 1) e
     (file_opens-checkpoint d (selected files) n rs closed rest size limit sound room ok shut)
@@ -377,7 +378,7 @@ checkpoint_opened d files n rs closed rest size limit sound room ok shut e =
 -- a compacted journal opens to the need that the state has when it is opened again
 pub compacted_opened : (d : Directory) (files : Files) (s : State) (closed : ℕ) (rest : List ℕ) → length d.mark ≡ 32 → d.limit < 256 ^ 4 → keeps_one d ≡ true → IsOrdered d s → is_sound d (need d s) ≡ true
     → full_compacted d s ≡ None → (closed == open_gate) ≡ false
-    → get_or files (selected files) [] ≡ file_text d.mark (open_gate ∷ checkpoint_text (need d s)) [] (closed ∷ rest) → opens d files ≡ Ok (need d (restarted s))
+    → files (selected files) ≡ file_text d.mark (open_gate ∷ checkpoint_text (need d s)) [] (closed ∷ rest) → opens d files ≡ Ok (need d (restarted s))
 compacted_opened d files s closed rest size limit keeps order sound free shut e =
     let n : Need = need d s in
     let room : compacted_bytes n + 24 * due (begun n) ≤ d.limit = let l = room_for d s free in omega (arith, l, due-left d s order.circuits) in

@@ -1,4 +1,4 @@
-pub mod ImageLemmas
+pub mod DiskLemmas
 pub mod JournalLemmas
 pub mod CheckpointLemmas
 pub mod FileLemmas

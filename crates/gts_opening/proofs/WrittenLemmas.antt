@@ -28,7 +28,8 @@ use Rattle.gts_event.specs.declared.event.Entry.{Entry}
 use Rattle.gts_event.specs.declared.event.Entry.TheVariants.{Done, Unsaid, Idle, Doubt, Restarted}
 use Rattle.gts_event.specs.History.{is_request, places, found, items_of, most_owed, body_of, heading_of_message, answer_to, verdict, Choice, choice, choice_of, Repeats, Draws, Nothing_waits, outcome, with_bulletin, after, after_heard, after_take, after_entry, after_all, owed_last, restarted}
 use Rattle.gts_event.specs.Need.{Need, CircuitNeed, need, begun, begun_circuit, circuit_of_event, is_here, keeps_one, is_sound}
-use Rattle.gts_opening.specs.Journal.{Files, selected, opens, files_open, file_opens, Opened, checkpoint_text, compacted_bytes, unowed_state, event_of_record, due, is_outcome, is_result, AreAdmitted, after_records, gate_after, unowed, unowed_circuit}
+use Rattle.gts_traits.specs.Disk.{Files}
+use Rattle.gts_opening.specs.Journal.{selected, opens, files_open, file_opens, Opened, checkpoint_text, compacted_bytes, unowed_state, event_of_record, due, is_outcome, is_result, AreAdmitted, after_records, gate_after, unowed, unowed_circuit}
 use Rattle.gts_record.specs.Record.{open_gate, file_text, Record, Accept, Drew, record_text, record_size}
 use Rattle.gts_opening.specs.Room.{record_bytes, entry_bytes, bytes_of_entries, heard_record, taken_record, event_record, entry_record, records_of, room, full, HadRoom, AllHadRoom, Begins, WithNothing, WithCheckpoint}
 use Rattle.gts_event.proofs.ListLemmas.{and_true, both_true, has_filter}
@@ -463,7 +464,7 @@ opens_to d files t used e = (
 -- the journal of a history from a start
 pub history_opens : (d : Directory) (files : Files) (n : Need) (entries : List Entry) (closed : ℕ) (rest : List ℕ) → length d.mark ≡ 32 → d.limit < 256 ^ 4 → keeps_one d ≡ true → is_sound d n ≡ true
     → compacted_bytes n + 24 * due (begun n) ≤ d.limit → list_all (is_here d) entries ≡ true → AllHadRoom d (begun n) (compacted_bytes n) entries → (closed == open_gate) ≡ false
-    → get_or files (selected files) [] ≡ file_text d.mark (open_gate ∷ checkpoint_text n) (records_of d (begun n) entries) (closed ∷ rest)
+    → files (selected files) ≡ file_text d.mark (open_gate ∷ checkpoint_text n) (records_of d (begun n) entries) (closed ∷ rest)
     → Opens d files (after_all d (begun n) entries) (compacted_bytes n + bytes_of_entries d (begun n) entries)
 history_opens d files n entries closed rest size limit keeps sound fits here free shut e =
     let gate : ℕ = compacted_bytes n - 1 in
@@ -489,7 +490,7 @@ due-empty d = no_due d.circuits
 -- the journal of a history from nothing
 pub history_opens-nothing : (d : Directory) (files : Files) (entries : List Entry) (closed : ℕ) (rest : List ℕ) → length d.mark ≡ 32 → 41 ≤ d.limit → keeps_one d ≡ true
     → list_all (is_here d) entries ≡ true → AllHadRoom d (empty d) 41 entries → (closed == open_gate) ≡ false
-    → get_or files (selected files) [] ≡ file_text d.mark [] (records_of d (empty d) entries) (closed ∷ rest)
+    → files (selected files) ≡ file_text d.mark [] (records_of d (empty d) entries) (closed ∷ rest)
     → Opens d files (after_all d (empty d) entries) (41 + bytes_of_entries d (empty d) entries)
 history_opens-nothing d files entries closed rest size limit keeps here free shut e =
     let none : due (empty d) ≡ 0 = due-empty d in
@@ -505,7 +506,7 @@ history_opens-nothing d files entries closed rest size limit keeps here free shu
 -- the journal of a history, however it begins
 pub journal_opens : (d : Directory) (files : Files) (cp : List ℕ) (s : State) (used : ℕ) (entries : List Entry) (closed : ℕ) (rest : List ℕ) → length d.mark ≡ 32 → d.limit < 256 ^ 4 → keeps_one d ≡ true
     → Begins d cp s used → list_all (is_here d) entries ≡ true → AllHadRoom d s used entries → (closed == open_gate) ≡ false
-    → get_or files (selected files) [] ≡ file_text d.mark cp (records_of d s entries) (closed ∷ rest) → Opens d files (after_all d s entries) (used + bytes_of_entries d s entries)
+    → files (selected files) ≡ file_text d.mark cp (records_of d s entries) (closed ∷ rest) → Opens d files (after_all d s entries) (used + bytes_of_entries d s entries)
 journal_opens d files cp s used entries closed rest size limit keeps (WithNothing c t u fits) here free shut e =
     subst (λ (x : State). Opens d files (after_all d x entries) (used + bytes_of_entries d x entries)) (sym t)
     (subst (λ (k : ℕ). Opens d files (after_all d (empty d) entries) (k + bytes_of_entries d (empty d) entries)) (sym u)

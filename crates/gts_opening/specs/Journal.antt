@@ -1,10 +1,11 @@
 -- The journal: three files, of which one is selected, and what they open to (profile).
-use Rattle.std.specs.Prelude.{◌≡◌, ℕ, zero, suc, ◌+◌, ◌-◌, ◌*◌, ◌^◌, ◌<◌, Bool, true, false, ◌&&◌, ◌==◌, nat_eq, nat_lt, nat_le, List, [], ◌∷◌, ◌++◌, length, take, drop, map, sum_by, Some, None, Result, Ok, Err, if◌then◌else◌, unwrap_or, codes}
+use Rattle.std.specs.Prelude.{◌≡◌, ℕ, zero, suc, ◌+◌, ◌-◌, ◌*◌, ◌^◌, ◌<◌, ◌≤◌, Bool, true, false, ◌&&◌, ◌==◌, nat_eq, nat_lt, nat_le, List, [], ◌∷◌, ◌++◌, length, take, drop, map, sum_by, Some, None, Result, Ok, Err, if◌then◌else◌, unwrap_or, codes}
 use Rattle.std.specs.List.{AllByRecursion, starts_with, flat_map, range_with_len, slice_index_or}
 use Rattle.std.specs.Cmp.Lexicographic.{pointwise}
 use Rattle.gts_alphabet.specs.Message.{message_of}
 use Rattle.gts_frame.specs.declared.kind.Kind.TheVariants.{An}
 use Rattle.gts_frame.specs.Frame.{letters}
+use Rattle.gts_traits.specs.Disk.{Files}
 use Rattle.gts_directory.specs.Directory.{Directory}
 use Rattle.gts_event.specs.State.{State, most_accepted, CircuitState, Bulletin, empty, waiting}
 use Rattle.gts_event.specs.declared.event.Event.{Event}
@@ -15,11 +16,7 @@ use Rattle.gts_event.specs.declared.outcome.Outcome.{Outcome}
 use Rattle.gts_event.specs.declared.outcome.Outcome.TheVariants.{Accepted}
 use Rattle.gts_record.specs.declared.fault.OpenFault.{OpenFault}
 use Rattle.gts_record.specs.declared.fault.OpenFault.TheVariants.{NoJournal, NotThis, Damaged}
-use Rattle.gts_record.specs.Record.{Record, Accept, Drew, bytes_of, number_in, open_gate, magic, kind_of, record_at, record_size, FitsRecord, circuit_of}
-
--- the bytes of the three files
-abbrev pub Files : Type 0
-Files = List (List ℕ)
+use Rattle.gts_record.specs.Record.{Record, Accept, Drew, bytes_of, number_in, open_gate, magic, kind_of, record_at, record_size, FitsRecord, circuit_of, file_text}
 
 -- the number of pairs of a circuit and a position that waits on it
 abbrev pub due : State → ℕ
@@ -130,7 +127,7 @@ records_at d (suc n) file s gate (mark ∷ bytes) =
 
 -- the file that the selector names
 abbrev pub selected : Files → ℕ
-selected files = if starts_with nat_eq (slice_index_or files 2 []) (1 ∷ []) then 1 else 0
+selected files = if starts_with nat_eq (files 2) (1 ∷ []) then 1 else 0
 
 -- the length of the longest common front
 abbrev pub agreeing : List ℕ → List ℕ → ℕ
@@ -163,7 +160,7 @@ file_opens d file bytes =
     ]
 
 abbrev pub files_open : Directory → Files → Opened
-files_open d files = file_opens d (selected files) (slice_index_or files (selected files) [])
+files_open d files = file_opens d (selected files) (files (selected files))
 
 -- the need that files open to
 abbrev pub opens : Directory → Files → Result Need OpenFault
@@ -182,6 +179,22 @@ after_records d s (r ∷ rs) = after_records d (after d s (event_of_record r)) r
 abbrev pub gate_after : ℕ → List Record → ℕ
 gate_after gate [] = gate
 gate_after gate (r ∷ rs) = gate_after (gate + record_size r) rs
+
+-- a gate that isn't open stands first
+abbrev pub IsClosed : List ℕ → Type 0
+IsClosed bytes = (closed : ℕ) × (rest : List ℕ) × ((closed == open_gate) ≡ false) × (bytes ≡ closed ∷ rest)
+
+-- The selected file has these records behind its header and this checkpoint, or none; each may stand behind those before it,
+-- from the state and the gate on; and a gate that isn't open stands behind them.
+pub record HasRecords (d : Directory) (checkpoint : List ℕ) (s : State) (gate : ℕ) (rs : List Record) (files : Files) : Type 0 where
+  pub admitted : AreAdmitted d s gate rs
+  pub ending : List ℕ
+  pub closed : IsClosed ending
+  pub text : files (selected files) ≡ file_text d.mark checkpoint rs ending
+
+-- with a checkpoint of this need the journal has room for all draws that are due
+abbrev pub FitsLimit : Directory → Need → Type 0
+FitsLimit d n = compacted_bytes n + 24 * due (begun n) ≤ d.limit
 
 -- a need as a checkpoint has it: with nothing owed
 abbrev pub unowed_circuit : CircuitNeed → CircuitNeed

@@ -1,4 +1,5 @@
 pub mod Journal
 pub mod Room
-pub mod Images
+pub mod Leaving
+pub mod Words
 pub mod Worked

@@ -1,5 +1,5 @@
 -- Worked rows over literal bytes.
-use Rattle.std.specs.Prelude.{◌≡◌, ℕ, ◌+◌, ◌-◌, ◌^◌, Some, None, List, [], ◌∷◌, ◌++◌, length, take, drop, Ok, Err, codes}
+use Rattle.std.specs.Prelude.{◌≡◌, ◌==◌, if◌then◌else◌, ℕ, ◌+◌, ◌-◌, ◌^◌, Some, None, List, [], ◌∷◌, ◌++◌, length, take, drop, Ok, Err, codes}
 use Rattle.std.specs.List.{range_with_len, slice_set}
 use Rattle.gts_traits.specs.Station.{Outside, channel_bytes}
 use Rattle.gts_frame.specs.declared.kind.Kind.TheVariants.{An}
@@ -9,15 +9,16 @@ use Rattle.gts_event.specs.declared.event.Entry.{Entry}
 use Rattle.gts_event.specs.declared.event.Entry.TheVariants.{Idle, Doubt}
 use Rattle.gts_event.specs.History.{restarted}
 use Rattle.gts_record.specs.declared.fault.OpenFault.TheVariants.{NoJournal, NotThis, Damaged}
-use Rattle.gts_opening.specs.Journal.{Files, checkpoint_text, due, opens}
+use Rattle.gts_opening.specs.Journal.{checkpoint_text, due, opens}
 use Rattle.gts_record.specs.Record.{Record, file_text, closed_gate, Accept, Drew, journal_text, record_text}
 use Rattle.gts_opening.specs.Room.{History, records_of, AllHadRoom, bytes_of_entries, state_of, used, full, full_compacted, IsCaused, IsReading}
-use Rattle.gts_opening.specs.Images.{Leaves}
+use Rattle.gts_opening.specs.Leaving.{Leaves}
 use Rattle.gts_event.specs.declared.fault.SwitchFault.TheVariants.{Full}
 use Rattle.gts_connection.specs.Capture.{entries}
 use Rattle.gts_event.specs.Said.{said}
 use Rattle.gts_event.specs.Need.{Need, need, begun, nothing}
 use Rattle.gts_event.specs.Worked.{body_text, first, frame_of, message_text, need_of_one_draw, report, reported, second, second_event, take_on, two, with_limit}
+use Rattle.gts_traits.specs.Disk.{Files}
 
 -- the journal after row 1
 abbrev pub journal_of_one_draw : List ℕ
@@ -33,14 +34,18 @@ JournalBytes =
 
 -- the three files with these bytes in the first
 abbrev pub files_of : List ℕ → Files
-files_of bytes = bytes ∷ [] ∷ [] ∷ []
+files_of bytes k = if k == 0 then bytes else []
+
+-- the three files with these bytes in the second, which is selected
+abbrev pub second_of : List ℕ → Files
+second_of bytes k = if k == 1 then bytes else if k == 2 then 1 ∷ [] else []
 
 -- It opens to the need after row 1, with the last draw owed; bytes behind the closed gate are not looked at.
 abbrev pub JournalOpens : Type 0
 JournalOpens =
     let opened : Need = need two (restarted (begun need_of_one_draw)) in
     (opens two (files_of journal_of_one_draw) ≡ Ok opened) × (opens two (files_of (journal_of_one_draw ++ 1 ∷ 2 ∷ 3 ∷ [])) ≡ Ok opened)
-    × (opens two ([] ∷ journal_of_one_draw ∷ (1 ∷ []) ∷ []) ≡ Ok opened)
+    × (opens two (second_of journal_of_one_draw) ≡ Ok opened)
 
 -- a byte of the journal after row 1 is another one
 abbrev pub with_byte : ℕ → ℕ → Files
@@ -102,7 +107,7 @@ CheckpointOpens =
       circuits = record { draws = 0; waiting = []; kept = []; owed = [] } ∷ record { draws = 0; waiting = 0 ∷ []; kept = []; owed = [] } ∷ [];
     } in
     (length compacted_file ≡ 147)
-    × (opens two ([] ∷ compacted_file ∷ (1 ∷ []) ∷ []) ≡ Ok (need two (restarted (begun need_of_one_draw))))
+    × (opens two (second_of compacted_file) ≡ Ok (need two (restarted (begun need_of_one_draw))))
     × (opens two (files_of (slice_set compacted_file 52 2)) ≡ Err (Damaged 0 41))
     × (opens (with_limit 146) (files_of compacted_file) ≡ Err (Damaged 0 41))
     × (opens two (files_of (take 40 journal_of_one_draw ++ 0x4f ∷ checkpoint_text n ++ 0x4f ∷ record_text (Drew 1 0 0) ++ 0x43 ∷ []))
