@@ -1,7 +1,9 @@
 -- Numbers in a fixed count of decimal digits, written and read again.
-use Rattle.std.proofs.Common.{◌≡◌, ℕ, zero, suc, ◌+◌, ◌*◌, ◌/◌, ◌%◌, ◌^◌, ◌<◌, List, [], ◌∷◌, ◌++◌, length, get_or, drop, set, add-one, refl, sym, ◌∙◌, arith}
-use Rattle.std.specs.Char.{digit_value}
+use Rattle.std.proofs.Common.{◌≡◌, ℕ, zero, suc, ◌+◌, ◌*◌, ◌/◌, ◌%◌, ◌^◌, ◌<◌, ◌≤◌, List, [], ◌∷◌, ◌++◌, Bool, true, length, get_or, drop, set, add-one, refl, sym, ◌∙◌, arith}
+use Rattle.std.specs.Char.{digit_value, is_ascii_digit}
+use Rattle.std.specs.List.{list_all}
 use Rattle.std.specs.Str.Parse.{digits_value, AllDigits}
+use Rattle.std.proofs.lemmas.Bool.{leb-true, le-leb, and_parts, and_from}
 use Rattle.std.proofs.lemmas.List.{length_push, drop-set, append_assoc}
 use Rattle.std.proofs.lemmas.Int.Digits.{digits_push, digits_value_push, digits_value-lt}
 use Rattle.std.proofs.lemmas.Str.{digit_value_digit}
@@ -68,3 +70,27 @@ unfolding dec
 dec_written k rest digits inside =
     let there : k < length digits = inside in
     rw drop-set (rw add-one (sym (append_assoc (dec k (rest / 10)) ((48 + rest % 10) ∷ []) (drop (suc k) digits))))
+
+-- ---- the test for a digit
+
+is_digit_from_value : (c : ℕ) → digit_value c < 10 → is_ascii_digit c ≡ true
+is_digit_from_value c small =
+    let range = digit_from_value c small in
+    and_from _ _ (le-leb _ _ range.0) (le-leb _ _ range.1)
+
+value_from_is_digit : (c : ℕ) → is_ascii_digit c ≡ true → digit_value c < 10
+value_from_is_digit c e =
+    let range = and_parts _ _ e in
+    let low : 48 ≤ c = leb-true _ _ range.0 in
+    let high : c ≤ 57 = leb-true _ _ range.1 in
+    omega (arith, digit_value_digit c (low, high))
+
+pub AllDigits-from_test : (bytes : List ℕ) → list_all is_ascii_digit bytes ≡ true → AllDigits 10 bytes
+AllDigits-from_test [] e = tt
+AllDigits-from_test (c ∷ cs) e =
+    let both = and_parts (is_ascii_digit c) (list_all is_ascii_digit cs) e in
+    (value_from_is_digit c both.0, AllDigits-from_test cs both.1)
+
+pub test_from_AllDigits : (bytes : List ℕ) → AllDigits 10 bytes → list_all is_ascii_digit bytes ≡ true
+test_from_AllDigits [] all = refl
+test_from_AllDigits (c ∷ cs) all = and_from _ _ (is_digit_from_value c all.0) (test_from_AllDigits cs all.1)

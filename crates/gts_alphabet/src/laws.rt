@@ -1,6 +1,8 @@
 //! Laws over the definitions, each the contract of a function with an empty body.
 
-ghost use Rattle.std.specs.Prelude.{◌≡◌, ℕ, ◌<◌, ◌≤◌, ◌^◌, List, length};
+ghost use Rattle.std.specs.Prelude.{◌≡◌, ℕ, ◌<◌, ◌≤◌, ◌^◌, ◌↔◌, List, IsTrue, length};
+ghost use Rattle.std.specs.Char.{is_ascii_digit};
+ghost use Rattle.std.specs.List.{list_all};
 ghost use Rattle.std.specs.Str.Parse.{digits_value, AllDigits};
 ghost use Rattle.gts_alphabet.specs.Digits.{dec};
 ghost use Rattle.gts_alphabet.specs.Message.{message_of};
@@ -24,4 +26,9 @@ pub fn dec_writes_every_number()
 pub fn longest_body_fits_a_message()
     ensures { (number body : List ℕ) → length number ≤ 5 → length body ≤ LONGEST_BODY
         → length (message_of number body) ≤ LONGEST_MESSAGE }
+{}
+
+/// Bytes are decimal digits exactly where each passes the test for one.
+pub fn digits_pass_the_test()
+    ensures { (bytes : List ℕ) → IsTrue (list_all is_ascii_digit bytes) ↔ AllDigits 10 bytes }
 {}

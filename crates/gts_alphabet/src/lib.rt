@@ -10,7 +10,9 @@ mod memory;
 
 pub use characters::{BLANK, CR, EOL, ETX, LF, SOH};
 pub use digits::{decimal_value, digits_of};
-pub use laws::{dec_is_read_back, dec_writes_every_number, longest_body_fits_a_message};
+pub use laws::{
+    dec_is_read_back, dec_writes_every_number, digits_pass_the_test, longest_body_fits_a_message,
+};
 pub use limits::{
     CHANNELS, FRAME_HEAD, LONGEST_BODY, LONGEST_FRAME, LONGEST_MESSAGE, MOST_CIRCUITS,
 };

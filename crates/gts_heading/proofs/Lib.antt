@@ -1,2 +1,3 @@
-pub mod Fields
-pub mod Headings
+mod FieldLemmas
+mod HeadingLemmas
+pub mod LawLemmas

@@ -1,6 +1,7 @@
 -- The abbreviated heading, and how it is spelled (the Manual's message format).
 use Rattle.std.specs.Prelude.{◌≡◌, ◌⊎◌, ℕ, ◌<◌, ◌≤◌, List, [], ◌∷◌, ◌++◌, length, Option, Some, None, IsTrue}
-use Rattle.gts_alphabet.specs.{dec}
+use Rattle.gts_alphabet.specs.Digits.{dec}
+use Rattle.gts_alphabet.specs.declared.characters.TheConstants.{EOL}
 use Rattle.gts_heading.specs.Letters.{are_capitals, is_group}
 use Rattle.gts_heading.specs.declared.heading.Heading.{Heading}
 
@@ -39,6 +40,10 @@ heading_text h =
 -- one meaningless blank, or none (profile)
 abbrev pub IsGap : List ℕ → Type 0
 IsGap gap = (gap ≡ []) ⊎ (gap ≡ 32 ∷ [])
+
+-- the line of a heading in a message: behind the heading one meaningless blank or none, and CR CR LF
+abbrev pub IsHeadingLine : List ℕ → HeadingFields → Type 0
+IsHeadingLine line h = (gap : List ℕ) × IsGap gap × (line ≡ heading_text h ++ gap ++ EOL)
 
 -- the fields of a heading of the program
 abbrev pub fields_of : Heading → HeadingFields

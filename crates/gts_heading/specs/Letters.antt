@@ -10,7 +10,8 @@ are_capitals letters = list_all is_ascii_uppercase letters
 -- A BBB group (profile): RRx, CCx, AAx or Pxy, x and y any capitals. 82, 67, 65 and 80 are R, C, A and P.
 abbrev pub is_bbb : List ℕ → Bool
 is_bbb (a ∷ b ∷ c ∷ []) =
-    is_ascii_uppercase c && (((a == 82) && (b == 82)) || ((a == 67) && (b == 67)) || ((a == 65) && (b == 65)) || ((a == 80) && is_ascii_uppercase b))
+    is_ascii_uppercase c
+    && (((a == 82) && (b == 82)) || ((a == 67) && (b == 67)) || ((a == 65) && (b == 65)) || ((a == 80) && is_ascii_uppercase b))
 is_bbb _ = false
 
 -- no group, or the letters of one

@@ -28,7 +28,8 @@ capitals_at count field bytes =
 -- two digits, and their number from low to high
 abbrev pub two_digits_at : ℕ → ℕ → Field → List ℕ → Result (ℕ × List ℕ) Field
 two_digits_at low high field bytes =
-    if nat_le 2 (length bytes) && list_all is_ascii_digit (take 2 bytes) && nat_le low (digits_value 10 (take 2 bytes)) && nat_le (digits_value 10 (take 2 bytes)) high
+    if nat_le 2 (length bytes) && list_all is_ascii_digit (take 2 bytes)
+    && nat_le low (digits_value 10 (take 2 bytes)) && nat_le (digits_value 10 (take 2 bytes)) high
     then Ok (digits_value 10 (take 2 bytes), drop 2 bytes)
     else Err field
 

@@ -1,5 +1,6 @@
-ghost use Rattle.std.specs.Prelude.{◌≡◌, ◌≤◌, List, ℕ, IsTrue, Ok, Err, IfOk, OnErr, MatchResult, length, take, drop, nat_eq};
+ghost use Rattle.std.specs.Prelude.{◌≡◌, ◌≤◌, List, ℕ, IsTrue, IfOk, OnErr, nat_eq};
 ghost use Rattle.std.specs.List.{starts_with};
+ghost use Rattle.gts_alphabet.specs.Reads.{Reads};
 ghost use Rattle.gts_heading.specs.Letters as letters;
 ghost use Rattle.gts_heading.specs.Reading.{after_word, capitals_at, two_digits_at, letters_at, after_gap};
 
@@ -45,9 +46,7 @@ impl<'a> Cursor<'a> {
 
     /// Passes over this word. The refusal is the field that was given.
     pub fn word(&mut self, word: &[u8], field: Field) -> Result<(), Field>
-        ensures exact { MatchResult result
-            (λ _. after_word word.now field self.old ≡ Ok self.new)
-            (λ refused. after_word word.now field self.old ≡ Err refused) }
+        ensures exact { Reads (λ _. self.new) result (after_word word.now field self.old) }
         ensures stays { OnErr result (self.new ≡ self.old) }
     {
         if !self.rest.starts_with(word) {
@@ -68,9 +67,7 @@ impl<'a> Cursor<'a> {
 
     /// Reads so many capitals. The refusal is the field that was given.
     pub fn capitals<const N: usize>(&mut self, field: Field) -> Result<[u8; N], Field>
-        ensures exact { MatchResult result
-            (λ letters. capitals_at N field self.old ≡ Ok (letters, self.new))
-            (λ refused. capitals_at N field self.old ≡ Err refused) }
+        ensures exact { Reads (λ letters. (letters, self.new)) result (capitals_at N field self.old) }
         ensures capitals { IfOk result (λ capitals. IsTrue (letters.are_capitals capitals)) }
         ensures stays { OnErr result (self.new ≡ self.old) }
     {
@@ -84,9 +81,7 @@ impl<'a> Cursor<'a> {
 
     /// Reads a number of two digits, from low to high. The refusal is the field that was given.
     pub fn two_digits(&mut self, low: u8, high: u8, field: Field) -> Result<u8, Field>
-        ensures exact { MatchResult result
-            (λ number. two_digits_at low high field self.old ≡ Ok (number, self.new))
-            (λ refused. two_digits_at low high field self.old ≡ Err refused) }
+        ensures exact { Reads (λ number. (number, self.new)) result (two_digits_at low high field self.old) }
         ensures range { IfOk result (λ number. (low ≤ number) × (number ≤ high)) }
         ensures stays { OnErr result (self.new ≡ self.old) }
     {
@@ -101,9 +96,7 @@ impl<'a> Cursor<'a> {
 
     /// Reads the three letters of a BBB group (this project's profile). The refusal is `Bbb`.
     pub fn group(&mut self) -> Result<[u8; 3], Field>
-        ensures exact { MatchResult result
-            (λ group. letters_at self.old ≡ Ok (group, self.new))
-            (λ refused. letters_at self.old ≡ Err refused) }
+        ensures exact { Reads (λ group. (group, self.new)) result (letters_at self.old) }
         ensures group { IfOk result (λ group. IsTrue (letters.is_bbb group)) }
         ensures stays { OnErr result (self.new ≡ self.old) }
     {

@@ -1,6 +1,12 @@
+ghost use Rattle.std.specs.Prelude.{◌≡◌, ◌≤◌, length};
+ghost use Rattle.gts_heading.specs.Field.{field_text};
+
+use thiserror::Error;
+
 /// The fields of a message from left to right, each with the rule that it can break (the Manual's message format; the
 /// blanks, the ranges and the limit are this project's profile).
-#[derive(Clone, Copy, Debug, PartialEq, Eq)]
+#[derive(Clone, Copy, Debug, PartialEq, Eq, Error)]
+#[error("a message is refused by its field {}", self.text())]
 pub enum Field {
     /// The message begins with SOH CR CR LF.
     StartLine,
@@ -28,6 +34,31 @@ pub enum Field {
     HeadingEnd,
     /// At least four bytes are left, and the last four are CR CR LF ETX.
     End,
-    /// The body has at most 499,988 bytes.
+    /// The body is no longer than the longest.
     Size,
+}
+
+impl Field {
+    /// The name of the field, as a receipt has it (this project's profile): at most twelve characters.
+    pub fn text(self) -> &'static str
+        ensures text { result.now ≡ field_text self }
+        ensures short { length result.now ≤ 12 }
+    {
+        match self {
+            Field::StartLine => "StartLine",
+            Field::Number => "Number",
+            Field::HeadingStart => "HeadingStart",
+            Field::Tt => "TT",
+            Field::Aa => "AA",
+            Field::Ii => "ii",
+            Field::Cccc => "CCCC",
+            Field::Day => "Day",
+            Field::Hour => "Hour",
+            Field::Minute => "Minute",
+            Field::Bbb => "BBB",
+            Field::HeadingEnd => "HeadingEnd",
+            Field::End => "End",
+            Field::Size => "Size",
+        }
+    }
 }

@@ -1,4 +1,4 @@
-ghost use Rattle.std.specs.Prelude.{◌≡◌, ◌<◌, ◌≤◌, ◌+◌, ◌++◌, List, ℕ, IsTrue, Result, Ok, Err, IfOk, IfErr, IsOk, MatchResult, length, take, drop};
+ghost use Rattle.std.specs.Prelude.{◌≡◌, ◌<◌, ◌≤◌, ◌+◌, ◌++◌, List, ℕ, IsTrue, IfOk, IsOkAnd, length, take, drop};
 ghost use Rattle.gts_heading.specs.Letters.{are_capitals, is_group};
 
 use crate::{Cursor, Field};
@@ -36,23 +36,25 @@ pub struct Heading {
 }
 
 impl Heading {
-    ghost use Rattle.gts_heading.specs.Heading.{HeadingFields, IsHeading, fields_of, heading_text, IsGap};
+    ghost use Rattle.gts_alphabet.specs.Reads.{Reads};
+    ghost use Rattle.gts_heading.specs.Heading.{HeadingFields, IsHeading, IsHeadingLine, fields_of, heading_text};
     ghost use Rattle.gts_heading.specs.Reading.{plain_heading_at, bare_group_at, message_group_at, bare_heading_at, heading_at, NoBlank};
-    ghost use Rattle.gts_alphabet.specs.declared.characters.TheConstants.{EOL};
 
     /// Reads a heading at the front, with a BBB group where a blank follows the minute, and answers how many bytes it
     /// has: 18 or 22. The refusal is the first field from `Tt` to `Bbb` that isn't there.
     pub fn read_bare(bytes: &[u8]) -> Result<(Heading, usize), Field>
         ensures length { IfOk result (λ found. found.1 ≤ length bytes.now) }
         // What is read is a heading, spelled so.
-        ensures found { IfOk result (λ found. IsHeading (fields_of found.0) × (take found.1 bytes.now ≡ heading_text (fields_of found.0))) }
+        ensures heading { IfOk result (λ found. IsHeading (fields_of found.0)) }
+        ensures spelled { IfOk result (λ found.
+            take found.1 bytes.now ≡ heading_text (fields_of found.0)) }
         // What is spelled so is read, where no blank follows.
-        ensures only { (h : HeadingFields) (rest : List ℕ) → IsHeading h → NoBlank rest → bytes.now ≡ heading_text h ++ rest
-            → IfOk result (λ found. (fields_of found.0 ≡ h) × (found.1 ≡ length (heading_text h))) × IsOk result }
+        ensures only { (h : HeadingFields) (rest : List ℕ) → IsHeading h → NoBlank rest
+            → bytes.now ≡ heading_text h ++ rest
+            → IsOkAnd result (λ found. (fields_of found.0 ≡ h) × (found.1 ≡ length (heading_text h))) }
         // Which field it is.
-        ensures exact { MatchResult result
-            (λ found. bare_heading_at bytes.now ≡ Ok (fields_of found.0, drop found.1 bytes.now))
-            (λ field. bare_heading_at bytes.now ≡ Err field) }
+        ensures exact { Reads (λ found. (fields_of found.0, drop found.1 bytes.now)) result
+            (bare_heading_at bytes.now) }
     {
         Heading::bare_with_length(bytes)
     }
@@ -61,16 +63,17 @@ impl Heading {
     /// together. The refusal is the first field from `Tt` to `HeadingEnd` that isn't there.
     pub fn read(bytes: &[u8]) -> Result<(Heading, usize), Field>
         ensures length { IfOk result (λ found. found.1 ≤ length bytes.now) }
-        // What is read is a heading and its end, spelled so.
-        ensures found { IfOk result (λ found. IsHeading (fields_of found.0)
-            × ((gap : List ℕ) × IsGap gap × (take found.1 bytes.now ≡ heading_text (fields_of found.0) ++ gap ++ EOL))) }
-        // What is spelled so is read.
-        ensures only { (h : HeadingFields) (gap rest : List ℕ) → IsHeading h → IsGap gap → bytes.now ≡ heading_text h ++ gap ++ EOL ++ rest
-            → IfOk result (λ found. (fields_of found.0 ≡ h) × (found.1 ≡ length (heading_text h ++ gap ++ EOL))) × IsOk result }
+        // What is read is the line of a heading.
+        ensures heading { IfOk result (λ found. IsHeading (fields_of found.0)) }
+        ensures spelled { IfOk result (λ found.
+            IsHeadingLine (take found.1 bytes.now) (fields_of found.0)) }
+        // What is the line of a heading is read.
+        ensures only { (h : HeadingFields) (line rest : List ℕ) → IsHeading h → IsHeadingLine line h
+            → bytes.now ≡ line ++ rest
+            → IsOkAnd result (λ found. (fields_of found.0 ≡ h) × (found.1 ≡ length line)) }
         // Which field it is.
-        ensures exact { MatchResult result
-            (λ found. heading_at bytes.now ≡ Ok (fields_of found.0, drop found.1 bytes.now))
-            (λ field. heading_at bytes.now ≡ Err field) }
+        ensures exact { Reads (λ found. (fields_of found.0, drop found.1 bytes.now)) result
+            (heading_at bytes.now) }
     {
         Heading::line_with_length(bytes)
     }
@@ -102,9 +105,8 @@ impl Heading {
     /// Reads a heading and its group, with their length.
     fn bare_with_length(bytes: &[u8]) -> Result<(Heading, usize), Field>
         ensures length { IfOk result (λ found. found.1 ≤ length bytes.now) }
-        ensures exact { MatchResult result
-            (λ found. bare_heading_at bytes.now ≡ Ok (fields_of found.0, drop found.1 bytes.now))
-            (λ field. bare_heading_at bytes.now ≡ Err field) }
+        ensures exact { Reads (λ found. (fields_of found.0, drop found.1 bytes.now)) result
+            (bare_heading_at bytes.now) }
     {
         let mut cursor = Cursor::new(bytes);
         let heading = Heading::bare(&mut cursor)?;
@@ -114,9 +116,8 @@ impl Heading {
     /// Reads a heading and the end of its line, with their length.
     fn line_with_length(bytes: &[u8]) -> Result<(Heading, usize), Field>
         ensures length { IfOk result (λ found. found.1 ≤ length bytes.now) }
-        ensures exact { MatchResult result
-            (λ found. heading_at bytes.now ≡ Ok (fields_of found.0, drop found.1 bytes.now))
-            (λ field. heading_at bytes.now ≡ Err field) }
+        ensures exact { Reads (λ found. (fields_of found.0, drop found.1 bytes.now)) result
+            (heading_at bytes.now) }
     {
         let mut cursor = Cursor::new(bytes);
         let heading = Heading::line(&mut cursor)?;
@@ -126,9 +127,7 @@ impl Heading {
     /// Reads a heading and its group.
     #[tactic(auto, unfolding(crate::specs::Reading::bare_heading_at))]
     fn bare(cursor: &mut Cursor<'_>) -> Result<Heading, Field>
-        ensures { MatchResult result
-            (λ heading. bare_heading_at cursor.old ≡ Ok (fields_of heading, cursor.new))
-            (λ field. bare_heading_at cursor.old ≡ Err field) }
+        ensures { Reads (λ heading. (fields_of heading, cursor.new)) result (bare_heading_at cursor.old) }
     {
         let mut heading = Heading::plain(cursor)?;
         heading.bbb = Heading::bare_group(cursor)?;
@@ -138,9 +137,7 @@ impl Heading {
     /// Reads a heading, its group and the end of its line.
     #[tactic(auto, unfolding(crate::specs::Reading::heading_at))]
     fn line(cursor: &mut Cursor<'_>) -> Result<Heading, Field>
-        ensures { MatchResult result
-            (λ heading. heading_at cursor.old ≡ Ok (fields_of heading, cursor.new))
-            (λ field. heading_at cursor.old ≡ Err field) }
+        ensures { Reads (λ heading. (fields_of heading, cursor.new)) result (heading_at cursor.old) }
     {
         let mut heading = Heading::plain(cursor)?;
         heading.bbb = Heading::message_group(cursor)?;
@@ -152,9 +149,7 @@ impl Heading {
     /// Reads a heading without its group.
     #[tactic(auto, unfolding(crate::specs::Reading::plain_heading_at))]
     fn plain(cursor: &mut Cursor<'_>) -> Result<Heading, Field>
-        ensures { MatchResult result
-            (λ heading. plain_heading_at cursor.old ≡ Ok (fields_of heading, cursor.new))
-            (λ field. plain_heading_at cursor.old ≡ Err field) }
+        ensures { Reads (λ heading. (fields_of heading, cursor.new)) result (plain_heading_at cursor.old) }
     {
         let tt = cursor.capitals(Field::Tt)?;
         let aa = cursor.capitals(Field::Aa)?;
@@ -180,9 +175,7 @@ impl Heading {
     /// Reads the group behind a blank, where a blank follows.
     #[tactic(auto, unfolding(crate::specs::Reading::bare_group_at))]
     fn bare_group(cursor: &mut Cursor<'_>) -> Result<Option<[u8; 3]>, Field>
-        ensures exact { MatchResult result
-            (λ group. bare_group_at cursor.old ≡ Ok (group, cursor.new))
-            (λ field. bare_group_at cursor.old ≡ Err field) }
+        ensures exact { Reads (λ group. (group, cursor.new)) result (bare_group_at cursor.old) }
         ensures group { IfOk result (λ group. IsTrue (is_group group)) }
     {
         if !cursor.is_at(&[BLANK]) {
@@ -196,9 +189,7 @@ impl Heading {
     /// Reads the group behind a blank, where a blank follows that no CR follows.
     #[tactic(auto, unfolding(crate::specs::Reading::message_group_at))]
     fn message_group(cursor: &mut Cursor<'_>) -> Result<Option<[u8; 3]>, Field>
-        ensures exact { MatchResult result
-            (λ group. message_group_at cursor.old ≡ Ok (group, cursor.new))
-            (λ field. message_group_at cursor.old ≡ Err field) }
+        ensures exact { Reads (λ group. (group, cursor.new)) result (message_group_at cursor.old) }
         ensures group { IfOk result (λ group. IsTrue (is_group group)) }
     {
         if cursor.is_at(&[BLANK, CR]) {

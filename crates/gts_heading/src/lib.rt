@@ -7,14 +7,17 @@ mod field;
 mod heading;
 mod laws;
 mod letters;
+mod worked;
 
 pub use cursor::Cursor;
 pub use field::Field;
 pub use heading::Heading;
 pub use laws::{
-    read_heading_is_spelled, spelled_heading_is_read, worked_headings, worked_refusals,
+    gaps_are_passed_over, headings_are_known_by_their_texts, read_heading_is_spelled,
+    spelled_heading_is_read, words_are_passed_over,
 };
 pub use letters::is_bbb;
+pub use worked::{worked_headings, worked_refusals};
 
 #[cfg(test)]
 mod tests;

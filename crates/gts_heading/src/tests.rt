@@ -1,4 +1,5 @@
 use super::*;
+use std::test::Fail;
 
 #[test]
 fn a_heading_is_read_and_written(rt: HostRuntime) {
@@ -55,4 +56,12 @@ fn a_cursor_passes_over_what_is_there(rt: HostRuntime) {
     assert_eq!(rt; cursor.two_digits(1, 31, Field::Day), Ok(28));
     assert_eq!(rt; cursor.group(), Ok(*b"RRA"));
     assert_eq!(rt; cursor.rest(), b".".as_slice());
+}
+
+#[test]
+fn a_field_is_shown_by_its_name(rt: HostRuntime) -> Result<(), Fail> {
+    assert_eq!(rt; Field::Bbb.text(), "BBB");
+    let shown = Field::Cccc.to_string(rt.alloc())?;
+    assert_eq!(rt; shown.as_str(), "a message is refused by its field CCCC");
+    Ok(())
 }

@@ -1,8 +1,8 @@
-use Rattle.gts_heading.proofs.Headings.{bare_takes, line_takes}
+use Rattle.gts_heading.proofs.LawLemmas.{bare_is_spelled, line_is_spelled}
 use Rattle.gts_heading.proofs.laws.read_heading_is_spelled.Goals as goal
 
 pub returns-clause-bare : goal.returns-clause-bare
-returns-clause-bare c = λ bytes rest h e. let taken = bare_takes bytes (h, rest) e in (taken.heading, taken.spelled)
+returns-clause-bare c = bare_is_spelled
 
 pub returns-clause-line : goal.returns-clause-line
-returns-clause-line c = λ bytes rest h e. let taken = line_takes bytes (h, rest) e in (taken.heading, taken.spelled)
+returns-clause-line c = line_is_spelled

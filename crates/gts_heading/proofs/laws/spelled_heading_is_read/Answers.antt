@@ -1,4 +1,4 @@
-use Rattle.gts_heading.proofs.Headings.{bare_again, line_again}
+use Rattle.gts_heading.proofs.LawLemmas.{bare_again, line_again}
 use Rattle.gts_heading.proofs.laws.spelled_heading_is_read.Goals as goal
 
 pub returns-clause-bare : goal.returns-clause-bare

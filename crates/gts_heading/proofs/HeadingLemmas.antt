@@ -1,16 +1,17 @@
 -- Headings as a whole: what was read is spelled so, and what is spelled so is read.
 use Rattle.std.proofs.Common.{◌≡◌, ℕ, suc, ◌-◌, ◌<◌, ◌≤◌, List, [], ◌∷◌, ◌++◌, length, take, drop, Option, None, Result, Ok, Err, IsTrue, refl, sym, ap, subst, ◌∙◌, append_assoc, arith}
-use Rattle.std.specs.Prelude.{IfOk, IsOk, MatchResult}
-use Rattle.std.proofs.lemmas.List.{drop_at, take-append-drop, append_cancel_right, length-append, length-drop}
+use Rattle.std.specs.Prelude.{IfOk, IsOkAnd}
+use Rattle.std.proofs.lemmas.List.{append-nil, drop_at, take-append-drop, append_cancel_right, length-append, length-drop}
 use Rattle.gts_alphabet.specs.Digits.{dec}
+use Rattle.gts_alphabet.specs.Reads.{Reads}
 use Rattle.gts_alphabet.specs.declared.characters.TheConstants.{EOL}
 use Rattle.gts_heading.specs.declared.field.Field.{Field}
 use Rattle.gts_heading.specs.declared.field.Field.TheVariants.{Tt, Aa, Ii, Cccc, Day, Hour, Minute, HeadingEnd}
 use Rattle.gts_heading.specs.declared.heading.Heading.{Heading}
 use Rattle.gts_heading.specs.Letters.{is_group}
-use Rattle.gts_heading.specs.Heading.{HeadingFields, IsHeading, group_text, heading_text, IsGap, fields_of}
+use Rattle.gts_heading.specs.Heading.{HeadingFields, IsHeading, IsHeadingLine, group_text, heading_text, IsGap, fields_of}
 use Rattle.gts_heading.specs.Reading.{◌>>=◌, after_word, capitals_at, two_digits_at, plain_heading_at, bare_group_at, message_group_at, with_group, bare_heading_at, after_gap, heading_at, NoBlank}
-use Rattle.gts_heading.proofs.Fields.{bind_ok, step_ok, and_part, ok_is, word_takes, capitals_take, capitals_again, digits_take, digits_again, bare_group_takes, bare_group_again, message_group_takes, message_group_again, gap_takes, gap_again}
+use Rattle.gts_heading.proofs.FieldLemmas.{bind_ok, step_ok, and_part, ok_is, word_takes, capitals_take, capitals_again, digits_take, digits_again, bare_group_takes, bare_group_again, message_group_takes, message_group_again, gap_takes, gap_again}
 
 -- ---- a heading without its group
 
@@ -232,47 +233,67 @@ front_length bytes text rest n fits e dropped = omega (arith, ap length e, lengt
 
 -- ---- what the calls answer
 
-pub bare_found : (bytes : List ℕ) (r : Result (Heading × ℕ) Field)
-    → MatchResult r (λ found. bare_heading_at bytes ≡ Ok (fields_of found.0, drop found.1 bytes)) (λ field. bare_heading_at bytes ≡ Err field)
-    → IfOk r (λ found. IsHeading (fields_of found.0) × (take found.1 bytes ≡ heading_text (fields_of found.0)))
-bare_found bytes (Ok found) e =
-    let taken = bare_takes bytes (fields_of found.0, drop found.1 bytes) e in
-    (taken.heading, front_is bytes (heading_text (fields_of found.0)) found.1 taken.spelled)
-bare_found bytes (Err field) e = tt
+-- the heading that was read, and the bytes behind it
+abbrev read_from : List ℕ → Heading × ℕ → HeadingFields × List ℕ
+read_from bytes found = (fields_of found.0, drop found.1 bytes)
+
+pub bare_heading : (bytes : List ℕ) (r : Result (Heading × ℕ) Field) → Reads (read_from bytes) r (bare_heading_at bytes)
+    → IfOk r (λ found. IsHeading (fields_of found.0))
+bare_heading bytes (Ok found) e = (bare_takes bytes (read_from bytes found) e).heading
+bare_heading bytes (Err field) e = tt
+
+pub bare_spelled : (bytes : List ℕ) (r : Result (Heading × ℕ) Field) → Reads (read_from bytes) r (bare_heading_at bytes)
+    → IfOk r (λ found. take found.1 bytes ≡ heading_text (fields_of found.0))
+bare_spelled bytes (Ok found) e =
+    front_is bytes (heading_text (fields_of found.0)) found.1 (bare_takes bytes (read_from bytes found) e).spelled
+bare_spelled bytes (Err field) e = tt
 
 pub bare_only : (bytes : List ℕ) (r : Result (Heading × ℕ) Field)
-    → IfOk r (λ found. found.1 ≤ length bytes)
-    → MatchResult r (λ found. bare_heading_at bytes ≡ Ok (fields_of found.0, drop found.1 bytes)) (λ field. bare_heading_at bytes ≡ Err field)
+    → IfOk r (λ found. found.1 ≤ length bytes) → Reads (read_from bytes) r (bare_heading_at bytes)
     → (h : HeadingFields) (rest : List ℕ) → IsHeading h → NoBlank rest → bytes ≡ heading_text h ++ rest
-    → IfOk r (λ found. (fields_of found.0 ≡ h) × (found.1 ≡ length (heading_text h))) × IsOk r
+    → IsOkAnd r (λ found. (fields_of found.0 ≡ h) × (found.1 ≡ length (heading_text h)))
 bare_only bytes (Ok found) fits e h rest is none spelled =
-    let read : HeadingFields × List ℕ = (fields_of found.0, drop found.1 bytes) in
-    let same = ok_is read (h, rest) (sym e ∙ ap bare_heading_at spelled ∙ bare_again h rest is none) in
+    let same = ok_is (read_from bytes found) (h, rest) (sym e ∙ ap bare_heading_at spelled ∙ bare_again h rest is none) in
     let dropped : drop found.1 bytes ≡ rest = ap (λ (x : HeadingFields × List ℕ). x.1) same in
-    ((ap (λ (x : HeadingFields × List ℕ). x.0) same, front_length bytes (heading_text h) rest found.1 fits spelled dropped), refl)
+    (ap (λ (x : HeadingFields × List ℕ). x.0) same, front_length bytes (heading_text h) rest found.1 fits spelled dropped)
 bare_only bytes (Err field) fits e h rest is none spelled =
     let apart = sym e ∙ ap bare_heading_at spelled ∙ bare_again h rest is none in
     absurd cc
 
-pub line_found : (bytes : List ℕ) (r : Result (Heading × ℕ) Field)
-    → MatchResult r (λ found. heading_at bytes ≡ Ok (fields_of found.0, drop found.1 bytes)) (λ field. heading_at bytes ≡ Err field)
-    → IfOk r (λ found. IsHeading (fields_of found.0) × ((gap : List ℕ) × IsGap gap × (take found.1 bytes ≡ heading_text (fields_of found.0) ++ gap ++ EOL)))
-line_found bytes (Ok found) e =
-    let taken = line_takes bytes (fields_of found.0, drop found.1 bytes) e in
+pub line_heading : (bytes : List ℕ) (r : Result (Heading × ℕ) Field) → Reads (read_from bytes) r (heading_at bytes)
+    → IfOk r (λ found. IsHeading (fields_of found.0))
+line_heading bytes (Ok found) e = (line_takes bytes (read_from bytes found) e).heading
+line_heading bytes (Err field) e = tt
+
+pub line_spelled : (bytes : List ℕ) (r : Result (Heading × ℕ) Field) → Reads (read_from bytes) r (heading_at bytes)
+    → IfOk r (λ found. IsHeadingLine (take found.1 bytes) (fields_of found.0))
+line_spelled bytes (Ok found) e =
+    let taken = line_takes bytes (read_from bytes found) e in
     let gap = taken.spelled.0 in
-    (taken.heading, (gap, taken.spelled.1, front_is bytes (heading_text (fields_of found.0) ++ gap ++ EOL) found.1 taken.spelled.2))
-line_found bytes (Err field) e = tt
+    (gap, taken.spelled.1, front_is bytes (heading_text (fields_of found.0) ++ gap ++ EOL) found.1 taken.spelled.2)
+line_spelled bytes (Err field) e = tt
 
 pub line_only : (bytes : List ℕ) (r : Result (Heading × ℕ) Field)
-    → IfOk r (λ found. found.1 ≤ length bytes)
-    → MatchResult r (λ found. heading_at bytes ≡ Ok (fields_of found.0, drop found.1 bytes)) (λ field. heading_at bytes ≡ Err field)
-    → (h : HeadingFields) (gap rest : List ℕ) → IsHeading h → IsGap gap → bytes ≡ heading_text h ++ gap ++ EOL ++ rest
-    → IfOk r (λ found. (fields_of found.0 ≡ h) × (found.1 ≡ length (heading_text h ++ gap ++ EOL))) × IsOk r
-line_only bytes (Ok found) fits e h gap rest is is_gap spelled =
-    let read : HeadingFields × List ℕ = (fields_of found.0, drop found.1 bytes) in
-    let same = ok_is read (h, rest) (sym e ∙ ap heading_at spelled ∙ line_again h gap rest is is_gap) in
+    → IfOk r (λ found. found.1 ≤ length bytes) → Reads (read_from bytes) r (heading_at bytes)
+    → (h : HeadingFields) (line rest : List ℕ) → IsHeading h → IsHeadingLine line h → bytes ≡ line ++ rest
+    → IsOkAnd r (λ found. (fields_of found.0 ≡ h) × (found.1 ≡ length line))
+line_only bytes (Ok found) fits e h line rest is is_line spelled =
+    let again : heading_at bytes ≡ Ok (h, rest) =
+    ap heading_at (spelled ∙ ap (λ (front : List ℕ). front ++ rest) is_line.2) ∙ line_again h is_line.0 rest is is_line.1 in
+    let same = ok_is (read_from bytes found) (h, rest) (sym e ∙ again) in
     let dropped : drop found.1 bytes ≡ rest = ap (λ (x : HeadingFields × List ℕ). x.1) same in
-    ((ap (λ (x : HeadingFields × List ℕ). x.0) same, front_length bytes (heading_text h ++ gap ++ EOL) rest found.1 fits spelled dropped), refl)
-line_only bytes (Err field) fits e h gap rest is is_gap spelled =
-    let apart = sym e ∙ ap heading_at spelled ∙ line_again h gap rest is is_gap in
+    (ap (λ (x : HeadingFields × List ℕ). x.0) same, front_length bytes line rest found.1 fits spelled dropped)
+line_only bytes (Err field) fits e h line rest is is_line spelled =
+    let apart = sym e ∙ ap heading_at (spelled ∙ ap (λ (front : List ℕ). front ++ rest) is_line.2) ∙ line_again h is_line.0 rest is is_line.1 in
     absurd cc
+
+-- ---- headings and their texts
+
+read_alone : (h : HeadingFields) → IsHeading h → bare_heading_at (heading_text h) ≡ Ok (h, [])
+read_alone h is = ap bare_heading_at (sym (append-nil (heading_text h))) ∙ bare_again h [] is refl
+
+pub same_heading : (g h : HeadingFields) → IsHeading g → IsHeading h → heading_text g ≡ heading_text h → g ≡ h
+same_heading g h is_g is_h e =
+    let nothing : List ℕ = [] in
+    let same = ok_is (g, nothing) (h, nothing) (sym (read_alone g is_g) ∙ ap bare_heading_at e ∙ read_alone h is_h) in
+    ap (λ (x : HeadingFields × List ℕ). x.0) same

@@ -1,17 +1,15 @@
 -- One pair of laws for each field: what was read is spelled so, and what is spelled so is read.
 use Rattle.std.proofs.Common.{◌≡◌, ℕ, ◌<◌, ◌≤◌, ◌⊎◌, inl, inr, Bool, true, false, ◌&&◌, cond, eqb, leb, List, [], ◌∷◌, ◌++◌, length, take, drop, Option, Some, None, Result, Ok, Err, IsTrue, nat_eq, nat_le, refl, sym, ap, subst, ◌∙◌, append_assoc, arith}
-use Rattle.std.specs.Char.{is_ascii_digit, is_ascii_uppercase, digit_value}
+use Rattle.std.specs.Char.{is_ascii_digit, is_ascii_uppercase}
 use Rattle.std.specs.List.{list_all, starts_with}
-use Rattle.std.specs.Str.Parse.{digits_value, AllDigits}
-use Rattle.std.proofs.lemmas.Bool.{leb-true, le-leb, ne_eqb, and_parts, and_from, false≢true}
+use Rattle.std.specs.Str.Parse.{digits_value}
+use Rattle.std.proofs.lemmas.Bool.{leb-true, le-leb, ne_eqb, and_parts, false≢true}
 use Rattle.std.proofs.lemmas.Bool.Decides.{Decides-eqb}
 use Rattle.std.proofs.lemmas.List.{take_at, drop_at, take-append-drop, length-append, length-take-le}
 use Rattle.std.proofs.lemmas.Slice.Eq.{starts_is}
-use Rattle.std.proofs.lemmas.Str.{digit_value_digit}
-use Rattle.std.proofs.lemmas.Str.Parse.{digit_from_value}
 use Rattle.gts_alphabet.specs.Digits.{dec}
 use Rattle.gts_alphabet.specs.declared.characters.TheConstants.{EOL}
-use Rattle.gts_alphabet.proofs.DigitsLemmas.{length-dec, AllDigits-dec, digits_value-dec, dec-digits_value}
+use Rattle.gts_alphabet.proofs.LawLemmas.{length-dec, AllDigits-dec, digits_value-dec, dec-digits_value, AllDigits-from_test, test_from_AllDigits}
 use Rattle.gts_heading.specs.declared.field.Field.{Field}
 use Rattle.gts_heading.specs.declared.field.Field.TheVariants.{Bbb}
 use Rattle.gts_heading.specs.Letters.{are_capitals, is_bbb, is_group}
@@ -80,28 +78,6 @@ capitals_again count field letters rest len capitals =
     rw (long, take_at letters rest count len, drop_at letters rest count len, capitals) refl
 
 -- ---- two digits
-
-is_digit_from_value : (c : ℕ) → digit_value c < 10 → is_ascii_digit c ≡ true
-is_digit_from_value c small =
-    let range = digit_from_value c small in
-    and_from _ _ (le-leb _ _ range.0) (le-leb _ _ range.1)
-
-value_from_is_digit : (c : ℕ) → is_ascii_digit c ≡ true → digit_value c < 10
-value_from_is_digit c e =
-    let range = and_parts _ _ e in
-    let low : 48 ≤ c = leb-true _ _ range.0 in
-    let high : c ≤ 57 = leb-true _ _ range.1 in
-    omega (arith, digit_value_digit c (low, high))
-
-pub AllDigits-from_test : (digits : List ℕ) → list_all is_ascii_digit digits ≡ true → AllDigits 10 digits
-AllDigits-from_test [] e = tt
-AllDigits-from_test (c ∷ cs) e =
-    let both = and_parts (is_ascii_digit c) (list_all is_ascii_digit cs) e in
-    (value_from_is_digit c both.0, AllDigits-from_test cs both.1)
-
-pub test_from_AllDigits : (digits : List ℕ) → AllDigits 10 digits → list_all is_ascii_digit digits ≡ true
-test_from_AllDigits [] all = refl
-test_from_AllDigits (c ∷ cs) all = and_from _ _ (is_digit_from_value c all.0) (test_from_AllDigits cs all.1)
 
 pub digits_take : (low high : ℕ) (field : Field) (bytes : List ℕ) (x : ℕ × List ℕ) → two_digits_at low high field bytes ≡ Ok x
     → (bytes ≡ dec 2 x.0 ++ x.1) × (low ≤ x.0) × (x.0 ≤ high)

@@ -1,6 +1,6 @@
 use Rattle.std.proofs.Common.{refl}
 use Rattle.gts_heading.specs.Reading.{plain_heading_at, bare_group_at, message_group_at, bare_heading_at, heading_at}
-use Rattle.gts_heading.proofs.laws.worked_headings.Goals as goal
+use Rattle.gts_heading.proofs.worked.worked_headings.Goals as goal
 
 pub returns-clause-plain : goal.returns-clause-plain
 unfolding plain_heading_at bare_group_at message_group_at bare_heading_at heading_at
