@@ -2,8 +2,7 @@
 ghost use Rattle.std.specs.Prelude.{◌≡◌, ℕ, [], ◌∷◌, ◌++◌, ◌+◌, length, map, Some, true, IfOk, IfErr};
 ghost use lib.ListN.{get_elem?};
 ghost use mathlib.Core.Option.{some};
-ghost use Rattle.gts_lock.specs.History.{entries, StartsWith};
-ghost use Rattle.gts_lock.specs.Passes.{Known, after_seeing, after_adding, after_split, AllJoined, Accounts, NamesAreJoined};
+ghost use Rattle.gts_lock.specs.{entries, after_adding, after_split, Known, AllJoined, Accounts, NamesAreJoined};
 ghost use Rattle.gts_lock.specs.Counting.{Counts, IsOf};
 
 use crate::hall::Hall;
