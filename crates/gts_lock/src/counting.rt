@@ -2,9 +2,8 @@
 ghost use Rattle.std.specs.Prelude.{◌≡◌, ℕ, [], ◌∷◌, ◌++◌, ◌+◌, length, map, Some, true, IfOk, IfErr};
 ghost use lib.ListN.{get_elem?};
 ghost use mathlib.Core.Option.{some};
-ghost use Rattle.gts_lock.specs.History.{entries, StartsWith};
-ghost use Rattle.gts_lock.specs.Passes.{Known, after_seeing, after_adding, after_split, AllJoined, Accounts, NamesAreJoined};
-ghost use Rattle.gts_lock.specs.Counting.{Counts, IsOf};
+ghost use Rattle.gts_lock.specs.{entries, after_adding, after_split, Known, AllJoined, Accounts, NamesAreJoined};
+ghost use Rattle.gts_lock.specs.Counting.{Counts, IsOf, AreSplitOff};
 
 use crate::hall::Hall;
 use crate::pass::Pass;
@@ -73,7 +72,7 @@ pub(crate) fn count_apart<R: Wait>(
 fn join_all(hall: &Hall<Count>, mut first: Pass<Count>, others: Vec<Pass<Count>>) -> Pass<Count>
     requires first { IsOf hall.now 0 first × (first.joined ≡ []) }
     requires count { first.parted ≡ length others.items }
-    requires others { (k : ℕ) (p : Known ℕ) → get_elem? others.items k ≡ some p → IsOf hall.now (k + 1) p }
+    requires others { AreSplitOff hall.now others.items }
     ensures same { IsOf hall.now 0 result }
     ensures all { AllJoined result }
     ensures own { result.joined ≡ map (λ p. (p.name, p.own)) others.items }
@@ -92,7 +91,7 @@ pub(crate) fn close_all(
 ) -> (Count, Pass<Count>)
     requires first { IsOf hall 0 first × (first.joined ≡ []) }
     requires count { first.parted ≡ length others.items }
-    requires others { (k : ℕ) (p : Known ℕ) → get_elem? others.items k ≡ some p → IsOf hall (k + 1) p }
+    requires others { AreSplitOff hall others.items }
     ensures count { result.0.turns ≡ length (entries result.1.seen) }
     ensures accounts { Accounts result.1 result.1.seen }
     ensures names { NamesAreJoined result.1 result.1.seen }

@@ -1,7 +1,6 @@
 ghost use Rattle.std.specs.Prelude.{◌≡◌, ◌≢◌, ℕ, ◌<◌, ◌+◌, ◌≤◌, ◌||◌, List, [], ◌∷◌, ◌++◌, length, true, false, Some, None, IfOk, IfErr, MatchOption};
 ghost use Rattle.gts_lock.specs.declared.view.Stage.TheVariants.{Idle, Waiting, Holding, Spent};
-ghost use Rattle.gts_lock.specs.History.{entries, StartsWith};
-ghost use Rattle.gts_lock.specs.Passes.{Known, first_pass, after_seeing, after_split, split_off, after_join, AllJoined, Accounts, NamesAreJoined};
+ghost use Rattle.gts_lock.specs.{entries, StartsWith, Known, first_pass, after_seeing, after_split, split_off, after_join, AllJoined, Accounts, NamesAreJoined};
 ghost use Rattle.gts_lock.specs.Views.{staged, marked, ended};
 ghost use Rattle.gts_lock.specs.Steps.{Takes};
 

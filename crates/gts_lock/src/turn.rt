@@ -1,9 +1,7 @@
 ghost use Rattle.std.specs.Prelude.{◌≡◌, [], ◌∷◌, ◌++◌};
-ghost use Rattle.std.specs.Borrow.{Lends, sem};
-ghost use Rattle.gts_lock.specs.History.{entries, entries_under};
-ghost use Rattle.gts_lock.specs.Passes.{after_adding, with_value};
-ghost use Rattle.gts_lock.specs.contracts.turn.Turn.{the_row};
-ghost use mir.Syntax.{named};
+ghost use Rattle.std.specs.Borrow.{sem};
+ghost use Rattle.gts_lock.specs.{entries, entries_under, after_adding};
+ghost use Rattle.gts_lock.specs.Lending.{lends_value};
 
 use crate::hall::Hall;
 use crate::pass::Pass;
@@ -35,9 +33,7 @@ impl<'a, T: Told> Model for Turn<'a, T> {
 impl<'a, T: Told> Turn<'a, T> {
     /// Lends the value. What is written through it is the turn's value.
     pub fn value(&mut self) -> &mut T
-        ensures* writes_back { sem 𝓛 (Lends
-            (the_row (record { mir = named 1; lft = [] }) T.row T.Entry.row T.Told)
-            T.row self.entry result (with_value self.old)) }
+        ensures* writes_back { sem 𝓛 (lends_value T.row T.Entry.row T.Told self.entry result) }
         ensures value { result.now ≡ self.old.value }
     {
         &mut self.value

@@ -1,0 +1,10 @@
+//! Waking. Threads that have nothing to do sleep at a bell until another one rings it. No contract claims anything of it:
+//! what a thread does is right whether it is woken or not.
+#![tactic(auto)]
+
+mod bell;
+
+pub use bell::{Bell, Look};
+
+#[cfg(test)]
+mod tests;
