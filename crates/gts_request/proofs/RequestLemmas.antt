@@ -15,8 +15,8 @@ use Rattle.gts_request.specs.declared.fault.ReqField.TheVariants.{LineStart, Lin
 use Rattle.gts_request.specs.declared.fault.ReqField.TheVariants as fault
 use Rattle.gts_request.specs.declared.line.Line.{Line}
 use Rattle.gts_request.specs.declared.line.Line.TheVariants.{Sqn, Ahd}
-use Rattle.gts_request.specs.Request.{Item, Numbers, IsItem, Place, ◌>>=◌, number_at, numbers_at, heading_item, item_at, line_start_at, behind_line, behind_item, step_at, items_at, bytes_from, items_from, behind_asker, request_at}
-use Rattle.gts_request.specs.Places.{items_left}
+use Rattle.gts_request.specs.Request.{Item, Numbers, IsItem, Place, ◌>>=◌, number_at, numbers_at, heading_item, item_at, line_start_at, behind_line, behind_item, step_at, items_at, bytes_from, behind_asker, request_at}
+use Rattle.gts_request.specs.Places.{items_from, items_left}
 use Rattle.gts_request.proofs.HeadingLemmas.{Within, within_choice, heading_within}
 
 -- ---- an item takes bytes
@@ -84,7 +84,6 @@ behind_within line (b ∷ bytes) n h = go (starts_with nat_eq (b ∷ bytes) (47 
     go false false = tt
 
 step_within : (place : Place) → NextWithin (length place.1) (step_at place)
-unfolding step_at
 step_within place = item (item_at place.0 place.1) (item_within place.0 place.1)
   where
     next : (x : Item) (r : Result (Option Place) ReqField) → PlaceWithin (length place.1) r → NextWithin (length place.1) (r >>= λ next. Ok (x, next))
@@ -208,11 +207,11 @@ what_was_read view (Err f) place x e is = absurd (cc)
 -- ---- the request as a whole
 
 pub fault_of_first : (text : List ℕ) (e : ReqField) → behind_asker (capitals_at 4 Cccc text) ≡ Err e → request_at text ≡ Err e
-unfolding request_at
+unfolding request_at items_from
 fault_of_first text e is = ap (λ (r : Result Place ReqField). r >>= λ place. items_from (Some place)) is
 
 pub request_from_first : (text : List ℕ) (place : Place) → behind_asker (capitals_at 4 Cccc text) ≡ Ok place → request_at text ≡ items_from (Some place)
-unfolding request_at
+unfolding request_at items_from
 request_from_first text place is = ap (λ (r : Result Place ReqField). r >>= λ place. items_from (Some place)) is
 
 -- where no place is left, all items from the first one on are there

@@ -1,7 +1,8 @@
 -- What is read of a request, as the definitions have it.
-use Rattle.std.specs.Prelude.{ℕ, List, [], Option, Some, None, Ok, Err}
+use Rattle.std.specs.Prelude.{ℕ, List, [], Option, Some, None, Result, Ok, Err}
 use Rattle.std.specs.Borrow.{Bor}
 use Rattle.gts_heading.specs.Heading.{fields_of}
+use Rattle.gts_request.specs.declared.fault.ReqField.{ReqField}
 use Rattle.gts_request.specs.declared.item.Item.{Item}
 use Rattle.gts_request.specs.declared.item.Item.TheVariants as read
 use Rattle.gts_request.specs.declared.place.Place.{Place}
@@ -27,6 +28,10 @@ read_of read = (item_of read.0, read.1.now)
 abbrev pub step_of : Item × Option Place → request.Item × Option request.Place
 step_of step = (item_of step.0, next_of step.1)
 
+-- the items from a place on, or the first field at fault there
+unfoldable pub items_from : Option request.Place → Result (List request.Item) ReqField
+items_from next = request.items_at (request.bytes_from next) next
+
 -- the items that are left, where all of them can be read
 unfoldable pub items_left : Option request.Place → List request.Item
-items_left next = elim (request.items_from next) [ Ok items ↦ items | Err _ ↦ [] ]
+items_left next = elim (items_from next) [ Ok items ↦ items | Err _ ↦ [] ]

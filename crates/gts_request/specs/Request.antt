@@ -73,7 +73,7 @@ behind_item line bytes =
     else if starts_with nat_eq bytes (61 ∷ []) then behind_line (drop 1 bytes) else Err LineEnd
 
 -- the item at a place, and the place of the next one
-unfoldable pub step_at : Place → Result (Item × Option Place) ReqField
+abbrev pub step_at : Place → Result (Item × Option Place) ReqField
 step_at place = do
   item ← item_at place.0 place.1
   next ← behind_item place.0 item.1
@@ -88,12 +88,10 @@ items_at (suc n) (Some place) = do
   more ← items_at n step.1
   Ok (step.0 ∷ more)
 
+-- the number of bytes from a place on, and one more
 abbrev pub bytes_from : Option Place → ℕ
 bytes_from None = 0
 bytes_from (Some place) = suc (length place.1)
-
-unfoldable pub items_from : Option Place → Result (List Item) ReqField
-items_from next = items_at (bytes_from next) next
 
 -- the four capitals of the asker, and the place of the first item
 abbrev pub behind_asker : Result (List ℕ × List ℕ) Field → Result Place ReqField
@@ -102,7 +100,7 @@ behind_asker (Err _) = Err Asker
 
 -- the items of a request's text, or the first field at fault
 unfoldable pub request_at : List ℕ → Result (List Item) ReqField
-request_at text = behind_asker (capitals_at 4 Cccc text) >>= λ place. items_from (Some place)
+request_at text = behind_asker (capitals_at 4 Cccc text) >>= λ place. items_at (bytes_from (Some place)) (Some place)
 
 -- the numbers from a first to a last one, upwards and from 999 on to 000
 abbrev pub numbers_to : ℕ → ℕ → List ℕ

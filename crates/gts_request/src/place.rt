@@ -7,7 +7,7 @@ ghost use Rattle.gts_request.specs.Places.{item_of, place_of, next_of, read_of, 
 
 use crate::line::Line;
 use crate::{Item, ReqField};
-use gts_alphabet::number_of;
+use gts_alphabet::decimal_value;
 use gts_heading::{Cursor, Field, Heading};
 
 /// How many digits a number has.
@@ -43,7 +43,6 @@ impl<'a> Place<'a> {
     }
 
     /// Reads the item here, and finds the place of the next one.
-    #[tactic(auto, unfolding(crate::specs::Request::step_at))]
     pub(crate) fn read(self) -> Result<(Item, Option<Place<'a>>), ReqField>
         ensures exact { Reads step_of result (request.step_at (place_of self.entry)) }
         ensures item { IfOk result (λ step. request.IsItem (item_of step.0)) }
@@ -103,7 +102,7 @@ fn number(text: &[u8]) -> Result<(u32, &[u8]), ReqField>
         return Err(ReqField::Number);
     }
     let (digits, rest) = text.split_at(DIGITS);
-    let number = number_of(digits).unwrap();
+    let number = decimal_value(digits).unwrap();
     Ok((number, rest))
 }
 
