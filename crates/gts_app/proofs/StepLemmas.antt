@@ -1,53 +1,46 @@
--- What a step says.
-use Rattle.std.proofs.Common.{◌≡◌, ℕ, ◌+◌, Result, Ok, Err, List, [], ◌∷◌, refl, sym, ap, subst, ◌∙◌}
-use Rattle.std.specs.Prelude.{IsOk}
-use Rattle.gts_heading.specs.declared.field.Field.{Field}
-use Rattle.gts_heading.specs.Heading.{HeadingFields}
-use Rattle.gts_message.specs.Message.{MessageParts, split_at}
-use Rattle.gts_traits.specs.Station.{Call, Done, Says, Breaks, Outside, SaidSince, on}
-use Rattle.gts_traits.proofs.OutsideLemmas.{SaidSince-from_say, SaidSince-from_failed_say, on-append}
+-- What an event does where saying its bytes fails.
+use Rattle.std.proofs.Common.{◌≡◌, ℕ, ◌+◌, List, [], ◌∷◌, ◌++◌, Result, Ok, Err, refl, sym, ap, subst, ◌∙◌, inl, inr}
+use Rattle.std.proofs.lemmas.List.{append-nil, map-append}
+use Rattle.std.proofs.lemmas.Result.{err_from_is_err_and}
+use Rattle.std.specs.Prelude.{IsErrAnd}
 use Rattle.gts_frame.specs.declared.kind.Kind.{Kind}
-use Rattle.gts_directory.specs.Directory.{Directory}
 use Rattle.gts_first.specs.declared.outcome.Outcome.{Outcome}
-use Rattle.gts_first.specs.declared.outcome.Outcome.TheVariants.{Accepted, Refused, Draw, Nothing}
-use Rattle.gts_first.specs.declared.outcome.Refusal.TheVariants.{Message}
-use Rattle.gts_first.specs.History.{Heard, Taken, State, IsAccepted, verdict, outcome, after, heading_of, body_of}
-use Rattle.gts_first.specs.Said.{line, spoken}
-use Rattle.gts_first.specs.Receipt.{receipt_text}
-use Rattle.gts_app.specs.Replay.{SaysFrontOf}
+use Rattle.gts_first.specs.declared.outcome.Outcome.TheVariants.{Draw}
+use Rattle.gts_traits.specs.declared.station.Station.{Ghosts as StationWords}
+use Rattle.gts_traits.specs.Station.{Call, Says, Breaks, Outside, on, said as calls_said}
+use Rattle.gts_directory.specs.Directory.{Directory}
+use Rattle.gts_first.specs.declared.fault.StepFault.{StepFault}
+use Rattle.gts_first.specs.declared.fault.StepFault.TheVariants.{SayFault}
+use Rattle.gts_first.specs.{Event, Heard, Taken, State, Moment, Does, outcome, after, receipt_text, heading_of_message, drawn_frame}
+use Rattle.gts_first.specs.Said.{spoken, said_of_message, said_of_take}
+use Rattle.gts_first.specs.Run.{SaysFrontOf}
 
--- the receipt of what isn't accepted has no heading
-pub receipt_text-no_heading : (circuit : ℕ) (o : Outcome) (g h : HeadingFields) → (IsAccepted o → ⊥) → receipt_text circuit o g ≡ receipt_text circuit o h
-receipt_text-no_heading circuit (Accepted position circuits) g h other = absurd (other tt)
-receipt_text-no_heading circuit (Refused refusal) g h other = refl
-receipt_text-no_heading circuit (Draw index) g h other = refl
-receipt_text-no_heading circuit Nothing g h other = refl
+-- a say that failed said a front of its bytes
+says_front : (channel : ℕ) (bytes : List ℕ) (old new : List Call) → Breaks (Says channel bytes) old new → SaysFrontOf old new (on channel bytes)
+says_front channel bytes old new broken =
+    elim broken [
+      | inl same ↦ ([], on channel bytes, ap calls_said same ∙ sym (append-nil (calls_said old)), refl)
+      | inr left ↦ (on channel left.0, on channel left.1.0, ap calls_said left.2, ap (on channel) left.1.1 ∙ map-append (λ (byte : ℕ). (channel, byte)) left.0 left.1.0)
+    ]
 
-read_is_ok : (d : Directory) (s : State) (c : ℕ) (read : Result MessageParts Field) → IsAccepted (elim read as (λ _. Outcome) [ Err field ↦ Refused (Message field) | Ok parts ↦ verdict d s c parts ]) → IsOk read
-read_is_ok d s c (Ok parts) accepted = refl
-read_is_ok d s c (Err field) accepted = absurd accepted
+-- an event whose bytes failed to be said was done but for that
+pub Does-from_failed_say : {P : Type 0} (w : StationWords P) (d : Directory) (event : Event) (r : Result (Unit {0}) StepFault) (a b : Moment P) (channel : ℕ) (bytes : List ℕ)
+    → IsErrAnd r (λ e. e ≡ SayFault) → b.core ≡ after d a.core event → on channel bytes ≡ spoken d a.core event
+    → (w.tells → Breaks (Says channel bytes) (w.calls a.station) (w.calls b.station)) → Does d w event r a b
+Does-from_failed_say w d event r a b channel bytes failed core same broken =
+    let error = err_from_is_err_and r failed in
+    subst (λ (x : Result (Unit {0}) StepFault). Does d w event x a b) (sym (error.1 ∙ ap (λ (e : StepFault). Err e) error.2)) (
+      core,
+      λ tells. subst (λ (o : Outside). SaysFrontOf (w.calls a.station) (w.calls b.station) o) same (says_front channel bytes (w.calls a.station) (w.calls b.station) (broken tells)),
+    )
 
--- what is accepted was read
-pub accepted_is_read : (d : Directory) (s : State) (c : ℕ) (kind : Kind) (message : List ℕ) (o : Outcome) → o ≡ outcome d s (Heard c kind message) → IsAccepted o → IsOk (split_at message)
-accepted_is_read d s c kind message o e accepted = read_is_ok d s c (split_at message) (subst IsAccepted e accepted)
+-- a receipt is what its message says
+pub spoken-receipt : (d : Directory) (s : State) (circuit : ℕ) (kind : Kind) (message bytes : List ℕ) (o : Outcome)
+    → o ≡ outcome d s (Heard circuit kind message) → bytes ≡ receipt_text circuit o (heading_of_message message) → on 0 bytes ≡ spoken d s (Heard circuit kind message)
+spoken-receipt d s circuit kind message bytes o is written = ap (on 0) written ∙ ap (said_of_message circuit message) is
 
--- a say that was done, of these very bytes
-pub says_all : (channel : ℕ) (bytes : List ℕ) (outside : Outside) (old new : List Call) → new ≡ Done (Says channel bytes) ∷ old → on channel bytes ≡ outside → SaidSince old new outside
-says_all channel bytes outside old new done same = subst (λ (o : Outside). SaidSince old new o) same (SaidSince-from_say channel bytes old new done)
-
--- a say that failed
-pub says_front : (channel : ℕ) (bytes : List ℕ) (outside : Outside) (old new : List Call) → Breaks (Says channel bytes) old new → on channel bytes ≡ outside → SaysFrontOf old new outside
-says_front channel bytes outside old new broken same =
-    let front = SaidSince-from_failed_say channel bytes old new broken in
-    (on channel front.0, on channel front.1, front.3, sym same ∙ ap (on channel) front.2 ∙ on-append channel front.0 front.1)
-
--- what a message says is its receipt
-pub spoken-receipt : (d : Directory) (s : State) (c : ℕ) (kind : Kind) (message bytes : List ℕ) (o : Outcome) → o ≡ outcome d s (Heard c kind message) → bytes ≡ receipt_text c o (heading_of (body_of message)) → on 0 bytes ≡ spoken d s (Heard c kind message)
-spoken-receipt d s c kind message bytes o is written =
-    ap (on 0) (written ∙ ap (λ (x : Outcome). receipt_text c x (heading_of (body_of message))) is)
-
--- what a draw says is its frame
-pub spoken-draw : (d : Directory) (s after_it : State) (c index : ℕ) (bytes : List ℕ) → Draw index ≡ outcome d s (Taken c) → after_it ≡ after d s (Taken c) → bytes ≡ line after_it c index → on (c + 1) bytes ≡ spoken d s (Taken c)
-spoken-draw d s after_it c index bytes drawn state framed =
-    ap (on (c + 1)) (framed ∙ ap (λ (t : State). line t c index) state)
-    ∙ ap (λ (o : Outcome). elim o as (λ _. Outside) [ Draw i ↦ on (c + 1) (line (after d s (Taken c)) c i) | Accepted _ _ ↦ [] | Refused _ ↦ [] | Nothing ↦ [] ]) drawn
+-- a frame is what its take says
+pub spoken-draw : (d : Directory) (s now : State) (circuit index : ℕ) (bytes : List ℕ)
+    → Draw index ≡ outcome d s (Taken circuit) → now ≡ after d s (Taken circuit) → bytes ≡ drawn_frame now circuit index → on (circuit + 1) bytes ≡ spoken d s (Taken circuit)
+spoken-draw d s now circuit index bytes drawn state framed =
+    ap (on (circuit + 1)) (framed ∙ ap (λ (t : State). drawn_frame t circuit index) state) ∙ ap (said_of_take (after d s (Taken circuit)) circuit) drawn

@@ -1,10 +1,11 @@
 //! The switch as one call: words, a capture, a station, and what is said.
 #![tactic(auto)]
 
+mod commands;
 mod reading;
-mod replaying;
 mod running;
 mod status;
+mod steps;
 
 pub use running::run;
 pub use status::Status;

@@ -1,12 +1,13 @@
-ghost use Rattle.std.specs.Prelude.{◌≡◌, ◌<◌, ◌≤◌, ◌++◌, [], List, ℕ, length, IfOk, IsErrOf};
-ghost use Rattle.gts_traits.specs.Counts.{Rose};
+ghost use Rattle.std.specs.Prelude.{◌≡◌, ◌<◌, ◌≤◌, ◌++◌, [], List, ℕ, length, IfOk};
+ghost use Rattle.gts_first.specs.{HasCauseOf};
 ghost use Rattle.gts_app.specs.declared.reading.ReadFault.TheVariants as faults;
 
+use gts_capture::LONGEST_CAPTURE;
 use gts_traits::{Failed, Source};
 use std::alloc::{AllocError, Global};
 
 /// The most bytes that are read: one more than a capture may have.
-const MOST: usize = 1_048_577;
+const MOST: usize = LONGEST_CAPTURE + 1;
 
 /// Why the bytes of a source were not read.
 #[derive(Clone, Copy, Debug, PartialEq, Eq)]
@@ -40,13 +41,15 @@ fn room(alloc: Global, count: usize) -> Result<Vec<u8>, AllocError>
     vec![in alloc; 0; count]
 }
 
-/// Reads a source to its end, but no more than 1,048,577 bytes of it.
+/// Reads a source to its end, but no more than `MOST` bytes of it.
 pub fn read_front<S: Source>(alloc: Global, source: &mut S) -> Result<Vec<u8>, ReadFault>
-    ensures bytes { S.tells → IfOk result (λ bytes. S.left source.old ≡ bytes.items ++ S.left source.new) }
-    ensures end { S.tells → IfOk result (λ bytes. length bytes.items < 1048577 → S.left source.new ≡ []) }
-    ensures limit { S.tells → (taken : List ℕ) × (S.left source.old ≡ taken ++ S.left source.new) × (length taken ≤ 1048577) }
-    ensures failed { IsErrOf result ReadFault.Failed → Rose (S.faults source.old) (S.faults source.new) }
-    ensures later { S.faults source.old ≤ S.faults source.new }
+    ensures bytes { S.tells →
+        IfOk result (λ bytes. S.left source.old ≡ bytes.items ++ S.left source.new) }
+    ensures end { S.tells →
+        IfOk result (λ bytes. length bytes.items < MOST → S.left source.new ≡ []) }
+    ensures limit { S.tells → (taken : List ℕ) × (S.left source.old ≡ taken ++ S.left source.new)
+        × (length taken ≤ MOST) }
+    ensures cause { HasCauseOf ReadFault.Failed result (S.faults source.old) (S.faults source.new) }
 {
     let mut bytes = room(alloc, MOST)?;
     let mut filled = 0;

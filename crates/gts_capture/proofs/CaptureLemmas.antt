@@ -10,7 +10,7 @@ use Rattle.gts_alphabet.proofs.DigitsLemmas.{length-dec, digits_value-dec, dec-d
 use Rattle.gts_frame.specs.declared.kind.Kind.{Kind}
 use Rattle.gts_frame.specs.Frame.{frame, letters, IsFramed}
 use Rattle.gts_frame.proofs.FrameLemmas.{same_frames, length-frame}
-use Rattle.gts_first.specs.Capture.{Step, Feed, Take, step_text, IsStep, capture_text, end_text, IsCapture}
+use Rattle.gts_capture.specs.Capture.{Step, Feed, Take, step_text, IsStep, capture_text, capture_end, IsCapture}
 use Rattle.gts_capture.specs.Steps.{BeginsWithStep}
 
 -- the first byte of a list, or 0
@@ -55,7 +55,7 @@ same_step (Take c) (Take d) a b sx sy e =
     (steps, append_cancel_left (step_text (Take c)) a b (e ∙ ap (λ (step : Step). step_text step ++ b) (sym steps)))
 
 -- a step isn't the end
-pub step_isn't_end : (x : Step) (a : List ℕ) → step_text x ++ a ≡ end_text → ⊥
+pub step_isn't_end : (x : Step) (a : List ℕ) → step_text x ++ a ≡ capture_end → ⊥
 step_isn't_end (Feed c k m) a e = feed≢end (ap first e)
 step_isn't_end (Take c) a e = take≢end (ap first e)
 
@@ -66,21 +66,21 @@ same_front (x ∷ xs) [] rest all_x all_y e =
     absurd (step_isn't_end x (flat_map step_text xs ++ rest) (sym (append_assoc (step_text x) (flat_map step_text xs) rest) ∙ e))
 same_front (x ∷ xs) (y ∷ ys) rest all_x all_y e =
     let heads = same_step x y (flat_map step_text xs ++ rest) (capture_text ys) all_x.0 all_y.0
-    (sym (append_assoc (step_text x) (flat_map step_text xs) rest) ∙ e ∙ append_assoc (step_text y) (flat_map step_text ys) end_text) in
+    (sym (append_assoc (step_text x) (flat_map step_text xs) rest) ∙ e ∙ append_assoc (step_text y) (flat_map step_text ys) capture_end) in
     let tails = same_front xs ys rest all_x.1 all_y.1 heads.1 in
     let same = heads.0 in
     let behind = tails.2 in
     (tails.0, tails.1, cc, tails.3)
 
 -- only the end itself is read as no step
-pub end_is_no_step : (zs : List Step) → end_text ≡ capture_text zs → zs ≡ []
+pub end_is_no_step : (zs : List Step) → capture_end ≡ capture_text zs → zs ≡ []
 end_is_no_step [] e = refl
 end_is_no_step (z ∷ zs) e =
-    absurd (step_isn't_end z (capture_text zs) (sym (append_assoc (step_text z) (flat_map step_text zs) end_text) ∙ sym e))
+    absurd (step_isn't_end z (capture_text zs) (sym (append_assoc (step_text z) (flat_map step_text zs) capture_end) ∙ sym e))
 
 pub same_captures : (bytes : List ℕ) (xs ys : List Step) → IsCapture bytes xs → IsCapture bytes ys → xs ≡ ys
 same_captures bytes xs ys cx cy =
-    let front = same_front xs ys end_text cx.each cy.each (sym cx.text ∙ cy.text) in
+    let front = same_front xs ys capture_end cx.each cy.each (sym cx.text ∙ cy.text) in
     let none = end_is_no_step front.0 front.3 in
     sym (front.2 ∙ ap (λ (zs : List Step). xs ++ zs) none ∙ append-nil xs)
 
@@ -170,12 +170,12 @@ each_more [] x all is = (is, tt)
 each_more (y ∷ xs) x all is = (all.0, each_more xs x all.1 is)
 
 -- Bytes that are neither the end nor begin with a step are no rest of a capture.
-no_rest : (rest : List ℕ) (zs : List Step) → AllByRecursion IsStep zs → rest ≡ capture_text zs → (rest ≡ end_text → ⊥) → ((step : Step) (behind : List ℕ) → IsStep step → rest ≡ step_text step ++ behind → ⊥) → ⊥
+no_rest : (rest : List ℕ) (zs : List Step) → AllByRecursion IsStep zs → rest ≡ capture_text zs → (rest ≡ capture_end → ⊥) → ((step : Step) (behind : List ℕ) → IsStep step → rest ≡ step_text step ++ behind → ⊥) → ⊥
 no_rest rest [] all e not_end not_step = not_end e
-no_rest rest (z ∷ zs) all e not_end not_step = not_step z (capture_text zs) all.0 (e ∙ append_assoc (step_text z) (flat_map step_text zs) end_text)
+no_rest rest (z ∷ zs) all e not_end not_step = not_step z (capture_text zs) all.0 (e ∙ append_assoc (step_text z) (flat_map step_text zs) capture_end)
 
 -- Where the steps so far lead to such bytes, there is no capture.
-pub no_capture : (bytes rest : List ℕ) (xs : List Step) → bytes ≡ flat_map step_text xs ++ rest → AllByRecursion IsStep xs → (rest ≡ end_text → ⊥) → ((step : Step) (behind : List ℕ) → IsStep step → rest ≡ step_text step ++ behind → ⊥) → (ys : List Step) → IsCapture bytes ys → ⊥
+pub no_capture : (bytes rest : List ℕ) (xs : List Step) → bytes ≡ flat_map step_text xs ++ rest → AllByRecursion IsStep xs → (rest ≡ capture_end → ⊥) → ((step : Step) (behind : List ℕ) → IsStep step → rest ≡ step_text step ++ behind → ⊥) → (ys : List Step) → IsCapture bytes ys → ⊥
 no_capture bytes rest xs so_far all not_end not_step ys capture =
     let front = same_front xs ys rest all capture.each (sym so_far ∙ capture.text) in
     no_rest rest front.0 front.1 front.3 not_end not_step

@@ -1,6 +1,6 @@
 -- The steps that are read, without where their messages lie in memory, and where one stands.
 use Rattle.std.specs.Prelude.{◌≡◌, ℕ, List, ◌++◌, map}
-use Rattle.gts_first.specs.Capture.{Step, Feed, Take, step_text, IsStep}
+use Rattle.gts_capture.specs.Capture.{Step, Feed, Take, step_text, IsStep}
 use Rattle.gts_capture.specs.declared.step.CaptureStep.{CaptureStep}
 use Rattle.gts_capture.specs.declared.step.CaptureStep.TheVariants as read
 

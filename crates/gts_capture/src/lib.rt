@@ -2,12 +2,16 @@
 #![tactic(auto)]
 
 mod laws;
+mod limits;
 mod reading;
 mod step;
+mod worked;
 
 pub use laws::captures_are_told_apart;
-pub use reading::{CaptureError, LONGEST_CAPTURE, read_capture};
+pub use limits::LONGEST_CAPTURE;
+pub use reading::{CaptureError, read_capture};
 pub use step::CaptureStep;
+pub use worked::a_small_capture_is_spelled;
 
 #[cfg(test)]
 mod tests;

@@ -11,8 +11,7 @@ use Rattle.gts_first.specs.declared.outcome.Outcome.{Outcome}
 use Rattle.gts_first.specs.declared.outcome.Outcome.TheVariants.{Accepted, Refused, Draw, Nothing}
 use Rattle.gts_first.specs.declared.outcome.Refusal.TheVariants.{Message, Later}
 use Rattle.gts_first.specs.History.{Heard, Taken, Bulletin, Drawn, State, count, draws_on, waits, waiting, next, goes_before, is_request, verdict, outcome, after, body_of, with_bulletin, with_draw}
-use Rattle.gts_first.specs.Said.{draw_at, bulletin_at, numbered_frame, line}
-use Rattle.gts_first.proofs.HistoryLemmas.{body_of-from_split}
+use Rattle.gts_first.specs.Said.{draw_at, bulletin_at, numbered_frame, drawn_frame}
 use Rattle.gts_core.specs.Plain.{bulletins_from, draws_from, plain_state}
 
 -- the bulletin at a position
@@ -185,11 +184,15 @@ with_bulletin-plain held k kind body =
     ap (λ (n : ℕ). record { accepted = bulletins_from 0 held ++ bulletin n (kind, body) ∷ []; draws = draws_from 0 k }) (position ∙ omega arith)
     ∙ ap (λ (bs : List Bulletin). record { accepted = bs; draws = draws_from 0 k }) (sym (bulletins_from-push 0 held (kind, body)))
 
+-- the body that was read
+abbrev read_body : Result MessageParts Field → List ℕ
+read_body read = elim read [ Err _ ↦ [] | Ok parts ↦ parts.body ]
+
 -- the state after such a message
 pub after-accepted : (held : List (Kind × List ℕ)) (k : ℕ) (kind : Kind) (message : List ℕ) (parts : MessageParts) → split_at message ≡ Ok parts → is_request two_circuits parts.heading ≡ false → after two_circuits (plain_state held k) (Heard 0 kind message) ≡ plain_state (held ++ (kind, parts.body) ∷ []) k
 after-accepted held k kind message parts e other =
     ap (heard_state (plain_state held k) kind message) (outcome-accepted (plain_state held k) kind message parts e other)
-    ∙ ap (λ (body : List ℕ). with_bulletin (plain_state held k) 0 kind body) (body_of-from_split message parts e)
+    ∙ ap (λ (body : List ℕ). with_bulletin (plain_state held k) 0 kind body) (ap read_body e)
     ∙ with_bulletin-plain held k kind parts.body
 
 -- the state after a draw on circuit 1
@@ -212,8 +215,8 @@ pub after-nothing : (s : State) (c : ℕ) → next two_circuits s c ≡ None →
 after-nothing s c none = ap (λ (o : Option Bulletin). elim o as (λ _. State) [ None ↦ s | Some b ↦ with_draw s c b.position ]) none
 
 -- the frame of the draw that was just made
-pub line-drawn : (held : List (Kind × List ℕ)) (k : ℕ) (d : Kind × List ℕ) → k < length held → line (plain_state held (k + 1)) 1 k ≡ numbered_frame k (bulletin k (get_or held k d))
-line-drawn held k d lt =
+pub drawn_frame-drawn : (held : List (Kind × List ℕ)) (k : ℕ) (d : Kind × List ℕ) → k < length held → drawn_frame (plain_state held (k + 1)) 1 k ≡ numbered_frame k (bulletin k (get_or held k d))
+drawn_frame-drawn held k d lt =
     let s : State = plain_state held (k + 1) in
     ap (λ (o : Option Drawn). elim o as (λ _. List ℕ) [ None ↦ [] | Some t ↦ elim (bulletin_at s t.position) [ None ↦ [] | Some b ↦ numbered_frame k b ] ]) (draw_at-plain held (k + 1) k (omega arith))
     ∙ ap (λ (o : Option Bulletin). elim o as (λ _. List ℕ) [ None ↦ [] | Some b ↦ numbered_frame k b ]) (bulletin_at-plain held (k + 1) k d lt)

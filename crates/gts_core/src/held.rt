@@ -14,8 +14,8 @@ pub struct Held {
 
 /// Adds a bulletin at the end. A refusal changes nothing.
 pub fn push(all: &mut Option<Vec<Held>>, alloc: Global, held: Held) -> Result<(), NoMemory>
-    ensures ok { OnOk result (all_held all.new ≡ all_held all.old ++ held_of held ∷ []) }
-    ensures err { OnErr result (all_held all.new ≡ all_held all.old) }
+    ensures done { OnOk result (all_held all.new ≡ all_held all.old ++ held_of held ∷ []) }
+    ensures unchanged { OnErr result (all_held all.new ≡ all_held all.old) }
 {
     match all {
         Some(bulletins) => bulletins.push(held)?,

@@ -1,8 +1,7 @@
-ghost use Rattle.std.specs.Prelude.{◌≡◌, ◌<◌, ◌^◌, ℕ, IfOk, OnErr, IsErr};
+ghost use Rattle.std.specs.Prelude.{◌≡◌, ◌<◌, ◌^◌, ℕ, IfOk, OnOk, OnErr, IsErr};
 ghost use Rattle.gts_heading.specs.Heading.{fields_of};
 ghost use Rattle.gts_directory.specs.Directory.{two_circuits};
-ghost use Rattle.gts_first.specs.History as history;
-ghost use Rattle.gts_first.specs.Said.{line, number_of};
+ghost use Rattle.gts_first.specs as history;
 
 use crate::held::{Held, push};
 use gts_alphabet::NoMemory;
@@ -48,7 +47,7 @@ fn is_request(heading: &Heading) -> bool
 /// The number of a draw: the first is 1, the 999th 999, the 1,000th 0, and the one after it 1 again.
 fn sequence_number(index: u64) -> u32
     requires { index < 2 ^ 63 }
-    ensures number { result ≡ number_of index }
+    ensures number { result ≡ history.number_of_draw index }
     ensures small { result < 1000 }
 {
     ((index + 1) % 1000) as u32
@@ -65,13 +64,23 @@ impl PlainCore {
         }
     }
 
-    /// Deals with a message that came in a frame of this type on circuit 0. It answers what the message leads to, and
-    /// `NoMemory` only for one that would be accepted: then nothing changes.
-    pub fn hear(&mut self, alloc: Global, kind: Kind, message: &[u8]) -> Result<Outcome, NoMemory>
-        ensures outcome { IfOk result (λ outcome. outcome ≡ history.outcome two_circuits self.old (history.Heard 0 kind message.now)) }
-        ensures state { IfOk result (λ _. self.new ≡ history.after two_circuits self.old (history.Heard 0 kind message.now)) }
-        ensures err { OnErr result (self.new ≡ self.old) }
-        ensures memory { IsErr result → history.IsAccepted (history.outcome two_circuits self.old (history.Heard 0 kind message.now)) }
+    /// Deals with a message that came in a frame of this type on a circuit, so far circuit 0. It answers what the message
+    /// leads to, and `NoMemory` only for one that would be accepted: then nothing changes.
+    pub fn hear(
+        &mut self,
+        alloc: Global,
+        circuit: u32,
+        kind: Kind,
+        message: &[u8],
+    ) -> Result<Outcome, NoMemory>
+        requires { circuit ≡ 0 }
+        ensures outcome { let event = history.Heard circuit kind message.now in
+            IfOk result (λ outcome. outcome ≡ history.outcome two_circuits self.old event) }
+        ensures state { let event = history.Heard circuit kind message.now in
+            OnOk result (self.new ≡ history.after two_circuits self.old event) }
+        ensures unchanged { OnErr result (self.new ≡ self.old) }
+        ensures no_memory { let event = history.Heard circuit kind message.now in
+            IsErr result → history.IsAccepted (history.outcome two_circuits self.old event) }
     {
         let parts = match Message::split(message) {
             Ok(parts) => parts,
@@ -80,7 +89,7 @@ impl PlainCore {
         if is_request(&parts.heading) {
             return Ok(Outcome::Refused(Refusal::Later));
         }
-        let circuits = FixedDirectory.count_named(FED, &parts.heading);
+        let circuits = FixedDirectory.count_named(circuit, &parts.heading);
         let position = self.accepted();
         let body = Vec::from_slice(alloc, parts.body)?;
         push(&mut self.held, alloc, Held { kind, body })?;
@@ -102,7 +111,8 @@ impl PlainCore {
         requires { c < 2 }
         ensures outcome { result ≡ history.outcome two_circuits self.old (history.Taken c) }
         ensures state { self.new ≡ history.after two_circuits self.old (history.Taken c) }
-        ensures frame { (index : ℕ) → result ≡ Outcome.Draw index → out.new ≡ line self.new c index }
+        ensures frame { (index : ℕ) → result ≡ Outcome.Draw index →
+            out.new ≡ history.drawn_frame self.new c index }
         ensures nothing { result ≡ Outcome.Nothing → out.new ≡ out.old }
     {
         let drawn = self.drawn;

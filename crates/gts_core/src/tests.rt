@@ -20,7 +20,7 @@ fn a_bulletin_is_accepted_and_drawn_once(rt: HostRuntime) -> Result<(), Fail> {
         position: 0,
         circuits: 1,
     };
-    assert_eq!(rt; core.hear(alloc, Kind::Bi, REPORT)?, accepted);
+    assert_eq!(rt; core.hear(alloc, 0, Kind::Bi, REPORT)?, accepted);
     assert_eq!(rt; core.take(0, &mut out), Outcome::Nothing);
     assert_eq!(rt; core.take(1, &mut out), Outcome::Draw { index: 0 });
     assert_eq!(rt;
@@ -37,9 +37,9 @@ fn what_is_refused_is_not_drawn(rt: HostRuntime) -> Result<(), Fail> {
     let mut core = PlainCore::new();
     let mut out = FrameBuf::new(alloc)?;
     let short = Outcome::Refused(Refusal::Message(Field::Number));
-    assert_eq!(rt; core.hear(alloc, Kind::An, SHORT)?, short);
+    assert_eq!(rt; core.hear(alloc, 0, Kind::An, SHORT)?, short);
     assert_eq!(rt;
-        core.hear(alloc, Kind::An, REQUEST)?,
+        core.hear(alloc, 0, Kind::An, REQUEST)?,
         Outcome::Refused(Refusal::Later)
     );
     assert_eq!(rt; core.take(1, &mut out), Outcome::Nothing);

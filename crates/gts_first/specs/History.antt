@@ -96,7 +96,8 @@ verdict d s circuit parts =
 
 -- what an event leads to
 abbrev pub outcome : Directory → State → Event → Outcome
-outcome d s (Heard circuit kind message) = elim (split_at message) [ Err field ↦ Refused (Message field) | Ok parts ↦ verdict d s circuit parts ]
+outcome d s (Heard circuit kind message) =
+    elim (split_at message) [ Err field ↦ Refused (Message field) | Ok parts ↦ verdict d s circuit parts ]
 outcome d s (Taken circuit) = elim (next d s circuit) [ None ↦ Nothing | Some b ↦ Draw (draws_on s circuit) ]
 
 -- a bulletin was accepted
@@ -109,6 +110,10 @@ IsAccepted Nothing = ⊥
 -- the body of a message
 abbrev pub body_of : List ℕ → List ℕ
 body_of message = elim (split_at message) [ Err _ ↦ [] | Ok parts ↦ parts.body ]
+
+-- the heading that a message is read with
+abbrev pub heading_of_message : List ℕ → HeadingFields
+heading_of_message message = elim (split_at message) [ Err _ ↦ no_heading | Ok parts ↦ parts.heading ]
 
 -- the state with one bulletin more
 abbrev pub with_bulletin : State → ℕ → Kind → List ℕ → State
@@ -123,7 +128,12 @@ with_draw s circuit position =
 -- the state after an event: what was accepted joins the one list, what was drawn the other
 abbrev pub after : Directory → State → Event → State
 after d s (Heard circuit kind message) =
-    elim (outcome d s (Heard circuit kind message)) [ Accepted position circuits ↦ with_bulletin s circuit kind (body_of message) | Refused _ ↦ s | Draw _ ↦ s | Nothing ↦ s ]
+    elim (outcome d s (Heard circuit kind message)) [
+      | Accepted position circuits ↦ with_bulletin s circuit kind (body_of message)
+      | Refused _ ↦ s
+      | Draw _ ↦ s
+      | Nothing ↦ s
+    ]
 after d s (Taken circuit) = elim (next d s circuit) [ None ↦ s | Some b ↦ with_draw s circuit b.position ]
 
 -- the state after a history

@@ -6,13 +6,14 @@ use Rattle.gts_alphabet.specs.Message.{message_of}
 use Rattle.gts_traits.specs.Station.{Outside, on}
 use Rattle.gts_frame.specs.Frame.{frame}
 use Rattle.gts_directory.specs.Directory.{Directory}
+use Rattle.gts_first.specs.declared.outcome.Outcome.{Outcome}
 use Rattle.gts_first.specs.declared.outcome.Outcome.TheVariants.{Accepted, Refused, Draw, Nothing}
-use Rattle.gts_first.specs.History.{Event, Heard, Taken, Entry, Done, Unsaid, event_of, Bulletin, Drawn, State, outcome, after, heading_of, body_of}
+use Rattle.gts_first.specs.History.{Event, Heard, Taken, Entry, Done, Unsaid, event_of, Bulletin, Drawn, State, outcome, after, heading_of_message}
 use Rattle.gts_first.specs.Receipt.{receipt_text}
 
 -- the sequence number of a draw: 001 for the first, 999, 000, and 001 again
-abbrev pub number_of : ℕ → ℕ
-number_of index = (index + 1) % 1000
+abbrev pub number_of_draw : ℕ → ℕ
+number_of_draw index = (index + 1) % 1000
 
 -- the draw of a circuit with this index
 abbrev pub draw_at : State → ℕ → ℕ → Option Drawn
@@ -24,18 +25,27 @@ bulletin_at s position = find (λ b. b.position == position) s.accepted
 
 -- a bulletin's frame under a sequence number: the type with which it came in, and its body byte for byte
 abbrev pub numbered_frame : ℕ → Bulletin → List ℕ
-numbered_frame index b = frame b.kind (message_of (dec 3 (number_of index)) b.body)
+numbered_frame index b = frame b.kind (message_of (dec 3 (number_of_draw index)) b.body)
 
 -- the frame of a draw
-abbrev pub line : State → ℕ → ℕ → List ℕ
-line s circuit index =
+abbrev pub drawn_frame : State → ℕ → ℕ → List ℕ
+drawn_frame s circuit index =
     elim (draw_at s circuit index) [ None ↦ [] | Some d ↦ elim (bulletin_at s d.position) [ None ↦ [] | Some b ↦ numbered_frame index b ] ]
+
+-- what is said of a message, and of a take, that has led to this
+abbrev pub said_of_message : ℕ → List ℕ → Outcome → Outside
+said_of_message circuit message o = on 0 (receipt_text circuit o (heading_of_message message))
+
+abbrev pub said_of_take : State → ℕ → Outcome → Outside
+said_of_take s circuit (Draw index) = on (circuit + 1) (drawn_frame s circuit index)
+said_of_take s circuit (Accepted _ _) = []
+said_of_take s circuit (Refused _) = []
+said_of_take s circuit Nothing = []
 
 -- what is said of an event that comes to this state
 abbrev pub spoken : Directory → State → Event → Outside
-spoken d s (Heard circuit kind message) = on 0 (receipt_text circuit (outcome d s (Heard circuit kind message)) (heading_of (body_of message)))
-spoken d s (Taken circuit) =
-    elim (outcome d s (Taken circuit)) [ Draw index ↦ on (circuit + 1) (line (after d s (Taken circuit)) circuit index) | Accepted _ _ ↦ [] | Refused _ ↦ [] | Nothing ↦ [] ]
+spoken d s (Heard circuit kind message) = said_of_message circuit message (outcome d s (Heard circuit kind message))
+spoken d s (Taken circuit) = said_of_take (after d s (Taken circuit)) circuit (outcome d s (Taken circuit))
 
 -- what is said of a history
 abbrev pub said : Directory → State → List Entry → Outside

@@ -8,8 +8,8 @@ use crate::outcome::{Outcome, Refusal};
 use gts_heading::{Field, Heading};
 use itoa::Buffer;
 
-/// The most bytes that a receipt has, and some to spare.
-const RECEIPT: usize = 96;
+/// The bytes that the longest receipt needs, and some to spare.
+pub const LONGEST_RECEIPT: usize = 96;
 
 /// The name of a field in a receipt.
 fn field_text(field: Field) -> &'static [u8]
@@ -46,8 +46,8 @@ fn refusal_text(refusal: Refusal) -> &'static [u8]
 }
 
 /// Writes bytes behind the first `at` of a line, and answers how many it has then.
-fn put(line: &mut [u8; RECEIPT], at: usize, bytes: &[u8]) -> usize
-    requires { at + length bytes.now ≤ 96 }
+fn put(line: &mut [u8; LONGEST_RECEIPT], at: usize, bytes: &[u8]) -> usize
+    requires { at + length bytes.now ≤ LONGEST_RECEIPT }
     ensures count { result ≡ at + length bytes.now }
     ensures written { take result line.new ≡ take at line.old ++ bytes.now }
 {
@@ -57,8 +57,8 @@ fn put(line: &mut [u8; RECEIPT], at: usize, bytes: &[u8]) -> usize
 }
 
 /// Writes a blank and the decimal digits of a number behind the first `at` bytes of a line.
-fn put_number(line: &mut [u8; RECEIPT], at: usize, number: u64) -> usize
-    requires { at + 21 ≤ 96 }
+fn put_number(line: &mut [u8; LONGEST_RECEIPT], at: usize, number: u64) -> usize
+    requires { at + 21 ≤ LONGEST_RECEIPT }
     ensures long { result ≤ at + 21 }
     ensures written { take result line.new ≡ take at line.old ++ 32 ∷ decimal number }
 {
@@ -69,14 +69,15 @@ fn put_number(line: &mut [u8; RECEIPT], at: usize, number: u64) -> usize
 
 /// Writes the receipt of an accepted bulletin.
 fn accepted_line(
-    line: &mut [u8; RECEIPT],
+    line: &mut [u8; LONGEST_RECEIPT],
     c: u32,
     position: u64,
     circuits: u32,
     heading: &Heading,
 ) -> usize
-    ensures written { take result line.new ≡ texts.receipt_text c (Accepted position circuits) (fields_of heading.now) }
-    ensures short { result ≤ 96 }
+    ensures written { take result line.new
+        ≡ texts.receipt_text c (Accepted position circuits) (fields_of heading.now) }
+    ensures short { result ≤ LONGEST_RECEIPT }
 {
     let mut text = [0; 22];
     let count = heading.write(&mut text);
@@ -90,9 +91,10 @@ fn accepted_line(
 }
 
 /// Writes the receipt of a refused message.
-fn refused_line(line: &mut [u8; RECEIPT], c: u32, refusal: Refusal) -> usize
-    ensures written { (h : HeadingFields) → take result line.new ≡ texts.receipt_text c (Refused refusal) h }
-    ensures short { result ≤ 96 }
+fn refused_line(line: &mut [u8; LONGEST_RECEIPT], c: u32, refusal: Refusal) -> usize
+    ensures written { (h : HeadingFields) →
+        take result line.new ≡ texts.receipt_text c (Refused refusal) h }
+    ensures short { result ≤ LONGEST_RECEIPT }
 {
     let mut end = put(line, 0, b"REF");
     end = put_number(line, end, u64::from(c));
@@ -107,11 +109,11 @@ pub fn receipt(
     c: u32,
     outcome: &Outcome,
     heading: Option<&Heading>,
-    into: &mut [u8; RECEIPT],
+    into: &mut [u8; LONGEST_RECEIPT],
 ) -> usize
     requires { IsAccepted outcome.now → IsSome heading }
     ensures written { take result into.new ≡ texts.receipt_of c outcome.now heading.entry }
-    ensures short { result ≤ 96 }
+    ensures short { result ≤ LONGEST_RECEIPT }
 {
     match outcome {
         Outcome::Accepted { position, circuits } => match heading {

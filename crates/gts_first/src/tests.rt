@@ -13,7 +13,7 @@ fn receipts_are_lines_for_the_operator(rt: HostRuntime) -> Result<(), Fail> {
     };
     let refused = Outcome::Refused(Refusal::Message(Field::HeadingStart));
     let later = Outcome::Refused(Refusal::Later);
-    let mut line = [0; 96];
+    let mut line = [0; LONGEST_RECEIPT];
     let count = receipt(0, &accepted, Some(&heading), &mut line);
     assert_eq!(rt;
         &line[..count],

@@ -1,6 +1,6 @@
 use Rattle.std.proofs.Common.{◌≡◌, ◌++◌, length}
 use Rattle.std.specs.List.{flat_map, AllByRecursion}
-use Rattle.gts_first.specs.Capture.{step_text, IsStep}
+use Rattle.gts_capture.specs.Capture.{step_text, IsStep}
 use Rattle.gts_capture.specs.Steps.{steps_of}
 use Rattle.gts_capture.proofs.reading.read_capture.Given as goal
 

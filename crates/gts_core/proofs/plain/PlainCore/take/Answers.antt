@@ -5,10 +5,10 @@ use Rattle.gts_frame.specs.declared.kind.Kind.{Kind}
 use Rattle.gts_frame.specs.Frame.{frame, EndsWithEtx}
 use Rattle.gts_directory.specs.Directory.{two_circuits}
 use Rattle.gts_first.specs.History.{Taken, State, outcome, after}
-use Rattle.gts_first.specs.Said.{line, numbered_frame, number_of}
+use Rattle.gts_first.specs.Said.{drawn_frame, numbered_frame, number_of_draw}
 use Rattle.gts_core.specs.Plain.{plain_state}
 use Rattle.gts_core.specs.Held.{all_held, held_of, FitsFrame}
-use Rattle.gts_core.proofs.PlainLemmas.{bulletin, next-plain_back, next-plain_none, outcome-nothing, after-nothing, outcome-drawn, after-drawn, line-drawn}
+use Rattle.gts_core.proofs.PlainLemmas.{bulletin, next-plain_back, next-plain_none, outcome-nothing, after-nothing, outcome-drawn, after-drawn, drawn_frame-drawn}
 use Rattle.gts_core.proofs.HeldLemmas.{drawn_bulletin, AllFit-get_or, length-all_held}
 use Rattle.gts_core.proofs.plain.PlainCore.take.Goals as goal
 
@@ -101,8 +101,8 @@ returns-clause-frame c index e =
     let same : k ≡ index = cc in
     c.write_frame.ensures
     ∙ ap (λ (n : ℕ). frame h.kind (message_of (dec 3 n) c.deref-2.result.now)) c.sequence_number.ensures.number
-    ∙ ap (λ (body : List ℕ). frame h.kind (message_of (dec 3 (number_of k)) body)) c.deref-2.ensures.value
+    ∙ ap (λ (body : List ℕ). frame h.kind (message_of (dec 3 (number_of_draw k)) body)) c.deref-2.ensures.value
     ∙ ap (λ (b : Kind × List ℕ). numbered_frame k (bulletin k b)) (sym drawn.1)
-    ∙ sym (line-drawn held k (held_of h) drawn.0)
-    ∙ ap (λ (n : ℕ). line (plain_state held (k + 1)) n k) one
-    ∙ ap (λ (n : ℕ). line (plain_state held (k + 1)) c.args.c n) same
+    ∙ sym (drawn_frame-drawn held k (held_of h) drawn.0)
+    ∙ ap (λ (n : ℕ). drawn_frame (plain_state held (k + 1)) n k) one
+    ∙ ap (λ (n : ℕ). drawn_frame (plain_state held (k + 1)) c.args.c n) same

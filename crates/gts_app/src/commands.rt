@@ -1,0 +1,3 @@
+//! The commands, a module each: it reads what it needs, calls one layer below, and says how that ended.
+
+pub mod replay;
