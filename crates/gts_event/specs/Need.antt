@@ -23,9 +23,11 @@ pub record Need : Type 0 where
 abbrev pub is_needed : Directory → ℕ → List CircuitNeed → ℕ → Bool
 is_needed d count circuits position = is_recent d count position || list_any (λ c. has c.waiting position || has c.kept position) circuits
 
+-- what is needed of a circuit that keeps so many draws
 abbrev pub circuit_need : ℕ → CircuitState → CircuitNeed
 circuit_need kept q = record { draws = draws q; waiting = waiting q; kept = map (λ draw. draw.1) (kept_draws kept q); owed = q.owed }
 
+-- what is needed of each circuit
 abbrev pub circuit_needs : Directory → State → List CircuitNeed
 circuit_needs d s = map (λ row. circuit_need row.0.kept row.1) (zip d.circuits s.circuits)
 
@@ -37,6 +39,7 @@ need d s = record {
   circuits = circuit_needs d s;
 }
 
+-- the circuit that a start stands for: what waits was routed, what is kept was drawn, and the draws before went before
 abbrev pub begun_circuit : CircuitNeed → CircuitState
 begun_circuit c = record { routed = c.waiting; earlier = c.draws - length c.kept; taken = c.kept; owed = c.owed }
 
@@ -56,7 +59,7 @@ ascends numbers = list_all (λ pair. nat_lt pair.0 pair.1) (zip numbers (drop 1 
 abbrev pub is_distinct : List ℕ → Bool
 is_distinct numbers = list_all (λ n. length (filter (λ m. m == n) numbers) == 1) numbers
 
--- A bulletin of a start: it came in on a circuit of the directory, its position is below the number accepted, and its
+-- A bulletin of a start (profile): it came in on a circuit of the directory, its position is below the number accepted, and its
 -- bytes are the body of a message that is no request.
 abbrev pub is_bulletin : Directory → ℕ → Bulletin → Bool
 is_bulletin d accepted b =
@@ -65,35 +68,42 @@ is_bulletin d accepted b =
 
 -- a bulletin of a position is there, and is named on a circuit
 abbrev pub is_for : Directory → List Bulletin → ℕ → ℕ → Bool
-is_for d bulletins circuit position = list_any (λ b. (b.position == position) && is_named d b.from (heading_of b.body) circuit) bulletins
+is_for d bulletins circuit position =
+    list_any (λ b. (b.position == position) && is_named d b.from (heading_of b.body) circuit) bulletins
 
 -- an index is that of a kept draw
 abbrev pub is_kept : CircuitNeed → ℕ → Bool
 is_kept c index = nat_le c.draws (index + length c.kept) && nat_lt index c.draws
 
--- Of a circuit: no more draws and waiting positions than were accepted; as many kept as there are draws, but no more than
--- the circuit keeps; waiting positions ascend, kept ones are distinct, and none is both; each has its bulletin; and what is
--- owed is kept.
+-- no more draws and waiting positions than were accepted, and as many kept as there are draws, but no more than the circuit
+-- keeps
+abbrev pub has_counts : ℕ → ℕ → CircuitNeed → Bool
+has_counts accepted kept c = nat_le (c.draws + length c.waiting) accepted && (length c.kept == min c.draws kept)
+
+-- Of a circuit: the counts are right; waiting positions ascend, kept ones are distinct, and none is both; each has its
+-- bulletin; and no more is owed than may be, and only what is kept (profile).
 abbrev pub is_circuit_sound : Directory → Need → ℕ → ℕ → CircuitNeed → Bool
 is_circuit_sound d n circuit kept c =
-    nat_le (c.draws + length c.waiting) n.accepted
-    && (length c.kept == min c.draws kept)
-    && ascends c.waiting
-    && is_distinct c.kept
+    has_counts n.accepted kept c && ascends c.waiting && is_distinct c.kept
     && list_all (λ position. not (has c.kept position)) c.waiting
     && list_all (is_for d n.bulletins circuit) (c.waiting ++ c.kept)
-    && nat_le (length c.owed) most_owed
-    && list_all (is_kept c) c.owed
+    && nat_le (length c.owed) most_owed && list_all (is_kept c) c.owed
+
+-- the positions of bulletins
+abbrev pub positions_of : List Bulletin → List ℕ
+positions_of bulletins = map (λ b. b.position) bulletins
+
+-- the recent positions
+abbrev pub recent_positions : Directory → ℕ → List ℕ
+recent_positions d accepted = range_with_len (accepted - d.window) (min d.window accepted)
 
 -- A start that a history can have: a circuit for each of the directory's; no more accepted than can be; the bulletins in
--- order, all recent ones among them, and none that isn't needed.
+-- order, all recent ones among them, and none that isn't needed (profile).
 abbrev pub is_sound : Directory → Need → Bool
 is_sound d n =
-    (length n.circuits == length d.circuits)
-    && nat_le n.accepted most_accepted
-    && list_all (is_bulletin d n.accepted) n.bulletins
-    && ascends (map (λ b. b.position) n.bulletins)
-    && list_all (has (map (λ b. b.position) n.bulletins)) (range_with_len (n.accepted - d.window) (min d.window n.accepted))
+    (length n.circuits == length d.circuits) && nat_le n.accepted most_accepted
+    && list_all (is_bulletin d n.accepted) n.bulletins && ascends (positions_of n.bulletins)
+    && list_all (has (positions_of n.bulletins)) (recent_positions d n.accepted)
     && list_all (λ b. is_needed d n.accepted n.circuits b.position) n.bulletins
     && list_all (λ row. is_circuit_sound d n row.0 row.1.0.kept row.1.1) (enumerate_from 0 (zip d.circuits n.circuits))
 
@@ -134,7 +144,8 @@ times_drawn q position = length (filter (λ p. p == position) q.taken)
 
 -- a position that was routed waits and was never drawn, or was drawn once and doesn't wait
 abbrev pub WaitsOrDrawn : CircuitState → ℕ → Type 0
-WaitsOrDrawn q position = ((has (waiting q) position ≡ true) × (times_drawn q position ≡ 0)) ⊎ ((has (waiting q) position ≡ false) × (times_drawn q position ≡ 1))
+WaitsOrDrawn q position =
+    ((has (waiting q) position ≡ true) × (times_drawn q position ≡ 0)) ⊎ ((has (waiting q) position ≡ false) × (times_drawn q position ≡ 1))
 
 -- on each circuit, each position that was routed waits or was drawn once
 abbrev pub EachWaitsOrDrawn : State → Type 0

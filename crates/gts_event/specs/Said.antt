@@ -30,7 +30,8 @@ HasLine s circuit index =
 
 -- what is said of an event that comes to this state
 abbrev pub spoken : Directory → State → Event → Outside
-spoken d s (Heard circuit kind message) = on 0 (receipt_text circuit (outcome d s (Heard circuit kind message)) (heading_of_message message))
+spoken d s (Heard circuit kind message) =
+    on 0 (receipt_text circuit (outcome d s (Heard circuit kind message)) (heading_of_message message))
 spoken d s (Lost circuit field) = on 0 (receipt_text circuit (outcome d s (Lost circuit field)) no_heading)
 spoken d s (Taken circuit) =
     elim (choice d s circuit) [
