@@ -42,7 +42,8 @@ agrees (p ∷ pattern) text = ((p == 42) || (p == slice_index text 0)) && agrees
 -- a rule's pattern has the form TTAAii CCCC; the time and the BBB group aren't looked at
 abbrev pub matches : List ℕ → HeadingFields → Bool
 matches pattern h =
-    agrees (take 2 pattern) h.tt && agrees (take 2 (drop 2 pattern)) h.aa && agrees (take 2 (drop 4 pattern)) (dec 2 h.ii) && agrees (drop 7 pattern) h.cccc
+    agrees (take 2 pattern) h.tt && agrees (take 2 (drop 2 pattern)) h.aa
+    && agrees (take 2 (drop 4 pattern)) (dec 2 h.ii) && agrees (drop 7 pattern) h.cccc
 
 -- the centre at the other end of a circuit
 abbrev pub peer_of : Directory → ℕ → List ℕ
@@ -74,7 +75,15 @@ circuit_of name peer = record { name = name; peer = peer; kept = 1000; input = 0
 -- a directory with these rows, which says no more
 abbrev pub directory_of : List Circuit → List Rule → List Level → Directory
 directory_of circuits rules levels =
-    record { centre = codes "TVSV"; window = 1000; limit = 2 ^ 30; mark = replicate 32 0; circuits = circuits; rules = rules; levels = levels }
+    record {
+      centre = codes "TVSV";
+      window = 1000;
+      limit = 2 ^ 30;
+      mark = replicate 32 0;
+      circuits = circuits;
+      rules = rules;
+      levels = levels;
+    }
 
 -- The directory that the switch has until it reads one: circuits A and B, and each bulletin goes on to the other one.
 abbrev pub two_circuits : Directory

@@ -1,37 +1,59 @@
--- Literal directories and headings.
-use Rattle.std.specs.Prelude.{◌≡◌, ℕ, List, [], ◌∷◌, None, codes}
-use Rattle.gts_heading.specs.Heading.{HeadingFields}
-use Rattle.gts_directory.specs.Directory.{Directory, circuit_of, directory_of, named, level_of, two_circuits}
+-- The rows of a directory as they are handed to its check, and the directory that they are.
+use Rattle.std.specs.Prelude.{ℕ, ◌+◌, ◌-◌, ◌^◌, ◌==◌, List, [], ◌∷◌, length, take, map, filter}
+use Rattle.std.specs.Int.{bit_at}
+use Rattle.std.specs.List.{range_with_len, suffix_len}
+use Rattle.gts_alphabet.specs.declared.characters.TheConstants.{BLANK}
+use Rattle.gts_directory.specs.declared.rows.CircuitRow.{CircuitRow}
+use Rattle.gts_directory.specs.declared.rows.RuleRow.{RuleRow}
+use Rattle.gts_directory.specs.declared.rows.LevelRow.{LevelRow}
+use Rattle.gts_directory.specs.Directory.{Circuit, Rule, Level, Directory}
 
--- SMVG01 TVSV 280000
-abbrev pub surface_report : HeadingFields
-surface_report = record { tt = codes "SM"; aa = codes "VG"; ii = 1; cccc = codes "TVSV"; day = 28; hour = 0; minute = 0; bbb = None }
+-- what stands once, and the rows of each part
+pub record Rows : Type 0 where
+  pub centre : List ℕ
+  pub window : ℕ
+  pub limit : ℕ
+  pub mark : List ℕ
+  pub circuits : List CircuitRow
+  pub rules : List RuleRow
+  pub levels : List LevelRow
 
--- WWVG02 TVSV 280000
-abbrev pub warning : HeadingFields
-warning = record { tt = codes "WW"; aa = codes "VG"; ii = 2; cccc = codes "TVSV"; day = 28; hour = 0; minute = 0; bbb = None }
+-- what stands once, and no rows yet
+abbrev pub no_rows : List ℕ → ℕ → ℕ → List ℕ → Rows
+no_rows centre window limit mark =
+    record { centre = centre; window = window; limit = limit; mark = mark; circuits = []; rules = []; levels = [] }
 
--- three circuits; what begins with SM goes to A and B, what has the number 01 to B and C; warnings have level 1
-abbrev pub three_circuits : List ℕ → Directory
-three_circuits peer_of_c = directory_of
-    (circuit_of (codes "A") (codes "AAAA") ∷ circuit_of (codes "B") (codes "BBBB") ∷ circuit_of (codes "C") peer_of_c ∷ [])
-    (record { heading = codes "SM**** ****"; to = 0 ∷ 1 ∷ [] } ∷ record { heading = codes "****01 ****"; to = 1 ∷ 2 ∷ [] } ∷ [])
-    (record { tt = codes "WW"; level = 1 } ∷ [])
+-- a name is its bytes before the blanks at its end
+abbrev pub unpadded : List ℕ → List ℕ
+unpadded name = take (length name - suffix_len (λ byte. byte == BLANK) name) name
 
--- The union of the rules that match, without the circuit that the bulletin came in on.
-abbrev pub UnionOfRules : Type 0
-UnionOfRules = (named (three_circuits (codes "CCCC")) 0 surface_report ≡ 1 ∷ 2 ∷ [])
-    × (named (three_circuits (codes "CCCC")) 1 surface_report ≡ 0 ∷ 2 ∷ [])
-    × (named (three_circuits (codes "CCCC")) 0 warning ≡ [])
+-- the mask with the bits of these circuits, each of which stands once
+abbrev pub mask_of : List ℕ → ℕ
+mask_of [] = 0
+mask_of (circuit ∷ circuits) = 2 ^ circuit + mask_of circuits
 
--- A circuit of the same peer gets nothing, in either direction.
-abbrev pub SamePeer : Type 0
-SamePeer = (named (three_circuits (codes "AAAA")) 0 surface_report ≡ 1 ∷ []) × (named (three_circuits (codes "AAAA")) 2 surface_report ≡ 1 ∷ [])
+-- of the first n circuits, those whose bits a mask has
+abbrev pub circuits_in : ℕ → ℕ → List ℕ
+circuits_in n mask = filter (λ circuit. bit_at mask circuit == 1) (range_with_len 0 n)
 
--- The level of the row that matches; 3 where none does.
-abbrev pub LevelOfRow : Type 0
-LevelOfRow = (level_of (three_circuits (codes "CCCC")) warning ≡ 1) × (level_of (three_circuits (codes "CCCC")) surface_report ≡ 3)
+abbrev pub circuit_of_row : CircuitRow → Circuit
+circuit_of_row row = record { name = unpadded row.name; peer = row.peer; kept = row.kept; input = row.input; output = row.output }
 
--- Each bulletin goes on to the other of the two circuits, whatever its heading.
-abbrev pub OtherCircuit : Type 0
-OtherCircuit = (h : HeadingFields) → (named two_circuits 0 h ≡ 1 ∷ []) × (named two_circuits 1 h ≡ 0 ∷ []) × (level_of two_circuits h ≡ 3)
+-- n circuits are there
+abbrev pub rule_of_row : ℕ → RuleRow → Rule
+rule_of_row n row = record { heading = row.heading; to = circuits_in n row.to }
+
+abbrev pub level_of_row : LevelRow → Level
+level_of_row row = record { tt = row.tt; level = row.level }
+
+-- the directory that the rows are
+abbrev pub directory_of_rows : Rows → Directory
+directory_of_rows rows = record {
+  centre = rows.centre;
+  window = rows.window;
+  limit = rows.limit;
+  mark = rows.mark;
+  circuits = map circuit_of_row rows.circuits;
+  rules = map (rule_of_row (length rows.circuits)) rows.rules;
+  levels = map level_of_row rows.levels;
+}

@@ -1,23 +1,137 @@
-//! Worked rows of the definitions, each the contract of a function with an empty body.
+ghost use Rattle.std.specs.Prelude.{◌≡◌, ◌++◌, [], ◌∷◌, OnOk, OnErr};
 
-ghost use Rattle.gts_directory.specs.Rows.{UnionOfRules, SamePeer, LevelOfRow, OtherCircuit};
+use gts_alphabet::NoMemory;
+use std::alloc::Global;
+use std::marker::Model;
 
-/// A bulletin goes to every circuit that a matching rule names, but for the one it came in on.
-pub fn rules_that_match_are_joined()
-    ensures { UnionOfRules }
-{}
+/// A circuit to a neighbour, as it is read.
+#[derive(Clone, Copy, Debug, PartialEq, Eq)]
+pub struct CircuitRow {
+    /// Its name, padded with blanks at the end.
+    pub name: [u8; 8],
+    /// The four letters of the centre at its other end.
+    pub peer: [u8; 4],
+    /// How many of its last draws can be asked for again.
+    pub kept: u32,
+    /// The port on which the neighbour's frames are awaited.
+    pub input: u32,
+    /// The neighbour's port, to which frames are sent.
+    pub output: u32,
+}
 
-/// A circuit with the peer that a bulletin came from doesn't get it.
-pub fn a_circuit_of_the_same_peer_gets_nothing()
-    ensures { SamePeer }
-{}
+/// Which bulletins go to which circuits, as it is read.
+#[derive(Clone, Copy, Debug, PartialEq, Eq)]
+pub struct RuleRow {
+    /// A pattern of the form `TTAAii CCCC`, where `*` agrees with every character.
+    pub heading: [u8; 11],
+    /// The circuits: bit 0 is the first circuit, bit 1 the second, and so on.
+    pub to: u64,
+}
 
-/// The first level row that matches gives the level, and 3 is that of all others.
-pub fn a_level_row_gives_the_level()
-    ensures { LevelOfRow }
-{}
+/// The level of some data types, as it is read.
+#[derive(Clone, Copy, Debug, PartialEq, Eq)]
+pub struct LevelRow {
+    /// A pattern of the data type, where `*` agrees with every letter.
+    pub tt: [u8; 2],
+    /// The level: 1 is the highest.
+    pub level: u32,
+}
 
-/// The fixed directory sends each bulletin on to the circuit that it didn't come in on.
-pub fn each_bulletin_goes_to_the_other_circuit()
-    ensures { OtherCircuit }
-{}
+/// The rows of a directory, before `Directory::check` looks at them.
+#[derive(Debug, Drop)]
+pub struct DirRows {
+    pub(crate) centre: [u8; 4],
+    pub(crate) window: u32,
+    pub(crate) limit: u32,
+    pub(crate) mark: [u8; 32],
+    pub(crate) circuits: Vec<CircuitRow>,
+    pub(crate) rules: Vec<RuleRow>,
+    pub(crate) levels: Vec<LevelRow>,
+}
+
+impl Model for DirRows {
+    ghost use Rattle.gts_directory.specs.Rows.{Rows};
+
+    ghost Value = { Rows };
+
+    ghost view = { λ a. record {
+      centre = a.centre;
+      window = a.window;
+      limit = a.limit;
+      mark = a.mark;
+      circuits = a.circuits.items;
+      rules = a.rules.items;
+      levels = a.levels.items;
+    } };
+}
+
+impl DirRows {
+    ghost use Rattle.gts_directory.specs.Rows.{no_rows};
+
+    /// What stands once, and no rows yet: the letters of the own centre, among how many accepted bulletins a duplicate
+    /// is looked for, how many bytes the journal may have, and the digest of the directory's text.
+    pub fn new(alloc: Global, centre: [u8; 4], window: u32, limit: u32, mark: [u8; 32]) -> DirRows
+        ensures { result ≡ no_rows centre window limit mark }
+    {
+        DirRows {
+            centre,
+            window,
+            limit,
+            mark,
+            circuits: Vec::new(alloc),
+            rules: Vec::new(alloc),
+            levels: Vec::new(alloc),
+        }
+    }
+
+    /// Adds a circuit behind the others; its number is how many there were.
+    pub fn add_circuit(&mut self, row: CircuitRow) -> Result<(), NoMemory>
+        ensures done { OnOk result (
+            self.new ≡ record self.old { circuits = self.old.circuits ++ row ∷ [] }) }
+        ensures unchanged { OnErr result (self.new ≡ self.old) }
+    {
+        self.circuits.push(row)?;
+        Ok(())
+    }
+
+    /// Adds a rule behind the others.
+    pub fn add_rule(&mut self, row: RuleRow) -> Result<(), NoMemory>
+        ensures done { OnOk result (
+            self.new ≡ record self.old { rules = self.old.rules ++ row ∷ [] }) }
+        ensures unchanged { OnErr result (self.new ≡ self.old) }
+    {
+        self.rules.push(row)?;
+        Ok(())
+    }
+
+    /// Adds a level row behind the others.
+    pub fn add_level(&mut self, row: LevelRow) -> Result<(), NoMemory>
+        ensures done { OnOk result (
+            self.new ≡ record self.old { levels = self.old.levels ++ row ∷ [] }) }
+        ensures unchanged { OnErr result (self.new ≡ self.old) }
+    {
+        self.levels.push(row)?;
+        Ok(())
+    }
+
+    /// The circuits.
+    pub(crate) fn circuits(&self) -> &[CircuitRow]
+        ensures { result.now ≡ self.now.circuits }
+    {
+        self.circuits.as_slice()
+    }
+
+    /// The rules.
+    pub(crate) fn rules(&self) -> &[RuleRow]
+        ensures { result.now ≡ self.now.rules }
+    {
+        self.rules.as_slice()
+    }
+
+    /// The level rows.
+    pub(crate) fn levels(&self) -> &[LevelRow]
+        ensures { result.now ≡ self.now.levels }
+    {
+        self.levels.as_slice()
+    }
+}
