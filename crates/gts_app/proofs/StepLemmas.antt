@@ -7,7 +7,7 @@ use Rattle.gts_frame.specs.declared.kind.Kind.{Kind}
 use Rattle.gts_first.specs.declared.outcome.Outcome.{Outcome}
 use Rattle.gts_first.specs.declared.outcome.Outcome.TheVariants.{Draw}
 use Rattle.gts_traits.specs.declared.station.Station.{Ghosts as StationWords}
-use Rattle.gts_traits.specs.Station.{Call, Says, Breaks, Outside, on, said as calls_said}
+use Rattle.gts_traits.specs.Station.{Call, Says, Breaks, Outside, on, said_by}
 use Rattle.gts_directory.specs.Directory.{Directory}
 use Rattle.gts_first.specs.declared.fault.StepFault.{StepFault}
 use Rattle.gts_first.specs.declared.fault.StepFault.TheVariants.{SayFault}
@@ -19,8 +19,8 @@ use Rattle.gts_first.specs.Run.{SaysFrontOf}
 says_front : (channel : ℕ) (bytes : List ℕ) (old new : List Call) → Breaks (Says channel bytes) old new → SaysFrontOf old new (on channel bytes)
 says_front channel bytes old new broken =
     elim broken [
-      | inl same ↦ ([], on channel bytes, ap calls_said same ∙ sym (append-nil (calls_said old)), refl)
-      | inr left ↦ (on channel left.0, on channel left.1.0, ap calls_said left.2, ap (on channel) left.1.1 ∙ map-append (λ (byte : ℕ). (channel, byte)) left.0 left.1.0)
+      | inl same ↦ ([], on channel bytes, ap said_by same ∙ sym (append-nil (said_by old)), refl)
+      | inr left ↦ (on channel left.0, on channel left.1.0, ap said_by left.2, ap (on channel) left.1.1 ∙ map-append (λ (byte : ℕ). (channel, byte)) left.0 left.1.0)
     ]
 
 -- an event whose bytes failed to be said was done but for that

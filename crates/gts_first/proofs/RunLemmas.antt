@@ -2,7 +2,7 @@
 use Rattle.std.proofs.Common.{◌≡◌, List, [], ◌∷◌, ◌++◌, Ok, Err, refl, sym, ap, ◌∙◌}
 use Rattle.std.proofs.lemmas.List.{append-nil, append_assoc}
 use Rattle.gts_traits.specs.declared.station.Station.{Ghosts as StationWords}
-use Rattle.gts_traits.specs.Station.{Call, Outside, said as calls_said, SaidSince}
+use Rattle.gts_traits.specs.Station.{Call, Outside, said_by, SaidSince}
 use Rattle.gts_directory.specs.Directory.{Directory}
 use Rattle.gts_first.specs.declared.fault.StepFault.TheVariants.{SayFault, NoMemory}
 use Rattle.gts_first.specs.History.{Event, Entry, Done, Unsaid, State, after, after_all}
@@ -12,7 +12,7 @@ use Rattle.gts_first.proofs.HistoryLemmas.{said-append, after_all-append}
 
 -- what was said since one moment, by what was said up to a later one
 SaidSince-trans : (a b c : List Call) (x y : Outside) → SaidSince a b x → SaidSince b c y → SaidSince a c (x ++ y)
-SaidSince-trans a b c x y first second = second ∙ ap (λ (o : Outside). o ++ y) first ∙ append_assoc (calls_said a) x y
+SaidSince-trans a b c x y first second = second ∙ ap (λ (o : Outside). o ++ y) first ∙ append_assoc (said_by a) x y
 
 -- what is said with one entry more
 said-push : (d : Directory) (s now : State) (es : List Entry) (entry : Entry) (outside : Outside) → now ≡ after_all d s es → said d now (entry ∷ []) ≡ outside ++ [] → said d s (es ++ entry ∷ []) ≡ said d s es ++ outside
@@ -21,14 +21,14 @@ said-push d s now es entry outside is last =
     ∙ ap (λ (o : Outside). said d s es ++ o) (last ∙ append-nil outside)
 
 pub DoesAll-nil : {P : Type 0} (w : StationWords P) (d : Directory) (m : Moment P) → DoesAll d w [] (Ok tt) m m
-DoesAll-nil w d m = (refl, λ tells. sym (append-nil (calls_said (w.calls m.station))))
+DoesAll-nil w d m = (refl, λ tells. sym (append-nil (said_by (w.calls m.station))))
 
 pub DoesAll-push : {P : Type 0} (w : StationWords P) (d : Directory) (es : List Entry) (event : Event) (first now next : Moment P) → DoesAll d w es (Ok tt) first now → Does d w event (Ok tt) now next → DoesAll d w (es ++ Done event ∷ []) (Ok tt) first next
 DoesAll-push w d es event first now next all one = (
   one.0 ∙ ap (λ (s : State). after d s event) all.0 ∙ sym (after_all-append d first.core es (Done event ∷ [])),
   λ tells.
       SaidSince-trans (w.calls first.station) (w.calls now.station) (w.calls next.station) (said d first.core es) (spoken d now.core event) (all.1 tells) (one.1 tells)
-      ∙ ap (λ (o : Outside). calls_said (w.calls first.station) ++ o) (sym (said-push d first.core now.core es (Done event) (spoken d now.core event) all.0 refl)),
+      ∙ ap (λ (o : Outside). said_by (w.calls first.station) ++ o) (sym (said-push d first.core now.core es (Done event) (spoken d now.core event) all.0 refl)),
 )
 
 pub DoesAll-say_fault : {P : Type 0} (w : StationWords P) (d : Directory) (es more : List Entry) (event : Event) (first now next : Moment P) → DoesAll d w es (Ok tt) first now → Does d w event (Err SayFault) now next → DoesAll d w (es ++ Done event ∷ more) (Err SayFault) first next

@@ -3,31 +3,14 @@ use Rattle.std.specs.Prelude.{ℕ, List, [], ◌∷◌, ◌++◌, Option, Some, 
 use Rattle.std.specs.Borrow.{Bor}
 use Rattle.gts_heading.specs.Heading.{HeadingFields, heading_text, fields_of}
 use Rattle.gts_heading.specs.declared.heading.Heading.{Heading}
-use Rattle.gts_heading.specs.declared.field.Field.{Field}
-use Rattle.gts_heading.specs.declared.field.Field.TheVariants as field
+use Rattle.gts_heading.specs.{field_text}
 use Rattle.gts_first.specs.declared.outcome.Outcome.{Outcome}
 use Rattle.gts_first.specs.History.{no_heading}
 use Rattle.gts_first.specs.declared.outcome.Outcome.TheVariants.{Accepted, Refused, Draw, Nothing}
 use Rattle.gts_first.specs.declared.outcome.Refusal.{Refusal}
 use Rattle.gts_first.specs.declared.outcome.Refusal.TheVariants.{Message, Later}
 
--- the name of a refused field
-abbrev pub field_text : Field → List ℕ
-field_text field.StartLine = codes "StartLine"
-field_text field.Number = codes "Number"
-field_text field.HeadingStart = codes "HeadingStart"
-field_text field.Tt = codes "TT"
-field_text field.Aa = codes "AA"
-field_text field.Ii = codes "ii"
-field_text field.Cccc = codes "CCCC"
-field_text field.Day = codes "Day"
-field_text field.Hour = codes "Hour"
-field_text field.Minute = codes "Minute"
-field_text field.Bbb = codes "BBB"
-field_text field.HeadingEnd = codes "HeadingEnd"
-field_text field.End = codes "End"
-field_text field.Size = codes "Size"
-
+-- the name of a refusal
 abbrev pub refusal_text : Refusal → List ℕ
 refusal_text (Message field) = field_text field
 refusal_text Later = codes "Later"

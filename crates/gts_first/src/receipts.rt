@@ -5,34 +5,11 @@ ghost use Rattle.gts_first.specs.Receipt as texts;
 ghost use Rattle.gts_first.specs.declared.outcome.Outcome.TheVariants.{Accepted, Refused};
 
 use crate::outcome::{Outcome, Refusal};
-use gts_heading::{Field, Heading};
+use gts_heading::Heading;
 use itoa::Buffer;
 
 /// The bytes that the longest receipt needs, and some to spare.
 pub const LONGEST_RECEIPT: usize = 96;
-
-/// The name of a field in a receipt.
-fn field_text(field: Field) -> &'static [u8]
-    ensures text { result.now ≡ texts.field_text field }
-    ensures short { length result.now ≤ 12 }
-{
-    match field {
-        Field::StartLine => b"StartLine",
-        Field::Number => b"Number",
-        Field::HeadingStart => b"HeadingStart",
-        Field::Tt => b"TT",
-        Field::Aa => b"AA",
-        Field::Ii => b"ii",
-        Field::Cccc => b"CCCC",
-        Field::Day => b"Day",
-        Field::Hour => b"Hour",
-        Field::Minute => b"Minute",
-        Field::Bbb => b"BBB",
-        Field::HeadingEnd => b"HeadingEnd",
-        Field::End => b"End",
-        Field::Size => b"Size",
-    }
-}
 
 /// The name of a refusal in a receipt.
 fn refusal_text(refusal: Refusal) -> &'static [u8]
@@ -40,7 +17,7 @@ fn refusal_text(refusal: Refusal) -> &'static [u8]
     ensures short { length result.now ≤ 12 }
 {
     match refusal {
-        Refusal::Message(field) => field_text(field),
+        Refusal::Message(field) => field.text().as_bytes(),
         Refusal::Later => b"Later",
     }
 }
