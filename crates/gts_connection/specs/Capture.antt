@@ -81,8 +81,10 @@ pub data Reading (d : Directory) (bytes : List ℕ) (steps : List Step) (at : �
       → at + length unread ≡ length bytes → Reading d bytes steps at
   Bad : (front : List ℕ) (byte : ℕ) (unread : List ℕ) → AreSteps d steps → IsPartialHead d front → (IsHeadFront d (front ++ byte ∷ []) → ⊥)
       → bytes ≡ flat_map step_text steps ++ front ++ byte ∷ unread → at + 1 + length unread ≡ length bytes → Reading d bytes steps at
-  EndsInHead : (front : List ℕ) → AreSteps d steps → IsPartialHead d front → bytes ≡ flat_map step_text steps ++ front → at ≡ length bytes → Reading d bytes steps at
-  EndsInFeed : (before : List Step) (circuit size : ℕ) (piece : List ℕ) → AreSteps d before → IsHead d (FeedHead circuit size) → length piece < size
+  EndsInHead : (front : List ℕ) → AreSteps d steps → IsPartialHead d front → bytes ≡ flat_map step_text steps ++ front
+      → at ≡ length bytes → Reading d bytes steps at
+  EndsInFeed : (before : List Step) (circuit size : ℕ) (piece : List ℕ) → AreSteps d before → IsHead d (FeedHead circuit size)
+      → length piece < size
       → steps ≡ before ++ Feed circuit piece ∷ [] → bytes ≡ flat_map step_text before ++ head_text (FeedHead circuit size) ++ piece
       → at ≡ length bytes → Reading d bytes steps at
 

@@ -16,6 +16,7 @@ events_of circuit [] = []
 events_of circuit (Frame kind message ∷ pieces) = Heard circuit kind message ∷ events_of circuit pieces
 events_of circuit (KeepAlive kind ∷ pieces) = events_of circuit pieces
 
+-- the event of a loss, where there is one
 abbrev pub loss_of : ℕ → Option LostField → List Event
 loss_of circuit None = []
 loss_of circuit (Some field) = Lost circuit field ∷ []
@@ -32,7 +33,7 @@ pub record IsConnection (circuit : ℕ) (bytes : List ℕ) (events : List Event)
 
 -- ---- as it is computed
 
--- its event: none of a keep-alive
+-- the event of the frame or keep-alive that stands at the front: none of a keep-alive
 abbrev pub event_at : ℕ → List ℕ → List Event
 event_at circuit bytes =
     elim (find (λ kind. starts_with nat_eq (drop 8 bytes) (letters kind)) (An ∷ Bi ∷ Fx ∷ [])) [
@@ -43,9 +44,12 @@ event_at circuit bytes =
 -- the loss at the first byte that no frame or keep-alive has there
 abbrev pub loss_at : ℕ → List ℕ → List Event
 loss_at circuit bytes =
-    elim (find (λ n. not (is_front (take n bytes))) (range_with_len 1 (length bytes))) [ None ↦ [] | Some n ↦ Lost circuit (field_at n) ∷ [] ]
+    elim (find (λ n. not (is_front (take n bytes))) (range_with_len 1 (length bytes))) [
+      | None ↦ []
+      | Some n ↦ Lost circuit (field_at n) ∷ []
+    ]
 
--- the events of a connection's bytes; `n` is at least their number
+-- the events of bytes: of each whole frame in turn, and the loss behind them; `n` is at least the number of bytes
 abbrev pub events_in : ℕ → ℕ → List ℕ → List Event
 events_in circuit zero bytes = []
 events_in circuit (suc n) bytes =
@@ -54,6 +58,7 @@ events_in circuit (suc n) bytes =
       | false ↦ loss_at circuit bytes
     ]
 
+-- the events of a connection's bytes
 abbrev pub connection : ℕ → List ℕ → List Event
 connection circuit bytes = events_in circuit (length bytes) bytes
 

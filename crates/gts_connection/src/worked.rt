@@ -1,38 +1,58 @@
 //! Worked rows over literal bytes, each the contract of a function with an empty body.
-ghost use Rattle.gts_connection.specs.Worked.{ByteByByte, KeepAliveBetween, LossAndReopen, Losses, DrainTakes, RestartedConnections, CaptureText, CutInFeed, WholeCapture};
+ghost use Rattle.gts_connection.specs.Worked.{ByteByByte, KeepAliveBetween, LossAndReopen, Losses, FramesBeforeLoss, DrainTakes, RestartedConnections, WholeCapture};
+ghost use Rattle.gts_connection.specs.Worked.{CutInFeed, CutInHead, BadByte};
 
+/// A frame in pieces of one byte is heard as in one piece.
 pub fn a_frame_may_come_byte_by_byte()
     ensures { ByteByByte }
 {}
 
+/// A keep-alive between two frames is no event.
 pub fn a_keep_alive_is_passed_over()
     ensures { KeepAliveBetween }
 {}
 
+/// After a loss bytes are dropped until a new connection begins.
 pub fn a_new_connection_begins_after_a_loss()
     ensures { LossAndReopen }
 {}
 
+/// The first byte that no stream has in its place is a loss, in the field that stands there.
 pub fn the_first_byte_that_fits_no_frame_is_a_loss()
     ensures { Losses }
 {}
 
+/// Frames in front of a loss are heard.
+pub fn frames_before_a_loss_are_heard()
+    ensures { FramesBeforeLoss }
+{}
+
+/// A drain takes until one take gives nothing.
 pub fn a_drain_takes_once_more_than_there_is()
     ensures { DrainTakes }
 {}
 
+/// What a restart, a compaction and a new connection do to bytes that came before.
 pub fn a_restart_begins_each_connection_anew()
     ensures { RestartedConnections }
 {}
 
-pub fn a_small_capture_is_spelled()
-    ensures { CaptureText }
+/// The text of a small capture, and how it is read.
+pub fn a_capture_is_read_through_its_end()
+    ensures { WholeCapture }
 {}
 
+/// A capture that is cut in a feed is read as far as it is there.
 pub fn a_capture_may_end_in_a_feed()
     ensures { CutInFeed }
 {}
 
-pub fn a_capture_is_read_through_its_end()
-    ensures { WholeCapture }
+/// A capture that is cut in a head is read up to its end.
+pub fn a_capture_may_end_in_a_head()
+    ensures { CutInHead }
+{}
+
+/// A capture with a wrong byte is read up to that byte.
+pub fn a_capture_may_have_a_bad_byte()
+    ensures { BadByte }
 {}

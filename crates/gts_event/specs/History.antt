@@ -88,7 +88,8 @@ choice d s circuit = let q = on_circuit s circuit in choice_of q.owed (next d s 
 
 -- what an event leads to
 abbrev pub outcome : Directory → State → Event → Outcome
-outcome d s (Heard circuit kind message) = elim (split_at message) [ Err field ↦ Refused (Message field) | Ok parts ↦ verdict d s circuit parts ]
+outcome d s (Heard circuit kind message) =
+    elim (split_at message) [ Err field ↦ Refused (Message field) | Ok parts ↦ verdict d s circuit parts ]
 outcome d s (Lost circuit field) = LineLost field
 outcome d s (Taken circuit) =
     elim (choice d s circuit) [ Repeats index ↦ Resend index | Draws index position ↦ Draw index | Nothing_waits ↦ Nothing ]

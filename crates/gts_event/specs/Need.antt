@@ -47,9 +47,13 @@ begun_circuit c = record { routed = c.waiting; earlier = c.draws - length c.kept
 abbrev pub begun : Need → State
 begun n = record { count = n.accepted; accepted = n.bulletins; circuits = map begun_circuit n.circuits }
 
+-- nothing is needed of a circuit
+abbrev pub unused : CircuitNeed
+unused = record { draws = 0; waiting = []; kept = []; owed = [] }
+
 -- nothing was accepted, and nothing drawn
 abbrev pub nothing : Directory → Need
-nothing d = record { accepted = 0; bulletins = []; circuits = map (λ _. record { draws = 0; waiting = []; kept = []; owed = [] }) d.circuits }
+nothing d = record { accepted = 0; bulletins = []; circuits = map (λ _. unused) d.circuits }
 
 -- each number is below the one behind it
 abbrev pub ascends : List ℕ → Bool

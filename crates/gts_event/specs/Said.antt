@@ -26,7 +26,8 @@ line s circuit index =
 -- the draw of this index, and its bulletin, are among those that the state has
 abbrev pub HasLine : State → ℕ → ℕ → Type 0
 HasLine s circuit index =
-    (draw : ℕ × ℕ) × (b : Bulletin) × (find (λ r. r.0 == index) (drawn (on_circuit s circuit)) ≡ Some draw) × (bulletin_at s draw.1 ≡ Some b)
+    (draw : ℕ × ℕ) × (b : Bulletin)
+    × (find (λ r. r.0 == index) (drawn (on_circuit s circuit)) ≡ Some draw) × (bulletin_at s draw.1 ≡ Some b)
 
 -- what is said of an event that comes to this state
 abbrev pub spoken : Directory → State → Event → Outside

@@ -3,7 +3,7 @@ ghost use Rattle.std.specs.Prelude.{◌≡◌, ◌+◌, ◌++◌, [], ℕ, List,
 ghost use Rattle.std.specs.List.{list_all};
 ghost use Rattle.gts_directory.specs.Directory.{Directory};
 ghost use Rattle.gts_event.specs.State.{State, RoutedOnce, EachRoutedOnce, HasPositions, empty, on_circuit, draws, waiting, next, left_to_give};
-ghost use Rattle.gts_event.specs.History.{Event, Entry, Heard, Taken, Draws, Nothing_waits, choice, outcome, outcomes, after, after_all, restarted};
+ghost use Rattle.gts_event.specs.History.{Event, Entry, Taken, Draws, Nothing_waits, choice, outcome, outcomes, after, after_all, restarted};
 ghost use Rattle.gts_event.specs.declared.outcome.Outcome.TheVariants.{Accepted};
 ghost use Rattle.gts_event.specs.Said.{HasLine, line, spoken, said};
 ghost use Rattle.gts_event.specs.Words.{EndsWithNothing, takes_of_drain, all_done, Need, IsOrdered, EachWaitsOrDrawn, IsRoutedAsNamed, need, begun, nothing, is_sound, is_here, keeps_one, SameNeed, Chooses, IsStep, Speaks, IsRestart, stand};

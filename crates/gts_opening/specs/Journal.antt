@@ -32,12 +32,15 @@ abbrev pub is_outcome : Record → Outcome → Bool
 is_outcome (Accept from kind position body) (Accepted at circuits) = position == at
 is_outcome _ _ = false
 
+-- a take draws this position as this index
 abbrev pub is_choice : ℕ → ℕ → Choice → Bool
 is_choice position index (Draws k p) = (index == k) && (position == p)
 is_choice position index _ = false
 
+-- a record is what its event leads to, and a position is left for it
 abbrev pub is_result : Directory → State → Record → Bool
-is_result d s (Accept from kind position body) = is_outcome (Accept from kind position body) (outcome d s (event_of_record (Accept from kind position body))) && nat_lt s.count most_accepted
+is_result d s (Accept from kind position body) =
+    let r : Record = Accept from kind position body in is_outcome r (outcome d s (event_of_record r)) && nat_lt s.count most_accepted
 is_result d s (Drew circuit position index) = is_choice position index (choice d s circuit)
 
 -- A record may stand behind this state: its circuit is the directory's, it is what its event leads to, and with it the
@@ -47,20 +50,22 @@ admits d s used r =
     nat_lt (circuit_of r) (length d.circuits) && is_result d s r
     && nat_le (used + record_size r + 24 * due (after d s (event_of_record r))) d.limit
 
--- a bulletin and a circuit of a checkpoint; what is owed is not written
+-- a bulletin of a checkpoint
 abbrev pub bulletin_text : Bulletin → List ℕ
 bulletin_text b = bytes_of 8 b.position ++ b.from ∷ take 1 (letters b.kind) ++ 0 ∷ 0 ∷ bytes_of 4 (length b.body) ++ b.body
 
+-- a circuit of a checkpoint
 abbrev pub circuit_text : CircuitNeed → List ℕ
-circuit_text c = bytes_of 8 c.draws ++ bytes_of 4 (length c.waiting) ++ bytes_of 4 (length c.kept) ++ flat_map (bytes_of 8) (c.waiting ++ c.kept)
+circuit_text c =
+    bytes_of 8 c.draws ++ bytes_of 4 (length c.waiting) ++ bytes_of 4 (length c.kept) ++ flat_map (bytes_of 8) (c.waiting ++ c.kept)
 
--- `C`, and a need
+-- `C`, and a need; what is owed is not written
 abbrev pub checkpoint_text : Need → List ℕ
 checkpoint_text n =
     codes "C" ++ 0 ∷ 0 ∷ 0 ∷ bytes_of 4 (length n.circuits) ++ bytes_of 8 n.accepted ++ bytes_of 4 (length n.bulletins)
     ++ flat_map bulletin_text n.bulletins ++ flat_map circuit_text n.circuits
 
--- A bulletin, a circuit and a need that these bytes may begin with, read as if they were long enough.
+-- the bulletin that these bytes may begin with, read as if they were long enough
 abbrev pub bulletin_in : List ℕ → Bulletin
 bulletin_in bytes = record {
   position = number_in (take 8 bytes);
@@ -69,32 +74,37 @@ bulletin_in bytes = record {
   body = take (number_in (take 4 (drop 12 bytes))) (drop 16 bytes);
 }
 
+-- so many numbers in eight bytes each
 abbrev pub numbers_in : ℕ → List ℕ → List ℕ
 numbers_in count bytes = map (λ i. number_in (take 8 (drop (8 * i) bytes))) (range_with_len 0 count)
 
+-- the circuit that these bytes may begin with, which has so many waiting
+abbrev pub circuit_with : ℕ → List ℕ → CircuitNeed
+circuit_with waiting bytes = record {
+  draws = number_in (take 8 bytes);
+  waiting = numbers_in waiting (drop 16 bytes);
+  kept = numbers_in (number_in (take 4 (drop 12 bytes))) (drop (16 + 8 * waiting) bytes);
+  owed = [];
+}
+
 abbrev pub circuit_in : List ℕ → CircuitNeed
-circuit_in bytes =
-    let waiting : ℕ = number_in (take 4 (drop 8 bytes)) in
-    record {
-      draws = number_in (take 8 bytes);
-      waiting = numbers_in waiting (drop 16 bytes);
-      kept = numbers_in (number_in (take 4 (drop 12 bytes))) (drop (16 + 8 * waiting) bytes);
-      owed = [];
-    }
+circuit_in bytes = circuit_with (number_in (take 4 (drop 8 bytes))) bytes
 
 -- so many of them, one behind the other
 abbrev pub many_in : {A : Type 0} → (List ℕ → A) → (A → List ℕ) → ℕ → List ℕ → List A
 many_in one text zero bytes = []
 many_in one text (suc n) bytes = one bytes ∷ many_in one text n (drop (length (text (one bytes))) bytes)
 
+-- the circuits that stand behind these bulletins
+abbrev pub circuits_behind : List Bulletin → List ℕ → List CircuitNeed
+circuits_behind bulletins bytes =
+    many_in circuit_in circuit_text (number_in (take 4 (drop 4 bytes))) (drop (20 + sum_by (λ b. length (bulletin_text b)) bulletins) bytes)
+
+-- the need that these bytes may begin with, read as if they were long enough
 abbrev pub need_in : List ℕ → Need
 need_in bytes =
     let bulletins : List Bulletin = many_in bulletin_in bulletin_text (number_in (take 4 (drop 16 bytes))) (drop 20 bytes) in
-    record {
-      accepted = number_in (take 8 (drop 8 bytes));
-      bulletins = bulletins;
-      circuits = many_in circuit_in circuit_text (number_in (take 4 (drop 4 bytes))) (drop (20 + sum_by (λ b. length (bulletin_text b)) bulletins) bytes);
-    }
+    record { accepted = number_in (take 8 (drop 8 bytes)); bulletins = bulletins; circuits = circuits_behind bulletins bytes }
 
 -- the bytes of a journal that is a checkpoint alone: header, two gates and the checkpoint
 abbrev pub compacted_bytes : Need → ℕ
@@ -109,21 +119,21 @@ admits_checkpoint d bytes n =
 abbrev pub Opened : Type 0
 Opened = Result (State × ℕ) OpenFault
 
--- The records from the gate at this place on. `n` is at least the number of bytes left.
+-- the record that stands behind the gate at this place, if it may stand there
+abbrev pub record_behind : Directory → State → ℕ → List ℕ → Option Record
+record_behind d s gate bytes = elim (record_at bytes) [ None ↦ None | Some r ↦ if admits d s (gate + 1) r then Some r else None ]
+
+-- The records from the gate at this place on: none behind a closed gate (profile). `n` is at least the number of bytes left.
 abbrev pub records_at : Directory → ℕ → ℕ → State → ℕ → List ℕ → Opened
-records_at d zero file s gate bytes = Err (Damaged file gate)
-records_at d (suc n) file s gate [] = Err (Damaged file gate)
 records_at d (suc n) file s gate (mark ∷ bytes) =
     elim (mark == open_gate) [
       | false ↦ Ok (s, gate + 1)
-      | true ↦ elim (record_at bytes) [
+      | true ↦ elim (record_behind d s gate bytes) [
         | None ↦ Err (Damaged file (gate + 1))
-        | Some r ↦ elim (admits d s (gate + 1) r) [
-          | false ↦ Err (Damaged file (gate + 1))
-          | true ↦ records_at d n file (after d s (event_of_record r)) (gate + record_size r) (drop (record_size r - 1) bytes)
-        ]
+        | Some r ↦ records_at d n file (after d s (event_of_record r)) (gate + record_size r) (drop (record_size r - 1) bytes)
       ]
     ]
+records_at d _ file s gate _ = Err (Damaged file gate)
 
 -- the file that the selector names
 abbrev pub selected : Files → ℕ
@@ -134,31 +144,42 @@ abbrev pub agreeing : List ℕ → List ℕ → ℕ
 agreeing (x ∷ xs) (y ∷ ys) = if x == y then suc (agreeing xs ys) else 0
 agreeing _ _ = 0
 
+-- the journal behind a checkpoint, which stands behind the first gate
+abbrev pub checkpoint_opens : Directory → ℕ → List ℕ → Need → Opened
+checkpoint_opens d file bytes n =
+    elim (admits_checkpoint d (drop 41 bytes) n) [
+      | false ↦ Err (Damaged file 41)
+      | true ↦ records_at d (length bytes) file (begun n) (compacted_bytes n - 1) (drop (compacted_bytes n - 1) bytes)
+    ]
+
+-- the journal behind its header
+abbrev pub behind_header : Directory → ℕ → List ℕ → Opened
+behind_header d file bytes =
+    elim (starts_with nat_eq (drop 40 bytes) (open_gate ∷ codes "C")) [
+      | false ↦ records_at d (length bytes) file (empty d) 40 (drop 40 bytes)
+      | true ↦ checkpoint_opens d file bytes (need_in (drop 41 bytes))
+    ]
+
+-- the journal behind its magic: all of the mark must be there, and it must be that of the directory
+abbrev pub behind_magic : Directory → ℕ → List ℕ → Opened
+behind_magic d file bytes =
+    elim (nat_lt (length bytes) 40) [
+      | true ↦ Err (Damaged file (length bytes))
+      | false ↦ elim (pointwise nat_eq (take 32 (drop 8 bytes)) d.mark) [
+        | false ↦ Err (NotThis d.mark (take 32 (drop 8 bytes)))
+        | true ↦ behind_header d file bytes
+      ]
+    ]
+
 -- a file's state and `used`, or the first fault from left to right
 abbrev pub file_opens : Directory → ℕ → List ℕ → Opened
 file_opens d file bytes =
     elim (length bytes == 0) [
       | true ↦ Err NoJournal
-      | false ↦ elim (starts_with nat_eq bytes magic) [
-        | false ↦ Err (Damaged file (agreeing magic bytes))
-        | true ↦ elim (nat_lt (length bytes) 40) [
-          | true ↦ Err (Damaged file (length bytes))
-          | false ↦ elim (pointwise nat_eq (take 32 (drop 8 bytes)) d.mark) [
-            | false ↦ Err (NotThis d.mark (take 32 (drop 8 bytes)))
-            | true ↦ elim (starts_with nat_eq (drop 40 bytes) (open_gate ∷ codes "C")) [
-              | false ↦ records_at d (length bytes) file (empty d) 40 (drop 40 bytes)
-              | true ↦ elim (admits_checkpoint d (drop 41 bytes) (need_in (drop 41 bytes))) [
-                | false ↦ Err (Damaged file 41)
-                | true ↦
-                    let n : Need = need_in (drop 41 bytes) in
-                    records_at d (length bytes) file (begun n) (compacted_bytes n - 1) (drop (compacted_bytes n - 1) bytes)
-              ]
-            ]
-          ]
-        ]
-      ]
+      | false ↦ elim (starts_with nat_eq bytes magic) [ false ↦ Err (Damaged file (agreeing magic bytes)) | true ↦ behind_magic d file bytes ]
     ]
 
+-- what the selected file opens to
 abbrev pub files_open : Directory → Files → Opened
 files_open d files = file_opens d (selected files) (files (selected files))
 
@@ -169,13 +190,15 @@ opens d files = elim (files_open d files) [ Err fault ↦ Err fault | Ok opened 
 -- each record may stand behind those before it
 abbrev pub AreAdmitted : Directory → State → ℕ → List Record → Type 0
 AreAdmitted d s gate [] = Unit {0}
-AreAdmitted d s gate (r ∷ rs) = FitsRecord r × (admits d s (gate + 1) r ≡ true) × AreAdmitted d (after d s (event_of_record r)) (gate + record_size r) rs
+AreAdmitted d s gate (r ∷ rs) =
+    FitsRecord r × (admits d s (gate + 1) r ≡ true) × AreAdmitted d (after d s (event_of_record r)) (gate + record_size r) rs
 
--- the state after records, and the place of the gate behind them
+-- the state after records
 abbrev pub after_records : Directory → State → List Record → State
 after_records d s [] = s
 after_records d s (r ∷ rs) = after_records d (after d s (event_of_record r)) rs
 
+-- the place of the gate behind records
 abbrev pub gate_after : ℕ → List Record → ℕ
 gate_after gate [] = gate
 gate_after gate (r ∷ rs) = gate_after (gate + record_size r) rs
@@ -200,6 +223,7 @@ FitsLimit d n = compacted_bytes n + 24 * due (begun n) ≤ d.limit
 abbrev pub unowed_circuit : CircuitNeed → CircuitNeed
 unowed_circuit c = record c { owed = [] }
 
+-- a need with nothing owed
 abbrev pub unowed : Need → Need
 unowed n = record n { circuits = map unowed_circuit n.circuits }
 
@@ -207,6 +231,7 @@ unowed n = record n { circuits = map unowed_circuit n.circuits }
 abbrev pub unowed_on : CircuitState → CircuitState
 unowed_on q = record q { owed = [] }
 
+-- a state with nothing owed
 abbrev pub unowed_state : State → State
 unowed_state s = record s { circuits = map unowed_on s.circuits }
 
@@ -214,11 +239,13 @@ unowed_state s = record s { circuits = map unowed_on s.circuits }
 abbrev pub FitsBulletin : Bulletin → Type 0
 FitsBulletin b = (b.position < 256 ^ 8) × (length b.body < 256 ^ 4)
 
+-- of a circuit
 abbrev pub FitsCircuit : CircuitNeed → Type 0
 FitsCircuit c =
-    (c.draws < 256 ^ 8) × (length c.waiting < 256 ^ 4) × (length c.kept < 256 ^ 4) × AllByRecursion (λ position. position < 256 ^ 8) c.waiting
-    × AllByRecursion (λ position. position < 256 ^ 8) c.kept
+    (c.draws < 256 ^ 8) × (length c.waiting < 256 ^ 4) × (length c.kept < 256 ^ 4)
+    × AllByRecursion (λ position. position < 256 ^ 8) c.waiting × AllByRecursion (λ position. position < 256 ^ 8) c.kept
 
+-- of all of it
 pub record FitsNeed (n : Need) : Type 0 where
   pub accepted : n.accepted < 256 ^ 8
   pub few_bulletins : length n.bulletins < 256 ^ 4

@@ -54,7 +54,8 @@ pub record IsNext (d : Directory) (s : State) (used : ℕ) (entries : List Entry
 -- written and synced, and then the gate is opened and synced (profile).
 abbrev pub appended : ℕ → ℕ → Record → List Call → List Call
 appended file gate r calls =
-    Did Syncs ∷ Did (Writes file gate (open_gate ∷ [])) ∷ Did Syncs ∷ Did (Writes file (gate + 1) (record_text r ++ closed_gate ∷ [])) ∷ calls
+    Did Syncs ∷ Did (Writes file gate (open_gate ∷ []))
+    ∷ Did Syncs ∷ Did (Writes file (gate + 1) (record_text r ++ closed_gate ∷ [])) ∷ calls
 
 -- The calls that compact a journal into the other file, the newest of them first: it is cut and synced, written and synced,
 -- and then selected and synced (profile).
@@ -71,7 +72,8 @@ abbrev pub compacted_text : Directory → State → List ℕ
 compacted_text d s = file_text d.mark (open_gate ∷ checkpoint_text (need d s)) [] (closed_gate ∷ [])
 
 -- one entry more is appended to the journal of these
-pub record Appends (d : Directory) (cp : List ℕ) (s : State) (used : ℕ) (entries : List Entry) (entry : Entry) (r : Record) (old new : List Call) : Type 0 where
+pub record Appends (d : Directory) (cp : List ℕ) (s : State) (used : ℕ) (entries : List Entry) (entry : Entry) (r : Record)
+  (old new : List Call) : Type 0 where
   pub stands : StandsIn d cp s used entries old
   pub next : IsNext d s used entries entry r
   pub calls : new ≡ appended (selected (seen old)) (last_gate d s used entries) r old

@@ -24,6 +24,7 @@ pub record History : Type 0 where
   pub used : ℕ
   pub entries : List Entry
 
+-- the state after a history
 abbrev pub state_of : Directory → History → State
 state_of d h = after_all d (begun h.start) h.entries
 
@@ -33,29 +34,34 @@ record_bytes (Heard circuit kind message) (Accepted position circuits) = 17 + le
 record_bytes _ (Draw index) = 24
 record_bytes _ _ = 0
 
+-- the bytes of the journal that an entry takes
 abbrev pub entry_bytes : Directory → State → Entry → ℕ
 entry_bytes d s (Done event) = record_bytes event (outcome d s event)
 entry_bytes d s (Unsaid event) = record_bytes event (outcome d s event)
 entry_bytes d s _ = 0
 
+-- the bytes that entries take
 abbrev pub bytes_of_entries : Directory → State → List Entry → ℕ
 bytes_of_entries d s [] = 0
 bytes_of_entries d s (entry ∷ entries) = entry_bytes d s entry + bytes_of_entries d (after_entry d s entry) entries
 
--- the record that an event has in the journal, where it has one
+-- the record of a message that was heard, where it was accepted
 abbrev pub heard_record : ℕ → Kind → List ℕ → Outcome → List Record
 heard_record circuit kind message (Accepted position circuits) = Accept circuit kind position (body_of message) ∷ []
 heard_record circuit kind message _ = []
 
+-- of a take, where it draws
 abbrev pub taken_record : ℕ → Choice → List Record
 taken_record circuit (Draws index position) = Drew circuit position index ∷ []
 taken_record circuit _ = []
 
+-- of an event
 abbrev pub event_record : Directory → State → Event → List Record
 event_record d s (Heard circuit kind message) = heard_record circuit kind message (outcome d s (Heard circuit kind message))
 event_record d s (Lost circuit field) = []
 event_record d s (Taken circuit) = taken_record circuit (choice d s circuit)
 
+-- of an entry: only what was done has one
 abbrev pub entry_record : Directory → State → Entry → List Record
 entry_record d s (Done event) = event_record d s event
 entry_record d s (Unsaid event) = event_record d s event
@@ -69,7 +75,8 @@ records_of d s (entry ∷ entries) = entry_record d s entry ++ records_of d (aft
 -- the history as it goes on from a compaction after so many entries
 abbrev pub compacted : Directory → History → ℕ → History
 compacted d h k =
-    let n : Need = need d (after_all d (begun h.start) (take k h.entries)) in record { start = n; used = compacted_bytes n; entries = drop k h.entries }
+    let n : Need = need d (after_all d (begun h.start) (take k h.entries)) in
+    record { start = n; used = compacted_bytes n; entries = drop k h.entries }
 
 -- the history as it goes on from the last of its compactions
 abbrev pub since_compaction : Directory → History → List ℕ → History
@@ -97,6 +104,7 @@ HadRoom d s at (Done event) = full d s at event ≡ None
 HadRoom d s at (Unsaid event) = full d s at event ≡ None
 HadRoom d s at _ = Unit {0}
 
+-- it was not full for any of these entries, one after another
 abbrev pub AllHadRoom : Directory → State → ℕ → List Entry → Type 0
 AllHadRoom d s at [] = Unit {0}
 AllHadRoom d s at (entry ∷ entries) = HadRoom d s at entry × AllHadRoom d (after_entry d s entry) (at + entry_bytes d s entry) entries
@@ -104,7 +112,8 @@ AllHadRoom d s at (entry ∷ entries) = HadRoom d s at entry × AllHadRoom d (af
 -- the journal would be full after a compaction
 abbrev pub full_compacted : Directory → State → Option SwitchFault
 full_compacted d s =
-    let wanted : ℕ = length (checkpoint_text (need d s)) + 24 * due s in if nat_lt d.limit (42 + wanted) then Some (Full 42 wanted d.limit) else None
+    let wanted : ℕ = length (checkpoint_text (need d s)) + 24 * due s in
+    if nat_lt d.limit (42 + wanted) then Some (Full 42 wanted d.limit) else None
 
 -- How the file of a journal begins behind its mark, with the state and `used` there: with nothing, or with a checkpoint of a
 -- sound start.
@@ -119,14 +128,16 @@ HasRecord (Accepted position circuits) = Unit {0}
 HasRecord (Draw index) = Unit {0}
 HasRecord _ = ⊥
 
+-- an outcome is that of an accepted bulletin
 abbrev pub IsAccepted : Outcome → Type 0
 IsAccepted (Accepted position circuits) = Unit {0}
 IsAccepted _ = ⊥
 
--- a disk failed, or saying failed, at one of these entries
+-- the disk failed at one of these entries
 abbrev pub HasDoubt : List Entry → Type 0
 HasDoubt entries = (front : List Entry) × (event : Event) × (back : List Entry) × (entries ≡ front ++ Doubt event ∷ back)
 
+-- saying failed at one of these entries
 abbrev pub HasUnsaid : List Entry → Type 0
 HasUnsaid entries = (front : List Entry) × (event : Event) × (back : List Entry) × (entries ≡ front ++ Unsaid event ∷ back)
 
@@ -155,21 +166,25 @@ done_by count compactions = filter (λ k. nat_le k count) compactions
 -- each entry has its cause in the history before it, with the compactions that were done by then
 abbrev pub IsCaused : Directory → History → List ℕ → Type 0
 IsCaused d h compactions =
-    (front : List Entry) (entry : Entry) (back : List Entry) → h.entries ≡ front ++ entry ∷ back → Cause d (front_of h front) (done_by (length front) compactions) entry
+    (front : List Entry) (entry : Entry) (back : List Entry) → h.entries ≡ front ++ entry ∷ back
+    → Cause d (front_of h front) (done_by (length front) compactions) entry
 
+-- the disk failed at this entry
 abbrev pub is_doubt : Entry → Bool
 is_doubt (Doubt event) = true
 is_doubt _ = false
 
+-- saying failed at this entry
 abbrev pub is_unsaid : Entry → Bool
 is_unsaid (Unsaid event) = true
 is_unsaid _ = false
 
--- a switch that stopped answers nothing but faults
+-- an event was answered with a fault
 abbrev pub is_idle : Entry → Bool
 is_idle (Idle event fault) = true
 is_idle _ = false
 
+-- a switch stops at this entry
 abbrev pub stops : Entry → Bool
 stops (Doubt event) = true
 stops (Unsaid event) = true
@@ -177,7 +192,9 @@ stops _ = false
 
 -- after the disk or the saying failed there are only idle entries
 abbrev pub StopsOnce : List Entry → Type 0
-StopsOnce entries = (front : List Entry) (entry : Entry) (back : List Entry) → entries ≡ front ++ entry ∷ back → IsTrue (stops entry) → IsTrue (list_all is_idle back)
+StopsOnce entries =
+    (front : List Entry) (entry : Entry) (back : List Entry) → entries ≡ front ++ entry ∷ back → IsTrue (stops entry)
+    → IsTrue (list_all is_idle back)
 
 -- What an entry in doubt may have been: done, or not. A history with none is its own one reading.
 abbrev pub IsReading : List Entry → List Entry → Type 0

@@ -5,4 +5,4 @@ use Rattle.gts_connection.proofs.worked.a_capture_is_read_through_its_end.Goals 
 
 pub returns : goal.returns
 unfolding dec
-returns c = Whole (1 ∷ 2 ∷ []) ((omega arith, omega arith), (omega arith, tt)) refl refl
+returns c = (refl, Whole (1 ∷ 2 ∷ []) ((omega arith, omega arith), (omega arith, tt)) refl refl)

@@ -5,7 +5,7 @@ use Rattle.gts_heading.specs.Heading.{heading_text}
 use Rattle.gts_heading.specs.Reading.{plain_heading_at, bare_group_at, message_group_at, heading_at, bare_heading_at}
 use Rattle.gts_message.specs.Message.{number_at, text_at, body_at, split_at}
 use Rattle.gts_request.specs.Request.{request_at}
-use Rattle.gts_connection.proofs.worked.a_small_capture_is_spelled.Goals as goal
+use Rattle.gts_connection.proofs.worked.frames_before_a_loss_are_heard.Goals as goal
 
 pub returns : goal.returns
 unfolding digits dec heading_text plain_heading_at bare_group_at message_group_at heading_at bare_heading_at number_at text_at body_at split_at request_at
