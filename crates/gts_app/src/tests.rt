@@ -1,6 +1,7 @@
 use super::*;
 use gts_alphabet::digits_of;
-use gts_traits::{FreeGate, MemLines, MemSource, MemStation, WordList};
+use gts_memory::{MemLines, MemSource, MemStation};
+use gts_traits::{FreeGate, WordList};
 use std::alloc::Global;
 use std::sync::Wait;
 use std::test::Fail;

@@ -1,6 +1,4 @@
 pub mod OutsideLemmas
-mod ReadingLemmas
-mod ChannelsLemmas
 pub mod AgreementLemmas
 pub mod MomentsLemmas
 mod TornLemmas

@@ -1,10 +1,10 @@
 -- How what each moment since then may leave goes on, call by call.
 use Rattle.std.proofs.Common.{◌≡◌, ◌⊎◌, inl, inr, ⊎_elim, ℕ, zero, suc, List, [], ◌∷◌, ◌++◌, length, take, Result, Ok, Err, refl, sym, ◌∙◌, ap, subst, append_assoc, arith}
-use Rattle.std.proofs.lemmas.List.{append-nil, append_cancel_left, take_all, take_at, map-append, length-map}
+use Rattle.std.proofs.lemmas.List.{append-nil, append_cancel_left, append_cancel_right, take_all, take_at, map-append, length-map}
 use Rattle.gts_traits.specs.Calls.{Doing, Writes, Cuts, Syncs, Says, Call, Did, Broken, to_say, said_by, SaidSince, Outside, on}
 use Rattle.gts_traits.specs.Disk.{Files, seen, stable, touched, IsImage, IsImageDuring, IsSynced}
-use Rattle.gts_traits.specs.Station.{IsFront, MayBreakTo, Breaks, Tries}
-use Rattle.gts_traits.specs.Moments.{MayLeaveAlong, EachSince}
+use Rattle.gts_traits.specs.Station.{Answer, IsFront, MayBreakTo, Breaks, Tries}
+use Rattle.gts_traits.specs.Moments.{MayLeaveAlong, MayLeave, EachSince, GoesOn, OnlyAdds, InCall, AsSeen, InSay, Behind}
 use Rattle.gts_traits.proofs.AgreementLemmas.{agree_all}
 
 -- where a file is synced, each image has what a read gives
@@ -218,3 +218,60 @@ says_keeps (Err _) channel bytes old new k (inl is) synced =
 says_keeps (Err _) channel bytes old new k (inr b) synced =
     let P : List Call → Type 0 = λ l. (seen l k ≡ seen old k) × IsSynced l k in
     subst P (sym b.2) (refl, record { same = synced.same; untouched = λ p. synced.untouched p })
+
+-- what each moment has, this one has
+pub has : (P : Files → Outside → Type 0) (old new : List Call) (files : Files) (outside : Outside) → EachSince old new P → MayLeave old new files outside → P files outside
+has P old new files outside each left =
+    let same : left.since ≡ each.since = append_cancel_right left.since each.since old (sym left.is ∙ each.is) in
+    let M : List Call → Type 0 = λ since. MayLeaveAlong since old files outside in
+    each.each files outside (subst M same left.moment)
+
+said_since : (old mid : List Call) (goes : GoesOn old mid) → SaidSince old mid (said_by goes.since)
+said_since old mid goes = ap said_by goes.is ∙ said_append goes.since old
+
+-- the moments up to mid, with those that have Q
+abbrev so_far : (Q : Files → Outside → Type 0) (old mid : List Call) → GoesOn old mid → EachSince old mid (λ files outside. MayLeave old mid files outside ⊎ Q files outside)
+so_far Q old mid goes = record { since = goes.since; is = goes.is; each = λ files outside moment. inl (record { since = goes.since; is = goes.is; moment = moment }) }
+
+pub first_is_an_image : (calls : List Call) (files : Files) (outside : Outside) → MayLeave calls calls files outside → IsImage calls files × (outside ≡ [])
+first_is_an_image calls files outside left =
+    has (λ f o. IsImage calls f × (o ≡ [])) calls calls files outside (started calls (λ f o. IsImage calls f × (o ≡ [])) (λ f image. (image, refl))) left
+
+pub each_image : (old new : List Call) (files : Files) (outside : Outside) → GoesOn old new → IsImage new files → SaidSince old new outside → MayLeave old new files outside
+each_image old new files outside goes image said =
+    let P : Files → Outside → Type 0 = λ f o. MayLeave old new f o in
+    let each : EachSince old new P = record { since = goes.since; is = goes.is; each = λ f o moment. record { since = goes.since; is = goes.is; moment = moment } } in
+    subst (λ (o : Outside). MayLeave old new files o) (said_is P old new each outside said) (now P old new each files image)
+
+pub add_write : (old mid new : List Call) (file at : ℕ) (bytes : List ℕ) (result : Answer) → GoesOn old mid → Tries (Writes file at bytes) result mid new → OnlyAdds old mid new (InCall (Writes file at bytes) old mid)
+add_write old mid new file at bytes result goes tries files outside left =
+    let Q : Files → Outside → Type 0 = InCall (Writes file at bytes) old mid in
+    let P : Files → Outside → Type 0 = λ f o. MayLeave old mid f o ⊎ Q f o in
+    has P old new files outside (wrote P old mid (so_far Q old mid goes) result file at bytes new (λ f image. inr (record { image = image; silent = said_since old mid goes })) tries) left
+
+pub add_cut : (old mid new : List Call) (file size : ℕ) (result : Answer) → GoesOn old mid → Tries (Cuts file size) result mid new → OnlyAdds old mid new (InCall (Cuts file size) old mid)
+add_cut old mid new file size result goes tries files outside left =
+    let Q : Files → Outside → Type 0 = InCall (Cuts file size) old mid in
+    let P : Files → Outside → Type 0 = λ f o. MayLeave old mid f o ⊎ Q f o in
+    has P old new files outside (was_cut P old mid (so_far Q old mid goes) result file size new (λ f image. inr (record { image = image; silent = said_since old mid goes })) tries) left
+
+pub add_sync : (old mid new : List Call) (result : Answer) → GoesOn old mid → Tries Syncs result mid new → OnlyAdds old mid new (AsSeen old mid)
+add_sync old mid new result goes tries files outside left =
+    let Q : Files → Outside → Type 0 = AsSeen old mid in
+    let P : Files → Outside → Type 0 = λ f o. MayLeave old mid f o ⊎ Q f o in
+    has P old new files outside (synced P old mid (so_far Q old mid goes) result new (λ f same. inr (record { seen = same; silent = said_since old mid goes })) tries) left
+
+pub add_say : (old mid new : List Call) (channel : ℕ) (bytes : List ℕ) (result : Answer) → GoesOn old mid → Tries (Says channel bytes) result mid new → OnlyAdds old mid new (InSay channel bytes old mid)
+add_say old mid new channel bytes result goes tries files outside left =
+    let Q : Files → Outside → Type 0 = InSay channel bytes old mid in
+    let P : Files → Outside → Type 0 = λ f o. MayLeave old mid f o ⊎ Q f o in
+    has P old new files outside (told P old mid (so_far Q old mid goes) result channel bytes new
+    (λ f n image. inr (record { image = image; earlier = said_by goes.since; before = said_since old mid goes; front = n; said = refl })) tries) left
+
+pub join : (old mid new : List Call) (between : Outside) → GoesOn old mid → GoesOn mid new → SaidSince old mid between → OnlyAdds old mid new (Behind between mid new)
+join old mid new between first second said files outside left =
+    let P : Files → Outside → Type 0 = λ f o. MayLeave old mid f o ⊎ Behind between mid new f o in
+    let Q : Files → Outside → Type 0 = λ f o. MayLeave mid new f o in
+    let later : EachSince mid new Q = record { since = second.since; is = second.is; each = λ f o moment. record { since = second.since; is = second.is; moment = moment } } in
+    has P old new files outside (joined P Q old mid new between (so_far (Behind between mid new) old mid first) said later
+    (λ f o moment. inr (record { later = o; moment = moment; said = refl }))) left

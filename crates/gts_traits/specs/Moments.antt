@@ -1,6 +1,6 @@
 -- What a crash may leave at each moment of a run of calls.
 use Rattle.std.specs.Prelude.{◌≡◌, ◌≢◌, ◌⊎◌, ℕ, ◌+◌, ◌≤◌, List, [], ◌∷◌, ◌++◌, length, take, drop}
-use Rattle.gts_traits.specs.Calls.{Call, Outside, to_say, said_by}
+use Rattle.gts_traits.specs.Calls.{Doing, Call, Did, Outside, on, to_say, said_by, SaidSince}
 use Rattle.gts_traits.specs.Disk.{Files, seen, IsImage, IsImageDuring, IsSynced}
 
 -- in the middle of a call that came after these, and after those before: a crash leaves these files, and what was said
@@ -33,6 +33,39 @@ pub record EachSince (old new : List Call) (P : Files → Outside → Type 0) : 
   pub since : List Call
   pub is : new ≡ since ++ old
   pub each : (files : Files) (outside : Outside) → MayLeaveAlong since old files outside → P files outside
+
+-- the calls went on from old to new
+pub record GoesOn (old new : List Call) : Type 0 where
+  pub since : List Call
+  pub is : new ≡ since ++ old
+
+-- from mid to new, a crash may leave what has P, and before it what it may up to mid
+abbrev pub OnlyAdds : (old mid new : List Call) → (Files → Outside → Type 0) → Type 0
+OnlyAdds old mid new P = (files : Files) (outside : Outside) → MayLeave old new files outside → MayLeave old mid files outside ⊎ P files outside
+
+-- in the middle of a call that says nothing, after mid
+pub record InCall (doing : Doing) (old mid : List Call) (files : Files) (outside : Outside) : Type 0 where
+  pub image : IsImageDuring (Did doing) mid files
+  pub silent : SaidSince old mid outside
+
+-- the files are as a read gives them
+pub record AsSeen (old mid : List Call) (files : Files) (outside : Outside) : Type 0 where
+  pub seen : (k : ℕ) → files k ≡ seen mid k
+  pub silent : SaidSince old mid outside
+
+-- a front of these bytes was said
+pub record InSay (channel : ℕ) (bytes : List ℕ) (old mid : List Call) (files : Files) (outside : Outside) : Type 0 where
+  pub image : IsImage mid files
+  pub earlier : Outside
+  pub before : SaidSince old mid earlier
+  pub front : ℕ
+  pub said : outside ≡ earlier ++ take front (on channel bytes)
+
+-- what a crash may leave later, behind what was said before
+pub record Behind (between : Outside) (mid new : List Call) (files : Files) (outside : Outside) : Type 0 where
+  pub later : Outside
+  pub moment : MayLeave mid new files later
+  pub said : outside ≡ between ++ later
 
 -- after a write of n bytes at a place that a crash cuts short: the same before it; where it ends inside, the same behind
 -- it, and no longer or shorter

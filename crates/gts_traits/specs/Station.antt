@@ -1,5 +1,6 @@
 -- How a call on a station ends.
 use Rattle.std.specs.Prelude.{◌≡◌, ◌⊎◌, ◌≤◌, ℕ, List, [], ◌∷◌, ◌++◌, length, Result, Ok, Err}
+use Rattle.gts_traits.specs.declared.failed.Failed.{Failed}
 pub use Rattle.gts_traits.specs.Calls.{Doing, Writes, Cuts, Syncs, Says, Call, Did, Broken, Outside, on, to_say, said_by, channel_bytes, SaidSince}
 pub use Rattle.gts_traits.specs.Disk.{Files, overwritten, seen, stable, touches, touched_by, touched, Agree, IsImage, IsImageDuring, IsSynced}
 
@@ -18,6 +19,10 @@ MayBreakTo (Says channel bytes) calls left = IsFront left bytes
 abbrev pub Breaks : Doing → List Call → List Call → Type 0
 Breaks doing old new = (new ≡ old) ⊎ ((left : List ℕ) × MayBreakTo doing old left × (new ≡ Broken doing left ∷ old))
 
+-- how a call ended that gives nothing
+abbrev pub Answer : Type 0
+Answer = Result (Unit {0}) Failed
+
 -- a call was made, with this answer
 abbrev pub Tries : {T E : Type 0} → Doing → Result T E → List Call → List Call → Type 0
 Tries doing (Ok _) old new = new ≡ Did doing ∷ old
@@ -31,7 +36,3 @@ IsPossible (Did (Cuts file size) ∷ calls) = (size ≤ length (seen calls file)
 IsPossible (Did Syncs ∷ calls) = IsPossible calls
 IsPossible (Did (Says channel bytes) ∷ calls) = IsPossible calls
 IsPossible (Broken doing left ∷ calls) = MayBreakTo doing calls left × IsPossible calls
-
--- the same as Did, for callers of before
-abbrev pub Done : Doing → Call
-Done doing = Did doing

@@ -7,11 +7,6 @@ mod failed;
 mod gate;
 mod laws;
 mod lines;
-mod mem_lines;
-mod mem_sink;
-mod mem_source;
-mod mem_station;
-mod sayings;
 mod sink;
 mod source;
 mod station;
@@ -23,15 +18,12 @@ pub use failed::Failed;
 pub use gate::{FreeGate, Gate, Point};
 pub use gts_alphabet::NoMemory;
 pub use laws::{
-    a_channel_has_what_was_said_on_it, a_say_leaves_the_files, a_say_says_a_front_of_its_bytes,
-    a_synced_file_has_one_image, later_calls_say_more, other_files_are_seen_as_before,
-    pieces_on_a_channel_join, what_is_said_chains, what_is_seen_is_an_image,
+    a_call_adds_its_moments, a_channel_has_what_was_said_on_it, a_say_leaves_the_files,
+    a_say_says_a_front_of_its_bytes, a_synced_file_has_one_image, each_image_may_be_left,
+    later_calls_say_more, moments_join, other_files_are_seen_as_before, pieces_on_a_channel_join,
+    what_is_said_chains, what_is_seen_is_an_image,
 };
 pub use lines::Lines;
-pub use mem_lines::MemLines;
-pub use mem_sink::MemSink;
-pub use mem_source::MemSource;
-pub use mem_station::MemStation;
 pub use sink::Sink;
 pub use source::Source;
 pub use station::Station;

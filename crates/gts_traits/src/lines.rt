@@ -1,10 +1,11 @@
 ghost use Rattle.std.specs.Prelude.{◌≡◌, ℕ, ◌<◌, Bool, true, false, IfOk, OnOk, OnErr};
+ghost use Rattle.gts_alphabet.specs.declared.limits.TheConstants.{MOST_CIRCUITS};
 ghost use Rattle.gts_traits.specs.Counts.{HasCause};
 ghost use Rattle.gts_traits.specs.Lines.{CountsSockets, SameElsewhere};
 
 use crate::{Failed, Sink, Source};
 
-/// The connections of the circuits, at most 64.
+/// The connections of the circuits.
 pub trait Lines {
     /// The socket that a circuit's bytes come in on.
     type In: Source + Send;
@@ -20,18 +21,22 @@ pub trait Lines {
 
     /// Opens circuit `c`, with `input` and `output` as its ports, and gives both sockets. Their counts of faults are 0.
     fn open(&mut self, c: u32, input: u16, output: u16) -> Result<(Self::In, Self::Out), Failed>
-        requires { c < 64 }
+        requires { c < MOST_CIRCUITS }
         ensures ok { OnOk result (is_open self.new c ≡ true) }
         ensures err { OnErr result (is_open self.new c ≡ is_open self.old c) }
-        ensures fresh { IfOk result (λ sockets. (Self.In.faults sockets.0 ≡ 0) × (Self.Out.faults sockets.1 ≡ 0)) }
+        ensures fresh { IfOk result
+            (λ sockets. (Self.In.faults sockets.0 ≡ 0) × (Self.Out.faults sockets.1 ≡ 0)) }
         ensures cause { HasCause result (faults self.old c) (faults self.new c) }
-        ensures others { SameElsewhere c (is_open self.old) (faults self.old) (is_open self.new) (faults self.new) };
+        ensures others { SameElsewhere c (is_open self.old) (faults self.old)
+            (is_open self.new) (faults self.new) };
 
     /// Hands both sockets of circuit `c` back. Its count rises exactly where one of the sockets has failed.
     fn close(&mut self, c: u32, input: Self::In, output: Self::Out)
-        requires in_range { c < 64 }
+        requires in_range { c < MOST_CIRCUITS }
         requires is_open { is_open self.old c ≡ true }
         ensures closed { is_open self.new c ≡ false }
-        ensures counted { CountsSockets (Self.In.faults input) (Self.Out.faults output) (faults self.old c) (faults self.new c) }
-        ensures others { SameElsewhere c (is_open self.old) (faults self.old) (is_open self.new) (faults self.new) };
+        ensures counted { CountsSockets (Self.In.faults input) (Self.Out.faults output)
+            (faults self.old c) (faults self.new c) }
+        ensures others { SameElsewhere c (is_open self.old) (faults self.old)
+            (is_open self.new) (faults self.new) };
 }
