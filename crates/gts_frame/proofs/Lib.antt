@@ -1,1 +1,10 @@
+pub mod DecoderLemmas
 pub mod FrameLemmas
+pub mod FrontIsLemmas
+pub mod FrontLemmas
+pub mod HeadLemmas
+pub mod HeadTakesLemmas
+pub mod MessageLemmas
+pub mod SignLemmas
+pub mod TakesLemmas
+pub mod TestLemmas

@@ -3,14 +3,19 @@
 #![tactic(auto)]
 
 mod buffer;
+mod decoder;
+mod head;
 mod kind;
 mod laws;
 mod lost;
 mod reading;
+mod state;
+mod step;
 mod worked;
 mod writing;
 
 pub use buffer::FrameBuf;
+pub use decoder::Decoder;
 pub use gts_alphabet::NoMemory;
 pub use kind::Kind;
 pub use laws::{
@@ -19,6 +24,7 @@ pub use laws::{
 };
 pub use lost::LostField;
 pub use reading::read_one;
+pub use step::Step;
 pub use worked::the_first_frame_is_made;
 pub use writing::write_frame;
 
