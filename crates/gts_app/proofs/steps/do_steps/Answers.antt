@@ -1,4 +1,4 @@
-use Rattle.std.proofs.Common.{◌≡◌, ◌≤◌, ◌+◌, List, Ok, Err, sym, subst, arith}
+use Rattle.std.proofs.Common.{◌+◌, List, Ok, Err, sym, subst, arith}
 use Rattle.gts_directory.specs.Directory.{two_circuits}
 use Rattle.gts_first.specs.{Entry, at, DoesAll}
 use Rattle.gts_first.specs.declared.fault.StepFault.TheVariants.{SayFault, NoMemory}
