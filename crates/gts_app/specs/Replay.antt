@@ -46,28 +46,22 @@ pub record Replays {S P : Type 0} (source : SourceWords S) (station : StationWor
   -- the capture was read to its end, and all was said that it says
   pub done : status ≡ Done → HasSteps source old.capture (λ steps.
       (source.left new.capture ≡ []) × SaysAll station old.station new.station steps)
-
   -- the command was given its words
   pub words : status ≡ Words → ⊥
-
   -- the bytes are no capture, and nothing was said
   pub later : status ≡ Later → (new.station ≡ old.station) × (source.tells → IsNoCapture (source.left old.capture))
-
   -- A fault of a device comes only where its count rose. What was said before it stands.
   pub source_fault : status ≡ SourceFault → (new.station ≡ old.station)
       × Rose (source.faults old.capture) (source.faults new.capture)
   pub say_fault : status ≡ SayFault → Rose (station.say_faults old.station) (station.say_faults new.station)
       × HasSteps source old.capture (BreaksAfter station old.station new.station)
-
   -- without memory nothing was said, or what the steps say that were done
   pub no_memory : status ≡ NoMemory → (new.station ≡ old.station)
       ⊎ HasSteps source old.capture (StopsAfter station old.station new.station)
-
   -- a capture over devices that don't fail is done, but for memory
   pub complete : source.tells → (steps : List Step) → IsCapture (source.left old.capture) steps
       → (Rose (source.faults old.capture) (source.faults new.capture) → ⊥)
       → (Rose (station.say_faults old.station) (station.say_faults new.station) → ⊥) → (status ≡ Done) ⊎ (status ≡ NoMemory)
-
   -- what is read, and that no count falls
   pub taken : source.tells → (taken : List ℕ) × (source.left old.capture ≡ taken ++ source.left new.capture)
       × (length taken ≤ LONGEST_CAPTURE + 1)

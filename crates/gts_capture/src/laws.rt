@@ -5,5 +5,6 @@ ghost use Rattle.gts_capture.specs.Capture.{Step, IsCapture};
 
 /// There is at most one way to read a capture.
 pub fn captures_are_told_apart()
-    ensures { (bytes : List ℕ) (xs ys : List Step) → IsCapture bytes xs → IsCapture bytes ys → xs ≡ ys }
+    ensures { (bytes : List ℕ) (xs ys : List Step) →
+        IsCapture bytes xs → IsCapture bytes ys → xs ≡ ys }
 {}

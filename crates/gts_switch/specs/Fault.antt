@@ -13,14 +13,15 @@ exit_of SourceFault = 8
 exit_of NoMemory = 11
 exit_of Later = 12
 
--- the text that is told, and that of each end
-abbrev pub reads : List ℕ → Option (Bor (List ℕ)) → Type 0
-reads text told = IsSomeAnd told (λ line. line.now ≡ text)
+-- this line is told
+abbrev pub TellsLine : List ℕ → Option (Bor (List ℕ)) → Type 0
+TellsLine text told = IsSomeAnd told (λ line. line.now ≡ text)
 
-abbrev pub tells : Status → Option (Bor (List ℕ)) → Type 0
-tells Done told = IsNone told
-tells Words told = reads (codes "usage: init, replay, serve, show, compact or generate N") told
-tells Later told = reads (codes "not built yet") told
-tells SourceFault told = reads (codes "input fault") told
-tells SayFault told = reads (codes "output fault") told
-tells NoMemory told = reads (codes "no memory") told
+-- what is told of each end
+abbrev pub TellsEnd : Status → Option (Bor (List ℕ)) → Type 0
+TellsEnd Done told = IsNone told
+TellsEnd Words told = TellsLine (codes "usage: init, replay, serve, show, compact or generate N") told
+TellsEnd Later told = TellsLine (codes "not built yet") told
+TellsEnd SourceFault told = TellsLine (codes "input fault") told
+TellsEnd SayFault told = TellsLine (codes "output fault") told
+TellsEnd NoMemory told = TellsLine (codes "no memory") told

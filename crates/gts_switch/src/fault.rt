@@ -1,11 +1,11 @@
 ghost use Rattle.std.specs.Prelude.{◌≡◌};
-ghost use Rattle.gts_switch.specs.Fault.{exit_of, tells};
+ghost use Rattle.gts_switch.specs.Fault.{exit_of, TellsEnd};
 
 use gts_app::Status;
 
 /// What the operator is told of an end that isn't `Done`; `None` exactly for `Done` (this project's profile).
 pub fn fault_text(status: Status) -> Option<&'static str>
-    ensures { tells status result }
+    ensures { TellsEnd status result }
 {
     match status {
         Status::Done => None,

@@ -1,4 +1,4 @@
-use Rattle.std.proofs.Common.{◌≡◌, ◌≤◌, ◌+◌, List, Ok, Err, sym, subst, arith}
+use Rattle.std.proofs.Common.{◌+◌, List, Ok, Err, sym, subst, arith}
 use Rattle.gts_directory.specs.Directory.{two_circuits}
 use Rattle.gts_first.specs.{Entry, at, DoesAll}
 use Rattle.gts_first.specs.declared.fault.StepFault.TheVariants.{SayFault, NoMemory}
@@ -34,7 +34,7 @@ returns-in_err-do_step-clause-does g c =
     let so_far = c.loop-step.invariant.so_far in
     DoesAll-at_fault g.P.Station two_circuits (entries (steps_of steps)) event c.in_err-do_step.field-0.0 c.from_residual.result first now next c.from_residual.ensures.1
     (λ one. subst (λ (es : List Entry). DoesAll two_circuits g.P.Station es (Err SayFault) first next) (sym (entries-split steps i c.loop-step-test.true))
-        (law.say_fault two_circuits (first_entries steps i) (last_entries steps (i + 1)) event first now next so_far one))
+    (law.say_fault two_circuits (first_entries steps i) (last_entries steps (i + 1)) event first now next so_far one))
     (λ one. subst (λ (es : List Entry). DoesAll two_circuits g.P.Station es (Err NoMemory) first next) (sym (entries-cut steps i))
-        (law.no_memory two_circuits (first_entries steps i) (last_entries steps i) event first now next so_far one))
+    (law.no_memory two_circuits (first_entries steps i) (last_entries steps i) event first now next so_far one))
     c.in_err-do_step.ensures.does
