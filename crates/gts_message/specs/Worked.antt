@@ -25,7 +25,8 @@ plain_parts number digits text =
 -- the parts of message 001 with group RRA, and a blank behind it
 abbrev pub grouped_parts : List ℕ → MessageParts
 grouped_parts text =
-    record { number = 1; digits = 3; heading = worked_heading (Some (codes "RRA")); text = text; body = worked_body (plain_heading ++ codes " RRA ") text }
+    let body : List ℕ = worked_body (plain_heading ++ codes " RRA ") text in
+    record { number = 1; digits = 3; heading = worked_heading (Some (codes "RRA")); text = text; body = body }
 
 -- a text of ten bytes, with CR CR LF and ETX among them
 abbrev pub ten_binary_bytes : List ℕ

@@ -21,7 +21,8 @@ pub fn worked_messages()
     ensures five_digits { split_at (worked_message (codes "00123 ") plain_heading (codes "NIL="))
         ≡ Ok (plain_parts 123 5 (codes "NIL=")) }
     // The body keeps the meaningless blank behind the group.
-    ensures blank_in_the_body { split_at (worked_message (codes "001") (plain_heading ++ codes " RRA ") (codes "NIL="))
+    ensures blank_in_the_body { split_at
+        (worked_message (codes "001") (plain_heading ++ codes " RRA ") (codes "NIL="))
         ≡ Ok (grouped_parts (codes "NIL=")) }
 {}
 
@@ -36,7 +37,8 @@ pub fn worked_refusals()
     ensures six_digits { split_at (worked_message (codes "000001") plain_heading (codes "NIL="))
         ≡ Err Field.Number }
     ensures no_heading_start { split_at (SOH ∷ EOL ++ codes "001") ≡ Err Field.HeadingStart }
-    ensures two_blanks_behind_the_number { split_at (worked_message (codes "001  ") plain_heading (codes "NIL="))
+    ensures two_blanks_behind_the_number { split_at
+        (worked_message (codes "001  ") plain_heading (codes "NIL="))
         ≡ Err Field.HeadingStart }
     ensures no_type { split_at (message_of (codes "001") []) ≡ Err Field.Tt }
     ensures no_area { split_at (message_of (codes "001") (codes "SM")) ≡ Err Field.Aa }
@@ -52,10 +54,13 @@ pub fn worked_refusals()
     ensures no_heading_end { split_at (message_of (codes "001") plain_heading)
         ≡ Err Field.HeadingEnd }
     ensures no_end { split_at (message_of (codes "001") (plain_heading ++ EOL)) ≡ Err Field.End }
-    ensures hour_24 { split_at (worked_message (codes "001") (codes "SMVG01 TVSV 282400") (codes "NIL="))
+    ensures hour_24 { split_at
+        (worked_message (codes "001") (codes "SMVG01 TVSV 282400") (codes "NIL="))
         ≡ Err Field.Hour }
-    ensures unknown_group { split_at (worked_message (codes "001") (plain_heading ++ codes " COR") (codes "NIL="))
+    ensures unknown_group { split_at
+        (worked_message (codes "001") (plain_heading ++ codes " COR") (codes "NIL="))
         ≡ Err Field.Bbb }
-    ensures one_line_end_for_two { split_at (message_of (codes "001") (plain_heading ++ message_end))
+    ensures one_line_end_for_two { split_at
+        (message_of (codes "001") (plain_heading ++ message_end))
         ≡ Err Field.End }
 {}
