@@ -1,1 +1,2 @@
-pub mod Groups
+mod GroupLemmas
+pub mod LawLemmas

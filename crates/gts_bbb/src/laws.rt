@@ -1,26 +1,10 @@
-// Laws over the definitions, each the contract of a function with an empty body.
+//! Laws over the definitions, each the contract of a function with an empty body.
 
-ghost use Rattle.std.specs.Prelude.{◌≡◌, ◌↔◌, List, ℕ, IsSome, IsTrue, Some, None, codes};
-ghost use Rattle.gts_heading.specs.Letters as letters;
+ghost use Rattle.std.specs.Prelude.{◌↔◌, List, ℕ, IsSome, IsTrue};
+ghost use Rattle.gts_heading.specs.{is_bbb};
 ghost use Rattle.gts_bbb.specs.Bbb.{kind_of};
-
-use crate::Bbb;
 
 /// A group has a kind exactly where its letters are those of a group.
 pub fn kinds_are_the_groups()
-    ensures { (three : List ℕ) → IsSome (kind_of three) ↔ IsTrue (letters.is_bbb three) }
-{}
-
-/// The kinds of groups by their letters.
-pub fn worked_groups()
-    ensures first { kind_of (codes "PAA") ≡ Some (Bbb.Segment 0) }
-    ensures second { kind_of (codes "PAB") ≡ Some (Bbb.Segment 1) }
-    ensures after_z { kind_of (codes "PBA") ≡ Some (Bbb.Segment 26) }
-    ensures last_a { kind_of (codes "PZA") ≡ Some (Bbb.LastSegment 65) }
-    ensures last_b { kind_of (codes "PZB") ≡ Some (Bbb.LastSegment 66) }
-    ensures delayed { kind_of (codes "RRA") ≡ Some (Bbb.Delayed 65) }
-    ensures correction { kind_of (codes "CCA") ≡ Some (Bbb.Correction 65) }
-    ensures amendment { kind_of (codes "AAB") ≡ Some (Bbb.Amendment 66) }
-    ensures digit { kind_of (codes "RR1") ≡ None }
-    ensures unknown { kind_of (codes "COR") ≡ None }
+    ensures { (three : List ℕ) → IsSome (kind_of three) ↔ IsTrue (is_bbb three) }
 {}

@@ -3,9 +3,11 @@
 
 mod bbb;
 mod laws;
+mod worked;
 
 pub use bbb::Bbb;
-pub use laws::{kinds_are_the_groups, worked_groups};
+pub use laws::kinds_are_the_groups;
+pub use worked::worked_groups;
 
 #[cfg(test)]
 mod tests;

@@ -2,11 +2,12 @@
 use Rattle.std.proofs.Common.{◌≡◌, ℕ, nat_le, length, List, [], ◌∷◌, ◌++◌, Result, Ok, Err, Bool, true, false, cond, refl, sym, ap, subst, ◌∙◌}
 use Rattle.std.proofs.lemmas.List.{append_assoc}
 use Rattle.gts_alphabet.specs.declared.characters.TheConstants.{SOH, EOL}
+use Rattle.gts_alphabet.specs.declared.limits.TheConstants.{LONGEST_BODY}
 use Rattle.gts_heading.specs.declared.field.Field.{Field}
 use Rattle.gts_heading.specs.declared.field.Field.TheVariants.{StartLine, HeadingStart, Size}
 use Rattle.gts_heading.specs.Heading.{HeadingFields}
 use Rattle.gts_heading.specs.Reading.{◌>>=◌, after_word, after_gap}
-use Rattle.gts_message.specs.Message.{MessageParts, longest_body, number_at, split_at, body_at}
+use Rattle.gts_message.specs.Message.{MessageParts, number_at, split_at, body_at}
 use Rattle.gts_directory.specs.Directory.{Directory}
 use Rattle.gts_first.specs.History.{Entry, State, event_of, after, after_all, no_heading, heading_of, body_of}
 use Rattle.gts_first.specs.Said.{said, spoken}
@@ -33,7 +34,7 @@ guard_ok false x y field e = absurd (cc)
 -- the steps of reading a message behind its starting line, its number, its number's line and its heading and text
 abbrev checked : ℕ × ℕ × List ℕ → List ℕ → HeadingFields × List ℕ → Result MessageParts Field
 checked number body found =
-    cond (nat_le (length body) longest_body) (Ok (record { number = number.0; digits = number.1; heading = found.0; text = found.1; body = body })) (Err Size)
+    cond (nat_le (length body) LONGEST_BODY) (Ok (record { number = number.0; digits = number.1; heading = found.0; text = found.1; body = body })) (Err Size)
 
 abbrev behind_line : ℕ × ℕ × List ℕ → List ℕ → Result MessageParts Field
 behind_line number body = body_at body >>= checked number body
@@ -52,7 +53,7 @@ body_at-from_split message parts e =
     let number = bind_ok (number_at start.0) behind_number parts start.2 in
     let body = bind_ok (after_word EOL HeadingStart (after_gap number.0.2)) (behind_line number.0) parts number.2 in
     let found = bind_ok (body_at body.0) (checked number.0 body.0) parts body.2 in
-    let same = guard_ok (nat_le (length body.0) longest_body) (record { number = number.0.0; digits = number.0.1; heading = found.0.0; text = found.0.1; body = body.0 }) parts Size found.2 in
+    let same = guard_ok (nat_le (length body.0) LONGEST_BODY) (record { number = number.0.0; digits = number.0.1; heading = found.0.0; text = found.0.1; body = body.0 }) parts Size found.2 in
     subst (λ (p : MessageParts). body_at p.body ≡ Ok (p.heading, p.text)) same found.1
 
 abbrev read_body : Result MessageParts Field → List ℕ

@@ -7,6 +7,7 @@ use Rattle.std.specs.List.{ends_with}
 use Rattle.gts_alphabet.specs.Digits.{dec}
 use Rattle.gts_alphabet.specs.Message.{message_of}
 use Rattle.gts_alphabet.specs.declared.characters.TheConstants.{SOH, ETX, EOL}
+use Rattle.gts_alphabet.specs.declared.limits.TheConstants.{LONGEST_BODY}
 use Rattle.gts_heading.specs.declared.field.Field.{Field}
 use Rattle.gts_heading.specs.declared.field.Field.TheVariants.{StartLine, Number, HeadingStart, End, Size}
 use Rattle.gts_heading.specs.Heading.{HeadingFields, IsHeading, IsGap, heading_text, fields_of}
@@ -21,25 +22,21 @@ pub record MessageParts : Type 0 where
   pub text : List ℕ
   pub body : List ℕ
 
--- the longest body that is accepted (profile): with a five-digit number it still fits a frame
-abbrev pub longest_body : ℕ
-longest_body = 499988
-
 -- the end of a message
-abbrev pub end_text : List ℕ
-end_text = EOL ++ ETX ∷ []
+abbrev pub message_end : List ℕ
+message_end = EOL ++ ETX ∷ []
 
 -- heading, one blank or none, CR CR LF, text, CR CR LF, ETX
 pub record IsBody (body : List ℕ) (heading : HeadingFields) (text : List ℕ) : Type 0 where
   pub heading_is : IsHeading heading
-  pub spelled : (gap : List ℕ) × IsGap gap × (body ≡ heading_text heading ++ gap ++ EOL ++ text ++ end_text)
+  pub spelled : (gap : List ℕ) × IsGap gap × (body ≡ heading_text heading ++ gap ++ EOL ++ text ++ message_end)
 
 -- SOH, CR CR LF, a number of three digits or five, one blank or none, CR CR LF, and the body
 pub record IsMessage (message : List ℕ) (parts : MessageParts) : Type 0 where
   pub digits : (parts.digits ≡ 3) ⊎ (parts.digits ≡ 5)
   pub number : parts.number < 10 ^ parts.digits
   pub body : IsBody parts.body parts.heading parts.text
-  pub short : length parts.body ≤ longest_body
+  pub short : length parts.body ≤ LONGEST_BODY
   pub spelled : (gap : List ℕ) × IsGap gap × (message ≡ message_of (dec parts.digits parts.number ++ gap) parts.body)
 
 -- the digits at the front, as many as there are
@@ -55,7 +52,7 @@ number_at bytes =
 
 -- the text: all but the end
 unfoldable pub text_at : List ℕ → Result (List ℕ) Field
-text_at bytes = if nat_le 4 (length bytes) && ends_with nat_eq bytes end_text then Ok (take (length bytes - 4) bytes) else Err End
+text_at bytes = if nat_le 4 (length bytes) && ends_with nat_eq bytes message_end then Ok (take (length bytes - 4) bytes) else Err End
 
 -- the heading and the text of a body
 unfoldable pub body_at : List ℕ → Result (HeadingFields × List ℕ) Field
@@ -71,7 +68,7 @@ split_at message = do
   number ← number_at start
   body ← after_word EOL HeadingStart (after_gap number.2)
   found ← body_at body
-  if nat_le (length body) longest_body
+  if nat_le (length body) LONGEST_BODY
       then Ok (record { number = number.0; digits = number.1; heading = found.0; text = found.1; body = body })
       else Err Size
 
@@ -82,11 +79,3 @@ fault message = elim (split_at message) [ Ok _ ↦ None | Err field ↦ Some fie
 -- the parts that a call answers
 abbrev pub parts_of : Parts → MessageParts
 parts_of p = record { number = p.number; digits = p.digits; heading = fields_of p.heading; text = p.text.now; body = p.body.now }
-
--- a message over these bytes, whatever they are: the line of the number, that of the heading, the text and the end
-abbrev pub message_over : List ℕ → List ℕ → List ℕ → List ℕ
-message_over number heading text = message_of number (heading ++ EOL ++ text ++ end_text)
-
--- a text of ten bytes, with CR CR LF and ETX among them
-abbrev pub binary_text : List ℕ
-binary_text = 0x42 ∷ 0x55 ∷ 0x46 ∷ 0x52 ∷ 0x03 ∷ 0x0d ∷ 0x0d ∷ 0x0a ∷ 0x03 ∷ 0x37 ∷ []

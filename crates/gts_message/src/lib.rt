@@ -5,13 +5,15 @@
 mod laws;
 mod message;
 mod reading;
+mod worked;
 
 pub use gts_heading::Field;
 pub use laws::{
-    body_limit, messages_have_no_fault, spelled_message_is_split, split_message_is_spelled,
-    worked_messages, worked_refusals,
+    a_body_has_the_heading_of_its_message, body_limit, messages_have_no_fault,
+    spelled_message_is_split, split_message_is_spelled,
 };
 pub use message::{Body, Message, Parts};
+pub use worked::{worked_messages, worked_refusals};
 
 #[cfg(test)]
 mod tests;

@@ -1,15 +1,13 @@
-ghost use Rattle.std.specs.Prelude.{◌≡◌, ◌≤◌, List, ℕ, Result, Ok, Err, IfOk, IsOk, MatchResult, length};
-ghost use Rattle.gts_heading.specs.Heading.{HeadingFields, fields_of};
+ghost use Rattle.std.specs.Prelude.{◌≡◌, List, ℕ, IfOk, IsOkAnd};
+ghost use Rattle.gts_alphabet.specs.Reads.{Reads};
+ghost use Rattle.gts_heading.specs.{HeadingFields, fields_of};
 
 use crate::reading::{number_of_run, text_before_end};
-use gts_alphabet::{CR, EOL, LF, SOH};
+use gts_alphabet::{CR, EOL, LF, LONGEST_BODY, SOH};
 use gts_heading::{Cursor, Field, Heading};
 
 /// How every message begins: SOH CR CR LF.
 const START: [u8; 4] = [SOH, CR, CR, LF];
-
-/// The longest body that is accepted (this project's profile): with a five-digit number it still fits a frame.
-const LONGEST_BODY: usize = 499_988;
 
 /// The parts of a message, which they borrow.
 #[derive(Clone, Copy, Debug)]
@@ -41,11 +39,10 @@ impl Message {
         // What is read is a message of these parts.
         ensures found { IfOk result (λ parts. IsMessage message.now (parts_of parts)) }
         // What is a message is read, and has no other parts.
-        ensures only { (parts : MessageParts) → IsMessage message.now parts → IfOk result (λ found. parts_of found ≡ parts) × IsOk result }
+        ensures only { (parts : MessageParts) → IsMessage message.now parts
+            → IsOkAnd result (λ found. parts_of found ≡ parts) }
         // Which field it is.
-        ensures exact { MatchResult result
-            (λ parts. split_at message.now ≡ Ok (parts_of parts))
-            (λ field. split_at message.now ≡ Err field) }
+        ensures exact { Reads parts_of result (split_at message.now) }
     {
         Message::parts(message)
     }
@@ -53,9 +50,7 @@ impl Message {
     /// Reads the fields from left to right.
     #[tactic(auto, unfolding(crate::specs::Message::split_at))]
     fn parts(message: &[u8]) -> Result<Parts<'_>, Field>
-        ensures { MatchResult result
-            (λ parts. split_at message.now ≡ Ok (parts_of parts))
-            (λ field. split_at message.now ≡ Err field) }
+        ensures { Reads parts_of result (split_at message.now) }
     {
         let mut cursor = Cursor::new(message);
         cursor.word(&START, Field::StartLine)?;
@@ -87,11 +82,9 @@ impl Body {
         ensures found { IfOk result (λ found. IsBody body.now (fields_of found.0) found.1.now) }
         // What is a body is read, and has no other heading and text.
         ensures only { (h : HeadingFields) (text : List ℕ) → IsBody body.now h text
-            → IfOk result (λ found. (fields_of found.0 ≡ h) × (found.1.now ≡ text)) × IsOk result }
+            → IsOkAnd result (λ found. (fields_of found.0 ≡ h) × (found.1.now ≡ text)) }
         // Which field it is.
-        ensures exact { MatchResult result
-            (λ found. body_at body.now ≡ Ok (fields_of found.0, found.1.now))
-            (λ field. body_at body.now ≡ Err field) }
+        ensures exact { Reads (λ found. (fields_of found.0, found.1.now)) result (body_at body.now) }
     {
         Body::parts(body)
     }
@@ -99,9 +92,7 @@ impl Body {
     /// Reads the line of the heading, and what stands before the end.
     #[tactic(auto, unfolding(crate::specs::Message::body_at))]
     fn parts(body: &[u8]) -> Result<(Heading, &[u8]), Field>
-        ensures { MatchResult result
-            (λ found. body_at body.now ≡ Ok (fields_of found.0, found.1.now))
-            (λ field. body_at body.now ≡ Err field) }
+        ensures { Reads (λ found. (fields_of found.0, found.1.now)) result (body_at body.now) }
     {
         let (heading, length) = Heading::read(body)?;
         let text = text_before_end(&body[length..])?;

@@ -1,5 +1,5 @@
-ghost use Rattle.std.specs.Prelude.{◌≡◌, ◌≤◌, Ok, Err, MatchResult, length};
-ghost use Rattle.std.specs.Str.Parse.{AllDigits};
+ghost use Rattle.std.specs.Prelude.{◌≡◌, ◌≤◌, length};
+ghost use Rattle.gts_alphabet.specs.Reads.{Reads};
 ghost use Rattle.gts_message.specs.Message as message;
 
 use gts_alphabet::{CR, ETX, LF, decimal_value};
@@ -11,9 +11,7 @@ const END: [u8; 4] = [CR, CR, LF, ETX];
 /// The number of three digits or five at the front, how many they are, and the bytes behind them.
 #[tactic(auto, unfolding(crate::specs::Message::number_at))]
 pub(crate) fn number_of_run(bytes: &[u8]) -> Result<(u32, u8, &[u8]), Field>
-    ensures { MatchResult result
-        (λ found. message.number_at bytes.now ≡ Ok (found.0, found.1, found.2.now))
-        (λ field. message.number_at bytes.now ≡ Err field) }
+    ensures { Reads (λ found. (found.0, found.1, found.2.now)) result (message.number_at bytes.now) }
 {
     let run = digit_count(bytes);
     if run != 3 && run != 5 {
@@ -38,9 +36,7 @@ fn digit_count(bytes: &[u8]) -> usize
 /// The text: what stands before the end of the message.
 #[tactic(auto, unfolding(crate::specs::Message::text_at))]
 pub(crate) fn text_before_end(bytes: &[u8]) -> Result<&[u8], Field>
-    ensures { MatchResult result
-        (λ text. message.text_at bytes.now ≡ Ok text.now)
-        (λ field. message.text_at bytes.now ≡ Err field) }
+    ensures { Reads (λ text. text.now) result (message.text_at bytes.now) }
 {
     if !bytes.ends_with(&END) {
         return Err(Field::End);

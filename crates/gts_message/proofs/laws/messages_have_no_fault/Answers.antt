@@ -1,4 +1,4 @@
-use Rattle.gts_message.proofs.Splitting.{fault-message, message_from_fault}
+use Rattle.gts_message.proofs.LawLemmas.{fault-message, message_from_fault}
 use Rattle.gts_message.proofs.laws.messages_have_no_fault.Goals as goal
 
 pub returns-clause-message : goal.returns-clause-message

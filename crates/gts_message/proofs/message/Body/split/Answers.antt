@@ -1,4 +1,4 @@
-use Rattle.gts_message.proofs.Splitting.{body_found, body_only}
+use Rattle.gts_message.proofs.SplitLemmas.{body_found, body_only}
 use Rattle.gts_message.proofs.message.Body.split.Goals as goal
 
 pub returns-clause-found : goal.returns-clause-found

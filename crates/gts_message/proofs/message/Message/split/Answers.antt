@@ -1,4 +1,4 @@
-use Rattle.gts_message.proofs.Splitting.{message_found, message_only}
+use Rattle.gts_message.proofs.SplitLemmas.{message_found, message_only}
 use Rattle.gts_message.proofs.message.Message.split.Goals as goal
 
 pub returns-clause-found : goal.returns-clause-found

@@ -1,6 +1,6 @@
 -- The parts of a message: what was read is spelled so, and what is spelled so is read.
 use Rattle.std.proofs.Common.{◌≡◌, ℕ, ◌-◌, ◌^◌, ◌<◌, ◌≤◌, ◌⊎◌, inl, inr, Bool, true, false, ◌&&◌, ◌||◌, ◌==◌, cond, leb, List, [], ◌∷◌, ◌++◌, length, take, drop, Option, Some, None, Result, Ok, Err, nat_eq, nat_le, refl, sym, ap, subst, ◌∙◌, append_assoc, arith}
-use Rattle.std.specs.Prelude.{IfOk, IsOk, MatchResult}
+use Rattle.std.specs.Prelude.{IfOk, IsOkAnd}
 use Rattle.std.specs.Borrow.{Bor}
 use Rattle.std.specs.Char.{is_ascii_digit}
 use Rattle.std.specs.List.{list_all, ends_with, prefix_len, take_while}
@@ -13,21 +13,44 @@ use Rattle.std.proofs.lemmas.List.Sums.{prefix_len-le-length, take_while-cons}
 use Rattle.std.proofs.lemmas.Slice.Eq.{ends_is}
 use Rattle.gts_alphabet.specs.Digits.{dec}
 use Rattle.gts_alphabet.specs.Message.{message_of}
+use Rattle.gts_alphabet.specs.Reads.{Reads}
 use Rattle.gts_alphabet.specs.declared.characters.TheConstants.{SOH, EOL}
-use Rattle.gts_alphabet.proofs.DigitsLemmas.{length-dec, AllDigits-dec, digits_value-dec, dec-digits_value}
+use Rattle.gts_alphabet.specs.declared.limits.TheConstants.{LONGEST_BODY}
+use Rattle.gts_alphabet.proofs.LawLemmas.{length-dec, AllDigits-dec, digits_value-dec, dec-digits_value, AllDigits-from_test, test_from_AllDigits}
 use Rattle.gts_heading.specs.declared.field.Field.{Field}
 use Rattle.gts_heading.specs.declared.field.Field.TheVariants.{StartLine, Number, HeadingStart, End, Size}
 use Rattle.gts_heading.specs.declared.heading.Heading.{Heading}
 use Rattle.gts_heading.specs.Heading.{HeadingFields, IsGap, heading_text, fields_of}
 use Rattle.gts_heading.specs.Reading.{◌>>=◌, after_word, after_gap, heading_at}
-use Rattle.gts_heading.proofs.Fields.{step_ok, and_part, chosen, ok_is, word_takes, gap_takes, gap_again, AllDigits-from_test, test_from_AllDigits}
-use Rattle.gts_heading.proofs.Headings.{line_takes, line_again}
+use Rattle.gts_heading.proofs.LawLemmas.{word_takes, gap_takes, gap_again, line_is_spelled, line_again}
 use Rattle.gts_message.specs.declared.message.Parts.{Parts}
-use Rattle.gts_message.specs.Message.{MessageParts, longest_body, end_text, IsBody, IsMessage, digit_run, number_at, text_at, body_at, split_at, fault, parts_of}
+use Rattle.gts_message.specs.Message.{MessageParts, message_end, IsBody, IsMessage, digit_run, number_at, text_at, body_at, split_at, fault, parts_of}
 
 -- what went wrong in a reading
 abbrev fault_of : Result MessageParts Field → Option Field
 fault_of read = elim read [ Ok _ ↦ None | Err field ↦ Some field ]
+
+-- ---- steps of a reading
+
+-- what follows from a step that did not fail
+step_ok : {A B : Type 0} (r : Result A Field) (f : A → Result B Field) (y : B) (P : Type 0) → (r >>= f) ≡ Ok y → ((x : A) → r ≡ Ok x → f x ≡ Ok y → P) → P
+step_ok (Ok x) f y P e next = next x refl e
+step_ok (Err d) f y P e next = absurd cc
+
+-- one more part of the front
+and_part : (bytes front rest part more : List ℕ) → bytes ≡ front ++ rest → rest ≡ part ++ more → bytes ≡ front ++ part ++ more
+and_part bytes front rest part more e f = e ∙ ap (λ (r : List ℕ). front ++ r) f ∙ sym (append_assoc front part more)
+
+-- a test that passed
+chosen : {A : Type 0} (b : Bool) (d : Field) (x y : A) → cond b (Ok x) (Err d) ≡ Ok y → (b ≡ true) × (x ≡ y)
+chosen true d x y e = (refl, cc)
+chosen false d x y e = absurd cc
+
+abbrev done : {A : Type 0} → A → Result A Field
+done x = Ok x
+
+ok_is : {A : Type 0} (x y : A) → done x ≡ done y → x ≡ y
+ok_is x y e = cc
 
 -- ---- the sequence number
 
@@ -83,21 +106,21 @@ no_digit gap rest (inr e) = rw e refl
 
 -- ---- the text
 
-text_takes : (bytes text : List ℕ) → text_at bytes ≡ Ok text → bytes ≡ text ++ end_text
+text_takes : (bytes text : List ℕ) → text_at bytes ≡ Ok text → bytes ≡ text ++ message_end
 unfolding text_at
 text_takes bytes text e =
-    let passed = chosen (nat_le 4 (length bytes) && ends_with nat_eq bytes end_text) End (take (length bytes - 4) bytes) text e in
-    let both = and_parts (nat_le 4 (length bytes)) (ends_with nat_eq bytes end_text) passed.0 in
-    let ends : bytes ≡ take (length bytes - 4) bytes ++ end_text = (ends_is Decides-eqb bytes end_text (ends_with nat_eq bytes end_text) refl).0 both.1 in
-    ends ∙ ap (λ (t : List ℕ). t ++ end_text) passed.1
+    let passed = chosen (nat_le 4 (length bytes) && ends_with nat_eq bytes message_end) End (take (length bytes - 4) bytes) text e in
+    let both = and_parts (nat_le 4 (length bytes)) (ends_with nat_eq bytes message_end) passed.0 in
+    let ends : bytes ≡ take (length bytes - 4) bytes ++ message_end = (ends_is Decides-eqb bytes message_end (ends_with nat_eq bytes message_end) refl).0 both.1 in
+    ends ∙ ap (λ (t : List ℕ). t ++ message_end) passed.1
 
-text_again : (text : List ℕ) → text_at (text ++ end_text) ≡ Ok text
+text_again : (text : List ℕ) → text_at (text ++ message_end) ≡ Ok text
 unfolding text_at
 text_again text =
-    let len = length-append text end_text in
-    let long : leb 4 (length (text ++ end_text)) ≡ true = le-leb _ _ (omega arith) in
-    let ends = (ends_is Decides-eqb (text ++ end_text) end_text (ends_with nat_eq (text ++ end_text) end_text) refl).1 text refl in
-    rw (long, ends, take_at text end_text (length (text ++ end_text) - 4) (omega arith)) refl
+    let len = length-append text message_end in
+    let long : leb 4 (length (text ++ message_end)) ≡ true = le-leb _ _ (omega arith) in
+    let ends = (ends_is Decides-eqb (text ++ message_end) message_end (ends_with nat_eq (text ++ message_end) message_end) refl).1 text refl in
+    rw (long, ends, take_at text message_end (length (text ++ message_end) - 4) (omega arith)) refl
 
 -- ---- the body
 
@@ -107,18 +130,18 @@ body_takes body x e =
     step_ok (heading_at body) (λ heading. text_at heading.1 >>= λ text. Ok (heading.0, text)) x (IsBody body x.0 x.1) e (λ heading heading_read e1.
     step_ok (text_at heading.1) (λ text. Ok (heading.0, text)) x (IsBody body x.0 x.1) e1 (λ text text_read e2.
     let made : HeadingFields × List ℕ = (heading.0, text) in
-    let taken = line_takes body heading heading_read in
-    let gap = taken.spelled.0 in
-    let spelled = and_part body (heading_text heading.0 ++ gap ++ EOL) heading.1 text end_text taken.spelled.2 (text_takes heading.1 text text_read) in
+    let taken = line_is_spelled body heading.1 heading.0 heading_read in
+    let gap = taken.1.0 in
+    let spelled = and_part body (heading_text heading.0 ++ gap ++ EOL) heading.1 text message_end taken.1.2 (text_takes heading.1 text text_read) in
     subst (λ (y : HeadingFields × List ℕ). IsBody body y.0 y.1) {x = made} (ok_is made x e2)
-    (record { heading_is = taken.heading; spelled = (gap, taken.spelled.1, spelled) })))
+    (record { heading_is = taken.0; spelled = (gap, taken.1.1, spelled) })))
 
 pub body_again : (body : List ℕ) (h : HeadingFields) (text : List ℕ) → IsBody body h text → body_at body ≡ Ok (h, text)
 unfolding body_at
 body_again body h text is =
     let gap = is.spelled.0 in
-    let regrouped : body ≡ heading_text h ++ gap ++ EOL ++ (text ++ end_text) = is.spelled.2 ∙ append_assoc (heading_text h ++ gap ++ EOL) text end_text in
-    ap body_at regrouped ∙ rw (line_again h gap (text ++ end_text) is.heading_is is.spelled.1, text_again text) refl
+    let regrouped : body ≡ heading_text h ++ gap ++ EOL ++ (text ++ message_end) = is.spelled.2 ∙ append_assoc (heading_text h ++ gap ++ EOL) text message_end in
+    ap body_at regrouped ∙ rw (line_again h gap (text ++ message_end) is.heading_is is.spelled.1, text_again text) refl
 
 -- ---- the message
 
@@ -127,7 +150,7 @@ made_of number digits heading text body = record { number = number; digits = dig
 
 -- what a body within the limit gives
 abbrev within_limit : List ℕ → MessageParts → Result MessageParts Field
-within_limit body parts = cond (nat_le (length body) longest_body) (Ok parts) (Err Size)
+within_limit body parts = cond (nat_le (length body) LONGEST_BODY) (Ok parts) (Err Size)
 
 -- the parts between the start and the body
 line_parts : (message start number rest gap after body : List ℕ) → message ≡ (SOH ∷ EOL) ++ start → start ≡ number ++ rest → rest ≡ gap ++ after → after ≡ EOL ++ body
@@ -146,7 +169,7 @@ split_takes message x e =
     step_ok (after_word EOL HeadingStart (after_gap number.2)) (λ body. body_at body >>= λ found. within_limit body (made_of number.0 number.1 found.0 found.1 body)) x (IsMessage message x) e2 (λ body body_read e3.
     step_ok (body_at body) (λ found. within_limit body (made_of number.0 number.1 found.0 found.1 body)) x (IsMessage message x) e3 (λ found found_read e4.
     let made : MessageParts = made_of number.0 number.1 found.0 found.1 body in
-    let passed = chosen (nat_le (length body) longest_body) Size made x e4 in
+    let passed = chosen (nat_le (length body) LONGEST_BODY) Size made x e4 in
     let number_is = number_takes start number number_read in
     let gap_is = gap_takes number.2 in
     let gap = gap_is.0 in
@@ -173,17 +196,23 @@ up_to_limit w n gap body h text width small is_gap is =
     ∙ rw (number_again w n (gap ++ (EOL ++ body)) width small (no_digit gap body is_gap), gap_again gap body is_gap, body_again body h text is) refl
 
 -- a body within the limit
-pub split_within_limit : (w n : ℕ) (gap body : List ℕ) (h : HeadingFields) (text : List ℕ) → (w ≡ 3) ⊎ (w ≡ 5) → n < 10 ^ w → IsGap gap → IsBody body h text → length body ≤ longest_body
+pub split_within_limit : (w n : ℕ) (gap body : List ℕ) (h : HeadingFields) (text : List ℕ) → (w ≡ 3) ⊎ (w ≡ 5) → n < 10 ^ w → IsGap gap → IsBody body h text → length body ≤ LONGEST_BODY
     → split_at (message_of (dec w n ++ gap) body) ≡ Ok (made_of n w h text body)
 split_within_limit w n gap body h text width small is_gap is short =
-    let fits : leb (length body) longest_body ≡ true = le-leb _ _ short in
+    let fits : leb (length body) LONGEST_BODY ≡ true = le-leb _ _ short in
     up_to_limit w n gap body h text width small is_gap is ∙ rw fits refl
 
+pub five_within_limit : (gap : List ℕ) (parts : MessageParts) → parts.digits ≡ 5 → parts.number < 10 ^ 5 → IsGap gap → IsBody parts.body parts.heading parts.text → length parts.body ≤ LONGEST_BODY
+    → split_at (message_of (dec 5 parts.number ++ gap) parts.body) ≡ Ok parts
+five_within_limit gap parts five small is_gap is short =
+    split_within_limit 5 parts.number gap parts.body parts.heading parts.text (inr refl) small is_gap is short
+    ∙ ap (λ (w : ℕ). Ok (record parts { digits = w })) (sym five)
+
 -- a body past the limit
-pub split_past_limit : (w n : ℕ) (gap body : List ℕ) (h : HeadingFields) (text : List ℕ) → (w ≡ 3) ⊎ (w ≡ 5) → n < 10 ^ w → IsGap gap → IsBody body h text → longest_body < length body
+pub split_past_limit : (w n : ℕ) (gap body : List ℕ) (h : HeadingFields) (text : List ℕ) → (w ≡ 3) ⊎ (w ≡ 5) → n < 10 ^ w → IsGap gap → IsBody body h text → LONGEST_BODY < length body
     → split_at (message_of (dec w n ++ gap) body) ≡ Err Size
 split_past_limit w n gap body h text width small is_gap is past =
-    let long : leb (length body) longest_body ≡ false = lt-leb _ _ past in
+    let long : leb (length body) LONGEST_BODY ≡ false = lt-leb _ _ past in
     up_to_limit w n gap body h text width small is_gap is ∙ rw long refl
 
 pub split_again : (message : List ℕ) (parts : MessageParts) → IsMessage message parts → split_at message ≡ Ok parts
@@ -205,33 +234,32 @@ fault-message message parts is = ap fault_of (split_again message parts is)
 
 -- ---- what the calls answer
 
-pub body_found : (body : List ℕ) (r : Result (Heading × Bor (List ℕ)) Field)
-    → MatchResult r (λ found. body_at body ≡ Ok (fields_of found.0, found.1.now)) (λ field. body_at body ≡ Err field)
+-- the heading and the text that a body was read with
+abbrev body_parts : Heading × Bor (List ℕ) → HeadingFields × List ℕ
+body_parts found = (fields_of found.0, found.1.now)
+
+pub body_found : (body : List ℕ) (r : Result (Heading × Bor (List ℕ)) Field) → Reads body_parts r (body_at body)
     → IfOk r (λ found. IsBody body (fields_of found.0) found.1.now)
-body_found body (Ok found) e = body_takes body (fields_of found.0, found.1.now) e
+body_found body (Ok found) e = body_takes body (body_parts found) e
 body_found body (Err field) e = tt
 
-pub body_only : (body : List ℕ) (r : Result (Heading × Bor (List ℕ)) Field)
-    → MatchResult r (λ found. body_at body ≡ Ok (fields_of found.0, found.1.now)) (λ field. body_at body ≡ Err field)
-    → (h : HeadingFields) (text : List ℕ) → IsBody body h text → IfOk r (λ found. (fields_of found.0 ≡ h) × (found.1.now ≡ text)) × IsOk r
+pub body_only : (body : List ℕ) (r : Result (Heading × Bor (List ℕ)) Field) → Reads body_parts r (body_at body)
+    → (h : HeadingFields) (text : List ℕ) → IsBody body h text → IsOkAnd r (λ found. (fields_of found.0 ≡ h) × (found.1.now ≡ text))
 body_only body (Ok found) e h text is =
-    let read : HeadingFields × List ℕ = (fields_of found.0, found.1.now) in
-    let same = ok_is read (h, text) (sym e ∙ body_again body h text is) in
-    ((ap (λ (x : HeadingFields × List ℕ). x.0) same, ap (λ (x : HeadingFields × List ℕ). x.1) same), refl)
+    let same = ok_is (body_parts found) (h, text) (sym e ∙ body_again body h text is) in
+    (ap (λ (x : HeadingFields × List ℕ). x.0) same, ap (λ (x : HeadingFields × List ℕ). x.1) same)
 body_only body (Err field) e h text is =
     let apart = sym e ∙ body_again body h text is in
     absurd cc
 
-pub message_found : (message : List ℕ) (r : Result Parts Field)
-    → MatchResult r (λ parts. split_at message ≡ Ok (parts_of parts)) (λ field. split_at message ≡ Err field)
+pub message_found : (message : List ℕ) (r : Result Parts Field) → Reads parts_of r (split_at message)
     → IfOk r (λ parts. IsMessage message (parts_of parts))
 message_found message (Ok parts) e = split_takes message (parts_of parts) e
 message_found message (Err field) e = tt
 
-pub message_only : (message : List ℕ) (r : Result Parts Field)
-    → MatchResult r (λ parts. split_at message ≡ Ok (parts_of parts)) (λ field. split_at message ≡ Err field)
-    → (parts : MessageParts) → IsMessage message parts → IfOk r (λ found. parts_of found ≡ parts) × IsOk r
-message_only message (Ok found) e parts is = (ok_is (parts_of found) parts (sym e ∙ split_again message parts is), refl)
+pub message_only : (message : List ℕ) (r : Result Parts Field) → Reads parts_of r (split_at message)
+    → (parts : MessageParts) → IsMessage message parts → IsOkAnd r (λ found. parts_of found ≡ parts)
+message_only message (Ok found) e parts is = ok_is (parts_of found) parts (sym e ∙ split_again message parts is)
 message_only message (Err field) e parts is =
     let apart = sym e ∙ split_again message parts is in
     absurd cc

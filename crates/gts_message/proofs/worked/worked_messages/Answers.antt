@@ -1,7 +1,7 @@
 use Rattle.std.proofs.Common.{refl}
 use Rattle.gts_heading.specs.Reading.{plain_heading_at, bare_group_at, message_group_at, heading_at}
 use Rattle.gts_message.specs.Message.{split_at, body_at, number_at, text_at}
-use Rattle.gts_message.proofs.laws.worked_messages.Goals as goal
+use Rattle.gts_message.proofs.worked.worked_messages.Goals as goal
 
 pub returns-clause-nil : goal.returns-clause-nil
 unfolding split_at body_at number_at text_at heading_at plain_heading_at message_group_at bare_group_at

@@ -1,0 +1,66 @@
+//! Messages taken apart byte for byte, each the contract of a function with an empty body.
+
+ghost use Rattle.std.specs.Prelude.{◌≡◌, ◌++◌, [], ◌∷◌, Ok, Err, codes};
+ghost use Rattle.gts_alphabet.specs.{message_of};
+ghost use Rattle.gts_alphabet.specs.declared.characters.TheConstants.{SOH, EOL, ETX};
+ghost use Rattle.gts_message.specs.Message.{split_at, message_end};
+ghost use Rattle.gts_message.specs.Worked.{grouped_parts, plain_heading, plain_parts, ten_binary_bytes, worked_message};
+
+use gts_heading::Field;
+
+/// Messages are taken apart into their parts.
+pub fn worked_messages()
+    ensures nil { split_at (worked_message (codes "001") plain_heading (codes "NIL="))
+        ≡ Ok (plain_parts 1 3 (codes "NIL=")) }
+    ensures empty_text { split_at (worked_message (codes "001") plain_heading [])
+        ≡ Ok (plain_parts 1 3 []) }
+    // A text that holds CR CR LF and ETX.
+    ensures binary_text { split_at (worked_message (codes "001") plain_heading ten_binary_bytes)
+        ≡ Ok (plain_parts 1 3 ten_binary_bytes) }
+    // A number of five digits isn't read as one of three.
+    ensures five_digits { split_at (worked_message (codes "00123 ") plain_heading (codes "NIL="))
+        ≡ Ok (plain_parts 123 5 (codes "NIL=")) }
+    // The body keeps the meaningless blank behind the group.
+    ensures blank_in_the_body { split_at
+        (worked_message (codes "001") (plain_heading ++ codes " RRA ") (codes "NIL="))
+        ≡ Ok (grouped_parts (codes "NIL=")) }
+{}
+
+/// Each field but the size is refused by the shortest message that shows it, and by some that are nearly messages.
+pub fn worked_refusals()
+    ensures no_bytes { split_at [] ≡ Err Field.StartLine }
+    ensures no_line_feed { split_at (SOH ∷ 13 ∷ 13 ∷ []) ≡ Err Field.StartLine }
+    ensures etx_for_line_feed { split_at (SOH ∷ 13 ∷ 13 ∷ ETX ∷ []) ≡ Err Field.StartLine }
+    ensures no_number { split_at (SOH ∷ EOL) ≡ Err Field.Number }
+    ensures four_digits { split_at (worked_message (codes "0001") plain_heading (codes "NIL="))
+        ≡ Err Field.Number }
+    ensures six_digits { split_at (worked_message (codes "000001") plain_heading (codes "NIL="))
+        ≡ Err Field.Number }
+    ensures no_heading_start { split_at (SOH ∷ EOL ++ codes "001") ≡ Err Field.HeadingStart }
+    ensures two_blanks_behind_the_number { split_at
+        (worked_message (codes "001  ") plain_heading (codes "NIL="))
+        ≡ Err Field.HeadingStart }
+    ensures no_type { split_at (message_of (codes "001") []) ≡ Err Field.Tt }
+    ensures no_area { split_at (message_of (codes "001") (codes "SM")) ≡ Err Field.Aa }
+    ensures no_ii { split_at (message_of (codes "001") (codes "SMVG")) ≡ Err Field.Ii }
+    ensures no_centre { split_at (message_of (codes "001") (codes "SMVG01")) ≡ Err Field.Cccc }
+    ensures no_day { split_at (message_of (codes "001") (codes "SMVG01 TVSV")) ≡ Err Field.Day }
+    ensures no_hour { split_at (message_of (codes "001") (codes "SMVG01 TVSV 28"))
+        ≡ Err Field.Hour }
+    ensures no_minute { split_at (message_of (codes "001") (codes "SMVG01 TVSV 2800"))
+        ≡ Err Field.Minute }
+    ensures no_group { split_at (message_of (codes "001") (plain_heading ++ codes " "))
+        ≡ Err Field.Bbb }
+    ensures no_heading_end { split_at (message_of (codes "001") plain_heading)
+        ≡ Err Field.HeadingEnd }
+    ensures no_end { split_at (message_of (codes "001") (plain_heading ++ EOL)) ≡ Err Field.End }
+    ensures hour_24 { split_at
+        (worked_message (codes "001") (codes "SMVG01 TVSV 282400") (codes "NIL="))
+        ≡ Err Field.Hour }
+    ensures unknown_group { split_at
+        (worked_message (codes "001") (plain_heading ++ codes " COR") (codes "NIL="))
+        ≡ Err Field.Bbb }
+    ensures one_line_end_for_two { split_at
+        (message_of (codes "001") (plain_heading ++ message_end))
+        ≡ Err Field.End }
+{}
