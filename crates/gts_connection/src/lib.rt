@@ -11,5 +11,9 @@ pub use laws::{
     feeds_may_be_cut_anywhere, more_bytes_only_add_events,
 };
 pub use worked::{
-    a_capture_is_read_through_its_end, a_capture_may_end_in_a_feed, a_capture_may_end_in_a_head, a_capture_may_have_a_bad_byte, a_drain_takes_once_more_than_there_is, a_frame_may_come_byte_by_byte, a_keep_alive_is_passed_over, a_new_connection_begins_after_a_loss, a_restart_begins_each_connection_anew, frames_before_a_loss_are_heard, the_first_byte_that_fits_no_frame_is_a_loss,
+    a_capture_is_read_through_its_end, a_capture_may_end_in_a_feed, a_capture_may_end_in_a_head,
+    a_capture_may_have_a_bad_byte, a_drain_takes_once_more_than_there_is,
+    a_frame_may_come_byte_by_byte, a_keep_alive_is_passed_over,
+    a_new_connection_begins_after_a_loss, a_restart_begins_each_connection_anew,
+    frames_before_a_loss_are_heard, the_first_byte_that_fits_no_frame_is_a_loss,
 };

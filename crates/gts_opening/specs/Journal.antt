@@ -1,5 +1,5 @@
 -- The journal: three files, of which one is selected, and what they open to (profile).
-use Rattle.std.specs.Prelude.{◌≡◌, ℕ, zero, suc, ◌+◌, ◌-◌, ◌*◌, ◌^◌, ◌<◌, ◌≤◌, Bool, true, false, ◌&&◌, ◌==◌, nat_eq, nat_lt, nat_le, List, [], ◌∷◌, ◌++◌, length, take, drop, map, sum_by, Some, None, Result, Ok, Err, if◌then◌else◌, unwrap_or, codes}
+use Rattle.std.specs.Prelude.{◌≡◌, ℕ, zero, suc, ◌+◌, ◌-◌, ◌*◌, ◌^◌, ◌<◌, ◌≤◌, Bool, true, false, ◌&&◌, ◌==◌, nat_eq, nat_lt, nat_le, List, [], ◌∷◌, ◌++◌, length, take, drop, map, sum_by, Some, None, Result, Ok, Err, if◌then◌else◌, unwrap_or, codes, Option}
 use Rattle.std.specs.List.{AllByRecursion, starts_with, flat_map, range_with_len, slice_index_or}
 use Rattle.std.specs.Cmp.Lexicographic.{pointwise}
 use Rattle.gts_alphabet.specs.Message.{message_of}

@@ -73,7 +73,7 @@ compacted_text d s = file_text d.mark (open_gate ∷ checkpoint_text (need d s))
 
 -- one entry more is appended to the journal of these
 pub record Appends (d : Directory) (cp : List ℕ) (s : State) (used : ℕ) (entries : List Entry) (entry : Entry) (r : Record)
-  (old new : List Call) : Type 0 where
+    (old new : List Call) : Type 0 where
   pub stands : StandsIn d cp s used entries old
   pub next : IsNext d s used entries entry r
   pub calls : new ≡ appended (selected (seen old)) (last_gate d s used entries) r old

@@ -1,5 +1,4 @@
 use Rattle.std.proofs.Common.{refl, [], ◌∷◌}
-use Rattle.gts_event.specs.Said.{said}
 use Rattle.std.specs.Fmt.{digits}
 use Rattle.gts_alphabet.specs.Digits.{dec}
 use Rattle.gts_heading.specs.Heading.{heading_text}
@@ -8,6 +7,7 @@ use Rattle.gts_message.specs.Message.{number_at, text_at, body_at, split_at}
 use Rattle.gts_request.specs.Request.{request_at}
 use Rattle.gts_event.specs.State.{empty}
 use Rattle.gts_event.specs.History.{after_all}
+use Rattle.gts_event.specs.Said.{said}
 use Rattle.gts_event.specs.Worked.{two, first, take_on}
 use Rattle.gts_opening.proofs.worked.a_crash_leaves_the_first_entries.Goals as goal
 

@@ -9,4 +9,4 @@ use Rattle.gts_opening.proofs.worked.a_journal_is_full_at_its_limit.Goals as goa
 
 pub returns : goal.returns
 unfolding digits dec heading_text plain_heading_at bare_group_at message_group_at heading_at bare_heading_at number_at text_at body_at split_at request_at
-returns c = (refl, refl, refl, refl, refl)
+returns c = (refl, refl, refl, refl, refl, refl)

@@ -5,8 +5,8 @@ use Rattle.gts_heading.specs.Heading.{heading_text}
 use Rattle.gts_heading.specs.Reading.{plain_heading_at, bare_group_at, message_group_at, heading_at, bare_heading_at}
 use Rattle.gts_message.specs.Message.{number_at, text_at, body_at, split_at}
 use Rattle.gts_request.specs.Request.{request_at}
-use Rattle.gts_opening.proofs.worked.it_opens_to_the_need.Goals as goal
+use Rattle.gts_opening.proofs.worked.each_fault_of_a_bulletin_has_its_place.Goals as goal
 
 pub returns : goal.returns
 unfolding digits dec heading_text plain_heading_at bare_group_at message_group_at heading_at bare_heading_at number_at text_at body_at split_at request_at
-returns c = (refl, refl, refl)
+returns c = (refl, refl, refl, refl, refl, refl)

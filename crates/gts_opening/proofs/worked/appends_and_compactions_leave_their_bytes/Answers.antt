@@ -5,8 +5,8 @@ use Rattle.gts_heading.specs.Heading.{heading_text}
 use Rattle.gts_heading.specs.Reading.{plain_heading_at, bare_group_at, message_group_at, heading_at, bare_heading_at}
 use Rattle.gts_message.specs.Message.{number_at, text_at, body_at, split_at}
 use Rattle.gts_request.specs.Request.{request_at}
-use Rattle.gts_opening.proofs.worked.each_fault_has_its_place.Goals as goal
+use Rattle.gts_opening.proofs.worked.appends_and_compactions_leave_their_bytes.Goals as goal
 
 pub returns : goal.returns
 unfolding digits dec heading_text plain_heading_at bare_group_at message_group_at heading_at bare_heading_at number_at text_at body_at split_at request_at
-returns c = (refl, refl, refl, refl, refl, refl, refl, refl, refl, refl)
+returns c = (refl, refl, refl, refl, refl, refl)
