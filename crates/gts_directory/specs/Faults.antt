@@ -56,7 +56,7 @@ is_pattern pattern =
 -- a circuit's name stands in an earlier row
 abbrev pub two_names : List CircuitRow → ℕ → CircuitRow → Option DirFault
 two_names circuits n row =
-    unless (not (list_any (λ earlier. pointwise nat_eq earlier.name row.name) (take n circuits))) (TwoNames n)
+    unless (not (list_any (λ earlier. pointwise nat_eq row.name earlier.name) (take n circuits))) (TwoNames n)
 
 -- a bit at or above the number of circuits
 abbrev pub unknown_circuit : ℕ → ℕ → RuleRow → Option DirFault

@@ -59,9 +59,9 @@ fn two_names(circuits: &[CircuitRow]) -> Option<DirFault>
 
 /// Whether one of the circuits has this name.
 fn is_taken(circuits: &[CircuitRow], name: [u8; 8]) -> bool
-    ensures { result ≡ list_any (λ earlier. pointwise nat_eq earlier.name name) circuits.now }
+    ensures { result ≡ list_any (λ earlier. pointwise nat_eq name earlier.name) circuits.now }
 {
-    circuits.iter().any(|earlier| earlier.name == name)
+    circuits.iter().any(|earlier| name == earlier.name)
 }
 
 /// The first rule with a circuit that isn't there.

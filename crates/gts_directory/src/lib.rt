@@ -16,7 +16,9 @@ mod worked;
 pub use directory::Directory;
 pub use fault::{DirFault, Part};
 pub use fixed::FixedDirectory;
-pub use laws::{a_bulletin_is_not_sent_back, a_mask_has_the_bits_of_its_circuits};
+pub use laws::{
+    a_bulletin_is_not_sent_back, a_mask_has_the_bits_of_its_circuits, a_mask_is_told_by_its_bits,
+};
 pub use limits::{
     GREATEST_LIMIT, HIGHEST_PORT, LEAST_LIMIT, LONGEST_WINDOW, LOWEST_LEVEL, MOST_KEPT,
     MOST_LEVELS, MOST_RULES, USUAL_LEVEL,

@@ -114,8 +114,8 @@ impl DirRows {
         Ok(())
     }
 
-    /// The circuits.
-    pub(crate) fn circuits(&self) -> &[CircuitRow]
+    /// The circuits so far.
+    pub fn circuits(&self) -> &[CircuitRow]
         ensures { result.now ≡ self.now.circuits }
     {
         self.circuits.as_slice()
