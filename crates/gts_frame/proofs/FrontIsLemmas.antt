@@ -43,7 +43,7 @@ pub length_in-frame : (kind : Kind) (message rest : List ℕ) → length message
 unfolding dec
 length_in-frame kind message rest h = digits_value-dec 8 (length message) (omega arith)
 
-framed_length : (message : List ℕ) → IsFramed message → 2 ≤ length message
+pub framed_length : (message : List ℕ) → IsFramed message → 2 ≤ length message
 framed_length message h = omega (arith, ap length h.ends.1, length-append h.ends.0 (ETX ∷ []))
 
 starts-framed : (message : List ℕ) → IsFramed message → starts_with nat_eq message (SOH ∷ []) ≡ true

@@ -1,5 +1,5 @@
 //! The frames that carry messages between centres: a length in eight digits, the two letters of the frame type, and
-//! the message.
+//! the message. Written one at a time, and found again in the bytes of a connection, however these are cut.
 #![tactic(auto)]
 
 mod buffer;
@@ -19,13 +19,17 @@ pub use decoder::Decoder;
 pub use gts_alphabet::NoMemory;
 pub use kind::Kind;
 pub use laws::{
-    a_frame_is_a_head_and_a_message, a_written_message_is_framed, frames_are_told_apart,
-    keep_alives_and_frames_are_told_apart,
+    a_frame_is_a_head_and_a_message, a_front_is_what_is_computed, a_written_message_is_framed,
+    bytes_show_what_is_computed, frames_are_told_apart, keep_alives_and_frames_are_told_apart,
+    more_bytes_only_add_signs,
 };
 pub use lost::LostField;
 pub use reading::read_one;
 pub use step::Step;
-pub use worked::the_first_frame_is_made;
+pub use worked::{
+    a_message_goes_on_behind_an_etx, signs_are_shown_in_order, synchronisation_is_lost_at_its_byte,
+    the_first_frame_is_made,
+};
 pub use writing::write_frame;
 
 #[cfg(test)]
