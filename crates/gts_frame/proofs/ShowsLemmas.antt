@@ -1,5 +1,5 @@
 -- Any bytes show the signs that are computed, and no others.
-use Rattle.std.proofs.Common.{◌≡◌, ℕ, zero, suc, ◌+◌, ◌-◌, ◌<◌, ◌≤◌, Bool, true, false, not, ◌⊎◌, List, [], ◌∷◌, ◌++◌, length, get_or, take, drop, Option, Some, None, inl, inr, refl, sym, ap, subst, ◌∙◌, arith}
+use Rattle.std.proofs.Common.{◌≡◌, ℕ, zero, suc, ◌+◌, ◌-◌, ◌<◌, ◌≤◌, Bool, true, false, not, List, [], ◌∷◌, ◌++◌, length, get_or, take, drop, Option, Some, None, inl, inr, refl, sym, ap, subst, ◌∙◌, arith}
 use Rattle.std.specs.Prelude.{IsSome}
 use Rattle.std.specs.List.{flat_map, AllByRecursion}
 use Rattle.std.proofs.lemmas.Bool.{false_from_ne_true}
@@ -11,14 +11,14 @@ use Rattle.gts_alphabet.specs.declared.limits.TheConstants.{FRAME_HEAD}
 use Rattle.gts_frame.specs.declared.kind.Kind.{Kind}
 use Rattle.gts_frame.specs.declared.kind.Kind.TheVariants.{An, Bi, Fx}
 use Rattle.gts_frame.specs.declared.lost.LostField.{LostField}
-use Rattle.gts_frame.specs.Frame.{letters, frame, Piece, Frame, KeepAlive, piece_text, IsPiece, IsFramed}
+use Rattle.gts_frame.specs.Frame.{letters, frame, Piece, Frame, KeepAlive, piece_text, IsPiece}
 use Rattle.gts_frame.specs.Stream.{IsPartial, IsFront, IsStreamFront, field_at, Rest, Part, Loss, length_in, is_front, has_piece}
-use Rattle.gts_frame.specs.Signs.{Sign, Carries, KeepsAlive, Breaks, signs_of, break_of, Shows, open_part, sign_at, signs_in, held_in}
+use Rattle.gts_frame.specs.Signs.{Sign, Carries, Breaks, signs_of, break_of, Shows, open_part, sign_at, signs_in, held_in}
 use Rattle.gts_frame.proofs.FrameLemmas.{length-frame}
 use Rattle.gts_frame.proofs.TestLemmas.{true≢false, IsFirst, first_or_none}
 use Rattle.gts_frame.proofs.FrontIsLemmas.{framed_length, length_in-frame, is_front-piece, front-computed, front-is}
-use Rattle.gts_frame.proofs.SignLemmas.{IsPart, IsWhole, IsBreak, Reads, length_in-more, has_piece-parts, has_piece-from, has_piece-more, reads-part, reads-whole, reads-break, reads-open, reads-lost, whole-has}
-use Rattle.gts_frame.proofs.TakesLemmas.{sign-frame, sign-keep_alive}
+use Rattle.gts_frame.proofs.SignLemmas.{IsPart, IsWhole, IsBreak, Reads, length_in-more, has_piece-parts, has_piece-more, reads-part, reads-whole, reads-break, reads-open, reads-lost, whole-has}
+use Rattle.gts_frame.proofs.TakesLemmas.{sign-frame}
 
 -- ---- whole frames and keep-alives
 
