@@ -9,7 +9,7 @@ use Rattle.std.proofs.lemmas.List.{length-append}
 use Rattle.std.proofs.Math.Seq.{take-append_seam, drop-append_seam}
 use Rattle.gts_alphabet.specs.Digits.{dec}
 use Rattle.gts_alphabet.specs.declared.characters.TheConstants.{SOH, ETX}
-use Rattle.gts_alphabet.proofs.DigitsLemmas.{length-dec, digits_value-dec}
+use Rattle.gts_alphabet.proofs.LawLemmas.{length-dec, digits_value-dec}
 use Rattle.gts_frame.specs.declared.kind.Kind.{Kind}
 use Rattle.gts_frame.specs.declared.kind.Kind.TheVariants.{An, Bi, Fx}
 use Rattle.gts_frame.specs.Frame.{letters, frame, IsFramed}
@@ -18,7 +18,7 @@ use Rattle.gts_event.specs.declared.event.Event.{Event}
 use Rattle.gts_event.specs.declared.event.Event.TheVariants.{Heard}
 use Rattle.gts_frame.specs.Stream.{begins_length, begins_kind, begins_message, length_in, is_front, has_piece}
 use Rattle.gts_connection.specs.Connection.{event_at, loss_at, events_in}
-use Rattle.gts_event.proofs.ListLemmas.{both_true, list_all-append, or_right}
+use Rattle.gts_event.proofs.StateLemmas.{both_true, list_all-append, or_right}
 
 -- ---- the length
 

@@ -10,12 +10,12 @@ use Rattle.std.proofs.lemmas.Int.Digits.{digits_value-lt}
 use Rattle.std.proofs.lemmas.Str.{digit_value_digit}
 use Rattle.gts_alphabet.specs.Digits.{dec}
 use Rattle.gts_alphabet.specs.declared.characters.TheConstants.{SOH, ETX}
-use Rattle.gts_alphabet.proofs.DigitsLemmas.{dec-digits_value}
+use Rattle.gts_alphabet.proofs.LawLemmas.{dec-digits_value}
 use Rattle.gts_frame.specs.declared.kind.Kind.{Kind}
 use Rattle.gts_frame.specs.declared.kind.Kind.TheVariants.{An, Bi, Fx}
 use Rattle.gts_frame.specs.Frame.{letters, Piece, Frame, KeepAlive, piece_text, IsFramed, IsPiece}
 use Rattle.gts_frame.specs.Stream.{IsFront, begins_length, begins_kind, begins_message, length_in, is_front}
-use Rattle.gts_event.proofs.ListLemmas.{and_true, both_true, or_left, or_right, or_cases}
+use Rattle.gts_event.proofs.StateLemmas.{and_true, both_true, or_left, or_right, or_cases}
 use Rattle.gts_connection.proofs.ConnectionLemmas.{is_front-frame}
 use Rattle.gts_connection.proofs.ListLemmas.{starts_with-append}
 

@@ -14,7 +14,7 @@ use Rattle.gts_event.specs.Need.{circuit_of_event, is_here}
 use Rattle.gts_connection.specs.Connection.{events_of, loss_of, connection, events_added}
 use Rattle.gts_connection.specs.Capture.{Step, Feed, Take, Reopen, Drain, Restart, Compact, IsHead, head_of, AreSteps, Connections, no_bytes, entries_of_step, after_step, entries_from, entries}
 use Rattle.gts_event.specs.Drain.{all_done}
-use Rattle.gts_event.proofs.ListLemmas.{and_true, both_true, list_all-append}
+use Rattle.gts_event.proofs.StateLemmas.{and_true, both_true, list_all-append}
 use Rattle.gts_connection.proofs.StreamLemmas.{connection-is}
 
 -- an event comes on a circuit below this number

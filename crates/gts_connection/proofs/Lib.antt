@@ -5,3 +5,4 @@ pub mod StreamLemmas
 pub mod CutLemmas
 pub mod ReadingLemmas
 pub mod HereLemmas
+pub mod LawLemmas

@@ -5,7 +5,7 @@ use Rattle.std.specs.Str.Parse.{digits_value}
 use Rattle.std.proofs.lemmas.Bool.{cases_lt, cases_Bool}
 use Rattle.std.proofs.lemmas.List.{length-append, length-take-le, take-append-drop, append-nil, append_assoc}
 use Rattle.gts_alphabet.specs.Digits.{dec}
-use Rattle.gts_alphabet.proofs.DigitsLemmas.{digits_value-dec}
+use Rattle.gts_alphabet.proofs.LawLemmas.{digits_value-dec}
 use Rattle.gts_directory.specs.Directory.{Directory}
 use Rattle.gts_connection.specs.Capture.{Step, Feed, Take, Reopen, Drain, Restart, Compact, Head, FeedHead, TakeHead, ReopenHead, DrainHead, RestartHead, CompactHead, EndHead, head_text, IsHead, head_of, bytes_of_step, step_text, AreSteps, IsPartialHead, IsHeadFront, Reading, Whole, Bad, EndsInHead, EndsInFeed}
 use Rattle.gts_connection.proofs.ListLemmas.{starts_with-append}

@@ -15,7 +15,7 @@ use Rattle.gts_event.specs.declared.event.Event.{Event}
 use Rattle.gts_event.specs.declared.event.Event.TheVariants.{Lost}
 use Rattle.gts_frame.specs.Stream.{IsPartial, IsFront, IsStreamFront, field_at, Rest, Part, Loss, length_in, is_front, has_piece}
 use Rattle.gts_connection.specs.Connection.{events_of, loss_of, IsConnection, event_at, loss_at, events_in, connection, is_lost, events_added}
-use Rattle.gts_event.proofs.ListLemmas.{and_true, both_true}
+use Rattle.gts_event.proofs.StateLemmas.{and_true, both_true}
 use Rattle.gts_connection.proofs.ConnectionLemmas.{length_in-frame, event_at-frame}
 use Rattle.gts_connection.proofs.FrontLemmas.{is_front-less, is_front-piece, front-computed, front-is}
 

@@ -7,8 +7,9 @@ use Rattle.std.proofs.lemmas.List.{length-append, length-drop, length-map, map-a
 use Rattle.gts_frame.specs.declared.kind.Kind.{Kind}
 use Rattle.gts_heading.specs.declared.field.Field.{Field}
 use Rattle.gts_heading.specs.Heading.{HeadingFields}
-use Rattle.gts_message.specs.Message.{MessageParts, longest_body, body_at, split_at}
-use Rattle.gts_message.proofs.Splitting.{split_takes, body_again}
+use Rattle.gts_alphabet.specs.declared.limits.TheConstants.{LONGEST_BODY}
+use Rattle.gts_message.specs.Message.{MessageParts, body_at, split_at}
+use Rattle.gts_message.proofs.LawLemmas.{split_takes, body_again}
 use Rattle.gts_request.specs.declared.fault.ReqField.{ReqField}
 use Rattle.gts_event.specs.declared.outcome.Outcome.{Outcome}
 use Rattle.gts_event.specs.declared.outcome.Outcome.TheVariants.{Accepted, Duplicate, Asked, Refused, LineLost, Resend, Draw, Nothing}
@@ -112,7 +113,7 @@ positions bs = map (λ b. b.position) bs
 pub record BulletinParts (d : Directory) (n : ℕ) (b : Bulletin) : Type 0 where
   pub from : nat_lt b.from (length d.circuits) ≡ true
   pub below : nat_lt b.position n ≡ true
-  pub short : nat_le (length b.body) longest_body ≡ true
+  pub short : nat_le (length b.body) LONGEST_BODY ≡ true
   pub good : is_ok (body_at b.body) ≡ true
   pub other : not (is_request d (heading_of b.body)) ≡ true
 
@@ -120,7 +121,7 @@ pub bulletin-parts : (d : Directory) (n : ℕ) (b : Bulletin) → is_bulletin d 
 bulletin-parts d n b h =
     let h1 = and_true _ (not (is_request d (heading_of b.body))) h in
     let h2 = and_true _ (is_ok (body_at b.body)) h1.0 in
-    let h3 = and_true _ (nat_le (length b.body) longest_body) h2.0 in
+    let h3 = and_true _ (nat_le (length b.body) LONGEST_BODY) h2.0 in
     let h4 = and_true (nat_lt b.from (length d.circuits)) (nat_lt b.position n) h3.0 in
     record { from = h4.0; below = h4.1; short = h3.1; good = h2.1; other = h1.1 }
 
@@ -295,7 +296,7 @@ held-accepted d s c kind message h here w o =
     let is_b : is_bulletin d (s.count + 1) b ≡ true = bulletin-from d (s.count + 1) b (record {
       from = here;
       below = lt-ltb s.count (s.count + 1) (omega arith);
-      short = le-leb (length (body_of message)) longest_body (let l = (split_takes message w.parts w.read).short in omega (arith, l, ap length (body-read d message w)));
+      short = le-leb (length (body_of message)) LONGEST_BODY (let l = (split_takes message w.parts w.read).short in omega (arith, l, ap length (body-read d message w)));
       good = ap is_ok (body_at-read d message w);
       other = ap not (ap (is_request d) heading ∙ w.other);
     }) in

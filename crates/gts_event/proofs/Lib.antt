@@ -16,3 +16,5 @@ pub mod ClimbLemmas
 pub mod RoutedOnceLemmas
 pub mod HeldLemmas
 pub mod StandLemmas
+pub mod LawLemmas
+pub mod StateLemmas

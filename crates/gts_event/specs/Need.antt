@@ -1,7 +1,8 @@
 -- All that later answers depend on.
 use Rattle.std.specs.Prelude.{◌≡◌, ℕ, ◌+◌, ◌-◌, ◌<◌, min, Bool, true, false, ◌⊎◌, is_ok, drop, ◌==◌, not, ◌&&◌, ◌||◌, nat_lt, nat_le, List, [], ◌++◌, length, map, filter, zip, IsTrue}
 use Rattle.std.specs.List.{list_any, list_all, range_with_len, enumerate_from}
-use Rattle.gts_message.specs.Message.{longest_body, body_at}
+use Rattle.gts_alphabet.specs.declared.limits.TheConstants.{LONGEST_BODY}
+use Rattle.gts_message.specs.Message.{body_at}
 use Rattle.gts_directory.specs.Directory.{Directory, named, is_named}
 use Rattle.gts_event.specs.State.{State, most_accepted, CircuitState, Bulletin, on_circuit, draws, waiting, kept_draws, has, is_recent, heading_of}
 use Rattle.gts_event.specs.History.{Event, Heard, Lost, Taken, Entry, Done, Unsaid, is_request, most_owed, heading_of_message}
@@ -67,7 +68,7 @@ is_distinct numbers = list_all (λ n. length (filter (λ m. m == n) numbers) == 
 -- bytes are the body of a message that is no request.
 abbrev pub is_bulletin : Directory → ℕ → Bulletin → Bool
 is_bulletin d accepted b =
-    nat_lt b.from (length d.circuits) && nat_lt b.position accepted && nat_le (length b.body) longest_body && is_ok (body_at b.body)
+    nat_lt b.from (length d.circuits) && nat_lt b.position accepted && nat_le (length b.body) LONGEST_BODY && is_ok (body_at b.body)
     && not (is_request d (heading_of b.body))
 
 -- a bulletin of a position is there, and is named on a circuit

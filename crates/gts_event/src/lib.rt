@@ -40,3 +40,6 @@ pub use worked::{
     the_later_of_two_draws_is_found, the_later_of_two_equal_bulletins_is_the_duplicate,
     the_need_after_one_bulletin_and_one_draw, what_is_kept_no_more_is_needed_no_more,
 };
+
+#[cfg(test)]
+mod tests;

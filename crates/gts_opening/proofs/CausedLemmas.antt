@@ -8,8 +8,8 @@ use Rattle.gts_directory.specs.Directory.{Directory}
 use Rattle.gts_event.specs.declared.event.Entry.{Entry}
 use Rattle.gts_event.specs.declared.event.Entry.TheVariants.{Done, Unsaid, Idle, Doubt, Restarted}
 use Rattle.gts_opening.specs.Room.{History, front_of, done_by, Cause, IsCaused, HasDoubt, HasUnsaid, is_doubt, is_unsaid, IsReading}
-use Rattle.gts_event.proofs.ListLemmas.{filter_first}
-use Rattle.gts_connection.proofs.ReadingLemmas.{shorter_front}
+use Rattle.gts_event.proofs.StateLemmas.{filter_first}
+use Rattle.gts_connection.proofs.LawLemmas.{shorter_front}
 
 no_more : (front back : List Entry) (entry : Entry) → [] ≡ front ++ entry ∷ back → ⊥
 no_more front back entry e = omega (arith, ap length e, length-append front (entry ∷ back))

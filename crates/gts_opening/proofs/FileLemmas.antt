@@ -5,7 +5,7 @@ use Rattle.std.specs.Cmp.Lexicographic.{pointwise}
 use Rattle.std.proofs.lemmas.Bool.{eqb-true, eq-eqb, ne_eqb, leb-true, le-leb, ltb-true, ltb-false, le-ltb}
 use Rattle.std.proofs.lemmas.List.{length-append, length-map, append_assoc, drop-drop}
 use Rattle.std.proofs.Math.Seq.{take-append_seam, drop-append_seam}
-use Rattle.gts_message.specs.Message.{longest_body}
+use Rattle.gts_alphabet.specs.declared.limits.TheConstants.{LONGEST_BODY}
 use Rattle.gts_directory.specs.Directory.{Directory, Circuit}
 use Rattle.gts_event.specs.State.{State, CircuitState, Bulletin, empty, has, waiting}
 use Rattle.gts_event.specs.History.{most_owed, owed_last, restarted}
@@ -17,15 +17,9 @@ use Rattle.gts_record.specs.declared.fault.OpenFault.TheVariants.{NoJournal, Not
 use Rattle.gts_traits.specs.Disk.{Files}
 use Rattle.gts_opening.specs.Journal.{selected, opens, due, bulletin_text, circuit_text, checkpoint_text, need_in, compacted_bytes, admits_checkpoint, Opened, agreeing, records_at, file_opens, AreAdmitted, after_records, gate_after, unowed_circuit, unowed, FitsBulletin, FitsCircuit, FitsNeed}
 use Rattle.gts_record.specs.Record.{Record, Accept, Drew, record_text, open_gate, magic, bytes_of, file_text}
-use Rattle.gts_event.proofs.ListLemmas.{and_true, both_true}
-use Rattle.gts_event.proofs.OrderLemmas.{list_all_more}
-use Rattle.gts_event.proofs.StartLemmas.{list_all-parts, all-below}
-use Rattle.gts_event.proofs.LeftLemmas.{waiting-left}
-use Rattle.gts_event.proofs.AfterLemmas.{needs_of}
-use Rattle.gts_event.proofs.HistoryLemmas.{restarted-left}
-use Rattle.gts_record.proofs.RecordLemmas.{same_bytes, starts_with-append}
+use Rattle.gts_event.proofs.StateLemmas.{and_true, both_true, list_all_more, list_all-parts, all-below, waiting-left, needs_of, restarted-left, eq_turned, bulletin-parts}
+use Rattle.gts_record.proofs.LawLemmas.{same_bytes, starts_with-append}
 use Rattle.gts_opening.proofs.JournalLemmas.{records_open}
-use Rattle.gts_event.proofs.HeldLemmas.{eq_turned, bulletin-parts}
 use Rattle.gts_opening.proofs.CheckpointLemmas.{need_in-text, length-numbers}
 
 -- ---- nothing is owed in a checkpoint
@@ -113,7 +107,7 @@ fits-bulletins d m [] few h = tt
 fits-bulletins d m (b ∷ bs) few h =
     let both = and_true (is_bulletin d m b) (list_all (is_bulletin d m) bs) h in
     let p = bulletin-parts d m b both.0 in
-    (((let lt : b.position < m = ltb-true b.position m p.below in omega arith), (let le : length b.body ≤ longest_body = leb-true (length b.body) longest_body p.short in omega arith)), fits-bulletins d m bs few both.1)
+    (((let lt : b.position < m = ltb-true b.position m p.below in omega arith), (let le : length b.body ≤ LONGEST_BODY = leb-true (length b.body) LONGEST_BODY p.short in omega arith)), fits-bulletins d m bs few both.1)
 
 length-circuit_text : (c : CircuitNeed) → length (circuit_text c) ≡ 16 + 8 * length (c.waiting ++ c.kept)
 length-circuit_text c = omega (arith, length-numbers (c.waiting ++ c.kept))

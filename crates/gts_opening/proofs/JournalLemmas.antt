@@ -8,7 +8,7 @@ use Rattle.gts_event.specs.State.{State}
 use Rattle.gts_event.specs.History.{after}
 use Rattle.gts_record.specs.declared.fault.OpenFault.TheVariants.{Damaged}
 use Rattle.gts_record.specs.Record.{Record, record_text, record_size, open_gate, FitsRecord}
-use Rattle.gts_record.proofs.RecordLemmas.{record_at-text}
+use Rattle.gts_record.proofs.LawLemmas.{record_at-text}
 use Rattle.gts_opening.specs.Journal.{event_of_record, admits, record_behind, Opened, records_at, AreAdmitted, after_records, gate_after}
 
 -- ---- a journal

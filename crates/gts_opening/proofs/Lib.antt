@@ -7,3 +7,4 @@ pub mod WrittenLemmas
 pub mod CrashLemmas
 pub mod AppendLemmas
 pub mod CompactLemmas
+pub mod LawLemmas

@@ -13,7 +13,7 @@ use Rattle.gts_frame.specs.declared.kind.Kind.TheVariants.{An, Bi, Fx}
 use Rattle.gts_heading.specs.declared.field.Field.{Field}
 use Rattle.gts_heading.specs.Heading.{HeadingFields}
 use Rattle.gts_message.specs.Message.{MessageParts, split_at}
-use Rattle.gts_message.proofs.Splitting.{split_takes, split_again}
+use Rattle.gts_message.proofs.LawLemmas.{split_takes, split_again}
 use Rattle.gts_request.specs.declared.fault.ReqField.{ReqField}
 use Rattle.gts_event.specs.declared.fault.SwitchFault.TheVariants.{Full}
 use Rattle.gts_event.specs.declared.outcome.Outcome.{Outcome}
@@ -32,13 +32,7 @@ use Rattle.gts_traits.specs.Disk.{Files}
 use Rattle.gts_opening.specs.Journal.{selected, opens, files_open, file_opens, Opened, checkpoint_text, compacted_bytes, unowed_state, event_of_record, due, is_outcome, is_result, AreAdmitted, after_records, gate_after, unowed, unowed_circuit}
 use Rattle.gts_record.specs.Record.{open_gate, file_text, Record, Accept, Drew, record_text, record_size}
 use Rattle.gts_opening.specs.Room.{record_bytes, entry_bytes, bytes_of_entries, heard_record, taken_record, event_record, entry_record, records_of, room, full, HadRoom, AllHadRoom, Begins, WithNothing, WithCheckpoint}
-use Rattle.gts_event.proofs.ListLemmas.{and_true, both_true, has_filter}
-use Rattle.gts_event.proofs.AfterLemmas.{owing, drew, routed, draws_waiting, find_passes}
-use Rattle.gts_event.proofs.OrderLemmas.{draws_unowed, list_all-has}
-use Rattle.gts_event.proofs.SaidLemmas.{draws_index}
-use Rattle.gts_event.proofs.DrainLemmas.{waits_one_less}
-use Rattle.gts_event.proofs.ClimbLemmas.{often-climbs}
-use Rattle.gts_event.proofs.HeldLemmas.{IsHeld, WasRead, body-read, heading_of_message-read, held-entry, held-begun, held-empty, sound-few, get_below}
+use Rattle.gts_event.proofs.StateLemmas.{and_true, both_true, has_filter, owing, drew, routed, draws_waiting, find_passes, draws_unowed, list_all-has, draws_index, waits_one_less, often-climbs, IsHeld, WasRead, body-read, heading_of_message-read, held-entry, held-begun, held-empty, sound-few, get_below}
 use Rattle.gts_opening.proofs.FileLemmas.{file_opens-records, file_opens-checkpoint}
 use Rattle.gts_record.specs.declared.fault.OpenFault.{OpenFault}
 
