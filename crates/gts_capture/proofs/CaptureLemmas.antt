@@ -6,10 +6,10 @@ use Rattle.std.proofs.lemmas.List.Concat.{flat_map-append}
 use Rattle.std.proofs.lemmas.List.{append-nil, append_assoc, append_cancel_left, take_at, drop_at, length-append}
 use Rattle.std.specs.Str.Parse.{digits_value, AllDigits}
 use Rattle.gts_alphabet.specs.Digits.{dec}
-use Rattle.gts_alphabet.proofs.DigitsLemmas.{length-dec, digits_value-dec, dec-digits_value}
+use Rattle.gts_alphabet.proofs.LawLemmas.{length-dec, digits_value-dec, dec-digits_value}
 use Rattle.gts_frame.specs.declared.kind.Kind.{Kind}
 use Rattle.gts_frame.specs.Frame.{frame, letters, IsFramed}
-use Rattle.gts_frame.proofs.FrameLemmas.{same_frames, length-frame}
+use Rattle.gts_frame.proofs.LawLemmas.{same_frames, length-frame}
 use Rattle.gts_capture.specs.Capture.{Step, Feed, Take, step_text, IsStep, capture_text, capture_end, IsCapture}
 use Rattle.gts_capture.specs.Steps.{BeginsWithStep}
 

@@ -3,9 +3,9 @@ use Rattle.std.specs.Str.Parse.{digits_value, AllDigits}
 use Rattle.std.proofs.lemmas.Bool.{false≢true}
 use Rattle.std.proofs.lemmas.List.{append_cancel_left}
 use Rattle.gts_alphabet.specs.Digits.{dec}
-use Rattle.gts_alphabet.proofs.DigitsLemmas.{length-dec, AllDigits-dec}
+use Rattle.gts_alphabet.proofs.LawLemmas.{length-dec, AllDigits-dec}
 use Rattle.gts_frame.specs.Frame.{frame, IsFramed}
-use Rattle.gts_frame.proofs.FrameLemmas.{same_frames}
+use Rattle.gts_frame.proofs.LawLemmas.{same_frames}
 use Rattle.gts_capture.specs.Capture.{Feed, step_text}
 use Rattle.gts_capture.proofs.CaptureLemmas.{feed_word, feed_is_long, IsFeed-from_text, feed_number, feed_from_parts, message_from_frames}
 use Rattle.gts_capture.proofs.reading.next_feed.Goals as goal
