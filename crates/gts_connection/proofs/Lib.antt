@@ -2,6 +2,7 @@ pub mod ListLemmas
 pub mod ConnectionLemmas
 pub mod FrontLemmas
 pub mod StreamLemmas
+pub mod StepsLemmas
 pub mod CutLemmas
 pub mod ReadingLemmas
 pub mod HereLemmas

@@ -1,3 +1,4 @@
 pub mod Connection
+pub mod Steps
 pub mod Capture
 pub mod Worked

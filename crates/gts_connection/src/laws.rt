@@ -3,8 +3,12 @@ ghost use Rattle.std.specs.List.{list_any, list_all};
 ghost use Rattle.std.specs.Prelude.{◌≡◌, ◌↔◌, ◌+◌, ◌≤◌, ◌++◌, [], ◌∷◌, ℕ, List, IsTrue, true, false, length};
 ghost use Rattle.gts_frame.specs.declared.kind.Kind.{Kind};
 ghost use Rattle.gts_frame.specs.Frame.{frame, IsFramed};
+ghost use Rattle.gts_frame.specs.Decoder.{Decoding, ReadsOn, signs_of_step};
+ghost use Rattle.gts_frame.specs.Signs.{signs_in};
+ghost use Rattle.gts_frame.specs.declared.step.Step.{Step as FrameStep};
 ghost use Rattle.gts_frame.specs.Stream.{IsFront, IsStreamFront, is_front};
 ghost use Rattle.gts_connection.specs.Connection.{IsConnection, connection, events_in, events_added, is_lost};
+ghost use Rattle.gts_connection.specs.Steps.{events_of_signs};
 ghost use Rattle.gts_connection.specs.Capture.{Step, AreSteps, Reading, entries, joined};
 ghost use Rattle.gts_directory.specs.Directory.{Directory};
 ghost use Rattle.gts_event.specs.State.{State};
@@ -51,4 +55,12 @@ pub fn a_capture_has_one_reading()
 /// What a capture does comes on circuits of the directory.
 pub fn a_capture_comes_on_circuits_of_the_directory()
     ensures { (d : Directory) (s : State) (steps : List Step) → AreSteps d steps → IsTrue (list_all (is_here d) (entries d s steps)) }
+{}
+
+/// The events of a connection are those of the signs that its bytes show, and each step of a decoder adds its own.
+pub fn a_connection_has_the_events_of_its_steps()
+    ensures all { (c : ℕ) (bytes : List ℕ) → connection c bytes ≡ events_of_signs c (signs_in bytes) }
+    ensures step { (c : ℕ) (before taken : List ℕ) (step : FrameStep) (now : Decoding)
+        → ReadsOn before taken step now
+        → events_added c before taken ≡ events_of_signs c (signs_of_step step now.message) }
 {}
