@@ -7,3 +7,6 @@ pub mod CutLemmas
 pub mod ReadingLemmas
 pub mod HereLemmas
 pub mod LawLemmas
+pub mod HeadLemmas
+pub mod LengthLemmas
+pub mod PieceLemmas

@@ -18,3 +18,5 @@ pub mod HeldLemmas
 pub mod StandLemmas
 pub mod LawLemmas
 pub mod StateLemmas
+pub mod BulletinLemmas
+pub mod KeepingLemmas

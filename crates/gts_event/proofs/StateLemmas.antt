@@ -8,4 +8,6 @@ pub use Rattle.gts_event.proofs.SaidLemmas.{draws_index}
 pub use Rattle.gts_event.proofs.StartLemmas.{all-below, list_all-parts}
 pub use Rattle.gts_event.proofs.DrainLemmas.{waits_one_less}
 pub use Rattle.gts_event.proofs.ClimbLemmas.{often-climbs}
-pub use Rattle.gts_event.proofs.HeldLemmas.{IsHeld, WasRead, body-read, bulletin-parts, eq_turned, get_below, heading_of_message-read, held-all, held-begun, held-empty, held-entry, sound-few, sound-held}
+pub use Rattle.gts_event.proofs.BulletinLemmas.{IsHeld, WasRead, body-read, bulletin-parts, heading_of_message-read}
+pub use Rattle.gts_event.proofs.HeldLemmas.{eq_turned, held-begun, held-empty, sound-few, sound-held}
+pub use Rattle.gts_event.proofs.KeepingLemmas.{get_below, held-all, held-entry}

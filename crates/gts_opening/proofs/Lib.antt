@@ -8,3 +8,5 @@ pub mod CrashLemmas
 pub mod AppendLemmas
 pub mod CompactLemmas
 pub mod LawLemmas
+pub mod DrawnLemmas
+pub mod AcceptedLemmas
