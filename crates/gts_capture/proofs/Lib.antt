@@ -1,1 +1,4 @@
 pub mod CaptureLemmas
+pub mod HeadLemmas
+pub mod HeldLemmas
+pub mod ProgressLemmas

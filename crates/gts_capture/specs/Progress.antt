@@ -1,0 +1,14 @@
+-- How far a capture was read.
+use Rattle.std.specs.Prelude.{◌≡◌, ℕ, ◌^◌, ◌<◌, false, List, ◌++◌, length, flat_map}
+use Rattle.gts_directory.specs.Directory.{Directory}
+use Rattle.gts_connection.specs.Capture.{Step, step_text, AreSteps}
+use Rattle.gts_capture.specs.Held.{Held}
+
+-- These steps of a capture of a directory were read, and this is left.
+pub record IsReadTo (d : Directory) (bytes : List ℕ) (steps : List Step) (held : Held) (left : List ℕ) : Type 0 where
+  pub circuits : held.circuits ≡ length d.circuits
+  pub full : held.plain ≡ false
+  pub small : length bytes < 2 ^ 64
+  pub are : AreSteps d steps
+  pub text : bytes ≡ flat_map step_text steps ++ left
+  pub place : held.at ≡ length (flat_map step_text steps)
