@@ -1,3 +1,4 @@
 pub mod Connection
 pub mod Capture
+pub mod Words
 pub mod Worked
