@@ -11,7 +11,6 @@ use Rattle.gts_connection.specs.Capture.{Head, FeedHead, TakeHead, ReopenHead, D
 use Rattle.gts_connection.proofs.ListLemmas.{starts_with-append}
 use Rattle.gts_connection.proofs.LengthLemmas.{starts_is}
 
-
 -- ---- lists
 
 -- of two fronts of one list the shorter is a front of the longer

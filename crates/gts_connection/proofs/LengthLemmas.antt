@@ -11,7 +11,6 @@ use Rattle.std.proofs.lemmas.Str.{digit_value_digit}
 use Rattle.gts_frame.specs.Stream.{begins_length}
 use Rattle.gts_event.proofs.StateLemmas.{and_true, both_true, or_left, or_right, or_cases}
 
-
 -- ---- lists
 
 pub take_split : {X : Type 0} (n : ℕ) (xs ys : List X) → take n (xs ++ ys) ≡ take n xs ++ take (n - length xs) ys

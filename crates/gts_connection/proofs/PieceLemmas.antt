@@ -16,7 +16,6 @@ use Rattle.gts_event.proofs.StateLemmas.{and_true, both_true}
 use Rattle.gts_connection.proofs.ConnectionLemmas.{length_in-frame, event_at-frame}
 use Rattle.gts_connection.proofs.FrontLemmas.{is_front-piece}
 
-
 -- ---- the first of the numbers of a range that passes a test
 
 pub record IsFirst (f : ℕ → Bool) (a n k : ℕ) : Type 0 where

@@ -1,4 +1,5 @@
 pub mod Connection
 pub mod Steps
 pub mod Capture
+pub mod Words
 pub mod Worked

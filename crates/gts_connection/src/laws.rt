@@ -1,24 +1,15 @@
 //! Laws over the definitions, each the contract of a function with an empty body.
-ghost use Rattle.std.specs.List.{list_any, list_all};
 ghost use Rattle.std.specs.Prelude.{◌≡◌, ◌↔◌, ◌+◌, ◌≤◌, ◌++◌, [], ◌∷◌, ℕ, List, IsTrue, true, false, length};
-ghost use Rattle.gts_frame.specs.declared.kind.Kind.{Kind};
-ghost use Rattle.gts_frame.specs.Frame.{frame, IsFramed};
-ghost use Rattle.gts_frame.specs.Decoder.{Decoding, ReadsOn, signs_of_step};
-ghost use Rattle.gts_frame.specs.Signs.{signs_in};
-ghost use Rattle.gts_frame.specs.declared.step.Step.{Step as FrameStep};
-ghost use Rattle.gts_frame.specs.Stream.{IsFront, IsStreamFront, is_front};
-ghost use Rattle.gts_connection.specs.Connection.{IsConnection, connection, events_in, events_added, is_lost};
-ghost use Rattle.gts_connection.specs.Steps.{events_of_signs};
-ghost use Rattle.gts_connection.specs.Capture.{Step, AreSteps, Reading, entries, joined};
-ghost use Rattle.gts_directory.specs.Directory.{Directory};
-ghost use Rattle.gts_event.specs.State.{State};
-ghost use Rattle.gts_event.specs.Need.{is_here};
-ghost use Rattle.gts_event.specs.declared.event.Event.{Event};
-ghost use Rattle.gts_event.specs.declared.event.Event.TheVariants.{Heard};
+ghost use Rattle.std.specs.List.{list_any, list_all};
+ghost use Rattle.gts_connection.specs.Words.{Kind, Directory, State, Event, Heard, frame, IsFramed, IsFront, IsStreamFront, is_front, is_here};
+ghost use Rattle.gts_connection.specs.Words.{IsConnection, connection, events_in, events_added, is_lost, Step, AreSteps, Reading, entries, joined};
+ghost use Rattle.gts_connection.specs.Words.{Decoding, ReadsOn, FrameStep, signs_in, signs_of_step, events_of_signs};
 
 /// A frame at the front of a connection is heard, and then what is behind it.
 pub fn a_frame_at_the_front_is_heard()
-    ensures { (c n : ℕ) (kind : Kind) (message rest : List ℕ) → IsFramed message → events_in c (n + 1) (frame kind message ++ rest) ≡ Heard c kind message ∷ events_in c n rest }
+    ensures { (c n : ℕ) (kind : Kind) (message rest : List ℕ) → IsFramed message
+        → events_in c (n + 1) (frame kind message ++ rest)
+        ≡ Heard c kind message ∷ events_in c n rest }
 {}
 
 /// What is computed to be the front of a frame or keep-alive is one, and every one is computed to be one.
@@ -30,31 +21,41 @@ pub fn a_front_is_what_is_computed()
 /// loss exactly where no stream begins with the bytes.
 pub fn a_connection_has_one_reading()
     ensures computed { (c : ℕ) (bytes : List ℕ) → IsConnection c bytes (connection c bytes) }
-    ensures one { (c : ℕ) (bytes : List ℕ) (events others : List Event) → IsConnection c bytes events → IsConnection c bytes others → events ≡ others }
-    ensures kept { (c : ℕ) (bytes : List ℕ) → (list_any is_lost (connection c bytes) ≡ false) ↔ IsStreamFront bytes }
+    ensures one { (c : ℕ) (bytes : List ℕ) (events others : List Event)
+        → IsConnection c bytes events → IsConnection c bytes others → events ≡ others }
+    ensures kept { (c : ℕ) (bytes : List ℕ)
+        → (list_any is_lost (connection c bytes) ≡ false) ↔ IsStreamFront bytes }
 {}
 
 /// More bytes only add events, two pieces add what each adds in turn, and after a loss nothing is added.
 pub fn more_bytes_only_add_events()
-    ensures added { (c : ℕ) (before more : List ℕ) → connection c (before ++ more) ≡ connection c before ++ events_added c before more }
-    ensures twice { (c : ℕ) (before x y : List ℕ) → events_added c before (x ++ y) ≡ events_added c before x ++ events_added c (before ++ x) y }
-    ensures lost { (c : ℕ) (before more : List ℕ) → IsTrue (list_any is_lost (connection c before)) → events_added c before more ≡ [] }
+    ensures added { (c : ℕ) (before more : List ℕ)
+        → connection c (before ++ more) ≡ connection c before ++ events_added c before more }
+    ensures twice { (c : ℕ) (before x y : List ℕ) → events_added c before (x ++ y)
+        ≡ events_added c before x ++ events_added c (before ++ x) y }
+    ensures lost { (c : ℕ) (before more : List ℕ)
+        → IsTrue (list_any is_lost (connection c before)) → events_added c before more ≡ [] }
 {}
 
 /// Captures that differ only in how feeds are cut have the same entries.
 pub fn feeds_may_be_cut_anywhere()
-    ensures { (d : Directory) (s : State) (steps others : List Step) → AreSteps d steps → AreSteps d others → joined steps ≡ joined others → entries d s steps ≡ entries d s others }
+    ensures { (d : Directory) (s : State) (steps others : List Step) → AreSteps d steps
+        → AreSteps d others → joined steps ≡ joined others → entries d s steps ≡ entries d s others }
 {}
 
 /// Any bytes are read as a capture, up to some place, and in one way: two digits tell up to 100 circuits apart.
 pub fn a_capture_has_one_reading()
-    ensures some { (d : Directory) (bytes : List ℕ) → (steps : List Step) × (at : ℕ) × Reading d bytes steps at }
-    ensures one { (d : Directory) (bytes : List ℕ) (steps others : List Step) (at place : ℕ) → length d.circuits ≤ 100 → Reading d bytes steps at → Reading d bytes others place → (steps ≡ others) × (at ≡ place) }
+    ensures some { (d : Directory) (bytes : List ℕ)
+        → (steps : List Step) × (at : ℕ) × Reading d bytes steps at }
+    ensures one { (d : Directory) (bytes : List ℕ) (steps others : List Step) (at place : ℕ)
+        → length d.circuits ≤ 100 → Reading d bytes steps at → Reading d bytes others place
+        → (steps ≡ others) × (at ≡ place) }
 {}
 
 /// What a capture does comes on circuits of the directory.
 pub fn a_capture_comes_on_circuits_of_the_directory()
-    ensures { (d : Directory) (s : State) (steps : List Step) → AreSteps d steps → IsTrue (list_all (is_here d) (entries d s steps)) }
+    ensures { (d : Directory) (s : State) (steps : List Step)
+        → AreSteps d steps → IsTrue (list_all (is_here d) (entries d s steps)) }
 {}
 
 /// The events of a connection are those of the signs that its bytes show, and each step of a decoder adds its own.

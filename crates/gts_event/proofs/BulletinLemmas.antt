@@ -25,7 +25,6 @@ use Rattle.gts_event.proofs.OrderLemmas.{list_all_more, list_all-has}
 use Rattle.gts_event.proofs.DrainLemmas.{waits_one_less}
 use Rattle.gts_event.proofs.ClimbLemmas.{Climbs, climbs-push, often, often-push, often-climbs}
 
-
 -- ---- what an accepted message is, and what a request asks for
 
 abbrev outcome_from : Directory → State → ℕ → Result MessageParts Field → Outcome

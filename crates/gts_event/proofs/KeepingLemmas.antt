@@ -21,7 +21,6 @@ use Rattle.gts_event.proofs.OrderLemmas.{list_all_more, ordered-entry, ordered-a
 use Rattle.gts_event.proofs.ClimbLemmas.{Climbs, climbs-push}
 use Rattle.gts_event.proofs.BulletinLemmas.{asked_fits, WasRead, was_read, body-read, body_at-read, heading-read, heading_of_message-read, positions, bulletin-from, bulletin-more, all_positions_below, HeldCircuit, IsHeld, held_owing, held_drew, held_more, held_routed}
 
-
 -- ---- what each entry keeps
 
 held_with : (d : Directory) (s : State) (c : ℕ) (r : CircuitState) → IsHeld d s → IsOrdered d (record s { circuits = set s.circuits c r })

@@ -137,7 +137,8 @@ BothCircuits =
 abbrev pub RefusedFields : Type 0
 RefusedFields =
     let history : List Entry =
-    heard 0 (codes "001") (codes "SMVG01 TVSV 282400") (codes "NIL=") ∷ heard 0 (codes "001") (codes "SMVG01 TVSV 280000 COR") (codes "NIL=") ∷ [] in
+    heard 0 (codes "001") (codes "SMVG01 TVSV 282400") (codes "NIL=")
+    ∷ heard 0 (codes "001") (codes "SMVG01 TVSV 280000 COR") (codes "NIL=") ∷ [] in
     (channel two 0 (history ++ first ∷ []) ≡ codes "REF 0 Hour\nREF 0 BBB\nACC 0 0 1 SMVG01 TVSV 280000\n")
     × (after_all two (empty two) history ≡ empty two)
 
@@ -169,8 +170,8 @@ abbrev pub Duplicates : Type 0
 Duplicates =
     let revised : List ℕ = codes "SMVG01 TVSV 280000 RRA" in
     let history : List Entry =
-    first ∷ heard 0 (codes "002") report (codes "NIL=") ∷ second ∷ heard 0 (codes "003") revised (codes "NIL=") ∷ take_on 1 ∷ take_on 1 ∷ take_on 1
-    ∷ take_on 1 ∷ [] in
+    first ∷ heard 0 (codes "002") report (codes "NIL=") ∷ second ∷ heard 0 (codes "003") revised (codes "NIL=")
+    ∷ take_on 1 ∷ take_on 1 ∷ take_on 1 ∷ take_on 1 ∷ [] in
     (channel two 0 history
     ≡ codes "ACC 0 0 1 SMVG01 TVSV 280000\nDUP 0 0\nACC 0 1 1 SMVG01 TVSV 280000\nACC 0 2 1 SMVG01 TVSV 280000 RRA\n")
     × (channel two 2 history
@@ -187,7 +188,8 @@ WindowOfOne =
 -- Of two recent equal bulletins, which only a start can have, the later one is the duplicate.
 abbrev pub LaterDuplicate : Type 0
 LaterDuplicate =
-    let start : Need = start_of 3 (reported 0 (codes "NIL=") ∷ reported 1 (codes "NIM=") ∷ reported 2 (codes "NIL=") ∷ []) (with_draws 0 [] []) in
+    let bulletins : List Bulletin = reported 0 (codes "NIL=") ∷ reported 1 (codes "NIM=") ∷ reported 2 (codes "NIL=") ∷ [] in
+    let start : Need = start_of 3 bulletins (with_draws 0 [] []) in
     (is_sound two start ≡ true) × (channel_bytes 0 (said two (begun start) (first ∷ [])) ≡ codes "DUP 0 2\n")
 
 -- ---- draws and their numbers
@@ -245,7 +247,8 @@ HeadingsAsked =
     let request : Entry = asked 1 (codes "BBBB\r\r\nAHD SMVG01 TVSV 280000/SMVG99 TVSV 280000=") in
     let history : List Entry = first ∷ take_on 1 ∷ second ∷ request ∷ take_on 1 ∷ take_on 1 ∷ take_on 1 ∷ [] in
     (channel two 0 history ≡ codes "ACC 0 0 1 SMVG01 TVSV 280000\nACC 0 1 1 SMVG01 TVSV 280000\nASK 1 1 1\n")
-    × (channel two 2 history ≡ frame_of (codes "001") (codes "NIL=") ++ frame_of (codes "001") (codes "NIL=") ++ frame_of (codes "002") (codes "NIM="))
+    × (channel two 2 history
+    ≡ frame_of (codes "001") (codes "NIL=") ++ frame_of (codes "001") (codes "NIL=") ++ frame_of (codes "002") (codes "NIM="))
 
 -- Of two draws with one heading the later one is found; and what two requests ask for is owed in the order asked.
 abbrev pub LaterDraw : Type 0

@@ -28,7 +28,6 @@ use Rattle.gts_opening.specs.Room.{room}
 use Rattle.gts_event.proofs.StateLemmas.{both_true, has_filter, routed, IsHeld, WasRead, body-read, heading_of_message-read}
 use Rattle.gts_opening.proofs.DrawnLemmas.{bare, bare_state, due-bare, StepOk}
 
-
 -- ---- bulletins
 
 -- what an accepted message is, and where it comes

@@ -14,7 +14,6 @@ use Rattle.gts_record.specs.Record.{Record, Drew, record_size}
 use Rattle.gts_opening.specs.Room.{room}
 use Rattle.gts_event.proofs.StateLemmas.{both_true, has_filter, owing, drew, draws_waiting, find_passes, draws_unowed, list_all-has, draws_index, waits_one_less, often-climbs, IsHeld, get_below}
 
-
 -- ---- a state with nothing owed
 
 abbrev pub bare : CircuitState → CircuitState

@@ -176,7 +176,10 @@ abbrev pub file_opens : Directory → ℕ → List ℕ → Opened
 file_opens d file bytes =
     elim (length bytes == 0) [
       | true ↦ Err NoJournal
-      | false ↦ elim (starts_with nat_eq bytes magic) [ false ↦ Err (Damaged file (agreeing magic bytes)) | true ↦ behind_magic d file bytes ]
+      | false ↦ elim (starts_with nat_eq bytes magic) [
+        | false ↦ Err (Damaged file (agreeing magic bytes))
+        | true ↦ behind_magic d file bytes
+      ]
     ]
 
 -- what the selected file opens to

@@ -65,7 +65,8 @@ opened_once = Ok (need two (restarted (begun need_of_one_draw)))
 abbrev pub JournalOpens : Type 0
 JournalOpens =
     (opens two (files_of journal_of_one_draw) ≡ opened_once) × (opens two (files_of (journal_of_one_draw ++ 1 ∷ 2 ∷ 3 ∷ [])) ≡ opened_once)
-    × (opens two (second_of (1 ∷ 7 ∷ []) journal_of_one_draw) ≡ opened_once) × (opens two (second_of (2 ∷ []) journal_of_one_draw) ≡ Err NoJournal)
+    × (opens two (second_of (1 ∷ 7 ∷ []) journal_of_one_draw) ≡ opened_once)
+    × (opens two (second_of (2 ∷ []) journal_of_one_draw) ≡ Err NoJournal)
 
 -- a byte of the journal is another one
 abbrev pub with_byte : ℕ → ℕ → Files
@@ -179,7 +180,8 @@ CheckpointOpens =
     (length compacted_file ≡ 147) × (opens two (second_of (1 ∷ []) compacted_file) ≡ opened_once)
     × (opens two (files_of (slice_set compacted_file 52 2)) ≡ Err (Damaged 0 41))
     × (opens (with_limit 146) (files_of compacted_file) ≡ Err (Damaged 0 41))
-    × (opens two (files_of (file_text (range_with_len 0 32) (open_gate ∷ checkpoint_text waiting_start) (Drew 1 0 0 ∷ []) (0x43 ∷ []))) ≡ opened_once)
+    × (opens two (files_of (file_text (range_with_len 0 32) (open_gate ∷ checkpoint_text waiting_start) (Drew 1 0 0 ∷ []) (0x43 ∷ [])))
+    ≡ opened_once)
     × (opens two (files_of (take 110 journal_of_one_draw ++ drop 40 compacted_file)) ≡ Err (Damaged 0 111))
 
 -- ---- causes, readings, and what a crash leaves
@@ -210,7 +212,8 @@ NoCauses =
 abbrev pub DoubtReadings : Type 0
 DoubtReadings =
     let entries : List Entry = first ∷ Doubt (Taken 1) ∷ [] in
-    IsReading entries (first ∷ take_on 1 ∷ []) × IsReading entries (first ∷ []) × IsReading (first ∷ take_on 1 ∷ []) (first ∷ take_on 1 ∷ [])
+    IsReading entries (first ∷ take_on 1 ∷ []) × IsReading entries (first ∷ [])
+    × IsReading (first ∷ take_on 1 ∷ []) (first ∷ take_on 1 ∷ [])
 
 -- After one bulletin and one draw a crash leaves both entries, and all that they said or a front of it; with the gate of the
 -- draw closed it leaves the first, and with the gate of the bulletin closed none.
