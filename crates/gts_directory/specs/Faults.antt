@@ -83,13 +83,16 @@ level_fault n row = first_of
     ∷ unless (is_within 1 LOWEST_LEVEL row.level) (BadLevel n)
     ∷ [])
 
--- more rows than a part may have
-abbrev pub too_many : Rows → Option DirFault
-too_many rows = first_of
-    (unless (nat_le (length rows.circuits) MOST_CIRCUITS) (TooMany part.Circuit)
-    ∷ unless (nat_le (length rows.rules) MOST_RULES) (TooMany part.Rule)
-    ∷ unless (nat_le (length rows.levels) MOST_LEVELS) (TooMany part.Level)
+-- more circuits, rules and level rows than there may be
+abbrev pub too_many_of : ℕ → ℕ → ℕ → Option DirFault
+too_many_of circuits rules levels = first_of
+    ( unless (nat_le circuits MOST_CIRCUITS) (TooMany part.Circuit)
+    ∷ unless (nat_le rules MOST_RULES) (TooMany part.Rule)
+    ∷ unless (nat_le levels MOST_LEVELS) (TooMany part.Level)
     ∷ [])
+
+abbrev pub too_many : Rows → Option DirFault
+too_many rows = too_many_of (length rows.circuits) (length rows.rules) (length rows.levels)
 
 -- the first fault of all, in this order
 abbrev pub first_fault : Rows → Option DirFault

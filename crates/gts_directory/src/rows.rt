@@ -128,8 +128,8 @@ impl DirRows {
         self.rules.as_slice()
     }
 
-    /// The level rows.
-    pub(crate) fn levels(&self) -> &[LevelRow]
+    /// The level rows so far.
+    pub fn levels(&self) -> &[LevelRow]
         ensures { result.now ≡ self.now.levels }
     {
         self.levels.as_slice()

@@ -1,0 +1,9 @@
+use Rattle.std.proofs.Common.{◌≡◌, map, drop, is_some}
+use Rattle.std.specs.List.{list_all}
+use Rattle.toml.specs.Data.{as_table}
+use Rattle.toml.specs.View.{view}
+use Rattle.gts_dirfile.specs.Values as values
+use Rattle.gts_dirfile.proofs.values.are_tables.Given as goal
+
+abbrev pub invariant-loop-item : goal.invariant-loop-item
+invariant-loop-item l = list_all (λ value. is_some (as_table value)) (map view (drop l.item-index l.items)) ≡ list_all (λ value. is_some (as_table value)) (map view l.items)
