@@ -1,3 +1,5 @@
 mod ReadingLemmas
 mod ChannelsLemmas
 mod PastLemmas
+mod MarkLemmas
+mod CrashLemmas

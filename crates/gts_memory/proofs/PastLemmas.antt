@@ -1,12 +1,13 @@
 -- The files and channels have what the kept calls leave.
-use Rattle.std.proofs.Common.{◌≡◌, ℕ, ◌<◌, List, [], ◌∷◌, ◌++◌, set, get_or, Result, Ok, Err, Option, Vec, replicate, refl, sym, ◌∙◌, ap}
-use Rattle.std.specs.Prelude.{OnOk, OnErr}
+use Rattle.std.proofs.Common.{◌≡◌, ℕ, ◌<◌, List, [], ◌∷◌, ◌++◌, set, get_or, Result, Ok, Err, Option, Vec, replicate, refl, sym, ◌∙◌, ap, arith}
+use Rattle.std.specs.Prelude.{OnOk, OnErr, nat_lt, Bool, true, cond}
+use Rattle.std.proofs.lemmas.Bool.Decides.{nat_tests}
 use Rattle.std.specs.declared.alloc.Global.{Global}
 use Rattle.gts_alphabet.specs.declared.limits.TheConstants.{CHANNELS}
-use Rattle.gts_traits.specs.Station.{Call, Did, Says}
+use Rattle.gts_traits.specs.Station.{Did, Broken, Says}
 use Rattle.gts_memory.specs.declared.deed.Made.{Made}
 use Rattle.gts_memory.specs.declared.past.Past.TheInside.{Inside}
-use Rattle.gts_memory.specs.Past.{Noted, did, calls_of, three_files, contents, KeepsChannels}
+use Rattle.gts_memory.specs.Past.{did, calls_of, three_files, contents}
 use Rattle.gts_memory.specs.DeedView.{past_of}
 use Rattle.gts_memory.specs.PastView.{PastIsSound}
 use Rattle.gts_memory.proofs.ChannelsLemmas.{KeepsChannels-say, KeepsChannels-silent}
@@ -20,7 +21,9 @@ pub said_is_sound : {E : Type 0} (result : Result (Unit {0}) E) (p : Inside) (ma
     → PastIsSound (record { made = made; files = p.files; channels = channels })
 said_is_sound (Ok _) p made channels number channel bytes inside sound noted said not_noted not_said =
     let calls = calls_of (past_of p.made.items) in
-    let grown : calls_of (past_of made.items) ≡ Did (Says channel bytes) ∷ calls = ap calls_of noted in
+    let fit : nat_lt channel CHANNELS ≡ true = grind (arith, nat_tests) in
+    let grown : calls_of (past_of made.items) ≡ Did (Says channel bytes) ∷ calls =
+    ap calls_of noted ∙ ap (λ (b : Bool). cond b (Did (Says channel bytes)) (Broken (Says channel bytes) []) ∷ calls) fit in
     record {
       files = sound.files ∙ sym (ap three_files grown);
       channels = rw (grown, said) (KeepsChannels-say (contents p.channels.items) calls channel bytes inside sound.channels);

@@ -1,5 +1,5 @@
 -- The calls that a station in memory keeps, newest first, and what they leave.
-use Rattle.std.specs.Prelude.{◌≡◌, ◌⊎◌, ℕ, ◌<◌, List, [], ◌∷◌, ◌++◌, length, map, reverse, slice_index_or, Bool, true, false, nat_le, if◌then◌else◌, Option, Some, Result, Ok, Err, Vec}
+use Rattle.std.specs.Prelude.{◌≡◌, ◌⊎◌, ℕ, ◌<◌, List, [], ◌∷◌, length, map, slice_index_or, Bool, true, false, nat_le, nat_lt, ◌&&◌, if◌then◌else◌, Option, Some, Result, Ok, Err, Vec}
 use Rattle.std.specs.declared.alloc.Global.{Global}
 use Rattle.gts_alphabet.specs.declared.limits.TheConstants.{CHANNELS}
 use Rattle.gts_traits.specs.Station.{Doing, Writes, Cuts, Syncs, Says, Call, Did, Broken, seen, said_by, channel_bytes}
@@ -22,12 +22,12 @@ abbrev pub Keeps : {T E : Type 0} → ℕ → Doing → Result T E → List Note
 Keeps number doing (Ok _) old new = new ≡ did (Some number) doing ∷ old
 Keeps number doing (Err _) old new = (new ≡ broke (Some number) doing ∷ old) ⊎ (new ≡ old)
 
--- the call began within its file
+-- the call names a file and a place in it, or a channel
 abbrev pub fits : Doing → List Call → Bool
-fits (Writes file at bytes) calls = nat_le at (length (seen calls file))
-fits (Cuts file size) calls = nat_le size (length (seen calls file))
+fits (Writes file at bytes) calls = nat_lt file 3 && nat_le at (length (seen calls file))
+fits (Cuts file size) calls = nat_lt file 3 && nat_le size (length (seen calls file))
 fits Syncs calls = true
-fits (Says channel bytes) calls = true
+fits (Says channel bytes) calls = nat_lt channel CHANNELS
 
 -- a call that broke changed nothing, and said nothing
 abbrev pub unchanged : Doing → List Call → List ℕ
@@ -36,17 +36,17 @@ unchanged (Cuts file size) calls = seen calls file
 unchanged Syncs calls = []
 unchanged (Says channel bytes) calls = []
 
--- a kept call, after these calls
-abbrev pub call_of : Noted → List Call → Call
-call_of noted calls =
-    if noted.done
-    then (if fits noted.doing calls then Did noted.doing else Broken noted.doing (unchanged noted.doing calls))
-    else Broken noted.doing (unchanged noted.doing calls)
+-- a kept call, after these calls: one that wasn't done, or doesn't fit, broke
+abbrev pub kept_call : Bool → Doing → List Call → Call
+kept_call done doing calls =
+    if done
+    then (if fits doing calls then Did doing else Broken doing (unchanged doing calls))
+    else Broken doing (unchanged doing calls)
 
 -- the kept calls as a disk sees them
 abbrev pub calls_of : List Noted → List Call
 calls_of [] = []
-calls_of (noted ∷ past) = call_of noted (calls_of past) ∷ calls_of past
+calls_of (noted ∷ past) = kept_call noted.done noted.doing (calls_of past) ∷ calls_of past
 
 -- the three files
 abbrev pub three_files : List Call → List (List ℕ)

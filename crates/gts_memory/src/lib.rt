@@ -3,18 +3,22 @@
 #![tactic(auto)]
 
 mod counter;
+mod crash;
 mod deed;
+mod left;
 mod lines;
 mod noting;
 mod past;
 mod sink;
 mod source;
 mod station;
+mod touched;
 
 pub use lines::MemLines;
 pub use sink::MemSink;
 pub use source::MemSource;
 pub use station::MemStation;
+pub use touched::Touched;
 
 #[cfg(test)]
 mod tests;

@@ -1,11 +1,14 @@
-ghost use Rattle.std.specs.Prelude.{◌≡◌, ◌<◌, ◌≤◌, ◌⊎◌, [], ◌∷◌, length, IfOk, OnOk, OnErr};
-ghost use Rattle.gts_traits.specs.{CHANNELS, Writes, Cuts, Syncs, Says, seen, said_by, channel_bytes};
+ghost use Rattle.std.specs.Prelude.{◌≡◌, ◌<◌, ◌≤◌, ◌⊎◌, ℕ, [], ◌∷◌, length, IfOk, OnOk, OnErr};
+ghost use Rattle.gts_traits.specs.{CHANNELS, Writes, Cuts, Syncs, Says, seen, said_by, channel_bytes, IsSynced};
 ghost use Rattle.gts_memory.specs.Past.{Noted, did, broke, calls_of};
 ghost use Rattle.gts_memory.specs.DeedView.{doing_of};
+ghost use Rattle.gts_memory.specs.Crash.{before, laid, IsLeft};
 
+use crate::crash::{left_by_crash, say_again};
 use crate::deed::{Deed, Made};
 use crate::noting::{cut, note, say, silent_channels, write};
-use gts_traits::NoMemory;
+use crate::touched::Touched;
+use gts_traits::{NoMemory, a_synced_file_has_one_image};
 use std::alloc::Global;
 use std::marker::Model;
 
@@ -141,5 +144,43 @@ impl Past {
         ensures { result.now ≡ channel_bytes channel (said_by (calls_of self.now)) }
     {
         &self.channels[channel as usize]
+    }
+
+    /// The past that a crash in the call with that number may leave: what was said before it, and files that are synced.
+    pub(crate) fn crashed(
+        &self,
+        alloc: Global,
+        call: u64,
+        choice: Touched,
+    ) -> Result<Past, NoMemory>
+        ensures said { IfOk result (λ past. said_by (calls_of past)
+            ≡ said_by (calls_of (before call self.now))) }
+        ensures synced { IfOk result (λ past. (k : ℕ) → IsSynced (calls_of past) k) }
+        ensures image { IfOk result (λ past. IsLeft call self.now (seen (calls_of past))) }
+    {
+        a_synced_file_has_one_image();
+        let first = left_by_crash(alloc, &self.made, call, 0, choice)?;
+        let second = left_by_crash(alloc, &self.made, call, 1, choice)?;
+        let third = left_by_crash(alloc, &self.made, call, 2, choice)?;
+        let mut past = Past::new(alloc)?;
+        say_again(alloc, &self.made, call, &mut past)?;
+        past.lay(alloc, &first, &second, &third)?;
+        Ok(past)
+    }
+
+    /// Writes three empty files, and syncs.
+    fn lay(
+        &mut self,
+        alloc: Global,
+        first: &[u8],
+        second: &[u8],
+        third: &[u8],
+    ) -> Result<(), NoMemory>
+        ensures { OnOk result (self.new ≡ laid first.now second.now third.now self.old) }
+    {
+        self.write(alloc, None, 0, 0, first)?;
+        self.write(alloc, None, 1, 0, second)?;
+        self.write(alloc, None, 2, 0, third)?;
+        self.sync(None)
     }
 }

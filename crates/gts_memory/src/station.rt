@@ -1,11 +1,13 @@
-ghost use Rattle.std.specs.Prelude.{◌≡◌, ◌+◌, ◌-◌, ◌^◌, ◌<◌, ◌≤◌, [], length, take, drop, min, IfOk, OnOk, is_err};
-ghost use Rattle.gts_traits.specs.{CHANNELS, HasCause, Writes, Cuts, Syncs, Says, Tries, seen, said_by, channel_bytes};
+ghost use Rattle.std.specs.Prelude.{◌≡◌, ◌+◌, ◌-◌, ◌^◌, ◌<◌, ◌≤◌, ℕ, [], length, take, drop, min, IfOk, OnOk, is_err};
+ghost use Rattle.gts_traits.specs.{CHANNELS, HasCause, Writes, Cuts, Syncs, Says, Tries, seen, said_by, channel_bytes, IsSynced};
 ghost use Rattle.gts_memory.specs.Counter.{no_calls, is_listed, Counted};
 ghost use Rattle.gts_memory.specs.Past.{Keeps, calls_of};
+ghost use Rattle.gts_memory.specs.Crash.{before, IsLeft};
 
 use crate::counter::Counter;
 use crate::deed::Deed;
 use crate::past::Past;
+use crate::touched::Touched;
 use gts_traits::{Failed, NoMemory, Station};
 use std::alloc::Global;
 use std::marker::Model;
@@ -63,6 +65,28 @@ impl MemStation {
         ensures { result.now ≡ channel_bytes channel (said_by (calls_of self.now.past)) }
     {
         self.past.said(channel)
+    }
+
+    /// The station that a crash in the call with that number may leave. It has what was said before that call, and files
+    /// that are synced; none of its calls is to fail, and they are counted from 0 anew.
+    pub fn crashed(&self, call: u64, choice: Touched) -> Result<MemStation, NoMemory>
+        requires { call < self.now.count.calls }
+        ensures said { IfOk result (λ station. said_by (calls_of station.past)
+            ≡ said_by (calls_of (before call self.now.past))) }
+        ensures synced { IfOk result (λ station. (k : ℕ) → IsSynced (calls_of station.past) k) }
+        ensures image { IfOk result
+            (λ station. IsLeft call self.now.past (seen (calls_of station.past))) }
+        ensures anew { IfOk result (λ station. station.count ≡ no_calls []) }
+        ensures disk { IfOk result (λ station. station.disk_faults ≡ 0) }
+        ensures say { IfOk result (λ station. station.say_faults ≡ 0) }
+    {
+        Ok(MemStation {
+            alloc: self.alloc,
+            past: self.past.crashed(self.alloc, call, choice)?,
+            counter: Counter::unfailing(self.alloc),
+            disk_faults: 0,
+            say_faults: 0,
+        })
     }
 
     /// How many calls were made, those that failed and those that only looked among them.

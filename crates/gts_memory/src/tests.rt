@@ -106,3 +106,38 @@ fn each_object_is_used_by_its_trait(rt: HostRuntime) -> Result<(), Fail> {
     assert_eq!(rt; sink.bytes(), b"frames".as_slice());
     Ok(())
 }
+
+/// Says, writes and syncs, writes over that, and says again.
+fn write_over<S: Station>(station: &mut S) -> Result<(), Failed>
+    requires { S.tells → S.calls station.old ≡ [] }
+{
+    station.say(0, b"one")?;
+    write_synced(station, 0, 0, b"abc")?;
+    station.write_at(0, 1, b"xyz")?;
+    station.say(0, b"two")
+}
+
+#[test]
+fn a_crash_leaves_the_synced_bytes_or_others_where_a_write_was(
+    rt: HostRuntime,
+) -> Result<(), Fail> {
+    let mut station = MemStation::new(rt.alloc(), &[])?;
+    assert_eq!(rt; write_over(&mut station), Ok(()));
+    let cases = [
+        (1, Touched::Old, b"".as_slice()),
+        (1, Touched::New, b"abc".as_slice()),
+        (2, Touched::Fill(48), b"000".as_slice()),
+        (3, Touched::Old, b"abc".as_slice()),
+        (3, Touched::New, b"axyz".as_slice()),
+        (3, Touched::Fill(48), b"a000".as_slice()),
+        (4, Touched::New, b"axyz".as_slice()),
+    ];
+    for (call, choice, file) in cases {
+        assert!(rt; call < station.calls());
+        let crashed = station.crashed(call, choice)?;
+        assert_eq!(rt; crashed.file(0), file, "{call}");
+        assert_eq!(rt; crashed.said(0), b"one".as_slice());
+        assert_eq!(rt; crashed.calls(), 0);
+    }
+    Ok(())
+}
