@@ -1,4 +1,4 @@
-ghost use Rattle.std.specs.Prelude.{◌≡◌, ◌<◌, ◌≤◌, ◌+◌, ◌++◌, List, ℕ, IsTrue, IfOk, IsOkAnd, length, take, drop};
+ghost use Rattle.std.specs.Prelude.{◌≡◌, ◌<◌, ◌≤◌, ◌+◌, ◌++◌, List, ℕ, IsTrue, IsNone, IsSome, IfOk, IsOkAnd, length, take, drop};
 ghost use Rattle.gts_heading.specs.Letters.{are_capitals, is_group};
 
 use crate::{Cursor, Field};
@@ -83,6 +83,10 @@ impl Heading {
         ensures written { take result into.new ≡ heading_text (fields_of self.now) }
         ensures length { result ≡ length (heading_text (fields_of self.now)) }
         ensures short { result ≤ 22 }
+        // What is written is a heading: 18 bytes, and with a group 22.
+        ensures heading { IsHeading (fields_of self.now) }
+        ensures plain { IsNone self.now.bbb → result ≡ 18 }
+        ensures grouped { IsSome self.now.bbb → result ≡ 22 }
     {
         let at = put(into, 0, &self.tt);
         let at = put(into, at, &self.aa);
