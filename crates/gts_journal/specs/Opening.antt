@@ -2,7 +2,7 @@
 use Rattle.std.specs.Prelude.{◌≡◌, ◌==◌, ℕ, Bool, true, false, not, nat_eq, nat_lt, if◌then◌else◌, List, ◌∷◌, length, take, drop, Option, Some, None, codes}
 use Rattle.std.specs.List.{starts_with}
 use Rattle.std.specs.Cmp.Lexicographic.{pointwise}
-use Rattle.gts_traits.specs.Station.{Call, Files}
+use Rattle.gts_traits.specs.Station.{Call, Files, seen}
 use Rattle.gts_record.specs.Record.{magic, open_gate}
 use Rattle.gts_record.specs.declared.fault.OpenFault.{OpenFault}
 use Rattle.gts_record.specs.declared.fault.OpenFault.TheVariants.{NoJournal, NotThis, Damaged, DiskFault, NoMemory}
@@ -46,12 +46,7 @@ abbrev pub IsFoundIn : Option ℕ → Files → Type 0
 IsFoundIn None files = is_begun files ≡ false
 IsFoundIn (Some size) files = (is_begun files ≡ true) × (size ≡ length (selected_bytes files))
 
--- why no journal was made
-abbrev pub IsExisting : InitFault → Files → Type 0
-IsExisting (Exists size) files = IsFoundIn (Some size) files
-IsExisting init.DiskFault files = Unit {0}
-
--- where a journal exists, nothing is done
-abbrev pub IsUnchanged : InitFault → List Call → List Call → Type 0
-IsUnchanged (Exists size) old new = new ≡ old
-IsUnchanged init.DiskFault old new = Unit {0}
+-- why no journal was made: one is there, of this size, and nothing is done
+abbrev pub IsExisting : InitFault → List Call → List Call → Type 0
+IsExisting (Exists size) old new = IsFoundIn (Some size) (seen old) × (new ≡ old)
+IsExisting init.DiskFault old new = Unit {0}

@@ -60,6 +60,14 @@ HasGoneOn j (Some r) next = (next.file ≡ j.file) × (next.gate ≡ j.gate + re
 abbrev pub with_record : List ℕ → ℕ → texts.Record → List ℕ
 with_record file gate r = take gate file ++ open_gate ∷ record_text r ++ closed_gate ∷ drop (gate + record_size r + 1) file
 
+-- the journal's file with a record at its end
+abbrev pub file_with : List Call → InHand → texts.Record → List ℕ
+file_with calls j r = with_record (file_of calls j) j.gate r
+
+-- a record and a closed gate were put in the place of what was read ahead
+abbrev pub staged : InHand → texts.Record → InHand
+staged j r = record j { ahead = record_text r ++ closed_gate ∷ []; is_all = false }
+
 -- the journal behind a record that was appended
 abbrev pub beyond : InHand → texts.Record → InHand
 beyond j r = record j { gate = j.gate + record_size r; ahead = []; is_all = false }
