@@ -83,7 +83,7 @@ impl MemStation {
         Ok(MemStation {
             alloc: self.alloc,
             past: self.past.crashed(self.alloc, call, choice)?,
-            counter: Counter::unfailing(self.alloc),
+            counter: Counter::failing_at(Vec::new(self.alloc)),
             disk_faults: 0,
             say_faults: 0,
         })
