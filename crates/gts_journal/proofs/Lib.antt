@@ -3,3 +3,5 @@ mod GateLemmas
 mod AppendLemmas
 mod AheadLemmas
 mod OpeningLemmas
+mod OpensLemmas
+pub mod LawLemmas

@@ -4,6 +4,7 @@
 
 mod appending;
 mod fault;
+mod laws;
 mod making;
 mod opening;
 mod reading;
@@ -12,6 +13,10 @@ pub use fault::InitFault;
 use gts_alphabet::LONGEST_BODY;
 pub use gts_record::{OpenFault, Record};
 pub use gts_traits::Failed;
+pub use laws::{
+    a_file_opens_behind_its_header, a_gate_is_read_as_defined, a_say_leaves_the_journal,
+    an_append_adds_one_record, an_opening_changes_nothing, images_open_to_the_state,
+};
 use std::marker::Model;
 
 /// An open gate.
