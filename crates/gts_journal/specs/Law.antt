@@ -1,12 +1,12 @@
 -- What the journal's files open to, before and after an append.
-use Rattle.std.specs.Prelude.{◌≡◌, ◌⊎◌, ◌+◌, true, false, List, [], Ok}
+use Rattle.std.specs.Prelude.{◌≡◌, ◌⊎◌, ℕ, ◌+◌, true, false, List, [], drop, Ok}
 use Rattle.gts_traits.specs.Station.{Outside, Call, Files, seen}
 use Rattle.gts_directory.specs.Directory.{Directory}
 use Rattle.gts_event.specs.State.{State}
 use Rattle.gts_event.specs.History.{after, restarted}
 use Rattle.gts_event.specs.Need.{need}
-use Rattle.gts_record.specs.Record.{Record, IsRecord}
-use Rattle.gts_opening.specs.Journal.{admits, event_of_record, files_open, opens}
+use Rattle.gts_record.specs.Record.{Record, record_size, IsRecord}
+use Rattle.gts_opening.specs.Journal.{admits, event_of_record, Opened, records_at, files_open, opens}
 use Rattle.gts_journal.specs.Hand.{InHand}
 use Rattle.gts_journal.specs.Standing.{StandsOn, file_of}
 use Rattle.gts_journal.specs.Opening.{is_checkpoint}
@@ -34,3 +34,8 @@ OpensToEither d s r files outside = (outside ≡ []) × (OpensTo d s files ⊎ O
 -- nothing is said, and the files open to the same state
 abbrev pub OpensAsBefore : Directory → State → Files → Outside → Type 0
 OpensAsBefore d s files outside = (outside ≡ []) × OpensTo d s files
+
+-- the records behind this one, which stands at the gate
+abbrev pub records_behind : Directory → ℕ → ℕ → State → ℕ → List ℕ → Record → Opened
+records_behind d n file s gate bytes r =
+    records_at d n file (after d s (event_of_record r)) (gate + record_size r) (drop (record_size r) bytes)

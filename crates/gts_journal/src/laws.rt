@@ -7,7 +7,7 @@ ghost use Rattle.gts_record.specs.declared.fault.OpenFault.{OpenFault};
 ghost use Rattle.gts_record.specs.declared.fault.OpenFault.TheVariants.{Damaged};
 ghost use Rattle.gts_opening.specs.Journal.{event_of_record, admits, file_opens};
 ghost use Rattle.gts_opening.specs.Words.{Call, Files, seen, IsImage, EachSince, Directory, State, empty, Record, records_at};
-ghost use Rattle.gts_journal.specs.{InHand, StandsOn, LeavesEither, HasAppended, entry_at, OnlySyncs, header_fault, is_checkpoint, StandsFor, IsNext, OpensTo, OpensToEither, OpensAsBefore, record_size};
+ghost use Rattle.gts_journal.specs.{InHand, StandsOn, LeavesEither, HasAppended, entry_at, OnlySyncs, header_fault, is_checkpoint, StandsFor, IsNext, OpensTo, OpensToEither, OpensAsBefore, records_behind};
 
 /// Each image of a journal that stands for a state opens to the need of that state.
 pub fn images_open_to_the_state()
@@ -35,8 +35,8 @@ pub fn an_append_adds_one_record()
 
 /// What is said, or fails to be, leaves a journal where it stands, and what it stands for.
 pub fn a_say_leaves_the_journal()
-    ensures stands { (channel : ℕ) (bytes : List ℕ) (result : Answer) (old new : List Call) (j : InHand)
-        → Tries (Says channel bytes) result old new → StandsOn old j → StandsOn new j }
+    ensures stands { (channel : ℕ) (bytes : List ℕ) (result : Answer) (old new : List Call)
+        (j : InHand) → Tries (Says channel bytes) result old new → StandsOn old j → StandsOn new j }
     ensures state { (d : Directory) (s : State) (channel : ℕ) (bytes : List ℕ) (result : Answer)
         (old new : List Call) (j : InHand) → Tries (Says channel bytes) result old new
         → StandsFor d s old j → StandsFor d s new j }
@@ -54,15 +54,14 @@ pub fn a_file_opens_behind_its_header()
 /// What is read at a gate is what the definitions find there.
 pub fn a_gate_is_read_as_defined()
     ensures found { (d : Directory) (s : State) (n file gate : ℕ) (bytes : List ℕ) (r : Record)
-        → entry_at file gate bytes ≡ Ok (Some r) → admits d s (gate + 1) r ≡ true → let t = after d s (event_of_record r)
-        in records_at d (suc n) file s gate bytes ≡ records_at d n file t (gate + record_size r) (drop (record_size r) bytes) }
+        → entry_at file gate bytes ≡ Ok (Some r) → admits d s (gate + 1) r ≡ true
+        → records_at d (suc n) file s gate bytes ≡ records_behind d n file s gate bytes r }
     ensures refused { (d : Directory) (s : State) (n file gate : ℕ) (bytes : List ℕ) (r : Record)
         → entry_at file gate bytes ≡ Ok (Some r) → admits d s (gate + 1) r ≡ false
         → records_at d (suc n) file s gate bytes ≡ Err (Damaged file (gate + 1)) }
     ensures end { (d : Directory) (s : State) (n file gate : ℕ) (bytes : List ℕ)
         → entry_at file gate bytes ≡ Ok None
         → records_at d (suc n) file s gate bytes ≡ Ok (s, gate + 1) }
-    ensures fault { (d : Directory) (s : State) (n file gate : ℕ) (bytes : List ℕ) (fault : OpenFault)
-        → entry_at file gate bytes ≡ Err fault
-        → records_at d (suc n) file s gate bytes ≡ Err fault }
+    ensures fault { (d : Directory) (s : State) (n file gate : ℕ) (bytes : List ℕ) (e : OpenFault)
+        → entry_at file gate bytes ≡ Err e → records_at d (suc n) file s gate bytes ≡ Err e }
 {}

@@ -19,6 +19,9 @@ pub use laws::{
 };
 use std::marker::Model;
 
+#[cfg(test)]
+mod tests;
+
 /// An open gate.
 const OPEN: u8 = 0x4f;
 
