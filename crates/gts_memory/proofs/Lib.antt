@@ -3,3 +3,4 @@ mod ChannelsLemmas
 mod PastLemmas
 mod MarkLemmas
 mod CrashLemmas
+mod SayingLemmas

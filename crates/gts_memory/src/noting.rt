@@ -1,7 +1,7 @@
-ghost use Rattle.std.specs.Prelude.{◌≡◌, ◌+◌, ◌<◌, ◌≤◌, [], ◌∷◌, ◌++◌, replicate, slice_set, slice_index_or, take, length, vec_len, vec_capacity, IfOk, OnOk, OnErr, true, false};
+ghost use Rattle.std.specs.Prelude.{◌≡◌, ◌+◌, ◌<◌, ◌≤◌, [], ◌∷◌, ◌++◌, replicate, slice_set, slice_index_or, take, length, vec_len, vec_capacity, slice_get, Some, IsNone, IfSome, IfOk, OnOk, OnErr, true, false};
 ghost use Rattle.gts_traits.specs.{CHANNELS, Writes, Cuts, Says, overwritten};
-ghost use Rattle.gts_memory.specs.Past.{did, contents};
-ghost use Rattle.gts_memory.specs.DeedView.{noted_of, past_of};
+ghost use Rattle.gts_memory.specs.Past.{did, contents, saying_of, sayings};
+ghost use Rattle.gts_memory.specs.DeedView.{doing_of, noted_of, past_of};
 
 use crate::deed::{Deed, Made};
 use gts_alphabet::CHANNELS;
@@ -139,4 +139,40 @@ pub(crate) fn say(
             done: true,
         },
     )
+}
+
+/// What a kept call said: a say that was done, with its channel and its bytes.
+fn said_in(kept: &Made) -> Option<(u32, &[u8])>
+    ensures none { IsNone result → saying_of kept.now.done (doing_of kept.now.deed) ≡ [] }
+    ensures some { IfSome result (λ said.
+        saying_of kept.now.done (doing_of kept.now.deed) ≡ (said.0, said.1.now) ∷ []) }
+{
+    if !kept.done {
+        return None;
+    }
+    match &kept.deed {
+        Deed::Say { channel, bytes } => Some((*channel, bytes.as_slice())),
+        Deed::Write { .. } => None,
+        Deed::Cut { .. } => None,
+        Deed::Sync => None,
+    }
+}
+
+/// The saying with that number, from 0, of calls that were done.
+pub(crate) fn saying(made: &[Made], k: u64) -> Option<(u32, &[u8])>
+    ensures none { IsNone result → length (sayings (past_of made.now)) ≤ k }
+    ensures some { IfSome result (λ said.
+        slice_get (sayings (past_of made.now)) k ≡ Some (said.0, said.1.now)) }
+{
+    let mut count = 0;
+    for kept in made {
+        let Some(said) = said_in(kept) else {
+            continue;
+        };
+        if count == k {
+            return Some(said);
+        }
+        count += 1;
+    }
+    None
 }

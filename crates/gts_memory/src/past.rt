@@ -1,12 +1,12 @@
-ghost use Rattle.std.specs.Prelude.{◌≡◌, ◌<◌, ◌≤◌, ◌⊎◌, ℕ, [], ◌∷◌, length, IfOk, OnOk, OnErr};
+ghost use Rattle.std.specs.Prelude.{◌≡◌, ◌<◌, ◌≤◌, ◌⊎◌, ℕ, [], ◌∷◌, length, slice_get, Some, IsNone, IfSome, IfOk, OnOk, OnErr};
 ghost use Rattle.gts_traits.specs.{CHANNELS, Writes, Cuts, Syncs, Says, seen, said_by, channel_bytes, IsSynced};
-ghost use Rattle.gts_memory.specs.Past.{Noted, did, broke, calls_of};
+ghost use Rattle.gts_memory.specs.Past.{Noted, did, broke, calls_of, sayings};
 ghost use Rattle.gts_memory.specs.DeedView.{doing_of};
 ghost use Rattle.gts_memory.specs.Crash.{before, laid, IsLeft};
 
 use crate::crash::{left_by_crash, say_again};
 use crate::deed::{Deed, Made};
-use crate::noting::{cut, note, say, silent_channels, write};
+use crate::noting::{cut, note, say, saying, silent_channels, write};
 use crate::touched::Touched;
 use gts_traits::{NoMemory, a_synced_file_has_one_image};
 use std::alloc::Global;
@@ -144,6 +144,15 @@ impl Past {
         ensures { result.now ≡ channel_bytes channel (said_by (calls_of self.now)) }
     {
         &self.channels[channel as usize]
+    }
+
+    /// Channel and bytes of the say with that number, from 0, of those that were done. `None` where there are no more.
+    pub(crate) fn saying(&self, k: u64) -> Option<(u32, &[u8])>
+        ensures none { IsNone result → length (sayings self.now) ≤ k }
+        ensures some { IfSome result (λ said.
+            slice_get (sayings self.now) k ≡ Some (said.0, said.1.now)) }
+    {
+        saying(&self.made, k)
     }
 
     /// The past that a crash in the call with that number may leave: what was said before it, and files that are synced.

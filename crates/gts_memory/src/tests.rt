@@ -150,3 +150,14 @@ fn a_crash_leaves_the_synced_bytes_or_others_where_a_write_was(
     }
     Ok(())
 }
+
+#[test]
+fn sayings_are_counted_from_0(rt: HostRuntime) -> Result<(), Fail> {
+    let mut station = MemStation::new(rt.alloc(), &[1])?;
+    assert_eq!(rt; write_over(&mut station), Err(Failed));
+    assert_eq!(rt; station.say(7, b"again"), Ok(()));
+    assert!(rt; station.saying(0) == Some((0, b"one".as_slice())));
+    assert!(rt; station.saying(1) == Some((7, b"again".as_slice())));
+    assert!(rt; station.saying(2).is_none());
+    Ok(())
+}
