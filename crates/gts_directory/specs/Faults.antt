@@ -86,7 +86,7 @@ level_fault n row = first_of
 -- more circuits, rules and level rows than there may be
 abbrev pub too_many_of : ℕ → ℕ → ℕ → Option DirFault
 too_many_of circuits rules levels = first_of
-    ( unless (nat_le circuits MOST_CIRCUITS) (TooMany part.Circuit)
+    (unless (nat_le circuits MOST_CIRCUITS) (TooMany part.Circuit)
     ∷ unless (nat_le rules MOST_RULES) (TooMany part.Rule)
     ∷ unless (nat_le levels MOST_LEVELS) (TooMany part.Level)
     ∷ [])
