@@ -1,5 +1,5 @@
 -- The parts of a directory file, and which of its keys are bad (profile).
-use Rattle.std.specs.Prelude.{ℕ, min, Bool, List, [], ◌∷◌, Option, Some, None, option_and_then, option_map, is_some, codes}
+use Rattle.std.specs.Prelude.{ℕ, min, List, [], ◌∷◌, Option, Some, option_and_then, is_some, codes}
 use Rattle.gts_directory.specs.declared.fault.DirFault.{DirFault}
 use Rattle.gts_directory.specs.declared.fault.DirFault.TheVariants.{BadKey}
 use Rattle.gts_directory.specs.declared.fault.Part.{Part}

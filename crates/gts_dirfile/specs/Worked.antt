@@ -1,7 +1,7 @@
 -- Literal directory files.
 use Rattle.std.specs.Prelude.{◌≡◌, ℕ, ◌+◌, List, [], ◌∷◌, ◌++◌, Result, Ok, Err, codes, replicate}
 use Rattle.gts_directory.specs.declared.fault.DirFault.{DirFault}
-use Rattle.gts_directory.specs.declared.fault.DirFault.TheVariants.{TooLong, NotToml, BadKey, TooMany, TwoNames, UnknownCircuit, BadPattern, BadLimit, BadLevel}
+use Rattle.gts_directory.specs.declared.fault.DirFault.TheVariants.{TooLong, NotToml, BadKey, TwoNames, UnknownCircuit, BadPattern, BadLimit, BadLevel}
 use Rattle.gts_directory.specs.declared.fault.Part.TheVariants as part
 use Rattle.gts_directory.specs.Directory.{Directory, two_circuits}
 use Rattle.gts_dirfile.specs.declared.limits.TheConstants.{LONGEST_DIRECTORY}
@@ -21,6 +21,9 @@ top = lines (codes "centre = \"TVSV\"" ∷ [])
 
 abbrev pub circuit_a : List ℕ
 circuit_a = lines (codes "[[circuit]]" ∷ codes "name = \"A\"" ∷ codes "peer = \"AAAA\"" ∷ [])
+
+abbrev pub circuit_keeping_none : List ℕ
+circuit_keeping_none = circuit_a ++ lines (codes "kept = 0" ∷ [])
 
 -- a circuit with these lines
 abbrev pub circuit : List (List ℕ) → List ℕ
@@ -82,7 +85,7 @@ FaultsOfNames = (read (top ++ circuit_a ++ circuit_b ++ rule (codes "\"****** **
 abbrev pub FaultsOfValues : Type 0
 FaultsOfValues = (read (codes "centre = \"tvsv\"") ≡ Err (BadPattern part.Top 0))
     × (read (top ++ circuit_a ++ rule (codes "\"sm**** ****\"") (codes "[\"A\"]")) ≡ Err (BadPattern part.Rule 0))
-    × (read (top ++ circuit_a ++ codes "kept = 0") ≡ Err (BadLimit part.Circuit 0))
+    × (read (top ++ circuit_keeping_none) ≡ Err (BadLimit part.Circuit 0))
     × (read (top ++ level (codes "tt = \"WW\"" ∷ codes "level = 5" ∷ [])) ≡ Err (BadLevel 0))
 
 -- Of two faults the one that stands first in the order is told, whatever their places in the text.
@@ -92,4 +95,4 @@ FirstOfTwoFaults = (read (lines (codes "colour = 1" ∷ []) ++ circuit (codes "c
     × (read (top ++ circuit_a ++ circuit_a ++ level []) ≡ Err (BadKey part.Level 0))
     × (read (top ++ circuit_a ++ circuit_a ++ rule (codes "\"****** ****\"") (codes "[\"Z\"]")) ≡ Err (TwoNames 1))
     × (read (lines (codes "centre = \"tvsv\"" ∷ []) ++ rule (codes "\"****** ****\"") (codes "[\"Z\"]")) ≡ Err (UnknownCircuit 0))
-    × (read (top ++ circuit_a ++ lines (codes "kept = 0" ∷ []) ++ rule (codes "\"sm**** ****\"") (codes "[\"A\"]")) ≡ Err (BadLimit part.Circuit 0))
+    × (read (top ++ circuit_keeping_none ++ rule (codes "\"sm**** ****\"") (codes "[\"A\"]")) ≡ Err (BadLimit part.Circuit 0))

@@ -1,4 +1,4 @@
-use Rattle.std.proofs.Common.{◌≡◌, [], map, get_or, sym, ◌∙◌, ap, arith, rules}
+use Rattle.std.proofs.Common.{[], get_or, ◌∙◌, ap}
 use Rattle.gts_directory.specs.declared.rows.CircuitRow.{CircuitRow}
 use Rattle.gts_directory.specs.declared.fault.DirFault.TheVariants.{TwoNames}
 use Rattle.gts_directory.specs.Faults.{two_names, unless}
