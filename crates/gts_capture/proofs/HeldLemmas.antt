@@ -1,5 +1,5 @@
 -- What is held, and what is left of a capture.
-use Rattle.std.proofs.Common.{◌≡◌, ℕ, ◌+◌, ◌-◌, ◌^◌, ◌<◌, ◌≤◌, min, List, [], ◌∷◌, ◌++◌, length, take, drop, refl, sym, ap, subst, ◌∙◌, append_assoc, arith, length-append}
+use Rattle.std.proofs.Common.{◌≡◌, ℕ, ◌+◌, ◌-◌, ◌<◌, ◌≤◌, List, [], ◌∷◌, ◌++◌, length, take, drop, sym, ap, subst, ◌∙◌, append_assoc, arith, length-append}
 use Rattle.std.proofs.lemmas.List.{take-append-drop, drop-take, drop-drop, append-nil, length-take-le, length-drop, take-append-le}
 use Rattle.std.proofs.Math.Seq.{take-append-add, take-append_seam}
 use borrow.Rule.Slice.PartMut.{put_mid, post_of}
@@ -7,7 +7,7 @@ use Rattle.gts_alphabet.specs.Digits.{dec}
 use Rattle.gts_connection.specs.Capture.{FeedHead, TakeHead, ReopenHead, DrainHead, RestartHead, CompactHead, EndHead, head_text}
 use Rattle.gts_connection.specs.Capture as capture
 use Rattle.gts_capture.specs.declared.head.Head.{Head}
-use Rattle.gts_capture.specs.declared.head_cursor.Stop.TheVariants.{More, Bad}
+use Rattle.gts_capture.specs.declared.head_cursor.Stop.TheVariants.{Bad}
 use Rattle.gts_capture.specs.Heads.{head_of, IsPartIn}
 use Rattle.gts_capture.specs.Held.{Held, BeginsWithHead, IsStop, counted_to, IsBadAt, BadByte, EndsInHead}
 

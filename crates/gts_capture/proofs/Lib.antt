@@ -1,4 +1,5 @@
 pub mod CaptureLemmas
+pub mod HeadFieldLemmas
 pub mod HeadLemmas
 pub mod HeldLemmas
 pub mod ProgressLemmas

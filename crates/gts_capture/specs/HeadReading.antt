@@ -58,7 +58,11 @@ end_at head bytes = do
 -- capture; E is 69.
 abbrev pub is_letter : (circuits : ℕ) → (plain : Bool) → ℕ → Bool
 is_letter circuits plain byte =
-    (nat_lt 0 circuits && ((byte == 70) || (byte == 84) || (byte == 79) || (byte == 68))) || (not plain && ((byte == 82) || (byte == 67))) || (byte == 69)
+    (nat_lt 0 circuits && ((byte == 70) || (byte == 84) || (byte == 79) || (byte == 68)))
+    || (not plain && ((byte == 82) || (byte == 67))) || (byte == 69)
+
+abbrev pub letter_at : (circuits : ℕ) → (plain : Bool) → List ℕ → Result (ℕ × List ℕ) Stop
+letter_at circuits plain bytes = byte_where (is_letter circuits plain) bytes
 
 -- what stands behind the first byte of a head
 unfoldable pub behind_letter : ℕ → ℕ × List ℕ → Result (Head × List ℕ) Stop
@@ -71,4 +75,4 @@ behind_letter circuits first =
 
 -- a head at the front
 unfoldable pub head_at : (circuits : ℕ) → (plain : Bool) → List ℕ → Result (Head × List ℕ) Stop
-head_at circuits plain bytes = byte_where (is_letter circuits plain) bytes >>= behind_letter circuits
+head_at circuits plain bytes = letter_at circuits plain bytes >>= behind_letter circuits

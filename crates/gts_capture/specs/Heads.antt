@@ -30,7 +30,8 @@ IsHeadIn circuits plain EndHead = Unit {0}
 
 -- some head begins with these bytes, and goes on behind them
 abbrev pub IsPartIn : (circuits : ℕ) → (plain : Bool) → List ℕ → Type 0
-IsPartIn circuits plain bytes = (head : Head) × (next : ℕ) × (more : List ℕ) × IsHeadIn circuits plain head × (head_text head ≡ bytes ++ next ∷ more)
+IsPartIn circuits plain bytes =
+    (head : Head) × (next : ℕ) × (more : List ℕ) × IsHeadIn circuits plain head × (head_text head ≡ bytes ++ next ∷ more)
 
 -- some head begins with these bytes
 abbrev pub IsFrontIn : (circuits : ℕ) → (plain : Bool) → List ℕ → Type 0

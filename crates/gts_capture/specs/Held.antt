@@ -18,6 +18,10 @@ pub record Held : Type 0 where
   pub at : ℕ
   pub feed : ℕ
 
+-- before the first byte of a capture
+abbrev pub at_start : (circuits : ℕ) → (plain : Bool) → Held
+at_start circuits plain = record { circuits = circuits; plain = plain; ahead = []; at = 0; feed = 0 }
+
 -- a head stands at the front of these bytes, and these behind it
 pub record BeginsWithHead (circuits : ℕ) (plain : Bool) (bytes : List ℕ) (head : Head) (rest : List ℕ) : Type 0 where
   pub valid : IsHeadIn circuits plain (head_of head)
@@ -41,8 +45,9 @@ pub record IsSameCapture (old new : Held) : Type 0 where
 
 -- What is left is bad at a place: at the first byte that no capture has there, or where the bytes end in a head.
 pub data IsBadAt (held : Held) (left : List ℕ) (at : ℕ) : Type 0 where
-  BadByte : (front : List ℕ) (byte : ℕ) (unread : List ℕ) → IsPartIn held.circuits held.plain front → (IsFrontIn held.circuits held.plain (front ++ byte ∷ []) → ⊥)
-      → left ≡ front ++ byte ∷ unread → at ≡ counted_to (held.at + length front) → IsBadAt held left at
+  BadByte : (front : List ℕ) (byte : ℕ) (unread : List ℕ) → IsPartIn held.circuits held.plain front
+      → (IsFrontIn held.circuits held.plain (front ++ byte ∷ []) → ⊥) → left ≡ front ++ byte ∷ unread
+      → at ≡ counted_to (held.at + length front) → IsBadAt held left at
   EndsInHead : IsPartIn held.circuits held.plain left → at ≡ counted_to (held.at + length left) → IsBadAt held left at
 
 -- What is left ends in a feed: nothing is left of it, and bytes of it are still to come.

@@ -1,8 +1,9 @@
 -- How far a capture was read.
-use Rattle.std.specs.Prelude.{◌≡◌, ℕ, ◌^◌, ◌<◌, false, List, ◌++◌, length, flat_map}
+use Rattle.std.specs.Prelude.{◌≡◌, ℕ, ◌+◌, ◌^◌, ◌<◌, false, List, ◌++◌, length, flat_map}
 use Rattle.gts_directory.specs.Directory.{Directory}
-use Rattle.gts_connection.specs.Capture.{Step, step_text, AreSteps}
-use Rattle.gts_capture.specs.Held.{Held}
+use Rattle.gts_connection.specs.Capture.{Step, head_of, step_text, AreSteps}
+use Rattle.gts_capture.specs.Heads.{IsHeadIn}
+use Rattle.gts_capture.specs.Held.{Held, IsSameCapture, counted_to}
 
 -- These steps of a capture of a directory were read, and this is left.
 pub record IsReadTo (d : Directory) (bytes : List ℕ) (steps : List Step) (held : Held) (left : List ℕ) : Type 0 where
@@ -12,3 +13,10 @@ pub record IsReadTo (d : Directory) (bytes : List ℕ) (steps : List Step) (held
   pub are : AreSteps d steps
   pub text : bytes ≡ flat_map step_text steps ++ left
   pub place : held.at ≡ length (flat_map step_text steps)
+
+-- The next step of what is left was read, and so much is left behind it.
+pub record Passes (step : Step) (old new : Held) (before after : List ℕ) : Type 0 where
+  pub valid : IsHeadIn old.circuits old.plain (head_of step)
+  pub text : before ≡ step_text step ++ after
+  pub same : IsSameCapture old new
+  pub place : new.at ≡ counted_to (old.at + length (step_text step))

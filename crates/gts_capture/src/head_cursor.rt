@@ -77,8 +77,8 @@ impl<'a> HeadCursor<'a> {
     /// Reads the first byte of a head.
     fn letter(&mut self, circuits: u32, plain: bool) -> Result<u8, Stop>
         ensures { MatchResult result
-            (λ letter. reading.byte_where (reading.is_letter circuits plain) self.old ≡ Ok (letter, self.new))
-            (λ stop. reading.byte_where (reading.is_letter circuits plain) self.old ≡ Err stop) }
+            (λ letter. reading.letter_at circuits plain self.old ≡ Ok (letter, self.new))
+            (λ stop. reading.letter_at circuits plain self.old ≡ Err stop) }
     {
         let (letter, rest) = self.rest.split_first().ok_or(Stop::More)?;
         if !is_letter(circuits, plain, *letter) {

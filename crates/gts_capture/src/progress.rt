@@ -2,20 +2,17 @@
 
 ghost use Rattle.std.specs.Prelude.{◌≡◌, ℕ, ◌+◌, ◌^◌, ◌<◌, [], ◌∷◌, ◌++◌, List, false, length};
 ghost use Rattle.gts_directory.specs.Directory.{Directory};
-ghost use Rattle.gts_connection.specs.Capture.{Step, Feed, FeedHead, EndHead, head_of, head_text, step_text, IsHead, Reading};
-ghost use Rattle.gts_capture.specs.Heads.{IsHeadIn};
-ghost use Rattle.gts_capture.specs.Held.{Held, IsSameCapture, IsBadAt, counted_to};
-ghost use Rattle.gts_capture.specs.Progress.{IsReadTo};
+ghost use Rattle.gts_connection.specs.Capture.{Step, Feed, FeedHead, EndHead, head_text, IsHead, Reading};
+ghost use Rattle.gts_capture.specs.Held.{Held, IsBadAt, at_start};
+ghost use Rattle.gts_capture.specs.Progress.{IsReadTo, Passes};
 
 /// No step was read of a capture at first, and a step more when its head and its bytes were read.
 pub fn a_capture_is_read_step_by_step()
-    ensures begins { (d : Directory) (bytes : List ℕ) (held : Held) → length bytes < 2 ^ 64
-        → held ≡ record { circuits = length d.circuits; plain = false; ahead = []; at = 0; feed = 0 }
-        → IsReadTo d bytes [] held bytes }
-    ensures step { (d : Directory) (bytes before after : List ℕ) (steps : List Step) (step : Step) (old new : Held)
-        → IsReadTo d bytes steps old before → IsHeadIn old.circuits old.plain (head_of step)
-        → before ≡ step_text step ++ after → IsSameCapture old new
-        → new.at ≡ counted_to (old.at + length (step_text step)) → IsReadTo d bytes (steps ++ step ∷ []) new after }
+    ensures begins { (d : Directory) (bytes : List ℕ) → length bytes < 2 ^ 64
+        → IsReadTo d bytes [] (at_start (length d.circuits) false) bytes }
+    ensures step { (d : Directory) (bytes before after : List ℕ) (steps : List Step) (step : Step)
+        (old new : Held) → IsReadTo d bytes steps old before → Passes step old new before after
+        → IsReadTo d bytes (steps ++ step ∷ []) new after }
 {}
 
 /// Where the end was read, where what is left is bad, or where the bytes end in a feed, the steps that were read are those
@@ -26,7 +23,7 @@ pub fn the_steps_that_were_read_are_the_captures()
         → Reading d bytes steps (held.at + length (head_text EndHead)) }
     ensures bad { (d : Directory) (bytes left : List ℕ) (steps : List Step) (held : Held) (at : ℕ)
         → IsReadTo d bytes steps held left → IsBadAt held left at → Reading d bytes steps at }
-    ensures cut { (d : Directory) (bytes left piece : List ℕ) (steps : List Step) (held : Held) (c size : ℕ)
-        → IsReadTo d bytes steps held left → IsHead d (FeedHead c size) → length piece < size
-        → left ≡ head_text (FeedHead c size) ++ piece → Reading d bytes (steps ++ Feed c piece ∷ []) (length bytes) }
+    ensures cut { (d : Directory) (bytes piece : List ℕ) (steps : List Step) (held : Held) (c n : ℕ)
+        → IsReadTo d bytes steps held (head_text (FeedHead c n) ++ piece) → IsHead d (FeedHead c n)
+        → length piece < n → Reading d bytes (steps ++ Feed c piece ∷ []) (length bytes) }
 {}

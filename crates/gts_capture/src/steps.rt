@@ -1,7 +1,7 @@
 ghost use Rattle.std.specs.Prelude.{◌≡◌, ◌+◌, ◌-◌, ◌<◌, ◌≤◌, ◌↔◌, ◌++◌, [], ℕ, IsTrue, IfOk, IfErr, OnErr, Err, true, false, length, take, drop, min};
 ghost use Rattle.gts_traits.specs.Counts.{HasCause};
 ghost use Rattle.gts_capture.specs.Heads.{head_of, line_of, IsHeadIn, bytes_announced};
-ghost use Rattle.gts_capture.specs.Held.{BeginsWithHead, IsStop, IsSameCapture, IsBadAt, EndsInFeed, StopsInHead, StopsInFeed, HasSourceCause, counted_to};
+ghost use Rattle.gts_capture.specs.Held.{BeginsWithHead, IsStop, IsSameCapture, IsBadAt, EndsInFeed, StopsInHead, StopsInFeed, HasSourceCause, at_start, counted_to};
 
 use crate::capture_fault::CaptureFault;
 use crate::head::Head;
@@ -32,7 +32,13 @@ impl Model for Steps {
 
     ghost Value = { Held };
 
-    ghost view = { λ s. record { circuits = s.circuits; plain = s.plain; ahead = take (s.end - s.start) (drop s.start s.buffer); at = s.at; feed = s.feed } };
+    ghost view = { λ s. record {
+      circuits = s.circuits;
+      plain = s.plain;
+      at = s.at;
+      feed = s.feed;
+      ahead = take (s.end - s.start) (drop s.start s.buffer);
+    } };
 
     ghost invariant = { λ s. (s.start ≤ s.end) × (s.end ≤ BUFFER) × (s.circuits ≤ 100) };
 }
@@ -41,7 +47,7 @@ impl Steps {
     /// A reader of a capture of so many circuits, before its first byte.
     pub fn new(circuits: u32) -> Steps
         requires { circuits ≤ 100 }
-        ensures { result ≡ record { circuits = circuits; plain = false; ahead = []; at = 0; feed = 0 } }
+        ensures { result ≡ at_start circuits false }
     {
         Steps::of(circuits, false)
     }
@@ -50,14 +56,14 @@ impl Steps {
     /// begin no head.
     pub fn plain(circuits: u32) -> Steps
         requires { circuits ≤ 100 }
-        ensures { result ≡ record { circuits = circuits; plain = true; ahead = []; at = 0; feed = 0 } }
+        ensures { result ≡ at_start circuits true }
     {
         Steps::of(circuits, true)
     }
 
     fn of(circuits: u32, plain: bool) -> Steps
         requires { circuits ≤ 100 }
-        ensures { result ≡ record { circuits = circuits; plain = plain; ahead = []; at = 0; feed = 0 } }
+        ensures { result ≡ at_start circuits plain }
     {
         Steps {
             circuits,
@@ -76,11 +82,13 @@ impl Steps {
     /// then what is held is the beginning of a head, and all that stands before it was handed on.
     pub fn next<S: Source>(&mut self, source: &mut S) -> Result<Head, CaptureFault>
         requires taken { self.old.feed ≡ 0 }
-        ensures told { S.tells → IfOk result (λ head.
-            self.old.ahead ++ S.left source.old ≡ line_of head ++ (self.new.ahead ++ S.left source.new)) }
-        ensures valid { IfOk result (λ head. IsHeadIn self.old.circuits self.old.plain (head_of head)) }
+        ensures told { S.tells → IfOk result (λ head. self.old.ahead ++ S.left source.old
+            ≡ line_of head ++ (self.new.ahead ++ S.left source.new)) }
+        ensures valid { IfOk result (λ head.
+            IsHeadIn self.old.circuits self.old.plain (head_of head)) }
         ensures feed { IfOk result (λ head. self.new.feed ≡ bytes_announced (head_of head)) }
-        ensures at { IfOk result (λ head. self.new.at ≡ counted_to (self.old.at + length (line_of head))) }
+        ensures at { IfOk result (λ head.
+            self.new.at ≡ counted_to (self.old.at + length (line_of head))) }
         ensures bad { S.tells → (at : ℕ) → result ≡ Err (CaptureFault.Bad at)
             → IsBadAt self.old (self.old.ahead ++ S.left source.old) at }
         ensures source_fault { S.tells → result ≡ Err CaptureFault.SourceFault
@@ -109,8 +117,8 @@ impl Steps {
         source: &mut S,
         into: &mut [u8],
     ) -> Result<usize, CaptureFault>
-        ensures told { S.tells → IfOk result (λ count.
-            self.old.ahead ++ S.left source.old ≡ take count into.new ++ (self.new.ahead ++ S.left source.new)) }
+        ensures told { S.tells → IfOk result (λ count. self.old.ahead ++ S.left source.old
+            ≡ take count into.new ++ (self.new.ahead ++ S.left source.new)) }
         ensures most { IfOk result (λ count. count ≤ min (length into.old) self.old.feed) }
         ensures some { IfOk result (λ count. count ≡ 0 → min (length into.old) self.old.feed ≡ 0) }
         ensures feed { IfOk result (λ count. self.new.feed + count ≡ self.old.feed) }
@@ -138,7 +146,8 @@ impl Steps {
         ensures stop { IfErr result (IsStop self.old.circuits self.old.plain self.old.ahead) }
         ensures unchanged { OnErr result (self.new ≡ self.old) }
         ensures feed { IfOk result (λ head. self.new.feed ≡ bytes_announced (head_of head)) }
-        ensures at { IfOk result (λ head. self.new.at ≡ counted_to (self.old.at + length (line_of head))) }
+        ensures at { IfOk result (λ head.
+            self.new.at ≡ counted_to (self.old.at + length (line_of head))) }
         ensures same { IsSameCapture self.old self.new }
     {
         let held = &self.buffer[self.start..self.end];
@@ -152,7 +161,8 @@ impl Steps {
     /// The fault at the byte behind which all but so many of the held ones stand.
     fn bad(&self, left: usize) -> CaptureFault
         requires { left ≤ length self.now.ahead }
-        ensures { result ≡ CaptureFault.Bad (counted_to (self.now.at + (length self.now.ahead - left))) }
+        ensures { result ≡ CaptureFault.Bad
+            (counted_to (self.now.at + (length self.now.ahead - left))) }
     {
         let good = self.end - self.start - left;
         CaptureFault::Bad {
@@ -170,9 +180,11 @@ impl Steps {
     /// Reads further bytes behind those that are held, and answers how many: 0 only at the source's end.
     fn fill<S: Source>(&mut self, source: &mut S) -> Result<usize, Failed>
         requires { length self.old.ahead < BUFFER }
-        ensures told { S.tells → IfOk result (λ count. self.new.ahead ++ S.left source.new ≡ self.old.ahead ++ S.left source.old) }
+        ensures told { S.tells → IfOk result (λ count.
+            self.new.ahead ++ S.left source.new ≡ self.old.ahead ++ S.left source.old) }
         ensures end { S.tells → IfOk result (λ count. count ≡ 0 → S.left source.old ≡ []) }
-        ensures count { IfOk result (λ count. length self.new.ahead ≡ length self.old.ahead + count) }
+        ensures count { IfOk result (λ count.
+            length self.new.ahead ≡ length self.old.ahead + count) }
         ensures others { self.new ≡ record self.old { ahead = self.new.ahead } }
         ensures unchanged { OnErr result (self.new ≡ self.old) }
         ensures untaken { S.tells → OnErr result (S.left source.new ≡ S.left source.old) }

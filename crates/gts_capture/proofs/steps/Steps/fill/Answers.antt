@@ -1,4 +1,4 @@
-use Rattle.std.proofs.Common.{◌≡◌, ℕ, ◌+◌, ◌-◌, List, ◌++◌, length, take, drop, sym, ap, ◌∙◌, append_assoc, arith}
+use Rattle.std.proofs.Common.{◌≡◌, ℕ, ◌+◌, ◌-◌, List, ◌++◌, take, drop, sym, ap, ◌∙◌, append_assoc, arith}
 use borrow.Rule.Slice.PartMut.{put_mid}
 use Rattle.gts_capture.specs.Held.{Held}
 use Rattle.gts_capture.proofs.HeldLemmas.{filled}

@@ -1,4 +1,4 @@
-use Rattle.std.proofs.Common.{◌≡◌, ℕ, ◌+◌, ◌-◌, ◌<◌, List, ◌++◌, length, ap, subst, ◌∙◌, arith}
+use Rattle.std.proofs.Common.{◌≡◌, ℕ, ◌+◌, ◌-◌, ◌++◌, length, ap, subst, ◌∙◌, arith}
 use Rattle.gts_capture.specs.Held.{Held, IsStop, counted_to}
 use Rattle.gts_capture.proofs.HeldLemmas.{part_is_short, stop_is_bad, bad_since}
 use Rattle.gts_capture.proofs.steps.Steps.next.Goals as goal
