@@ -1,5 +1,6 @@
 -- The objects in memory, as contracts see them.
-use Rattle.std.specs.Prelude.{ℕ, Bool, false, List, [], slice_index_or}
+use Rattle.std.specs.Prelude.{ℕ, Bool, false, List, [], slice_index_or, ◌==◌, ◌+◌, ◌&&◌, nat_le, nat_lt, if◌then◌else◌}
+use Rattle.gts_traits.specs.Counts.{counted}
 use Rattle.gts_memory.specs.Counter.{Count, no_calls}
 use Rattle.gts_memory.specs.Past.{Noted}
 
@@ -29,9 +30,18 @@ pub record CircuitInMemory : Type 0 where
   pub failing : List ℕ
   pub sent : SinkInMemory
 
+-- a place is one of so many from the first on
+abbrev pub is_within : ℕ → ℕ → ℕ → Bool
+is_within at count place = nat_le at place && nat_lt place (at + count)
+
 -- a circuit on which nothing happened
 abbrev pub still : CircuitInMemory
 still = record { opened = false; faults = 0; fed = []; failing = []; sent = record { written = []; count = no_calls []; faults = 0 } }
+
+-- a circuit whose sockets came back, with so many faults of theirs
+abbrev pub handed_back : CircuitInMemory → SinkInMemory → ℕ → CircuitInMemory
+handed_back circuit sent failed =
+    record circuit { opened = false; sent = sent; faults = (if failed == 0 then circuit.faults else counted circuit.faults) }
 
 -- count has the calls of open; circuits has a place for each circuit
 pub record LinesInMemory : Type 0 where

@@ -1,7 +1,7 @@
 ghost use Rattle.std.specs.Prelude.{◌≡◌, ◌≢◌, ◌+◌, ◌<◌, ◌==◌, ◌++◌, ℕ, true, false, [], IfOk, OnOk, OnErr, is_err, if◌then◌else◌, replicate};
 ghost use Rattle.gts_traits.specs.{MOST_CIRCUITS, counted, HasCause, CountsSockets, SameElsewhere};
 ghost use Rattle.gts_memory.specs.Counter.{no_calls, next, is_listed};
-ghost use Rattle.gts_memory.specs.Objects.{still, circuit_in, is_open_in, faults_in};
+ghost use Rattle.gts_memory.specs.Objects.{still, handed_back, circuit_in, is_open_in, faults_in};
 
 use crate::counter::Counter;
 use crate::{MemSink, MemSource};
@@ -65,12 +65,7 @@ impl Circuit {
 
     /// Takes its sockets back, and counts one fault where one of them has failed.
     fn close(&mut self, input: MemSource, output: MemSink)
-        ensures { self.new ≡ record self.old {
-          opened = false;
-          sent = output;
-          faults = (if input.faults + output.faults == 0
-              then self.old.faults else counted self.old.faults);
-        } }
+        ensures { self.new ≡ handed_back self.old output (input.faults + output.faults) }
     {
         self.opened = false;
         if input.faults() > 0 || output.faults() > 0 {
@@ -187,7 +182,11 @@ impl Lines for MemLines {
         ensures input { IfOk result (λ sockets. sockets.0
             ≡ record { left = (circuit_in self.old c).fed; count = no_calls []; faults = 0 }) }
         ensures output { IfOk result (λ sockets. sockets.1
-            ≡ record { written = []; count = no_calls (circuit_in self.old c).failing; faults = 0 }) }
+            ≡ record {
+              written = [];
+              faults = 0;
+              count = no_calls (circuit_in self.old c).failing;
+            }) }
     {
         let circuit = &mut self.circuits[c as usize];
         self.counter.count(&mut circuit.faults)?;
