@@ -30,6 +30,10 @@ pub record CircuitInMemory : Type 0 where
   pub failing : List ℕ
   pub sent : SinkInMemory
 
+-- a sink that nothing was written to, whose listed writes are to fail
+abbrev pub new_sink : List ℕ → SinkInMemory
+new_sink failing = record { written = []; count = no_calls failing; faults = 0 }
+
 -- a place is one of so many from the first on
 abbrev pub is_within : ℕ → ℕ → ℕ → Bool
 is_within at count place = nat_le at place && nat_lt place (at + count)

@@ -1,7 +1,7 @@
 ghost use Rattle.std.specs.Prelude.{◌≡◌, ◌≢◌, ◌+◌, ◌<◌, ◌==◌, ◌++◌, ℕ, true, false, [], IfOk, OnOk, OnErr, is_err, if◌then◌else◌, replicate};
 ghost use Rattle.gts_traits.specs.{MOST_CIRCUITS, counted, HasCause, CountsSockets, SameElsewhere};
 ghost use Rattle.gts_memory.specs.Counter.{no_calls, next, is_listed};
-ghost use Rattle.gts_memory.specs.Objects.{still, handed_back, circuit_in, is_open_in, faults_in};
+ghost use Rattle.gts_memory.specs.Objects.{new_sink, still, handed_back, circuit_in, is_open_in, faults_in};
 
 use crate::counter::Counter;
 use crate::{MemSink, MemSource};
@@ -181,12 +181,7 @@ impl Lines for MemLines {
             ≡ (if is_err result then counted (faults_in self.old c) else faults_in self.old c) }
         ensures input { IfOk result (λ sockets. sockets.0
             ≡ record { left = (circuit_in self.old c).fed; count = no_calls []; faults = 0 }) }
-        ensures output { IfOk result (λ sockets. sockets.1
-            ≡ record {
-              written = [];
-              faults = 0;
-              count = no_calls (circuit_in self.old c).failing;
-            }) }
+        ensures output { IfOk result (λ sockets. sockets.1 ≡ new_sink (circuit_in self.old c).failing) }
     {
         let circuit = &mut self.circuits[c as usize];
         self.counter.count(&mut circuit.faults)?;
