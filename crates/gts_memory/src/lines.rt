@@ -181,7 +181,8 @@ impl Lines for MemLines {
             ≡ (if is_err result then counted (faults_in self.old c) else faults_in self.old c) }
         ensures input { IfOk result (λ sockets. sockets.0
             ≡ record { left = (circuit_in self.old c).fed; count = no_calls []; faults = 0 }) }
-        ensures output { IfOk result (λ sockets. sockets.1 ≡ new_sink (circuit_in self.old c).failing) }
+        ensures output { IfOk result (λ sockets. sockets.1
+            ≡ new_sink (circuit_in self.old c).failing) }
     {
         let circuit = &mut self.circuits[c as usize];
         self.counter.count(&mut circuit.faults)?;
