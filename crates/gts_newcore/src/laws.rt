@@ -1,0 +1,11 @@
+//! Laws over the definitions, each the contract of a function with an empty body.
+ghost use Rattle.gts_directory.specs.Directory.{Directory};
+ghost use Rattle.gts_event.specs.State.{State};
+ghost use Rattle.gts_event.specs.Stand.{SameNeed};
+ghost use Rattle.gts_newcore.specs.Core.{Core, Holds};
+
+/// What a core holds depends on the need alone: it holds each state of the same need.
+pub fn a_core_holds_each_state_of_its_need()
+    ensures { (d : Directory) (core : Core) (s t : State)
+        → Holds d core s → SameNeed d s t → Holds d core t }
+{}
