@@ -64,9 +64,9 @@ on_byte test M (b ∷ rest) k some then_read = go (test b) refl
     behind passes (Err (Bad left)) h =
         let part = h.5 in
         let none : (head : Head) (more : List ℕ) → ByteThen test M head ((b ∷ h.0) ++ h.1 ∷ more) → ⊥ = λ head more w.
-            let same : b ≡ w.0 = let e = w.2 in cc in
-            let behind_it : w.1 ≡ h.0 ++ h.1 ∷ more = let e = w.2 in cc in
-            h.6 head more (subst (λ (u : List ℕ). M b head u) behind_it (subst (λ (x : ℕ). M x head w.1) (sym same) w.4)) in
+        let same : b ≡ w.0 = let e = w.2 in cc in
+        let behind_it : w.1 ≡ h.0 ++ h.1 ∷ more = let e = w.2 in cc in
+        h.6 head more (subst (λ (u : List ℕ). M b head u) behind_it (subst (λ (x : ℕ). M x head w.1) (sym same) w.4)) in
         (b ∷ h.0, h.1, h.2, ap (λ (xs : List ℕ). b ∷ xs) h.3, h.4, (part.0, part.1, part.2, (b, h.0 ++ part.1 ∷ part.2, refl, passes, part.3)), none)
 
     go : (t : Bool) → test b ≡ t → Meets (ByteThen test M) (b ∷ rest) ((if t then Ok (b, rest) else Err (Bad (length (b ∷ rest)))) >>= k)
@@ -74,8 +74,8 @@ on_byte test M (b ∷ rest) k some then_read = go (test b) refl
     go false e =
         let w = some.2 in
         let none : (head : Head) (more : List ℕ) → ByteThen test M head (b ∷ more) → ⊥ = λ head more v.
-            let same : b ≡ v.0 = let f = v.2 in cc in
-            let passes : test b ≡ true = ap test same ∙ v.3 in cc in
+        let same : b ≡ v.0 = let f = v.2 in cc in
+        let passes : test b ≡ true = ap test same ∙ v.3 in cc in
         ([], b, rest, refl, refl, (some.0, w.0, w.1, (w.0, w.1, refl, w.3, w.4)), none)
 
 bind_assoc : {A B C : Type 0} (r : Result A Stop) (f : A → Result B Stop) (g : B → Result C Stop) → ((r >>= f) >>= g) ≡ (r >>= λ x. f x >>= g)
@@ -111,9 +111,9 @@ on_digit limit M bytes k some then_read =
     let test : ℕ → Bool = is_digit_below limit in
     let by_byte : ℕ → Texts = λ b. M (b - 48) in
     let to : (h : Head) (t : List ℕ) → ByteThen test by_byte h t → DigitThen limit M h t = λ h t w.
-        let d = passing_digit limit w.0 w.3 in (w.0 - 48, w.1, w.2 ∙ ap (λ (x : ℕ). x ∷ w.1) (sym d.0), d.1, d.2, w.4) in
+    let d = passing_digit limit w.0 w.3 in (w.0 - 48, w.1, w.2 ∙ ap (λ (x : ℕ). x ∷ w.1) (sym d.0), d.1, d.2, w.4) in
     let from : (h : Head) (t : List ℕ) → DigitThen limit M h t → ByteThen test by_byte h t = λ h t w.
-        let value : w.0 ≡ 48 + w.0 - 48 = omega arith in (48 + w.0, w.1, w.2, digit_passes limit w.0 w.3 w.4, subst (λ (x : ℕ). M x h w.1) value w.5) in
+    let value : w.0 ≡ 48 + w.0 - 48 = omega arith in (48 + w.0, w.1, w.2, digit_passes limit w.0 w.3 w.4, subst (λ (x : ℕ). M x h w.1) value w.5) in
     let next : ℕ × List ℕ → Result (Head × List ℕ) Stop = λ x. k (x.0 - 48, x.1) in
     let read : Meets (ByteThen test by_byte) bytes (byte_where test bytes >>= next) =
     on_byte test by_byte bytes next (some.0, some.1, from some.0 some.1 some.2) (λ b rest e. let d = passing_digit limit b e in then_read (b - 48) rest d.1 d.2) in
@@ -145,10 +145,20 @@ circuit_by_digits circuits K h t few w =
     let below : c < circuits = w.2 in
     let tens : c / 10 % 10 ≡ c / 10 = omega (arith, below) in
     let value : c ≡ 10 * (c / 10) + c % 10 = omega arith in
-    let units : (48 + c / 10 % 10) ∷ ((48 + c % 10) ∷ w.1) ≡ (48 + c / 10) ∷ ((48 + c % 10) ∷ w.1) = ap (λ (x : ℕ). (48 + x) ∷ ((48 + c % 10) ∷ w.1)) tens in
-    (32, (48 + c / 10) ∷ ((48 + c % 10) ∷ w.1), w.3 ∙ ap (λ (xs : List ℕ). 32 ∷ xs) units, refl,
-     (c / 10, (48 + c % 10) ∷ w.1, refl, omega (arith, below), omega (arith, below),
-      (c % 10, w.1, refl, omega (arith, below), omega arith, subst (λ (x : ℕ). K x h w.1) value w.4)))
+    let units : (48 + c / 10 % 10) ∷ ((48 + c % 10) ∷ w.1) ≡ (48 + c / 10) ∷ ((48 + c % 10) ∷ w.1) = ap (λ (x : ℕ). (48 + x) ∷ ((48 + c % 10) ∷ w.1)) tens in (
+      32,
+      (48 + c / 10) ∷ ((48 + c % 10) ∷ w.1),
+      w.3 ∙ ap (λ (xs : List ℕ). 32 ∷ xs) units,
+      refl,
+      (
+        c / 10,
+        (48 + c % 10) ∷ w.1,
+        refl,
+        omega (arith, below),
+        omega (arith, below),
+        (c % 10, w.1, refl, omega (arith, below), omega arith, subst (λ (x : ℕ). K x h w.1) value w.4),
+      ),
+    )
 
 circuit_of_digits : (circuits : ℕ) (K : ℕ → Texts) (h : Head) (t : List ℕ) → ByteThen (λ byte. byte == 32) (λ _. Tens circuits K) h t → CircuitThen circuits K h t
 unfolding dec
@@ -161,10 +171,14 @@ circuit_of_digits circuits K h t w =
     let small_a : a < 10 = tens.4 in
     let small_b : b < 10 = units.4 in
     let below : b < circuits - 10 * a = units.3 in
-    let text : dec 2 (10 * a + b) ≡ (48 + a) ∷ ((48 + b) ∷ []) = dec_push 1 a b small_b ∙ ap (λ (xs : List ℕ). xs ++ (48 + b) ∷ []) (ap (dec 1) (let e : a ≡ 10 * 0 + a = omega arith in e) ∙ dec_push 0 0 a small_a) in
-    (10 * a + b, units.1, omega (arith, below),
-     w.2 ∙ ap (λ (x : ℕ). x ∷ w.1) blank ∙ ap (λ (xs : List ℕ). 32 ∷ xs) (tens.2 ∙ ap (λ (xs : List ℕ). (48 + a) ∷ xs) units.2)
-     ∙ ap (λ (xs : List ℕ). 32 ∷ (xs ++ units.1)) (sym text), units.5)
+    let text : dec 2 (10 * a + b) ≡ (48 + a) ∷ ((48 + b) ∷ []) = dec_push 1 a b small_b ∙ ap (λ (xs : List ℕ). xs ++ (48 + b) ∷ []) (ap (dec 1) (let e : a ≡ 10 * 0 + a = omega arith in e) ∙ dec_push 0 0 a small_a) in (
+      10 * a + b,
+      units.1,
+      omega (arith, below),
+      w.2 ∙ ap (λ (x : ℕ). x ∷ w.1) blank ∙ ap (λ (xs : List ℕ). 32 ∷ xs) (tens.2 ∙ ap (λ (xs : List ℕ). (48 + a) ∷ xs) units.2)
+          ∙ ap (λ (xs : List ℕ). 32 ∷ (xs ++ units.1)) (sym text),
+      units.5,
+    )
 
 on_circuit : (circuits : ℕ) (K : ℕ → Texts) (bytes : List ℕ) (k : ℕ × List ℕ → Result (Head × List ℕ) Stop) → 0 < circuits → circuits ≤ 100 → ((c : ℕ) → Some (K c))
     → ((c : ℕ) (rest : List ℕ) → c < circuits → Meets (K c) rest (k (c, rest))) → Meets (CircuitThen circuits K) bytes (circuit_at circuits bytes >>= k)
@@ -176,11 +190,11 @@ on_circuit circuits K bytes k some few inhabited then_read =
     let some_units : (a : ℕ) → a < (circuits + 9) / 10 → Some (Units circuits K a) = λ a h. let x = inhabited (10 * a + 0) in (x.0, 48 ∷ x.1, (0, x.1, refl, omega (arith, h), omega arith, x.2)) in
     let some_tens : Some (Tens circuits K) = let x = some_units 0 (omega arith) in (x.0, 48 ∷ x.1, (0, x.1, refl, omega arith, omega arith, x.2)) in
     let on_units : (a : ℕ) (rest : List ℕ) → a < (circuits + 9) / 10 → a < 10 → Meets (Units circuits K a) rest (units_of (a, rest) >>= k) = λ a rest h _.
-        subst (Meets (Units circuits K a) rest) (sym (bind_assoc (digit_at (circuits - 10 * a) rest) (λ units. Ok (10 * a + units.0, units.1)) k))
-        (on_digit (circuits - 10 * a) (λ b. K (10 * a + b)) rest (λ units. k (10 * a + units.0, units.1)) (some_units a h) (λ b rest below _. then_read (10 * a + b) rest (omega (arith, below)))) in
+    subst (Meets (Units circuits K a) rest) (sym (bind_assoc (digit_at (circuits - 10 * a) rest) (λ units. Ok (10 * a + units.0, units.1)) k))
+    (on_digit (circuits - 10 * a) (λ b. K (10 * a + b)) rest (λ units. k (10 * a + units.0, units.1)) (some_units a h) (λ b rest below _. then_read (10 * a + b) rest (omega (arith, below)))) in
     let on_tens : (b : ℕ) (rest : List ℕ) → (b == 32) ≡ true → Meets (Tens circuits K) rest (tens_of (b, rest) >>= k) = λ b rest _.
-        subst (Meets (Tens circuits K) rest) (sym (bind_assoc (digit_at ((circuits + 9) / 10) rest) units_of k))
-        (on_digit ((circuits + 9) / 10) (Units circuits K) rest (λ tens. units_of tens >>= k) some_tens on_units) in
+    subst (Meets (Tens circuits K) rest) (sym (bind_assoc (digit_at ((circuits + 9) / 10) rest) units_of k))
+    (on_digit ((circuits + 9) / 10) (Units circuits K) rest (λ tens. units_of tens >>= k) some_tens on_units) in
     let read : Meets by_digits bytes (byte_where (λ byte. byte == 32) bytes >>= λ blank. tens_of blank >>= k) =
     on_byte (λ byte. byte == 32) (λ _. Tens circuits K) bytes (λ blank. tens_of blank >>= k) (some_tens.0, 32 ∷ some_tens.1, (32, some_tens.1, refl, refl, some_tens.2)) on_tens in
     subst (Meets (CircuitThen circuits K) bytes) (sym (bind_assoc (byte_where (λ byte. byte == 32) bytes) tens_of k))
@@ -255,14 +269,48 @@ size_by_digits K h t w =
     let u4 : List ℕ = (48 + d % 10) ∷ u5 in
     let u3 : List ℕ = (48 + c % 10) ∷ u4 in
     let u2 : List ℕ = (48 + b % 10) ∷ u3 in
-    let u1 : List ℕ = (48 + a % 10) ∷ u2 in
-    (32, u1, w.3, refl,
-     (a % 10, u2, refl, omega arith, omega arith,
-      (b % 10, u3, refl, omega arith, omega arith,
-       (c % 10, u4, refl, omega arith, omega arith,
-        (d % 10, u5, refl, omega arith, omega arith,
-         (e % 10, u6, refl, omega arith, omega arith,
-          (n % 10, u, refl, omega arith, omega arith, subst (λ (x : ℕ). K x h u) value w.4)))))))
+    let u1 : List ℕ = (48 + a % 10) ∷ u2 in (
+      32,
+      u1,
+      w.3,
+      refl,
+      (
+        a % 10,
+        u2,
+        refl,
+        omega arith,
+        omega arith,
+        (
+          b % 10,
+          u3,
+          refl,
+          omega arith,
+          omega arith,
+          (
+            c % 10,
+            u4,
+            refl,
+            omega arith,
+            omega arith,
+            (
+              d % 10,
+              u5,
+              refl,
+              omega arith,
+              omega arith,
+              (
+                e % 10,
+                u6,
+                refl,
+                omega arith,
+                omega arith,
+                (n % 10, u, refl, omega arith, omega arith, subst (λ (x : ℕ). K x h u) value w.4),
+              ),
+            ),
+          ),
+        ),
+      ),
+    )
 
 on_size : (K : ℕ → Texts) (bytes : List ℕ) (k : ℕ × List ℕ → Result (Head × List ℕ) Stop) → ((n : ℕ) → Some (K n))
     → ((n : ℕ) (rest : List ℕ) → Meets (K n) rest (k (n, rest))) → Meets (SizeThen K) bytes (size_at bytes >>= k)
@@ -290,7 +338,7 @@ unfolding end_at
 on_end head bytes =
     let at_end : Texts = λ h t. (h ≡ head) × (t ≡ []) in
     let to : (h : Head) (t : List ℕ) → ByteThen (λ byte. byte == 10) (λ _. at_end) h t → Ended head h t = λ h t w.
-        (w.4.0, w.2 ∙ ap (λ (x : ℕ). x ∷ w.1) (eqb-true w.0 10 w.3) ∙ ap (λ (xs : List ℕ). 10 ∷ xs) w.4.1) in
+    (w.4.0, w.2 ∙ ap (λ (x : ℕ). x ∷ w.1) (eqb-true w.0 10 w.3) ∙ ap (λ (xs : List ℕ). 10 ∷ xs) w.4.1) in
     let from : (h : Head) (t : List ℕ) → Ended head h t → ByteThen (λ byte. byte == 10) (λ _. at_end) h t = λ h t w. (10, [], w.1, refl, (w.0, refl)) in
     meets_same (ByteThen (λ byte. byte == 10) (λ _. at_end)) (Ended head) bytes (end_at head bytes) to from
     (on_byte (λ byte. byte == 10) (λ _. at_end) bytes (λ lf. Ok (head, lf.1)) (head, 10 ∷ [], (10, [], refl, refl, (refl, refl))) (λ b rest _. ([], refl, (refl, refl))))
@@ -302,8 +350,6 @@ HeadText circuits plain h t = IsHeadIn circuits plain (head_of h) × (head_text 
 
 abbrev Behind : ℕ → Bool → ℕ → Texts
 Behind circuits plain byte h t = HeadText circuits plain h (byte ∷ t)
-
-
 
 feed_to : (circuits : ℕ) (plain : Bool) (h : Head) (t : List ℕ) → CircuitThen circuits (λ c. SizeThen (λ n. Ended (Feed c n))) h t → Behind circuits plain 70 h t
 unfolding dec
@@ -490,8 +536,8 @@ letter_read circuits plain b rest few letter = go (b == 70) (b == 84) (b == 79) 
         → Meets (Behind circuits plain x) rest (end_at head rest)
     fixed x head text from =
         let to : (h : Head) (t : List ℕ) → Ended head h t → Behind circuits plain x h t = λ h t w.
-            let P : Head → List ℕ → Type 0 = λ y ys. HeadText circuits plain y (x ∷ ys) in
-            subst (λ (y : Head). P y t) (sym w.0) (subst (λ (ys : List ℕ). P head ys) (sym w.1) text) in
+        let P : Head → List ℕ → Type 0 = λ y ys. HeadText circuits plain y (x ∷ ys) in
+        subst (λ (y : Head). P y t) (sym w.0) (subst (λ (ys : List ℕ). P head ys) (sym w.1) text) in
         meets_same (Ended head) (Behind circuits plain x) rest (end_at head rest) to from (on_end head rest)
 
     go : (t70 t84 t79 t68 t82 t67 t69 : Bool) → (b == 70) ≡ t70 → (b == 84) ≡ t84 → (b == 79) ≡ t79 → (b == 68) ≡ t68 → (b == 82) ≡ t82 → (b == 67) ≡ t67 → (b == 69) ≡ t69

@@ -6,7 +6,7 @@ use Rattle.gts_directory.specs.Directory.{Directory}
 use Rattle.gts_connection.specs.Capture.{Step, Feed, Head, FeedHead, TakeHead, ReopenHead, DrainHead, RestartHead, CompactHead, EndHead, head_of, head_text, step_text, AreSteps, IsHead, IsPartialHead, IsHeadFront, Reading, Whole, Bad, EndsInHead, EndsInFeed}
 use Rattle.gts_capture.specs.Heads.{IsHeadIn, IsPartIn, IsFrontIn}
 use Rattle.gts_capture.specs.Held.{Held, IsSameCapture, IsBadAt, BadByte, counted_to}
-use Rattle.gts_capture.specs.Held as held
+use Rattle.gts_capture.specs.Held as stopped
 use Rattle.gts_capture.specs.Progress.{IsReadTo}
 
 -- ---- heads of a directory
@@ -89,7 +89,7 @@ at_bad d bytes left steps held at h (BadByte front byte unread part none is plac
     Bad front byte unread h.are (part_of d held.circuits held.plain front h.circuits part)
     (λ w. none (front_of d held.circuits held.plain (front ++ byte ∷ []) h.circuits h.full w)) text
     (omega (arith, place, h.place, h.small, ap length text, length-append (done ++ front) (byte ∷ unread), length-append done front))
-at_bad d bytes left steps held at h (held.EndsInHead part place) =
+at_bad d bytes left steps held at h (stopped.EndsInHead part place) =
     EndsInHead left h.are (part_of d held.circuits held.plain left h.circuits part) h.text
     (omega (arith, place, h.place, h.small, ap length h.text, length-append (flat_map step_text steps) left))
 

@@ -5,9 +5,7 @@ use gts_traits::Failed;
 pub enum CaptureFault {
     /// The first byte that no capture has in its place, counted from 0, or the number of bytes, where they end before
     /// the LF of the end.
-    Bad {
-        at: u64,
-    },
+    Bad { at: u64 },
     /// The source failed.
     SourceFault,
 }

@@ -2,22 +2,13 @@
 #[derive(Clone, Copy, Debug, PartialEq, Eq)]
 pub enum Head {
     /// The next `length` bytes, at most 999,999, come on this circuit.
-    Feed {
-        c: u32,
-        length: u32,
-    },
+    Feed { c: u32, length: u32 },
     /// One take on this circuit.
-    Take {
-        c: u32,
-    },
+    Take { c: u32 },
     /// This circuit begins a new connection; a frame that isn't whole is dropped.
-    Reopen {
-        c: u32,
-    },
+    Reopen { c: u32 },
     /// Takes on this circuit, up to and including the first that gives nothing.
-    Drain {
-        c: u32,
-    },
+    Drain { c: u32 },
     /// The switch is given up and its journal opened again; every circuit begins a new connection.
     Restart,
     /// The journal is compacted.

@@ -16,9 +16,7 @@ pub(crate) enum Stop {
     /// The bytes end in a head.
     More,
     /// A byte can't stand in its place. So many bytes are left, this one included.
-    Bad {
-        left: usize,
-    },
+    Bad { left: usize },
 }
 
 /// Reads the head at the front, in a capture of so many circuits, and answers how many bytes it has.

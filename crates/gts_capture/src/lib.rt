@@ -23,4 +23,6 @@ pub use steps::Steps;
 pub use worked::a_small_capture_is_spelled;
 
 #[cfg(test)]
+mod steps_tests;
+#[cfg(test)]
 mod tests;

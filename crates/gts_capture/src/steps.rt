@@ -104,7 +104,11 @@ impl Steps {
     /// empty `into`. It is not called after the end or a fault. `Bad` comes exactly where the bytes end in the feed, with
     /// their number. `SourceFault` comes only where the source's count of faults rose; then nothing is held, and all that
     /// was read was handed on.
-    pub fn bytes<S: Source>(&mut self, source: &mut S, into: &mut [u8]) -> Result<usize, CaptureFault>
+    pub fn bytes<S: Source>(
+        &mut self,
+        source: &mut S,
+        into: &mut [u8],
+    ) -> Result<usize, CaptureFault>
         ensures told { S.tells → IfOk result (λ count.
             self.old.ahead ++ S.left source.old ≡ take count into.new ++ (self.new.ahead ++ S.left source.new)) }
         ensures most { IfOk result (λ count. count ≤ min (length into.old) self.old.feed) }

@@ -7,13 +7,14 @@ use Rattle.std.specs.Cmp.Lexicographic.{pointwise}
 use Rattle.std.proofs.lemmas.Bool.{le-leb, lt-ltb, ne_eqb}
 use Rattle.std.proofs.lemmas.List.{length-append}
 use Rattle.std.proofs.Math.Seq.{take-append_seam, drop-append_seam}
+use Rattle.gts_alphabet.specs.declared.limits.TheConstants.{LONGEST_MESSAGE}
 use Rattle.gts_alphabet.specs.Digits.{dec}
 use Rattle.gts_alphabet.specs.declared.characters.TheConstants.{SOH, ETX}
 use Rattle.gts_alphabet.proofs.LawLemmas.{length-dec, digits_value-dec}
 use Rattle.gts_frame.specs.declared.kind.Kind.{Kind}
 use Rattle.gts_frame.specs.declared.kind.Kind.TheVariants.{An, Bi, Fx}
 use Rattle.gts_frame.specs.Frame.{letters, frame, IsFramed}
-use Rattle.gts_frame.proofs.FrameLemmas.{length-frame}
+use Rattle.gts_frame.proofs.LawLemmas.{length-frame}
 use Rattle.gts_event.specs.declared.event.Event.{Event}
 use Rattle.gts_event.specs.declared.event.Event.TheVariants.{Heard}
 use Rattle.gts_frame.specs.Stream.{begins_length, begins_kind, begins_message, length_in, is_front, has_piece}
@@ -30,18 +31,18 @@ unfolding dec
 all_digits zero n = refl
 all_digits (suc w) n = list_all-append is_ascii_digit (dec w (n / 10)) ((48 + n % 10) ∷ []) (all_digits w (n / 10)) (rw (ascii_digit n) refl)
 
-begins-dec : (n : ℕ) → 2 ≤ n → n ≤ 500000 → begins_length (dec 8 n) ≡ true
+begins-dec : (n : ℕ) → 2 ≤ n → n ≤ LONGEST_MESSAGE → begins_length (dec 8 n) ≡ true
 begins-dec n low high =
     let value = digits_value-dec 8 n (omega arith) in
     let size = length-dec 8 n in
     let unit : 10 ^ (8 - length (dec 8 n)) ≡ 1 = ap (λ (m : ℕ). 10 ^ (8 - m)) size in
     let is : digits_value 10 (dec 8 n) * 10 ^ (8 - length (dec 8 n)) ≡ n = ap (λ (m : ℕ). digits_value 10 (dec 8 n) * m) unit ∙ omega (arith, value) in
     both_true (list_all is_ascii_digit (dec 8 n)) _ (all_digits 8 n)
-    (rw (is, unit) (or_right (n == 0) (nat_le n 500000 && nat_lt 2 (n + 1)) (both_true (nat_le n 500000) (nat_lt 2 (n + 1)) (le-leb n 500000 high) (lt-ltb 2 (n + 1) (omega arith)))))
+    (rw (is, unit) (or_right (n == 0) (nat_le n LONGEST_MESSAGE && nat_lt 2 (n + 1)) (both_true (nat_le n LONGEST_MESSAGE) (nat_lt 2 (n + 1)) (le-leb n LONGEST_MESSAGE high) (lt-ltb 2 (n + 1) (omega arith)))))
 
 -- ---- a frame
 
-pub length_in-frame : (kind : Kind) (message rest : List ℕ) → length message ≤ 500000 → length_in (frame kind message ++ rest) ≡ length message
+pub length_in-frame : (kind : Kind) (message rest : List ℕ) → length message ≤ LONGEST_MESSAGE → length_in (frame kind message ++ rest) ≡ length message
 unfolding dec
 length_in-frame kind message rest h = digits_value-dec 8 (length message) (omega arith)
 

@@ -6,6 +6,7 @@ use Rattle.std.specs.Str.Parse.{digits_value}
 use Rattle.std.specs.Cmp.Lexicographic.{pointwise}
 use Rattle.std.proofs.lemmas.Bool.{le-leb, lt-ltb, leb-true, ltb-true, eqb-true, cases_lt}
 use Rattle.std.proofs.lemmas.List.{length-append, length-take-le, length-take, take-append-le, length-drop, length-replicate, take-append-drop, append-nil, append_assoc, take_all, drop_all, nil_from_length, drop-drop}
+use Rattle.gts_alphabet.specs.declared.limits.TheConstants.{LONGEST_MESSAGE}
 use Rattle.gts_alphabet.specs.Digits.{dec}
 use Rattle.gts_alphabet.specs.declared.characters.TheConstants.{SOH, ETX}
 use Rattle.gts_alphabet.proofs.LawLemmas.{dec-digits_value}
@@ -137,7 +138,7 @@ begins_number u few h =
 
 -- a number that is valid: 0, or from 2 to 500,000
 abbrev Valid : ℕ → Type 0
-Valid n = (n ≡ 0) ⊎ ((2 ≤ n) × (n ≤ 500000))
+Valid n = (n ≡ 0) ⊎ ((2 ≤ n) × (n ≤ LONGEST_MESSAGE))
 
 -- the least number with these digits is valid
 low_valid : (u : List ℕ) → length u ≤ 8 → begins_length u ≡ true → Valid (low_of u)
@@ -149,13 +150,13 @@ low_valid u few h = go (8 - length u) refl
         elim (or_cases (low_of u == 0) _ both.1) [
           | inl none ↦ inl (eqb-true (low_of u) 0 none)
           | inr some ↦
-              let parts = and_true (nat_le (low_of u) 500000) (nat_lt 2 (low_of u + 10 ^ (8 - length u))) some in
-              let high : low_of u ≤ 500000 = leb-true (low_of u) 500000 parts.0 in
+              let parts = and_true (nat_le (low_of u) LONGEST_MESSAGE) (nat_lt 2 (low_of u + 10 ^ (8 - length u))) some in
+              let high : low_of u ≤ LONGEST_MESSAGE = leb-true (low_of u) LONGEST_MESSAGE parts.0 in
               let step : 2 < low_of u + 10 ^ (8 - length u) = ltb-true 2 (low_of u + 10 ^ (8 - length u)) parts.1 in
               at_least k (low_of u) (digits_value 10 u) (ap (λ (n : ℕ). digits_value 10 u * 10 ^ n) e) (ap (λ (n : ℕ). low_of u + 10 ^ n) e) step high
         ]
       where
-        at_least : (k low a : ℕ) → low ≡ a * 10 ^ k → low + 10 ^ (8 - length u) ≡ low + 10 ^ k → 2 < low + 10 ^ (8 - length u) → low ≤ 500000 → Valid low
+        at_least : (k low a : ℕ) → low ≡ a * 10 ^ k → low + 10 ^ (8 - length u) ≡ low + 10 ^ k → 2 < low + 10 ^ (8 - length u) → low ≤ LONGEST_MESSAGE → Valid low
         at_least zero low a is same step high = inr (omega arith, high)
         at_least (suc k) low a is same step high =
             let p : a * 10 ^ suc k ≡ (a * 10 ^ k) * 10 = ap (λ (n : ℕ). a * n) (pow-suc 10 k) ∙ sym (mul_assoc a (10 ^ k) 10) in
@@ -170,7 +171,7 @@ pub record Completed (size : ℕ) (m : List ℕ) : Type 0 where
   pub begins : message ≡ m ++ more
 
 -- SOH, as many bytes as are wanted, and ETX
-fill : (size : ℕ) (inside : List ℕ) → length inside + 2 ≤ size → size ≤ 500000 → Completed size (SOH ∷ inside)
+fill : (size : ℕ) (inside : List ℕ) → length inside + 2 ≤ size → size ≤ LONGEST_MESSAGE → Completed size (SOH ∷ inside)
 fill size inside fits high =
     let n : ℕ = size - 2 - length inside in
     let noughts : List ℕ = replicate n 0 in
@@ -195,7 +196,7 @@ ends_tail x y ys =
     let f : length (y ∷ ys) - 1 ≡ length ys = omega arith in
     ap (λ (n : ℕ). pointwise nat_eq (ETX ∷ []) (drop n (y ∷ ys))) f ∙ sym (ap (λ (n : ℕ). pointwise nat_eq (ETX ∷ []) (drop n (x ∷ y ∷ ys))) e)
 
-whole : (size x : ℕ) (m : List ℕ) → 2 ≤ size → size ≤ 500000 → SOH ≡ x → length (x ∷ m) ≡ size → ends_with nat_eq (x ∷ m) (ETX ∷ []) ≡ true → Completed size (x ∷ m)
+whole : (size x : ℕ) (m : List ℕ) → 2 ≤ size → size ≤ LONGEST_MESSAGE → SOH ≡ x → length (x ∷ m) ≡ size → ends_with nat_eq (x ∷ m) (ETX ∷ []) ≡ true → Completed size (x ∷ m)
 whole size x [] low high soh len h = absurd (omega arith)
 whole size x (y ∷ ys) low high soh len h =
     let parts = ends_is (y ∷ ys) (omega arith) (ends_tail x y ys ∙ h) in
@@ -207,7 +208,7 @@ whole size x (y ∷ ys) low high soh len h =
       begins = sym (append-nil (x ∷ y ∷ ys));
     }
 
-complete : (size : ℕ) (m : List ℕ) → 2 ≤ size → size ≤ 500000 → begins_message size m ≡ true → Completed size m
+complete : (size : ℕ) (m : List ℕ) → 2 ≤ size → size ≤ LONGEST_MESSAGE → begins_message size m ≡ true → Completed size m
 complete size [] low high h = let c = fill size [] (omega arith) high in record { message = c.message; more = c.message; framed = c.framed; long = c.long; begins = refl }
 complete size (x ∷ m) low high h =
     let xs : List ℕ = x ∷ m in

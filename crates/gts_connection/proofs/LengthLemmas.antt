@@ -8,6 +8,7 @@ use Rattle.std.proofs.lemmas.Bool.{le-leb, lt-ltb, leb-true, ltb-true, eqb-true,
 use Rattle.std.proofs.lemmas.List.{length-append, take-append-drop}
 use Rattle.std.proofs.lemmas.Int.Digits.{digits_value-lt}
 use Rattle.std.proofs.lemmas.Str.{digit_value_digit}
+use Rattle.gts_alphabet.specs.declared.limits.TheConstants.{LONGEST_MESSAGE}
 use Rattle.gts_frame.specs.Stream.{begins_length}
 use Rattle.gts_event.proofs.StateLemmas.{and_true, both_true, or_left, or_right, or_cases}
 
@@ -72,16 +73,16 @@ list_all_front f (x ∷ xs) ys h =
 
 -- a lowest number and a step: 0, or from 2 to 500,000
 abbrev pub begins_at : ℕ → ℕ → Bool
-begins_at low unit = (low == 0) || (nat_le low 500000 && nat_lt 2 (low + unit))
+begins_at low unit = (low == 0) || (nat_le low LONGEST_MESSAGE && nat_lt 2 (low + unit))
 
 begins_at-lower : (low unit low' unit' : ℕ) → low ≤ low' → low' + unit' ≤ low + unit → begins_at low' unit' ≡ true → begins_at low unit ≡ true
 begins_at-lower low unit low' unit' h k e =
-    elim (or_cases (low' == 0) (nat_le low' 500000 && nat_lt 2 (low' + unit')) e) [
-      | inl none ↦ or_left (low == 0) (nat_le low 500000 && nat_lt 2 (low + unit)) (eq-eqb low 0 (omega (arith, eqb-true low' 0 none)))
+    elim (or_cases (low' == 0) (nat_le low' LONGEST_MESSAGE && nat_lt 2 (low' + unit')) e) [
+      | inl none ↦ or_left (low == 0) (nat_le low LONGEST_MESSAGE && nat_lt 2 (low + unit)) (eq-eqb low 0 (omega (arith, eqb-true low' 0 none)))
       | inr some ↦
-          let both = and_true (nat_le low' 500000) (nat_lt 2 (low' + unit')) some in
-          or_right (low == 0) (nat_le low 500000 && nat_lt 2 (low + unit))
-          (both_true (nat_le low 500000) (nat_lt 2 (low + unit)) (le-leb low 500000 (omega (arith, leb-true low' 500000 both.0))) (lt-ltb 2 (low + unit) (omega (arith, ltb-true 2 (low' + unit') both.1))))
+          let both = and_true (nat_le low' LONGEST_MESSAGE) (nat_lt 2 (low' + unit')) some in
+          or_right (low == 0) (nat_le low LONGEST_MESSAGE && nat_lt 2 (low + unit))
+          (both_true (nat_le low LONGEST_MESSAGE) (nat_lt 2 (low + unit)) (le-leb low LONGEST_MESSAGE (omega (arith, leb-true low' LONGEST_MESSAGE both.0))) (lt-ltb 2 (low + unit) (omega (arith, ltb-true 2 (low' + unit') both.1))))
     ]
 
 abbrev pub low_of : List ℕ → ℕ

@@ -8,7 +8,7 @@ use Rattle.std.proofs.Math.Seq.{take-append_seam, drop-append_seam}
 use Rattle.gts_alphabet.specs.Digits.{dec}
 use Rattle.gts_frame.specs.declared.kind.Kind.TheVariants.{An, Bi, Fx}
 use Rattle.gts_frame.specs.Frame.{Piece, Frame, KeepAlive, piece_text, IsPiece}
-use Rattle.gts_frame.proofs.FrameLemmas.{length-frame}
+use Rattle.gts_frame.proofs.LawLemmas.{length-frame}
 use Rattle.gts_event.specs.declared.event.Event.{Event}
 use Rattle.gts_frame.specs.Stream.{length_in, is_front, has_piece}
 use Rattle.gts_connection.specs.Connection.{events_of, event_at, loss_at, events_in, connection}

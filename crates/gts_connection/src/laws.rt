@@ -40,7 +40,8 @@ pub fn more_bytes_only_add_events()
 /// Captures that differ only in how feeds are cut have the same entries.
 pub fn feeds_may_be_cut_anywhere()
     ensures { (d : Directory) (s : State) (steps others : List Step) → AreSteps d steps
-        → AreSteps d others → joined steps ≡ joined others → entries d s steps ≡ entries d s others }
+        → AreSteps d others → joined steps ≡ joined others
+        → entries d s steps ≡ entries d s others }
 {}
 
 /// Any bytes are read as a capture, up to some place, and in one way: two digits tell up to 100 circuits apart.
@@ -60,7 +61,8 @@ pub fn a_capture_comes_on_circuits_of_the_directory()
 
 /// The events of a connection are those of the signs that its bytes show, and each step of a decoder adds its own.
 pub fn a_connection_has_the_events_of_its_steps()
-    ensures all { (c : ℕ) (bytes : List ℕ) → connection c bytes ≡ events_of_signs c (signs_in bytes) }
+    ensures all { (c : ℕ) (bytes : List ℕ)
+        → connection c bytes ≡ events_of_signs c (signs_in bytes) }
     ensures step { (c : ℕ) (before taken : List ℕ) (step : FrameStep) (now : Decoding)
         → ReadsOn before taken step now
         → events_added c before taken ≡ events_of_signs c (signs_of_step step now.message) }

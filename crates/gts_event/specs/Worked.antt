@@ -374,3 +374,13 @@ UnsoundStarts =
     × (is_sound (keeping 1 1) (start_of 2 (one ∷ two_of ∷ []) c) ≡ false)
     × (is_sound (keeping 1 2) (record (start_of 2 (one ∷ two_of ∷ []) c) { circuits = c ∷ [] }) ≡ false)
     × (is_sound (keeping 1 1) (start_of (2 ^ 62 + 1) (reported (2 ^ 62) (codes "NIL=") ∷ []) c) ≡ false)
+
+-- Of two accepted bulletins none stands twice on a circuit, waiting or kept or once in both lists.
+abbrev pub UnsoundLists : Type 0
+UnsoundLists =
+    let start : CircuitNeed → Need = λ c. start_of 2 (reported 0 (codes "NIL=") ∷ reported 1 (codes "NIM=") ∷ []) c in
+    (is_sound (keeping 2 2) (start (with_draws 1 (1 ∷ []) (0 ∷ []))) ≡ true)
+    × (is_sound (keeping 2 2) (start (with_draws 1 (0 ∷ []) (0 ∷ []))) ≡ false)
+    × (is_sound (keeping 2 2) (start (with_draws 0 (0 ∷ 0 ∷ []) [])) ≡ false)
+    × (is_sound (keeping 2 2) (start (with_draws 0 (1 ∷ 0 ∷ []) [])) ≡ false)
+    × (is_sound (keeping 2 2) (start (with_draws 2 [] (0 ∷ 0 ∷ []))) ≡ false)

@@ -34,11 +34,12 @@ pub use worked::{
     a_warning_is_drawn_first, a_window_of_one_sees_the_last_bulletin, an_empty_text_is_sent_on,
     an_event_that_was_not_done_changes_nothing, another_text_or_group_is_no_duplicate,
     draws_that_are_not_kept_are_missing, each_circuit_gets_what_came_in_on_the_other,
-    headings_can_be_asked_for, no_more_than_4096_are_owed, numbers_come_round_after_999,
-    one_bulletin_is_sent_on, one_kept_draw_can_be_asked_for, one_request_too_many_is_refused,
-    requests_queue_up, the_first_field_of_a_request_at_fault_is_named,
-    the_later_of_two_draws_is_found, the_later_of_two_equal_bulletins_is_the_duplicate,
-    the_need_after_one_bulletin_and_one_draw, what_is_kept_no_more_is_needed_no_more,
+    headings_can_be_asked_for, no_bulletin_stands_twice_on_a_circuit, no_more_than_4096_are_owed,
+    numbers_come_round_after_999, one_bulletin_is_sent_on, one_kept_draw_can_be_asked_for,
+    one_request_too_many_is_refused, requests_queue_up,
+    the_first_field_of_a_request_at_fault_is_named, the_later_of_two_draws_is_found,
+    the_later_of_two_equal_bulletins_is_the_duplicate, the_need_after_one_bulletin_and_one_draw,
+    what_is_kept_no_more_is_needed_no_more,
 };
 
 #[cfg(test)]

@@ -2,7 +2,7 @@
 ghost use Rattle.gts_event.specs.Worked.{OneBulletin, EmptyText, BinaryBulletin, BothCircuits, RefusedFields, LevelsGoFirst, OnePeer, Duplicates};
 ghost use Rattle.gts_event.specs.Worked.{WindowOfOne, LaterDuplicate, NumbersComeRound, RestartRepeats, RestartForgets, EntriesNotDone, RequestsQueueUp, HeadingsAsked};
 ghost use Rattle.gts_event.specs.Worked.{LaterDraw, RequestFaults, KeptRangeOfTwo, KeptRangeOfOne, MostOwed, TooManyOwed, NeedOfOneDraw, NeedForgets};
-ghost use Rattle.gts_event.specs.Worked.{SoundStarts, UnsoundBulletins, UnsoundCircuits, UnsoundStarts};
+ghost use Rattle.gts_event.specs.Worked.{SoundStarts, UnsoundBulletins, UnsoundCircuits, UnsoundStarts, UnsoundLists};
 
 /// One bulletin and one take: the receipt, and the frame with number 001.
 pub fn one_bulletin_is_sent_on()
@@ -142,4 +142,9 @@ pub fn a_circuit_of_a_start_is_one()
 /// Each way in which the bulletins of a start can be too few, too many or out of order.
 pub fn a_start_has_what_is_needed()
     ensures { UnsoundStarts }
+{}
+
+/// A bulletin stands at most once in the two lists of a circuit of a start.
+pub fn no_bulletin_stands_twice_on_a_circuit()
+    ensures { UnsoundLists }
 {}

@@ -67,7 +67,8 @@ impl<'a> Cursor<'a> {
 
     /// Reads so many capitals. The refusal is the field that was given.
     pub fn capitals<const N: usize>(&mut self, field: Field) -> Result<[u8; N], Field>
-        ensures exact { Reads (λ letters. (letters, self.new)) result (capitals_at N field self.old) }
+        ensures exact { Reads (λ letters. (letters, self.new)) result
+            (capitals_at N field self.old) }
         ensures capitals { IfOk result (λ capitals. IsTrue (letters.are_capitals capitals)) }
         ensures stays { OnErr result (self.new ≡ self.old) }
     {
@@ -81,7 +82,8 @@ impl<'a> Cursor<'a> {
 
     /// Reads a number of two digits, from low to high. The refusal is the field that was given.
     pub fn two_digits(&mut self, low: u8, high: u8, field: Field) -> Result<u8, Field>
-        ensures exact { Reads (λ number. (number, self.new)) result (two_digits_at low high field self.old) }
+        ensures exact { Reads (λ number. (number, self.new)) result
+            (two_digits_at low high field self.old) }
         ensures range { IfOk result (λ number. (low ≤ number) × (number ≤ high)) }
         ensures stays { OnErr result (self.new ≡ self.old) }
     {

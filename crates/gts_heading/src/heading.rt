@@ -51,7 +51,7 @@ impl Heading {
         // What is spelled so is read, where no blank follows.
         ensures only { (h : HeadingFields) (rest : List ℕ) → IsHeading h → NoBlank rest
             → bytes.now ≡ heading_text h ++ rest
-            → IsOkAnd result (λ found. (fields_of found.0 ≡ h) × (found.1 ≡ length (heading_text h))) }
+            → IsOkAnd result (λ r. (fields_of r.0 ≡ h) × (r.1 ≡ length (heading_text h))) }
         // Which field it is.
         ensures exact { Reads (λ found. (fields_of found.0, drop found.1 bytes.now)) result
             (bare_heading_at bytes.now) }
@@ -131,7 +131,8 @@ impl Heading {
     /// Reads a heading and its group.
     #[tactic(auto, unfolding(crate::specs::Reading::bare_heading_at))]
     fn bare(cursor: &mut Cursor<'_>) -> Result<Heading, Field>
-        ensures { Reads (λ heading. (fields_of heading, cursor.new)) result (bare_heading_at cursor.old) }
+        ensures { Reads (λ heading. (fields_of heading, cursor.new)) result
+            (bare_heading_at cursor.old) }
     {
         let mut heading = Heading::plain(cursor)?;
         heading.bbb = Heading::bare_group(cursor)?;
@@ -141,7 +142,8 @@ impl Heading {
     /// Reads a heading, its group and the end of its line.
     #[tactic(auto, unfolding(crate::specs::Reading::heading_at))]
     fn line(cursor: &mut Cursor<'_>) -> Result<Heading, Field>
-        ensures { Reads (λ heading. (fields_of heading, cursor.new)) result (heading_at cursor.old) }
+        ensures { Reads (λ heading. (fields_of heading, cursor.new)) result
+            (heading_at cursor.old) }
     {
         let mut heading = Heading::plain(cursor)?;
         heading.bbb = Heading::message_group(cursor)?;
@@ -153,7 +155,8 @@ impl Heading {
     /// Reads a heading without its group.
     #[tactic(auto, unfolding(crate::specs::Reading::plain_heading_at))]
     fn plain(cursor: &mut Cursor<'_>) -> Result<Heading, Field>
-        ensures { Reads (λ heading. (fields_of heading, cursor.new)) result (plain_heading_at cursor.old) }
+        ensures { Reads (λ heading. (fields_of heading, cursor.new)) result
+            (plain_heading_at cursor.old) }
     {
         let tt = cursor.capitals(Field::Tt)?;
         let aa = cursor.capitals(Field::Aa)?;

@@ -9,15 +9,16 @@ use crate::Field;
 
 /// A word is passed over exactly where the bytes begin with it.
 pub fn words_are_passed_over()
-    ensures read { (word bytes rest : List ℕ) (field : Field) → after_word word field bytes ≡ Ok rest
-        → bytes ≡ word ++ rest }
+    ensures read { (word bytes rest : List ℕ) (field : Field)
+        → after_word word field bytes ≡ Ok rest → bytes ≡ word ++ rest }
     ensures spelled { (word rest : List ℕ) (field : Field)
         → after_word word field (word ++ rest) ≡ Ok rest }
 {}
 
 /// One blank or none is passed over.
 pub fn gaps_are_passed_over()
-    ensures read { (bytes : List ℕ) → (gap : List ℕ) × IsGap gap × (bytes ≡ gap ++ after_gap bytes) }
+    ensures read { (bytes : List ℕ)
+        → (gap : List ℕ) × IsGap gap × (bytes ≡ gap ++ after_gap bytes) }
     ensures spelled { (gap rest : List ℕ) → IsGap gap
         → after_gap (gap ++ (EOL ++ rest)) ≡ EOL ++ rest }
 {}

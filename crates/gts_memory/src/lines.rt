@@ -1,7 +1,7 @@
-ghost use Rattle.std.specs.Prelude.{◌≡◌, ◌+◌, ◌<◌, ◌==◌, true, false, [], IfOk, OnOk, OnErr, is_err, if◌then◌else◌, slice_index, slice_index_or, replicate};
+ghost use Rattle.std.specs.Prelude.{◌≡◌, ◌≢◌, ◌+◌, ◌<◌, ◌==◌, ◌++◌, ℕ, true, false, [], IfOk, OnOk, OnErr, is_err, if◌then◌else◌, replicate};
 ghost use Rattle.gts_traits.specs.{MOST_CIRCUITS, counted, HasCause, CountsSockets, SameElsewhere};
 ghost use Rattle.gts_memory.specs.Counter.{no_calls, next, is_listed};
-ghost use Rattle.gts_memory.specs.Objects.{is_open_in, faults_in};
+ghost use Rattle.gts_memory.specs.Objects.{still, circuit_in, is_open_in, faults_in};
 
 use crate::counter::Counter;
 use crate::{MemSink, MemSource};
@@ -9,37 +9,154 @@ use gts_alphabet::MOST_CIRCUITS;
 use gts_traits::{Failed, Lines, NoMemory};
 use std::alloc::Global;
 use std::marker::Model;
+use std::mem::replace;
 
-/// Lines in memory: circuits with empty inputs.
+/// One circuit in memory.
+#[derive(Drop)]
+struct Circuit {
+    opened: bool,
+    faults: u64,
+    fed: Vec<u8>,
+    failing: Vec<u64>,
+    sent: MemSink,
+}
+
+impl Model for Circuit {
+    ghost use Rattle.gts_memory.specs.Objects.{CircuitInMemory};
+
+    ghost Value = { CircuitInMemory };
+
+    ghost view = { λ c. record {
+      opened = c.opened;
+      faults = c.faults;
+      fed = c.fed.items;
+      failing = c.failing.items;
+      sent = c.sent;
+    } };
+}
+
+impl Circuit {
+    /// A circuit on which nothing happened.
+    fn new(alloc: Global) -> Circuit
+        ensures { result ≡ still }
+    {
+        Circuit {
+            opened: false,
+            faults: 0,
+            fed: Vec::new(alloc),
+            failing: Vec::new(alloc),
+            sent: MemSink::empty(alloc),
+        }
+    }
+
+    /// Opens it, and gives its sockets.
+    fn open(&mut self, alloc: Global) -> (MemSource, MemSink)
+        ensures circuit { self.new
+            ≡ record self.old { opened = true; fed = []; failing = [] } }
+        ensures input { result.0 ≡ record { left = self.old.fed; count = no_calls []; faults = 0 } }
+        ensures output { result.1
+            ≡ record { written = []; count = no_calls self.old.failing; faults = 0 } }
+    {
+        self.opened = true;
+        let input = MemSource::holding(alloc, replace(&mut self.fed, Vec::new(alloc)));
+        let failing = replace(&mut self.failing, Vec::new(alloc));
+        (input, MemSink::failing_at(alloc, failing))
+    }
+
+    /// Takes its sockets back, and counts one fault where one of them has failed.
+    fn close(&mut self, input: MemSource, output: MemSink)
+        ensures { self.new ≡ record self.old {
+          opened = false;
+          sent = output;
+          faults = (if input.faults + output.faults == 0
+              then self.old.faults else counted self.old.faults);
+        } }
+    {
+        self.opened = false;
+        if input.faults() > 0 || output.faults() > 0 {
+            self.faults = self.faults.saturating_add(1);
+        }
+        self.sent = output;
+    }
+}
+
+/// Lines in memory. A circuit's next source gives what was fed to it.
 #[derive(Drop)]
 pub struct MemLines {
     alloc: Global,
     counter: Counter,
-    opened: [bool; MOST_CIRCUITS],
-    faults: [u64; MOST_CIRCUITS],
+    circuits: Vec<Circuit>,
 }
 
 impl Model for MemLines {
+    ghost use Rattle.std.specs.Prelude.{◌≡◌, length};
+    ghost use Rattle.gts_alphabet.specs.declared.limits.TheConstants.{MOST_CIRCUITS};
     ghost use Rattle.gts_memory.specs.Objects.{LinesInMemory};
 
     ghost Value = { LinesInMemory };
 
-    ghost view = { λ l. record { count = l.counter; opened = l.opened; faults = l.faults } };
+    ghost view = { λ l. record { count = l.counter; circuits = l.circuits.items } };
+
+    ghost invariant = { λ l. length l.circuits.items ≡ MOST_CIRCUITS };
+}
+
+/// Circuits on which nothing happened.
+fn still_circuits(alloc: Global) -> Result<Vec<Circuit>, NoMemory>
+    ensures { IfOk result (λ circuits. circuits.items ≡ replicate MOST_CIRCUITS still) }
+{
+    let mut circuits = Vec::new(alloc);
+    for _ in 0..MOST_CIRCUITS {
+        circuits.push(Circuit::new(alloc))?;
+    }
+    Ok(circuits)
 }
 
 impl MemLines {
-    /// None of the circuits is open. The calls of `open` with the listed numbers, from 0, are to fail.
+    /// None of the circuits is open, and nothing was fed. The calls of `open` with the listed numbers, from 0, are to
+    /// fail.
     pub fn new(alloc: Global, failing: &[u64]) -> Result<MemLines, NoMemory>
-        ensures count { IfOk result (λ lines. lines.count ≡ no_calls failing.now) }
-        ensures opened { IfOk result (λ lines. lines.opened ≡ replicate MOST_CIRCUITS false) }
-        ensures faults { IfOk result (λ lines. lines.faults ≡ replicate MOST_CIRCUITS 0) }
+        ensures { IfOk result (λ lines. lines
+            ≡ record { count = no_calls failing.now; circuits = replicate MOST_CIRCUITS still }) }
     {
         Ok(MemLines {
             alloc,
             counter: Counter::new(alloc, failing)?,
-            opened: [false; MOST_CIRCUITS],
-            faults: [0; MOST_CIRCUITS],
+            circuits: still_circuits(alloc)?,
         })
+    }
+
+    /// Appends to what the next source of a circuit gives. A refusal changes nothing.
+    pub fn feed(&mut self, c: u32, bytes: &[u8]) -> Result<(), NoMemory>
+        requires { c < MOST_CIRCUITS }
+        ensures done { OnOk result (circuit_in self.new c
+            ≡ record (circuit_in self.old c) { fed = (circuit_in self.old c).fed ++ bytes.now }) }
+        ensures no_memory { OnErr result (circuit_in self.new c ≡ circuit_in self.old c) }
+        ensures others { (d : ℕ) → d ≢ c → circuit_in self.new d ≡ circuit_in self.old d }
+        ensures count { self.new.count ≡ self.old.count }
+    {
+        self.circuits[c as usize].fed.extend_from_slice(bytes)?;
+        Ok(())
+    }
+
+    /// The listed writes of the next sink of a circuit, from 0, are to fail. A refusal changes nothing.
+    pub fn sink_fails(&mut self, c: u32, failing: &[u64]) -> Result<(), NoMemory>
+        requires { c < MOST_CIRCUITS }
+        ensures done { OnOk result (circuit_in self.new c
+            ≡ record (circuit_in self.old c) { failing = failing.now }) }
+        ensures no_memory { OnErr result (circuit_in self.new c ≡ circuit_in self.old c) }
+        ensures others { (d : ℕ) → d ≢ c → circuit_in self.new d ≡ circuit_in self.old d }
+        ensures count { self.new.count ≡ self.old.count }
+    {
+        self.circuits[c as usize].failing = Vec::from_slice(self.alloc, failing)?;
+        Ok(())
+    }
+
+    /// What the sink of a circuit holds that was last handed back; nothing before that.
+    pub fn sent(&self, c: u32) -> &[u8]
+        requires { c < MOST_CIRCUITS }
+        ensures { result.now ≡ (circuit_in self.now c).sent.written }
+    {
+        self.circuits[c as usize].sent.bytes()
     }
 }
 
@@ -52,7 +169,7 @@ impl Lines for MemLines {
 
     ghost faults = { faults_in };
 
-    /// Fails exactly at the listed calls. A source from it has no bytes.
+    /// Fails exactly at the listed calls. The source gives what was fed.
     fn open(&mut self, c: u32, _input: u16, _output: u16) -> Result<(MemSource, MemSink), Failed>
         requires { c < MOST_CIRCUITS }
         ensures ok { OnOk result (is_open_in self.new c ≡ true) }
@@ -67,18 +184,17 @@ impl Lines for MemLines {
         ensures count { self.new.count ≡ next self.old.count }
         ensures faults { faults_in self.new c
             ≡ (if is_err result then counted (faults_in self.old c) else faults_in self.old c) }
-        ensures input { IfOk result
-            (λ sockets. sockets.0 ≡ record { left = []; count = no_calls []; faults = 0 }) }
-        ensures output { IfOk result
-            (λ sockets. sockets.1 ≡ record { written = []; count = no_calls []; faults = 0 }) }
+        ensures input { IfOk result (λ sockets. sockets.0
+            ≡ record { left = (circuit_in self.old c).fed; count = no_calls []; faults = 0 }) }
+        ensures output { IfOk result (λ sockets. sockets.1
+            ≡ record { written = []; count = no_calls (circuit_in self.old c).failing; faults = 0 }) }
     {
-        let circuit = c as usize;
-        self.counter.count(&mut self.faults[circuit])?;
-        self.opened[circuit] = true;
-        Ok((MemSource::empty(self.alloc), MemSink::empty(self.alloc)))
+        let circuit = &mut self.circuits[c as usize];
+        self.counter.count(&mut circuit.faults)?;
+        Ok(circuit.open(self.alloc))
     }
 
-    /// Lets go of both sockets, and counts one fault where one of them has failed.
+    /// Keeps the sink, and counts one fault where one of the sockets has failed.
     fn close(&mut self, c: u32, input: MemSource, output: MemSink)
         requires in_range { c < MOST_CIRCUITS }
         requires is_open { is_open_in self.old c ≡ true }
@@ -91,12 +207,9 @@ impl Lines for MemLines {
         // Beside what the trait says.
         ensures faults { faults_in self.new c ≡ (if input.faults + output.faults == 0
             then faults_in self.old c else counted (faults_in self.old c)) }
+        ensures sent { (circuit_in self.new c).sent ≡ output }
         ensures count { self.new.count ≡ self.old.count }
     {
-        let circuit = c as usize;
-        self.opened[circuit] = false;
-        if input.faults() > 0 || output.faults() > 0 {
-            self.faults[circuit] = self.faults[circuit].saturating_add(1);
-        }
+        self.circuits[c as usize].close(input, output);
     }
 }

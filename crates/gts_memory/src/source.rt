@@ -41,14 +41,14 @@ impl MemSource {
         })
     }
 
-    /// One with no bytes, whose calls do not fail.
-    pub(crate) fn empty(alloc: Global) -> MemSource
-        ensures { result ≡ record { left = []; count = no_calls []; faults = 0 } }
+    /// A source with these bytes, whose calls do not fail.
+    pub(crate) fn holding(alloc: Global, bytes: Vec<u8>) -> MemSource
+        ensures { result ≡ record { left = bytes.items; count = no_calls []; faults = 0 } }
     {
         MemSource {
-            bytes: Vec::new(alloc),
+            bytes,
             taken: 0,
-            counter: Counter::unfailing(alloc),
+            counter: Counter::failing_at(Vec::new(alloc)),
             faults: 0,
         }
     }

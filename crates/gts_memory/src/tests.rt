@@ -79,10 +79,19 @@ fn a_circuit_is_opened_and_closed(rt: HostRuntime) -> Result<(), Fail> {
     let mut lines = MemLines::new(rt.alloc(), &[1])?;
     assert_eq!(rt; visit(&mut lines), Ok(()));
     assert_eq!(rt; visit(&mut lines), Err(Failed));
+    lines.feed(5, b"in")?;
+    lines.sink_fails(5, &[1])?;
     let (mut input, mut output) = lines.open(5, 4001, 4002)?;
-    assert_eq!(rt; input.read(&mut [0; 4]), Ok(0));
+    let mut into = [0; 4];
+    assert_eq!(rt; input.read(&mut into), Ok(2));
+    assert_eq!(rt; into, [105, 110, 0, 0]);
     assert_eq!(rt; output.write(b"frame"), Ok(5));
+    assert_eq!(rt; output.write(b"lost"), Err(Failed));
+    assert_eq!(rt; lines.sent(5), b"".as_slice());
     lines.close(5, input, output);
+    assert_eq!(rt; lines.sent(5), b"frame".as_slice());
+    let (mut input, _output) = lines.open(5, 4001, 4002)?;
+    assert_eq!(rt; input.read(&mut into), Ok(0));
     Ok(())
 }
 

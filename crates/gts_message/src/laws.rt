@@ -40,9 +40,9 @@ pub fn messages_have_no_fault()
 
 /// A body up to the longest is accepted, and none beyond it, whatever the number (this project's profile).
 pub fn body_limit()
-    ensures accepted { (gap : List ℕ) (parts : MessageParts) → parts.digits ≡ 5 → parts.number < 10 ^ 5
-        → IsGap gap → IsBody parts.body parts.heading parts.text → length parts.body ≤ LONGEST_BODY
-        → split_at (message_of (dec 5 parts.number ++ gap) parts.body) ≡ Ok parts }
+    ensures accepted { (gap : List ℕ) (p : MessageParts) → p.digits ≡ 5 → p.number < 10 ^ 5
+        → IsGap gap → IsBody p.body p.heading p.text → length p.body ≤ LONGEST_BODY
+        → split_at (message_of (dec 5 p.number ++ gap) p.body) ≡ Ok p }
     ensures refused { (n : ℕ) (gap body text : List ℕ) (h : HeadingFields) → n < 10 ^ 5 → IsGap gap
         → IsBody body h text → LONGEST_BODY < length body
         → split_at (message_of (dec 5 n ++ gap) body) ≡ Err Field.Size }

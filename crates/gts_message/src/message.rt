@@ -84,7 +84,8 @@ impl Body {
         ensures only { (h : HeadingFields) (text : List ℕ) → IsBody body.now h text
             → IsOkAnd result (λ found. (fields_of found.0 ≡ h) × (found.1.now ≡ text)) }
         // Which field it is.
-        ensures exact { Reads (λ found. (fields_of found.0, found.1.now)) result (body_at body.now) }
+        ensures exact { Reads (λ found. (fields_of found.0, found.1.now)) result
+            (body_at body.now) }
     {
         Body::parts(body)
     }

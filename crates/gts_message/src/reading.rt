@@ -11,7 +11,8 @@ const END: [u8; 4] = [CR, CR, LF, ETX];
 /// The number of three digits or five at the front, how many they are, and the bytes behind them.
 #[tactic(auto, unfolding(crate::specs::Message::number_at))]
 pub(crate) fn number_of_run(bytes: &[u8]) -> Result<(u32, u8, &[u8]), Field>
-    ensures { Reads (λ found. (found.0, found.1, found.2.now)) result (message.number_at bytes.now) }
+    ensures { Reads (λ found. (found.0, found.1, found.2.now)) result
+        (message.number_at bytes.now) }
 {
     let run = digit_count(bytes);
     if run != 3 && run != 5 {

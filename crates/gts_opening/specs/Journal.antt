@@ -230,6 +230,10 @@ unowed_circuit c = record c { owed = [] }
 abbrev pub unowed : Need → Need
 unowed n = record n { circuits = map unowed_circuit n.circuits }
 
+-- the journal begins with the checkpoint of this need, and has these records behind it
+abbrev pub HasCheckpoint : Directory → Need → List Record → Files → Type 0
+HasCheckpoint d n rs files = HasRecords d (open_gate ∷ checkpoint_text n) (begun (unowed n)) (compacted_bytes n - 1) rs files
+
 -- a state as a journal gives it: with nothing owed
 abbrev pub unowed_on : CircuitState → CircuitState
 unowed_on q = record q { owed = [] }

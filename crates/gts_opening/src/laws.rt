@@ -4,7 +4,7 @@ ghost use Rattle.std.specs.List.{list_any};
 ghost use Rattle.gts_traits.specs.Station.{Says, Tries};
 ghost use Rattle.gts_traits.specs.declared.failed.Failed.{Failed};
 ghost use Rattle.gts_opening.specs.Words.{Call, Files, IsImage, EachSince, Directory, State, Entry, empty, restarted, after_all, Need, need, begun, is_sound, IsOrdered};
-ghost use Rattle.gts_opening.specs.Words.{Record, records_text, open_gate, AreAdmitted, IsClosed, HasRecords, FitsLimit, FitsNeed, selected, opens, files_open, records_at, after_records, gate_after, checkpoint_text, compacted_bytes, need_in, unowed, unowed_state};
+ghost use Rattle.gts_opening.specs.Words.{Record, records_text, open_gate, AreAdmitted, IsClosed, HasRecords, HasCheckpoint, FitsLimit, FitsNeed, selected, opens, files_open, records_at, after_records, gate_after, checkpoint_text, compacted_bytes, need_in, unowed, unowed_state};
 ghost use Rattle.gts_opening.specs.Words.{History, IsCaused, Cause, HasDoubt, HasUnsaid, IsReading, front_of, done_by, is_doubt, is_unsaid, bytes_of_entries, full_compacted};
 ghost use Rattle.gts_opening.specs.Words.{IsInBounds, HaveRoom, IsJournal, StandsIn, Appends, Compacts, OpensTo, OpensToEither};
 
@@ -12,15 +12,15 @@ ghost use Rattle.gts_opening.specs.Words.{IsInBounds, HaveRoom, IsJournal, Stand
 /// records, whatever stands behind the closed gate, and so does a file of them, behind a checkpoint or none. A compacted
 /// journal opens to what the state comes to where it is opened again.
 pub fn a_written_journal_opens()
-    ensures records { (d : Directory) (n file gate : ℕ) (s : State) (rs : List Record) (end : List ℕ)
-        → AreAdmitted d s gate rs → IsClosed end → length rs < n → records_at d n file s gate
+    ensures records { (d : Directory) (n k gate : ℕ) (s : State) (rs : List Record) (end : List ℕ)
+        → AreAdmitted d s gate rs → IsClosed end → length rs < n → records_at d n k s gate
         (records_text rs ++ end) ≡ Ok (after_records d s rs, gate_after gate rs + 1) }
     ensures file { (d : Directory) (files : Files) (rs : List Record)
         → IsInBounds d → HasRecords d [] (empty d) 40 rs files
         → opens d files ≡ Ok (need d (restarted (after_records d (empty d) rs))) }
-    ensures checkpoint { (d : Directory) (files : Files) (n : Need) (rs : List Record) → IsInBounds d
-        → IsTrue (is_sound d n) → FitsLimit d n → let s = begun (unowed n) in HasRecords d (open_gate ∷ checkpoint_text n) s
-        (compacted_bytes n - 1) rs files → opens d files ≡ Ok (need d (restarted (after_records d s rs))) }
+    ensures checkpoint { (d : Directory) (files : Files) (n : Need) (rs : List Record)
+        → IsInBounds d → IsTrue (is_sound d n) → FitsLimit d n → HasCheckpoint d n rs files
+        → opens d files ≡ Ok (need d (restarted (after_records d (begun (unowed n)) rs))) }
     ensures compacted { (d : Directory) (files : Files) (s : State) → IsInBounds d → IsOrdered d s
         → let n = need d s in IsTrue (is_sound d n) → full_compacted d s ≡ None → HasRecords d
         (open_gate ∷ checkpoint_text n) s 0 [] files → opens d files ≡ Ok (need d (restarted s)) }
@@ -39,18 +39,19 @@ pub fn a_checkpoint_is_read_as_written()
 /// state after the history with nothing owed and to as many bytes as its entries take, and to what the history comes to
 /// where it is opened again, whatever stands behind the closed gate.
 pub fn the_journal_of_a_history_opens()
-    ensures state { (d : Directory) (files : Files) (cp : List ℕ) (s : State) (used : ℕ) (es : List Entry)
-        → IsInBounds d → HaveRoom d cp s used es → IsJournal d cp s es (files (selected files))
-        → files_open d files ≡ Ok (unowed_state (after_all d s es), used + bytes_of_entries d s es) }
-    ensures need { (d : Directory) (files : Files) (cp : List ℕ) (s : State) (used : ℕ) (es : List Entry)
-        → IsInBounds d → HaveRoom d cp s used es → IsJournal d cp s es (files (selected files))
-        → opens d files ≡ Ok (need d (restarted (after_all d s es))) }
+    ensures state { (d : Directory) (fs : Files) (cp : List ℕ) (s : State) (n : ℕ) (es : List Entry)
+        → IsInBounds d → HaveRoom d cp s n es → IsJournal d cp s es (fs (selected fs))
+        → files_open d fs ≡ Ok (unowed_state (after_all d s es), n + bytes_of_entries d s es) }
+    ensures need { (d : Directory) (fs : Files) (cp : List ℕ) (s : State) (n : ℕ) (es : List Entry)
+        → IsInBounds d → HaveRoom d cp s n es → IsJournal d cp s es (fs (selected fs))
+        → opens d fs ≡ Ok (need d (restarted (after_all d s es))) }
 {}
 
 /// Where the journal of a history stands in synced files, a crash leaves what opens to the history.
 pub fn a_journal_at_rest_opens()
-    ensures { (d : Directory) (cp : List ℕ) (s : State) (used : ℕ) (es : List Entry) (calls : List Call) (files : Files)
-        → StandsIn d cp s used es calls → IsImage calls files → opens d files ≡ Ok (need d (restarted (after_all d s es))) }
+    ensures { (d : Directory) (cp : List ℕ) (s : State) (used : ℕ) (es : List Entry)
+        (calls : List Call) (files : Files) → StandsIn d cp s used es calls → IsImage calls files
+        → opens d files ≡ Ok (need d (restarted (after_all d s es))) }
 {}
 
 /// A crash at any moment while the record of an entry is appended, in the middle of a write too, leaves a journal that opens
@@ -77,9 +78,9 @@ pub fn a_compaction_may_be_cut_off()
 
 /// What is said, or fails to be, leaves the journal where it stands.
 pub fn a_say_leaves_the_journal()
-    ensures { (d : Directory) (cp : List ℕ) (s : State) (used : ℕ) (es : List Entry) (old new : List Call)
-        (channel : ℕ) (bytes : List ℕ) (result : Result (Unit {0}) Failed)
-        → Tries (Says channel bytes) result old new → StandsIn d cp s used es old → StandsIn d cp s used es new }
+    ensures { (d : Directory) (cp : List ℕ) (s : State) (n : ℕ) (es : List Entry)
+        (old new : List Call) (c : ℕ) (bytes : List ℕ) (r : Result (Unit {0}) Failed)
+        → Tries (Says c bytes) r old new → StandsIn d cp s n es old → StandsIn d cp s n es new }
 {}
 
 /// A history stays caused as it goes on, by an entry that has its cause and by a compaction; and the entries and compactions
@@ -99,7 +100,8 @@ pub fn a_history_stays_caused()
 /// Whether a disk failed, or saying failed, at some entry is computed; and a history without doubt has one reading, itself.
 pub fn a_history_without_doubt_is_its_reading()
     ensures doubt { (entries : List Entry) → (list_any is_doubt entries ≡ true) ↔ HasDoubt entries }
-    ensures unsaid { (entries : List Entry) → (list_any is_unsaid entries ≡ true) ↔ HasUnsaid entries }
+    ensures unsaid { (entries : List Entry)
+        → (list_any is_unsaid entries ≡ true) ↔ HasUnsaid entries }
     ensures own { (entries : List Entry)
         → list_any is_doubt entries ≡ false → IsReading entries entries }
     ensures only { (entries read : List Entry)

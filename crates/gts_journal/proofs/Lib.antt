@@ -1,0 +1,5 @@
+mod FitsLemmas
+mod GateLemmas
+mod AppendLemmas
+mod AheadLemmas
+mod OpeningLemmas

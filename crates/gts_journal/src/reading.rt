@@ -1,0 +1,106 @@
+ghost use Rattle.std.specs.Prelude.{◌≡◌, ◌⊎◌, ◌+◌, ◌≤◌, ◌<◌, ◌^◌, true, false, length, if◌then◌else◌, IfOk, IfSome, OnOk, IsErrOf};
+ghost use Rattle.std.specs.Borrow.{sem};
+ghost use Rattle.gts_traits.specs.{HasCause, Rose};
+ghost use Rattle.gts_journal.specs.{StandsOn, next_entry, Gives, HasGoneOn, GoesOn, record_of, IsRecord};
+
+use crate::{AHEAD, Journal, LONGEST, OPEN};
+use gts_record::{OpenFault, Record, decode};
+use gts_traits::{Failed, Station};
+
+impl Journal {
+    /// The place behind the closed gate; before the end is reached, that of the gate that is read next.
+    pub fn used(&self) -> u64
+        ensures { result ≡ (if self.now.ended then self.now.gate + 1 else self.now.gate) }
+    {
+        if self.ended { self.gate + 1 } else { self.gate }
+    }
+
+    /// The selected file.
+    pub fn file(&self) -> u32
+        ensures { result ≡ self.now.file }
+    {
+        self.file
+    }
+
+    // Reads on from the gate.
+    fn fill<P: Station>(&mut self, station: &mut P) -> Result<(), Failed>
+        ensures place { self.new
+            ≡ record self.old { ahead = self.new.ahead; is_all = self.new.is_all } }
+        ensures enough { OnOk result
+            ((self.new.is_all ≡ true) ⊎ (LONGEST ≤ length self.new.ahead)) }
+        ensures stands { P.tells → StandsOn (P.calls station.old) self.old
+            → StandsOn (P.calls station.new) self.new }
+        ensures told { P.tells → P.calls station.new ≡ P.calls station.old }
+        ensures cause { HasCause result (P.disk_faults station.old) (P.disk_faults station.new) }
+        ensures say { P.say_faults station.new ≡ P.say_faults station.old }
+    {
+        self.begin = 0;
+        self.end = 0;
+        self.is_all = false;
+        let count = station.read(self.file, self.gate, &mut self.buffer)?;
+        self.end = count;
+        self.is_all = count < AHEAD;
+        Ok(())
+    }
+
+    // Sees to it that the gate and a record behind it are read ahead, where they are there.
+    fn ready<P: Station>(&mut self, station: &mut P) -> Result<(), Failed>
+        ensures place { self.new
+            ≡ record self.old { ahead = self.new.ahead; is_all = self.new.is_all } }
+        ensures enough { OnOk result
+            ((self.new.is_all ≡ true) ⊎ (LONGEST ≤ length self.new.ahead)) }
+        ensures stands { P.tells → StandsOn (P.calls station.old) self.old
+            → StandsOn (P.calls station.new) self.new }
+        ensures told { P.tells → P.calls station.new ≡ P.calls station.old }
+        ensures cause { HasCause result (P.disk_faults station.old) (P.disk_faults station.new) }
+        ensures say { P.say_faults station.new ≡ P.say_faults station.old }
+    {
+        if self.is_all || self.end - self.begin >= LONGEST {
+            return Ok(());
+        }
+        self.fill(station)
+    }
+
+    /// The record behind the gate, if the gate is open: `None` exactly at a gate that is there and isn't open. Each other
+    /// fault than the disk's is the one that stands there, with its place. No memory is taken.
+    pub fn next<P: Station>(&mut self, station: &mut P) -> Result<Option<Record<'_>>, OpenFault>
+        requires open { self.old.ended ≡ false }
+        requires room { self.old.gate < 2 ^ 40 }
+        requires stands { P.tells → StandsOn (P.calls station.old) self.old }
+        // Once the record is let go, the journal stands behind it.
+        ensures* after { sem 𝓛 (GoesOn self.entry
+            (λ next. IfOk result (λ found. HasGoneOn self.old found next)
+            × (P.tells → StandsOn (P.calls station.new) next))) }
+        ensures read { P.tells → Gives result (next_entry (P.calls station.old) self.old) }
+        ensures sound { IfOk result (λ found. IfSome found (λ r. IsRecord (record_of r))) }
+        ensures told { P.tells → P.calls station.new ≡ P.calls station.old }
+        ensures memory { IsErrOf result OpenFault.NoMemory → ⊥ }
+        ensures disk_fault { IsErrOf result OpenFault.DiskFault
+            → Rose (P.disk_faults station.old) (P.disk_faults station.new) }
+        ensures later { P.disk_faults station.old ≤ P.disk_faults station.new }
+        ensures say { P.say_faults station.new ≡ P.say_faults station.old }
+    {
+        let Ok(_) = self.ready(station) else {
+            return Err(OpenFault::DiskFault);
+        };
+        let [mark, rest @ ..] = &self.buffer[self.begin..self.end] else {
+            return Err(OpenFault::Damaged {
+                file: self.file,
+                at: self.gate,
+            });
+        };
+        if *mark != OPEN {
+            self.ended = true;
+            return Ok(None);
+        }
+        let Some((found, size)) = decode(rest) else {
+            return Err(OpenFault::Damaged {
+                file: self.file,
+                at: self.gate + 1,
+            });
+        };
+        self.begin += 1 + size;
+        self.gate += 1 + size as u64;
+        Ok(Some(found))
+    }
+}
