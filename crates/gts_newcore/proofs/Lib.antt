@@ -6,3 +6,5 @@ pub mod TakeLemmas
 pub mod CoreLemmas
 pub mod PlaceLemmas
 pub mod TallyLemmas
+pub mod ItemLemmas
+pub mod JudgeLemmas

@@ -6,12 +6,15 @@ use Rattle.gts_directory.specs.Directory.{Directory}
 use Rattle.gts_event.specs.State.{State}
 use Rattle.gts_event.specs.History.{choice, outcome, after, restarted}
 use Rattle.gts_event.specs.declared.event.Event.{Event}
-use Rattle.gts_event.specs.declared.event.Event.TheVariants.{Taken}
+use Rattle.gts_event.specs.declared.event.Event.TheVariants.{Heard, Taken}
 use Rattle.gts_event.specs.Said.{spoken}
 use Rattle.gts_event.specs.Need.{keeps_one}
 use Rattle.gts_event.specs.Stand.{SameNeed}
 use Rattle.gts_event.specs.declared.outcome.Outcome.{Outcome}
+use Rattle.gts_frame.specs.declared.kind.Kind.{Kind}
 use Rattle.gts_newcore.specs.declared.answer.Choice as answers
+use Rattle.gts_newcore.specs.declared.answer.Verdict as verdicts
+use Rattle.gts_newcore.specs.Judging.{verdict_told}
 use Rattle.gts_newcore.specs.Stored.{levels_by}
 use Rattle.gts_newcore.specs.Taking.{choice_told}
 
@@ -57,3 +60,7 @@ Says old c bytes = (d : Directory) (s : State) → Holds d old s → spoken d s 
 -- whatever state it held, it holds that state with the journal opened again
 abbrev pub Restarts : Core → Core → Type 0
 Restarts old new = (d : Directory) (s : State) → Holds d old s → Holds d new (restarted s)
+
+-- whatever state it holds, a message on a circuit would lead to what the verdict tells
+abbrev pub Judges : Directory → Core → ℕ → List ℕ → verdicts.Verdict → Type 0
+Judges d core c message told = (s : State) (kind : Kind) → Holds d core s → verdict_told s.count told ≡ outcome d s (Heard c kind message)

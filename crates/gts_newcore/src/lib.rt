@@ -6,6 +6,7 @@ mod answer;
 mod first;
 mod frames;
 mod headings;
+mod judging;
 mod laws;
 mod line;
 mod opening;

@@ -95,7 +95,7 @@ fn tally_numbers(line: &Line, kept: u32, first: u32, last: u32) -> Tally
 }
 
 /// Counts the places of an item.
-fn tally_item(accepted: &[Stored], line: &Line, kept: u32, item: Item) -> Tally
+pub fn tally_item(accepted: &[Stored], line: &Line, kept: u32, item: Item) -> Tally
     requires kept { kept ≤ 1000 }
     requires item { requests.IsItem (item_of item) }
     requires there { IsTrue (list_all (has (positions accepted.now)) line.now.circuit.taken) }

@@ -2,9 +2,10 @@ ghost use Rattle.std.specs.Prelude.{◌≡◌, ◌<◌, ◌+◌, ◌^◌, length
 ghost use Rattle.gts_directory.specs.Directory.{Directory};
 ghost use Rattle.gts_event.specs.State.{State, empty, waiting};
 ghost use Rattle.gts_event.specs.declared.outcome.Outcome.TheVariants.{Nothing};
-ghost use Rattle.gts_newcore.specs.Core.{Holds, Chooses, Takes, Says, Restarts};
+ghost use Rattle.gts_newcore.specs.Core.{Holds, IsFor, Judges, Chooses, Takes, Says, Restarts};
 
-use crate::answer::Choice;
+use crate::answer::{Choice, Verdict};
+use crate::judging::judge_in;
 use crate::line::Line;
 use crate::opening::idle_lines;
 use crate::stored::Stored;
@@ -51,6 +52,23 @@ impl Core {
             lines,
             ready: None,
         })
+    }
+
+    /// What a message that came in on circuit `c` would lead to. The directory is the one with which the core was made.
+    /// Takes no memory.
+    pub fn judge(&self, directory: &Directory, c: u32, message: &[u8]) -> Verdict
+        requires directory { IsFor directory.now self.now }
+        requires circuit { c < length self.now.kept }
+        ensures { Judges directory.now self.now c message.now result }
+    {
+        judge_in(
+            directory,
+            self.count,
+            self.accepted.as_slice(),
+            &self.lines[c as usize],
+            c,
+            message,
+        )
     }
 
     /// How many bulletins were accepted, which is the position of the next one. Takes no memory.
