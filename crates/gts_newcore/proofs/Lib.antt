@@ -8,3 +8,4 @@ pub mod PlaceLemmas
 pub mod TallyLemmas
 pub mod ItemLemmas
 pub mod JudgeLemmas
+pub mod OwedLemmas

@@ -6,4 +6,5 @@ pub mod Lists
 pub mod Core
 pub mod Whole
 pub mod Judging
+pub mod Owed
 pub mod Words

@@ -10,13 +10,16 @@ mod judging;
 mod laws;
 mod line;
 mod opening;
+mod owed;
 mod places;
 mod stored;
 mod taking;
 mod whole;
 
 pub use answer::{Choice, Verdict};
-pub use laws::a_core_holds_each_state_of_its_need;
+pub use laws::{
+    a_core_has_the_waiting_draws_of_its_state, a_core_holds_each_state_of_its_need,
+};
 pub use whole::Core;
 
 #[cfg(test)]

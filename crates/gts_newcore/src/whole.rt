@@ -2,12 +2,14 @@ ghost use Rattle.std.specs.Prelude.{◌≡◌, ◌<◌, ◌+◌, ◌^◌, length
 ghost use Rattle.gts_directory.specs.Directory.{Directory};
 ghost use Rattle.gts_event.specs.State.{State, empty, waiting};
 ghost use Rattle.gts_event.specs.declared.outcome.Outcome.TheVariants.{Nothing};
+ghost use Rattle.gts_newcore.specs.Owed.{all_waiting};
 ghost use Rattle.gts_newcore.specs.Core.{Holds, IsFor, Judges, Chooses, Takes, Says, Restarts};
 
 use crate::answer::{Choice, Verdict};
 use crate::judging::judge_in;
 use crate::line::Line;
 use crate::opening::idle_lines;
+use crate::owed::owed_in;
 use crate::stored::Stored;
 use crate::taking::{choose, restart_in, take_in};
 use gts_alphabet::NoMemory;
@@ -76,6 +78,15 @@ impl Core {
         ensures { (d : Directory) (s : State) → Holds d self.now s → result ≡ s.count }
     {
         self.count
+    }
+
+    /// How many draws wait, over all circuits. Takes no memory.
+    pub fn owed(&self) -> u64
+        requires { all_waiting self.now.state.circuits < 2 ^ 64 }
+        ensures { (d : Directory) (s : State) → Holds d self.now s
+            → result ≡ all_waiting s.circuits }
+    {
+        owed_in(self.lines.as_slice())
     }
 
     /// What a take on a circuit would give. Takes no memory.
