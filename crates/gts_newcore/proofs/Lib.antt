@@ -9,3 +9,5 @@ pub mod TallyLemmas
 pub mod ItemLemmas
 pub mod JudgeLemmas
 pub mod OwedLemmas
+pub mod RoomLemmas
+pub mod ReadyLemmas

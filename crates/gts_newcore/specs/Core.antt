@@ -1,16 +1,17 @@
 -- What contracts see of a core, and which state of a history it holds. Nothing says how it keeps what it has: any state
 -- of the same need will do.
-use Rattle.std.specs.Prelude.{◌≡◌, ℕ, ◌+◌, List, map, Option, IsTrue}
+use Rattle.std.specs.Prelude.{◌≡◌, ℕ, ◌+◌, List, map, Option, Some, IsTrue}
 use Rattle.gts_traits.specs.Station.{on}
 use Rattle.gts_directory.specs.Directory.{Directory}
 use Rattle.gts_event.specs.State.{State}
-use Rattle.gts_event.specs.History.{choice, outcome, after, restarted}
+use Rattle.gts_event.specs.History.{choice, outcome, after, restarted, body_of}
 use Rattle.gts_event.specs.declared.event.Event.{Event}
 use Rattle.gts_event.specs.declared.event.Event.TheVariants.{Heard, Taken}
 use Rattle.gts_event.specs.Said.{spoken}
 use Rattle.gts_event.specs.Need.{keeps_one}
 use Rattle.gts_event.specs.Stand.{SameNeed}
 use Rattle.gts_event.specs.declared.outcome.Outcome.{Outcome}
+use Rattle.gts_event.specs.declared.outcome.Outcome.TheVariants.{Accepted}
 use Rattle.gts_frame.specs.declared.kind.Kind.{Kind}
 use Rattle.gts_newcore.specs.declared.answer.Choice as answers
 use Rattle.gts_newcore.specs.declared.answer.Verdict as verdicts
@@ -64,3 +65,12 @@ Restarts old new = (d : Directory) (s : State) → Holds d old s → Holds d new
 -- whatever state it holds, a message on a circuit would lead to what the verdict tells
 abbrev pub Judges : Directory → Core → ℕ → List ℕ → verdicts.Verdict → Type 0
 Judges d core c message told = (s : State) (kind : Kind) → Holds d core s → verdict_told s.count told ≡ outcome d s (Heard c kind message)
+
+-- whatever state it held, it holds it still
+abbrev pub Keeps : Core → Core → Type 0
+Keeps old new = (d : Directory) (s : State) → Holds d old s → Holds d new s
+
+-- where a message on a circuit would be accepted, the memory for its body was taken
+abbrev pub IsReady : Directory → Core → ℕ → List ℕ → Type 0
+IsReady d core c message =
+    (s : State) (kind : Kind) (p n : ℕ) → Holds d core s → outcome d s (Heard c kind message) ≡ Accepted p n → core.ready ≡ Some (body_of message)

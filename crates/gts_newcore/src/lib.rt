@@ -12,6 +12,7 @@ mod line;
 mod opening;
 mod owed;
 mod places;
+mod room;
 mod stored;
 mod taking;
 mod whole;

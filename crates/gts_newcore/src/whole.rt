@@ -1,15 +1,16 @@
-ghost use Rattle.std.specs.Prelude.{◌≡◌, ◌<◌, ◌+◌, ◌^◌, length, map, sum, IfOk};
+ghost use Rattle.std.specs.Prelude.{◌≡◌, ◌<◌, ◌+◌, ◌^◌, length, IfOk, OnOk};
 ghost use Rattle.gts_directory.specs.Directory.{Directory};
 ghost use Rattle.gts_event.specs.State.{State, empty, waiting};
 ghost use Rattle.gts_event.specs.declared.outcome.Outcome.TheVariants.{Nothing};
 ghost use Rattle.gts_newcore.specs.Owed.{all_waiting};
-ghost use Rattle.gts_newcore.specs.Core.{Holds, IsFor, Judges, Chooses, Takes, Says, Restarts};
+ghost use Rattle.gts_newcore.specs.Core.{Holds, IsFor, IsReady, Keeps, Judges, Chooses, Takes, Says, Restarts};
 
 use crate::answer::{Choice, Verdict};
 use crate::judging::judge_in;
 use crate::line::Line;
 use crate::opening::idle_lines;
 use crate::owed::owed_in;
+use crate::room::{copied_body, make_room};
 use crate::stored::Stored;
 use crate::taking::{choose, restart_in, take_in};
 use gts_alphabet::NoMemory;
@@ -71,6 +72,30 @@ impl Core {
             c,
             message,
         )
+    }
+
+    /// Takes all the memory for a message that came in on circuit `c`, where it would be accepted. The directory is the
+    /// one with which the core was made.
+    pub fn ready(
+        &mut self,
+        alloc: Global,
+        directory: &Directory,
+        c: u32,
+        message: &[u8],
+    ) -> Result<(), NoMemory>
+        requires directory { IsFor directory.now self.old }
+        requires circuit { c < length self.old.kept }
+        ensures kept { Keeps self.old self.new }
+        ensures ready { OnOk result (IsReady directory.now self.new c message.now) }
+    {
+        let verdict = self.judge(directory, c, message);
+        self.ready = None;
+        if let Verdict::New { .. } = verdict {
+            self.accepted.reserve(1)?;
+            make_room(self.lines.as_mut_slice())?;
+            self.ready = Some(copied_body(alloc, message)?);
+        }
+        Ok(())
     }
 
     /// How many bulletins were accepted, which is the position of the next one. Takes no memory.
