@@ -1,5 +1,5 @@
 -- How many items a request's text can have.
-use Rattle.std.proofs.Common.{◌≡◌, ℕ, zero, suc, ◌+◌, ◌-◌, ◌<◌, ◌≤◌, Bool, true, false, ◌&&◌, cond, nat_eq, List, [], ◌∷◌, ◌++◌, length, drop, take, Option, Some, None, Result, Ok, Err, refl, sym, ap, ◌∙◌, subst, arith, codes}
+use Rattle.std.proofs.Common.{◌≡◌, ℕ, zero, suc, ◌+◌, ◌≤◌, Bool, true, false, ◌&&◌, cond, nat_eq, List, [], ◌∷◌, ◌++◌, length, drop, take, Option, Some, None, Result, Ok, Err, refl, ap, subst, arith, codes}
 use Rattle.std.specs.List.{starts_with}
 use Rattle.std.proofs.lemmas.List.{length-drop}
 use Rattle.gts_alphabet.specs.declared.characters.TheConstants.{EOL}
@@ -7,7 +7,6 @@ use Rattle.gts_heading.specs.declared.field.Field.{Field}
 use Rattle.gts_heading.specs.declared.field.Field.TheVariants.{Cccc}
 use Rattle.gts_heading.specs.Reading.{capitals_at}
 use Rattle.gts_heading.specs.Letters.{are_capitals}
-use Rattle.std.proofs.lemmas.Bool.{lt-ltb}
 use Rattle.std.specs.Prelude.{nat_le}
 use Rattle.gts_request.specs.declared.fault.ReqField.{ReqField}
 use Rattle.gts_request.specs.declared.fault.ReqField.TheVariants.{LineStart}

@@ -9,7 +9,7 @@ use Rattle.gts_request.specs.Request.{Item, Numbers, OfHeading, request_at}
 use Rattle.gts_frame.specs.declared.kind.Kind.{Kind}
 use Rattle.gts_directory.specs.Directory.{Directory, named}
 use Rattle.gts_event.specs.State.{State, CircuitState, on_circuit, duplicate}
-use Rattle.gts_event.specs.History.{outcome, verdict, answer, answer_to, places, places_of, latest_draws, kept_on, is_request}
+use Rattle.gts_event.specs.History.{outcome, verdict, answer, answer_to, places_of, kept_on, is_request}
 use Rattle.gts_event.specs.declared.event.Event.TheVariants.{Heard}
 use Rattle.gts_event.specs.declared.outcome.Outcome.{Outcome}
 use Rattle.gts_event.specs.declared.outcome.Outcome.TheVariants as out

@@ -1,7 +1,7 @@
 -- The room on all circuits, one after another.
-use Rattle.std.proofs.Common.{◌≡◌, ℕ, zero, suc, ◌+◌, ◌<◌, true, ◌&&◌, Bool, List, [], ◌∷◌, length, get_or, set, map, take, refl, sym, ap, ◌∙◌, subst, arith}
+use Rattle.std.proofs.Common.{◌≡◌, ℕ, zero, suc, ◌<◌, true, List, [], ◌∷◌, length, get_or, set, take, refl, sym, ap, ◌∙◌, arith}
 use Rattle.std.specs.List.{list_all}
-use Rattle.std.proofs.lemmas.List.{map-set, set-get_or, get_or-map, take_all}
+use Rattle.std.proofs.lemmas.List.{map-set, set-get_or, get_or-map}
 use Rattle.gts_event.specs.State.{CircuitState, idle}
 use Rattle.gts_event.proofs.StateLemmas.{and_true, both_true}
 use Rattle.gts_newcore.specs.Line.{Line}

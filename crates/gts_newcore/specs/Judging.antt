@@ -2,8 +2,6 @@
 use Rattle.std.specs.Prelude.{◌≡◌, ℕ, ◌==◌, List, [], length, Option, Some, None, Result, Ok, Err, reverse, count_by, is_none, if◌then◌else◌}
 use Rattle.std.specs.List.{flat_map}
 use Rattle.gts_heading.specs.Heading.{HeadingFields}
-use Rattle.gts_request.specs.declared.item.Item as asked
-use Rattle.gts_request.specs.declared.item.Item.TheVariants as ask
 use Rattle.gts_event.specs.State.{CircuitState, kept_draws, heading_at_position, is_same_heading, duplicate}
 use Rattle.gts_event.specs.History.{index_where, places_of, found, answer, is_request}
 use Rattle.gts_event.specs.declared.outcome.Outcome.{Outcome}

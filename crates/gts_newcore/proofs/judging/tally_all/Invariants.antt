@@ -1,4 +1,4 @@
-use Rattle.std.proofs.Common.{◌≡◌, ℕ, ◌+◌, ◌*◌, ◌≤◌, List, length, Option}
+use Rattle.std.proofs.Common.{◌≡◌, ◌+◌, ◌*◌, ◌≤◌, length}
 use Rattle.std.specs.Prelude.{count_by, is_none, flat_map}
 use Rattle.std.specs.List.{AllByRecursion}
 use Rattle.gts_request.specs.Request.{IsItem}

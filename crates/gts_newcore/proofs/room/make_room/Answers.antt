@@ -1,4 +1,4 @@
-use Rattle.std.proofs.Common.{◌≡◌, ℕ, suc, ◌+◌, ◌<◌, true, List, length, set, take, ◌∙◌, subst, arith}
+use Rattle.std.proofs.Common.{◌≡◌, ℕ, suc, ◌+◌, ◌<◌, true, length, set, take, ◌∙◌, subst, arith}
 use Rattle.std.specs.List.{list_all}
 use Rattle.gts_newcore.specs.Line.{Line}
 use Rattle.gts_newcore.proofs.TakeLemmas.{kept_set}

@@ -1,4 +1,4 @@
-use Rattle.std.proofs.Common.{◌≡◌, ℕ, ◌<◌, ◌^◌, List, sym, ap, ◌∙◌, subst}
+use Rattle.std.proofs.Common.{ℕ, ◌<◌, ◌^◌, List, sym, ap, ◌∙◌, subst}
 use Rattle.gts_newcore.specs.Line.{Line}
 use Rattle.gts_newcore.specs.Owed.{circuits_of, all_waiting}
 use Rattle.gts_newcore.specs.Core.{Core, Holds}

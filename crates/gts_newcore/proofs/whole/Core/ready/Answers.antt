@@ -1,4 +1,4 @@
-use Rattle.std.proofs.Common.{◌≡◌, ℕ, sym, ◌∙◌, subst}
+use Rattle.std.proofs.Common.{sym, ◌∙◌, subst}
 use Rattle.gts_newcore.specs.Core.{Core, Holds}
 use Rattle.gts_newcore.specs.Whole.{core_of}
 use Rattle.gts_newcore.proofs.ReadyLemmas.{not_accepted}
