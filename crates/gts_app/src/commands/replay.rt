@@ -4,7 +4,7 @@ use crate::Status;
 use crate::reading::{ReadFault, read_front};
 use crate::steps::do_steps;
 use gts_capture::{CaptureError, read_capture};
-use gts_core::PlainCore;
+use gts_first_core::PlainCore;
 use gts_first::StepFault;
 use gts_frame::FrameBuf;
 use gts_traits::{Source, Station};

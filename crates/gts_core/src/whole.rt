@@ -1,0 +1,153 @@
+ghost use Rattle.std.specs.Prelude.{◌≡◌, ◌<◌, ◌+◌, ◌^◌, length, IfOk, OnOk};
+ghost use Rattle.gts_directory.specs.Directory.{Directory};
+ghost use Rattle.gts_event.specs.State.{State, empty, waiting};
+ghost use Rattle.gts_event.specs.declared.outcome.Outcome.TheVariants.{Nothing};
+ghost use Rattle.gts_core.specs.Owed.{all_waiting};
+ghost use Rattle.gts_core.specs.Core.{Holds, IsFor, IsReady, Keeps, Judges, Chooses, Takes, Says, Restarts};
+
+use crate::answer::{Choice, Verdict};
+use crate::judging::judge_in;
+use crate::line::Line;
+use crate::opening::idle_lines;
+use crate::owed::owed_in;
+use crate::room::{copied_body, make_room};
+use crate::stored::Stored;
+use crate::taking::{choose, restart_in, take_in};
+use gts_alphabet::NoMemory;
+use gts_directory::Directory;
+use gts_event::Outcome;
+use gts_frame::FrameBuf;
+use std::alloc::Global;
+use std::marker::Model;
+
+/// The switch as a value. Contracts see what later answers depend on; how it is kept, nobody can tell.
+#[derive(Drop)]
+pub struct Core {
+    window: u32,
+    count: u64,
+    accepted: Vec<Stored>,
+    lines: Vec<Line>,
+    ready: Option<Vec<u8>>,
+}
+
+impl Model for Core {
+    ghost use Rattle.gts_core.specs.Core as cores;
+
+    ghost Value = { cores.Core };
+
+    ghost use Rattle.gts_core.specs.Whole.{core_of, IsSoundCore};
+
+    ghost view = { core_of };
+
+    ghost invariant = { IsSoundCore };
+}
+
+impl Core {
+    /// A core that stands for the empty history under a directory. The room for repetitions is taken here.
+    pub fn new(alloc: Global, directory: &Directory) -> Result<Core, NoMemory>
+        ensures { IfOk result (λ core. Holds directory.now core (empty directory.now)) }
+    {
+        let lines = idle_lines(alloc, directory)?;
+        Ok(Core {
+            window: directory.window(),
+            count: 0,
+            accepted: Vec::new(alloc),
+            lines,
+            ready: None,
+        })
+    }
+
+    /// What a message that came in on circuit `c` would lead to. The directory is the one with which the core was made.
+    /// Takes no memory.
+    pub fn judge(&self, directory: &Directory, c: u32, message: &[u8]) -> Verdict
+        requires directory { IsFor directory.now self.now }
+        requires circuit { c < length self.now.kept }
+        ensures { Judges directory.now self.now c message.now result }
+    {
+        judge_in(
+            directory,
+            self.count,
+            self.accepted.as_slice(),
+            &self.lines[c as usize],
+            c,
+            message,
+        )
+    }
+
+    /// Takes all the memory for a message that came in on circuit `c`, where it would be accepted. The directory is the
+    /// one with which the core was made.
+    pub fn ready(
+        &mut self,
+        alloc: Global,
+        directory: &Directory,
+        c: u32,
+        message: &[u8],
+    ) -> Result<(), NoMemory>
+        requires directory { IsFor directory.now self.old }
+        requires circuit { c < length self.old.kept }
+        ensures kept { Keeps self.old self.new }
+        ensures ready { OnOk result (IsReady directory.now self.new c message.now) }
+    {
+        let verdict = self.judge(directory, c, message);
+        self.ready = None;
+        if let Verdict::New { .. } = verdict {
+            self.accepted.reserve(1)?;
+            make_room(self.lines.as_mut_slice())?;
+            self.ready = Some(copied_body(alloc, message)?);
+        }
+        Ok(())
+    }
+
+    /// How many bulletins were accepted, which is the position of the next one. Takes no memory.
+    pub fn accepted(&self) -> u64
+        ensures { (d : Directory) (s : State) → Holds d self.now s → result ≡ s.count }
+    {
+        self.count
+    }
+
+    /// How many draws wait, over all circuits. Takes no memory.
+    pub fn owed(&self) -> u64
+        requires { all_waiting self.now.state.circuits < 2 ^ 64 }
+        ensures { (d : Directory) (s : State) → Holds d self.now s
+            → result ≡ all_waiting s.circuits }
+    {
+        owed_in(self.lines.as_slice())
+    }
+
+    /// What a take on a circuit would give. Takes no memory.
+    pub fn choice(&self, c: u32) -> Choice
+        requires { c < length self.now.kept }
+        ensures { Chooses self.now c result }
+    {
+        choose(self.accepted.as_slice(), &self.lines[c as usize])
+    }
+
+    /// One take on a circuit: a repetition or a draw leaves its frame in `out`. Takes no memory.
+    pub fn take(&mut self, c: u32, out: &mut FrameBuf) -> Outcome
+        requires { c < length self.old.kept }
+        ensures step { Takes self.old self.new c result }
+        ensures frame { (result ≡ Nothing → ⊥) → Says self.old c out.new }
+        ensures nothing { result ≡ Nothing → out.new ≡ out.old }
+    {
+        self.ready = None;
+        take_in(
+            self.count,
+            self.accepted.as_slice(),
+            self.lines.as_mut_slice(),
+            c,
+            out,
+        )
+    }
+
+    /// The journal was opened again: each circuit is owed its last draw alone. Takes no memory.
+    pub fn restart(&mut self)
+        ensures { Restarts self.old self.new }
+    {
+        self.ready = None;
+        restart_in(
+            self.count,
+            self.accepted.as_slice(),
+            self.lines.as_mut_slice(),
+        );
+    }
+}
