@@ -7,8 +7,8 @@ ghost use Rattle.gts_first.specs.{at, Does, DoesAll, HasCauseOf, Heard, Taken};
 ghost use Rattle.gts_capture.specs.{IsStep, event_of_step, entries, step_of, steps_of};
 
 use gts_capture::CaptureStep;
-use gts_first_core::PlainCore;
 use gts_first::{LONGEST_RECEIPT, Outcome, StepFault, a_run_goes_on, receipt};
+use gts_first_core::PlainCore;
 use gts_frame::{FrameBuf, Kind};
 use gts_message::Message;
 use gts_traits::Station;
