@@ -42,7 +42,7 @@ fewer_by_one f g (x ∷ xs) p h n there = go (λ k. fewer_by_one f g xs p h n k)
     go m false e true k there = absurd (let y : f x ≡ true = h x k in cc)
     go m false e false k there = m there
 
-has_before : (ts : List ℕ) (p x : ℕ) → has ts x ≡ true → has (ts ++ p ∷ []) x ≡ true
+pub has_before : (ts : List ℕ) (p x : ℕ) → has ts x ≡ true → has (ts ++ p ∷ []) x ≡ true
 has_before [] p x h = absurd (cc)
 has_before (t ∷ ts) p x h = elim (or_cases (t == x) (has ts x) h) [
   | inl at ↦ or_left (t == x) (has (ts ++ p ∷ []) x) at

@@ -11,3 +11,4 @@ pub mod JudgeLemmas
 pub mod OwedLemmas
 pub mod RoomLemmas
 pub mod ReadyLemmas
+pub mod HearLemmas

@@ -5,6 +5,7 @@
 mod answer;
 mod first;
 mod frames;
+mod granting;
 mod headings;
 mod judging;
 mod laws;
@@ -13,6 +14,7 @@ mod opening;
 mod owed;
 mod places;
 mod room;
+mod routing;
 mod stored;
 mod taking;
 mod whole;

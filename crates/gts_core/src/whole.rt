@@ -1,22 +1,25 @@
 ghost use Rattle.std.specs.Prelude.{◌≡◌, ◌<◌, ◌+◌, ◌^◌, length, IfOk, OnOk};
 ghost use Rattle.gts_directory.specs.Directory.{Directory};
-ghost use Rattle.gts_event.specs.State.{State, empty, waiting};
+ghost use Rattle.gts_event.specs.State.{State, empty, waiting, most_accepted};
+ghost use Rattle.gts_event.specs.declared.event.Event.TheVariants.{Heard};
 ghost use Rattle.gts_event.specs.declared.outcome.Outcome.TheVariants.{Nothing};
 ghost use Rattle.gts_core.specs.Owed.{all_waiting};
-ghost use Rattle.gts_core.specs.Core.{Holds, IsFor, IsReady, Keeps, Judges, Chooses, Takes, Says, Restarts};
+ghost use Rattle.gts_core.specs.Core.{Holds, IsFor, IsReady, IsStep, Keeps, Judges, Chooses, Takes, Says, Restarts};
 
 use crate::answer::{Choice, Verdict};
+use crate::granting::grant_in;
 use crate::judging::judge_in;
 use crate::line::Line;
 use crate::opening::idle_lines;
 use crate::owed::owed_in;
 use crate::room::{copied_body, make_room};
+use crate::routing::accept_in;
 use crate::stored::Stored;
 use crate::taking::{choose, restart_in, take_in};
 use gts_alphabet::NoMemory;
 use gts_directory::Directory;
 use gts_event::Outcome;
-use gts_frame::FrameBuf;
+use gts_frame::{FrameBuf, Kind};
 use std::alloc::Global;
 use std::marker::Model;
 
@@ -96,6 +99,44 @@ impl Core {
             self.ready = Some(copied_body(alloc, message)?);
         }
         Ok(())
+    }
+
+    /// A message came in on circuit `c`: an accepted one joins the bulletins, and a granted request is owed. The directory
+    /// is the one with which the core was made. Takes no memory; `ready` took what an accepted message needs.
+    pub fn hear(&mut self, directory: &Directory, c: u32, kind: Kind, message: &[u8]) -> Outcome
+        requires directory { IsFor directory.now self.old }
+        requires circuit { c < length self.old.kept }
+        requires ready { IsReady directory.now self.old c message.now }
+        requires few { self.old.state.count < most_accepted }
+        ensures { IsStep directory.now self.old self.new (Heard c kind message.now) result }
+    {
+        let verdict = self.judge(directory, c, message);
+        match verdict {
+            Verdict::Refused(refusal) => Outcome::Refused(refusal),
+            Verdict::Duplicate { position } => Outcome::Duplicate { position },
+            Verdict::Asked { found, missing } => {
+                self.ready = None;
+                grant_in(
+                    directory,
+                    self.count,
+                    self.accepted.as_slice(),
+                    self.lines.as_mut_slice(),
+                    c,
+                    message,
+                );
+                Outcome::Asked { found, missing }
+            }
+            Verdict::New { circuits } => {
+                let position = self.count;
+                if let Some(body) = self.ready.take() {
+                    let accepted = &mut self.accepted;
+                    let lines = self.lines.as_mut_slice();
+                    accept_in(directory, position, accepted, lines, c, kind, message, body);
+                    self.count = position + 1;
+                }
+                Outcome::Accepted { position, circuits }
+            }
+        }
     }
 
     /// How many bulletins were accepted, which is the position of the next one. Takes no memory.
