@@ -4,6 +4,8 @@ use Rattle.std.specs.Int.{bit_at}
 use Rattle.gts_directory.specs.Routing.{bit}
 use Rattle.gts_event.specs.State.{CircuitState, has}
 use Rattle.gts_event.specs.History.{with_routed}
+pub use Rattle.gts_core.specs.Stored.{positions}
+pub use Rattle.gts_core.specs.Line.{is_drawn}
 
 -- a position joins what is routed, where the circuit is named
 abbrev pub routed_where : Bool → ℕ → CircuitState → CircuitState

@@ -1,15 +1,10 @@
 ghost use Rattle.std.specs.Prelude.{◌≡◌, ◌+◌, ◌<◌, ◌≤◌, ◌^◌, ◌∷◌, [], length, map, flat_map, IfSome, IsTrue};
 ghost use Rattle.std.specs.List.{list_all, AllByRecursion};
-ghost use Rattle.gts_request.specs.Places.{item_of};
 ghost use Rattle.gts_request.specs.Request as requests;
-ghost use Rattle.gts_event.specs.State.{on_circuit};
-ghost use Rattle.gts_event.specs.History.{most_owed, items_of, places, with_owed};
-ghost use Rattle.gts_core.specs.Words.{has, draws, found};
-ghost use Rattle.gts_core.specs.Stored.{positions};
-ghost use Rattle.gts_core.specs.Line.{is_drawn};
+ghost use Rattle.gts_core.specs.Words.{has, draws, on_circuit, item_of, found, most_owed, items_of, places, with_owed};
 ghost use Rattle.gts_core.specs.Judging.{number_place, item_places};
 ghost use Rattle.gts_core.specs.Lists.{state_of, IsSound};
-ghost use Rattle.gts_core.specs.Hearing.{with_more_owed};
+ghost use Rattle.gts_core.specs.Hearing.{positions, is_drawn, with_more_owed};
 
 use crate::line::Line;
 use crate::places::{place_of_heading, place_of_number};

@@ -2,8 +2,7 @@ ghost use Rattle.std.specs.Prelude.{◌≡◌, ◌==◌, ◌+◌, ◌<◌, ◌�
 ghost use Rattle.std.specs.Int.{bit_at};
 ghost use Rattle.std.specs.List.{list_all};
 ghost use Rattle.gts_message.specs.Message.{split_at};
-ghost use Rattle.gts_directory.specs.Directory.{named};
-ghost use Rattle.gts_event.specs.History.{body_of, heading_of_message, routed_to, with_bulletin};
+ghost use Rattle.gts_core.specs.Words.{named, body_of, heading_of_message, routed_to, with_bulletin};
 ghost use Rattle.gts_core.specs.Owed.{circuits_of};
 ghost use Rattle.gts_core.specs.Lists.{state_of, HasLevelsOf};
 ghost use Rattle.gts_core.specs.Hearing.{routed_where, IsMaskOf};
