@@ -73,4 +73,5 @@ Keeps old new = (d : Directory) (s : State) → Holds d old s → Holds d new s
 -- where a message on a circuit would be accepted, the memory for its body was taken
 abbrev pub IsReady : Directory → Core → ℕ → List ℕ → Type 0
 IsReady d core c message =
-    (s : State) (kind : Kind) (p n : ℕ) → Holds d core s → outcome d s (Heard c kind message) ≡ Accepted p n → core.ready ≡ Some (body_of message)
+    (s : State) (kind : Kind) (p n : ℕ) → Holds d core s → outcome d s (Heard c kind message) ≡ Accepted p n
+    → core.ready ≡ Some (body_of message)
