@@ -1,3 +1,4 @@
-pub mod StepLemmas
-pub mod RunLemmas
+pub mod EndLemmas
+pub mod DirectoryLemmas
+pub mod InitLemmas
 pub mod ReplayLemmas

@@ -2,11 +2,13 @@
 #![tactic(auto)]
 
 mod commands;
+mod directory;
+mod laws;
 mod reading;
 mod running;
 mod status;
-mod steps;
 
+pub use laws::a_history_keeps_its_laws;
 pub use running::run;
 pub use status::Status;
 

@@ -1,5 +1,6 @@
 use super::*;
 use gts_alphabet::digits_of;
+use gts_directory::{DirFault, Part};
 use gts_memory::{MemLines, MemSource, MemStation};
 use gts_traits::{FreeGate, WordList};
 use std::alloc::Global;
@@ -7,28 +8,52 @@ use std::sync::Wait;
 use std::test::Fail;
 use std::thread::Threads;
 
-const REPORT: &[u8] = b"00000039AN\x01\r\r\n001\r\r\nSMVG01 TVSV 280000\r\r\nNIL=\r\r\n\x03";
+const TOP: &str = "centre = \"TVSV\"\n";
 
-const FEED: &[u8] = b"F 00 000049\n";
+const A: &str = "[[circuit]]\nname = \"A\"\npeer = \"AAAA\"\n";
 
-const ACCEPTED: &[u8] = b"ACC 0 0 1 SMVG01 TVSV 280000\n";
+const B: &str = "[[circuit]]\nname = \"B\"\npeer = \"BBBB\"\n";
 
-/// Runs words over a capture and devices in memory with the listed failing calls.
+const RULE: &str = "[[rule]]\nheading = \"****** ****\"\nto = [\"A\", \"B\"]\n";
+
+const AB: &[&str] = &[TOP, A, B, RULE];
+
+const F1: &str = "AN 00 001|SMVG01 TVSV 280000|NIL=";
+
+const F2: &str = "AN 00 002|SMVG01 TVSV 280000|NIM=";
+
+const ACCEPTED: &str = "ACC 0 0 1 SMVG01 TVSV 280000\n";
+
+/// The calls of the devices that fail.
+#[derive(Clone, Copy, Drop)]
+struct Failing<'a> {
+    directory: &'a [u64],
+    capture: &'a [u64],
+    says: &'a [u64],
+}
+
+const NONE: Failing<'static> = Failing {
+    directory: &[],
+    capture: &[],
+    says: &[],
+};
+
+/// Runs words over a directory, a capture and devices in memory.
 fn run_words<R: AllocGlobal + Threads + Wait + Sync>(
     rt: &R,
     words: &[&str],
+    directory: &[u8],
     capture: &[u8],
-    failing_reads: &[u64],
-    failing_says: &[u64],
+    failing: &Failing<'_>,
 ) -> Result<(Status, MemStation), Fail> {
     let alloc = rt.alloc();
     let mut list = WordList::new();
     for word in words {
         list.push(alloc, word)?;
     }
-    let mut directory = MemSource::new(alloc, b"", &[])?;
-    let capture = MemSource::new(alloc, capture, failing_reads)?;
-    let station = MemStation::new(alloc, failing_says)?;
+    let mut directory = MemSource::new(alloc, directory, failing.directory)?;
+    let capture = MemSource::new(alloc, capture, failing.capture)?;
+    let station = MemStation::new(alloc, failing.says)?;
     let mut lines = MemLines::new(alloc, &[])?;
     let (status, station, _) = run(
         rt,
@@ -43,105 +68,562 @@ fn run_words<R: AllocGlobal + Threads + Wait + Sync>(
     Ok((status, station))
 }
 
-/// Appends a step that feeds one frame of this type with this message.
-fn push_feed(capture: &mut Vec<u8>, kind: &[u8], message: &[u8]) -> Result<(), Fail> {
-    let length = u32::try_from(message.len())?.saturating_add(10);
-    capture.extend_from_slice(b"F 00 ")?;
-    capture.extend_from_slice(&digits_of::<6>(length))?;
-    capture.extend_from_slice(b"\n")?;
-    capture.extend_from_slice(&digits_of::<8>(length.saturating_sub(10)))?;
-    capture.extend_from_slice(kind)?;
-    capture.extend_from_slice(message)?;
-    Ok(())
+/// The bytes of a text in which `^` stands for SOH, `|` for a line end and `$` for ETX.
+fn spelled(alloc: Global, text: &str) -> Result<Vec<u8>, Fail> {
+    let mut bytes = Vec::new(alloc);
+    for byte in text.as_bytes() {
+        match byte {
+            b'^' => bytes.push(1)?,
+            b'|' => bytes.extend_from_slice(b"\r\r\n")?,
+            b'$' => bytes.push(3)?,
+            other => bytes.push(*other)?,
+        }
+    }
+    Ok(bytes)
 }
 
-/// Appends a message of a sequence number, a heading and a text.
-fn push_message(
-    message: &mut Vec<u8>,
-    number: &[u8],
-    heading: &[u8],
-    text: &[u8],
-) -> Result<(), Fail> {
-    for piece in [
+/// The frame of a message that is spelled without its first and its last line end: the two letters of the type, a blank and
+/// the circuit, which is passed over, stand in front of it.
+fn framed(alloc: Global, step: &str) -> Result<Vec<u8>, Fail> {
+    let message = [
         b"\x01\r\r\n",
-        number,
-        b"\r\r\n",
-        heading,
-        b"\r\r\n",
-        text,
+        spelled(alloc, &step[6..])?.as_slice(),
         b"\r\r\n\x03",
-    ] {
-        message.extend_from_slice(piece)?;
-    }
-    Ok(())
+    ]
+    .concat(alloc)?;
+    let length = u32::try_from(message.len())?;
+    Ok([
+        digits_of::<8>(length).as_slice(),
+        step[..2].as_bytes(),
+        &message,
+    ]
+    .concat(alloc)?)
 }
 
-#[test]
-fn one_bulletin_is_sent_on(rt: HostRuntime) -> Result<(), Fail> {
-    let capture = [FEED, REPORT, b"T 01\nE\n"].concat(rt.alloc())?;
-    let (status, station) = run_words(&rt, &["replay"], &capture, &[], &[])?;
-    assert_eq!(rt; status, Status::Done);
-    assert_eq!(rt; station.said(0), ACCEPTED);
-    assert_eq!(rt; station.said(1), b"".as_slice());
-    assert_eq!(rt; station.said(2), REPORT);
-    Ok(())
-}
-
-#[test]
-fn an_empty_text_is_sent_on(rt: HostRuntime) -> Result<(), Fail> {
-    let alloc = rt.alloc();
-    let mut message = Vec::new(alloc);
-    push_message(&mut message, b"001", b"SMVG01 TVSV 280000", b"")?;
+/// A capture of these steps and its end. A step that begins with the letters of a frame's type is a feed with that frame,
+/// one that begins with `F` a feed with these bytes as they are spelled.
+fn captured(alloc: Global, steps: &[&str]) -> Result<Vec<u8>, Fail> {
     let mut capture = Vec::new(alloc);
-    push_feed(&mut capture, b"AN", &message)?;
-    capture.extend_from_slice(b"T 01\nE\n")?;
-    let (status, station) = run_words(&rt, &["replay"], &capture, &[], &[])?;
-    assert_eq!(rt; status, Status::Done);
-    assert_eq!(rt; station.said(0), ACCEPTED);
-    assert_eq!(rt;
-        station.said(2),
-        [b"00000035AN", message.as_slice()]
-            .concat(alloc)?
-            .as_slice()
-    );
-    Ok(())
-}
-
-#[test]
-fn takes_around_a_bulletin_give_nothing(rt: HostRuntime) -> Result<(), Fail> {
-    let capture = [b"T 01\n", FEED, REPORT, b"T 01\nT 01\nE\n"].concat(rt.alloc())?;
-    let (status, station) = run_words(&rt, &["replay"], &capture, &[], &[])?;
-    assert_eq!(rt; status, Status::Done);
-    assert_eq!(rt; station.said(0), ACCEPTED);
-    assert_eq!(rt; station.said(2), REPORT);
-    Ok(())
-}
-
-#[test]
-fn bytes_that_are_no_capture_change_nothing(rt: HostRuntime) -> Result<(), Fail> {
-    let alloc = rt.alloc();
-    let whole = [FEED, REPORT, b"E\n"].concat(alloc)?;
-    let behind_the_end = [whole.as_slice(), b"T"].concat(alloc)?;
-    let second_end = [whole.as_slice(), b"E\n"].concat(alloc)?;
-    let no_end = [FEED, REPORT].concat(alloc)?;
-    let cut = whole.get(..40).ok_or("a capture")?;
-    let captures = [
-        b"".as_slice(),
-        b"O 00\nE\n",
-        b"T 00\nE\n",
-        b"F 01 000049\nE\n",
-        b"E",
-        cut,
-        &behind_the_end,
-        &second_end,
-        &no_end,
-    ];
-    for (i, capture) in captures.iter().enumerate() {
-        let (status, station) = run_words(&rt, &["replay"], capture, &[], &[])?;
-        assert_eq!(rt; status, Status::Later, "capture {i}");
-        assert_eq!(rt; station.said(0), b"".as_slice());
-        assert_eq!(rt; station.said(2), b"".as_slice());
+    for step in steps {
+        let fed = match step.as_bytes() {
+            [b'A' | b'B', b'N' | b'I', ..] => (&step[3..5], framed(alloc, step)?),
+            [b'F', ..] => (&step[2..4], spelled(alloc, &step[5..])?),
+            _ => {
+                capture.extend_from_slice(step.as_bytes())?;
+                capture.push(b'\n')?;
+                continue;
+            }
+        };
+        capture.extend_from_slice(b"F ")?;
+        capture.extend_from_slice(fed.0.as_bytes())?;
+        capture.push(b' ')?;
+        capture.extend_from_slice(&digits_of::<6>(u32::try_from(fed.1.len())?))?;
+        capture.push(b'\n')?;
+        capture.extend_from_slice(&fed.1)?;
     }
+    capture.extend_from_slice(b"E\n")?;
+    Ok(capture)
+}
+
+/// A directory of these pieces.
+fn directory_of(alloc: Global, pieces: &[&str]) -> Result<Vec<u8>, Fail> {
+    let mut text = Vec::new(alloc);
+    for piece in pieces {
+        text.extend_from_slice(piece.as_bytes())?;
+    }
+    Ok(text)
+}
+
+/// What a capture says under a directory: the receipts, and on a circuit the frames of these messages.
+#[derive(Clone, Copy, Drop)]
+struct Row<'a> {
+    directory: &'a [&'a str],
+    steps: &'a [&'a str],
+    receipts: &'a str,
+    circuit: u32,
+    frames: &'a [&'a str],
+}
+
+const C: &str = "[[circuit]]\nname = \"C\"\npeer = \"CCCC\"\n";
+
+const SM_RULE: &str = "[[rule]]\nheading = \"SM**** ****\"\nto = [\"A\", \"B\"]\n";
+
+const ENDS_01_RULE: &str = "[[rule]]\nheading = \"****01 ****\"\nto = [\"B\", \"C\"]\n";
+
+const ROWS: &[Row<'static>] = &[
+    // An empty text is accepted and sent on.
+    Row {
+        directory: AB,
+        steps: &["AN 00 001|SMVG01 TVSV 280000|", "T 01"],
+        receipts: ACCEPTED,
+        circuit: 1,
+        frames: &["AN 00 001|SMVG01 TVSV 280000|"],
+    },
+    // Takes around a bulletin give nothing.
+    Row {
+        directory: AB,
+        steps: &["T 01", F1, "T 01", "T 01"],
+        receipts: ACCEPTED,
+        circuit: 1,
+        frames: &[F1],
+    },
+    // A keep-alive between two frames is passed over.
+    Row {
+        directory: AB,
+        steps: &[
+            "F 00 00000039AN^|001|SMVG01 TVSV 280000|NIL=|$00000000AN00000039AN^|002|SMVG01 TVSV 280000|NIM=|$",
+            "T 01",
+            "T 01",
+        ],
+        receipts: "ACC 0 0 1 SMVG01 TVSV 280000\nACC 0 1 1 SMVG01 TVSV 280000\n",
+        circuit: 1,
+        frames: &[F1, F2],
+    },
+    // What follows a loss is dropped until the circuit begins a new connection.
+    Row {
+        directory: AB,
+        steps: &["F 00 0000039 AN", F1, "O 00", F1, "T 01"],
+        receipts: "LOS 0 Length\nACC 0 0 1 SMVG01 TVSV 280000\n",
+        circuit: 1,
+        frames: &[F1],
+    },
+    // Synchronisation is lost at a length past the longest, at the eighth digit and at the first.
+    Row {
+        directory: AB,
+        steps: &["F 00 00500001", "F 01 1"],
+        receipts: "LOS 0 Length\nLOS 1 Length\n",
+        circuit: 1,
+        frames: &[],
+    },
+    // The type of a frame is kept, and an end within a text ends nothing.
+    Row {
+        directory: AB,
+        steps: &["BI 00 001|SMVG01 TVSV 280000|BUFR$|$7", "T 01"],
+        receipts: ACCEPTED,
+        circuit: 1,
+        frames: &["BI 00 001|SMVG01 TVSV 280000|BUFR$|$7"],
+    },
+    // Refused messages take no position.
+    Row {
+        directory: AB,
+        steps: &[
+            "AN 00 001|SMVG01 TVSV 282400|NIL=",
+            "AN 00 001|SMVG01 TVSV 280000 COR|NIL=",
+            F1,
+            "T 01",
+        ],
+        receipts: "REF 0 Hour\nREF 0 BBB\nACC 0 0 1 SMVG01 TVSV 280000\n",
+        circuit: 1,
+        frames: &[F1],
+    },
+    // A warning is drawn first, and the others by arrival.
+    Row {
+        directory: &[TOP, A, B, RULE, "[[level]]\ntt = \"WW\"\nlevel = 1\n"],
+        steps: &[
+            "AN 00 001|SMVG01 TVSV 280000|x",
+            "AN 00 002|WWVG01 TVSV 280000|y",
+            "AN 00 003|SMVG02 TVSV 280000|z",
+            "T 01",
+            "T 01",
+            "T 01",
+            "T 01",
+        ],
+        receipts: "ACC 0 0 1 SMVG01 TVSV 280000\nACC 0 1 1 WWVG01 TVSV 280000\nACC 0 2 1 SMVG02 TVSV 280000\n",
+        circuit: 1,
+        frames: &[
+            "AN 00 001|WWVG01 TVSV 280000|y",
+            "AN 00 002|SMVG01 TVSV 280000|x",
+            "AN 00 003|SMVG02 TVSV 280000|z",
+        ],
+    },
+    // A duplicate is told by heading and text, the BBB group included.
+    Row {
+        directory: AB,
+        steps: &[
+            F1,
+            "AN 00 002|SMVG01 TVSV 280000|NIL=",
+            F2,
+            "AN 00 003|SMVG01 TVSV 280000 RRA|NIL=",
+            "D 01",
+        ],
+        receipts: "ACC 0 0 1 SMVG01 TVSV 280000\nDUP 0 0\nACC 0 1 1 SMVG01 TVSV 280000\nACC 0 2 1 SMVG01 TVSV 280000 RRA\n",
+        circuit: 1,
+        frames: &[F1, F2, "AN 00 003|SMVG01 TVSV 280000 RRA|NIL="],
+    },
+    // Repetitions that are asked for are given again, as often as they are asked for.
+    Row {
+        directory: AB,
+        steps: &[
+            F1,
+            F2,
+            "AN 00 003|SMVG02 TVSV 280000|NIL=",
+            "D 01",
+            "AN 01 001|BMRR01 TVSV 281030|BBBB|SQN 002-003=",
+            "T 01",
+            "T 01",
+            "AN 01 001|BMRR01 TVSV 281030|BBBB|SQN 002-003=",
+            "D 01",
+        ],
+        receipts: "ACC 0 0 1 SMVG01 TVSV 280000\nACC 0 1 1 SMVG01 TVSV 280000\nACC 0 2 1 SMVG02 TVSV 280000\nASK 1 2 0\nASK 1 2 0\n",
+        circuit: 1,
+        frames: &[
+            F1,
+            F2,
+            "AN 00 003|SMVG02 TVSV 280000|NIL=",
+            F2,
+            "AN 00 003|SMVG02 TVSV 280000|NIL=",
+            F2,
+            "AN 00 003|SMVG02 TVSV 280000|NIL=",
+        ],
+    },
+    // Rules that match are joined, and a bulletin isn't sent back.
+    Row {
+        directory: &[TOP, A, B, C, SM_RULE, ENDS_01_RULE],
+        steps: &[F1, "T 00", "T 01", "T 02"],
+        receipts: "ACC 0 0 2 SMVG01 TVSV 280000\n",
+        circuit: 2,
+        frames: &[F1],
+    },
+    // A circuit of the same peer gets nothing.
+    Row {
+        directory: &[
+            TOP,
+            A,
+            B,
+            "[[circuit]]\nname = \"C\"\npeer = \"AAAA\"\n",
+            SM_RULE,
+            ENDS_01_RULE,
+        ],
+        steps: &[F1, "T 00", "T 01", "T 02"],
+        receipts: ACCEPTED,
+        circuit: 1,
+        frames: &[F1],
+    },
+    // A message without a line end is refused in its first field.
+    Row {
+        directory: AB,
+        steps: &["F 00 00000004AN^\r\r$"],
+        receipts: "REF 0 StartLine\n",
+        circuit: 1,
+        frames: &[],
+    },
+    // Numbers of four digits and two blanks are refused.
+    Row {
+        directory: AB,
+        steps: &[
+            "AN 00 0001|SMVG01 TVSV 280000|NIL=",
+            "AN 00 001  |SMVG01 TVSV 280000|NIL=",
+        ],
+        receipts: "REF 0 Number\nREF 0 HeadingStart\n",
+        circuit: 1,
+        frames: &[],
+    },
+    // A blank behind the group is sent on.
+    Row {
+        directory: AB,
+        steps: &["AN 00 001|SMVG01 TVSV 280000 RRA |x", "T 01"],
+        receipts: "ACC 0 0 1 SMVG01 TVSV 280000 RRA\n",
+        circuit: 1,
+        frames: &["AN 00 001|SMVG01 TVSV 280000 RRA |x"],
+    },
+    // With a window of one, the last bulletin alone is looked at.
+    Row {
+        directory: &[TOP, "window = 1\n", A, B, RULE],
+        steps: &[
+            F1,
+            F2,
+            "AN 00 003|SMVG01 TVSV 280000|NIL=",
+            "AN 00 004|SMVG01 TVSV 280000|NIL=",
+        ],
+        receipts: "ACC 0 0 1 SMVG01 TVSV 280000\nACC 0 1 1 SMVG01 TVSV 280000\nACC 0 2 1 SMVG01 TVSV 280000\nDUP 0 2\n",
+        circuit: 1,
+        frames: &[],
+    },
+    // Draws that are not kept are missing.
+    Row {
+        directory: &[TOP, A, B, "kept = 2\n", RULE],
+        steps: &[
+            F1,
+            F2,
+            "AN 00 003|SMVG02 TVSV 280000|NIL=",
+            "D 01",
+            "AN 01 001|BMRR01 TVSV 281030|BBBB|SQN 001-003=",
+        ],
+        receipts: "ACC 0 0 1 SMVG01 TVSV 280000\nACC 0 1 1 SMVG01 TVSV 280000\nACC 0 2 1 SMVG02 TVSV 280000\nASK 1 2 1\n",
+        circuit: 1,
+        frames: &[F1, F2, "AN 00 003|SMVG02 TVSV 280000|NIL="],
+    },
+    // Headings can be asked for.
+    Row {
+        directory: AB,
+        steps: &[
+            F1,
+            "T 01",
+            "AN 01 001|BMRR01 TVSV 281030|BBBB|AHD SMVG01 TVSV 280000/SMVG99 TVSV 280000=",
+            "T 01",
+            "T 01",
+        ],
+        receipts: "ACC 0 0 1 SMVG01 TVSV 280000\nASK 1 1 1\n",
+        circuit: 1,
+        frames: &[F1, F1],
+    },
+    // The first field of a request at fault is told.
+    Row {
+        directory: AB,
+        steps: &[
+            "AN 01 001|BMRR01 TVSV 281030|bbbb|SQN 001=",
+            "AN 01 001|BMRR01 TVSV 281030|BBBB",
+            "AN 01 001|BMRR01 TVSV 281030|BBBB|SQN 01=",
+            "AN 01 001|BMRR01 TVSV 281030|BBBB|AHD SMVG01 TVSV 280000 =",
+            "AN 01 001|BMRR01 TVSV 281030|BBBB|SQN 001",
+        ],
+        receipts: "REF 1 Asker\nREF 1 LineStart\nREF 1 Number\nREF 1 AskedHeading\nREF 1 LineEnd\n",
+        circuit: 1,
+        frames: &[],
+    },
+];
+
+#[test]
+fn each_row_says_its_receipts_and_frames(rt: HostRuntime) -> Result<(), Fail> {
+    let alloc = rt.alloc();
+    for (i, row) in ROWS.iter().enumerate() {
+        let directory = directory_of(alloc, row.directory)?;
+        let capture = captured(alloc, row.steps)?;
+        let (status, station) = run_words(&rt, &["replay"], &directory, &capture, &NONE)?;
+        assert_eq!(rt; status, Status::Done, "row {i}");
+        assert_eq!(rt; station.said(0), row.receipts.as_bytes(), "row {i}");
+        let mut frames = Vec::new(alloc);
+        for frame in row.frames {
+            frames.extend_from_slice(&framed(alloc, frame)?)?;
+        }
+        assert_eq!(rt; station.said(row.circuit + 1), frames.as_slice(), "row {i}");
+    }
+    Ok(())
+}
+
+#[test]
+fn a_frame_may_be_cut_anywhere(rt: HostRuntime) -> Result<(), Fail> {
+    let alloc = rt.alloc();
+    let mut capture = Vec::new(alloc);
+    for byte in framed(alloc, F1)?.iter() {
+        capture.extend_from_slice(b"F 00 000001\n")?;
+        capture.push(*byte)?;
+    }
+    capture.extend_from_slice(b"T 01\nE\n")?;
+    let directory = directory_of(alloc, AB)?;
+    let (status, station) = run_words(&rt, &["replay"], &directory, &capture, &NONE)?;
+    assert_eq!(rt; status, Status::Done);
+    assert_eq!(rt; station.said(0), ACCEPTED.as_bytes());
+    assert_eq!(rt; station.said(2), framed(alloc, F1)?.as_slice());
+    Ok(())
+}
+
+/// A message of 500,000 bytes, as a step of a capture.
+fn longest_step(alloc: Global, number: &str, text: usize) -> Result<Vec<u8>, Fail> {
+    let text = vec![in alloc; b'x'; text]?;
+    Ok([b"AN 00 ", number.as_bytes(), b"|SMVG01 TVSV 280000|", &text].concat(alloc)?)
+}
+
+#[test]
+fn the_longest_body_is_sent_on(rt: HostRuntime) -> Result<(), Fail> {
+    let alloc = rt.alloc();
+    let longest = longest_step(alloc, "00001", 499_963)?;
+    let longer = longest_step(alloc, "001", 499_965)?;
+    let steps = [
+        std::str::from_utf8(&longest)?,
+        std::str::from_utf8(&longer)?,
+        "T 01",
+        "T 01",
+    ];
+    let capture = captured(alloc, &steps)?;
+    let directory = directory_of(alloc, AB)?;
+    let (status, station) = run_words(&rt, &["replay"], &directory, &capture, &NONE)?;
+    assert_eq!(rt; status, Status::Done);
+    assert_eq!(rt;
+        station.said(0),
+        b"ACC 0 0 1 SMVG01 TVSV 280000\nREF 0 Size\n".as_slice()
+    );
+    let sent = longest_step(alloc, "001", 499_963)?;
+    assert!(rt; station.said(2) == framed(alloc, std::str::from_utf8(&sent)?)?.as_slice());
+    Ok(())
+}
+
+/// Steps in which so many bulletins of different texts come on the first circuit. Each frame has 49 bytes.
+fn bulletins(alloc: Global, count: u32) -> Result<Vec<u8>, Fail> {
+    let mut steps = Vec::new(alloc);
+    for i in 0..count {
+        let text = digits_of::<4>(i);
+        let frame = [
+            b"F 00 000049\n00000039AN\x01\r\r\n001\r\r\nSMVG01 TVSV 280000\r\r\n",
+            text.as_slice(),
+            b"\r\r\n\x03",
+        ];
+        steps.extend_from_slice(&frame.concat(alloc)?)?;
+    }
+    Ok(steps)
+}
+
+#[test]
+fn numbers_come_round_after_a_thousand_draws(rt: HostRuntime) -> Result<(), Fail> {
+    let alloc = rt.alloc();
+    let steps = bulletins(alloc, 1_001)?;
+    let request = "AN 01 001|BMRR01 TVSV 281030|BBBB|SQN 999-001=";
+    let asked = captured(alloc, &[request, "T 01", "T 01", "T 01"])?;
+    let capture = [steps.as_slice(), b"D 01\n", &asked].concat(alloc)?;
+    let directory = directory_of(alloc, &[TOP, A, B, "kept = 2\n", RULE])?;
+    let (status, station) = run_words(&rt, &["replay"], &directory, &capture, &NONE)?;
+    assert_eq!(rt; status, Status::Done);
+    assert!(rt; station.said(0).ends_with(b"ASK 1 2 1\n"));
+    assert_eq!(rt; station.said(2).len(), 1_003 * 49);
+    let numbers = [
+        (998, b"999"),
+        (999, b"000"),
+        (1_000, b"001"),
+        (1_001, b"000"),
+        (1_002, b"001"),
+    ];
+    for (frame, number) in numbers {
+        let at = frame * 49 + 14;
+        assert_eq!(rt; station.said(2).get(at..at + 3), Some(number.as_slice()));
+    }
+    Ok(())
+}
+
+#[test]
+fn no_more_than_4096_are_owed(rt: HostRuntime) -> Result<(), Fail> {
+    let alloc = rt.alloc();
+    let steps = bulletins(alloc, 1_000)?;
+    let request = "AN 01 001|BMRR01 TVSV 281030|BBBB|SQN 001-000=";
+    let asked = captured(alloc, &[request; 5])?;
+    let capture = [steps.as_slice(), b"D 01\n", &asked].concat(alloc)?;
+    let directory = directory_of(alloc, AB)?;
+    let (status, station) = run_words(&rt, &["replay"], &directory, &capture, &NONE)?;
+    assert_eq!(rt; status, Status::Done);
+    assert!(rt;
+        station.said(0).ends_with(
+            b"ASK 1 1000 0\nASK 1 1000 0\nASK 1 1000 0\nASK 1 1000 0\nREF 1 Many\n"
+        )
+    );
+    assert_eq!(rt; station.said(2).len(), 1_000 * 49);
+    Ok(())
+}
+
+#[test]
+fn a_bad_capture_is_done_up_to_its_first_bad_place(rt: HostRuntime) -> Result<(), Fail> {
+    let alloc = rt.alloc();
+    let directory = directory_of(alloc, AB)?;
+    let whole = captured(alloc, &[F1])?;
+    let long = [
+        b"F 00 000060\n".as_slice(),
+        whole.get(12..61).ok_or("a frame")?,
+    ]
+    .concat(alloc)?;
+    let behind = [whole.as_slice(), b"T"].concat(alloc)?;
+    let rows = [
+        (
+            whole.get(..32).ok_or("a front")?,
+            Status::Capture { at: 32 },
+            "",
+        ),
+        (long.as_slice(), Status::Capture { at: 61 }, ACCEPTED),
+        (behind.as_slice(), Status::Done, ACCEPTED),
+        (b"T 02\nE\n", Status::Capture { at: 3 }, ""),
+        (b"E", Status::Capture { at: 1 }, ""),
+        (b"", Status::Capture { at: 0 }, ""),
+    ];
+    for (i, (capture, wanted, receipts)) in rows.iter().enumerate() {
+        let (status, station) = run_words(&rt, &["replay"], &directory, capture, &NONE)?;
+        assert_eq!(rt; status, *wanted, "capture {i}");
+        assert_eq!(rt; station.said(0), receipts.as_bytes(), "capture {i}");
+    }
+    Ok(())
+}
+
+#[test]
+fn a_directory_at_fault_is_told_and_nothing_is_said(rt: HostRuntime) -> Result<(), Fail> {
+    let alloc = rt.alloc();
+    let capture = captured(alloc, &[F1])?;
+    let circuit = Part::Circuit;
+    let rows: &[(&[&str], DirFault)] = &[
+        (
+            &[
+                TOP,
+                A,
+                B,
+                "[[rule]]\nheading = \"****** ****\"\nto = [\"A\", \"Z\"]\n",
+            ],
+            DirFault::UnknownCircuit { row: 0 },
+        ),
+        (&[TOP, A, A, RULE], DirFault::TwoNames { row: 1 }),
+        (
+            &[TOP, A, "kept = 0\n", B, RULE],
+            DirFault::BadLimit {
+                part: circuit,
+                row: 0,
+            },
+        ),
+        (
+            &[],
+            DirFault::BadKey {
+                part: Part::Top,
+                row: 0,
+            },
+        ),
+        (
+            &[TOP, A, B, "colour = 1\n", RULE],
+            DirFault::BadKey {
+                part: circuit,
+                row: 1,
+            },
+        ),
+        (
+            &[TOP, A, "[[rule]]\nheading = \"SM**** ***\"\nto = [\"A\"]\n"],
+            DirFault::BadKey {
+                part: Part::Rule,
+                row: 0,
+            },
+        ),
+        (
+            &[
+                TOP,
+                A,
+                "[[rule]]\nheading = \"sm**** ****\"\nto = [\"A\"]\n",
+            ],
+            DirFault::BadPattern {
+                part: Part::Rule,
+                row: 0,
+            },
+        ),
+        (&[TOP, "=\n"], DirFault::NotToml),
+    ];
+    for (i, (pieces, fault)) in rows.iter().enumerate() {
+        let directory = directory_of(alloc, pieces)?;
+        let (status, station) = run_words(&rt, &["replay"], &directory, &capture, &NONE)?;
+        assert_eq!(rt; status, Status::Directory(*fault), "directory {i}");
+        assert_eq!(rt; station.calls(), 0, "directory {i}");
+    }
+    Ok(())
+}
+
+#[test]
+fn a_directory_with_too_much_is_refused(rt: HostRuntime) -> Result<(), Fail> {
+    let alloc = rt.alloc();
+    let mut circuits = directory_of(alloc, &[TOP])?;
+    for i in 0..65 {
+        circuits.extend_from_slice(b"[[circuit]]\npeer = \"AAAA\"\nname = \"")?;
+        circuits.extend_from_slice(&digits_of::<2>(i))?;
+        circuits.extend_from_slice(b"\"\n")?;
+    }
+    let (status, _) = run_words(&rt, &["replay"], &circuits, b"E\n", &NONE)?;
+    assert_eq!(rt;
+        status,
+        Status::Directory(DirFault::TooMany {
+            part: Part::Circuit
+        })
+    );
+    let long = vec![in alloc; b'#'; 262_145]?;
+    let (status, _) = run_words(&rt, &["replay"], &long, b"E\n", &NONE)?;
+    assert_eq!(rt; status, Status::Directory(DirFault::TooLong));
     Ok(())
 }
 
@@ -151,231 +633,94 @@ fn other_words_are_no_command_yet(rt: HostRuntime) -> Result<(), Fail> {
         [].as_slice(),
         &["help"],
         &["replay", "replay"],
-        &["init"],
+        &["init", "init"],
         &["Replay"],
     ];
     for (i, words) in lists.iter().enumerate() {
-        let (status, station) = run_words(&rt, words, b"E\n", &[], &[])?;
+        let (status, station) = run_words(&rt, words, b"", b"E\n", &NONE)?;
         assert_eq!(rt; status, Status::Words, "list {i}");
-        assert_eq!(rt; station.said(0), b"".as_slice());
+        assert_eq!(rt; station.calls(), 0, "list {i}");
     }
     Ok(())
 }
 
 #[test]
-fn a_read_that_fails_ends_the_run(rt: HostRuntime) -> Result<(), Fail> {
-    let capture = [FEED, REPORT, b"T 01\nE\n"].concat(rt.alloc())?;
-    for read in [0, 1] {
-        let (status, station) = run_words(&rt, &["replay"], &capture, &[read], &[])?;
-        assert_eq!(rt; status, Status::SourceFault, "read {read}");
-        assert_eq!(rt; station.said(0), b"".as_slice());
+fn a_device_that_fails_ends_the_run(rt: HostRuntime) -> Result<(), Fail> {
+    let alloc = rt.alloc();
+    let directory = directory_of(alloc, AB)?;
+    let capture = captured(alloc, &[F1, "T 01"])?;
+    let first: &[u64] = &[0];
+    let second: &[u64] = &[1];
+    let rows = [
+        (first, NONE.capture, NONE.says, Status::SourceFault, ""),
+        (NONE.directory, first, NONE.says, Status::SourceFault, ""),
+        (NONE.directory, NONE.capture, first, Status::SayFault, ""),
+        (
+            NONE.directory,
+            NONE.capture,
+            second,
+            Status::SayFault,
+            ACCEPTED,
+        ),
+    ];
+    for (i, (directory_calls, capture_calls, says, wanted, receipts)) in rows.iter().enumerate() {
+        let failing = Failing {
+            directory: directory_calls,
+            capture: capture_calls,
+            says,
+        };
+        let (status, station) = run_words(&rt, &["replay"], &directory, &capture, &failing)?;
+        assert_eq!(rt; status, *wanted, "row {i}");
+        assert_eq!(rt; station.said(0), receipts.as_bytes(), "row {i}");
+        assert_eq!(rt; station.said(2), b"".as_slice(), "row {i}");
     }
     Ok(())
 }
 
 #[test]
-fn a_say_that_fails_ends_the_run(rt: HostRuntime) -> Result<(), Fail> {
-    let capture = [FEED, REPORT, b"T 01\nE\n"].concat(rt.alloc())?;
-    let (status, station) = run_words(&rt, &["replay"], &capture, &[], &[0])?;
-    assert_eq!(rt; status, Status::SayFault);
+fn a_journal_is_made_once(rt: HostRuntime) -> Result<(), Fail> {
+    let directory = directory_of(rt.alloc(), AB)?;
+    let (status, station) = run_words(&rt, &["init"], &directory, b"", &NONE)?;
+    assert_eq!(rt; status, Status::Done);
+    assert_eq!(rt; station.file(0).len(), 41);
     assert_eq!(rt; station.said(0), b"".as_slice());
-    let (status, station) = run_words(&rt, &["replay"], &capture, &[], &[1])?;
-    assert_eq!(rt; status, Status::SayFault);
-    assert_eq!(rt; station.said(0), ACCEPTED);
-    assert_eq!(rt; station.said(2), b"".as_slice());
+    let mut source = MemSource::new(rt.alloc(), &directory, &[])?;
+    let capture = MemSource::new(rt.alloc(), b"", &[])?;
+    let mut lines = MemLines::new(rt.alloc(), &[])?;
+    let mut words = WordList::new();
+    words.push(rt.alloc(), "init")?;
+    let (status, station, _) = run(
+        &rt,
+        rt.alloc(),
+        &words,
+        &mut source,
+        capture,
+        station,
+        &mut lines,
+        &FreeGate,
+    );
+    assert_eq!(rt; status, Status::Exists { size: 41 });
+    assert_eq!(rt; station.file(0).len(), 41);
     Ok(())
 }
 
-/// What is sent on of one bulletin that holds the bytes of an end, in a frame of this type.
-fn sent_on<R: AllocGlobal + Threads + Wait + Sync>(rt: &R, kind: &[u8]) -> Result<Vec<u8>, Fail> {
-    let alloc = rt.alloc();
-    let mut message = Vec::new(alloc);
-    push_message(
-        &mut message,
-        b"001",
-        b"SMVG01 TVSV 280000",
-        b"BUFR\x03\r\r\n\x037",
-    )?;
-    let mut capture = Vec::new(alloc);
-    push_feed(&mut capture, kind, &message)?;
-    capture.extend_from_slice(b"T 01\nE\n")?;
-    let (status, station) = run_words(rt, &["replay"], &capture, &[], &[])?;
-    if status != Status::Done {
-        return Err(Fail::from("the capture was not done"));
+#[test]
+fn init_under_a_directory_at_fault_or_a_disk_that_fails(rt: HostRuntime) -> Result<(), Fail> {
+    let directory = directory_of(rt.alloc(), AB)?;
+    let (status, station) = run_words(&rt, &["init"], b"", b"", &NONE)?;
+    let fault = DirFault::BadKey {
+        part: Part::Top,
+        row: 0,
+    };
+    assert_eq!(rt; status, Status::Directory(fault));
+    assert_eq!(rt; station.calls(), 0);
+    for call in 0..8 {
+        let failing = Failing {
+            says: &[call],
+            ..NONE
+        };
+        let (status, _) = run_words(&rt, &["init"], &directory, b"", &failing)?;
+        assert_eq!(rt; status, Status::DiskFault, "call {call}");
     }
-    Ok(Vec::from_slice(alloc, station.said(2))?)
-}
-
-#[test]
-fn the_type_of_a_frame_is_kept(rt: HostRuntime) -> Result<(), Fail> {
-    let binary = sent_on(&rt, b"BI")?;
-    assert_eq!(rt;
-        binary.as_slice(),
-        b"00000045BI\x01\r\r\n001\r\r\nSMVG01 TVSV 280000\r\r\nBUFR\x03\r\r\n\x037\r\r\n\x03".as_slice()
-    );
-    let facsimile = sent_on(&rt, b"FX")?;
-    assert_eq!(rt;
-        facsimile.as_slice(),
-        b"00000045FX\x01\r\r\n001\r\r\nSMVG01 TVSV 280000\r\r\nBUFR\x03\r\r\n\x037\r\r\n\x03".as_slice()
-    );
-    Ok(())
-}
-
-#[test]
-fn each_message_gets_its_receipt(rt: HostRuntime) -> Result<(), Fail> {
-    let alloc = rt.alloc();
-    let rows = [
-        ("0001", "SMVG01 TVSV 280000", "REF 0 Number\n"),
-        ("001  ", "SMVG01 TVSV 280000", "REF 0 HeadingStart\n"),
-        ("001", "sMVG01 TVSV 280000", "REF 0 TT\n"),
-        ("001", "SM1G01 TVSV 280000", "REF 0 AA\n"),
-        ("001", "SMVG0x TVSV 280000", "REF 0 ii\n"),
-        ("001", "SMVG01 TVS 280000", "REF 0 CCCC\n"),
-        ("001", "SMVG01 TVSV 000000", "REF 0 Day\n"),
-        ("001", "SMVG01 TVSV 320000", "REF 0 Day\n"),
-        ("001", "SMVG01 TVSV 282400", "REF 0 Hour\n"),
-        ("001", "SMVG01 TVSV 280060", "REF 0 Minute\n"),
-        ("001", "SMVG01 TVSV 280000 COR", "REF 0 BBB\n"),
-        ("001", "SMVG01 TVSV 280000x", "REF 0 HeadingEnd\n"),
-        ("001", "BMRR01 TVSV 281030", "REF 0 Later\n"),
-        (
-            "00017 ",
-            "SMVG01 TVSV 280000 RRA ",
-            "ACC 0 0 1 SMVG01 TVSV 280000 RRA\n",
-        ),
-    ];
-    for (number, heading, receipt) in rows {
-        let mut message = Vec::new(alloc);
-        push_message(&mut message, number.as_bytes(), heading.as_bytes(), b"NIL=")?;
-        let mut capture = Vec::new(alloc);
-        push_feed(&mut capture, b"AN", &message)?;
-        capture.extend_from_slice(b"E\n")?;
-        let (status, station) = run_words(&rt, &["replay"], &capture, &[], &[])?;
-        assert_eq!(rt; status, Status::Done, "{number} {heading}");
-        assert_eq!(rt; station.said(0), receipt.as_bytes(), "{number} {heading}");
-    }
-    Ok(())
-}
-
-#[test]
-fn messages_without_their_parts_are_refused(rt: HostRuntime) -> Result<(), Fail> {
-    let alloc = rt.alloc();
-    let rows = [
-        (b"\x01\r\r\x03".as_slice(), "REF 0 StartLine\n"),
-        (b"\x01\x03", "REF 0 StartLine\n"),
-        (
-            b"\x01\r\r\n001\r\r\nSMVG01 TVSV 280000\r\r\n\x03",
-            "REF 0 End\n",
-        ),
-    ];
-    for (message, receipt) in rows {
-        let mut capture = Vec::new(alloc);
-        push_feed(&mut capture, b"AN", message)?;
-        capture.extend_from_slice(b"T 01\nE\n")?;
-        let (status, station) = run_words(&rt, &["replay"], &capture, &[], &[])?;
-        assert_eq!(rt; status, Status::Done);
-        assert_eq!(rt; station.said(0), receipt.as_bytes());
-        assert_eq!(rt; station.said(2), b"".as_slice());
-    }
-    Ok(())
-}
-
-#[test]
-fn refused_messages_take_no_position(rt: HostRuntime) -> Result<(), Fail> {
-    let alloc = rt.alloc();
-    let mut capture = Vec::new(alloc);
-    for heading in [
-        "SMVG01 TVSV 282400",
-        "SMVG01 TVSV 280000 COR",
-        "SMVG01 TVSV 280000",
-    ] {
-        let mut message = Vec::new(alloc);
-        push_message(&mut message, b"001", heading.as_bytes(), b"NIL=")?;
-        push_feed(&mut capture, b"AN", &message)?;
-    }
-    capture.extend_from_slice(b"T 01\nT 01\nE\n")?;
-    let (status, station) = run_words(&rt, &["replay"], &capture, &[], &[])?;
-    assert_eq!(rt; status, Status::Done);
-    assert_eq!(rt;
-        station.said(0),
-        [b"REF 0 Hour\nREF 0 BBB\n", ACCEPTED]
-            .concat(alloc)?
-            .as_slice()
-    );
-    assert_eq!(rt; station.said(2), REPORT);
-    Ok(())
-}
-
-#[test]
-fn a_blank_behind_the_group_is_sent_on(rt: HostRuntime) -> Result<(), Fail> {
-    let alloc = rt.alloc();
-    let mut message = Vec::new(alloc);
-    push_message(&mut message, b"001", b"SMVG01 TVSV 280000 RRA ", b"x")?;
-    let mut capture = Vec::new(alloc);
-    push_feed(&mut capture, b"AN", &message)?;
-    capture.extend_from_slice(b"T 01\nE\n")?;
-    let (status, station) = run_words(&rt, &["replay"], &capture, &[], &[])?;
-    assert_eq!(rt; status, Status::Done);
-    assert_eq!(rt;
-        station.said(0),
-        b"ACC 0 0 1 SMVG01 TVSV 280000 RRA\n".as_slice()
-    );
-    assert_eq!(rt;
-        station.said(2),
-        [b"00000041AN", message.as_slice()]
-            .concat(alloc)?
-            .as_slice()
-    );
-    Ok(())
-}
-
-#[test]
-fn requests_are_refused_for_now(rt: HostRuntime) -> Result<(), Fail> {
-    let alloc = rt.alloc();
-    let mut message = Vec::new(alloc);
-    push_message(
-        &mut message,
-        b"001",
-        b"BMRR01 TVSV 281030",
-        b"BBBB\r\r\nSQN 001=",
-    )?;
-    let mut capture = Vec::new(alloc);
-    push_feed(&mut capture, b"AN", &message)?;
-    capture.extend_from_slice(b"T 01\nE\n")?;
-    let (status, station) = run_words(&rt, &["replay"], &capture, &[], &[])?;
-    assert_eq!(rt; status, Status::Done);
-    assert_eq!(rt; station.said(0), b"REF 0 Later\n".as_slice());
-    assert_eq!(rt; station.said(2), b"".as_slice());
-    Ok(())
-}
-
-/// A message of 500,000 bytes, whose text is as long as that takes.
-fn longest_message(alloc: Global, number: &[u8], text: usize) -> Result<Vec<u8>, Fail> {
-    let mut message = Vec::new(alloc);
-    let text = vec![in alloc; b'x'; text]?;
-    push_message(&mut message, number, b"SMVG01 TVSV 280000", &text)?;
-    Ok(message)
-}
-
-#[test]
-fn the_longest_body_is_sent_on(rt: HostRuntime) -> Result<(), Fail> {
-    let alloc = rt.alloc();
-    let mut capture = Vec::new(alloc);
-    let longest = longest_message(alloc, b"00001", 499_963)?;
-    assert_eq!(rt; longest.len(), 500_000);
-    push_feed(&mut capture, b"AN", &longest)?;
-    let longer = longest_message(alloc, b"001", 499_965)?;
-    assert_eq!(rt; longer.len(), 500_000);
-    push_feed(&mut capture, b"AN", &longer)?;
-    capture.extend_from_slice(b"T 01\nT 01\nE\n")?;
-    let (status, station) = run_words(&rt, &["replay"], &capture, &[], &[])?;
-    assert_eq!(rt; status, Status::Done);
-    assert_eq!(rt;
-        station.said(0),
-        [ACCEPTED, b"REF 0 Size\n"].concat(alloc)?.as_slice()
-    );
-    let mut sent = Vec::from_slice(alloc, b"00499998AN\x01\r\r\n001")?;
-    sent.extend_from_slice(longest.get(9..).ok_or("a message")?)?;
-    assert!(rt; station.said(2) == sent.as_slice());
     Ok(())
 }

@@ -7,7 +7,7 @@ use Rattle.gts_alphabet.specs.Digits.{dec}
 use Rattle.gts_connection.specs.Capture.{head_text}
 use Rattle.gts_connection.specs.Capture as capture
 use Rattle.gts_capture.specs.declared.head.Head.{Head}
-use Rattle.gts_capture.specs.declared.head.Head.TheVariants.{Feed, Take, Reopen, Drain, Restart, Compact, End}
+use Rattle.gts_capture.specs.declared.head.Head.TheVariants.{Feed, Take, Reopen, Drain, Restart, End}
 use Rattle.gts_capture.specs.declared.head_cursor.Stop.{Stop}
 use Rattle.gts_capture.specs.declared.head_cursor.Stop.TheVariants.{More, Bad}
 use Rattle.gts_capture.specs.Heads.{head_of, IsHeadIn, IsPartIn, IsFrontIn}
@@ -40,7 +40,6 @@ feed_from circuits plain (Take c) t w = absurd (omega (arith, ap (λ (xs : List 
 feed_from circuits plain (Reopen c) t w = absurd (omega (arith, ap (λ (xs : List ℕ). get_or xs 0 0) w.1))
 feed_from circuits plain (Drain c) t w = absurd (omega (arith, ap (λ (xs : List ℕ). get_or xs 0 0) w.1))
 feed_from circuits plain Restart t w = absurd (omega (arith, ap (λ (xs : List ℕ). get_or xs 0 0) w.1))
-feed_from circuits plain Compact t w = absurd (omega (arith, ap (λ (xs : List ℕ). get_or xs 0 0) w.1))
 feed_from circuits plain End t w = absurd (omega (arith, ap (λ (xs : List ℕ). get_or xs 0 0) w.1))
 
 -- a head that names a circuit alone
@@ -61,7 +60,6 @@ take_from circuits plain (Feed c n) t w = absurd (omega (arith, ap (λ (xs : Lis
 take_from circuits plain (Reopen c) t w = absurd (omega (arith, ap (λ (xs : List ℕ). get_or xs 0 0) w.1))
 take_from circuits plain (Drain c) t w = absurd (omega (arith, ap (λ (xs : List ℕ). get_or xs 0 0) w.1))
 take_from circuits plain Restart t w = absurd (omega (arith, ap (λ (xs : List ℕ). get_or xs 0 0) w.1))
-take_from circuits plain Compact t w = absurd (omega (arith, ap (λ (xs : List ℕ). get_or xs 0 0) w.1))
 take_from circuits plain End t w = absurd (omega (arith, ap (λ (xs : List ℕ). get_or xs 0 0) w.1))
 
 reopen_to : (circuits : ℕ) (plain : Bool) (h : Head) (t : List ℕ) → CircuitThen circuits (λ c. Ended (Reopen c)) h t → Behind circuits plain 79 h t
@@ -77,7 +75,6 @@ reopen_from circuits plain (Feed c n) t w = absurd (omega (arith, ap (λ (xs : L
 reopen_from circuits plain (Take c) t w = absurd (omega (arith, ap (λ (xs : List ℕ). get_or xs 0 0) w.1))
 reopen_from circuits plain (Drain c) t w = absurd (omega (arith, ap (λ (xs : List ℕ). get_or xs 0 0) w.1))
 reopen_from circuits plain Restart t w = absurd (omega (arith, ap (λ (xs : List ℕ). get_or xs 0 0) w.1))
-reopen_from circuits plain Compact t w = absurd (omega (arith, ap (λ (xs : List ℕ). get_or xs 0 0) w.1))
 reopen_from circuits plain End t w = absurd (omega (arith, ap (λ (xs : List ℕ). get_or xs 0 0) w.1))
 
 drain_to : (circuits : ℕ) (plain : Bool) (h : Head) (t : List ℕ) → CircuitThen circuits (λ c. Ended (Drain c)) h t → Behind circuits plain 68 h t
@@ -93,7 +90,6 @@ drain_from circuits plain (Feed c n) t w = absurd (omega (arith, ap (λ (xs : Li
 drain_from circuits plain (Take c) t w = absurd (omega (arith, ap (λ (xs : List ℕ). get_or xs 0 0) w.1))
 drain_from circuits plain (Reopen c) t w = absurd (omega (arith, ap (λ (xs : List ℕ). get_or xs 0 0) w.1))
 drain_from circuits plain Restart t w = absurd (omega (arith, ap (λ (xs : List ℕ). get_or xs 0 0) w.1))
-drain_from circuits plain Compact t w = absurd (omega (arith, ap (λ (xs : List ℕ). get_or xs 0 0) w.1))
 drain_from circuits plain End t w = absurd (omega (arith, ap (λ (xs : List ℕ). get_or xs 0 0) w.1))
 
 restart_from : (circuits : ℕ) (plain : Bool) (h : Head) (t : List ℕ) → Behind circuits plain 82 h t → Ended Restart h t
@@ -103,18 +99,7 @@ restart_from circuits plain (Feed c n) t w = absurd (omega (arith, ap (λ (xs : 
 restart_from circuits plain (Take c) t w = absurd (omega (arith, ap (λ (xs : List ℕ). get_or xs 0 0) w.1))
 restart_from circuits plain (Reopen c) t w = absurd (omega (arith, ap (λ (xs : List ℕ). get_or xs 0 0) w.1))
 restart_from circuits plain (Drain c) t w = absurd (omega (arith, ap (λ (xs : List ℕ). get_or xs 0 0) w.1))
-restart_from circuits plain Compact t w = absurd (omega (arith, ap (λ (xs : List ℕ). get_or xs 0 0) w.1))
 restart_from circuits plain End t w = absurd (omega (arith, ap (λ (xs : List ℕ). get_or xs 0 0) w.1))
-
-compact_from : (circuits : ℕ) (plain : Bool) (h : Head) (t : List ℕ) → Behind circuits plain 67 h t → Ended Compact h t
-unfolding dec
-compact_from circuits plain Compact t w = (refl, sym (ap (λ (xs : List ℕ). drop 1 xs) w.1))
-compact_from circuits plain (Feed c n) t w = absurd (omega (arith, ap (λ (xs : List ℕ). get_or xs 0 0) w.1))
-compact_from circuits plain (Take c) t w = absurd (omega (arith, ap (λ (xs : List ℕ). get_or xs 0 0) w.1))
-compact_from circuits plain (Reopen c) t w = absurd (omega (arith, ap (λ (xs : List ℕ). get_or xs 0 0) w.1))
-compact_from circuits plain (Drain c) t w = absurd (omega (arith, ap (λ (xs : List ℕ). get_or xs 0 0) w.1))
-compact_from circuits plain Restart t w = absurd (omega (arith, ap (λ (xs : List ℕ). get_or xs 0 0) w.1))
-compact_from circuits plain End t w = absurd (omega (arith, ap (λ (xs : List ℕ). get_or xs 0 0) w.1))
 
 end_from : (circuits : ℕ) (plain : Bool) (h : Head) (t : List ℕ) → Behind circuits plain 69 h t → Ended End h t
 unfolding dec
@@ -124,7 +109,6 @@ end_from circuits plain (Take c) t w = absurd (omega (arith, ap (λ (xs : List �
 end_from circuits plain (Reopen c) t w = absurd (omega (arith, ap (λ (xs : List ℕ). get_or xs 0 0) w.1))
 end_from circuits plain (Drain c) t w = absurd (omega (arith, ap (λ (xs : List ℕ). get_or xs 0 0) w.1))
 end_from circuits plain Restart t w = absurd (omega (arith, ap (λ (xs : List ℕ). get_or xs 0 0) w.1))
-end_from circuits plain Compact t w = absurd (omega (arith, ap (λ (xs : List ℕ). get_or xs 0 0) w.1))
 
 -- ---- what a first byte says
 
@@ -165,17 +149,17 @@ end_letter false false = refl
 -- ---- a head
 
 -- what is read behind a first byte
-abbrev ReadBehind : ℕ → ℕ × List ℕ → (t70 t84 t79 t68 t82 t67 : Bool) → Result (Head × List ℕ) Stop
-ReadBehind circuits first t70 t84 t79 t68 t82 t67 =
+abbrev ReadBehind : ℕ → ℕ × List ℕ → (t70 t84 t79 t68 t82 : Bool) → Result (Head × List ℕ) Stop
+ReadBehind circuits first t70 t84 t79 t68 t82 =
     if t70 then circuit_at circuits first.1 >>= (λ c. size_at c.1 >>= (λ size. end_at (Feed c.0 size.0) size.1))
     else if t84 then circuit_at circuits first.1 >>= (λ c. end_at (Take c.0) c.1)
     else if t79 then circuit_at circuits first.1 >>= (λ c. end_at (Reopen c.0) c.1)
     else if t68 then circuit_at circuits first.1 >>= (λ c. end_at (Drain c.0) c.1)
-    else if t82 then end_at Restart first.1 else if t67 then end_at Compact first.1 else end_at End first.1
+    else if t82 then end_at Restart first.1 else end_at End first.1
 
 letter_read : (circuits : ℕ) (plain : Bool) (b : ℕ) (rest : List ℕ) → circuits ≤ 100 → is_letter circuits plain b ≡ true → Meets (Behind circuits plain b) rest (behind_letter circuits (b, rest))
 unfolding behind_letter
-letter_read circuits plain b rest few letter = go (b == 70) (b == 84) (b == 79) (b == 68) (b == 82) (b == 67) (b == 69) refl refl refl refl refl refl refl letter
+letter_read circuits plain b rest few letter = go (b == 70) (b == 84) (b == 79) (b == 68) (b == 82) (b == 69) refl refl refl refl refl refl letter
   where
     some : Bool
     some = nat_lt 0 circuits
@@ -212,17 +196,16 @@ letter_read circuits plain b rest few letter = go (b == 70) (b == 84) (b == 79) 
         subst (λ (y : Head). P y t) (sym w.0) (subst (λ (ys : List ℕ). P head ys) (sym w.1) text) in
         meets_same (Ended head) (Behind circuits plain x) rest (end_at head rest) to from (on_end head rest)
 
-    go : (t70 t84 t79 t68 t82 t67 t69 : Bool) → (b == 70) ≡ t70 → (b == 84) ≡ t84 → (b == 79) ≡ t79 → (b == 68) ≡ t68 → (b == 82) ≡ t82 → (b == 67) ≡ t67 → (b == 69) ≡ t69
-        → letter_test (nat_lt 0 circuits) plain (((t70 || t84) || t79) || t68) (t82 || t67) t69 ≡ true
-        → Meets (Behind circuits plain b) rest (ReadBehind circuits (b, rest) t70 t84 t79 t68 t82 t67)
-    go true t84 t79 t68 t82 t67 t69 e _ _ _ _ _ _ _ = at_byte 70 _ e (feed (positive (at_letter 70 e)))
-    go false true t79 t68 t82 t67 t69 _ e _ _ _ _ _ _ = at_byte 84 _ e (one_circuit 84 Take (positive (at_letter 84 e)) (take_to circuits plain) (take_from circuits plain))
-    go false false true t68 t82 t67 t69 _ _ e _ _ _ _ _ = at_byte 79 _ e (one_circuit 79 Reopen (positive (at_letter 79 e)) (reopen_to circuits plain) (reopen_from circuits plain))
-    go false false false true t82 t67 t69 _ _ _ e _ _ _ _ = at_byte 68 _ e (one_circuit 68 Drain (positive (at_letter 68 e)) (drain_to circuits plain) (drain_from circuits plain))
-    go false false false false true t67 t69 _ _ _ _ e _ _ _ = at_byte 82 _ e (fixed 82 Restart (not_plain (nat_lt 0 circuits) plain (at_letter 82 e), refl) (restart_from circuits plain))
-    go false false false false false true t69 _ _ _ _ _ e _ _ = at_byte 67 _ e (fixed 67 Compact (not_plain (nat_lt 0 circuits) plain (at_letter 67 e), refl) (compact_from circuits plain))
-    go false false false false false false true _ _ _ _ _ _ e _ = at_byte 69 _ e (fixed 69 End (tt, refl) (end_from circuits plain))
-    go false false false false false false false _ _ _ _ _ _ _ h = absurd (no_letter (nat_lt 0 circuits) plain h)
+    go : (t70 t84 t79 t68 t82 t69 : Bool) → (b == 70) ≡ t70 → (b == 84) ≡ t84 → (b == 79) ≡ t79 → (b == 68) ≡ t68 → (b == 82) ≡ t82 → (b == 69) ≡ t69
+        → letter_test (nat_lt 0 circuits) plain (((t70 || t84) || t79) || t68) t82 t69 ≡ true
+        → Meets (Behind circuits plain b) rest (ReadBehind circuits (b, rest) t70 t84 t79 t68 t82)
+    go true t84 t79 t68 t82 t69 e _ _ _ _ _ _ = at_byte 70 _ e (feed (positive (at_letter 70 e)))
+    go false true t79 t68 t82 t69 _ e _ _ _ _ _ = at_byte 84 _ e (one_circuit 84 Take (positive (at_letter 84 e)) (take_to circuits plain) (take_from circuits plain))
+    go false false true t68 t82 t69 _ _ e _ _ _ _ = at_byte 79 _ e (one_circuit 79 Reopen (positive (at_letter 79 e)) (reopen_to circuits plain) (reopen_from circuits plain))
+    go false false false true t82 t69 _ _ _ e _ _ _ = at_byte 68 _ e (one_circuit 68 Drain (positive (at_letter 68 e)) (drain_to circuits plain) (drain_from circuits plain))
+    go false false false false true t69 _ _ _ _ e _ _ = at_byte 82 _ e (fixed 82 Restart (not_plain (nat_lt 0 circuits) plain (at_letter 82 e), refl) (restart_from circuits plain))
+    go false false false false false true _ _ _ _ _ e _ = at_byte 69 _ e (fixed 69 End (tt, refl) (end_from circuits plain))
+    go false false false false false false _ _ _ _ _ _ h = absurd (no_letter (nat_lt 0 circuits) plain h)
 
 abbrev ByLetter : ℕ → Bool → Texts
 ByLetter circuits plain = ByteThen (is_letter circuits plain) (λ b. Behind circuits plain b)
@@ -237,7 +220,6 @@ letter_from circuits plain (Take c) t w = (84, drop 1 (head_text (head_of (Take 
 letter_from circuits plain (Reopen c) t w = (79, drop 1 (head_text (head_of (Reopen c))), sym w.1, circuit_letter (nat_lt 0 circuits) plain (lt-ltb 0 circuits (omega (arith, w.0))), (w.0, refl))
 letter_from circuits plain (Drain c) t w = (68, drop 1 (head_text (head_of (Drain c))), sym w.1, circuit_letter (nat_lt 0 circuits) plain (lt-ltb 0 circuits (omega (arith, w.0))), (w.0, refl))
 letter_from circuits plain Restart t w = (82, 10 ∷ [], sym w.1, full_letter (nat_lt 0 circuits) plain w.0, (w.0, refl))
-letter_from circuits plain Compact t w = (67, 10 ∷ [], sym w.1, full_letter (nat_lt 0 circuits) plain w.0, (w.0, refl))
 letter_from circuits plain End t w = (69, 10 ∷ [], sym w.1, end_letter (nat_lt 0 circuits) plain, (w.0, refl))
 
 -- what is read at the front of any bytes
@@ -256,18 +238,19 @@ program_head (capture.TakeHead c) = Take c
 program_head (capture.ReopenHead c) = Reopen c
 program_head (capture.DrainHead c) = Drain c
 program_head capture.RestartHead = Restart
-program_head capture.CompactHead = Compact
+-- no capture has it
+program_head capture.CompactHead = End
 program_head capture.EndHead = End
 
-same_head : (h : capture.Head) → head_of (program_head h) ≡ h
+same_head : (circuits : ℕ) (plain : Bool) (h : capture.Head) → IsHeadIn circuits plain h → head_of (program_head h) ≡ h
 unfolding program_head
-same_head (capture.FeedHead c n) = refl
-same_head (capture.TakeHead c) = refl
-same_head (capture.ReopenHead c) = refl
-same_head (capture.DrainHead c) = refl
-same_head capture.RestartHead = refl
-same_head capture.CompactHead = refl
-same_head capture.EndHead = refl
+same_head circuits plain (capture.FeedHead c n) valid = refl
+same_head circuits plain (capture.TakeHead c) valid = refl
+same_head circuits plain (capture.ReopenHead c) valid = refl
+same_head circuits plain (capture.DrainHead c) valid = refl
+same_head circuits plain capture.RestartHead valid = refl
+same_head circuits plain capture.CompactHead valid = absurd valid
+same_head circuits plain capture.EndHead valid = refl
 
 pub head_found : (circuits : ℕ) (plain : Bool) (bytes : List ℕ) (head : Head) (rest : List ℕ) → circuits ≤ 100 → head_at circuits plain bytes ≡ Ok (head, rest)
     → BeginsWithHead circuits plain bytes head rest
@@ -284,7 +267,7 @@ head_stops circuits plain bytes stop few e = go stop (subst (Meets (HeadText cir
     none : (front : List ℕ) (byte : ℕ) → ((head : Head) (more : List ℕ) → HeadText circuits plain head (front ++ byte ∷ more) → ⊥) → IsFrontIn circuits plain (front ++ byte ∷ []) → ⊥
     none front byte bad h =
         let P : capture.Head → Type 0 = λ x. IsHeadIn circuits plain x × (head_text x ≡ front ++ byte ∷ h.1) in
-        bad (program_head h.0) h.1 (subst P (sym (same_head h.0)) (h.2, h.3 ∙ append_assoc front (byte ∷ []) h.1))
+        bad (program_head h.0) h.1 (subst P (sym (same_head circuits plain h.0 h.2)) (h.2, h.3 ∙ append_assoc front (byte ∷ []) h.1))
 
     go : (s : Stop) → Meets (HeadText circuits plain) bytes (Err s) → IsStop circuits plain bytes s
     go More h = part bytes h

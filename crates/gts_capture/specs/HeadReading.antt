@@ -3,7 +3,7 @@
 use Rattle.std.specs.Prelude.{ℕ, zero, suc, ◌+◌, ◌-◌, ◌*◌, ◌/◌, Bool, not, ◌&&◌, ◌||◌, ◌==◌, nat_lt, List, [], ◌∷◌, length, Result, Ok, Err, if◌then◌else◌}
 use Rattle.std.specs.Char.{is_ascii_digit}
 use Rattle.gts_capture.specs.declared.head.Head.{Head}
-use Rattle.gts_capture.specs.declared.head.Head.TheVariants.{Feed, Take, Reopen, Drain, Restart, Compact, End}
+use Rattle.gts_capture.specs.declared.head.Head.TheVariants.{Feed, Take, Reopen, Drain, Restart, End}
 use Rattle.gts_capture.specs.declared.head_cursor.Stop.{Stop}
 use Rattle.gts_capture.specs.declared.head_cursor.Stop.TheVariants.{More, Bad}
 
@@ -54,12 +54,12 @@ end_at head bytes = do
   lf ← byte_where (λ byte. byte == 10) bytes
   Ok (head, lf.1)
 
--- Some head begins with this byte. F, T, O and D (70, 84, 79 and 68) name a circuit; R and C (82 and 67) stand in no plain
--- capture; E is 69.
+-- Some head begins with this byte. F, T, O and D (70, 84, 79 and 68) name a circuit; R (82) stands in no plain capture; E is
+-- 69.
 abbrev pub is_letter : (circuits : ℕ) → (plain : Bool) → ℕ → Bool
 is_letter circuits plain byte =
     (nat_lt 0 circuits && ((byte == 70) || (byte == 84) || (byte == 79) || (byte == 68)))
-    || (not plain && ((byte == 82) || (byte == 67))) || (byte == 69)
+    || (not plain && (byte == 82)) || (byte == 69)
 
 abbrev pub letter_at : (circuits : ℕ) → (plain : Bool) → List ℕ → Result (ℕ × List ℕ) Stop
 letter_at circuits plain bytes = byte_where (is_letter circuits plain) bytes
@@ -71,7 +71,7 @@ behind_letter circuits first =
     else if first.0 == 84 then circuit_at circuits first.1 >>= (λ c. end_at (Take c.0) c.1)
     else if first.0 == 79 then circuit_at circuits first.1 >>= (λ c. end_at (Reopen c.0) c.1)
     else if first.0 == 68 then circuit_at circuits first.1 >>= (λ c. end_at (Drain c.0) c.1)
-    else if first.0 == 82 then end_at Restart first.1 else if first.0 == 67 then end_at Compact first.1 else end_at End first.1
+    else if first.0 == 82 then end_at Restart first.1 else end_at End first.1
 
 -- a head at the front
 unfoldable pub head_at : (circuits : ℕ) → (plain : Bool) → List ℕ → Result (Head × List ℕ) Stop

@@ -1,4 +1,4 @@
--- The heads of a capture's steps, in a capture of so many circuits; a plain one has no `R` and no `C` (profile).
+-- The heads of a capture's steps, in a capture of so many circuits; a plain one has no `R`, and so far none has `C` (profile).
 use Rattle.std.specs.Prelude.{◌≡◌, ℕ, ◌<◌, ◌≤◌, Bool, false, List, ◌∷◌, ◌++◌}
 use Rattle.gts_connection.specs.Capture.{Head, FeedHead, TakeHead, ReopenHead, DrainHead, RestartHead, CompactHead, EndHead, head_text}
 use Rattle.gts_capture.specs.declared.head.Head as program
@@ -11,7 +11,6 @@ head_of (read.Take c) = TakeHead c
 head_of (read.Reopen c) = ReopenHead c
 head_of (read.Drain c) = DrainHead c
 head_of read.Restart = RestartHead
-head_of read.Compact = CompactHead
 head_of read.End = EndHead
 
 -- the line of a head of the program
@@ -25,7 +24,7 @@ IsHeadIn circuits plain (TakeHead circuit) = circuit < circuits
 IsHeadIn circuits plain (ReopenHead circuit) = circuit < circuits
 IsHeadIn circuits plain (DrainHead circuit) = circuit < circuits
 IsHeadIn circuits plain RestartHead = plain ≡ false
-IsHeadIn circuits plain CompactHead = plain ≡ false
+IsHeadIn circuits plain CompactHead = ⊥
 IsHeadIn circuits plain EndHead = Unit {0}
 
 -- some head begins with these bytes, and goes on behind them

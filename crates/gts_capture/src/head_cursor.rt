@@ -62,7 +62,7 @@ impl<'a> HeadCursor<'a> {
         self.rest
     }
 
-    /// Reads a head, in a capture of so many circuits; a plain one has no `R` and no `C`.
+    /// Reads a head, in a capture of so many circuits; a plain one has no `R`.
     #[tactic(auto, unfolding(crate::specs::HeadReading::head_at))]
     pub(crate) fn head(&mut self, circuits: u32, plain: bool) -> Result<Head, Stop>
         requires { circuits ≤ 100 }
@@ -114,7 +114,6 @@ impl<'a> HeadCursor<'a> {
                 c: self.circuit(circuits)?,
             },
             b'R' => Head::Restart,
-            b'C' => Head::Compact,
             _ => Head::End,
         };
         self.end(head)
@@ -214,7 +213,7 @@ fn is_letter(circuits: u32, plain: bool, byte: u8) -> bool
 {
     match byte {
         b'F' | b'T' | b'O' | b'D' => circuits > 0,
-        b'R' | b'C' => !plain,
+        b'R' => !plain,
         _ => byte == b'E',
     }
 }

@@ -1,4 +1,4 @@
-ghost use Rattle.std.specs.Prelude.{◌≡◌, ◌+◌, ◌-◌, ◌<◌, ◌≤◌, ◌↔◌, ◌++◌, [], ℕ, IsTrue, IfOk, IfErr, OnErr, Err, true, false, length, take, drop, min};
+ghost use Rattle.std.specs.Prelude.{◌≡◌, ◌+◌, ◌-◌, ◌<◌, ◌≤◌, ◌↔◌, ◌++◌, [], ℕ, IsTrue, IfOk, IfErr, IsErr, OnErr, Err, true, false, length, take, drop, min};
 ghost use Rattle.gts_traits.specs.Counts.{HasCause};
 ghost use Rattle.gts_capture.specs.Heads.{head_of, line_of, IsHeadIn, bytes_announced};
 ghost use Rattle.gts_capture.specs.Held.{BeginsWithHead, IsStop, IsSameCapture, IsBadAt, EndsInFeed, StopsInHead, StopsInFeed, HasSourceCause, at_start, counted_to};
@@ -52,8 +52,7 @@ impl Steps {
         Steps::of(circuits, false)
     }
 
-    /// The same for a plain capture, in which the switch is not opened again and its journal not compacted: `R` and `C`
-    /// begin no head.
+    /// The same for a plain capture, in which the switch is not opened again: `R` begins no head.
     pub fn plain(circuits: u32) -> Steps
         requires { circuits ≤ 100 }
         ensures { result ≡ at_start circuits true }
@@ -120,6 +119,7 @@ impl Steps {
         ensures told { S.tells → IfOk result (λ count. self.old.ahead ++ S.left source.old
             ≡ take count into.new ++ (self.new.ahead ++ S.left source.new)) }
         ensures most { IfOk result (λ count. count ≤ min (length into.old) self.old.feed) }
+        ensures left { IsErr result → 0 < self.old.feed }
         ensures some { IfOk result (λ count. count ≡ 0 → min (length into.old) self.old.feed ≡ 0) }
         ensures feed { IfOk result (λ count. self.new.feed + count ≡ self.old.feed) }
         ensures at { IfOk result (λ count. self.new.at ≡ counted_to (self.old.at + count)) }

@@ -59,7 +59,7 @@ join_same d s bs (Drain c) steps len h = refl
 join_same d s bs Restart steps len h = refl
 join_same d s bs Compact steps len h = refl
 
-length-after : (d : Directory) (bs : Connections) (step : Step) → length bs ≡ length d.circuits → length (after_step d bs step) ≡ length d.circuits
+pub length-after : (d : Directory) (bs : Connections) (step : Step) → length bs ≡ length d.circuits → length (after_step d bs step) ≡ length d.circuits
 length-after d bs (Feed c x) len = length-set bs c (get_or bs c [] ++ x) ∙ len
 length-after d bs (Take c) len = len
 length-after d bs (Reopen c) len = length-set bs c [] ∙ len

@@ -8,8 +8,7 @@ use Rattle.gts_alphabet.specs.Digits.{dec}
 use Rattle.gts_alphabet.proofs.LawLemmas.{digits_value-dec}
 use Rattle.gts_directory.specs.Directory.{Directory}
 use Rattle.gts_connection.specs.Capture.{Head, FeedHead, TakeHead, ReopenHead, DrainHead, RestartHead, CompactHead, EndHead, head_text, IsHead, IsHeadFront}
-use Rattle.gts_connection.proofs.ListLemmas.{starts_with-append}
-use Rattle.gts_connection.proofs.LengthLemmas.{starts_is}
+use Rattle.gts_connection.proofs.ListLemmas.{starts_with-append, starts_is}
 
 -- ---- lists
 
@@ -98,30 +97,29 @@ some_of d f one valid =
 
 some_head : (d : Directory) (f : Head → Bool) → Passing d f ⊎ ((h : Head) → IsHead d h → f h ≡ false)
 some_head d f =
-    go (some_feed d f) (some_of d f TakeHead (λ c h. h)) (some_of d f ReopenHead (λ c h. h)) (some_of d f DrainHead (λ c h. h)) (decided f RestartHead) (decided f CompactHead) (decided f EndHead)
+    go (some_feed d f) (some_of d f TakeHead (λ c h. h)) (some_of d f ReopenHead (λ c h. h)) (some_of d f DrainHead (λ c h. h)) (decided f RestartHead) (decided f EndHead)
   where
     all : ((c n : ℕ) → IsHead d (FeedHead c n) → f (FeedHead c n) ≡ false) → ((c : ℕ) → c < length d.circuits → f (TakeHead c) ≡ false) → ((c : ℕ) → c < length d.circuits → f (ReopenHead c) ≡ false)
-        → ((c : ℕ) → c < length d.circuits → f (DrainHead c) ≡ false) → f RestartHead ≡ false → f CompactHead ≡ false → f EndHead ≡ false → (h : Head) → IsHead d h → f h ≡ false
-    all feed take reopen drain r c e (FeedHead k n) h = feed k n h
-    all feed take reopen drain r c e (TakeHead k) h = take k h
-    all feed take reopen drain r c e (ReopenHead k) h = reopen k h
-    all feed take reopen drain r c e (DrainHead k) h = drain k h
-    all feed take reopen drain r c e RestartHead h = r
-    all feed take reopen drain r c e CompactHead h = c
-    all feed take reopen drain r c e EndHead h = e
+        → ((c : ℕ) → c < length d.circuits → f (DrainHead c) ≡ false) → f RestartHead ≡ false → f EndHead ≡ false → (h : Head) → IsHead d h → f h ≡ false
+    all feed take reopen drain r e (FeedHead k n) h = feed k n h
+    all feed take reopen drain r e (TakeHead k) h = take k h
+    all feed take reopen drain r e (ReopenHead k) h = reopen k h
+    all feed take reopen drain r e (DrainHead k) h = drain k h
+    all feed take reopen drain r e RestartHead h = r
+    all feed take reopen drain r e CompactHead h = absurd h
+    all feed take reopen drain r e EndHead h = e
 
     go : Passing d f ⊎ ((c n : ℕ) → IsHead d (FeedHead c n) → f (FeedHead c n) ≡ false) → Passing d f ⊎ ((c : ℕ) → c < length d.circuits → f (TakeHead c) ≡ false)
         → Passing d f ⊎ ((c : ℕ) → c < length d.circuits → f (ReopenHead c) ≡ false) → Passing d f ⊎ ((c : ℕ) → c < length d.circuits → f (DrainHead c) ≡ false)
-        → (f RestartHead ≡ true) ⊎ (f RestartHead ≡ false) → (f CompactHead ≡ true) ⊎ (f CompactHead ≡ false) → (f EndHead ≡ true) ⊎ (f EndHead ≡ false)
+        → (f RestartHead ≡ true) ⊎ (f RestartHead ≡ false) → (f EndHead ≡ true) ⊎ (f EndHead ≡ false)
         → Passing d f ⊎ ((h : Head) → IsHead d h → f h ≡ false)
-    go (inl p) t o q r c e = inl p
-    go (inr n) (inl p) o q r c e = inl p
-    go (inr n) (inr t) (inl p) q r c e = inl p
-    go (inr n) (inr t) (inr o) (inl p) r c e = inl p
-    go (inr n) (inr t) (inr o) (inr q) (inl p) c e = inl (RestartHead, tt, p)
-    go (inr n) (inr t) (inr o) (inr q) (inr r) (inl p) e = inl (CompactHead, tt, p)
-    go (inr n) (inr t) (inr o) (inr q) (inr r) (inr c) (inl p) = inl (EndHead, tt, p)
-    go (inr n) (inr t) (inr o) (inr q) (inr r) (inr c) (inr e) = inr (all n t o q r c e)
+    go (inl p) t o q r e = inl p
+    go (inr n) (inl p) o q r e = inl p
+    go (inr n) (inr t) (inl p) q r e = inl p
+    go (inr n) (inr t) (inr o) (inl p) r e = inl p
+    go (inr n) (inr t) (inr o) (inr q) (inl p) e = inl (RestartHead, tt, p)
+    go (inr n) (inr t) (inr o) (inr q) (inr r) (inl p) = inl (EndHead, tt, p)
+    go (inr n) (inr t) (inr o) (inr q) (inr r) (inr e) = inr (all n t o q r e)
 
 -- a whole head stands at the front
 abbrev pub HeadAt : Directory → List ℕ → Type 0

@@ -1,12 +1,9 @@
 pub mod ListLemmas
-pub mod ConnectionLemmas
-pub mod FrontLemmas
 pub mod StreamLemmas
 pub mod StepsLemmas
 pub mod CutLemmas
 pub mod ReadingLemmas
+pub mod StepsGoLemmas
 pub mod HereLemmas
 pub mod LawLemmas
 pub mod HeadLemmas
-pub mod LengthLemmas
-pub mod PieceLemmas

@@ -5,7 +5,7 @@ use Rattle.std.proofs.lemmas.Bool.{cases_lt}
 use Rattle.std.proofs.lemmas.List.{length-append, length-take-le, take-append-drop, append-nil, append_assoc}
 use Rattle.gts_alphabet.specs.Digits.{dec}
 use Rattle.gts_directory.specs.Directory.{Directory}
-use Rattle.gts_connection.specs.Capture.{Step, Feed, Take, Reopen, Drain, Restart, Compact, Head, FeedHead, TakeHead, ReopenHead, DrainHead, RestartHead, CompactHead, EndHead, head_text, IsHead, head_of, bytes_of_step, step_text, AreSteps, IsPartialHead, IsHeadFront, Reading, Whole, Bad, EndsInHead, EndsInFeed}
+use Rattle.gts_connection.specs.Capture.{Step, Feed, Take, Reopen, Drain, Restart, Compact, Head, FeedHead, TakeHead, ReopenHead, DrainHead, RestartHead, CompactHead, EndHead, head_text, IsHead, head_of, bytes_of_step, step_text, AreSteps, IsPartialHead, IsHeadFront, Reading, Whole, Bad, EndsInHead, EndsInFeed, IsWhole, IsEarly}
 use Rattle.gts_connection.proofs.HeadLemmas.{shorter_front, same_fronts, same_heads, HeadAt, head_or_none, front_or_none}
 
 -- ---- how a capture ends, behind its whole steps
@@ -185,7 +185,7 @@ read_head d n bytes few again (TakeHead c) rest valid e = read_step d n (Take c)
 read_head d n bytes few again (ReopenHead c) rest valid e = read_step d n (Reopen c) bytes rest few again valid (bare (head_text (ReopenHead c)) rest bytes e)
 read_head d n bytes few again (DrainHead c) rest valid e = read_step d n (Drain c) bytes rest few again valid (bare (head_text (DrainHead c)) rest bytes e)
 read_head d n bytes few again RestartHead rest valid e = read_step d n Restart bytes rest few again tt (bare (head_text RestartHead) rest bytes e)
-read_head d n bytes few again CompactHead rest valid e = read_step d n Compact bytes rest few again tt (bare (head_text CompactHead) rest bytes e)
+read_head d n bytes few again CompactHead rest valid e = absurd valid
 read_head d n bytes few again EndHead rest valid e =
     ([], length (head_text EndHead), last_part d bytes [] (length (head_text EndHead)) (AtEnd rest refl e (omega (arith, ap length e, length-append (head_text EndHead) rest))))
 
@@ -347,3 +347,33 @@ reads_once d bytes steps others at place few r s =
       a.steps_are ∙ ap (λ (ss : List Step). ss ++ a.extra) same.0 ∙ ap (λ (ss : List Step). b.before ++ ss) end.0 ∙ sym b.steps_are,
       omega (arith, a.place, b.place, end.1, ap (λ (ss : List Step). length (flat_map step_text ss)) same.0),
     )
+
+-- where the bytes are bad, or end too early, no capture stands at their front
+pub early_is_none : (d : Directory) (bytes : List ℕ) (steps others : List Step) (at : ℕ) → length d.circuits ≤ 100 → (read : Reading d bytes steps at) × IsEarly read → IsWhole d bytes others → ⊥
+early_is_none d bytes steps others at few early w = go early.0 early.1
+  where
+    end : List ℕ
+    end = head_text EndHead ++ w.unread
+
+    ends : Ending d end [] (length (head_text EndHead))
+    ends = AtEnd w.unread refl refl (omega (arith, length-append (head_text EndHead) w.unread))
+
+    text : bytes ≡ flat_map step_text others ++ end
+    text = w.text ∙ append_assoc (flat_map step_text others) (head_text EndHead) w.unread
+
+    same : (before : List Step) (tail : List ℕ) (extra : List Step) (left : ℕ) → AreSteps d before → Ending d tail extra left → bytes ≡ flat_map step_text before ++ tail → tail ≡ end
+    same before tail extra left are ending e = (same_steps d before others tail end extra [] left (length (head_text EndHead)) few are w.are ending ends (sym e ∙ text)).1
+
+    go : (read : Reading d bytes steps at) → IsEarly read → ⊥
+    go (Whole unread are e p) none = none
+    go (Bad front byte unread are part bad e p) _ =
+        let tail : List ℕ = front ++ byte ∷ unread in
+        let ending : Ending d tail [] (length front) = AtBad front byte unread refl part bad refl (omega (arith, length-append front (byte ∷ unread))) in
+        no_head_before_bad d front byte unread EndHead w.unread few part bad tt (sym (same steps tail [] (length front) are ending (e ∙ append_assoc (flat_map step_text steps) front (byte ∷ unread))))
+    go (EndsInHead front are part e p) _ = not_begun d front EndHead w.unread few part tt (sym (same steps front [] (length front) are (InHead refl part refl) e))
+    go (EndsInFeed before c size piece are valid short s e p) _ =
+        let tail : List ℕ = head_text (FeedHead c size) ++ piece in
+        let ending : Ending d tail (Feed c piece ∷ []) (length tail) = InFeed c size piece refl valid short refl refl in
+        let found : tail ≡ end = same before tail (Feed c piece ∷ []) (length tail) are ending (e ∙ append_assoc (flat_map step_text before) (head_text (FeedHead c size)) piece) in
+        let heads : FeedHead c size ≡ EndHead = (same_heads d (FeedHead c size) EndHead piece w.unread few valid tt found).0 in
+        cc

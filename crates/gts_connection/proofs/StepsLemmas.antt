@@ -1,19 +1,23 @@
 -- The events of a connection are those of the signs that its bytes show.
-use Rattle.std.proofs.Common.{◌≡◌, ℕ, List, [], ◌∷◌, ◌++◌, length, drop, Option, Some, None, refl, sym, ap, ◌∙◌}
+use Rattle.std.proofs.Common.{◌≡◌, ℕ, zero, suc, ◌+◌, Bool, true, false, ◌==◌, cond, List, [], ◌∷◌, ◌++◌, length, drop, take, Option, Some, None, refl, sym, ap, ◌∙◌}
+use Rattle.std.specs.Prelude.{find, not, nat_eq}
+use Rattle.std.specs.List.{starts_with, range_with_len}
 use Rattle.std.proofs.Math.Seq.{drop-append_seam}
+use Rattle.gts_frame.specs.declared.kind.Kind.{Kind}
+use Rattle.gts_frame.specs.declared.kind.Kind.TheVariants.{An, Bi, Fx}
 use Rattle.gts_frame.specs.declared.lost.LostField.{LostField}
 use Rattle.gts_frame.specs.declared.step.Step.{Step}
-use Rattle.gts_frame.specs.Frame.{Piece, Frame, KeepAlive}
-use Rattle.gts_frame.specs.Signs.{Sign, Carries, KeepsAlive, Breaks, signs_of, break_of, signs_in}
+use Rattle.gts_frame.specs.Frame.{frame, letters, IsFramed, Piece, Frame, KeepAlive}
+use Rattle.gts_frame.specs.Stream.{field_at, length_in, is_front, has_piece}
+use Rattle.gts_frame.specs.Signs.{Sign, Carries, KeepsAlive, Breaks, signs_of, break_of, sign_at, break_at, signs_from, signs_in}
 use Rattle.gts_frame.specs.Decoder.{Decoding, signs_of_step, ReadsOn}
-use Rattle.gts_frame.proofs.LawLemmas.{shows-computed}
+use Rattle.gts_frame.proofs.LawLemmas.{signs-piece}
 use Rattle.gts_event.specs.declared.event.Event.{Event}
 use Rattle.gts_event.specs.declared.event.Event.TheVariants.{Heard, Lost}
-use Rattle.gts_connection.specs.Connection.{events_of, loss_of, IsConnection, connection, events_added}
+use Rattle.gts_connection.specs.Connection.{events_of, loss_of, event_at, loss_at, events_in, connection, events_added}
 use Rattle.gts_connection.specs.Steps.{events_of_signs}
-use Rattle.gts_connection.proofs.StreamLemmas.{connection-unique}
 
-signs-append : (c : ℕ) (xs ys : List Sign) → events_of_signs c (xs ++ ys) ≡ events_of_signs c xs ++ events_of_signs c ys
+pub signs-append : (c : ℕ) (xs ys : List Sign) → events_of_signs c (xs ++ ys) ≡ events_of_signs c xs ++ events_of_signs c ys
 signs-append c [] ys = refl
 signs-append c (Carries kind message ∷ xs) ys = ap (λ (es : List Event). Heard c kind message ∷ es) (signs-append c xs ys)
 signs-append c (KeepsAlive ∷ xs) ys = signs-append c xs ys
@@ -28,20 +32,64 @@ events-break : (c : ℕ) (field : Option LostField) → events_of_signs c (break
 events-break c None = refl
 events-break c (Some field) = refl
 
+-- the signs of pieces and of a loss are their events
+pub events-shown : (c : ℕ) (ps : List Piece) (field : Option LostField) → events_of_signs c (signs_of ps ++ break_of field) ≡ events_of c ps ++ loss_of c field
+events-shown c ps field =
+    signs-append c (signs_of ps) (break_of field)
+    ∙ ap (λ (es : List Event). es ++ events_of_signs c (break_of field)) (events-pieces c ps)
+    ∙ ap (λ (es : List Event). events_of c ps ++ es) (events-break c field)
+
+event-sign : (c : ℕ) (bytes : List ℕ) → event_at c bytes ≡ events_of_signs c (sign_at bytes)
+event-sign c bytes = go (find (λ kind. starts_with nat_eq (drop 8 bytes) (letters kind)) (An ∷ Bi ∷ Fx ∷ []))
+  where
+    by_size : (kind : Kind) (b : Bool) → cond b [] (Heard c kind (take (length_in bytes) (drop 10 bytes)) ∷ []) ≡ events_of_signs c (cond b (KeepsAlive ∷ []) (Carries kind (take (length_in bytes) (drop 10 bytes)) ∷ []))
+    by_size kind true = refl
+    by_size kind false = refl
+
+    go : (o : Option Kind)
+        → elim o as (λ _. List Event) [ None ↦ [] | Some kind ↦ cond (length_in bytes == 0) [] (Heard c kind (take (length_in bytes) (drop 10 bytes)) ∷ []) ]
+        ≡ events_of_signs c (elim o as (λ _. List Sign) [ None ↦ [] | Some kind ↦ cond (length_in bytes == 0) (KeepsAlive ∷ []) (Carries kind (take (length_in bytes) (drop 10 bytes)) ∷ []) ])
+    go None = refl
+    go (Some kind) = by_size kind (length_in bytes == 0)
+
+loss-break : (c : ℕ) (bytes : List ℕ) → loss_at c bytes ≡ events_of_signs c (break_at bytes)
+loss-break c bytes = go (find (λ n. not (is_front (take n bytes))) (range_with_len 1 (length bytes)))
+  where
+    go : (o : Option ℕ) → elim o as (λ _. List Event) [ None ↦ [] | Some n ↦ Lost c (field_at n) ∷ [] ]
+        ≡ events_of_signs c (elim o as (λ _. List Sign) [ None ↦ [] | Some n ↦ Breaks (field_at n) ∷ [] ])
+    go None = refl
+    go (Some n) = refl
+
+events-signs : (c n : ℕ) (bytes : List ℕ) → events_in c n bytes ≡ events_of_signs c (signs_from n bytes)
+events-signs c zero bytes = refl
+events-signs c (suc n) bytes = go (has_piece bytes) (events-signs c n (drop (10 + length_in bytes) bytes))
+  where
+    go : (b : Bool) → events_in c n (drop (10 + length_in bytes) bytes) ≡ events_of_signs c (signs_from n (drop (10 + length_in bytes) bytes))
+        → elim b as (λ _. List Event) [ true ↦ event_at c bytes ++ events_in c n (drop (10 + length_in bytes) bytes) | false ↦ loss_at c bytes ]
+        ≡ events_of_signs c (elim b as (λ _. List Sign) [ true ↦ sign_at bytes ++ signs_from n (drop (10 + length_in bytes) bytes) | false ↦ break_at bytes ])
+    go true more =
+        ap (λ (es : List Event). es ++ events_in c n (drop (10 + length_in bytes) bytes)) (event-sign c bytes)
+        ∙ ap (λ (es : List Event). events_of_signs c (sign_at bytes) ++ es) more
+        ∙ sym (signs-append c (sign_at bytes) (signs_from n (drop (10 + length_in bytes) bytes)))
+    go false more = loss-break c bytes
+
 pub connection-signs : (c : ℕ) (bytes : List ℕ) → connection c bytes ≡ events_of_signs c (signs_in bytes)
-connection-signs c bytes =
-    let s = shows-computed bytes in
-    let read : IsConnection c bytes (events_of c s.pieces ++ loss_of c s.field) = record { pieces = s.pieces; each = s.each; rest = s.rest; text = s.text; field = s.field; ending = s.ending; events_are = refl } in
-    sym (connection-unique c bytes (events_of c s.pieces ++ loss_of c s.field) read)
-    ∙ ap (λ (es : List Event). es ++ loss_of c s.field) (sym (events-pieces c s.pieces))
-    ∙ ap (λ (es : List Event). events_of_signs c (signs_of s.pieces) ++ es) (sym (events-break c s.field))
-    ∙ sym (signs-append c (signs_of s.pieces) (break_of s.field))
-    ∙ ap (events_of_signs c) (sym s.signs_are)
+connection-signs c bytes = events-signs c (length bytes) bytes
+
+pub events-frame : (c n : ℕ) (kind : Kind) (message rest : List ℕ) → IsFramed message → events_in c (n + 1) (frame kind message ++ rest) ≡ Heard c kind message ∷ events_in c n rest
+events-frame c n kind message rest h =
+    events-signs c (n + 1) (frame kind message ++ rest)
+    ∙ ap (events_of_signs c) (signs-piece n (Frame kind message) rest h)
+    ∙ ap (λ (es : List Event). Heard c kind message ∷ es) (sym (events-signs c n rest))
+
+-- what more signs there are, the events have more
+pub added-more : (c : ℕ) (before more : List ℕ) (signs : List Sign) → signs_in (before ++ more) ≡ signs_in before ++ signs
+    → connection c (before ++ more) ≡ connection c before ++ events_of_signs c signs
+added-more c before more signs e =
+    connection-signs c (before ++ more) ∙ ap (events_of_signs c) e ∙ signs-append c (signs_in before) signs
+    ∙ ap (λ (es : List Event). es ++ events_of_signs c signs) (sym (connection-signs c before))
 
 pub added-signs : (c : ℕ) (before taken : List ℕ) (step : Step) (now : Decoding) → ReadsOn before taken step now → events_added c before taken ≡ events_of_signs c (signs_of_step step now.message)
 added-signs c before taken step now r =
     let new : List Event = events_of_signs c (signs_of_step step now.message) in
-    let all : connection c (before ++ taken) ≡ connection c before ++ new =
-    connection-signs c (before ++ taken) ∙ ap (events_of_signs c) r.signs ∙ signs-append c (signs_in before) (signs_of_step step now.message)
-    ∙ ap (λ (es : List Event). es ++ new) (sym (connection-signs c before)) in
-    ap (drop (length (connection c before))) all ∙ drop-append_seam (connection c before) new
+    ap (drop (length (connection c before))) (added-more c before taken (signs_of_step step now.message) r.signs) ∙ drop-append_seam (connection c before) new

@@ -31,6 +31,7 @@ pub data Head : Type 0 where
   CompactHead : Head
   EndHead : Head
 
+-- the line of a head, ended by LF (10)
 abbrev pub head_text : Head → List ℕ
 head_text (FeedHead circuit size) = codes "F " ++ dec 2 circuit ++ codes " " ++ dec 6 size ++ codes "\n"
 head_text (TakeHead circuit) = codes "T " ++ dec 2 circuit ++ codes "\n"
@@ -40,14 +41,17 @@ head_text RestartHead = codes "R\n"
 head_text CompactHead = codes "C\n"
 head_text EndHead = codes "E\n"
 
--- a head names a circuit of the directory, and at most 999,999 bytes
+-- A head names a circuit of the directory, and at most 999,999 bytes. No capture of this version compacts the journal.
 abbrev pub IsHead : Directory → Head → Type 0
 IsHead d (FeedHead circuit size) = (circuit < length d.circuits) × (size ≤ 999999)
 IsHead d (TakeHead circuit) = circuit < length d.circuits
 IsHead d (ReopenHead circuit) = circuit < length d.circuits
 IsHead d (DrainHead circuit) = circuit < length d.circuits
-IsHead d _ = Unit {0}
+IsHead d RestartHead = Unit {0}
+IsHead d CompactHead = ⊥
+IsHead d EndHead = Unit {0}
 
+-- the head of a step
 abbrev pub head_of : Step → Head
 head_of (Feed circuit bytes) = FeedHead circuit (length bytes)
 head_of (Take circuit) = TakeHead circuit
@@ -56,13 +60,16 @@ head_of (Drain circuit) = DrainHead circuit
 head_of Restart = RestartHead
 head_of Compact = CompactHead
 
+-- the bytes that stand behind the head of a step
 abbrev pub bytes_of_step : Step → List ℕ
 bytes_of_step (Feed circuit bytes) = bytes
 bytes_of_step _ = []
 
+-- a step as text: its head, and its bytes behind it
 abbrev pub step_text : Step → List ℕ
 step_text step = head_text (head_of step) ++ bytes_of_step step
 
+-- steps of a capture: each has a head that may stand there
 abbrev pub AreSteps : Directory → List Step → Type 0
 AreSteps d steps = AllByRecursion (λ step. IsHead d (head_of step)) steps
 
@@ -88,10 +95,26 @@ pub data Reading (d : Directory) (bytes : List ℕ) (steps : List Step) (at : �
       → steps ≡ before ++ Feed circuit piece ∷ [] → bytes ≡ flat_map step_text before ++ head_text (FeedHead circuit size) ++ piece
       → at ≡ length bytes → Reading d bytes steps at
 
+-- the capture of these steps stands at the front of the bytes
+pub record IsWhole (d : Directory) (bytes : List ℕ) (steps : List Step) : Type 0 where
+  pub are : AreSteps d steps
+  pub unread : List ℕ
+  pub text : bytes ≡ flat_map step_text steps ++ head_text EndHead ++ unread
+
+-- a reading that doesn't come to the end
+abbrev pub IsEarly : {d : Directory} {bytes : List ℕ} {steps : List Step} {at : ℕ} → Reading d bytes steps at → Type 0
+IsEarly (Whole unread are text place) = ⊥
+IsEarly _ = Unit {0}
+
+-- the bytes are bad at this place, or end there too early
+abbrev pub EndsEarly : Directory → List ℕ → List Step → ℕ → Type 0
+EndsEarly d bytes steps at = (read : Reading d bytes steps at) × IsEarly read
+
 -- the bytes that each circuit's connection had so far
 abbrev pub Connections : Type 0
 Connections = List (List ℕ)
 
+-- no connection had any bytes yet
 abbrev pub no_bytes : Directory → Connections
 no_bytes d = map (λ _. []) d.circuits
 
@@ -115,12 +138,18 @@ after_step d bs (Reopen circuit) = slice_set bs circuit []
 after_step d bs Restart = no_bytes d
 after_step d bs _ = bs
 
+-- the connections after steps
+abbrev pub connections_after : Directory → Connections → List Step → Connections
+connections_after d bs [] = bs
+connections_after d bs (step ∷ steps) = connections_after d (after_step d bs step) steps
+
 -- the entries of steps
 abbrev pub entries_from : Directory → State → Connections → List Step → List Entry
 entries_from d s bs [] = []
 entries_from d s bs (step ∷ steps) =
     let added : List Entry = entries_of_step s bs step in added ++ entries_from d (after_all d s added) (after_step d bs step) steps
 
+-- the entries of the steps of a whole capture
 abbrev pub entries : Directory → State → List Step → List Entry
 entries d s steps = entries_from d s (no_bytes d) steps
 

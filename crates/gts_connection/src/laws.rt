@@ -3,6 +3,7 @@ ghost use Rattle.std.specs.Prelude.{◌≡◌, ◌↔◌, ◌+◌, ◌≤◌, �
 ghost use Rattle.std.specs.List.{list_any, list_all};
 ghost use Rattle.gts_connection.specs.Words.{Kind, Directory, State, Event, Heard, frame, IsFramed, IsFront, IsStreamFront, is_front, is_here};
 ghost use Rattle.gts_connection.specs.Words.{IsConnection, connection, events_in, events_added, is_lost, Step, AreSteps, Reading, entries, joined};
+ghost use Rattle.gts_connection.specs.Words.{IsWhole, EndsEarly, entries_from, connections_after, no_bytes, after_all};
 ghost use Rattle.gts_connection.specs.Words.{Decoding, ReadsOn, FrameStep, signs_in, signs_of_step, events_of_signs};
 
 /// A frame at the front of a connection is heard, and then what is behind it.
@@ -51,6 +52,24 @@ pub fn a_capture_has_one_reading()
     ensures one { (d : Directory) (bytes : List ℕ) (steps others : List Step) (at place : ℕ)
         → length d.circuits ≤ 100 → Reading d bytes steps at → Reading d bytes others place
         → (steps ≡ others) × (at ≡ place) }
+{}
+
+/// Bytes that are bad, or end too early, have no capture at their front.
+pub fn a_capture_that_ends_early_is_none()
+    ensures { (d : Directory) (bytes : List ℕ) (steps others : List Step) (at : ℕ)
+        → length d.circuits ≤ 100 → EndsEarly d bytes steps at → IsWhole d bytes others → ⊥ }
+{}
+
+/// The entries of more steps come behind those of the steps before, from the state and the connections that these leave.
+pub fn steps_go_on()
+    ensures entries { (d : Directory) (s : State) (steps more : List Step)
+        → let first = entries d s steps in let bs = connections_after d (no_bytes d) steps in
+        entries d s (steps ++ more) ≡ first ++ entries_from d (after_all d s first) bs more }
+    ensures connections { (d : Directory) (steps more : List Step)
+        → let bs = connections_after d (no_bytes d) steps in
+        connections_after d (no_bytes d) (steps ++ more) ≡ connections_after d bs more }
+    ensures each { (d : Directory) (steps : List Step)
+        → length (connections_after d (no_bytes d) steps) ≡ length d.circuits }
 {}
 
 /// What a capture does comes on circuits of the directory.

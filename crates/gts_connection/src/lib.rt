@@ -7,9 +7,10 @@ mod worked;
 
 pub use laws::{
     a_capture_comes_on_circuits_of_the_directory, a_capture_has_one_reading,
-    a_connection_has_one_reading, a_connection_has_the_events_of_its_steps,
-    a_frame_at_the_front_is_heard, a_front_is_what_is_computed, feeds_may_be_cut_anywhere,
-    more_bytes_only_add_events,
+    a_capture_that_ends_early_is_none, a_connection_has_one_reading,
+    a_connection_has_the_events_of_its_steps, a_frame_at_the_front_is_heard,
+    a_front_is_what_is_computed, feeds_may_be_cut_anywhere, more_bytes_only_add_events,
+    steps_go_on,
 };
 pub use worked::{
     a_capture_is_read_through_its_end, a_capture_may_end_in_a_feed, a_capture_may_end_in_a_head,

@@ -6,7 +6,9 @@ use Rattle.std.proofs.lemmas.List.{drop_more, drop_all, length_push}
 use Rattle.std.proofs.lemmas.List.FromFn.{length-enumerate_from}
 use Rattle.gts_event.specs.State.{CircuitState, has, waiting, draws, last_of}
 use Rattle.gts_event.specs.History.{with_drawn}
-use Rattle.gts_event.proofs.StateLemmas.{and_true, or_left, or_right, or_cases, both_true, has_filter, list_all-has, list_all-append, list_all_more}
+use Rattle.std.proofs.lemmas.Bool.{and_parts as and_true, or_left, or_right, or_cases, and_from as both_true}
+use Rattle.std.proofs.lemmas.List.Folds.{list_all-append}
+use Rattle.gts_event.proofs.LawLemmas.{has_filter, list_all-has, list_all_more}
 use Rattle.gts_core.specs.Line.{is_drawn}
 
 pub filter_few : (f : ℕ → Bool) (xs : List ℕ) → length (filter f xs) ≤ length xs
@@ -107,7 +109,8 @@ waits_routed q p h = (has_filter (λ x. not (has q.taken x)) q.routed p h).0
 -- so its bulletin is there, with those of what was drawn before
 pub taken_there : (f : ℕ → Bool) (q : CircuitState) (p : ℕ) → list_all f q.routed ≡ true → list_all f q.taken ≡ true → has (waiting q) p ≡ true → list_all f (q.taken ++ p ∷ []) ≡ true
 taken_there f q p routed taken there =
-    list_all-append f q.taken (p ∷ []) taken (both_true (f p) true (list_all-has f q.routed p routed (waits_routed q p there)) refl)
+    list_all-append f q.taken (p ∷ [])
+    ∙ both_true (list_all f q.taken) (list_all f (p ∷ [])) taken (both_true (f p) true (list_all-has f q.routed p routed (waits_routed q p there)) refl)
 
 pub all_at : (f : ℕ → Bool) (xs : List ℕ) (i d : ℕ) → i < length xs → list_all f xs ≡ true → f (get_or xs i d) ≡ true
 all_at f [] i d lt h = absurd (omega arith)

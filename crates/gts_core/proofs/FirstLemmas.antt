@@ -3,7 +3,8 @@ use Rattle.std.proofs.Common.{◌≡◌, ℕ, ◌<◌, Bool, true, false, not, �
 use Rattle.std.specs.List.{list_all, find}
 use Rattle.std.proofs.lemmas.Bool.{eq-eqb, eqb-true, lt-ltb, ltb-true, le-ltb, cases_lt}
 use Rattle.gts_event.specs.State.{has}
-use Rattle.gts_event.proofs.StateLemmas.{and_true, or_left, or_right, or_cases, both_true, list_all-has}
+use Rattle.std.proofs.lemmas.Bool.{and_parts as and_true, or_left, or_right, or_cases, and_from as both_true}
+use Rattle.gts_event.proofs.LawLemmas.{list_all-has}
 use Rattle.gts_core.specs.First.{comes_before, better, scan_all, next_by, waits_in}
 
 -- a smaller level, or the same level and a smaller position

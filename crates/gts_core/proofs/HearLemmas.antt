@@ -7,7 +7,9 @@ use Rattle.std.proofs.lemmas.Bool.{lt-ltb, le-leb, ltb-false, cases_eq, eq-eqb}
 use Rattle.std.proofs.lemmas.List.{append-nil, append_assoc, length-append, length-drop, map-append, map-set}
 use Rattle.gts_event.specs.State.{State, Bulletin, CircuitState, draws, has, idle, on_circuit, heading_of, most_accepted, duplicate}
 use Rattle.gts_event.specs.History.{found, most_owed, index_where, routed_to, places, kept_on, with_bulletin, with_owed, outcome, after_heard, verdict, answer_to, items_of, is_request}
-use Rattle.gts_event.proofs.StateLemmas.{and_true, both_true, or_left, or_right, has_filter, list_all-append, list_all_more}
+use Rattle.std.proofs.lemmas.Bool.{and_parts as and_true, and_from as both_true, or_left, or_right}
+use Rattle.std.proofs.lemmas.List.Folds.{list_all-append}
+use Rattle.gts_event.proofs.LawLemmas.{has_filter, list_all_more}
 use Rattle.gts_event.specs.declared.event.Event.TheVariants.{Heard}
 use Rattle.gts_event.specs.declared.outcome.Outcome.{Outcome}
 use Rattle.gts_event.specs.declared.outcome.Outcome.TheVariants as out
@@ -25,7 +27,8 @@ use Rattle.gts_core.specs.Stored.{bulletin_of, bulletins_of, positions}
 use Rattle.gts_core.specs.Lists.{state_of, HasLevelsOf, IsSound, LeadsTo}
 use Rattle.gts_core.specs.Taking.{IsLineOf}
 use Rattle.gts_core.proofs.JudgeLemmas.{places_same, kept_is}
-use Rattle.gts_core.proofs.TakeLemmas.{circuits_of, on_line}
+use Rattle.gts_core.specs.Owed.{circuits_of}
+use Rattle.gts_core.proofs.TakeLemmas.{on_line}
 use Rattle.gts_core.specs.Line.{Line, is_drawn}
 use Rattle.gts_core.specs.Judging.{latest_of, item_places}
 use Rattle.gts_core.specs.Hearing.{routed_where, with_more_owed}
@@ -199,8 +202,8 @@ line_more : (count : ℕ) (ps : List ℕ) (q : CircuitState) (b : Bool) → IsLi
 line_more count ps q true h =
     let f : ℕ → Bool = has (ps ++ count ∷ []) in
     record {
-      routed = list_all-append f q.routed (count ∷ []) (list_all_more (has ps) f q.routed (λ x k. has_before ps count x k) h.routed)
-          (both_true (has (ps ++ count ∷ []) count) true (has_last ps count) refl);
+      routed = list_all-append f q.routed (count ∷ []) ∙ both_true (list_all f q.routed) (list_all f (count ∷ []))
+          (list_all_more (has ps) f q.routed (λ x k. has_before ps count x k) h.routed) (both_true (has (ps ++ count ∷ []) count) true (has_last ps count) refl);
       taken = list_all_more (has ps) f q.taken (λ x k. has_before ps count x k) h.taken;
       few = omega (arith, h.few, filter_one (λ position. not (has q.taken position)) q.routed count);
     }

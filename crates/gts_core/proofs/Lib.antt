@@ -12,3 +12,5 @@ pub mod OwedLemmas
 pub mod RoomLemmas
 pub mod ReadyLemmas
 pub mod HearLemmas
+pub mod NeedsLemmas
+pub mod OpeningLemmas

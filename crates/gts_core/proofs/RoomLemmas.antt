@@ -3,7 +3,7 @@ use Rattle.std.proofs.Common.{◌≡◌, ℕ, zero, suc, ◌<◌, true, List, []
 use Rattle.std.specs.List.{list_all}
 use Rattle.std.proofs.lemmas.List.{map-set, set-get_or, get_or-map}
 use Rattle.gts_event.specs.State.{CircuitState, idle}
-use Rattle.gts_event.proofs.StateLemmas.{and_true, both_true}
+use Rattle.std.proofs.lemmas.Bool.{and_parts as and_true, and_from as both_true}
 use Rattle.gts_core.specs.Line.{Line}
 use Rattle.gts_core.specs.Owed.{circuits_of}
 

@@ -4,7 +4,7 @@ use Rattle.std.specs.List.{find}
 use Rattle.gts_heading.specs.Heading.{HeadingFields}
 use Rattle.gts_directory.specs.Directory.{Directory, level_of}
 use Rattle.gts_event.specs.State.{Bulletin, has, heading_of, no_heading, heading_at_position}
-use Rattle.gts_event.proofs.StateLemmas.{or_cases}
+use Rattle.std.proofs.lemmas.Bool.{or_cases}
 use Rattle.gts_core.specs.declared.stored.Stored.{Stored}
 use Rattle.gts_core.specs.Stored.{bulletin_of, bulletins_of, positions, stored_at, HasLevels}
 use Rattle.gts_core.specs.Line.{Line}

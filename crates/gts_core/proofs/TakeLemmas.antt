@@ -14,11 +14,9 @@ use Rattle.gts_core.specs.declared.stored.Stored.{Stored}
 use Rattle.gts_core.specs.Line.{Line}
 use Rattle.gts_core.specs.Stored.{bulletins_of, positions, HasLevels}
 use Rattle.gts_core.specs.Taking.{choice_by, outcome_of_choice, circuit_after, frame_in, index_told, IsLineOf, TakesOn}
+use Rattle.gts_core.specs.Owed.{circuits_of}
 use Rattle.gts_core.specs.Lists.{state_of, IsSound, HasLevelsOf, LeadsTo}
 use Rattle.gts_core.proofs.StoredLemmas.{level_at, has_levels}
-
-abbrev pub circuits_of : List Line → List CircuitState
-circuits_of ls = map (λ l. l.circuit) ls
 
 pub each_at : {X : Type 0} (P : X → Type 0) (xs : List X) (i : ℕ) (d : X) → i < length xs → AllByRecursion P xs → P (get_or xs i d)
 each_at P [] i d lt all = absurd (omega arith)

@@ -1,14 +1,14 @@
 -- What contracts see of a core, and which state of a history it holds. Nothing says how it keeps what it has: any state
 -- of the same need will do.
-use Rattle.std.specs.Prelude.{◌≡◌, ℕ, ◌+◌, List, map, Option, Some, IsTrue}
+use Rattle.std.specs.Prelude.{◌≡◌, ℕ, ◌+◌, ◌<◌, List, map, Option, Some, IsTrue}
 use Rattle.gts_traits.specs.Station.{on}
 use Rattle.gts_directory.specs.Directory.{Directory}
-use Rattle.gts_event.specs.State.{State}
+use Rattle.gts_event.specs.State.{State, most_accepted}
 use Rattle.gts_event.specs.History.{choice, outcome, after, restarted, body_of}
 use Rattle.gts_event.specs.declared.event.Event.{Event}
 use Rattle.gts_event.specs.declared.event.Event.TheVariants.{Heard, Taken}
 use Rattle.gts_event.specs.Said.{spoken}
-use Rattle.gts_event.specs.Need.{keeps_one}
+use Rattle.gts_event.specs.Need.{Need, need, keeps_one}
 use Rattle.gts_event.specs.Stand.{SameNeed}
 use Rattle.gts_event.specs.declared.outcome.Outcome.{Outcome}
 use Rattle.gts_event.specs.declared.outcome.Outcome.TheVariants.{Accepted}
@@ -70,8 +70,18 @@ Judges d core c message told = (s : State) (kind : Kind) → Holds d core s → 
 abbrev pub Keeps : Core → Core → Type 0
 Keeps old new = (d : Directory) (s : State) → Holds d old s → Holds d new s
 
+-- whatever state it holds, this is its need
+abbrev pub Needs : Core → Need → Type 0
+Needs core n = (d : Directory) (s : State) → Holds d core s → n ≡ need d s
+
 -- where a message on a circuit would be accepted, the memory for its body was taken
 abbrev pub IsReady : Directory → Core → ℕ → List ℕ → Type 0
 IsReady d core c message =
     (s : State) (kind : Kind) (p n : ℕ) → Holds d core s → outcome d s (Heard c kind message) ≡ Accepted p n
     → core.ready ≡ Some (body_of message)
+
+-- where a message on a circuit would be accepted, a position is left for it
+abbrev pub HasPosition : Directory → Core → ℕ → List ℕ → Type 0
+HasPosition d core c message =
+    (s : State) (kind : Kind) (p n : ℕ) → Holds d core s → outcome d s (Heard c kind message) ≡ Accepted p n
+    → core.state.count < most_accepted

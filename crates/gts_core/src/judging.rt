@@ -9,7 +9,7 @@ ghost use Rattle.gts_core.specs.Judging.{item_places, Tallies, verdict_told, ans
 
 use crate::answer::Verdict;
 use crate::headings::{duplicate, is_request};
-use crate::line::Line;
+use crate::line::{Line, MOST_OWED};
 use crate::places::{Tally, tally_item};
 use crate::stored::Stored;
 use gts_directory::{Directory, a_mask_has_the_bits_of_its_circuits};
@@ -17,9 +17,6 @@ use gts_event::Refusal;
 use gts_heading::Heading;
 use gts_message::Message;
 use gts_request::Request;
-
-/// The most repetitions that a circuit may be owed (profile).
-const MOST_OWED: u64 = 4096;
 
 /// The sums of two.
 fn joined(one: Tally, other: Tally) -> Tally
@@ -66,7 +63,7 @@ fn granted(accepted: &[Stored], line: &Line, kept: u32, request: &Request<'_>) -
         (flat_map (item_places accepted.now kept line.now.circuit) request.now) }
 {
     let tally = tally_all(accepted, line, kept, request);
-    if line.owed().len() as u64 + u64::from(tally.found) > MOST_OWED {
+    if line.owed().len() + tally.found as usize > MOST_OWED {
         return Verdict::Refused(Refusal::Many);
     }
     Verdict::Asked {

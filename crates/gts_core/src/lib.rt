@@ -10,6 +10,7 @@ mod headings;
 mod judging;
 mod laws;
 mod line;
+mod needs;
 mod opening;
 mod owed;
 mod places;

@@ -2,15 +2,19 @@ ghost use Rattle.std.specs.Prelude.{◌≡◌, ◌<◌, ◌≤◌, ◌++◌, [],
 ghost use Rattle.std.specs.List.{list_all};
 ghost use Rattle.gts_event.specs.State.{idle, draws, waiting, has};
 ghost use Rattle.gts_event.specs.History.{most_owed, with_routed, with_repeated, with_drawn, owed_last};
+ghost use Rattle.gts_event.specs.Need.{begun_circuit};
+ghost use Rattle.gts_event.specs.Items.{circuit_need_of};
 ghost use Rattle.gts_core.specs.Line.{is_drawn, with_owed_index};
+ghost use Rattle.gts_core.specs.Opening.{CanBegin};
 
 use gts_alphabet::NoMemory;
 use gts_directory::MOST_KEPT;
+use gts_event::CircuitNeed;
 use std::alloc::Global;
 use std::marker::Model;
 
 /// The most repetitions that a circuit may be owed (profile).
-const MOST_OWED: usize = 4096;
+pub const MOST_OWED: usize = 4096;
 
 /// What a circuit has. Its room for repetitions is there from the start, and so is that for the draws of all that waits.
 #[derive(Drop)]
@@ -46,6 +50,29 @@ impl Line {
             routed: Vec::new(alloc),
             taken: Vec::new(alloc),
             owed: Vec::with_capacity(alloc, MOST_OWED)?,
+        })
+    }
+
+    /// A circuit that keeps so many draws, as a start has it: what waits was routed, and what is kept was drawn.
+    pub fn begun(alloc: Global, kept: u32, need: CircuitNeed) -> Result<Line, NoMemory>
+        requires some { 1 ≤ kept }
+        requires few { kept ≤ MOST_KEPT }
+        requires sound { CanBegin (circuit_need_of need) }
+        ensures kept { IfOk result (λ line. line.kept ≡ kept) }
+        ensures begun { IfOk result (λ line. line.circuit ≡ begun_circuit (circuit_need_of need)) }
+    {
+        let earlier = need.draws - need.kept.len();
+        let routed = need.waiting.into_vec(alloc);
+        let mut taken = need.kept.into_vec(alloc);
+        taken.reserve(routed.len())?;
+        let mut owed = need.owed.into_vec(alloc);
+        owed.reserve(MOST_OWED.saturating_sub(owed.len()))?;
+        Ok(Line {
+            kept,
+            earlier,
+            routed,
+            taken,
+            owed,
         })
     }
 

@@ -32,15 +32,16 @@ fn route_where(line: &mut Line, named: bool, position: u64)
     }
 }
 
-/// A position is routed to the circuits of a mask.
-fn route_in(lines: &mut [Line], mask: u64, position: u64)
-    requires few { length lines.old ≤ 64 }
+/// A position is routed to the circuits of a mask, of so many.
+fn route_in(lines: &mut [Line], count: u32, mask: u64, position: u64)
+    requires each { length lines.old ≡ count }
+    requires few { count ≤ 64 }
     requires room { IsTrue (list_all (λ l. l.room) lines.old) }
     ensures kept { map (λ l. l.kept) lines.new ≡ map (λ l. l.kept) lines.old }
     ensures circuits { (circuits : List ℕ) → IsMaskOf (length lines.old) circuits mask
         → circuits_of lines.new ≡ routed_to circuits position (circuits_of lines.old) }
 {
-    for i in 0..lines.len() {
+    for i in 0..count as usize {
         let named = has_bit(mask, i);
         let line = &mut lines[i];
         route_where(line, named, position);
@@ -73,8 +74,6 @@ pub fn accept_in(
 {
     a_mask_has_the_bits_of_its_circuits();
     a_body_has_the_heading_of_its_message();
-    // There are no more circuits than a mask has bits.
-    let _ = directory.circuits();
     if let Ok(parts) = Message::split(message) {
         let level = directory.level(&parts.heading);
         accepted.push_reserved(Stored {
@@ -84,6 +83,7 @@ pub fn accept_in(
             level,
             body,
         });
-        route_in(lines, directory.names(c, &parts.heading), position);
+        let mask = directory.names(c, &parts.heading);
+        route_in(lines, directory.circuits(), mask, position);
     }
 }

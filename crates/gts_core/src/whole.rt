@@ -1,16 +1,18 @@
-ghost use Rattle.std.specs.Prelude.{◌≡◌, ◌<◌, ◌+◌, ◌^◌, length, IfOk, OnOk};
-ghost use Rattle.gts_directory.specs.Directory.{Directory};
-ghost use Rattle.gts_event.specs.State.{State, empty, waiting, most_accepted};
+ghost use Rattle.std.specs.Prelude.{◌≡◌, ◌<◌, ◌+◌, ◌^◌, length, IfOk, OnOk, IsTrue};
+ghost use Rattle.gts_core.specs.Words.{Directory, Nothing, most_accepted};
+ghost use Rattle.gts_event.specs.State.{State, empty};
 ghost use Rattle.gts_event.specs.declared.event.Event.TheVariants.{Heard};
-ghost use Rattle.gts_event.specs.declared.outcome.Outcome.TheVariants.{Nothing};
 ghost use Rattle.gts_core.specs.Owed.{all_waiting};
-ghost use Rattle.gts_core.specs.Core.{Holds, IsFor, IsReady, IsStep, Keeps, Judges, Chooses, Takes, Says, Restarts};
+ghost use Rattle.gts_event.specs.Need.{is_sound, begun};
+ghost use Rattle.gts_event.specs.Items.{need_of};
+ghost use Rattle.gts_core.specs.Core.{Holds, IsFor, IsReady, HasPosition, IsStep, Keeps, Judges, Chooses, Takes, Says, Restarts, Needs};
 
 use crate::answer::{Choice, Verdict};
 use crate::granting::grant_in;
 use crate::judging::judge_in;
 use crate::line::Line;
-use crate::opening::idle_lines;
+use crate::needs::need_in;
+use crate::opening::{begun_bulletins, begun_lines, idle_lines};
 use crate::owed::owed_in;
 use crate::room::{copied_body, make_room};
 use crate::routing::accept_in;
@@ -18,7 +20,7 @@ use crate::stored::Stored;
 use crate::taking::{choose, restart_in, take_in};
 use gts_alphabet::NoMemory;
 use gts_directory::Directory;
-use gts_event::Outcome;
+use gts_event::{Need, Outcome};
 use gts_frame::{FrameBuf, Kind};
 use std::alloc::Global;
 use std::marker::Model;
@@ -55,6 +57,23 @@ impl Core {
             window: directory.window(),
             count: 0,
             accepted: Vec::new(alloc),
+            lines,
+            ready: None,
+        })
+    }
+
+    /// A core that stands for a sound start under a directory. The room for repetitions is taken here; the bodies aren't
+    /// copied.
+    pub fn of_need(alloc: Global, directory: &Directory, need: Need) -> Result<Core, NoMemory>
+        requires { IsTrue (is_sound directory.now (need_of need)) }
+        ensures { IfOk result (λ core. Holds directory.now core (begun (need_of need))) }
+    {
+        let lines = begun_lines(alloc, directory, need.circuits)?;
+        let accepted = begun_bulletins(alloc, directory, need.bulletins)?;
+        Ok(Core {
+            window: directory.window(),
+            count: need.accepted,
+            accepted,
             lines,
             ready: None,
         })
@@ -102,12 +121,13 @@ impl Core {
     }
 
     /// A message came in on circuit `c`: an accepted one joins the bulletins, and a granted request is owed. The directory
-    /// is the one with which the core was made. Takes no memory; `ready` took what an accepted message needs.
+    /// is the one with which the core was made. Takes no memory; `ready` took what an accepted message needs, and such a
+    /// message wants a position, of which there are 2^62.
     pub fn hear(&mut self, directory: &Directory, c: u32, kind: Kind, message: &[u8]) -> Outcome
         requires directory { IsFor directory.now self.old }
         requires circuit { c < length self.old.kept }
         requires ready { IsReady directory.now self.old c message.now }
-        requires few { self.old.state.count < most_accepted }
+        requires few { HasPosition directory.now self.old c message.now }
         ensures { IsStep directory.now self.old self.new (Heard c kind message.now) result }
     {
         let verdict = self.judge(directory, c, message);
@@ -190,5 +210,19 @@ impl Core {
             self.accepted.as_slice(),
             self.lines.as_mut_slice(),
         );
+    }
+
+    /// All that later answers depend on, with copies of the bodies: what a journal is compacted to, and what a core can be
+    /// made of. `NoMemory` where there is no room for the copies.
+    pub fn need(&self, alloc: Global) -> Result<Need, NoMemory>
+        ensures { IfOk result (λ n. Needs self.now (need_of n)) }
+    {
+        need_in(
+            alloc,
+            self.window,
+            self.count,
+            self.accepted.as_slice(),
+            self.lines.as_slice(),
+        )
     }
 }

@@ -84,10 +84,3 @@ directory_of circuits rules levels =
       rules = rules;
       levels = levels;
     }
-
--- The directory that the switch has until it reads one: circuits A and B, and each bulletin goes on to the other one.
-abbrev pub two_circuits : Directory
-two_circuits = directory_of
-    (circuit_of (codes "A") (codes "AAAA") ∷ circuit_of (codes "B") (codes "BBBB") ∷ [])
-    (record { heading = codes "****** ****"; to = 0 ∷ 1 ∷ [] } ∷ [])
-    []

@@ -9,7 +9,7 @@ use Rattle.gts_directory.specs.declared.limits.TheConstants.{MOST_RULES, MOST_LE
 use Rattle.gts_directory.specs.declared.rows.CircuitRow.{CircuitRow}
 use Rattle.gts_directory.specs.declared.rows.RuleRow.{RuleRow}
 use Rattle.gts_directory.specs.declared.rows.LevelRow.{LevelRow}
-use Rattle.gts_directory.specs.Directory.{Directory, circuit_of, directory_of, named, level_of, two_circuits}
+use Rattle.gts_directory.specs.Directory.{Directory, circuit_of, directory_of, named, level_of}
 use Rattle.gts_directory.specs.Rows.{Rows, mask_of}
 use Rattle.gts_directory.specs.Faults.{checked, first_fault}
 
@@ -44,10 +44,6 @@ SamePeer = (named (three_circuits (codes "AAAA")) 0 surface_report ≡ 1 ∷ [])
 abbrev pub LevelOfRow : Type 0
 LevelOfRow = (level_of (three_circuits (codes "CCCC")) warning ≡ 1) × (level_of (three_circuits (codes "CCCC")) surface_report ≡ 3)
 
--- Each bulletin goes on to the other of the two circuits, whatever its heading.
-abbrev pub OtherCircuit : Type 0
-OtherCircuit = (h : HeadingFields) → (named two_circuits 0 h ≡ 1 ∷ []) × (named two_circuits 1 h ≡ 0 ∷ []) × (level_of two_circuits h ≡ 3)
-
 -- the rows of the two circuits
 abbrev pub row_a : CircuitRow
 row_a = record { name = codes "A       "; peer = codes "AAAA"; kept = 1000; input = 0; output = 0 }
@@ -68,6 +64,13 @@ two_rows = record {
   rules = to_both ∷ [];
   levels = [];
 }
+
+-- the directory of two circuits, of which each gets what came in on the other
+abbrev pub two_circuits : Directory
+two_circuits = directory_of
+    (circuit_of (codes "A") (codes "AAAA") ∷ circuit_of (codes "B") (codes "BBBB") ∷ [])
+    (record { heading = codes "****** ****"; to = 0 ∷ 1 ∷ [] } ∷ [])
+    []
 
 -- The rows of the two circuits are accepted, and are that directory.
 abbrev pub RowsOfTwoCircuits : Type 0

@@ -1,11 +1,9 @@
-//! The routing directory: which circuits get a bulletin, and at which level. Until a directory is read from a file,
-//! the switch has a fixed one with two circuits.
+//! The routing directory: which circuits get a bulletin, and at which level.
 #![tactic(auto)]
 
 mod checks;
 mod directory;
 mod fault;
-mod fixed;
 mod laws;
 mod limits;
 mod patterns;
@@ -15,7 +13,6 @@ mod worked;
 
 pub use directory::Directory;
 pub use fault::{DirFault, Part};
-pub use fixed::FixedDirectory;
 pub use laws::{
     a_bulletin_is_not_sent_back, a_mask_has_the_bits_of_its_circuits, a_mask_is_told_by_its_bits,
 };
@@ -26,8 +23,8 @@ pub use limits::{
 pub use rows::{CircuitRow, DirRows, LevelRow, RuleRow};
 pub use worked::{
     a_circuit_of_the_same_peer_gets_nothing, a_level_row_gives_the_level,
-    each_bulletin_goes_to_the_other_circuit, each_fault_of_rows_is_told, rows_are_a_directory,
-    rules_that_match_are_joined, the_first_of_two_faults_is_told,
+    each_fault_of_rows_is_told, rows_are_a_directory, rules_that_match_are_joined,
+    the_first_of_two_faults_is_told,
 };
 
 #[cfg(test)]

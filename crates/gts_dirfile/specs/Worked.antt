@@ -3,7 +3,7 @@ use Rattle.std.specs.Prelude.{◌≡◌, ℕ, ◌+◌, List, [], ◌∷◌, ◌+
 use Rattle.gts_directory.specs.declared.fault.DirFault.{DirFault}
 use Rattle.gts_directory.specs.declared.fault.DirFault.TheVariants.{TooLong, NotToml, BadKey, TwoNames, UnknownCircuit, BadPattern, BadLimit, BadLevel}
 use Rattle.gts_directory.specs.declared.fault.Part.TheVariants as part
-use Rattle.gts_directory.specs.Directory.{Directory, two_circuits}
+use Rattle.gts_directory.specs.Directory.{Directory, circuit_of, directory_of}
 use Rattle.gts_dirfile.specs.declared.limits.TheConstants.{LONGEST_DIRECTORY}
 use Rattle.gts_dirfile.specs.Reading.{directory_of_text, directory_of_bytes}
 
@@ -41,6 +41,13 @@ all_to_both = rule (codes "\"****** ****\"") (codes "[\"A\", \"B\"]")
 
 abbrev pub level : List (List ℕ) → List ℕ
 level rest = lines (codes "[[level]]" ∷ rest)
+
+-- the directory of two circuits, of which each gets what came in on the other
+abbrev pub two_circuits : Directory
+two_circuits = directory_of
+    (circuit_of (codes "A") (codes "AAAA") ∷ circuit_of (codes "B") (codes "BBBB") ∷ [])
+    (record { heading = codes "****** ****"; to = 0 ∷ 1 ∷ [] } ∷ [])
+    []
 
 -- The text of two circuits, with one rule that matches every heading and names both, is their directory.
 abbrev pub TextOfTwoCircuits : Type 0

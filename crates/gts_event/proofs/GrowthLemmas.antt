@@ -3,6 +3,7 @@ use Rattle.std.proofs.Common.{◌≡◌, ℕ, zero, suc, ◌+◌, ◌≤◌, Boo
 use Rattle.std.specs.List.{list_all, find, enumerate_from, AllByRecursion}
 use Rattle.std.proofs.lemmas.Bool.{eqb-true, eq-eqb, ne_eqb, cases_eq}
 use Rattle.std.proofs.lemmas.List.{append-nil, append_assoc, length-append}
+use Rattle.gts_traits.specs.Station.{IsFront}
 use Rattle.gts_frame.specs.declared.kind.Kind.{Kind}
 use Rattle.gts_directory.specs.Directory.{Directory, Circuit, named}
 use Rattle.gts_event.specs.State.{State, CircuitState, Bulletin, idle, on_circuit, has, draws, drawn, waiting, next, bulletin_at, empty}
@@ -14,7 +15,7 @@ use Rattle.gts_event.specs.declared.outcome.Outcome.TheVariants.{Accepted, Dupli
 use Rattle.gts_event.proofs.AfterLemmas.{owing, drew, routed, draws_waiting, find_passes, has_append, undrawn}
 use Rattle.gts_event.proofs.ListLemmas.{and_true, or_left, or_right, or_cases, has_filter}
 use Rattle.gts_event.proofs.OrderLemmas.{ordered-entry, list_all-has}
-use Rattle.gts_event.proofs.StartLemmas.{never_both, circuits-sound}
+use Rattle.gts_event.proofs.SoundLemmas.{circuit-parts, sound-parts}
 use Rattle.std.proofs.lemmas.List.Elements.{filter-append}
 use Rattle.gts_event.proofs.SaidLemmas.{frame_of}
 
@@ -123,6 +124,16 @@ enumerate-append n [] ys = let e : n ≡ n + 0 = omega arith in ap (λ (m : ℕ)
 enumerate-append n (x ∷ xs) ys =
     let e : n + 1 + length xs ≡ n + length (x ∷ xs) = omega arith in
     ap (λ (ds : List (ℕ × ℕ)). (n, x) ∷ ds) (enumerate-append (n + 1) xs ys ∙ ap (λ (m : ℕ). enumerate_from (n + 1) xs ++ enumerate_from m ys) e)
+
+pub draws_stay : (d : Directory) (s : State) (entries : List Entry) (c : ℕ) → IsFront (drawn (on_circuit s c)) (drawn (on_circuit (after_all d s entries) c))
+draws_stay d s entries c =
+    let q : CircuitState = on_circuit s c in
+    let r : CircuitState = on_circuit (after_all d s entries) c in
+    let g = (history_goes_on d s entries).circuits c in
+    let rest : List ℕ = g.more.0 in (
+      enumerate_from (q.earlier + length q.taken) rest,
+      ap (λ (n : ℕ). enumerate_from n r.taken) g.earlier ∙ ap (λ (ps : List ℕ). enumerate_from q.earlier ps) g.more.1 ∙ enumerate-append q.earlier q.taken rest,
+    )
 
 -- the frame of a draw stays, whatever follows
 pub line_stays : (d : Directory) (s : State) (entries : List Entry) (c i : ℕ) (draw : ℕ × ℕ) (b : Bulletin)
@@ -315,9 +326,9 @@ once-begun_all : (d : Directory) (n : Need) (c : ℕ) (rows : List Circuit) (qs 
 once-begun_all d n c [] [] e h = tt
 once-begun_all d n c (row ∷ rows) (q ∷ qs) e h =
     let both = and_true (is_circuit_sound d n c row.kept q) (list_all (λ row. is_circuit_sound d n row.0 row.1.0.kept row.1.1) (enumerate_from (c + 1) (zip rows qs))) h in
-    (once-start q (never_both d n c row.kept q both.0), once-begun_all d n (c + 1) rows qs (omega arith) both.1)
+    (once-start q (circuit-parts d n c row.kept q both.0).apart, once-begun_all d n (c + 1) rows qs (omega arith) both.1)
 once-begun_all d n c [] (q ∷ qs) e h = absurd (omega arith)
 once-begun_all d n c (row ∷ rows) [] e h = absurd (omega arith)
 
 pub once-begun : (d : Directory) (n : Need) → is_sound d n ≡ true → AllOnce (begun n).circuits
-once-begun d n h = let all = circuits-sound d n h in once-begun_all d n 0 d.circuits n.circuits all.0 all.1
+once-begun d n h = let p = sound-parts d n h in once-begun_all d n 0 d.circuits n.circuits p.same p.circuits

@@ -1,12 +1,13 @@
 //! Laws over the definitions, each the contract of a function with an empty body.
-ghost use Rattle.std.specs.Prelude.{◌≡◌, ◌+◌, ◌++◌, [], ℕ, List, Some, IsTrue};
-ghost use Rattle.std.specs.List.{list_all};
-ghost use Rattle.gts_directory.specs.Directory.{Directory};
-ghost use Rattle.gts_event.specs.State.{State, RoutedOnce, EachRoutedOnce, HasPositions, empty, on_circuit, draws, waiting, next, left_to_give};
-ghost use Rattle.gts_event.specs.History.{Event, Entry, Taken, Draws, Nothing_waits, choice, outcome, outcomes, after, after_all, restarted};
+ghost use Rattle.std.specs.Prelude.{◌≡◌, ◌+◌, ◌<◌, ◌≤◌, ◌++◌, ◌↔◌, [], ℕ, Bool, List, Some, length, filter, nat_lt, IsTrue};
+ghost use Rattle.std.specs.List.{list_all, find};
+ghost use Rattle.gts_event.specs.State.{State, Bulletin, CircuitState, RoutedOnce, EachRoutedOnce, HasPositions, empty, on_circuit, has, draws, drawn, waiting, next, left_to_give, most_accepted};
+ghost use Rattle.gts_event.specs.History.{Event, Entry, Heard, Taken, Draws, Nothing_waits, choice, outcome, outcomes, after, after_all, restarted, with_drawn, with_routed, body_of, heading_of_message};
 ghost use Rattle.gts_event.specs.declared.outcome.Outcome.TheVariants.{Accepted};
 ghost use Rattle.gts_event.specs.Said.{HasLine, line, spoken, said};
-ghost use Rattle.gts_event.specs.Words.{EndsWithNothing, takes_of_drain, all_done, Need, IsOrdered, EachWaitsOrDrawn, IsRoutedAsNamed, need, begun, nothing, is_sound, is_here, keeps_one, SameNeed, Chooses, IsStep, Speaks, IsRestart, stand};
+ghost use Rattle.gts_event.specs.Words.{Directory, Kind, IsFront, EndsWithNothing, EachOwedFew, takes_of_drain, all_done, Need, IsOrdered, EachWaitsOrDrawn, IsRoutedAsNamed, IsNowhereElse, need, begun, begun_circuit, circuit_need, nothing, is_sound, is_circuit_sound, SoundNeed, SoundCircuit, CircuitNeed, is_here, is_bulletin, is_for, keeps_one, IsHeld, WasRead, SameNeed, Chooses, IsStep, Speaks, IsRestart, stand};
+
+use gts_alphabet::LONGEST_BODY;
 
 /// The need of a sound start is that start.
 pub fn a_start_is_its_own_need()
@@ -19,6 +20,31 @@ pub fn states_are_ordered()
     ensures start { (d : Directory) (n : Need) → IsTrue (is_sound d n) → IsOrdered d (begun n) }
     ensures after { (d : Directory) (s : State) (entries : List Entry)
         → IsTrue (keeps_one d) → IsOrdered d s → IsOrdered d (after_all d s entries) }
+    ensures routed { (d : Directory) (s : State) (c p : ℕ)
+        → IsOrdered d s → IsTrue (has (on_circuit s c).routed p) → p < s.count }
+{}
+
+/// The states of a history whose events come on circuits of the directory are held, and so each routes no position twice to
+/// a circuit, and its need is sound as long as no more were accepted than can be.
+pub fn states_are_held()
+    ensures empty { (d : Directory) → IsHeld d (empty d) }
+    ensures start { (d : Directory) (n : Need) → IsTrue (is_sound d n) → IsHeld d (begun n) }
+    ensures after { (d : Directory) (s : State) (entries : List Entry) → IsTrue (keeps_one d)
+        → IsTrue (list_all (is_here d) entries) → IsHeld d s → IsHeld d (after_all d s entries) }
+    ensures once { (d : Directory) (s : State) (c : ℕ)
+        → c < length d.circuits → IsHeld d s → RoutedOnce (on_circuit s c) }
+    ensures sound { (d : Directory) (s : State)
+        → HasPositions s → IsHeld d s → IsTrue (is_sound d (need d s)) }
+{}
+
+/// An accepted message could be read and is no request, and its body and heading are those that were read.
+pub fn an_accepted_message_was_read()
+    ensures read { (d : Directory) (s : State) (c : ℕ) (kind : Kind) (message : List ℕ) (p n : ℕ)
+        → outcome d s (Heard c kind message) ≡ Accepted p n → WasRead d message }
+    ensures body { (d : Directory) (message : List ℕ) (was : WasRead d message)
+        → body_of message ≡ was.parts.body }
+    ensures heading { (d : Directory) (message : List ℕ) (was : WasRead d message)
+        → heading_of_message message ≡ was.parts.heading }
 {}
 
 /// Two histories one after another are one: their outcomes and sayings join, and the second begins where the first ends.
@@ -40,6 +66,29 @@ pub fn what_follows_depends_on_the_need()
         → IsTrue (keeps_one d) → SameNeed d s t → said d s entries ≡ said d t entries }
     ensures after { (d : Directory) (s t : State) (entries : List Entry) → IsTrue (keeps_one d)
         → SameNeed d s t → SameNeed d (after_all d s entries) (after_all d t entries) }
+{}
+
+/// A history that starts with the sound need of a state comes to what the state comes to: what one run leaves, the next
+/// begins with.
+pub fn runs_chain()
+    ensures outcomes { (d : Directory) (s : State) (entries : List Entry)
+        → IsTrue (keeps_one d) → IsOrdered d s → IsTrue (is_sound d (need d s))
+        → outcomes d s entries ≡ outcomes d (begun (need d s)) entries }
+    ensures said { (d : Directory) (s : State) (entries : List Entry)
+        → IsTrue (keeps_one d) → IsOrdered d s → IsTrue (is_sound d (need d s))
+        → said d s entries ≡ said d (begun (need d s)) entries }
+    ensures need { (d : Directory) (s : State) (entries : List Entry) → IsTrue (keeps_one d)
+        → IsOrdered d s → IsTrue (is_sound d (need d s))
+        → need d (after_all d s entries) ≡ need d (after_all d (begun (need d s)) entries) }
+{}
+
+/// What a need begins has the waiting positions of the circuit that it was taken of, and opened again it has the need of
+/// that state opened again.
+pub fn what_a_need_begins_goes_on()
+    ensures waiting { (kept : ℕ) (q : CircuitState)
+        → waiting (begun_circuit (circuit_need kept q)) ≡ waiting q }
+    ensures restarted { (d : Directory) (s : State) → IsTrue (keeps_one d)
+        → need d (restarted (begun (need d s))) ≡ need d (restarted s) }
 {}
 
 /// The same of one step: two states of one need choose the same, come to the same outcome and say the same, and the step
@@ -70,24 +119,48 @@ pub fn a_step_of_one_state_is_one_of_its_need()
         → IsOrdered d s → IsRestart (stand d s) (stand d (restarted s)) }
 {}
 
-/// An accepted bulletin is routed to a circuit exactly where the directory names it; and whatever is routed waits there and
-/// was never drawn, or was drawn once and doesn't wait.
+/// An accepted bulletin is routed to a circuit exactly where the directory names it, and on each other circuit it neither
+/// waits nor is ever drawn; and whatever is routed waits there and was never drawn, or was drawn once and doesn't wait.
 pub fn each_bulletin_waits_or_was_drawn_once()
     ensures routed { (d : Directory) (s : State) (event : Event) (entries : List Entry)
         (p n : ℕ) → IsOrdered d s → outcome d s event ≡ Accepted p n
         → IsRoutedAsNamed d event s.count (after_all d (after d s event) entries) }
+    ensures elsewhere { (d : Directory) (s : State) (event : Event) (entries : List Entry)
+        (p n : ℕ) → IsOrdered d s → outcome d s event ≡ Accepted p n
+        → IsNowhereElse d event s.count (after_all d (after d s event) entries) }
     ensures once { (d : Directory) (entries : List Entry)
         → IsTrue (keeps_one d) → EachWaitsOrDrawn (after_all d (empty d) entries) }
     ensures started { (d : Directory) (n : Need) (entries : List Entry) → IsTrue (keeps_one d)
         → IsTrue (is_sound d n) → EachWaitsOrDrawn (after_all d (begun n) entries) }
 {}
 
-/// A draw is that of the next position, and its index is the number of draws before it.
+/// A draw is that of the next position, its index is the number of draws before it, and nothing is owed then.
 pub fn a_draw_is_the_next()
     ensures position { (d : Directory) (s : State) (c index position : ℕ)
         → choice d s c ≡ Draws index position → next d s (on_circuit s c) ≡ Some position }
     ensures index { (d : Directory) (s : State) (c index position : ℕ)
         → choice d s c ≡ Draws index position → draws (on_circuit s c) ≡ index }
+    ensures unowed { (d : Directory) (s : State) (c index position : ℕ)
+        → choice d s c ≡ Draws index position → (on_circuit s c).owed ≡ [] }
+{}
+
+/// The next position waits, and what waits was routed; a draw leaves one less waiting, and a bulletin that is routed at most
+/// one more.
+pub fn a_step_changes_what_waits_by_one()
+    ensures waits { (d : Directory) (s : State) (q : CircuitState) (p : ℕ)
+        → next d s q ≡ Some p → IsTrue (has (waiting q) p) }
+    ensures routed { (q : CircuitState) (p : ℕ)
+        → IsTrue (has (waiting q) p) → IsTrue (has q.routed p) }
+    ensures one_less { (q : CircuitState) (p : ℕ) → RoutedOnce q → IsTrue (has (waiting q) p)
+        → length (waiting (with_drawn p q)) + 1 ≡ length (waiting q) }
+    ensures one_more { (q : CircuitState) (p : ℕ)
+        → length (waiting (with_routed p q)) ≤ length (waiting q) + 1 }
+{}
+
+/// The draws of a circuit stay, each with its index and position, and more come behind them.
+pub fn the_draws_of_a_circuit_stay()
+    ensures { (d : Directory) (s : State) (entries : List Entry) (c : ℕ)
+        → IsFront (drawn (on_circuit s c)) (drawn (on_circuit (after_all d s entries) c)) }
 {}
 
 /// The frame of a draw stays, whatever follows: a repetition has the bytes of its draw.
@@ -135,4 +208,48 @@ pub fn the_need_of_each_state_is_sound()
     ensures after { (d : Directory) (n : Need) (entries : List Entry) → IsTrue (keeps_one d)
         → IsTrue (is_sound d n) → IsTrue (list_all (is_here d) entries)
         → let s = after_all d (begun n) entries in HasPositions s → IsTrue (is_sound d (need d s)) }
+{}
+
+/// A start is sound exactly where each of its parts is as it must be, and so is a circuit of it.
+pub fn a_sound_start_has_its_parts()
+    ensures start { (d : Directory) (n : Need) → IsTrue (is_sound d n) ↔ SoundNeed d n }
+    ensures circuit { (d : Directory) (n : Need) (c kept : ℕ) (q : CircuitNeed)
+        → IsTrue (is_circuit_sound d n c kept q) ↔ SoundCircuit d n c kept q }
+{}
+
+/// What a sound start has is within its bounds: no more were accepted than can be; a bulletin's position is below the number
+/// accepted, and its body no longer than a body may be; and a position that has its bulletin is below that number too.
+pub fn a_sound_start_is_within_bounds()
+    ensures accepted { (d : Directory) (n : Need)
+        → IsTrue (is_sound d n) → n.accepted ≤ most_accepted }
+    ensures bulletin { (d : Directory) (n : ℕ) (b : Bulletin)
+        → IsTrue (is_bulletin d n b) → (b.position < n) × (length b.body ≤ LONGEST_BODY) }
+    ensures positions { (d : Directory) (n c : ℕ) (bs : List Bulletin) (ps : List ℕ)
+        → IsTrue (list_all (is_bulletin d n) bs) → IsTrue (list_all (is_for d bs c) ps)
+        → IsTrue (list_all (λ p. nat_lt p n) ps) }
+{}
+
+/// What stands in a list of positions: what is found there, what passes a filter of it, and whatever passes where all do. A
+/// filter behind a wider one gives what it gives alone.
+pub fn positions_stand_in_their_lists()
+    ensures found { (test : ℕ → Bool) (ps : List ℕ) (p : ℕ)
+        → find test ps ≡ Some p → IsTrue (has ps p) }
+    ensures filtered { (test : ℕ → Bool) (ps : List ℕ) (p : ℕ)
+        → IsTrue (has (filter test ps) p) → IsTrue (has ps p) × IsTrue (test p) }
+    ensures passes { (test : ℕ → Bool) (ps : List ℕ) (p : ℕ)
+        → IsTrue (list_all test ps) → IsTrue (has ps p) → IsTrue (test p) }
+    ensures weaker { (test weaker : ℕ → Bool) (ps : List ℕ)
+        → ((p : ℕ) → IsTrue (test p) → IsTrue (weaker p))
+        → IsTrue (list_all test ps) → IsTrue (list_all weaker ps) }
+    ensures behind { (wider test : ℕ → Bool) (ps : List ℕ)
+        → ((p : ℕ) → IsTrue (test p) → IsTrue (wider p))
+        → filter test (filter wider ps) ≡ filter test ps }
+{}
+
+/// In no state of a history a circuit is owed more than it may be.
+pub fn no_circuit_is_owed_more_than_may_be()
+    ensures empty { (d : Directory) → EachOwedFew (empty d) }
+    ensures start { (d : Directory) (n : Need) → IsTrue (is_sound d n) → EachOwedFew (begun n) }
+    ensures after { (d : Directory) (s : State) (entries : List Entry)
+        → EachOwedFew s → EachOwedFew (after_all d s entries) }
 {}

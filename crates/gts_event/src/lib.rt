@@ -16,12 +16,15 @@ pub use event::{Entry, Event};
 pub use fault::{Device, SwitchFault};
 pub use items::Items;
 pub use laws::{
-    a_drain_ends_with_the_first_nothing, a_draw_is_the_next, a_start_is_its_own_need,
-    a_step_of_one_state_is_one_of_its_need, each_bulletin_is_routed_once,
-    each_bulletin_waits_or_was_drawn_once, each_step_depends_on_the_need,
-    each_take_leaves_one_less, histories_go_on, nothing_is_given_only_where_nothing_waits,
-    states_are_ordered, the_frame_of_a_draw_stays, the_need_of_each_state_is_sound,
-    what_follows_depends_on_the_need,
+    a_drain_ends_with_the_first_nothing, a_draw_is_the_next, a_sound_start_has_its_parts,
+    a_sound_start_is_within_bounds, a_start_is_its_own_need, a_step_changes_what_waits_by_one,
+    a_step_of_one_state_is_one_of_its_need, an_accepted_message_was_read,
+    each_bulletin_is_routed_once, each_bulletin_waits_or_was_drawn_once,
+    each_step_depends_on_the_need, each_take_leaves_one_less, histories_go_on,
+    no_circuit_is_owed_more_than_may_be, nothing_is_given_only_where_nothing_waits,
+    positions_stand_in_their_lists, runs_chain, states_are_held, states_are_ordered,
+    the_draws_of_a_circuit_stay, the_frame_of_a_draw_stays, the_need_of_each_state_is_sound,
+    what_a_need_begins_goes_on, what_follows_depends_on_the_need,
 };
 pub use outcome::{Outcome, Refusal};
 pub use plain::{Bulletin, Bulletins, Bytes, CircuitNeed, CircuitNeeds, Need, Places};

@@ -19,9 +19,9 @@ pub use decoder::Decoder;
 pub use gts_alphabet::NoMemory;
 pub use kind::Kind;
 pub use laws::{
-    a_frame_is_a_head_and_a_message, a_front_is_what_is_computed, a_written_message_is_framed,
-    bytes_show_what_is_computed, frames_are_told_apart, keep_alives_and_frames_are_told_apart,
-    more_bytes_only_add_signs,
+    a_frame_is_a_head_and_a_message, a_front_is_what_is_computed,
+    a_piece_at_the_front_shows_its_sign, a_written_message_is_framed, bytes_show_what_is_computed,
+    frames_are_told_apart, keep_alives_and_frames_are_told_apart, more_bytes_only_add_signs,
 };
 pub use lost::LostField;
 pub use reading::read_one;

@@ -8,7 +8,7 @@ use Rattle.std.proofs.lemmas.Bool.Decides.{nat_tests}
 use Rattle.std.proofs.lemmas.List.{append-nil, take_at, drop_at, take-take, drop-take, length-take}
 use Rattle.gts_traits.specs.Station.{Outside, Call, Says, Syncs, Tries, said_by, Files, seen, IsImage}
 use Rattle.gts_traits.specs.Moments.{EachSince}
-use Rattle.gts_traits.proofs.MomentsLemmas.{weaker, started, synced, said_is, synced_image, says_keeps}
+use Rattle.gts_traits.proofs.LawLemmas.{weaker, started, synced, said_is, synced_image, says_keeps}
 use Rattle.gts_directory.specs.Directory.{Directory}
 use Rattle.gts_event.specs.State.{State, empty}
 use Rattle.gts_event.specs.History.{after, restarted}
@@ -16,7 +16,7 @@ use Rattle.gts_event.specs.Need.{Need, need}
 use Rattle.gts_record.specs.declared.fault.OpenFault.{OpenFault}
 use Rattle.gts_record.specs.declared.fault.OpenFault.TheVariants.{NoJournal, NotThis, Damaged}
 use Rattle.gts_record.specs.Record.{Record, Accept, Drew, magic, open_gate, closed_gate, record_text, record_size, record_at, IsRecord}
-use Rattle.gts_opening.specs.Journal.{opens, agreeing, need_in, checkpoint_opens, event_of_record, admits, Opened, records_at, file_opens, files_open, selected}
+use Rattle.gts_opening.specs.Journal.{agreeing, need_in, checkpoint_opens, event_of_record, admits, Opened, records_at, file_opens, files_open, selected}
 use Rattle.gts_journal.specs.Hand.{InHand}
 use Rattle.gts_journal.specs.Standing.{EndsAt, StandsOn, file_of, front_of, LeavesEither, HasAppended, entry_at, OnlySyncs}
 use Rattle.gts_journal.specs.Opening.{header_fault, is_checkpoint}

@@ -2,9 +2,9 @@ ghost use Rattle.std.specs.Prelude.{◌≡◌, ◌≤◌, ◌<◌, ◌∷◌, tr
 ghost use Rattle.gts_traits.specs.{HasCause, Rose, Did, Syncs, seen};
 ghost use Rattle.gts_record.specs.Record.{magic};
 ghost use Rattle.gts_opening.specs.Journal as opened;
-ghost use Rattle.gts_journal.specs.{StandsOn, OnlySyncs, header_fault, selected_bytes, first_fault, IsFaultOf};
+ghost use Rattle.gts_journal.specs.{StandsOn, file_of, is_checkpoint, is_at_checkpoint, OnlySyncs, header_fault, selected_bytes, first_fault, IsFaultOf};
 
-use crate::{AHEAD, HEADER, Journal};
+use crate::{AHEAD, HEADER, Journal, OPEN};
 use gts_record::OpenFault;
 use gts_traits::{Failed, Station};
 use std::alloc::{AllocError, Global};
@@ -108,8 +108,8 @@ fn zeros(alloc: Global, size: usize) -> Result<Vec<u8>, AllocError>
 }
 
 impl Journal {
-    /// Opens the journal: syncs, selects the file, and checks its header under this mark. It takes all the memory that a
-    /// journal ever needs.
+    /// Opens the journal: syncs, selects the file, checks its header under this mark, and reads ahead. It takes all the
+    /// memory that a journal ever needs, and takes it first.
     pub fn start<P: Station>(
         alloc: Global,
         station: &mut P,
@@ -130,6 +130,10 @@ impl Journal {
             → Rose (P.disk_faults station.old) (P.disk_faults station.new) }
         ensures later { P.disk_faults station.old ≤ P.disk_faults station.new }
         ensures say { P.say_faults station.new ≡ P.say_faults station.old }
+
+        // What was read ahead tells whether the journal begins with a checkpoint.
+        ensures checkpoint { P.tells → IfOk result
+            (λ j. is_checkpoint (file_of (P.calls station.new) j) ≡ is_at_checkpoint j) }
     {
         let Ok(buffer) = zeros(alloc, AHEAD) else {
             return Err(OpenFault::NoMemory);
@@ -141,7 +145,7 @@ impl Journal {
             Ok(file) => file,
             Err(fault) => return Err(fault),
         };
-        Ok(Journal {
+        let mut journal = Journal {
             file,
             gate: HEADER as u64,
             ended: false,
@@ -149,6 +153,19 @@ impl Journal {
             begin: 0,
             end: 0,
             is_all: false,
-        })
+        };
+        let Ok(_) = journal.ready(station) else {
+            return Err(OpenFault::DiskFault);
+        };
+        Ok(journal)
+    }
+
+    /// Whether an open gate and the first byte of a checkpoint stand first in what was read ahead: after `start`, whether
+    /// the journal begins with a checkpoint.
+    pub fn at_checkpoint(&self) -> bool
+        ensures { result ≡ is_at_checkpoint self.now }
+    {
+        let ahead = &self.buffer[self.begin..self.end];
+        ahead.starts_with(&[OPEN, b'C'])
     }
 }

@@ -44,7 +44,7 @@ impl Journal {
     }
 
     // Sees to it that the gate and a record behind it are read ahead, where they are there.
-    fn ready<P: Station>(&mut self, station: &mut P) -> Result<(), Failed>
+    pub(crate) fn ready<P: Station>(&mut self, station: &mut P) -> Result<(), Failed>
         ensures place { self.new
             ≡ record self.old { ahead = self.new.ahead; is_all = self.new.is_all } }
         ensures enough { OnOk result

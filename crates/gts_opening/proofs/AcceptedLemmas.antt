@@ -1,8 +1,8 @@
 -- An accepted bulletin is written as its record.
-use Rattle.std.proofs.Common.{◌≡◌, ℕ, suc, ◌+◌, ◌*◌, ◌^◌, ◌<◌, ◌≤◌, Bool, true, false, not, ◌==◌, nat_le, nat_lt, cond, List, [], ◌∷◌, ◌++◌, length, map, filter, Option, Some, None, Result, Ok, Err, inl, refl, sym, ap, ◌∙◌, arith}
+use Rattle.std.proofs.Common.{◌≡◌, ℕ, suc, ◌+◌, ◌*◌, ◌^◌, ◌<◌, ◌≤◌, Bool, true, false, ◌==◌, nat_le, nat_lt, cond, List, [], ◌∷◌, ◌++◌, length, map, filter, Option, Some, None, Result, Ok, Err, inl, refl, sym, ap, ◌∙◌, arith}
 use Rattle.std.specs.Prelude.{codes, is_none, count_by}
 use Rattle.std.specs.List.{sum_by, enumerate_from, range_with_len}
-use Rattle.std.proofs.lemmas.Bool.{eq-eqb, le-leb, lt-ltb, ltb-false, eqb-false}
+use Rattle.std.proofs.lemmas.Bool.{and_from, eq-eqb, le-leb, lt-ltb, ltb-false, eqb-false}
 use Rattle.std.proofs.lemmas.List.Sums.{sum_by-cons}
 use Rattle.gts_alphabet.specs.Digits.{dec}
 use Rattle.gts_alphabet.specs.Message.{message_of}
@@ -19,13 +19,15 @@ use Rattle.gts_event.specs.declared.outcome.Outcome.TheVariants.{Accepted, Dupli
 use Rattle.gts_event.specs.declared.outcome.Refusal.TheVariants.{Message, Many}
 use Rattle.gts_directory.specs.Directory.{Directory, named, is_named}
 use Rattle.gts_request.specs.Request.{Item, request_at}
+use Rattle.gts_event.specs.Need.{IsOrdered}
 use Rattle.gts_event.specs.State.{most_accepted, State, CircuitState, Bulletin, on_circuit, has, waiting, duplicate, no_heading}
 use Rattle.gts_event.specs.declared.event.Event.TheVariants.{Heard}
-use Rattle.gts_event.specs.History.{is_request, places, found, most_owed, body_of, heading_of_message, answer_to, verdict, outcome, with_bulletin, after, after_heard}
+use Rattle.gts_event.specs.History.{is_request, places, found, most_owed, body_of, heading_of_message, answer_to, verdict, outcome, with_routed, with_bulletin, after, after_heard}
 use Rattle.gts_opening.specs.Journal.{event_of_record, due, is_outcome, is_result}
 use Rattle.gts_record.specs.Record.{Record, Accept, record_text, record_size}
 use Rattle.gts_opening.specs.Room.{room}
-use Rattle.gts_event.proofs.StateLemmas.{both_true, has_filter, routed, IsHeld, WasRead, body-read, heading_of_message-read}
+use Rattle.gts_event.specs.Held.{WasRead}
+use Rattle.gts_event.proofs.LawLemmas.{has_filter, waits_one_more, body-read, heading_of_message-read}
 use Rattle.gts_opening.proofs.DrawnLemmas.{bare, bare_state, due-bare, StepOk}
 
 -- ---- bulletins
@@ -89,13 +91,13 @@ outcome-again d s c kind message p n a =
     ∙ ap (λ (x : ℕ). Accepted x (length (named d c parts.heading))) a.at ∙ ap (Accepted p) a.many
 
 routed-bare : (cs : List ℕ) (n m : ℕ) (qs : List CircuitState)
-    → map (λ q. cond (has cs q.0) (routed n q.1) q.1) (enumerate_from m (map bare qs)) ≡ map bare (map (λ q. cond (has cs q.0) (routed n q.1) q.1) (enumerate_from m qs))
+    → map (λ q. cond (has cs q.0) (with_routed n q.1) q.1) (enumerate_from m (map bare qs)) ≡ map bare (map (λ q. cond (has cs q.0) (with_routed n q.1) q.1) (enumerate_from m qs))
 routed-bare cs n m [] = refl
 routed-bare cs n m (q ∷ qs) =
-    ap (λ (r : CircuitState). r ∷ map (λ x. cond (has cs x.0) (routed n x.1) x.1) (enumerate_from (m + 1) (map bare qs))) (either (has cs m))
-    ∙ ap (λ (rs : List CircuitState). bare (cond (has cs m) (routed n q) q) ∷ rs) (routed-bare cs n (m + 1) qs)
+    ap (λ (r : CircuitState). r ∷ map (λ x. cond (has cs x.0) (with_routed n x.1) x.1) (enumerate_from (m + 1) (map bare qs))) (either (has cs m))
+    ∙ ap (λ (rs : List CircuitState). bare (cond (has cs m) (with_routed n q) q) ∷ rs) (routed-bare cs n (m + 1) qs)
   where
-    either : (b : Bool) → cond b (routed n (bare q)) (bare q) ≡ bare (cond b (routed n q) q)
+    either : (b : Bool) → cond b (with_routed n (bare q)) (bare q) ≡ bare (cond b (with_routed n q) q)
     either true = refl
     either false = refl
 
@@ -118,50 +120,34 @@ after-bare_accepted d s c kind message p n a =
     }) (routed-bare cs s.count 0 s.circuits)
 
 -- no more draws are due than one for each circuit named
-waits_more : (q : CircuitState) (n : ℕ) → length (waiting (routed n q)) ≤ length (waiting q) + 1
-waits_more q n = go q.routed
-  where
-    go : (ps : List ℕ) → length (filter (λ r. not (has q.taken r)) (ps ++ n ∷ [])) ≤ length (filter (λ r. not (has q.taken r)) ps) + 1
-    go [] = last (not (has q.taken n))
-      where
-        last : (b : Bool) → length (cond b (n ∷ []) []) ≤ 0 + 1
-        last true = omega arith
-        last false = omega arith
-    go (p ∷ ps) = first (not (has q.taken p)) (go ps)
-      where
-        first : (b : Bool) → length (filter (λ r. not (has q.taken r)) (ps ++ n ∷ [])) ≤ length (filter (λ r. not (has q.taken r)) ps) + 1
-            → length (cond b (p ∷ filter (λ r. not (has q.taken r)) (ps ++ n ∷ [])) (filter (λ r. not (has q.taken r)) (ps ++ n ∷ []))) ≤ length (cond b (p ∷ filter (λ r. not (has q.taken r)) ps) (filter (λ r. not (has q.taken r)) ps)) + 1
-        first true e = omega (arith, e)
-        first false e = e
-
 abbrev pub waits_of : CircuitState → ℕ
 waits_of q = length (waiting q)
 
 due-routed : (f : ℕ → Bool) (cs : List ℕ) (n m : ℕ) (qs : List CircuitState) → ((e : ℕ) → has cs e ≡ true → f e ≡ true)
-    → sum_by waits_of (map (λ q. cond (has cs q.0) (routed n q.1) q.1) (enumerate_from m qs)) ≤ sum_by waits_of qs + length (filter f (range_with_len m (length qs)))
+    → sum_by waits_of (map (λ q. cond (has cs q.0) (with_routed n q.1) q.1) (enumerate_from m qs)) ≤ sum_by waits_of qs + length (filter f (range_with_len m (length qs)))
 due-routed f cs n m [] h = omega arith
 due-routed f cs n m (q ∷ qs) h =
     let more = due-routed f cs n (m + 1) qs h in
-    let tail : List CircuitState = map (λ x. cond (has cs x.0) (routed n x.1) x.1) (enumerate_from (m + 1) qs) in
-    let a = sum_by-cons waits_of (cond (has cs m) (routed n q) q) tail in
+    let tail : List CircuitState = map (λ x. cond (has cs x.0) (with_routed n x.1) x.1) (enumerate_from (m + 1) qs) in
+    let a = sum_by-cons waits_of (cond (has cs m) (with_routed n q) q) tail in
     let b = sum_by-cons waits_of q qs in
     go (has cs m) refl (f m) refl more a b
   where
     go : (t : Bool) → has cs m ≡ t → (u : Bool) → f m ≡ u
-        → sum_by waits_of (map (λ x. cond (has cs x.0) (routed n x.1) x.1) (enumerate_from (m + 1) qs)) ≤ sum_by waits_of qs + length (filter f (range_with_len (m + 1) (length qs)))
-        → sum_by waits_of (cond (has cs m) (routed n q) q ∷ map (λ x. cond (has cs x.0) (routed n x.1) x.1) (enumerate_from (m + 1) qs))
-        ≡ waits_of (cond (has cs m) (routed n q) q) + sum_by waits_of (map (λ x. cond (has cs x.0) (routed n x.1) x.1) (enumerate_from (m + 1) qs))
+        → sum_by waits_of (map (λ x. cond (has cs x.0) (with_routed n x.1) x.1) (enumerate_from (m + 1) qs)) ≤ sum_by waits_of qs + length (filter f (range_with_len (m + 1) (length qs)))
+        → sum_by waits_of (cond (has cs m) (with_routed n q) q ∷ map (λ x. cond (has cs x.0) (with_routed n x.1) x.1) (enumerate_from (m + 1) qs))
+        ≡ waits_of (cond (has cs m) (with_routed n q) q) + sum_by waits_of (map (λ x. cond (has cs x.0) (with_routed n x.1) x.1) (enumerate_from (m + 1) qs))
         → sum_by waits_of (q ∷ qs) ≡ waits_of q + sum_by waits_of qs
-        → sum_by waits_of (cond (has cs m) (routed n q) q ∷ map (λ x. cond (has cs x.0) (routed n x.1) x.1) (enumerate_from (m + 1) qs))
+        → sum_by waits_of (cond (has cs m) (with_routed n q) q ∷ map (λ x. cond (has cs x.0) (with_routed n x.1) x.1) (enumerate_from (m + 1) qs))
         ≤ sum_by waits_of (q ∷ qs) + length (cond (f m) (m ∷ filter f (range_with_len (m + 1) (length qs))) (filter f (range_with_len (m + 1) (length qs))))
     go true e true g more a b =
-        let here : waits_of (cond (has cs m) (routed n q) q) ≡ waits_of (routed n q) = ap (λ (t : Bool). waits_of (cond t (routed n q) q)) e in
+        let here : waits_of (cond (has cs m) (with_routed n q) q) ≡ waits_of (with_routed n q) = ap (λ (t : Bool). waits_of (cond t (with_routed n q) q)) e in
         let one : length (cond (f m) (m ∷ filter f (range_with_len (m + 1) (length qs))) (filter f (range_with_len (m + 1) (length qs)))) ≡ suc (length (filter f (range_with_len (m + 1) (length qs)))) =
         ap (λ (t : Bool). length (cond t (m ∷ filter f (range_with_len (m + 1) (length qs))) (filter f (range_with_len (m + 1) (length qs))))) g in
-        omega (arith, more, a, b, here, one, waits_more q n)
+        omega (arith, more, a, b, here, one, waits_one_more q n)
     go true e false g more a b = absurd (let x : f m ≡ true = h m e in cc)
     go false e u g more a b =
-        let here : waits_of (cond (has cs m) (routed n q) q) ≡ waits_of q = ap (λ (t : Bool). waits_of (cond t (routed n q) q)) e in
+        let here : waits_of (cond (has cs m) (with_routed n q) q) ≡ waits_of q = ap (λ (t : Bool). waits_of (cond t (with_routed n q) q)) e in
         omega (arith, more, a, b, here, longer u g)
       where
         longer : (u : Bool) → f m ≡ u → length (filter f (range_with_len (m + 1) (length qs))) ≤ length (cond (f m) (m ∷ filter f (range_with_len (m + 1) (length qs))) (filter f (range_with_len (m + 1) (length qs))))
@@ -196,7 +182,7 @@ length-accept c An p body = omega arith
 length-accept c Bi p body = omega arith
 length-accept c Fx p body = omega arith
 
-pub accept_ok : (d : Directory) (s : State) (c : ℕ) (kind : Kind) (message : List ℕ) (p n gate : ℕ) → IsHeld d s → nat_lt c (length d.circuits) ≡ true → outcome d s (Heard c kind message) ≡ Accepted p n
+pub accept_ok : (d : Directory) (s : State) (c : ℕ) (kind : Kind) (message : List ℕ) (p n gate : ℕ) → IsOrdered d s → nat_lt c (length d.circuits) ≡ true → outcome d s (Heard c kind message) ≡ Accepted p n
     → room d s (gate + 1) (Heard c kind message) (Accepted p n) ≡ None → s.count ≤ 2 ^ 62
     → StepOk d s gate (Accept c kind p (body_of message) ∷ []) (with_bulletin s c kind (body_of message) (named d c (heading_of_message message))) (17 + length (body_of message))
 accept_ok d s c kind message p n gate h here e free few =
@@ -209,15 +195,15 @@ accept_ok d s c kind message p n gate h here e free few =
     let less : s.count < 2 ^ 62 = let ne = r_is.few in omega (arith, few, ne) in
     let then = after-bare_accepted d s c kind message p n a in
     let many : length (named d c (heading_of_message message)) ≡ n = ap (λ (x : HeadingFields). length (named d c x)) (heading_of_message-read d message a.was) ∙ a.many in
-    let more = due-accepted d s c kind body (heading_of_message message) h.ordered.circuits in
+    let more = due-accepted d s c kind body (heading_of_message message) h.circuits in
     let fits = r_is.fits in
     let within : nat_le (gate + 1 + record_size r + 24 * due (after d (bare_state s) (event_of_record r))) d.limit ≡ true =
     le-leb _ d.limit (omega (arith, fits, len, many, more, ap due then, due-bare t)) in
     let result : is_result d (bare_state s) r ≡ true =
-    both_true _ (nat_lt s.count (2 ^ 62)) (ap (is_outcome r) (outcome-again d s c kind message p n a) ∙ eq-eqb p p refl) (lt-ltb s.count (2 ^ 62) less) in
+    and_from _ (nat_lt s.count (2 ^ 62)) (ap (is_outcome r) (outcome-again d s c kind message p n a) ∙ eq-eqb p p refl) (lt-ltb s.count (2 ^ 62) less) in
     let short = (split_takes message a.was.parts a.was.read).short in
     record {
-      admitted = ((omega (arith, less, a.at), omega (arith, short, ap length (body-read d message a.was))), both_true _ _ (both_true _ _ here result) within, tt);
+      admitted = ((omega (arith, less, a.at), omega (arith, short, ap length (body-read d message a.was))), and_from _ _ (and_from _ _ here result) within, tt);
       after = then;
       gate_is = omega (arith, len);
       room = omega (arith, fits, many, more);

@@ -16,7 +16,8 @@ use Rattle.gts_traits.specs.Station.{Says, Call, Did, Broken, Files, Tries, seen
 use Rattle.gts_traits.specs.declared.failed.Failed.{Failed}
 use Rattle.gts_traits.specs.Moments.{MayLeave, EachSince}
 use Rattle.gts_opening.specs.Leaving.{StandsIn, IsNext, IsJournal, last_gate, appended, OpensToEither}
-use Rattle.gts_event.proofs.StateLemmas.{IsHeld, held-begun, held-empty, sound-few}
+use Rattle.gts_event.specs.Held.{IsHeld}
+use Rattle.gts_event.proofs.LawLemmas.{held-begun, held-empty, sound-few}
 use Rattle.gts_opening.proofs.WrittenLemmas.{written, journal_opens, due-empty}
 use Rattle.gts_opening.proofs.CrashLemmas.{Appending, append_leaves, append_done}
 

@@ -15,7 +15,7 @@ use Rattle.gts_record.specs.Record.{open_gate, closed_gate}
 use Rattle.gts_opening.specs.Room.{AllHadRoom, WithCheckpoint, full_compacted}
 use Rattle.gts_opening.specs.Leaving.{StandsIn, compacting, other_file, compacted_text, OpensTo}
 use Rattle.gts_opening.proofs.DiskLemmas.{Same, touched_during, now, during, exact, this_written, other_written, or_both, and_first, take_none}
-use Rattle.gts_event.proofs.StateLemmas.{held-all, sound-held}
+use Rattle.gts_event.proofs.LawLemmas.{held-all, sound-held}
 use Rattle.gts_opening.proofs.FileLemmas.{compacted_opened, room_for, due-left}
 use Rattle.gts_opening.proofs.WrittenLemmas.{written}
 use Rattle.gts_opening.proofs.AppendLemmas.{begins, selected_few, selected-same, opens_old}

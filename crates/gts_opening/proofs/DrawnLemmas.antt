@@ -1,18 +1,22 @@
 -- A draw is written as its record.
-use Rattle.std.proofs.Common.{◌≡◌, ℕ, zero, suc, ◌+◌, ◌*◌, ◌^◌, ◌<◌, ◌≤◌, Bool, true, false, not, ◌&&◌, ◌==◌, nat_le, nat_lt, List, [], ◌∷◌, length, get_or, set, map, refl, sym, ap, ◌∙◌, arith}
+use Rattle.std.proofs.Common.{◌≡◌, ℕ, zero, suc, ◌+◌, ◌*◌, ◌^◌, ◌<◌, ◌≤◌, Bool, true, false, ◌&&◌, ◌==◌, nat_le, nat_lt, List, [], ◌∷◌, length, get_or, set, map, refl, sym, ap, ◌∙◌, arith}
 use Rattle.std.specs.List.{fold}
-use Rattle.std.proofs.lemmas.Bool.{eq-eqb, le-leb, ltb-true}
+use Rattle.std.proofs.lemmas.Bool.{and_from, eq-eqb, le-leb, ltb-true}
 use Rattle.std.proofs.lemmas.List.{map-set}
 use Rattle.std.proofs.lemmas.List.Sums.{sum_by-set}
 use Rattle.std.proofs.Math.Seq.{map-set_same}
 use Rattle.gts_directory.specs.Directory.{Directory}
 use Rattle.gts_event.specs.State.{State, CircuitState, idle, on_circuit, has, draws, waiting, next}
 use Rattle.gts_event.specs.declared.event.Event.TheVariants.{Taken}
-use Rattle.gts_event.specs.History.{Choice, choice, choice_of, Repeats, Draws, Nothing_waits, after, after_take, owed_last, restarted}
+use Rattle.gts_event.specs.History.{Choice, choice, choice_of, Repeats, Draws, Nothing_waits, after, after_take, with_drawn, owed_last, restarted}
 use Rattle.gts_opening.specs.Journal.{due, is_result, AreAdmitted, after_records, gate_after}
 use Rattle.gts_record.specs.Record.{Record, Drew, record_size}
 use Rattle.gts_opening.specs.Room.{room}
-use Rattle.gts_event.proofs.StateLemmas.{both_true, has_filter, owing, drew, draws_waiting, find_passes, draws_unowed, list_all-has, draws_index, waits_one_less, often-climbs, IsHeld, get_below}
+use Rattle.gts_event.specs.Held.{IsHeld}
+use Rattle.gts_event.proofs.LawLemmas.{draw_position, draw_index, draw_unowed, next_waits, waiting_routed, routed_below, held_once, waits_one_less}
+
+abbrev owing : List ℕ → CircuitState → CircuitState
+owing os q = record q { owed = os }
 
 -- ---- a state with nothing owed
 
@@ -38,7 +42,7 @@ due-bare s = bare_due 0 s.circuits
 abbrev pub SameBare : State → State → Type 0
 SameBare s t = (bare_state t ≡ bare_state s) × (t.count ≡ s.count)
 
-same_due : (s t : State) → SameBare s t → due t ≡ due s
+pub same_due : (s t : State) → SameBare s t → due t ≡ due s
 same_due s t h = sym (due-bare t) ∙ ap due h.0 ∙ due-bare s
 
 pub bare-set : (s : State) (c : ℕ) (os : List ℕ) → SameBare s (record s { circuits = set s.circuits c (owing os (on_circuit s c)) })
@@ -68,17 +72,17 @@ silent d s t gate h room few = record { admitted = tt; after = sym h.0; gate_is 
 
 -- ---- draws
 
-choice-bare : (d : Directory) (s : State) (c i p : ℕ) → choice d s c ≡ Draws i p → choice d (bare_state s) c ≡ Draws i p
+pub choice-bare : (d : Directory) (s : State) (c i p : ℕ) → choice d s c ≡ Draws i p → choice d (bare_state s) c ≡ Draws i p
 choice-bare d s c i p e =
     let q : CircuitState = on_circuit s c in
     ap (λ (r : CircuitState). choice_of r.owed (next d (bare_state s) r) (draws r)) (get_or-bare s.circuits c)
-    ∙ sym (ap (λ (os : List ℕ). choice_of os (next d s q) (draws q)) (draws_unowed q.owed (next d s q) (draws q) i p e)) ∙ e
+    ∙ sym (ap (λ (os : List ℕ). choice_of os (next d s q) (draws q)) (draw_unowed d s c i p e)) ∙ e
 
-after-bare_draw : (d : Directory) (s : State) (c i p : ℕ) → choice d s c ≡ Draws i p → after d (bare_state s) (Taken c) ≡ bare_state (after_take s c (Draws i p))
+pub after-bare_draw : (d : Directory) (s : State) (c i p : ℕ) → choice d s c ≡ Draws i p → after d (bare_state s) (Taken c) ≡ bare_state (after_take s c (Draws i p))
 after-bare_draw d s c i p e =
     ap (after_take (bare_state s) c) (choice-bare d s c i p e)
-    ∙ ap (λ (q : CircuitState). record s { circuits = set (map bare s.circuits) c (drew p q) }) (get_or-bare s.circuits c)
-    ∙ ap (λ (qs : List CircuitState). record s { circuits = qs }) (sym (map-set bare s.circuits c (drew p (on_circuit s c))))
+    ∙ ap (λ (q : CircuitState). record s { circuits = set (map bare s.circuits) c (with_drawn p q) }) (get_or-bare s.circuits c)
+    ∙ ap (λ (qs : List CircuitState). record s { circuits = qs }) (sym (map-set bare s.circuits c (with_drawn p (on_circuit s c))))
 
 pub draw_ok : (d : Directory) (s : State) (c i p gate : ℕ) → IsHeld d s → nat_lt c (length d.circuits) ≡ true → choice d s c ≡ Draws i p → gate + 1 + 24 * due s ≤ d.limit → s.count ≤ 2 ^ 62
     → StepOk d s gate (Drew c p i ∷ []) (after_take s c (Draws i p)) 24
@@ -88,19 +92,19 @@ draw_ok d s c i p gate h here e room few =
     let r : Record = Drew c p i in
     let lt : c < length d.circuits = ltb-true c (length d.circuits) here in
     let a = h.each c lt in
-    let w : has (waiting q) p ≡ true = find_passes _ (waiting q) p (draws_waiting q.owed (next d s q) (draws q) i p e) in
-    let less = waits_one_less q p (λ x. often-climbs x q.routed a.up) w in
-    let sum = sum_by-set (λ (x : CircuitState). length (waiting x)) s.circuits c (drew p q) idle (omega (arith, lt, h.ordered.circuits)) in
+    let w : has (waiting q) p ≡ true = next_waits d s q p (draw_position d s c i p e) in
+    let less = waits_one_less q p (held_once d s c lt h) w in
+    let sum = sum_by-set (λ (x : CircuitState). length (waiting x)) s.circuits c (with_drawn p q) idle (omega (arith, lt, h.ordered.circuits)) in
     let due_less : due t + 1 ≡ due s = omega (arith, sum, less) in
     let then = after-bare_draw d s c i p e in
-    let index : draws q ≡ i = draws_index q.owed (next d s q) (draws q) i p e in
-    let bound : p < s.count = ltb-true p s.count (list_all-has (λ x. nat_lt x s.count) q.routed p (get_below s.count s.circuits c h.ordered.below) (has_filter (λ x. not (has q.taken x)) q.routed p w).0) in
+    let index : draws q ≡ i = draw_index d s c i p e in
+    let bound : p < s.count = routed_below d s c p h.ordered (waiting_routed q p w) in
     let within : nat_le (gate + 1 + record_size r + 24 * due (after d (bare_state s) (Taken c))) d.limit ≡ true =
     le-leb _ d.limit (omega (arith, room, due_less, ap due then, due-bare t)) in
     let result : is_result d (bare_state s) r ≡ true =
-    ap (λ (ch : Choice). elim ch as (λ _. Bool) [ Repeats k ↦ false | Draws k x ↦ (i == k) && (p == x) | Nothing_waits ↦ false ]) (choice-bare d s c i p e) ∙ both_true (i == i) (p == p) (eq-eqb i i refl) (eq-eqb p p refl) in
+    ap (λ (ch : Choice). elim ch as (λ _. Bool) [ Repeats k ↦ false | Draws k x ↦ (i == k) && (p == x) | Nothing_waits ↦ false ]) (choice-bare d s c i p e) ∙ and_from (i == i) (p == p) (eq-eqb i i refl) (eq-eqb p p refl) in
     record {
-      admitted = ((omega (arith, bound, few), omega (arith, index, a.few, few)), both_true _ _ (both_true _ _ here result) within, tt);
+      admitted = ((omega (arith, bound, few), omega (arith, index, a.few, few)), and_from _ _ (and_from _ _ here result) within, tt);
       after = then;
       gate_is = omega arith;
       room = omega (arith, room, due_less);

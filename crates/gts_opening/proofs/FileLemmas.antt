@@ -1,15 +1,15 @@
 -- A file of a checkpoint and records opens to what they stand for.
-use Rattle.std.proofs.Common.{◌≡◌, ℕ, suc, ◌+◌, ◌-◌, ◌*◌, ◌^◌, ◌<◌, ◌≤◌, min, Bool, true, false, not, ◌&&◌, ◌||◌, ◌==◌, nat_eq, nat_le, nat_lt, List, [], ◌∷◌, ◌++◌, length, take, drop, map, zip, cond, Some, None, Result, Ok, Err, refl, sym, ap, ◌∙◌, arith}
-use Rattle.std.specs.List.{fold, list_any, list_all, flat_map, enumerate_from, range_with_len, starts_with, AllByRecursion}
+use Rattle.std.proofs.Common.{◌≡◌, ℕ, suc, ◌+◌, ◌-◌, ◌*◌, ◌^◌, ◌<◌, ◌≤◌, Bool, true, false, ◌&&◌, ◌||◌, ◌==◌, nat_eq, nat_le, nat_lt, List, [], ◌∷◌, ◌++◌, length, take, drop, map, zip, cond, Some, None, Result, Ok, Err, inl, inr, refl, sym, ap, ◌∙◌, arith}
+use Rattle.std.specs.List.{fold, list_any, list_all, flat_map, enumerate_from, starts_with, AllByRecursion}
 use Rattle.std.specs.Cmp.Lexicographic.{pointwise}
-use Rattle.std.proofs.lemmas.Bool.{eqb-true, eq-eqb, ne_eqb, leb-true, le-leb, ltb-true, ltb-false, le-ltb}
+use Rattle.std.proofs.lemmas.Bool.{and_parts, and_from, cases_eq, eq-eqb, ne_eqb, le-leb, ltb-true, ltb-false, le-ltb}
+use Rattle.std.proofs.lemmas.List.Folds.{list_all-append}
 use Rattle.std.proofs.lemmas.List.{length-append, length-map, append_assoc, drop-drop}
 use Rattle.std.proofs.Math.Seq.{take-append_seam, drop-append_seam}
-use Rattle.gts_alphabet.specs.declared.limits.TheConstants.{LONGEST_BODY}
 use Rattle.gts_directory.specs.Directory.{Directory, Circuit}
 use Rattle.gts_event.specs.State.{State, CircuitState, Bulletin, empty, has, waiting}
-use Rattle.gts_event.specs.History.{most_owed, owed_last, restarted}
-use Rattle.gts_event.specs.Need.{Need, CircuitNeed, need, begun, begun_circuit, is_needed, is_sound, is_circuit_sound, is_bulletin, is_for, is_distinct, ascends, owes_kept, keeps_one, IsOrdered}
+use Rattle.gts_event.specs.History.{owed_last, restarted}
+use Rattle.gts_event.specs.Need.{Need, CircuitNeed, need, circuit_need, begun, begun_circuit, is_needed, is_sound, is_circuit_sound, is_bulletin, keeps_one, IsOrdered}
 use Rattle.gts_record.specs.declared.fault.OpenFault.{OpenFault}
 use Rattle.gts_event.specs.declared.fault.SwitchFault.TheVariants.{Full}
 use Rattle.gts_opening.specs.Room.{full_compacted}
@@ -17,10 +17,13 @@ use Rattle.gts_record.specs.declared.fault.OpenFault.TheVariants.{NoJournal, Not
 use Rattle.gts_traits.specs.Disk.{Files}
 use Rattle.gts_opening.specs.Journal.{selected, opens, due, bulletin_text, circuit_text, checkpoint_text, need_in, compacted_bytes, admits_checkpoint, Opened, agreeing, records_at, file_opens, AreAdmitted, after_records, gate_after, unowed_circuit, unowed, FitsBulletin, FitsCircuit, FitsNeed}
 use Rattle.gts_record.specs.Record.{Record, Accept, Drew, record_text, open_gate, magic, bytes_of, file_text}
-use Rattle.gts_event.proofs.StateLemmas.{and_true, both_true, list_all_more, list_all-parts, all-below, waiting-left, needs_of, restarted-left, eq_turned, bulletin-parts}
+use Rattle.gts_event.proofs.LawLemmas.{list_all_more, sound-parts, sound-from, circuit-parts, circuit-from, all-below, waiting-left, restarted-left, bulletin_bounds}
 use Rattle.gts_record.proofs.LawLemmas.{same_bytes, starts_with-append}
 use Rattle.gts_opening.proofs.JournalLemmas.{records_open}
 use Rattle.gts_opening.proofs.CheckpointLemmas.{need_in-text, length-numbers}
+
+eq_turned : (a b : ℕ) → (a == b) ≡ (b == a)
+eq_turned a b = elim (cases_eq a b) [ inl same ↦ eq-eqb a b same ∙ sym (eq-eqb b a (sym same)) | inr other ↦ ne_eqb a b other ∙ sym (ne_eqb b a (λ e. other (sym e))) ]
 
 -- ---- nothing is owed in a checkpoint
 
@@ -28,57 +31,19 @@ needed-unowed : (p : ℕ) (cs : List CircuitNeed) → list_any (λ c. has c.wait
 needed-unowed p [] = refl
 needed-unowed p (c ∷ cs) = ap (λ (b : Bool). has c.waiting p || has c.kept p || b) (needed-unowed p cs)
 
-record CircuitParts (d : Directory) (n : Need) (c k : ℕ) (q : CircuitNeed) : Type 0 where
-  few : q.draws + length q.waiting ≤ n.accepted
-  known : list_all (is_for d n.bulletins c) (q.waiting ++ q.kept) ≡ true
-  front : Bool
-  first : front ≡ true
-  whole : (os : List ℕ) → is_circuit_sound d n c k (record q { owed = os }) ≡ (front && nat_le (length os) most_owed && owes_kept (record q { owed = os }))
-
-circuit-parts : (d : Directory) (n : Need) (c k : ℕ) (q : CircuitNeed) → is_circuit_sound d n c k q ≡ true → CircuitParts d n c k q
-circuit-parts d n c k q h =
-    let h1 = and_true _ (owes_kept q) h in
-    let h2 = and_true _ (nat_le (length q.owed) most_owed) h1.0 in
-    let h3 = and_true _ (list_all (is_for d n.bulletins c) (q.waiting ++ q.kept)) h2.0 in
-    let h4 = and_true _ (list_all (λ position. not (has q.kept position)) q.waiting) h3.0 in
-    let h5 = and_true _ (is_distinct q.kept) h4.0 in
-    let h6 = and_true _ (ascends q.waiting) h5.0 in
-    let h7 = and_true (nat_le (q.draws + length q.waiting) n.accepted) _ h6.0 in
-    record { few = leb-true (q.draws + length q.waiting) n.accepted h7.0; known = h3.1; front = _; first = h2.0; whole = λ os. refl }
-
-circuit-unowed : (d : Directory) (n m : Need) (c k : ℕ) (q : CircuitNeed) → is_circuit_sound d n c k q ≡ true → is_circuit_sound d (unowed n) c k (unowed_circuit q) ≡ true
-circuit-unowed d n m c k q h = let p = circuit-parts d n c k q h in p.whole [] ∙ both_true _ _ (both_true p.front (nat_le 0 most_owed) p.first refl) refl
+circuit-unowed : (d : Directory) (n : Need) (c k : ℕ) (q : CircuitNeed) → is_circuit_sound d n c k q ≡ true → is_circuit_sound d (unowed n) c k (unowed_circuit q) ≡ true
+circuit-unowed d n c k q h =
+    let p = circuit-parts d n c k q h in
+    circuit-from d (unowed n) c k (unowed_circuit q)
+    (record { few = p.few; size = p.size; up = p.up; distinct = p.distinct; apart = p.apart; known = p.known; owes_few = omega arith; owes = refl })
 
 circuits-unowed : (d : Directory) (n : Need) (c : ℕ) (rows : List Circuit) (qs : List CircuitNeed) → list_all (λ row. is_circuit_sound d n row.0 row.1.0.kept row.1.1) (enumerate_from c (zip rows qs)) ≡ true
     → list_all (λ row. is_circuit_sound d (unowed n) row.0 row.1.0.kept row.1.1) (enumerate_from c (zip rows (map unowed_circuit qs))) ≡ true
 circuits-unowed d n c [] qs h = refl
 circuits-unowed d n c (row ∷ rows) [] h = refl
 circuits-unowed d n c (row ∷ rows) (q ∷ qs) h =
-    let both = and_true (is_circuit_sound d n c row.kept q) (list_all (λ row. is_circuit_sound d n row.0 row.1.0.kept row.1.1) (enumerate_from (c + 1) (zip rows qs))) h in
-    both_true (is_circuit_sound d (unowed n) c row.kept (unowed_circuit q)) _ (circuit-unowed d n n c row.kept q both.0) (circuits-unowed d n (c + 1) rows qs both.1)
-
-record SoundParts (d : Directory) (n : Need) : Type 0 where
-  same : length n.circuits ≡ length d.circuits
-  few : n.accepted ≤ 2 ^ 62
-  bodies : list_all (is_bulletin d n.accepted) n.bulletins ≡ true
-  order : ascends (map (λ b. b.position) n.bulletins) ≡ true
-  recent : list_all (has (map (λ b. b.position) n.bulletins)) (range_with_len (n.accepted - d.window) (min d.window n.accepted)) ≡ true
-  needed : list_all (λ b. is_needed d n.accepted n.circuits b.position) n.bulletins ≡ true
-  circuits : list_all (λ row. is_circuit_sound d n row.0 row.1.0.kept row.1.1) (enumerate_from 0 (zip d.circuits n.circuits)) ≡ true
-
-sound-parts : (d : Directory) (n : Need) → is_sound d n ≡ true → SoundParts d n
-sound-parts d n h =
-    let h1 = and_true _ (list_all (λ row. is_circuit_sound d n row.0 row.1.0.kept row.1.1) (enumerate_from 0 (zip d.circuits n.circuits))) h in
-    let h2 = and_true _ (list_all (λ b. is_needed d n.accepted n.circuits b.position) n.bulletins) h1.0 in
-    let h3 = and_true _ (list_all (has (map (λ b. b.position) n.bulletins)) (range_with_len (n.accepted - d.window) (min d.window n.accepted))) h2.0 in
-    let h4 = and_true _ (ascends (map (λ b. b.position) n.bulletins)) h3.0 in
-    let h5 = and_true _ (list_all (is_bulletin d n.accepted) n.bulletins) h4.0 in
-    let h6 = and_true (length n.circuits == length d.circuits) (nat_le n.accepted (2 ^ 62)) h5.0 in
-    record { same = eqb-true (length n.circuits) (length d.circuits) h6.0; few = leb-true n.accepted (2 ^ 62) h6.1; bodies = h5.1; order = h4.1; recent = h3.1; needed = h2.1; circuits = h1.1 }
-
-sound-from : (d : Directory) (n : Need) → SoundParts d n → is_sound d n ≡ true
-sound-from d n p =
-    both_true _ _ (both_true _ _ (both_true _ _ (both_true _ _ (both_true _ _ (both_true _ _ (eq-eqb (length n.circuits) (length d.circuits) p.same) (le-leb n.accepted (2 ^ 62) p.few)) p.bodies) p.order) p.recent) p.needed) p.circuits
+    let both = and_parts (is_circuit_sound d n c row.kept q) (list_all (λ row. is_circuit_sound d n row.0 row.1.0.kept row.1.1) (enumerate_from (c + 1) (zip rows qs))) h in
+    and_from (is_circuit_sound d (unowed n) c row.kept (unowed_circuit q)) _ (circuit-unowed d n c row.kept q both.0) (circuits-unowed d n (c + 1) rows qs both.1)
 
 pub unowed-sound : (d : Directory) (n : Need) → is_sound d n ≡ true → is_sound d (unowed n) ≡ true
 unowed-sound d n h =
@@ -99,15 +64,15 @@ unowed-sound d n h =
 fits-positions : (m : ℕ) (ps : List ℕ) → m ≤ 2 ^ 62 → list_all (λ p. nat_lt p m) ps ≡ true → AllByRecursion (λ p. p < 256 ^ 8) ps
 fits-positions m [] few h = tt
 fits-positions m (p ∷ ps) few h =
-    let both = and_true (nat_lt p m) (list_all (λ r. nat_lt r m) ps) h in
+    let both = and_parts (nat_lt p m) (list_all (λ r. nat_lt r m) ps) h in
     ((let lt : p < m = ltb-true p m both.0 in omega arith), fits-positions m ps few both.1)
 
 fits-bulletins : (d : Directory) (m : ℕ) (bs : List Bulletin) → m ≤ 2 ^ 62 → list_all (is_bulletin d m) bs ≡ true → AllByRecursion FitsBulletin bs
 fits-bulletins d m [] few h = tt
 fits-bulletins d m (b ∷ bs) few h =
-    let both = and_true (is_bulletin d m b) (list_all (is_bulletin d m) bs) h in
-    let p = bulletin-parts d m b both.0 in
-    (((let lt : b.position < m = ltb-true b.position m p.below in omega arith), (let le : length b.body ≤ LONGEST_BODY = leb-true (length b.body) LONGEST_BODY p.short in omega arith)), fits-bulletins d m bs few both.1)
+    let both = and_parts (is_bulletin d m b) (list_all (is_bulletin d m) bs) h in
+    let p = bulletin_bounds d m b both.0 in
+    ((omega (arith, few, p.0), omega (arith, p.1)), fits-bulletins d m bs few both.1)
 
 length-circuit_text : (c : CircuitNeed) → length (circuit_text c) ≡ 16 + 8 * length (c.waiting ++ c.kept)
 length-circuit_text c = omega (arith, length-numbers (c.waiting ++ c.kept))
@@ -119,13 +84,14 @@ fits-circuits d n c [] [] e few bs h size = (tt, omega arith)
 fits-circuits d n c (row ∷ rows) [] e few bs h size = absurd (omega arith)
 fits-circuits d n c [] (q ∷ qs) e few bs h size = absurd (omega arith)
 fits-circuits d n c (row ∷ rows) (q ∷ qs) e few bs h size =
-    let both = and_true (is_circuit_sound d n c row.kept q) (list_all (λ row. is_circuit_sound d n row.0 row.1.0.kept row.1.1) (enumerate_from (c + 1) (zip rows qs))) h in
+    let both = and_parts (is_circuit_sound d n c row.kept q) (list_all (λ row. is_circuit_sound d n row.0 row.1.0.kept row.1.1) (enumerate_from (c + 1) (zip rows qs))) h in
     let p = circuit-parts d n c row.kept q both.0 in
     let len = length-append (circuit_text q) (flat_map circuit_text qs) in
     let here = length-circuit_text q in
     let lists = length-append q.waiting q.kept in
     let more = fits-circuits d n (c + 1) rows qs (omega arith) few bs both.1 (omega (arith, size, len)) in
-    let low = list_all-parts (λ r. nat_lt r n.accepted) q.waiting q.kept (all-below d n.accepted c n.bulletins (q.waiting ++ q.kept) bs p.known) in (
+    let low = and_parts (list_all (λ r. nat_lt r n.accepted) q.waiting) (list_all (λ r. nat_lt r n.accepted) q.kept)
+    (sym (list_all-append (λ r. nat_lt r n.accepted) q.waiting q.kept) ∙ all-below d n.accepted c n.bulletins (q.waiting ++ q.kept) bs p.known) in (
       ((omega (arith, p.few, few), omega (arith, size, len, here, lists), omega (arith, size, len, here, lists), fits-positions n.accepted q.waiting few low.0, fits-positions n.accepted q.kept few low.1), more.0),
       many qs (omega (arith, size, len, here)),
     )
@@ -314,7 +280,7 @@ file_opens-checkpoint d file n rs closed rest size limit sound room ok shut =
     let within : nat_le (compacted_bytes (unowed n) + 24 * due (begun (unowed n))) d.limit ≡ true = le-leb _ d.limit (omega (arith, same, due-unowed n, room)) in
     let admitted : admits_checkpoint d (drop 41 bytes) (need_in (drop 41 bytes)) ≡ true =
     ap (λ (m : Need). admits_checkpoint d (drop 41 bytes) m) read ∙ ap (λ (xs : List ℕ). admits_checkpoint d xs (unowed n)) at
-    ∙ both_true _ _ (both_true _ _ starts (unowed-sound d n sound)) within in
+    ∙ and_from _ _ (and_from _ _ starts (unowed-sound d n sound)) within in
     let gate : compacted_bytes (need_in (drop 41 bytes)) - 1 ≡ compacted_bytes n - 1 = ap (λ (m : Need). compacted_bytes m - 1) read ∙ ap (λ (m : ℕ). m - 1) same in
     let left : drop (compacted_bytes n - 1) bytes ≡ records =
     ap (λ (m : ℕ). drop m bytes) (let e : compacted_bytes n - 1 ≡ 41 + length cp = omega arith in e) ∙ sym (drop-drop (length cp) 41 bytes) ∙ ap (drop (length cp)) at ∙ drop-append_seam cp records in
@@ -332,10 +298,10 @@ restarted_circuits [] = refl
 restarted_circuits (c ∷ cs) = ap (λ (qs : List CircuitState). owed_last (begun_circuit c) ∷ qs) (restarted_circuits cs)
 
 waits_left : (a : ℕ) (rows : List Circuit) (qs : List CircuitState) → length qs ≡ length rows
-    → fold (λ (m : ℕ) (q : CircuitState). m + length (waiting q)) a (map begun_circuit (needs_of rows qs)) ≡ fold (λ (m : ℕ) (q : CircuitState). m + length (waiting q)) a qs
+    → fold (λ (m : ℕ) (q : CircuitState). m + length (waiting q)) a (map begun_circuit (map (λ row. circuit_need row.0.kept row.1) (zip rows qs))) ≡ fold (λ (m : ℕ) (q : CircuitState). m + length (waiting q)) a qs
 waits_left a [] [] e = refl
 waits_left a (row ∷ rows) (q ∷ qs) e =
-    ap (λ (ws : List ℕ). fold (λ (m : ℕ) (r : CircuitState). m + length (waiting r)) (a + length ws) (map begun_circuit (needs_of rows qs))) (waiting-left row.kept q)
+    ap (λ (ws : List ℕ). fold (λ (m : ℕ) (r : CircuitState). m + length (waiting r)) (a + length ws) (map begun_circuit (map (λ row. circuit_need row.0.kept row.1) (zip rows qs)))) (waiting-left row.kept q)
     ∙ waits_left (a + length (waiting q)) rows qs (omega arith)
 waits_left a [] (q ∷ qs) e = absurd (omega arith)
 waits_left a (row ∷ rows) [] e = absurd (omega arith)

@@ -6,3 +6,4 @@ pub use Rattle.gts_opening.proofs.WrittenLemmas.{journal_opens}
 pub use Rattle.gts_opening.proofs.AppendLemmas.{resting, append_moments, append_adds, say_leaves}
 pub use Rattle.gts_opening.proofs.CompactLemmas.{compaction_moments, compaction_starts}
 pub use Rattle.gts_opening.proofs.CausedLemmas.{caused_from, caused-nothing, caused-entry, caused-compaction, caused-front, doubt-computed, unsaid-computed, own_reading, only_reading}
+pub use Rattle.gts_opening.proofs.FollowingLemmas.{follows, passes, opened_again}

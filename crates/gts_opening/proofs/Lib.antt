@@ -10,3 +10,4 @@ pub mod CompactLemmas
 pub mod LawLemmas
 pub mod DrawnLemmas
 pub mod AcceptedLemmas
+pub mod FollowingLemmas

@@ -12,7 +12,7 @@ use Rattle.gts_event.specs.declared.outcome.Outcome.TheVariants.{Accepted, Dupli
 use Rattle.gts_event.specs.declared.outcome.Refusal.TheVariants.{Message, Many}
 use Rattle.gts_directory.specs.Directory.{Directory, Circuit, named}
 use Rattle.gts_request.specs.Request.{Item, request_at}
-use Rattle.gts_event.specs.State.{State, CircuitState, Bulletin, idle, on_circuit, next, duplicate, empty}
+use Rattle.gts_event.specs.State.{State, CircuitState, Bulletin, idle, on_circuit, duplicate, empty}
 use Rattle.gts_event.specs.declared.event.Event.{Event}
 use Rattle.gts_event.specs.declared.event.Event.TheVariants.{Heard, Lost, Taken}
 use Rattle.gts_event.specs.declared.event.Entry.{Entry}
@@ -23,7 +23,9 @@ use Rattle.gts_traits.specs.Disk.{Files}
 use Rattle.gts_opening.specs.Journal.{selected, opens, files_open, file_opens, Opened, checkpoint_text, compacted_bytes, unowed_state, event_of_record, due, AreAdmitted, after_records, gate_after, unowed, unowed_circuit}
 use Rattle.gts_record.specs.Record.{open_gate, file_text, Record, record_size}
 use Rattle.gts_opening.specs.Room.{record_bytes, entry_bytes, bytes_of_entries, heard_record, taken_record, event_record, entry_record, records_of, room, full, HadRoom, AllHadRoom, Begins, WithNothing, WithCheckpoint}
-use Rattle.gts_event.proofs.StateLemmas.{and_true, IsHeld, held-entry, held-begun, held-empty, sound-few}
+use Rattle.gts_event.specs.Held.{IsHeld}
+use Rattle.gts_event.proofs.LawLemmas.{held-all, held-begun, held-empty, sound-few}
+use Rattle.std.proofs.lemmas.Bool.{and_parts, and_from}
 use Rattle.gts_opening.proofs.FileLemmas.{file_opens-records, file_opens-checkpoint}
 use Rattle.gts_record.specs.declared.fault.OpenFault.{OpenFault}
 use Rattle.gts_opening.proofs.DrawnLemmas.{bare, bare_state, SameBare, bare-set, bare-restarted, StepOk, silent, draw_ok}
@@ -39,7 +41,7 @@ answer_no_draw d s c i (Ok items) e = go (nat_lt most_owed (length (on_circuit s
     go true f = cc
     go false f = cc
 
-no_draw : (d : Directory) (s : State) (c i : ℕ) (r : Result MessageParts Field) → elim r as (λ _. Outcome) [ Err field ↦ Refused (Message field) | Ok parts ↦ verdict d s c parts ] ≡ Draw i → ⊥
+pub no_draw : (d : Directory) (s : State) (c i : ℕ) (r : Result MessageParts Field) → elim r as (λ _. Outcome) [ Err field ↦ Refused (Message field) | Ok parts ↦ verdict d s c parts ] ≡ Draw i → ⊥
 no_draw d s c i (Err field) e = cc
 no_draw d s c i (Ok parts) e = go (is_request d parts.heading) e
   where
@@ -57,7 +59,7 @@ itself s = (refl, refl)
 heard_ok : (d : Directory) (s : State) (c : ℕ) (kind : Kind) (message : List ℕ) (o : Outcome) (gate : ℕ) → IsHeld d s → nat_lt c (length d.circuits) ≡ true → outcome d s (Heard c kind message) ≡ o
     → room d s (gate + 1) (Heard c kind message) o ≡ None → gate + 1 + 24 * due s ≤ d.limit → s.count ≤ 2 ^ 62
     → StepOk d s gate (heard_record c kind message o) (after_heard d s c kind message o) (record_bytes (Heard c kind message) o)
-heard_ok d s c kind message (Accepted p n) gate h here e free fits few = accept_ok d s c kind message p n gate h here e free few
+heard_ok d s c kind message (Accepted p n) gate h here e free fits few = accept_ok d s c kind message p n gate h.ordered here e free few
 heard_ok d s c kind message (Asked n m) gate h here e free fits few = silent d s _ gate (bare-set s c ((on_circuit s c).owed ++ found (places d s c (items_of message)))) fits few
 heard_ok d s c kind message (Duplicate position) gate h here e free fits few = silent d s s gate (itself s) fits few
 heard_ok d s c kind message (Refused refusal) gate h here e free fits few = silent d s s gate (itself s) fits few
@@ -110,13 +112,13 @@ pub written : (d : Directory) (s : State) (gate : ℕ) (entries : List Entry) �
     → gate + 1 + 24 * due s ≤ d.limit → s.count ≤ 2 ^ 62 → Written d s gate entries
 written d s gate [] keeps h here free fits few = record { admitted = tt; after = refl; gate_is = omega arith; few = few }
 written d s gate (entry ∷ entries) keeps h here free fits few =
-    let both = and_true (is_here d entry) (list_all (is_here d) entries) here in
+    let both = and_parts (is_here d entry) (list_all (is_here d) entries) here in
     let t : State = after_entry d s entry in
     let size : ℕ = entry_bytes d s entry in
     let one = entry_ok d s entry gate h both.0 free.0 fits few in
     let next : gate + 1 + size ≡ gate + size + 1 = omega arith in
     let room : gate + size + 1 + 24 * due t ≤ d.limit = let r = one.room in omega arith in
-    let more = written d t (gate + size) entries keeps (held-entry d s entry keeps both.0 h) both.1 (subst (λ (at : ℕ). AllHadRoom d t at entries) next free.1) room one.few in
+    let more = written d t (gate + size) entries keeps (held-all d s (entry ∷ []) keeps (and_from (is_here d entry) true both.0 refl) h) both.1 (subst (λ (at : ℕ). AllHadRoom d t at entries) next free.1) room one.few in
     let rs : List Record = entry_record d s entry in
     let ss : List Record = records_of d t entries in
     record {
@@ -129,7 +131,7 @@ written d s gate (entry ∷ entries) keeps h here free fits few =
 
 -- ---- files
 
-restarted-bare : (s : State) → restarted (bare_state s) ≡ restarted s
+pub restarted-bare : (s : State) → restarted (bare_state s) ≡ restarted s
 restarted-bare s = ap (λ (qs : List CircuitState). record s { circuits = qs }) (each s.circuits)
   where
     each : (qs : List CircuitState) → map owed_last (map bare qs) ≡ map owed_last qs

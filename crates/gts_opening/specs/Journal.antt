@@ -87,6 +87,7 @@ circuit_with waiting bytes = record {
   owed = [];
 }
 
+-- the circuit that these bytes may begin with
 abbrev pub circuit_in : List ℕ → CircuitNeed
 circuit_in bytes = circuit_with (number_in (take 4 (drop 8 bytes))) bytes
 

@@ -1,5 +1,6 @@
 pub mod Journal
 pub mod Room
 pub mod Leaving
+pub mod Following
 pub mod Words
 pub mod Worked

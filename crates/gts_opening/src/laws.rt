@@ -3,9 +3,9 @@ ghost use Rattle.std.specs.Prelude.{◌≡◌, ◌↔◌, ◌+◌, ◌-◌, ◌^
 ghost use Rattle.std.specs.List.{list_any};
 ghost use Rattle.gts_traits.specs.Station.{Says, Tries};
 ghost use Rattle.gts_traits.specs.declared.failed.Failed.{Failed};
-ghost use Rattle.gts_opening.specs.Words.{Call, Files, IsImage, EachSince, Directory, State, Entry, empty, restarted, after_all, Need, need, begun, is_sound, IsOrdered};
-ghost use Rattle.gts_opening.specs.Words.{Record, records_text, open_gate, AreAdmitted, IsClosed, HasRecords, HasCheckpoint, FitsLimit, FitsNeed, selected, opens, files_open, records_at, after_records, gate_after, checkpoint_text, compacted_bytes, need_in, unowed, unowed_state};
-ghost use Rattle.gts_opening.specs.Words.{History, IsCaused, Cause, HasDoubt, HasUnsaid, IsReading, front_of, done_by, is_doubt, is_unsaid, bytes_of_entries, full_compacted};
+ghost use Rattle.gts_opening.specs.Words.{Call, Files, IsImage, EachSince, Directory, State, Event, Entry, empty, restarted, after_all, Need, need, begun, is_sound, IsOrdered};
+ghost use Rattle.gts_opening.specs.Words.{Record, records_text, open_gate, AreAdmitted, IsClosed, HasRecords, HasCheckpoint, FitsLimit, FitsNeed, selected, opens, files_open, records_at, after_records, gate_after, checkpoint_text, compacted_bytes, due, need_in, unowed, unowed_state};
+ghost use Rattle.gts_opening.specs.Words.{History, IsCaused, Cause, HasDoubt, HasUnsaid, IsReading, front_of, done_by, is_doubt, is_unsaid, event_record, bytes_of_entries, full_compacted, HasRoomFor, Follows, Passes};
 ghost use Rattle.gts_opening.specs.Words.{IsInBounds, HaveRoom, IsJournal, StandsIn, Appends, Compacts, OpensTo, OpensToEither};
 
 /// Open gates, each with a record that may stand there, and a gate that isn't open: they open to the state after the
@@ -106,4 +106,16 @@ pub fn a_history_without_doubt_is_its_reading()
         → list_any is_doubt entries ≡ false → IsReading entries entries }
     ensures only { (entries read : List Entry)
         → list_any is_doubt entries ≡ false → IsReading entries read → read ≡ entries }
+{}
+
+/// The record of an event may stand behind those of the events before it, where the journal has room for all draws that are
+/// due and isn't full for the event: then it stands for the state after the event. An event without a record changes nothing
+/// that the journal stands for, and nor does opening it again.
+pub fn a_record_follows_its_event()
+    ensures follows { (d : Directory) (s : State) (gate : ℕ) (event : Event) (r : Record)
+        → HasRoomFor d s gate event → event_record d s event ≡ r ∷ [] → Follows d s gate event r }
+    ensures passes { (d : Directory) (s : State) (event : Event)
+        → event_record d s event ≡ [] → Passes d s event }
+    ensures again { (s : State) → (unowed_state (restarted s) ≡ unowed_state s)
+        × (restarted (unowed_state s) ≡ restarted s) × (due (restarted s) ≡ due s) }
 {}

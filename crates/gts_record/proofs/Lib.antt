@@ -1,3 +1,4 @@
 pub mod RecordLemmas
+pub mod FitsLemmas
 pub mod ReadingLemmas
 pub mod LawLemmas

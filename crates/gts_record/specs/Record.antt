@@ -64,12 +64,13 @@ number_in bytes = fold (λ n byte. n * 256 + byte) 0 bytes
 abbrev pub kind_of : ℕ → Option Kind
 kind_of letter = find (λ kind. starts_with nat_eq (letters kind) (letter ∷ [])) (An ∷ Bi ∷ Fx ∷ [])
 
--- a bulletin of this type, and a draw, read from these bytes as if they were long enough
+-- a bulletin of this type, read from these bytes as if they were long enough
 abbrev pub accept_in : List ℕ → Kind → Record
 accept_in bytes kind =
     let size : ℕ = number_in (take 4 (drop 12 bytes)) in
     Accept (slice_index_or bytes 1 0) kind (number_in (take 8 (drop 4 bytes))) (take size (drop 16 bytes))
 
+-- a draw, read from these bytes as if they were long enough
 abbrev pub draw_in : List ℕ → Record
 draw_in bytes = Drew (slice_index_or bytes 1 0) (number_in (take 8 (drop 7 bytes))) (number_in (take 8 (drop 15 bytes)))
 

@@ -7,12 +7,14 @@ pub fn numbers_are_read_back()
     ensures { (w n : ℕ) → n < 256 ^ w → number_in (bytes_of w n) ≡ n }
 {}
 
-/// A record is found exactly where its text stands at the front and its body isn't too long.
+/// A record is found exactly where its text stands at the front and its body isn't too long; and what is found fits its
+/// bytes.
 pub fn what_is_found_stands_at_the_front()
     ensures written { (r : Record) (bytes : List ℕ)
         → FitsRecord r → BeginsWith bytes r → record_at bytes ≡ Some r }
     ensures read { (r : Record) (bytes : List ℕ) → record_at bytes ≡ Some r → BeginsWith bytes r }
     ensures short { (r : Record) (bytes : List ℕ) → record_at bytes ≡ Some r → IsTrue (is_short r) }
+    ensures fits { (r : Record) (bytes : List ℕ) → record_at bytes ≡ Some r → FitsRecord r }
     ensures none { (bytes : List ℕ)
         → ((r : Record) → IsTrue (is_short r) → BeginsWith bytes r → ⊥) → record_at bytes ≡ None }
 {}

@@ -1,27 +1,31 @@
 -- What the operator gets of each end (profile).
-use Rattle.std.specs.Prelude.{◌≡◌, ℕ, List, Option, codes, IsNone, IsSomeAnd}
-use Rattle.std.specs.Borrow.{Bor}
+use Rattle.std.specs.Prelude.{ℕ, List, ◌++◌, Option, Some, None, codes, decimal}
 use Rattle.gts_app.specs.declared.status.Status.{Status}
-use Rattle.gts_app.specs.declared.status.Status.TheVariants.{Done, Words, Later, SourceFault, SayFault, NoMemory}
+use Rattle.gts_app.specs.declared.status.Status.TheVariants.{Done, Words, Directory, Capture, Exists, DiskFault, SourceFault, SayFault, Full, NoMemory}
 
 -- the exit status
 abbrev pub exit_of : Status → ℕ
 exit_of Done = 0
 exit_of Words = 2
+exit_of (Directory fault) = 3
+exit_of (Capture at) = 4
+exit_of (Exists size) = 5
+exit_of DiskFault = 6
 exit_of SayFault = 7
 exit_of SourceFault = 8
+exit_of (Full used need limit) = 9
 exit_of NoMemory = 11
-exit_of Later = 12
 
--- this line is told
-abbrev pub TellsLine : List ℕ → Option (Bor (List ℕ)) → Type 0
-TellsLine text told = IsSomeAnd told (λ line. line.now ≡ text)
-
--- what is told of each end
-abbrev pub TellsEnd : Status → Option (Bor (List ℕ)) → Type 0
-TellsEnd Done told = IsNone told
-TellsEnd Words told = TellsLine (codes "usage: init, replay, serve, show, compact or generate N") told
-TellsEnd Later told = TellsLine (codes "not built yet") told
-TellsEnd SourceFault told = TellsLine (codes "input fault") told
-TellsEnd SayFault told = TellsLine (codes "output fault") told
-TellsEnd NoMemory told = TellsLine (codes "no memory") told
+-- the line; nothing is said here of what a fault of the directory is called
+abbrev pub line_of : Status → Option (List ℕ)
+line_of Done = Some (codes "done")
+line_of Words = Some (codes "usage: init, replay, serve, show, compact or generate N")
+line_of (Directory fault) = None
+line_of (Capture at) = Some (codes "capture: bad at " ++ decimal at)
+line_of (Exists size) = Some (codes "journal: exists with " ++ decimal size ++ codes " bytes")
+line_of DiskFault = Some (codes "disk fault")
+line_of SourceFault = Some (codes "input fault")
+line_of SayFault = Some (codes "output fault")
+line_of (Full used need limit) =
+    Some (codes "journal: full, used " ++ decimal used ++ codes " need " ++ decimal need ++ codes " limit " ++ decimal limit)
+line_of NoMemory = Some (codes "no memory")

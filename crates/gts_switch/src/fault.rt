@@ -1,19 +1,31 @@
 ghost use Rattle.std.specs.Prelude.{◌≡◌};
-ghost use Rattle.gts_switch.specs.Fault.{exit_of, TellsEnd};
+ghost use Rattle.gts_switch.specs.Fault.{exit_of, line_of};
 
 use gts_app::Status;
+use std::fmt;
 
-/// What the operator is told of an end that isn't `Done`; `None` exactly for `Done` (this project's profile).
-pub fn fault_text(status: Status) -> Option<&'static str>
-    ensures { TellsEnd status result }
-{
-    match status {
-        Status::Done => None,
-        Status::Words => Some("usage: init, replay, serve, show, compact or generate N"),
-        Status::Later => Some("not built yet"),
-        Status::SourceFault => Some("input fault"),
-        Status::SayFault => Some("output fault"),
-        Status::NoMemory => Some("no memory"),
+/// What the operator is told of an end (this project's profile).
+#[derive(Clone, Copy, Drop)]
+pub struct FaultLine(pub Status);
+
+impl fmt::Display for FaultLine {
+    ghost output = { λ line. line_of line.0 };
+
+    fn fmt<W: fmt::Write>(&self, f: &mut fmt::Formatter<W>) -> fmt::Result {
+        match self.0 {
+            Status::Done => write!(f, "done"),
+            Status::Words => write!(f, "usage: init, replay, serve, show, compact or generate N"),
+            Status::Directory(fault) => write!(f, "directory: {fault}"),
+            Status::Capture { at } => write!(f, "capture: bad at {at}"),
+            Status::Exists { size } => write!(f, "journal: exists with {size} bytes"),
+            Status::DiskFault => write!(f, "disk fault"),
+            Status::SourceFault => write!(f, "input fault"),
+            Status::SayFault => write!(f, "output fault"),
+            Status::Full { used, need, limit } => {
+                write!(f, "journal: full, used {used} need {need} limit {limit}")
+            }
+            Status::NoMemory => write!(f, "no memory"),
+        }
     }
 }
 
@@ -24,9 +36,13 @@ pub fn exit_status(status: Status) -> u8
     match status {
         Status::Done => 0,
         Status::Words => 2,
+        Status::Directory(_) => 3,
+        Status::Capture { .. } => 4,
+        Status::Exists { .. } => 5,
+        Status::DiskFault => 6,
         Status::SayFault => 7,
         Status::SourceFault => 8,
+        Status::Full { .. } => 9,
         Status::NoMemory => 11,
-        Status::Later => 12,
     }
 }

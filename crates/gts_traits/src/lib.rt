@@ -19,9 +19,9 @@ pub use gate::{FreeGate, Gate, Point};
 pub use gts_alphabet::NoMemory;
 pub use laws::{
     a_call_adds_its_moments, a_channel_has_what_was_said_on_it, a_say_leaves_the_files,
-    a_say_says_a_front_of_its_bytes, a_synced_file_has_one_image, each_image_may_be_left,
-    later_calls_say_more, moments_join, other_files_are_seen_as_before, pieces_on_a_channel_join,
-    what_is_said_chains, what_is_seen_is_an_image,
+    a_say_says_a_front_of_its_bytes, a_synced_file_has_one_image, calls_have_their_moments,
+    each_image_may_be_left, later_calls_say_more, moments_join, other_files_are_seen_as_before,
+    pieces_on_a_channel_join, what_is_said_chains, what_is_seen_is_an_image,
 };
 pub use lines::Lines;
 pub use sink::Sink;

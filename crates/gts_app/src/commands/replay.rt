@@ -1,38 +1,61 @@
+ghost use Rattle.std.specs.Prelude.{◌≡◌};
+ghost use Rattle.gts_app.specs.Ending as ending;
 ghost use Rattle.gts_app.specs.Replay.{Replays, world};
 
 use crate::Status;
-use crate::reading::{ReadFault, read_front};
-use crate::steps::do_steps;
-use gts_capture::{CaptureError, read_capture};
-use gts_first::StepFault;
-use gts_first_core::PlainCore;
-use gts_frame::FrameBuf;
+use crate::directory::directory_of;
+use crate::laws::a_history_keeps_its_laws;
+use gts_core::Core;
+use gts_event::{
+    SwitchFault, each_bulletin_is_routed_once, no_circuit_is_owed_more_than_may_be,
+    states_are_ordered,
+};
+use gts_replay::ReplayEnd;
+use gts_speaker::Speaker;
 use gts_traits::{Source, Station};
 use std::alloc::Global;
 
-/// Reads the capture, at most one byte more than the longest has, does its steps from the empty history on, and says
-/// receipts on channel 0, and the frames of circuit c on channel c + 1.
-pub fn replay<S: Source, P: Station>(alloc: Global, capture: &mut S, station: &mut P) -> Status
-    ensures { Replays S.Source P.Station result
-        (world capture.old station.old) (world capture.new station.new) }
+/// The status of how a capture ended. The switch has no journal, so that of the faults of one none comes.
+fn status_of(end: ReplayEnd) -> Status
+    ensures { result ≡ ending.status_of end }
 {
-    let bytes = match read_front(alloc, capture) {
-        Ok(bytes) => bytes,
-        Err(ReadFault::Failed) => return Status::SourceFault,
-        Err(ReadFault::NoMemory) => return Status::NoMemory,
-    };
-    let steps = match read_capture(alloc, &bytes) {
-        Ok(steps) => steps,
-        Err(CaptureError::NotBuilt) => return Status::Later,
-        Err(CaptureError::NoMemory) => return Status::NoMemory,
-    };
-    let Ok(mut out) = FrameBuf::new(alloc) else {
-        return Status::NoMemory;
-    };
-    let mut core = PlainCore::new();
-    match do_steps(alloc, &mut core, station, &mut out, &steps) {
-        Ok(()) => Status::Done,
-        Err(StepFault::SayFault) => Status::SayFault,
-        Err(StepFault::NoMemory) => Status::NoMemory,
+    match end {
+        ReplayEnd::Done => Status::Done,
+        ReplayEnd::Capture { at } => Status::Capture { at },
+        ReplayEnd::SourceFault => Status::SourceFault,
+        ReplayEnd::Fault(SwitchFault::SayFault) => Status::SayFault,
+        ReplayEnd::Fault(SwitchFault::Full { used, need, limit }) => {
+            Status::Full { used, need, limit }
+        }
+        ReplayEnd::Fault(_) | ReplayEnd::Reopen(_) => Status::DiskFault,
+        ReplayEnd::NoMemory => Status::NoMemory,
     }
+}
+
+/// Reads the directory, then the capture step by step, and does its steps from the empty history on. Receipts are said on
+/// channel 0, and the frames of circuit c on channel c + 1. The station is handed back.
+pub fn replay<S: Source, P: Station>(
+    alloc: Global,
+    directory: &mut S,
+    capture: &mut S,
+    station: P,
+) -> (Status, P)
+    ensures { Replays S.Source P.Station result.0
+        (world directory.old capture.old station) (world directory.new capture.new result.1) }
+{
+    // The laws that hold where a history begins, and of all that it comes to.
+    states_are_ordered();
+    each_bulletin_is_routed_once();
+    no_circuit_is_owed_more_than_may_be();
+    a_history_keeps_its_laws();
+    let directory = match directory_of(alloc, directory) {
+        Ok(directory) => directory,
+        Err(status) => return (status, station),
+    };
+    let Ok(core) = Core::new(alloc, &directory) else {
+        return (Status::NoMemory, station);
+    };
+    let mut switch = Speaker::new(directory, core, station);
+    let end = gts_replay::replay(alloc, &mut switch, capture);
+    (status_of(end), switch.into_station())
 }

@@ -5,7 +5,8 @@ use Rattle.std.proofs.lemmas.List.{map-append}
 use Rattle.gts_directory.specs.Directory.{Circuit}
 use Rattle.gts_directory.specs.Rows.{circuit_of_row}
 use Rattle.gts_event.specs.State.{CircuitState, idle}
-use Rattle.gts_event.proofs.StateLemmas.{both_true, list_all-append}
+use Rattle.std.proofs.lemmas.Bool.{and_from as both_true}
+use Rattle.std.proofs.lemmas.List.Folds.{list_all-append}
 use Rattle.gts_core.specs.Line.{Line}
 use Rattle.gts_core.proofs.CoreLemmas.{take_got}
 use Rattle.gts_core.proofs.opening.idle_lines.Goals as goal
@@ -32,6 +33,7 @@ loop-c-preserved c =
           ∙ sym (map-append (λ (x : Circuit). idle) part (row ∷ []))
           ∙ ap (map (λ (x : Circuit). idle)) (sym got),
       subst (λ (xs : List Circuit). list_all (λ x. nat_lt 0 x.kept) xs ≡ true) (sym got)
-          (list_all-append (λ (x : Circuit). nat_lt 0 x.kept) part (row ∷ []) c.loop-c.invariant.2
+          (list_all-append (λ (x : Circuit). nat_lt 0 x.kept) part (row ∷ [])
+          ∙ both_true (list_all (λ (x : Circuit). nat_lt 0 x.kept) part) (list_all (λ (x : Circuit). nat_lt 0 x.kept) (row ∷ [])) c.loop-c.invariant.2
           (both_true (nat_lt 0 row.kept) true (lt-ltb 0 row.kept (omega (arith, c.circuit.ensures.kept.0))) refl)),
     )

@@ -59,10 +59,10 @@ returns-in-Ok-clause-bulletin c =
     let e : split_at m ≡ Ok parts = c.in-Ok.ensures.exact in
     let h : HeadingFields = fields_of c.in-Ok.parts.heading in
     let read : h ≡ heading_of_message m = sym (heading_read m parts e) in
-    let mask : (k : ℕ) → k < length ls → bit_at c.names.result k ≡ bit (Rattle.gts_event.specs.State.has (named d from h) k) =
+    let mask : (k : ℕ) → k < length ls → bit_at c.names-mask.result k ≡ bit (Rattle.gts_event.specs.State.has (named d from h) k) =
     λ k lt.
     let lt' : k < length d.circuits = omega (arith, lt, c.requires.circuits) in
-    ap (λ (n : ℕ). bit_at n k) c.names.ensures
+    ap (λ (n : ℕ). bit_at n k) c.names-mask.ensures
     ∙ c.a_mask_has_the_bits_of_its_circuits.ensures.bits d from h k lt'
     ∙ ap bit (sym (has_passing (is_named d from h) (length d.circuits) k lt')) in
     bulletin_more c.args.position from c.args.kind (body_of m) (named d from (heading_of_message m)) c.args.accepted.now.items c.push_reserved.new.self.items ls c.route_in.new.lines _

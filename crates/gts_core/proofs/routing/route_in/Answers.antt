@@ -17,7 +17,7 @@ bit_told false = refl
 pub route_where-requires : goal.route_where-requires
 route_where-requires c =
     let ls = c.loop-i.lines in
-    let lt : c.loop-i.i < length ls = omega (arith, c.loop-i.auto.lines, c.loop-i-test.true) in
+    let lt : c.loop-i.i < length ls = omega (arith, c.loop-i.auto.lines, c.loop-i-test.true, c.requires.each) in
     room_here ls c.loop-i.i c.index-lines-i.result lt c.loop-i.invariant.1
 
 pub loop-i-preserved : goal.loop-i-preserved
@@ -28,9 +28,9 @@ loop-i-preserved c =
     let l : Line = c.index-lines-i.result in
     let new : Line = c.route_where.new.line in
     let start = circuits_of c.args.lines.now in
-    let lt : i < length ls = omega (arith, c.loop-i.auto.lines, c.loop-i-test.true) in
-    let within : i < length start = omega (arith, c.loop-i-test.true, length-map c.args.lines.now (λ (x : Line). x.circuit)) in
-    let inside : i < length c.args.lines.now = omega (arith, c.loop-i-test.true) in
+    let lt : i < length ls = omega (arith, c.loop-i.auto.lines, c.loop-i-test.true, c.requires.each) in
+    let within : i < length start = omega (arith, c.loop-i-test.true, c.requires.each, length-map c.args.lines.now (λ (x : Line). x.circuit)) in
+    let inside : i < length c.args.lines.now = omega (arith, c.loop-i-test.true, c.requires.each) in
     let more : suc i ≡ i + 1 = omega arith in
     let at : i ≡ 0 + i = omega arith in (
       kept_set ls i new l lt c.route_where.ensures.kept ∙ c.loop-i.invariant.0,
@@ -49,5 +49,5 @@ loop-i-preserved c =
 pub returns-clause-circuits : goal.returns-clause-circuits
 returns-clause-circuits c = λ circuits mask.
     let start = circuits_of c.args.lines.now in
-    let all : c.loop-i.i ≡ length start = omega (arith, c.loop-i.auto.i-end, c.loop-i-test.false, length-map c.args.lines.now (λ (x : Line). x.circuit)) in
+    let all : c.loop-i.i ≡ length start = omega (arith, c.loop-i.auto.i-end, c.loop-i-test.false, c.requires.each, length-map c.args.lines.now (λ (x : Line). x.circuit)) in
     c.loop-i.invariant.2 circuits mask ∙ ap (λ (n : ℕ). routed_part (has circuits) c.args.position 0 n start) all ∙ routed_all circuits c.args.position start

@@ -1,7 +1,7 @@
 use Rattle.std.proofs.Common.{◌≡◌, ℕ, true, not, List, sym, subst}
 use Rattle.std.specs.List.{list_all}
 use Rattle.gts_event.specs.State.{CircuitState, has}
-use Rattle.gts_event.proofs.StateLemmas.{find_passes}
+use Rattle.gts_event.proofs.LawLemmas.{find_passes}
 use Rattle.gts_core.specs.First.{comes_before, waits_in}
 use Rattle.gts_core.proofs.StoredLemmas.{own_level, has_own}
 use Rattle.gts_core.proofs.taking.choose.Goals as goal

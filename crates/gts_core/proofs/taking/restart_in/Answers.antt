@@ -3,7 +3,8 @@ use Rattle.std.proofs.lemmas.List.{map-set, length-map}
 use Rattle.gts_event.specs.State.{CircuitState, idle}
 use Rattle.gts_event.specs.History.{owed_last}
 use Rattle.gts_core.specs.Line.{Line}
-use Rattle.gts_core.proofs.TakeLemmas.{circuits_of, on_line, kept_set, firsts, firsts_more, firsts_all, sound_restarted}
+use Rattle.gts_core.specs.Owed.{circuits_of}
+use Rattle.gts_core.proofs.TakeLemmas.{on_line, kept_set, firsts, firsts_more, firsts_all, sound_restarted}
 use Rattle.gts_core.proofs.taking.restart_in.Goals as goal
 
 pub loop-i-preserved : goal.loop-i-preserved

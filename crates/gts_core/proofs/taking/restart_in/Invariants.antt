@@ -1,6 +1,7 @@
 use Rattle.std.proofs.Common.{◌≡◌, map}
 use Rattle.gts_event.specs.History.{owed_last}
-use Rattle.gts_core.proofs.TakeLemmas.{firsts, circuits_of}
+use Rattle.gts_core.specs.Owed.{circuits_of}
+use Rattle.gts_core.proofs.TakeLemmas.{firsts}
 use Rattle.gts_core.proofs.taking.restart_in.Given as goal
 
 abbrev pub invariant-loop-i : goal.invariant-loop-i

@@ -1,5 +1,4 @@
-use Rattle.std.proofs.Common.{◌≡◌, true, false, List, [], ◌∷◌, Option, Some, None}
-use Rattle.std.specs.List.{list_any}
+use Rattle.std.proofs.Common.{◌≡◌, true, false, [], Option, Some, None}
 use Rattle.std.specs.Fmt.{digits}
 use Rattle.gts_alphabet.specs.Digits.{dec}
 use Rattle.gts_heading.specs.Heading.{heading_text}
@@ -7,7 +6,6 @@ use Rattle.gts_heading.specs.Reading.{plain_heading_at, bare_group_at, message_g
 use Rattle.gts_message.specs.Message.{number_at, text_at, body_at, split_at}
 use Rattle.gts_request.specs.Request.{request_at}
 use Rattle.gts_event.specs.declared.fault.SwitchFault.{SwitchFault}
-use Rattle.gts_opening.specs.Room.{is_doubt, is_unsaid}
 use Rattle.gts_opening.proofs.CausedLemmas.{doubt-computed, unsaid-computed}
 use Rattle.gts_opening.proofs.worked.without_a_cause_there_is_no_fault.Goals as goal
 

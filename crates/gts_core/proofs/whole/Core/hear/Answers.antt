@@ -1,4 +1,4 @@
-use Rattle.std.proofs.Common.{◌≡◌, ℕ, ◌+◌, ◌≤◌, List, Option, Some, None, length, map, refl, sym, ap, ◌∙◌, subst, arith}
+use Rattle.std.proofs.Common.{◌≡◌, ℕ, ◌+◌, ◌<◌, ◌≤◌, List, Option, Some, None, length, map, refl, sym, ap, ◌∙◌, subst, arith}
 use Rattle.gts_directory.specs.Directory.{named}
 use Rattle.gts_event.specs.State.{State, on_circuit, most_accepted}
 use Rattle.gts_event.specs.History.{outcome, body_of, heading_of_message, found, places, items_of, most_owed, with_owed, with_bulletin}
@@ -127,7 +127,11 @@ invariant_of-self-in-Some c =
     let ls = c.accept_in.new.lines in
     let cs : List ℕ = named d c.args.c (heading_of_message m) in
     let size : length ls ≡ length i.lines.items = omega (arith, c.accept_in.auto.lines, ap length c.as_mut_slice-lines.ensures.value) in
-    let few : i.count + 1 ≤ most_accepted = omega (arith, c.requires.few, ap (λ (k : Core). k.state.count) c.self.view_is) in
+    let core : Core = c.args.self.now in
+    let own : Holds d core core.state = holds_own d core c.requires.directory.0 c.requires.directory.1 in
+    let left : core.state.count < most_accepted =
+    c.requires.few core.state c.args.kind core.state.count c.in-New.circuits own (sym (c.in-New.ensures core.state c.args.kind own)) in
+    let few : i.count + 1 ≤ most_accepted = omega (arith, left, ap (λ (k : Core). k.state.count) c.self.view_is) in
     let bulletin : state_of (i.count + 1) new.items ls ≡ with_bulletin (state_of i.count hs i.lines.items) c.args.c c.args.kind (body_of m) cs =
     subst (λ (xs : List Line). state_of (i.count + 1) new.items ls ≡ with_bulletin (state_of i.count hs xs) c.args.c c.args.kind (body_of m) cs) c.as_mut_slice-lines.ensures.value c.accept_in.ensures.bulletin in
     let sound : IsSound (i.count + 1) new.items ls =

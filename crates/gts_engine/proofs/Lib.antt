@@ -1,0 +1,11 @@
+mod EntryLemmas
+mod LeavingLemmas
+mod TurnLemmas
+mod GoingLemmas
+mod AnswerLemmas
+mod StepLemmas
+mod HearingLemmas
+mod TakingLemmas
+mod BeginLemmas
+mod ReopenLemmas
+mod SwitchLemmas

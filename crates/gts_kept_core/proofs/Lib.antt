@@ -1,0 +1,5 @@
+pub mod FrameLemmas
+pub mod TakingLemmas
+pub mod DrawLemmas
+pub mod DuplicateLemmas
+pub mod WholeLemmas

@@ -1,0 +1,5 @@
+pub mod Lane
+pub mod Frames
+pub mod Taking
+pub mod Duplicates
+pub mod Whole

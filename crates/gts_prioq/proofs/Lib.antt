@@ -1,0 +1,3 @@
+mod WaitingLemmas
+mod OrderLemmas
+pub mod LawLemmas

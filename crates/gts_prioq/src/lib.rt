@@ -1,0 +1,16 @@
+//! Positions that wait to be drawn on a circuit, by levels.
+#![tactic(auto)]
+
+mod laws;
+mod levels;
+mod queue;
+mod worked;
+
+pub use gts_alphabet::NoMemory;
+pub use laws::{what_goes_next_is_first, what_waits_follows, what_waits_stays_in_order};
+pub use levels::LEVELS;
+pub use queue::PrioQueue;
+pub use worked::{worked_order, worked_waiting};
+
+#[cfg(test)]
+mod tests;

@@ -1,0 +1,17 @@
+//! The objects of the outside on the operating system: a source over a file, and a station over the journal files,
+//! standard output and the circuits' files. They tell no content, since no contract says what a real file holds; each
+//! failure is counted.
+#![tactic(auto)]
+
+mod counting;
+mod disk;
+mod lock;
+mod outputs;
+mod source;
+mod station;
+
+pub use source::FileSource;
+pub use station::FileStation;
+
+#[cfg(test)]
+mod tests;

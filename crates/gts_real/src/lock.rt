@@ -1,0 +1,22 @@
+use std::fs::File;
+
+/// Who may write the journal, as far as this station knows.
+#[derive(Clone, Copy, Debug, PartialEq, Eq)]
+pub(crate) enum Owner {
+    /// It wasn't looked at yet.
+    Unknown,
+    /// The file that is locked isn't there, so nobody has the lock.
+    Nobody,
+    /// This station has the lock.
+    This,
+    /// Another program has the lock, or there is none to be had.
+    Another,
+}
+
+/// Takes the system's lock on a file, where it is free. It is let go when the file is closed.
+pub(crate) fn lock(file: &File) -> Owner {
+    match file.try_lock() {
+        Ok(()) => Owner::This,
+        Err(_) => Owner::Another,
+    }
+}

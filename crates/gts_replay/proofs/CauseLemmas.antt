@@ -1,0 +1,72 @@
+-- A device's fault ends a run only where its count rose.
+use Rattle.std.proofs.Common.{◌≡◌, ℕ, ◌≤◌, Result, Err, refl, subst, arith}
+use Rattle.gts_event.specs.declared.fault.SwitchFault.TheVariants as switch
+use Rattle.gts_record.specs.declared.fault.OpenFault.TheVariants as opening
+use Rattle.gts_traits.specs.Counts.{Rose}
+use Rattle.gts_capture.specs.{HasSourceCause}
+use Rattle.gts_capture.specs.declared.capture_fault.CaptureFault.{CaptureFault}
+use Rattle.gts_capture.specs.declared.capture_fault.CaptureFault.TheVariants.{Bad, SourceFault}
+use Rattle.gts_replay.specs.declared.end.ReplayEnd.TheVariants as end
+use Rattle.gts_replay.specs.declared.fault.StepFault.{StepFault}
+use Rattle.gts_replay.specs.declared.fault.StepFault.TheVariants as step
+use Rattle.gts_replay.specs.Replay.{HasReplayCause}
+use Rattle.gts_replay.specs.Ending.{end_of, HasRunCause}
+
+rose_since : (a b c : ℕ) → a ≤ b → Rose b c → Rose a c
+rose_since a b c h r = omega (arith, h, r)
+
+pub caused_read : {T : Type 0} (result : Result T CaptureFault) (fault : CaptureFault) (d e s t a b c : ℕ) → d ≤ e → s ≤ t → a ≤ b → result ≡ Err fault → HasSourceCause result b c
+    → HasReplayCause (end_of (step.Capture fault)) d e s t a c
+caused_read {T} result fault d e s t a b c de st ab is cause = go fault is
+  where
+    go : (f : CaptureFault) → result ≡ Err f → HasReplayCause (end_of (step.Capture f)) d e s t a c
+    go (Bad at) is = record {
+      disk_later = de;
+      say_later = st;
+      source_later = omega (arith, ab, cause.later);
+      disk_failed = λ x. absurd (cc);
+      reopen_failed = λ x. absurd (cc);
+      say_failed = λ x. absurd (cc);
+      source_failed = λ x. absurd (cc);
+    }
+    go SourceFault is = record {
+      disk_later = de;
+      say_later = st;
+      source_later = omega (arith, ab, cause.later);
+      disk_failed = λ x. absurd (cc);
+      reopen_failed = λ x. absurd (cc);
+      say_failed = λ x. absurd (cc);
+      source_failed = λ x. rose_since a b c ab (cause.failed is);
+    }
+
+pub caused_step : {T : Type 0} (result : Result T StepFault) (fault : StepFault) (d e f s t u a b c : ℕ) → d ≤ e → s ≤ t → a ≤ b → result ≡ Err fault → HasRunCause result e f t u b c
+    → HasReplayCause (end_of fault) d f s u a c
+caused_step {T} result fault d e f s t u a b c de st ab is cause = go fault (subst (λ (r : Result T StepFault). HasRunCause r e f t u b c) is cause)
+  where
+    disk : d ≤ f
+    disk = omega (arith, de, cause.disk_later)
+
+    say : s ≤ u
+    say = omega (arith, st, cause.say_later)
+
+    source : a ≤ c
+    source = omega (arith, ab, cause.source_later)
+
+    none : (x : StepFault) → (end_of x ≡ end.Fault switch.DiskFault → Rose d f) → (end_of x ≡ end.Reopen opening.DiskFault → Rose d f) → (end_of x ≡ end.Fault switch.SayFault → Rose s u)
+        → (end_of x ≡ end.SourceFault → Rose a c) → HasReplayCause (end_of x) d f s u a c
+    none x i j k l = record { disk_later = disk; say_later = say; source_later = source; disk_failed = i; reopen_failed = j; say_failed = k; source_failed = l }
+
+    go : (x : StepFault) → HasRunCause {T = T} (Err x) e f t u b c → HasReplayCause (end_of x) d f s u a c
+    go (step.Capture (Bad at)) w = none (step.Capture (Bad at)) (λ x. absurd (cc)) (λ x. absurd (cc)) (λ x. absurd (cc)) (λ x. absurd (cc))
+    go (step.Capture SourceFault) w = none (step.Capture SourceFault) (λ x. absurd (cc)) (λ x. absurd (cc)) (λ x. absurd (cc)) (λ x. rose_since a b c ab (w.source_failed refl))
+    go (step.Reopen opening.NoJournal) w = none (step.Reopen opening.NoJournal) (λ x. absurd (cc)) (λ x. absurd (cc)) (λ x. absurd (cc)) (λ x. absurd (cc))
+    go (step.Reopen (opening.NotThis want found)) w = none (step.Reopen (opening.NotThis want found)) (λ x. absurd (cc)) (λ x. absurd (cc)) (λ x. absurd (cc)) (λ x. absurd (cc))
+    go (step.Reopen (opening.Damaged file at)) w = none (step.Reopen (opening.Damaged file at)) (λ x. absurd (cc)) (λ x. absurd (cc)) (λ x. absurd (cc)) (λ x. absurd (cc))
+    go (step.Reopen opening.DiskFault) w = none (step.Reopen opening.DiskFault) (λ x. absurd (cc)) (λ x. rose_since d e f de (w.reopen_failed refl)) (λ x. absurd (cc)) (λ x. absurd (cc))
+    go (step.Reopen opening.NoMemory) w = none (step.Reopen opening.NoMemory) (λ x. absurd (cc)) (λ x. absurd (cc)) (λ x. absurd (cc)) (λ x. absurd (cc))
+    go (step.Switch switch.DiskFault) w = none (step.Switch switch.DiskFault) (λ x. rose_since d e f de (w.disk_failed refl)) (λ x. absurd (cc)) (λ x. absurd (cc)) (λ x. absurd (cc))
+    go (step.Switch switch.SayFault) w = none (step.Switch switch.SayFault) (λ x. absurd (cc)) (λ x. absurd (cc)) (λ x. rose_since s t u st (w.say_failed refl)) (λ x. absurd (cc))
+    go (step.Switch (switch.Full used need limit)) w = none (step.Switch (switch.Full used need limit)) (λ x. absurd (cc)) (λ x. absurd (cc)) (λ x. absurd (cc)) (λ x. absurd (cc))
+    go (step.Switch (switch.Stopped by)) w = none (step.Switch (switch.Stopped by)) (λ x. absurd (cc)) (λ x. absurd (cc)) (λ x. absurd (cc)) (λ x. absurd (cc))
+    go (step.Switch switch.Spent) w = none (step.Switch switch.Spent) (λ x. absurd (cc)) (λ x. absurd (cc)) (λ x. absurd (cc)) (λ x. absurd (cc))
+    go (step.Switch switch.NoMemory) w = none (step.Switch switch.NoMemory) (λ x. absurd (cc)) (λ x. absurd (cc)) (λ x. absurd (cc)) (λ x. absurd (cc))

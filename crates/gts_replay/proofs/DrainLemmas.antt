@@ -1,0 +1,212 @@
+-- Takes until one gives nothing.
+use Rattle.std.proofs.Common.{◌≡◌, ℕ, zero, suc, ◌+◌, ◌^◌, ◌<◌, ◌≤◌, ◌-◌, ◌⊎◌, inl, inr, List, [], ◌∷◌, ◌++◌, length, get_or, drop, replicate, Option, Some, None, Result, Ok, Err, refl, sym, ap, subst, ◌∙◌, arith, append_assoc, length-append}
+use Rattle.std.specs.List.{AllByRecursion}
+use Rattle.std.proofs.lemmas.List.{append-nil, get_or-set_same}
+use Rattle.gts_directory.specs.Directory.{Directory}
+use Rattle.gts_event.specs.State.{State, CircuitState, RoutedOnce, idle, on_circuit, draws, next, left_to_give}
+use Rattle.gts_event.specs.declared.event.Event.{Event}
+use Rattle.gts_event.specs.declared.event.Event.TheVariants.{Taken}
+use Rattle.gts_event.specs.declared.event.Entry.{Entry}
+use Rattle.gts_event.specs.declared.event.Entry.TheVariants.{Done}
+use Rattle.gts_event.specs.History.{Choice, choice, choice_of, Repeats, Draws, Nothing_waits, outcome, after, after_take, after_all, most_owed, with_repeated, with_drawn}
+use Rattle.gts_event.specs.Drain.{all_done, takes_of_drain}
+use Rattle.gts_event.specs.declared.outcome.Outcome.{Outcome}
+use Rattle.gts_event.specs.declared.outcome.Outcome.TheVariants.{Resend, Draw, Nothing}
+use Rattle.gts_event.specs.declared.fault.SwitchFault.{SwitchFault}
+use Rattle.gts_event.proofs.LawLemmas.{after_all-append, ordered-all, routed_once-all, owed_few-all, one_less, nothing_left}
+use Rattle.gts_turns.specs.{Standing, IsTurn, entry_of}
+use Rattle.gts_replay.specs.Going.{IsStart, StandsFor, state_at, BreaksOff}
+use Rattle.gts_replay.proofs.GoingLemmas.{cause_at}
+
+-- so many takes on a circuit
+abbrev pub takes : ℕ → ℕ → List Entry
+takes c i = all_done (replicate i (Taken c))
+
+takes-suc : (c i : ℕ) → takes c (i + 1) ≡ takes c i ++ Done (Taken c) ∷ []
+takes-suc c zero = refl
+takes-suc c (suc i) = let more : suc i + 1 ≡ suc (i + 1) = omega arith in ap (takes c) more ∙ ap (λ (es : List Entry). Done (Taken c) ∷ es) (takes-suc c i)
+
+takes-split : (c i k : ℕ) → takes c (i + k) ≡ takes c i ++ takes c k
+takes-split c zero k = ap (takes c) (let e : zero + k ≡ k = omega arith in e)
+takes-split c (suc i) k = let e : suc i + k ≡ suc (i + k) = omega arith in ap (takes c) e ∙ ap (λ (es : List Entry). Done (Taken c) ∷ es) (takes-split c i k)
+
+-- ---- states
+
+start_on : (d : Directory) (s : State) (h : List Entry) → IsStart d s → IsStart d (after_all d s h)
+start_on d s h start = record {
+  keeps = start.keeps;
+  ordered = ordered-all d s h start.keeps start.ordered;
+  once = routed_once-all d s h start.keeps start.ordered start.once;
+  few = owed_few-all d s h start.few;
+}
+
+once_on : (qs : List CircuitState) (c : ℕ) → AllByRecursion RoutedOnce qs → RoutedOnce (get_or qs c idle)
+once_on [] c h = λ p. omega arith
+once_on (q ∷ qs) zero h = h.0
+once_on (q ∷ qs) (suc c) h = once_on qs c h.1
+
+few_on : (qs : List CircuitState) (c : ℕ) → AllByRecursion (λ q. length q.owed ≤ most_owed) qs → length (get_or qs c idle).owed ≤ most_owed
+few_on [] c h = omega arith
+few_on (q ∷ qs) zero h = h.0
+few_on (q ∷ qs) (suc c) h = few_on qs c h.1
+
+-- ---- one take
+
+abbrev outcome_of_choice : Choice → Outcome
+outcome_of_choice ch = elim ch as (λ _. Outcome) [ Repeats index ↦ Resend index | Draws index position ↦ Draw index | Nothing_waits ↦ Nothing ]
+
+repeats_one : (os : List ℕ) (r : Option ℕ) (n i : ℕ) → choice_of os r n ≡ Repeats i → length (drop 1 os) + 1 ≡ length os
+repeats_one [] None n i e = absurd (cc)
+repeats_one [] (Some p) n i e = absurd (cc)
+repeats_one (o ∷ os) r n i e = omega arith
+
+draws_next : (os : List ℕ) (r : Option ℕ) (n i p : ℕ) → choice_of os r n ≡ Draws i p → n ≡ i
+draws_next [] None n i p e = absurd (cc)
+draws_next [] (Some q) n i p e = cc
+draws_next (o ∷ os) r n i p e = absurd (cc)
+
+-- the index of a draw fits
+abbrev pub Few : Outcome → Type 0
+Few o = (index : ℕ) → o ≡ Draw index → index < 2 ^ 64
+
+one_taken : (d : Directory) (s : State) (c : ℕ) → c < length s.circuits → Few (outcome d s (Taken c)) → (choice d s c ≡ Nothing_waits → ⊥)
+    → (1 + length (on_circuit (after d s (Taken c)) c).owed + draws (on_circuit s c) ≡ length (on_circuit s c).owed + draws (on_circuit (after d s (Taken c)) c))
+    × ((draws (on_circuit (after d s (Taken c)) c) ≡ draws (on_circuit s c)) ⊎ (draws (on_circuit (after d s (Taken c)) c) ≤ 2 ^ 64))
+one_taken d s c within few some = go (choice d s c) refl
+  where
+    q : CircuitState
+    q = on_circuit s c
+
+    Goal : State → Type 0
+    Goal t = (1 + length (on_circuit t c).owed + draws q ≡ length q.owed + draws (on_circuit t c)) × ((draws (on_circuit t c) ≡ draws q) ⊎ (draws (on_circuit t c) ≤ 2 ^ 64))
+
+    over : CircuitState → Type 0
+    over r = (1 + length r.owed + draws q ≡ length q.owed + draws r) × ((draws r ≡ draws q) ⊎ (draws r ≤ 2 ^ 64))
+
+    go : (ch : Choice) → choice d s c ≡ ch → Goal (after_take s c (choice d s c))
+    go (Repeats i) e =
+        let at : on_circuit (after_take s c (choice d s c)) c ≡ with_repeated q = ap (λ (ch : Choice). on_circuit (after_take s c ch) c) e ∙ get_or-set_same s.circuits c (with_repeated q) idle within in
+        let one : length (drop 1 q.owed) + 1 ≡ length q.owed = repeats_one q.owed (next d s q) (draws q) i e in
+        subst over (sym at) (omega (arith, one), inl refl)
+    go (Draws i p) e =
+        let at : on_circuit (after_take s c (choice d s c)) c ≡ with_drawn p q = ap (λ (ch : Choice). on_circuit (after_take s c ch) c) e ∙ get_or-set_same s.circuits c (with_drawn p q) idle within in
+        let index : draws q ≡ i = draws_next q.owed (next d s q) (draws q) i p e in
+        let small : i < 2 ^ 64 = few i (ap outcome_of_choice e) in
+        subst over (sym at) (omega (arith, length-append q.taken (p ∷ [])), inr (omega (arith, length-append q.taken (p ∷ []), index, small)))
+    go Nothing_waits e = absurd (some e)
+
+nothing_chosen : (ch : Choice) → Nothing ≡ outcome_of_choice ch → ch ≡ Nothing_waits
+nothing_chosen (Repeats i) e = absurd (cc)
+nothing_chosen (Draws i p) e = absurd (cc)
+nothing_chosen Nothing_waits e = refl
+
+-- ---- takes, one after another
+
+-- So many takes gave something. What is left to give is less by as many; and what is owed less and what was drawn are as many.
+pub record Drained {O W : Type 0} (words : Standing O W) (first : W) (o : O) (h : List Entry) (c i : ℕ) (now : W) : Type 0 where
+  pub stands : words.stands o (h ++ takes c i) now
+  pub left : left_to_give (on_circuit (state_at words first o (h ++ takes c i)) c) + i ≡ left_to_give (on_circuit (state_at words first o h) c)
+  pub counted : i + length (on_circuit (state_at words first o (h ++ takes c i)) c).owed + draws (on_circuit (state_at words first o h) c)
+      ≡ length (on_circuit (state_at words first o h) c).owed + draws (on_circuit (state_at words first o (h ++ takes c i)) c)
+  pub few : (draws (on_circuit (state_at words first o (h ++ takes c i)) c) ≡ draws (on_circuit (state_at words first o h) c))
+      ⊎ (draws (on_circuit (state_at words first o (h ++ takes c i)) c) ≤ 2 ^ 64)
+
+pub drained_none : {O W : Type 0} (words : Standing O W) (first : W) (o : O) (h : List Entry) (c : ℕ) → StandsFor words o h first → Drained words first o h c 0 first
+drained_none words first o h c start =
+    let same : h ++ [] ≡ h = append-nil h in
+    let q : List Entry → CircuitState = λ x. on_circuit (state_at words first o x) c in
+    let left : left_to_give (q (h ++ [])) ≡ left_to_give (q h) = ap (λ (x : List Entry). left_to_give (q x)) same in
+    let owed : length (q (h ++ [])).owed ≡ length (q h).owed = ap (λ (x : List Entry). length (q x).owed) same in
+    let drawn : draws (q (h ++ [])) ≡ draws (q h) = ap (λ (x : List Entry). draws (q x)) same in
+    record {
+      stands = subst (λ (x : List Entry). words.stands o x first) (sym same) start.stands;
+      left = omega (arith, left);
+      counted = omega (arith, owed, drawn);
+      few = inl drawn;
+    }
+
+-- the answer of a take in the state behind these entries
+answer_at : {O W : Type 0} (words : Standing O W) (first now later : W) (o : O) (h : List Entry) (event : Event) (result : Result Outcome SwitchFault) (answer : Outcome)
+    → words.directory now ≡ words.directory first → IsTurn words event result now later → result ≡ Ok answer → words.stands o h now
+    → answer ≡ outcome (words.directory first) (state_at words first o h) event
+answer_at words first now later o h event result answer same turn is stands =
+    turn.outcome o h stands answer is ∙ ap (λ (d : Directory). outcome d (after_all d (words.begin o) h) event) same
+
+-- the switch stands for one take more
+one_more : {O W : Type 0} (words : Standing O W) (now later : W) (o : O) (h : List Entry) (c i : ℕ) (result : Result Outcome SwitchFault) (answer : Outcome)
+    → IsTurn words (Taken c) result now later → result ≡ Ok answer → words.stands o (h ++ takes c i) now → words.stands o (h ++ takes c (i + 1)) later
+one_more words now later o h c i result answer turn is stands =
+    subst (λ (x : List Entry). words.stands o x later)
+    (ap (λ (r : Result Outcome SwitchFault). (h ++ takes c i) ++ entry_of (Taken c) r) is ∙ append_assoc h (takes c i) (Done (Taken c) ∷ []) ∙ ap (λ (x : List Entry). h ++ x) (sym (takes-suc c i)))
+    (turn.adds o (h ++ takes c i) stands)
+
+pub drained_more : {O W : Type 0} (words : Standing O W) (first now later : W) (o : O) (h : List Entry) (c i : ℕ) (result : Result Outcome SwitchFault) (answer : Outcome)
+    → StandsFor words o h first → c < length (words.directory first).circuits → words.directory now ≡ words.directory first → Drained words first o h c i now
+    → IsTurn words (Taken c) result now later → result ≡ Ok answer → (answer ≡ Nothing → ⊥) → Few answer → Drained words first o h c (i + 1) later
+drained_more words first now later o h c i result answer start within same drained turn is some few =
+    let d : Directory = words.directory first in
+    let before : List Entry = h ++ takes c i in
+    let s : State = state_at words first o before in
+    let begun : IsStart d s = start_on d (words.begin o) before start.start in
+    let answered : answer ≡ outcome d s (Taken c) = answer_at words first now later o before (Taken c) result answer same turn is drained.stands in
+    let gives : choice d s c ≡ Nothing_waits → ⊥ = λ (e : choice d s c ≡ Nothing_waits). some (answered ∙ ap outcome_of_choice e) in
+    let all : h ++ takes c (i + 1) ≡ before ++ Done (Taken c) ∷ [] = ap (λ (x : List Entry). h ++ x) (takes-suc c i) ∙ sym (append_assoc h (takes c i) (Done (Taken c) ∷ [])) in
+    let next_state : state_at words first o (h ++ takes c (i + 1)) ≡ after d s (Taken c) =
+    ap (λ (x : List Entry). state_at words first o x) all ∙ after_all-append d (words.begin o) before (Done (Taken c) ∷ []) in
+    let one = one_taken d s c (omega (arith, begun.ordered.circuits, within)) (subst Few answered few) gives in
+    let less = one_less d s c (once_on s.circuits c begun.once) gives in
+    let q : State → CircuitState = λ t. on_circuit t c in
+    let left : left_to_give (q (state_at words first o (h ++ takes c (i + 1)))) ≡ left_to_give (q (after d s (Taken c))) = ap (λ (t : State). left_to_give (q t)) next_state in
+    let owed : length (q (state_at words first o (h ++ takes c (i + 1)))).owed ≡ length (q (after d s (Taken c))).owed = ap (λ (t : State). length (q t).owed) next_state in
+    let drawn : draws (q (state_at words first o (h ++ takes c (i + 1)))) ≡ draws (q (after d s (Taken c))) = ap (λ (t : State). draws (q t)) next_state in
+    record {
+      stands = one_more words now later o h c i result answer turn is drained.stands;
+      left = omega (arith, left, less, drained.left);
+      counted = omega (arith, owed, drawn, one.0, drained.counted);
+      few = fits drawn one.1 drained.few;
+    }
+  where
+    fits : {a b m n : ℕ} → a ≡ b → (b ≡ m) ⊎ (b ≤ 2 ^ 64) → (m ≡ n) ⊎ (m ≤ 2 ^ 64) → (a ≡ n) ⊎ (a ≤ 2 ^ 64)
+    fits e (inl f) (inl g) = inl (e ∙ f ∙ g)
+    fits e (inl f) (inr g) = inr (omega (arith, e, f, g))
+    fits e (inr f) g = inr (omega (arith, e, f))
+
+-- the take that gives nothing is the last
+pub drained_all : {O W : Type 0} (words : Standing O W) (first now later : W) (o : O) (h : List Entry) (c i : ℕ) (result : Result Outcome SwitchFault)
+    → StandsFor words o h first → words.directory now ≡ words.directory first → Drained words first o h c i now → IsTurn words (Taken c) result now later → result ≡ Ok Nothing
+    → words.stands o (h ++ all_done (takes_of_drain (state_at words first o h) c)) later
+drained_all words first now later o h c i result start same drained turn is =
+    let d : Directory = words.directory first in
+    let before : List Entry = h ++ takes c i in
+    let s : State = state_at words first o before in
+    let none : choice d s c ≡ Nothing_waits = nothing_chosen (choice d s c) (answer_at words first now later o before (Taken c) result Nothing same turn is drained.stands) in
+    let both = nothing_left d s c none in
+    let nothing : left_to_give (on_circuit s c) ≡ 0 = omega (arith, ap length both.0, ap length both.1) in
+    let count : i + 1 ≡ left_to_give (on_circuit (state_at words first o h) c) + 1 = omega (arith, nothing, drained.left) in
+    subst (λ (k : ℕ). words.stands o (h ++ takes c k) later) count (one_more words now later o h c i result Nothing turn is drained.stands)
+
+-- a take was answered with a fault
+pub drained_breaks : {O W : Type 0} (words : Standing O W) (first now later : W) (o : O) (h : List Entry) (c i : ℕ) (result : Result Outcome SwitchFault) (fault : SwitchFault)
+    → Drained words first o h c i now → IsTurn words (Taken c) result now later → result ≡ Err fault
+    → BreaksOff words o h (all_done (takes_of_drain (state_at words first o h) c)) fault later
+drained_breaks words first now later o h c i result fault drained turn is =
+    let before : List Entry = h ++ takes c i in
+    let k : ℕ = left_to_give (on_circuit (state_at words first o before) c) in
+    let count : left_to_give (on_circuit (state_at words first o h) c) + 1 ≡ i + suc k = omega (arith, drained.left) in
+    record {
+      front = takes c i;
+      event = Taken c;
+      behind = takes c k;
+      parts = ap (takes c) count ∙ takes-split c i (suc k);
+      stands = subst (λ (r : Result Outcome SwitchFault). words.stands o (before ++ entry_of (Taken c) r) later) is (turn.adds o before drained.stands);
+      cause = cause_at words o before (Taken c) fault now later turn.directory (turn.caused o before drained.stands fault is);
+    }
+
+-- no circuit has so much to give
+pub drained_few : {O W : Type 0} (words : Standing O W) (first now : W) (o : O) (h : List Entry) (c i : ℕ) → StandsFor words o h first → Drained words first o h c i now → i < 2 ^ 128 - 1
+drained_few words first now o h c i start drained =
+    let owed : length (on_circuit (state_at words first o h) c).owed ≤ 4096 = few_on (state_at words first o h).circuits c (start_on (words.directory first) (words.begin o) h start.start).few in
+    elim drained.few as (λ _. i < 2 ^ 128 - 1) [
+      | inl same ↦ omega (arith, same, owed, drained.counted)
+      | inr small ↦ omega (arith, small, owed, drained.counted)
+    ]

@@ -1,0 +1,9 @@
+pub mod GoingLemmas
+pub mod FeedingLemmas
+pub mod DrainLemmas
+pub mod DecoderLemmas
+pub mod StepLemmas
+pub mod SureLemmas
+pub mod RunLemmas
+pub mod EndLemmas
+pub mod CauseLemmas

@@ -1,0 +1,182 @@
+-- What a step took, and which entries it added.
+use Rattle.std.proofs.Common.{◌≡◌, ℕ, ◌+◌, ◌<◌, List, [], ◌++◌, length, get_or, set, map, Result, Ok, Err, refl, sym, ap, subst, ◌∙◌, arith, append_assoc, length-append}
+use Rattle.std.proofs.lemmas.List.{append-nil}
+use Rattle.gts_event.specs.declared.event.Event.TheVariants.{Taken}
+use Rattle.gts_event.specs.declared.event.Entry.{Entry}
+use Rattle.gts_event.specs.declared.outcome.Outcome.{Outcome}
+use Rattle.gts_event.specs.declared.fault.SwitchFault.{SwitchFault}
+use Rattle.gts_event.specs.Drain.{all_done, takes_of_drain}
+use Rattle.gts_frame.specs.Decoder.{Decoding, fresh}
+use Rattle.gts_frame.specs.Signs.{held_in}
+use Rattle.gts_record.specs.declared.fault.OpenFault.{OpenFault}
+use Rattle.gts_connection.specs.Capture.{Feed, Take, Reopen, Drain, Restart, FeedHead, TakeHead, ReopenHead, DrainHead, RestartHead, Connections, no_bytes}
+use Rattle.gts_capture.specs.Held.{Held, IsSameCapture, EndsInFeed, StopsInFeed, counted_to}
+use Rattle.gts_turns.specs.{Standing, IsTurn, IsReopening, entry_of, restart_of}
+use Rattle.gts_replay.specs.declared.fault.StepFault.{StepFault}
+use Rattle.gts_replay.specs.declared.fault.StepFault.TheVariants as step
+use Rattle.gts_replay.specs.Going.{StandsFor, state_at, BreaksOff, Decode}
+use Rattle.gts_replay.specs.Ending.{Takes, EndsBehind, StopsBehind, TakesNoMore, Feeds, DoesStep}
+use Rattle.gts_replay.proofs.GoingLemmas.{one_breaks}
+use Rattle.gts_replay.proofs.DecoderLemmas.{decode_at, decode_set, decode_reopened}
+
+same_capture : (held : Held) → IsSameCapture held held
+same_capture held = record { circuits = refl; plain = refl }
+
+-- ---- a feed's bytes, piece by piece
+
+pub takes_none : (tells : Type 0) (held : Held) (left : List ℕ) → Takes tells [] held held left left
+takes_none tells held left = record { told = λ _. refl; feed = omega arith; at = λ small. omega (arith, small); same = same_capture held }
+
+pub takes_more : (tells : Type 0) (bytes piece : List ℕ) (old now new : Held) (before left after : List ℕ) → Takes tells bytes old now before left
+    → (tells → now.ahead ++ left ≡ piece ++ (new.ahead ++ after)) → new.feed + length piece ≡ now.feed → new.at ≡ counted_to (now.at + length piece) → IsSameCapture now new
+    → Takes tells (bytes ++ piece) old new before after
+takes_more tells bytes piece old now new before left after taken told feed place same = record {
+  told = λ t. taken.told t ∙ ap (λ (xs : List ℕ). bytes ++ xs) (told t) ∙ sym (append_assoc bytes piece (new.ahead ++ after));
+  feed = omega (arith, feed, taken.feed, length-append bytes piece);
+  at = λ small. let first = taken.at small in omega (arith, place, first, length-append bytes piece);
+  same = record { circuits = same.circuits ∙ taken.same.circuits; plain = same.plain ∙ taken.same.plain };
+}
+
+-- the bytes end in the feed
+pub takes_end : (tells : Type 0) (bytes : List ℕ) (old now : Held) (before left : List ℕ) (at : ℕ) → Takes tells bytes old now before left → (tells → EndsInFeed now (now.ahead ++ left) at)
+    → EndsBehind tells bytes at old before
+takes_end tells bytes old now before left at taken ends = record {
+  all = λ t. taken.told t ∙ ap (λ (xs : List ℕ). bytes ++ xs) (ends t).nothing ∙ append-nil bytes;
+  short = λ t. let more = (ends t).announced in omega (arith, more, taken.feed);
+  place = λ t small. let place = (ends t).place in let first = taken.at small in omega (arith, place, first);
+}
+
+-- the source failed in the feed
+pub takes_stop : (tells : Type 0) (bytes : List ℕ) (old now new : Held) (before left after : List ℕ) → Takes tells bytes old now before left → (tells → StopsInFeed now new left after)
+    → 0 < now.feed → StopsBehind tells bytes old before after
+takes_stop tells bytes old now new before left after taken stops some = record {
+  told = λ t. taken.told t ∙ ap (λ (xs : List ℕ). bytes ++ (xs ++ left)) (stops t).empty ∙ ap (λ (xs : List ℕ). bytes ++ xs) (sym (stops t).kept);
+  short = λ t. omega (arith, some, taken.feed);
+}
+
+-- no more was taken than these bytes and a piece
+pub takes_at_most : (tells : Type 0) (bytes piece : List ℕ) (old now new : Held) (before left after : List ℕ) → Takes tells bytes old now before left
+    → (tells → now.ahead ++ left ≡ piece ++ (new.ahead ++ after)) → new.feed + length piece ≡ now.feed → TakesNoMore tells (bytes ++ piece) old before
+takes_at_most tells bytes piece old now new before left after taken told feed = record {
+  rest = new.ahead ++ after;
+  told = λ t. taken.told t ∙ ap (λ (xs : List ℕ). bytes ++ xs) (told t) ∙ sym (append_assoc bytes piece (new.ahead ++ after));
+  most = omega (arith, feed, taken.feed, length-append bytes piece);
+}
+
+-- nothing was taken
+nothing_taken : (tells : Type 0) (held : Held) (left : List ℕ) → TakesNoMore tells [] held left
+nothing_taken tells held left = record { rest = held.ahead ++ left; told = λ _. refl; most = omega arith }
+
+-- ---- a step of each head
+
+pub does_take : {O W : Type 0} (words : Standing O W) (station tells : Type 0) (c : ℕ) (held : Held) (left : List ℕ) (ds : List Decoding) (old new : W) (result : Result Outcome SwitchFault) (answer : Outcome)
+    → IsTurn words (Taken c) result old new → result ≡ Ok answer → held.feed ≡ 0 → DoesStep words station tells (TakeHead c) (Ok tt) held held left left ds ds old new
+does_take words station tells c held left ds old new result answer turn is none = record {
+  step = Take c;
+  of_head = refl;
+  taken = (takes_none tells held left, none);
+  went = λ bs o h decode start. subst (λ (r : Result Outcome SwitchFault). words.stands o (h ++ entry_of (Taken c) r) new) is (turn.adds o h start.stands);
+  decode = λ bs e. e;
+}
+
+pub fails_take : {O W : Type 0} (words : Standing O W) (station tells : Type 0) (c : ℕ) (held : Held) (left : List ℕ) (ds : List Decoding) (old new : W) (result : Result Outcome SwitchFault) (fault : SwitchFault)
+    → IsTurn words (Taken c) result old new → result ≡ Err fault → DoesStep words station tells (TakeHead c) (Err (step.Switch fault)) held held left left ds ds old new
+fails_take words station tells c held left ds old new result fault turn is = record {
+  step = Take c;
+  of_head = refl;
+  taken = nothing_taken tells held left;
+  went = λ bs o h decode start. one_breaks words (Taken c) result fault (Err fault) old new turn is refl o h start.stands;
+  decode = λ bs e. tt;
+}
+
+pub does_drain : {O W : Type 0} (words : Standing O W) (station tells : Type 0) (c : ℕ) (held : Held) (left : List ℕ) (ds : List Decoding) (old new : W)
+    → ((o : O) (h : List Entry) → StandsFor words o h old → words.stands o (h ++ all_done (takes_of_drain (state_at words old o h) c)) new)
+    → held.feed ≡ 0 → DoesStep words station tells (DrainHead c) (Ok tt) held held left left ds ds old new
+does_drain words station tells c held left ds old new goes none = record {
+  step = Drain c;
+  of_head = refl;
+  taken = (takes_none tells held left, none);
+  went = λ bs o h decode start. goes o h start;
+  decode = λ bs e. e;
+}
+
+pub fails_drain : {O W : Type 0} (words : Standing O W) (station tells : Type 0) (c : ℕ) (held : Held) (left : List ℕ) (ds : List Decoding) (old new : W) (fault : SwitchFault)
+    → ((o : O) (h : List Entry) → StandsFor words o h old → BreaksOff words o h (all_done (takes_of_drain (state_at words old o h) c)) fault new)
+    → DoesStep words station tells (DrainHead c) (Err (step.Switch fault)) held held left left ds ds old new
+fails_drain words station tells c held left ds old new fault goes = record {
+  step = Drain c;
+  of_head = refl;
+  taken = nothing_taken tells held left;
+  went = λ bs o h decode start. goes o h start;
+  decode = λ bs e. tt;
+}
+
+pub does_reopen : {O W : Type 0} (words : Standing O W) (station tells : Type 0) (c : ℕ) (held : Held) (left : List ℕ) (ds : List Decoding) (next : Decoding) (old : W)
+    → next ≡ fresh → held.feed ≡ 0 → DoesStep words station tells (ReopenHead c) (Ok tt) held held left left ds (set ds c next) old old
+does_reopen words station tells c held left ds next old is none = record {
+  step = Reopen c;
+  of_head = refl;
+  taken = (takes_none tells held left, none);
+  went = λ bs o h decode start. subst (λ (x : List Entry). words.stands o x old) (sym (append-nil h)) start.stands;
+  decode = λ bs e. decode_set ds bs c next [] e (ap (λ (d : Decoding). d.held) is);
+}
+
+pub does_restart : {O W : Type 0} (words : Standing O W) (station tells : Type 0) (held : Held) (left : List ℕ) (ds ds_now : List Decoding) (old new : W) (result : Result (Unit {0}) OpenFault) (u : Unit {0})
+    → IsReopening words station result old new → result ≡ Ok u → ds_now ≡ map (λ _. fresh) ds → length ds ≡ length (words.directory old).circuits → held.feed ≡ 0
+    → DoesStep words station tells RestartHead (Ok tt) held held left left ds ds_now old new
+does_restart words station tells held left ds ds_now old new result u reopening is anew each none = record {
+  step = Restart;
+  of_head = refl;
+  taken = (takes_none tells held left, none);
+  went = λ bs o h decode start. subst (λ (r : Result (Unit {0}) OpenFault). words.stands o (h ++ restart_of r) new) is (reopening.adds o h start.stands);
+  decode = λ bs e. subst (λ (xs : List Decoding). Decode xs (no_bytes (words.directory old))) (sym anew) (decode_reopened ds (words.directory old) each);
+}
+
+pub fails_restart : {O W : Type 0} (words : Standing O W) (station tells : Type 0) (held : Held) (left : List ℕ) (ds : List Decoding) (old new : W) (result : Result (Unit {0}) OpenFault) (fault : OpenFault)
+    → IsReopening words station result old new → result ≡ Err fault → DoesStep words station tells RestartHead (Err (step.Reopen fault)) held held left left ds ds old new
+fails_restart words station tells held left ds old new result fault reopening is = record {
+  step = Restart;
+  of_head = refl;
+  taken = nothing_taken tells held left;
+  went = λ bs o h decode start. record {
+    front = [];
+    behind = [];
+    parts = refl;
+    stands = subst (λ (r : Result (Unit {0}) OpenFault). words.stands o (h ++ restart_of r) new) is (reopening.adds o h start.stands);
+    fault_is = λ t. reopening.fault t o h start.stands fault is;
+  };
+  decode = λ bs e. tt;
+}
+
+pub does_feed : {O W : Type 0} (words : Standing O W) (station tells : Type 0) (c n : ℕ) (result : Result (Unit {0}) StepFault) (held held_now : Held) (left left_now : List ℕ)
+    (ds : List Decoding) (x next : Decoding) (old new : W) → c < length ds → Feeds words tells c result held held_now left left_now (get_or ds c x) next old new
+    → DoesStep words station tells (FeedHead c n) result held held_now left left_now ds (set ds c next) old new
+does_feed words station tells c n result held held_now left left_now ds x next old new within feeds = go result feeds
+  where
+    holds : (bs : Connections) → Decode ds bs → (get_or ds c x).held ≡ held_in (get_or bs c [])
+    holds bs e = decode_at ds bs c x within e
+
+    go : (r : Result (Unit {0}) StepFault) → Feeds words tells c r held held_now left left_now (get_or ds c x) next old new
+        → DoesStep words station tells (FeedHead c n) r held held_now left left_now ds (set ds c next) old new
+    go (Ok u) f = record {
+      step = Feed c f.bytes;
+      of_head = (f.bytes, refl);
+      taken = f.taken;
+      went = λ bs o h e start. f.fed.adds (get_or bs c []) o h (holds bs e) start.stands;
+      decode = λ bs e. decode_set ds bs c next (get_or bs c [] ++ f.bytes) e (f.fed.held (get_or bs c []) (holds bs e));
+    }
+    go (Err (step.Capture fault)) f = record {
+      step = Feed c f.bytes;
+      of_head = (f.bytes, refl);
+      taken = f.taken;
+      went = λ bs o h e start. f.fed.adds (get_or bs c []) o h (holds bs e) start.stands;
+      decode = λ bs e. tt;
+    }
+    go (Err (step.Switch fault)) f = record {
+      step = Feed c f.bytes;
+      of_head = (f.bytes, refl);
+      taken = f.taken;
+      went = λ bs o h e start. f.fed (get_or bs c []) o h (holds bs e) start.stands;
+      decode = λ bs e. tt;
+    }
+    go (Err (step.Reopen fault)) f = absurd f.fed

@@ -1,0 +1,108 @@
+-- How a step of a capture was done, or was not done to its end.
+use Rattle.std.specs.Prelude.{◌≡◌, ℕ, ◌+◌, ◌^◌, ◌<◌, ◌≤◌, List, ◌++◌, length, Result, Ok, Err, IsErrOf, OnOk}
+use Rattle.gts_traits.specs.Counts.{Rose}
+use Rattle.gts_event.specs.declared.event.Entry.{Entry}
+use Rattle.gts_event.specs.declared.fault.SwitchFault.TheVariants as switch
+use Rattle.gts_frame.specs.Decoder.{Decoding}
+use Rattle.gts_record.specs.declared.fault.OpenFault.TheVariants as opening
+use Rattle.gts_connection.specs.Capture.{Step, Feed, Head, FeedHead, head_of, bytes_of_step, entries_of_step, after_step, Connections}
+use Rattle.gts_capture.specs.declared.capture_fault.CaptureFault.TheVariants.{Bad, SourceFault}
+use Rattle.gts_capture.specs.Held.{Held, IsSameCapture, counted_to}
+use Rattle.gts_turns.specs.{Standing}
+use Rattle.gts_replay.specs.declared.end.ReplayEnd.{ReplayEnd}
+use Rattle.gts_replay.specs.declared.end.ReplayEnd.TheVariants as end
+use Rattle.gts_replay.specs.declared.fault.StepFault.{StepFault}
+use Rattle.gts_replay.specs.declared.fault.StepFault.TheVariants as step
+use Rattle.gts_replay.specs.Going.{StandsFor, state_at, BreaksOff, BreaksAtRestart, Decode, IsFed, BreaksFeed}
+
+-- the end of a run in which a step was not done to its end
+abbrev pub end_of : StepFault → ReplayEnd
+end_of (step.Capture (Bad at)) = end.Capture at
+end_of (step.Capture SourceFault) = end.SourceFault
+end_of (step.Reopen opening.NoMemory) = end.NoMemory
+end_of (step.Reopen fault) = end.Reopen fault
+end_of (step.Switch switch.NoMemory) = end.NoMemory
+end_of (step.Switch fault) = end.Fault fault
+
+-- ---- what was taken of a capture
+
+-- these bytes of a feed were taken
+pub record Takes (tells : Type 0) (bytes : List ℕ) (old new : Held) (before after : List ℕ) : Type 0 where
+  pub told : tells → old.ahead ++ before ≡ bytes ++ (new.ahead ++ after)
+  pub feed : new.feed + length bytes ≡ old.feed
+  pub at : old.at < 2 ^ 64 → new.at ≡ counted_to (old.at + length bytes)
+  pub same : IsSameCapture old new
+
+-- the bytes of the source end in a feed behind these, at this place
+pub record EndsBehind (tells : Type 0) (bytes : List ℕ) (at : ℕ) (old : Held) (before : List ℕ) : Type 0 where
+  pub all : tells → old.ahead ++ before ≡ bytes
+  pub short : tells → length bytes < old.feed
+  pub place : tells → old.at < 2 ^ 64 → at ≡ counted_to (old.at + length bytes)
+
+-- the source failed in a feed behind these bytes
+pub record StopsBehind (tells : Type 0) (bytes : List ℕ) (old : Held) (before after : List ℕ) : Type 0 where
+  pub told : tells → old.ahead ++ before ≡ bytes ++ after
+  pub short : tells → length bytes < old.feed
+
+-- no more than these bytes were taken of a feed
+pub record TakesNoMore (tells : Type 0) (bytes : List ℕ) (old : Held) (before : List ℕ) : Type 0 where
+  pub rest : List ℕ
+  pub told : tells → old.ahead ++ before ≡ bytes ++ rest
+  pub most : length bytes ≤ old.feed
+
+-- what a step takes behind its head, by its answer
+abbrev pub HasTaken : Type 0 → List ℕ → Result (Unit {0}) StepFault → Held → Held → List ℕ → List ℕ → Type 0
+HasTaken tells bytes (Ok _) old new before after = Takes tells bytes old new before after × (new.feed ≡ 0)
+HasTaken tells bytes (Err (step.Capture (Bad at))) old new before after = EndsBehind tells bytes at old before
+HasTaken tells bytes (Err (step.Capture SourceFault)) old new before after = StopsBehind tells bytes old before after
+HasTaken tells bytes (Err _) old new before after = TakesNoMore tells bytes old before
+
+-- ---- which entries were added
+
+-- bytes came on a circuit and were dealt with, or broke off at a fault of the switch
+abbrev pub IsFedOr : {O W : Type 0} → Standing O W → ℕ → Decoding → W → List ℕ → Result (Unit {0}) StepFault → Decoding → W → Type 0
+IsFedOr words c old first bytes (Err (step.Switch fault)) decoder now = BreaksFeed words c old first bytes fault now
+IsFedOr words c old first bytes (Err (step.Reopen fault)) decoder now = ⊥
+IsFedOr words c old first bytes _ decoder now = IsFed words c old first bytes decoder now
+
+-- these entries were to be added: all were, or those before a fault
+abbrev pub Went : {O W : Type 0} → Standing O W → Type 0 → O → (h more : List Entry) → Result (Unit {0}) StepFault → W → Type 0
+Went words station o h more (Ok _) now = words.stands o (h ++ more) now
+Went words station o h more (Err (step.Capture fault)) now = words.stands o (h ++ more) now
+Went words station o h more (Err (step.Reopen fault)) now = BreaksAtRestart words station o h more fault now
+Went words station o h more (Err (step.Switch fault)) now = BreaksOff words o h more fault now
+
+-- Bytes of a feed came on a circuit: what they add was added, or what stands before a fault, and then the decoder took them.
+pub record Feeds {O W : Type 0} (words : Standing O W) (tells : Type 0) (c : ℕ) (result : Result (Unit {0}) StepFault)
+    (held held_now : Held) (left left_now : List ℕ)
+    (decoder decoder_now : Decoding) (old new : W) : Type 0 where
+  pub bytes : List ℕ
+  pub taken : HasTaken tells bytes result held held_now left left_now
+  pub fed : IsFedOr words c decoder old bytes result decoder_now new
+
+-- a step of this head; of a feed no more than so many bytes
+abbrev pub IsStepOf : Head → Step → Type 0
+IsStepOf (FeedHead c n) step = (bytes : List ℕ) × (step ≡ Feed c bytes)
+IsStepOf head step = head_of step ≡ head
+
+-- A step of this head was to be done: its entries were added, or those before a fault, and then the decoders have what came
+-- on their connections.
+pub record DoesStep {O W : Type 0} (words : Standing O W) (station tells : Type 0) (head : Head) (result : Result (Unit {0}) StepFault)
+    (held held_now : Held) (left left_now : List ℕ)
+    (decoders decoders_now : List Decoding) (old new : W) : Type 0 where
+  pub step : Step
+  pub of_head : IsStepOf head step
+  pub taken : HasTaken tells (bytes_of_step step) result held held_now left left_now
+  pub went : (bs : Connections) (o : O) (h : List Entry) → Decode decoders bs → StandsFor words o h old
+      → Went words station o h (entries_of_step (state_at words old o h) bs step) result new
+  pub decode : (bs : Connections) → Decode decoders bs → OnOk result (Decode decoders_now (after_step (words.directory old) bs step))
+
+-- a fault of a device is answered only where its count rose, and no count falls
+pub record HasRunCause {T : Type 0} (result : Result T StepFault) (disk disk_now say say_now source source_now : ℕ) : Type 0 where
+  pub disk_later : disk ≤ disk_now
+  pub say_later : say ≤ say_now
+  pub source_later : source ≤ source_now
+  pub disk_failed : IsErrOf result (step.Switch switch.DiskFault) → Rose disk disk_now
+  pub reopen_failed : IsErrOf result (step.Reopen opening.DiskFault) → Rose disk disk_now
+  pub say_failed : IsErrOf result (step.Switch switch.SayFault) → Rose say say_now
+  pub source_failed : IsErrOf result (step.Capture SourceFault) → Rose source source_now

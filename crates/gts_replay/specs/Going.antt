@@ -1,0 +1,76 @@
+-- Entries that a run was to add, and those that it added.
+use Rattle.std.specs.Prelude.{◌≡◌, ℕ, List, ◌∷◌, ◌++◌, map, Result, Ok, Err}
+use Rattle.gts_directory.specs.Directory.{Directory}
+use Rattle.gts_event.specs.State.{State, EachRoutedOnce}
+use Rattle.gts_event.specs.History.{after_all}
+use Rattle.gts_event.specs.Need.{IsOrdered, keeps_one}
+use Rattle.gts_event.specs.declared.event.Event.{Event}
+use Rattle.gts_event.specs.declared.event.Entry.{Entry}
+use Rattle.gts_event.specs.declared.event.Entry.TheVariants.{Done, Restarted}
+use Rattle.gts_event.specs.declared.fault.SwitchFault.{SwitchFault}
+use Rattle.gts_event.specs.Drain.{all_done, EachOwedFew}
+use Rattle.gts_frame.specs.Decoder.{Decoding}
+use Rattle.gts_frame.specs.Signs.{held_in}
+use Rattle.gts_record.specs.declared.fault.OpenFault.{OpenFault}
+use Rattle.gts_connection.specs.Capture.{Connections}
+use Rattle.gts_connection.specs.Connection.{events_added}
+use Rattle.gts_turns.specs.{Standing, IsCause, IsReopenFault, entry_of, outcome_at}
+use Rattle.std.specs.Prelude.{IsTrue}
+
+-- A state from which a drain ends: each circuit keeps a draw, and what each state of a history keeps is there; no position
+-- was routed twice to a circuit, and no circuit is owed more than it may be.
+pub record IsStart (d : Directory) (s : State) : Type 0 where
+  pub keeps : IsTrue (keeps_one d)
+  pub ordered : IsOrdered d s
+  pub once : EachRoutedOnce s
+  pub few : EachOwedFew s
+
+-- the switch stands for these entries since this origin
+pub record StandsFor {O W : Type 0} (words : Standing O W) (o : O) (h : List Entry) (now : W) : Type 0 where
+  pub start : IsStart (words.directory now) (words.begin o)
+  pub stands : words.stands o h now
+
+-- the state behind these entries since an origin
+abbrev pub state_at : {O W : Type 0} → Standing O W → W → O → List Entry → State
+state_at words now o h = after_all (words.directory now) (words.begin o) h
+
+-- Of the entries that were to be added, those before one were, and of that what its fault adds. The fault has its cause.
+pub record BreaksOff {O W : Type 0} (words : Standing O W) (o : O) (h more : List Entry) (fault : SwitchFault) (now : W) : Type 0 where
+  pub front : List Entry
+  pub event : Event
+  pub behind : List Entry
+  pub parts : more ≡ front ++ Done event ∷ behind
+  pub stands : words.stands o ((h ++ front) ++ entry_of event (Err fault)) now
+  pub cause : IsCause (words.is_full o (h ++ front) event) (h ++ front) (outcome_at words now o (h ++ front) event) fault
+
+-- Of the entries that were to be added, those before one were: the journal was not opened again there. Over a station that
+-- tells, only the disk and want of memory prevent that.
+pub record BreaksAtRestart {O W : Type 0} (words : Standing O W) (station : Type 0)
+    (o : O) (h more : List Entry) (fault : OpenFault) (now : W) : Type 0 where
+  pub front : List Entry
+  pub behind : List Entry
+  pub parts : more ≡ front ++ Restarted ∷ behind
+  pub stands : words.stands o (h ++ front) now
+  pub fault_is : station → IsReopenFault fault
+
+-- these entries were to be added: all were, or they broke off
+abbrev pub Goes : {O W : Type 0} → Standing O W → O → (h more : List Entry) → Result (Unit {0}) SwitchFault → W → Type 0
+Goes words o h more (Ok _) now = words.stands o (h ++ more) now
+Goes words o h more (Err fault) now = BreaksOff words o h more fault now
+
+-- the decoders of connections that have these bytes
+abbrev pub Decode : List Decoding → Connections → Type 0
+Decode decoders connections = map (λ d. d.held) decoders ≡ map held_in connections
+
+-- These bytes came on a circuit, and were dealt with: the decoder took them, and what they add was added.
+pub record IsFed {O W : Type 0} (words : Standing O W) (c : ℕ) (old : Decoding) (first : W)
+    (bytes : List ℕ) (decoder : Decoding) (now : W) : Type 0 where
+  pub held : (before : List ℕ) → old.held ≡ held_in before → decoder.held ≡ held_in (before ++ bytes)
+  pub adds : (before : List ℕ) (o : O) (h : List Entry) → old.held ≡ held_in before → words.stands o h first
+      → words.stands o (h ++ all_done (events_added c before bytes)) now
+
+-- these bytes came on a circuit, and the switch answered with a fault while they were dealt with
+abbrev pub BreaksFeed : {O W : Type 0} → Standing O W → ℕ → Decoding → W → List ℕ → SwitchFault → W → Type 0
+BreaksFeed words c old first bytes fault now =
+    (before : List ℕ) (o : _) (h : List Entry) → old.held ≡ held_in before → words.stands o h first
+    → BreaksOff words o h (all_done (events_added c before bytes)) fault now

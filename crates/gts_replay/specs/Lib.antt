@@ -1,0 +1,7 @@
+pub mod Going
+pub mod Replay
+pub mod Ending
+pub mod Words
+-- what the contracts of callers cite
+pub use Rattle.gts_replay.specs.Going.{IsStart, StandsFor, BreaksOff, BreaksAtRestart, state_at}
+pub use Rattle.gts_replay.specs.Replay.{IfTold, HasNoCapture, IsDone, IsCut, LosesSource, AreRead, IsLasting, StoppedBefore, StopsAtFault, StopsAtRestart, AddsFront, LacksMemory, Ends, HasReplayCause, entries_at}

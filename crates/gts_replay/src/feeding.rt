@@ -1,0 +1,105 @@
+ghost use Rattle.std.specs.Prelude.{◌≡◌, ◌<◌, ◌++◌, ℕ, List, length, OnOk};
+ghost use Rattle.gts_event.specs.declared.event.Entry.{Entry};
+ghost use Rattle.gts_event.specs.Drain.{all_done};
+ghost use Rattle.gts_frame.specs.Signs.{held_in};
+ghost use Rattle.gts_frame.specs.Decoder.{signs_of_step, HasMessage};
+ghost use Rattle.gts_connection.specs.Words.{events_added, events_of_signs};
+ghost use Rattle.gts_turns.specs.{HasTurnCause};
+ghost use Rattle.gts_replay.specs.Words.{Goes, Feeds, HasRunCause};
+
+use crate::fault::StepFault;
+use gts_capture::Steps;
+use gts_event::SwitchFault;
+use gts_frame::{Decoder, Step};
+use gts_traits::Source;
+use gts_turns::Switch;
+use std::alloc::Global;
+
+/// How many bytes of a feed are taken at once.
+const PIECE: usize = 4_096;
+
+/// A feed: its bytes come on a circuit, piece by piece, until all came that its head announced.
+pub(crate) fn feed<W: Switch, S: Source>(
+    alloc: Global,
+    switch: &mut W,
+    c: u32,
+    decoder: &mut Decoder,
+    steps: &mut Steps,
+    capture: &mut S,
+) -> Result<(), StepFault>
+    requires circuit { c < length (W.words.directory switch.old).circuits }
+    ensures feeds { Feeds W.words S.tells c result steps.old steps.new (S.left capture.old)
+        (S.left capture.new) decoder.old decoder.new switch.old switch.new }
+    ensures directory { W.words.directory switch.new ≡ W.words.directory switch.old }
+    ensures cause { HasRunCause result (W.disk_faults switch.old) (W.disk_faults switch.new)
+        (W.say_faults switch.old) (W.say_faults switch.new)
+        (S.faults capture.old) (S.faults capture.new) }
+{
+    let mut piece = [0; PIECE];
+    'feed: loop {
+        let count = match steps.bytes(capture, &mut piece) {
+            Ok(0) => return Ok(()),
+            Ok(count) => count,
+            Err(fault) => return Err(StepFault::Capture(fault)),
+        };
+        if let Err(fault) = feed_piece(alloc, switch, c, decoder, &piece[..count]) {
+            return Err(StepFault::Switch(fault));
+        }
+    }
+}
+
+/// The next bytes of a circuit's connection: the messages that they end are heard, and a loss is entered.
+fn feed_piece<W: Switch>(
+    alloc: Global,
+    switch: &mut W,
+    c: u32,
+    decoder: &mut Decoder,
+    piece: &[u8],
+) -> Result<(), SwitchFault>
+    requires circuit { c < length (W.words.directory switch.old).circuits }
+    ensures goes { (before : List ℕ) (o : W.Origin) (h : List Entry)
+        → decoder.old.held ≡ held_in before → W.words.stands o h switch.old
+        → Goes W.words o h (all_done (events_added c before piece.now)) result switch.new }
+    ensures held { (before : List ℕ) → decoder.old.held ≡ held_in before
+        → OnOk result (decoder.new.held ≡ held_in (before ++ piece.now)) }
+    ensures directory { W.words.directory switch.new ≡ W.words.directory switch.old }
+    ensures cause { HasTurnCause result (W.disk_faults switch.old) (W.disk_faults switch.new)
+        (W.say_faults switch.old) (W.say_faults switch.new) }
+{
+    let mut rest = piece;
+    while !rest.is_empty() {
+        let (count, step) = decoder.take(rest);
+        deal(alloc, switch, c, step, decoder.message())?;
+        rest = &rest[count..];
+    }
+    Ok(())
+}
+
+/// What a step of a circuit's decoder came to is dealt with: a message is heard, a loss is entered.
+fn deal<W: Switch>(
+    alloc: Global,
+    switch: &mut W,
+    c: u32,
+    step: Step,
+    message: &[u8],
+) -> Result<(), SwitchFault>
+    requires circuit { c < length (W.words.directory switch.old).circuits }
+    requires message { HasMessage step message.now }
+    ensures goes { (o : W.Origin) (h : List Entry) → W.words.stands o h switch.old
+        → Goes W.words o h (all_done (events_of_signs c (signs_of_step step message.now)))
+        result switch.new }
+    ensures directory { W.words.directory switch.new ≡ W.words.directory switch.old }
+    ensures cause { HasTurnCause result (W.disk_faults switch.old) (W.disk_faults switch.new)
+        (W.say_faults switch.old) (W.say_faults switch.new) }
+{
+    match step {
+        Step::Frame(kind) => {
+            let _ = switch.hear(alloc, c, kind, message)?;
+        }
+        Step::Lost(field) => {
+            let _ = switch.lost(c, field)?;
+        }
+        Step::More | Step::KeepAlive | Step::Dropped => {}
+    }
+    Ok(())
+}

@@ -1,0 +1,125 @@
+ghost use Rattle.std.specs.Prelude.{◌≡◌, ◌<◌, ◌≤◌, List, length, false};
+ghost use Rattle.gts_event.specs.declared.event.Entry.{Entry};
+ghost use Rattle.gts_connection.specs.Capture.{no_bytes};
+ghost use Rattle.gts_capture.specs.{IsHeadIn, bytes_announced, head_of, at_start};
+ghost use Rattle.gts_replay.specs.Going.{StandsFor, Decode};
+ghost use Rattle.gts_replay.specs.Replay.{Ends, HasReplayCause};
+ghost use Rattle.gts_replay.specs.Ending.{DoesStep, HasRunCause};
+
+use crate::decoders::{new_decoders, reopen_all};
+use crate::draining::drain;
+use crate::end::{ReplayEnd, end_after};
+use crate::fault::StepFault;
+use crate::feeding::feed;
+use gts_capture::{Head, Steps};
+use gts_frame::{Decoder, FrameBuf};
+use gts_traits::Source;
+use gts_turns::Switch;
+use std::alloc::Global;
+
+/// Runs a capture through a switch, up to its end or the first fault: bytes that come are heard frame by frame, each circuit
+/// over a connection of its own; takes, drains and restarts are the switch's. Decoders and the room for a frame are made
+/// before the first step.
+pub fn replay<W: Switch, S: Source>(alloc: Global, switch: &mut W, capture: &mut S) -> ReplayEnd
+    ensures ends { (o : W.Origin) (h : List Entry) → StandsFor W.words o h switch.old
+        → Ends W.words W.tells o h S.tells result switch.old switch.new
+        (S.left capture.old) (S.left capture.new) }
+    ensures directory { W.words.directory switch.new ≡ W.words.directory switch.old }
+    ensures cause { HasReplayCause result (W.disk_faults switch.old) (W.disk_faults switch.new)
+        (W.say_faults switch.old) (W.say_faults switch.new)
+        (S.faults capture.old) (S.faults capture.new) }
+{
+    let circuits = switch.circuits();
+    let Ok(mut decoders) = new_decoders(alloc, circuits) else {
+        return ReplayEnd::NoMemory;
+    };
+    let Ok(mut out) = FrameBuf::new(alloc) else {
+        return ReplayEnd::NoMemory;
+    };
+    let mut steps = Steps::new(circuits);
+    run(alloc, switch, capture, &mut steps, &mut decoders, &mut out)
+}
+
+/// Does the steps of a capture, one after another.
+fn run<W: Switch, S: Source>(
+    alloc: Global,
+    switch: &mut W,
+    capture: &mut S,
+    steps: &mut Steps,
+    decoders: &mut [Decoder],
+    out: &mut FrameBuf,
+) -> ReplayEnd
+    requires begins { steps.old
+        ≡ at_start (length (W.words.directory switch.old).circuits) false }
+    requires few { length (W.words.directory switch.old).circuits ≤ 100 }
+    requires decode { Decode decoders.old (no_bytes (W.words.directory switch.old)) }
+    ensures ends { (o : W.Origin) (h : List Entry) → StandsFor W.words o h switch.old
+        → Ends W.words W.tells o h S.tells result switch.old switch.new
+        (S.left capture.old) (S.left capture.new) }
+    ensures directory { W.words.directory switch.new ≡ W.words.directory switch.old }
+    ensures cause { HasReplayCause result (W.disk_faults switch.old) (W.disk_faults switch.new)
+        (W.say_faults switch.old) (W.say_faults switch.new)
+        (S.faults capture.old) (S.faults capture.new) }
+{
+    for _ in 0..u64::MAX {
+        let head = match steps.next(capture) {
+            Ok(Head::End) => return ReplayEnd::Done,
+            Ok(head) => head,
+            Err(fault) => return end_after(StepFault::Capture(fault)),
+        };
+        if let Err(fault) = do_step(alloc, switch, capture, steps, decoders, out, head) {
+            return end_after(fault);
+        }
+    }
+    // No capture that is told has so many steps: their bytes could not be counted.
+    ReplayEnd::Capture { at: u64::MAX }
+}
+
+/// Does the step of a head that was read.
+fn do_step<W: Switch, S: Source>(
+    alloc: Global,
+    switch: &mut W,
+    capture: &mut S,
+    steps: &mut Steps,
+    decoders: &mut [Decoder],
+    out: &mut FrameBuf,
+    head: Head,
+) -> Result<(), StepFault>
+    requires valid { let d = W.words.directory switch.old in
+        IsHeadIn (length d.circuits) false (head_of head) }
+    requires some { head ≡ Head.End → ⊥ }
+    requires feed { steps.old.feed ≡ bytes_announced (head_of head) }
+    requires decoders { length decoders.old ≡ length (W.words.directory switch.old).circuits }
+    ensures does { DoesStep W.words W.tells S.tells (head_of head) result steps.old steps.new
+        (S.left capture.old) (S.left capture.new) decoders.old decoders.new switch.old switch.new }
+    ensures directory { W.words.directory switch.new ≡ W.words.directory switch.old }
+    ensures cause { HasRunCause result (W.disk_faults switch.old) (W.disk_faults switch.new)
+        (W.say_faults switch.old) (W.say_faults switch.new)
+        (S.faults capture.old) (S.faults capture.new) }
+{
+    match head {
+        Head::Feed { c, .. } => {
+            let decoder = &mut decoders[c as usize];
+            return feed(alloc, switch, c, decoder, steps, capture);
+        }
+        Head::Take { c } => {
+            if let Err(fault) = switch.take(c, out) {
+                return Err(StepFault::Switch(fault));
+            }
+        }
+        Head::Drain { c } => {
+            if let Err(fault) = drain(switch, c, out) {
+                return Err(StepFault::Switch(fault));
+            }
+        }
+        Head::Reopen { c } => decoders[c as usize].reopen(),
+        Head::Restart => {
+            if let Err(fault) = switch.restart(alloc) {
+                return Err(StepFault::Reopen(fault));
+            }
+            reopen_all(decoders);
+        }
+        Head::End => {}
+    }
+    Ok(())
+}

@@ -1,0 +1,3 @@
+pub mod SayingLemmas
+pub mod TurnLemmas
+pub mod LawLemmas

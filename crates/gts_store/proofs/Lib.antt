@@ -1,0 +1,3 @@
+pub mod ShelfLemmas
+pub mod UsesLemmas
+pub mod NumberLemmas
