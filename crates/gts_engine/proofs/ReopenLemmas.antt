@@ -43,7 +43,7 @@ twice s = ap (λ (qs : List CircuitState). record s { circuits = qs }) (each s.c
     each [] = refl
     each (q ∷ qs) = ap (λ (rs : List CircuitState). owed_last q ∷ rs) (each qs)
 
-held_same : (d : Directory) (core : Core) (s t : State) → Holds d core s → SameNeed d s t → Holds d core t
+pub held_same : (d : Directory) (core : Core) (s t : State) → Holds d core s → SameNeed d s t → Holds d core t
 held_same d core s t h same = record {
   window = h.window;
   kept = h.kept;
