@@ -3,6 +3,7 @@
 
 mod engine;
 mod hearing;
+mod laws;
 mod limits;
 mod mode;
 mod parts;
@@ -13,6 +14,7 @@ mod switch;
 mod taking;
 
 pub use engine::Engine;
+pub use laws::{a_crash_leaves_a_front_of_a_reading, an_opened_engine_begins_with_what_the_files_open_to};
 pub use mode::SayMode;
 
 #[cfg(test)]
