@@ -1,0 +1,3 @@
+mod WholeLemmas
+mod SeenLemmas
+mod LineLemmas
