@@ -14,3 +14,6 @@ pub use worked::{
     what_waits_twice_is_counted_twice,
 };
 
+
+#[cfg(test)]
+mod tests;

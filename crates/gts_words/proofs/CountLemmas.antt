@@ -31,5 +31,5 @@ a_count w n e some short digits least most =
     ap (λ (b : Bool). cond b (Some (digits_value 10 w)) None) passes ∙ ap (λ (m : ℕ). Some m) (sym e)
 
 pub not_true : (b : Bool) → (b ≡ true → ⊥) → b ≡ false
-not_true true no = absurd (no refl)
-not_true false no = refl
+not_true true fails = absurd (fails refl)
+not_true false fails = refl
