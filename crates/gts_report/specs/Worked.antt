@@ -1,13 +1,14 @@
 -- Worked rows: reports of literal needs.
-use Rattle.std.specs.Prelude.{◌≡◌, ℕ, ◌+◌, List, [], ◌∷◌, ◌++◌, length, flat_map, map, codes}
+use Rattle.std.specs.Prelude.{◌≡◌, ℕ, Bool, List, [], ◌∷◌, ◌++◌, None, length, flat_map, map, codes}
 use Rattle.std.specs.List.{enumerate_from}
 use Rattle.gts_frame.specs.declared.kind.Kind.TheVariants.{An}
 use Rattle.gts_directory.specs.Directory.{Directory}
-use Rattle.gts_event.specs.State.{Bulletin}
+use Rattle.gts_heading.specs.Worked.{worked_heading}
+use Rattle.gts_event.specs.State.{Bulletin, has}
 use Rattle.gts_event.specs.Need.{Need, CircuitNeed, unused}
 use Rattle.gts_event.specs.Worked.{two, three, keeping, body_text}
 use Rattle.gts_report.specs.Report.{report}
-use Rattle.gts_report.specs.Sets.{segments, set_lines}
+use Rattle.gts_report.specs.Sets.{segments, sets_of, set_line}
 
 -- lines, each ended by LF
 abbrev pub lines : List (List ℕ) → List ℕ
@@ -46,27 +47,35 @@ WaitsTwice = report (three (codes "CCCC")) (record {
 }) ≡ lines (codes "accepted 12" ∷ codes "circuit 00 A draws 0 waiting 0 last -" ∷ codes "circuit 01 B draws 999 waiting 2 last 999"
     ∷ codes "circuit 02 C draws 1000 waiting 1 last 000" ∷ codes "end" ∷ [])
 
--- the lines on segments, where bulletins with these groups behind SMVG01 TVSV 280000 were accepted
-abbrev pub set_with : List (List ℕ) → List ℕ
-set_with groups = set_lines (segments two (accepted (map (λ group. codes "SMVG01 TVSV 280000 " ++ group) groups)))
+-- the groups of a set that are noted, by their places
+abbrev pub with_places : List ℕ → ℕ → Bool
+with_places places place = has places place
 
--- A set is whole with its places from 0 on and the last segment behind them.
+-- the line on SMVG01 TVSV 280000, where these places are noted
+abbrev pub line_with : List ℕ → List ℕ
+line_with places = set_line (with_places places) (worked_heading None)
+
+-- A set is whole with its places from 0 on and the last segment behind them: PAA and PZB; PAA, PAB and PZC; PZA alone.
 abbrev pub WholeSets : Type 0
-WholeSets = (set_with (codes "PAA" ∷ codes "PZB" ∷ []) ≡ lines (codes "segments SMVG01 TVSV 280000 complete 2" ∷ []))
-    × (set_with (codes "PZC" ∷ codes "PAB" ∷ codes "PAA" ∷ codes "PAB" ∷ []) ≡ lines (codes "segments SMVG01 TVSV 280000 complete 3" ∷ []))
-    × (set_with (codes "PZA" ∷ []) ≡ lines (codes "segments SMVG01 TVSV 280000 complete 1" ∷ []))
+WholeSets = (line_with (0 ∷ 651 ∷ []) ≡ lines (codes "segments SMVG01 TVSV 280000 complete 2" ∷ []))
+    × (line_with (652 ∷ 1 ∷ 0 ∷ []) ≡ lines (codes "segments SMVG01 TVSV 280000 complete 3" ∷ []))
+    × (line_with (650 ∷ []) ≡ lines (codes "segments SMVG01 TVSV 280000 complete 1" ∷ []))
 
--- With another letter, a second last segment, a place that is missing, or without a last segment it isn't.
+-- It isn't with another letter, a second last segment, a place that is missing, or without a last segment.
 abbrev pub Parts : Type 0
-Parts = (set_with (codes "PAA" ∷ codes "PZC" ∷ []) ≡ lines (codes "segments SMVG01 TVSV 280000 partial 2" ∷ []))
-    × (set_with (codes "PAA" ∷ codes "PZB" ∷ codes "PZC" ∷ []) ≡ lines (codes "segments SMVG01 TVSV 280000 partial 3" ∷ []))
-    × (set_with (codes "PAB" ∷ codes "PZB" ∷ []) ≡ lines (codes "segments SMVG01 TVSV 280000 partial 2" ∷ []))
-    × (set_with (codes "PAA" ∷ []) ≡ lines (codes "segments SMVG01 TVSV 280000 partial 1" ∷ []))
-    × (set_with (codes "RRA" ∷ codes "CCA" ∷ []) ≡ [])
+Parts = (line_with (0 ∷ 652 ∷ []) ≡ lines (codes "segments SMVG01 TVSV 280000 partial 2" ∷ []))
+    × (line_with (0 ∷ 651 ∷ 652 ∷ []) ≡ lines (codes "segments SMVG01 TVSV 280000 partial 3" ∷ []))
+    × (line_with (1 ∷ 651 ∷ []) ≡ lines (codes "segments SMVG01 TVSV 280000 partial 2" ∷ []))
+    × (line_with (0 ∷ []) ≡ lines (codes "segments SMVG01 TVSV 280000 partial 1" ∷ []))
 
--- Sets stand in the order of their headings, whatever came first; a segment that isn't recent is left out.
+-- the sets of the segments where bulletins with these headings were accepted, by their bytes
+abbrev pub sets_among : Directory → List (List ℕ) → List (List ℕ)
+sets_among d headings = map (λ set. set.0) (sets_of (segments d (accepted headings)))
+
+-- Sets stand in the order of their headings, each once, whatever came first. What isn't recent, or no segment, has none.
 abbrev pub SetsInOrder : Type 0
-SetsInOrder = (set_lines (segments two (accepted (codes "SMVG02 TVSV 280000 PAA" ∷ codes "SMVG01 TVSV 280000 PZA" ∷ codes "SMVG02 TVSV 280000 PAB" ∷ [])))
-    ≡ lines (codes "segments SMVG01 TVSV 280000 complete 1" ∷ codes "segments SMVG02 TVSV 280000 partial 2" ∷ []))
-    × (set_lines (segments (keeping 1000 2) (accepted (codes "SMVG01 TVSV 280000 PAA" ∷ codes "SMVG01 TVSV 280000 PAB" ∷ codes "SMVG01 TVSV 280000 PZC" ∷ [])))
-    ≡ lines (codes "segments SMVG01 TVSV 280000 partial 2" ∷ []))
+SetsInOrder = (sets_among two (codes "SMVG02 TVSV 280000 PAA" ∷ codes "SMVG01 TVSV 280000 PZA" ∷ codes "SMVG02 TVSV 280000 PAB" ∷ [])
+    ≡ codes "SMVG01 TVSV 280000" ∷ codes "SMVG02 TVSV 280000" ∷ [])
+    × (sets_among (keeping 1000 2) (codes "SMVG03 TVSV 280000 PAA" ∷ codes "SMVG02 TVSV 280000 PAA" ∷ codes "SMVG01 TVSV 280000 PAA" ∷ [])
+    ≡ codes "SMVG01 TVSV 280000" ∷ codes "SMVG02 TVSV 280000" ∷ [])
+    × (sets_among two (codes "SMVG01 TVSV 280000 RRA" ∷ codes "SMVG01 TVSV 280000" ∷ []) ≡ [])
