@@ -7,7 +7,7 @@ mod segments;
 mod text;
 mod worked;
 
-pub use report::report_of;
+pub use report::{report, report_of};
 pub use text::ReportText;
 pub use worked::{
     a_whole_set_is_complete, another_set_is_partial, each_circuit_has_its_line, sets_stand_in_order,
