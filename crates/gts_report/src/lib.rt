@@ -1,12 +1,14 @@
 //! The report: what the switch stands at, in lines for the operator.
 #![tactic(auto)]
 
+mod laws;
 mod lines;
 mod report;
 mod segments;
 mod text;
 mod worked;
 
+pub use laws::each_set_stands_once_and_in_order;
 pub use report::{report, report_of};
 pub use text::ReportText;
 pub use worked::{
