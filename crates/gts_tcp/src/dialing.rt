@@ -1,8 +1,7 @@
-use std::io;
 use std::io::ErrorKind;
 use std::net::{Ipv4Addr, Net, TcpListener, TcpStream};
-use std::thread;
 use std::time::{Clock, Duration};
+use std::{io, thread};
 
 /// How many microseconds a caller waits before it tries again.
 const PAUSE: u64 = 100;
