@@ -2,11 +2,10 @@ use super::*;
 use gts_memory::MemSink;
 use gts_tcp::{TcpLines, listen};
 use gts_traits::{Failed, Lines, Sink, Source};
-use std::io;
 use std::net::{Net, TcpListener, TcpStream};
 use std::test::Fail;
-use std::thread;
 use std::time::Clock;
+use std::{io, thread};
 
 /// More tries than a thread needs to begin.
 const TRIES: u32 = 100_000;
