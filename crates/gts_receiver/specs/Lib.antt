@@ -1,0 +1,3 @@
+pub mod Receiving
+-- what the contracts of callers cite
+pub use Rattle.gts_receiver.specs.Receiving.{LeavesOpen, LosesAt, AddsFault, FaultsAt, EndsAs, Receives}
