@@ -1,3 +1,3 @@
-pub mod Receiving
+pub mod Receiver
 -- what the contracts of callers cite
-pub use Rattle.gts_receiver.specs.Receiving.{LeavesOpen, LosesAt, AddsFault, FaultsAt, EndsAs, Receives}
+pub use Rattle.gts_receiver.specs.Receiver.{LeavesOpen, LosesAt, AddsFault, FaultsAt, EndsAs, Receives}

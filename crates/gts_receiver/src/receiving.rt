@@ -2,7 +2,7 @@ ghost use Rattle.std.specs.Prelude.{◌≡◌, ◌≢◌, ℕ, ◌+◌, ◌<◌,
 ghost use Rattle.gts_traits.specs.Counts.{Rose};
 ghost use Rattle.gts_frame.specs.{held_in, HasMessage};
 ghost use Rattle.gts_desk.specs.Desks.{Seen};
-ghost use Rattle.gts_receiver.specs.Receiving.{Receives, Receiving, Tells, Deals};
+ghost use Rattle.gts_receiver.specs.Receiver.{Receives, Receiving, Tells, Deals};
 
 use crate::{LONGEST_CONNECTION, ReceiveEnd};
 use gts_desk::Desk;

@@ -1,3 +1,3 @@
-pub mod Sending
+pub mod Sender
 -- what the contracts of callers cite
-pub use Rattle.gts_sender.specs.Sending.{takes, Sending, TookLast, Breaks, Fails, Sends}
+pub use Rattle.gts_sender.specs.Sender.{takes, Sending, TookLast, Breaks, Fails, Sends}

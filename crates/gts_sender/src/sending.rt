@@ -1,7 +1,7 @@
 ghost use Rattle.std.specs.Prelude.{◌≡◌, ℕ, ◌<◌, ◌≤◌, List, ◌++◌, length, Err};
 ghost use Rattle.gts_traits.specs.Counts.{Rose};
 ghost use Rattle.gts_desk.specs.Desks.{Seen};
-ghost use Rattle.gts_sender.specs.Sending.{given_index, Sending, Sends, Tried};
+ghost use Rattle.gts_sender.specs.Sender.{given_index, Sending, Sends, Tried};
 
 use crate::SendEnd;
 use crate::writing::write_all;

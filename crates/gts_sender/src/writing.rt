@@ -1,6 +1,6 @@
 ghost use Rattle.std.specs.Prelude.{◌≡◌, ◌≤◌, ◌++◌, ℕ, List, IsErr};
 ghost use Rattle.gts_traits.specs.Counts.{Rose};
-ghost use Rattle.gts_sender.specs.Sending.{Wrote};
+ghost use Rattle.gts_sender.specs.Sender.{Wrote};
 
 use gts_traits::{Failed, Sink};
 
