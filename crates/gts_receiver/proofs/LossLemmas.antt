@@ -9,7 +9,7 @@ use Rattle.gts_frame.specs.Signs.{held_in}
 use Rattle.gts_frame.specs.Decoder.{Decoding, is_part, Makes, after_step}
 use Rattle.gts_frame.specs.declared.lost.LostField.{LostField}
 use Rattle.gts_frame.specs.declared.step.Step.{Step}
-use Rattle.gts_frame.specs.declared.step.Step.TheVariants as step
+use Rattle.gts_frame.specs.declared.step.Step.TheVariants as steps
 use Rattle.gts_frame.proofs.LawLemmas.{reads-open, open-front, front-open, part-is}
 use Rattle.gts_receiver.specs.Receiver.{KeepsOn}
 
@@ -34,7 +34,7 @@ front_of_part bytes p = (piece_text p.0, p.1 ∷ p.2, (p.0 ∷ [], (p.3, tt), sy
 
 -- the decoder of a connection over which synchronisation was kept holds something
 pub open_at : (given : List ℕ) (held : Option (List ℕ)) → held ≡ held_in given → IsStreamFront given → (h : List ℕ) × (held ≡ Some h)
-open_at given None is kept = absurd (subst IsSome (sym is) (front-open given kept))
+open_at given None is kept = absurd (let e : IsSome {T = List ℕ} None = subst IsSome (sym is) (front-open given kept) in cc e)
 open_at given (Some h) is kept = (h, refl)
 
 -- and still does after a step that keeps it
@@ -46,14 +46,14 @@ open_after decoder next x step h is makes after keeps =
     subst (λ (d : Decoding). IsSome d.held) (sym a) (by step m keeps)
   where
     by : (s : Step) → Makes (h ++ x) s → KeepsOn s → IsSome (after_step (h ++ x) s).held
-    by step.More m k = tt
-    by (step.Frame kind) m k = tt
-    by step.KeepAlive m k = tt
-    by (step.Lost field) m k = absurd k
-    by step.Dropped m k = absurd m
+    by steps.More m k = refl
+    by (steps.Frame kind) m k = refl
+    by steps.KeepAlive m k = refl
+    by (steps.Lost field) m k = absurd k
+    by steps.Dropped m k = absurd m
 
 -- the bytes up to the one at which it is lost keep it
-pub kept_before : (given h init : List ℕ) (last : ℕ) (field : LostField) → held_in given ≡ Some h → Makes (h ++ (init ++ last ∷ [])) (step.Lost field) → IsStreamFront (given ++ init)
+pub kept_before : (given h init : List ℕ) (last : ℕ) (field : LostField) → held_in given ≡ Some h → Makes (h ++ (init ++ last ∷ [])) (steps.Lost field) → IsStreamFront (given ++ init)
 kept_before given h init last field is makes =
     let all : List ℕ = h ++ (init ++ last ∷ []) in
     let part : is_part (take (length all - 1) all) ≡ true = and_first (is_part (take (length all - 1) all)) (not (is_front all)) makes.0 in
@@ -65,4 +65,5 @@ kept_before given h init last field is makes =
 pub lost_with : (given init : List ℕ) (last : ℕ) → held_in (given ++ (init ++ last ∷ [])) ≡ None → IsStreamFront ((given ++ init) ++ last ∷ []) → ⊥
 lost_with given init last none front =
     let some : IsSome (held_in ((given ++ init) ++ last ∷ [])) = front-open ((given ++ init) ++ last ∷ []) front in
-    subst IsSome (ap held_in (append_assoc given init (last ∷ [])) ∙ none) some
+    let e : IsSome {T = List ℕ} None = subst IsSome (ap held_in (append_assoc given init (last ∷ [])) ∙ none) some in
+    cc e

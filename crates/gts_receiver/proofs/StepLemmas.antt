@@ -13,7 +13,7 @@ use Rattle.gts_event.specs.declared.fault.SwitchFault.{SwitchFault}
 use Rattle.gts_event.specs.declared.fault.SwitchFault.TheVariants.{DiskFault, SayFault, Full, Stopped, Spent, NoMemory}
 use Rattle.gts_frame.specs.declared.lost.LostField.{LostField}
 use Rattle.gts_frame.specs.declared.step.Step.{Step}
-use Rattle.gts_frame.specs.declared.step.Step.TheVariants as step
+use Rattle.gts_frame.specs.declared.step.Step.TheVariants as steps
 use Rattle.gts_turns.specs.Turns.{entry_of}
 use Rattle.gts_desk.specs.Desks.{Seen, own, Answers, SaysNoMore, AddsJust, IsSpent, IsUntold, GoesOn}
 use Rattle.gts_desk.proofs.LawLemmas.{just, own_added, own_spent, goes_on, goes_on_spent, stays}
@@ -49,7 +49,7 @@ module _ (c : ℕ) (step : Step) (message : List ℕ) (at : ℕ) (old new : Seen
       }
 
   -- the loss was told
-  pub lost : (field : LostField) (o : Outcome) → step ≡ step.Lost field
+  pub lost : (field : LostField) (o : Outcome) → step ≡ steps.Lost field
       → Answers old (Lost c field) SaysNoMore (Ok o) new → Deals c step message at (Err (LostSync field at)) old new
   lost field o is answers =
       let adds = done_adds (Lost c field) o old new answers in

@@ -109,6 +109,8 @@ fn deal<D: Desk, G: Gate>(
                 Err(fault) => Err(ReceiveEnd::Fault(fault)),
             }
         }
-        Step::More | Step::KeepAlive | Step::Dropped => Ok(()),
+        Step::More => Ok(()),
+        Step::KeepAlive => Ok(()),
+        Step::Dropped => Ok(()),
     }
 }

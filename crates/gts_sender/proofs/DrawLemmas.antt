@@ -16,7 +16,7 @@ use Rattle.gts_event.specs.declared.outcome.Outcome.TheVariants.{Accepted, Dupli
 use Rattle.gts_event.specs.declared.fault.SwitchFault.{SwitchFault}
 use Rattle.gts_event.specs.declared.fault.SwitchFault.TheVariants.{DiskFault, SayFault, Full, Stopped, Spent, NoMemory}
 use Rattle.gts_event.proofs.LawLemmas.{after_all-append}
-use Rattle.gts_lock.specs.History.{entries}
+use Rattle.gts_desk.specs.{entries}
 use Rattle.gts_turns.specs.Turns.{entry_of}
 use Rattle.gts_desk.specs.Desks.{Seen, own, state_at, Adds, AddsJust, Answers, LeavesFrame}
 use Rattle.gts_desk.specs.Frames.{frame_of_outcome, frame_of, own_frames}

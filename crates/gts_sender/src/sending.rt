@@ -9,7 +9,7 @@ use gts_bell::Bell;
 use gts_desk::Desk;
 use gts_event::Outcome;
 use gts_frame::FrameBuf;
-use gts_traits::{Gate, Point, Sink};
+use gts_traits::{Failed, Gate, Point, Sink};
 use std::sync::Wait;
 
 /// Sends on circuit `c`: writes the frame of each take, until the bell is closed and a take gives nothing. Where there is
@@ -69,14 +69,17 @@ fn send_one<D: Desk, K: Sink, G: Gate>(
         Ok(outcome) => outcome,
         Err(fault) => return Err(SendEnd::Fault(fault)),
     };
-    let Some(index) = index_of(outcome) else {
-        return Ok(false);
+    let index = match index_of(outcome) {
+        Some(index) => index,
+        None => return Ok(false),
     };
-    if write_all(sink, out.bytes()).is_err() {
-        return Err(SendEnd::LineFault { index });
+    match write_all(sink, out.bytes()) {
+        Ok(()) => {
+            gate.at(Point::Sent { c });
+            Ok(true)
+        }
+        Err(Failed) => Err(SendEnd::LineFault { index }),
     }
-    gate.at(Point::Sent { c });
-    Ok(true)
 }
 
 /// The index of the frame that a take left, where it gave something.
