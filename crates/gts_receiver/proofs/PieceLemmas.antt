@@ -1,5 +1,5 @@
 -- The bytes of a connection, step by step.
-use Rattle.std.proofs.Common.{◌≡◌, ◌⊎◌, ℕ, ◌+◌, ◌-◌, ◌<◌, true, List, [], ◌∷◌, ◌++◌, length, take, drop, Option, Some, None, Ok, Err, inl, inr, ⊎_elim, refl, sym, ap, ◌∙◌, subst, arith, append_assoc, length-append, length-drop}
+use Rattle.std.proofs.Common.{◌≡◌, ◌⊎◌, ℕ, ◌+◌, ◌-◌, ◌<◌, ◌==◌, true, false, eq-eqb, ne_eqb, List, [], ◌∷◌, ◌++◌, length, take, drop, Option, Some, None, Ok, Err, inl, inr, ⊎_elim, refl, sym, ap, ◌∙◌, subst, arith, append_assoc, length-append, length-drop}
 use Rattle.std.specs.Prelude.{IsSome, IfSome}
 use Rattle.std.proofs.lemmas.List.{append-nil, map-append, take_all}
 use Rattle.gts_event.specs.Drain.{all_done}
@@ -29,6 +29,15 @@ use Rattle.gts_receiver.proofs.LossLemmas.{ends_with, open_at, open_after, kept_
 
 all_done-append : (xs ys : List Event) → all_done (xs ++ ys) ≡ all_done xs ++ all_done ys
 all_done-append xs ys = map-append (λ (e : Event). Done e) xs ys
+
+-- what a test for an empty list tells
+pub filled : (xs : List ℕ) → (length xs == 0) ≡ false → 0 < length xs
+filled [] e = absurd (let no : true ≡ false = sym (eq-eqb 0 0 refl) ∙ e in cc no)
+filled (x ∷ xs) e = omega arith
+
+pub emptied : (xs : List ℕ) → (length xs == 0) ≡ true → xs ≡ []
+emptied [] e = refl
+emptied (x ∷ xs) e = absurd (let no : true ≡ false = sym e ∙ ne_eqb (length (x ∷ xs)) 0 (λ p. omega (arith, p)) in cc no)
 
 -- a slice from a place on
 pub slice_from : (n : ℕ) (xs : List ℕ) → take (length xs - n) (drop n xs) ≡ drop n xs
@@ -112,14 +121,14 @@ module _ (c : ℕ) (first now later : Seen) (given x : List ℕ) (step : Step) (
           behind = more;
           parts = connection-added c (given ++ x) behind ∙ ap (λ (es : List Event). es ++ more) (grows ∙ ap (λ (es : List Event). connection c given ++ es) f.is)
               ∙ append_assoc (connection c given) (f.event ∷ []) more;
-          added = enters f.added;
+          added = enters f.event f.added;
           spent = f.spent;
         };
       }
     where
-      enters : {event : Event} → AddsFault now.alone event fault (own now) (own later) → AddsFault later.alone event fault (own first ++ all_done (connection c given)) (own later)
-      enters {event} (inl is) = inl (is ∙ ap (λ (es : List Entry). es ++ entry_of event (Err fault)) so_far.added)
-      enters {event} (inr none) = inr (none.0, deals.desk.alone ∙ none.1, none.2 ∙ so_far.added)
+      enters : (event : Event) → AddsFault now.alone event fault (own now) (own later) → AddsFault later.alone event fault (own first ++ all_done (connection c given)) (own later)
+      enters event (inl is) = inl (is ∙ ap (λ (es : List Entry). es ++ entry_of event (Err fault)) so_far.added)
+      enters event (inr none) = inr (none.0, deals.desk.alone ∙ none.1, none.2 ∙ so_far.added)
 
   -- the connection ended at it
   pub ended : (behind : List ℕ) (at : ℕ) (end : ReceiveEnd) → at ≡ length given + length x

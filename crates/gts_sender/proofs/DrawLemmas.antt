@@ -62,10 +62,10 @@ sending_nothing c d = record { desk = stays d; count = 0; added = sym (append-ni
 module _ (c : ℕ) (first old new : Seen) (sent : List ℕ) (so_far : Sending c first old sent) where
   -- a take was done
   module _ (o : Outcome) (out : List ℕ) (adds : Adds old (Done (Taken c)) (λ s. (o ≡ outcome old.directory s (Taken c)) × LeavesFrame old.directory c out o s) new) where
-    s : State
+    abbrev s : State
     s = state_at old (old.history ++ adds.others)
 
-    entry : Entry
+    abbrev entry : Entry
     entry = Done (Taken c)
 
     one : AddsJust old entry new

@@ -1,7 +1,6 @@
 ghost use Rattle.std.specs.Prelude.{◌≡◌, ℕ, ◌<◌, ◌≤◌, List, ◌++◌, length, Err};
 ghost use Rattle.gts_traits.specs.Counts.{Rose};
-ghost use Rattle.gts_desk.specs.Desks.{Seen};
-ghost use Rattle.gts_sender.specs.Sender.{given_index, Sending, Sends, Tried};
+ghost use Rattle.gts_sender.specs.Sender.{given_index, Sends, SendsMore};
 
 use crate::SendEnd;
 use crate::writing::write_all;
@@ -57,8 +56,7 @@ fn send_one<D: Desk, K: Sink, G: Gate>(
     requires { c < length (D.seen desk.old).directory.circuits }
     ensures directory { (D.seen desk.new).directory ≡ (D.seen desk.old).directory }
     ensures tried { (bytes : List ℕ)
-        × ((first : Seen) (sent : List ℕ) → Sending c first (D.seen desk.old) sent
-        → Tried c first (D.seen desk.new) (sent ++ bytes) result)
+        × SendsMore c (D.seen desk.old) (D.seen desk.new) bytes result
         × (K.tells → K.written sink.new ≡ K.written sink.old ++ bytes) }
     ensures later { K.faults sink.old ≤ K.faults sink.new }
     ensures fault { (index : ℕ) → result ≡ Err (SendEnd.LineFault index)

@@ -1,12 +1,12 @@
-use Rattle.std.proofs.Common.{rules, ◌≡◌, ℕ, ◌+◌, ◌<◌, ◌++◌, List, length, take, drop, Result, Ok, Err, sym, ap, ◌∙◌, subst, arith, append_assoc, take-append-drop, length-append, length-drop}
+use Rattle.std.proofs.Common.{◌≡◌, ℕ, ◌+◌, ◌<◌, ◌++◌, [], List, length, take, drop, Result, Ok, Err, sym, ap, ◌∙◌, subst, arith, append_assoc, take-append-drop, length-append, length-drop}
 use Rattle.std.specs.Prelude.{IsErrAnd}
-use Rattle.std.proofs.lemmas.List.{length-take-le}
+use Rattle.std.proofs.lemmas.List.{append-nil, length-take-le}
 use Rattle.std.proofs.lemmas.Result.{err_from_is_err_and}
 use Rattle.gts_desk.specs.Desks.{Seen}
 use Rattle.gts_receiver.specs.declared.end.ReceiveEnd.{ReceiveEnd}
 use Rattle.gts_receiver.specs.declared.end.ReceiveEnd.TheVariants.{Ended, SourceFault}
 use Rattle.gts_receiver.specs.Receiver.{Receives, Receiving, Tells, Deals}
-use Rattle.gts_receiver.proofs.PieceLemmas.{slice_from, told_none, told_more, told_end, no_source_fault, no_end}
+use Rattle.gts_receiver.proofs.PieceLemmas.{filled, emptied, slice_from, told_more, told_end, no_source_fault, no_end}
 use Rattle.gts_receiver.proofs.receiving.receive_piece.Goals as goal
 
 -- what `?` returns
@@ -26,7 +26,7 @@ loop-rest-preserved g c =
     let at : ℕ = c.loop-rest.at + n in
     let now = g.D.Desk.seen c.loop-rest.desk in
     let later = g.D.Desk.seen c.deal.new.desk in
-    let some : 0 < length rest = search rules in
+    let some : 0 < length rest = filled rest (sym c.is_empty.ensures ∙ c.loop-rest-test.true) in
     let long : length x ≡ n = length-take-le n rest c.take-count.ensures.count in
     let d0 : Deals c.args.c step next.message at c.deal.result now later = subst (λ (m : List ℕ). Deals c.args.c step m at c.deal.result now later) c.message.ensures c.deal.ensures in
     let deals : Deals c.args.c step next.message at (Ok tt) now later = subst (λ (r : Result (Unit {0}) ReceiveEnd). Deals c.args.c step next.message at r now later) c.in_ok-deal.was d0 in
@@ -56,7 +56,7 @@ returns-in_err-deal-clause-told g c = λ first given is long_before from.
     let now = g.D.Desk.seen c.loop-rest.desk in
     let later = g.D.Desk.seen c.deal.new.desk in
     let end = c.in_err-deal.field-0.0 in
-    let some : 0 < length rest = search rules in
+    let some : 0 < length rest = filled rest (sym c.is_empty.ensures ∙ c.loop-rest-test.true) in
     let long : length x ≡ n = length-take-le n rest c.take-count.ensures.count in
     let d0 : Deals c.args.c step next.message at c.deal.result now later = subst (λ (m : List ℕ). Deals c.args.c step m at c.deal.result now later) c.message.ensures c.deal.ensures in
     let deals : Deals c.args.c step next.message at (Err end) now later = subst (λ (r : Result (Unit {0}) ReceiveEnd). Deals c.args.c step next.message at r now later) c.in_err-deal.was d0 in
@@ -93,5 +93,7 @@ returns-in_err-deal-clause-going g c = λ rest e.
 pub returns-clause-told : goal.returns-clause-told
 returns-clause-told g c = λ first given is long from.
     let i = c.loop-rest.invariant in
-    let same : i.told.0 ≡ c.args.piece.now = search rules in
+    let bytes : List ℕ = i.told.0 in
+    let none : c.loop-rest.rest.now ≡ [] = emptied c.loop-rest.rest.now (sym c.is_empty.ensures ∙ c.loop-rest-test.false) in
+    let same : bytes ≡ c.args.piece.now = sym (i.told.1 ∙ ap (λ (l : List ℕ). bytes ++ l) none ∙ append-nil bytes) in
     subst (λ (l : List ℕ). Receiving c.args.c first (g.D.Desk.seen c.loop-rest.desk) (given ++ l)) same (i.told.3.told first given is long from)
