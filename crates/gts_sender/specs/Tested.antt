@@ -1,6 +1,6 @@
 -- What the desk of the tests has seen: its only circuit is owed its last draw, of a bulletin with an empty body, and it was
 -- asked for takes alone.
-use Rattle.std.specs.Prelude.{ℕ, false, List, [], ◌∷◌, None, replicate}
+use Rattle.std.specs.Prelude.{ℕ, true, false, List, [], ◌∷◌, None, replicate}
 use Rattle.gts_frame.specs.declared.kind.Kind.TheVariants.{An}
 use Rattle.gts_directory.specs.Directory.{Directory}
 use Rattle.gts_event.specs.Need.{Need}
