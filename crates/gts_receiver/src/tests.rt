@@ -1,3 +1,5 @@
+ghost use Rattle.std.specs.Prelude.{◌<◌};
+
 use super::*;
 use gts_desk::Desk;
 use gts_event::{Outcome, SwitchFault};

@@ -1,5 +1,5 @@
 -- The desk of the tests.
-use Rattle.std.proofs.Common.{◌≡◌, ℕ, zero, suc, ◌+◌, List, [], ◌∷◌, ◌++◌, Ok, refl, sym, ap, ◌∙◌, subst, add-one}
+use Rattle.std.proofs.Common.{◌≡◌, ℕ, zero, suc, ◌+◌, ◌<◌, arith, List, [], ◌∷◌, ◌++◌, Ok, refl, sym, ap, ◌∙◌, subst, add-one}
 use Rattle.std.specs.Prelude.{replicate}
 use Rattle.std.proofs.lemmas.List.{append-nil, map-append}
 use Rattle.gts_frame.specs.Frame.{frame}
@@ -60,3 +60,18 @@ later_take n out =
       );
       caused = caused (suc (suc n));
     }
+
+-- the same on the only circuit, by whatever name
+pub first_on : (n c : ℕ) (out : List ℕ) → n ≡ 0 → c ≡ 0 → out ≡ frame An (message_of (dec 3 1) (3 ∷ []))
+    → Answers (seen_by n) (Taken c) (LeavesFrame one_circuit c out) (Ok (Resend 0)) (seen_by 1)
+first_on n c out none zero_is is =
+    let P : ℕ → ℕ → Type 0 = λ m k. Answers (seen_by m) (Taken k) (LeavesFrame one_circuit k out) (Ok (Resend 0)) (seen_by 1) in
+    let here : P n 0 = subst (λ (m : ℕ). P m 0) (sym none) (first_take out is) in
+    subst (λ (k : ℕ). P n k) (sym zero_is) here
+
+pub later_on : (n c : ℕ) (out : List ℕ) → 0 < n → c ≡ 0 → Answers (seen_by n) (Taken c) (LeavesFrame one_circuit c out) (Ok Nothing) (seen_by (n + 1))
+later_on zero c out some zero_is = absurd (omega arith)
+later_on (suc n) c out some zero_is =
+    let P : ℕ → ℕ → Type 0 = λ m k. Answers (seen_by (suc n)) (Taken k) (LeavesFrame one_circuit k out) (Ok Nothing) (seen_by m) in
+    let here : P (suc n + 1) 0 = subst (λ (m : ℕ). P m 0) (sym (add-one (suc n))) (later_take n out) in
+    subst (λ (k : ℕ). P (suc n + 1) k) (sym zero_is) here
