@@ -77,9 +77,7 @@ fn end_of<R: AllocGlobal + Wait, K: Sink>(rt: &R, sink: &mut K) -> Result<SendEn
     let mut out = FrameBuf::new(rt.alloc())?;
     let bell = Bell::new();
     bell.close();
-    Ok(send(
-        rt, &mut desk, 0, sink, &mut out, &bell, &FreeGate,
-    ))
+    Ok(send(rt, &mut desk, 0, sink, &mut out, &bell, &FreeGate))
 }
 
 #[test]
