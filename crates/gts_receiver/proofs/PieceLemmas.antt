@@ -1,5 +1,5 @@
 -- The bytes of a connection, step by step.
-use Rattle.std.proofs.Common.{◌≡◌, ◌⊎◌, ℕ, ◌+◌, ◌-◌, ◌<◌, ◌==◌, true, false, eq-eqb, ne_eqb, List, [], ◌∷◌, ◌++◌, length, take, drop, Option, Some, None, Ok, Err, inl, inr, ⊎_elim, refl, sym, ap, ◌∙◌, subst, arith, append_assoc, length-append, length-drop}
+use Rattle.std.proofs.Common.{◌≡◌, ℕ, ◌+◌, ◌-◌, ◌<◌, ◌==◌, true, false, eq-eqb, ne_eqb, List, [], ◌∷◌, ◌++◌, length, take, drop, Option, None, Ok, Err, inl, inr, refl, sym, ap, ◌∙◌, subst, arith, append_assoc, length-append, length-drop}
 use Rattle.std.specs.Prelude.{IsSome, IfSome}
 use Rattle.std.proofs.lemmas.List.{append-nil, map-append, take_all}
 use Rattle.gts_event.specs.Drain.{all_done}
@@ -8,10 +8,8 @@ use Rattle.gts_event.specs.declared.event.Event.TheVariants.{Lost}
 use Rattle.gts_event.specs.declared.event.Entry.{Entry}
 use Rattle.gts_event.specs.declared.event.Entry.TheVariants.{Done}
 use Rattle.gts_event.specs.declared.fault.SwitchFault.{SwitchFault}
-use Rattle.gts_event.specs.declared.fault.SwitchFault.TheVariants.{NoMemory}
 use Rattle.gts_frame.specs.Decoder.{Decoding, Makes, after_step, ReadsOn}
-use Rattle.gts_frame.specs.Signs.{Sign, signs_in, held_in}
-use Rattle.gts_frame.specs.Stream.{IsStreamFront}
+use Rattle.gts_frame.specs.Signs.{held_in}
 use Rattle.gts_frame.specs.declared.lost.LostField.{LostField}
 use Rattle.gts_frame.specs.declared.step.Step.{Step}
 use Rattle.gts_frame.specs.declared.step.Step.TheVariants as steps
@@ -24,7 +22,7 @@ use Rattle.gts_turns.specs.Turns.{entry_of}
 use Rattle.gts_desk.proofs.LawLemmas.{goes_further, stays}
 use Rattle.gts_receiver.specs.declared.end.ReceiveEnd.{ReceiveEnd}
 use Rattle.gts_receiver.specs.declared.end.ReceiveEnd.TheVariants.{Ended, LostSync, SourceFault, Long, Fault}
-use Rattle.gts_receiver.specs.Receiver.{LosesAt, FaultsAt, AddsFault, Receives, Receiving, Tells, KeepsOn, events_of_step, FaultsIn, EndsStep, Deals, HasTold}
+use Rattle.gts_receiver.specs.Receiver.{AddsFault, Receives, Receiving, events_of_step, Deals, HasTold}
 use Rattle.gts_receiver.proofs.LossLemmas.{ends_with, open_at, open_after, kept_before, lost_with}
 
 all_done-append : (xs ys : List Event) → all_done (xs ++ ys) ≡ all_done xs ++ all_done ys

@@ -1,4 +1,4 @@
-ghost use Rattle.std.specs.Prelude.{◌<◌};
+ghost use Rattle.std.specs.Prelude.{◌<◌, length};
 
 use super::*;
 use gts_desk::Desk;
@@ -43,40 +43,39 @@ impl Desk for LossDesk {
     }
 }
 
-/// How a connection with these bytes ends, which a source gives that fails at these calls, where so many are read at once.
-fn end_of<const AT_ONCE: usize>(
-    alloc: Global,
-    bytes: &[u8],
-    failing: &[u64],
-) -> Result<ReceiveEnd, Fail>
-    requires { 0 < AT_ONCE }
+/// How a connection with these bytes ends, which a source gives that fails at these calls, and which is read into this room.
+fn end_of(alloc: Global, bytes: &[u8], failing: &[u64], room: &mut [u8]) -> Result<ReceiveEnd, Fail>
+    requires { 0 < length room.old }
 {
     let mut desk = LossDesk { lost: None };
     let mut source = MemSource::new(alloc, bytes, failing)?;
     let mut decoder = Decoder::new(alloc)?;
-    let mut room = [0; AT_ONCE];
-    Ok(receive(
-        &mut desk,
-        0,
-        &mut source,
-        &mut decoder,
-        &mut room,
-        &FreeGate,
-    ))
+    Ok(receive(&mut desk, 0, &mut source, &mut decoder, room, &FreeGate))
 }
 
 #[test]
 fn each_end_of_a_connection_is_told_apart(rt: HostRuntime) -> Result<(), Fail> {
     let alloc = rt.alloc();
+    let blank = b"0000039 AN";
     let lost = ReceiveEnd::LostSync {
         field: LostField::Length,
         at: 8,
     };
-    assert_eq!(rt; end_of::<1>(alloc, b"0000039 AN", &[])?, lost);
-    assert_eq!(rt; end_of::<4>(alloc, b"0000039 AN", &[])?, lost);
-    assert_eq!(rt; end_of::<64>(alloc, &FRAME[..20], &[])?, ReceiveEnd::Ended { rest: 20 });
-    assert_eq!(rt; end_of::<3>(alloc, b"00000000AN", &[])?, ReceiveEnd::Ended { rest: 0 });
-    assert_eq!(rt; end_of::<10>(alloc, FRAME, &[2])?, ReceiveEnd::SourceFault);
-    assert_eq!(rt; end_of::<7>(alloc, FRAME, &[])?, ReceiveEnd::Fault(SwitchFault::Spent));
+    let spent = ReceiveEnd::Fault(SwitchFault::Spent);
+    assert_eq!(rt; end_of(alloc, blank, &[], &mut [0; 1])?, lost);
+    assert_eq!(rt; end_of(alloc, blank, &[], &mut [0; 4])?, lost);
+    assert_eq!(rt;
+        end_of(alloc, &FRAME[..20], &[], &mut [0; 64])?,
+        ReceiveEnd::Ended { rest: 20 }
+    );
+    assert_eq!(rt;
+        end_of(alloc, b"00000000AN", &[], &mut [0; 3])?,
+        ReceiveEnd::Ended { rest: 0 }
+    );
+    assert_eq!(rt;
+        end_of(alloc, FRAME, &[2], &mut [0; 10])?,
+        ReceiveEnd::SourceFault
+    );
+    assert_eq!(rt; end_of(alloc, FRAME, &[], &mut [0; 7])?, spent);
     Ok(())
 }

@@ -1,11 +1,11 @@
 -- The steps of a sender.
-use Rattle.std.proofs.Common.{◌≡◌, ◌⊎◌, ℕ, zero, suc, ◌+◌, List, [], ◌∷◌, ◌++◌, Option, Some, None, Err, inl, inr, refl, sym, ap, ◌∙◌, subst, append_assoc, add-one}
+use Rattle.std.proofs.Common.{◌≡◌, ◌⊎◌, ℕ, zero, suc, ◌+◌, List, [], ◌∷◌, ◌++◌, Some, None, Err, inl, inr, refl, sym, ap, ◌∙◌, append_assoc, add-one}
 use Rattle.std.specs.Prelude.{replicate}
 use Rattle.std.proofs.lemmas.List.{append-nil, map-append}
 use Rattle.gts_traits.specs.Station.{IsFront}
 use Rattle.gts_directory.specs.Directory.{Directory}
 use Rattle.gts_event.specs.State.{State}
-use Rattle.gts_event.specs.Need.{Need, begun}
+use Rattle.gts_event.specs.Need.{begun}
 use Rattle.gts_event.specs.History.{Choice, Repeats, Draws, Nothing_waits, choice, outcome, after, after_all}
 use Rattle.gts_event.specs.Said.{line}
 use Rattle.gts_event.specs.declared.event.Event.TheVariants.{Taken}

@@ -1,6 +1,5 @@
 -- The desk of the tests.
 use Rattle.std.proofs.Common.{◌≡◌, ℕ, zero, suc, ◌+◌, ◌<◌, arith, List, [], ◌∷◌, ◌++◌, Ok, refl, sym, ap, ◌∙◌, subst, add-one}
-use Rattle.std.specs.Prelude.{replicate}
 use Rattle.std.proofs.lemmas.List.{append-nil, map-append}
 use Rattle.gts_frame.specs.Frame.{frame}
 use Rattle.gts_frame.specs.declared.kind.Kind.TheVariants.{An}
@@ -16,7 +15,7 @@ use Rattle.gts_event.specs.declared.outcome.Outcome.TheVariants.{Resend, Nothing
 use Rattle.gts_opening.specs.Room.{IsCaused}
 use Rattle.gts_opening.proofs.LawLemmas.{caused-nothing, caused-entry}
 use Rattle.gts_desk.specs.{entries}
-use Rattle.gts_desk.specs.Desks.{Seen, IsSpent, Answers, LeavesFrame, history_of, state_at}
+use Rattle.gts_desk.specs.Desks.{IsSpent, Answers, LeavesFrame, history_of, state_at}
 use Rattle.gts_sender.specs.Tested.{one_circuit, one_owed, taken, seen_by}
 
 pub spent : (count : ℕ) → IsSpent (seen_by count) (seen_by count)
@@ -55,7 +54,7 @@ later_take n out =
       alone = λ e. refl;
       holds = (
         (let P : State → Type 0 = λ s. Nothing ≡ outcome one_circuit s (Taken 0) in
-        subst P (sym (ap (λ (l : List (ℕ × Entry)). state_at (seen_by (suc n)) l) (append-nil (taken (suc n))) ∙ stays n)) refl),
+            subst P (sym (ap (λ (l : List (ℕ × Entry)). state_at (seen_by (suc n)) l) (append-nil (taken (suc n))) ∙ stays n)) refl),
         tt,
       );
       caused = caused (suc (suc n));

@@ -4,7 +4,8 @@ use gts_desk::Desk;
 use gts_event::{Outcome, SwitchFault};
 use gts_frame::{FrameBuf, Kind, LostField, write_frame};
 use gts_memory::MemSink;
-use gts_traits::FreeGate;
+use gts_traits::{Failed, FreeGate, Sink};
+use std::sync::Wait;
 use std::test::Fail;
 
 const FRAME: &[u8] = b"00000011AN\x01\r\r\n001\r\r\n\x03";
@@ -44,24 +45,45 @@ impl Desk for OwedDesk {
     }
 }
 
-/// How a sender ends that sends to a sink which fails at these calls, and what the sink took.
-fn sent<R: AllocGlobal + std::sync::Wait>(
-    rt: &R,
-    failing: &[u64],
-) -> Result<(SendEnd, MemSink), Fail> {
-    let alloc = rt.alloc();
+/// A sink that takes five bytes at once, and fails from its third call on. It tells nothing to contracts.
+#[derive(Drop)]
+struct NarrowSink {
+    bytes: Vec<u8>,
+    calls: u64,
+    faults: u64,
+}
+
+impl Sink for NarrowSink {
+    ghost tells = { ⊥ };
+
+    ghost written = { λ s. s.bytes.items };
+
+    ghost faults = { λ s. s.faults };
+
+    fn write(&mut self, piece: &[u8]) -> Result<usize, Failed> {
+        let count = piece.len().min(5);
+        self.calls = self.calls.saturating_add(1);
+        if self.calls > 2 || self.bytes.extend_from_slice(&piece[..count]).is_err() {
+            self.faults = self.faults.saturating_add(1);
+            return Err(Failed);
+        }
+        Ok(count)
+    }
+}
+
+/// How a sender ends that sends what is owed to this sink.
+fn end_of<R: AllocGlobal + Wait, K: Sink>(rt: &R, sink: &mut K) -> Result<SendEnd, Fail> {
     let mut desk = OwedDesk { takes: 0 };
-    let mut sink = MemSink::new(alloc, failing)?;
-    let mut out = FrameBuf::new(alloc)?;
+    let mut out = FrameBuf::new(rt.alloc())?;
     let bell = Bell::new();
     bell.close();
-    let end = send(rt, &mut desk, 0, &mut sink, &mut out, &bell, &FreeGate);
-    Ok((end, sink))
+    Ok(send(rt, &mut desk, 0, sink, &mut out, &bell, &FreeGate))
 }
 
 #[test]
 fn what_is_owed_is_sent_once(rt: HostRuntime) -> Result<(), Fail> {
-    let (end, sink) = sent(&rt, &[])?;
+    let mut sink = MemSink::new(rt.alloc(), &[])?;
+    let end = end_of(&rt, &mut sink)?;
     assert_eq!(rt; end, SendEnd::Quiet);
     assert_eq!(rt; sink.bytes(), FRAME);
     Ok(())
@@ -69,8 +91,22 @@ fn what_is_owed_is_sent_once(rt: HostRuntime) -> Result<(), Fail> {
 
 #[test]
 fn a_line_that_fails_ends_its_sender(rt: HostRuntime) -> Result<(), Fail> {
-    let (end, sink) = sent(&rt, &[0])?;
+    let mut sink = MemSink::new(rt.alloc(), &[0])?;
+    let end = end_of(&rt, &mut sink)?;
     assert_eq!(rt; end, SendEnd::LineFault { index: 0 });
     assert_eq!(rt; sink.bytes().len(), 0);
+    Ok(())
+}
+
+#[test]
+fn a_frame_that_was_begun_is_not_begun_again(rt: HostRuntime) -> Result<(), Fail> {
+    let mut sink = NarrowSink {
+        bytes: Vec::new(rt.alloc()),
+        calls: 0,
+        faults: 0,
+    };
+    let end = end_of(&rt, &mut sink)?;
+    assert_eq!(rt; end, SendEnd::LineFault { index: 0 });
+    assert_eq!(rt; sink.bytes.as_slice(), &FRAME[..10]);
     Ok(())
 }

@@ -2,9 +2,7 @@ use Rattle.std.proofs.Common.{◌≡◌, ℕ, ◌+◌, ◌<◌, ◌++◌, [], Li
 use Rattle.std.specs.Prelude.{IsErrAnd}
 use Rattle.std.proofs.lemmas.List.{append-nil, length-take-le}
 use Rattle.std.proofs.lemmas.Result.{err_from_is_err_and}
-use Rattle.gts_desk.specs.Desks.{Seen}
 use Rattle.gts_receiver.specs.declared.end.ReceiveEnd.{ReceiveEnd}
-use Rattle.gts_receiver.specs.declared.end.ReceiveEnd.TheVariants.{Ended, SourceFault}
 use Rattle.gts_receiver.specs.Receiver.{Receives, Receiving, Tells, Deals}
 use Rattle.gts_receiver.proofs.PieceLemmas.{filled, emptied, slice_from, told_more, told_end, no_source_fault, no_end}
 use Rattle.gts_receiver.proofs.receiving.receive_piece.Goals as goal

@@ -1,4 +1,4 @@
-use Rattle.std.proofs.Common.{◌≡◌, ℕ, arith}
+use Rattle.std.proofs.Common.{◌≡◌, arith}
 use Rattle.gts_sender.proofs.TestLemmas.{first_on, later_on}
 use Rattle.gts_sender.proofs.tests.OwedDeskDesk.take.Goals as goal
 
