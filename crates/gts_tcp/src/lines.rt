@@ -6,6 +6,7 @@ use crate::{TcpIn, TcpOut, dial, listen};
 use gts_alphabet::MOST_CIRCUITS;
 use gts_traits::{Failed, Lines};
 use std::io;
+use std::io::ErrorKind;
 use std::marker::Model;
 use std::net::{Net, TcpListener, TcpStream};
 use std::time::Clock;
@@ -42,7 +43,8 @@ impl<'a, R: Net<Listener = TcpListener, Stream = TcpStream> + Clock> TcpLines<'a
     }
 }
 
-/// Reaches the neighbour at its port `output`, and waits for it at the port `input`.
+/// Reaches the neighbour at its port `output`, and waits for it at the port `input`. A circuit whose ports weren't given,
+/// so that one of them is 0, is refused at once.
 fn connect<R: Net<Listener = TcpListener, Stream = TcpStream> + Clock>(
     rt: &R,
     tries: u32,
@@ -51,6 +53,9 @@ fn connect<R: Net<Listener = TcpListener, Stream = TcpStream> + Clock>(
 ) -> io::Result<(TcpIn, TcpOut)>
     ensures { IfOk result (λ sockets. (sockets.0.faults ≡ 0) × (sockets.1.faults ≡ 0)) }
 {
+    if input == 0 || output == 0 {
+        return Err(io::Error::from(ErrorKind::InvalidInput));
+    }
     let listener = listen(rt, input)?;
     let outgoing = dial(rt, output, tries)?;
     outgoing.set_nodelay(true)?;
@@ -67,8 +72,8 @@ impl<R: Net<Listener = TcpListener, Stream = TcpStream> + Clock> Lines for TcpLi
 
     ghost faults = { faults_in };
 
-    /// Listens on the port `input`, connects to the port `output`, and accepts one connection. It waits for the
-    /// neighbour as long as that listens and doesn't connect.
+    /// Listens on the port `input`, connects to the port `output`, and accepts one connection. Fails where one of the
+    /// ports is 0. It waits for the neighbour as long as that listens and doesn't connect.
     fn open(&mut self, c: u32, input: u16, output: u16) -> Result<(TcpIn, TcpOut), Failed> {
         let answer = connect(self.rt, self.tries, input, output);
         let sockets = counted(answer, &mut self.faults[c as usize])?;

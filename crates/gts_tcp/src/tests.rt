@@ -70,6 +70,7 @@ fn a_port_on_which_nobody_listens_is_a_fault(rt: HostRuntime) -> Result<(), Fail
     let (input, output) = free_ports(&rt)?;
     let mut lines = TcpLines::new(&rt, 3);
     assert_eq!(rt; lines.open(0, input, output).err(), Some(Failed));
+    assert_eq!(rt; lines.open(0, 0, output).err(), Some(Failed));
     let taken = listen(&rt, input)?;
     assert_eq!(rt; lines.open(0, input, output).err(), Some(Failed));
     drop(taken);
