@@ -2,10 +2,10 @@
 use Rattle.std.specs.Prelude.{◌≡◌, ◌⊎◌, ℕ, ◌+◌, Bool, true, List, [], ◌∷◌, ◌++◌, length, Result, Ok, Err, Some}
 use Rattle.gts_frame.specs.Signs.{held_in}
 use Rattle.gts_frame.specs.Stream.{IsStreamFront}
-use Rattle.gts_frame.specs.Decoder.{signs_of_step}
+use Rattle.gts_frame.specs.Decoder.{Decoding, signs_of_step}
 use Rattle.gts_frame.specs.declared.lost.LostField.{LostField}
 use Rattle.gts_frame.specs.declared.step.Step.{Step}
-use Rattle.gts_frame.specs.declared.step.Step.TheVariants as step
+use Rattle.gts_frame.specs.declared.step.Step.TheVariants as steps
 use Rattle.gts_event.specs.Drain.{all_done}
 use Rattle.gts_event.specs.declared.event.Event.{Event}
 use Rattle.gts_event.specs.declared.event.Event.TheVariants.{Lost}
@@ -85,7 +85,7 @@ Tells c old new given (Err end) = Receives c old new given end
 
 -- synchronisation isn't lost at a step of a decoder
 abbrev pub KeepsOn : Step → Type 0
-KeepsOn (step.Lost field) = ⊥
+KeepsOn (steps.Lost field) = ⊥
 KeepsOn _ = Unit {0}
 
 -- the events of a step of a decoder that has this message
@@ -103,7 +103,7 @@ pub record FaultsIn (c : ℕ) (step : Step) (message : List ℕ) (fault : Switch
 abbrev pub EndsStep : ℕ → Step → List ℕ → ℕ → Result (Unit {0}) ReceiveEnd → Seen → Seen → Type 0
 EndsStep c step message at (Ok _) old new = (own new ≡ own old ++ all_done (events_of_step c step message)) × KeepsOn step
 EndsStep c step message at (Err (LostSync field place)) old new =
-    (own new ≡ own old ++ all_done (Lost c field ∷ [])) × (step ≡ step.Lost field) × (place ≡ at)
+    (own new ≡ own old ++ all_done (Lost c field ∷ [])) × (step ≡ steps.Lost field) × (place ≡ at)
 EndsStep c step message at (Err (Fault fault)) old new = FaultsIn c step message fault old new
 EndsStep c step message at (Err _) old new = ⊥
 
@@ -111,3 +111,9 @@ EndsStep c step message at (Err _) old new = ⊥
 pub record Deals (c : ℕ) (step : Step) (message : List ℕ) (at : ℕ) (result : Result (Unit {0}) ReceiveEnd) (old new : Seen) : Type 0 where
   pub desk : GoesOn old new
   pub ends : EndsStep c step message at result old new
+
+-- So many bytes came before, and then these, which the decoder took and of which all was told.
+pub record HasTold (c before : ℕ) (start : Decoding) (old : Seen) (bytes : List ℕ) (decoder : Decoding) (now : Seen) : Type 0 where
+  pub held : (given : List ℕ) → start.held ≡ held_in given → decoder.held ≡ held_in (given ++ bytes)
+  pub told : (first : Seen) (given : List ℕ) → start.held ≡ held_in given → length given ≡ before
+      → Receiving c first old given → Receiving c first now (given ++ bytes)

@@ -21,7 +21,8 @@ pub fn receive<D: Desk, S: Source, G: Gate>(
 ) -> ReceiveEnd
     requires circuit { c < length (D.seen desk.old).directory.circuits }
     requires room { 0 < length room.old }
-    ensures received { (given : List ℕ) × Receives c (D.seen desk.old) (D.seen desk.new) given result
+    ensures received { (given : List ℕ)
+        × Receives c (D.seen desk.old) (D.seen desk.new) given result
         × (S.tells → S.left source.old ≡ given ++ S.left source.new) }
     ensures ended { S.tells → (rest : ℕ) → result ≡ ReceiveEnd.Ended rest
         → S.left source.new ≡ [] }
@@ -109,6 +110,8 @@ fn deal<D: Desk, G: Gate>(
                 Err(fault) => Err(ReceiveEnd::Fault(fault)),
             }
         }
-        Step::More | Step::KeepAlive | Step::Dropped => Ok(()),
+        Step::More => Ok(()),
+        Step::KeepAlive => Ok(()),
+        Step::Dropped => Ok(()),
     }
 }

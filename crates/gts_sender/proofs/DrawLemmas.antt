@@ -16,11 +16,11 @@ use Rattle.gts_event.specs.declared.outcome.Outcome.TheVariants.{Accepted, Dupli
 use Rattle.gts_event.specs.declared.fault.SwitchFault.{SwitchFault}
 use Rattle.gts_event.specs.declared.fault.SwitchFault.TheVariants.{DiskFault, SayFault, Full, Stopped, Spent, NoMemory}
 use Rattle.gts_event.proofs.LawLemmas.{after_all-append}
-use Rattle.gts_lock.specs.History.{entries}
+use Rattle.gts_desk.specs.{entries}
 use Rattle.gts_turns.specs.Turns.{entry_of}
 use Rattle.gts_desk.specs.Desks.{Seen, own, state_at, Adds, AddsJust, Answers, LeavesFrame}
 use Rattle.gts_desk.specs.Frames.{frame_of_outcome, frame_of, own_frames}
-use Rattle.gts_desk.proofs.LawLemmas.{just, own_added, frames_added, own_spent, frames_spent, goes_on, goes_on_spent, goes_further, stays}
+use Rattle.gts_desk.proofs.LawLemmas.{own_added, frames_added, own_spent, frames_spent, goes_on, goes_on_spent, goes_further, stays}
 use Rattle.gts_sender.specs.Sender.{takes, given_index, Sending, TookLast, Breaks, Fails}
 
 more : {A : Type 0} (x : A) (n : ℕ) → replicate n x ++ x ∷ [] ≡ replicate (suc n) x
@@ -62,14 +62,14 @@ sending_nothing c d = record { desk = stays d; count = 0; added = sym (append-ni
 module _ (c : ℕ) (first old new : Seen) (sent : List ℕ) (so_far : Sending c first old sent) where
   -- a take was done
   module _ (o : Outcome) (out : List ℕ) (adds : Adds old (Done (Taken c)) (λ s. (o ≡ outcome old.directory s (Taken c)) × LeavesFrame old.directory c out o s) new) where
-    s : State
+    abbrev s : State
     s = state_at old (old.history ++ adds.others)
 
-    entry : Entry
+    abbrev entry : Entry
     entry = Done (Taken c)
 
-    one : AddsJust old entry new
-    one = just old new entry (λ t. (o ≡ outcome old.directory t (Taken c)) × LeavesFrame old.directory c out o t) adds
+    abbrev one : AddsJust old entry new
+    one = record { others = adds.others; is = adds.is; strange = adds.strange; alone = adds.alone; holds = tt; caused = adds.caused }
 
     took : own new ≡ own first ++ takes c (so_far.count + 1)
     took =

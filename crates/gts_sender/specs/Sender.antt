@@ -77,3 +77,7 @@ abbrev pub Tried : ℕ → Seen → Seen → List ℕ → Result Bool SendEnd �
 Tried c first new bytes (Ok true) = Sending c first new bytes
 Tried c first new bytes (Ok false) = Sending c first new bytes × TookLast c new Nothing
 Tried c first new bytes (Err end) = Sends c first new bytes end
+
+-- whatever was sent before, that try sends these bytes more
+abbrev pub SendsMore : ℕ → Seen → Seen → List ℕ → Result Bool SendEnd → Type 0
+SendsMore c old new bytes result = (first : Seen) (sent : List ℕ) → Sending c first old sent → Tried c first new (sent ++ bytes) result

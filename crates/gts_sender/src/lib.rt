@@ -7,3 +7,6 @@ mod writing;
 
 pub use end::SendEnd;
 pub use sending::send;
+
+#[cfg(test)]
+mod tests;

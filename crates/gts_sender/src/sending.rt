@@ -1,7 +1,6 @@
 ghost use Rattle.std.specs.Prelude.{◌≡◌, ℕ, ◌<◌, ◌≤◌, List, ◌++◌, length, Err};
 ghost use Rattle.gts_traits.specs.Counts.{Rose};
-ghost use Rattle.gts_desk.specs.Desks.{Seen};
-ghost use Rattle.gts_sender.specs.Sender.{given_index, Sending, Sends, Tried};
+ghost use Rattle.gts_sender.specs.Sender.{given_index, Sends, SendsMore};
 
 use crate::SendEnd;
 use crate::writing::write_all;
@@ -9,7 +8,7 @@ use gts_bell::Bell;
 use gts_desk::Desk;
 use gts_event::Outcome;
 use gts_frame::FrameBuf;
-use gts_traits::{Gate, Point, Sink};
+use gts_traits::{Failed, Gate, Point, Sink};
 use std::sync::Wait;
 
 /// Sends on circuit `c`: writes the frame of each take, until the bell is closed and a take gives nothing. Where there is
@@ -57,8 +56,7 @@ fn send_one<D: Desk, K: Sink, G: Gate>(
     requires { c < length (D.seen desk.old).directory.circuits }
     ensures directory { (D.seen desk.new).directory ≡ (D.seen desk.old).directory }
     ensures tried { (bytes : List ℕ)
-        × ((first : Seen) (sent : List ℕ) → Sending c first (D.seen desk.old) sent
-        → Tried c first (D.seen desk.new) (sent ++ bytes) result)
+        × SendsMore c (D.seen desk.old) (D.seen desk.new) bytes result
         × (K.tells → K.written sink.new ≡ K.written sink.old ++ bytes) }
     ensures later { K.faults sink.old ≤ K.faults sink.new }
     ensures fault { (index : ℕ) → result ≡ Err (SendEnd.LineFault index)
@@ -69,14 +67,17 @@ fn send_one<D: Desk, K: Sink, G: Gate>(
         Ok(outcome) => outcome,
         Err(fault) => return Err(SendEnd::Fault(fault)),
     };
-    let Some(index) = index_of(outcome) else {
-        return Ok(false);
+    let index = match index_of(outcome) {
+        Some(index) => index,
+        None => return Ok(false),
     };
-    if write_all(sink, out.bytes()).is_err() {
-        return Err(SendEnd::LineFault { index });
+    match write_all(sink, out.bytes()) {
+        Ok(()) => {
+            gate.at(Point::Sent { c });
+            Ok(true)
+        }
+        Err(Failed) => Err(SendEnd::LineFault { index }),
     }
-    gate.at(Point::Sent { c });
-    Ok(true)
 }
 
 /// The index of the frame that a take left, where it gave something.

@@ -1,7 +1,5 @@
-use Rattle.std.proofs.Common.{rules, ◌≡◌, ℕ, ◌-◌, ◌++◌, List, Result, Ok, length, take, drop, sym, ap, ◌∙◌, subst, append_assoc, take-append-drop, arith, length-drop}
+use Rattle.std.proofs.Common.{rules, ◌≡◌, ℕ, ◌-◌, ◌++◌, List, length, take, drop, sym, ap, ◌∙◌, append_assoc, take-append-drop, arith, length-drop}
 use Rattle.std.proofs.lemmas.List.{take_all}
-use Rattle.gts_traits.specs.Sink.{Appends}
-use Rattle.gts_traits.specs.declared.failed.Failed.{Failed}
 use Rattle.gts_sender.proofs.writing.write_all.Goals as goal
 
 cut : (n : ℕ) (xs : List ℕ) → xs ≡ take n xs ++ take (length xs - n) (drop n xs)
