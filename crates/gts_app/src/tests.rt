@@ -134,19 +134,14 @@ fn spelled(alloc: Global, text: &str) -> Result<Vec<u8>, Fail> {
 /// The frame of a message that is spelled without its first and its last line end: the two letters of the type, a blank and
 /// the circuit, which is passed over, stand in front of it.
 fn framed(alloc: Global, step: &str) -> Result<Vec<u8>, Fail> {
-    let message = [
-        b"\x01\r\r\n",
-        spelled(alloc, &step[6..])?.as_slice(),
-        b"\r\r\n\x03",
-    ]
-    .concat(alloc)?;
-    let length = u32::try_from(message.len())?;
-    Ok([
-        digits_of::<8>(length).as_slice(),
-        step[..2].as_bytes(),
-        &message,
-    ]
-    .concat(alloc)?)
+    let mut message = Vec::from_slice(alloc, b"\x01\r\r\n")?;
+    message.extend_from_slice(&spelled(alloc, &step[6..])?)?;
+    message.extend_from_slice(b"\r\r\n\x03")?;
+    let length = digits_of::<8>(u32::try_from(message.len())?);
+    let mut frame = Vec::from_slice(alloc, &length)?;
+    frame.extend_from_slice(step[..2].as_bytes())?;
+    frame.extend_from_slice(&message)?;
+    Ok(frame)
 }
 
 /// A capture of these steps and its end. A step that begins with the letters of a frame's type is a feed with that frame,
