@@ -3,3 +3,8 @@ pub mod TakingLemmas
 pub mod DrawLemmas
 pub mod DuplicateLemmas
 pub mod WholeLemmas
+pub mod PartsLemmas
+pub mod StepLemmas
+pub mod SaidLemmas
+pub mod RestartLemmas
+pub mod EmptyLemmas

@@ -3,3 +3,8 @@ pub mod Frames
 pub mod Taking
 pub mod Duplicates
 pub mod Whole
+pub mod Owed
+pub mod Parts
+pub mod Judging
+pub mod Core
+pub mod Kept

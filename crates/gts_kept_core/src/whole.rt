@@ -1,0 +1,107 @@
+ghost use Rattle.std.specs.Prelude.{◌≡◌, ◌<◌, ◌+◌, ◌^◌, length, IfOk, OnOk, IsTrue};
+ghost use Rattle.gts_directory.specs.Directory.{Directory};
+ghost use Rattle.gts_event.specs.State.{State, empty};
+ghost use Rattle.gts_event.specs.declared.outcome.Outcome.TheVariants.{Nothing};
+ghost use Rattle.gts_kept_core.specs.Owed.{all_waiting};
+ghost use Rattle.gts_kept_core.specs.Core.{Holds, Chooses, Takes, Says, Restarts};
+
+use crate::answer::Choice;
+use crate::lane::Lane;
+use crate::opening::{empty_lanes, kept_limits};
+use crate::owed::owed_in;
+use crate::taking::{choose, restart_in, take_on};
+use gts_alphabet::NoMemory;
+use gts_directory::Directory;
+use gts_dup::DupTable;
+use gts_event::Outcome;
+use gts_frame::FrameBuf;
+use gts_store::Store;
+use std::alloc::Global;
+use std::marker::Model;
+
+/// The switch as a value. Contracts see what later answers depend on; it keeps no more than that.
+#[derive(Drop)]
+pub struct Core {
+    window: u32,
+    count: u64,
+    table: DupTable,
+    store: Store,
+    lanes: Vec<Lane>,
+    ready: bool,
+}
+
+impl Model for Core {
+    ghost use Rattle.gts_kept_core.specs.Parts as cores;
+
+    ghost Value = { cores.Core };
+
+    ghost use Rattle.gts_kept_core.specs.Kept.{core_of, IsSoundCore};
+
+    ghost view = { core_of };
+
+    ghost invariant = { IsSoundCore };
+}
+
+impl Core {
+    /// A core that stands for the empty history under a directory. The room for repetitions is taken here.
+    pub fn new(alloc: Global, directory: &Directory) -> Result<Core, NoMemory>
+        ensures { IfOk result (λ core. Holds directory.now core (empty directory.now)) }
+    {
+        let limits = kept_limits(alloc, directory)?;
+        let store = Store::new(alloc, &limits)?;
+        let table = DupTable::new(alloc, directory.window())?;
+        let lanes = empty_lanes(alloc, directory.circuits())?;
+        Ok(Core {
+            window: directory.window(),
+            count: 0,
+            table,
+            store,
+            lanes,
+            ready: false,
+        })
+    }
+
+    /// How many bulletins were accepted, which is the position of the next one. Takes no memory.
+    pub fn accepted(&self) -> u64
+        ensures { (d : Directory) (s : State) → Holds d self.now s → result ≡ s.count }
+    {
+        self.count
+    }
+
+    /// How many draws wait, over all circuits. Takes no memory.
+    pub fn owed(&self) -> u64
+        requires { all_waiting self.now.state.circuits < 2 ^ 64 }
+        ensures { (d : Directory) (s : State) → Holds d self.now s
+            → result ≡ all_waiting s.circuits }
+    {
+        owed_in(self.lanes.as_slice())
+    }
+
+    /// What a take on a circuit would give. Takes no memory.
+    pub fn choice(&self, c: u32) -> Choice
+        requires { c < length self.now.kept }
+        ensures { Chooses self.now c result }
+    {
+        choose(&self.lanes[c as usize], &self.store, c)
+    }
+
+    /// One take on a circuit: a repetition or a draw leaves its frame in `out`. Takes no memory.
+    pub fn take(&mut self, c: u32, out: &mut FrameBuf) -> Outcome
+        requires { c < length self.old.kept }
+        ensures step { Takes self.old self.new c result }
+        ensures frame { (result ≡ Nothing → ⊥) → Says self.old c out.new }
+        ensures nothing { result ≡ Nothing → out.new ≡ out.old }
+    {
+        self.ready = false;
+        let lane = &mut self.lanes[c as usize];
+        take_on(lane, &mut self.store, c, out)
+    }
+
+    /// The journal was opened again: each circuit is owed its last draw alone. Takes no memory.
+    pub fn restart(&mut self)
+        ensures { Restarts self.old self.new }
+    {
+        self.ready = false;
+        restart_in(&mut self.lanes, &self.store);
+    }
+}
