@@ -1,7 +1,7 @@
 -- The parts of the empty history.
-use Rattle.std.proofs.Common.{◌≡◌, ℕ, zero, suc, ◌+◌, ◌-◌, ◌<◌, true, List, [], ◌∷◌, length, map, drop, get_or, nat_eq, Option, None, Some, IfSome, refl, sym, ap, subst, ◌∙◌, arith}
+use Rattle.std.proofs.Common.{◌≡◌, ℕ, zero, suc, ◌+◌, ◌-◌, ◌<◌, ◌≤◌, min, true, List, [], ◌∷◌, length, map, drop, get_or, nat_eq, Option, None, Some, IfSome, refl, sym, ap, subst, ◌∙◌, arith}
 use Rattle.std.proofs.lemmas.List.{length-map, get_or-map}
-use Rattle.std.specs.List.{AllByRecursion}
+use Rattle.std.specs.List.{AllByRecursion, range_with_len}
 use Rattle.std.specs.Map.{lookup}
 use Rattle.gts_directory.specs.Directory.{Directory, Circuit}
 use Rattle.gts_directory.specs.Routing.{bit}
@@ -46,14 +46,14 @@ few_idle : (rows : List Circuit) → AllByRecursion (IsFew 0) (map (λ (_ : Circ
 few_idle [] = tt
 few_idle (row ∷ rows) = (omega arith, few_idle rows)
 
-pub parts_empty : (d : Directory) (core : Core) → keeps_one d ≡ true → core.window ≡ d.window → core.kept ≡ map (λ (q : Drawn). q.limit) core.store.circuits
+pub parts_empty : (d : Directory) (core : Core) → keeps_one d ≡ true → 1 ≤ d.window → core.window ≡ d.window → core.kept ≡ map (λ (q : Drawn). q.limit) core.store.circuits
     → core.state.count ≡ 0 → AreIdle (length d.circuits) core.lanes → core.table.noted ≡ [] → core.table.width ≡ d.window → core.store.bulletins ≡ []
     → core.store.circuits ≡ map undrawn (map (λ (row : Circuit). row.kept) d.circuits) → AreParts d core (empty d)
-parts_empty d core keeps window limits count idles noted width none circuits =
+parts_empty d core keeps one window limits count idles noted width none circuits =
     let ks : List ℕ = map (λ (row : Circuit). row.kept) d.circuits in
     let nowhere : (p : ℕ) → stored_at core.store p ≡ None = λ p. ap (λ (bs : List (ℕ × Stored)). lookup (nat_eq p) bs) none in
     record {
-      going = record { keeps = keeps; ordered = ordered-empty d; few = omega arith; climbs = tt; below = tt; draws = few_idle d.circuits };
+      going = record { keeps = keeps; window = one; ordered = ordered-empty d; few = omega arith; climbs = tt; below = tt; draws = few_idle d.circuits; recent = ap (λ (n : ℕ). range_with_len (0 - d.window) n) none_recent };
       window = window;
       kept = limits ∙ ap (map (λ (q : Drawn). q.limit)) circuits ∙ limits_of ks;
       lanes = idles.each;
@@ -77,6 +77,9 @@ parts_empty d core keeps window limits count idles noted width none circuits =
       free = λ p. let uses : uses_of core.store p ≡ 0 = ap uses_in (nowhere p) in omega (arith, times_idle d.circuits p);
     }
   where
+    none_recent : 0 ≡ min d.window 0
+    none_recent = omega arith
+
     limits_of : (xs : List ℕ) → map (λ (q : Drawn). q.limit) (map undrawn xs) ≡ xs
     limits_of [] = refl
     limits_of (x ∷ xs) = ap (λ (ys : List ℕ). x ∷ ys) (limits_of xs)

@@ -8,3 +8,10 @@ pub mod StepLemmas
 pub mod SaidLemmas
 pub mod RestartLemmas
 pub mod EmptyLemmas
+pub mod TallyLemmas
+pub mod ItemLemmas
+pub mod JudgeLemmas
+pub mod WindowLemmas
+pub mod EnterLemmas
+pub mod ReadyLemmas
+pub mod HearLemmas

@@ -73,12 +73,13 @@ pub parts_restarted : (d : Directory) (old new : Core) (t : State) → AreParts 
     → AreParts d new (restarted t)
 parts_restarted d old new t are stay h = record {
   going = record {
-    keeps = are.going.keeps;
+    keeps = are.going.keeps; window = are.going.window;
     ordered = (restarted-same d t t are.going.keeps (record { first = are.going.ordered; second = are.going.ordered; same = refl })).first;
     few = are.going.few;
     climbs = are.going.climbs;
     below = are.going.below;
     draws = few_last t.count t.circuits are.going.draws;
+    recent = are.going.recent;
   };
   window = stay.window ∙ are.window;
   kept = stay.kept ∙ are.kept;

@@ -30,7 +30,7 @@ use Rattle.gts_kept_core.proofs.PartsLemmas.{each_set, each_at, limit_here, time
 
 -- ---- the store after one use went
 
-less_accepted : (t : State) (p : ℕ) (o : Option Stored) → IfSome o (IsAccepted t.accepted p) → IfSome (without_use o) (IsAccepted t.accepted p)
+pub less_accepted : (t : State) (p : ℕ) (o : Option Stored) → IfSome o (IsAccepted t.accepted p) → IfSome (without_use o) (IsAccepted t.accepted p)
 less_accepted t p None h = tt
 less_accepted t p (Some b) h =
     elim (nat_le b.uses 1) as (λ a. IfSome (cond a None (Some (with_uses (b.uses - 1) b))) (IsAccepted t.accepted p)) [
@@ -49,7 +49,7 @@ accepted_left t old new (Some oldest) takes are p =
       | inr other ↦ subst (λ (x : Option Stored). IfSome x (IsAccepted t.accepted p)) (sym (takes.others p other)) (are p)
     ]
 
-still_there : (o : Option Stored) (b : Bulletin) (stored : Stored) → o ≡ Some stored → stored.body ≡ b.body → 1 ≤ uses_in (without_use o) → (s : Stored) × (without_use o ≡ Some s) × (s.body ≡ b.body)
+pub still_there : (o : Option Stored) (b : Bulletin) (stored : Stored) → o ≡ Some stored → stored.body ≡ b.body → 1 ≤ uses_in (without_use o) → (s : Stored) × (without_use o ≡ Some s) × (s.body ≡ b.body)
 still_there o b stored e body used =
     elim (nat_le stored.uses 1) as (λ a. nat_le stored.uses 1 ≡ a → (s : Stored) × (without_use o ≡ Some s) × (s.body ≡ b.body)) [
       | true ↦ λ k.
@@ -109,12 +109,13 @@ parts_set d old new t c q here are stay stands ordered few noted stored free =
     let lt : c < length t.circuits = omega (arith, here, are.going.ordered.circuits) in
     record {
       going = record {
-        keeps = are.going.keeps;
+        keeps = are.going.keeps; window = are.going.window;
         ordered = ordered;
         few = are.going.few;
         climbs = are.going.climbs;
         below = are.going.below;
         draws = each_set (IsFew t.count) t.circuits c q are.going.draws few;
+        recent = are.going.recent;
       };
       window = stay.window ∙ are.window;
       kept = stay.kept ∙ are.kept;

@@ -1,13 +1,11 @@
 -- What the containers of a core stand for.
-use Rattle.std.specs.Prelude.{◌≡◌, ℕ, ◌≤◌, Bool, List, [], ◌∷◌, length, map, Option, Some, None, IsSome, flat_map, cond, IsTrue}
-use Rattle.std.specs.List.{AllByRecursion}
+use Rattle.std.specs.Prelude.{◌≡◌, ℕ, ◌<◌, ◌≤◌, Bool, List, [], ◌∷◌, length, map, Option, Some, None, IsSome, flat_map, cond, IsTrue}
 use Rattle.gts_alphabet.specs.declared.limits.TheConstants.{MOST_CIRCUITS}
 use Rattle.gts_directory.specs.Directory.{Directory}
 use Rattle.gts_event.specs.State.{State, CircuitState}
-use Rattle.gts_prioq.specs.Waiting.{spare}
-use Rattle.gts_store.specs.Shelf.{Shelf}
 use Rattle.gts_kept_core.specs.Lane.{Lane}
-use Rattle.gts_kept_core.specs.Parts.{Core, AreParts}
+use Rattle.gts_kept_core.specs.Parts.{Core, lane_in, AreParts}
+use Rattle.gts_kept_core.specs.Entering.{HasRoom}
 use Rattle.gts_kept_core.specs.declared.whole.Core.TheInside.{Inside}
 
 -- what waits on a circuit, by levels, and what is owed
@@ -28,18 +26,11 @@ core_of core = record {
   ready = ready_of core.ready core.store.aside;
 }
 
--- each level of a circuit has room for one position more
-pub record HasRoom (lane : Lane) : Type 0 where
-  pub first : 1 ≤ spare lane.queue 1
-  pub second : 1 ≤ spare lane.queue 2
-  pub third : 1 ≤ spare lane.queue 3
-  pub fourth : 1 ≤ spare lane.queue 4
-
 -- there is room for one bulletin more, wherever it is routed
 pub record IsReadyInside (core : Inside) : Type 0 where
   pub aside : IsSome core.store.aside
   pub digest : 1 ≤ core.table.spare
-  pub lanes : AllByRecursion HasRoom core.lanes.items
+  pub lanes : (c : ℕ) → c < length core.lanes.items → HasRoom (lane_in core.lanes.items c)
 
 -- the containers are the parts of some state under some directory, and where a body was made ready the room is there
 pub record IsSoundCore (core : Inside) : Type 0 where

@@ -7,4 +7,6 @@ pub mod Owed
 pub mod Parts
 pub mod Judging
 pub mod Core
+pub mod Entering
 pub mod Kept
+pub mod Words

@@ -5,7 +5,7 @@ use Rattle.gts_directory.specs.Directory.{Directory}
 use Rattle.gts_directory.specs.Routing.{bit}
 use Rattle.gts_event.specs.State.{State, Bulletin, CircuitState, on_circuit, draws, waiting, has, heading_of, most_accepted}
 use Rattle.gts_event.specs.History.{kept_on}
-use Rattle.gts_event.specs.Need.{CircuitNeed, circuit_need, keeps_one, positions_of, IsOrdered}
+use Rattle.gts_event.specs.Need.{CircuitNeed, circuit_need, keeps_one, positions_of, recent_positions, IsOrdered}
 use Rattle.gts_prioq.specs.Waiting.{AllBelow}
 use Rattle.gts_prioq.specs.Order.{Ascends}
 use Rattle.gts_dup.specs.Window.{Window}
@@ -53,14 +53,17 @@ pub record IsAccepted (accepted : List Bulletin) (p : ℕ) (b : Stored) : Type 0
 abbrev pub IsFew : ℕ → CircuitState → Type 0
 IsFew count q = draws q + length (waiting q) ≤ count
 
--- a state that a history can have: positions ascend, and there are no more draws than were accepted
+-- a state that a history can have: positions ascend, all recent ones are there, and there are no more draws than were
+-- accepted
 pub record IsGoing (d : Directory) (t : State) : Type 0 where
   pub keeps : IsTrue (keeps_one d)
+  pub window : 1 ≤ d.window
   pub ordered : IsOrdered d t
   pub few : t.count ≤ most_accepted
   pub climbs : Ascends (positions_of t.accepted)
   pub below : AllBelow t.count (positions_of t.accepted)
   pub draws : AllByRecursion (IsFew t.count) t.circuits
+  pub recent : positions_of (recent d t) ≡ recent_positions d t.count
 
 -- What waits and is kept on each circuit stands there; the recent bulletins are noted; what is stored was accepted; and a
 -- bulletin has a use where it is recent, one for each circuit on which it waits, and one for each kept draw.

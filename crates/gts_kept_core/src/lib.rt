@@ -3,11 +3,15 @@
 
 mod answer;
 mod duplicates;
+mod entering;
 mod frames;
+mod granting;
+mod judging;
 mod lane;
 mod laws;
 mod opening;
 mod owed;
+mod places;
 mod taking;
 mod whole;
 

@@ -1,11 +1,15 @@
 ghost use Rattle.std.specs.Prelude.{◌≡◌, ◌<◌, ◌+◌, ◌^◌, length, IfOk, OnOk, IsTrue};
 ghost use Rattle.gts_directory.specs.Directory.{Directory};
 ghost use Rattle.gts_event.specs.State.{State, empty};
+ghost use Rattle.gts_event.specs.declared.event.Event.TheVariants.{Heard};
 ghost use Rattle.gts_event.specs.declared.outcome.Outcome.TheVariants.{Nothing};
 ghost use Rattle.gts_kept_core.specs.Owed.{all_waiting};
-ghost use Rattle.gts_kept_core.specs.Core.{Holds, Chooses, Takes, Says, Restarts};
+ghost use Rattle.gts_kept_core.specs.Core.{Holds, IsFor, IsReady, HasPosition, IsStep, Keeps, Judges, Chooses, Takes, Says, Restarts};
 
-use crate::answer::Choice;
+use crate::answer::{Choice, Verdict};
+use crate::entering::{accept_in, make_room, reserve_body};
+use crate::granting::grant_on;
+use crate::judging::judge_in;
 use crate::lane::Lane;
 use crate::opening::{empty_lanes, kept_limits};
 use crate::owed::owed_in;
@@ -14,7 +18,7 @@ use gts_alphabet::NoMemory;
 use gts_directory::Directory;
 use gts_dup::DupTable;
 use gts_event::Outcome;
-use gts_frame::FrameBuf;
+use gts_frame::{FrameBuf, Kind};
 use gts_store::Store;
 use std::alloc::Global;
 use std::marker::Model;
@@ -59,6 +63,76 @@ impl Core {
             lanes,
             ready: false,
         })
+    }
+
+    /// What a message that came in on circuit `c` would lead to. The directory is the one with which the core was made.
+    /// Takes no memory.
+    pub fn judge(&self, directory: &Directory, c: u32, message: &[u8]) -> Verdict
+        requires directory { IsFor directory.now self.now }
+        requires circuit { c < length self.now.kept }
+        ensures { Judges directory.now self.now c message.now result }
+    {
+        self.store.has_what_it_keeps();
+        let lane = &self.lanes[c as usize];
+        judge_in(directory, &self.table, &self.store, lane, c, message)
+    }
+
+    /// Takes all the memory for a message that came in on circuit `c`, where it would be accepted. The directory is the
+    /// one with which the core was made.
+    pub fn ready(
+        &mut self,
+        alloc: Global,
+        directory: &Directory,
+        c: u32,
+        message: &[u8],
+    ) -> Result<(), NoMemory>
+        requires directory { IsFor directory.now self.old }
+        requires circuit { c < length self.old.kept }
+        ensures kept { Keeps self.old self.new }
+        ensures ready { OnOk result (IsReady directory.now self.new c message.now) }
+    {
+        let verdict = self.judge(directory, c, message);
+        self.ready = false;
+        if let Verdict::New { .. } = verdict {
+            self.table.reserve()?;
+            make_room(&mut self.lanes)?;
+            reserve_body(alloc, &mut self.store, message)?;
+            self.ready = true;
+        }
+        Ok(())
+    }
+
+    /// A message came in on circuit `c`: an accepted one joins the bulletins, and a granted request is owed. The directory
+    /// is the one with which the core was made. Takes no memory; `ready` took what an accepted message needs, and such a
+    /// message wants a position, of which there are 2^62.
+    pub fn hear(&mut self, directory: &Directory, c: u32, kind: Kind, message: &[u8]) -> Outcome
+        requires directory { IsFor directory.now self.old }
+        requires circuit { c < length self.old.kept }
+        requires ready { IsReady directory.now self.old c message.now }
+        requires few { HasPosition directory.now self.old c message.now }
+        ensures { IsStep directory.now self.old self.new (Heard c kind message.now) result }
+    {
+        let verdict = self.judge(directory, c, message);
+        match verdict {
+            Verdict::Refused(refusal) => Outcome::Refused(refusal),
+            Verdict::Duplicate { position } => Outcome::Duplicate { position },
+            Verdict::Asked { found, missing } => {
+                self.ready = false;
+                self.store.has_what_it_keeps();
+                let lane = &mut self.lanes[c as usize];
+                grant_on(lane, &self.store, c, message);
+                Outcome::Asked { found, missing }
+            }
+            Verdict::New { circuits } => {
+                let position = self.count;
+                self.ready = false;
+                let table = &mut self.table;
+                let store = &mut self.store;
+                accept_in(directory, position, table, store, &mut self.lanes, c, kind, message);
+                self.count = position + 1;
+                Outcome::Accepted { position, circuits }
+            }
+        }
     }
 
     /// How many bulletins were accepted, which is the position of the next one. Takes no memory.
