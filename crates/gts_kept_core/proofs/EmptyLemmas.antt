@@ -16,7 +16,7 @@ use Rattle.gts_store.specs.Shelf.{Stored, Drawn, Shelf, stored_at, circuit_at, n
 use Rattle.gts_kept_core.specs.Lane.{Lane, Stands}
 use Rattle.gts_kept_core.specs.Duplicates.{AreNoted, noted_as}
 use Rattle.gts_kept_core.specs.Whole.{level_in, recent}
-use Rattle.gts_kept_core.specs.Parts.{Core, lane_in, need_on, times_waiting, IsFew, IsIdle, AreIdle, AreParts, IsAccepted}
+use Rattle.gts_kept_core.specs.Parts.{Core, HasWhatItKeeps, circuit_of, lane_in, need_on, times_waiting, IsFew, IsIdle, AreIdle, AreParts, IsAccepted}
 use Rattle.gts_kept_core.proofs.WholeLemmas.{kept_positions}
 use Rattle.gts_kept_core.proofs.PartsLemmas.{each_at}
 
@@ -47,9 +47,9 @@ few_idle [] = tt
 few_idle (row ∷ rows) = (omega arith, few_idle rows)
 
 pub parts_empty : (d : Directory) (core : Core) → keeps_one d ≡ true → 1 ≤ d.window → core.window ≡ d.window → core.kept ≡ map (λ (q : Drawn). q.limit) core.store.circuits
-    → core.state.count ≡ 0 → AreIdle (length d.circuits) core.lanes → core.table.noted ≡ [] → core.table.width ≡ d.window → core.store.bulletins ≡ []
+    → core.state.count ≡ 0 → core.state.circuits ≡ map circuit_of core.lanes → HasWhatItKeeps core.store → AreIdle (length d.circuits) core.lanes → core.table.noted ≡ [] → core.table.width ≡ d.window → core.store.bulletins ≡ []
     → core.store.circuits ≡ map undrawn (map (λ (row : Circuit). row.kept) d.circuits) → AreParts d core (empty d)
-parts_empty d core keeps one window limits count idles noted width none circuits =
+parts_empty d core keeps one window limits count lists held idles noted width none circuits =
     let ks : List ℕ = map (λ (row : Circuit). row.kept) d.circuits in
     let nowhere : (p : ℕ) → stored_at core.store p ≡ None = λ p. ap (λ (bs : List (ℕ × Stored)). lookup (nat_eq p) bs) none in
     record {
@@ -58,6 +58,8 @@ parts_empty d core keeps one window limits count idles noted width none circuits
       kept = limits ∙ ap (map (λ (q : Drawn). q.limit)) circuits ∙ limits_of ks;
       lanes = idles.each;
       count = count;
+      lists = lists;
+      held = held;
       stands = λ c inside.
           let here : c < length ks = omega (arith, inside, length-map d.circuits (λ (row : Circuit). row.kept)) in
           let at : on_circuit (empty d) c ≡ idle = get_or-map (λ (_ : Circuit). idle) d.circuits c (record { name = []; peer = []; kept = 0; input = 0; output = 0 }) idle inside in

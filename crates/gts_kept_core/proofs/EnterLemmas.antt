@@ -27,7 +27,7 @@ use Rattle.gts_kept_core.specs.Lane.{Lane, Stands}
 use Rattle.gts_kept_core.specs.Frames.{IsWhole}
 use Rattle.gts_kept_core.specs.Duplicates.{IsStored, AreNoted, noted_as}
 use Rattle.gts_kept_core.specs.Whole.{level_in, recent}
-use Rattle.gts_kept_core.specs.Parts.{Core, lane_in, need_on, times_waiting, IsAccepted, IsFew, IsGoing, AreParts}
+use Rattle.gts_kept_core.specs.Parts.{Core, circuit_of, lane_in, need_on, times_waiting, IsAccepted, IsFew, IsGoing, AreParts}
 use Rattle.gts_kept_core.specs.Entering.{RoutesWhere, PutsWhere, Enters, Accepts}
 use Rattle.gts_kept_core.proofs.PartsLemmas.{both_true, each_at}
 use Rattle.gts_kept_core.proofs.StepLemmas.{less_accepted, still_there}
@@ -406,8 +406,8 @@ module _ (d : Directory) (old new : Core) (t : State) (c : ℕ) (kind : Kind) (m
             (λ p e. let is : bit (has (positions_of (recent d then_state)) p) ≡ 1 = ap bit e in omega (arith, free_then p, is));
       }
 
-  pub parts_accepted : t.count < most_accepted → IsOrdered d then_state → new.window ≡ old.window → new.kept ≡ old.kept → new.state.count ≡ t.count + 1 → AreParts d new then_state
-  parts_accepted few ordered window kept count = record {
+  pub parts_accepted : t.count < most_accepted → IsOrdered d then_state → new.window ≡ old.window → new.kept ≡ old.kept → new.state.count ≡ t.count + 1 → new.state.circuits ≡ map circuit_of new.lanes → AreParts d new then_state
+  parts_accepted few ordered window kept count lists = record {
     going = record {
       keeps = are.going.keeps; window = are.going.window;
       ordered = ordered;
@@ -421,6 +421,8 @@ module _ (d : Directory) (old new : Core) (t : State) (c : ℕ) (kind : Kind) (m
     kept = kept ∙ are.kept;
     lanes = acc.each ∙ are.lanes;
     count = count;
+    lists = lists;
+    held = acc.held;
     stands = stands_then;
     width = acc.width ∙ are.width;
     noted = noted_then few;

@@ -1,5 +1,5 @@
 -- The parts after a message was heard.
-use Rattle.std.proofs.Common.{◌≡◌, ℕ, ◌+◌, ◌<◌, ◌≤◌, Bool, true, false, nat_lt, cond, List, [], ◌∷◌, ◌++◌, length, set, IfSome, Option, None, Some, Result, Ok, Err, is_ok, refl, sym, ap, subst, ◌∙◌, arith}
+use Rattle.std.proofs.Common.{◌≡◌, ℕ, ◌+◌, ◌<◌, ◌≤◌, Bool, true, false, nat_lt, cond, List, [], ◌∷◌, ◌++◌, length, map, set, IfSome, Option, None, Some, Result, Ok, Err, is_ok, refl, sym, ap, subst, ◌∙◌, arith}
 use Rattle.std.specs.Prelude.{count_by, is_none}
 use Rattle.std.proofs.lemmas.Bool.{ltb-false}
 use Rattle.std.proofs.lemmas.List.{get_or-set_same}
@@ -27,7 +27,7 @@ use Rattle.gts_store.specs.Shelf.{Stored, Shelf, stored_at, circuit_at, free_use
 use Rattle.gts_kept_core.specs.Lane.{Lane, Stands}
 use Rattle.gts_kept_core.specs.Whole.{level_in, recent}
 use Rattle.gts_kept_core.specs.Judging.{OwesMore}
-use Rattle.gts_kept_core.specs.Parts.{Core, lane_in, idle_lane, need_on, IsAccepted, IsFew, AreParts}
+use Rattle.gts_kept_core.specs.Parts.{Core, HasWhatItKeeps, circuit_of, lane_in, idle_lane, need_on, IsAccepted, IsFew, AreParts}
 use Rattle.gts_kept_core.specs.Core.{Holds, IsStep}
 use Rattle.gts_kept_core.specs.Entering.{HasRoom, CanRoute, Accepts}
 use Rattle.gts_kept_core.proofs.PartsLemmas.{each_at}
@@ -66,9 +66,9 @@ ordered_heard d t c kind m o is e =
 
 -- a granted request is owed
 pub parts_owed : (d : Directory) (old new : Core) (t : State) (c : ℕ) (lane : Lane) (xs : List ℕ) → c < length d.circuits → AreParts d old t
-    → new.window ≡ old.window → new.kept ≡ old.kept → new.state.count ≡ old.state.count → new.table ≡ old.table → new.store ≡ old.store → new.lanes ≡ set old.lanes c lane
+    → new.window ≡ old.window → new.kept ≡ old.kept → new.state.count ≡ old.state.count → new.table ≡ old.table → new.store ≡ old.store → new.lanes ≡ set old.lanes c lane → new.state.circuits ≡ map circuit_of new.lanes
     → OwesMore (lane_in old.lanes c) lane xs → IsOrdered d (with_owed t c xs) → AreParts d new (with_owed t c xs)
-parts_owed d old new t c lane xs here are window kept count table store lanes more ordered =
+parts_owed d old new t c lane xs here are window kept count table store lanes lists more ordered =
     let at : lane_in new.lanes c ≡ lane = ap (λ (ls : List Lane). lane_in ls c) lanes ∙ get_or-set_same old.lanes c lane idle_lane (omega (arith, here, are.lanes)) in
     let stay : Stay old new c = record {
       window = window;
@@ -77,6 +77,8 @@ parts_owed d old new t c lane xs here are window kept count table store lanes mo
       table = table;
       lanes = lanes ∙ ap (λ (l : Lane). set old.lanes c l) (sym at);
       others = λ k other. ap (λ (s : Shelf). circuit_at s k) store;
+      lists = lists;
+      held = subst (λ (s : Shelf). HasWhatItKeeps s) (sym store) are.held;
     } in
     let q : CircuitState = on_circuit t c in
     let is = are.stands c here in
@@ -132,16 +134,16 @@ can_route d core t k level are few inside room =
 -- the parts of the state after an accepted message
 pub parts_entered : (d : Directory) (old new : Core) (t : State) (c n : ℕ) (kind : Kind) (message : List ℕ) → AreParts d old t
     → Accepts d t.count c kind message old.table new.table old.store new.store old.lanes new.lanes → t.count < most_accepted
-    → IsOrdered d (after_heard d t c kind message (out.Accepted t.count n)) → new.window ≡ old.window → new.kept ≡ old.kept → new.state.count ≡ t.count + 1
+    → IsOrdered d (after_heard d t c kind message (out.Accepted t.count n)) → new.window ≡ old.window → new.kept ≡ old.kept → new.state.count ≡ t.count + 1 → new.state.circuits ≡ map circuit_of new.lanes
     → AreParts d new (after_heard d t c kind message (out.Accepted t.count n))
-parts_entered d old new t c n kind message are acc few ordered window kept count =
+parts_entered d old new t c n kind message are acc few ordered window kept count lists =
     let body : body_of message ≡ acc.parts.body = ap (λ r. elim r as (λ _. List ℕ) [ Err _ ↦ [] | Ok parts ↦ parts.body ]) acc.read in
     let heading : heading_of_message message ≡ acc.parts.heading = ap (λ r. elim r as (λ _. HeadingFields) [ Err _ ↦ no_heading | Ok parts ↦ parts.heading ]) acc.read in
     let same : with_bulletin t c kind (body_of message) (named d c (heading_of_message message)) ≡ with_bulletin t c kind acc.parts.body (named d c acc.parts.heading) =
     ap (λ (xs : List ℕ). with_bulletin t c kind xs (named d c (heading_of_message message))) body ∙ ap (λ (h : HeadingFields). with_bulletin t c kind acc.parts.body (named d c h)) heading in
     subst (λ (x : State). AreParts d new x) (sym same)
     (parts_accepted d old new t c kind message are are.going.window acc (split_takes message acc.parts acc.read).short (body_of_message message acc.parts acc.read) few
-      (subst (λ (x : State). IsOrdered d x) same ordered) window kept count)
+      (subst (λ (x : State). IsOrdered d x) same ordered) window kept count lists)
 
 -- ---- a step
 

@@ -23,7 +23,7 @@ use Rattle.gts_store.specs.Shelf as shelves
 use Rattle.gts_store.specs.Shelf.{Stored, Drawn, Shelf, stored_at, circuit_at, first_kept, position_at, uses_of, uses_in, carries, is_headed, has_heading}
 use Rattle.gts_kept_core.specs.Duplicates.{latest_again}
 use Rattle.gts_kept_core.specs.Whole.{recent}
-use Rattle.gts_kept_core.specs.Parts.{Core, lane_in, IsAccepted, AreParts}
+use Rattle.gts_kept_core.specs.Parts.{Core, HasWhatItKeeps, lane_in, IsAccepted, AreParts}
 use Rattle.gts_kept_core.specs.Judging.{number_place, heading_place, item_places, answer_by, entered_by, verdict_by, judged_by}
 use Rattle.gts_kept_core.proofs.WholeLemmas.{kept_positions, duplicate_recent}
 
@@ -53,10 +53,6 @@ drop_numbered (suc m) e (t ∷ ts) = drop_numbered m (e + 1) ts ∙ (let same : 
 
 -- ---- the draws that are kept
 
--- the bulletin of each kept draw is there
-abbrev pub HasWhatItKeeps : Shelf → Type 0
-HasWhatItKeeps shelf = (c index : ℕ) → c < length shelf.circuits → IfSome (position_at (circuit_at shelf c) index) (λ p. 1 ≤ uses_of shelf p)
-
 pub each_kept : (shelf : Shelf) (c : ℕ) → c < length shelf.circuits → HasWhatItKeeps shelf → AllByRecursion (λ p. 1 ≤ uses_of shelf p) (circuit_at shelf c).kept
 each_kept shelf c lt has = each_got (λ p. 1 ≤ uses_of shelf p) q.kept (λ j p e.
       let low : nat_lt (first_kept q + j) (first_kept q) ≡ false = le-ltb (first_kept q + j) (first_kept q) (omega arith) in
@@ -67,7 +63,7 @@ each_kept shelf c lt has = each_got (λ p. 1 ≤ uses_of shelf p) q.kept (λ j p
     q : Drawn
     q = circuit_at shelf c
 
-module _ (d : Directory) (core : Core) (t : State) (are : AreParts d core t) (has : HasWhatItKeeps core.store) (c : ℕ) (here : c < length d.circuits) (inside : c < length core.store.circuits) where
+module _ (d : Directory) (core : Core) (t : State) (are : AreParts d core t) (c : ℕ) (here : c < length d.circuits) (inside : c < length core.store.circuits) where
   abbrev x : Drawn
   x = circuit_at core.store c
 
@@ -114,7 +110,7 @@ module _ (d : Directory) (core : Core) (t : State) (are : AreParts d core t) (ha
       ap (option_map (λ (draw : ℕ × ℕ). draw.0))
       (find_each (is_headed core.store h) (λ draw. is_same_heading (heading_at_position t draw.1) h) (reverse (shelves.kept_draws x))
       (each_reverse (λ (draw : ℕ × ℕ). is_headed core.store h draw ≡ is_same_heading (heading_at_position t draw.1) h) (shelves.kept_draws x)
-        (each_headed h (first_kept x) x.kept (each_kept core.store c inside has)))
+        (each_headed h (first_kept x) x.kept (each_kept core.store c inside are.held)))
       ∙ ap (λ (ds : List (ℕ × ℕ)). find (λ draw. is_same_heading (heading_at_position t draw.1) h) (reverse ds)) same_draws)
 
   item_same : (item : Item) → item_places core.store c item ≡ places_of t (latest_draws d t c) item

@@ -15,3 +15,4 @@ pub mod WindowLemmas
 pub mod EnterLemmas
 pub mod ReadyLemmas
 pub mod HearLemmas
+pub mod NeedLemmas

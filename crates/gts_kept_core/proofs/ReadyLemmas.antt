@@ -1,5 +1,5 @@
 -- The parts where only room was taken.
-use Rattle.std.proofs.Common.{◌≡◌, ℕ, ◌-◌, ◌<◌, List, [], ◌∷◌, length, get_or, Option, Some, IfSome, refl, sym, ap, subst, ◌∙◌, sum_by, arith}
+use Rattle.std.proofs.Common.{◌≡◌, ℕ, ◌-◌, ◌<◌, ◌≤◌, List, [], ◌∷◌, length, get_or, map, Option, None, Some, IfSome, refl, sym, ap, subst, ◌∙◌, sum_by, arith}
 use Rattle.std.specs.Prelude.{count_by, ◌==◌}
 use Rattle.std.specs.List.{AllByRecursion}
 use Rattle.gts_directory.specs.Directory.{Directory}
@@ -7,14 +7,14 @@ use Rattle.gts_event.specs.State.{State, Bulletin}
 use Rattle.gts_event.specs.declared.outcome.Outcome.TheVariants as out
 use Rattle.gts_prioq.specs.Waiting.{Waiting, at_level}
 use Rattle.gts_dup.specs.Window.{Window, Ascends}
-use Rattle.gts_store.specs.Shelf.{Stored, Drawn, Shelf, stored_at, circuit_at, no_draws, free_uses, uses_in, SameBulletins}
+use Rattle.gts_store.specs.Shelf.{Stored, Drawn, Shelf, stored_at, circuit_at, no_draws, position_at, free_uses, uses_of, uses_in, SameBulletins}
 use Rattle.gts_kept_core.specs.declared.answer.Verdict as verdicts
 use Rattle.gts_kept_core.specs.declared.answer.Verdict.TheVariants as verdict
 use Rattle.gts_kept_core.specs.Judging.{verdict_told}
 use Rattle.gts_kept_core.specs.Lane.{Stands}
 use Rattle.gts_kept_core.specs.Duplicates.{IsStored, AreNoted}
 use Rattle.gts_kept_core.specs.Whole.{level_in, recent}
-use Rattle.gts_kept_core.specs.Parts.{Core, lane_in, need_on, IsAccepted, AreParts}
+use Rattle.gts_kept_core.specs.Parts.{Core, HasWhatItKeeps, circuit_of, lane_in, need_on, IsAccepted, AreParts}
 use Rattle.gts_kept_core.specs.Core.{Holds}
 use Rattle.gts_kept_core.proofs.StepLemmas.{holds_by}
 
@@ -27,6 +27,7 @@ pub record Alike (old new : Core) : Type 0 where
   pub width : new.table.width ≡ old.table.width
   pub bulletins : SameBulletins old.store new.store
   pub circuits : new.store.circuits ≡ old.store.circuits
+  pub lists : new.state.circuits ≡ map circuit_of new.lanes
   pub each : length new.lanes ≡ length old.lanes
   pub levels : (k : ℕ) → k < length old.lanes → (lane_in new.lanes k).queue.levels ≡ (lane_in old.lanes k).queue.levels
   pub owed : (k : ℕ) → k < length old.lanes → (lane_in new.lanes k).owed ≡ (lane_in old.lanes k).owed
@@ -41,6 +42,15 @@ free_same old new p same circuits =
     ap (λ (o : Option Stored). uses_in o - sum_by (λ (q : Drawn). count_by (λ x. x == p) q.kept) new.circuits) (same p)
     ∙ ap (λ (qs : List Drawn). uses_in (stored_at old p) - sum_by (λ (q : Drawn). count_by (λ x. x == p) q.kept) qs) circuits
 
+held_same : (old new : Shelf) → SameBulletins old new → new.circuits ≡ old.circuits → HasWhatItKeeps old → HasWhatItKeeps new
+held_same old new same circuits held = λ c index inside.
+    let circuit : circuit_at new c ≡ circuit_at old c = ap (λ (qs : List Drawn). get_or qs c no_draws) circuits in
+    go (position_at (circuit_at new c) index) (subst (λ (q : Drawn). IfSome (position_at q index) (λ p. 1 ≤ uses_of old p)) (sym circuit) (held c index (omega (arith, inside, ap length circuits))))
+  where
+    go : (o : Option ℕ) → IfSome o (λ p. 1 ≤ uses_of old p) → IfSome o (λ p. 1 ≤ uses_of new p)
+    go None h = tt
+    go (Some p) h = subst (λ (x : Option Stored). 1 ≤ uses_in x) (sym (same p)) h
+
 pub parts_alike : (d : Directory) (old new : Core) (t : State) → AreParts d old t → Alike old new → AreParts d new t
 parts_alike d old new t are alike = record {
   going = are.going;
@@ -48,6 +58,8 @@ parts_alike d old new t are alike = record {
   kept = alike.kept ∙ are.kept;
   lanes = alike.each ∙ are.lanes;
   count = alike.count ∙ are.count;
+  lists = alike.lists;
+  held = held_same old.store new.store alike.bulletins alike.circuits are.held;
   stands = λ k inside.
       let is = are.stands k inside in
       let low : k < length old.lanes = omega (arith, inside, are.lanes) in

@@ -19,9 +19,9 @@ use Rattle.gts_store.specs.Shelf.{Shelf, stored_at, circuit_at, free_uses}
 use Rattle.gts_kept_core.specs.Lane.{Lane, Stands, need_restarted}
 use Rattle.gts_kept_core.specs.Duplicates.{AreNoted}
 use Rattle.gts_kept_core.specs.Owed.{all_waiting}
-use Rattle.gts_kept_core.specs.Kept.{circuit_of}
+use Rattle.gts_kept_core.specs.Parts.{circuit_of}
 use Rattle.gts_kept_core.specs.Whole.{level_in, recent}
-use Rattle.gts_kept_core.specs.Parts.{Core, lane_in, need_on, times_waiting, IsAccepted, IsFew, AreParts}
+use Rattle.gts_kept_core.specs.Parts.{Core, HasWhatItKeeps, lane_in, need_on, times_waiting, IsAccepted, IsFew, AreParts}
 use Rattle.gts_kept_core.proofs.WholeLemmas.{kept_positions}
 use Rattle.gts_kept_core.proofs.PartsLemmas.{keeps_some}
 
@@ -65,6 +65,7 @@ pub record Remains (old new : Core) : Type 0 where
   pub count : new.state.count ≡ old.state.count
   pub table : new.table ≡ old.table
   pub store : new.store ≡ old.store
+  pub lists : new.state.circuits ≡ map circuit_of new.lanes
   pub lanes : length new.lanes ≡ length old.lanes
 
 pub parts_restarted : (d : Directory) (old new : Core) (t : State) → AreParts d old t → Remains old new
@@ -85,6 +86,8 @@ parts_restarted d old new t are stay h = record {
   kept = stay.kept ∙ are.kept;
   lanes = stay.lanes ∙ are.lanes;
   count = stay.count ∙ are.count;
+  lists = stay.lists;
+  held = subst (λ (s : Shelf). HasWhatItKeeps s) (sym stay.store) are.held;
   stands = λ c inside.
       let k : ℕ = kept_on d c in
       let at : on_circuit (restarted t) c ≡ owed_last (on_circuit t c) = get_or-map owed_last t.circuits c idle idle (omega (arith, inside, are.going.ordered.circuits)) in

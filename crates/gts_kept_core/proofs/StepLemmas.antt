@@ -23,7 +23,7 @@ use Rattle.gts_kept_core.specs.Lane.{Lane, Stands}
 use Rattle.gts_kept_core.specs.Duplicates.{IsStored, AreNoted}
 use Rattle.gts_kept_core.specs.Taking.{DrawsOn, StoreAfter, TakesOn, need_after, outcome_of_choice, circuit_after}
 use Rattle.gts_kept_core.specs.Whole.{level_in, recent}
-use Rattle.gts_kept_core.specs.Parts.{Core, idle_lane, lane_in, need_on, times_waiting, IsAccepted, IsFew, IsGoing, AreParts}
+use Rattle.gts_kept_core.specs.Parts.{Core, HasWhatItKeeps, circuit_of, idle_lane, lane_in, need_on, times_waiting, IsAccepted, IsFew, IsGoing, AreParts}
 use Rattle.gts_kept_core.specs.Core.{Holds}
 use Rattle.gts_kept_core.proofs.WholeLemmas.{need_taken, waits_without}
 use Rattle.gts_kept_core.proofs.PartsLemmas.{each_set, each_at, limit_here, times_set, has_without_same, has_without_other, without_one}
@@ -97,6 +97,8 @@ pub record Stay (old new : Core) (c : ℕ) : Type 0 where
   pub table : new.table ≡ old.table
   pub lanes : new.lanes ≡ set old.lanes c (lane_in new.lanes c)
   pub others : (k : ℕ) → k ≢ c → circuit_at new.store k ≡ circuit_at old.store k
+  pub lists : new.state.circuits ≡ map circuit_of new.lanes
+  pub held : HasWhatItKeeps new.store
 
 abbrev pub with_at : State → ℕ → CircuitState → State
 with_at t c q = record t { circuits = set t.circuits c q }
@@ -121,6 +123,8 @@ parts_set d old new t c q here are stay stands ordered few noted stored free =
       kept = stay.kept ∙ are.kept;
       lanes = ap length stay.lanes ∙ length-set old.lanes c (lane_in new.lanes c) ∙ are.lanes;
       count = stay.count ∙ are.count;
+      lists = stay.lists;
+      held = stay.held;
       stands = λ k inside. elim (cases_eq k c) [
         | inl same ↦
             let at : on_circuit (with_at t c q) k ≡ q = ap (λ (j : ℕ). on_circuit (with_at t c q) j) same ∙ get_or-set_same t.circuits c q idle lt in
@@ -240,10 +244,10 @@ store_stays w old new c o (Draws i q) e after =
 
 -- a take leads to the outcome and the state that the definitions say
 pub take_parts : (d : Directory) (old new : Core) (t : State) (c : ℕ) (lane : Lane) (o : Outcome) → c < length d.circuits → AreParts d old t
-    → old.kept ≡ limits_of old.store → new.kept ≡ limits_of new.store → new.window ≡ old.window → new.state.count ≡ old.state.count → new.table ≡ old.table → new.lanes ≡ set old.lanes c lane
+    → old.kept ≡ limits_of old.store → new.kept ≡ limits_of new.store → new.window ≡ old.window → new.state.count ≡ old.state.count → new.table ≡ old.table → new.lanes ≡ set old.lanes c lane → new.state.circuits ≡ map circuit_of new.lanes → HasWhatItKeeps new.store
     → TakesOn (level_in d t) (circuit_at old.store c).limit (need_on d t c) lane (circuit_at new.store c) o → StoreAfter o (lane_in old.lanes c).queue old.store new.store c
     → (o ≡ outcome d t (Taken c)) × AreParts d new (after d t (Taken c))
-take_parts d old new t c lane o here are limits now window count table lanes step store =
+take_parts d old new t c lane o here are limits now window count table lanes lists held step store =
     let ch : Choice = choice d t c in
     let told : o ≡ outcome_of_choice ch = step.outcome in
     let rest = store_stays (lane_in old.lanes c).queue old.store new.store c o ch told store in
@@ -255,6 +259,8 @@ take_parts d old new t c lane o here are limits now window count table lanes ste
       table = table;
       lanes = lanes ∙ ap (λ (l : Lane). set old.lanes c l) (sym at);
       others = rest.0;
+      lists = lists;
+      held = held;
     } in
     let limit : (circuit_at old.store c).limit ≡ kept_on d c = limit_here d old t are limits c here in
     let stands : Stands (level_in d t) (need_after (kept_on d c) ch (need_on d t c)) (lane_in new.lanes c) (circuit_at new.store c) =

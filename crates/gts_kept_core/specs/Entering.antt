@@ -11,7 +11,7 @@ use Rattle.gts_prioq.specs.Order.{PutsAt}
 use Rattle.gts_dup.specs.Window.{Window, digest_of}
 use Rattle.gts_store.specs.Shelf.{Stored, Shelf, stored_at, stored_as, free_uses, without_use}
 use Rattle.gts_kept_core.specs.Lane.{Lane}
-use Rattle.gts_kept_core.specs.Parts.{lane_in}
+use Rattle.gts_kept_core.specs.Parts.{HasWhatItKeeps, lane_in}
 
 -- each level of a circuit has room for one position more
 abbrev pub HasRoom : Lane → Type 0
@@ -42,11 +42,14 @@ pub record Enters (old new : Shelf) (position width : ℕ) (stored : Stored) : T
   pub circuits : new.circuits ≡ old.circuits
 
 -- what the containers of a core are after a message of a circuit was accepted
-pub record Accepts (d : Directory) (position c : ℕ) (kind : Kind) (message : List ℕ) (table after : Window) (old new : Shelf) (lanes routed : List Lane) : Type 0 where
+pub record Accepts (d : Directory) (position c : ℕ) (kind : Kind) (message : List ℕ)
+    (table after : Window) (old new : Shelf) (lanes routed : List Lane) : Type 0 where
   pub parts : MessageParts
   pub read : split_at message ≡ Ok parts
   pub noted : after.noted ≡ keep_last table.width (table.noted ++ (digest_of parts.heading parts.text, position) ∷ [])
   pub width : after.width ≡ table.width
   pub entered : Enters old new position table.width (stored_as c kind parts.heading (1 + length (named d c parts.heading)) parts.body)
+  pub held : HasWhatItKeeps new
   pub each : length routed ≡ length lanes
-  pub waits : (k : ℕ) → k < length lanes → RoutesWhere (is_named d c parts.heading k) (level_of d parts.heading) position (lane_in lanes k) (lane_in routed k)
+  pub waits : (k : ℕ) → k < length lanes
+      → RoutesWhere (is_named d c parts.heading k) (level_of d parts.heading) position (lane_in lanes k) (lane_in routed k)

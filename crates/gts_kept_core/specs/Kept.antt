@@ -4,13 +4,9 @@ use Rattle.gts_alphabet.specs.declared.limits.TheConstants.{MOST_CIRCUITS}
 use Rattle.gts_directory.specs.Directory.{Directory}
 use Rattle.gts_event.specs.State.{State, CircuitState}
 use Rattle.gts_kept_core.specs.Lane.{Lane}
-use Rattle.gts_kept_core.specs.Parts.{Core, lane_in, AreParts}
+use Rattle.gts_kept_core.specs.Parts.{Core, lane_in, circuit_of, AreParts}
 use Rattle.gts_kept_core.specs.Entering.{HasRoom}
 use Rattle.gts_kept_core.specs.declared.whole.Core.TheInside.{Inside}
-
--- what waits on a circuit, by levels, and what is owed
-abbrev pub circuit_of : Lane → CircuitState
-circuit_of lane = record { routed = flat_map (λ level. level) lane.queue.levels; earlier = 0; taken = []; owed = lane.owed }
 
 abbrev pub ready_of : Bool → Option (List ℕ) → Option (List ℕ)
 ready_of ready aside = cond ready aside None

@@ -1,5 +1,5 @@
 -- The containers of a core, and of which states they are the parts.
-use Rattle.std.specs.Prelude.{◌≡◌, ℕ, ◌+◌, ◌<◌, ◌≤◌, ◌==◌, List, [], ◌∷◌, length, map, Option, Some, IfSome, IsTrue, slice_index_or, if◌then◌else◌}
+use Rattle.std.specs.Prelude.{◌≡◌, ℕ, ◌+◌, ◌<◌, ◌≤◌, ◌==◌, List, [], ◌∷◌, length, map, flat_map, Option, Some, IfSome, IsTrue, slice_index_or, if◌then◌else◌}
 use Rattle.std.specs.List.{AllByRecursion, find}
 use Rattle.gts_directory.specs.Directory.{Directory}
 use Rattle.gts_directory.specs.Routing.{bit}
@@ -9,7 +9,7 @@ use Rattle.gts_event.specs.Need.{CircuitNeed, circuit_need, keeps_one, positions
 use Rattle.gts_prioq.specs.Waiting.{AllBelow}
 use Rattle.gts_prioq.specs.Order.{Ascends}
 use Rattle.gts_dup.specs.Window.{Window}
-use Rattle.gts_store.specs.Shelf.{Stored, Shelf, stored_at, circuit_at, free_uses}
+use Rattle.gts_store.specs.Shelf.{Stored, Shelf, stored_at, circuit_at, position_at, uses_of, free_uses}
 use Rattle.gts_kept_core.specs.Lane.{Lane, Stands}
 use Rattle.gts_kept_core.specs.Frames.{IsWhole}
 use Rattle.gts_kept_core.specs.Duplicates.{AreNoted}
@@ -26,6 +26,15 @@ pub record Core : Type 0 where
   pub store : Shelf
   pub lanes : List Lane
   pub ready : Option (List ℕ)
+
+-- the bulletin of each kept draw is there
+abbrev pub HasWhatItKeeps : Shelf → Type 0
+HasWhatItKeeps shelf =
+    (c index : ℕ) → c < length shelf.circuits → IfSome (position_at (circuit_at shelf c) index) (λ p. 1 ≤ uses_of shelf p)
+
+-- what waits on a circuit, by levels, and what is owed
+abbrev pub circuit_of : Lane → CircuitState
+circuit_of lane = record { routed = flat_map (λ level. level) lane.queue.levels; earlier = 0; taken = []; owed = lane.owed }
 
 -- a circuit on which nothing waits
 abbrev pub idle_lane : Lane
@@ -73,6 +82,8 @@ pub record AreParts (d : Directory) (core : Core) (t : State) : Type 0 where
   pub kept : core.kept ≡ map (λ row. row.kept) d.circuits
   pub lanes : length core.lanes ≡ length d.circuits
   pub count : core.state.count ≡ t.count
+  pub lists : core.state.circuits ≡ map circuit_of core.lanes
+  pub held : HasWhatItKeeps core.store
   pub stands : (c : ℕ) → c < length d.circuits → Stands (level_in d t) (need_on d t c) (lane_in core.lanes c) (circuit_at core.store c)
   pub width : core.table.width ≡ d.window
   pub noted : AreNoted core.table core.store (recent d t)

@@ -1,15 +1,11 @@
 ghost use Rattle.std.specs.Prelude.{◌≡◌, ◌==◌, ◌+◌, ◌<◌, ◌≤◌, ℕ, length, Some, IsSome, IfSome, OnOk, IsTrue, is_ok};
 ghost use Rattle.std.specs.Int.{bit_at};
 ghost use Rattle.gts_alphabet.specs.declared.limits.TheConstants.{MOST_CIRCUITS};
-ghost use Rattle.gts_heading.specs.Heading.{fields_of};
-ghost use Rattle.gts_message.specs.Message.{split_at};
 ghost use Rattle.gts_prioq.specs.declared.levels.TheConstants.{LEVELS};
 ghost use Rattle.gts_dup.specs.Window.{AllBelow};
-ghost use Rattle.gts_store.specs.Shelf.{stored_as, uses_of, free_uses, SameBulletins};
-ghost use Rattle.gts_kept_core.specs.Words.{body_of, heading_of_message};
+ghost use Rattle.gts_kept_core.specs.Words.{fields_of, split_at, level_of, body_of, heading_of_message, stored_as, uses_of, free_uses, SameBulletins};
 ghost use Rattle.gts_kept_core.specs.Parts.{lane_in};
 ghost use Rattle.gts_kept_core.specs.Entering.{HasRoom, CanRoute, RoutesWhere, Enters, Accepts};
-ghost use Rattle.gts_directory.specs.Directory.{level_of};
 
 use crate::lane::Lane;
 use gts_alphabet::NoMemory;
@@ -145,6 +141,7 @@ pub fn accept_in(
         table.put(digest, position);
         let uses = 1 + mask.count_ones();
         enter(store, directory.window(), position, parts.heading, c, kind, uses);
+        store.has_what_it_keeps();
         route_in(lanes, mask, level, position);
     }
 }

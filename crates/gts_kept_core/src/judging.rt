@@ -1,9 +1,8 @@
 ghost use Rattle.std.specs.Prelude.{◌≡◌, ◌+◌, ◌<◌, ◌≤◌, ◌^◌, ℕ, List, length, flat_map};
 ghost use Rattle.std.specs.List.{AllByRecursion};
-ghost use Rattle.gts_heading.specs.Heading.{fields_of};
 ghost use Rattle.gts_request.specs.Request as requests;
 ghost use Rattle.gts_event.specs.History as history;
-ghost use Rattle.gts_kept_core.specs.Words.{Bulletin, named};
+ghost use Rattle.gts_kept_core.specs.Words.{Bulletin, fields_of, named};
 ghost use Rattle.gts_kept_core.specs.Frames.{AreBodies};
 ghost use Rattle.gts_kept_core.specs.Duplicates.{AreNoted};
 ghost use Rattle.gts_kept_core.specs.Judging.{item_places, Tallies, verdict_told, answer_by, verdict_by, judged_by};

@@ -1,6 +1,6 @@
 ghost use Rattle.std.specs.Prelude.{◌≡◌, ◌<◌, ◌^◌, map};
 ghost use Rattle.gts_kept_core.specs.Owed.{all_waiting};
-ghost use Rattle.gts_kept_core.specs.Kept.{circuit_of};
+ghost use Rattle.gts_kept_core.specs.Parts.{circuit_of};
 
 use crate::lane::Lane;
 

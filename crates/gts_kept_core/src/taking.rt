@@ -1,9 +1,7 @@
 ghost use Rattle.std.specs.Prelude.{◌≡◌, ◌<◌, ◌≤◌, ℕ, length};
 ghost use Rattle.std.specs.Option.{option_to_list};
 ghost use Rattle.gts_alphabet.specs.declared.limits.TheConstants.{MOST_CIRCUITS};
-ghost use Rattle.gts_event.specs.Need.{CircuitNeed};
-ghost use Rattle.gts_event.specs.declared.outcome.Outcome.TheVariants.{Nothing};
-ghost use Rattle.gts_store.specs.Shelf.{circuit_at, free_uses};
+ghost use Rattle.gts_kept_core.specs.Words.{CircuitNeed, Nothing, circuit_at, free_uses};
 ghost use Rattle.gts_kept_core.specs.Lane.{Stands, need_restarted, last_draw};
 ghost use Rattle.gts_kept_core.specs.Parts.{lane_in};
 ghost use Rattle.gts_kept_core.specs.Frames.{AreBodies, IsHeld, frame_kept};

@@ -53,6 +53,7 @@ impl Core {
     {
         let limits = kept_limits(alloc, directory)?;
         let store = Store::new(alloc, &limits)?;
+        store.has_what_it_keeps();
         let table = DupTable::new(alloc, directory.window())?;
         let lanes = empty_lanes(alloc, directory.circuits())?;
         Ok(Core {
@@ -72,7 +73,6 @@ impl Core {
         requires circuit { c < length self.now.kept }
         ensures { Judges directory.now self.now c message.now result }
     {
-        self.store.has_what_it_keeps();
         let lane = &self.lanes[c as usize];
         judge_in(directory, &self.table, &self.store, lane, c, message)
     }
@@ -118,7 +118,6 @@ impl Core {
             Verdict::Duplicate { position } => Outcome::Duplicate { position },
             Verdict::Asked { found, missing } => {
                 self.ready = false;
-                self.store.has_what_it_keeps();
                 let lane = &mut self.lanes[c as usize];
                 grant_on(lane, &self.store, c, message);
                 Outcome::Asked { found, missing }
@@ -168,7 +167,9 @@ impl Core {
     {
         self.ready = false;
         let lane = &mut self.lanes[c as usize];
-        take_on(lane, &mut self.store, c, out)
+        let outcome = take_on(lane, &mut self.store, c, out);
+        self.store.has_what_it_keeps();
+        outcome
     }
 
     /// The journal was opened again: each circuit is owed its last draw alone. Takes no memory.

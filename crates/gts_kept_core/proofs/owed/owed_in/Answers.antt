@@ -4,7 +4,7 @@ use Rattle.gts_event.specs.State.{waiting}
 use Rattle.gts_prioq.specs.Waiting.{count_of}
 use Rattle.gts_kept_core.specs.Lane.{Lane}
 use Rattle.gts_kept_core.specs.Owed.{all_waiting}
-use Rattle.gts_kept_core.specs.Kept.{circuit_of}
+use Rattle.gts_kept_core.specs.Parts.{circuit_of}
 use Rattle.gts_kept_core.proofs.RestartLemmas.{lane_waiting}
 use Rattle.gts_kept_core.proofs.owed.owed_in.Goals as goal
 

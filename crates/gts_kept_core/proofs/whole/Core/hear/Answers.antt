@@ -23,7 +23,7 @@ use Rattle.gts_kept_core.specs.Kept.{core_of, IsReadyInside}
 use Rattle.gts_kept_core.specs.declared.whole.Core.TheInside.{Inside}
 use Rattle.gts_kept_core.proofs.PartsLemmas.{circuit_there}
 use Rattle.gts_kept_core.proofs.WindowLemmas.{noted_below}
-use Rattle.gts_kept_core.proofs.JudgeLemmas.{HasWhatItKeeps, places_same}
+use Rattle.gts_kept_core.proofs.JudgeLemmas.{places_same}
 use Rattle.gts_kept_core.proofs.HearLemmas.{asked_few, ordered_heard, parts_owed, own_state, ready_parts, none_yet, leaving_used, can_route, parts_entered, hears}
 use Rattle.gts_kept_core.proofs.whole.Core.hear.Goals as goal
 
@@ -49,22 +49,22 @@ grant_on-requires-clause-few c =
     let own : Holds d c.args.self.now t = subst (λ (x : Core). Holds d x t) c.self.view_is (own_state d (core_of i) s h) in
     let told : out.Asked c.in-Asked.found c.in-Asked.missing ≡ outcome d t (Heard k c.args.kind m) = c.in-Asked.ensures t c.args.kind own in
     let few = asked_few d t k c.args.kind m c.in-Asked.found c.in-Asked.missing told in
-    let same = places_same d (core_of i) t h.parts c.has_what_it_keeps.ensures k here inside (items_of m) in
+    let same = places_same d (core_of i) t h.parts k here inside (items_of m) in
     let at = lane_at i.lanes.items k c.index_mut-lane.result.now (omega (arith, here, h.parts.lanes)) c.index_mut-lane.ensures.value in
     omega (arith, few, ap (λ (ps : List (Option ℕ)). length (found ps)) same, ap (λ (l : Lane). length l.owed) at, ap (λ (os : List ℕ). length os) (h.parts.stands k here).owed)
 
 -- the parts where a granted request was owed
-asked_parts : (d : Directory) (i new : Inside) (t : State) (k : ℕ) (was lane : Lane) (m : List ℕ) → k < length d.circuits → AreParts d (core_of i) t → HasWhatItKeeps i.store
+asked_parts : (d : Directory) (i new : Inside) (t : State) (k : ℕ) (was lane : Lane) (m : List ℕ) → k < length d.circuits → AreParts d (core_of i) t
     → was ≡ get_or i.lanes.items k was → (core_of new).window ≡ i.window → new.count ≡ i.count → new.table ≡ i.table → new.store ≡ i.store → new.lanes.items ≡ set i.lanes.items k lane
     → OwesMore was lane (found (flat_map (item_places i.store k) (items_of m))) → (f n : ℕ) (kind : Kind) → IsOrdered d (after_heard d t k kind m (out.Asked f n))
     → AreParts d (core_of new) (after_heard d t k kind m (out.Asked f n))
-asked_parts d i new t k was lane m here are has at window count table store lanes more f n kind ordered =
+asked_parts d i new t k was lane m here are at window count table store lanes more f n kind ordered =
     let inside : k < length i.store.circuits = circuit_there d (core_of i) t are refl k here in
-    let same = places_same d (core_of i) t are has k here inside (items_of m) in
+    let same = places_same d (core_of i) t are k here inside (items_of m) in
     let owes : OwesMore (lane_in i.lanes.items k) lane (found (places d t k (items_of m))) =
     subst (λ (ps : List (Option ℕ)). OwesMore (lane_in i.lanes.items k) lane (found ps)) same
     (subst (λ (l : Lane). OwesMore l lane (found (flat_map (item_places i.store k) (items_of m)))) (lane_at i.lanes.items k was (omega (arith, here, are.lanes)) at) more) in
-    parts_owed d (core_of i) (core_of new) t k lane (found (places d t k (items_of m))) here are window (ap (λ (s : Shelf). map (λ q. q.limit) s.circuits) store) count table store lanes owes ordered
+    parts_owed d (core_of i) (core_of new) t k lane (found (places d t k (items_of m))) here are window (ap (λ (s : Shelf). map (λ q. q.limit) s.circuits) store) count table store lanes refl owes ordered
 
 pub invariant_of-self : goal.invariant_of-self
 invariant_of-self c =
@@ -83,7 +83,7 @@ invariant_of-self c =
     record {
       directory = d;
       state = after_heard d t k c.args.kind m o;
-      parts = asked_parts d i new t k c.index_mut-lane.result.now c.grant_on.new.lane m here h.parts c.has_what_it_keeps.ensures c.index_mut-lane.ensures.value refl refl refl refl refl
+      parts = asked_parts d i new t k c.index_mut-lane.result.now c.grant_on.new.lane m here h.parts c.index_mut-lane.ensures.value refl refl refl refl refl
           c.grant_on.ensures c.in-Asked.found c.in-Asked.missing c.args.kind (ordered_heard d t k c.args.kind m o h.parts.going.ordered told);
       few = omega (arith, length-set i.lanes.items k c.grant_on.new.lane, c.self.invariant.few);
       room = λ e. absurd (true≢false (sym e));
@@ -101,7 +101,7 @@ returns-in-Asked c =
     subst (λ (x : Core). IsStep d x (core_of new) (Heard k c.args.kind m) o) c.self.view_is
     (hears d (core_of i) (core_of new) k c.args.kind m o
       (λ s h. c.in-Asked.ensures s c.args.kind (subst (λ (x : Core). Holds d x s) c.self.view_is h))
-      (λ t are told ordered. asked_parts d i new t k c.index_mut-lane.result.now c.grant_on.new.lane m here are c.has_what_it_keeps.ensures c.index_mut-lane.ensures.value refl refl refl refl refl
+      (λ t are told ordered. asked_parts d i new t k c.index_mut-lane.result.now c.grant_on.new.lane m here are c.index_mut-lane.ensures.value refl refl refl refl refl
         c.grant_on.ensures c.in-Asked.found c.in-Asked.missing c.args.kind ordered))
 
 pub returns-in-Refused : goal.returns-in-Refused
@@ -205,7 +205,7 @@ new_parts : (d : Directory) (i new : Inside) (t : State) (c n : ℕ) (kind : Kin
 new_parts d i new t c n kind m are count few window more acc ordered =
     let at : Accepts d t.count c kind m i.table new.table i.store new.store i.lanes.items new.lanes.items =
     subst (λ (p : ℕ). Accepts d p c kind m i.table new.table i.store new.store i.lanes.items new.lanes.items) count acc in
-    parts_entered d (core_of i) (core_of new) t c n kind m are at few ordered window (ap (map (λ (q : Drawn). q.limit)) at.entered.circuits) (more ∙ ap (λ (p : ℕ). p + 1) count)
+    parts_entered d (core_of i) (core_of new) t c n kind m are at few ordered window (ap (map (λ (q : Drawn). q.limit)) at.entered.circuits) (more ∙ ap (λ (p : ℕ). p + 1) count) refl
 
 pub invariant_of-self-in-New : goal.invariant_of-self-in-New
 invariant_of-self-in-New c =

@@ -41,5 +41,5 @@ returns c = λ s kind was.
     ap (λ (n : ℕ). verdict_told n told) count
     ∙ c.judge_in.ensures t.count (recent d t) h.parts.noted
     ∙ ap (λ (l : Lane). judged_by d t.count (recent d t) (length l.owed) i.store k m) at
-    ∙ judged_is d (core_of i) t h.parts c.has_what_it_keeps.ensures k here inside kind m
+    ∙ judged_is d (core_of i) t h.parts k here inside kind m
     ∙ outcome-same d t s (Heard k kind m) h.need

@@ -2,7 +2,8 @@ use Rattle.std.proofs.Common.{◌≡◌, List, map, sym, ap, subst, ◌∙◌}
 use Rattle.gts_kept_core.specs.Lane.{Lane}
 use Rattle.gts_kept_core.specs.Owed.{all_waiting}
 use Rattle.gts_kept_core.specs.Core.{Core, Holds}
-use Rattle.gts_kept_core.specs.Kept.{core_of, circuit_of}
+use Rattle.gts_kept_core.specs.Kept.{core_of}
+use Rattle.gts_kept_core.specs.Parts.{circuit_of}
 use Rattle.gts_kept_core.proofs.RestartLemmas.{parts_waiting, waiting_same}
 use Rattle.gts_kept_core.proofs.whole.Core.owed.Goals as goal
 
