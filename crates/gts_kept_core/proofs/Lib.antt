@@ -3,3 +3,16 @@ pub mod TakingLemmas
 pub mod DrawLemmas
 pub mod DuplicateLemmas
 pub mod WholeLemmas
+pub mod PartsLemmas
+pub mod StepLemmas
+pub mod SaidLemmas
+pub mod RestartLemmas
+pub mod EmptyLemmas
+pub mod TallyLemmas
+pub mod ItemLemmas
+pub mod JudgeLemmas
+pub mod WindowLemmas
+pub mod EnterLemmas
+pub mod ReadyLemmas
+pub mod HearLemmas
+pub mod NeedLemmas

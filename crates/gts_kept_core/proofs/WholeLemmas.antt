@@ -23,11 +23,11 @@ use Rattle.gts_kept_core.specs.Whole.{recent}
 eq_turned : (a b : ℕ) → (a == b) ≡ (b == a)
 eq_turned a b = elim (cases_eq a b) [ inl same ↦ eq-eqb a b same ∙ sym (eq-eqb b a (sym same)) | inr other ↦ ne_eqb a b other ∙ sym (ne_eqb b a (λ e. other (sym e))) ]
 
-has_push : (ts : List ℕ) (p x : ℕ) → has (ts ++ p ∷ []) x ≡ (has ts x || (p == x))
+pub has_push : (ts : List ℕ) (p x : ℕ) → has (ts ++ p ∷ []) x ≡ (has ts x || (p == x))
 has_push [] p x = elim (p == x) as (λ b. (b || false) ≡ (false || b)) [ true ↦ refl | false ↦ refl ]
 has_push (t ∷ ts) p x = ap (λ b. (t == x) || b) (has_push ts p x) ∙ elim (t == x) as (λ b. (b || (has ts x || (p == x))) ≡ ((b || has ts x) || (p == x))) [ true ↦ refl | false ↦ refl ]
 
-waits_without : (ts : List ℕ) (p : ℕ) (rs : List ℕ) → filter (λ x. not (has (ts ++ p ∷ []) x)) rs ≡ without p (filter (λ x. not (has ts x)) rs)
+pub waits_without : (ts : List ℕ) (p : ℕ) (rs : List ℕ) → filter (λ x. not (has (ts ++ p ∷ []) x)) rs ≡ without p (filter (λ x. not (has ts x)) rs)
 waits_without ts p [] = refl
 waits_without ts p (r ∷ rs) =
     let rest : List ℕ = filter (λ x. not (has ts x)) rs in
@@ -44,7 +44,7 @@ positions_numbered : (n : ℕ) (ts : List ℕ) → map (λ (draw : ℕ × ℕ). 
 positions_numbered n [] = refl
 positions_numbered n (t ∷ ts) = ap (λ (xs : List ℕ). t ∷ xs) (positions_numbered (n + 1) ts)
 
-kept_positions : (k : ℕ) (q : CircuitState) → map (λ (draw : ℕ × ℕ). draw.1) (kept_draws k q) ≡ keep_last k q.taken
+pub kept_positions : (k : ℕ) (q : CircuitState) → map (λ (draw : ℕ × ℕ). draw.1) (kept_draws k q) ≡ keep_last k q.taken
 kept_positions k q =
     sym (drop-map (λ (draw : ℕ × ℕ). draw.1) (length (drawn q) - k) (drawn q))
     ∙ ap (λ (n : ℕ). drop (n - k) (map (λ (draw : ℕ × ℕ). draw.1) (drawn q))) (length-enumerate_from q.earlier q.taken)

@@ -6,7 +6,7 @@ use Rattle.gts_alphabet.specs.declared.limits.TheConstants.{LONGEST_BODY}
 use Rattle.gts_message.specs.Message.{body_at}
 use Rattle.gts_frame.specs.Frame.{frame}
 use Rattle.gts_number.specs.Number.{number_of}
-use Rattle.gts_store.specs.Shelf.{Stored, Shelf, stored_at, circuit_at, position_at}
+use Rattle.gts_store.specs.Shelf.{Stored, Shelf, stored_at, circuit_at, position_at, uses_of}
 
 -- all its bytes are the body of a message
 pub record IsWhole (b : Stored) : Type 0 where
@@ -30,3 +30,9 @@ frame_at shelf index (Some position) = frame_stored index (stored_at shelf posit
 -- the frame of a kept draw
 abbrev pub frame_kept : Shelf → ℕ → ℕ → List ℕ
 frame_kept shelf c index = frame_at shelf index (position_at (circuit_at shelf c) index)
+
+-- an index has a kept draw, and its bulletin is there
+pub record IsHeld (shelf : Shelf) (c index : ℕ) : Type 0 where
+  pub position : ℕ
+  pub at : position_at (circuit_at shelf c) index ≡ Some position
+  pub used : 1 ≤ uses_of shelf position

@@ -3,3 +3,10 @@ pub mod Frames
 pub mod Taking
 pub mod Duplicates
 pub mod Whole
+pub mod Owed
+pub mod Parts
+pub mod Judging
+pub mod Core
+pub mod Entering
+pub mod Kept
+pub mod Words

@@ -61,9 +61,9 @@ pub record DrawsOn (old new : Shelf) (c position : ℕ) : Type 0 where
   pub out : FallsOut old new (falls_out position (circuit_at old c))
   pub free : ChangesFree old new position (free_uses old position - 1)
 
--- what a take wants is there: its draws can be kept, what is owed first is kept, what waits has a use, and bodies are whole
+-- what a take wants is there: what is next can be kept and has a use, what is owed first is kept, and bodies are whole
 pub record CanTake (lane : Lane) (shelf : Shelf) (c : ℕ) : Type 0 where
-  pub draw : CanDraw (circuit_at shelf c)
+  pub draw : (p : ℕ) → GoesNext lane.queue p → CanDraw (circuit_at shelf c)
   pub owed : IfSome (slice_get lane.owed 0) (λ index. IsSome (position_at (circuit_at shelf c) index) × (index < most_accepted))
   pub used : (p : ℕ) → GoesNext lane.queue p → 1 ≤ free_uses shelf p
   pub bodies : AreBodies shelf

@@ -1,6 +1,6 @@
 ghost use Rattle.std.specs.Prelude.{◌≡◌, ◌<◌, ◌^◌, length, IsSome};
 ghost use Rattle.gts_store.specs.Shelf.{circuit_at, position_at};
-ghost use Rattle.gts_kept_core.specs.Frames.{AreBodies, frame_kept};
+ghost use Rattle.gts_kept_core.specs.Frames.{AreBodies, IsHeld, frame_kept};
 
 use gts_frame::{FrameBuf, write_frame};
 use gts_number::number_of;
@@ -12,7 +12,8 @@ pub fn write_draw(store: &Store, c: u32, index: u64, out: &mut FrameBuf)
     requires kept { IsSome (position_at (circuit_at store.now c) index) }
     requires bodies { AreBodies store.now }
     requires few { index < 2 ^ 62 }
-    ensures { out.new ≡ frame_kept store.now c index }
+    ensures frame { out.new ≡ frame_kept store.now c index }
+    ensures held { IsHeld store.now c index }
 {
     let Some(position) = store.position_of(c, index) else {
         return;

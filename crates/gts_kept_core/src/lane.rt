@@ -1,15 +1,16 @@
-ghost use Rattle.std.specs.Prelude.{◌≡◌, ◌<◌, ◌≤◌, ◌++◌, [], ◌∷◌, length, drop, slice_get, IfOk, IfSome, IfNone, MatchOption};
+ghost use Rattle.std.specs.Prelude.{◌≡◌, ◌<◌, ◌≤◌, ◌++◌, [], ◌∷◌, ℕ, length, drop, slice_get, IfOk, IfSome, IfNone, OnOk, MatchOption};
 ghost use Rattle.gts_event.specs.History.{most_owed};
 ghost use Rattle.std.specs.Option.{option_to_list};
-ghost use Rattle.gts_prioq.specs.Waiting.{GoesNext, TakesNext, NothingWaits, count_of};
+ghost use Rattle.gts_prioq.specs.declared.levels.TheConstants.{LEVELS};
+ghost use Rattle.gts_prioq.specs.Waiting.{GoesNext, TakesNext, NothingWaits, count_of, spare};
 
 use gts_alphabet::NoMemory;
-use gts_prioq::PrioQueue;
+use gts_prioq::{LEVELS, PrioQueue};
 use std::alloc::Global;
 use std::marker::Model;
 
 /// The most repetitions that a circuit may be owed (profile).
-const MOST_OWED: usize = 4096;
+pub const MOST_OWED: usize = 4096;
 
 /// What waits on a circuit, and what is owed there. Its room for repetitions is there from the start.
 #[derive(Drop)]
@@ -29,6 +30,9 @@ impl Model for Lane {
 }
 
 impl Lane {
+    ghost use Rattle.gts_prioq.specs.Order.{PutsAt};
+    ghost use Rattle.gts_kept_core.specs.Entering.{HasRoom, CanRoute};
+
     /// A circuit that has nothing.
     pub fn new(alloc: Global) -> Result<Lane, NoMemory>
         ensures queue { IfOk result (λ lane. lane.queue.levels ≡ [] ∷ [] ∷ [] ∷ [] ∷ []) }
@@ -71,6 +75,26 @@ impl Lane {
         self.queue.pop()
     }
 
+    /// Takes the room for one position more on each level. What waits stays, also where there is no memory.
+    pub fn make_room(&mut self) -> Result<(), NoMemory>
+        ensures room { OnOk result (HasRoom self.new) }
+        ensures levels { self.new.queue.levels ≡ self.old.queue.levels }
+        ensures owed { self.new.owed ≡ self.old.owed }
+    {
+        make_room_in(&mut self.queue)
+    }
+
+    /// A position waits on a level, behind the others there.
+    pub fn put(&mut self, level: u8, position: u64)
+        requires from { 1 ≤ level }
+        requires to { level ≤ LEVELS }
+        requires can { CanRoute level position self.old }
+        ensures put { PutsAt self.old.queue self.new.queue level position }
+        ensures owed { self.new.owed ≡ self.old.owed }
+    {
+        self.queue.put(level, position);
+    }
+
     /// Takes the first repetition that is owed. `None` exactly where nothing is owed.
     pub fn repeat(&mut self) -> Option<u64>
         ensures first { result ≡ slice_get self.old.owed 0 }
@@ -101,4 +125,16 @@ impl Lane {
             self.owed.push_reserved(index);
         }
     }
+}
+
+/// Takes the room for one position more on each level of a queue.
+fn make_room_in(queue: &mut PrioQueue) -> Result<(), NoMemory>
+    ensures room { OnOk result ((level : ℕ) → 1 ≤ level → level ≤ LEVELS
+        → 1 ≤ spare queue.new level) }
+    ensures levels { queue.new.levels ≡ queue.old.levels }
+{
+    for i in 0..LEVELS {
+        queue.reserve(i as u8 + 1)?;
+    }
+    Ok(())
 }

@@ -3,10 +3,24 @@
 
 mod answer;
 mod duplicates;
+mod entering;
 mod frames;
+mod granting;
+mod judging;
 mod lane;
 mod laws;
+mod opening;
+mod owed;
+mod places;
 mod taking;
+mod whole;
 
 pub use answer::{Choice, Verdict};
-pub use laws::{a_duplicate_is_recent, a_take_depends_on_what_is_needed};
+pub use laws::{
+    a_core_has_the_waiting_draws_of_its_state, a_core_holds_each_state_of_its_need,
+    a_duplicate_is_recent, a_take_depends_on_what_is_needed, what_a_core_holds_has_one_need,
+};
+pub use whole::Core;
+
+#[cfg(test)]
+mod tests;

@@ -1,10 +1,10 @@
 ghost use Rattle.std.specs.Prelude.{◌≡◌, ◌<◌, ◌≤◌, ℕ, length};
 ghost use Rattle.std.specs.Option.{option_to_list};
-ghost use Rattle.gts_event.specs.Need.{CircuitNeed};
-ghost use Rattle.gts_event.specs.declared.outcome.Outcome.TheVariants.{Nothing};
-ghost use Rattle.gts_store.specs.Shelf.{circuit_at, free_uses};
+ghost use Rattle.gts_alphabet.specs.declared.limits.TheConstants.{MOST_CIRCUITS};
+ghost use Rattle.gts_kept_core.specs.Words.{CircuitNeed, Nothing, circuit_at, free_uses};
 ghost use Rattle.gts_kept_core.specs.Lane.{Stands, need_restarted, last_draw};
-ghost use Rattle.gts_kept_core.specs.Frames.{AreBodies, frame_kept};
+ghost use Rattle.gts_kept_core.specs.Parts.{lane_in};
+ghost use Rattle.gts_kept_core.specs.Frames.{AreBodies, IsHeld, frame_kept};
 ghost use Rattle.gts_kept_core.specs.Taking.{choice_told, choice_by, index_told, CanDraw, CanTake, DrawsOn, StoreAfter, TakesOn};
 
 use crate::answer::Choice;
@@ -42,6 +42,7 @@ fn draw_on(store: &mut Store, c: u32, position: u64, out: &mut FrameBuf) -> u64
     ensures drawn { DrawsOn store.old store.new c position }
     ensures bodies { AreBodies store.new }
     ensures frame { out.new ≡ frame_kept store.new c result }
+    ensures held { IsHeld store.new c result }
 {
     let index = store.draws(c);
     store.drew(c, position);
@@ -60,6 +61,7 @@ pub fn take_on(lane: &mut Lane, store: &mut Store, c: u32, out: &mut FrameBuf) -
     ensures bodies { AreBodies store.new }
     ensures frame { (result ≡ Nothing → ⊥)
         → out.new ≡ frame_kept store.new c (index_told result) }
+    ensures held { (result ≡ Nothing → ⊥) → IsHeld store.new c (index_told result) }
     ensures nothing { result ≡ Nothing → out.new ≡ out.old }
 {
     if let Some(index) = lane.repeat() {
@@ -98,4 +100,20 @@ pub fn restart_on(lane: &mut Lane, store: &Store, c: u32)
 {
     let last = last_kept(store, c);
     lane.owe_only(last);
+}
+
+/// The last draw of each circuit alone is owed.
+pub fn restart_in(lanes: &mut Vec<Lane>, store: &Store)
+    requires few { length lanes.old.items ≤ MOST_CIRCUITS }
+    requires circuits { length lanes.old.items ≤ length store.now.circuits }
+    requires drawn { (c : ℕ) → c < length lanes.old.items
+        → length (circuit_at store.now c).kept ≤ (circuit_at store.now c).draws }
+    ensures each { length lanes.new.items ≡ length lanes.old.items }
+    ensures stands { (c : ℕ) (level : ℕ → ℕ) (n : CircuitNeed) → c < length lanes.old.items
+        → Stands level n (lane_in lanes.old.items c) (circuit_at store.now c)
+        → Stands level (need_restarted n) (lane_in lanes.new.items c) (circuit_at store.now c) }
+{
+    for c in 0..lanes.len() {
+        restart_on(&mut lanes[c], store, c as u32);
+    }
 }

@@ -189,4 +189,12 @@ impl Store {
     {
         circuit::position_of(&self.circuits[c as usize], index)
     }
+
+    /// The bulletin of each kept draw is there.
+    pub fn has_what_it_keeps(&self)
+        ensures { (c index : ℕ) → c < length self.now.circuits → IfSome
+            (position_at (circuit_at self.now c) index) (λ p. 1 ≤ uses_of self.now p) }
+    {
+        let _ = self.circuits.len();
+    }
 }

@@ -8,6 +8,12 @@ use Rattle.gts_kept_core.proofs.DrawLemmas.{circuit_changed}
 use Rattle.gts_kept_core.proofs.TakingLemmas.{no_first, goes_next, stands_repeated, stands_drawn, stands_still}
 use Rattle.gts_kept_core.proofs.taking.take_on.Goals as goal
 
+pub draw_on-index-requires-clause-can : goal.draw_on-index-requires-clause-can
+draw_on-index-requires-clause-can c =
+    let p = c.in-Some-draw.position in
+    let takes = subst (λ (w : Waiting). TakesNext w c.draw.new.self.queue p) c.repeat.ensures.queue c.in-Some-draw.ensures.taken in
+    c.requires.can.draw p (goes_next c.args.lane.now.queue c.draw.new.self.queue p takes)
+
 pub draw_on-index-requires-clause-used : goal.draw_on-index-requires-clause-used
 draw_on-index-requires-clause-used c =
     let p = c.in-Some-draw.position in
