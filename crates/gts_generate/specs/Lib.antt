@@ -1,0 +1,4 @@
+pub mod Day
+pub mod DayView
+pub mod Centre
+pub mod Summary
