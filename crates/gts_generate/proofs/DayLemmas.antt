@@ -1,5 +1,5 @@
 -- Pieces of a capture, one behind another.
-use Rattle.std.proofs.Common.{◌≡◌, ℕ, suc, zero, ◌+◌, ◌-◌, ◌<◌, ◌≤◌, List, [], ◌∷◌, ◌++◌, length, take, drop, min, map, refl, sym, ◌∙◌, ap, append_assoc, arith}
+use Rattle.std.proofs.Common.{◌≡◌, ℕ, suc, zero, ◌+◌, ◌-◌, ◌*◌, ◌<◌, ◌≤◌, List, [], ◌∷◌, ◌++◌, length, take, drop, min, map, refl, sym, ◌∙◌, ap, append_assoc, arith}
 use Rattle.std.proofs.lemmas.List.{append-nil, take-append-drop, take_at, length-append, length-take, length-drop}
 use Rattle.std.proofs.lemmas.List.FromFn.{map-range_with_len_more}
 use Rattle.std.proofs.lemmas.Grind.{flat_map-append}
@@ -19,6 +19,15 @@ drains-more c =
     ∙ flat_map-append step_text (map Drain (range_with_len 0 c)) (Drain c ∷ [])
     ∙ ap (λ (l : List ℕ). front ++ l) (append-nil (step_text (Drain c)) ∙ append-nil (codes "D " ++ dec 2 c ++ codes "\n"))
 
+-- five bytes for each
+drained-size : (a c : ℕ) → length (flat_map step_text (map Drain (range_with_len a c))) ≡ 5 * c
+unfolding dec
+drained-size a zero = refl
+drained-size a (suc c) = omega (arith, drained-size (a + 1) c)
+
+pub drained : (bytes : List ℕ) (c : ℕ) → bytes ≡ flat_map step_text (map Drain (range_with_len 0 c)) → length bytes ≡ 5 * c
+drained bytes c here = ap length here ∙ drained-size 0 c
+
 -- the steps of messages are those of each, one after another
 turns : (numbers : List ℕ) → flat_map step_text (flat_map steps_of numbers) ≡ flat_map turn numbers
 turns [] = refl
@@ -30,7 +39,7 @@ pub capture-pieces : (count : ℕ) → capture count ≡ capture_from 0 count
 capture-pieces count =
     let front = flat_map steps_of (range_with_len 0 count) in
     ap (λ (l : List ℕ). l ++ head_text EndHead)
-        (flat_map-append step_text front drains ∙ ap (λ (l : List ℕ). l ++ flat_map step_text drains) (turns (range_with_len 0 count)))
+    (flat_map-append step_text front drains ∙ ap (λ (l : List ℕ). l ++ flat_map step_text drains) (turns (range_with_len 0 count)))
     ∙ append_assoc (flat_map turn (range_with_len 0 count)) (flat_map step_text drains) (head_text EndHead)
 
 -- before the first piece

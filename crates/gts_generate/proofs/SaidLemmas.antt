@@ -1,6 +1,8 @@
 -- What was said on the circuits, out of the sayings of a station.
 use Rattle.std.proofs.Common.{◌≡◌, ℕ, suc, zero, ◌+◌, ◌<◌, ◌≤◌, Bool, true, false, List, [], ◌∷◌, ◌++◌, length, take, get_or, map, refl, sym, ◌∙◌, ap, append_assoc, arith}
-use Rattle.std.specs.Prelude.{filter, flat_map, if◌then◌else◌, nat_lt, slice_get, Some}
+use Rattle.std.specs.Prelude.{filter, flat_map, if◌then◌else◌, ◌&&◌, nat_le, nat_lt, slice_get, Some}
+use Rattle.std.proofs.Math.Bool.{and-false}
+use Rattle.std.proofs.lemmas.Bool.{ltb-false, lt-leb}
 use Rattle.std.proofs.lemmas.List.{append-nil, map-append, take_more, take_all}
 use Rattle.std.proofs.lemmas.List.Elements.{filter-append}
 use Rattle.std.proofs.lemmas.Grind.{flat_map-append}
@@ -23,14 +25,70 @@ frames-append xs ys =
     ap (λ (o : Outside). map (λ byte. byte.1) o) (filter-append kept xs ys)
     ∙ map-append (λ (byte : ℕ × ℕ). byte.1) (filter kept xs) (filter kept ys)
 
--- bytes on one channel
+-- bytes on the channel of a circuit, and on another one
+frames-there : (channel : ℕ) (bytes : List ℕ) → is_circuit channel ≡ true → frames_said (on channel bytes) ≡ bytes
+frames-there channel [] here = refl
+frames-there channel (byte ∷ bytes) here = rw here (ap (λ (l : List ℕ). byte ∷ l) (frames-there channel bytes here))
+
+frames-elsewhere : (channel : ℕ) (bytes : List ℕ) → is_circuit channel ≡ false → frames_said (on channel bytes) ≡ []
+frames-elsewhere channel [] here = refl
+frames-elsewhere channel (byte ∷ bytes) here = rw here (frames-elsewhere channel bytes here)
+
+frames-where : (there : Bool) (channel : ℕ) (bytes : List ℕ) → is_circuit channel ≡ there
+    → frames_said (on channel bytes) ≡ (if there then bytes else [])
+frames-where true channel bytes here = frames-there channel bytes here
+frames-where false channel bytes here = frames-elsewhere channel bytes here
+
 frames-on : (channel : ℕ) (bytes : List ℕ) → frames_said (on channel bytes) ≡ on_circuit (channel, bytes)
-frames-on channel bytes = ?
+frames-on channel bytes = frames-where (is_circuit channel) channel bytes refl
+
+-- no channel behind the last one is a circuit's
+no-circuit : (channel : ℕ) → nat_lt channel CHANNELS ≡ false → is_circuit channel ≡ false
+no-circuit channel past =
+    let high : CHANNELS ≤ channel = ltb-false channel CHANNELS past in
+    ap (λ (b : Bool). nat_le 1 channel && b) (lt-leb channel 8 (omega (arith, high))) ∙ and-false (nat_le 1 channel)
+
+-- a call that says nothing
+after-write : (fit : Bool) (file at : ℕ) (bytes left : List ℕ) (calls : List Call)
+    → frames_said (said_by ((if fit then Did (Writes file at bytes) else Broken (Writes file at bytes) left) ∷ calls))
+    ≡ frames_said (said_by calls) ++ []
+after-write true file at bytes left calls = sym (append-nil (frames_said (said_by calls)))
+after-write false file at bytes left calls = sym (append-nil (frames_said (said_by calls)))
+
+after-cut : (fit : Bool) (file size : ℕ) (left : List ℕ) (calls : List Call)
+    → frames_said (said_by ((if fit then Did (Cuts file size) else Broken (Cuts file size) left) ∷ calls))
+    ≡ frames_said (said_by calls) ++ []
+after-cut true file size left calls = sym (append-nil (frames_said (said_by calls)))
+after-cut false file size left calls = sym (append-nil (frames_said (said_by calls)))
+
+-- a say that broke says nothing
+after-nothing : (channel : ℕ) (calls : List Call) → frames_said (said_by calls ++ on channel []) ≡ frames_said (said_by calls) ++ []
+after-nothing channel calls =
+    ap frames_said (append-nil (said_by calls)) ∙ sym (append-nil (frames_said (said_by calls)))
+
+after-say : (fit : Bool) (channel : ℕ) (bytes : List ℕ) (calls : List Call) → nat_lt channel CHANNELS ≡ fit
+    → frames_said (said_by ((if fit then Did (Says channel bytes) else Broken (Says channel bytes) []) ∷ calls))
+    ≡ frames_said (said_by calls) ++ on_circuits ((channel, bytes) ∷ [])
+after-say true channel bytes calls here =
+    frames-append (said_by calls) (on channel bytes)
+    ∙ ap (λ (l : List ℕ). frames_said (said_by calls) ++ l) (frames-on channel bytes ∙ sym (append-nil (on_circuit (channel, bytes))))
+after-say false channel bytes calls here =
+    let none : on_circuit (channel, bytes) ≡ [] = ap (λ (b : Bool). if b then bytes else []) (no-circuit channel here) in
+    after-nothing channel calls
+    ∙ ap (λ (l : List ℕ). frames_said (said_by calls) ++ l) (sym (append-nil (on_circuit (channel, bytes)) ∙ none))
 
 -- one call more
 call-more : (done : Bool) (doing : Doing) (calls : List Call)
     → frames_said (said_by (kept_call done doing calls ∷ calls)) ≡ frames_said (said_by calls) ++ on_circuits (saying_of done doing)
-call-more done doing calls = ?
+call-more true (Writes file at bytes) calls =
+    after-write (fits (Writes file at bytes) calls) file at bytes (unchanged (Writes file at bytes) calls) calls
+call-more true (Cuts file size) calls = after-cut (fits (Cuts file size) calls) file size (unchanged (Cuts file size) calls) calls
+call-more true Syncs calls = sym (append-nil (frames_said (said_by calls)))
+call-more true (Says channel bytes) calls = after-say (nat_lt channel CHANNELS) channel bytes calls refl
+call-more false (Writes file at bytes) calls = sym (append-nil (frames_said (said_by calls)))
+call-more false (Cuts file size) calls = sym (append-nil (frames_said (said_by calls)))
+call-more false Syncs calls = sym (append-nil (frames_said (said_by calls)))
+call-more false (Says channel bytes) calls = after-nothing channel calls
 
 -- the bytes of all sayings are what was said
 pub circuits-said : (past : List Noted) → frames_said (said_by (calls_of past)) ≡ on_circuits (sayings past)

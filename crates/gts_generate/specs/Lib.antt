@@ -2,3 +2,4 @@ pub mod Day
 pub mod DayView
 pub mod Centre
 pub mod Summary
+pub mod Worked

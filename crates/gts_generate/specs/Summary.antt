@@ -50,5 +50,4 @@ summary_text count outside need used =
     ++ line (codes "resends") (frames_in (frames_said outside) - draws_of need)
     ++ line (codes "bytes") (length (frames_said outside))
     ++ line (codes "journal") used
-    ++ codes "digest " ++ encode_lower (sha256 (frames_said outside)) ++ codes "\n"
-    ++ codes "end\n"
+    ++ codes "digest " ++ encode_lower (sha256 (frames_said outside)) ++ codes "\nend\n"

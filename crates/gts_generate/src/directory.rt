@@ -51,7 +51,8 @@ fn rule_row(j: u32) -> RuleRow
 /// Adds the circuits.
 fn add_circuits(rows: &mut DirRows) -> Result<(), NoMemory>
     ensures { OnOk result (rows.new ≡ record rows.old {
-        circuits = rows.old.circuits ++ map centre.circuit_row (range_with_len 0 CIRCUITS) }) }
+      circuits = rows.old.circuits ++ map centre.circuit_row (range_with_len 0 CIRCUITS);
+    }) }
 {
     for j in 0..CIRCUITS {
         rows.add_circuit(circuit_row(j))?;
@@ -62,7 +63,8 @@ fn add_circuits(rows: &mut DirRows) -> Result<(), NoMemory>
 /// Adds the rules.
 fn add_rules(rows: &mut DirRows) -> Result<(), NoMemory>
     ensures { OnOk result (rows.new ≡ record rows.old {
-        rules = rows.old.rules ++ map centre.rule_row (range_with_len 0 RULES) }) }
+      rules = rows.old.rules ++ map centre.rule_row (range_with_len 0 RULES);
+    }) }
 {
     for j in 0..RULES {
         rows.add_rule(rule_row(j))?;
@@ -73,7 +75,8 @@ fn add_rules(rows: &mut DirRows) -> Result<(), NoMemory>
 /// Adds the level rows.
 fn add_levels(rows: &mut DirRows) -> Result<(), NoMemory>
     ensures { OnOk result (rows.new ≡ record rows.old {
-        levels = rows.old.levels ++ centre.level_rows }) }
+      levels = rows.old.levels ++ centre.level_rows;
+    }) }
 {
     rows.add_level(LevelRow {
         tt: *b"SA",

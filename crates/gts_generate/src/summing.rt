@@ -109,5 +109,6 @@ pub fn summary(
     add_line(text, b"resends", said.frames.saturating_sub(draws))?;
     add_line(text, b"bytes", said.bytes)?;
     add_line(text, b"journal", u128::from(used))?;
-    add_end(text, said.digest)
+    add_end(text, said.digest)?;
+    Ok(())
 }

@@ -15,6 +15,6 @@ returns-clause-bytes c =
     let is_least : count ≡ min (length left) (length c.args.into.now) = rw slice_is at c.min-count.ensures in
     let written : c.copy_from_slice.new.self ≡ take count left = c.copy_from_slice.ensures.after ∙ ap (λ (xs : List ℕ). take count xs) slice_is in
     let ready : length left ≡ 0 → left ++ rest ≡ [] =
-        λ none. c.fill.ensures.ready (omega (arith, none, length-drop taken piece, c.fill.ensures.sound.taken)) in
+    λ none. c.fill.ensures.ready (omega (arith, none, length-drop taken piece, c.fill.ensures.sound.taken)) in
     let now_is : c.args.self.now ≡ left ++ rest = sym c.self.view_is ∙ sym c.fill.ensures.same in
     rw (now_is, written, ← drop-drop count taken piece) (reads_on left rest c.args.into.now count is_least ready)
