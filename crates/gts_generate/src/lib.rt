@@ -25,3 +25,6 @@ pub const MOST_MESSAGES: u32 = 100_000;
 
 /// The circuits of the day (profile).
 pub const CIRCUITS: u32 = 8;
+
+#[cfg(test)]
+mod tests;
