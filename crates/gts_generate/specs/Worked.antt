@@ -10,22 +10,26 @@ use Rattle.gts_generate.specs.Summary.{frames_said, frames_in, receipts_of}
 -- the first message
 abbrev pub FirstMessage : Type 0
 FirstMessage =
-    turn 0 ≡ codes "F 00 000059\n00000049AN" ++ 1 ∷ codes "\r\r\n001\r\r\nSAVG00 TVSV 010000\r\r\nREPORT 000000=\r\r\n" ++ 3 ∷ codes "T 00\n"
+    turn 0
+    ≡ codes "F 00 000059\n00000049AN" ++ 1 ∷ codes "\r\r\n001\r\r\nSAVG00 TVSV 010000\r\r\nREPORT 000000=\r\r\n" ++ 3 ∷ codes "T 00\n"
 
 -- the number 000 behind 999; a day later than 1, and an hour
 abbrev pub LaterMessage : Type 0
 LaterMessage =
-    turn 7992 ≡ codes "F 00 000059\n00000049AN" ++ 1 ∷ codes "\r\r\n000\r\r\nSKVG12 TVSV 061312\r\r\nREPORT 007992=\r\r\n" ++ 3 ∷ codes "T 00\n"
+    turn 7992
+    ≡ codes "F 00 000059\n00000049AN" ++ 1 ∷ codes "\r\r\n000\r\r\nSKVG12 TVSV 061312\r\r\nREPORT 007992=\r\r\n" ++ 3 ∷ codes "T 00\n"
 
 -- the fiftieth message is the one before it under its own number, and of the next hundred too
 abbrev pub RepeatedMessages : Type 0
 RepeatedMessages = (body 49 ≡ body 48) × (body 149 ≡ body 148)
-    × (turn 49 ≡ codes "F 01 000059\n00000049AN" ++ 1 ∷ codes "\r\r\n007\r\r\nSWVG48 TVSV 010048\r\r\nREPORT 000048=\r\r\n" ++ 3 ∷ codes "T 03\n")
+    × (turn 49
+    ≡ codes "F 01 000059\n00000049AN" ++ 1 ∷ codes "\r\r\n007\r\r\nSWVG48 TVSV 010048\r\r\nREPORT 000048=\r\r\n" ++ 3 ∷ codes "T 03\n")
 
 -- the hundredth message
 abbrev pub FirstRequest : Type 0
 FirstRequest =
-    turn 99 ≡ codes "F 03 000060\n00000050AN" ++ 1 ∷ codes "\r\r\n013\r\r\nBMRR01 TVSV 010139\r\r\nAAAA\r\r\nSQN 001=\r\r\n" ++ 3 ∷ codes "T 01\n"
+    turn 99
+    ≡ codes "F 03 000060\n00000050AN" ++ 1 ∷ codes "\r\r\n013\r\r\nBMRR01 TVSV 010139\r\r\nAAAA\r\r\nSQN 001=\r\r\n" ++ 3 ∷ codes "T 01\n"
 
 -- days without messages and of two
 abbrev pub ShortDays : Type 0

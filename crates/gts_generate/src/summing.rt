@@ -4,6 +4,7 @@ ghost use Rattle.hex.specs.Hex.{encode_lower};
 ghost use Rattle.gts_traits.specs.{said_by};
 ghost use Rattle.gts_memory.specs.Past.{calls_of};
 ghost use Rattle.gts_generate.specs.Summary as summaries;
+ghost use Rattle.gts_generate.specs.Summary.{line, lines_from};
 
 use crate::said::{Said, said_on_circuits};
 use gts_event::{CircuitNeed, Need};
@@ -17,7 +18,7 @@ const DIGITS: usize = 64;
 
 /// Writes a line with a name and a number.
 fn add_line(text: &mut Vec<u8>, name: &[u8], number: u128) -> Result<(), NoMemory>
-    ensures { OnOk result (text.new.items ≡ text.old.items ++ summaries.line name.now number) }
+    ensures { OnOk result (text.new.items ≡ text.old.items ++ line name.now number) }
 {
     let mut digits = Buffer::new();
     text.extend_from_slice(name)?;
@@ -40,7 +41,7 @@ fn line_here(begins: bool, bytes: &[u8], word: &[u8]) -> u64
 
 /// How many lines begin with a word.
 fn lines_of(word: &[u8], bytes: &[u8]) -> u64
-    ensures { result ≡ summaries.lines_from true word.now bytes.now }
+    ensures { result ≡ lines_from true word.now bytes.now }
 {
     let mut count = 0;
     let mut begins = true;
@@ -78,8 +79,8 @@ fn add_end(text: &mut Vec<u8>, digest: [u8; 32]) -> Result<(), NoMemory>
 /// Writes the lines of the receipts: how many duplicates and how many requests there were.
 fn add_receipts(text: &mut Vec<u8>, receipts: &[u8]) -> Result<(), NoMemory>
     ensures { OnOk result (text.new.items ≡ text.old.items
-        ++ summaries.line (codes "duplicates") (summaries.lines_from true (codes "DUP") receipts.now)
-        ++ summaries.line (codes "requests") (summaries.lines_from true (codes "ASK") receipts.now)) }
+        ++ line (codes "duplicates") (lines_from true (codes "DUP") receipts.now)
+        ++ line (codes "requests") (lines_from true (codes "ASK") receipts.now)) }
 {
     add_line(text, b"duplicates", u128::from(lines_of(b"DUP", receipts)))?;
     add_line(text, b"requests", u128::from(lines_of(b"ASK", receipts)))
