@@ -7,7 +7,7 @@ use Rattle.gts_traits.specs.Counts.{Rose}
 use Rattle.gts_directory.specs.Directory as directories
 use Rattle.gts_dirfile.specs.{directory_of_bytes}
 use Rattle.gts_app.specs.declared.status.Status.{Status}
-use Rattle.gts_app.specs.declared.status.Status.TheVariants.{Done, Words, Directory, Capture, Exists, DiskFault, SourceFault, SayFault, Full, NoMemory}
+use Rattle.gts_app.specs.declared.status.Status.TheVariants.{Done, Words, Directory, Capture, NoJournal, NotThis, Damaged, Exists, DiskFault, SourceFault, SayFault, Full, NoMemory}
 use Rattle.gts_app.specs.Reading.{IsReadEnd, ReadsDirectory}
 use Rattle.gts_app.specs.Init.{IsInitEnd, Inits}
 
@@ -18,6 +18,9 @@ init_end NoMemory e = tt
 init_end Done e = absurd e
 init_end Words e = absurd e
 init_end (Capture _) e = absurd e
+init_end NoJournal e = absurd e
+init_end (NotThis _ _) e = absurd e
+init_end (Damaged _ _) e = absurd e
 init_end (Exists _) e = absurd e
 init_end DiskFault e = absurd e
 init_end SayFault e = absurd e
@@ -31,6 +34,9 @@ no_error source NoMemory old new h e tells d is calm = inr refl
 no_error source Done old new h e tells d is calm = absurd e
 no_error source Words old new h e tells d is calm = absurd e
 no_error source (Capture _) old new h e tells d is calm = absurd e
+no_error source NoJournal old new h e tells d is calm = absurd e
+no_error source (NotThis _ _) old new h e tells d is calm = absurd e
+no_error source (Damaged _ _) old new h e tells d is calm = absurd e
 no_error source (Exists _) old new h e tells d is calm = absurd e
 no_error source DiskFault old new h e tells d is calm = absurd e
 no_error source SayFault old new h e tells d is calm = absurd e

@@ -1,4 +1,5 @@
-pub mod EndLemmas
-pub mod DirectoryLemmas
 pub mod InitLemmas
+pub mod OpeningLemmas
+pub mod RefusalLemmas
+pub mod EndLemmas
 pub mod ReplayLemmas

@@ -1,258 +1,350 @@
 -- From how a capture ended to what its status means.
-use Rattle.std.proofs.Common.{◌≡◌, ℕ, ◌^◌, ◌<◌, ◌⊎◌, length, Result, List, [], ◌∷◌, ◌++◌, Ok, false, inl, inr, refl, sym, ap, subst, ◌∙◌}
-use Rattle.std.proofs.lemmas.List.{append-nil}
+use Rattle.std.proofs.Common.{◌≡◌, ℕ, ◌^◌, ◌<◌, ◌≤◌, ◌⊎◌, length, Result, List, [], ◌∷◌, ◌++◌, Option, Some, None, Ok, Err, IsTrue, inl, inr, refl, sym, ap, subst, ◌∙◌, arith}
 use Rattle.gts_traits.specs.declared.source.Source.{Ghosts as SourceWords}
 use Rattle.gts_traits.specs.declared.station.Station.{Ghosts as StationWords}
-use Rattle.gts_traits.specs.Station.{Outside, SaidSince, said_by}
 use Rattle.gts_traits.specs.Counts.{Rose}
+use Rattle.gts_traits.specs.Station.{Call, seen}
 use Rattle.gts_directory.specs.Directory as directories
+use Rattle.gts_directory.specs.declared.fault.DirFault.{DirFault}
 use Rattle.gts_dirfile.specs.{directory_of_bytes}
-use Rattle.gts_event.specs.State.{empty, most_accepted}
-use Rattle.gts_event.specs.Said.{said}
+use Rattle.gts_event.specs.Need.{Need, is_sound, keeps_one}
+use Rattle.gts_event.specs.declared.event.Event.{Event}
 use Rattle.gts_event.specs.declared.event.Entry.{Entry}
-use Rattle.gts_event.specs.declared.event.Entry.TheVariants.{Done as Did, Unsaid, Doubt}
+use Rattle.gts_event.specs.declared.event.Entry.TheVariants.{Done as Did, Unsaid, Doubt, Idle, Restarted}
+use Rattle.gts_event.specs.declared.fault.SwitchFault.{SwitchFault}
 use Rattle.gts_event.specs.declared.fault.SwitchFault.TheVariants as switch
+use Rattle.gts_event.specs.declared.fault.Device.{Device}
 use Rattle.gts_event.specs.declared.fault.Device.TheVariants.{Disk, Say}
 use Rattle.gts_record.specs.declared.fault.OpenFault.{OpenFault}
 use Rattle.gts_record.specs.declared.fault.OpenFault.TheVariants as opening
-use Rattle.gts_directory.specs.declared.fault.DirFault.{DirFault}
 use Rattle.gts_connection.specs.Capture.{Step, IsWhole}
-use Rattle.gts_turns.specs.{IsReopenFault}
-use Rattle.gts_core.specs.Core.{Core, Holds}
-use Rattle.gts_speaker.specs.{Beginning, Stands, standing}
-use Rattle.gts_speaker.specs.declared.speaker.Speaker.{Speaker}
+use Rattle.gts_opening.specs.Journal.{opens as opens_files}
+use Rattle.gts_turns.specs.{IsReopenFault, IsCause, entry_of, outcome_at}
+use Rattle.gts_engine.specs.declared.mode.SayMode.TheVariants as mode
+use Rattle.gts_engine.specs.Engine.{Engine, shown}
+use Rattle.gts_engine.specs.Origin.{Origin}
+use Rattle.gts_engine.specs.Keeping.{Keeps, HasFailed, origin_of}
+use Rattle.gts_engine.specs.Switching.{Told, switch_words}
 use Rattle.gts_replay.specs.declared.end.ReplayEnd.{ReplayEnd}
 use Rattle.gts_replay.specs.declared.end.ReplayEnd.TheVariants as end
-use Rattle.gts_replay.specs.{Ends, HasReplayCause, LacksMemory}
+use Rattle.gts_replay.specs.{StandsFor, BreaksOff, Ends, HasReplayCause}
 use Rattle.gts_app.specs.declared.status.Status.{Status}
-use Rattle.gts_app.specs.declared.status.Status.TheVariants.{Done, Words, Directory, Capture, Exists, DiskFault, SourceFault, SayFault, Full, NoMemory}
+use Rattle.gts_app.specs.declared.status.Status.TheVariants.{Done, Words, Directory, Capture, NoJournal, NotThis, Damaged, Exists, DiskFault, SourceFault, SayFault, Full, NoMemory}
 use Rattle.gts_app.specs.Laws.{KeepsLaws}
-use Rattle.gts_app.specs.Ending.{status_of}
-use Rattle.gts_app.specs.Reading.{ReadsDirectory}
-use Rattle.gts_app.specs.Replay.{world, Replays, history, StopsAfter}
-use Rattle.gts_app.proofs.EndLemmas.{AllDone, history_done, done_front, beginning, does, half_said, said_before}
+use Rattle.gts_app.specs.Ending.{refusal, status_of}
+use Rattle.gts_app.specs.Opening.{IsOrigin, Opens}
+use Rattle.gts_app.specs.Replay.{world, Replays, history, Does, BreaksAt, StopsAfter, ForNoReason, BecauseFull}
+use Rattle.gts_app.proofs.EndLemmas.{AllDone, history_done, before_done, goes_on, idle_goes_on, by_disk, by_say, does, rose_later}
 
 -- ---- which end a status was given for
 
--- the ends of a lost disk, and those that a switch without a journal doesn't have
-abbrev IsLost : ReplayEnd → Type 0
-IsLost (end.Reopen fault) = Unit {0}
-IsLost (end.Fault switch.DiskFault) = Unit {0}
-IsLost (end.Fault (switch.Stopped by)) = Unit {0}
-IsLost (end.Fault switch.Spent) = Unit {0}
-IsLost (end.Fault switch.NoMemory) = Unit {0}
-IsLost _ = ⊥
+-- the ends without memory, and those that an engine which was just opened doesn't have
+abbrev IsSpare : ReplayEnd → Type 0
+IsSpare end.NoMemory = Unit {0}
+IsSpare (end.Reopen opening.NoMemory) = Unit {0}
+IsSpare (end.Fault (switch.Stopped by)) = Unit {0}
+IsSpare (end.Fault switch.Spent) = Unit {0}
+IsSpare (end.Fault switch.NoMemory) = Unit {0}
+IsSpare _ = ⊥
 
 abbrev IsOf : Status → ReplayEnd → Type 0
 IsOf Done e = e ≡ end.Done
 IsOf Words e = ⊥
 IsOf (Directory fault) e = ⊥
 IsOf (Capture at) e = e ≡ end.Capture at
+IsOf NoJournal e = e ≡ end.Reopen opening.NoJournal
+IsOf (NotThis want found) e = e ≡ end.Reopen (opening.NotThis want found)
+IsOf (Damaged file at) e = e ≡ end.Reopen (opening.Damaged file at)
 IsOf (Exists size) e = ⊥
-IsOf DiskFault e = IsLost e
+IsOf DiskFault e = (e ≡ end.Fault switch.DiskFault) ⊎ (e ≡ end.Reopen opening.DiskFault)
 IsOf SourceFault e = e ≡ end.SourceFault
 IsOf SayFault e = e ≡ end.Fault switch.SayFault
 IsOf (Full used need limit) e = e ≡ end.Fault (switch.Full used need limit)
-IsOf NoMemory e = e ≡ end.NoMemory
+IsOf NoMemory e = IsSpare e
 
 is_of : (e : ReplayEnd) → IsOf (status_of e) e
 is_of end.Done = refl
 is_of (end.Capture at) = refl
 is_of end.SourceFault = refl
-is_of (end.Reopen fault) = tt
+is_of (end.Reopen opening.NoJournal) = refl
+is_of (end.Reopen (opening.NotThis want found)) = refl
+is_of (end.Reopen (opening.Damaged file at)) = refl
+is_of (end.Reopen opening.DiskFault) = inr refl
+is_of (end.Reopen opening.NoMemory) = tt
 is_of (end.Fault switch.SayFault) = refl
 is_of (end.Fault (switch.Full used need limit)) = refl
-is_of (end.Fault switch.DiskFault) = tt
+is_of (end.Fault switch.DiskFault) = inl refl
 is_of (end.Fault (switch.Stopped by)) = tt
 is_of (end.Fault switch.Spent) = tt
 is_of (end.Fault switch.NoMemory) = tt
-is_of end.NoMemory = refl
+is_of end.NoMemory = tt
 
--- an end that is none of these is done, or without memory
-left_over : (e : ReplayEnd) → ((at : ℕ) → e ≡ end.Capture at → ⊥) → (e ≡ end.SourceFault → ⊥) → (IsLost e → ⊥)
-    → (e ≡ end.Fault switch.SayFault → ⊥) → ((used need limit : ℕ) → status_of e ≡ Full used need limit → ⊥)
-    → (status_of e ≡ Done) ⊎ (status_of e ≡ NoMemory)
-left_over end.Done cut source lost say full = inl refl
-left_over (end.Capture at) cut source lost say full = absurd (cut at refl)
-left_over end.SourceFault cut source lost say full = absurd (source refl)
-left_over (end.Reopen fault) cut source lost say full = absurd (lost tt)
-left_over (end.Fault switch.SayFault) cut source lost say full = absurd (say refl)
-left_over (end.Fault (switch.Full used need limit)) cut source lost say full = absurd (full used need limit refl)
-left_over (end.Fault switch.DiskFault) cut source lost say full = absurd (lost tt)
-left_over (end.Fault (switch.Stopped by)) cut source lost say full = absurd (lost tt)
-left_over (end.Fault switch.Spent) cut source lost say full = absurd (lost tt)
-left_over (end.Fault switch.NoMemory) cut source lost say full = absurd (lost tt)
-left_over end.NoMemory cut source lost say full = inr refl
+-- a status that is none of these is done, or without memory
+left_over : (s : Status) (e : ReplayEnd) → IsOf s e → ((at : ℕ) → s ≡ Capture at → ⊥) → (s ≡ SourceFault → ⊥) → (s ≡ DiskFault → ⊥)
+    → (s ≡ SayFault → ⊥) → ((fault : OpenFault) → e ≡ end.Reopen fault → IsReopenFault fault)
+    → ((used need limit : ℕ) → s ≡ Full used need limit → ⊥) → (s ≡ Done) ⊎ (s ≡ NoMemory)
+left_over Done e of cut source disk say again full = inl refl
+left_over Words e of cut source disk say again full = absurd of
+left_over (Directory fault) e of cut source disk say again full = absurd of
+left_over (Capture at) e of cut source disk say again full = absurd (cut at refl)
+left_over NoJournal e of cut source disk say again full = absurd (again opening.NoJournal of)
+left_over (NotThis want found) e of cut source disk say again full = absurd (again (opening.NotThis want found) of)
+left_over (Damaged file at) e of cut source disk say again full = absurd (again (opening.Damaged file at) of)
+left_over (Exists size) e of cut source disk say again full = absurd of
+left_over DiskFault e of cut source disk say again full = absurd (disk refl)
+left_over SourceFault e of cut source disk say again full = absurd (source refl)
+left_over SayFault e of cut source disk say again full = absurd (say refl)
+left_over (Full used need limit) e of cut source disk say again full = absurd (full used need limit refl)
+left_over NoMemory e of cut source disk say again full = inr refl
 
--- ---- a run that begins with nothing
+-- ---- a run over devices that tell
 
--- a new switch stands for nothing
-pub starts : {P : Type 0} (w : StationWords P) (d : directories.Directory) (core : Core) (old : P) (new : Speaker P)
-    → Holds d core (empty d) → new.directory ≡ d → new.core ≡ core → new.station ≡ old → new.stopped ≡ false → Stands w (beginning w old d) [] new
-starts w d core old new holds directory same station stopped = record {
-  directory = directory;
-  holds = subst (λ (x : Core). Holds d x (empty d)) (sym same) holds;
-  said = λ tells. ([], ap (λ x. said_by (w.calls x)) station ∙ sym (append-nil (said_by (w.calls old))), refl);
-  stopped = λ is. absurd (cc);
-}
+-- what is known of a run where its devices tell
+record Run {S P : Type 0} (source : SourceWords S) (w : StationWords P) (e : ReplayEnd) (od oc nc : S) (old : P) (first last : Engine P) : Type 0 where
+  n : Need
+  told : w.tells
+  read : source.tells → directory_of_bytes (source.left od) ≡ Ok first.directory
+  origin : IsOrigin (w.calls old) (origin_of w.calls first n)
+  ends : Ends (switch_words w.tells w.calls) w.tells (record { told = told; origin = origin_of w.calls first n }) [] source.tells e first last (source.left oc) (source.left nc)
+  laws : (es : List Entry) → KeepsLaws first.directory n es
 
 -- nothing has failed yet
 none_failed : (xs ys : List Entry) (e : Entry) → [] ≡ xs ++ e ∷ ys → ⊥
 none_failed [] ys e is = cc
 none_failed (x ∷ xs) ys e is = cc
 
--- a journal that isn't opened again for want of memory isn't for the disk
-reopen_disk : (fault : OpenFault) → IsReopenFault fault → (fault ≡ opening.NoMemory → ⊥) → fault ≡ opening.DiskFault
-reopen_disk opening.DiskFault is other = refl
-reopen_disk opening.NoMemory is other = absurd (other refl)
-reopen_disk _ is other = absurd is
-
--- a lost disk's count rose
-disk_rose : {P : Type 0} (w : StationWords P) (tells : Type 0) (o : Beginning) (e : ReplayEnd) (first last : Speaker P) (bytes left : List ℕ) (a b x y m n : ℕ)
-    → IsLost e → Ends (standing w) w.tells o [] tells e first last bytes left → HasReplayCause e a b x y m n → w.tells → Rose a b
-disk_rose w tells o end.Done first last bytes left a b x y m n lost ends cause told = absurd lost
-disk_rose w tells o (end.Capture at) first last bytes left a b x y m n lost ends cause told = absurd lost
-disk_rose w tells o end.SourceFault first last bytes left a b x y m n lost ends cause told = absurd lost
-disk_rose w tells o (end.Reopen fault) first last bytes left a b x y m n lost ends cause told =
-    let stops = ends.reopen fault refl in
-    cause.reopen_failed (ap (λ (f : OpenFault). end.Reopen f) (reopen_disk fault (stops.breaks.fault_is told) stops.memory))
-disk_rose w tells o (end.Fault switch.SayFault) first last bytes left a b x y m n lost ends cause told = absurd lost
-disk_rose w tells o (end.Fault (switch.Full used need limit)) first last bytes left a b x y m n lost ends cause told = absurd lost
-disk_rose w tells o (end.Fault switch.DiskFault) first last bytes left a b x y m n lost ends cause told = cause.disk_failed refl
-disk_rose w tells o (end.Fault (switch.Stopped Disk)) first last bytes left a b x y m n lost ends cause told =
-    let doubt = (ends.fault (switch.Stopped Disk) refl).earlier in absurd (none_failed doubt.0 doubt.2 (Doubt doubt.1) doubt.3)
-disk_rose w tells o (end.Fault (switch.Stopped Say)) first last bytes left a b x y m n lost ends cause told =
-    let unsaid = (ends.fault (switch.Stopped Say) refl).earlier in absurd (none_failed unsaid.0 unsaid.2 (Unsaid unsaid.1) unsaid.3)
-disk_rose w tells o (end.Fault switch.Spent) first last bytes left a b x y m n lost ends cause told = absurd (ends.fault switch.Spent refl).lasting
-disk_rose w tells o (end.Fault switch.NoMemory) first last bytes left a b x y m n lost ends cause told = absurd (ends.fault switch.NoMemory refl).lasting
-disk_rose w tells o end.NoMemory first last bytes left a b x y m n lost ends cause told = absurd lost
-
--- the numbers of a full journal
-full_used : (a b c x y z : ℕ) → switch.Full a b c ≡ switch.Full x y z → a ≡ x
-full_used a b c x y z is = cc
-
-full_need : (a b c x y z : ℕ) → switch.Full a b c ≡ switch.Full x y z → b ≡ y
-full_need a b c x y z is = cc
-
-full_limit : (a b c x y z : ℕ) → switch.Full a b c ≡ switch.Full x y z → c ≡ z
-full_limit a b c x y z is = cc
-
 -- bytes say one directory
 same_directory : (a b : directories.Directory) (said : Result directories.Directory DirFault) → said ≡ Ok a → said ≡ Ok b → a ≡ b
 same_directory a b said one other = cc
 
--- the entries before one of a capture were done
-before_done : (d : directories.Directory) (steps : List Step) (front back : List Entry) → history d steps ≡ front ++ back → AllDone front
-before_done d steps front back is = done_front front back (subst AllDone is (history_done d steps))
+-- files don't open to a need and to a fault
+one_answer : (n : Need) (fault : OpenFault) (opened : Result Need OpenFault) → opened ≡ Ok n → opened ≡ Err fault → ⊥
+one_answer n fault opened one other = cc
 
--- without memory the first entries were done
-lacks : {P : Type 0} (w : StationWords P) (tells : Type 0) (first last : Speaker P) (bytes : List ℕ) → ((es : List Entry) → KeepsLaws first.directory es)
-    → LacksMemory (standing w) (beginning w first.station first.directory) [] tells first last bytes → tells → length bytes < 2 ^ 64
-    → StopsAfter w first.station last.station first.directory bytes
-lacks w tells first last bytes laws x told few =
-    let d = first.directory in
+-- these entries were done, and the engine goes on
+went : {S P : Type 0} (source : SourceWords S) (w : StationWords P) (e : ReplayEnd) (od oc nc : S) (old : P) (first last : Engine P)
+    (r : Run source w e od oc nc old first last) (es : List Entry) → AllDone es
+    → Keeps w.tells mode.Station (origin_of w.calls first r.n) es (shown w.calls last)
+    → Does (origin_of w.calls first r.n) es None (w.calls last.station)
+went source w e od oc nc old first last r es all keeps =
+    does w r.told (origin_of w.calls first r.n) es None last keeps (goes_on last.stopped es all keeps.failed) (r.laws es)
+
+-- the steps of a capture
+steps_went : {S P : Type 0} (source : SourceWords S) (w : StationWords P) (e : ReplayEnd) (od oc nc : S) (old : P) (first last : Engine P)
+    (r : Run source w e od oc nc old first last) (steps : List Step)
+    → Keeps w.tells mode.Station (origin_of w.calls first r.n) (history (origin_of w.calls first r.n) steps) (shown w.calls last)
+    → Does (origin_of w.calls first r.n) (history (origin_of w.calls first r.n) steps) None (w.calls last.station)
+steps_went source w e od oc nc old first last r steps keeps =
+    let o = origin_of w.calls first r.n in
+    went source w e od oc nc old first last r (history o steps) (history_done o steps) keeps
+
+-- it ended at an event
+broke : {S P : Type 0} (source : SourceWords S) (w : StationWords P) (e : ReplayEnd) (od oc nc : S) (old : P) (first last : Engine P)
+    (r : Run source w e od oc nc old first last) (fault : SwitchFault) → source.tells → length (source.left oc) < 2 ^ 64 → e ≡ end.Fault fault
+    → (last_entry : Event → Entry) (stopped : Option Device) (Because : List Entry → Event → Type 0)
+    → ((event : Event) → entry_of event (Err fault) ≡ last_entry event ∷ [])
+    → ((front : List Entry) (event : Event) → AllDone front → HasFailed last.stopped (front ++ last_entry event ∷ []) → last.stopped ≡ stopped)
+    → ((front : List Entry) (event : Event)
+    → IsCause ((switch_words w.tells w.calls).is_full (record { told = r.told; origin = origin_of w.calls first r.n }) front event) front
+    (outcome_at (switch_words w.tells w.calls) last (record { told = r.told; origin = origin_of w.calls first r.n }) front event) fault → Because front event)
+    → BreaksAt (origin_of w.calls first r.n) (source.left oc) last_entry stopped (w.calls last.station) Because
+broke source w e od oc nc old first last r fault tells few is last_entry stopped Because adds by why =
+    let o = origin_of w.calls first r.n in
+    let x = r.ends.fault fault is in
+    let b = x.breaks in
+    let all = before_done o x.steps b.front (Did b.event ∷ b.behind) b.parts in
+    let K : List Entry → Type 0 = λ es. Keeps w.tells mode.Station o es (shown w.calls last) in
+    let keeps : K (b.front ++ last_entry b.event ∷ []) = subst K (ap (λ (es : List Entry). b.front ++ es) (adds b.event)) b.stands in
+    record {
+      steps = x.steps;
+      place = (x.read tells few).0;
+      reading = (x.read tells few).1;
+      front = b.front;
+      event = b.event;
+      back = b.behind;
+      parts = b.parts;
+      because = why b.front b.event b.cause;
+      does = does w r.told o (b.front ++ last_entry b.event ∷ []) stopped last keeps (by b.front b.event all keeps.failed) (r.laws (b.front ++ last_entry b.event ∷ []));
+    }
+
+-- it ended where the journal was not opened again
+not_again : {S P : Type 0} (source : SourceWords S) (w : StationWords P) (e : ReplayEnd) (od oc nc : S) (old : P) (first last : Engine P)
+    (r : Run source w e od oc nc old first last) (fault : OpenFault) → source.tells → length (source.left oc) < 2 ^ 64 → e ≡ end.Reopen fault
+    → StopsAfter (origin_of w.calls first r.n) (source.left oc) (w.calls last.station)
+not_again source w e od oc nc old first last r fault tells few is =
+    let o = origin_of w.calls first r.n in
+    let x = r.ends.reopen fault is in
+    let b = x.breaks in
+    record {
+      steps = x.steps;
+      place = (x.read tells few).0;
+      reading = (x.read tells few).1;
+      front = b.front;
+      back = Restarted ∷ b.behind;
+      parts = b.parts;
+      does = went source w e od oc nc old first last r b.front (before_done o x.steps b.front (Restarted ∷ b.behind) b.parts) b.stands;
+    }
+
+-- an event was left for want of memory, or the first entries were done
+abbrev Lacks : Origin → List ℕ → List Call → Type 0
+Lacks o bytes calls = BreaksAt o bytes (λ event. Idle event switch.NoMemory) None calls ForNoReason ⊎ StopsAfter o bytes calls
+
+-- it ended without memory
+lacked : {S P : Type 0} (source : SourceWords S) (w : StationWords P) (e : ReplayEnd) (od oc nc : S) (old : P) (first last : Engine P)
+    (r : Run source w e od oc nc old first last) → source.tells → length (source.left oc) < 2 ^ 64 → e ≡ end.NoMemory
+    → Lacks (origin_of w.calls first r.n) (source.left oc) (w.calls last.station)
+lacked source w e od oc nc old first last r tells few is =
+    let o = origin_of w.calls first r.n in
+    let x = r.ends.no_memory is in
     elim x.stands [
-      | inl adds ↦ record {
+      | inl b ↦ inr (record {
         steps = x.steps;
-        place = (x.read told few).0;
-        reading = (x.read told few).1;
-        front = adds.front;
-        back = adds.behind;
-        parts = adds.parts;
-        does = does w first.station d adds.front last adds.stands (before_done d x.steps adds.front adds.behind adds.parts) (laws adds.front);
-      }
-      | inr breaks ↦ record {
+        place = (x.read tells few).0;
+        reading = (x.read tells few).1;
+        front = b.front;
+        back = b.behind;
+        parts = b.parts;
+        does = went source w e od oc nc old first last r b.front (before_done o x.steps b.front b.behind b.parts) b.stands;
+      })
+      | inr b ↦ inl (record {
         steps = x.steps;
-        place = (x.read told few).0;
-        reading = (x.read told few).1;
-        front = breaks.front;
-        back = Did breaks.event ∷ breaks.behind;
-        parts = breaks.parts;
-        does = record {
-          says = λ tells.
-              subst (λ (y : Outside). SaidSince (w.calls first.station) (w.calls last.station) y) (append-nil (said d (empty d) breaks.front))
-              (said_before w first.station d breaks.front breaks.event switch.NoMemory last breaks.stands (before_done d x.steps breaks.front (Did breaks.event ∷ breaks.behind) breaks.parts) tells);
-          laws = laws breaks.front;
-        };
-      }
+        place = (x.read tells few).0;
+        reading = (x.read tells few).1;
+        front = b.front;
+        event = b.event;
+        back = b.behind;
+        parts = b.parts;
+        because = tt;
+        does = does w r.told o (b.front ++ Idle b.event switch.NoMemory ∷ []) None last b.stands
+            (idle_goes_on last.stopped b.front b.event switch.NoMemory (before_done o x.steps b.front (Did b.event ∷ b.behind) b.parts) b.stands.failed)
+            (r.laws (b.front ++ Idle b.event switch.NoMemory ∷ []));
+      })
     ]
 
-pub replays : {S P : Type 0} (source : SourceWords S) (w : StationWords P) (e : ReplayEnd) (od nd oc nc : S) (first last : Speaker P)
-    → ReadsDirectory source (Ok first.directory) od nd → ((es : List Entry) → KeepsLaws first.directory es)
-    → Ends (standing w) w.tells (beginning w first.station first.directory) [] source.tells e first last (source.left oc) (source.left nc)
+-- an engine that was just opened has none of the other ends
+spare : {S P : Type 0} (source : SourceWords S) (w : StationWords P) (e : ReplayEnd) (od oc nc : S) (old : P) (first last : Engine P)
+    (r : Run source w e od oc nc old first last) → IsSpare e → e ≡ end.NoMemory
+spare source w end.NoMemory od oc nc old first last r is = refl
+spare source w end.Done od oc nc old first last r is = absurd is
+spare source w (end.Capture at) od oc nc old first last r is = absurd is
+spare source w end.SourceFault od oc nc old first last r is = absurd is
+spare source w (end.Reopen opening.NoMemory) od oc nc old first last r is = absurd ((r.ends.reopen opening.NoMemory refl).memory refl)
+spare source w (end.Reopen opening.NoJournal) od oc nc old first last r is = absurd is
+spare source w (end.Reopen (opening.NotThis want found)) od oc nc old first last r is = absurd is
+spare source w (end.Reopen (opening.Damaged file at)) od oc nc old first last r is = absurd is
+spare source w (end.Reopen opening.DiskFault) od oc nc old first last r is = absurd is
+spare source w (end.Fault (switch.Stopped Disk)) od oc nc old first last r is =
+    let doubt = (r.ends.fault (switch.Stopped Disk) refl).earlier in absurd (none_failed doubt.0 doubt.2 (Doubt doubt.1) doubt.3)
+spare source w (end.Fault (switch.Stopped Say)) od oc nc old first last r is =
+    let unsaid = (r.ends.fault (switch.Stopped Say) refl).earlier in absurd (none_failed unsaid.0 unsaid.2 (Unsaid unsaid.1) unsaid.3)
+spare source w (end.Fault switch.Spent) od oc nc old first last r is = absurd (r.ends.fault switch.Spent refl).lasting
+spare source w (end.Fault switch.NoMemory) od oc nc old first last r is = absurd (r.ends.fault switch.NoMemory refl).lasting
+spare source w (end.Fault switch.SayFault) od oc nc old first last r is = absurd is
+spare source w (end.Fault switch.DiskFault) od oc nc old first last r is = absurd is
+spare source w (end.Fault (switch.Full used need limit)) od oc nc old first last r is = absurd is
+
+-- the disk failed while an event's record was written, or when the journal was opened again
+abbrev Failed : Origin → List ℕ → List Call → Type 0
+Failed o bytes calls = BreaksAt o bytes Doubt (Some Disk) calls ForNoReason ⊎ StopsAfter o bytes calls
+
+-- only the disk and want of memory keep the journal from being opened again
+again : {S P : Type 0} (source : SourceWords S) (w : StationWords P) (e : ReplayEnd) (od oc nc : S) (old : P) (first last : Engine P)
+    (r : Run source w e od oc nc old first last) (fault : OpenFault) → e ≡ end.Reopen fault → IsReopenFault fault
+again source w e od oc nc old first last r fault is = (r.ends.reopen fault is).breaks.fault_is r.told
+
+pub replays : {S P : Type 0} (source : SourceWords S) (w : StationWords P) (e : ReplayEnd) (od nd oc nc : S) (old : P) (first last : Engine P)
+    → Opens source w (Ok first) od nd old
+    → ((n : Need) (es : List Entry) → IsTrue (keeps_one first.directory) → IsTrue (is_sound first.directory n) → KeepsLaws first.directory n es)
+    → ((o : Told w.tells) (h : List Entry) → StandsFor (switch_words w.tells w.calls) o h first
+    → Ends (switch_words w.tells w.calls) w.tells o h source.tells e first last (source.left oc) (source.left nc))
     → HasReplayCause e (w.disk_faults first.station) (w.disk_faults last.station) (w.say_faults first.station) (w.say_faults last.station) (source.faults oc) (source.faults nc)
-    → Replays source w (status_of e) (world od oc first.station) (world nd nc last.station)
-replays source w e od nd oc nc first last read laws ends cause =
-    let d = first.directory in
-    let old = first.station in
+    → Replays source w (status_of e) (world od oc old) (world nd nc last.station)
+replays source w e od nd oc nc old first last opens laws ends cause =
     let of : (s : Status) → status_of e ≡ s → IsOf s e = λ s is. subst (λ (x : Status). IsOf x e) is (is_of e) in
+    let run : w.tells → Run source w e od oc nc old first last = λ told.
+        let x = opens.opened first refl told in record {
+          n = x.0;
+          told = told;
+          read = x.1;
+          origin = x.2.0;
+          ends = ends (record { told = told; origin = origin_of w.calls first x.0 }) [] x.2.1;
+          laws = λ es. laws x.0 es x.2.1.start.keeps x.2.0.sound;
+        } in
+    let disk_rose : Rose (w.disk_faults first.station) (w.disk_faults last.station) → Rose (w.disk_faults old) (w.disk_faults last.station) =
+    rose_later (w.disk_faults old) (w.disk_faults first.station) (w.disk_faults last.station) (opens.kept first refl).0 in
+    let say_rose : Rose (w.say_faults first.station) (w.say_faults last.station) → Rose (w.say_faults old) (w.say_faults last.station) =
+    subst (λ (k : ℕ). Rose k (w.say_faults last.station)) (opens.kept first refl).1 in
     record {
-      done = λ is tells few.
-          let x = ends.done (of Done is) in
-          (d, read.read tells d refl, (x.steps, x.whole tells few, does w old d (history d x.steps) last x.stands (history_done d x.steps) (laws (history d x.steps))));
+      done = λ is tells told few.
+          let r = run told in let x = r.ends.done (of Done is) in
+          (origin_of w.calls first r.n, r.read tells, r.origin, (x.steps, x.whole tells few, steps_went source w e od oc nc old first last r x.steps x.stands));
       words = λ is. of Words is;
+      exists = λ size is. of (Exists size) is;
       directory = λ fault is. absurd (of (Directory fault) is);
-      capture = λ at is tells few.
-          let x = ends.capture at (of (Capture at) is) in
-          (d, read.read tells d refl, (x.steps, x.early tells few, does w old d (history d x.steps) last x.stands (history_done d x.steps) (laws (history d x.steps))));
-      source_fault = λ is.
-          let x = ends.source_fault (of SourceFault is) in
-          inr (
-            cause.source_failed (of SourceFault is),
-            λ tells few.
-                let t = x.taken tells few in
-                (d, read.read tells d refl, (t.taken, x.steps, t.text, t.read, does w old d (history d x.steps) last x.stands (history_done d x.steps) (laws (history d x.steps)))),
-          );
-      say_fault = λ is.
-          let x = ends.fault switch.SayFault (of SayFault is) in (
-            cause.say_failed (of SayFault is),
-            λ tells few. (
-              d,
-              read.read tells d refl,
-              record {
-                steps = x.steps;
-                place = (x.read tells few).0;
-                reading = (x.read tells few).1;
-                front = x.breaks.front;
-                event = x.breaks.event;
-                back = x.breaks.behind;
-                parts = x.breaks.parts;
-                says = λ told. half_said w old d x.breaks.front x.breaks.event last x.breaks.stands (before_done d x.steps x.breaks.front (Did x.breaks.event ∷ x.breaks.behind) x.breaks.parts) told;
-                laws = laws x.breaks.front;
-              },
-            ),
-          );
-      disk_fault = λ is told. disk_rose w source.tells (beginning w old d) e first last (source.left oc) (source.left nc) (w.disk_faults first.station) (w.disk_faults last.station) (w.say_faults first.station) (w.say_faults last.station) (source.faults oc) (source.faults nc) (of DiskFault is) ends cause told;
-      full = λ used need limit is tells few.
-          let x = ends.fault (switch.Full used need limit) (of (Full used need limit) is) in
-          let same = x.breaks.cause.0 in (
-            d,
-            read.read tells d refl,
-            record {
-              steps = x.steps;
-              place = (x.read tells few).0;
-              reading = (x.read tells few).1;
-              front = x.breaks.front;
-              event = x.breaks.event;
-              back = x.breaks.behind;
-              parts = x.breaks.parts;
-              says = λ told. (
-                [],
-                said_before w old d x.breaks.front x.breaks.event (switch.Full used need limit) last x.breaks.stands (before_done d x.steps x.breaks.front (Did x.breaks.event ∷ x.breaks.behind) x.breaks.parts) told,
-                (refl, full_used used need limit most_accepted 1 most_accepted same, full_need used need limit most_accepted 1 most_accepted same, full_limit used need limit most_accepted 1 most_accepted same, x.breaks.cause.1, x.breaks.cause.2),
-              );
-              laws = laws x.breaks.front;
-            },
-          );
-      no_memory = λ is. inr (λ tells few. (d, read.read tells d refl, lacks w source.tells first last (source.left oc) laws (ends.no_memory (of NoMemory is)) tells few));
-      complete = λ tells told few other steps is whole kept_directory kept_capture kept_say kept_disk room.
-          left_over e
-          (λ at cut. (ends.capture at cut).none tells few steps (subst (λ (x : directories.Directory). IsWhole x (source.left oc) steps) (same_directory other d (directory_of_bytes (source.left od)) is (read.read tells d refl)) whole))
-          (λ failed. kept_capture (cause.source_failed failed))
-          (λ lost. kept_disk (disk_rose w source.tells (beginning w old d) e first last (source.left oc) (source.left nc) (w.disk_faults first.station) (w.disk_faults last.station) (w.say_faults first.station) (w.say_faults last.station) (source.faults oc) (source.faults nc) lost ends cause told))
-          (λ failed. kept_say (cause.say_failed failed))
+      no_journal = λ is told. absurd (again source w e od oc nc old first last (run told) opening.NoJournal (of NoJournal is));
+      not_this = λ want found is told. absurd (again source w e od oc nc old first last (run told) (opening.NotThis want found) (of (NotThis want found) is));
+      damaged = λ file at is told. absurd (again source w e od oc nc old first last (run told) (opening.Damaged file at) (of (Damaged file at) is));
+      capture = λ at is tells told few.
+          let r = run told in let x = r.ends.capture at (of (Capture at) is) in
+          (origin_of w.calls first r.n, r.read tells, r.origin, (x.steps, x.early tells few, steps_went source w e od oc nc old first last r x.steps x.stands));
+      source_fault = λ is. inr (
+        cause.source_failed (of SourceFault is),
+        λ tells told few.
+            let r = run told in let x = r.ends.source_fault (of SourceFault is) in let t = x.taken tells few in
+            (origin_of w.calls first r.n, r.read tells, r.origin, (t.taken, x.steps, t.text, t.read, steps_went source w e od oc nc old first last r x.steps x.stands)),
+      );
+      say_fault = λ is. (
+        say_rose (cause.say_failed (of SayFault is)),
+        λ tells told few.
+            let r = run told in
+            (origin_of w.calls first r.n, r.read tells, r.origin, broke source w e od oc nc old first last r switch.SayFault tells few (of SayFault is) Unsaid (Some Say) ForNoReason
+            (λ event. refl) (by_say last.stopped) (λ front event why. tt)),
+      );
+      disk_fault = λ is. elim (of DiskFault is) [
+        | inl at_event ↦ (
+          disk_rose (cause.disk_failed at_event),
+          inr (λ tells told few.
+              let r = run told in
+              (origin_of w.calls first r.n, r.read tells, r.origin, inl (broke source w e od oc nc old first last r switch.DiskFault tells few at_event Doubt (Some Disk) ForNoReason
+              (λ event. refl) (by_disk last.stopped) (λ front event why. tt)))),
+        )
+        | inr at_opening ↦ (
+          disk_rose (cause.reopen_failed at_opening),
+          inr (λ tells told few.
+              let r = run told in
+              (origin_of w.calls first r.n, r.read tells, r.origin, inr (not_again source w e od oc nc old first last r opening.DiskFault tells few at_opening))),
+        )
+      ];
+      full = λ used need limit is tells told few.
+          let r = run told in
+          let o = origin_of w.calls first r.n in
+          (o, r.read tells, r.origin, broke source w e od oc nc old first last r (switch.Full used need limit) tells few (of (Full used need limit) is)
+          (λ event. Idle event (switch.Full used need limit)) None (BecauseFull o used need limit)
+          (λ event. refl) (λ front event. idle_goes_on last.stopped front event (switch.Full used need limit)) (λ front event why. why));
+      no_memory = λ is. inr (λ tells told few.
+          let r = run told in
+          (origin_of w.calls first r.n, r.read tells, r.origin, lacked source w e od oc nc old first last r tells few (spare source w e od oc nc old first last r (of NoMemory is))));
+      complete = λ tells told few d n steps is opened plain whole kept_directory kept_capture kept_say kept_disk room.
+          let r = run told in
+          let same = same_directory d first.directory (directory_of_bytes (source.left od)) is (r.read tells) in
+          left_over (status_of e) e (is_of e)
+          (λ at cut. (r.ends.capture at (of (Capture at) cut)).none tells few steps (subst (λ (x : directories.Directory). IsWhole x (source.left oc) steps) same whole))
+          (λ failed. kept_capture (cause.source_failed (of SourceFault failed)))
+          (λ failed. elim (of DiskFault failed) [
+            | inl at_event ↦ kept_disk (disk_rose (cause.disk_failed at_event))
+            | inr at_opening ↦ kept_disk (disk_rose (cause.reopen_failed at_opening))
+          ])
+          (λ failed. kept_say (say_rose (cause.say_failed (of SayFault failed))))
+          (again source w e od oc nc old first last r)
           room;
-      directory_taken = λ tells. read.taken tells;
-      source_counts = (read.cause.later, cause.source_later);
-      station_counts = (cause.say_later, cause.disk_later);
+      refused = λ tells told d fault is refused plain kept_directory kept_disk.
+          let r = run told in
+          let same = same_directory d first.directory (directory_of_bytes (source.left od)) is (r.read tells) in
+          absurd (one_answer r.n fault (opens_files d (seen (w.calls old))) (subst (λ (x : directories.Directory). opens_files x (seen (w.calls old)) ≡ Ok r.n) (sym same) r.origin.opened) refused);
+      directory_taken = λ tells. opens.taken tells;
+      source_counts = (opens.later, cause.source_later);
+      station_counts = (
+        subst (λ (k : ℕ). k ≤ w.say_faults last.station) (opens.kept first refl).1 cause.say_later,
+        omega (arith, (opens.kept first refl).0, cause.disk_later),
+      );
     }

@@ -1,24 +1,34 @@
 -- What each end of the command `replay` means for what it works on.
-use Rattle.std.specs.Prelude.{◌≡◌, ◌⊎◌, ℕ, ◌+◌, ◌^◌, ◌<◌, ◌≤◌, List, [], ◌∷◌, ◌++◌, length, codes, Ok, Err}
+use Rattle.std.specs.Prelude.{◌≡◌, ◌⊎◌, ℕ, ◌+◌, ◌^◌, ◌<◌, ◌≤◌, false, List, [], ◌∷◌, ◌++◌, length, codes, Option, Some, None, Ok, Err}
 use Rattle.gts_traits.specs.declared.source.Source.{Ghosts as SourceWords}
 use Rattle.gts_traits.specs.declared.station.Station.{Ghosts as StationWords}
 use Rattle.gts_traits.specs.Counts.{Rose}
-use Rattle.gts_traits.specs.Station.{Outside, SaidSince, IsFront}
+use Rattle.gts_traits.specs.Station.{Call, seen}
 use Rattle.gts_directory.specs.Directory as directories
 use Rattle.gts_directory.specs.declared.fault.DirFault.{DirFault}
 use Rattle.gts_dirfile.specs.declared.limits.TheConstants.{LONGEST_DIRECTORY}
 use Rattle.gts_dirfile.specs.{directory_of_bytes}
-use Rattle.gts_event.specs.State.{State, empty, most_accepted}
-use Rattle.gts_event.specs.History.{outcome}
-use Rattle.gts_event.specs.Said.{spoken, said}
-use Rattle.gts_event.specs.declared.event.Entry.{Entry}
+use Rattle.gts_event.specs.Need.{Need, begun}
 use Rattle.gts_event.specs.declared.event.Event.{Event}
-use Rattle.gts_event.specs.declared.event.Entry.TheVariants.{Done as Did}
+use Rattle.gts_event.specs.declared.event.Entry.{Entry}
+use Rattle.gts_event.specs.declared.event.Entry.TheVariants.{Done as Did, Unsaid, Doubt, Idle, Restarted}
+use Rattle.gts_event.specs.declared.fault.Device.{Device}
+use Rattle.gts_event.specs.declared.fault.Device.TheVariants.{Disk, Say}
+use Rattle.gts_event.specs.declared.fault.SwitchFault.TheVariants as switch
+use Rattle.gts_record.specs.declared.fault.OpenFault.{OpenFault}
+use Rattle.gts_record.specs.declared.fault.OpenFault.TheVariants as opening
 use Rattle.gts_connection.specs.Capture.{Step, Reading, IsWhole, EndsEarly, entries}
-use Rattle.gts_opening.specs.Room.{IsAccepted}
+use Rattle.gts_journal.specs.{OnlySyncs, is_checkpoint, selected_bytes}
+use Rattle.gts_opening.specs.Journal.{opens}
+use Rattle.gts_opening.specs.Room.{full}
+use Rattle.gts_engine.specs.declared.mode.SayMode.TheVariants as mode
+use Rattle.gts_engine.specs.Origin.{Origin, state_at, used_at}
+use Rattle.gts_engine.specs.Keeping.{Leaving}
 use Rattle.gts_app.specs.declared.status.Status.{Status}
-use Rattle.gts_app.specs.declared.status.Status.TheVariants.{Done, Words, Directory, Capture, DiskFault, SourceFault, SayFault, Full, NoMemory}
-use Rattle.gts_app.specs.Laws.{state_of, KeepsLaws}
+use Rattle.gts_app.specs.declared.status.Status.TheVariants.{Done, Words, Directory, Capture, NoJournal, NotThis, Damaged, Exists, DiskFault, SourceFault, SayFault, Full, NoMemory}
+use Rattle.gts_app.specs.Laws.{KeepsLaws}
+use Rattle.gts_app.specs.Ending.{refusal}
+use Rattle.gts_app.specs.Opening.{IsOrigin, IsOfFiles, AreRefused}
 
 -- the words of the command
 abbrev pub replay_words : List (List ℕ)
@@ -33,94 +43,129 @@ pub record World (S P : Type 0) : Type 0 where
 abbrev pub world : {S P : Type 0} → S → S → P → World S P
 world directory capture station = record { directory = directory; capture = capture; station = station }
 
--- where a source tells its bytes, and those of the capture can be counted, the directory's are a directory of which this holds
-abbrev pub Under : {S : Type 0} → SourceWords S → (directory capture : S) → (directories.Directory → Type 0) → Type 0
-Under words directory capture OfIt =
-    words.tells → length (words.left capture) < 2 ^ 64
-    → (d : directories.Directory) × (directory_of_bytes (words.left directory) ≡ Ok d) × OfIt d
+-- Where sources and station tell, and the bytes of the capture can be counted: the directory's are a directory under which the
+-- files open, and this holds of the origin of the history.
+abbrev pub Under : {S P : Type 0} → SourceWords S → StationWords P → World S P → (Origin → Type 0) → Type 0
+Under source station old OfIt =
+    source.tells → station.tells → length (source.left old.capture) < 2 ^ 64
+    → (o : Origin) × (directory_of_bytes (source.left old.directory) ≡ Ok o.directory) × IsOrigin (station.calls old.station) o × OfIt o
 
--- the history of the steps of a capture, which begins with nothing
-abbrev pub history : directories.Directory → List Step → List Entry
-history d steps = entries d (empty d) steps
+-- the history of the steps of a capture, from an origin on
+abbrev pub history : Origin → List Step → List Entry
+history o steps = entries o.directory (begun o.start) steps
 
--- These entries were done: all that they say was said since, byte for byte and in order, and they keep the laws.
-pub record Does {P : Type 0} (words : StationWords P) (old new : P) (d : directories.Directory) (done : List Entry) : Type 0 where
-  pub says : words.tells → SaidSince (words.calls old) (words.calls new) (said d (empty d) done)
-  pub laws : KeepsLaws d done
+-- These entries came since an origin, and this device stopped the switch. What they say was said, byte for byte and in order; at
+-- each moment since, and now, a crash leaves a front of them that holds all that had been said; and they keep the laws.
+pub record Does (o : Origin) (done : List Entry) (stopped : Option Device) (calls : List Call) : Type 0 where
+  pub leaves : Leaving mode.Station o done stopped calls
+  pub laws : KeepsLaws o.directory o.start done
 
--- The history of the bytes was done up to an event: all was said that the entries before it say, and then what this says of the
--- event.
-pub record BreaksAt {P : Type 0} (words : StationWords P) (old new : P) (d : directories.Directory) (bytes : List ℕ)
-    (Last : State → Event → Outside → Type 0) : Type 0 where
+-- The history of the bytes was done up to an event, and then came this entry of it, by which this device stopped the switch.
+pub record BreaksAt (o : Origin) (bytes : List ℕ) (last : Event → Entry) (stopped : Option Device) (calls : List Call)
+    (Because : List Entry → Event → Type 0) : Type 0 where
   pub steps : List Step
   pub place : ℕ
-  pub reading : Reading d bytes steps place
+  pub reading : Reading o.directory bytes steps place
   pub front : List Entry
   pub event : Event
   pub back : List Entry
-  pub parts : history d steps ≡ front ++ Did event ∷ back
-  pub says : words.tells → (left : Outside)
-      × SaidSince (words.calls old) (words.calls new) (said d (empty d) front ++ left) × Last (state_of d front) event left
-  pub laws : KeepsLaws d front
+  pub parts : history o steps ≡ front ++ Did event ∷ back
+  pub because : Because front event
+  pub does : Does o (front ++ last event ∷ []) stopped calls
 
--- saying failed at an event: a front of what it says was said
-abbrev pub IsHalfSaid : directories.Directory → State → Event → Outside → Type 0
-IsHalfSaid d s event left = IsFront left (spoken d s event)
+-- no cause is told
+abbrev pub ForNoReason : List Entry → Event → Type 0
+ForNoReason front event = Unit {0}
 
--- an event was not done, since no position is left for it
-abbrev pub HasNoPlace : (used need limit : ℕ) → directories.Directory → State → Event → Outside → Type 0
-HasNoPlace used need limit d s event left =
-    (left ≡ []) × (used ≡ most_accepted) × (need ≡ 1) × (limit ≡ most_accepted)
-    × (most_accepted ≤ s.count) × IsAccepted (outcome d s event)
+-- the journal was full for the event: with it and all draws due then, more bytes would be used than may be
+abbrev pub BecauseFull : Origin → (used need limit : ℕ) → List Entry → Event → Type 0
+BecauseFull o used need limit front event =
+    full o.directory (state_at o front) (used_at o front) event ≡ Some (switch.Full used need limit)
 
 -- The first entries of the history of the bytes were done.
-pub record StopsAfter {P : Type 0} (words : StationWords P) (old new : P) (d : directories.Directory) (bytes : List ℕ) : Type 0 where
+pub record StopsAfter (o : Origin) (bytes : List ℕ) (calls : List Call) : Type 0 where
   pub steps : List Step
   pub place : ℕ
-  pub reading : Reading d bytes steps place
+  pub reading : Reading o.directory bytes steps place
   pub front : List Entry
   pub back : List Entry
-  pub parts : history d steps ≡ front ++ back
-  pub does : Does words old new d front
+  pub parts : history o steps ≡ front ++ back
+  pub does : Does o front None calls
+
+-- nothing was read of the capture, and no file was changed and nothing said: at most they were synced
+pub record Untouched {S P : Type 0} (station : StationWords P) (old new : World S P) : Type 0 where
+  pub capture : new.capture ≡ old.capture
+  pub only_syncs : station.tells → OnlySyncs (station.calls old.station) (station.calls new.station)
+  pub no_say : station.say_faults new.station ≡ station.say_faults old.station
+
+-- the journal has this fault
+abbrev pub IsRefused : {S P : Type 0} → SourceWords S → StationWords P → World S P → World S P → OpenFault → Type 0
+IsRefused source station old new fault =
+    Untouched station old new × (source.tells → AreRefused (source.left old.directory) (seen (station.calls old.station)) fault)
 
 -- For each status, what it means for the world before and after, and what holds of every run.
 pub record Replays {S P : Type 0} (source : SourceWords S) (station : StationWords P) (status : Status)
     (old new : World S P) : Type 0 where
   -- the capture was read through its end, and its history was done
-  pub done : status ≡ Done → Under source old.directory old.capture (λ d. (steps : List Step)
-      × IsWhole d (source.left old.capture) steps × Does station old.station new.station d (history d steps))
-  -- the command was given its words
+  pub done : status ≡ Done → Under source station old (λ o. (steps : List Step)
+      × IsWhole o.directory (source.left old.capture) steps × Does o (history o steps) None (station.calls new.station))
+  -- the command was given its words, and makes no journal
   pub words : status ≡ Words → ⊥
+  pub exists : (size : ℕ) → status ≡ Exists size → ⊥
   -- the directory has this fault; nothing was read of the capture, and nothing said
   pub directory : (fault : DirFault) → status ≡ Directory fault → (new.capture ≡ old.capture) × (new.station ≡ old.station)
       × (source.tells → directory_of_bytes (source.left old.directory) ≡ Err fault)
+  -- the journal has this fault
+  pub no_journal : status ≡ NoJournal → station.tells → IsRefused source station old new opening.NoJournal
+  pub not_this : (want found : List ℕ) → status ≡ NotThis want found → station.tells
+      → IsRefused source station old new (opening.NotThis want found)
+  pub damaged : (file at : ℕ) → status ≡ Damaged file at → station.tells
+      → IsRefused source station old new (opening.Damaged file at)
   -- the bytes are bad at this place, or end there too early; what stands before it was done
-  pub capture : (at : ℕ) → status ≡ Capture at → Under source old.directory old.capture (λ d. (steps : List Step)
-      × EndsEarly d (source.left old.capture) steps at × Does station old.station new.station d (history d steps))
-  -- A fault of a device comes only where its count rose. What was said before it stands.
+  pub capture : (at : ℕ) → status ≡ Capture at → Under source station old (λ o. (steps : List Step)
+      × EndsEarly o.directory (source.left old.capture) steps at × Does o (history o steps) None (station.calls new.station))
+  -- A fault of a device comes only where its count rose. What was done before it stands.
   pub source_fault : status ≡ SourceFault
       → ((new.capture ≡ old.capture) × (new.station ≡ old.station)
       × Rose (source.faults old.directory) (source.faults new.directory))
       ⊎ (Rose (source.faults old.capture) (source.faults new.capture)
-      × Under source old.directory old.capture (λ d. (taken : List ℕ) × (steps : List Step)
-      × (source.left old.capture ≡ taken ++ source.left new.capture) × Reading d taken steps (length taken)
-      × Does station old.station new.station d (history d steps)))
+      × Under source station old (λ o. (taken : List ℕ) × (steps : List Step)
+      × (source.left old.capture ≡ taken ++ source.left new.capture) × Reading o.directory taken steps (length taken)
+      × Does o (history o steps) None (station.calls new.station)))
+  -- of the last event, a front of what it says was said
   pub say_fault : status ≡ SayFault → Rose (station.say_faults old.station) (station.say_faults new.station)
-      × Under source old.directory old.capture (λ d. BreaksAt station old.station new.station d (source.left old.capture) (IsHalfSaid d))
-  pub disk_fault : status ≡ DiskFault → station.tells → Rose (station.disk_faults old.station) (station.disk_faults new.station)
-  -- no position is left for a bulletin, or there was no memory
-  pub full : (used need limit : ℕ) → status ≡ Full used need limit → Under source old.directory old.capture (λ d.
-      BreaksAt station old.station new.station d (source.left old.capture) (HasNoPlace used need limit d))
-  pub no_memory : status ≡ NoMemory → (new.station ≡ old.station)
-      ⊎ Under source old.directory old.capture (λ d. StopsAfter station old.station new.station d (source.left old.capture))
-  -- a capture under a directory that is accepted, over devices that don't fail, is done, but for memory and positions
-  pub complete : source.tells → station.tells → length (source.left old.capture) < 2 ^ 64 → (d : directories.Directory) (steps : List Step)
-      → directory_of_bytes (source.left old.directory) ≡ Ok d → IsWhole d (source.left old.capture) steps
+      × Under source station old (λ o.
+      BreaksAt o (source.left old.capture) Unsaid (Some Say) (station.calls new.station) ForNoReason)
+  -- the journal was not opened; or whether the last event was done is in doubt; or the journal was not opened again
+  pub disk_fault : status ≡ DiskFault → Rose (station.disk_faults old.station) (station.disk_faults new.station)
+      × (Untouched station old new ⊎ Under source station old (λ o.
+      BreaksAt o (source.left old.capture) Doubt (Some Disk) (station.calls new.station) ForNoReason
+      ⊎ StopsAfter o (source.left old.capture) (station.calls new.station)))
+  -- the journal is full for an event, or there was no memory for it, which changed nothing
+  pub full : (used need limit : ℕ) → status ≡ Full used need limit → Under source station old (λ o.
+      BreaksAt o (source.left old.capture) (λ event. Idle event (switch.Full used need limit)) None (station.calls new.station)
+      (BecauseFull o used need limit))
+  pub no_memory : status ≡ NoMemory → Untouched station old new ⊎ Under source station old (λ o.
+      BreaksAt o (source.left old.capture) (λ event. Idle event switch.NoMemory) None (station.calls new.station) ForNoReason
+      ⊎ StopsAfter o (source.left old.capture) (station.calls new.station))
+  -- a capture under a directory that is accepted, and a journal that opens under it, over devices that don't fail, is done, but
+  -- for memory and room
+  pub complete : source.tells → station.tells → length (source.left old.capture) < 2 ^ 64
+      → (d : directories.Directory) (n : Need) (steps : List Step)
+      → directory_of_bytes (source.left old.directory) ≡ Ok d → opens d (seen (station.calls old.station)) ≡ Ok n
+      → is_checkpoint (selected_bytes (seen (station.calls old.station))) ≡ false → IsWhole d (source.left old.capture) steps
       → (Rose (source.faults old.directory) (source.faults new.directory) → ⊥)
       → (Rose (source.faults old.capture) (source.faults new.capture) → ⊥)
       → (Rose (station.say_faults old.station) (station.say_faults new.station) → ⊥)
       → (Rose (station.disk_faults old.station) (station.disk_faults new.station) → ⊥)
       → ((used need limit : ℕ) → status ≡ Full used need limit → ⊥) → (status ≡ Done) ⊎ (status ≡ NoMemory)
+  -- and where the files open to a fault, that is answered
+  pub refused : source.tells → station.tells → (d : directories.Directory) (fault : OpenFault)
+      → directory_of_bytes (source.left old.directory) ≡ Ok d → opens d (seen (station.calls old.station)) ≡ Err fault
+      → is_checkpoint (selected_bytes (seen (station.calls old.station))) ≡ false
+      → (Rose (source.faults old.directory) (source.faults new.directory) → ⊥)
+      → (Rose (station.disk_faults old.station) (station.disk_faults new.station) → ⊥)
+      → (status ≡ refusal fault) ⊎ (status ≡ NoMemory)
   -- what is read, and that no count falls
   pub directory_taken : source.tells → (taken : List ℕ) × (source.left old.directory ≡ taken ++ source.left new.directory)
       × (length taken ≤ LONGEST_DIRECTORY + 1)

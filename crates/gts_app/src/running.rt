@@ -48,8 +48,9 @@ pub fn run<R: Threads + Wait + Sync, S: Source, P: Station + Send, L: Lines, G: 
         (world directory.old capture station) (world directory.new result.2 result.1) }
 
     // Bytes that are no capture of the directory are not done.
-    ensures no_capture { words.now ≡ replay_words → S.tells → length (S.left capture) < 2 ^ 64
-        → IsNoCapture (S.left directory.old) (S.left capture) → result.0 ≡ Status.Done → ⊥ }
+    ensures no_capture { words.now ≡ replay_words → S.tells → P.tells
+        → length (S.left capture) < 2 ^ 64 → IsNoCapture (S.left directory.old) (S.left capture)
+        → result.0 ≡ Status.Done → ⊥ }
 
     // What no command changes so far.
     ensures untouched { lines.new ≡ lines.old }

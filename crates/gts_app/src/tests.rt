@@ -1,3 +1,5 @@
+mod journals;
+
 use super::*;
 use gts_alphabet::digits_of;
 use gts_directory::{DirFault, Part};
@@ -29,22 +31,23 @@ const ACCEPTED: &str = "ACC 0 0 1 SMVG01 TVSV 280000\n";
 struct Failing<'a> {
     directory: &'a [u64],
     capture: &'a [u64],
-    says: &'a [u64],
+    calls: &'a [u64],
 }
 
 const NONE: Failing<'static> = Failing {
     directory: &[],
     capture: &[],
-    says: &[],
+    calls: &[],
 };
 
-/// Runs words over a directory, a capture and devices in memory.
-fn run_words<R: AllocGlobal + Threads + Wait + Sync>(
+/// Runs words over a directory, a capture and a station.
+fn run_on<R: AllocGlobal + Threads + Wait + Sync>(
     rt: &R,
     words: &[&str],
     directory: &[u8],
     capture: &[u8],
     failing: &Failing<'_>,
+    station: MemStation,
 ) -> Result<(Status, MemStation), Fail> {
     let alloc = rt.alloc();
     let mut list = WordList::new();
@@ -53,7 +56,6 @@ fn run_words<R: AllocGlobal + Threads + Wait + Sync>(
     }
     let mut directory = MemSource::new(alloc, directory, failing.directory)?;
     let capture = MemSource::new(alloc, capture, failing.capture)?;
-    let station = MemStation::new(alloc, failing.says)?;
     let mut lines = MemLines::new(alloc, &[])?;
     let (status, station, _) = run(
         rt,
@@ -66,6 +68,51 @@ fn run_words<R: AllocGlobal + Threads + Wait + Sync>(
         &FreeGate,
     );
     Ok((status, station))
+}
+
+/// Runs words over a directory, a capture and a new station.
+fn run_words<R: AllocGlobal + Threads + Wait + Sync>(
+    rt: &R,
+    words: &[&str],
+    directory: &[u8],
+    capture: &[u8],
+    failing: &Failing<'_>,
+) -> Result<(Status, MemStation), Fail> {
+    let station = MemStation::new(rt.alloc(), failing.calls)?;
+    run_on(rt, words, directory, capture, failing, station)
+}
+
+/// A station on which a journal of this directory was made. Its calls with the listed numbers, from 0, are to fail.
+fn with_journal<R: AllocGlobal + Threads + Wait + Sync>(
+    rt: &R,
+    directory: &[u8],
+    calls: &[u64],
+) -> Result<MemStation, Fail> {
+    let failing = Failing { calls, ..NONE };
+    let (status, station) = run_words(rt, &["init"], directory, b"", &failing)?;
+    assert_eq!(rt; status, Status::Done);
+    Ok(station)
+}
+
+/// Replays a capture over a new journal.
+fn replayed<R: AllocGlobal + Threads + Wait + Sync>(
+    rt: &R,
+    directory: &[u8],
+    capture: &[u8],
+    failing: &Failing<'_>,
+) -> Result<(Status, MemStation), Fail> {
+    let station = with_journal(rt, directory, failing.calls)?;
+    run_on(rt, &["replay"], directory, capture, failing, station)
+}
+
+/// Replays a capture over the journal that is there.
+fn replayed_on<R: AllocGlobal + Threads + Wait + Sync>(
+    rt: &R,
+    directory: &[u8],
+    capture: &[u8],
+    station: MemStation,
+) -> Result<(Status, MemStation), Fail> {
+    run_on(rt, &["replay"], directory, capture, &NONE, station)
 }
 
 /// The bytes of a text in which `^` stands for SOH, `|` for a line end and `$` for ETX.
@@ -389,7 +436,7 @@ fn each_row_says_its_receipts_and_frames(rt: HostRuntime) -> Result<(), Fail> {
     for (i, row) in ROWS.iter().enumerate() {
         let directory = directory_of(alloc, row.directory)?;
         let capture = captured(alloc, row.steps)?;
-        let (status, station) = run_words(&rt, &["replay"], &directory, &capture, &NONE)?;
+        let (status, station) = replayed(&rt, &directory, &capture, &NONE)?;
         assert_eq!(rt; status, Status::Done, "row {i}");
         assert_eq!(rt; station.said(0), row.receipts.as_bytes(), "row {i}");
         let mut frames = Vec::new(alloc);
@@ -411,7 +458,7 @@ fn a_frame_may_be_cut_anywhere(rt: HostRuntime) -> Result<(), Fail> {
     }
     capture.extend_from_slice(b"T 01\nE\n")?;
     let directory = directory_of(alloc, AB)?;
-    let (status, station) = run_words(&rt, &["replay"], &directory, &capture, &NONE)?;
+    let (status, station) = replayed(&rt, &directory, &capture, &NONE)?;
     assert_eq!(rt; status, Status::Done);
     assert_eq!(rt; station.said(0), ACCEPTED.as_bytes());
     assert_eq!(rt; station.said(2), framed(alloc, F1)?.as_slice());
@@ -437,7 +484,7 @@ fn the_longest_body_is_sent_on(rt: HostRuntime) -> Result<(), Fail> {
     ];
     let capture = captured(alloc, &steps)?;
     let directory = directory_of(alloc, AB)?;
-    let (status, station) = run_words(&rt, &["replay"], &directory, &capture, &NONE)?;
+    let (status, station) = replayed(&rt, &directory, &capture, &NONE)?;
     assert_eq!(rt; status, Status::Done);
     assert_eq!(rt;
         station.said(0),
@@ -448,8 +495,9 @@ fn the_longest_body_is_sent_on(rt: HostRuntime) -> Result<(), Fail> {
     Ok(())
 }
 
-/// Steps in which so many bulletins of different texts come on the first circuit. Each frame has 49 bytes.
-fn bulletins(alloc: Global, count: u32) -> Result<Vec<u8>, Fail> {
+/// Steps in which so many bulletins of different texts come on the first circuit, with these steps behind each. Each frame has
+/// 49 bytes.
+fn bulletins(alloc: Global, count: u32, behind: &[u8]) -> Result<Vec<u8>, Fail> {
     let mut steps = Vec::new(alloc);
     for i in 0..count {
         let text = digits_of::<4>(i);
@@ -457,6 +505,7 @@ fn bulletins(alloc: Global, count: u32) -> Result<Vec<u8>, Fail> {
             b"F 00 000049\n00000039AN\x01\r\r\n001\r\r\nSMVG01 TVSV 280000\r\r\n",
             text.as_slice(),
             b"\r\r\n\x03",
+            behind,
         ];
         steps.extend_from_slice(&frame.concat(alloc)?)?;
     }
@@ -466,12 +515,12 @@ fn bulletins(alloc: Global, count: u32) -> Result<Vec<u8>, Fail> {
 #[test]
 fn numbers_come_round_after_a_thousand_draws(rt: HostRuntime) -> Result<(), Fail> {
     let alloc = rt.alloc();
-    let steps = bulletins(alloc, 1_001)?;
+    let steps = bulletins(alloc, 1_001, b"T 01\n")?;
     let request = "AN 01 001|BMRR01 TVSV 281030|BBBB|SQN 999-001=";
     let asked = captured(alloc, &[request, "T 01", "T 01", "T 01"])?;
-    let capture = [steps.as_slice(), b"D 01\n", &asked].concat(alloc)?;
-    let directory = directory_of(alloc, &[TOP, A, B, "kept = 2\n", RULE])?;
-    let (status, station) = run_words(&rt, &["replay"], &directory, &capture, &NONE)?;
+    let capture = [steps.as_slice(), &asked].concat(alloc)?;
+    let directory = directory_of(alloc, &[TOP, "window = 1\n", A, B, "kept = 2\n", RULE])?;
+    let (status, station) = replayed(&rt, &directory, &capture, &NONE)?;
     assert_eq!(rt; status, Status::Done);
     assert!(rt; station.said(0).ends_with(b"ASK 1 2 1\n"));
     assert_eq!(rt; station.said(2).len(), 1_003 * 49);
@@ -492,19 +541,23 @@ fn numbers_come_round_after_a_thousand_draws(rt: HostRuntime) -> Result<(), Fail
 #[test]
 fn no_more_than_4096_are_owed(rt: HostRuntime) -> Result<(), Fail> {
     let alloc = rt.alloc();
-    let steps = bulletins(alloc, 1_000)?;
-    let request = "AN 01 001|BMRR01 TVSV 281030|BBBB|SQN 001-000=";
-    let asked = captured(alloc, &[request; 5])?;
-    let capture = [steps.as_slice(), b"D 01\n", &asked].concat(alloc)?;
-    let directory = directory_of(alloc, AB)?;
-    let (status, station) = run_words(&rt, &["replay"], &directory, &capture, &NONE)?;
+    let steps = bulletins(alloc, 256, b"T 01\n")?;
+    // Sixteen requests for 256 numbers each leave as many owed as may be.
+    let request = "AN 01 001|BMRR01 TVSV 281030|BBBB|SQN 001-256=";
+    let mut asked = Vec::new(alloc);
+    for _ in 0..16 {
+        asked.push(request)?;
+    }
+    asked.push("AN 01 001|BMRR01 TVSV 281030|BBBB|SQN 001=")?;
+    asked.push("T 01")?;
+    asked.push("AN 01 001|BMRR01 TVSV 281030|BBBB|SQN 001=")?;
+    let asked = captured(alloc, &asked)?;
+    let capture = [steps.as_slice(), &asked].concat(alloc)?;
+    let directory = directory_of(alloc, &[TOP, "window = 1\n", A, B, "kept = 256\n", RULE])?;
+    let (status, station) = replayed(&rt, &directory, &capture, &NONE)?;
     assert_eq!(rt; status, Status::Done);
-    assert!(rt;
-        station.said(0).ends_with(
-            b"ASK 1 1000 0\nASK 1 1000 0\nASK 1 1000 0\nASK 1 1000 0\nREF 1 Many\n"
-        )
-    );
-    assert_eq!(rt; station.said(2).len(), 1_000 * 49);
+    assert!(rt; station.said(0).ends_with(b"ASK 1 256 0\nASK 1 256 0\nREF 1 Many\nASK 1 1 0\n"));
+    assert_eq!(rt; station.said(2).len(), 257 * 49);
     Ok(())
 }
 
@@ -532,7 +585,7 @@ fn a_bad_capture_is_done_up_to_its_first_bad_place(rt: HostRuntime) -> Result<()
         (b"", Status::Capture { at: 0 }, ""),
     ];
     for (i, (capture, wanted, receipts)) in rows.iter().enumerate() {
-        let (status, station) = run_words(&rt, &["replay"], &directory, capture, &NONE)?;
+        let (status, station) = replayed(&rt, &directory, capture, &NONE)?;
         assert_eq!(rt; status, *wanted, "capture {i}");
         assert_eq!(rt; station.said(0), receipts.as_bytes(), "capture {i}");
     }
@@ -644,32 +697,42 @@ fn other_words_are_no_command_yet(rt: HostRuntime) -> Result<(), Fail> {
     Ok(())
 }
 
+/// The number of the first call of a replay: those before it make the journal.
+const FIRST: u64 = 8;
+
 #[test]
 fn a_device_that_fails_ends_the_run(rt: HostRuntime) -> Result<(), Fail> {
     let alloc = rt.alloc();
     let directory = directory_of(alloc, AB)?;
     let capture = captured(alloc, &[F1, "T 01"])?;
     let first: &[u64] = &[0];
-    let second: &[u64] = &[1];
+    let none: &[u64] = &[];
+    // Four calls open the journal, four write the record of the bulletin, and then its receipt is said; as many write that of
+    // the draw, and then its frame is said.
+    let opening: &[u64] = &[FIRST];
+    let record: &[u64] = &[FIRST + 4];
+    let gate: &[u64] = &[FIRST + 7];
+    let receipt: &[u64] = &[FIRST + 8];
+    let draw: &[u64] = &[FIRST + 9];
+    let frame: &[u64] = &[FIRST + 13];
     let rows = [
-        (first, NONE.capture, NONE.says, Status::SourceFault, ""),
-        (NONE.directory, first, NONE.says, Status::SourceFault, ""),
-        (NONE.directory, NONE.capture, first, Status::SayFault, ""),
-        (
-            NONE.directory,
-            NONE.capture,
-            second,
-            Status::SayFault,
-            ACCEPTED,
-        ),
+        (first, none, none, Status::SourceFault, ""),
+        (none, first, none, Status::SourceFault, ""),
+        (none, none, opening, Status::DiskFault, ""),
+        (none, none, record, Status::DiskFault, ""),
+        (none, none, gate, Status::DiskFault, ""),
+        (none, none, receipt, Status::SayFault, ""),
+        (none, none, draw, Status::DiskFault, ACCEPTED),
+        (none, none, frame, Status::SayFault, ACCEPTED),
     ];
-    for (i, (directory_calls, capture_calls, says, wanted, receipts)) in rows.iter().enumerate() {
+    for (i, (directory_calls, capture_calls, calls, wanted, receipts)) in rows.iter().enumerate() {
         let failing = Failing {
             directory: directory_calls,
             capture: capture_calls,
-            says,
+            calls,
         };
-        let (status, station) = run_words(&rt, &["replay"], &directory, &capture, &failing)?;
+        let station = with_journal(&rt, &directory, calls)?;
+        let (status, station) = run_on(&rt, &["replay"], &directory, &capture, &failing, station)?;
         assert_eq!(rt; status, *wanted, "row {i}");
         assert_eq!(rt; station.said(0), receipts.as_bytes(), "row {i}");
         assert_eq!(rt; station.said(2), b"".as_slice(), "row {i}");
@@ -684,21 +747,7 @@ fn a_journal_is_made_once(rt: HostRuntime) -> Result<(), Fail> {
     assert_eq!(rt; status, Status::Done);
     assert_eq!(rt; station.file(0).len(), 41);
     assert_eq!(rt; station.said(0), b"".as_slice());
-    let mut source = MemSource::new(rt.alloc(), &directory, &[])?;
-    let capture = MemSource::new(rt.alloc(), b"", &[])?;
-    let mut lines = MemLines::new(rt.alloc(), &[])?;
-    let mut words = WordList::new();
-    words.push(rt.alloc(), "init")?;
-    let (status, station, _) = run(
-        &rt,
-        rt.alloc(),
-        &words,
-        &mut source,
-        capture,
-        station,
-        &mut lines,
-        &FreeGate,
-    );
+    let (status, station) = run_on(&rt, &["init"], &directory, b"", &NONE, station)?;
     assert_eq!(rt; status, Status::Exists { size: 41 });
     assert_eq!(rt; station.file(0).len(), 41);
     Ok(())
@@ -716,7 +765,7 @@ fn init_under_a_directory_at_fault_or_a_disk_that_fails(rt: HostRuntime) -> Resu
     assert_eq!(rt; station.calls(), 0);
     for call in 0..8 {
         let failing = Failing {
-            says: &[call],
+            calls: &[call],
             ..NONE
         };
         let (status, _) = run_words(&rt, &["init"], &directory, b"", &failing)?;

@@ -43,7 +43,7 @@ twice s = ap (λ (qs : List CircuitState). record s { circuits = qs }) (each s.c
     each [] = refl
     each (q ∷ qs) = ap (λ (rs : List CircuitState). owed_last q ∷ rs) (each qs)
 
-held_same : (d : Directory) (core : Core) (s t : State) → Holds d core s → SameNeed d s t → Holds d core t
+pub held_same : (d : Directory) (core : Core) (s t : State) → Holds d core s → SameNeed d s t → Holds d core t
 held_same d core s t h same = record {
   window = h.window;
   kept = h.kept;
@@ -97,7 +97,7 @@ syncs_stand d s old new j (inr (inl is)) f = let P : List Call → Type 0 = λ l
 syncs_stand d s old new j (inr (inr broke)) f = let P : List Call → Type 0 = λ l. StandsFor d s l j in subst P (sym broke.2) (stands_broken d s old broke.0 j f)
 
 -- what files open to
-opens_by : (d : Directory) (files : Files) (s : State) (used : ℕ) → files_open d files ≡ Ok (s, used) → opens d files ≡ Ok (need d (restarted s))
+pub opens_by : (d : Directory) (files : Files) (s : State) (used : ℕ) → files_open d files ≡ Ok (s, used) → opens d files ≡ Ok (need d (restarted s))
 opens_by d files s used is = ap (λ (r : Opened). elim r as (λ _. Result Need OpenFault) [ Err fault ↦ Err fault | Ok x ↦ Ok (need d (restarted x.0)) ]) is
 
 -- a fault of an opening is none of files that open

@@ -7,3 +7,4 @@ pub use Rattle.gts_opening.proofs.AppendLemmas.{resting, append_moments, append_
 pub use Rattle.gts_opening.proofs.CompactLemmas.{compaction_moments, compaction_starts}
 pub use Rattle.gts_opening.proofs.CausedLemmas.{caused_from, caused-nothing, caused-entry, caused-compaction, caused-front, doubt-computed, unsaid-computed, own_reading, only_reading}
 pub use Rattle.gts_opening.proofs.FollowingLemmas.{follows, passes, opened_again}
+pub use Rattle.gts_opening.proofs.OpenedLemmas.{opened-sound, opened-held, opened-ordered, opened-once, opened-owed, opened-few, opened-begins}

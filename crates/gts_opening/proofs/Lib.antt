@@ -4,6 +4,7 @@ pub mod CheckpointLemmas
 pub mod FileLemmas
 pub mod CausedLemmas
 pub mod WrittenLemmas
+pub mod OpenedLemmas
 pub mod CrashLemmas
 pub mod AppendLemmas
 pub mod CompactLemmas

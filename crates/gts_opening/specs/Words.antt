@@ -2,9 +2,12 @@
 pub use Rattle.gts_traits.specs.Station.{Outside, Call, Files, seen, IsImage}
 pub use Rattle.gts_traits.specs.Moments.{MayLeave, EachSince}
 pub use Rattle.gts_directory.specs.Directory.{Directory}
-pub use Rattle.gts_event.specs.State.{State, empty}
+pub use Rattle.gts_event.specs.State.{State, EachRoutedOnce, HasPositions, empty}
 pub use Rattle.gts_event.specs.History.{restarted, after_all}
-pub use Rattle.gts_event.specs.Need.{Need, IsOrdered, need, begun, is_sound}
+pub use Rattle.gts_event.specs.Need.{Need, IsOrdered, need, begun, is_sound, keeps_one}
+pub use Rattle.gts_event.specs.Held.{IsHeld}
+pub use Rattle.gts_event.specs.Stand.{SameNeed}
+pub use Rattle.gts_event.specs.Drain.{EachOwedFew}
 pub use Rattle.gts_event.specs.declared.event.Event.{Event}
 pub use Rattle.gts_event.specs.declared.event.Entry.{Entry}
 pub use Rattle.gts_record.specs.Record.{Record, record_text, records_text, open_gate, file_text}

@@ -3,7 +3,7 @@ ghost use Rattle.std.specs.Prelude.{◌≡◌, ◌↔◌, ◌+◌, ◌-◌, ◌^
 ghost use Rattle.std.specs.List.{list_any};
 ghost use Rattle.gts_traits.specs.Station.{Says, Tries};
 ghost use Rattle.gts_traits.specs.declared.failed.Failed.{Failed};
-ghost use Rattle.gts_opening.specs.Words.{Call, Files, IsImage, EachSince, Directory, State, Event, Entry, empty, restarted, after_all, Need, need, begun, is_sound, IsOrdered};
+ghost use Rattle.gts_opening.specs.Words.{Call, Files, IsImage, EachSince, Directory, State, Event, Entry, empty, restarted, after_all, Need, need, begun, is_sound, keeps_one, IsOrdered, IsHeld, SameNeed, EachRoutedOnce, EachOwedFew, HasPositions};
 ghost use Rattle.gts_opening.specs.Words.{Record, records_text, open_gate, AreAdmitted, IsClosed, HasRecords, HasCheckpoint, FitsLimit, FitsNeed, selected, opens, files_open, records_at, after_records, gate_after, checkpoint_text, compacted_bytes, due, need_in, unowed, unowed_state};
 ghost use Rattle.gts_opening.specs.Words.{History, IsCaused, Cause, HasDoubt, HasUnsaid, IsReading, front_of, done_by, is_doubt, is_unsaid, event_record, bytes_of_entries, full_compacted, HasRoomFor, Follows, Passes};
 ghost use Rattle.gts_opening.specs.Words.{IsInBounds, HaveRoom, IsJournal, StandsIn, Appends, Compacts, OpensTo, OpensToEither};
@@ -118,4 +118,25 @@ pub fn a_record_follows_its_event()
         → event_record d s event ≡ [] → Passes d s event }
     ensures again { (s : State) → (unowed_state (restarted s) ≡ unowed_state s)
         × (restarted (unowed_state s) ≡ restarted s) × (due (restarted s) ≡ due s) }
+{}
+
+/// What a journal opens to is a sound start, whatever bytes its files have, and so what it begins is held and ordered, has
+/// each bulletin routed once, owes no more than may be owed and has a position for each bulletin: each law over the histories
+/// of a sound start speaks of it. It goes on as the state that was opened again.
+pub fn what_a_journal_opens_to_is_sound()
+    ensures sound { (d : Directory) (files : Files) (n : Need)
+        → IsTrue (keeps_one d) → opens d files ≡ Ok n → IsTrue (is_sound d n) }
+    ensures held { (d : Directory) (files : Files) (n : Need)
+        → IsTrue (keeps_one d) → opens d files ≡ Ok n → IsHeld d (begun n) }
+    ensures ordered { (d : Directory) (files : Files) (n : Need)
+        → IsTrue (keeps_one d) → opens d files ≡ Ok n → IsOrdered d (begun n) }
+    ensures once { (d : Directory) (files : Files) (n : Need)
+        → IsTrue (keeps_one d) → opens d files ≡ Ok n → EachRoutedOnce (begun n) }
+    ensures owed { (d : Directory) (files : Files) (n : Need)
+        → IsTrue (keeps_one d) → opens d files ≡ Ok n → EachOwedFew (begun n) }
+    ensures few { (d : Directory) (files : Files) (n : Need)
+        → IsTrue (keeps_one d) → opens d files ≡ Ok n → HasPositions (begun n) }
+    ensures state { (d : Directory) (files : Files) (s : State) (used : ℕ)
+        → IsTrue (keeps_one d) → files_open d files ≡ Ok (s, used)
+        → let n = need d (restarted s) in SameNeed d (restarted s) (begun n) }
 {}

@@ -8,7 +8,7 @@ pub use laws::{
     a_checkpoint_is_read_as_written, a_compaction_may_be_cut_off, a_history_stays_caused,
     a_history_without_doubt_is_its_reading, a_journal_at_rest_opens, a_record_follows_its_event,
     a_say_leaves_the_journal, a_written_journal_opens, an_append_may_be_cut_off,
-    the_journal_of_a_history_opens,
+    the_journal_of_a_history_opens, what_a_journal_opens_to_is_sound,
 };
 pub use worked::{
     a_bulletin_whose_receipt_was_not_said_is_there, a_checkpoint_has_its_size,

@@ -6,6 +6,7 @@ mod laws;
 mod table;
 mod worked;
 
+pub use groups::{GROUPS, is_segment};
 pub use gts_alphabet::NoMemory;
 pub use laws::{a_whole_set_is_whole_in_one_way, groups_stand_at_their_places};
 pub use table::{SegmentStatus, SegmentTable};

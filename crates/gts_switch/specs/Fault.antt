@@ -1,7 +1,7 @@
 -- What the operator gets of each end (profile).
 use Rattle.std.specs.Prelude.{ℕ, List, ◌++◌, Option, Some, None, codes, decimal}
 use Rattle.gts_app.specs.declared.status.Status.{Status}
-use Rattle.gts_app.specs.declared.status.Status.TheVariants.{Done, Words, Directory, Capture, Exists, DiskFault, SourceFault, SayFault, Full, NoMemory}
+use Rattle.gts_app.specs.declared.status.Status.TheVariants.{Done, Words, Directory, Capture, NoJournal, NotThis, Damaged, Exists, DiskFault, SourceFault, SayFault, Full, NoMemory}
 
 -- the exit status
 abbrev pub exit_of : Status → ℕ
@@ -9,6 +9,9 @@ exit_of Done = 0
 exit_of Words = 2
 exit_of (Directory fault) = 3
 exit_of (Capture at) = 4
+exit_of NoJournal = 5
+exit_of (NotThis want found) = 5
+exit_of (Damaged file at) = 5
 exit_of (Exists size) = 5
 exit_of DiskFault = 6
 exit_of SayFault = 7
@@ -16,12 +19,15 @@ exit_of SourceFault = 8
 exit_of (Full used need limit) = 9
 exit_of NoMemory = 11
 
--- the line; nothing is said here of what a fault of the directory is called
+-- the line; nothing is said here of what a fault of the directory is called, nor of how a mark is written
 abbrev pub line_of : Status → Option (List ℕ)
 line_of Done = Some (codes "done")
 line_of Words = Some (codes "usage: init, replay, serve, show, compact or generate N")
 line_of (Directory fault) = None
 line_of (Capture at) = Some (codes "capture: bad at " ++ decimal at)
+line_of NoJournal = Some (codes "journal: none")
+line_of (NotThis want found) = None
+line_of (Damaged file at) = Some (codes "journal: file " ++ decimal file ++ codes " damaged at " ++ decimal at)
 line_of (Exists size) = Some (codes "journal: exists with " ++ decimal size ++ codes " bytes")
 line_of DiskFault = Some (codes "disk fault")
 line_of SourceFault = Some (codes "input fault")

@@ -4,6 +4,19 @@ ghost use Rattle.gts_switch.specs.Fault.{exit_of, line_of};
 use gts_app::Status;
 use std::fmt;
 
+/// A directory's mark, in lower-case hexadecimal digits.
+#[derive(Clone, Copy, Drop)]
+struct Mark([u8; 32]);
+
+impl fmt::Display for Mark {
+    fn fmt<W: fmt::Write>(&self, f: &mut fmt::Formatter<W>) -> fmt::Result {
+        for byte in self.0 {
+            write!(f, "{byte:02x}")?;
+        }
+        Ok(())
+    }
+}
+
 /// What the operator is told of an end (this project's profile).
 #[derive(Clone, Copy, Drop)]
 pub struct FaultLine(pub Status);
@@ -17,6 +30,11 @@ impl fmt::Display for FaultLine {
             Status::Words => write!(f, "usage: init, replay, serve, show, compact or generate N"),
             Status::Directory(fault) => write!(f, "directory: {fault}"),
             Status::Capture { at } => write!(f, "capture: bad at {at}"),
+            Status::NoJournal => write!(f, "journal: none"),
+            Status::NotThis { want, found } => {
+                write!(f, "journal: of directory {}, want {}", Mark(found), Mark(want))
+            }
+            Status::Damaged { file, at } => write!(f, "journal: file {file} damaged at {at}"),
             Status::Exists { size } => write!(f, "journal: exists with {size} bytes"),
             Status::DiskFault => write!(f, "disk fault"),
             Status::SourceFault => write!(f, "input fault"),
@@ -38,6 +56,9 @@ pub fn exit_status(status: Status) -> u8
         Status::Words => 2,
         Status::Directory(_) => 3,
         Status::Capture { .. } => 4,
+        Status::NoJournal => 5,
+        Status::NotThis { .. } => 5,
+        Status::Damaged { .. } => 5,
         Status::Exists { .. } => 5,
         Status::DiskFault => 6,
         Status::SayFault => 7,

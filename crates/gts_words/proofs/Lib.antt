@@ -1,0 +1,3 @@
+mod GrammarLemmas
+mod AnswerLemmas
+mod CountLemmas

@@ -1,0 +1,38 @@
+ghost use Rattle.gts_words.specs.declared.command.WordsFault.TheVariants as faults;
+ghost use Rattle.std.specs.Prelude.{◌≡◌};
+
+use std::alloc::AllocError;
+
+/// What the switch is asked to do.
+#[derive(Clone, Copy, Debug, PartialEq, Eq)]
+pub enum Command {
+    /// To make an empty journal.
+    Init,
+    /// To work through a capture.
+    Replay,
+    /// To work on the lines of the circuits.
+    Serve,
+    /// To say what the switch stands at.
+    Show,
+    /// To write the journal anew, shorter.
+    Compact,
+    /// To work through so many messages that it makes itself.
+    Generate { count: u32 },
+}
+
+/// Why words are no command.
+#[derive(Clone, Copy, Debug, PartialEq, Eq)]
+pub enum WordsFault {
+    /// They are none of the lists that are defined.
+    Words,
+    /// There was no memory to read them.
+    NoMemory,
+}
+
+impl From<AllocError> for WordsFault {
+    ghost from_gives = { λ _ e. e ≡ faults.NoMemory };
+
+    fn from(_: AllocError) -> WordsFault {
+        WordsFault::NoMemory
+    }
+}

@@ -1,0 +1,134 @@
+ghost use Rattle.std.specs.Prelude.{◌≡◌, IfOk, false, codes};
+ghost use Rattle.clap.specs.Words.{app_of, kind_of, found_of, first_value};
+ghost use Rattle.gts_words.specs.Commands as commands;
+ghost use Rattle.gts_words.specs.Grammar.{grammar};
+
+use crate::count::count_in;
+use crate::{Command, WordsFault};
+use clap::error::ErrorKind;
+use clap::{Arg, ArgMatches};
+use gts_traits::WordList;
+use std::alloc::{AllocError, Global};
+
+/// The word in front of those that are read: the program's name.
+const PROGRAM: &str = "gts_switch";
+
+/// The most words of a command.
+const MOST_WORDS: u64 = 2;
+
+/// A command line has the name of a command, and a count behind it or none.
+fn grammar<'a>(alloc: Global) -> Result<clap::Command<'a>, AllocError>
+    ensures { IfOk result (λ line. app_of line ≡ grammar) }
+{
+    let name = Arg::new(alloc, "name").required(true);
+    let count = Arg::new(alloc, "count");
+    clap::Command::new(alloc, PROGRAM).arg(name)?.arg(count)
+}
+
+/// Why a command line was refused.
+fn fault_of(error: &clap::Error) -> WordsFault
+    ensures { kind_of error.now ≡ ErrorKind.OutOfMemory → result ≡ WordsFault.NoMemory }
+{
+    match error.kind() {
+        ErrorKind::OutOfMemory => WordsFault::NoMemory,
+        _ => WordsFault::Words,
+    }
+}
+
+/// Whether a word begins with a hyphen, as an option does.
+fn is_option(word: &str) -> bool
+    ensures { result ≡ commands.is_option word.now }
+{
+    word.as_bytes().first() == Some(&b'-')
+}
+
+/// The command that is one word.
+fn alone(name: &str) -> Option<Command>
+    ensures { result ≡ commands.alone name.now }
+{
+    if name == "init" {
+        Some(Command::Init)
+    } else if name == "replay" {
+        Some(Command::Replay)
+    } else if name == "serve" {
+        Some(Command::Serve)
+    } else if name == "show" {
+        Some(Command::Show)
+    } else if name == "compact" {
+        Some(Command::Compact)
+    } else {
+        None
+    }
+}
+
+/// The command that a word and a count are.
+fn counted(name: &str, count: &str) -> Option<Command>
+    ensures { result ≡ commands.counted name.now count.now }
+{
+    if name != "generate" {
+        return None;
+    }
+    let count = count_in(count)?;
+    Some(Command::Generate { count })
+}
+
+/// The command that the parts of a command line are.
+fn command_in(matches: &ArgMatches<'_>) -> Result<Command, WordsFault>
+    ensures { result ≡ commands.command_in (first_value (found_of matches.now) (codes "name"))
+        (first_value (found_of matches.now) (codes "count")) }
+{
+    let Some(name) = matches.get_str("name") else {
+        return Err(WordsFault::Words);
+    };
+    let command = match matches.get_str("count") {
+        None => alone(name),
+        Some(count) => counted(name, count),
+    };
+    command.ok_or(WordsFault::Words)
+}
+
+/// Reads a command line of one word.
+fn read_one(alloc: Global, name: &str) -> Result<Command, WordsFault>
+    requires { commands.is_option name.now ≡ false }
+    ensures { commands.Answers result (commands.alone name.now) }
+{
+    let words = [PROGRAM, name];
+    let line = grammar(alloc)?;
+    match line.try_get_matches_from(words.as_slice()) {
+        Ok(matches) => command_in(&matches),
+        Err(error) => Err(fault_of(&error)),
+    }
+}
+
+/// Reads a command line of two words.
+fn read_two(alloc: Global, name: &str, count: &str) -> Result<Command, WordsFault>
+    requires name { commands.is_option name.now ≡ false }
+    requires count { commands.is_option count.now ≡ false }
+    ensures { commands.Answers result (commands.counted name.now count.now) }
+{
+    let words = [PROGRAM, name, count];
+    let line = grammar(alloc)?;
+    match line.try_get_matches_from(words.as_slice()) {
+        Ok(matches) => command_in(&matches),
+        Err(error) => Err(fault_of(&error)),
+    }
+}
+
+/// The command that the words after the program's name are. A word that begins with a hyphen is none of any command's, and is
+/// not handed to the reader of command lines. `Words` exactly where the list is none of those that are defined; `NoMemory`
+/// may come for any list.
+pub fn read_words(alloc: Global, words: &WordList) -> Result<Command, WordsFault>
+    ensures { commands.Answers result (commands.command_of words.now) }
+{
+    let Some(name) = words.get(0) else {
+        return Err(WordsFault::Words);
+    };
+    if words.len() > MOST_WORDS || is_option(name) {
+        return Err(WordsFault::Words);
+    }
+    match words.get(1) {
+        None => read_one(alloc, name),
+        Some(count) if is_option(count) => Err(WordsFault::Words),
+        Some(count) => read_two(alloc, name, count),
+    }
+}
