@@ -6,9 +6,10 @@ ghost use Rattle.gts_memory.specs.Past.{calls_of};
 ghost use Rattle.gts_generate.specs.Summary as summaries;
 ghost use Rattle.gts_generate.specs.Summary.{line, lines_from};
 
-use crate::said::{Said, said_on_circuits};
+use crate::said::said_on_circuits;
 use gts_event::{CircuitNeed, Need};
 use gts_memory::MemStation;
+use gts_report::ReportText;
 use gts_traits::NoMemory;
 use itoa::Buffer;
 use std::alloc::Global;
@@ -17,14 +18,14 @@ use std::alloc::Global;
 const DIGITS: usize = 64;
 
 /// Writes a line with a name and a number.
-fn add_line(text: &mut Vec<u8>, name: &[u8], number: u128) -> Result<(), NoMemory>
-    ensures { OnOk result (text.new.items ≡ text.old.items ++ line name.now number) }
+fn add_line(alloc: Global, text: &mut ReportText, name: &[u8], number: u128) -> Result<(), NoMemory>
+    ensures { OnOk result (text.new ≡ text.old ++ line name.now number) }
 {
     let mut digits = Buffer::new();
-    text.extend_from_slice(name)?;
-    text.push(b' ')?;
-    text.extend_from_slice(digits.format(number).as_bytes())?;
-    text.push(b'\n')?;
+    text.add(alloc, name)?;
+    text.add(alloc, b" ")?;
+    text.add(alloc, digits.format(number).as_bytes())?;
+    text.add(alloc, b"\n")?;
     Ok(())
 }
 
@@ -64,26 +65,36 @@ fn draws_of(circuits: &[CircuitNeed]) -> u128
 }
 
 /// Writes the digest of what was said on the circuits, and the end.
-fn add_end(text: &mut Vec<u8>, digest: [u8; 32]) -> Result<(), NoMemory>
-    ensures { OnOk result (text.new.items ≡ text.old.items ++ codes "digest "
+fn add_end(alloc: Global, text: &mut ReportText, digest: [u8; 32]) -> Result<(), NoMemory>
+    ensures { OnOk result (text.new ≡ text.old ++ codes "digest "
         ++ encode_lower digest ++ codes "\nend\n") }
 {
     let mut digits = [0; DIGITS];
     let _ = hex::encode_to_slice(digest, &mut digits);
-    text.extend_from_slice(b"digest ")?;
-    text.extend_from_slice(&digits)?;
-    text.extend_from_slice(b"\nend\n")?;
+    text.add(alloc, b"digest ")?;
+    text.add(alloc, &digits)?;
+    text.add(alloc, b"\nend\n")?;
     Ok(())
 }
 
 /// Writes the lines of the receipts: how many duplicates and how many requests there were.
-fn add_receipts(text: &mut Vec<u8>, receipts: &[u8]) -> Result<(), NoMemory>
-    ensures { OnOk result (text.new.items ≡ text.old.items
+fn add_receipts(alloc: Global, text: &mut ReportText, receipts: &[u8]) -> Result<(), NoMemory>
+    ensures { OnOk result (text.new ≡ text.old
         ++ line (codes "duplicates") (lines_from true (codes "DUP") receipts.now)
         ++ line (codes "requests") (lines_from true (codes "ASK") receipts.now)) }
 {
-    add_line(text, b"duplicates", u128::from(lines_of(b"DUP", receipts)))?;
-    add_line(text, b"requests", u128::from(lines_of(b"ASK", receipts)))
+    add_line(
+        alloc,
+        text,
+        b"duplicates",
+        u128::from(lines_of(b"DUP", receipts)),
+    )?;
+    add_line(
+        alloc,
+        text,
+        b"requests",
+        u128::from(lines_of(b"ASK", receipts)),
+    )
 }
 
 /// Writes the summary of a day behind a text: how many messages came; of what the station said, how many duplicates,
@@ -96,20 +107,20 @@ pub fn summary(
     station: &MemStation,
     need: &Need,
     used: u64,
-    text: &mut Vec<u8>,
+    text: &mut ReportText,
 ) -> Result<(), NoMemory>
-    ensures { OnOk result (text.new.items ≡ text.old.items ++ summaries.summary_text count
+    ensures { OnOk result (text.new ≡ text.old ++ summaries.summary_text count
         (said_by (calls_of station.now.past)) need.now used) }
 {
     let said = said_on_circuits(station)?;
     let draws = draws_of(need.circuits.as_slice());
-    add_line(text, b"messages", u128::from(count))?;
-    add_line(text, b"accepted", u128::from(need.accepted))?;
-    add_receipts(text, station.said(0))?;
-    add_line(text, b"draws", draws)?;
-    add_line(text, b"resends", said.frames.saturating_sub(draws))?;
-    add_line(text, b"bytes", said.bytes)?;
-    add_line(text, b"journal", u128::from(used))?;
-    add_end(text, said.digest)?;
+    add_line(alloc, text, b"messages", u128::from(count))?;
+    add_line(alloc, text, b"accepted", u128::from(need.accepted))?;
+    add_receipts(alloc, text, station.said(0))?;
+    add_line(alloc, text, b"draws", draws)?;
+    add_line(alloc, text, b"resends", said.frames.saturating_sub(draws))?;
+    add_line(alloc, text, b"bytes", said.bytes)?;
+    add_line(alloc, text, b"journal", u128::from(used))?;
+    add_end(alloc, text, said.digest)?;
     Ok(())
 }

@@ -1,9 +1,13 @@
+ghost use Rattle.std.specs.Prelude.{◌≡◌, IsSome};
+
 use super::*;
+use gts_capture::{Head, Steps};
 use gts_engine::Engine;
 use gts_event::Need;
 use gts_journal::Journal;
 use gts_memory::MemStation;
 use gts_replay::{ReplayEnd, replay};
+use gts_report::ReportText;
 use gts_traits::Source;
 use sha2::{Digest, Sha256};
 use std::alloc::Global;
@@ -54,9 +58,9 @@ fn a_day_of_200_messages_ends_as_a_plain_program_has_it(rt: HostRuntime) -> Resu
     let day = run_day(alloc, 200)?;
     assert!(rt; day.is_some());
     if let Some((station, need, used)) = day {
-        let mut text = Vec::new(alloc);
+        let mut text = ReportText::new();
         summary(alloc, 200, &station, &need, used, &mut text)?;
-        assert_eq!(rt; text.as_slice(), SUMMARY_OF_200.as_bytes());
+        assert_eq!(rt; text.bytes(), SUMMARY_OF_200.as_bytes());
     }
     Ok(())
 }
@@ -71,5 +75,57 @@ fn the_capture_of_200_messages_is_that_of_a_plain_program(rt: HostRuntime) -> Re
         hasher.update(&into[..count]);
     }
     assert_eq!(rt; hasher.finalize(), CAPTURE_OF_200);
+    Ok(())
+}
+
+/// The next head of a capture, with the bytes of its feed passed over. None where none was read.
+fn next_head(steps: &mut Steps, capture: &mut Generated) -> Option<Head>
+    requires { steps.old.feed ≡ 0 }
+    ensures { IsSome result → steps.new.feed ≡ 0 }
+{
+    let Ok(head) = steps.next(capture) else {
+        return None;
+    };
+    let mut into = [0; 64];
+    for _ in 0..64 {
+        let Ok(count) = steps.bytes(capture, &mut into) else {
+            return None;
+        };
+        if count == 0 {
+            return Some(head);
+        }
+    }
+    None
+}
+
+/// The heads of a capture, up to the thousandth.
+fn heads_of(alloc: Global, capture: &mut Generated) -> Result<Vec<Head>, Fail> {
+    let mut steps = Steps::new(CIRCUITS);
+    let mut heads = Vec::new(alloc);
+    'heads: for _ in 0..1000 {
+        let Some(head) = next_head(&mut steps, capture) else {
+            break;
+        };
+        heads.push(head)?;
+        if head == Head::End {
+            break;
+        }
+    }
+    Ok(heads)
+}
+
+#[test]
+fn a_day_of_200_messages_has_a_feed_and_a_take_for_each(rt: HostRuntime) -> Result<(), Fail> {
+    let mut capture = Generated::new(200);
+    let heads = heads_of(rt.alloc(), &mut capture)?;
+    let mut feeds = 0;
+    for head in &heads {
+        if matches!(head, Head::Feed { .. }) {
+            feeds += 1;
+        }
+    }
+    assert_eq!(rt; heads.len(), 200 + 200 + 8 + 1);
+    assert_eq!(rt; feeds, 200);
+    assert_eq!(rt; heads.as_slice().last(), Some(&Head::End));
     Ok(())
 }

@@ -17,15 +17,15 @@ returns c =
     let resends_are : c.saturating_sub.result ≡ frames_in (frames_said outside) - draws_of c.args.need.now =
     c.saturating_sub.ensures ∙ ap (λ (n : ℕ). n - draws) c.in_ok-said.ensures.frames
     ∙ ap (λ (n : ℕ). frames_in (frames_said outside) - n) draws_are in
-    let t₀ : List ℕ = c.args.text.now.items in
-    let t₁ : List ℕ = c.add_line.new.text.items in
-    let t₂ : List ℕ = c.add_line-2.new.text.items in
-    let t₃ : List ℕ = c.add_receipts.new.text.items in
-    let t₄ : List ℕ = c.add_line-3.new.text.items in
-    let t₅ : List ℕ = c.add_line-4.new.text.items in
-    let t₆ : List ℕ = c.add_line-5.new.text.items in
-    let t₇ : List ℕ = c.add_line-6.new.text.items in
-    let t₈ : List ℕ = c.add_end.new.text.items in
+    let t₀ : List ℕ = c.args.text.now in
+    let t₁ : List ℕ = c.add_line.new.text in
+    let t₂ : List ℕ = c.add_line-2.new.text in
+    let t₃ : List ℕ = c.add_receipts.new.text in
+    let t₄ : List ℕ = c.add_line-3.new.text in
+    let t₅ : List ℕ = c.add_line-4.new.text in
+    let t₆ : List ℕ = c.add_line-5.new.text in
+    let t₇ : List ℕ = c.add_line-6.new.text in
+    let t₈ : List ℕ = c.add_end.new.text in
     all-lines t₀ t₁ t₂ t₃ t₄ t₅ t₆ t₇ t₈
     (line (codes "messages") c.args.count) (line (codes "accepted") c.args.need.now.accepted)
     (line (codes "duplicates") (receipts_of (codes "DUP") outside)) (line (codes "requests") (receipts_of (codes "ASK") outside))
