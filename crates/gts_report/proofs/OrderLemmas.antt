@@ -41,7 +41,6 @@ sorted_with (e ∷ es) k v sorted = go (bytes_below k e.0) refl (sorted_with es 
   where
     go : (o : Ordering) → bytes_below k e.0 ≡ o → IsStrictlySortedBy bytes_below (texts_of (insert_entry bytes_below es k v))
         → IsStrictlySortedBy bytes_below (texts_of (match_ordering o ((k, v) ∷ e ∷ es) ((e.0, v) ∷ es) (e ∷ insert_entry bytes_below es k v)))
-    unfolding IsStrictlySortedBy
     go Less is rest = ((is, all_below k e.0 (texts_of es) is sorted.0), sorted)
     go Equal is rest = sorted
     go Greater is rest =
