@@ -1,0 +1,65 @@
+-- The rows of the directory, one behind another, and the directory that they are.
+use Rattle.std.proofs.Common.{◌≡◌, ℕ, ◌+◌, List, [], ◌∷◌, ◌++◌, map, refl, sym, ◌∙◌, ap, subst, append_assoc, arith}
+use Rattle.std.specs.Prelude.{◌^◌, Result, Ok, Err, codes, replicate}
+use Rattle.std.specs.List.{range_with_len}
+use Rattle.std.proofs.lemmas.List.FromFn.{map-range_with_len_more}
+use Rattle.gts_alphabet.specs.Digits.{dec}
+use Rattle.gts_directory.specs.declared.rows.CircuitRow.{CircuitRow}
+use Rattle.gts_directory.specs.declared.rows.RuleRow.{RuleRow}
+use Rattle.gts_directory.specs.declared.fault.DirFault.{DirFault}
+use Rattle.gts_directory.specs.Directory.{Directory}
+use Rattle.gts_directory.specs.Rows.{Rows, no_rows}
+use Rattle.gts_directory.specs.Faults.{checked}
+use Rattle.gts_generate.specs.Centre.{circuit_row, rule_row, level_rows, rows, directory}
+
+-- one row of many behind others
+row-more : {A : Type 0} (f : ℕ → A) (front : List A) (j : ℕ) (row : A) → row ≡ f j
+    → (front ++ map f (range_with_len 0 j)) ++ row ∷ [] ≡ front ++ map f (range_with_len 0 (j + 1))
+row-more f front j row is =
+    ap (λ (r : _). (front ++ map f (range_with_len 0 j)) ++ r ∷ []) is
+    ∙ append_assoc front (map f (range_with_len 0 j)) (f j ∷ [])
+    ∙ ap (λ (l : List _). front ++ l) (sym (map-range_with_len_more f 0 j j (omega arith)))
+
+pub circuit-added : (first old new : Rows) (j : ℕ) (row : CircuitRow)
+    → old ≡ record first { circuits = first.circuits ++ map circuit_row (range_with_len 0 j) } → row ≡ circuit_row j
+    → new ≡ record old { circuits = old.circuits ++ row ∷ [] }
+    → new ≡ record first { circuits = first.circuits ++ map circuit_row (range_with_len 0 (j + 1)) }
+circuit-added first old new j row before is done =
+    done ∙ ap (λ (r : Rows). record r { circuits = r.circuits ++ row ∷ [] }) before
+    ∙ ap (λ (l : List CircuitRow). record first { circuits = l }) (row-more circuit_row first.circuits j row is)
+
+pub rule-added : (first old new : Rows) (j : ℕ) (row : RuleRow)
+    → old ≡ record first { rules = first.rules ++ map rule_row (range_with_len 0 j) } → row ≡ rule_row j
+    → new ≡ record old { rules = old.rules ++ row ∷ [] }
+    → new ≡ record first { rules = first.rules ++ map rule_row (range_with_len 0 (j + 1)) }
+rule-added first old new j row before is done =
+    done ∙ ap (λ (r : Rows). record r { rules = r.rules ++ row ∷ [] }) before
+    ∙ ap (λ (l : List RuleRow). record first { rules = l }) (row-more rule_row first.rules j row is)
+
+-- the rows are accepted, and are the directory
+pub rows-are : checked rows ≡ Ok directory
+unfolding dec
+rows-are = refl
+
+-- the rows, as they are put together
+pub rows-made : (r₀ r₁ r₂ r₃ : Rows) → r₀ ≡ no_rows (codes "TVSV") 1000 (2 ^ 30) (replicate 32 0)
+    → r₁ ≡ record r₀ { circuits = r₀.circuits ++ map circuit_row (range_with_len 0 8) }
+    → r₂ ≡ record r₁ { rules = r₁.rules ++ map rule_row (range_with_len 0 60) }
+    → r₃ ≡ record r₂ { levels = r₂.levels ++ level_rows } → r₃ ≡ rows
+rows-made r₀ r₁ r₂ r₃ empty circuits rules levels =
+    levels ∙ ap (λ (r : Rows). record r { levels = r.levels ++ level_rows })
+    (rules ∙ ap (λ (r : Rows). record r { rules = r.rules ++ map rule_row (range_with_len 0 60) })
+    (circuits ∙ ap (λ (r : Rows). record r { circuits = r.circuits ++ map circuit_row (range_with_len 0 8) }) empty))
+
+-- what is read of these rows
+pub directory-read : (r : Rows) (d : Directory) → r ≡ rows → checked r ≡ Ok d → d ≡ directory
+directory-read r d is read =
+    ap (λ (answer : Result Directory DirFault). elim answer [ Ok found ↦ found | Err _ ↦ directory ])
+    (sym read ∙ ap checked is ∙ rows-are)
+
+abbrev no-directory : Result Directory DirFault → Type 0
+no-directory (Ok _) = ⊥
+no-directory (Err _) = Unit {0}
+
+pub no-fault : (r : Rows) (fault : DirFault) → r ≡ rows → checked r ≡ Err fault → ⊥
+no-fault r fault is read = subst no-directory (sym read ∙ ap checked is ∙ rows-are) tt

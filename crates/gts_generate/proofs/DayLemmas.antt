@@ -1,0 +1,87 @@
+-- Pieces of a capture, one behind another.
+use Rattle.std.proofs.Common.{◌≡◌, ℕ, suc, zero, ◌+◌, ◌-◌, ◌*◌, ◌<◌, ◌≤◌, List, [], ◌∷◌, ◌++◌, length, take, drop, min, map, refl, sym, ◌∙◌, ap, append_assoc, arith}
+use Rattle.std.proofs.lemmas.List.{append-nil, take-append-drop, take_at, length-append, length-take, length-drop}
+use Rattle.std.proofs.lemmas.List.FromFn.{map-range_with_len_more}
+use Rattle.std.proofs.lemmas.Grind.{flat_map-append}
+use Rattle.std.specs.Prelude.{codes, flat_map}
+use Rattle.std.specs.List.{range_with_len}
+use Rattle.gts_alphabet.specs.Digits.{dec}
+use Rattle.gts_connection.specs.Capture.{Step, Drain, EndHead, step_text, head_text}
+use Rattle.gts_generate.specs.Day.{steps_of, steps, capture, capture_from, turn, drains, ending}
+use Rattle.gts_generate.specs.DayView.{pieces_from, pieces_left}
+
+-- one more circuit is drained
+pub drains-more : (c : ℕ) → flat_map step_text (map Drain (range_with_len 0 (c + 1)))
+    ≡ flat_map step_text (map Drain (range_with_len 0 c)) ++ (codes "D " ++ dec 2 c ++ codes "\n")
+drains-more c =
+    let front = flat_map step_text (map Drain (range_with_len 0 c)) in
+    ap (λ (s : List Step). flat_map step_text s) (map-range_with_len_more Drain 0 c c (omega arith))
+    ∙ flat_map-append step_text (map Drain (range_with_len 0 c)) (Drain c ∷ [])
+    ∙ ap (λ (l : List ℕ). front ++ l) (append-nil (step_text (Drain c)) ∙ append-nil (codes "D " ++ dec 2 c ++ codes "\n"))
+
+-- five bytes for each
+drained-size : (a c : ℕ) → length (flat_map step_text (map Drain (range_with_len a c))) ≡ 5 * c
+unfolding dec
+drained-size a zero = refl
+drained-size a (suc c) = omega (arith, drained-size (a + 1) c)
+
+pub drained : (bytes : List ℕ) (c : ℕ) → bytes ≡ flat_map step_text (map Drain (range_with_len 0 c)) → length bytes ≡ 5 * c
+drained bytes c here = ap length here ∙ drained-size 0 c
+
+-- the steps of messages are those of each, one after another
+turns : (numbers : List ℕ) → flat_map step_text (flat_map steps_of numbers) ≡ flat_map turn numbers
+turns [] = refl
+turns (i ∷ numbers) =
+    flat_map-append step_text (steps_of i) (flat_map steps_of numbers) ∙ ap (λ (l : List ℕ). turn i ++ l) (turns numbers)
+
+-- a capture is its pieces from the first message on
+pub capture-pieces : (count : ℕ) → capture count ≡ capture_from 0 count
+capture-pieces count =
+    let front = flat_map steps_of (range_with_len 0 count) in
+    ap (λ (l : List ℕ). l ++ head_text EndHead)
+    (flat_map-append step_text front drains ∙ ap (λ (l : List ℕ). l ++ flat_map step_text drains) (turns (range_with_len 0 count)))
+    ∙ append_assoc (flat_map turn (range_with_len 0 count)) (flat_map step_text drains) (head_text EndHead)
+
+-- before the first piece
+pub pieces-all : (count : ℕ) → pieces_left 0 count ≡ capture count
+pieces-all count =
+    let more : count + 1 - 0 ≡ suc count = omega arith in
+    ap (λ (n : ℕ). pieces_from 0 n) more ∙ sym (capture-pieces count)
+
+-- the piece of a message, and what comes behind it
+pub pieces-more : (next count : ℕ) → next < count → pieces_left next count ≡ turn next ++ pieces_left (next + 1) count
+pieces-more next count here =
+    let more : ℕ = count - (next + 1) in
+    let now : count + 1 - next ≡ suc (suc more) = omega (arith, here) in
+    let later : count + 1 - (next + 1) ≡ suc more = omega (arith, here) in
+    ap (λ (n : ℕ). pieces_from next n) now
+    ∙ append_assoc (turn next) (flat_map turn (range_with_len (next + 1) more)) ending
+    ∙ ap (λ (n : ℕ). turn next ++ pieces_from (next + 1) n) (sym later)
+
+-- the last piece
+pub pieces-last : (next count : ℕ) → next ≡ count → pieces_left next count ≡ ending ++ pieces_left (next + 1) count
+pieces-last next count here =
+    let now : count + 1 - next ≡ suc zero = omega (arith, here) in
+    let later : count + 1 - (next + 1) ≡ zero = omega (arith, here) in
+    ap (λ (n : ℕ). pieces_from next n) now
+    ∙ sym (append-nil ending)
+    ∙ ap (λ (n : ℕ). ending ++ pieces_from (next + 1) n) (sym later)
+
+-- behind it
+pub pieces-none : (next count : ℕ) → count < next → pieces_left next count ≡ []
+pieces-none next count here =
+    let now : count + 1 - next ≡ zero = omega (arith, here) in
+    ap (λ (n : ℕ). pieces_from next n) now
+
+-- a buffer after as many bytes as it has room for were copied to its front
+pub reads_on : (left rest into : List ℕ) (count : ℕ) → count ≡ min (length left) (length into) → (length left ≡ 0 → left ++ rest ≡ [])
+    → (left ++ rest ≡ take count (take count left ++ drop count into) ++ (drop count left ++ rest))
+    × (count ≡ 0 → 0 < length (take count left ++ drop count into) → left ++ rest ≡ [])
+reads_on left rest into count is_least ready =
+    let whole : length (take count left) ≡ count = omega (arith, length-take count left) in
+    let front : take count (take count left ++ drop count into) ≡ take count left = take_at (take count left) (drop count into) count whole in (
+      rw front (ap (λ (l : List ℕ). l ++ rest) (sym (take-append-drop count left)) ∙ append_assoc (take count left) (drop count left) rest),
+      λ none room.
+          let room_before : 0 < length into = omega (arith, length-append (take count left) (drop count into), length-drop count into) in
+          ready (omega arith),
+    )

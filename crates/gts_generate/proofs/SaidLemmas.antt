@@ -1,0 +1,113 @@
+-- What was said on the circuits, out of the sayings of a station.
+use Rattle.std.proofs.Common.{◌≡◌, ℕ, suc, zero, ◌+◌, ◌<◌, ◌≤◌, Bool, true, false, List, [], ◌∷◌, ◌++◌, length, take, get_or, map, refl, sym, ◌∙◌, ap, append_assoc, arith}
+use Rattle.std.specs.Prelude.{filter, flat_map, if◌then◌else◌, ◌&&◌, nat_le, nat_lt, slice_get, Some}
+use Rattle.std.proofs.Math.Bool.{and-false}
+use Rattle.std.proofs.lemmas.Bool.{ltb-false, lt-leb}
+use Rattle.std.proofs.lemmas.List.{append-nil, map-append, take_more, take_all}
+use Rattle.std.proofs.lemmas.List.Elements.{filter-append}
+use Rattle.std.proofs.lemmas.Grind.{flat_map-append}
+use Rattle.std.proofs.lemmas.Option.{slice_get_within, get_or_from_slice_get}
+use Rattle.gts_alphabet.specs.declared.limits.TheConstants.{CHANNELS}
+use Rattle.gts_traits.specs.Station.{Doing, Writes, Cuts, Syncs, Says, Call, Did, Broken, Outside, on, said_by}
+use Rattle.gts_memory.specs.Past.{Noted, calls_of, kept_call, fits, unchanged, saying_of, sayings}
+use Rattle.gts_generate.specs.Summary.{is_circuit, frames_said}
+
+-- what of a saying was said on a circuit
+abbrev pub on_circuit : ℕ × List ℕ → List ℕ
+on_circuit said = if is_circuit said.0 then said.1 else []
+
+abbrev pub on_circuits : List (ℕ × List ℕ) → List ℕ
+on_circuits sayings = flat_map on_circuit sayings
+
+frames-append : (xs ys : Outside) → frames_said (xs ++ ys) ≡ frames_said xs ++ frames_said ys
+frames-append xs ys =
+    let kept = λ (byte : ℕ × ℕ). is_circuit byte.0 in
+    ap (λ (o : Outside). map (λ byte. byte.1) o) (filter-append kept xs ys)
+    ∙ map-append (λ (byte : ℕ × ℕ). byte.1) (filter kept xs) (filter kept ys)
+
+-- bytes on the channel of a circuit, and on another one
+frames-there : (channel : ℕ) (bytes : List ℕ) → is_circuit channel ≡ true → frames_said (on channel bytes) ≡ bytes
+frames-there channel [] here = refl
+frames-there channel (byte ∷ bytes) here = rw here (ap (λ (l : List ℕ). byte ∷ l) (frames-there channel bytes here))
+
+frames-elsewhere : (channel : ℕ) (bytes : List ℕ) → is_circuit channel ≡ false → frames_said (on channel bytes) ≡ []
+frames-elsewhere channel [] here = refl
+frames-elsewhere channel (byte ∷ bytes) here = rw here (frames-elsewhere channel bytes here)
+
+frames-where : (there : Bool) (channel : ℕ) (bytes : List ℕ) → is_circuit channel ≡ there
+    → frames_said (on channel bytes) ≡ (if there then bytes else [])
+frames-where true channel bytes here = frames-there channel bytes here
+frames-where false channel bytes here = frames-elsewhere channel bytes here
+
+frames-on : (channel : ℕ) (bytes : List ℕ) → frames_said (on channel bytes) ≡ on_circuit (channel, bytes)
+frames-on channel bytes = frames-where (is_circuit channel) channel bytes refl
+
+-- no channel behind the last one is a circuit's
+no-circuit : (channel : ℕ) → nat_lt channel CHANNELS ≡ false → is_circuit channel ≡ false
+no-circuit channel past =
+    let high : CHANNELS ≤ channel = ltb-false channel CHANNELS past in
+    ap (λ (b : Bool). nat_le 1 channel && b) (lt-leb channel 8 (omega (arith, high))) ∙ and-false (nat_le 1 channel)
+
+-- a call that says nothing
+after-write : (fit : Bool) (file at : ℕ) (bytes left : List ℕ) (calls : List Call)
+    → frames_said (said_by ((if fit then Did (Writes file at bytes) else Broken (Writes file at bytes) left) ∷ calls))
+    ≡ frames_said (said_by calls) ++ []
+after-write true file at bytes left calls = sym (append-nil (frames_said (said_by calls)))
+after-write false file at bytes left calls = sym (append-nil (frames_said (said_by calls)))
+
+after-cut : (fit : Bool) (file size : ℕ) (left : List ℕ) (calls : List Call)
+    → frames_said (said_by ((if fit then Did (Cuts file size) else Broken (Cuts file size) left) ∷ calls))
+    ≡ frames_said (said_by calls) ++ []
+after-cut true file size left calls = sym (append-nil (frames_said (said_by calls)))
+after-cut false file size left calls = sym (append-nil (frames_said (said_by calls)))
+
+-- a say that broke says nothing
+after-nothing : (channel : ℕ) (calls : List Call) → frames_said (said_by calls ++ on channel []) ≡ frames_said (said_by calls) ++ []
+after-nothing channel calls =
+    ap frames_said (append-nil (said_by calls)) ∙ sym (append-nil (frames_said (said_by calls)))
+
+after-say : (fit : Bool) (channel : ℕ) (bytes : List ℕ) (calls : List Call) → nat_lt channel CHANNELS ≡ fit
+    → frames_said (said_by ((if fit then Did (Says channel bytes) else Broken (Says channel bytes) []) ∷ calls))
+    ≡ frames_said (said_by calls) ++ on_circuits ((channel, bytes) ∷ [])
+after-say true channel bytes calls here =
+    frames-append (said_by calls) (on channel bytes)
+    ∙ ap (λ (l : List ℕ). frames_said (said_by calls) ++ l) (frames-on channel bytes ∙ sym (append-nil (on_circuit (channel, bytes))))
+after-say false channel bytes calls here =
+    let none : on_circuit (channel, bytes) ≡ [] = ap (λ (b : Bool). if b then bytes else []) (no-circuit channel here) in
+    after-nothing channel calls
+    ∙ ap (λ (l : List ℕ). frames_said (said_by calls) ++ l) (sym (append-nil (on_circuit (channel, bytes)) ∙ none))
+
+-- one call more
+call-more : (done : Bool) (doing : Doing) (calls : List Call)
+    → frames_said (said_by (kept_call done doing calls ∷ calls)) ≡ frames_said (said_by calls) ++ on_circuits (saying_of done doing)
+call-more true (Writes file at bytes) calls =
+    after-write (fits (Writes file at bytes) calls) file at bytes (unchanged (Writes file at bytes) calls) calls
+call-more true (Cuts file size) calls = after-cut (fits (Cuts file size) calls) file size (unchanged (Cuts file size) calls) calls
+call-more true Syncs calls = sym (append-nil (frames_said (said_by calls)))
+call-more true (Says channel bytes) calls = after-say (nat_lt channel CHANNELS) channel bytes calls refl
+call-more false (Writes file at bytes) calls = sym (append-nil (frames_said (said_by calls)))
+call-more false (Cuts file size) calls = sym (append-nil (frames_said (said_by calls)))
+call-more false Syncs calls = sym (append-nil (frames_said (said_by calls)))
+call-more false (Says channel bytes) calls = after-nothing channel calls
+
+-- the bytes of all sayings are what was said
+pub circuits-said : (past : List Noted) → frames_said (said_by (calls_of past)) ≡ on_circuits (sayings past)
+circuits-said [] = refl
+circuits-said (noted ∷ past) =
+    call-more noted.done noted.doing (calls_of past)
+    ∙ ap (λ (l : List ℕ). l ++ on_circuits (saying_of noted.done noted.doing)) (circuits-said past)
+    ∙ sym (flat_map-append on_circuit (sayings past) (saying_of noted.done noted.doing))
+
+-- one saying more
+pub sayings-more : (said : List (ℕ × List ℕ)) (k channel : ℕ) (bytes : List ℕ) → slice_get said k ≡ Some (channel, bytes)
+    → on_circuits (take (k + 1) said) ≡ on_circuits (take k said) ++ on_circuit (channel, bytes)
+sayings-more said k channel bytes here =
+    let inside : k < length said = slice_get_within said k (channel, bytes) here in
+    let one : get_or said k (channel, bytes) ≡ (channel, bytes) = get_or_from_slice_get said k (channel, bytes) (channel, bytes) here in
+    ap on_circuits (take_more said k (channel, bytes) inside ∙ ap (λ (s : ℕ × List ℕ). take k said ++ s ∷ []) one)
+    ∙ flat_map-append on_circuit (take k said) ((channel, bytes) ∷ [])
+    ∙ ap (λ (l : List ℕ). on_circuits (take k said) ++ l) (append-nil (on_circuit (channel, bytes)))
+
+-- all sayings
+pub sayings-all : (past : List Noted) (k : ℕ) → length (sayings past) ≤ k → on_circuits (take k (sayings past)) ≡ frames_said (said_by (calls_of past))
+sayings-all past k all = ap on_circuits (take_all k (sayings past) all) ∙ sym (circuits-said past)

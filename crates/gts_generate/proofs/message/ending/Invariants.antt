@@ -1,0 +1,11 @@
+use Rattle.std.proofs.Common.{◌≡◌, ◌*◌, length, map}
+use Rattle.std.specs.Prelude.{flat_map}
+use Rattle.std.specs.List.{range_with_len}
+use Rattle.gts_connection.specs.Capture.{step_text, Drain}
+use Rattle.gts_generate.proofs.message.ending.Given as goal
+
+abbrev pub invariant-loop-c : goal.invariant-loop-c
+invariant-loop-c l = record {
+  text : l.piece ≡ flat_map step_text (map Drain (range_with_len 0 l.c));
+  size : length l.piece ≡ 5 * l.c;
+}

@@ -1,0 +1,5 @@
+pub mod Day
+pub mod DayView
+pub mod Centre
+pub mod Summary
+pub mod Worked

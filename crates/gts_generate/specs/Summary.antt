@@ -1,0 +1,53 @@
+-- The summary of a day: what was said of it, and what the switch stands at behind it (profile).
+use Rattle.std.specs.Prelude.{ℕ, ◌+◌, ◌-◌, Bool, true, false, ◌&&◌, ◌==◌, nat_eq, nat_le, List, [], ◌∷◌, ◌++◌, length, map, filter, count_by, sum, codes, if◌then◌else◌}
+use Rattle.std.specs.List.{starts_with}
+use Rattle.hex.specs.Hex.{encode_lower}
+use Rattle.sha2.specs.Sha256.{sha256}
+use Rattle.gts_alphabet.specs.declared.characters.TheConstants.{ETX}
+use Rattle.gts_traits.specs.Calls.{Outside, channel_bytes}
+use Rattle.gts_event.specs.declared.plain.Need.{Need}
+use Rattle.gts_event.specs.Receipt.{then_number}
+
+-- the channels of the eight circuits
+abbrev pub is_circuit : ℕ → Bool
+is_circuit channel = nat_le 1 channel && nat_le channel 8
+
+-- what was said on the channels of the circuits, over all of them in the order in which it was said
+abbrev pub frames_said : Outside → List ℕ
+frames_said outside = map (λ byte. byte.1) (filter (λ byte. is_circuit byte.0) outside)
+
+-- how many lines begin with a word, where the first byte is the first one of a line or isn't; 10 is LF
+abbrev pub lines_from : Bool → List ℕ → List ℕ → ℕ
+lines_from begins word [] = 0
+lines_from begins word (byte ∷ bytes) =
+    (if begins && starts_with nat_eq (byte ∷ bytes) word then 1 else 0) + lines_from (byte == 10) word bytes
+
+-- how many receipts begin with a word
+abbrev pub receipts_of : List ℕ → Outside → ℕ
+receipts_of word outside = lines_from true word (channel_bytes 0 outside)
+
+-- how many frames were said: each ends with ETX, and no bulletin of the day has another
+abbrev pub frames_in : List ℕ → ℕ
+frames_in bytes = count_by (λ byte. byte == ETX) bytes
+
+-- how many bulletins were drawn, over all circuits
+abbrev pub draws_of : Need → ℕ
+draws_of need = sum (map (λ circuit. circuit.draws) need.circuits)
+
+-- a name and a number, ended by LF
+abbrev pub line : List ℕ → ℕ → List ℕ
+line name number = name ++ then_number number ++ 10 ∷ []
+
+-- The summary of a day of so many messages, of which this was said, behind which this is needed, and the journal has so many
+-- bytes in use.
+abbrev pub summary_text : ℕ → Outside → Need → ℕ → List ℕ
+summary_text count outside need used =
+    line (codes "messages") count
+    ++ line (codes "accepted") need.accepted
+    ++ line (codes "duplicates") (receipts_of (codes "DUP") outside)
+    ++ line (codes "requests") (receipts_of (codes "ASK") outside)
+    ++ line (codes "draws") (draws_of need)
+    ++ line (codes "resends") (frames_in (frames_said outside) - draws_of need)
+    ++ line (codes "bytes") (length (frames_said outside))
+    ++ line (codes "journal") used
+    ++ codes "digest " ++ encode_lower (sha256 (frames_said outside)) ++ codes "\nend\n"
