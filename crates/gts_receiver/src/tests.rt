@@ -1,9 +1,11 @@
-ghost use Rattle.std.specs.Prelude.{◌<◌, length};
+ghost use Rattle.std.specs.Prelude.{◌≡◌, ◌<◌, [], ◌∷◌, length, IsTrue};
+ghost use Rattle.gts_frame.specs.declared.kind.Kind.TheVariants.{An};
 
 use super::*;
 use gts_desk::Desk;
-use gts_event::{Outcome, SwitchFault};
+use gts_event::{Outcome, Refusal, SwitchFault};
 use gts_frame::{Decoder, FrameBuf, Kind, LostField};
+use gts_heading::Field;
 use gts_memory::MemSource;
 use gts_traits::FreeGate;
 use std::alloc::Global;
@@ -11,22 +13,54 @@ use std::test::Fail;
 
 const FRAME: &[u8] = b"00000039AN\x01\r\r\n001\r\r\nSMVG01 TVSV 280000\r\r\nNIL=\r\r\n\x03";
 
-/// A desk that is told one loss on its only circuit, and has no turn left for anything else.
+/// Two frames of the shortest message, with a keep-alive between them, and a part of a third.
+const SHORT: &[u8] = b"00000002AN\x01\x0300000000BI00000002AN\x01\x030000";
+
+/// A frame of the shortest message, and a blank for a digit.
+const BROKEN: &[u8] = b"00000002AN\x01\x030000039 AN";
+
+/// A desk with one circuit, on which it hears messages of SOH and ETX alone, which are refused, and is told one loss. It has no
+/// turn left for anything else.
 #[derive(Drop)]
-struct LossDesk {
+struct ShortDesk {
+    heard: u64,
     lost: Option<LostField>,
 }
 
-impl Desk for LossDesk {
+/// Whether a message is SOH and ETX alone, in a frame for letters.
+fn is_short(kind: Kind, message: &[u8]) -> bool
+    ensures { IsTrue result → (kind ≡ An) × (message.now ≡ 1 ∷ 3 ∷ []) }
+{
+    match message {
+        [1, 3] => match kind {
+            Kind::An => true,
+            Kind::Bi => false,
+            Kind::Fx => false,
+        },
+        _ => false,
+    }
+}
+
+impl Desk for ShortDesk {
     ghost use Rattle.gts_receiver.specs.Tested.{seen_by};
 
-    ghost seen = { λ d. seen_by d.lost };
+    ghost seen = { λ d. seen_by d.heard d.lost };
 
     #[tactic(auto, using(crate::proofs::TestLemmas::spent))]
-    fn hear(&mut self, _c: u32, _kind: Kind, _message: &[u8]) -> Result<Outcome, SwitchFault> {
-        Err(SwitchFault::Spent)
+    fn hear(&mut self, c: u32, kind: Kind, message: &[u8]) -> Result<Outcome, SwitchFault> {
+        if c != 0 || self.heard == u64::MAX || !is_short(kind, message) {
+            return Err(SwitchFault::Spent);
+        }
+        match self.lost {
+            None => {
+                self.heard += 1;
+                Ok(Outcome::Refused(Refusal::Message(Field::StartLine)))
+            }
+            Some(_) => Err(SwitchFault::Spent),
+        }
     }
 
+    #[tactic(auto, using(crate::proofs::TestLemmas::spent))]
     fn lost(&mut self, c: u32, field: LostField) -> Result<Outcome, SwitchFault> {
         match self.lost {
             None if c == 0 => {
@@ -43,39 +77,60 @@ impl Desk for LossDesk {
     }
 }
 
-/// How a connection with these bytes ends, which a source gives that fails at these calls, and which is read into this room.
-fn end_of(alloc: Global, bytes: &[u8], failing: &[u64], room: &mut [u8]) -> Result<ReceiveEnd, Fail>
+/// How a connection with these bytes ends, which a source gives that fails at these calls, and which is read into this room; and
+/// how many messages were heard.
+fn end_of(
+    alloc: Global,
+    bytes: &[u8],
+    failing: &[u64],
+    room: &mut [u8],
+) -> Result<(ReceiveEnd, u64), Fail>
     requires { 0 < length room.old }
 {
-    let mut desk = LossDesk { lost: None };
+    let mut desk = ShortDesk {
+        heard: 0,
+        lost: None,
+    };
     let mut source = MemSource::new(alloc, bytes, failing)?;
     let mut decoder = Decoder::new(alloc)?;
-    Ok(receive(&mut desk, 0, &mut source, &mut decoder, room, &FreeGate))
+    let end = receive(
+        &mut desk,
+        0,
+        &mut source,
+        &mut decoder,
+        room,
+        &FreeGate,
+    );
+    Ok((end, desk.heard))
+}
+
+/// Synchronisation was lost in a length, at this byte.
+fn lost_at(at: u64) -> ReceiveEnd {
+    ReceiveEnd::LostSync {
+        field: LostField::Length,
+        at,
+    }
 }
 
 #[test]
 fn each_end_of_a_connection_is_told_apart(rt: HostRuntime) -> Result<(), Fail> {
     let alloc = rt.alloc();
-    let blank = b"0000039 AN";
-    let lost = ReceiveEnd::LostSync {
-        field: LostField::Length,
-        at: 8,
-    };
+    let ended = ReceiveEnd::Ended { rest: 20 };
     let spent = ReceiveEnd::Fault(SwitchFault::Spent);
-    assert_eq!(rt; end_of(alloc, blank, &[], &mut [0; 1])?, lost);
-    assert_eq!(rt; end_of(alloc, blank, &[], &mut [0; 4])?, lost);
-    assert_eq!(rt;
-        end_of(alloc, &FRAME[..20], &[], &mut [0; 64])?,
-        ReceiveEnd::Ended { rest: 20 }
-    );
-    assert_eq!(rt;
-        end_of(alloc, b"00000000AN", &[], &mut [0; 3])?,
-        ReceiveEnd::Ended { rest: 0 }
-    );
-    assert_eq!(rt;
-        end_of(alloc, FRAME, &[2], &mut [0; 10])?,
-        ReceiveEnd::SourceFault
-    );
-    assert_eq!(rt; end_of(alloc, FRAME, &[], &mut [0; 7])?, spent);
+    assert_eq!(rt; end_of(alloc, b"0000039 AN", &[], &mut [0; 1])?, (lost_at(8), 0));
+    assert_eq!(rt; end_of(alloc, BROKEN, &[], &mut [0; 9])?, (lost_at(20), 1));
+    assert_eq!(rt; end_of(alloc, &FRAME[..20], &[], &mut [0; 64])?, (ended, 0));
+    assert_eq!(rt; end_of(alloc, FRAME, &[2], &mut [0; 10])?, (ReceiveEnd::SourceFault, 0));
+    assert_eq!(rt; end_of(alloc, FRAME, &[], &mut [0; 7])?, (spent, 0));
+    Ok(())
+}
+
+#[test]
+fn each_message_is_heard_once_however_it_is_cut(rt: HostRuntime) -> Result<(), Fail> {
+    let alloc = rt.alloc();
+    let ended = ReceiveEnd::Ended { rest: 4 };
+    assert_eq!(rt; end_of(alloc, SHORT, &[], &mut [0; 1])?, (ended, 2));
+    assert_eq!(rt; end_of(alloc, SHORT, &[], &mut [0; 5])?, (ended, 2));
+    assert_eq!(rt; end_of(alloc, SHORT, &[], &mut [0; 64])?, (ended, 2));
     Ok(())
 }
