@@ -54,17 +54,17 @@ of_last k place h = ap (λ (b : Bool). cond b (nat_lt place k) (place == PLACES 
 module _ (p : ℕ → Bool) (k : ℕ) where
   agrees_at : IsComplete p k → (i : ℕ) → i < GROUPS → agree (p i) (stands_in k i) ≡ true
   agrees_at c i h = elim (nat_lt i PLACES) as (λ v. nat_lt i PLACES ≡ v → agree (p i) (stands_in k i) ≡ true) [
-      | true ↦ λ less. let l : i < PLACES = ltb-true i PLACES less in
-          rw (of_place k i l)
-          (agree_then (p i) (nat_lt i k) (λ here. lt-ltb i k ((c.places i l).0 here)) (λ here. (c.places i l).1 (ltb-true i k here)))
-      | false ↦ λ more. let m : PLACES ≤ i = ltb-false i PLACES more in
-          let there : PLACES + (i - PLACES) ≡ i = omega arith in
-          let letter : i - PLACES < LETTERS = omega arith in
-          rw (of_last k i m)
-          (agree_then (p i) (i == PLACES + k % LETTERS)
-          (λ here. eq-eqb i (PLACES + k % LETTERS) (let same : i - PLACES ≡ k % LETTERS = (c.last (i - PLACES) letter).0 (ap p there ∙ here) in omega arith))
-          (λ here. let same : i ≡ PLACES + k % LETTERS = eqb-true i (PLACES + k % LETTERS) here in ap p (sym there) ∙ (c.last (i - PLACES) letter).1 (omega arith)))
-    ] refl
+    | true ↦ λ less. let l : i < PLACES = ltb-true i PLACES less in
+        rw (of_place k i l)
+        (agree_then (p i) (nat_lt i k) (λ here. lt-ltb i k ((c.places i l).0 here)) (λ here. (c.places i l).1 (ltb-true i k here)))
+    | false ↦ λ more. let m : PLACES ≤ i = ltb-false i PLACES more in
+        let there : PLACES + (i - PLACES) ≡ i = omega arith in
+        let letter : i - PLACES < LETTERS = omega arith in
+        rw (of_last k i m)
+        (agree_then (p i) (i == PLACES + k % LETTERS)
+        (λ here. eq-eqb i (PLACES + k % LETTERS) (let same : i - PLACES ≡ k % LETTERS = (c.last (i - PLACES) letter).0 (ap p there ∙ here) in omega arith))
+        (λ here. let same : i ≡ PLACES + k % LETTERS = eqb-true i (PLACES + k % LETTERS) here in ap p (sym there) ∙ (c.last (i - PLACES) letter).1 (omega arith)))
+  ] refl
 
   pub complete_is_set : IsComplete p k → is_set p k ≡ true
   unfolding is_set
@@ -85,8 +85,7 @@ module _ (p : ℕ → Bool) (k : ℕ) where
             let both = then_agree (p place) (nat_lt place k) (rw (of_place k place h) at (at place (omega arith))) in
             (λ here. ltb-true place k (both.0 here), λ less. both.1 (lt-ltb place k less));
         last = λ letter h.
-            let both = then_agree (p (PLACES + letter)) (PLACES + letter == PLACES + k % LETTERS) (rw (of_last k (PLACES + letter) (omega arith)) at (at (PLACES + letter) (omega arith))) in
-            (
+            let both = then_agree (p (PLACES + letter)) (PLACES + letter == PLACES + k % LETTERS) (rw (of_last k (PLACES + letter) (omega arith)) at (at (PLACES + letter) (omega arith))) in (
               λ here. let same : PLACES + letter ≡ PLACES + k % LETTERS = eqb-true _ _ (both.0 here) in omega arith,
               λ same. both.1 (eq-eqb (PLACES + letter) (PLACES + k % LETTERS) (omega arith)),
             );

@@ -16,9 +16,9 @@ complete_of p (suc m) exact some = (m, omega arith, (exact m).0 (ap Complete (om
 -- no whole set is told as a part
 not_whole : (p : ℕ → Bool) (n : ℕ) → ((k : ℕ) → (Partial n ≡ Complete (k + 1)) ↔ IsComplete p k) → false ≡ is_whole p n
 not_whole p n exact = elim (is_whole p n) as (λ b. is_whole p n ≡ b → false ≡ b) [
-    | true ↦ λ e. let whole = whole_is_complete p n e in let bad : Partial n ≡ Complete (n - 1 + 1) = (exact (n - 1)).1 whole.1 in absurd (cc)
-    | false ↦ λ e. refl
-  ] refl
+  | true ↦ λ e. let whole = whole_is_complete p n e in let bad : Partial n ≡ Complete (n - 1 + 1) = (exact (n - 1)).1 whole.1 in absurd (cc)
+  | false ↦ λ e. refl
+] refl
 
 pub returns-in-Complete-clause-count : goal.returns-in-Complete-clause-count
 returns-in-Complete-clause-count c =
