@@ -1,10 +1,9 @@
 -- The lines of circuits, one circuit after another.
-use Rattle.std.proofs.Common.{◌≡◌, ℕ, zero, suc, ◌+◌, ◌<◌, ◌≤◌, min, Bool, true, false, List, [], ◌∷◌, ◌++◌, Some, length, drop, map, nat_le, get_or, refl, sym, ap, ◌∙◌, arith}
+use Rattle.std.proofs.Common.{◌≡◌, ℕ, suc, ◌+◌, ◌<◌, ◌≤◌, min, true, false, List, [], ◌∷◌, ◌++◌, length, drop, map, nat_le, get_or, refl, sym, ap, ◌∙◌, arith}
 use Rattle.std.proofs.Math.Seq.{drop-cons}
 use Rattle.std.proofs.lemmas.List.{drop_all}
 use Rattle.std.proofs.lemmas.Bool.{leb-true, leb-false}
 use Rattle.gts_directory.specs.Directory.{Circuit}
-use Rattle.gts_event.specs.Need.{CircuitNeed}
 use Rattle.gts_event.specs.declared.plain.CircuitNeed as plain
 use Rattle.gts_event.specs.Items.{circuit_need_of}
 use Rattle.gts_report.specs.Report.{circuit_line, circuit_lines}
