@@ -243,8 +243,13 @@ fn each_number_has_its_bytes_whenever_the_machine_stops(rt: HostRuntime) -> Resu
     let (status, station) = replayed(&rt, &directory, &capture, &NONE)?;
     assert_eq!(rt; status, Status::Done);
     for call in FIRST..station.calls() {
+        let plain = crashed(&station, call, Touched::Old)?;
         for choice in CHOICES {
             let left = crashed(&station, call, choice)?;
+            // Where no place of the journal was touched, each choice leaves the same.
+            if choice != Touched::Old && left.file(0) == plain.file(0) {
+                continue;
+            }
             let (status, left) = replayed_on(&rt, &directory, &rest, left)?;
             assert_eq!(rt; status, Status::Done, "call {call}");
             assert!(rt; each_number_has_its_text(left.said(2)), "call {call}");
