@@ -93,14 +93,7 @@ fn end_of(
     };
     let mut source = MemSource::new(alloc, bytes, failing)?;
     let mut decoder = Decoder::new(alloc)?;
-    let end = receive(
-        &mut desk,
-        0,
-        &mut source,
-        &mut decoder,
-        room,
-        &FreeGate,
-    );
+    let end = receive(&mut desk, 0, &mut source, &mut decoder, room, &FreeGate);
     Ok((end, desk.heard))
 }
 
@@ -117,10 +110,16 @@ fn each_end_of_a_connection_is_told_apart(rt: HostRuntime) -> Result<(), Fail> {
     let alloc = rt.alloc();
     let ended = ReceiveEnd::Ended { rest: 20 };
     let spent = ReceiveEnd::Fault(SwitchFault::Spent);
-    assert_eq!(rt; end_of(alloc, b"0000039 AN", &[], &mut [0; 1])?, (lost_at(8), 0));
+    assert_eq!(rt;
+        end_of(alloc, b"0000039 AN", &[], &mut [0; 1])?,
+        (lost_at(8), 0)
+    );
     assert_eq!(rt; end_of(alloc, BROKEN, &[], &mut [0; 9])?, (lost_at(20), 1));
     assert_eq!(rt; end_of(alloc, &FRAME[..20], &[], &mut [0; 64])?, (ended, 0));
-    assert_eq!(rt; end_of(alloc, FRAME, &[2], &mut [0; 10])?, (ReceiveEnd::SourceFault, 0));
+    assert_eq!(rt;
+        end_of(alloc, FRAME, &[2], &mut [0; 10])?,
+        (ReceiveEnd::SourceFault, 0)
+    );
     assert_eq!(rt; end_of(alloc, FRAME, &[], &mut [0; 7])?, (spent, 0));
     Ok(())
 }
