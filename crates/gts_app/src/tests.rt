@@ -118,9 +118,9 @@ fn replayed_on<R: AllocGlobal + Threads + Wait + Sync>(
 }
 
 /// The bytes of a text in which `^` stands for SOH, `|` for a line end and `$` for ETX.
-fn spelled(alloc: Global, text: &str) -> Result<Vec<u8>, Fail> {
+fn spelled(alloc: Global, text: &[u8]) -> Result<Vec<u8>, Fail> {
     let mut bytes = Vec::new(alloc);
-    for byte in text.as_bytes() {
+    for byte in text {
         match byte {
             b'^' => bytes.push(1)?,
             b'|' => bytes.extend_from_slice(b"\r\r\n")?,
@@ -135,11 +135,12 @@ fn spelled(alloc: Global, text: &str) -> Result<Vec<u8>, Fail> {
 /// the circuit, which is passed over, stand in front of it.
 fn framed(alloc: Global, step: &str) -> Result<Vec<u8>, Fail> {
     let mut message = Vec::from_slice(alloc, b"\x01\r\r\n")?;
-    message.extend_from_slice(&spelled(alloc, &step[6..])?)?;
+    let text = step.as_bytes().get(6..).ok_or("a message")?;
+    message.extend_from_slice(&spelled(alloc, text)?)?;
     message.extend_from_slice(b"\r\r\n\x03")?;
     let length = digits_of::<8>(u32::try_from(message.len())?);
     let mut frame = Vec::from_slice(alloc, &length)?;
-    frame.extend_from_slice(step[..2].as_bytes())?;
+    frame.extend_from_slice(step.as_bytes().get(..2).ok_or("the letters of a type")?)?;
     frame.extend_from_slice(&message)?;
     Ok(frame)
 }
@@ -149,21 +150,25 @@ fn framed(alloc: Global, step: &str) -> Result<Vec<u8>, Fail> {
 fn captured(alloc: Global, steps: &[&str]) -> Result<Vec<u8>, Fail> {
     let mut capture = Vec::new(alloc);
     for step in steps {
-        let fed = match step.as_bytes() {
-            [b'A' | b'B', b'N' | b'I', ..] => (&step[3..5], framed(alloc, step)?),
-            [b'F', ..] => (&step[2..4], spelled(alloc, &step[5..])?),
+        let bytes = step.as_bytes();
+        let (circuit, fed) = match bytes {
+            [b'A' | b'B', b'N' | b'I', ..] => (bytes.get(3..5), framed(alloc, step)?),
+            [b'F', ..] => (
+                bytes.get(2..4),
+                spelled(alloc, bytes.get(5..).ok_or("a feed")?)?,
+            ),
             _ => {
-                capture.extend_from_slice(step.as_bytes())?;
+                capture.extend_from_slice(bytes)?;
                 capture.push(b'\n')?;
                 continue;
             }
         };
         capture.extend_from_slice(b"F ")?;
-        capture.extend_from_slice(fed.0.as_bytes())?;
+        capture.extend_from_slice(circuit.ok_or("a circuit")?)?;
         capture.push(b' ')?;
-        capture.extend_from_slice(&digits_of::<6>(u32::try_from(fed.1.len())?))?;
+        capture.extend_from_slice(&digits_of::<6>(u32::try_from(fed.len())?))?;
         capture.push(b'\n')?;
-        capture.extend_from_slice(&fed.1)?;
+        capture.extend_from_slice(&fed)?;
     }
     capture.extend_from_slice(b"E\n")?;
     Ok(capture)
@@ -554,7 +559,11 @@ fn no_more_than_4096_are_owed(rt: HostRuntime) -> Result<(), Fail> {
     let directory = directory_of(alloc, &[TOP, "window = 1\n", A, B, "kept = 256\n", RULE])?;
     let (status, station) = replayed(&rt, &directory, &capture, &NONE)?;
     assert_eq!(rt; status, Status::Done);
-    assert!(rt; station.said(0).ends_with(b"ASK 1 256 0\nASK 1 256 0\nREF 1 Many\nASK 1 1 0\n"));
+    assert!(rt;
+        station
+            .said(0)
+            .ends_with(b"ASK 1 256 0\nASK 1 256 0\nREF 1 Many\nASK 1 1 0\n")
+    );
     assert_eq!(rt; station.said(2).len(), 257 * 49);
     Ok(())
 }
