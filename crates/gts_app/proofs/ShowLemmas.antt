@@ -25,7 +25,7 @@ use Rattle.gts_app.specs.declared.status.Status.TheVariants.{Done, Words, Direct
 use Rattle.gts_app.specs.Opening.{IsOfFiles, IsRefusal, Refuses, Opens}
 use Rattle.gts_app.specs.Ending.{refusal}
 use Rattle.gts_app.specs.Show.{Reported, Shows}
-use Rattle.gts_app.proofs.RefusalLemmas.{refusals, no_fault, same_directory, one_answer}
+use Rattle.gts_app.proofs.RefusalLemmas.{refused, refusals, no_fault, same_directory, one_answer}
 
 -- ---- what refused it
 
@@ -64,6 +64,7 @@ not_shown source w status od nd old new result is h =
               ]
             ]
           ];
+      answered = (refused source w status od nd od old new result is h).refused;
       taken = h.taken;
       counts = (h.later, r.later, omega (arith, r.say));
     }
@@ -107,6 +108,14 @@ module _ {S P : Type 0} (source : SourceWords S) (w : StationWords P) (od nd : S
   synced : w.tells → w.calls e.station ≡ Did Syncs ∷ w.calls old
   synced told = (h.opened e is told).2.0.synced
 
+  -- the files open to no fault
+  opens_here : source.tells → w.tells → (d : directories.Directory) (fault : OpenFault) → directory_of_bytes (source.left od) ≡ Ok d
+      → opens d (seen (w.calls old)) ≡ Err fault → ⊥
+  opens_here tells told d fault read opened =
+      let x = h.opened e is told in
+      let same : d ≡ e.directory = same_directory d e.directory (directory_of_bytes (source.left od)) read (x.1 tells) in
+      one_answer x.0 fault (opens d (seen (w.calls old))) (subst (λ (y : directories.Directory). opens y (seen (w.calls old)) ≡ Ok x.0) (sym same) x.2.0.opened) opened
+
   pub without_memory : Shows source w NoMemory od old nd e.station
   without_memory = record {
     done = λ of. absurd (cc);
@@ -124,6 +133,7 @@ module _ {S P : Type 0} (source : SourceWords S) (w : StationWords P) (od nd : S
     ends = inr (inr tt);
     files = λ told k. unchanged (w.calls old) (w.calls e.station) k (inl (synced told));
     complete = λ tells told d n read opened plain kept_directory kept_say kept_disk. inr refl;
+    answered = λ tells told d fault read opened plain kept_directory kept_disk. inr refl;
     taken = h.taken;
     counts = (h.later, (h.kept e is).0, omega (arith, (h.kept e is).1));
   }
@@ -138,6 +148,7 @@ module _ {S P : Type 0} (source : SourceWords S) (w : StationWords P) (od nd : S
     ends = inl refl;
     files = λ told k. ap (λ (calls : List Call). seen calls k) (said told ∙ ap (λ (calls : List Call). Did (Says 0 text) ∷ calls) (synced told));
     complete = λ tells told d n read opened plain kept_directory kept_say kept_disk. inl refl;
+    answered = λ tells told d fault read opened plain kept_directory kept_disk. absurd (opens_here tells told d fault read opened);
     taken = h.taken;
     counts = (h.later, omega (arith, (h.kept e is).0, disk), omega (arith, (h.kept e is).1, later));
   }
@@ -163,6 +174,7 @@ module _ {S P : Type 0} (source : SourceWords S) (w : StationWords P) (od nd : S
         ends = inr (inl refl);
         files = λ told k. as_seen (w.calls e.station) (w.calls new) k (broke told) ∙ ap (λ (calls : List Call). seen calls k) (synced told);
         complete = λ tells told d n read opened plain kept_directory kept_say kept_disk. absurd (kept_say rose_here);
+        answered = λ tells told d fault read opened plain kept_directory kept_disk. absurd (opens_here tells told d fault read opened);
         taken = h.taken;
         counts = (h.later, omega (arith, (h.kept e is).0, disk), omega (arith, (h.kept e is).1, later));
       }

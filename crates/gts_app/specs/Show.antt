@@ -8,11 +8,13 @@ use Rattle.gts_directory.specs.Directory as directories
 use Rattle.gts_dirfile.specs.declared.limits.TheConstants.{LONGEST_DIRECTORY}
 use Rattle.gts_dirfile.specs.{directory_of_bytes}
 use Rattle.gts_event.specs.Need.{Need}
+use Rattle.gts_record.specs.declared.fault.OpenFault.{OpenFault}
 use Rattle.gts_journal.specs.{is_checkpoint, selected_bytes}
 use Rattle.gts_opening.specs.Journal.{opens}
 use Rattle.gts_report.specs.{report}
 use Rattle.gts_app.specs.declared.status.Status.{Status}
 use Rattle.gts_app.specs.declared.status.Status.TheVariants.{Done, SayFault, NoMemory}
+use Rattle.gts_app.specs.Ending.{refusal}
 use Rattle.gts_app.specs.Opening.{IsRefusal, Refuses}
 
 -- the words of the command
@@ -51,6 +53,12 @@ pub record Shows {S P : Type 0} (source : SourceWords S) (station : StationWords
       → (Rose (source.faults old_directory) (source.faults new_directory) → ⊥)
       → (Rose (station.say_faults old) (station.say_faults new) → ⊥)
       → (Rose (station.disk_faults old) (station.disk_faults new) → ⊥) → (status ≡ Done) ⊎ (status ≡ NoMemory)
+  -- and where the files open to a fault, that is answered
+  pub answered : source.tells → station.tells → (d : directories.Directory) (fault : OpenFault)
+      → directory_of_bytes (source.left old_directory) ≡ Ok d → opens d (seen (station.calls old)) ≡ Err fault
+      → is_checkpoint (selected_bytes (seen (station.calls old))) ≡ false
+      → (Rose (source.faults old_directory) (source.faults new_directory) → ⊥)
+      → (Rose (station.disk_faults old) (station.disk_faults new) → ⊥) → (status ≡ refusal fault) ⊎ (status ≡ NoMemory)
   -- what is read, and that no count falls
   pub taken : source.tells → (taken : List ℕ) × (source.left old_directory ≡ taken ++ source.left new_directory)
       × (length taken ≤ LONGEST_DIRECTORY + 1)
