@@ -13,6 +13,9 @@ use std::alloc::{AllocError, Global};
 /// The word in front of those that are read: the program's name.
 const PROGRAM: &str = "gts_switch";
 
+/// The most words of a command.
+const MOST_WORDS: u64 = 2;
+
 /// A command line has the name of a command, and a count behind it or none.
 fn grammar<'a>(alloc: Global) -> Result<clap::Command<'a>, AllocError>
     ensures { IfOk result (λ line. app_of line ≡ grammar) }
@@ -120,7 +123,7 @@ pub fn read_words(alloc: Global, words: &WordList) -> Result<Command, WordsFault
     let Some(name) = words.get(0) else {
         return Err(WordsFault::Words);
     };
-    if words.len() > 2 || is_option(name) {
+    if words.len() > MOST_WORDS || is_option(name) {
         return Err(WordsFault::Words);
     }
     match words.get(1) {
