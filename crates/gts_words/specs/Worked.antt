@@ -1,5 +1,5 @@
 -- Worked rows: lists of words, and what they are.
-use Rattle.std.specs.Prelude.{◌≡◌, List, [], ◌∷◌, None, Some, codes}
+use Rattle.std.specs.Prelude.{◌≡◌, [], ◌∷◌, None, Some, codes}
 use Rattle.gts_words.specs.declared.command.Command.TheVariants.{Init, Replay, Serve, Show, Compact, Generate}
 use Rattle.gts_words.specs.Commands.{command_of}
 

@@ -22,7 +22,10 @@ fn the_lists_that_are_defined_are_commands(rt: HostRuntime) -> Result<(), Fail> 
         (&["compact"], Command::Compact),
         (&["generate", "200"], Command::Generate { count: 200 }),
         (&["generate", "000001"], Command::Generate { count: 1 }),
-        (&["generate", "100000"], Command::Generate { count: 100_000 }),
+        (
+            &["generate", "100000"],
+            Command::Generate { count: 100_000 },
+        ),
     ];
     for (words, command) in cases {
         assert_eq!(rt; read(rt.alloc(), words)?, Ok(command));
