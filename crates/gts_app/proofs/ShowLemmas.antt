@@ -86,23 +86,11 @@ none_before x (y ∷ front) back e = cc
 -- an engine without entries goes on
 goes_on : (stopped : Option Device) → HasFailed stopped [] → stopped ≡ None
 goes_on None failed = refl
-goes_on (Some Disk) (front, event, back, is) = absurd (none_before _ front back is)
-goes_on (Some Say) (front, event, back, is) = absurd (none_before _ front back is)
+goes_on (Some Disk) failed = absurd (none_before _ failed.0 failed.2 failed.3)
+goes_on (Some Say) failed = absurd (none_before _ failed.0 failed.2 failed.3)
 
 module _ {S P : Type 0} (source : SourceWords S) (w : StationWords P) (od nd : S) (old : P) (e : Engine P) (result : Result (Engine P) (Status × P))
-    (is : result ≡ Ok e) (h : Opens source w result od nd old) (text : List ℕ)
-    (told_of : (s : State) → Holds e.directory e.core s → text ≡ report e.directory (need e.directory s))
-    (starts : (d : directories.Directory) (n : Need) → IsTrue (is_sound d n) → need d (begun n) ≡ n) where
-
-  -- the text is the report of what the files open to
-  reported : (OfText : List ℕ → Type 0) → (w.tells → OfText text) → Reported source w od old OfText
-  reported OfText of tells told =
-      let x = h.opened e is told in
-      let n : Need = x.0 in
-      let keeps = x.2.1.stands in
-      let holds : Holds e.directory e.core (begun n) = keeps.core (goes_on e.stopped keeps.failed) in
-      let here : text ≡ report e.directory n = told_of (begun n) holds ∙ ap (report e.directory) (starts e.directory n x.2.0.sound) in
-      (e.directory, n, x.1 tells, x.2.0.opened, subst OfText here (of told))
+    (is : result ≡ Ok e) (h : Opens source w result od nd old) where
 
   -- the station is that behind the sync
   synced : w.tells → w.calls e.station ≡ Did Syncs ∷ w.calls old
@@ -116,8 +104,8 @@ module _ {S P : Type 0} (source : SourceWords S) (w : StationWords P) (od nd : S
       let same : d ≡ e.directory = same_directory d e.directory (directory_of_bytes (source.left od)) read (x.1 tells) in
       one_answer x.0 fault (opens d (seen (w.calls old))) (subst (λ (y : directories.Directory). opens y (seen (w.calls old)) ≡ Ok x.0) (sym same) x.2.0.opened) opened
 
-  pub without_memory : Shows source w NoMemory od old nd e.station
-  without_memory = record {
+  without_memory_here : Shows source w NoMemory od old nd e.station
+  without_memory_here = record {
     done = λ of. absurd (cc);
     say_fault = λ of. absurd (cc);
     refused = λ _. record {
@@ -138,43 +126,70 @@ module _ {S P : Type 0} (source : SourceWords S) (w : StationWords P) (od nd : S
     counts = (h.later, (h.kept e is).0, omega (arith, (h.kept e is).1));
   }
 
-  pub shown : (new : P) → (w.tells → w.calls new ≡ Did (Says 0 text) ∷ w.calls e.station)
-      → w.say_faults e.station ≤ w.say_faults new → w.disk_faults new ≡ w.disk_faults e.station → Shows source w Done od old nd new
-  shown new said later disk = record {
-    done = λ of. reported (λ (t : List ℕ). w.calls new ≡ Did (Says 0 t) ∷ Did Syncs ∷ w.calls old)
-        (λ told. said told ∙ ap (λ (calls : List Call). Did (Says 0 text) ∷ calls) (synced told));
-    say_fault = λ of. absurd (cc);
-    refused = λ ends. absurd ends;
-    ends = inl refl;
-    files = λ told k. ap (λ (calls : List Call). seen calls k) (said told ∙ ap (λ (calls : List Call). Did (Says 0 text) ∷ calls) (synced told));
-    complete = λ tells told d n read opened plain kept_directory kept_say kept_disk. inl refl;
-    answered = λ tells told d fault read opened plain kept_directory kept_disk. absurd (opens_here tells told d fault read opened);
-    taken = h.taken;
-    counts = (h.later, omega (arith, (h.kept e is).0, disk), omega (arith, (h.kept e is).1, later));
-  }
+  pub without_memory : (at : P) → at ≡ e.station → Shows source w NoMemory od old nd at
+  without_memory at same = subst (λ (p : P). Shows source w NoMemory od old nd p) (sym same) without_memory_here
 
-  -- what a say that broke leaves of the files
-  as_seen : (calls new : List Call) (k : ℕ) → Breaks (Says 0 text) calls new → seen new k ≡ seen calls k
-  as_seen calls new k (inl same) = ap (λ (calls : List Call). seen calls k) same
-  as_seen calls new k (inr broke) = ap (λ (calls : List Call). seen calls k) broke.2
+  module _ (text : List ℕ) (told_of : (s : State) → Holds e.directory e.core s → text ≡ report e.directory (need e.directory s))
+      (starts : (d : directories.Directory) (n : Need) → IsTrue (is_sound d n) → need d (begun n) ≡ n) (at new : P) (same : at ≡ e.station) where
 
-  pub not_said : (new : P) → (w.tells → Breaks (Says 0 text) (w.calls e.station) (w.calls new))
-      → Rose (w.say_faults e.station) (w.say_faults new) → w.say_faults e.station ≤ w.say_faults new → w.disk_faults new ≡ w.disk_faults e.station
-      → Shows source w SayFault od old nd new
-  not_said new broke rose later disk =
-      let rose_here : Rose (w.say_faults old) (w.say_faults new) = subst (λ (n : ℕ). Rose n (w.say_faults new)) (h.kept e is).1 rose in
-      record {
-        done = λ of. absurd (cc);
-        say_fault = λ of. (
-          rose_here,
-          reported (λ (t : List ℕ). Breaks (Says 0 t) (Did Syncs ∷ w.calls old) (w.calls new))
-          (λ told. subst (λ (calls : List Call). Breaks (Says 0 text) calls (w.calls new)) (synced told) (broke told)),
-        );
-        refused = λ ends. absurd ends;
-        ends = inr (inl refl);
-        files = λ told k. as_seen (w.calls e.station) (w.calls new) k (broke told) ∙ ap (λ (calls : List Call). seen calls k) (synced told);
-        complete = λ tells told d n read opened plain kept_directory kept_say kept_disk. absurd (kept_say rose_here);
-        answered = λ tells told d fault read opened plain kept_directory kept_disk. absurd (opens_here tells told d fault read opened);
-        taken = h.taken;
-        counts = (h.later, omega (arith, (h.kept e is).0, disk), omega (arith, (h.kept e is).1, later));
-      }
+    -- the text is the report of what the files open to
+    reported : (OfText : List ℕ → Type 0) → (w.tells → OfText text) → Reported source w od old OfText
+    reported OfText of tells told =
+        let x = h.opened e is told in
+        let n : Need = x.0 in
+        let keeps = x.2.1.stands in
+        let holds : Holds e.directory e.core (begun n) = keeps.core (goes_on e.stopped keeps.failed) in
+        let here : text ≡ report e.directory n = told_of (begun n) holds ∙ ap (report e.directory) (starts e.directory n x.2.0.sound) in
+        (e.directory, n, x.1 tells, x.2.0.opened, subst OfText here (of told))
+
+    -- the station behind the sync is the one that the engine hands back
+    behind : w.tells → w.calls at ≡ Did Syncs ∷ w.calls old
+    behind told = ap (λ (p : P). w.calls p) same ∙ synced told
+
+    say_before : w.say_faults at ≡ w.say_faults old
+    say_before = ap (λ (p : P). w.say_faults p) same ∙ (h.kept e is).1
+
+    disk_before : w.disk_faults at ≡ w.disk_faults e.station
+    disk_before = ap (λ (p : P). w.disk_faults p) same
+
+    pub shown : (w.tells → w.calls new ≡ Did (Says 0 text) ∷ w.calls at) → w.say_faults at ≤ w.say_faults new → w.disk_faults new ≡ w.disk_faults at
+        → Shows source w Done od old nd new
+    shown said later disk =
+        let now : w.tells → w.calls new ≡ Did (Says 0 text) ∷ Did Syncs ∷ w.calls old
+        = λ told. said told ∙ ap (λ (calls : List Call). Did (Says 0 text) ∷ calls) (behind told) in
+        record {
+          done = λ of. reported (λ (t : List ℕ). w.calls new ≡ Did (Says 0 t) ∷ Did Syncs ∷ w.calls old) now;
+          say_fault = λ of. absurd (cc);
+          refused = λ ends. absurd ends;
+          ends = inl refl;
+          files = λ told k. ap (λ (calls : List Call). seen calls k) (now told);
+          complete = λ tells told d n read opened plain kept_directory kept_say kept_disk. inl refl;
+          answered = λ tells told d fault read opened plain kept_directory kept_disk. absurd (opens_here tells told d fault read opened);
+          taken = h.taken;
+          counts = (h.later, omega (arith, (h.kept e is).0, disk, disk_before), omega (arith, say_before, later));
+        }
+
+    -- what a say that broke leaves of the files
+    as_seen : (calls now : List Call) (k : ℕ) → Breaks (Says 0 text) calls now → seen now k ≡ seen calls k
+    as_seen calls now k (inl unchanged) = ap (λ (calls : List Call). seen calls k) unchanged
+    as_seen calls now k (inr broke) = ap (λ (calls : List Call). seen calls k) broke.2
+
+    pub not_said : (w.tells → Breaks (Says 0 text) (w.calls at) (w.calls new)) → Rose (w.say_faults at) (w.say_faults new)
+        → w.say_faults at ≤ w.say_faults new → w.disk_faults new ≡ w.disk_faults at → Shows source w SayFault od old nd new
+    not_said broke rose later disk =
+        let rose_here : Rose (w.say_faults old) (w.say_faults new) = subst (λ (n : ℕ). Rose n (w.say_faults new)) say_before rose in
+        record {
+          done = λ of. absurd (cc);
+          say_fault = λ of. (
+            rose_here,
+            reported (λ (t : List ℕ). Breaks (Says 0 t) (Did Syncs ∷ w.calls old) (w.calls new))
+            (λ told. subst (λ (calls : List Call). Breaks (Says 0 text) calls (w.calls new)) (behind told) (broke told)),
+          );
+          refused = λ ends. absurd ends;
+          ends = inr (inl refl);
+          files = λ told k. as_seen (w.calls at) (w.calls new) k (broke told) ∙ ap (λ (calls : List Call). seen calls k) (behind told);
+          complete = λ tells told d n read opened plain kept_directory kept_say kept_disk. absurd (kept_say rose_here);
+          answered = λ tells told d fault read opened plain kept_directory kept_disk. absurd (opens_here tells told d fault read opened);
+          taken = h.taken;
+          counts = (h.later, omega (arith, (h.kept e is).0, disk, disk_before), omega (arith, say_before, later));
+        }
