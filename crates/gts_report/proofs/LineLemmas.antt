@@ -1,10 +1,9 @@
 -- The lines of circuits, one circuit after another.
-use Rattle.std.proofs.Common.{◌≡◌, ℕ, zero, suc, ◌+◌, ◌<◌, ◌≤◌, min, Bool, true, false, List, [], ◌∷◌, ◌++◌, Some, length, drop, map, nat_le, get_or, refl, sym, ap, ◌∙◌, arith}
+use Rattle.std.proofs.Common.{◌≡◌, ℕ, suc, ◌+◌, ◌<◌, ◌≤◌, min, true, false, List, [], ◌∷◌, ◌++◌, length, drop, map, nat_le, get_or, refl, sym, ap, ◌∙◌, arith}
 use Rattle.std.proofs.Math.Seq.{drop-cons}
 use Rattle.std.proofs.lemmas.List.{drop_all}
 use Rattle.std.proofs.lemmas.Bool.{leb-true, leb-false}
 use Rattle.gts_directory.specs.Directory.{Circuit}
-use Rattle.gts_event.specs.Need.{CircuitNeed}
 use Rattle.gts_event.specs.declared.plain.CircuitNeed as plain
 use Rattle.gts_event.specs.Items.{circuit_need_of}
 use Rattle.gts_report.specs.Report.{circuit_line, circuit_lines}
@@ -38,9 +37,9 @@ no_need c (row ∷ rows) = refl
 -- no line is left
 pub none_left : (rows : List Circuit) (needs : List plain.CircuitNeed) (c : ℕ) → min (length rows) (length needs) ≤ c → lines_left rows needs c ≡ []
 none_left rows needs c past = elim (nat_le (length rows) c) as (λ b. nat_le (length rows) c ≡ b → lines_left rows needs c ≡ []) [
-    | true ↦ λ e. let over : length rows ≤ c = leb-true (length rows) c e in
-        ap (λ (xs : List Circuit). circuit_lines c xs (map circuit_need_of (drop c needs))) (drop_all c rows over)
-    | false ↦ λ e. let under : c < length rows = leb-false (length rows) c e in
-        let over : length needs ≤ c = omega arith in
-        ap (λ (ys : List plain.CircuitNeed). circuit_lines c (drop c rows) (map circuit_need_of ys)) (drop_all c needs over) ∙ no_need c (drop c rows)
-  ] refl
+  | true ↦ λ e. let over : length rows ≤ c = leb-true (length rows) c e in
+      ap (λ (xs : List Circuit). circuit_lines c xs (map circuit_need_of (drop c needs))) (drop_all c rows over)
+  | false ↦ λ e. let under : c < length rows = leb-false (length rows) c e in
+      let over : length needs ≤ c = omega arith in
+      ap (λ (ys : List plain.CircuitNeed). circuit_lines c (drop c rows) (map circuit_need_of ys)) (drop_all c needs over) ∙ no_need c (drop c rows)
+] refl

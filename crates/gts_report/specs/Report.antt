@@ -1,5 +1,5 @@
 -- The report: what the switch stands at, in lines for the operator, each ended by LF (profile). Numbers are plain decimals.
-use Rattle.std.specs.Prelude.{ℕ, ◌+◌, ◌-◌, ◌==◌, nat_eq, List, [], ◌∷◌, ◌++◌, length, if◌then◌else◌, codes, decimal}
+use Rattle.std.specs.Prelude.{ℕ, ◌+◌, ◌-◌, ◌==◌, List, [], ◌∷◌, ◌++◌, length, if◌then◌else◌, codes, decimal}
 use Rattle.gts_alphabet.specs.Digits.{dec}
 use Rattle.gts_number.specs.Number.{number_of}
 use Rattle.gts_directory.specs.Directory.{Directory, Circuit}

@@ -16,11 +16,7 @@ use std::alloc::Global;
 const NUMBERS: u64 = 1000;
 
 /// Adds a number in decimal digits.
-pub(crate) fn add_number(
-    alloc: Global,
-    text: &mut ReportText,
-    number: u64,
-) -> Result<(), NoMemory>
+pub(crate) fn add_number(alloc: Global, text: &mut ReportText, number: u64) -> Result<(), NoMemory>
     ensures { OnOk result (text.new ≡ text.old ++ decimal number) }
 {
     let mut digits = Buffer::new();

@@ -68,21 +68,34 @@ fn reported(alloc: Global, window: u32, headings: &[&[u8]]) -> Result<ReportText
 
 #[test]
 fn each_circuit_and_each_set_has_its_line(rt: HostRuntime) -> Result<(), Fail> {
-    let circuits = "circuit 00 A draws 0 waiting 0 last -\ncircuit 01 BB2 draws 1000 waiting 2 last 000\n";
+    let circuits =
+        "circuit 00 A draws 0 waiting 0 last -\ncircuit 01 BB2 draws 1000 waiting 2 last 000\n";
     let second = b"SMVG02 TVSV 280000 PZA".as_slice();
     let whole = b"SMVG01 TVSV 280000 PAA".as_slice();
     let last = b"SMVG01 TVSV 280000 PZB".as_slice();
     let other = b"SMVG01 TVSV 280000 PZC".as_slice();
     let cases: [(u32, &[&[u8]], &str); 6] = [
         (1000, &[], ""),
-        (1000, &[b"SMVG01 TVSV 280000", b"SMVG01 TVSV 280000 RRA"], ""),
+        (
+            1000,
+            &[b"SMVG01 TVSV 280000", b"SMVG01 TVSV 280000 RRA"],
+            "",
+        ),
         (
             1000,
             &[second, last, whole],
             "segments SMVG01 TVSV 280000 complete 2\nsegments SMVG02 TVSV 280000 complete 1\n",
         ),
-        (1000, &[whole, other], "segments SMVG01 TVSV 280000 partial 2\n"),
-        (1000, &[whole, last, other], "segments SMVG01 TVSV 280000 partial 3\n"),
+        (
+            1000,
+            &[whole, other],
+            "segments SMVG01 TVSV 280000 partial 2\n",
+        ),
+        (
+            1000,
+            &[whole, last, other],
+            "segments SMVG01 TVSV 280000 partial 3\n",
+        ),
         (1, &[whole, last], "segments SMVG01 TVSV 280000 partial 1\n"),
     ];
     for (window, headings, sets) in cases {
