@@ -154,7 +154,7 @@ no_journal {S} {P} source w fault d od nd old at h answer told later rose say = 
 -- ---- it was opened
 
 -- what files open to is the need of their state, opened again
-opens_to : (d : directories.Directory) (files : Files) (s : State) (used : ℕ) → files_open d files ≡ Ok (s, used) → opens d files ≡ Ok (need d (restarted s))
+pub opens_to : (d : directories.Directory) (files : Files) (s : State) (used : ℕ) → files_open d files ≡ Ok (s, used) → opens d files ≡ Ok (need d (restarted s))
 opens_to d files s used is = ap (λ (r : Opened). elim r as (λ _. Result Need OpenFault) [ Err fault ↦ Err fault | Ok opened ↦ Ok (need d (restarted opened.0)) ]) is
 
 -- the laws that hold where a history begins

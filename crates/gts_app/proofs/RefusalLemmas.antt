@@ -74,7 +74,7 @@ refused source w status od nd oc old new result is h =
       disk_fault = λ is. (r.disk_fault is, inl untouched);
       full = λ used need limit is. absurd (subst IsRefusal is ends);
       no_memory = λ is. inl untouched;
-      complete = λ tells told few d n steps read opened plain whole kept_directory kept_capture kept_say kept_disk room.
+      complete = λ tells told few d n steps read opened plain whole room kept_directory kept_capture kept_say kept_disk.
           elim (refusals status ends) [
             | inl x ↦ absurd (no_fault d x.0 (directory_of_bytes (source.left od)) read ((r.directory x.0 x.1).1 tells))
             | inr rest ↦ elim rest [

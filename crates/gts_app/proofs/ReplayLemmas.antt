@@ -7,7 +7,8 @@ use Rattle.gts_traits.specs.Station.{Call, seen}
 use Rattle.gts_directory.specs.Directory as directories
 use Rattle.gts_directory.specs.declared.fault.DirFault.{DirFault}
 use Rattle.gts_dirfile.specs.{directory_of_bytes}
-use Rattle.gts_event.specs.Need.{Need, is_sound, keeps_one}
+use Rattle.gts_event.specs.History.{restarted}
+use Rattle.gts_event.specs.Need.{Need, need, begun, is_sound, keeps_one}
 use Rattle.gts_event.specs.declared.event.Event.{Event}
 use Rattle.gts_event.specs.declared.event.Entry.{Entry}
 use Rattle.gts_event.specs.declared.event.Entry.TheVariants.{Done as Did, Unsaid, Doubt, Idle, Restarted}
@@ -17,12 +18,14 @@ use Rattle.gts_event.specs.declared.fault.Device.{Device}
 use Rattle.gts_event.specs.declared.fault.Device.TheVariants.{Disk, Say}
 use Rattle.gts_record.specs.declared.fault.OpenFault.{OpenFault}
 use Rattle.gts_record.specs.declared.fault.OpenFault.TheVariants as opening
-use Rattle.gts_connection.specs.Capture.{Step, IsWhole}
+use Rattle.gts_connection.specs.Capture.{Step, IsWhole, entries}
+use Rattle.gts_connection.proofs.LawLemmas.{reads_once}
 use Rattle.gts_opening.specs.Journal.{opens as opens_files}
+use Rattle.gts_opening.specs.Room.{AllHadRoom, full}
 use Rattle.gts_turns.specs.{IsReopenFault, IsCause, entry_of, outcome_at}
 use Rattle.gts_engine.specs.declared.mode.SayMode.TheVariants as mode
 use Rattle.gts_engine.specs.Engine.{Engine, shown}
-use Rattle.gts_engine.specs.Origin.{Origin}
+use Rattle.gts_engine.specs.Origin.{Origin, state_at, used_at}
 use Rattle.gts_engine.specs.Keeping.{Keeps, HasFailed, origin_of}
 use Rattle.gts_engine.specs.Switching.{Told, switch_words}
 use Rattle.gts_replay.specs.declared.end.ReplayEnd.{ReplayEnd}
@@ -33,8 +36,9 @@ use Rattle.gts_app.specs.declared.status.Status.TheVariants.{Done, Words, Direct
 use Rattle.gts_app.specs.Laws.{KeepsLaws}
 use Rattle.gts_app.specs.Ending.{refusal, status_of}
 use Rattle.gts_app.specs.Opening.{IsOrigin, Opens}
-use Rattle.gts_app.specs.Replay.{world, Replays, history, Does, BreaksAt, StopsAfter, ForNoReason, BecauseFull}
-use Rattle.gts_app.proofs.EndLemmas.{AllDone, history_done, before_done, goes_on, idle_goes_on, by_disk, by_say, does, rose_later}
+use Rattle.gts_app.specs.Replay.{world, Replays, history, Does, BreaksAt, StopsAfter, ForNoReason, BecauseFull, HasRoom}
+use Rattle.gts_app.proofs.OpeningLemmas.{opens_to}
+use Rattle.gts_app.proofs.EndLemmas.{AllDone, history_done, before_done, goes_on, idle_goes_on, by_disk, by_say, does, rose_later, had_room, whole_reading}
 
 -- ---- which end a status was given for
 
@@ -82,7 +86,7 @@ is_of end.NoMemory = tt
 -- a status that is none of these is done, or without memory
 left_over : (s : Status) (e : ReplayEnd) → IsOf s e → ((at : ℕ) → s ≡ Capture at → ⊥) → (s ≡ SourceFault → ⊥) → (s ≡ DiskFault → ⊥)
     → (s ≡ SayFault → ⊥) → ((fault : OpenFault) → e ≡ end.Reopen fault → IsReopenFault fault)
-    → ((used need limit : ℕ) → s ≡ Full used need limit → ⊥) → (s ≡ Done) ⊎ (s ≡ NoMemory)
+    → ((used need limit : ℕ) → e ≡ end.Fault (switch.Full used need limit) → ⊥) → (s ≡ Done) ⊎ (s ≡ NoMemory)
 left_over Done e of cut source disk say again full = inl refl
 left_over Words e of cut source disk say again full = absurd of
 left_over (Directory fault) e of cut source disk say again full = absurd of
@@ -94,7 +98,7 @@ left_over (Exists size) e of cut source disk say again full = absurd of
 left_over DiskFault e of cut source disk say again full = absurd (disk refl)
 left_over SourceFault e of cut source disk say again full = absurd (source refl)
 left_over SayFault e of cut source disk say again full = absurd (say refl)
-left_over (Full used need limit) e of cut source disk say again full = absurd (full used need limit refl)
+left_over (Full used need limit) e of cut source disk say again full = absurd (full used need limit of)
 left_over NoMemory e of cut source disk say again full = inr refl
 
 -- ---- a run over devices that tell
@@ -252,14 +256,42 @@ again : {S P : Type 0} (source : SourceWords S) (w : StationWords P) (e : Replay
     (r : Run source w e od oc nc old first last) (fault : OpenFault) → e ≡ end.Reopen fault → IsReopenFault fault
 again source w e od oc nc old first last r fault is = (r.ends.reopen fault is).breaks.fault_is r.told
 
+-- needs and their answers
+same_need : (m n : Need) (opened : Result Need OpenFault) → opened ≡ Ok m → opened ≡ Ok n → m ≡ n
+same_need m n opened one other = cc
+
+free_or_not : (fault : SwitchFault) (found : Option SwitchFault) → found ≡ None → found ≡ Some fault → ⊥
+free_or_not fault found one other = cc
+
+-- a journal with room is not full
+not_full : {S P : Type 0} (source : SourceWords S) (w : StationWords P) (e : ReplayEnd) (od oc nc : S) (old : P) (first last : Engine P)
+    (r : Run source w e od oc nc old first last) (steps : List Step) → source.tells → length (source.left oc) < 2 ^ 64
+    → length first.directory.circuits ≤ 100 → IsWhole first.directory (source.left oc) steps → HasRoom first.directory (seen (w.calls old)) steps
+    → (used wanted limit : ℕ) → e ≡ end.Fault (switch.Full used wanted limit) → ⊥
+not_full source w e od oc nc old first last r steps tells few narrow whole room used wanted limit is =
+    let d = first.directory in
+    let o = origin_of w.calls first r.n in
+    let x = r.ends.fault (switch.Full used wanted limit) is in
+    let b = x.breaks in
+    let read = whole_reading d (source.left oc) steps whole in
+    let same : x.steps ≡ steps = (reads_once d (source.left oc) x.steps steps (x.read tells few).0 read.0 narrow (x.read tells few).1 read.1).0 in
+    let start : need d (restarted r.origin.state) ≡ r.n =
+    same_need (need d (restarted r.origin.state)) r.n (opens_files d (seen (w.calls old))) (opens_to d (seen (w.calls old)) r.origin.state first.used r.origin.used) r.origin.opened in
+    let all : AllHadRoom d (begun r.n) first.used (history o steps) =
+    subst (λ (n : Need). AllHadRoom d (begun n) first.used (entries d (begun n) steps)) start (room r.origin.state first.used r.origin.used) in
+    let parts : history o steps ≡ b.front ++ Did b.event ∷ b.behind = ap (λ (ss : List Step). history o ss) (sym same) ∙ b.parts in
+    let free = had_room d (begun r.n) first.used b.front b.event b.behind (subst (λ (es : List Entry). AllHadRoom d (begun r.n) first.used es) parts all) in
+    free_or_not (switch.Full used wanted limit) (full d (state_at o b.front) (used_at o b.front) b.event) free b.cause
+
 pub replays : {S P : Type 0} (source : SourceWords S) (w : StationWords P) (e : ReplayEnd) (od nd oc nc : S) (old : P) (first last : Engine P)
     → Opens source w (Ok first) od nd old
     → ((n : Need) (es : List Entry) → IsTrue (keeps_one first.directory) → IsTrue (is_sound first.directory n) → KeepsLaws first.directory n es)
     → ((o : Told w.tells) (h : List Entry) → StandsFor (switch_words w.tells w.calls) o h first
     → Ends (switch_words w.tells w.calls) w.tells o h source.tells e first last (source.left oc) (source.left nc))
+    → length first.directory.circuits ≤ 100
     → HasReplayCause e (w.disk_faults first.station) (w.disk_faults last.station) (w.say_faults first.station) (w.say_faults last.station) (source.faults oc) (source.faults nc)
     → Replays source w (status_of e) (world od oc old) (world nd nc last.station)
-replays source w e od nd oc nc old first last opens laws ends cause =
+replays source w e od nd oc nc old first last opens laws ends narrow cause =
     let of : (s : Status) → status_of e ≡ s → IsOf s e = λ s is. subst (λ (x : Status). IsOf x e) is (is_of e) in
     let run : w.tells → Run source w e od oc nc old first last = λ told.
         let x = opens.opened first refl told in record {
@@ -324,7 +356,7 @@ replays source w e od nd oc nc old first last opens laws ends cause =
       no_memory = λ is. inr (λ tells told few.
           let r = run told in
           (origin_of w.calls first r.n, r.read tells, r.origin, lacked source w e od oc nc old first last r tells few (spare source w e od oc nc old first last r (of NoMemory is))));
-      complete = λ tells told few d n steps is opened plain whole kept_directory kept_capture kept_say kept_disk room.
+      complete = λ tells told few d n steps is opened plain whole room kept_directory kept_capture kept_say kept_disk.
           let r = run told in
           let same = same_directory d first.directory (directory_of_bytes (source.left od)) is (r.read tells) in
           left_over (status_of e) e (is_of e)
@@ -336,7 +368,9 @@ replays source w e od nd oc nc old first last opens laws ends cause =
           ])
           (λ failed. kept_say (say_rose (cause.say_failed (of SayFault failed))))
           (again source w e od oc nc old first last r)
-          room;
+          (not_full source w e od oc nc old first last r steps tells few narrow
+          (subst (λ (x : directories.Directory). IsWhole x (source.left oc) steps) same whole)
+          (subst (λ (x : directories.Directory). HasRoom x (seen (w.calls old)) steps) same room));
       refused = λ tells told d fault is refused plain kept_directory kept_disk.
           let r = run told in
           let same = same_directory d first.directory (directory_of_bytes (source.left od)) is (r.read tells) in

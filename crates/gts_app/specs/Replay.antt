@@ -3,12 +3,14 @@ use Rattle.std.specs.Prelude.{◌≡◌, ◌⊎◌, ℕ, ◌+◌, ◌^◌, ◌<�
 use Rattle.gts_traits.specs.declared.source.Source.{Ghosts as SourceWords}
 use Rattle.gts_traits.specs.declared.station.Station.{Ghosts as StationWords}
 use Rattle.gts_traits.specs.Counts.{Rose}
-use Rattle.gts_traits.specs.Station.{Call, seen}
+use Rattle.gts_traits.specs.Station.{Call, Files, seen}
 use Rattle.gts_directory.specs.Directory as directories
 use Rattle.gts_directory.specs.declared.fault.DirFault.{DirFault}
 use Rattle.gts_dirfile.specs.declared.limits.TheConstants.{LONGEST_DIRECTORY}
 use Rattle.gts_dirfile.specs.{directory_of_bytes}
-use Rattle.gts_event.specs.Need.{Need, begun}
+use Rattle.gts_event.specs.State.{State}
+use Rattle.gts_event.specs.History.{restarted}
+use Rattle.gts_event.specs.Need.{Need, need, begun}
 use Rattle.gts_event.specs.declared.event.Event.{Event}
 use Rattle.gts_event.specs.declared.event.Entry.{Entry}
 use Rattle.gts_event.specs.declared.event.Entry.TheVariants.{Done as Did, Unsaid, Doubt, Idle, Restarted}
@@ -19,8 +21,8 @@ use Rattle.gts_record.specs.declared.fault.OpenFault.{OpenFault}
 use Rattle.gts_record.specs.declared.fault.OpenFault.TheVariants as opening
 use Rattle.gts_connection.specs.Capture.{Step, Reading, IsWhole, EndsEarly, entries}
 use Rattle.gts_journal.specs.{OnlySyncs, is_checkpoint, selected_bytes}
-use Rattle.gts_opening.specs.Journal.{opens}
-use Rattle.gts_opening.specs.Room.{full}
+use Rattle.gts_opening.specs.Journal.{opens, files_open}
+use Rattle.gts_opening.specs.Room.{full, AllHadRoom}
 use Rattle.gts_engine.specs.declared.mode.SayMode.TheVariants as mode
 use Rattle.gts_engine.specs.Origin.{Origin, state_at, used_at}
 use Rattle.gts_engine.specs.Keeping.{Leaving}
@@ -103,6 +105,11 @@ abbrev pub IsRefused : {S P : Type 0} → SourceWords S → StationWords P → W
 IsRefused source station old new fault =
     Untouched station old new × (source.tells → AreRefused (source.left old.directory) (seen (station.calls old.station)) fault)
 
+-- of the history of these steps, which begins with what the files open to, the journal is full for no event
+abbrev pub HasRoom : directories.Directory → Files → List Step → Type 0
+HasRoom d files steps = (s : State) (used : ℕ) → files_open d files ≡ Ok (s, used)
+    → let n : Need = need d (restarted s) in AllHadRoom d (begun n) used (entries d (begun n) steps)
+
 -- For each status, what it means for the world before and after, and what holds of every run.
 pub record Replays {S P : Type 0} (source : SourceWords S) (station : StationWords P) (status : Status)
     (old new : World S P) : Type 0 where
@@ -148,17 +155,18 @@ pub record Replays {S P : Type 0} (source : SourceWords S) (station : StationWor
   pub no_memory : status ≡ NoMemory → Untouched station old new ⊎ Under source station old (λ o.
       BreaksAt o (source.left old.capture) (λ event. Idle event switch.NoMemory) None (station.calls new.station) ForNoReason
       ⊎ StopsAfter o (source.left old.capture) (station.calls new.station))
-  -- a capture under a directory that is accepted, and a journal that opens under it, over devices that don't fail, is done, but
-  -- for memory and room
+  -- a capture under a directory that is accepted, and a journal that opens under it and has room, over devices that don't fail,
+  -- is done, but for memory
   pub complete : source.tells → station.tells → length (source.left old.capture) < 2 ^ 64
       → (d : directories.Directory) (n : Need) (steps : List Step)
       → directory_of_bytes (source.left old.directory) ≡ Ok d → opens d (seen (station.calls old.station)) ≡ Ok n
       → is_checkpoint (selected_bytes (seen (station.calls old.station))) ≡ false → IsWhole d (source.left old.capture) steps
+      → HasRoom d (seen (station.calls old.station)) steps
       → (Rose (source.faults old.directory) (source.faults new.directory) → ⊥)
       → (Rose (source.faults old.capture) (source.faults new.capture) → ⊥)
       → (Rose (station.say_faults old.station) (station.say_faults new.station) → ⊥)
       → (Rose (station.disk_faults old.station) (station.disk_faults new.station) → ⊥)
-      → ((used need limit : ℕ) → status ≡ Full used need limit → ⊥) → (status ≡ Done) ⊎ (status ≡ NoMemory)
+      → (status ≡ Done) ⊎ (status ≡ NoMemory)
   -- and where the files open to a fault, that is answered
   pub refused : source.tells → station.tells → (d : directories.Directory) (fault : OpenFault)
       → directory_of_bytes (source.left old.directory) ≡ Ok d → opens d (seen (station.calls old.station)) ≡ Err fault

@@ -1,13 +1,12 @@
 -- What an engine began with, and what a crash leaves of it, in the words of the journal.
-use Rattle.std.proofs.Common.{◌≡◌, inl, inr, ⊎_elim, true, ◌&&◌, List, [], ◌∷◌, ◌++◌, length, take, Option, Some, None, Result, Ok, refl, sym, ap, subst, ◌∙◌, arith, append_assoc}
-use Rattle.std.specs.Prelude.{IsTrue}
+use Rattle.std.proofs.Common.{◌≡◌, inl, inr, ⊎_elim, true, List, [], ◌∷◌, ◌++◌, length, take, Option, Some, None, Result, Ok, refl, sym, ap, subst, ◌∙◌, arith, append_assoc}
 use Rattle.std.specs.List.{list_all}
 use Rattle.std.proofs.lemmas.Bool.{and_parts}
 use Rattle.std.proofs.lemmas.List.{append-nil, append_cancel_left, take_all}
 use Rattle.gts_traits.specs.Calls.{Call, Outside, said_by, SaidSince}
-use Rattle.gts_traits.specs.Disk.{Files}
+use Rattle.gts_traits.specs.Disk.{Files, IsImage}
 use Rattle.gts_traits.specs.Moments.{EachSince}
-use Rattle.gts_traits.proofs.LawLemmas.{weaker}
+use Rattle.gts_traits.proofs.LawLemmas.{weaker, started}
 use Rattle.gts_directory.specs.Directory.{Directory}
 use Rattle.gts_event.specs.State.{State}
 use Rattle.gts_event.specs.History.{after_entry, after_all, restarted}
@@ -18,17 +17,22 @@ use Rattle.gts_event.specs.declared.event.Entry.{Entry}
 use Rattle.gts_event.specs.declared.event.Entry.TheVariants.{Done, Unsaid, Idle, Doubt, Restarted}
 use Rattle.gts_event.specs.declared.fault.Device.{Device}
 use Rattle.gts_event.specs.declared.fault.Device.TheVariants.{Disk, Say}
-use Rattle.gts_event.proofs.LawLemmas.{said-append}
+use Rattle.gts_event.proofs.LawLemmas.{said-append, restarted-same}
 use Rattle.gts_record.specs.declared.fault.OpenFault.{OpenFault}
 use Rattle.gts_core.specs.Core.{Holds}
 use Rattle.gts_opening.specs.Journal.{opens}
-use Rattle.gts_opening.specs.Room.{HasDoubt, HasUnsaid, IsReading, StopsOnce, is_idle}
+use Rattle.gts_opening.specs.Room.{HasUnsaid, IsReading, StopsOnce, is_idle}
 use Rattle.gts_opening.specs.Crash.{LeavesReading, IsLeftNow, LeavesWhole}
-use Rattle.gts_opening.proofs.LawLemmas.{opened-sound, opened-begins}
+use Rattle.gts_opening.proofs.LawLemmas.{opened-sound, opened-begins, caused-nothing}
+use Rattle.gts_engine.specs.declared.mode.SayMode.{SayMode}
 use Rattle.gts_engine.specs.declared.mode.SayMode.TheVariants.{Station}
 use Rattle.gts_engine.specs.Engine.{Engine, Shown}
 use Rattle.gts_engine.specs.Origin.{Origin, history_of, state_at, told}
 use Rattle.gts_engine.specs.Keeping.{LeavesFront, SaysFront, HasSaid, HasFailed, Keeps, HasRead}
+use Rattle.gts_engine.proofs.EntryLemmas.{none_behind, nothing_said, only_itself, read_itself}
+use Rattle.gts_engine.proofs.LeavingLemmas.{whole}
+use Rattle.gts_engine.proofs.GoingLemmas.{both_held}
+use Rattle.gts_engine.proofs.BeginLemmas.{no_doubt_yet, no_unsaid_yet}
 use Rattle.gts_engine.proofs.ReopenLemmas.{opens_by, held_same}
 
 -- ---- an engine that was opened
@@ -162,4 +166,43 @@ now_leaves tells o entries e files outside tell kept here =
         opened = left.2 ∙ ap (λ (l : List Entry). Ok (need o.directory (restarted (state_at o l)))) (sym same);
         heard_before = (heard.0, ap (said o.directory (begun o.start)) same ∙ heard.1);
       };
+    }
+
+-- ---- a history begins anew
+
+-- what an image opens to now, whatever state of its need the core holds
+opens_now : (tells : Type 0) (mode : SayMode) (o : Origin) (entries : List Entry) (e : Shown) (t : State) → Keeps tells mode o entries e → e.stopped ≡ None → Holds o.directory e.core t → tells
+    → (files : Files) → IsImage e.calls files → opens o.directory files ≡ Ok (need o.directory (restarted t))
+opens_now tells mode o entries e t kept going holds tell files image =
+    let F : Option Device → Type 0 = λ x. HasFailed x entries in
+    let failed : HasFailed None entries = subst F going kept.failed in
+    let left = (kept.leaves tell).now files image in
+    let read : left.0 ≡ entries = only_itself entries left.0 failed.0 left.1 in
+    let here : Holds o.directory e.core (state_at o entries) = kept.core going in
+    left.2 ∙ ap (λ (l : List Entry). Ok (need o.directory (restarted (state_at o l)))) read
+    ∙ ap {A = Need} (λ n. Ok n) (restarted-same o.directory (state_at o entries) t here.keeps (both_held o.directory e.core (state_at o entries) t here holds)).same
+
+pub begins_anew : (tells : Type 0) (mode : SayMode) (o : Origin) (entries : List Entry) (e : Shown) (n : Need) → Keeps tells mode o entries e → e.stopped ≡ None → Holds e.directory e.core (begun n)
+    → Keeps tells mode (record { directory = e.directory; start = n; used = e.used; calls = e.calls }) [] e
+begins_anew tells mode o entries e n kept going holds =
+    let p : Origin = record { directory = e.directory; start = n; used = e.used; calls = e.calls } in
+    let own : IsReading [] [] = read_itself [] no_doubt_yet in
+    let F : Option Device → Type 0 = λ x. HasFailed x [] in
+    let opened : tells → (files : Files) → IsImage e.calls files → opens e.directory files ≡ Ok (need e.directory (restarted (begun n))) = λ tell.
+    let O : Directory → Type 0 = λ d. Holds d e.core (begun n) → (files : Files) → IsImage e.calls files → opens d files ≡ Ok (need d (restarted (begun n))) in
+    subst O (sym kept.directory) (λ h. opens_now tells mode o entries e (begun n) kept going h tell) holds in
+    record {
+      directory = refl;
+      core = λ still. holds;
+      used = λ still. omega arith;
+      failed = subst F (sym going) (no_doubt_yet, no_unsaid_yet);
+      once = λ front y back is stop. absurd (none_behind y front y back is);
+      caused = caused-nothing e.directory (history_of p []) [];
+      leaves = λ tell.
+          let R : Option Device → Type 0 = λ x. HasSaid mode p [] x e.calls in
+          record {
+            moments = started e.calls (LeavesFront mode p []) (λ files image. whole mode p [] [] files [] [] own (opened tell files image) (nothing_said mode));
+            now = λ files image. ([], own, opened tell files image);
+            said = subst R (sym going) (sym (append-nil (said_by e.calls)) ∙ ap (λ (l : Outside). said_by e.calls ++ l) (sym (nothing_said mode)));
+          };
     }

@@ -8,6 +8,7 @@ use crate::opening::{open_engine, refusal};
 use gts_event::SwitchFault;
 use gts_replay::ReplayEnd;
 use gts_traits::{Source, Station};
+use gts_turns::Switch;
 use std::alloc::Global;
 
 /// The status of how a capture ended. A switch that had stopped before, or was given up, ends none: an engine that was just
@@ -46,6 +47,8 @@ pub fn replay<S: Source, P: Station>(
         Ok(engine) => engine,
         Err(refused) => return refused,
     };
+    // A directory has few circuits, so a capture has one reading.
+    let _few = Switch::circuits(&engine);
     let end = gts_replay::replay(alloc, &mut engine, capture);
     let (station, _directory) = engine.into_parts();
     (status_of(end), station)

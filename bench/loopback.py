@@ -1,0 +1,216 @@
+"""Neighbours of the switch over loopback, for scripts: frames, a directory with ports, neighbours as threads, and the
+built switch in a folder of its own. Python's standard library alone; nothing listens anywhere but on 127.0.0.1."""
+import os
+import socket
+import struct
+import subprocess
+import threading
+import time
+
+HOST = '127.0.0.1'
+EOL = b'\r\r\n'
+
+
+def frame(number, heading, text):
+    """The frame of a message with this number, heading and text."""
+    message = b'\x01' + EOL + b'%03d' % number + EOL + heading + EOL + text + EOL + b'\x03'
+    return b'%08dAN' % len(message) + message
+
+
+def messages_of(stream):
+    """The messages of the frames of a stream, and the bytes behind the last whole one."""
+    messages, at = [], 0
+    while at + 10 <= len(stream):
+        end = at + 10 + int(stream[at:at + 8])
+        if end > len(stream):
+            break
+        messages.append(stream[at + 10:end])
+        at = end
+    return messages, stream[at:]
+
+
+def number_of(message):
+    """The number of a message that the switch wrote."""
+    return int(message[4:7])
+
+
+def body_of(message):
+    """All of a message from its heading on."""
+    return message[10:]
+
+
+def free_ports(count):
+    """Ports on which nobody listens now."""
+    held = [socket.create_server((HOST, 0)) for _ in range(count)]
+    ports = [one.getsockname()[1] for one in held]
+    for one in held:
+        one.close()
+    return ports
+
+
+def directory(names, receivers, ports):
+    """The directory of circuits with these names, each with two ports; every heading goes to the receivers."""
+    rows = ['centre = "TVSV"']
+    for place, name in enumerate(names):
+        peer = chr(ord('A') + place) * 4
+        rows += ['[[circuit]]', f'name = "{name}"', f'peer = "{peer}"']
+        rows += [f'input = {ports[2 * place]}', f'output = {ports[2 * place + 1]}']
+    to = ', '.join(f'"{name}"' for name in receivers)
+    rows += ['[[rule]]', 'heading = "****** ****"', f'to = [{to}]']
+    return '\n'.join(rows) + '\n'
+
+
+class Neighbour(threading.Thread):
+    """A neighbour of one circuit: it listens on the port `output`, connects to the port `input`, sends what `say` sends,
+    and reads to the end. Its listener stands as soon as it is made."""
+
+    def __init__(self, input_port, output_port, say, seconds, listens_to_end=True, room=None):
+        super().__init__(daemon=True)
+        self.input_port = input_port
+        self.say = say
+        self.deadline = time.monotonic() + seconds
+        self.listens_to_end = listens_to_end
+        self.got = bytearray()
+        self.arrivals = 0
+        self.first_frame_at = None
+        self.said_at = None
+        self.fault = None
+        self.may_leave = threading.Event()
+        self.listener = socket.socket(socket.AF_INET, socket.SOCK_STREAM)
+        self.listener.setsockopt(socket.SOL_SOCKET, socket.SO_REUSEADDR, 1)
+        if room is not None:
+            self.listener.setsockopt(socket.SOL_SOCKET, socket.SO_RCVBUF, room)
+        self.listener.bind((HOST, output_port))
+        self.listener.listen()
+        self.listener.settimeout(seconds)
+
+    def left(self):
+        return max(0.1, self.deadline - time.monotonic())
+
+    def connect(self):
+        while True:
+            try:
+                return socket.create_connection((HOST, self.input_port), self.left())
+            except ConnectionRefusedError:
+                if time.monotonic() > self.deadline:
+                    raise
+                time.sleep(0.01)
+
+    def speak(self, to):
+        try:
+            self.say(self, to)
+        except OSError as error:
+            self.fault = error
+        self.said_at = time.monotonic()
+
+    def hear(self, connection):
+        whole = 0
+        while True:
+            piece = connection.recv(1 << 16)
+            if not piece:
+                return
+            self.got += piece
+            while whole + 10 <= len(self.got):
+                end = whole + 10 + int(self.got[whole:whole + 8])
+                if end > len(self.got):
+                    break
+                whole = end
+                self.arrivals += 1
+                if self.first_frame_at is None:
+                    self.first_frame_at = time.monotonic()
+
+    def run(self):
+        try:
+            to = self.connect()
+            connection, _ = self.listener.accept()
+            to.settimeout(self.left())
+            connection.settimeout(self.left())
+            speaker = threading.Thread(target=self.speak, args=(to,), daemon=True)
+            speaker.start()
+            if self.listens_to_end:
+                self.hear(connection)
+            else:
+                self.may_leave.wait(self.left())
+            connection.close()
+            speaker.join(self.left())
+            to.close()
+        except OSError as error:
+            self.fault = error
+        finally:
+            self.listener.close()
+
+    def awaits(self, frames, seconds):
+        """Whether so many whole frames have come within so many seconds."""
+        until = time.monotonic() + seconds
+        while self.arrivals < frames and time.monotonic() < until:
+            time.sleep(0.01)
+        return self.arrivals >= frames
+
+
+def says(*pieces):
+    """A neighbour that sends these pieces and ends its stream."""
+    def say(_neighbour, to):
+        for piece in pieces:
+            to.sendall(piece)
+        to.shutdown(socket.SHUT_WR)
+    return say
+
+
+def reset(to):
+    """Breaks a connection, so that the other side's next read fails."""
+    to.setsockopt(socket.SOL_SOCKET, socket.SO_LINGER, struct.pack('ii', 1, 0))
+    to.close()
+
+
+class Switch:
+    """The built switch in a folder, with this directory and a new journal."""
+
+    def __init__(self, program, folder, text):
+        self.program = program
+        self.folder = folder
+        self.process = None
+        os.makedirs(folder)
+        with open(self.path('directory.toml'), 'w') as file:
+            file.write(text)
+        self.run('init')
+
+    def path(self, name):
+        return os.path.join(self.folder, name)
+
+    def run(self, word, seconds=60):
+        done = subprocess.run([self.program, word], cwd=self.folder, capture_output=True, timeout=seconds)
+        return done.returncode, done.stdout, done.stderr.decode().strip()
+
+    def serve(self):
+        with open(self.path('receipts'), 'wb') as out, open(self.path('faults'), 'wb') as err:
+            self.process = subprocess.Popen([self.program, 'serve'], cwd=self.folder, stdout=out, stderr=err)
+
+    def receipts(self):
+        with open(self.path('receipts'), 'rb') as file:
+            return file.read().decode().splitlines()
+
+    def end(self, seconds):
+        """Its exit status and its line, or a note that it didn't end in time."""
+        try:
+            status = self.process.wait(seconds)
+        except subprocess.TimeoutExpired:
+            self.stop()
+            return None, f'no end within {seconds} seconds'
+        with open(self.path('faults'), 'rb') as file:
+            return status, file.read().decode().strip()
+
+    def stop(self):
+        """Ends this process, and no other."""
+        if self.process is not None and self.process.poll() is None:
+            self.process.kill()
+            self.process.wait()
+
+    def replay(self, capture, seconds=60):
+        with open(self.path('capture.gts'), 'wb') as file:
+            file.write(capture)
+        return self.run('replay', seconds)
+
+
+def knows_serve(program, folder):
+    """Whether the program has the command: an unknown word ends with status 2, and `serve` without a directory doesn't."""
+    return subprocess.run([program, 'serve'], cwd=folder, capture_output=True, timeout=60).returncode != 2

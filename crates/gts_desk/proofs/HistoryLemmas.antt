@@ -1,0 +1,135 @@
+-- Entries under a name, their frames, and a desk's calls one after another.
+use Rattle.std.proofs.Common.{◌≡◌, ℕ, ◌==◌, List, [], ◌∷◌, ◌++◌, Bool, true, false, cond, refl, sym, ap, ◌∙◌, subst, arith, append_assoc}
+use Rattle.std.specs.List.{filter}
+use Rattle.std.proofs.lemmas.List.{append-nil}
+use Rattle.std.proofs.lemmas.List.Elements.{filter-append}
+use mathlib.Core.List.{map-append}
+use Rattle.gts_directory.specs.Directory.{Directory}
+use Rattle.gts_event.specs.State.{State}
+use Rattle.gts_event.specs.Need.{begun}
+use Rattle.gts_event.specs.History.{after_entry, after_all}
+use Rattle.gts_event.specs.declared.event.Entry.{Entry}
+use Rattle.gts_lock.specs.History.{entries, entries_under, StartsWith}
+use Rattle.gts_desk.specs.Desks.{Seen, own, state_at, Adds, AddsJust, IsSpent, GoesOn}
+use Rattle.gts_desk.specs.Frames.{frame_of, frames, own_frames}
+
+abbrev History : Type 0
+History = List (ℕ × Entry)
+
+-- no more is said of an entry than that it was added
+pub just : (old new : Seen) (entry : Entry) (Holds : State → Type 0) → Adds old entry Holds new → AddsJust old entry new
+just old new entry Holds adds = record { others = adds.others; is = adds.is; strange = adds.strange; alone = adds.alone; holds = tt; caused = adds.caused }
+
+under_append : (n : ℕ) (xs ys : History) → entries_under n (xs ++ ys) ≡ entries_under n xs ++ entries_under n ys
+under_append n xs ys =
+    let f : ℕ × Entry → Bool = λ y. y.0 == n in
+    ap entries (filter-append f xs ys) ∙ map-append (λ (y : ℕ × Entry). y.1) (filter f xs) (filter f ys)
+
+same_name : (n : ℕ) → (n == n) ≡ true
+same_name n = grind arith
+
+under_one : (n : ℕ) (e : Entry) → entries_under n ((n, e) ∷ []) ≡ e ∷ []
+under_one n e = let P : Bool → Type 0 = λ b. entries (cond b ((n, e) ∷ []) []) ≡ e ∷ [] in subst P (sym (same_name n)) refl
+
+frames_append : (d : Directory) (s : State) (name : ℕ) (xs ys : History)
+    → frames d s name (xs ++ ys) ≡ frames d s name xs ++ frames d (after_all d s (entries xs)) name ys
+frames_append d s name [] ys = refl
+frames_append d s name (x ∷ xs) ys =
+    let f : List ℕ = cond (x.0 == name) (frame_of d s x.1) [] in
+    let t : State = after_entry d s x.1 in
+    ap (λ (l : List ℕ). f ++ l) (frames_append d t name xs ys) ∙ sym (append_assoc f (frames d t name xs) (frames d (after_all d t (entries xs)) name ys))
+
+not_empty : {A : Type 0} (x : A) (xs : List A) → x ∷ xs ≡ [] → ⊥
+not_empty x xs e = cc e
+
+-- entries under other names draw nothing for this one
+frames_none : (d : Directory) (s : State) (name : ℕ) (ys : History) → entries_under name ys ≡ [] → frames d s name ys ≡ []
+frames_none d s name [] none = refl
+frames_none d s name (x ∷ xs) none = choose (frames_none d (after_entry d s x.1) name xs) (x.0 == name) refl
+  where
+    P : Bool → Type 0
+    P b = entries (cond b (x ∷ filter (λ (y : ℕ × Entry). y.0 == name) xs) (filter (λ (y : ℕ × Entry). y.0 == name) xs)) ≡ []
+
+    choose : (entries_under name xs ≡ [] → frames d (after_entry d s x.1) name xs ≡ []) → (b : Bool) → (x.0 == name) ≡ b → frames d s name (x ∷ xs) ≡ []
+    choose behind true is = absurd (not_empty x.1 (entries_under name xs) (subst P is none))
+    choose behind false is =
+        let Q : Bool → Type 0 = λ b. cond b (frame_of d s x.1) [] ++ frames d (after_entry d s x.1) name xs ≡ [] in
+        subst Q (sym is) (behind (subst P is none))
+
+frames_one : (d : Directory) (s : State) (name : ℕ) (e : Entry) → frames d s name ((name, e) ∷ []) ≡ frame_of d s e
+frames_one d s name e =
+    let Q : Bool → Type 0 = λ b. cond b (frame_of d s e) [] ++ [] ≡ frame_of d s e in
+    subst Q (sym (same_name name)) (append-nil (frame_of d s e))
+
+module _ (old new : Seen) (entry : Entry) (adds : AddsJust old entry new) where
+  -- the desk's own entries get the one
+  pub own_added : own new ≡ own old ++ entry ∷ []
+  own_added =
+      ap own adds.is
+      ∙ under_append old.name (old.history ++ adds.others) ((old.name, entry) ∷ [])
+      ∙ ap (λ (l : List Entry). entries_under old.name (old.history ++ adds.others) ++ l) (under_one old.name entry)
+      ∙ ap (λ (l : List Entry). l ++ entry ∷ [])
+      (under_append old.name old.history adds.others ∙ ap (λ (l : List Entry). own old ++ l) adds.strange ∙ append-nil (own old))
+
+  pub goes_on : GoesOn old new
+  goes_on = record {
+    hall = ap (λ (d : Seen). d.hall) adds.is;
+    directory = ap (λ (d : Seen). d.directory) adds.is;
+    start = ap (λ (d : Seen). d.start) adds.is;
+    used = ap (λ (d : Seen). d.used) adds.is;
+    name = ap (λ (d : Seen). d.name) adds.is;
+    alone = ap (λ (d : Seen). d.alone) adds.is;
+    later = (
+      adds.others ++ (old.name, entry) ∷ [],
+      ap (λ (d : Seen). d.history) adds.is ∙ append_assoc old.history adds.others ((old.name, entry) ∷ []),
+    );
+  }
+
+  pub frames_added : own_frames new ≡ own_frames old ++ frame_of old.directory (state_at old (old.history ++ adds.others)) entry
+  frames_added =
+      let d : Directory = old.directory in
+      let s : State = begun old.start in
+      let n : ℕ = old.name in
+      let before : History = old.history ++ adds.others in
+      ap own_frames adds.is
+      ∙ frames_append d s n before ((n, entry) ∷ [])
+      ∙ ap (λ (l : List ℕ). l ++ frames d (after_all d s (entries before)) n ((n, entry) ∷ []))
+      (frames_append d s n old.history adds.others
+      ∙ ap (λ (l : List ℕ). frames d s n old.history ++ l) (frames_none d (after_all d s (entries old.history)) n adds.others adds.strange)
+      ∙ append-nil (frames d s n old.history))
+      ∙ ap (λ (l : List ℕ). frames d s n old.history ++ l) (frames_one d (after_all d s (entries before)) n entry)
+
+module _ (old new : Seen) (spent : IsSpent old new) where
+  pub own_spent : own new ≡ own old
+  own_spent = ap own spent.is
+
+  pub frames_spent : own_frames new ≡ own_frames old
+  frames_spent = ap own_frames spent.is
+
+  pub goes_on_spent : GoesOn old new
+  goes_on_spent = record {
+    hall = ap (λ (d : Seen). d.hall) spent.is;
+    directory = ap (λ (d : Seen). d.directory) spent.is;
+    start = ap (λ (d : Seen). d.start) spent.is;
+    used = ap (λ (d : Seen). d.used) spent.is;
+    name = ap (λ (d : Seen). d.name) spent.is;
+    alone = ap (λ (d : Seen). d.alone) spent.is;
+    later = ([], ap (λ (d : Seen). d.history) spent.is ∙ sym (append-nil old.history));
+  }
+
+starts_later : (a b c : History) → StartsWith b a → StartsWith c b → StartsWith c a
+starts_later a b c s t = (s.0 ++ t.0, t.1 ∙ ap (λ (l : History). l ++ t.0) s.1 ∙ append_assoc a s.0 t.0)
+
+pub goes_further : (a b c : Seen) → GoesOn a b → GoesOn b c → GoesOn a c
+goes_further a b c s t = record {
+  hall = t.hall ∙ s.hall;
+  directory = t.directory ∙ s.directory;
+  start = t.start ∙ s.start;
+  used = t.used ∙ s.used;
+  name = t.name ∙ s.name;
+  alone = t.alone ∙ s.alone;
+  later = starts_later a.history b.history c.history s.later t.later;
+}
+
+pub stays : (d : Seen) → GoesOn d d
+stays d = record { hall = refl; directory = refl; start = refl; used = refl; name = refl; alone = refl; later = ([], sym (append-nil d.history)) }

@@ -1,0 +1,98 @@
+-- What a desk has seen, and what a call on it adds.
+use Rattle.std.specs.Prelude.{◌≡◌, ◌⊎◌, ℕ, Bool, true, false, List, [], ◌∷◌, ◌++◌, Result, Ok, Err, Option}
+use Rattle.atomic_table.specs.Seated.{TableId}
+use Rattle.gts_directory.specs.Directory.{Directory}
+use Rattle.gts_event.specs.State.{State}
+use Rattle.gts_event.specs.Need.{Need, begun}
+use Rattle.gts_event.specs.History.{outcome, after, after_all}
+use Rattle.gts_event.specs.Said.{line}
+use Rattle.gts_event.specs.declared.event.Event.{Event}
+use Rattle.gts_event.specs.declared.event.Event.TheVariants.{Taken}
+use Rattle.gts_event.specs.declared.event.Entry.{Entry}
+use Rattle.gts_event.specs.declared.event.Entry.TheVariants.{Done, Unsaid, Idle, Doubt}
+use Rattle.gts_event.specs.declared.outcome.Outcome.{Outcome}
+use Rattle.gts_event.specs.declared.outcome.Outcome.TheVariants.{Resend, Draw}
+use Rattle.gts_event.specs.declared.fault.SwitchFault.{SwitchFault}
+use Rattle.gts_event.specs.declared.fault.SwitchFault.TheVariants.{DiskFault, SayFault, Full, Stopped, Spent, NoMemory}
+use Rattle.gts_opening.specs.Room.{History, IsCaused}
+use Rattle.gts_lock.specs.History.{entries, entries_under, StartsWith}
+
+-- What a desk has seen: the hall that it is at, or none; the directory; what the history starts from, and the bytes of the
+-- journal there; the desk's own name; whether it is alone, so that there are no entries of others; whether no turn was left; and
+-- the history so far, each entry with the name of the desk that added it.
+pub record Seen : Type 0 where
+  pub hall : Option TableId
+  pub directory : Directory
+  pub start : Need
+  pub used : ℕ
+  pub name : ℕ
+  pub alone : Bool
+  pub full : Bool
+  pub history : List (ℕ × Entry)
+
+-- the desk's own entries
+abbrev pub own : Seen → List Entry
+own d = entries_under d.name d.history
+
+-- the history that the desk stands for, without the names
+abbrev pub history_of : Seen → History
+history_of d = record { start = d.start; used = d.used; entries = entries d.history }
+
+-- the state after some history with this start
+abbrev pub state_at : Seen → List (ℕ × Entry) → State
+state_at d history = after_all d.directory (begun d.start) (entries history)
+
+-- Entries of others may have come, and then this one, the desk's own. Before it the state was one of which this holds. Each
+-- entry has its cause.
+pub record Adds (old : Seen) (entry : Entry) (Holds : State → Type 0) (new : Seen) : Type 0 where
+  pub others : List (ℕ × Entry)
+  pub is : new ≡ record old { history = (old.history ++ others) ++ (old.name, entry) ∷ [] }
+  pub strange : entries_under old.name others ≡ []
+  pub alone : old.alone ≡ true → others ≡ []
+  pub holds : Holds (state_at old (old.history ++ others))
+  pub caused : IsCaused new.directory (history_of new) []
+
+-- an entry of which no more is said than that
+abbrev pub AddsJust : Seen → Entry → Seen → Type 0
+AddsJust old entry new = Adds old entry (λ s. Unit {0}) new
+
+-- no turn was left, which a desk that is alone never finds
+pub record IsSpent (old new : Seen) : Type 0 where
+  pub is : new ≡ record old { full = true }
+  pub among : old.alone ≡ false
+
+-- memory was wanting before anything was asked of the switch, at a desk that is alone
+pub record IsUntold (old new : Seen) : Type 0 where
+  pub is : new ≡ old
+  pub alone : old.alone ≡ true
+
+-- What a call for an event adds, by its answer, where Holds says more of an outcome and the state before. What was done is
+-- the event, and the answer is its outcome.
+abbrev pub Answers : Seen → Event → (Outcome → State → Type 0) → Result Outcome SwitchFault → Seen → Type 0
+Answers old event Holds (Ok o) new = Adds old (Done event) (λ s. (o ≡ outcome old.directory s event) × Holds o s) new
+Answers old event Holds (Err SayFault) new = AddsJust old (Unsaid event) new
+Answers old event Holds (Err DiskFault) new = AddsJust old (Doubt event) new
+Answers old event Holds (Err (Full used need limit)) new = AddsJust old (Idle event (Full used need limit)) new
+Answers old event Holds (Err (Stopped by)) new = AddsJust old (Idle event (Stopped by)) new
+Answers old event Holds (Err NoMemory) new = AddsJust old (Idle event NoMemory) new ⊎ IsUntold old new
+Answers old event Holds (Err Spent) new = IsSpent old new
+
+-- a call of whose outcome no more is said
+abbrev pub SaysNoMore : Outcome → State → Type 0
+SaysNoMore o s = Unit {0}
+
+-- A take leaves its frame: that of the draw of this index, drawn just now or earlier.
+abbrev pub LeavesFrame : Directory → ℕ → List ℕ → Outcome → State → Type 0
+LeavesFrame d c out (Resend index) s = out ≡ line (after d s (Taken c)) c index
+LeavesFrame d c out (Draw index) s = out ≡ line (after d s (Taken c)) c index
+LeavesFrame d c out _ s = Unit {0}
+
+-- the history went on, and the desk is the same
+pub record GoesOn (old new : Seen) : Type 0 where
+  pub hall : new.hall ≡ old.hall
+  pub directory : new.directory ≡ old.directory
+  pub start : new.start ≡ old.start
+  pub used : new.used ≡ old.used
+  pub name : new.name ≡ old.name
+  pub alone : new.alone ≡ old.alone
+  pub later : StartsWith new.history old.history

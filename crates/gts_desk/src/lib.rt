@@ -1,0 +1,12 @@
+//! The desk: where a circuit tells what came in on it and takes what is to go out, beside others that do the same. Contracts
+//! see the one history of all of them, and which entries of it are the desk's own.
+#![tactic(auto)]
+
+mod desk;
+mod laws;
+
+pub use desk::Desk;
+pub use laws::{
+    a_desk_goes_on_with_each_call, a_desk_that_is_spent_adds_nothing, each_call_adds_one_own_entry,
+    own_frames_are_those_of_own_entries,
+};

@@ -1,0 +1,2 @@
+mod StandingLemmas
+mod TurningLemmas

@@ -1,0 +1,201 @@
+-- What an engine stands for, with the entry that a call adds.
+use Rattle.std.proofs.Common.{◌≡◌, ◌≢◌, ◌⊎◌, inl, inr, ⊎_elim, ℕ, ◌+◌, ◌≤◌, List, [], ◌∷◌, ◌++◌, length, Option, Some, None, Result, Ok, Err, refl, sym, ap, subst, ◌∙◌, arith, length-append}
+use Rattle.std.specs.Prelude.{IsErrOf, IfOk, IfSome}
+use Rattle.gts_traits.specs.Calls.{Call, Outside, on, channel_bytes}
+use Rattle.gts_traits.proofs.LawLemmas.{channel_bytes-on}
+use Rattle.gts_traits.specs.Counts.{Rose}
+use Rattle.gts_frame.specs.declared.lost.LostField.{LostField}
+use Rattle.gts_directory.specs.Directory.{Directory}
+use Rattle.gts_event.specs.State.{State}
+use Rattle.gts_event.specs.History.{outcome, after, after_all, choice, Choice, Repeats, Draws, Nothing_waits}
+use Rattle.gts_event.specs.Said.{spoken, line}
+use Rattle.gts_event.specs.Need.{begun}
+use Rattle.gts_event.specs.declared.event.Event.{Event}
+use Rattle.gts_event.specs.declared.event.Event.TheVariants.{Lost, Taken}
+use Rattle.gts_event.specs.declared.event.Entry.{Entry}
+use Rattle.gts_event.specs.declared.event.Entry.TheVariants.{Done, Unsaid, Idle, Doubt}
+use Rattle.gts_event.specs.declared.outcome.Outcome.{Outcome}
+use Rattle.gts_event.specs.declared.outcome.Outcome.TheVariants.{Resend, Draw, Nothing}
+use Rattle.gts_event.specs.declared.fault.Device.{Device}
+use Rattle.gts_event.specs.declared.fault.SwitchFault.{SwitchFault}
+use Rattle.gts_event.specs.declared.fault.SwitchFault.TheVariants.{DiskFault, SayFault, Full, Stopped, Spent, NoMemory}
+use Rattle.gts_opening.specs.Room.{HasDoubt, HasUnsaid, IsAccepted}
+use Rattle.gts_core.specs.Core.{Says}
+use Rattle.gts_turns.specs.{IsTurn, HasTurnCause, entry_of}
+use Rattle.gts_engine.specs.declared.mode.SayMode.TheVariants.{Caller}
+use Rattle.gts_engine.specs.Engine.{Engine, shown}
+use Rattle.gts_engine.specs.Origin.{state_at}
+use Rattle.gts_engine.specs.Keeping.{Keeps, words_of}
+use Rattle.gts_desk.specs.{LeavesFrame}
+use Rattle.gts_housed.specs.Housed.{Beginning, Stands, Adds, entry_by}
+
+-- ---- the last of a list
+
+abbrev IsLast : List Entry → Entry → List Entry → Entry → Type 0
+IsLast xs x front y = (x ≡ y) ⊎ ((z : List Entry) × (xs ≡ front ++ y ∷ z))
+
+none_behind : (front : List Entry) (y : Entry) (back : List Entry) → [] ≡ front ++ y ∷ back → ⊥
+none_behind front y back e = let n : 0 ≡ length front + length (y ∷ back) = ap length e ∙ length-append front (y ∷ back) in omega (arith, n)
+
+split_last : (xs : List Entry) (x : Entry) (front : List Entry) (y : Entry) (back : List Entry) → xs ++ x ∷ [] ≡ front ++ y ∷ back → IsLast xs x front y
+split_last [] x [] y back e = let same : x ≡ y = cc in inl same
+split_last [] x (f ∷ front) y back e = absurd (none_behind front y back (let r : [] ≡ front ++ y ∷ back = cc in r))
+split_last (a ∷ xs) x [] y back e = let same : a ≡ y = cc in inr (xs, ap (λ (z : Entry). z ∷ xs) same)
+split_last (a ∷ xs) x (f ∷ front) y back e =
+    let same : a ≡ f = cc in let rest : xs ++ x ∷ [] ≡ front ++ y ∷ back = cc in
+    elim (split_last xs x front y back rest) as (λ _. IsLast (a ∷ xs) x (f ∷ front) y) [
+      | inl last ↦ inl last
+      | inr before ↦ inr (before.0, ap (λ (z : Entry). z ∷ xs) same ∙ ap (λ (zs : List Entry). f ∷ zs) before.1)
+    ]
+
+-- ---- the entry of an answer
+
+is_one : (event : Event) (result : Result Outcome SwitchFault) → result ≢ Err Spent → entry_of event result ≡ entry_by event result ∷ []
+is_one event (Ok o) some = refl
+is_one event (Err DiskFault) some = refl
+is_one event (Err SayFault) some = refl
+is_one event (Err (Full used need limit)) some = refl
+is_one event (Err (Stopped by)) some = refl
+is_one event (Err Spent) some = absurd (some refl)
+is_one event (Err NoMemory) some = refl
+
+doubt_of : (event other : Event) (result : Result Outcome SwitchFault) → entry_by event result ≡ Doubt other → IsErrOf result DiskFault
+doubt_of event other (Ok o) e = cc
+doubt_of event other (Err DiskFault) e = refl
+doubt_of event other (Err SayFault) e = cc
+doubt_of event other (Err (Full used need limit)) e = cc
+doubt_of event other (Err (Stopped by)) e = cc
+doubt_of event other (Err Spent) e = cc
+doubt_of event other (Err NoMemory) e = cc
+
+unsaid_of : (event other : Event) (result : Result Outcome SwitchFault) → entry_by event result ≡ Unsaid other → IsErrOf result SayFault
+unsaid_of event other (Ok o) e = cc
+unsaid_of event other (Err DiskFault) e = cc
+unsaid_of event other (Err SayFault) e = refl
+unsaid_of event other (Err (Full used need limit)) e = cc
+unsaid_of event other (Err (Stopped by)) e = cc
+unsaid_of event other (Err Spent) e = cc
+unsaid_of event other (Err NoMemory) e = cc
+
+-- ---- counts
+
+rose_on : (a b c : ℕ) → Rose a b → b ≤ c → Rose a c
+rose_on a b c rose later = omega (arith, rose, later)
+
+rose_from : (a b c : ℕ) → a ≤ b → Rose b c → Rose a c
+rose_from a b c later rose = omega (arith, later, rose)
+
+doubt_rose : (b : ℕ) (h : List Entry) (event : Event) (result : Result Outcome SwitchFault) (old new : ℕ)
+    → b ≤ old → (HasDoubt h → Rose b old) → old ≤ new → (IsErrOf result DiskFault → Rose old new)
+    → HasDoubt (h ++ entry_by event result ∷ []) → Rose b new
+doubt_rose b h event result old new from before later failed (front, other, back, e) =
+    ⊎_elim {C = Rose b new} (λ last. rose_from b old new from (failed (doubt_of event other result last)))
+        (λ earlier. rose_on b old new (before (front, other, earlier.0, earlier.1)) later)
+        (split_last h (entry_by event result) front (Doubt other) back e)
+
+unsaid_rose : (b : ℕ) (h : List Entry) (event : Event) (result : Result Outcome SwitchFault) (old new : ℕ)
+    → b ≤ old → (HasUnsaid h → Rose b old) → old ≤ new → (IsErrOf result SayFault → Rose old new)
+    → HasUnsaid (h ++ entry_by event result ∷ []) → Rose b new
+unsaid_rose b h event result old new from before later failed (front, other, back, e) =
+    ⊎_elim {C = Rose b new} (λ last. rose_from b old new from (failed (unsaid_of event other result last)))
+        (λ earlier. rose_on b old new (before (front, other, earlier.0, earlier.1)) later)
+        (split_last h (entry_by event result) front (Unsaid other) back e)
+
+-- ---- a call
+
+module _ {P : Type 0} (tells : Type 0) (calls : P → List Call) (disk say : P → ℕ) (b : Beginning) where
+  outcome_of : (h : List Entry) (event : Event) (result : Result Outcome SwitchFault) (old new : Engine P)
+      → IsTurn (words_of tells calls Caller) event result old new → Stands tells calls disk say b h old
+      → (a : Outcome) → result ≡ Ok a → a ≡ outcome b.origin.directory (state_at b.origin h) event
+  outcome_of h event result old new turn stands a ok =
+      let D : Directory → Type 0 = λ d. a ≡ outcome d (after_all d (begun b.origin.start) h) event in
+      subst D stands.keeps.directory (turn.outcome b.origin h stands.keeps a ok)
+
+  pub adds : (h : List Entry) (event : Event) (Holds : Outcome → State → Type 0) (result : Result Outcome SwitchFault) (old new : Engine P)
+      → IsTurn (words_of tells calls Caller) event result old new
+      → HasTurnCause result (disk old.station) (disk new.station) (say old.station) (say new.station)
+      → ((o : Outcome) → result ≡ Ok o → Holds o (state_at b.origin h))
+      → Stands tells calls disk say b h old → Adds tells calls disk say b h event Holds result new
+  adds h event Holds result old new turn cause leaves stands =
+      let o = b.origin in
+      let spent : result ≢ Err Spent = λ e. turn.caused o h stands.keeps Spent e in
+      let K : List Entry → Type 0 = λ es. Keeps tells Caller o (h ++ es) (shown calls new) in
+      record {
+        stands = record {
+          keeps = subst K (is_one event result spent) (turn.adds o h stands.keeps);
+          disk_later = omega (arith, stands.disk_later, cause.disk_later);
+          disk_failed = doubt_rose b.disk h event result (disk old.station) (disk new.station) stands.disk_later stands.disk_failed cause.disk_later cause.disk_failed;
+          say_later = omega (arith, stands.say_later, cause.say_later);
+          say_failed = unsaid_rose b.say h event result (say old.station) (say new.station) stands.say_later stands.say_failed cause.say_later cause.say_failed;
+        };
+        answers = λ a ok. (outcome_of h event result old new turn stands a ok, leaves a ok);
+        spent = spent;
+      }
+
+  -- ---- a take
+
+  -- what is said of a take is its frame
+  frame_said : (d : Directory) (s : State) (c : ℕ) (out : List ℕ) (o : Outcome) → o ≡ outcome d s (Taken c) → (o ≢ Nothing → spoken d s (Taken c) ≡ on (c + 1) out) → LeavesFrame d c out o s
+  frame_said d s c out o is says = go (choice d s c) refl o is says
+    where
+      same : (bytes : List ℕ) → on (c + 1) bytes ≡ on (c + 1) out → out ≡ bytes
+      same bytes e = sym (channel_bytes-on (c + 1) out) ∙ ap (channel_bytes (c + 1)) (sym e) ∙ channel_bytes-on (c + 1) bytes
+
+      said_of : Choice → Outside
+      said_of (Repeats index) = on (c + 1) (line (after d s (Taken c)) c index)
+      said_of (Draws index position) = on (c + 1) (line (after d s (Taken c)) c index)
+      said_of Nothing_waits = []
+
+      go : (ch : Choice) → choice d s c ≡ ch → (o : Outcome) → o ≡ outcome d s (Taken c) → (o ≢ Nothing → spoken d s (Taken c) ≡ on (c + 1) out) → LeavesFrame d c out o s
+      go (Repeats index) e o is says =
+          let o_is : o ≡ Resend index = is ∙ ap (λ (x : Choice). elim x [ Repeats index ↦ Resend index | Draws index position ↦ Draw index | Nothing_waits ↦ Nothing ]) e in
+          subst (λ (x : Outcome). LeavesFrame d c out x s) (sym o_is) (same (line (after d s (Taken c)) c index) (sym (ap said_of e) ∙ says (λ n. let z : Resend index ≡ Nothing = sym o_is ∙ n in cc z)))
+      go (Draws index position) e o is says =
+          let o_is : o ≡ Draw index = is ∙ ap (λ (x : Choice). elim x [ Repeats index ↦ Resend index | Draws index position ↦ Draw index | Nothing_waits ↦ Nothing ]) e in
+          subst (λ (x : Outcome). LeavesFrame d c out x s) (sym o_is) (same (line (after d s (Taken c)) c index) (sym (ap said_of e) ∙ says (λ n. let z : Draw index ≡ Nothing = sym o_is ∙ n in cc z)))
+      go Nothing_waits e o is says =
+          let o_is : o ≡ Nothing = is ∙ ap (λ (x : Choice). elim x [ Repeats index ↦ Resend index | Draws index position ↦ Draw index | Nothing_waits ↦ Nothing ]) e in
+          subst (λ (x : Outcome). LeavesFrame d c out x s) (sym o_is) tt
+
+  -- what is given is what the state says
+  pub leaves : (h : List Entry) (c : ℕ) (out : List ℕ) (result : Result Outcome SwitchFault) (old new : Engine P)
+      → IsTurn (words_of tells calls Caller) (Taken c) result old new
+      → IfOk result (λ o. o ≢ Nothing → Says old.core c out)
+      → IfSome old.stopped (λ by. (result ≡ Err (Stopped by)) × (new ≡ old))
+      → Stands tells calls disk say b h old
+      → (o : Outcome) → result ≡ Ok o → LeavesFrame b.origin.directory c out o (state_at b.origin h)
+  leaves h c out (Err f) old new turn says stopped stands o ok = absurd (let e : Err f ≡ Ok o = ok in cc e)
+  leaves h c out (Ok p) old new turn says stopped stands o ok =
+      let same : p ≡ o = cc ok in
+      let going : old.stopped ≡ None = goes_on p old.stopped stopped in
+      let holds = stands.keeps.core going in
+      frame_said b.origin.directory (state_at b.origin h) c out o (outcome_of h (Taken c) (Ok p) old new turn stands o ok)
+          (λ some. says (λ e. some (sym same ∙ e)) b.origin.directory (state_at b.origin h) holds)
+    where
+      goes_on : (p : Outcome) (by : Option Device) → IfSome by (λ d. (Ok p ≡ Err (Stopped d)) × (new ≡ old)) → by ≡ None
+      goes_on p None stopped = refl
+      goes_on p (Some d) stopped = absurd (let e : Ok p ≡ Err (Stopped d) = stopped.0 in cc e)
+
+  -- ---- memory is wanted only for a bulletin
+
+  pub lost_takes_none : (h : List Entry) (c : ℕ) (field : LostField) (result : Result Outcome SwitchFault) (old new : Engine P)
+      → IsTurn (words_of tells calls Caller) (Lost c field) result old new → Stands tells calls disk say b h old → result ≢ Err NoMemory
+  lost_takes_none h c field result old new turn stands e = turn.caused b.origin h stands.keeps NoMemory e
+
+  takes_accept_nothing : (d : Directory) (s : State) (c : ℕ) → IsAccepted (outcome d s (Taken c)) → ⊥
+  takes_accept_nothing d s c accepted = go (choice d s c) refl accepted
+    where
+      leads_to : Choice → Outcome
+      leads_to (Repeats index) = Resend index
+      leads_to (Draws index position) = Draw index
+      leads_to Nothing_waits = Nothing
+
+      go : (ch : Choice) → choice d s c ≡ ch → IsAccepted (outcome d s (Taken c)) → ⊥
+      go (Repeats index) e a = subst (λ (x : Choice). IsAccepted (leads_to x)) e a
+      go (Draws index position) e a = subst (λ (x : Choice). IsAccepted (leads_to x)) e a
+      go Nothing_waits e a = subst (λ (x : Choice). IsAccepted (leads_to x)) e a
+
+  pub take_takes_none : (h : List Entry) (c : ℕ) (result : Result Outcome SwitchFault) (old new : Engine P)
+      → IsTurn (words_of tells calls Caller) (Taken c) result old new → Stands tells calls disk say b h old → result ≢ Err NoMemory
+  take_takes_none h c result old new turn stands e =
+      takes_accept_nothing old.directory (after_all old.directory (begun b.origin.start) h) c (turn.caused b.origin h stands.keeps NoMemory e)

@@ -1,0 +1,6 @@
+use Rattle.gts_event.specs.declared.event.Event.TheVariants.{Heard}
+use Rattle.gts_housed.specs.Housed.{entry_by}
+use Rattle.gts_housed.proofs.turns.hear.Given as goal
+
+abbrev pub ghost-leave_heard : goal.ghost-leave_heard
+ghost-leave_heard g a = entry_by (Heard a.c a.kind a.message.now) a.answer

@@ -1,0 +1,4 @@
+use Rattle.gts_housed.proofs.turns.leave_heard.Given as goal
+
+abbrev pub ghost-leave : goal.ghost-leave
+ghost-leave g a = g.added

@@ -1,0 +1,45 @@
+use Rattle.std.proofs.Common.{◌≡◌, ◌<◌, ℕ, length, refl, sym, ap, ◌∙◌, subst}
+use Rattle.gts_lock.specs.{entries, entries_under, Known, after_adding}
+use Rattle.gts_directory.specs.Directory.{Directory}
+use Rattle.gts_event.specs.declared.event.Entry.{Entry}
+use Rattle.gts_event.specs.declared.event.Event.TheVariants.{Lost}
+use Rattle.gts_engine.specs.Engine.{Engine}
+use Rattle.gts_desk.specs.{SaysNoMore}
+use Rattle.gts_housed.specs.Housed.{Stands, entry_by}
+use Rattle.gts_housed.proofs.TurningLemmas.{answers}
+use Rattle.gts_housed.proofs.turns.lost.Goals as goal
+
+pub leave_lost-requires : goal.leave_lost-requires
+leave_lost-requires g c κs within =
+    let h = c.in-Ok.turn.pass.seen in
+    let S : Engine _ → Type 0 = λ e. Stands g.P.Station.tells g.P.Station.calls g.P.Station.disk_faults g.P.Station.say_faults g.B.Began.beginning (entries h) e in
+    let stands = subst S (ap (λ (v : _). v.engine) (sym c.value.ensures.value)) c.in-Ok.ensures.value in
+    let adds = c.lost-answer.ensures.adds (entries h) stands in
+    (within.0, (within.1, (refl, adds.stands)))
+
+pub returns-clause-answers : goal.returns-clause-answers
+returns-clause-answers g c =
+    let h = c.in-Ok.turn.pass.seen in
+    let S : Engine _ → Type 0 = λ e. Stands g.P.Station.tells g.P.Station.calls g.P.Station.disk_faults g.P.Station.say_faults g.B.Began.beginning (entries h) e in
+    let stands = subst S (ap (λ (v : _). v.engine) (sym c.value.ensures.value)) c.in-Ok.ensures.value in
+    let adds = c.lost-answer.ensures.adds (entries h) stands in
+    let t = c.in-Ok.ensures.same in
+    let R : Known Entry → Type 0 = λ k. k.own ≡ entries_under k.name h in
+    let same = subst R t c.in-Ok.ensures.accounts.0 in
+    let A : Known Entry → Type 0 = λ k. c.leave_lost.result ≡ after_adding k (entry_by (Lost c.args.c c.args.field) c.lost-answer.result) in
+    let is = subst A t c.leave_lost.ensures.pass in
+    answers g.P.Station.tells g.P.Station.calls g.P.Station.disk_faults g.P.Station.say_faults g.B.Began.beginning (Lost c.args.c c.args.field) SaysNoMore
+    c.args.pass c.leave_lost.result h c.lost-answer.new.self.engine c.in-Ok.ensures.later c.requires.own same c.lost-answer.result adds is
+
+pub lost-answer-requires : goal.lost-answer-requires
+lost-answer-requires g c =
+    let many : c.in-Ok.turn.value.engine.directory ≡ g.B.Began.beginning.origin.directory = c.in-Ok.ensures.value.keeps.directory in
+    let D : Engine _ → Type 0 = λ e. c.args.c < length e.directory.circuits in
+    subst D (ap (λ (v : _). v.engine) (sym c.value.ensures.value)) (let L : Directory → Type 0 = λ d. c.args.c < length d.circuits in subst L (sym many) c.requires.circuit)
+
+pub returns-clause-no_memory : goal.returns-clause-no_memory
+returns-clause-no_memory g c =
+    let h = c.in-Ok.turn.pass.seen in
+    let S : Engine _ → Type 0 = λ e. Stands g.P.Station.tells g.P.Station.calls g.P.Station.disk_faults g.P.Station.say_faults g.B.Began.beginning (entries h) e in
+    let stands = subst S (ap (λ (v : _). v.engine) (sym c.value.ensures.value)) c.in-Ok.ensures.value in
+    c.lost-answer.ensures.no_memory (entries h) stands

@@ -1,0 +1,64 @@
+-- The engine as a hall's value: what it stands for, and what a call on it adds.
+use Rattle.std.specs.Prelude.{◌≡◌, ◌≢◌, ℕ, ◌≤◌, List, [], ◌∷◌, ◌++◌, Result, Ok, Err}
+use Rattle.gts_traits.specs.Calls.{Call}
+use Rattle.gts_traits.specs.Counts.{Rose}
+use Rattle.gts_directory.specs.Directory.{Directory, directory_of}
+use Rattle.gts_event.specs.State.{State}
+use Rattle.gts_event.specs.History.{outcome}
+use Rattle.gts_event.specs.Need.{nothing}
+use Rattle.gts_event.specs.declared.event.Event.{Event}
+use Rattle.gts_event.specs.declared.event.Entry.{Entry}
+use Rattle.gts_event.specs.declared.event.Entry.TheVariants.{Done, Unsaid, Idle, Doubt}
+use Rattle.gts_event.specs.declared.outcome.Outcome.{Outcome}
+use Rattle.gts_event.specs.declared.fault.SwitchFault.{SwitchFault}
+use Rattle.gts_event.specs.declared.fault.SwitchFault.TheVariants.{DiskFault, SayFault, Spent}
+use Rattle.gts_opening.specs.Room.{HasDoubt, HasUnsaid}
+use Rattle.gts_engine.specs.declared.mode.SayMode.TheVariants.{Caller}
+use Rattle.gts_engine.specs.Engine.{Engine, shown}
+use Rattle.gts_engine.specs.Origin.{Origin, state_at}
+use Rattle.gts_engine.specs.Keeping.{Keeps}
+
+-- What a hall's history begins with: the engine's origin, and the counts of its station's faults by then.
+pub record Beginning : Type 0 where
+  pub origin : Origin
+  pub disk : ℕ
+  pub say : ℕ
+
+-- a beginning that no run has picked yet
+abbrev pub unset : Beginning
+unset = record {
+  origin = let d : Directory = directory_of [] [] [] in record { directory = d; start = nothing d; used = 0; calls = [] };
+  disk = 0;
+  say = 0;
+}
+
+-- The entry that a turn adds: its event as it was done; done and not said; in doubt; or idle, with the fault.
+abbrev pub entry_by : Event → Result Outcome SwitchFault → Entry
+entry_by event (Ok _) = Done event
+entry_by event (Err SayFault) = Unsaid event
+entry_by event (Err DiskFault) = Doubt event
+entry_by event (Err fault) = Idle event fault
+
+-- an answer behind these entries is the event's outcome, and what is said of it holds
+abbrev pub Answers : Beginning → List Entry → Event → (Outcome → State → Type 0) → Result Outcome SwitchFault → Type 0
+Answers b entries event Holds result =
+    (o : Outcome) → result ≡ Ok o
+    → (o ≡ outcome b.origin.directory (state_at b.origin entries) event)
+    × Holds o (state_at b.origin entries)
+
+module _ {P : Type 0} (tells : Type 0) (calls : P → List Call) (disk say : P → ℕ) (b : Beginning) where
+  -- An engine stands for these entries since the beginning: it keeps what an engine keeps whose caller says the frames, and
+  -- a device failed at one of them only where the count of its faults rose.
+  pub record Stands (entries : List Entry) (e : Engine P) : Type 0 where
+    pub keeps : Keeps tells Caller b.origin entries (shown calls e)
+    pub disk_later : b.disk ≤ disk e.station
+    pub disk_failed : HasDoubt entries → Rose b.disk (disk e.station)
+    pub say_later : b.say ≤ say e.station
+    pub say_failed : HasUnsaid entries → Rose b.say (say e.station)
+
+  -- a call adds its entry to those for which the engine stood
+  pub record Adds (entries : List Entry) (event : Event) (Holds : Outcome → State → Type 0)
+      (result : Result Outcome SwitchFault) (new : Engine P) : Type 0 where
+    pub stands : Stands (entries ++ entry_by event result ∷ []) new
+    pub answers : Answers b entries event Holds result
+    pub spent : result ≢ Err Spent

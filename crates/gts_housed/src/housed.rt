@@ -1,0 +1,78 @@
+ghost use Rattle.std.specs.Prelude.{◌≡◌, ◌≢◌, ◌<◌, List, length, Err};
+ghost use Rattle.gts_event.specs.declared.event.Entry.{Entry as EntryType};
+ghost use Rattle.gts_event.specs.declared.event.Event.TheVariants.{Heard, Lost, Taken};
+ghost use Rattle.gts_desk.specs.{SaysNoMore, LeavesFrame};
+ghost use Rattle.gts_housed.specs.Housed.{Stands, Adds};
+
+use crate::began::Began;
+use gts_engine::{Engine, SayMode};
+use gts_event::{Entry, Outcome, SwitchFault};
+use gts_frame::{FrameBuf, Kind, LostField};
+use gts_lock::Told;
+use gts_traits::Station;
+use std::alloc::Global;
+use std::marker::PhantomData;
+
+/// The engine as the value in a hall: it stands for the entries since the beginning that the run has picked.
+#[derive(Drop)]
+pub struct Housed<P: Station, B> {
+    pub engine: Engine<P>,
+    pub began: PhantomData<B>,
+}
+
+impl<P: Station, B: Began> Told for Housed<P, B> {
+    type Entry = Entry;
+
+    ghost use Rattle.gts_housed.specs.Housed.{Stands};
+
+    ghost stands = { λ housed entries.
+        Stands P.tells P.calls P.disk_faults P.say_faults B.beginning entries housed.engine };
+}
+
+impl<P: Station, B: Began> Housed<P, B> {
+    /// A message came whole on circuit `c`, in a frame of this type.
+    pub(crate) fn hear(
+        &mut self,
+        alloc: Global,
+        c: u32,
+        kind: Kind,
+        message: &[u8],
+    ) -> Result<Outcome, SwitchFault>
+        requires { c < length self.old.engine.directory.circuits }
+        ensures adds { (entries : List EntryType)
+            → Stands P.tells P.calls P.disk_faults P.say_faults B.beginning entries self.old.engine
+            → Adds P.tells P.calls P.disk_faults P.say_faults B.beginning entries
+                (Heard c kind message.now) SaysNoMore result self.new.engine }
+    {
+        self.engine.hear(alloc, c, kind, message)
+    }
+
+    /// Synchronisation was lost on circuit `c`, in this field of a frame.
+    pub(crate) fn lost(&mut self, c: u32, field: LostField) -> Result<Outcome, SwitchFault>
+        requires { c < length self.old.engine.directory.circuits }
+        ensures adds { (entries : List EntryType)
+            → Stands P.tells P.calls P.disk_faults P.say_faults B.beginning entries self.old.engine
+            → Adds P.tells P.calls P.disk_faults P.say_faults B.beginning entries
+                (Lost c field) SaysNoMore result self.new.engine }
+        ensures no_memory { (entries : List EntryType)
+            → Stands P.tells P.calls P.disk_faults P.say_faults B.beginning entries self.old.engine
+            → result ≢ Err SwitchFault.NoMemory }
+    {
+        self.engine.lost(c, field)
+    }
+
+    /// One take on circuit `c`: what it gives is left in `out`, and the station says nothing of it.
+    pub(crate) fn take(&mut self, c: u32, out: &mut FrameBuf) -> Result<Outcome, SwitchFault>
+        requires { c < length self.old.engine.directory.circuits }
+        ensures adds { (entries : List EntryType)
+            → Stands P.tells P.calls P.disk_faults P.say_faults B.beginning entries self.old.engine
+            → Adds P.tells P.calls P.disk_faults P.say_faults B.beginning entries
+                (Taken c) (LeavesFrame B.beginning.origin.directory c out.new) result self.new.engine }
+        ensures silent { result ≢ Err SwitchFault.SayFault }
+        ensures no_memory { (entries : List EntryType)
+            → Stands P.tells P.calls P.disk_faults P.say_faults B.beginning entries self.old.engine
+            → result ≢ Err SwitchFault.NoMemory }
+    {
+        self.engine.take(c, out, SayMode::Caller)
+    }
+}

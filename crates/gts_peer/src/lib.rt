@@ -1,0 +1,9 @@
+//! A neighbour of the switch, for runs on the machine itself.
+#![tactic(auto)]
+
+mod neighbour;
+
+pub use neighbour::talk;
+
+#[cfg(test)]
+mod tests;

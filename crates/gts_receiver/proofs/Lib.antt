@@ -1,0 +1,4 @@
+pub mod StepLemmas
+pub mod LossLemmas
+pub mod PieceLemmas
+pub mod TestLemmas

@@ -1,0 +1,64 @@
+use Rattle.std.proofs.Common.{rules, ℕ, ◌++◌, [], List, Bool, Ok, refl, sym, ap, ◌∙◌, subst, append_assoc}
+use Rattle.std.proofs.lemmas.List.{append-nil}
+use Rattle.gts_sender.specs.Sender.{Tried}
+use Rattle.gts_sender.proofs.DrawLemmas.{sending_nothing}
+use Rattle.gts_sender.proofs.sending.send.Goals as goal
+
+pub loop-init : goal.loop-init
+loop-init g c = record {
+  directory = refl;
+  sent = ([], sending_nothing c.args.c (g.D.Desk.seen c.args.desk.now), λ tells. sym (append-nil (g.K.Sink.written c.args.sink.now)));
+  later = search rules;
+  can = search rules;
+}
+
+pub loop-preserved-in-Ok-true : goal.loop-preserved-in-Ok-true
+loop-preserved-in-Ok-true g c =
+    let i = c.loop.invariant in
+    let t = c.in-Ok-true.ensures.tried in
+    let P : Bool → Type 0 = λ b. Tried c.args.c (g.D.Desk.seen c.args.desk.now) (g.D.Desk.seen c.send_one.new.desk) (i.sent.0 ++ t.0) (Ok b) in
+    record {
+      directory = search rules;
+      sent = (
+        i.sent.0 ++ t.0,
+        subst P c.in-Ok-true.field-0-test (t.1 (g.D.Desk.seen c.args.desk.now) i.sent.0 i.sent.1),
+        λ tells. t.2 tells ∙ ap (λ (l : List ℕ). l ++ t.0) (i.sent.2 tells) ∙ append_assoc (g.K.Sink.written c.args.sink.now) i.sent.0 t.0,
+      );
+      later = search rules;
+      can = search rules;
+    }
+
+pub returns-then-seen-clause-sent : goal.returns-then-seen-clause-sent
+returns-then-seen-clause-sent g c =
+    let i = c.loop.invariant in
+    let t = c.in-Ok-false.ensures.tried in
+    let P : Bool → Type 0 = λ b. Tried c.args.c (g.D.Desk.seen c.args.desk.now) (g.D.Desk.seen c.send_one.new.desk) (i.sent.0 ++ t.0) (Ok b) in (
+      i.sent.0 ++ t.0,
+      subst P c.in-Ok-false.field-0-test (t.1 (g.D.Desk.seen c.args.desk.now) i.sent.0 i.sent.1),
+      λ tells. t.2 tells ∙ ap (λ (l : List ℕ). l ++ t.0) (i.sent.2 tells) ∙ append_assoc (g.K.Sink.written c.args.sink.now) i.sent.0 t.0,
+    )
+
+pub loop-preserved : goal.loop-preserved
+loop-preserved g c =
+    let i = c.loop.invariant in
+    let t = c.in-Ok-false.ensures.tried in
+    let P : Bool → Type 0 = λ b. Tried c.args.c (g.D.Desk.seen c.args.desk.now) (g.D.Desk.seen c.send_one.new.desk) (i.sent.0 ++ t.0) (Ok b) in
+    record {
+      directory = search rules;
+      sent = (
+        i.sent.0 ++ t.0,
+        (subst P c.in-Ok-false.field-0-test (t.1 (g.D.Desk.seen c.args.desk.now) i.sent.0 i.sent.1)).0,
+        λ tells. t.2 tells ∙ ap (λ (l : List ℕ). l ++ t.0) (i.sent.2 tells) ∙ append_assoc (g.K.Sink.written c.args.sink.now) i.sent.0 t.0,
+      );
+      later = search rules;
+      can = search rules;
+    }
+
+pub returns-in-Err-clause-sent : goal.returns-in-Err-clause-sent
+returns-in-Err-clause-sent g c =
+    let i = c.loop.invariant in
+    let t = c.in-Err.ensures.tried in (
+      i.sent.0 ++ t.0,
+      t.1 (g.D.Desk.seen c.args.desk.now) i.sent.0 i.sent.1,
+      λ tells. t.2 tells ∙ ap (λ (l : List ℕ). l ++ t.0) (i.sent.2 tells) ∙ append_assoc (g.K.Sink.written c.args.sink.now) i.sent.0 t.0,
+    )

@@ -1,0 +1,12 @@
+//! One outgoing line of a circuit: what is drawn at a desk is written on it, frame by frame.
+#![tactic(auto)]
+
+mod end;
+mod sending;
+mod writing;
+
+pub use end::SendEnd;
+pub use sending::send;
+
+#[cfg(test)]
+mod tests;

@@ -1,0 +1,92 @@
+ghost use Rattle.std.specs.Prelude.{◌≡◌, ℕ, ◌<◌, ◌≤◌, List, ◌++◌, length, Err};
+ghost use Rattle.gts_traits.specs.Counts.{Rose};
+ghost use Rattle.gts_sender.specs.Sender.{given_index, Sends, SendsMore};
+
+use crate::SendEnd;
+use crate::writing::write_all;
+use gts_bell::Bell;
+use gts_desk::Desk;
+use gts_event::Outcome;
+use gts_frame::FrameBuf;
+use gts_traits::{Failed, Gate, Point, Sink};
+use std::sync::Wait;
+
+/// Sends on circuit `c`: writes the frame of each take, until the bell is closed and a take gives nothing. Where there is
+/// nothing, it sleeps at the bell. With a bell that is closed it writes what there is, and doesn't sleep. Takes no memory.
+pub fn send<R: Wait, D: Desk, K: Sink, G: Gate>(
+    rt: &R,
+    desk: &mut D,
+    c: u32,
+    sink: &mut K,
+    out: &mut FrameBuf,
+    bell: &Bell,
+    gate: &G,
+) -> SendEnd
+    requires { c < length (D.seen desk.old).directory.circuits }
+    ensures sent { (bytes : List ℕ) × Sends c (D.seen desk.old) (D.seen desk.new) bytes result
+        × (K.tells → K.written sink.new ≡ K.written sink.old ++ bytes) }
+    ensures later { K.faults sink.old ≤ K.faults sink.new }
+    ensures fault { (index : ℕ) → result ≡ SendEnd.LineFault index
+        → Rose (K.faults sink.old) (K.faults sink.new) }
+{
+    for _ in rt.forever() {
+        let seen = bell.look();
+        match send_one(desk, c, sink, out, gate) {
+            Ok(true) => {}
+            Ok(false) => {
+                if seen.closing {
+                    return SendEnd::Quiet;
+                }
+                bell.wait(rt, seen);
+            }
+            Err(end) => return end,
+        }
+    }
+    unreachable!()
+}
+
+/// Takes once, and writes the frame that was given. False where nothing was.
+fn send_one<D: Desk, K: Sink, G: Gate>(
+    desk: &mut D,
+    c: u32,
+    sink: &mut K,
+    out: &mut FrameBuf,
+    gate: &G,
+) -> Result<bool, SendEnd>
+    requires { c < length (D.seen desk.old).directory.circuits }
+    ensures directory { (D.seen desk.new).directory ≡ (D.seen desk.old).directory }
+    ensures tried { (bytes : List ℕ)
+        × SendsMore c (D.seen desk.old) (D.seen desk.new) bytes result
+        × (K.tells → K.written sink.new ≡ K.written sink.old ++ bytes) }
+    ensures later { K.faults sink.old ≤ K.faults sink.new }
+    ensures fault { (index : ℕ) → result ≡ Err (SendEnd.LineFault index)
+        → Rose (K.faults sink.old) (K.faults sink.new) }
+{
+    gate.at(Point::Take { c });
+    let outcome = match desk.take(c, out) {
+        Ok(outcome) => outcome,
+        Err(fault) => return Err(SendEnd::Fault(fault)),
+    };
+    let index = match index_of(outcome) {
+        Some(index) => index,
+        None => return Ok(false),
+    };
+    match write_all(sink, out.bytes()) {
+        Ok(()) => {
+            gate.at(Point::Sent { c });
+            Ok(true)
+        }
+        Err(Failed) => Err(SendEnd::LineFault { index }),
+    }
+}
+
+/// The index of the frame that a take left, where it gave something.
+fn index_of(outcome: Outcome) -> Option<u64>
+    ensures { result ≡ given_index outcome }
+{
+    match outcome {
+        Outcome::Resend { index } => Some(index),
+        Outcome::Draw { index } => Some(index),
+        _ => None,
+    }
+}

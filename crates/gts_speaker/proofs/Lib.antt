@@ -1,3 +1,0 @@
-pub mod SayingLemmas
-pub mod TurnLemmas
-pub mod LawLemmas

@@ -1,0 +1,12 @@
+-- What receivers and senders leave of their passes.
+use Rattle.std.proofs.Common.{◌≡◌, ℕ, List}
+use Rattle.gts_desk.specs.{Seen, GoesOn}
+use Rattle.gts_sender.specs.{Sends}
+use Rattle.gts_sender.specs.declared.end.SendEnd.{SendEnd}
+use Rattle.gts_sender.specs.declared.end.SendEnd.TheVariants.{Quiet, LineFault, Fault}
+
+-- a sender's history goes on, however it ends
+pub sends-on : (c : ℕ) (old new : Seen) (bytes : List ℕ) (end : SendEnd) → Sends c old new bytes end → GoesOn old new
+sends-on c old new bytes Quiet s = s.0.desk
+sends-on c old new bytes (LineFault index) s = s.desk
+sends-on c old new bytes (Fault fault) s = s.desk

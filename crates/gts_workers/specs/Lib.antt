@@ -1,0 +1,2 @@
+pub mod Working
+pub use Rattle.gts_workers.specs.Working.{Work, Socket, Reads, Writes, fresh, receiver_name, sender_name, name_at, has_end, ReceiverKeeps, SenderKeeps, LineKeeps, PassKeeps, ends}
