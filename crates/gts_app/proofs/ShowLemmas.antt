@@ -52,9 +52,9 @@ not_shown source w status od nd old new result is h =
             | inl x ↦ absurd (no_fault d x.0 (directory_of_bytes (source.left od)) read ((r.directory x.0 x.1).1 tells))
             | inr rest ↦ elim rest [
               | inl x ↦
-                let j = r.journal x.0 x.2 x.1 tells told in
-                let same = same_directory j.0 d (directory_of_bytes (source.left od)) j.1 read in
-                absurd (one_answer n x.0 (opens d (seen (w.calls old))) opened (subst (λ (y : directories.Directory). opens y (seen (w.calls old)) ≡ Err x.0) same (j.2 plain)))
+                  let j = r.journal x.0 x.2 x.1 tells told in
+                  let same = same_directory j.0 d (directory_of_bytes (source.left od)) j.1 read in
+                  absurd (one_answer n x.0 (opens d (seen (w.calls old))) opened (subst (λ (y : directories.Directory). opens y (seen (w.calls old)) ≡ Err x.0) same (j.2 plain)))
               | inr more ↦ elim more [
                 | inl failed ↦ absurd (kept_disk (r.disk_fault failed))
                 | inr last ↦ elim last [
@@ -91,7 +91,6 @@ goes_on (Some Say) failed = absurd (none_before _ failed.0 failed.2 failed.3)
 
 module _ {S P : Type 0} (source : SourceWords S) (w : StationWords P) (od nd : S) (old : P) (e : Engine P) (result : Result (Engine P) (Status × P))
     (is : result ≡ Ok e) (h : Opens source w result od nd old) where
-
   -- the station is that behind the sync
   synced : w.tells → w.calls e.station ≡ Did Syncs ∷ w.calls old
   synced told = (h.opened e is told).2.0.synced
@@ -131,7 +130,6 @@ module _ {S P : Type 0} (source : SourceWords S) (w : StationWords P) (od nd : S
 
   module _ (text : List ℕ) (told_of : (s : State) → Holds e.directory e.core s → text ≡ report e.directory (need e.directory s))
       (starts : (d : directories.Directory) (n : Need) → IsTrue (is_sound d n) → need d (begun n) ≡ n) (at new : P) (same : at ≡ e.station) where
-
     -- the text is the report of what the files open to
     reported : (OfText : List ℕ → Type 0) → (w.tells → OfText text) → Reported source w od old OfText
     reported OfText of tells told =
@@ -183,7 +181,7 @@ module _ {S P : Type 0} (source : SourceWords S) (w : StationWords P) (od nd : S
           say_fault = λ of. (
             rose_here,
             reported (λ (t : List ℕ). Breaks (Says 0 t) (Did Syncs ∷ w.calls old) (w.calls new))
-            (λ told. subst (λ (calls : List Call). Breaks (Says 0 text) calls (w.calls new)) (behind told) (broke told)),
+                (λ told. subst (λ (calls : List Call). Breaks (Says 0 text) calls (w.calls new)) (behind told) (broke told)),
           );
           refused = λ ends. absurd ends;
           ends = inr (inl refl);

@@ -12,11 +12,7 @@ const OPERATOR: u32 = 0;
 
 /// Reads the directory, opens the journal, and says what the switch stands at on channel 0. The files are synced, and not
 /// changed. The station is handed back.
-pub fn show<S: Source, P: Station>(
-    alloc: Global,
-    directory: &mut S,
-    station: P,
-) -> (Status, P)
+pub fn show<S: Source, P: Station>(alloc: Global, directory: &mut S, station: P) -> (Status, P)
     ensures { Shows S.Source P.Station result.0 directory.old station directory.new result.1 }
 {
     // What the engine's core holds is what the files open to.

@@ -30,15 +30,43 @@ fn show_says_each_circuit_and_each_set(rt: HostRuntime) -> Result<(), Fail> {
     let alone = "AN 00 005|SMVG01 TVSV 280000 PZA|NIL=";
     let idle = "circuit 00 A draws 0 waiting 0 last -\ncircuit 01 B draws 0 waiting";
     let cases: [(&[&str], &str, &str); 6] = [
-        (&[F1, "T 01"], "1", "circuit 00 A draws 0 waiting 0 last -\ncircuit 01 B draws 1 waiting 0 last 001\n"),
-        (&[first, last_of_two], "2", " 2 last -\nsegments SMVG01 TVSV 280000 complete 2\n"),
-        (&[first, last_of_three], "2", " 2 last -\nsegments SMVG01 TVSV 280000 partial 2\n"),
-        (&[first, second, last_of_three], "3", " 3 last -\nsegments SMVG01 TVSV 280000 complete 3\n"),
-        (&[alone], "1", " 1 last -\nsegments SMVG01 TVSV 280000 complete 1\n"),
-        (&[first, last_of_two, last_of_three], "3", " 3 last -\nsegments SMVG01 TVSV 280000 partial 3\n"),
+        (
+            &[F1, "T 01"],
+            "1",
+            "circuit 00 A draws 0 waiting 0 last -\ncircuit 01 B draws 1 waiting 0 last 001\n",
+        ),
+        (
+            &[first, last_of_two],
+            "2",
+            " 2 last -\nsegments SMVG01 TVSV 280000 complete 2\n",
+        ),
+        (
+            &[first, last_of_three],
+            "2",
+            " 2 last -\nsegments SMVG01 TVSV 280000 partial 2\n",
+        ),
+        (
+            &[first, second, last_of_three],
+            "3",
+            " 3 last -\nsegments SMVG01 TVSV 280000 complete 3\n",
+        ),
+        (
+            &[alone],
+            "1",
+            " 1 last -\nsegments SMVG01 TVSV 280000 complete 1\n",
+        ),
+        (
+            &[first, last_of_two, last_of_three],
+            "3",
+            " 3 last -\nsegments SMVG01 TVSV 280000 partial 3\n",
+        ),
     ];
     for (steps, accepted, rest) in cases {
-        let circuits = if rest.starts_with("circuit") { "" } else { idle };
+        let circuits = if rest.starts_with("circuit") {
+            ""
+        } else {
+            idle
+        };
         let (status, said) = shown(&rt, steps, &NONE)?;
         let wanted = format!(in rt.alloc(); "accepted {accepted}\n{circuits}{rest}end\n")?;
         assert_eq!(rt; status, Status::Done);
