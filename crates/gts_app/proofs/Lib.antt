@@ -3,3 +3,4 @@ pub mod OpeningLemmas
 pub mod RefusalLemmas
 pub mod EndLemmas
 pub mod ReplayLemmas
+pub mod ShowLemmas

@@ -18,11 +18,11 @@ use Rattle.gts_app.specs.Opening.{IsOfFiles, AreRefused, IsRefusal, Refuses, Ope
 use Rattle.gts_app.specs.Replay.{world, Replays, Untouched}
 
 -- a fault of the files, as a status
-abbrev IsOfJournal : Status → Type 0
+abbrev pub IsOfJournal : Status → Type 0
 IsOfJournal status = (fault : OpenFault) × IsOfFiles fault × (status ≡ refusal fault)
 
 -- which refusals there are
-refusals : (status : Status) → IsRefusal status
+pub refusals : (status : Status) → IsRefusal status
     → ((fault : DirFault) × (status ≡ Directory fault)) ⊎ (IsOfJournal status ⊎ ((status ≡ DiskFault) ⊎ ((status ≡ SourceFault) ⊎ (status ≡ NoMemory))))
 refusals Done ends = absurd ends
 refusals Words ends = absurd ends
@@ -39,15 +39,15 @@ refusals (Full used need limit) ends = absurd ends
 refusals NoMemory ends = inr (inr (inr (inr refl)))
 
 -- bytes say one directory
-same_directory : (a b : directories.Directory) (said : Result directories.Directory DirFault) → said ≡ Ok a → said ≡ Ok b → a ≡ b
+pub same_directory : (a b : directories.Directory) (said : Result directories.Directory DirFault) → said ≡ Ok a → said ≡ Ok b → a ≡ b
 same_directory a b said one other = cc
 
 -- and not a fault too
-no_fault : (a : directories.Directory) (fault : DirFault) (said : Result directories.Directory DirFault) → said ≡ Ok a → said ≡ Err fault → ⊥
+pub no_fault : (a : directories.Directory) (fault : DirFault) (said : Result directories.Directory DirFault) → said ≡ Ok a → said ≡ Err fault → ⊥
 no_fault a fault said one other = cc
 
 -- files open to one answer
-one_answer : (n : Need) (fault : OpenFault) (opened : Result Need OpenFault) → opened ≡ Ok n → opened ≡ Err fault → ⊥
+pub one_answer : (n : Need) (fault : OpenFault) (opened : Result Need OpenFault) → opened ≡ Ok n → opened ≡ Err fault → ⊥
 one_answer n fault opened one other = cc
 
 one_fault : (a b : OpenFault) (opened : Result Need OpenFault) → opened ≡ Err a → opened ≡ Err b → a ≡ b

@@ -2,3 +2,4 @@
 
 pub mod init;
 pub mod replay;
+pub mod show;

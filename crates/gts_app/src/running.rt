@@ -2,10 +2,12 @@ ghost use Rattle.std.specs.Prelude.{◌≡◌, ◌↔◌, ◌<◌, ◌^◌, ◌�
 ghost use Rattle.gts_app.specs.Commands.{IsCommand};
 ghost use Rattle.gts_app.specs.Init.{init_words, Inits};
 ghost use Rattle.gts_app.specs.Replay.{replay_words, Replays, world, IsNoCapture};
+ghost use Rattle.gts_app.specs.Show.{show_words, Shows};
 
 use crate::Status;
 use crate::commands::init::init;
 use crate::commands::replay::replay;
+use crate::commands::show::show;
 use gts_traits::{Gate, Lines, Source, Station, WordList};
 use std::alloc::Global;
 use std::sync::Wait;
@@ -24,8 +26,8 @@ fn is_word(words: &WordList, name: &str) -> bool
     }
 }
 
-/// Runs the command that the words name; so far these are `init` and `replay`. The station and the capture are handed back. The runtime,
-/// the lines and the gate are for what is built later.
+/// Runs the command that the words name; so far these are `init`, `replay` and `show`. The station and the capture are handed
+/// back. The runtime, the lines and the gate are for what is built later.
 pub fn run<R: Threads + Wait + Sync, S: Source, P: Station + Send, L: Lines, G: Gate>(
     rt: &R,
     alloc: Global,
@@ -46,6 +48,8 @@ pub fn run<R: Threads + Wait + Sync, S: Source, P: Station + Send, L: Lines, G: 
         × Inits S.Source P.Station result.0 directory.old station directory.new result.1 }
     ensures replay { words.now ≡ replay_words → Replays S.Source P.Station result.0
         (world directory.old capture station) (world directory.new result.2 result.1) }
+    ensures show { words.now ≡ show_words → (result.2 ≡ capture)
+        × Shows S.Source P.Station result.0 directory.old station directory.new result.1 }
 
     // Bytes that are no capture of the directory are not done.
     ensures no_capture { words.now ≡ replay_words → S.tells → P.tells
@@ -57,6 +61,10 @@ pub fn run<R: Threads + Wait + Sync, S: Source, P: Station + Send, L: Lines, G: 
 {
     if is_word(words, "init") {
         let status = init(alloc, directory, &mut station);
+        return (status, station, capture);
+    }
+    if is_word(words, "show") {
+        let (status, station) = show(alloc, directory, station);
         return (status, station, capture);
     }
     if !is_word(words, "replay") {

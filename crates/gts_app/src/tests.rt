@@ -1,4 +1,5 @@
 mod journals;
+mod shows;
 
 use super::*;
 use gts_alphabet::digits_of;
@@ -695,6 +696,8 @@ fn other_words_are_no_command_yet(rt: HostRuntime) -> Result<(), Fail> {
         &["replay", "replay"],
         &["init", "init"],
         &["Replay"],
+        &["show", "show"],
+        &["serve"],
     ];
     for (i, words) in lists.iter().enumerate() {
         let (status, station) = run_words(&rt, words, b"", b"E\n", &NONE)?;
