@@ -62,3 +62,11 @@ module _ {P : Type 0} (tells : Type 0) (calls : P → List Call) (disk say : P �
     pub stands : Stands (entries ++ entry_by event result ∷ []) new
     pub answers : Answers b entries event Holds result
     pub spent : result ≢ Err Spent
+
+  -- a call adds its entry, whatever the entries are for which the engine stood
+  abbrev pub Turns : Event → (Outcome → State → Type 0) → Result Outcome SwitchFault → (old new : Engine P) → Type 0
+  Turns event Holds result old new = (entries : List Entry) → Stands entries old → Adds entries event Holds result new
+
+  -- an answer that never comes, whatever the entries are for which the engine stood
+  abbrev pub Never : SwitchFault → Result Outcome SwitchFault → Engine P → Type 0
+  Never fault result old = (entries : List Entry) → Stands entries old → result ≢ Err fault

@@ -1,8 +1,7 @@
-ghost use Rattle.std.specs.Prelude.{◌≡◌, ◌≢◌, ◌<◌, List, length, Err};
-ghost use Rattle.gts_event.specs.declared.event.Entry.{Entry as EntryType};
+ghost use Rattle.std.specs.Prelude.{◌≡◌, ◌≢◌, ◌<◌, length, Err};
 ghost use Rattle.gts_event.specs.declared.event.Event.TheVariants.{Heard, Lost, Taken};
 ghost use Rattle.gts_desk.specs.{SaysNoMore, LeavesFrame};
-ghost use Rattle.gts_housed.specs.Housed.{Stands, Adds};
+ghost use Rattle.gts_housed.specs.Housed.{Turns, Never};
 
 use crate::began::Began;
 use gts_engine::{Engine, SayMode};
@@ -39,10 +38,8 @@ impl<P: Station, B: Began> Housed<P, B> {
         message: &[u8],
     ) -> Result<Outcome, SwitchFault>
         requires { c < length self.old.engine.directory.circuits }
-        ensures adds { (entries : List EntryType)
-            → Stands P.tells P.calls P.disk_faults P.say_faults B.beginning entries self.old.engine
-            → Adds P.tells P.calls P.disk_faults P.say_faults B.beginning entries
-                (Heard c kind message.now) SaysNoMore result self.new.engine }
+        ensures adds { Turns P.tells P.calls P.disk_faults P.say_faults B.beginning
+            (Heard c kind message.now) SaysNoMore result self.old.engine self.new.engine }
     {
         self.engine.hear(alloc, c, kind, message)
     }
@@ -50,13 +47,10 @@ impl<P: Station, B: Began> Housed<P, B> {
     /// Synchronisation was lost on circuit `c`, in this field of a frame.
     pub(crate) fn lost(&mut self, c: u32, field: LostField) -> Result<Outcome, SwitchFault>
         requires { c < length self.old.engine.directory.circuits }
-        ensures adds { (entries : List EntryType)
-            → Stands P.tells P.calls P.disk_faults P.say_faults B.beginning entries self.old.engine
-            → Adds P.tells P.calls P.disk_faults P.say_faults B.beginning entries
-                (Lost c field) SaysNoMore result self.new.engine }
-        ensures no_memory { (entries : List EntryType)
-            → Stands P.tells P.calls P.disk_faults P.say_faults B.beginning entries self.old.engine
-            → result ≢ Err SwitchFault.NoMemory }
+        ensures adds { Turns P.tells P.calls P.disk_faults P.say_faults B.beginning
+            (Lost c field) SaysNoMore result self.old.engine self.new.engine }
+        ensures no_memory { Never P.tells P.calls P.disk_faults P.say_faults B.beginning
+            SwitchFault.NoMemory result self.old.engine }
     {
         self.engine.lost(c, field)
     }
@@ -64,14 +58,12 @@ impl<P: Station, B: Began> Housed<P, B> {
     /// One take on circuit `c`: what it gives is left in `out`, and the station says nothing of it.
     pub(crate) fn take(&mut self, c: u32, out: &mut FrameBuf) -> Result<Outcome, SwitchFault>
         requires { c < length self.old.engine.directory.circuits }
-        ensures adds { (entries : List EntryType)
-            → Stands P.tells P.calls P.disk_faults P.say_faults B.beginning entries self.old.engine
-            → Adds P.tells P.calls P.disk_faults P.say_faults B.beginning entries
-                (Taken c) (LeavesFrame B.beginning.origin.directory c out.new) result self.new.engine }
+        ensures adds { Turns P.tells P.calls P.disk_faults P.say_faults B.beginning
+            (Taken c) (LeavesFrame B.beginning.origin.directory c out.new)
+            result self.old.engine self.new.engine }
         ensures silent { result ≢ Err SwitchFault.SayFault }
-        ensures no_memory { (entries : List EntryType)
-            → Stands P.tells P.calls P.disk_faults P.say_faults B.beginning entries self.old.engine
-            → result ≢ Err SwitchFault.NoMemory }
+        ensures no_memory { Never P.tells P.calls P.disk_faults P.say_faults B.beginning
+            SwitchFault.NoMemory result self.old.engine }
     {
         self.engine.take(c, out, SayMode::Caller)
     }

@@ -135,7 +135,8 @@ pub(crate) fn take<R: Wait, P: Station, B: Began>(
     requires own { KnowsOwn pass }
     requires circuit { c < length B.beginning.origin.directory.circuits }
     ensures answers { Answers (seen_by B.beginning pass) (Taken c)
-        (LeavesFrame B.beginning.origin.directory c out.new) result.1 (seen_by B.beginning result.0) }
+        (LeavesFrame B.beginning.origin.directory c out.new)
+        result.1 (seen_by B.beginning result.0) }
     ensures hall { result.0.hall ≡ Some hall.now }
     ensures silent { result.1 ≢ Err SwitchFault.SayFault }
     ensures no_memory { result.1 ≢ Err SwitchFault.NoMemory }

@@ -27,6 +27,10 @@ pub record Work (S K : Type 0) : Type 0 where
   pub first : Socket S K
   pub ended : Bool
 
+-- a worker that has not begun
+abbrev pub begun : {S K : Type 0} → ℕ → TableId → Socket S K → Work S K
+begun c hall first = record { circuit = c; hall = hall; first = first; ended = false }
+
 -- the worker has its end, and is the same otherwise
 abbrev pub ends : {S K : Type 0} → Work S K → Work S K
 ends w = record w { ended = true }
@@ -86,7 +90,8 @@ module _ {K : Type 0} (tells : Type 0) (written : K → List ℕ) (faults : K �
     pub later : faults first ≤ faults now
     pub fault : (index : ℕ) → end ≡ LineFault index → Rose (faults first) (faults now)
 
-module _ (b : Beginning) {S K : Type 0} (source_tells : Type 0) (left : S → List ℕ) (source_faults : S → ℕ) (sink_tells : Type 0) (written : K → List ℕ) (sink_faults : K → ℕ) where
+module _ (b : Beginning) {S K : Type 0} (source_tells : Type 0) (left : S → List ℕ) (source_faults : S → ℕ)
+    (sink_tells : Type 0) (written : K → List ℕ) (sink_faults : K → ℕ) where
   -- A line of a circuit, by the socket at first and by what its pass has seen: nothing was done yet, or it has its end.
   abbrev pub LineKeeps : ℕ → TableId → Socket S K → Line S K → Seen → Type 0
   LineKeeps c hall (Reads first) (Incoming now decoder None) seen = (now ≡ first) × (seen ≡ fresh b hall (receiver_name c))

@@ -1,4 +1,4 @@
-ghost use Rattle.std.specs.Prelude.{◌≡◌, ◌<◌, Some, length};
+ghost use Rattle.std.specs.Prelude.{◌≡◌, ◌<◌, length};
 ghost use Rattle.gts_lock.specs.{Known};
 ghost use Rattle.gts_housed.specs.{KnowsOwn, seen_by};
 ghost use Rattle.gts_workers.specs.Working.{ReceiverKeeps, SenderKeeps};
@@ -40,63 +40,53 @@ impl<'a, P: Station, B: Began, S: Source, K: Sink> Model for Worker<'a, P, B, S,
         w.circuit w.hall.now (socket_of w.first.value) w.line w.pass };
 }
 
-/// Receives one connection of a circuit at the desk of a pass.
-fn receive_with<R: Wait, P: Station, B: Began, S: Source, G: Gate>(
-    rt: &R,
-    alloc: Global,
-    hall: &Hall<Housed<P, B>>,
-    bell: &Bell,
-    gate: &G,
-    pass: Pass<Housed<P, B>>,
+/// Receives one connection of a circuit at a desk, and gives the desk's pass.
+fn receive_at<R: Wait, P: Station, B: Began, S: Source, G: Gate>(
+    desk: HallDesk<'_, R, P, B>,
     c: u32,
     source: &mut S,
     decoder: &mut Decoder,
+    gate: &G,
 ) -> (Pass<Housed<P, B>>, ReceiveEnd)
-    requires circuit { c < length B.beginning.origin.directory.circuits }
-    requires hall { pass.hall ≡ Some hall.now }
-    requires own { KnowsOwn pass }
-    ensures hall { result.0.hall ≡ Some hall.now }
-    ensures name { result.0.name ≡ pass.name }
+    requires { c < length B.beginning.origin.directory.circuits }
+    ensures hall { result.0.hall ≡ desk.entry.hall }
+    ensures name { result.0.name ≡ desk.entry.name }
     ensures own { KnowsOwn result.0 }
     ensures keeps { ReceiverKeeps S.tells S.left S.faults c source.old source.new
-        (seen_by B.beginning pass) (seen_by B.beginning result.0) result.1 }
+        (seen_by B.beginning desk.entry) (seen_by B.beginning result.0) result.1 }
 {
     let mut room = [0; PIECE];
-    let mut desk = HallDesk::new(rt, alloc, hall, bell, pass);
+    let mut desk = desk;
     let end = receive(&mut desk, c, source, decoder, &mut room, gate);
     (desk.into_pass(), end)
 }
 
-/// Sends on a circuit from the desk of a pass.
-fn send_with<R: Wait, P: Station, B: Began, K: Sink, G: Gate>(
+/// Sends on a circuit from a desk, and gives the desk's pass.
+fn send_at<R: Wait, P: Station, B: Began, K: Sink, G: Gate>(
     rt: &R,
-    alloc: Global,
-    hall: &Hall<Housed<P, B>>,
-    bell: &Bell,
-    gate: &G,
-    pass: Pass<Housed<P, B>>,
+    desk: HallDesk<'_, R, P, B>,
     c: u32,
     sink: &mut K,
     frame: &mut FrameBuf,
+    bell: &Bell,
+    gate: &G,
 ) -> (Pass<Housed<P, B>>, SendEnd)
-    requires circuit { c < length B.beginning.origin.directory.circuits }
-    requires hall { pass.hall ≡ Some hall.now }
-    requires own { KnowsOwn pass }
-    ensures hall { result.0.hall ≡ Some hall.now }
-    ensures name { result.0.name ≡ pass.name }
+    requires { c < length B.beginning.origin.directory.circuits }
+    ensures hall { result.0.hall ≡ desk.entry.hall }
+    ensures name { result.0.name ≡ desk.entry.name }
     ensures own { KnowsOwn result.0 }
     ensures keeps { SenderKeeps K.tells K.written K.faults c sink.old sink.new
-        (seen_by B.beginning pass) (seen_by B.beginning result.0) result.1 }
+        (seen_by B.beginning desk.entry) (seen_by B.beginning result.0) result.1 }
 {
-    let mut desk = HallDesk::new(rt, alloc, hall, bell, pass);
+    let mut desk = desk;
     let end = send(rt, &mut desk, c, sink, frame, bell, gate);
     (desk.into_pass(), end)
 }
 
 impl<'a, P: Station, B: Began, S: Source, K: Sink> Worker<'a, P, B, S, K> {
-    ghost use Rattle.std.specs.Prelude.{◌≡◌, ◌<◌, ◌+◌, ◌*◌, true, false, Some, length};
+    ghost use Rattle.std.specs.Prelude.{◌≡◌, ◌<◌, true, length};
     ghost use Rattle.gts_housed.specs.{KnowsOwn, seen_by};
-    ghost use Rattle.gts_workers.specs.Working.{Work, Reads, Writes, has_end, PassKeeps, fresh, receiver_name, sender_name};
+    ghost use Rattle.gts_workers.specs.Working.{Reads, Writes, begun, has_end, PassKeeps, fresh, receiver_name, sender_name};
 
     /// The receiver of a circuit, with a pass that has seen nothing.
     pub fn receiver(
@@ -108,9 +98,10 @@ impl<'a, P: Station, B: Began, S: Source, K: Sink> Worker<'a, P, B, S, K> {
         decoder: Decoder,
     ) -> Worker<'a, P, B, S, K>
         requires circuit { circuit < length B.beginning.origin.directory.circuits }
-        requires new { seen_by B.beginning pass ≡ fresh B.beginning hall.now (receiver_name circuit) }
+        requires new { seen_by B.beginning pass
+            ≡ fresh B.beginning hall.now (receiver_name circuit) }
         requires own { KnowsOwn pass }
-        ensures { result ≡ record { circuit = circuit; hall = hall.now; first = Reads source; ended = false } }
+        ensures { result ≡ begun circuit hall.now (Reads source) }
     {
         let line = Line::Incoming {
             source,
@@ -138,9 +129,10 @@ impl<'a, P: Station, B: Began, S: Source, K: Sink> Worker<'a, P, B, S, K> {
         frame: FrameBuf,
     ) -> Worker<'a, P, B, S, K>
         requires circuit { circuit < length B.beginning.origin.directory.circuits }
-        requires new { seen_by B.beginning pass ≡ fresh B.beginning hall.now (sender_name circuit) }
+        requires new { seen_by B.beginning pass
+            ≡ fresh B.beginning hall.now (sender_name circuit) }
         requires own { KnowsOwn pass }
-        ensures { result ≡ record { circuit = circuit; hall = hall.now; first = Writes sink; ended = false } }
+        ensures { result ≡ begun circuit hall.now (Writes sink) }
     {
         let line = Line::Outgoing {
             sink,
@@ -194,17 +186,8 @@ impl<'a, P: Station, B: Began, S: Source, K: Sink> Worker<'a, P, B, S, K> {
                     self.pass = Some(pass);
                     return;
                 }
-                let (pass, how) = receive_with(
-                    rt,
-                    alloc,
-                    self.hall,
-                    bell,
-                    gate,
-                    pass,
-                    self.circuit,
-                    source,
-                    decoder,
-                );
+                let desk = HallDesk::new(rt, alloc, self.hall, bell, pass);
+                let (pass, how) = receive_at(desk, self.circuit, source, decoder, gate);
                 *end = Some(how);
                 self.pass = Some(pass);
                 self.bell.leave();
@@ -214,17 +197,8 @@ impl<'a, P: Station, B: Began, S: Source, K: Sink> Worker<'a, P, B, S, K> {
                     self.pass = Some(pass);
                     return;
                 }
-                let (pass, how) = send_with(
-                    rt,
-                    alloc,
-                    self.hall,
-                    bell,
-                    gate,
-                    pass,
-                    self.circuit,
-                    sink,
-                    frame,
-                );
+                let desk = HallDesk::new(rt, alloc, self.hall, bell, pass);
+                let (pass, how) = send_at(rt, desk, self.circuit, sink, frame, bell, gate);
                 *end = Some(how);
                 self.pass = Some(pass);
             }

@@ -4,27 +4,24 @@ use Rattle.gts_event.specs.declared.event.Entry.{Entry}
 use Rattle.gts_desk.specs.{Seen}
 use Rattle.gts_receiver.specs.{Receives}
 use Rattle.gts_housed.specs.{seen_by}
-use Rattle.gts_workers.proofs.worker.receive_with.Goals as goal
+use Rattle.gts_workers.proofs.worker.receive_at.Goals as goal
 
 pub returns-clause-hall : goal.returns-clause-hall
 returns-clause-hall g c =
     ap (λ (k : Known Entry). k.hall) c.into_pass.ensures.pass ∙ c.receive-end.ensures.received.1.desk.hall
-    ∙ ap (λ (k : Known Entry). k.hall) c.new-desk.ensures ∙ c.requires.hall
 
 pub returns-clause-name : goal.returns-clause-name
 returns-clause-name g c =
     ap (λ (k : Known Entry). k.name) c.into_pass.ensures.pass ∙ c.receive-end.ensures.received.1.desk.name
-    ∙ ap (λ (k : Known Entry). k.name) c.new-desk.ensures
 
 pub returns-clause-keeps : goal.returns-clause-keeps
 returns-clause-keeps g c =
     let b = g.B.Began.beginning in
     let r = c.receive-end.ensures.received in
-    let N : Known Entry → Type 0 = λ k. Receives c.args.c (seen_by b c.new-desk.result) (seen_by b k) r.0 c.receive-end.result in
-    let O : Known Entry → Type 0 = λ k. Receives c.args.c (seen_by b k) (seen_by b c.into_pass.result) r.0 c.receive-end.result in
+    let N : Known Entry → Type 0 = λ k. Receives c.args.c (seen_by b c.args.desk) (seen_by b k) r.0 c.receive-end.result in
     record {
       given = r.0;
-      received = subst O c.new-desk.ensures (subst N (sym c.into_pass.ensures.pass) r.1);
+      received = subst N (sym c.into_pass.ensures.pass) r.1;
       told = r.2;
       ended = c.receive-end.ensures.ended;
       later = c.receive-end.ensures.later;
