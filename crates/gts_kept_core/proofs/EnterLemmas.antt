@@ -336,8 +336,8 @@ module _ (d : Directory) (old new : Core) (t : State) (c : ℕ) (kind : Kind) (m
       let q : CircuitState = on_circuit t k in
       subst (λ (x : CircuitState). Stands (level_in d then_state) (circuit_need (kept_on d k) x) (lane_in new.lanes k) (circuit_at new.store k)) (sym (circuit_then k lt))
       (stands_routed (level_in d t) (level_in d then_state) n (kept_on d k) q (is_named d c h k) (level_of d h) (lane_in old.lanes k) (lane_in new.lanes k) (circuit_at old.store k) (circuit_at new.store k)
-        (are.stands k lt) (ap (λ (xs : List Drawn). get_or xs k no_draws) enters.circuits) (not_below n q.taken (below_at n t.circuits k are.going.ordered.below inside).1)
-        (waiting_below d t k are.going.ordered inside) level_before level_here (acc.waits k (omega (arith, lt, are.lanes))))
+      (are.stands k lt) (ap (λ (xs : List Drawn). get_or xs k no_draws) enters.circuits) (not_below n q.taken (below_at n t.circuits k are.going.ordered.below inside).1)
+      (waiting_below d t k are.going.ordered inside) level_before level_here (acc.waits k (omega (arith, lt, are.lanes))))
 
   free_then : (p : ℕ) → free_uses new.store p ≡ bit (has (positions_of (recent d then_state)) p) + times_waiting then_state.circuits p
   free_then p =
@@ -409,7 +409,8 @@ module _ (d : Directory) (old new : Core) (t : State) (c : ℕ) (kind : Kind) (m
   pub parts_accepted : t.count < most_accepted → IsOrdered d then_state → new.window ≡ old.window → new.kept ≡ old.kept → new.state.count ≡ t.count + 1 → new.state.circuits ≡ map circuit_of new.lanes → AreParts d new then_state
   parts_accepted few ordered window kept count lists = record {
     going = record {
-      keeps = are.going.keeps; window = are.going.window;
+      keeps = are.going.keeps;
+      window = are.going.window;
       ordered = ordered;
       few = omega (arith, few);
       climbs = subst (λ (ps : List ℕ). Ascends ps) (sym (map-append (λ (x : Bulletin). x.position) t.accepted (b ∷ []))) (Ascends-put (positions_of t.accepted) n are.going.climbs are.going.below);

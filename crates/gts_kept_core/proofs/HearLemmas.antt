@@ -143,7 +143,7 @@ parts_entered d old new t c n kind message are acc few ordered window kept count
     ap (λ (xs : List ℕ). with_bulletin t c kind xs (named d c (heading_of_message message))) body ∙ ap (λ (h : HeadingFields). with_bulletin t c kind acc.parts.body (named d c h)) heading in
     subst (λ (x : State). AreParts d new x) (sym same)
     (parts_accepted d old new t c kind message are are.going.window acc (split_takes message acc.parts acc.read).short (body_of_message message acc.parts acc.read) few
-      (subst (λ (x : State). IsOrdered d x) same ordered) window kept count lists)
+    (subst (λ (x : State). IsOrdered d x) same ordered) window kept count lists)
 
 -- ---- a step
 

@@ -55,10 +55,10 @@ drop_numbered (suc m) e (t ∷ ts) = drop_numbered m (e + 1) ts ∙ (let same : 
 
 pub each_kept : (shelf : Shelf) (c : ℕ) → c < length shelf.circuits → HasWhatItKeeps shelf → AllByRecursion (λ p. 1 ≤ uses_of shelf p) (circuit_at shelf c).kept
 each_kept shelf c lt has = each_got (λ p. 1 ≤ uses_of shelf p) q.kept (λ j p e.
-      let low : nat_lt (first_kept q + j) (first_kept q) ≡ false = le-ltb (first_kept q + j) (first_kept q) (omega arith) in
-      let back : first_kept q + j - first_kept q ≡ j = omega arith in
-      let at : position_at q (first_kept q + j) ≡ Some p = ap (λ b. cond b None (slice_get q.kept (first_kept q + j - first_kept q))) low ∙ ap (λ (i : ℕ). slice_get q.kept i) back ∙ e in
-      subst (λ (o : Option ℕ). IfSome o (λ p. 1 ≤ uses_of shelf p)) at (has c (first_kept q + j) lt))
+    let low : nat_lt (first_kept q + j) (first_kept q) ≡ false = le-ltb (first_kept q + j) (first_kept q) (omega arith) in
+    let back : first_kept q + j - first_kept q ≡ j = omega arith in
+    let at : position_at q (first_kept q + j) ≡ Some p = ap (λ b. cond b None (slice_get q.kept (first_kept q + j - first_kept q))) low ∙ ap (λ (i : ℕ). slice_get q.kept i) back ∙ e in
+    subst (λ (o : Option ℕ). IfSome o (λ p. 1 ≤ uses_of shelf p)) at (has c (first_kept q + j) lt))
   where
     q : Drawn
     q = circuit_at shelf c
@@ -110,7 +110,7 @@ module _ (d : Directory) (core : Core) (t : State) (are : AreParts d core t) (c 
       ap (option_map (λ (draw : ℕ × ℕ). draw.0))
       (find_each (is_headed core.store h) (λ draw. is_same_heading (heading_at_position t draw.1) h) (reverse (shelves.kept_draws x))
       (each_reverse (λ (draw : ℕ × ℕ). is_headed core.store h draw ≡ is_same_heading (heading_at_position t draw.1) h) (shelves.kept_draws x)
-        (each_headed h (first_kept x) x.kept (each_kept core.store c inside are.held)))
+      (each_headed h (first_kept x) x.kept (each_kept core.store c inside are.held)))
       ∙ ap (λ (ds : List (ℕ × ℕ)). find (λ draw. is_same_heading (heading_at_position t draw.1) h) (reverse ds)) same_draws)
 
   item_same : (item : Item) → item_places core.store c item ≡ places_of t (latest_draws d t c) item

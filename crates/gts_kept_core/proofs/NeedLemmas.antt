@@ -56,10 +56,10 @@ ascend_same (x ∷ xs) (y ∷ ys) up down same =
       ]
     ] in
     let rest : xs ≡ ys = ascend_same xs ys up.1 down.1 (λ p. elim (cases_eq x p) [
-        | inl e ↦ above_absent x p xs up.0 (omega (arith, e)) ∙ sym (above_absent y p ys down.0 (omega (arith, e, first)))
-        | inr other ↦
-            sym (ap (λ b. b || has xs p) (ne_eqb x p other)) ∙ same p ∙ ap (λ b. b || has ys p) (ne_eqb y p (λ (e : y ≡ p). other (first ∙ e)))
-      ]) in
+      | inl e ↦ above_absent x p xs up.0 (omega (arith, e)) ∙ sym (above_absent y p ys down.0 (omega (arith, e, first)))
+      | inr other ↦
+          sym (ap (λ b. b || has xs p) (ne_eqb x p other)) ∙ same p ∙ ap (λ b. b || has ys p) (ne_eqb y p (λ (e : y ≡ p). other (first ∙ e)))
+    ]) in
     cc
 
 -- ---- what is needed of a circuit
@@ -150,11 +150,11 @@ by_position (b ∷ bs) (c ∷ cs) up down same =
     let told : Some b ≡ Some c = sym (at_first b bs) ∙ same b.position ∙ ap (λ (p : ℕ). at p (c ∷ cs)) place ∙ at_first c cs in
     let first : b ≡ c = cc in
     let rest : bs ≡ cs = by_position bs cs up.1 down.1 (λ p. elim (cases_eq b.position p) [
-        | inl e ↦ at_above b.position p bs up.0 (omega (arith, e)) ∙ sym (at_above c.position p cs down.0 (omega (arith, e, place)))
-        | inr other ↦
-            sym (ap (λ t. cond t (Some b) (at p bs)) (ne_eqb b.position p other)) ∙ same p
-            ∙ ap (λ t. cond t (Some c) (at p cs)) (ne_eqb c.position p (λ (e : c.position ≡ p). other (place ∙ e)))
-      ]) in
+      | inl e ↦ at_above b.position p bs up.0 (omega (arith, e)) ∙ sym (at_above c.position p cs down.0 (omega (arith, e, place)))
+      | inr other ↦
+          sym (ap (λ t. cond t (Some b) (at p bs)) (ne_eqb b.position p other)) ∙ same p
+          ∙ ap (λ t. cond t (Some c) (at p cs)) (ne_eqb c.position p (λ (e : c.position ≡ p). other (place ∙ e)))
+    ]) in
     cc
 
 above_filter : (n : ℕ) (f : Bulletin → Bool) (bs : List Bulletin) → AllAbove n (positions_of bs) → AllAbove n (positions_of (filter f bs))

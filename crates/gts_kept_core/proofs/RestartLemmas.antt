@@ -70,11 +70,12 @@ pub record Remains (old new : Core) : Type 0 where
 
 pub parts_restarted : (d : Directory) (old new : Core) (t : State) → AreParts d old t → Remains old new
     → ((c : ℕ) (level : ℕ → ℕ) (n : CircuitNeed) → c < length old.lanes → Stands level n (lane_in old.lanes c) (circuit_at old.store c)
-      → Stands level (need_restarted n) (lane_in new.lanes c) (circuit_at old.store c))
+    → Stands level (need_restarted n) (lane_in new.lanes c) (circuit_at old.store c))
     → AreParts d new (restarted t)
 parts_restarted d old new t are stay h = record {
   going = record {
-    keeps = are.going.keeps; window = are.going.window;
+    keeps = are.going.keeps;
+    window = are.going.window;
     ordered = (restarted-same d t t are.going.keeps (record { first = are.going.ordered; second = are.going.ordered; same = refl })).first;
     few = are.going.few;
     climbs = are.going.climbs;
@@ -122,8 +123,8 @@ parts_waiting d core t are =
     let size = are.going.ordered.circuits in
     sums_same core.lanes t.circuits (are.lanes ∙ sym size)
     (λ c lt.
-      let is = are.stands c (omega (arith, lt, size)) in
-      lane_waiting (lane_in core.lanes c) ∙ count_of-AreWaiting (level_in d t) (need_on d t c).waiting (lane_in core.lanes c).queue is.waiting)
+    let is = are.stands c (omega (arith, lt, size)) in
+    lane_waiting (lane_in core.lanes c) ∙ count_of-AreWaiting (level_in d t) (need_on d t c).waiting (lane_in core.lanes c).queue is.waiting)
 
 abbrev all_needed : List CircuitNeed → ℕ
 all_needed [] = 0

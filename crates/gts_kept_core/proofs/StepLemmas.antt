@@ -111,7 +111,8 @@ parts_set d old new t c q here are stay stands ordered few noted stored free =
     let lt : c < length t.circuits = omega (arith, here, are.going.ordered.circuits) in
     record {
       going = record {
-        keeps = are.going.keeps; window = are.going.window;
+        keeps = are.going.keeps;
+        window = are.going.window;
         ordered = ordered;
         few = are.going.few;
         climbs = are.going.climbs;
@@ -154,8 +155,8 @@ parts_lane d old new t c q here are stay store stands ordered drawn waits =
     (subst (λ (s : Shelf). AreNoted old.table s (recent d t)) (sym store) are.noted)
     (λ p. subst (λ (s : Shelf). IfSome (stored_at s p) (IsAccepted t.accepted p)) (sym store) (are.stored p))
     (λ p.
-      let times : times_waiting (set t.circuits c q) p ≡ times_waiting t.circuits p = omega (arith, times_set t.circuits c p q lt, ap (λ (ws : List ℕ). bit (has ws p)) waits) in
-      ap (λ (s : Shelf). free_uses s p) store ∙ are.free p ∙ ap (λ (n : ℕ). bit (has (positions_of (recent d t)) p) + n) (sym times))
+    let times : times_waiting (set t.circuits c q) p ≡ times_waiting t.circuits p = omega (arith, times_set t.circuits c p q lt, ap (λ (ws : List ℕ). bit (has ws p)) waits) in
+    ap (λ (s : Shelf). free_uses s p) store ∙ are.free p ∙ ap (λ (n : ℕ). bit (has (positions_of (recent d t)) p) + n) (sym times))
 
 -- ---- a take
 

@@ -140,7 +140,15 @@ pub fn accept_in(
         let digest = DupTable::digest(&parts.heading, parts.text);
         table.put(digest, position);
         let uses = 1 + mask.count_ones();
-        enter(store, directory.window(), position, parts.heading, c, kind, uses);
+        enter(
+            store,
+            directory.window(),
+            position,
+            parts.heading,
+            c,
+            kind,
+            uses,
+        );
         store.has_what_it_keeps();
         route_in(lanes, mask, level, position);
     }

@@ -143,15 +143,7 @@ pub fn judge_in(
         (length lane.now.owed) store.now c message.now }
 {
     match Message::split(message) {
-        Ok(parts) => judge_parts(
-            directory,
-            table,
-            store,
-            lane,
-            c,
-            &parts.heading,
-            parts.text,
-        ),
+        Ok(parts) => judge_parts(directory, table, store, lane, c, &parts.heading, parts.text),
         Err(field) => Verdict::Refused(Refusal::Message(field)),
     }
 }

@@ -21,6 +21,3 @@ pub use laws::{
     a_duplicate_is_recent, a_take_depends_on_what_is_needed, what_a_core_holds_has_one_need,
 };
 pub use whole::Core;
-
-#[cfg(test)]
-mod tests;

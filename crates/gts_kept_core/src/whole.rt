@@ -127,7 +127,16 @@ impl Core {
                 self.ready = false;
                 let table = &mut self.table;
                 let store = &mut self.store;
-                accept_in(directory, position, table, store, &mut self.lanes, c, kind, message);
+                accept_in(
+                    directory,
+                    position,
+                    table,
+                    store,
+                    &mut self.lanes,
+                    c,
+                    kind,
+                    message,
+                );
                 self.count = position + 1;
                 Outcome::Accepted { position, circuits }
             }

@@ -26,10 +26,10 @@ loop-c-preserved c =
     let new : Lane = c.make_room.new.self in
     let inside : i < length ls = omega (arith, c.loop-c-test.true, c.loop-c.auto.c-end, c.loop-c.invariant.1) in (
       λ k small. elim (cases_eq k i) [
-          | inl same ↦
-              subst (λ (j : ℕ). HasRoom (lane_in (set ls i new) j)) (sym same) (subst (λ (l : Lane). HasRoom l) (sym (get_or-set_same ls i new idle_lane inside)) c.in_ok-make_room.ensures.room)
-          | inr other ↦ subst (λ (l : Lane). HasRoom l) (sym (get_or-set_other ls i k new idle_lane other)) (c.loop-c.invariant.0 k (omega (arith, small, other)))
-        ],
+        | inl same ↦
+            subst (λ (j : ℕ). HasRoom (lane_in (set ls i new) j)) (sym same) (subst (λ (l : Lane). HasRoom l) (sym (get_or-set_same ls i new idle_lane inside)) c.in_ok-make_room.ensures.room)
+        | inr other ↦ subst (λ (l : Lane). HasRoom l) (sym (get_or-set_other ls i k new idle_lane other)) (c.loop-c.invariant.0 k (omega (arith, small, other)))
+      ],
       length-set ls i new ∙ c.loop-c.invariant.1,
       stays (λ (l : Lane). l.queue.levels) ls start i new c.index_mut.result.now inside c.index_mut.ensures.value c.make_room.ensures.levels c.loop-c.invariant.2,
       stays (λ (l : Lane). l.owed) ls start i new c.index_mut.result.now inside c.index_mut.ensures.value c.make_room.ensures.owed c.loop-c.invariant.3,

@@ -30,13 +30,13 @@ loop-c-preserved c =
     subst (λ (l : Lane). RoutesWhere (bit_at m i == 1) c.args.level c.args.position l new) was
     (subst (λ (b : Bool). RoutesWhere b c.args.level c.args.position c.index_mut.result.now new) c.has_bit-named.ensures c.route_where.ensures) in (
       λ k small. elim (cases_eq k i) [
-          | inl same ↦
-              subst (λ (j : ℕ). RoutesWhere (bit_at m j == 1) c.args.level c.args.position (lane_in start j) (lane_in (set ls i new) j)) (sym same)
-              (subst (λ (l : Lane). RoutesWhere (bit_at m i == 1) c.args.level c.args.position (lane_in start i) l) (sym (get_or-set_same ls i new idle_lane inside)) here)
-          | inr other ↦
-              subst (λ (l : Lane). RoutesWhere (bit_at m k == 1) c.args.level c.args.position (lane_in start k) l) (sym (get_or-set_other ls i k new idle_lane other))
-              (c.loop-c.invariant.0 k (omega (arith, small, other)))
-        ],
+        | inl same ↦
+            subst (λ (j : ℕ). RoutesWhere (bit_at m j == 1) c.args.level c.args.position (lane_in start j) (lane_in (set ls i new) j)) (sym same)
+            (subst (λ (l : Lane). RoutesWhere (bit_at m i == 1) c.args.level c.args.position (lane_in start i) l) (sym (get_or-set_same ls i new idle_lane inside)) here)
+        | inr other ↦
+            subst (λ (l : Lane). RoutesWhere (bit_at m k == 1) c.args.level c.args.position (lane_in start k) l) (sym (get_or-set_other ls i k new idle_lane other))
+            (c.loop-c.invariant.0 k (omega (arith, small, other)))
+      ],
       λ k high. get_or-set_other ls i k new idle_lane (λ (e : k ≡ i). omega (arith, e, high)) ∙ c.loop-c.invariant.1 k (omega (arith, high)),
       length-set ls i new ∙ c.loop-c.invariant.2,
     )

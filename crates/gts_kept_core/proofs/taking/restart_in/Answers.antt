@@ -18,16 +18,16 @@ loop-c-preserved c =
     let inside : i < length ls = omega (arith, c.loop-c-test.true, c.loop-c.auto.c-end, c.loop-c.invariant.2) in
     let was : c.index_mut.result.now ≡ lane_in ls i = get_or-same ls i c.index_mut.result.now idle_lane inside c.index_mut.ensures.value in (
       λ k level n low is. elim (cases_eq k i) [
-          | inl same ↦
-              let start : lane_in ls i ≡ lane_in c.args.lanes.now.items i = c.loop-c.invariant.1 i (omega arith) in
-              let here : Stands level n c.index_mut.result.now (circuit_at c.args.store.now i) =
-              subst (λ (l : Lane). Stands level n l (circuit_at c.args.store.now i)) (sym (was ∙ start)) (subst (λ (j : ℕ). Stands level n (lane_in c.args.lanes.now.items j) (circuit_at c.args.store.now j)) same is) in
-              subst (λ (j : ℕ). Stands level (need_restarted n) (lane_in (set ls i new) j) (circuit_at c.args.store.now j)) (sym same)
-              (subst (λ (l : Lane). Stands level (need_restarted n) l (circuit_at c.args.store.now i)) (sym (get_or-set_same ls i new idle_lane inside)) (c.restart_on.ensures level n here))
-          | inr other ↦
-              subst (λ (l : Lane). Stands level (need_restarted n) l (circuit_at c.args.store.now k)) (sym (get_or-set_other ls i k new idle_lane other))
-              (c.loop-c.invariant.0 k level n (omega (arith, other)) is)
-        ],
+        | inl same ↦
+            let start : lane_in ls i ≡ lane_in c.args.lanes.now.items i = c.loop-c.invariant.1 i (omega arith) in
+            let here : Stands level n c.index_mut.result.now (circuit_at c.args.store.now i) =
+            subst (λ (l : Lane). Stands level n l (circuit_at c.args.store.now i)) (sym (was ∙ start)) (subst (λ (j : ℕ). Stands level n (lane_in c.args.lanes.now.items j) (circuit_at c.args.store.now j)) same is) in
+            subst (λ (j : ℕ). Stands level (need_restarted n) (lane_in (set ls i new) j) (circuit_at c.args.store.now j)) (sym same)
+            (subst (λ (l : Lane). Stands level (need_restarted n) l (circuit_at c.args.store.now i)) (sym (get_or-set_same ls i new idle_lane inside)) (c.restart_on.ensures level n here))
+        | inr other ↦
+            subst (λ (l : Lane). Stands level (need_restarted n) l (circuit_at c.args.store.now k)) (sym (get_or-set_other ls i k new idle_lane other))
+            (c.loop-c.invariant.0 k level n (omega (arith, other)) is)
+      ],
       λ k high. get_or-set_other ls i k new idle_lane (λ (e : k ≡ i). omega (arith, e, high)) ∙ c.loop-c.invariant.1 k (omega (arith, high)),
       length-set ls i new ∙ c.loop-c.invariant.2,
     )

@@ -100,9 +100,9 @@ returns-in-Asked c =
     let o : Outcome = out.Asked c.in-Asked.found c.in-Asked.missing in
     subst (λ (x : Core). IsStep d x (core_of new) (Heard k c.args.kind m) o) c.self.view_is
     (hears d (core_of i) (core_of new) k c.args.kind m o
-      (λ s h. c.in-Asked.ensures s c.args.kind (subst (λ (x : Core). Holds d x s) c.self.view_is h))
-      (λ t are told ordered. asked_parts d i new t k c.index_mut-lane.result.now c.grant_on.new.lane m here are c.index_mut-lane.ensures.value refl refl refl refl refl
-        c.grant_on.ensures c.in-Asked.found c.in-Asked.missing c.args.kind ordered))
+    (λ s h. c.in-Asked.ensures s c.args.kind (subst (λ (x : Core). Holds d x s) c.self.view_is h))
+    (λ t are told ordered. asked_parts d i new t k c.index_mut-lane.result.now c.grant_on.new.lane m here are c.index_mut-lane.ensures.value refl refl refl refl refl
+    c.grant_on.ensures c.in-Asked.found c.in-Asked.missing c.args.kind ordered))
 
 pub returns-in-Refused : goal.returns-in-Refused
 returns-in-Refused c =
@@ -196,7 +196,7 @@ accept_in-requires-clause-can c =
     let i : Inside = c.self.inside in
     let x = new_here c.args.directory.now c.self.inside c.args.self.now c.args.c c.args.kind c.args.message.now c.in-New.circuits c.self.view_is c.requires.directory c.in-New.ensures c.requires.ready c.requires.few in
     (λ k low. subst (λ (n : ℕ). CanRoute (level_of d (heading_of_message c.args.message.now)) n (lane_in i.lanes.items k)) (sym x.count)
-      (can_route d (core_of i) x.state k (level_of d (heading_of_message c.args.message.now)) x.parts x.few (omega (arith, low, x.parts.lanes)) ((c.self.invariant.room x.ready).lanes k low)))
+    (can_route d (core_of i) x.state k (level_of d (heading_of_message c.args.message.now)) x.parts x.few (omega (arith, low, x.parts.lanes)) ((c.self.invariant.room x.ready).lanes k low)))
 
 -- the parts where it was accepted
 new_parts : (d : Directory) (i new : Inside) (t : State) (c n : ℕ) (kind : Kind) (m : List ℕ) → AreParts d (core_of i) t → i.count ≡ t.count → t.count < most_accepted → new.window ≡ i.window → new.count ≡ i.count + 1
@@ -236,11 +236,11 @@ returns-in-New c =
     let o : Outcome = out.Accepted i.count n in
     subst (λ (y : Core). IsStep d y (core_of new) (Heard k kind m) o) c.self.view_is
     (hears d (core_of i) (core_of new) k kind m o
-      (λ s h.
-        let count : i.count ≡ s.count = h.parts.count ∙ ap (λ (y : Need). y.accepted) h.need.same in
-        ap (λ (p : ℕ). out.Accepted p n) count ∙ c.in-New.ensures s kind (subst (λ (y : Core). Holds d y s) c.self.view_is h))
-      (λ t are told ordered.
-        let count : i.count ≡ t.count = are.count in
-        subst (λ (p : ℕ). AreParts d (core_of new) (after_heard d t k kind m (out.Accepted p n))) (sym count)
-        (new_parts d i new t k n kind m are count (omega (arith, x.few, x.count, count)) refl refl c.accept_in.ensures
-          (subst (λ (p : ℕ). IsOrdered d (after_heard d t k kind m (out.Accepted p n))) count ordered))))
+    (λ s h.
+    let count : i.count ≡ s.count = h.parts.count ∙ ap (λ (y : Need). y.accepted) h.need.same in
+    ap (λ (p : ℕ). out.Accepted p n) count ∙ c.in-New.ensures s kind (subst (λ (y : Core). Holds d y s) c.self.view_is h))
+    (λ t are told ordered.
+    let count : i.count ≡ t.count = are.count in
+    subst (λ (p : ℕ). AreParts d (core_of new) (after_heard d t k kind m (out.Accepted p n))) (sym count)
+    (new_parts d i new t k n kind m are count (omega (arith, x.few, x.count, count)) refl refl c.accept_in.ensures
+    (subst (λ (p : ℕ). IsOrdered d (after_heard d t k kind m (out.Accepted p n))) count ordered))))

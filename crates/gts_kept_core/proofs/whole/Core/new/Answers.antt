@@ -31,7 +31,7 @@ returns c =
     let core : Core = core_of (record { window = c.window-2.result; count = 0; table = c.in_ok-table.table; store = c.in_ok-store.store; lanes = c.in_ok-lanes.lanes; ready = false }) in
     holds_by d core (empty d) (empty d)
     (parts_empty d core c.in_ok-limits.ensures.keeps (omega (arith, c.window-2.ensures.range.0, c.window-2.ensures.value)) c.window-2.ensures.value refl refl refl c.has_what_it_keeps.ensures
-      (subst (λ (n : ℕ). AreIdle n c.in_ok-lanes.lanes.items) c.circuits.ensures.value c.in_ok-lanes.ensures)
-      c.in_ok-table.ensures.noted (c.in_ok-table.ensures.width ∙ c.window.ensures.value) c.in_ok-store.ensures.bulletins
-      (c.in_ok-store.ensures.circuits ∙ ap (map undrawn) (c.deref.ensures.value ∙ c.in_ok-limits.ensures.kept)))
+    (subst (λ (n : ℕ). AreIdle n c.in_ok-lanes.lanes.items) c.circuits.ensures.value c.in_ok-lanes.ensures)
+    c.in_ok-table.ensures.noted (c.in_ok-table.ensures.width ∙ c.window.ensures.value) c.in_ok-store.ensures.bulletins
+    (c.in_ok-store.ensures.circuits ∙ ap (map undrawn) (c.deref.ensures.value ∙ c.in_ok-limits.ensures.kept)))
     (record { first = ordered-empty d; second = ordered-empty d; same = refl })

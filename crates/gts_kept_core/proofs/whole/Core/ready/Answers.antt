@@ -14,12 +14,32 @@ returns-in_default c =
       kept = λ d s h.
           let own : Holds d (core_of i) s = subst (λ (k : Core). Holds d k s) (sym c.self.view_is) h in
           holds_alike d (core_of i) new s own (record {
-            window = refl; kept = refl; count = refl; noted = refl; width = refl; bulletins = λ p. refl; circuits = refl; lists = refl; each = refl; levels = λ k low. refl; owed = λ k low. refl;
+            window = refl;
+            kept = refl;
+            count = refl;
+            noted = refl;
+            width = refl;
+            bulletins = λ p. refl;
+            circuits = refl;
+            lists = refl;
+            each = refl;
+            levels = λ k low. refl;
+            owed = λ k low. refl;
           });
       ready = λ s kind p n h e.
           let d = c.args.directory.now in
           let own : Holds d (core_of i) s = holds_alike d new (core_of i) s h (record {
-            window = refl; kept = refl; count = refl; noted = refl; width = refl; bulletins = λ p. refl; circuits = refl; lists = refl; each = refl; levels = λ k low. refl; owed = λ k low. refl;
+            window = refl;
+            kept = refl;
+            count = refl;
+            noted = refl;
+            width = refl;
+            bulletins = λ p. refl;
+            circuits = refl;
+            lists = refl;
+            each = refl;
+            levels = λ k low. refl;
+            owed = λ k low. refl;
           }) in
           let old : Holds d c.args.self.now s = subst (λ (k : Core). Holds d k s) c.self.view_is own in
           absurd (not_accepted s.count p n c.judge-verdict.result c.in_default.not-New (c.judge-verdict.ensures s kind old ∙ e));

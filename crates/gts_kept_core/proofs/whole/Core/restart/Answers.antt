@@ -33,5 +33,5 @@ returns c = λ d s h.
     let own : Holds d (core_of c.self.inside) s = subst (λ (x : Core). Holds d x s) (sym c.self.view_is) h in
     holds_by d new (restarted own.state) (restarted s)
     (parts_restarted d (core_of c.self.inside) new own.state own.parts
-      (record { window = refl; kept = refl; count = refl; table = refl; store = refl; lists = refl; lanes = c.restart_in.ensures.each }) c.restart_in.ensures.stands)
+    (record { window = refl; kept = refl; count = refl; table = refl; store = refl; lists = refl; lanes = c.restart_in.ensures.each }) c.restart_in.ensures.stands)
     (restarted-same d own.state s own.keeps own.need)

@@ -57,12 +57,12 @@ returns-clause-step c = λ d.
     let o = c.take_on-outcome.result in
     let new : Core = core_of (record { window = i.window; count = i.count; table = i.table; store = c.take_on-outcome.new.store; lanes = with_item i.lanes k c.take_on-outcome.new.lane; ready = false }) in
     let led : (s : State) (h : Holds d (core_of i) s) → (o ≡ outcome d h.state (Taken k)) × AreParts d new (after d h.state (Taken k)) = λ s h.
-      let t = h.state in
-      let here : k < length d.circuits = omega (arith, c.requires, ap (λ (x : Core). length x.kept) c.self.view_is, ap length h.kept, length-map d.circuits (λ (row : Circuit). row.kept)) in
-      let at : c.index_mut-lane.result.now ≡ lane_in i.lanes.items k = c.index_mut-lane.ensures.value ∙ get_or_default i.lanes.items k c.index_mut-lane.result.now idle_lane (omega (arith, here, h.parts.lanes)) in
-      take_parts d (core_of i) new t k c.take_on-outcome.new.lane o here h.parts refl refl refl refl refl refl refl c.has_what_it_keeps.ensures
-      (c.take_on-outcome.ensures.step (level_in d t) (need_on d t k) (subst (λ (l : Lane). Stands (level_in d t) (need_on d t k) l (circuit_at i.store k)) (sym at) (h.parts.stands k here)))
-      (subst (λ (l : Lane). StoreAfter o l.queue i.store c.take_on-outcome.new.store k) at c.take_on-outcome.ensures.store) in
+    let t = h.state in
+    let here : k < length d.circuits = omega (arith, c.requires, ap (λ (x : Core). length x.kept) c.self.view_is, ap length h.kept, length-map d.circuits (λ (row : Circuit). row.kept)) in
+    let at : c.index_mut-lane.result.now ≡ lane_in i.lanes.items k = c.index_mut-lane.ensures.value ∙ get_or_default i.lanes.items k c.index_mut-lane.result.now idle_lane (omega (arith, here, h.parts.lanes)) in
+    take_parts d (core_of i) new t k c.take_on-outcome.new.lane o here h.parts refl refl refl refl refl refl refl c.has_what_it_keeps.ensures
+    (c.take_on-outcome.ensures.step (level_in d t) (need_on d t k) (subst (λ (l : Lane). Stands (level_in d t) (need_on d t k) l (circuit_at i.store k)) (sym at) (h.parts.stands k here)))
+    (subst (λ (l : Lane). StoreAfter o l.queue i.store c.take_on-outcome.new.store k) at c.take_on-outcome.ensures.store) in
     subst (λ (x : Core). IsStep d x new (Taken k) o) c.self.view_is (record {
       outcome = λ s h. (led s h).0 ∙ outcome-same d h.state s (Taken k) h.need;
       after = λ s h. holds_by d new (after d h.state (Taken k)) (after d s (Taken k)) (led s h).1 (after-same d h.state s (Taken k) h.need);
