@@ -178,7 +178,7 @@ journal {S} {P} source w d od nd old e laws h same reads synced begins sound lat
       let to : opens d (seen (w.calls old)) ≡ Ok n = opens_to d (seen (w.calls old)) r.state e.used r.opened in
       let sure = sound told n to in
       let Q : Engine P → Type 0 = λ x. (m : Need) × (source.tells → directory_of_bytes (source.left od) ≡ Ok x.directory)
-          × (let o : Origin = origin_of w.calls x m in IsOrigin (w.calls old) o × StandsFor (switch_words w.tells w.calls) (record { told = told; origin = o }) [] x) in
+      × (let o : Origin = origin_of w.calls x m in IsOrigin (w.calls old) o × StandsFor (switch_words w.tells w.calls) (record { told = told; origin = o }) [] x) in
       subst Q (sym one) (
         n,
         λ tells. subst (λ (x : directories.Directory). directory_of_bytes (source.left od) ≡ Ok x) (sym same) (h.read tells d refl),

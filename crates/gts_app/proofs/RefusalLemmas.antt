@@ -79,9 +79,9 @@ refused source w status od nd oc old new result is h =
             | inl x ↦ absurd (no_fault d x.0 (directory_of_bytes (source.left od)) read ((r.directory x.0 x.1).1 tells))
             | inr rest ↦ elim rest [
               | inl x ↦
-                let j = r.journal x.0 x.2 x.1 tells told in
-                let same = same_directory j.0 d (directory_of_bytes (source.left od)) j.1 read in
-                absurd (one_answer n x.0 (opens d (seen (w.calls old))) opened (subst (λ (y : directories.Directory). opens y (seen (w.calls old)) ≡ Err x.0) same (j.2 plain)))
+                  let j = r.journal x.0 x.2 x.1 tells told in
+                  let same = same_directory j.0 d (directory_of_bytes (source.left od)) j.1 read in
+                  absurd (one_answer n x.0 (opens d (seen (w.calls old))) opened (subst (λ (y : directories.Directory). opens y (seen (w.calls old)) ≡ Err x.0) same (j.2 plain)))
               | inr more ↦ elim more [
                 | inl failed ↦ absurd (kept_disk (r.disk_fault failed))
                 | inr last ↦ elim last [
@@ -96,10 +96,10 @@ refused source w status od nd oc old new result is h =
             | inl x ↦ absurd (no_fault d x.0 (directory_of_bytes (source.left od)) read ((r.directory x.0 x.1).1 tells))
             | inr rest ↦ elim rest [
               | inl x ↦
-                let j = r.journal x.0 x.2 x.1 tells told in
-                let same = same_directory j.0 d (directory_of_bytes (source.left od)) j.1 read in
-                let one = one_fault x.0 fault (opens d (seen (w.calls old))) (subst (λ (y : directories.Directory). opens y (seen (w.calls old)) ≡ Err x.0) same (j.2 plain)) opened in
-                inl (subst (λ (y : OpenFault). status ≡ refusal y) one x.2)
+                  let j = r.journal x.0 x.2 x.1 tells told in
+                  let same = same_directory j.0 d (directory_of_bytes (source.left od)) j.1 read in
+                  let one = one_fault x.0 fault (opens d (seen (w.calls old))) (subst (λ (y : directories.Directory). opens y (seen (w.calls old)) ≡ Err x.0) same (j.2 plain)) opened in
+                  inl (subst (λ (y : OpenFault). status ≡ refusal y) one x.2)
               | inr more ↦ elim more [
                 | inl failed ↦ absurd (kept_disk (r.disk_fault failed))
                 | inr last ↦ elim last [

@@ -294,14 +294,14 @@ pub replays : {S P : Type 0} (source : SourceWords S) (w : StationWords P) (e : 
 replays source w e od nd oc nc old first last opens laws ends narrow cause =
     let of : (s : Status) → status_of e ≡ s → IsOf s e = λ s is. subst (λ (x : Status). IsOf x e) is (is_of e) in
     let run : w.tells → Run source w e od oc nc old first last = λ told.
-        let x = opens.opened first refl told in record {
-          n = x.0;
-          told = told;
-          read = x.1;
-          origin = x.2.0;
-          ends = ends (record { told = told; origin = origin_of w.calls first x.0 }) [] x.2.1;
-          laws = λ es. laws x.0 es x.2.1.start.keeps x.2.0.sound;
-        } in
+    let x = opens.opened first refl told in record {
+      n = x.0;
+      told = told;
+      read = x.1;
+      origin = x.2.0;
+      ends = ends (record { told = told; origin = origin_of w.calls first x.0 }) [] x.2.1;
+      laws = λ es. laws x.0 es x.2.1.start.keeps x.2.0.sound;
+    } in
     let disk_rose : Rose (w.disk_faults first.station) (w.disk_faults last.station) → Rose (w.disk_faults old) (w.disk_faults last.station) =
     rose_later (w.disk_faults old) (w.disk_faults first.station) (w.disk_faults last.station) (opens.kept first refl).0 in
     let say_rose : Rose (w.say_faults first.station) (w.say_faults last.station) → Rose (w.say_faults old) (w.say_faults last.station) =
@@ -328,17 +328,25 @@ replays source w e od nd oc nc old first last opens laws ends narrow cause =
       say_fault = λ is. (
         say_rose (cause.say_failed (of SayFault is)),
         λ tells told few.
-            let r = run told in
-            (origin_of w.calls first r.n, r.read tells, r.origin, broke source w e od oc nc old first last r switch.SayFault tells few (of SayFault is) Unsaid (Some Say) ForNoReason
-            (λ event. refl) (by_say last.stopped) (λ front event why. tt)),
+            let r = run told in (
+              origin_of w.calls first r.n,
+              r.read tells,
+              r.origin,
+              broke source w e od oc nc old first last r switch.SayFault tells few (of SayFault is) Unsaid (Some Say) ForNoReason
+                  (λ event. refl) (by_say last.stopped) (λ front event why. tt),
+            ),
       );
       disk_fault = λ is. elim (of DiskFault is) [
         | inl at_event ↦ (
           disk_rose (cause.disk_failed at_event),
           inr (λ tells told few.
-              let r = run told in
-              (origin_of w.calls first r.n, r.read tells, r.origin, inl (broke source w e od oc nc old first last r switch.DiskFault tells few at_event Doubt (Some Disk) ForNoReason
-              (λ event. refl) (by_disk last.stopped) (λ front event why. tt)))),
+              let r = run told in (
+                origin_of w.calls first r.n,
+                r.read tells,
+                r.origin,
+                inl (broke source w e od oc nc old first last r switch.DiskFault tells few at_event Doubt (Some Disk) ForNoReason
+                    (λ event. refl) (by_disk last.stopped) (λ front event why. tt)),
+              )),
         )
         | inr at_opening ↦ (
           disk_rose (cause.reopen_failed at_opening),
@@ -349,10 +357,14 @@ replays source w e od nd oc nc old first last opens laws ends narrow cause =
       ];
       full = λ used need limit is tells told few.
           let r = run told in
-          let o = origin_of w.calls first r.n in
-          (o, r.read tells, r.origin, broke source w e od oc nc old first last r (switch.Full used need limit) tells few (of (Full used need limit) is)
-          (λ event. Idle event (switch.Full used need limit)) None (BecauseFull o used need limit)
-          (λ event. refl) (λ front event. idle_goes_on last.stopped front event (switch.Full used need limit)) (λ front event why. why));
+          let o = origin_of w.calls first r.n in (
+            o,
+            r.read tells,
+            r.origin,
+            broke source w e od oc nc old first last r (switch.Full used need limit) tells few (of (Full used need limit) is)
+                (λ event. Idle event (switch.Full used need limit)) None (BecauseFull o used need limit)
+                (λ event. refl) (λ front event. idle_goes_on last.stopped front event (switch.Full used need limit)) (λ front event why. why),
+          );
       no_memory = λ is. inr (λ tells told few.
           let r = run told in
           (origin_of w.calls first r.n, r.read tells, r.origin, lacked source w e od oc nc old first last r tells few (spare source w e od oc nc old first last r (of NoMemory is))));

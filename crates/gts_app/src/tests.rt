@@ -558,7 +558,11 @@ fn no_more_than_4096_are_owed(rt: HostRuntime) -> Result<(), Fail> {
     let directory = directory_of(alloc, &[TOP, "window = 1\n", A, B, "kept = 256\n", RULE])?;
     let (status, station) = replayed(&rt, &directory, &capture, &NONE)?;
     assert_eq!(rt; status, Status::Done);
-    assert!(rt; station.said(0).ends_with(b"ASK 1 256 0\nASK 1 256 0\nREF 1 Many\nASK 1 1 0\n"));
+    assert!(rt;
+        station
+            .said(0)
+            .ends_with(b"ASK 1 256 0\nASK 1 256 0\nREF 1 Many\nASK 1 1 0\n")
+    );
     assert_eq!(rt; station.said(2).len(), 257 * 49);
     Ok(())
 }

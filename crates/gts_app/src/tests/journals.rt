@@ -17,7 +17,8 @@ const OTHER_MARK: [u8; 32] = [
 ];
 
 /// What stands behind the mark in the journal of one bulletin and one draw.
-const RECORDS: &[u8] = b"OA\0A\0\0\0\0\0\0\0\0\0\0\0\0\x1dSMVG01 TVSV 280000\r\r\nNIL=\r\r\n\x03OD\x01\0\0\0\0\0\0\0\0\0\0\0\0\0\0\0\0\0\0\0\0\0C";
+const RECORDS: &[u8] =
+    b"OA\0A\0\0\0\0\0\0\0\0\0\0\0\0\x1dSMVG01 TVSV 280000\r\r\nNIL=\r\r\n\x03OD\x01\0\0\0\0\0\0\0\0\0\0\0\0\0\0\0\0\0\0\0\0\0C";
 
 #[test]
 fn the_journal_of_one_bulletin_and_one_draw(rt: HostRuntime) -> Result<(), Fail> {
@@ -129,7 +130,10 @@ fn a_journal_that_is_opened_again_repeats_its_last_draw(rt: HostRuntime) -> Resu
     let (status, station) = replayed(&rt, &directory, &capture, &NONE)?;
     assert_eq!(rt; status, Status::Done);
     let frame = framed(alloc, F1)?;
-    assert_eq!(rt; station.said(2), [frame.as_slice(), &frame].concat(alloc)?.as_slice());
+    assert_eq!(rt;
+        station.said(2),
+        [frame.as_slice(), &frame].concat(alloc)?.as_slice()
+    );
     assert_eq!(rt; station.file(0).len(), 111);
     Ok(())
 }
@@ -221,7 +225,9 @@ const FRAME: usize = 49;
 
 /// Whether some frame has this text.
 fn has_text(frames: &[u8], text: &[u8]) -> bool {
-    frames.chunks(FRAME).any(|frame| frame.get(41..45) == Some(text))
+    frames
+        .chunks(FRAME)
+        .any(|frame| frame.get(41..45) == Some(text))
 }
 
 /// Whether frames of one number have one text, and frames of one text one number.
