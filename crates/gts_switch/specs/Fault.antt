@@ -19,7 +19,7 @@ exit_of SourceFault = 8
 exit_of (Full used need limit) = 9
 exit_of NoMemory = 11
 
--- the line; nothing is said here of what a fault of the directory is called, nor of how a mark is written
+-- the line; nothing is said here of what a fault of the directory is called, nor of the lines with a mark or a damaged place
 abbrev pub line_of : Status → Option (List ℕ)
 line_of Done = Some (codes "done")
 line_of Words = Some (codes "usage: init, replay, serve, show, compact or generate N")
@@ -27,7 +27,7 @@ line_of (Directory fault) = None
 line_of (Capture at) = Some (codes "capture: bad at " ++ decimal at)
 line_of NoJournal = Some (codes "journal: none")
 line_of (NotThis want found) = None
-line_of (Damaged file at) = Some (codes "journal: file " ++ decimal file ++ codes " damaged at " ++ decimal at)
+line_of (Damaged file at) = None
 line_of (Exists size) = Some (codes "journal: exists with " ++ decimal size ++ codes " bytes")
 line_of DiskFault = Some (codes "disk fault")
 line_of SourceFault = Some (codes "input fault")

@@ -32,7 +32,12 @@ impl fmt::Display for FaultLine {
             Status::Capture { at } => write!(f, "capture: bad at {at}"),
             Status::NoJournal => write!(f, "journal: none"),
             Status::NotThis { want, found } => {
-                write!(f, "journal: of directory {}, want {}", Mark(found), Mark(want))
+                write!(
+                    f,
+                    "journal: of directory {}, want {}",
+                    Mark(found),
+                    Mark(want)
+                )
             }
             Status::Damaged { file, at } => write!(f, "journal: file {file} damaged at {at}"),
             Status::Exists { size } => write!(f, "journal: exists with {size} bytes"),
