@@ -90,16 +90,16 @@ doubt_rose : (b : ℕ) (h : List Entry) (event : Event) (result : Result Outcome
     → HasDoubt (h ++ entry_by event result ∷ []) → Rose b new
 doubt_rose b h event result old new from before later failed (front, other, back, e) =
     ⊎_elim {C = Rose b new} (λ last. rose_from b old new from (failed (doubt_of event other result last)))
-        (λ earlier. rose_on b old new (before (front, other, earlier.0, earlier.1)) later)
-        (split_last h (entry_by event result) front (Doubt other) back e)
+    (λ earlier. rose_on b old new (before (front, other, earlier.0, earlier.1)) later)
+    (split_last h (entry_by event result) front (Doubt other) back e)
 
 unsaid_rose : (b : ℕ) (h : List Entry) (event : Event) (result : Result Outcome SwitchFault) (old new : ℕ)
     → b ≤ old → (HasUnsaid h → Rose b old) → old ≤ new → (IsErrOf result SayFault → Rose old new)
     → HasUnsaid (h ++ entry_by event result ∷ []) → Rose b new
 unsaid_rose b h event result old new from before later failed (front, other, back, e) =
     ⊎_elim {C = Rose b new} (λ last. rose_from b old new from (failed (unsaid_of event other result last)))
-        (λ earlier. rose_on b old new (before (front, other, earlier.0, earlier.1)) later)
-        (split_last h (entry_by event result) front (Unsaid other) back e)
+    (λ earlier. rose_on b old new (before (front, other, earlier.0, earlier.1)) later)
+    (split_last h (entry_by event result) front (Unsaid other) back e)
 
 -- ---- a call
 
@@ -170,7 +170,7 @@ module _ {P : Type 0} (tells : Type 0) (calls : P → List Call) (disk say : P �
       let going : old.stopped ≡ None = goes_on p old.stopped stopped in
       let holds = stands.keeps.core going in
       frame_said b.origin.directory (state_at b.origin h) c out o (outcome_of h (Taken c) (Ok p) old new turn stands o ok)
-          (λ some. says (λ e. some (sym same ∙ e)) b.origin.directory (state_at b.origin h) holds)
+      (λ some. says (λ e. some (sym same ∙ e)) b.origin.directory (state_at b.origin h) holds)
     where
       goes_on : (p : Outcome) (by : Option Device) → IfSome by (λ d. (Ok p ≡ Err (Stopped d)) × (new ≡ old)) → by ≡ None
       goes_on p None stopped = refl

@@ -1,6 +1,5 @@
 //! What may go from one thread to another.
 use crate::housed::Housed;
-
 use gts_traits::Station;
 
 // Takes what may go to another thread.

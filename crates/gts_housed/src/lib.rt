@@ -12,4 +12,3 @@ pub use began::Began;
 pub use crossing::an_engine_crosses_threads;
 pub use desk::HallDesk;
 pub use housed::Housed;
-

@@ -16,7 +16,8 @@ pub fn work_all<R, P, B, S, K, G>(
     alloc: Global,
     gate: &G,
     workers: &mut [Worker<'_, P, B, S, K>],
-) where
+)
+where
     R: Threads + Wait + Sync,
     P: Station + Send,
     B: Began + Send,
