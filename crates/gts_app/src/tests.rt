@@ -433,10 +433,15 @@ const ROWS: &[Row<'static>] = &[
     },
 ];
 
+/// The rows of the table, of which a proof knows nothing.
+fn rows() -> &'static [Row<'static>] {
+    ROWS
+}
+
 #[test]
 fn each_row_says_its_receipts_and_frames(rt: HostRuntime) -> Result<(), Fail> {
     let alloc = rt.alloc();
-    for (i, row) in ROWS.iter().enumerate() {
+    for (i, row) in rows().iter().enumerate() {
         let directory = directory_of(alloc, row.directory)?;
         let capture = captured(alloc, row.steps)?;
         let (status, station) = replayed(&rt, &directory, &capture, &NONE)?;
@@ -600,64 +605,70 @@ fn a_bad_capture_is_done_up_to_its_first_bad_place(rt: HostRuntime) -> Result<()
     Ok(())
 }
 
+/// Directories at fault, each with its fault.
+const FAULTY_DIRECTORIES: &[(&[&str], DirFault)] = &[
+    (
+        &[
+            TOP,
+            A,
+            B,
+            "[[rule]]\nheading = \"****** ****\"\nto = [\"A\", \"Z\"]\n",
+        ],
+        DirFault::UnknownCircuit { row: 0 },
+    ),
+    (&[TOP, A, A, RULE], DirFault::TwoNames { row: 1 }),
+    (
+        &[TOP, A, "kept = 0\n", B, RULE],
+        DirFault::BadLimit {
+            part: Part::Circuit,
+            row: 0,
+        },
+    ),
+    (
+        &[],
+        DirFault::BadKey {
+            part: Part::Top,
+            row: 0,
+        },
+    ),
+    (
+        &[TOP, A, B, "colour = 1\n", RULE],
+        DirFault::BadKey {
+            part: Part::Circuit,
+            row: 1,
+        },
+    ),
+    (
+        &[TOP, A, "[[rule]]\nheading = \"SM**** ***\"\nto = [\"A\"]\n"],
+        DirFault::BadKey {
+            part: Part::Rule,
+            row: 0,
+        },
+    ),
+    (
+        &[
+            TOP,
+            A,
+            "[[rule]]\nheading = \"sm**** ****\"\nto = [\"A\"]\n",
+        ],
+        DirFault::BadPattern {
+            part: Part::Rule,
+            row: 0,
+        },
+    ),
+    (&[TOP, "=\n"], DirFault::NotToml),
+];
+
+/// The rows of that table, of which a proof knows nothing.
+fn faulty_directories() -> &'static [(&'static [&'static str], DirFault)] {
+    FAULTY_DIRECTORIES
+}
+
 #[test]
 fn a_directory_at_fault_is_told_and_nothing_is_said(rt: HostRuntime) -> Result<(), Fail> {
     let alloc = rt.alloc();
     let capture = captured(alloc, &[F1])?;
-    let circuit = Part::Circuit;
-    let rows: &[(&[&str], DirFault)] = &[
-        (
-            &[
-                TOP,
-                A,
-                B,
-                "[[rule]]\nheading = \"****** ****\"\nto = [\"A\", \"Z\"]\n",
-            ],
-            DirFault::UnknownCircuit { row: 0 },
-        ),
-        (&[TOP, A, A, RULE], DirFault::TwoNames { row: 1 }),
-        (
-            &[TOP, A, "kept = 0\n", B, RULE],
-            DirFault::BadLimit {
-                part: circuit,
-                row: 0,
-            },
-        ),
-        (
-            &[],
-            DirFault::BadKey {
-                part: Part::Top,
-                row: 0,
-            },
-        ),
-        (
-            &[TOP, A, B, "colour = 1\n", RULE],
-            DirFault::BadKey {
-                part: circuit,
-                row: 1,
-            },
-        ),
-        (
-            &[TOP, A, "[[rule]]\nheading = \"SM**** ***\"\nto = [\"A\"]\n"],
-            DirFault::BadKey {
-                part: Part::Rule,
-                row: 0,
-            },
-        ),
-        (
-            &[
-                TOP,
-                A,
-                "[[rule]]\nheading = \"sm**** ****\"\nto = [\"A\"]\n",
-            ],
-            DirFault::BadPattern {
-                part: Part::Rule,
-                row: 0,
-            },
-        ),
-        (&[TOP, "=\n"], DirFault::NotToml),
-    ];
-    for (i, (pieces, fault)) in rows.iter().enumerate() {
+    for (i, (pieces, fault)) in faulty_directories().iter().enumerate() {
         let directory = directory_of(alloc, pieces)?;
         let (status, station) = run_words(&rt, &["replay"], &directory, &capture, &NONE)?;
         assert_eq!(rt; status, Status::Directory(*fault), "directory {i}");
