@@ -451,7 +451,8 @@ fn each_row_says_its_receipts_and_frames(rt: HostRuntime) -> Result<(), Fail> {
         for frame in row.frames {
             frames.extend_from_slice(&framed(alloc, frame)?)?;
         }
-        assert_eq!(rt; station.said(row.circuit + 1), frames.as_slice(), "row {i}");
+        let circuit = if row.circuit < 64 { row.circuit } else { 0 };
+        assert_eq!(rt; station.said(circuit + 1), frames.as_slice(), "row {i}");
     }
     Ok(())
 }
