@@ -521,33 +521,6 @@ fn bulletins(alloc: Global, count: u32, behind: &[u8]) -> Result<Vec<u8>, Fail> 
     Ok(steps)
 }
 
-/// The number of a frame among frames of 49 bytes.
-fn number_of_frame(frames: &[u8], frame: usize) -> Option<&[u8]> {
-    let at = frame.checked_mul(49)?.checked_add(14)?;
-    frames.get(at..)?.get(..3)
-}
-
-#[test]
-fn numbers_come_round_after_a_thousand_draws(rt: HostRuntime) -> Result<(), Fail> {
-    let alloc = rt.alloc();
-    let steps = bulletins(alloc, 1_001, b"T 01\n")?;
-    let request = "AN 01 001|BMRR01 TVSV 281030|BBBB|SQN 999-001=";
-    let asked = captured(alloc, &[request, "T 01", "T 01", "T 01"])?;
-    let capture = [steps.as_slice(), &asked].concat(alloc)?;
-    let directory = directory_of(alloc, &[TOP, "window = 1\n", A, B, "kept = 2\n", RULE])?;
-    let (status, station) = replayed(&rt, &directory, &capture, &NONE)?;
-    assert_eq!(rt; status, Status::Done);
-    assert!(rt; station.said(0).ends_with(b"ASK 1 2 1\n"));
-    assert_eq!(rt; station.said(2).len(), 1_003 * 49);
-    let sent = station.said(2);
-    assert_eq!(rt; number_of_frame(sent, 998), Some(b"999".as_slice()));
-    assert_eq!(rt; number_of_frame(sent, 999), Some(b"000".as_slice()));
-    assert_eq!(rt; number_of_frame(sent, 1_000), Some(b"001".as_slice()));
-    assert_eq!(rt; number_of_frame(sent, 1_001), Some(b"000".as_slice()));
-    assert_eq!(rt; number_of_frame(sent, 1_002), Some(b"001".as_slice()));
-    Ok(())
-}
-
 #[test]
 fn no_more_than_4096_are_owed(rt: HostRuntime) -> Result<(), Fail> {
     let alloc = rt.alloc();
