@@ -1,0 +1,3 @@
+mod PlacesLemmas
+mod StaffLemmas
+mod GatheredLemmas
