@@ -36,7 +36,7 @@ returns-clause-names g c =
     let P : Known Entry → Type 0 = λ k. NamesAreUpTo (2 * length sockets) k.seen in
     subst P (sym c.close-housed-2.ensures.pass)
     (names_up_to g.B.Began.beginning g.S.Source.tells g.S.Source.left g.S.Source.faults g.K.Sink.tells g.K.Sink.written g.K.Sink.faults p lines works (2 * length sockets)
-    (λ k w at. (each_worker hall sockets k w at).1) (c.work-first.ensures.counted ∙ sym (count_works hall sockets)) (subst G (sym (count_works hall sockets)) c.work-first.ensures.gathered)
+    (λ k w at. let n = each_worker hall sockets k w at in (n.1, n.2)) (c.work-first.ensures.counted ∙ sym (count_works hall sockets)) (subst G (sym (count_works hall sockets)) c.work-first.ensures.gathered)
     c.close-housed-2.ensures.names none)
 
 pub returns-clause-full : goal.returns-clause-full

@@ -9,6 +9,14 @@ use Rattle.gts_circuits.proofs.StaffLemmas.{count_receivers, count_senders, coun
 use Rattle.gts_circuits.proofs.GatheredLemmas.{all_joined}
 use Rattle.gts_circuits.proofs.running.work.Goals as goal
 
+pub line_up-requires : goal.line_up-requires
+line_up-requires g c =
+    let hall = c.args.hall.now in
+    let sockets = c.args.sockets.items in
+    let receivers : length c.staff-first.new.receivers.items ≡ length sockets = ap (λ (l : List (Work _ _)). length l) c.staff-first.ensures.receivers ∙ count_receivers hall 0 sockets in
+    let senders : length c.staff-first.new.senders.items ≡ length sockets = ap (λ (l : List (Work _ _)). length l) c.staff-first.ensures.senders ∙ count_senders hall 0 sockets in
+    omega (arith, receivers, senders, c.staff-first.ensures.room)
+
 pub gather-requires-clause-halls : goal.gather-requires-clause-halls
 gather-requires-clause-halls g c = λ k w at.
     let hall = c.args.hall.now in
