@@ -1,15 +1,14 @@
 -- Gathering one worker more, and what the whole history has under each name.
-use Rattle.std.proofs.Common.{◌≡◌, ℕ, ◌+◌, ◌-◌, ◌*◌, ◌⊎◌, ◌<◌, ◌≤◌, zero, suc, List, [], ◌∷◌, ◌++◌, length, Bool, true, false, cond, ◌||◌, ◌==◌, eq-eqb, refl, sym, ap, ◌∙◌, subst, arith, ⊎_elim, inl, inr, append_assoc}
+use Rattle.std.proofs.Common.{◌≡◌, ℕ, ◌+◌, ◌⊎◌, ◌<◌, ◌≤◌, zero, suc, List, [], ◌∷◌, ◌++◌, length, Bool, true, false, cond, ◌||◌, ◌==◌, eq-eqb, refl, sym, ap, ◌∙◌, subst, arith, ⊎_elim, inl, inr, append_assoc}
 use Rattle.std.specs.List.{filter}
 use mathlib.Core.Option.{some, some-injective, some-ne-none}
 use lib.ListN.{get_elem?}
-use Rattle.atomic_table.specs.Seated.{TableId}
 use Rattle.gts_lock.specs.{Known, entries, entries_under, StartsWith, AllJoined, Accounts, NamesAreJoined, after_join}
 use Rattle.gts_event.specs.declared.event.Entry.{Entry}
 use Rattle.gts_housed.specs.{Beginning}
 use Rattle.gts_workers.specs.declared.line.Line.{Line}
 use Rattle.gts_workers.specs.{Work, name_at, has_end, PassKeeps}
-use Rattle.gts_circuits.specs.Gathering.{IsGathered, AreGathered, Stands, AllStand, NamesAreUpTo}
+use Rattle.gts_circuits.specs.Gathering.{IsGathered, AreGathered, AllStand, NamesAreUpTo}
 use Rattle.gts_circuits.proofs.PlacesLemmas.{at_longer, at_last, at_less, there}
 
 starts_later : {A : Type 0} (g p q : List (ℕ × A)) → StartsWith p g → StartsWith q p → StartsWith q g

@@ -1,5 +1,5 @@
 -- The workers of all circuits, and the names of their passes.
-use Rattle.std.proofs.Common.{◌≡◌, ℕ, ◌+◌, ◌-◌, ◌*◌, ◌<◌, ◌≤◌, ◌⊎◌, inl, inr, ⊎_elim, zero, suc, List, [], ◌∷◌, ◌++◌, length, map, length-append, true, false, Option, Some, refl, sym, ap, ◌∙◌, subst, arith}
+use Rattle.std.proofs.Common.{◌≡◌, ℕ, ◌+◌, ◌-◌, ◌*◌, ◌<◌, ◌≤◌, ⊎_elim, zero, suc, List, [], ◌∷◌, ◌++◌, length, map, length-append, true, false, Option, Some, refl, sym, ap, ◌∙◌, subst, arith}
 use mathlib.Core.Option.{some, some-injective, some-ne-none}
 use lib.ListN.{get_elem?}
 use Rattle.atomic_table.specs.Seated.{TableId}
@@ -99,15 +99,15 @@ module _ {S K : Type 0} (hall : TableId) where
   each_worker sockets k w at =
       let m = mapped ends (works_of hall sockets) k w at in
       let one = either_named (receivers_of hall 0 sockets) (senders_of hall 0 sockets) (length sockets)
-          (λ j v there. let r = receiver_named 0 sockets j v there in
-              let less = at_less (receivers_of hall 0 sockets) j v there in
-              let count = count_receivers 0 sockets in
-              (r.0, omega (arith, r.1), omega (arith, r.1, less, count)))
-          (λ j v there. let r = sender_named 0 sockets j v there in
-              let less = at_less (senders_of hall 0 sockets) j v there in
-              let count = count_senders 0 sockets in
-              (r.0, omega (arith, r.1), omega (arith, r.1, less, count)))
-          k m.0 m.1 in
+      (λ j v there. let r = receiver_named 0 sockets j v there in
+      let less = at_less (receivers_of hall 0 sockets) j v there in
+      let count = count_receivers 0 sockets in
+      (r.0, omega (arith, r.1), omega (arith, r.1, less, count)))
+      (λ j v there. let r = sender_named 0 sockets j v there in
+      let less = at_less (senders_of hall 0 sockets) j v there in
+      let count = count_senders 0 sockets in
+      (r.0, omega (arith, r.1), omega (arith, r.1, less, count)))
+      k m.0 m.1 in
       subst (IsOneOf (length sockets)) (sym m.2) one
 
   pub each_ended : (sockets : List (Sockets S K)) (k : ℕ) (w : Work S K) → get_elem? (map ends (works_of hall sockets)) k ≡ some w → w.ended ≡ true

@@ -58,7 +58,8 @@ where
 pub(crate) fn line_up<'a, P, B, S, K>(
     workers: &mut Vec<Worker<'a, P, B, S, K>>,
     senders: Vec<Worker<'a, P, B, S, K>>,
-) where
+)
+where
     P: Station + Drop,
     B: Began,
     S: Source + Drop,

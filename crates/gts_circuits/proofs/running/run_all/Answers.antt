@@ -1,8 +1,8 @@
-use Rattle.std.proofs.Common.{◌≡◌, ◌*◌, ℕ, List, [], map, length, true, sym, ap, ◌∙◌, subst}
+use Rattle.std.proofs.Common.{◌≡◌, ◌*◌, ℕ, [], map, length, true, sym, ap, ◌∙◌, subst}
 use Rattle.gts_lock.specs.{Known, entries_under}
 use Rattle.gts_lock.specs.declared.limits.TheConstants.{MOST_TURNS}
 use Rattle.gts_event.specs.declared.event.Entry.{Entry}
-use Rattle.gts_workers.specs.{Work, ends}
+use Rattle.gts_workers.specs.{ends}
 use Rattle.gts_circuits.specs.Staff.{works_of}
 use Rattle.gts_circuits.specs.Gathering.{AreGathered, AllStand, NamesAreUpTo}
 use Rattle.gts_circuits.proofs.StaffLemmas.{count_works, each_worker, each_ended}
@@ -17,10 +17,12 @@ returns-clause-lines g c =
     let sockets = c.args.sockets.items in
     let works = map ends (works_of hall sockets) in
     let G : ℕ → Type 0 = λ n. AreGathered g.B.Began.beginning g.S.Source.tells g.S.Source.left g.S.Source.faults g.K.Sink.tells g.K.Sink.written g.K.Sink.faults p lines n works in
-    let P : Known Entry → Type 0 = λ k. AllStand g.B.Began.beginning g.S.Source.tells g.S.Source.left g.S.Source.faults g.K.Sink.tells g.K.Sink.written g.K.Sink.faults k.seen lines works in
-    (hall, subst P (sym c.close-housed-2.ensures.pass)
-    (all_stand g.B.Began.beginning g.S.Source.tells g.S.Source.left g.S.Source.faults g.K.Sink.tells g.K.Sink.written g.K.Sink.faults p lines works
-    (subst G (sym (count_works hall sockets)) c.work-first.ensures.gathered) c.close-housed-2.ensures.accounts (each_ended hall sockets)))
+    let P : Known Entry → Type 0 = λ k. AllStand g.B.Began.beginning g.S.Source.tells g.S.Source.left g.S.Source.faults g.K.Sink.tells g.K.Sink.written g.K.Sink.faults k.seen lines works in (
+      hall,
+      subst P (sym c.close-housed-2.ensures.pass)
+          (all_stand g.B.Began.beginning g.S.Source.tells g.S.Source.left g.S.Source.faults g.K.Sink.tells g.K.Sink.written g.K.Sink.faults p lines works
+          (subst G (sym (count_works hall sockets)) c.work-first.ensures.gathered) c.close-housed-2.ensures.accounts (each_ended hall sockets)),
+    )
 
 pub returns-clause-names : goal.returns-clause-names
 returns-clause-names g c =

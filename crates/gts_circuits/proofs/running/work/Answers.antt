@@ -1,8 +1,8 @@
-use Rattle.std.proofs.Common.{rules, ◌≡◌, ℕ, ◌+◌, ◌*◌, ◌≤◌, ◌++◌, List, map, length, length-append, sym, ap, ◌∙◌, subst, arith, vec_capacity}
+use Rattle.std.proofs.Common.{rules, ◌≡◌, ℕ, ◌*◌, ◌≤◌, ◌++◌, List, map, length, sym, ap, ◌∙◌, subst, arith, vec_capacity}
 use lib.ListN.{get_elem?}
 use Rattle.gts_lock.specs.{Known}
 use Rattle.gts_workers.specs.{Work, ends}
-use Rattle.gts_circuits.specs.Staff.{receivers_of, senders_of, works_of}
+use Rattle.gts_circuits.specs.Staff.{receivers_of, works_of}
 use Rattle.gts_circuits.specs.Gathering.{AreGathered}
 use Rattle.gts_circuits.proofs.PlacesLemmas.{after_all}
 use Rattle.gts_circuits.proofs.StaffLemmas.{count_receivers, count_senders, count_works, each_name, each_worker}
