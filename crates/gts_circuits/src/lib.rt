@@ -8,3 +8,6 @@ mod staffing;
 
 pub use running::{Ran, run_all};
 pub use sockets::Sockets;
+
+#[cfg(test)]
+mod tests;
