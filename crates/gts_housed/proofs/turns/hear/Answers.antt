@@ -1,4 +1,4 @@
-use Rattle.std.proofs.Common.{◌≡◌, ◌<◌, ℕ, length, refl, sym, ap, ◌∙◌, subst}
+use Rattle.std.proofs.Common.{◌≡◌, ◌<◌, length, refl, sym, ap, subst}
 use Rattle.gts_lock.specs.{entries, entries_under, Known, after_adding}
 use Rattle.gts_directory.specs.Directory.{Directory}
 use Rattle.gts_event.specs.declared.event.Entry.{Entry}

@@ -1,7 +1,6 @@
-use Rattle.std.proofs.Common.{◌≡◌, sym, ap, ◌∙◌, subst}
+use Rattle.std.proofs.Common.{sym, ap, ◌∙◌, subst}
 use Rattle.gts_lock.specs.{Known}
 use Rattle.gts_event.specs.declared.event.Entry.{Entry}
-use Rattle.gts_desk.specs.{Seen}
 use Rattle.gts_receiver.specs.{Receives}
 use Rattle.gts_housed.specs.{seen_by}
 use Rattle.gts_workers.proofs.worker.receive_at.Goals as goal

@@ -1,0 +1,4 @@
+mod PlacesLemmas
+mod StaffLemmas
+mod GatheredLemmas
+mod TestLemmas
