@@ -1,5 +1,5 @@
 -- An engine that was just opened stands for no entry.
-use Rattle.std.proofs.Common.{◌≡◌, ℕ, ◌+◌, List, [], ◌∷◌, ◌++◌, length, length-append, Result, Ok, sym, ap, ◌∙◌, subst, arith}
+use Rattle.std.proofs.Common.{◌≡◌, ℕ, ◌+◌, List, [], ◌∷◌, ◌++◌, length, length-append, Ok, sym, ap, ◌∙◌, subst, arith}
 use Rattle.gts_traits.specs.Calls.{Call, Did, Syncs}
 use Rattle.gts_traits.specs.Disk.{seen}
 use Rattle.gts_directory.specs.Directory.{Directory}
@@ -21,7 +21,7 @@ pub opened_stands : {P : Type 0} (tells : Type 0) (calls : P → List Call) (dis
     → Stands tells calls disk say (opened_as calls disk say e) [] e
 opened_stands tells calls disk say d before e n there synced is keeps =
     let read : opens e.directory (seen (calls e.station)) ≡ Ok n =
-      ap (λ (x : Directory). opens x (seen (calls e.station))) there ∙ ap (λ (cs : List Call). opens d (seen cs)) synced ∙ is in
+    ap (λ (x : Directory). opens x (seen (calls e.station))) there ∙ ap (λ (cs : List Call). opens d (seen cs)) synced ∙ is in
     let same : need_or_nothing e.directory (opens e.directory (seen (calls e.station))) ≡ n = ap (need_or_nothing e.directory) read in
     let K : Need → Type 0 = λ m. Keeps tells Caller (origin_of calls e m) [] (shown calls e) in
     record {

@@ -262,7 +262,10 @@ fn each_bulletin_goes_to_both_other_circuits_once_and_in_order(
     if let Some((station, lines)) = ran {
         let lines = lines.as_slice();
         for circuit in 0..3 {
-            assert_eq!(rt; received(lines, circuit), Some(ReceiveEnd::Ended { rest: 0 }));
+            assert_eq!(rt;
+                received(lines, circuit),
+                Some(ReceiveEnd::Ended { rest: 0 })
+            );
             assert_eq!(rt; sent(lines, circuit), Some(SendEnd::Quiet));
         }
         assert!(rt; has_all_of(output(lines, 0), [false, true, true]));
