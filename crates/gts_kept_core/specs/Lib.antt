@@ -10,3 +10,4 @@ pub mod Core
 pub mod Entering
 pub mod Kept
 pub mod Words
+pub mod Needs

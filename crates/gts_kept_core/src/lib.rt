@@ -9,6 +9,7 @@ mod granting;
 mod judging;
 mod lane;
 mod laws;
+mod needs;
 mod opening;
 mod owed;
 mod places;
