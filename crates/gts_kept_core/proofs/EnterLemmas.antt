@@ -1,37 +1,36 @@
 -- The parts after a message was accepted.
-use Rattle.std.proofs.Common.{◌≡◌, ◌≢◌, ℕ, zero, suc, ◌+◌, ◌-◌, ◌<◌, ◌≤◌, ◌⊎◌, Bool, true, false, not, ◌||◌, ◌==◌, nat_lt, nat_le, cond, List, [], ◌∷◌, ◌++◌, length, map, filter, drop, get_or, find, Option, None, Some, IfSome, Result, Ok, Err, is_ok, refl, sym, ap, subst, ◌∙◌, inl, inr, arith}
+use Rattle.std.proofs.Common.{◌≡◌, ◌≢◌, ℕ, zero, suc, ◌+◌, ◌-◌, ◌<◌, ◌≤◌, Bool, true, false, not, ◌||◌, ◌==◌, nat_lt, cond, List, [], ◌∷◌, ◌++◌, length, map, filter, drop, get_or, find, Option, None, Some, IfSome, Ok, Err, is_ok, refl, sym, ap, subst, ◌∙◌, inl, inr, arith}
 use Rattle.std.specs.List.{AllByRecursion, list_all, enumerate_from, range_with_len}
 use Rattle.std.specs.Option.{option_or}
-use Rattle.std.proofs.lemmas.List.{length-append, length-map, map-append, get_or-map}
+use Rattle.std.proofs.lemmas.List.{length-append, map-append, get_or-map}
 use Rattle.std.proofs.lemmas.List.FromFn.{get_or-enumerate_from, length-enumerate_from}
 use Rattle.std.proofs.lemmas.List.Elements.{filter-append}
 use Rattle.std.proofs.lemmas.List.Folds.{find-append}
-use Rattle.std.proofs.lemmas.Bool.{cases_eq, eq-eqb, ne_eqb, eqb-true, ltb-true, true≢false}
+use Rattle.std.proofs.lemmas.Bool.{cases_eq, eq-eqb, ne_eqb, ltb-true}
 use Rattle.circular_buffer.specs.Buffer.{keep_last}
 use Rattle.gts_alphabet.specs.declared.limits.TheConstants.{LONGEST_BODY}
 use Rattle.gts_heading.specs.Heading.{HeadingFields}
-use Rattle.gts_message.specs.Message.{MessageParts, split_at, body_at}
+use Rattle.gts_message.specs.Message.{body_at}
 use Rattle.gts_frame.specs.declared.kind.Kind.{Kind}
 use Rattle.gts_directory.specs.Directory.{Directory, named, is_named, level_of}
 use Rattle.gts_directory.specs.Routing.{bit}
-use Rattle.gts_event.specs.State.{State, Bulletin, CircuitState, on_circuit, idle, draws, waiting, has, heading_of, text_of, heading_at_position, bulletin_at, most_accepted, no_heading}
-use Rattle.gts_event.specs.History.{with_routed, routed_to, with_bulletin, kept_on}
-use Rattle.gts_event.specs.Need.{CircuitNeed, circuit_need, positions_of, recent_positions, are_below, IsOrdered}
+use Rattle.gts_event.specs.State.{State, Bulletin, CircuitState, on_circuit, idle, waiting, has, heading_of, text_of, most_accepted, no_heading}
+use Rattle.gts_event.specs.History.{with_routed, with_bulletin, kept_on}
+use Rattle.gts_event.specs.Need.{circuit_need, positions_of, recent_positions, are_below, IsOrdered}
 use Rattle.gts_prioq.specs.Waiting as waits
 use Rattle.gts_prioq.specs.Waiting.{Waiting, at_level, count_of}
-use Rattle.gts_prioq.specs.Order.{Ascends, AllAbove, AreWaiting, PutsAt}
+use Rattle.gts_prioq.specs.Order.{Ascends, AreWaiting, PutsAt}
 use Rattle.gts_prioq.proofs.LawLemmas.{AreWaiting-put, Ascends-put}
 use Rattle.gts_dup.specs.Window as digests
 use Rattle.gts_store.specs.Shelf.{Stored, Drawn, Shelf, stored_at, stored_as, circuit_at, no_draws, free_uses, uses_of, uses_in, without_use}
 use Rattle.gts_kept_core.specs.Lane.{Lane, Stands}
-use Rattle.gts_kept_core.specs.Frames.{IsWhole}
 use Rattle.gts_kept_core.specs.Duplicates.{IsStored, AreNoted, noted_as}
 use Rattle.gts_kept_core.specs.Whole.{level_in, recent}
-use Rattle.gts_kept_core.specs.Parts.{Core, circuit_of, lane_in, need_on, times_waiting, IsAccepted, IsFew, IsGoing, AreParts}
-use Rattle.gts_kept_core.specs.Entering.{RoutesWhere, PutsWhere, Enters, Accepts}
-use Rattle.gts_kept_core.proofs.PartsLemmas.{both_true, each_at}
+use Rattle.gts_kept_core.specs.Parts.{Core, circuit_of, lane_in, need_on, times_waiting, IsAccepted, IsFew, AreParts}
+use Rattle.gts_kept_core.specs.Entering.{RoutesWhere, Enters, Accepts}
+use Rattle.gts_kept_core.proofs.PartsLemmas.{both_true}
 use Rattle.gts_kept_core.proofs.StepLemmas.{less_accepted, still_there}
-use Rattle.gts_kept_core.proofs.WindowLemmas.{recent_in, recent_low, recent_high, recent_stays, recent_next, recent_all, ascends_next, noted_below, noted_last}
+use Rattle.gts_kept_core.proofs.WindowLemmas.{recent_in, recent_low, recent_stays, recent_next, recent_all, ascends_next, noted_below, noted_last}
 
 -- ---- positions below the next one
 

@@ -16,3 +16,4 @@ pub mod EnterLemmas
 pub mod ReadyLemmas
 pub mod HearLemmas
 pub mod NeedLemmas
+pub mod GatherLemmas
