@@ -224,7 +224,7 @@ few_routed cs n m (q ∷ qs) untaken few = (one (has cs m), few_routed cs n (m +
 
 -- ---- the store
 
-more_accepted : (bs : List Bulletin) (b : Bulletin) (p : ℕ) (o : Option Stored) → p ≢ b.position → IfSome o (IsAccepted bs p) → IfSome o (IsAccepted (bs ++ b ∷ []) p)
+pub more_accepted : (bs : List Bulletin) (b : Bulletin) (p : ℕ) (o : Option Stored) → p ≢ b.position → IfSome o (IsAccepted bs p) → IfSome o (IsAccepted (bs ++ b ∷ []) p)
 more_accepted bs b p None other h = tt
 more_accepted bs b p (Some x) other h = record { is = find_other bs b p other ∙ h.is; heading = h.heading; whole = h.whole }
 
@@ -234,10 +234,10 @@ each_drop P (suc k) [] all = tt
 each_drop P (suc k) (x ∷ xs) all = each_drop P k xs all.1
 
 -- a bulletin is stored where it is used
-abbrev IsStoredIfUsed : Shelf → Bulletin → Type 0
+abbrev pub IsStoredIfUsed : Shelf → Bulletin → Type 0
 IsStoredIfUsed shelf b = 1 ≤ uses_of shelf b.position → IsStored shelf b
 
-used_stored : (shelf : Shelf) (bs : List Bulletin) → AllByRecursion (IsStoredIfUsed shelf) bs → ((p : ℕ) → has (positions_of bs) p ≡ true → 1 ≤ uses_of shelf p) → AllByRecursion (IsStored shelf) bs
+pub used_stored : (shelf : Shelf) (bs : List Bulletin) → AllByRecursion (IsStoredIfUsed shelf) bs → ((p : ℕ) → has (positions_of bs) p ≡ true → 1 ≤ uses_of shelf p) → AllByRecursion (IsStored shelf) bs
 used_stored shelf [] all used = tt
 used_stored shelf (b ∷ bs) all used = (
   all.0 (used b.position (ap (λ a. a || has (positions_of bs) b.position) (eq-eqb b.position b.position refl))),
@@ -265,10 +265,10 @@ all_then old new n w st f (x ∷ bs) b enters below all last =
       | false ↦ λ h. all_then old new n w st f bs b enters below.1 h last
     ]) all
 
-heading_there : (body text : List ℕ) (h : HeadingFields) → body_at body ≡ Ok (h, text) → heading_of body ≡ h
+pub heading_there : (body text : List ℕ) (h : HeadingFields) → body_at body ≡ Ok (h, text) → heading_of body ≡ h
 heading_there body text h e = ap (λ r. elim r as (λ _. HeadingFields) [ Ok found ↦ found.0 | Err _ ↦ no_heading ]) e
 
-text_there : (body text : List ℕ) (h : HeadingFields) → body_at body ≡ Ok (h, text) → text_of body ≡ text
+pub text_there : (body text : List ℕ) (h : HeadingFields) → body_at body ≡ Ok (h, text) → text_of body ≡ text
 text_there body text h e = ap (λ r. elim r as (λ _. List ℕ) [ Ok found ↦ found.1 | Err _ ↦ [] ]) e
 
 -- ---- the parts

@@ -17,3 +17,7 @@ pub mod ReadyLemmas
 pub mod HearLemmas
 pub mod NeedLemmas
 pub mod GatherLemmas
+pub mod BeginLemmas
+pub mod ResumeLemmas
+pub mod StartLemmas
+pub mod BegunLemmas

@@ -130,7 +130,7 @@ at_above : (n p : ℕ) (bs : List Bulletin) → AllAbove n (positions_of bs) →
 at_above n p [] above low = refl
 at_above n p (b ∷ bs) above low = ap (λ t. cond t (Some b) (at p bs)) (ne_eqb b.position p (λ (e : b.position ≡ p). omega (arith, above.0))) ∙ at_above n p bs above.1 low
 
-at_first : (b : Bulletin) (bs : List Bulletin) → at b.position (b ∷ bs) ≡ Some b
+pub at_first : (b : Bulletin) (bs : List Bulletin) → at b.position (b ∷ bs) ≡ Some b
 at_first b bs = ap (λ t. cond t (Some b) (at b.position bs)) (eq-eqb b.position b.position refl)
 
 at_low : (p : ℕ) (b : Bulletin) (bs : List Bulletin) → AllAbove b.position (positions_of bs) → p < b.position → at p (b ∷ bs) ≡ None

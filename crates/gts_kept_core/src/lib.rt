@@ -2,6 +2,7 @@
 #![tactic(auto)]
 
 mod answer;
+mod begin;
 mod duplicates;
 mod entering;
 mod frames;
@@ -13,6 +14,7 @@ mod needs;
 mod opening;
 mod owed;
 mod places;
+mod resuming;
 mod taking;
 mod whole;
 

@@ -23,12 +23,7 @@ fn in_order(mut positions: Vec<u64>) -> Vec<u64>
 }
 
 /// What is needed of a circuit.
-fn circuit_need(
-    alloc: Global,
-    lane: &Lane,
-    store: &Store,
-    c: u32,
-) -> Result<CircuitNeed, NoMemory>
+fn circuit_need(alloc: Global, lane: &Lane, store: &Store, c: u32) -> Result<CircuitNeed, NoMemory>
     requires { c < length store.now.circuits }
     ensures { IfOk result (λ n.
         IsNeedIn lane.now (circuit_at store.now c) (items.circuit_need_of n)) }
@@ -45,11 +40,7 @@ fn circuit_need(
 }
 
 /// What is needed of each circuit.
-fn circuit_needs(
-    alloc: Global,
-    lanes: &[Lane],
-    store: &Store,
-) -> Result<Vec<CircuitNeed>, NoMemory>
+fn circuit_needs(alloc: Global, lanes: &[Lane], store: &Store) -> Result<Vec<CircuitNeed>, NoMemory>
     requires stored { length lanes.now ≤ length store.now.circuits }
     requires few { length lanes.now ≤ MOST_CIRCUITS }
     ensures { IfOk result (λ circuits.

@@ -22,7 +22,7 @@ need_in-requires-clause-stored c =
       v.parts.lanes,
       ap length v.parts.kept,
       length-map v.directory.circuits (λ (row : Circuit). row.kept),
-      length-map i.store.circuits (λ (q : Drawn). q.limit)
+      length-map i.store.circuits (λ (q : Drawn). q.limit),
     )
 
 pub need_in-requires-clause-few : goal.need_in-requires-clause-few
