@@ -1,5 +1,5 @@
 -- The last of the noted bulletins with a heading and a text.
-use Rattle.std.proofs.Common.{◌≡◌, ℕ, ◌+◌, ◌<◌, ◌≤◌, ◌⊎◌, Bool, true, false, ◌&&◌, ◌||◌, ◌==◌, nat_eq, cond, List, [], ◌∷◌, ◌++◌, map, Option, None, Some, option_map, find, reverse, refl, sym, ap, subst, ◌∙◌, inl, inr, arith}
+use Rattle.std.proofs.Common.{◌≡◌, ℕ, ◌<◌, ◌≤◌, ◌⊎◌, Bool, true, false, ◌&&◌, ◌||◌, ◌==◌, nat_eq, cond, List, [], ◌∷◌, ◌++◌, map, Option, None, Some, option_map, find, reverse, refl, sym, ap, subst, ◌∙◌, inl, inr, arith}
 use Rattle.std.proofs.lemmas.List.{reverse-append}
 use Rattle.std.proofs.lemmas.List.Folds.{find-append}
 use Rattle.std.proofs.lemmas.Bool.{true≢false, eqb-true, eq-eqb}
@@ -11,7 +11,7 @@ use Rattle.gts_alphabet.specs.declared.characters.TheConstants.{EOL}
 use Rattle.gts_heading.specs.Heading.{HeadingFields, heading_text}
 use Rattle.gts_event.specs.State.{Bulletin, heading_of, text_of, is_same_heading, most_accepted}
 use Rattle.gts_dup.specs.Window.{Window, is_of, is_noted, digest_of, Ascends, AllAbove, IsGreatestBelow, NoneBelow}
-use Rattle.gts_store.specs.Shelf.{Stored, Shelf, stored_at}
+use Rattle.gts_store.specs.Shelf.{Shelf, stored_at}
 use Rattle.gts_kept_core.specs.Duplicates.{are_again, is_again, is_again_in, noted_as, IsStored, AreNoted, latest_again}
 
 -- ---- tests and lists

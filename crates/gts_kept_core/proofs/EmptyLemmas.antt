@@ -1,21 +1,18 @@
 -- The parts of the empty history.
-use Rattle.std.proofs.Common.{◌≡◌, ℕ, zero, suc, ◌+◌, ◌-◌, ◌<◌, ◌≤◌, min, true, List, [], ◌∷◌, length, map, drop, get_or, nat_eq, Option, None, Some, IfSome, refl, sym, ap, subst, ◌∙◌, arith}
+use Rattle.std.proofs.Common.{◌≡◌, ℕ, zero, suc, ◌-◌, ◌<◌, ◌≤◌, min, true, List, [], ◌∷◌, length, map, drop, get_or, nat_eq, Option, None, IfSome, refl, sym, ap, subst, ◌∙◌, arith}
 use Rattle.std.proofs.lemmas.List.{length-map, get_or-map}
 use Rattle.std.specs.List.{AllByRecursion, range_with_len}
 use Rattle.std.specs.Map.{lookup}
 use Rattle.gts_directory.specs.Directory.{Directory, Circuit}
-use Rattle.gts_directory.specs.Routing.{bit}
-use Rattle.gts_event.specs.State.{State, CircuitState, Bulletin, empty, idle, on_circuit, waiting, has}
+use Rattle.gts_event.specs.State.{empty, idle, on_circuit}
 use Rattle.gts_event.specs.History.{kept_on}
-use Rattle.gts_event.specs.Need.{CircuitNeed, circuit_need, keeps_one, positions_of}
+use Rattle.gts_event.specs.Need.{CircuitNeed, circuit_need, keeps_one}
 use Rattle.gts_event.proofs.LawLemmas.{ordered-empty}
 use Rattle.gts_prioq.specs.Waiting.{Waiting, at_level}
-use Rattle.gts_prioq.specs.Order.{AreWaiting}
-use Rattle.gts_dup.specs.Window.{Window, Ascends}
-use Rattle.gts_store.specs.Shelf.{Stored, Drawn, Shelf, stored_at, circuit_at, no_draws, undrawn, free_uses, uses_of, uses_in, kept_places}
-use Rattle.gts_kept_core.specs.Lane.{Lane, Stands}
-use Rattle.gts_kept_core.specs.Duplicates.{AreNoted, noted_as}
-use Rattle.gts_kept_core.specs.Whole.{level_in, recent}
+use Rattle.gts_dup.specs.Window.{Ascends}
+use Rattle.gts_store.specs.Shelf.{Stored, Drawn, stored_at, circuit_at, no_draws, undrawn, uses_of, uses_in}
+use Rattle.gts_kept_core.specs.Lane.{Stands}
+use Rattle.gts_kept_core.specs.Whole.{level_in}
 use Rattle.gts_kept_core.specs.Parts.{Core, HasWhatItKeeps, circuit_of, lane_in, need_on, times_waiting, IsFew, IsIdle, AreIdle, AreParts, IsAccepted}
 use Rattle.gts_kept_core.proofs.WholeLemmas.{kept_positions}
 use Rattle.gts_kept_core.proofs.PartsLemmas.{each_at}

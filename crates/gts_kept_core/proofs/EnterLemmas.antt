@@ -1,37 +1,36 @@
 -- The parts after a message was accepted.
-use Rattle.std.proofs.Common.{◌≡◌, ◌≢◌, ℕ, zero, suc, ◌+◌, ◌-◌, ◌<◌, ◌≤◌, ◌⊎◌, Bool, true, false, not, ◌||◌, ◌==◌, nat_lt, nat_le, cond, List, [], ◌∷◌, ◌++◌, length, map, filter, drop, get_or, find, Option, None, Some, IfSome, Result, Ok, Err, is_ok, refl, sym, ap, subst, ◌∙◌, inl, inr, arith}
+use Rattle.std.proofs.Common.{◌≡◌, ◌≢◌, ℕ, zero, suc, ◌+◌, ◌-◌, ◌<◌, ◌≤◌, Bool, true, false, not, ◌||◌, ◌==◌, nat_lt, cond, List, [], ◌∷◌, ◌++◌, length, map, filter, drop, get_or, find, Option, None, Some, IfSome, Ok, Err, is_ok, refl, sym, ap, subst, ◌∙◌, inl, inr, arith}
 use Rattle.std.specs.List.{AllByRecursion, list_all, enumerate_from, range_with_len}
 use Rattle.std.specs.Option.{option_or}
-use Rattle.std.proofs.lemmas.List.{length-append, length-map, map-append, get_or-map}
+use Rattle.std.proofs.lemmas.List.{length-append, map-append, get_or-map}
 use Rattle.std.proofs.lemmas.List.FromFn.{get_or-enumerate_from, length-enumerate_from}
 use Rattle.std.proofs.lemmas.List.Elements.{filter-append}
 use Rattle.std.proofs.lemmas.List.Folds.{find-append}
-use Rattle.std.proofs.lemmas.Bool.{cases_eq, eq-eqb, ne_eqb, eqb-true, ltb-true, true≢false}
+use Rattle.std.proofs.lemmas.Bool.{cases_eq, eq-eqb, ne_eqb, ltb-true}
 use Rattle.circular_buffer.specs.Buffer.{keep_last}
 use Rattle.gts_alphabet.specs.declared.limits.TheConstants.{LONGEST_BODY}
 use Rattle.gts_heading.specs.Heading.{HeadingFields}
-use Rattle.gts_message.specs.Message.{MessageParts, split_at, body_at}
+use Rattle.gts_message.specs.Message.{body_at}
 use Rattle.gts_frame.specs.declared.kind.Kind.{Kind}
 use Rattle.gts_directory.specs.Directory.{Directory, named, is_named, level_of}
 use Rattle.gts_directory.specs.Routing.{bit}
-use Rattle.gts_event.specs.State.{State, Bulletin, CircuitState, on_circuit, idle, draws, waiting, has, heading_of, text_of, heading_at_position, bulletin_at, most_accepted, no_heading}
-use Rattle.gts_event.specs.History.{with_routed, routed_to, with_bulletin, kept_on}
-use Rattle.gts_event.specs.Need.{CircuitNeed, circuit_need, positions_of, recent_positions, are_below, IsOrdered}
+use Rattle.gts_event.specs.State.{State, Bulletin, CircuitState, on_circuit, idle, waiting, has, heading_of, text_of, most_accepted, no_heading}
+use Rattle.gts_event.specs.History.{with_routed, with_bulletin, kept_on}
+use Rattle.gts_event.specs.Need.{circuit_need, positions_of, recent_positions, are_below, IsOrdered}
 use Rattle.gts_prioq.specs.Waiting as waits
 use Rattle.gts_prioq.specs.Waiting.{Waiting, at_level, count_of}
-use Rattle.gts_prioq.specs.Order.{Ascends, AllAbove, AreWaiting, PutsAt}
+use Rattle.gts_prioq.specs.Order.{Ascends, AreWaiting, PutsAt}
 use Rattle.gts_prioq.proofs.LawLemmas.{AreWaiting-put, Ascends-put}
 use Rattle.gts_dup.specs.Window as digests
 use Rattle.gts_store.specs.Shelf.{Stored, Drawn, Shelf, stored_at, stored_as, circuit_at, no_draws, free_uses, uses_of, uses_in, without_use}
 use Rattle.gts_kept_core.specs.Lane.{Lane, Stands}
-use Rattle.gts_kept_core.specs.Frames.{IsWhole}
 use Rattle.gts_kept_core.specs.Duplicates.{IsStored, AreNoted, noted_as}
 use Rattle.gts_kept_core.specs.Whole.{level_in, recent}
-use Rattle.gts_kept_core.specs.Parts.{Core, circuit_of, lane_in, need_on, times_waiting, IsAccepted, IsFew, IsGoing, AreParts}
-use Rattle.gts_kept_core.specs.Entering.{RoutesWhere, PutsWhere, Enters, Accepts}
-use Rattle.gts_kept_core.proofs.PartsLemmas.{both_true, each_at}
+use Rattle.gts_kept_core.specs.Parts.{Core, circuit_of, lane_in, need_on, times_waiting, IsAccepted, IsFew, AreParts}
+use Rattle.gts_kept_core.specs.Entering.{RoutesWhere, Enters, Accepts}
+use Rattle.gts_kept_core.proofs.PartsLemmas.{both_true}
 use Rattle.gts_kept_core.proofs.StepLemmas.{less_accepted, still_there}
-use Rattle.gts_kept_core.proofs.WindowLemmas.{recent_in, recent_low, recent_high, recent_stays, recent_next, recent_all, ascends_next, noted_below, noted_last}
+use Rattle.gts_kept_core.proofs.WindowLemmas.{recent_in, recent_low, recent_stays, recent_next, recent_all, ascends_next, noted_below, noted_last}
 
 -- ---- positions below the next one
 
@@ -225,7 +224,7 @@ few_routed cs n m (q ∷ qs) untaken few = (one (has cs m), few_routed cs n (m +
 
 -- ---- the store
 
-more_accepted : (bs : List Bulletin) (b : Bulletin) (p : ℕ) (o : Option Stored) → p ≢ b.position → IfSome o (IsAccepted bs p) → IfSome o (IsAccepted (bs ++ b ∷ []) p)
+pub more_accepted : (bs : List Bulletin) (b : Bulletin) (p : ℕ) (o : Option Stored) → p ≢ b.position → IfSome o (IsAccepted bs p) → IfSome o (IsAccepted (bs ++ b ∷ []) p)
 more_accepted bs b p None other h = tt
 more_accepted bs b p (Some x) other h = record { is = find_other bs b p other ∙ h.is; heading = h.heading; whole = h.whole }
 
@@ -235,10 +234,10 @@ each_drop P (suc k) [] all = tt
 each_drop P (suc k) (x ∷ xs) all = each_drop P k xs all.1
 
 -- a bulletin is stored where it is used
-abbrev IsStoredIfUsed : Shelf → Bulletin → Type 0
+abbrev pub IsStoredIfUsed : Shelf → Bulletin → Type 0
 IsStoredIfUsed shelf b = 1 ≤ uses_of shelf b.position → IsStored shelf b
 
-used_stored : (shelf : Shelf) (bs : List Bulletin) → AllByRecursion (IsStoredIfUsed shelf) bs → ((p : ℕ) → has (positions_of bs) p ≡ true → 1 ≤ uses_of shelf p) → AllByRecursion (IsStored shelf) bs
+pub used_stored : (shelf : Shelf) (bs : List Bulletin) → AllByRecursion (IsStoredIfUsed shelf) bs → ((p : ℕ) → has (positions_of bs) p ≡ true → 1 ≤ uses_of shelf p) → AllByRecursion (IsStored shelf) bs
 used_stored shelf [] all used = tt
 used_stored shelf (b ∷ bs) all used = (
   all.0 (used b.position (ap (λ a. a || has (positions_of bs) b.position) (eq-eqb b.position b.position refl))),
@@ -266,10 +265,10 @@ all_then old new n w st f (x ∷ bs) b enters below all last =
       | false ↦ λ h. all_then old new n w st f bs b enters below.1 h last
     ]) all
 
-heading_there : (body text : List ℕ) (h : HeadingFields) → body_at body ≡ Ok (h, text) → heading_of body ≡ h
+pub heading_there : (body text : List ℕ) (h : HeadingFields) → body_at body ≡ Ok (h, text) → heading_of body ≡ h
 heading_there body text h e = ap (λ r. elim r as (λ _. HeadingFields) [ Ok found ↦ found.0 | Err _ ↦ no_heading ]) e
 
-text_there : (body text : List ℕ) (h : HeadingFields) → body_at body ≡ Ok (h, text) → text_of body ≡ text
+pub text_there : (body text : List ℕ) (h : HeadingFields) → body_at body ≡ Ok (h, text) → text_of body ≡ text
 text_there body text h e = ap (λ r. elim r as (λ _. List ℕ) [ Ok found ↦ found.1 | Err _ ↦ [] ]) e
 
 -- ---- the parts

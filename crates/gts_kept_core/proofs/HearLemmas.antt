@@ -1,5 +1,5 @@
 -- The parts after a message was heard.
-use Rattle.std.proofs.Common.{◌≡◌, ℕ, ◌+◌, ◌<◌, ◌≤◌, Bool, true, false, nat_lt, cond, List, [], ◌∷◌, ◌++◌, length, map, set, IfSome, Option, None, Some, Result, Ok, Err, is_ok, refl, sym, ap, subst, ◌∙◌, arith}
+use Rattle.std.proofs.Common.{◌≡◌, ℕ, ◌+◌, ◌<◌, ◌≤◌, Bool, true, false, nat_lt, cond, List, [], ◌++◌, length, map, set, IfSome, Option, None, Some, Result, Ok, Err, refl, sym, ap, subst, ◌∙◌, arith}
 use Rattle.std.specs.Prelude.{count_by, is_none}
 use Rattle.std.proofs.lemmas.Bool.{ltb-false}
 use Rattle.std.proofs.lemmas.List.{get_or-set_same}
@@ -31,7 +31,7 @@ use Rattle.gts_kept_core.specs.Parts.{Core, HasWhatItKeeps, circuit_of, lane_in,
 use Rattle.gts_kept_core.specs.Core.{Holds, IsStep}
 use Rattle.gts_kept_core.specs.Entering.{HasRoom, CanRoute, Accepts}
 use Rattle.gts_kept_core.proofs.PartsLemmas.{each_at}
-use Rattle.gts_kept_core.proofs.StepLemmas.{Stay, parts_lane, with_at, holds_by}
+use Rattle.gts_kept_core.proofs.StepLemmas.{Stay, parts_lane, holds_by}
 use Rattle.gts_kept_core.proofs.WindowLemmas.{recent_in}
 use Rattle.gts_kept_core.proofs.EnterLemmas.{waiting_below, find_below, parts_accepted}
 

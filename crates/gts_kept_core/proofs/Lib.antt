@@ -16,3 +16,8 @@ pub mod EnterLemmas
 pub mod ReadyLemmas
 pub mod HearLemmas
 pub mod NeedLemmas
+pub mod GatherLemmas
+pub mod BeginLemmas
+pub mod ResumeLemmas
+pub mod StartLemmas
+pub mod BegunLemmas

@@ -1,12 +1,11 @@
 -- The parts determine the need of the state.
-use Rattle.std.proofs.Common.{◌≡◌, ◌≢◌, ℕ, zero, suc, ◌+◌, ◌<◌, ◌≤◌, ◌⊎◌, Bool, true, false, ◌&&◌, ◌||◌, ◌==◌, nat_le, cond, List, [], ◌∷◌, length, map, filter, get_or, find, Option, None, Some, IfSome, zip, refl, sym, ap, subst, ◌∙◌, inl, inr, arith}
+use Rattle.std.proofs.Common.{◌≡◌, ℕ, suc, ◌+◌, ◌<◌, ◌≤◌, ◌⊎◌, Bool, true, false, ◌||◌, ◌==◌, cond, List, [], ◌∷◌, length, map, filter, get_or, find, Option, None, Some, IfSome, zip, refl, sym, ap, subst, ◌∙◌, inl, inr, arith}
 use Rattle.std.specs.List.{AllByRecursion, list_any}
 use Rattle.std.proofs.Math.ListN.{get_or-eq_default}
 use Rattle.std.proofs.lemmas.Bool.{cases_eq, cases_lt, eq-eqb, eqb-true, ne_eqb, leb-true, true≢false}
 use Rattle.gts_directory.specs.Directory.{Directory, Circuit}
 use Rattle.gts_directory.specs.Routing.{bit}
-use Rattle.gts_event.specs.State.{State, Bulletin, CircuitState, idle, has, waiting, is_recent}
-use Rattle.gts_event.specs.History.{kept_on}
+use Rattle.gts_event.specs.State.{State, Bulletin, CircuitState, idle, has, is_recent}
 use Rattle.gts_event.specs.Need.{Need, CircuitNeed, need, circuit_need, circuit_needs, is_needed, positions_of}
 use Rattle.gts_event.proofs.LawLemmas.{has_filter}
 use Rattle.gts_prioq.specs.Waiting as waits
@@ -15,18 +14,18 @@ use Rattle.gts_prioq.specs.Order.{Ascends, AllAbove}
 use Rattle.gts_store.specs.Shelf.{Stored, Drawn, Shelf, stored_at, circuit_at, no_draws, uses_of, uses_in}
 use Rattle.gts_kept_core.specs.Lane.{Lane, Stands}
 use Rattle.gts_kept_core.specs.Whole.{recent}
-use Rattle.gts_kept_core.specs.Parts.{Core, HasWhatItKeeps, lane_in, need_on, times_waiting, IsAccepted, AreParts}
+use Rattle.gts_kept_core.specs.Parts.{Core, HasWhatItKeeps, lane_in, need_on, IsAccepted, AreParts}
 use Rattle.gts_kept_core.proofs.PartsLemmas.{times_here}
 use Rattle.gts_kept_core.proofs.WindowLemmas.{recent_in}
 use Rattle.gts_kept_core.proofs.JudgeLemmas.{each_kept}
 
 -- ---- lists in order
 
-or_parts : (a b : Bool) → (a || b) ≡ true → (a ≡ true) ⊎ (b ≡ true)
+pub or_parts : (a b : Bool) → (a || b) ≡ true → (a ≡ true) ⊎ (b ≡ true)
 or_parts true b e = inl refl
 or_parts false b e = inr e
 
-both_ways : (a b : Bool) → (a ≡ true → b ≡ true) → (b ≡ true → a ≡ true) → a ≡ b
+pub both_ways : (a b : Bool) → (a ≡ true → b ≡ true) → (b ≡ true → a ≡ true) → a ≡ b
 both_ways true b there back = sym (there refl)
 both_ways false true there back = back refl
 both_ways false false there back = refl
@@ -43,7 +42,7 @@ below_first : (p x : ℕ) (xs : List ℕ) → AllAbove x xs → p < x → has (x
 below_first p x xs above less = ap (λ b. b || has xs p) (ne_eqb x p (λ (e : x ≡ p). omega arith)) ∙ above_absent x p xs above (omega arith)
 
 -- lists in order that have the same numbers are the same
-ascend_same : (xs ys : List ℕ) → Ascends xs → Ascends ys → ((p : ℕ) → has xs p ≡ has ys p) → xs ≡ ys
+pub ascend_same : (xs ys : List ℕ) → Ascends xs → Ascends ys → ((p : ℕ) → has xs p ≡ has ys p) → xs ≡ ys
 ascend_same [] [] up down same = refl
 ascend_same [] (y ∷ ys) up down same = absurd (true≢false (sym (has_first y ys) ∙ sym (same y)))
 ascend_same (x ∷ xs) [] up down same = absurd (true≢false (sym (has_first x xs) ∙ same x))
@@ -64,7 +63,7 @@ ascend_same (x ∷ xs) (y ∷ ys) up down same =
 
 -- ---- what is needed of a circuit
 
-has_passing : (g : ℕ → Bool) (ws : List ℕ) (p : ℕ) → has ws p ≡ true → g p ≡ true → has (filter g ws) p ≡ true
+pub has_passing : (g : ℕ → Bool) (ws : List ℕ) (p : ℕ) → has ws p ≡ true → g p ≡ true → has (filter g ws) p ≡ true
 has_passing g [] p h passes = h
 has_passing g (w ∷ ws) p h passes = elim (cases_eq w p) [
   | inl same ↦
@@ -84,18 +83,21 @@ waits_too f g m n lane q p one other h =
     let queued : has (at_level lane.queue (f p)) p ≡ true = ap (λ (xs : List ℕ). has xs p) (one.waiting (f p)) ∙ there in
     (has_filter (λ x. g x == f p) n.waiting p (sym (ap (λ (xs : List ℕ). has xs p) (other.waiting (f p))) ∙ queued)).0
 
-stands_same : (f g : ℕ → ℕ) (m n : CircuitNeed) (lane : Lane) (q : Drawn) → Stands f m lane q → Stands g n lane q → m ≡ n
-stands_same f g m n lane q one other =
-    let ws : m.waiting ≡ n.waiting = ascend_same m.waiting n.waiting one.order other.order (λ p. both_ways (has m.waiting p) (has n.waiting p) (waits_too f g m n lane q p one other) (waits_too g f n m lane q p other one)) in
-    let ds : m.draws ≡ n.draws = sym one.draws ∙ other.draws in
-    let ks : m.kept ≡ n.kept = sym one.kept ∙ other.kept in
-    let os : m.owed ≡ n.owed = sym one.owed ∙ other.owed in
+-- what is needed of a circuit is its four parts
+pub need_equal : (m n : CircuitNeed) → m.draws ≡ n.draws → m.waiting ≡ n.waiting → m.kept ≡ n.kept → m.owed ≡ n.owed → m ≡ n
+need_equal m n ds ws ks os =
     ap {B = CircuitNeed} (λ (x : ℕ). record { draws = x; waiting = m.waiting; kept = m.kept; owed = m.owed }) ds
     ∙ ap {B = CircuitNeed} (λ (x : List ℕ). record { draws = n.draws; waiting = x; kept = m.kept; owed = m.owed }) ws
     ∙ ap {B = CircuitNeed} (λ (x : List ℕ). record { draws = n.draws; waiting = n.waiting; kept = x; owed = m.owed }) ks
     ∙ ap {B = CircuitNeed} (λ (x : List ℕ). record { draws = n.draws; waiting = n.waiting; kept = n.kept; owed = x }) os
 
-abbrev needs_in : List Circuit → List CircuitState → List CircuitNeed
+stands_same : (f g : ℕ → ℕ) (m n : CircuitNeed) (lane : Lane) (q : Drawn) → Stands f m lane q → Stands g n lane q → m ≡ n
+stands_same f g m n lane q one other =
+    need_equal m n (sym one.draws ∙ other.draws)
+    (ascend_same m.waiting n.waiting one.order other.order (λ p. both_ways (has m.waiting p) (has n.waiting p) (waits_too f g m n lane q p one other) (waits_too g f n m lane q p other one)))
+    (sym one.kept ∙ other.kept) (sym one.owed ∙ other.owed)
+
+abbrev pub needs_in : List Circuit → List CircuitState → List CircuitNeed
 needs_in rows qs = map (λ (row : Circuit × CircuitState). circuit_need row.0.kept row.1) (zip rows qs)
 
 needs_each : (rows : List Circuit) (qs rs : List CircuitState) → length qs ≡ length rows → length rs ≡ length rows
@@ -121,21 +123,21 @@ any_circuit test (row ∷ rows) (q ∷ qs) e = elim (or_parts (test (circuit_nee
 
 -- ---- the bulletins
 
-abbrev at : ℕ → List Bulletin → Option Bulletin
+abbrev pub at : ℕ → List Bulletin → Option Bulletin
 at p bs = find (λ (b : Bulletin). b.position == p) bs
 
 at_above : (n p : ℕ) (bs : List Bulletin) → AllAbove n (positions_of bs) → p ≤ n → at p bs ≡ None
 at_above n p [] above low = refl
 at_above n p (b ∷ bs) above low = ap (λ t. cond t (Some b) (at p bs)) (ne_eqb b.position p (λ (e : b.position ≡ p). omega (arith, above.0))) ∙ at_above n p bs above.1 low
 
-at_first : (b : Bulletin) (bs : List Bulletin) → at b.position (b ∷ bs) ≡ Some b
+pub at_first : (b : Bulletin) (bs : List Bulletin) → at b.position (b ∷ bs) ≡ Some b
 at_first b bs = ap (λ t. cond t (Some b) (at b.position bs)) (eq-eqb b.position b.position refl)
 
 at_low : (p : ℕ) (b : Bulletin) (bs : List Bulletin) → AllAbove b.position (positions_of bs) → p < b.position → at p (b ∷ bs) ≡ None
 at_low p b bs above less = ap (λ t. cond t (Some b) (at p bs)) (ne_eqb b.position p (λ (e : b.position ≡ p). omega arith)) ∙ at_above b.position p bs above (omega arith)
 
 -- bulletins in order that are the same at each position are the same
-by_position : (bs cs : List Bulletin) → Ascends (positions_of bs) → Ascends (positions_of cs) → ((p : ℕ) → at p bs ≡ at p cs) → bs ≡ cs
+pub by_position : (bs cs : List Bulletin) → Ascends (positions_of bs) → Ascends (positions_of cs) → ((p : ℕ) → at p bs ≡ at p cs) → bs ≡ cs
 by_position [] [] up down same = refl
 by_position [] (c ∷ cs) up down same = absurd (let e = at_first c cs in let f = same c.position in cc)
 by_position (b ∷ bs) [] up down same = absurd (let e = at_first b bs in let f = same b.position in cc)
@@ -161,7 +163,7 @@ above_filter : (n : ℕ) (f : Bulletin → Bool) (bs : List Bulletin) → AllAbo
 above_filter n f [] above = tt
 above_filter n f (b ∷ bs) above = elim (f b) as (λ t. AllAbove n (positions_of (cond t (b ∷ filter f bs) (filter f bs)))) [ true ↦ (above.0, above_filter n f bs above.1) | false ↦ above_filter n f bs above.1 ]
 
-ascend_filter : (f : Bulletin → Bool) (bs : List Bulletin) → Ascends (positions_of bs) → Ascends (positions_of (filter f bs))
+pub ascend_filter : (f : Bulletin → Bool) (bs : List Bulletin) → Ascends (positions_of bs) → Ascends (positions_of (filter f bs))
 ascend_filter f [] up = tt
 ascend_filter f (b ∷ bs) up = elim (f b) as (λ t. Ascends (positions_of (cond t (b ∷ filter f bs) (filter f bs)))) [
   | true ↦ (above_filter b.position f bs up.0, ascend_filter f bs up.1)
@@ -169,7 +171,7 @@ ascend_filter f (b ∷ bs) up = elim (f b) as (λ t. Ascends (positions_of (cond
 ]
 
 -- of the bulletins that pass a test of their positions, that of a position
-at_filter : (test : ℕ → Bool) (p : ℕ) (bs : List Bulletin) → at p (filter (λ (b : Bulletin). test b.position) bs) ≡ cond (test p) (at p bs) None
+pub at_filter : (test : ℕ → Bool) (p : ℕ) (bs : List Bulletin) → at p (filter (λ (b : Bulletin). test b.position) bs) ≡ cond (test p) (at p bs) None
 at_filter test p [] = elim (test p) as (λ t. ◌≡◌ {A = Option Bulletin} None (cond t None None)) [ true ↦ refl | false ↦ refl ]
 at_filter test p (b ∷ bs) = elim (cases_eq b.position p) [
   | inl same ↦
@@ -208,7 +210,7 @@ all_kept shelf c held = elim (cases_lt c (length shelf.circuits)) [
 ]
 
 -- what is needed and was given out is stored
-needed_used : (d : Directory) (core : Core) (t : State) → AreParts d core t → (p : ℕ) → p < t.count → is_needed d t.count (circuit_needs d t) p ≡ true → 1 ≤ uses_of core.store p
+pub needed_used : (d : Directory) (core : Core) (t : State) → AreParts d core t → (p : ℕ) → p < t.count → is_needed d t.count (circuit_needs d t) p ≡ true → 1 ≤ uses_of core.store p
 needed_used d core t are p below e = elim (or_parts (is_recent d t.count p) (list_any (λ c. has c.waiting p || has c.kept p) (circuit_needs d t)) e) [
   | inl recently ↦
       let is : bit (has (positions_of (recent d t)) p) ≡ 1 = ap bit (ap (λ (ps : List ℕ). has ps p) are.going.recent ∙ recent_in d t.count p (leb-true t.count (p + d.window) recently) below) in
@@ -224,7 +226,7 @@ needed_used d core t are p below e = elim (or_parts (is_recent d t.count p) (lis
       ]
 ]
 
-at_beyond : (n p : ℕ) (bs : List Bulletin) → waits.AllBelow n (positions_of bs) → n ≤ p → at p bs ≡ None
+pub at_beyond : (n p : ℕ) (bs : List Bulletin) → waits.AllBelow n (positions_of bs) → n ≤ p → at p bs ≡ None
 at_beyond n p [] below far = refl
 at_beyond n p (b ∷ bs) below far = ap (λ t. cond t (Some b) (at p bs)) (ne_eqb b.position p (λ (e : b.position ≡ p). omega (arith, below.0))) ∙ at_beyond n p bs below.1 far
 

@@ -1,26 +1,24 @@
 -- What the parts say of one circuit and of one position.
-use Rattle.std.proofs.Common.{◌≡◌, ◌≢◌, ℕ, zero, suc, ◌+◌, ◌-◌, ◌<◌, ◌≤◌, Bool, true, false, not, ◌&&◌, ◌||◌, ◌==◌, nat_lt, nat_le, cond, List, [], ◌∷◌, ◌++◌, length, map, filter, take, drop, get_or, set, find, Option, None, Some, slice_get, IfSome, IsSome, is_some, zip, refl, sym, ap, subst, ◌∙◌, inl, inr, arith}
-use Rattle.std.proofs.lemmas.List.{length-map, length-drop, get_or-map, get_or-set_same, get_or-set_other, map-set}
-use Rattle.std.proofs.lemmas.Bool.{cases_eq, cases_lt, eqb-true, eq-eqb, ne_eqb, ltb-true, leb-true, lt-ltb, true≢false}
+use Rattle.std.proofs.Common.{◌≡◌, ◌≢◌, ℕ, zero, suc, ◌+◌, ◌-◌, ◌<◌, ◌≤◌, Bool, true, false, not, ◌&&◌, ◌||◌, ◌==◌, nat_lt, nat_le, cond, List, [], ◌∷◌, ◌++◌, length, map, take, get_or, set, Option, None, Some, slice_get, IfSome, IsSome, zip, refl, sym, ap, subst, ◌∙◌, arith}
+use Rattle.std.proofs.lemmas.List.{length-map, length-drop, get_or-map}
+use Rattle.std.proofs.lemmas.Bool.{eqb-true, ne_eqb, ltb-true, leb-true, true≢false}
 use Rattle.std.proofs.lemmas.Option.{slice_get-get_or}
-use Rattle.std.proofs.lemmas.List.FromFn.{length-enumerate_from}
-use Rattle.std.specs.List.{AllByRecursion, list_all, enumerate_from}
-use Rattle.circular_buffer.specs.Buffer.{keep_last}
+use Rattle.std.specs.List.{AllByRecursion, list_all}
 use Rattle.gts_directory.specs.Directory.{Directory, Circuit}
 use Rattle.gts_directory.specs.Routing.{bit}
-use Rattle.gts_event.specs.State.{State, Bulletin, CircuitState, on_circuit, idle, draws, waiting, has, kept_draws, bulletin_at, most_accepted}
+use Rattle.gts_event.specs.State.{State, CircuitState, on_circuit, idle, draws, waiting, has, most_accepted}
 use Rattle.gts_event.specs.History.{kept_on}
-use Rattle.gts_event.specs.Need.{CircuitNeed, circuit_need, circuit_needs, keeps_one, positions_of, owes_kept, is_kept, IsOrdered}
+use Rattle.gts_event.specs.Need.{CircuitNeed, circuit_need, owes_kept, is_kept}
 use Rattle.gts_prioq.specs.Waiting.{GoesNext}
-use Rattle.gts_prioq.specs.Order.{without, next_of}
+use Rattle.gts_prioq.specs.Order.{without}
 use Rattle.gts_prioq.proofs.LawLemmas.{next_of-GoesNext}
 use Rattle.gts_event.proofs.LawLemmas.{find_passes}
-use Rattle.gts_store.specs.Shelf.{Stored, Drawn, Shelf, stored_at, circuit_at, no_draws, position_at, first_kept, free_uses, uses_of, uses_in}
+use Rattle.gts_store.specs.Shelf.{Stored, Drawn, stored_at, circuit_at, no_draws, position_at, first_kept, free_uses}
 use Rattle.gts_kept_core.specs.Lane.{Lane, Stands}
 use Rattle.gts_kept_core.specs.Frames.{IsWhole, AreBodies}
 use Rattle.gts_kept_core.specs.Taking.{CanDraw, CanTake}
-use Rattle.gts_kept_core.specs.Whole.{level_in, recent}
-use Rattle.gts_kept_core.specs.Parts.{Core, lane_in, need_on, times_waiting, IsAccepted, IsFew, IsGoing, AreParts}
+use Rattle.gts_kept_core.specs.Whole.{level_in}
+use Rattle.gts_kept_core.specs.Parts.{Core, lane_in, need_on, times_waiting, IsAccepted, IsFew, AreParts}
 use Rattle.gts_kept_core.proofs.WholeLemmas.{kept_positions}
 
 -- ---- lists

@@ -5,16 +5,14 @@ use Rattle.std.specs.List.{AllByRecursion}
 use Rattle.gts_directory.specs.Directory.{Directory}
 use Rattle.gts_event.specs.State.{State, Bulletin}
 use Rattle.gts_event.specs.declared.outcome.Outcome.TheVariants as out
-use Rattle.gts_prioq.specs.Waiting.{Waiting, at_level}
-use Rattle.gts_dup.specs.Window.{Window, Ascends}
+use Rattle.gts_dup.specs.Window.{Ascends}
 use Rattle.gts_store.specs.Shelf.{Stored, Drawn, Shelf, stored_at, circuit_at, no_draws, position_at, free_uses, uses_of, uses_in, SameBulletins}
 use Rattle.gts_kept_core.specs.declared.answer.Verdict as verdicts
 use Rattle.gts_kept_core.specs.declared.answer.Verdict.TheVariants as verdict
 use Rattle.gts_kept_core.specs.Judging.{verdict_told}
-use Rattle.gts_kept_core.specs.Lane.{Stands}
-use Rattle.gts_kept_core.specs.Duplicates.{IsStored, AreNoted}
-use Rattle.gts_kept_core.specs.Whole.{level_in, recent}
-use Rattle.gts_kept_core.specs.Parts.{Core, HasWhatItKeeps, circuit_of, lane_in, need_on, IsAccepted, AreParts}
+use Rattle.gts_kept_core.specs.Duplicates.{IsStored}
+use Rattle.gts_kept_core.specs.Whole.{recent}
+use Rattle.gts_kept_core.specs.Parts.{Core, HasWhatItKeeps, circuit_of, lane_in, IsAccepted, AreParts}
 use Rattle.gts_kept_core.specs.Core.{Holds}
 use Rattle.gts_kept_core.proofs.StepLemmas.{holds_by}
 

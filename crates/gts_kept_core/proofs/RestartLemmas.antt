@@ -1,18 +1,18 @@
 -- The parts after the journal was opened again, and how many draws wait.
-use Rattle.std.proofs.Common.{◌≡◌, ℕ, zero, suc, ◌+◌, ◌-◌, ◌<◌, ◌≤◌, Bool, true, false, not, nat_lt, cond, List, [], ◌∷◌, ◌++◌, length, map, filter, drop, get_or, sum_by, flat_map, zip, IfSome, refl, sym, ap, subst, ◌∙◌, arith}
-use Rattle.std.proofs.lemmas.List.{length-map, length-append, length-drop, get_or-map}
+use Rattle.std.proofs.Common.{◌≡◌, ℕ, suc, ◌+◌, ◌-◌, ◌<◌, ◌≤◌, not, nat_lt, cond, List, [], ◌∷◌, length, map, filter, drop, get_or, flat_map, zip, IfSome, refl, sym, ap, subst, ◌∙◌, arith}
+use Rattle.std.proofs.lemmas.List.{length-drop, get_or-map}
 use Rattle.std.proofs.lemmas.List.Concat.{length-flat_map}
 use Rattle.std.proofs.lemmas.List.FromFn.{length-enumerate_from}
 use Rattle.std.proofs.lemmas.Bool.{lt-ltb}
 use Rattle.std.specs.List.{AllByRecursion, enumerate_from}
 use Rattle.gts_directory.specs.Directory.{Directory, Circuit}
 use Rattle.gts_directory.specs.Routing.{bit}
-use Rattle.gts_event.specs.State.{State, CircuitState, on_circuit, idle, draws, drawn, waiting, has, last_of}
+use Rattle.gts_event.specs.State.{State, CircuitState, on_circuit, idle, draws, waiting, has, last_of}
 use Rattle.gts_event.specs.History.{owed_last, restarted, kept_on}
 use Rattle.gts_event.specs.Need.{Need, CircuitNeed, circuit_need, positions_of}
 use Rattle.gts_event.specs.Stand.{SameNeed}
 use Rattle.gts_event.proofs.LawLemmas.{restarted-same}
-use Rattle.gts_prioq.specs.Waiting.{Waiting, count_of}
+use Rattle.gts_prioq.specs.Waiting.{count_of}
 use Rattle.gts_prioq.proofs.LawLemmas.{count_of-AreWaiting}
 use Rattle.gts_dup.specs.Window.{Window}
 use Rattle.gts_store.specs.Shelf.{Shelf, stored_at, circuit_at, free_uses}

@@ -1,11 +1,11 @@
 -- The frame of a kept draw is what is said of it.
-use Rattle.std.proofs.Common.{◌≡◌, ℕ, zero, suc, ◌+◌, ◌-◌, ◌<◌, ◌≤◌, Bool, true, false, ◌==◌, nat_lt, cond, List, [], ◌∷◌, length, drop, find, Option, None, Some, slice_get, IfSome, refl, sym, ap, subst, ◌∙◌, inl, inr, arith}
+use Rattle.std.proofs.Common.{◌≡◌, ℕ, zero, suc, ◌+◌, ◌-◌, ◌<◌, ◌≤◌, true, false, ◌==◌, nat_lt, cond, List, [], ◌∷◌, length, drop, find, Option, None, Some, slice_get, IfSome, refl, sym, ap, subst, ◌∙◌, arith}
 use Rattle.std.proofs.lemmas.List.{length-drop}
 use Rattle.std.proofs.lemmas.Bool.{eq-eqb, ne_eqb, ltb-false}
 use Rattle.std.specs.List.{enumerate_from}
 use Rattle.gts_traits.specs.Station.{Outside, on}
 use Rattle.gts_directory.specs.Directory.{Directory}
-use Rattle.gts_event.specs.State.{State, Bulletin, CircuitState, on_circuit, drawn, draws, bulletin_at}
+use Rattle.gts_event.specs.State.{State, Bulletin, CircuitState, on_circuit, drawn, bulletin_at}
 use Rattle.gts_event.specs.History.{Choice, Repeats, Draws, Nothing_waits, choice, after, kept_on}
 use Rattle.gts_event.specs.declared.event.Event.TheVariants.{Taken}
 use Rattle.gts_event.specs.declared.outcome.Outcome.{Outcome}

@@ -1,29 +1,28 @@
 -- The parts after a take.
-use Rattle.std.proofs.Common.{◌≡◌, ◌≢◌, ℕ, zero, suc, ◌+◌, ◌-◌, ◌<◌, ◌≤◌, Bool, true, false, not, ◌||◌, ◌==◌, nat_lt, nat_le, cond, List, [], ◌∷◌, ◌++◌, length, map, get_or, set, Option, None, Some, IfSome, refl, sym, ap, subst, ◌∙◌, inl, inr, arith}
-use Rattle.std.proofs.lemmas.List.{length-map, length-set, length-append, get_or-set_same, get_or-set_other, set-get_or}
+use Rattle.std.proofs.Common.{◌≡◌, ◌≢◌, ℕ, ◌+◌, ◌-◌, ◌<◌, ◌≤◌, Bool, true, false, ◌||◌, ◌==◌, nat_le, cond, List, [], ◌∷◌, length, map, get_or, set, Option, None, Some, IfSome, refl, sym, ap, subst, ◌∙◌, inl, inr, arith}
+use Rattle.std.proofs.lemmas.List.{length-set, length-append, get_or-set_same, get_or-set_other, set-get_or}
 use Rattle.std.proofs.Math.Seq.{map-set_same}
-use Rattle.std.proofs.lemmas.Bool.{cases_eq, eq-eqb, true≢false}
+use Rattle.std.proofs.lemmas.Bool.{cases_eq, eq-eqb}
 use Rattle.std.specs.List.{AllByRecursion}
 use Rattle.gts_directory.specs.Directory.{Directory}
 use Rattle.gts_directory.specs.Routing.{bit}
-use Rattle.gts_event.specs.State.{State, Bulletin, CircuitState, on_circuit, idle, draws, waiting, has, next}
+use Rattle.gts_event.specs.State.{State, Bulletin, CircuitState, on_circuit, idle, draws, waiting, has}
 use Rattle.gts_event.specs.History.{Choice, Repeats, Draws, Nothing_waits, choice, outcome, after, after_take, kept_on, with_drawn, with_repeated}
 use Rattle.gts_event.specs.declared.event.Event.TheVariants.{Taken}
 use Rattle.gts_event.specs.declared.outcome.Outcome.{Outcome}
-use Rattle.gts_event.specs.declared.outcome.Outcome.TheVariants.{Resend, Draw, Nothing}
 use Rattle.gts_event.specs.Need.{CircuitNeed, circuit_need, positions_of, IsOrdered}
 use Rattle.gts_event.proofs.LawLemmas.{after-same, draw_position, next_waits}
 use Rattle.gts_event.specs.Stand.{SameNeed}
-use Rattle.gts_prioq.specs.Waiting.{Waiting, GoesNext}
+use Rattle.gts_prioq.specs.Waiting.{Waiting}
 use Rattle.gts_prioq.specs.Order.{without, next_of}
 use Rattle.gts_prioq.proofs.LawLemmas.{next_of-GoesNext}
 use Rattle.gts_dup.specs.Window.{Window}
-use Rattle.gts_store.specs.Shelf.{Stored, Drawn, Shelf, stored_at, circuit_at, no_draws, free_uses, uses_of, uses_in, with_uses, without_use, with_draw, FallsOut, ChangesCircuit}
+use Rattle.gts_store.specs.Shelf.{Stored, Drawn, Shelf, stored_at, circuit_at, no_draws, free_uses, uses_of, uses_in, with_uses, without_use, with_draw, FallsOut}
 use Rattle.gts_kept_core.specs.Lane.{Lane, Stands}
 use Rattle.gts_kept_core.specs.Duplicates.{IsStored, AreNoted}
-use Rattle.gts_kept_core.specs.Taking.{DrawsOn, StoreAfter, TakesOn, need_after, outcome_of_choice, circuit_after}
+use Rattle.gts_kept_core.specs.Taking.{DrawsOn, StoreAfter, TakesOn, need_after, outcome_of_choice}
 use Rattle.gts_kept_core.specs.Whole.{level_in, recent}
-use Rattle.gts_kept_core.specs.Parts.{Core, HasWhatItKeeps, circuit_of, idle_lane, lane_in, need_on, times_waiting, IsAccepted, IsFew, IsGoing, AreParts}
+use Rattle.gts_kept_core.specs.Parts.{Core, HasWhatItKeeps, circuit_of, idle_lane, lane_in, need_on, times_waiting, IsAccepted, IsFew, AreParts}
 use Rattle.gts_kept_core.specs.Core.{Holds}
 use Rattle.gts_kept_core.proofs.WholeLemmas.{need_taken, waits_without}
 use Rattle.gts_kept_core.proofs.PartsLemmas.{each_set, each_at, limit_here, times_set, has_without_same, has_without_other, without_one}

@@ -1,5 +1,5 @@
 -- The parts as those of a state.
-use Rattle.std.proofs.Common.{◌≡◌, ℕ, zero, suc, ◌+◌, ◌-◌, ◌<◌, ◌≤◌, Bool, true, false, not, ◌&&◌, ◌||◌, ◌==◌, nat_eq, cond, List, [], ◌∷◌, ◌++◌, length, map, filter, drop, find, reverse, Option, None, Some, option_map, refl, sym, ap, ◌∙◌, inl, inr, arith}
+use Rattle.std.proofs.Common.{◌≡◌, ℕ, ◌+◌, ◌-◌, Bool, true, false, not, ◌&&◌, ◌||◌, ◌==◌, nat_eq, cond, List, [], ◌∷◌, ◌++◌, length, map, filter, drop, find, reverse, Option, None, Some, option_map, refl, sym, ap, ◌∙◌, inl, inr, arith}
 use Rattle.std.proofs.lemmas.List.{drop-append-le, drop-drop, drop-map, length-append, length-drop, reverse-append}
 use Rattle.std.proofs.lemmas.List.Folds.{find-append}
 use Rattle.std.proofs.lemmas.List.FromFn.{length-enumerate_from}
@@ -10,7 +10,7 @@ use Rattle.std.specs.Cmp.Lexicographic.{pointwise}
 use Rattle.circular_buffer.specs.Buffer.{keep_last}
 use Rattle.gts_directory.specs.Directory.{Directory}
 use Rattle.gts_heading.specs.Heading.{HeadingFields}
-use Rattle.gts_event.specs.State.{State, Bulletin, CircuitState, has, draws, drawn, waiting, kept_draws, last_of, is_recent, is_same_heading, heading_of, text_of, duplicate}
+use Rattle.gts_event.specs.State.{State, Bulletin, CircuitState, has, draws, drawn, waiting, kept_draws, is_recent, is_same_heading, heading_of, text_of, duplicate}
 use Rattle.gts_event.specs.History.{Choice, Repeats, Draws, Nothing_waits, with_drawn}
 use Rattle.gts_event.specs.Need.{CircuitNeed, circuit_need}
 use Rattle.gts_prioq.specs.Order.{without}

@@ -1,14 +1,13 @@
 -- The recent bulletins when one more is accepted.
-use Rattle.std.proofs.Common.{◌≡◌, ◌≢◌, ℕ, zero, suc, ◌+◌, ◌-◌, ◌<◌, ◌≤◌, min, Bool, true, false, ◌&&◌, ◌||◌, ◌==◌, nat_le, cond, List, [], ◌∷◌, ◌++◌, length, map, filter, drop, refl, sym, ap, subst, ◌∙◌, inl, inr, arith}
-use Rattle.std.specs.List.{AllByRecursion, range_with_len}
+use Rattle.std.proofs.Common.{◌≡◌, ◌≢◌, ℕ, zero, suc, ◌+◌, ◌-◌, ◌<◌, ◌≤◌, min, Bool, true, false, ◌||◌, nat_le, cond, List, [], ◌∷◌, ◌++◌, length, map, filter, drop, refl, sym, ap, ◌∙◌, inl, inr, arith}
+use Rattle.std.specs.List.{range_with_len}
 use Rattle.std.proofs.lemmas.List.{drop-append-le, drop-map, length-map, length-append, map-append}
 use Rattle.std.proofs.lemmas.List.FromFn.{length-range_with_len}
 use Rattle.std.proofs.lemmas.List.Elements.{filter-append}
-use Rattle.std.proofs.lemmas.Bool.{cases_eq, cases_lt, eq-eqb, ne_eqb, le-leb, leb-true, true≢false}
+use Rattle.std.proofs.lemmas.Bool.{cases_eq, cases_lt, eq-eqb, ne_eqb, le-leb, leb-true}
 use Rattle.circular_buffer.specs.Buffer.{keep_last}
 use Rattle.gts_directory.specs.Directory.{Directory}
-use Rattle.gts_directory.specs.Routing.{bit}
-use Rattle.gts_event.specs.State.{State, Bulletin, has, is_recent}
+use Rattle.gts_event.specs.State.{State, Bulletin, has}
 use Rattle.gts_event.specs.Need.{positions_of, recent_positions}
 use Rattle.gts_event.proofs.LawLemmas.{filter_first}
 use Rattle.gts_dup.specs.Window.{Ascends, AllAbove, AllBelow}
@@ -119,7 +118,7 @@ range_drop (suc k) a (suc n) =
     let left : n - k ≡ suc n - suc k = omega arith in
     range_drop k (a + 1) n ∙ ap (λ (x : ℕ). range_with_len x (n - k)) at ∙ ap (λ (x : ℕ). range_with_len (a + suc k) x) left
 
-range_last : (a n : ℕ) → range_with_len a n ++ (a + n) ∷ [] ≡ range_with_len a (n + 1)
+pub range_last : (a n : ℕ) → range_with_len a n ++ (a + n) ∷ [] ≡ range_with_len a (n + 1)
 range_last a zero = let same : a + 0 ≡ a = omega arith in ap (λ (x : ℕ). x ∷ []) same
 range_last a (suc n) =
     let at : a + suc n ≡ a + 1 + n = omega arith in

@@ -1,5 +1,5 @@
 -- What contracts see of a core, and which state of a history it holds. Any state of the same need will do.
-use Rattle.std.specs.Prelude.{◌≡◌, ℕ, ◌+◌, ◌<◌, List, map, Option, Some, IsTrue}
+use Rattle.std.specs.Prelude.{◌≡◌, ℕ, ◌+◌, ◌<◌, List, map, Some, IsTrue}
 use Rattle.gts_traits.specs.Station.{on}
 use Rattle.gts_directory.specs.Directory.{Directory}
 use Rattle.gts_event.specs.State.{State, most_accepted}

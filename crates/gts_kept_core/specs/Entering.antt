@@ -1,7 +1,6 @@
 -- What a bulletin that is accepted changes.
-use Rattle.std.specs.Prelude.{◌≡◌, ◌≢◌, ℕ, ◌+◌, ◌-◌, ◌<◌, ◌≤◌, ◌++◌, ◌⊎◌, Bool, true, false, List, [], ◌∷◌, length, Option, Some, Ok}
+use Rattle.std.specs.Prelude.{◌≡◌, ◌≢◌, ℕ, ◌+◌, ◌-◌, ◌<◌, ◌≤◌, ◌++◌, ◌⊎◌, Bool, true, false, List, [], ◌∷◌, length, Some, Ok}
 use Rattle.circular_buffer.specs.Buffer.{keep_last}
-use Rattle.gts_heading.specs.Heading.{HeadingFields}
 use Rattle.gts_message.specs.Message.{MessageParts, split_at}
 use Rattle.gts_frame.specs.declared.kind.Kind.{Kind}
 use Rattle.gts_directory.specs.Directory.{Directory, named, is_named, level_of}

@@ -1,9 +1,8 @@
 -- What the containers of a core stand for.
-use Rattle.std.specs.Prelude.{◌≡◌, ℕ, ◌<◌, ◌≤◌, Bool, List, [], ◌∷◌, length, map, Option, Some, None, IsSome, flat_map, cond, IsTrue}
+use Rattle.std.specs.Prelude.{ℕ, ◌<◌, ◌≤◌, Bool, List, [], length, map, Option, None, IsSome, cond, IsTrue}
 use Rattle.gts_alphabet.specs.declared.limits.TheConstants.{MOST_CIRCUITS}
 use Rattle.gts_directory.specs.Directory.{Directory}
-use Rattle.gts_event.specs.State.{State, CircuitState}
-use Rattle.gts_kept_core.specs.Lane.{Lane}
+use Rattle.gts_event.specs.State.{State}
 use Rattle.gts_kept_core.specs.Parts.{Core, lane_in, circuit_of, AreParts}
 use Rattle.gts_kept_core.specs.Entering.{HasRoom}
 use Rattle.gts_kept_core.specs.declared.whole.Core.TheInside.{Inside}

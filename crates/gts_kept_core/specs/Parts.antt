@@ -1,5 +1,5 @@
 -- The containers of a core, and of which states they are the parts.
-use Rattle.std.specs.Prelude.{◌≡◌, ℕ, ◌+◌, ◌<◌, ◌≤◌, ◌==◌, List, [], ◌∷◌, length, map, flat_map, Option, Some, IfSome, IsTrue, slice_index_or, if◌then◌else◌}
+use Rattle.std.specs.Prelude.{◌≡◌, ℕ, ◌+◌, ◌<◌, ◌≤◌, ◌==◌, List, [], ◌∷◌, length, map, flat_map, Option, Some, IfSome, IsTrue, slice_index_or}
 use Rattle.std.specs.List.{AllByRecursion, find}
 use Rattle.gts_directory.specs.Directory.{Directory}
 use Rattle.gts_directory.specs.Routing.{bit}

@@ -1,6 +1,5 @@
 -- What a take gives on one circuit, and what is needed of it then.
-use Rattle.std.specs.Prelude.{◌≡◌, ◌≢◌, ℕ, ◌+◌, ◌-◌, ◌<◌, ◌≤◌, true, List, [], ◌∷◌, ◌++◌, length, drop, slice_get, IfSome, IsSome}
-use Rattle.std.specs.List.{AllByRecursion}
+use Rattle.std.specs.Prelude.{◌≡◌, ℕ, ◌+◌, ◌-◌, ◌<◌, ◌≤◌, [], ◌∷◌, ◌++◌, length, drop, slice_get, IfSome, IsSome}
 use Rattle.circular_buffer.specs.Buffer.{keep_last}
 use Rattle.gts_event.specs.State.{CircuitState, most_accepted}
 use Rattle.gts_event.specs.Need.{CircuitNeed}

@@ -3,7 +3,7 @@ pub use Rattle.gts_heading.specs.Heading.{HeadingFields, fields_of}
 pub use Rattle.gts_message.specs.Message.{split_at}
 pub use Rattle.gts_request.specs.Places.{item_of}
 pub use Rattle.gts_directory.specs.Directory.{Directory, named, level_of}
-pub use Rattle.gts_event.specs.State.{State, Bulletin, CircuitState, has, on_circuit, duplicate, most_accepted, empty}
+pub use Rattle.gts_event.specs.State.{State, Bulletin, CircuitState, has, heading_of, on_circuit, duplicate, most_accepted, empty}
 pub use Rattle.gts_event.specs.History.{Choice, choice, found, most_owed, items_of, body_of, heading_of_message}
 pub use Rattle.gts_event.specs.Need.{CircuitNeed, circuit_need}
 pub use Rattle.gts_event.specs.Stand.{SameNeed}

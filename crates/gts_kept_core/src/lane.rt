@@ -1,4 +1,4 @@
-ghost use Rattle.std.specs.Prelude.{◌≡◌, ◌<◌, ◌≤◌, ◌++◌, [], ◌∷◌, ℕ, length, drop, slice_get, IfOk, IfSome, IfNone, OnOk, MatchOption};
+ghost use Rattle.std.specs.Prelude.{◌≡◌, ◌<◌, ◌≤◌, ◌++◌, [], ◌∷◌, ℕ, length, flat_map, drop, slice_get, IfOk, IfSome, IfNone, OnOk, MatchOption};
 ghost use Rattle.gts_event.specs.History.{most_owed};
 ghost use Rattle.std.specs.Option.{option_to_list};
 ghost use Rattle.gts_prioq.specs.declared.levels.TheConstants.{LEVELS};
@@ -56,6 +56,14 @@ impl Lane {
         ensures { result.now ≡ self.now.owed }
     {
         self.owed.as_slice()
+    }
+
+    /// The positions that wait, level by level. `NoMemory` where there is no room for them.
+    pub fn positions(&self, alloc: Global) -> Result<Vec<u64>, NoMemory>
+        ensures { IfOk result (λ positions.
+            positions.items ≡ flat_map (λ level. level) self.now.queue.levels) }
+    {
+        self.queue.positions(alloc)
     }
 
     /// How many draws wait.

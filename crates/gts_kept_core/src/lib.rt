@@ -2,6 +2,7 @@
 #![tactic(auto)]
 
 mod answer;
+mod begin;
 mod duplicates;
 mod entering;
 mod frames;
@@ -9,9 +10,11 @@ mod granting;
 mod judging;
 mod lane;
 mod laws;
+mod needs;
 mod opening;
 mod owed;
 mod places;
+mod resuming;
 mod taking;
 mod whole;
 

@@ -1,4 +1,5 @@
-ghost use Rattle.std.specs.Prelude.{◌≡◌, map, IfOk, OnOk, IsTrue};
+ghost use Rattle.std.specs.Prelude.{◌≡◌, ◌≤◌, length, map, IfOk, OnOk, IsTrue};
+ghost use Rattle.gts_alphabet.specs.declared.limits.TheConstants.{MOST_CIRCUITS};
 ghost use Rattle.gts_event.specs.Need.{keeps_one};
 ghost use Rattle.gts_kept_core.specs.Parts.{AreIdle};
 
@@ -12,6 +13,7 @@ pub fn kept_limits(alloc: Global, directory: &Directory) -> Result<Vec<u32>, NoM
     ensures kept { IfOk result (λ limits.
         limits.items ≡ map (λ row. row.kept) directory.now.circuits) }
     ensures keeps { OnOk result (IsTrue (keeps_one directory.now)) }
+    ensures few { length directory.now.circuits ≤ MOST_CIRCUITS }
 {
     let mut limits = Vec::new(alloc);
     for c in 0..directory.circuits() {

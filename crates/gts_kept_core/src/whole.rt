@@ -2,22 +2,26 @@ ghost use Rattle.std.specs.Prelude.{◌≡◌, ◌<◌, ◌+◌, ◌^◌, length
 ghost use Rattle.gts_directory.specs.Directory.{Directory};
 ghost use Rattle.gts_event.specs.State.{State, empty};
 ghost use Rattle.gts_event.specs.declared.event.Event.TheVariants.{Heard};
+ghost use Rattle.gts_kept_core.specs.Begin.{need_of, is_sound, begun};
 ghost use Rattle.gts_event.specs.declared.outcome.Outcome.TheVariants.{Nothing};
 ghost use Rattle.gts_kept_core.specs.Owed.{all_waiting};
-ghost use Rattle.gts_kept_core.specs.Core.{Holds, IsFor, IsReady, HasPosition, IsStep, Keeps, Judges, Chooses, Takes, Says, Restarts};
+ghost use Rattle.gts_kept_core.specs.Core.{Holds, IsFor, IsReady, HasPosition, IsStep, Keeps, Judges, Chooses, Takes, Says, Restarts, Needs};
 
 use crate::answer::{Choice, Verdict};
+use crate::begin::store_of;
 use crate::entering::{accept_in, make_room, reserve_body};
 use crate::granting::grant_on;
 use crate::judging::judge_in;
 use crate::lane::Lane;
+use crate::needs::need_in;
 use crate::opening::{empty_lanes, kept_limits};
 use crate::owed::owed_in;
+use crate::resuming::{lanes_of, table_of};
 use crate::taking::{choose, restart_in, take_on};
 use gts_alphabet::NoMemory;
 use gts_directory::Directory;
 use gts_dup::DupTable;
-use gts_event::Outcome;
+use gts_event::{Need, Outcome};
 use gts_frame::{FrameBuf, Kind};
 use gts_store::Store;
 use std::alloc::Global;
@@ -59,6 +63,28 @@ impl Core {
         Ok(Core {
             window: directory.window(),
             count: 0,
+            table,
+            store,
+            lanes,
+            ready: false,
+        })
+    }
+
+    /// A core that stands for a sound start under a directory. The room for repetitions is taken here, and the bodies are
+    /// copied.
+    pub fn of_need(alloc: Global, directory: &Directory, need: Need) -> Result<Core, NoMemory>
+        requires { IsTrue (is_sound directory.now (need_of need)) }
+        ensures { IfOk result (λ core. Holds directory.now core (begun (need_of need))) }
+    {
+        let window = directory.window();
+        let store = store_of(alloc, directory, &need)?;
+        let circuits = need.circuits.as_slice();
+        let bulletins = need.bulletins.as_slice();
+        let lanes = lanes_of(alloc, directory, &store, circuits)?;
+        let table = table_of(alloc, window, need.accepted, bulletins)?;
+        Ok(Core {
+            window,
+            count: need.accepted,
             table,
             store,
             lanes,
@@ -187,5 +213,14 @@ impl Core {
     {
         self.ready = false;
         restart_in(&mut self.lanes, &self.store);
+    }
+
+    /// All that later answers depend on, with copies of the bodies: what a journal is compacted to, and what a core can be
+    /// made of. `NoMemory` where there is no room for the copies.
+    pub fn need(&self, alloc: Global) -> Result<Need, NoMemory>
+        ensures { IfOk result (λ n. Needs self.now (need_of n)) }
+    {
+        let lanes = self.lanes.as_slice();
+        need_in(alloc, self.window, self.count, &self.store, lanes)
     }
 }

@@ -1,6 +1,6 @@
-ghost use Rattle.std.specs.Prelude.{◌≡◌, ◌≢◌, ◌<◌, ◌≤◌, ◌+◌, ◌-◌, [], ◌∷◌, ℕ, slice_get, length, IfSome, IfNone, OnOk, MatchOption};
+ghost use Rattle.std.specs.Prelude.{◌≡◌, ◌≢◌, ◌<◌, ◌≤◌, ◌+◌, ◌-◌, [], ◌∷◌, ◌++◌, ℕ, slice_get, length, flat_map, IfSome, IfNone, IfOk, OnOk, MatchOption};
 ghost use Rattle.gts_prioq.specs.Order.{PutsAt};
-ghost use Rattle.gts_prioq.specs.Queue.{IsFirstFilled, items_at};
+ghost use Rattle.gts_prioq.specs.Queue.{IsFirstFilled, items_at, items_of};
 ghost use Rattle.gts_prioq.specs.Waiting.{at_level, spare, count_of, most_waiting, AllBelow, GoesNext, TakesNext, NothingWaits};
 
 use crate::levels::LEVELS;
@@ -105,6 +105,35 @@ impl PrioQueue {
     {
         self.levels.iter().map(|level| level.len() as u64).sum()
     }
+
+    /// All the positions that wait, level by level. `NoMemory` where there is no room for them.
+    pub fn positions(&self, alloc: Global) -> Result<Vec<u64>, NoMemory>
+        ensures { IfOk result (λ positions.
+            positions.items ≡ flat_map (λ level. level) self.now.levels) }
+    {
+        positions_in(alloc, &self.levels)
+    }
+}
+
+/// The positions of some queues, one queue after the other.
+fn positions_in(alloc: Global, queues: &[VecDeque<u64>]) -> Result<Vec<u64>, NoMemory>
+    ensures { IfOk result (λ positions. positions.items ≡ flat_map items_of queues.now) }
+{
+    let mut positions = Vec::new(alloc);
+    for queue in queues {
+        push_all(&mut positions, queue)?;
+    }
+    Ok(positions)
+}
+
+/// Adds the positions of a queue.
+fn push_all(positions: &mut Vec<u64>, queue: &VecDeque<u64>) -> Result<(), NoMemory>
+    ensures { OnOk result (positions.new.items ≡ positions.old.items ++ items_of queue.now) }
+{
+    for i in 0..queue.len() {
+        positions.push(queue[i])?;
+    }
+    Ok(())
 }
 
 /// The place of the first queue that has a position.

@@ -30,6 +30,17 @@ fn first_index(circuit: &Circuit) -> u64
     circuit.draws - circuit.kept.len() as u64
 }
 
+/// The positions of the kept draws, in order.
+pub fn kept_of(alloc: Global, circuit: &Circuit) -> Result<Vec<u64>, NoMemory>
+    ensures { IfOk result (λ kept. kept.items ≡ circuit.now.kept.items) }
+{
+    let mut kept = Vec::new(alloc);
+    for position in circuit.kept.iter() {
+        kept.push(*position)?;
+    }
+    Ok(kept)
+}
+
 /// The position of a kept draw.
 pub fn position_of(circuit: &Circuit, index: u64) -> Option<u64>
     requires { HasDrawn circuit.now }

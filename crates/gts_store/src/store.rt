@@ -163,6 +163,14 @@ impl Store {
         self.circuits[c as usize].draws
     }
 
+    /// The positions of the kept draws of a circuit, in order. `NoMemory` where there is no room for them.
+    pub fn kept(&self, alloc: Global, c: u32) -> Result<Vec<u64>, NoMemory>
+        requires { c < length self.now.circuits }
+        ensures { IfOk result (λ kept. kept.items ≡ (circuit_at self.now c).kept) }
+    {
+        circuit::kept_of(alloc, &self.circuits[c as usize])
+    }
+
     /// The greatest index of a kept draw that carries a number. `None` exactly where none carries it.
     pub fn index_of_number(&self, c: u32, number: u32) -> Option<u64>
         requires { c < length self.now.circuits }

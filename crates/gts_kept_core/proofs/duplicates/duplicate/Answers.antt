@@ -1,4 +1,4 @@
-use Rattle.std.proofs.Common.{◌≡◌, ℕ, List, true, false, sym, ap, subst, ◌∙◌, arith}
+use Rattle.std.proofs.Common.{ℕ, List, sym, subst, ◌∙◌, arith}
 use Rattle.gts_heading.specs.Heading.{fields_of}
 use Rattle.gts_dup.specs.Window.{IsGreatestBelow, NoneBelow}
 use Rattle.gts_kept_core.proofs.DuplicateLemmas.{below_start, search_found, search_on, search_ends}

@@ -1,7 +1,6 @@
-use Rattle.std.proofs.Common.{◌≡◌, ◌≢◌, ℕ, ◌+◌, ◌<◌, ◌≤◌, List, length, get_or, set, sym, ap, subst, ◌∙◌, inl, inr, arith}
+use Rattle.std.proofs.Common.{◌≡◌, ℕ, ◌<◌, List, length, get_or, set, sym, ap, subst, ◌∙◌, inl, inr, arith}
 use Rattle.std.proofs.lemmas.List.{get_or-set_same, get_or-set_other, get_or_default, length-set}
 use Rattle.std.proofs.lemmas.Bool.{cases_eq}
-use Rattle.gts_prioq.specs.Waiting.{Waiting}
 use Rattle.gts_kept_core.specs.Lane.{Lane}
 use Rattle.gts_kept_core.specs.Parts.{lane_in, idle_lane}
 use Rattle.gts_kept_core.specs.Entering.{HasRoom}

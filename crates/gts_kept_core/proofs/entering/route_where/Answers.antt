@@ -1,4 +1,4 @@
-use Rattle.std.proofs.Common.{◌≡◌, Bool, refl, sym, subst}
+use Rattle.std.proofs.Common.{Bool, refl, sym, subst}
 use Rattle.gts_kept_core.specs.Entering.{RoutesWhere}
 use Rattle.gts_kept_core.proofs.entering.route_where.Goals as goal
 

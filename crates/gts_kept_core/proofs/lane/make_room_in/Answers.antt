@@ -1,4 +1,4 @@
-use Rattle.std.proofs.Common.{◌≡◌, ◌≤◌, ◌<◌, ◌+◌, ℕ, ◌∙◌, inl, inr, subst, sym, ap, arith}
+use Rattle.std.proofs.Common.{◌≤◌, ◌+◌, ℕ, ◌∙◌, inl, inr, subst, sym, arith}
 use Rattle.std.proofs.lemmas.Bool.{cases_eq}
 use Rattle.gts_prioq.specs.Waiting.{spare}
 use Rattle.gts_kept_core.proofs.lane.make_room_in.Goals as goal

@@ -1,4 +1,4 @@
-use Rattle.std.proofs.Common.{◌≡◌, ℕ, ◌+◌, ◌-◌, ◌%◌, List, [], ◌∷◌, length, map, Option, sym, ap, ◌∙◌, arith}
+use Rattle.std.proofs.Common.{◌≡◌, ℕ, ◌+◌, List, [], ◌∷◌, length, map, Option, sym, ap, ◌∙◌, arith}
 use Rattle.std.specs.Prelude.{count_by, is_none}
 use Rattle.gts_request.specs.Request.{numbers_to}
 use Rattle.gts_event.specs.History.{found}

@@ -1,6 +1,5 @@
-use Rattle.std.proofs.Common.{◌≡◌, ℕ, List, [], Some, slice_get, option_copied, ap, sym, ◌∙◌}
+use Rattle.std.proofs.Common.{◌≡◌, ℕ, [], option_copied, ap, sym, ◌∙◌}
 use Rattle.gts_event.specs.History.{Draws}
-use Rattle.gts_kept_core.specs.Taking.{choice_by}
 use Rattle.gts_kept_core.proofs.TakingLemmas.{no_first, chooses_draw, chooses_nothing}
 use Rattle.gts_kept_core.proofs.taking.choose.Goals as goal
 

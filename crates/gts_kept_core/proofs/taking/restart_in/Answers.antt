@@ -1,7 +1,6 @@
-use Rattle.std.proofs.Common.{◌≡◌, ◌≢◌, ℕ, suc, ◌+◌, ◌<◌, ◌≤◌, List, length, get_or, set, sym, ap, subst, ◌∙◌, inl, inr, arith}
+use Rattle.std.proofs.Common.{◌≡◌, ℕ, ◌<◌, List, length, get_or, set, sym, subst, ◌∙◌, inl, inr, arith}
 use Rattle.std.proofs.lemmas.List.{get_or-set_same, get_or-set_other, get_or_default, length-set}
 use Rattle.std.proofs.lemmas.Bool.{cases_eq}
-use Rattle.gts_event.specs.Need.{CircuitNeed}
 use Rattle.gts_store.specs.Shelf.{circuit_at}
 use Rattle.gts_kept_core.specs.Lane.{Lane, Stands, need_restarted}
 use Rattle.gts_kept_core.specs.Parts.{lane_in, idle_lane}

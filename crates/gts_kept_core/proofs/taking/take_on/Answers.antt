@@ -1,11 +1,10 @@
-use Rattle.std.proofs.Common.{◌≡◌, ℕ, List, [], Some, drop, sym, ap, subst, ◌∙◌}
-use Rattle.gts_event.specs.declared.outcome.Outcome.{Outcome}
+use Rattle.std.proofs.Common.{◌≡◌, ℕ, List, [], drop, sym, ap, subst, ◌∙◌}
 use Rattle.gts_event.specs.declared.outcome.Outcome.TheVariants.{Draw}
 use Rattle.gts_prioq.specs.Waiting.{Waiting, TakesNext, NothingWaits}
 use Rattle.gts_store.specs.Shelf.{circuit_at}
 use Rattle.gts_kept_core.specs.Taking.{TakesOn}
 use Rattle.gts_kept_core.proofs.DrawLemmas.{circuit_changed}
-use Rattle.gts_kept_core.proofs.TakingLemmas.{no_first, goes_next, stands_repeated, stands_drawn, stands_still}
+use Rattle.gts_kept_core.proofs.TakingLemmas.{no_first, goes_next, stands_drawn, stands_still}
 use Rattle.gts_kept_core.proofs.taking.take_on.Goals as goal
 
 pub draw_on-index-requires-clause-can : goal.draw_on-index-requires-clause-can

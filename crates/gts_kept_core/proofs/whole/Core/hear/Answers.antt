@@ -1,11 +1,11 @@
-use Rattle.std.proofs.Common.{◌≡◌, ◌<◌, ◌≤◌, ◌+◌, ℕ, true, false, List, length, map, get_or, set, Option, Some, is_ok, refl, sym, ap, subst, ◌∙◌, arith}
+use Rattle.std.proofs.Common.{◌≡◌, ◌<◌, ◌+◌, ℕ, true, false, List, length, map, get_or, set, Option, Some, is_ok, refl, sym, ap, subst, ◌∙◌, arith}
 use Rattle.std.specs.List.{flat_map}
 use Rattle.std.specs.Vec.{with_item}
 use Rattle.std.proofs.lemmas.Bool.{true≢false}
 use Rattle.std.proofs.lemmas.List.{length-map, length-set, get_or_default}
 use Rattle.gts_directory.specs.Directory.{Directory, Circuit, level_of}
-use Rattle.gts_event.specs.State.{State, on_circuit, most_accepted}
-use Rattle.gts_event.specs.History.{outcome, after_heard, found, places, items_of, most_owed, body_of, heading_of_message}
+use Rattle.gts_event.specs.State.{State, most_accepted}
+use Rattle.gts_event.specs.History.{outcome, after_heard, found, places, items_of, body_of, heading_of_message}
 use Rattle.gts_frame.specs.declared.kind.Kind.{Kind}
 use Rattle.gts_event.specs.Need.{Need, IsOrdered}
 use Rattle.gts_event.specs.declared.event.Event.TheVariants.{Heard}
@@ -13,13 +13,13 @@ use Rattle.gts_event.specs.declared.outcome.Outcome.{Outcome}
 use Rattle.gts_event.specs.declared.outcome.Outcome.TheVariants as out
 use Rattle.gts_event.proofs.LawLemmas.{was_read}
 use Rattle.gts_dup.specs.Window as digests
-use Rattle.gts_store.specs.Shelf.{Shelf, Drawn, free_uses, uses_of}
+use Rattle.gts_store.specs.Shelf.{Shelf, Drawn, uses_of}
 use Rattle.gts_kept_core.specs.Lane.{Lane}
 use Rattle.gts_kept_core.specs.Judging.{item_places, OwesMore}
 use Rattle.gts_kept_core.specs.Parts.{lane_in, idle_lane}
 use Rattle.gts_kept_core.specs.Entering.{CanRoute, Accepts}
 use Rattle.gts_kept_core.specs.Core.{Core, Holds, AreParts, IsStep, IsReady, HasPosition}
-use Rattle.gts_kept_core.specs.Kept.{core_of, IsReadyInside}
+use Rattle.gts_kept_core.specs.Kept.{core_of}
 use Rattle.gts_kept_core.specs.declared.whole.Core.TheInside.{Inside}
 use Rattle.gts_kept_core.proofs.PartsLemmas.{circuit_there}
 use Rattle.gts_kept_core.proofs.WindowLemmas.{noted_below}

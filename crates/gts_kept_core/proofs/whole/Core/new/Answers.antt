@@ -1,10 +1,10 @@
-use Rattle.std.proofs.Common.{◌≡◌, ℕ, List, length, map, false, true, refl, sym, ap, subst, ◌∙◌, arith}
+use Rattle.std.proofs.Common.{ℕ, map, false, refl, sym, ap, subst, ◌∙◌, arith}
 use Rattle.std.proofs.lemmas.Bool.{true≢false}
 use Rattle.gts_event.specs.State.{empty}
 use Rattle.gts_event.proofs.LawLemmas.{ordered-empty}
 use Rattle.gts_store.specs.Shelf.{undrawn}
 use Rattle.gts_kept_core.specs.Parts.{AreIdle}
-use Rattle.gts_kept_core.specs.Core.{Core, AreParts}
+use Rattle.gts_kept_core.specs.Core.{Core}
 use Rattle.gts_kept_core.specs.Kept.{core_of}
 use Rattle.gts_kept_core.proofs.EmptyLemmas.{parts_empty}
 use Rattle.gts_kept_core.proofs.StepLemmas.{holds_by}

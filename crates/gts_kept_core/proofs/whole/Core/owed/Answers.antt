@@ -1,4 +1,4 @@
-use Rattle.std.proofs.Common.{◌≡◌, List, map, sym, ap, subst, ◌∙◌}
+use Rattle.std.proofs.Common.{List, map, sym, ap, subst, ◌∙◌}
 use Rattle.gts_kept_core.specs.Lane.{Lane}
 use Rattle.gts_kept_core.specs.Owed.{all_waiting}
 use Rattle.gts_kept_core.specs.Core.{Core, Holds}

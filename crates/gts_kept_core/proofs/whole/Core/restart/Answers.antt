@@ -1,4 +1,4 @@
-use Rattle.std.proofs.Common.{◌<◌, length, true, false, refl, sym, ap, subst, ◌∙◌, arith}
+use Rattle.std.proofs.Common.{false, refl, sym, subst, arith}
 use Rattle.std.proofs.lemmas.Bool.{true≢false}
 use Rattle.gts_event.specs.History.{restarted}
 use Rattle.gts_event.proofs.LawLemmas.{restarted-same}

@@ -1,17 +1,15 @@
-use Rattle.std.proofs.Common.{◌≡◌, ◌<◌, ◌+◌, ℕ, List, length, map, set, true, false, refl, sym, ap, subst, ◌∙◌, arith}
+use Rattle.std.proofs.Common.{◌≡◌, ◌<◌, length, false, refl, sym, ap, subst, ◌∙◌, arith}
 use Rattle.std.proofs.lemmas.Bool.{true≢false}
 use Rattle.std.proofs.lemmas.List.{length-map, length-set, get_or_default}
 use Rattle.std.specs.Vec.{with_item}
-use Rattle.gts_traits.specs.Station.{on}
-use Rattle.gts_directory.specs.Directory.{Directory, Circuit}
+use Rattle.gts_directory.specs.Directory.{Circuit}
 use Rattle.gts_event.specs.State.{State}
 use Rattle.gts_event.specs.History.{outcome, after}
-use Rattle.gts_event.specs.Said.{spoken, line}
 use Rattle.gts_event.specs.declared.event.Event.TheVariants.{Taken}
 use Rattle.gts_event.proofs.LawLemmas.{outcome-same, after-same, spoken-same}
 use Rattle.gts_store.specs.Shelf.{circuit_at}
 use Rattle.gts_kept_core.specs.Lane.{Lane, Stands}
-use Rattle.gts_kept_core.specs.Taking.{CanTake, StoreAfter, TakesOn, index_told}
+use Rattle.gts_kept_core.specs.Taking.{CanTake, StoreAfter, index_told}
 use Rattle.gts_kept_core.specs.Whole.{level_in}
 use Rattle.gts_kept_core.specs.Parts.{lane_in, idle_lane, need_on}
 use Rattle.gts_kept_core.specs.Core.{Core, Holds, AreParts, IsStep}
