@@ -192,13 +192,26 @@ fn a_draw_that_was_not_said_is_said_when_it_is_opened_again(rt: HostRuntime) -> 
     Ok(())
 }
 
-#[test]
-fn a_bulletin_whose_gate_is_not_open_was_not_accepted(rt: HostRuntime) -> Result<(), Fail> {
+/// What the station says that a crash leaves at the gate of a bulletin, when a take comes and then the bulletin once more.
+fn heard_again<R: AllocGlobal + Threads + Wait + Sync>(
+    rt: &R,
+    choice: Touched,
+) -> Result<MemStation, Fail> {
     let alloc = rt.alloc();
     let directory = directory_of(alloc, AB)?;
     let capture = captured(alloc, &[F1])?;
     let again = captured(alloc, &["T 01", F1])?;
-    let (_, station) = replayed(&rt, &directory, &capture, &NONE)?;
+    let (_, station) = replayed(rt, &directory, &capture, &NONE)?;
+    let left = crashed(&station, FIRST + 6, choice)?;
+    let (status, left) = replayed_on(rt, &directory, &again, left)?;
+    if status != Status::Done {
+        return Err("the capture was not done".into());
+    }
+    Ok(left)
+}
+
+#[test]
+fn a_bulletin_whose_gate_is_not_open_was_not_accepted(rt: HostRuntime) -> Result<(), Fail> {
     let closed = [
         Touched::Old,
         Touched::Fill(0),
@@ -206,17 +219,18 @@ fn a_bulletin_whose_gate_is_not_open_was_not_accepted(rt: HostRuntime) -> Result
         Touched::Fill(0xff),
     ];
     for choice in closed {
-        let left = crashed(&station, FIRST + 6, choice)?;
-        assert_eq!(rt; left.said(0), b"".as_slice());
-        let (status, left) = replayed_on(&rt, &directory, &again, left)?;
-        assert_eq!(rt; status, Status::Done);
+        let left = heard_again(&rt, choice)?;
         assert_eq!(rt; left.said(0), ACCEPTED.as_bytes());
         assert_eq!(rt; left.said(2), b"".as_slice());
     }
-    let open = crashed(&station, FIRST + 6, Touched::New)?;
-    let (_, open) = replayed_on(&rt, &directory, &again, open)?;
+    Ok(())
+}
+
+#[test]
+fn a_bulletin_whose_gate_is_open_is_a_duplicate(rt: HostRuntime) -> Result<(), Fail> {
+    let open = heard_again(&rt, Touched::New)?;
     assert_eq!(rt; open.said(0), b"DUP 0 0\n".as_slice());
-    assert_eq!(rt; open.said(2), framed(alloc, F1)?.as_slice());
+    assert_eq!(rt; open.said(2), framed(rt.alloc(), F1)?.as_slice());
     Ok(())
 }
 
