@@ -21,9 +21,9 @@ const RULE: &str = "[[rule]]\nheading = \"****** ****\"\nto = [\"A\", \"B\"]\n";
 
 const AB: &[&str] = &[TOP, A, B, RULE];
 
-const F1: &str = "AN 00 001|SMVG01 TVSV 280000|NIL=";
+const BULLETIN: &str = "AN 00 001|SMVG01 TVSV 280000|NIL=";
 
-const F2: &str = "AN 00 002|SMVG01 TVSV 280000|NIM=";
+const NEXT_BULLETIN: &str = "AN 00 002|SMVG01 TVSV 280000|NIM=";
 
 const ACCEPTED: &str = "ACC 0 0 1 SMVG01 TVSV 280000\n";
 
@@ -212,10 +212,10 @@ const ROWS: &[Row<'static>] = &[
     // Takes around a bulletin give nothing.
     Row {
         directory: AB,
-        steps: &["T 01", F1, "T 01", "T 01"],
+        steps: &["T 01", BULLETIN, "T 01", "T 01"],
         receipts: ACCEPTED,
         circuit: 1,
-        frames: &[F1],
+        frames: &[BULLETIN],
     },
     // A keep-alive between two frames is passed over.
     Row {
@@ -227,15 +227,15 @@ const ROWS: &[Row<'static>] = &[
         ],
         receipts: "ACC 0 0 1 SMVG01 TVSV 280000\nACC 0 1 1 SMVG01 TVSV 280000\n",
         circuit: 1,
-        frames: &[F1, F2],
+        frames: &[BULLETIN, NEXT_BULLETIN],
     },
     // What follows a loss is dropped until the circuit begins a new connection.
     Row {
         directory: AB,
-        steps: &["F 00 0000039 AN", F1, "O 00", F1, "T 01"],
+        steps: &["F 00 0000039 AN", BULLETIN, "O 00", BULLETIN, "T 01"],
         receipts: "LOS 0 Length\nACC 0 0 1 SMVG01 TVSV 280000\n",
         circuit: 1,
-        frames: &[F1],
+        frames: &[BULLETIN],
     },
     // Synchronisation is lost at a length past the longest, at the eighth digit and at the first.
     Row {
@@ -259,12 +259,12 @@ const ROWS: &[Row<'static>] = &[
         steps: &[
             "AN 00 001|SMVG01 TVSV 282400|NIL=",
             "AN 00 001|SMVG01 TVSV 280000 COR|NIL=",
-            F1,
+            BULLETIN,
             "T 01",
         ],
         receipts: "REF 0 Hour\nREF 0 BBB\nACC 0 0 1 SMVG01 TVSV 280000\n",
         circuit: 1,
-        frames: &[F1],
+        frames: &[BULLETIN],
     },
     // A warning is drawn first, and the others by arrival.
     Row {
@@ -290,22 +290,26 @@ const ROWS: &[Row<'static>] = &[
     Row {
         directory: AB,
         steps: &[
-            F1,
+            BULLETIN,
             "AN 00 002|SMVG01 TVSV 280000|NIL=",
-            F2,
+            NEXT_BULLETIN,
             "AN 00 003|SMVG01 TVSV 280000 RRA|NIL=",
             "D 01",
         ],
         receipts: "ACC 0 0 1 SMVG01 TVSV 280000\nDUP 0 0\nACC 0 1 1 SMVG01 TVSV 280000\nACC 0 2 1 SMVG01 TVSV 280000 RRA\n",
         circuit: 1,
-        frames: &[F1, F2, "AN 00 003|SMVG01 TVSV 280000 RRA|NIL="],
+        frames: &[
+            BULLETIN,
+            NEXT_BULLETIN,
+            "AN 00 003|SMVG01 TVSV 280000 RRA|NIL=",
+        ],
     },
     // Repetitions that are asked for are given again, as often as they are asked for.
     Row {
         directory: AB,
         steps: &[
-            F1,
-            F2,
+            BULLETIN,
+            NEXT_BULLETIN,
             "AN 00 003|SMVG02 TVSV 280000|NIL=",
             "D 01",
             "AN 01 001|BMRR01 TVSV 281030|BBBB|SQN 002-003=",
@@ -317,22 +321,22 @@ const ROWS: &[Row<'static>] = &[
         receipts: "ACC 0 0 1 SMVG01 TVSV 280000\nACC 0 1 1 SMVG01 TVSV 280000\nACC 0 2 1 SMVG02 TVSV 280000\nASK 1 2 0\nASK 1 2 0\n",
         circuit: 1,
         frames: &[
-            F1,
-            F2,
+            BULLETIN,
+            NEXT_BULLETIN,
             "AN 00 003|SMVG02 TVSV 280000|NIL=",
-            F2,
+            NEXT_BULLETIN,
             "AN 00 003|SMVG02 TVSV 280000|NIL=",
-            F2,
+            NEXT_BULLETIN,
             "AN 00 003|SMVG02 TVSV 280000|NIL=",
         ],
     },
     // Rules that match are joined, and a bulletin isn't sent back.
     Row {
         directory: &[TOP, A, B, C, SM_RULE, ENDS_01_RULE],
-        steps: &[F1, "T 00", "T 01", "T 02"],
+        steps: &[BULLETIN, "T 00", "T 01", "T 02"],
         receipts: "ACC 0 0 2 SMVG01 TVSV 280000\n",
         circuit: 2,
-        frames: &[F1],
+        frames: &[BULLETIN],
     },
     // A circuit of the same peer gets nothing.
     Row {
@@ -344,10 +348,10 @@ const ROWS: &[Row<'static>] = &[
             SM_RULE,
             ENDS_01_RULE,
         ],
-        steps: &[F1, "T 00", "T 01", "T 02"],
+        steps: &[BULLETIN, "T 00", "T 01", "T 02"],
         receipts: ACCEPTED,
         circuit: 1,
-        frames: &[F1],
+        frames: &[BULLETIN],
     },
     // A message without a line end is refused in its first field.
     Row {
@@ -380,8 +384,8 @@ const ROWS: &[Row<'static>] = &[
     Row {
         directory: &[TOP, "window = 1\n", A, B, RULE],
         steps: &[
-            F1,
-            F2,
+            BULLETIN,
+            NEXT_BULLETIN,
             "AN 00 003|SMVG01 TVSV 280000|NIL=",
             "AN 00 004|SMVG01 TVSV 280000|NIL=",
         ],
@@ -393,21 +397,21 @@ const ROWS: &[Row<'static>] = &[
     Row {
         directory: &[TOP, A, B, "kept = 2\n", RULE],
         steps: &[
-            F1,
-            F2,
+            BULLETIN,
+            NEXT_BULLETIN,
             "AN 00 003|SMVG02 TVSV 280000|NIL=",
             "D 01",
             "AN 01 001|BMRR01 TVSV 281030|BBBB|SQN 001-003=",
         ],
         receipts: "ACC 0 0 1 SMVG01 TVSV 280000\nACC 0 1 1 SMVG01 TVSV 280000\nACC 0 2 1 SMVG02 TVSV 280000\nASK 1 2 1\n",
         circuit: 1,
-        frames: &[F1, F2, "AN 00 003|SMVG02 TVSV 280000|NIL="],
+        frames: &[BULLETIN, NEXT_BULLETIN, "AN 00 003|SMVG02 TVSV 280000|NIL="],
     },
     // Headings can be asked for.
     Row {
         directory: AB,
         steps: &[
-            F1,
+            BULLETIN,
             "T 01",
             "AN 01 001|BMRR01 TVSV 281030|BBBB|AHD SMVG01 TVSV 280000/SMVG99 TVSV 280000=",
             "T 01",
@@ -415,7 +419,7 @@ const ROWS: &[Row<'static>] = &[
         ],
         receipts: "ACC 0 0 1 SMVG01 TVSV 280000\nASK 1 1 1\n",
         circuit: 1,
-        frames: &[F1, F1],
+        frames: &[BULLETIN, BULLETIN],
     },
     // The first field of a request at fault is told.
     Row {
@@ -461,7 +465,7 @@ fn each_row_says_its_receipts_and_frames(rt: HostRuntime) -> Result<(), Fail> {
 fn a_frame_may_be_cut_anywhere(rt: HostRuntime) -> Result<(), Fail> {
     let alloc = rt.alloc();
     let mut capture = Vec::new(alloc);
-    for byte in framed(alloc, F1)?.iter() {
+    for byte in framed(alloc, BULLETIN)?.iter() {
         capture.extend_from_slice(b"F 00 000001\n")?;
         capture.push(*byte)?;
     }
@@ -470,7 +474,7 @@ fn a_frame_may_be_cut_anywhere(rt: HostRuntime) -> Result<(), Fail> {
     let (status, station) = replayed(&rt, &directory, &capture, &NONE)?;
     assert_eq!(rt; status, Status::Done);
     assert_eq!(rt; station.said(0), ACCEPTED.as_bytes());
-    assert_eq!(rt; station.said(2), framed(alloc, F1)?.as_slice());
+    assert_eq!(rt; station.said(2), framed(alloc, BULLETIN)?.as_slice());
     Ok(())
 }
 
@@ -552,7 +556,7 @@ fn no_more_than_4096_are_owed(rt: HostRuntime) -> Result<(), Fail> {
 fn a_bad_capture_is_done_up_to_its_first_bad_place(rt: HostRuntime) -> Result<(), Fail> {
     let alloc = rt.alloc();
     let directory = directory_of(alloc, AB)?;
-    let whole = captured(alloc, &[F1])?;
+    let whole = captured(alloc, &[BULLETIN])?;
     let long = [
         b"F 00 000060\n".as_slice(),
         whole.get(12..61).ok_or("a frame")?,
@@ -641,7 +645,7 @@ fn faulty_directories() -> &'static [(&'static [&'static str], DirFault)] {
 #[test]
 fn a_directory_at_fault_is_told_and_nothing_is_said(rt: HostRuntime) -> Result<(), Fail> {
     let alloc = rt.alloc();
-    let capture = captured(alloc, &[F1])?;
+    let capture = captured(alloc, &[BULLETIN])?;
     for (i, (pieces, fault)) in faulty_directories().iter().enumerate() {
         let directory = directory_of(alloc, pieces)?;
         let (status, station) = run_words(&rt, &["replay"], &directory, &capture, &NONE)?;
@@ -699,7 +703,7 @@ const FIRST: u64 = 8;
 fn a_device_that_fails_ends_the_run(rt: HostRuntime) -> Result<(), Fail> {
     let alloc = rt.alloc();
     let directory = directory_of(alloc, AB)?;
-    let capture = captured(alloc, &[F1, "T 01"])?;
+    let capture = captured(alloc, &[BULLETIN, "T 01"])?;
     let first: &[u64] = &[0];
     let none: &[u64] = &[];
     // Four calls open the journal, four write the record of the bulletin, and then its receipt is said; as many write that of

@@ -24,11 +24,11 @@ const RECORDS: &[u8] =
 fn the_journal_of_one_bulletin_and_one_draw(rt: HostRuntime) -> Result<(), Fail> {
     let alloc = rt.alloc();
     let directory = directory_of(alloc, AB)?;
-    let capture = captured(alloc, &[F1, "T 01"])?;
+    let capture = captured(alloc, &[BULLETIN, "T 01"])?;
     let (status, station) = replayed(&rt, &directory, &capture, &NONE)?;
     assert_eq!(rt; status, Status::Done);
     assert_eq!(rt; station.said(0), ACCEPTED.as_bytes());
-    assert_eq!(rt; station.said(2), framed(alloc, F1)?.as_slice());
+    assert_eq!(rt; station.said(2), framed(alloc, BULLETIN)?.as_slice());
     let file = station.file(0);
     assert_eq!(rt; file.len(), 111);
     assert_eq!(rt; file.get(..8), Some(b"GTSJ0001".as_slice()));
@@ -42,7 +42,7 @@ fn a_journal_that_is_not_there_or_is_another_directorys(rt: HostRuntime) -> Resu
     let alloc = rt.alloc();
     let directory = directory_of(alloc, AB)?;
     let other = directory_of(alloc, &[TOP, A, B])?;
-    let capture = captured(alloc, &[F1])?;
+    let capture = captured(alloc, &[BULLETIN])?;
     let (status, station) = run_words(&rt, &["replay"], &directory, &capture, &NONE)?;
     assert_eq!(rt; status, Status::NoJournal);
     let (status, station) = run_on(&rt, &["init"], &directory, b"", &NONE, station)?;
@@ -65,7 +65,7 @@ fn a_journal_that_is_not_there_or_is_another_directorys(rt: HostRuntime) -> Resu
 fn a_damaged_journal_is_told_with_its_place(rt: HostRuntime) -> Result<(), Fail> {
     let alloc = rt.alloc();
     let directory = directory_of(alloc, AB)?;
-    let capture = captured(alloc, &[F1, "T 01"])?;
+    let capture = captured(alloc, &[BULLETIN, "T 01"])?;
     let (_, mut station) = replayed(&rt, &directory, &capture, &NONE)?;
     // The index of the draw ends before the last gate.
     assert!(rt; station.file(0).len() > 109);
@@ -85,7 +85,7 @@ fn a_full_journal_takes_the_draws_that_are_due(rt: HostRuntime) -> Result<(), Fa
     let alloc = rt.alloc();
     let tight = directory_of(alloc, &[TOP, "limit = 180\n", A, B, RULE])?;
     let wider = directory_of(alloc, &[TOP, "limit = 181\n", A, B, RULE])?;
-    let capture = captured(alloc, &[F1, F2])?;
+    let capture = captured(alloc, &[BULLETIN, NEXT_BULLETIN])?;
     let (status, _) = replayed(&rt, &wider, &capture, &NONE)?;
     assert_eq!(rt; status, Status::Done);
     let (status, station) = replayed(&rt, &tight, &capture, &NONE)?;
@@ -99,7 +99,7 @@ fn a_full_journal_takes_the_draws_that_are_due(rt: HostRuntime) -> Result<(), Fa
     let (status, station) = replayed_on(&rt, &tight, &take, station)?;
     assert_eq!(rt; status, Status::Done);
     assert_eq!(rt; station.said(0), ACCEPTED.as_bytes());
-    assert_eq!(rt; station.said(2), framed(alloc, F1)?.as_slice());
+    assert_eq!(rt; station.said(2), framed(alloc, BULLETIN)?.as_slice());
     assert_eq!(rt; station.file(0).len(), 111);
     Ok(())
 }
@@ -108,7 +108,7 @@ fn a_full_journal_takes_the_draws_that_are_due(rt: HostRuntime) -> Result<(), Fa
 fn what_was_not_said_is_known_when_it_is_opened_again(rt: HostRuntime) -> Result<(), Fail> {
     let alloc = rt.alloc();
     let directory = directory_of(alloc, AB)?;
-    let capture = captured(alloc, &[F1, "T 01"])?;
+    let capture = captured(alloc, &[BULLETIN, "T 01"])?;
     let failing = Failing {
         calls: &[FIRST + 8],
         ..NONE
@@ -118,7 +118,7 @@ fn what_was_not_said_is_known_when_it_is_opened_again(rt: HostRuntime) -> Result
     let (status, station) = replayed_on(&rt, &directory, &capture, station)?;
     assert_eq!(rt; status, Status::Done);
     assert_eq!(rt; station.said(0), b"DUP 0 0\n".as_slice());
-    assert_eq!(rt; station.said(2), framed(alloc, F1)?.as_slice());
+    assert_eq!(rt; station.said(2), framed(alloc, BULLETIN)?.as_slice());
     Ok(())
 }
 
@@ -126,10 +126,10 @@ fn what_was_not_said_is_known_when_it_is_opened_again(rt: HostRuntime) -> Result
 fn a_journal_that_is_opened_again_repeats_its_last_draw(rt: HostRuntime) -> Result<(), Fail> {
     let alloc = rt.alloc();
     let directory = directory_of(alloc, AB)?;
-    let capture = captured(alloc, &[F1, "T 01", "R", "T 01", "T 01"])?;
+    let capture = captured(alloc, &[BULLETIN, "T 01", "R", "T 01", "T 01"])?;
     let (status, station) = replayed(&rt, &directory, &capture, &NONE)?;
     assert_eq!(rt; status, Status::Done);
-    let frame = framed(alloc, F1)?;
+    let frame = framed(alloc, BULLETIN)?;
     assert_eq!(rt;
         station.said(2),
         [frame.as_slice(), &frame].concat(alloc)?.as_slice()
@@ -142,8 +142,8 @@ fn a_journal_that_is_opened_again_repeats_its_last_draw(rt: HostRuntime) -> Resu
 fn a_journal_is_read_when_it_is_opened_again(rt: HostRuntime) -> Result<(), Fail> {
     let alloc = rt.alloc();
     let directory = directory_of(alloc, AB)?;
-    let before = captured(alloc, &[F1, "T 01"])?;
-    let again = captured(alloc, &[F1, "T 01", "R"])?;
+    let before = captured(alloc, &[BULLETIN, "T 01"])?;
+    let again = captured(alloc, &[BULLETIN, "T 01", "R"])?;
     let (status, station) = replayed(&rt, &directory, &before, &NONE)?;
     assert_eq!(rt; status, Status::Done);
     let calls = station.calls();
@@ -154,7 +154,7 @@ fn a_journal_is_read_when_it_is_opened_again(rt: HostRuntime) -> Result<(), Fail
         };
         let (status, station) = replayed(&rt, &directory, &again, &failing)?;
         assert_eq!(rt; status, Status::DiskFault, "{behind} calls behind");
-        assert_eq!(rt; station.said(2), framed(alloc, F1)?.as_slice());
+        assert_eq!(rt; station.said(2), framed(alloc, BULLETIN)?.as_slice());
     }
     Ok(())
 }
@@ -179,7 +179,7 @@ const CHOICES: [Touched; 5] = [
 fn a_draw_that_was_not_said_is_said_when_it_is_opened_again(rt: HostRuntime) -> Result<(), Fail> {
     let alloc = rt.alloc();
     let directory = directory_of(alloc, AB)?;
-    let capture = captured(alloc, &[F1, "T 01"])?;
+    let capture = captured(alloc, &[BULLETIN, "T 01"])?;
     let take = captured(alloc, &["T 01"])?;
     let (_, station) = replayed(&rt, &directory, &capture, &NONE)?;
     for choice in CHOICES {
@@ -187,7 +187,7 @@ fn a_draw_that_was_not_said_is_said_when_it_is_opened_again(rt: HostRuntime) -> 
         assert_eq!(rt; left.said(2), b"".as_slice());
         let (status, left) = replayed_on(&rt, &directory, &take, left)?;
         assert_eq!(rt; status, Status::Done);
-        assert_eq!(rt; left.said(2), framed(alloc, F1)?.as_slice());
+        assert_eq!(rt; left.said(2), framed(alloc, BULLETIN)?.as_slice());
     }
     Ok(())
 }
@@ -199,8 +199,8 @@ fn heard_again<R: AllocGlobal + Threads + Wait + Sync>(
 ) -> Result<MemStation, Fail> {
     let alloc = rt.alloc();
     let directory = directory_of(alloc, AB)?;
-    let capture = captured(alloc, &[F1])?;
-    let again = captured(alloc, &["T 01", F1])?;
+    let capture = captured(alloc, &[BULLETIN])?;
+    let again = captured(alloc, &["T 01", BULLETIN])?;
     let (_, station) = replayed(rt, &directory, &capture, &NONE)?;
     let left = crashed(&station, FIRST + 6, choice)?;
     let (status, left) = replayed_on(rt, &directory, &again, left)?;
@@ -230,7 +230,7 @@ fn a_bulletin_whose_gate_is_not_open_was_not_accepted(rt: HostRuntime) -> Result
 fn a_bulletin_whose_gate_is_open_is_a_duplicate(rt: HostRuntime) -> Result<(), Fail> {
     let open = heard_again(&rt, Touched::New)?;
     assert_eq!(rt; open.said(0), b"DUP 0 0\n".as_slice());
-    assert_eq!(rt; open.said(2), framed(rt.alloc(), F1)?.as_slice());
+    assert_eq!(rt; open.said(2), framed(rt.alloc(), BULLETIN)?.as_slice());
     Ok(())
 }
 
@@ -257,9 +257,9 @@ fn each_number_has_its_text(frames: &[u8]) -> bool {
 fn each_number_has_its_bytes_whenever_the_machine_stops(rt: HostRuntime) -> Result<(), Fail> {
     let alloc = rt.alloc();
     let directory = directory_of(alloc, AB)?;
-    let capture = captured(alloc, &[F1, F2, "R", "T 01", "T 01"])?;
+    let capture = captured(alloc, &[BULLETIN, NEXT_BULLETIN, "R", "T 01", "T 01"])?;
     // What came is sent once more, the other way round.
-    let rest = captured(alloc, &[F2, F1, "D 01"])?;
+    let rest = captured(alloc, &[NEXT_BULLETIN, BULLETIN, "D 01"])?;
     let (status, station) = replayed(&rt, &directory, &capture, &NONE)?;
     assert_eq!(rt; status, Status::Done);
     for call in FIRST..station.calls() {

@@ -39,7 +39,7 @@ const ALONE: &str = "AN 00 005|SMVG01 TVSV 280000 PZA|NIL=";
 const REPORTS: &[(&[&str], &str)] = &[
     // One frame was drawn; a bulletin that is no segment is in no set.
     (
-        &[F1, "T 01"],
+        &[BULLETIN, "T 01"],
         "accepted 1\ncircuit 00 A draws 0 waiting 0 last -\ncircuit 01 B draws 1 waiting 0 last 001\nend\n",
     ),
     // Two segments with the second as the last, and with the third as the last.
