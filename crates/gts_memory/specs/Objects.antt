@@ -1,6 +1,7 @@
 -- The objects in memory, as contracts see them.
 use Rattle.std.specs.Prelude.{ℕ, Bool, false, List, [], slice_index_or, ◌==◌, ◌+◌, ◌&&◌, nat_le, nat_lt, if◌then◌else◌}
 use Rattle.gts_traits.specs.Counts.{counted}
+use Rattle.gts_traits.specs.Lines.{CircuitBytes}
 use Rattle.gts_memory.specs.Counter.{Count, no_calls}
 use Rattle.gts_memory.specs.Past.{Noted}
 
@@ -22,12 +23,14 @@ pub record StationInMemory : Type 0 where
   pub say_faults : ℕ
 
 -- one circuit: whether it is open, how often its lines have failed, what its next source is to give, which writes of its
--- next sink are to fail, and the sink that was last handed back
+-- next sink are to fail, what its last source was to give, what that had left, and the sink that was last handed back
 pub record CircuitInMemory : Type 0 where
   pub opened : Bool
   pub faults : ℕ
   pub fed : List ℕ
   pub failing : List ℕ
+  pub told : List ℕ
+  pub left : List ℕ
   pub sent : SinkInMemory
 
 -- a sink that nothing was written to, whose listed writes are to fail
@@ -40,12 +43,20 @@ is_within at count place = nat_le at place && nat_lt place (at + count)
 
 -- a circuit on which nothing happened
 abbrev pub still : CircuitInMemory
-still = record { opened = false; faults = 0; fed = []; failing = []; sent = record { written = []; count = no_calls []; faults = 0 } }
+still = record {
+  opened = false;
+  faults = 0;
+  fed = [];
+  failing = [];
+  told = [];
+  left = [];
+  sent = record { written = []; count = no_calls []; faults = 0 };
+}
 
 -- a circuit whose sockets came back, with so many faults of theirs
-abbrev pub handed_back : CircuitInMemory → SinkInMemory → ℕ → CircuitInMemory
-handed_back circuit sent failed =
-    record circuit { opened = false; sent = sent; faults = (if failed == 0 then circuit.faults else counted circuit.faults) }
+abbrev pub handed_back : CircuitInMemory → List ℕ → SinkInMemory → ℕ → CircuitInMemory
+handed_back circuit left sent failed =
+    record circuit { opened = false; left = left; sent = sent; faults = (if failed == 0 then circuit.faults else counted circuit.faults) }
 
 -- count has the calls of open; circuits has a place for each circuit
 pub record LinesInMemory : Type 0 where
@@ -60,3 +71,7 @@ is_open_in lines circuit = (circuit_in lines circuit).opened
 
 abbrev pub faults_in : LinesInMemory → ℕ → ℕ
 faults_in lines circuit = (circuit_in lines circuit).faults
+
+abbrev pub bytes_in : LinesInMemory → ℕ → CircuitBytes
+bytes_in lines circuit =
+    record { told = (circuit_in lines circuit).told; left = (circuit_in lines circuit).left; taken = (circuit_in lines circuit).sent.written }

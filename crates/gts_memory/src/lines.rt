@@ -1,7 +1,7 @@
 ghost use Rattle.std.specs.Prelude.{◌≡◌, ◌≢◌, ◌+◌, ◌<◌, ◌==◌, ◌++◌, ℕ, true, false, [], IfOk, OnOk, OnErr, is_err, if◌then◌else◌, replicate};
-ghost use Rattle.gts_traits.specs.{MOST_CIRCUITS, counted, HasCause, CountsSockets, SameElsewhere};
+ghost use Rattle.gts_traits.specs.{MOST_CIRCUITS, counted, HasCause, CountsSockets, IsEndOf, SameElsewhere};
 ghost use Rattle.gts_memory.specs.Counter.{no_calls, next, is_listed};
-ghost use Rattle.gts_memory.specs.Objects.{new_sink, still, handed_back, circuit_in, is_open_in, faults_in};
+ghost use Rattle.gts_memory.specs.Objects.{new_sink, still, handed_back, circuit_in, is_open_in, faults_in, bytes_in};
 
 use crate::counter::Counter;
 use crate::{MemSink, MemSource};
@@ -10,6 +10,7 @@ use gts_traits::{Failed, Lines, NoMemory};
 use std::alloc::Global;
 use std::marker::Model;
 use std::mem::replace;
+use std::snapshot::Snapshot;
 
 /// One circuit in memory.
 #[derive(Drop)]
@@ -18,6 +19,9 @@ struct Circuit {
     faults: u64,
     fed: Vec<u8>,
     failing: Vec<u64>,
+    /// The last source as it was opened, and as it was handed back.
+    opened_with: Snapshot<MemSource>,
+    handed_back: Snapshot<MemSource>,
     sent: MemSink,
 }
 
@@ -31,6 +35,8 @@ impl Model for Circuit {
       faults = c.faults;
       fed = c.fed.items;
       failing = c.failing.items;
+      told = c.opened_with.value.left;
+      left = c.handed_back.value.left;
       sent = c.sent;
     } };
 }
@@ -40,11 +46,14 @@ impl Circuit {
     fn new(alloc: Global) -> Circuit
         ensures { result ≡ still }
     {
+        let nothing = MemSource::holding(alloc, Vec::new(alloc));
         Circuit {
             opened: false,
             faults: 0,
             fed: Vec::new(alloc),
             failing: Vec::new(alloc),
+            opened_with: Snapshot::of(&nothing),
+            handed_back: Snapshot::of(&nothing),
             sent: MemSink::empty(alloc),
         }
     }
@@ -52,25 +61,28 @@ impl Circuit {
     /// Opens it, and gives its sockets.
     fn open(&mut self, alloc: Global) -> (MemSource, MemSink)
         ensures circuit { self.new
-            ≡ record self.old { opened = true; fed = []; failing = [] } }
+            ≡ record self.old { opened = true; fed = []; failing = []; told = self.old.fed } }
         ensures input { result.0 ≡ record { left = self.old.fed; count = no_calls []; faults = 0 } }
         ensures output { result.1
             ≡ record { written = []; count = no_calls self.old.failing; faults = 0 } }
     {
         self.opened = true;
         let input = MemSource::holding(alloc, replace(&mut self.fed, Vec::new(alloc)));
+        self.opened_with = Snapshot::of(&input);
         let failing = replace(&mut self.failing, Vec::new(alloc));
         (input, MemSink::failing_at(alloc, failing))
     }
 
     /// Takes its sockets back, and counts one fault where one of them has failed.
     fn close(&mut self, input: MemSource, output: MemSink)
-        ensures { self.new ≡ handed_back self.old output (input.faults + output.faults) }
+        ensures { self.new
+            ≡ handed_back self.old input.left output (input.faults + output.faults) }
     {
         self.opened = false;
         if input.faults() > 0 || output.faults() > 0 {
             self.faults = self.faults.saturating_add(1);
         }
+        self.handed_back = Snapshot::of(&input);
         self.sent = output;
     }
 }
@@ -164,15 +176,19 @@ impl Lines for MemLines {
 
     ghost faults = { faults_in };
 
+    ghost bytes = { bytes_in };
+
     /// Fails exactly at the listed calls. The source gives what was fed.
     fn open(&mut self, c: u32, _input: u16, _output: u16) -> Result<(MemSource, MemSink), Failed>
         requires { c < MOST_CIRCUITS }
         ensures ok { OnOk result (is_open_in self.new c ≡ true) }
         ensures err { OnErr result (is_open_in self.new c ≡ is_open_in self.old c) }
         ensures fresh { IfOk result (λ sockets. (sockets.0.faults ≡ 0) × (sockets.1.faults ≡ 0)) }
+        ensures told { IfOk result (λ sockets. (bytes_in self.new c).told ≡ sockets.0.left) }
+        ensures unwritten { IfOk result (λ sockets. sockets.1.written ≡ []) }
         ensures cause { HasCause result (faults_in self.old c) (faults_in self.new c) }
         ensures others { SameElsewhere c (is_open_in self.old) (faults_in self.old)
-            (is_open_in self.new) (faults_in self.new) }
+            (bytes_in self.old) (is_open_in self.new) (faults_in self.new) (bytes_in self.new) }
 
         // Beside what the trait says.
         ensures exact { is_err result ≡ is_listed self.old.count }
@@ -193,11 +209,15 @@ impl Lines for MemLines {
     fn close(&mut self, c: u32, input: MemSource, output: MemSink)
         requires in_range { c < MOST_CIRCUITS }
         requires is_open { is_open_in self.old c ≡ true }
+        requires front { IsEndOf (bytes_in self.old c).told input.left }
         ensures closed { is_open_in self.new c ≡ false }
+        ensures given { (bytes_in self.new c).told ≡ (bytes_in self.old c).told }
+        ensures left { (bytes_in self.new c).left ≡ input.left }
+        ensures taken { (bytes_in self.new c).taken ≡ output.written }
         ensures counted { CountsSockets input.faults output.faults
             (faults_in self.old c) (faults_in self.new c) }
         ensures others { SameElsewhere c (is_open_in self.old) (faults_in self.old)
-            (is_open_in self.new) (faults_in self.new) }
+            (bytes_in self.old) (is_open_in self.new) (faults_in self.new) (bytes_in self.new) }
 
         // Beside what the trait says.
         ensures faults { faults_in self.new c ≡ (if input.faults + output.faults == 0

@@ -1,4 +1,5 @@
 ghost use Rattle.std.specs.Prelude.{◌≡◌, IfOk};
+ghost use Rattle.gts_traits.specs.{no_bytes};
 ghost use Rattle.gts_tcp.specs.{unopened, is_open_in, faults_in};
 
 use crate::counting::counted;
@@ -71,6 +72,8 @@ impl<R: Net<Listener = TcpListener, Stream = TcpStream> + Clock> Lines for TcpLi
     ghost is_open = { is_open_in };
 
     ghost faults = { faults_in };
+
+    ghost bytes = { λ _ _. no_bytes };
 
     /// Listens on the port `input`, connects to the port `output`, and accepts one connection. Fails where one of the
     /// ports is 0. It waits for the neighbour as long as that listens and doesn't connect.
