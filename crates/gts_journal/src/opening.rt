@@ -47,6 +47,7 @@ fn agreeing(bytes: &[u8]) -> usize
 fn check(file: u32, head: &[u8], mark: [u8; 32]) -> Result<(), OpenFault>
     ensures sound { OnOk result (header_fault mark file head.now ≡ None) }
     ensures fault { IfErr result (λ e. header_fault mark file head.now ≡ Some e) }
+    ensures memory { IsErrOf result OpenFault.NoMemory → ⊥ }
 {
     if head.is_empty() {
         return Err(OpenFault::NoJournal);
@@ -84,6 +85,7 @@ fn headed<P: Station>(station: &mut P, mark: [u8; 32]) -> Result<u32, OpenFault>
     ensures told { P.tells → P.calls station.new ≡ P.calls station.old }
     ensures disk_fault { IsErrOf result OpenFault.DiskFault
         → Rose (P.disk_faults station.old) (P.disk_faults station.new) }
+    ensures memory { IsErrOf result OpenFault.NoMemory → ⊥ }
     ensures later { P.disk_faults station.old ≤ P.disk_faults station.new }
     ensures say { P.say_faults station.new ≡ P.say_faults station.old }
 {
@@ -126,6 +128,7 @@ impl Journal {
         ensures fault { P.tells
             → IfErr result (λ e. IsFaultOf e (first_fault mark (seen (P.calls station.old)))) }
         ensures told { P.tells → OnlySyncs (P.calls station.old) (P.calls station.new) }
+        ensures no_memory { IsErrOf result OpenFault.NoMemory → station.new ≡ station.old }
         ensures disk_fault { IsErrOf result OpenFault.DiskFault
             → Rose (P.disk_faults station.old) (P.disk_faults station.new) }
         ensures later { P.disk_faults station.old ≤ P.disk_faults station.new }
