@@ -5,6 +5,7 @@
 mod counter;
 mod crash;
 mod deed;
+mod kept;
 mod left;
 mod lines;
 mod noting;
