@@ -1,6 +1,5 @@
--- What contracts see of a core, and which state of a history it holds. Nothing says how it keeps what it has: any state
--- of the same need will do.
-use Rattle.std.specs.Prelude.{◌≡◌, ℕ, ◌+◌, ◌<◌, List, map, Option, Some, IsTrue}
+-- What contracts see of a core, and which state of a history it holds. Any state of the same need will do.
+use Rattle.std.specs.Prelude.{◌≡◌, ℕ, ◌+◌, ◌<◌, List, map, Some, IsTrue}
 use Rattle.gts_traits.specs.Station.{on}
 use Rattle.gts_directory.specs.Directory.{Directory}
 use Rattle.gts_event.specs.State.{State, most_accepted}
@@ -16,26 +15,18 @@ use Rattle.gts_frame.specs.declared.kind.Kind.{Kind}
 use Rattle.gts_core.specs.declared.answer.Choice as answers
 use Rattle.gts_core.specs.declared.answer.Verdict as verdicts
 use Rattle.gts_core.specs.Judging.{verdict_told}
-use Rattle.gts_core.specs.Stored.{levels_by}
 use Rattle.gts_core.specs.Taking.{choice_told}
+pub use Rattle.gts_core.specs.Parts.{Core, AreParts}
 
--- The settings that it copied from its directory, the level beside each bulletin, a state of its need, and the body of the
--- message for which it has taken the memory.
-pub record Core : Type 0 where
-  pub window : ℕ
-  pub kept : List ℕ
-  pub levels : List ℕ
-  pub state : State
-  pub ready : Option (List ℕ)
-
--- A core was made with this directory, and holds this state of a history: the settings and levels are those of the
--- directory, and the need is that of the state.
+-- A core was made with this directory, and holds this state of a history: the settings are those of the directory, and
+-- its containers are the parts of some state of the same need.
 pub record Holds (d : Directory) (core : Core) (s : State) : Type 0 where
   pub window : core.window ≡ d.window
   pub kept : core.kept ≡ map (λ row. row.kept) d.circuits
   pub keeps : IsTrue (keeps_one d)
-  pub levels : core.levels ≡ levels_by d core.state.accepted
-  pub need : SameNeed d core.state s
+  pub state : State
+  pub parts : AreParts d core state
+  pub need : SameNeed d state s
 
 -- a core was made with this directory
 abbrev pub IsFor : Directory → Core → Type 0

@@ -1,25 +1,24 @@
-ghost use Rattle.std.specs.Prelude.{◌≡◌, ◌<◌, ◌^◌, IsTrue};
-ghost use Rattle.std.specs.List.{list_all};
-ghost use Rattle.gts_event.specs.State.{has};
-ghost use Rattle.gts_core.specs.Stored.{positions, bulletins_of};
-ghost use Rattle.gts_core.specs.Line.{is_drawn};
-ghost use Rattle.gts_core.specs.Taking.{frame_in};
+ghost use Rattle.std.specs.Prelude.{◌≡◌, ◌<◌, ◌^◌, length, IsSome};
+ghost use Rattle.gts_store.specs.Shelf.{circuit_at, position_at};
+ghost use Rattle.gts_core.specs.Frames.{AreBodies, IsHeld, frame_kept};
 
-use crate::first::bulletin_at;
-use crate::line::Line;
-use crate::stored::Stored;
 use gts_frame::{FrameBuf, write_frame};
 use gts_number::number_of;
+use gts_store::Store;
 
-/// Fills `out` with the frame of a draw of a circuit.
-pub fn write_draw(accepted: &[Stored], line: &Line, index: u64, out: &mut FrameBuf)
-    requires drawn { IsTrue (is_drawn line.now.circuit index) }
-    requires there { IsTrue (list_all (has (positions accepted.now)) line.now.circuit.taken) }
+/// Fills `out` with the frame of a kept draw of a circuit.
+pub fn write_draw(store: &Store, c: u32, index: u64, out: &mut FrameBuf)
+    requires circuit { c < length store.now.circuits }
+    requires kept { IsSome (position_at (circuit_at store.now c) index) }
+    requires bodies { AreBodies store.now }
     requires few { index < 2 ^ 62 }
-    ensures { out.new ≡ frame_in (bulletins_of accepted.now) line.now.circuit index }
+    ensures frame { out.new ≡ frame_kept store.now c index }
+    ensures held { IsHeld store.now c index }
 {
-    let position = line.taken()[(index - line.earlier()) as usize];
-    if let Some(stored) = bulletin_at(accepted, position) {
-        write_frame(stored.kind, number_of(index), &stored.body, out);
+    let Some(position) = store.position_of(c, index) else {
+        return;
+    };
+    if let Some(shown) = store.body(position) {
+        write_frame(shown.1, number_of(index), shown.2, out);
     }
 }

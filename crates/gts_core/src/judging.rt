@@ -1,22 +1,30 @@
-ghost use Rattle.std.specs.Prelude.{◌≡◌, ◌+◌, ◌*◌, ◌<◌, ◌≤◌, ◌^◌, ℕ, length, map, flat_map, IsTrue};
-ghost use Rattle.std.specs.List.{list_all, AllByRecursion};
+ghost use Rattle.std.specs.Prelude.{◌≡◌, ◌+◌, ◌<◌, ◌≤◌, ◌^◌, ℕ, List, length, flat_map};
+ghost use Rattle.std.specs.List.{AllByRecursion};
 ghost use Rattle.gts_request.specs.Request as requests;
-ghost use Rattle.gts_heading.specs.Heading.{fields_of};
-ghost use Rattle.gts_core.specs.Words.{has, draws, named};
-ghost use Rattle.gts_event.specs.History.{answer};
-ghost use Rattle.gts_core.specs.Stored.{positions};
+ghost use Rattle.gts_event.specs.History as history;
+ghost use Rattle.gts_core.specs.Words.{Bulletin, fields_of, named};
+ghost use Rattle.gts_core.specs.Frames.{AreBodies};
+ghost use Rattle.gts_core.specs.Duplicates.{AreNoted};
 ghost use Rattle.gts_core.specs.Judging.{item_places, Tallies, verdict_told, answer_by, verdict_by, judged_by};
 
 use crate::answer::Verdict;
-use crate::headings::{duplicate, is_request};
-use crate::line::{Line, MOST_OWED};
+use crate::duplicates::duplicate;
+use crate::lane::{Lane, MOST_OWED};
 use crate::places::{Tally, tally_item};
-use crate::stored::Stored;
 use gts_directory::{Directory, a_mask_has_the_bits_of_its_circuits};
+use gts_dup::DupTable;
 use gts_event::Refusal;
 use gts_heading::Heading;
 use gts_message::Message;
 use gts_request::Request;
+use gts_store::Store;
+
+/// Whether a heading is that of a request for repetition to the own centre (profile, after the Manual's designators).
+pub fn is_request(directory: &Directory, heading: &Heading) -> bool
+    ensures { result ≡ history.is_request directory.now (fields_of heading.now) }
+{
+    heading.tt == *b"BM" && heading.aa == *b"RR" && heading.cccc == directory.centre()
+}
 
 /// The sums of two.
 fn joined(one: Tally, other: Tally) -> Tally
@@ -31,14 +39,11 @@ fn joined(one: Tally, other: Tally) -> Tally
 }
 
 /// Counts the places of all that a request asks for. Nothing is listed.
-fn tally_all(accepted: &[Stored], line: &Line, kept: u32, request: &Request<'_>) -> Tally
-    requires kept { kept ≤ 1000 }
+fn tally_all(store: &Store, c: u32, request: &Request<'_>) -> Tally
+    requires circuit { c < length store.now.circuits }
     requires items { AllByRecursion requests.IsItem request.now }
     requires size { length request.now ≤ 2 ^ 20 }
-    requires there { IsTrue (list_all (has (positions accepted.now)) line.now.circuit.taken) }
-    requires few { draws line.now.circuit ≤ 2 ^ 62 }
-    ensures { Tallies result
-        (flat_map (item_places accepted.now kept line.now.circuit) request.now) }
+    ensures { Tallies result (flat_map (item_places store.now c) request.now) }
 {
     let mut tally = Tally {
         found: 0,
@@ -46,24 +51,22 @@ fn tally_all(accepted: &[Stored], line: &Line, kept: u32, request: &Request<'_>)
     };
     let mut items = request.items();
     while let Some(item) = items.next() {
-        let more = tally_item(accepted, line, kept, item);
+        let more = tally_item(store, c, item);
         tally = joined(tally, more);
     }
     tally
 }
 
 /// What a request leads to.
-fn granted(accepted: &[Stored], line: &Line, kept: u32, request: &Request<'_>) -> Verdict
-    requires kept { kept ≤ 1000 }
+fn granted(lane: &Lane, store: &Store, c: u32, request: &Request<'_>) -> Verdict
+    requires circuit { c < length store.now.circuits }
     requires items { AllByRecursion requests.IsItem request.now }
     requires size { length request.now ≤ 2 ^ 20 }
-    requires there { IsTrue (list_all (has (positions accepted.now)) line.now.circuit.taken) }
-    requires few { draws line.now.circuit ≤ 2 ^ 62 }
-    ensures { (count : ℕ) → verdict_told count result ≡ answer (length line.now.circuit.owed)
-        (flat_map (item_places accepted.now kept line.now.circuit) request.now) }
+    ensures { (count : ℕ) → verdict_told count result ≡ history.answer (length lane.now.owed)
+        (flat_map (item_places store.now c) request.now) }
 {
-    let tally = tally_all(accepted, line, kept, request);
-    if line.owed().len() + tally.found as usize > MOST_OWED {
+    let tally = tally_all(store, c, request);
+    if lane.owed().len() + tally.found as usize > MOST_OWED {
         return Verdict::Refused(Refusal::Many);
     }
     Verdict::Asked {
@@ -73,16 +76,14 @@ fn granted(accepted: &[Stored], line: &Line, kept: u32, request: &Request<'_>) -
 }
 
 /// What the text of a request leads to.
-fn answered(accepted: &[Stored], line: &Line, kept: u32, text: &[u8]) -> Verdict
-    requires kept { kept ≤ 1000 }
+fn answered(lane: &Lane, store: &Store, c: u32, text: &[u8]) -> Verdict
+    requires circuit { c < length store.now.circuits }
     requires short { length text.now < 2 ^ 20 }
-    requires there { IsTrue (list_all (has (positions accepted.now)) line.now.circuit.taken) }
-    requires few { draws line.now.circuit ≤ 2 ^ 62 }
     ensures { (count : ℕ) → verdict_told count result
-        ≡ answer_by accepted.now kept line.now.circuit (requests.request_at text.now) }
+        ≡ answer_by (length lane.now.owed) store.now c (requests.request_at text.now) }
 {
     match Request::read(text) {
-        Ok(request) => granted(accepted, line, kept, &request),
+        Ok(request) => granted(lane, store, c, &request),
         Err(field) => Verdict::Refused(Refusal::Request(field)),
     }
 }
@@ -99,24 +100,25 @@ fn named_circuits(directory: &Directory, c: u32, heading: &Heading) -> u32
 /// What a message with this heading and this text leads to on circuit `c`.
 fn judge_parts(
     directory: &Directory,
-    count: u64,
-    accepted: &[Stored],
-    line: &Line,
+    table: &DupTable,
+    store: &Store,
+    lane: &Lane,
     c: u32,
     heading: &Heading,
     text: &[u8],
 ) -> Verdict
     requires circuit { c < length directory.now.circuits }
+    requires kept { c < length store.now.circuits }
     requires short { length text.now < 2 ^ 20 }
-    requires there { IsTrue (list_all (has (positions accepted.now)) line.now.circuit.taken) }
-    requires few { draws line.now.circuit ≤ 2 ^ 62 }
-    ensures { verdict_told count result ≡ verdict_by directory.now count accepted.now line.now c
-        (fields_of heading.now) text.now }
+    requires bodies { AreBodies store.now }
+    ensures { (count : ℕ) (recent : List Bulletin) → AreNoted table.now store.now recent
+        → verdict_told count result ≡ verdict_by directory.now count recent
+        (length lane.now.owed) store.now c (fields_of heading.now) text.now }
 {
     if is_request(directory, heading) {
-        return answered(accepted, line, line.kept(), text);
+        return answered(lane, store, c, text);
     }
-    match duplicate(directory, count, accepted, heading, text) {
+    match duplicate(table, store, heading, text) {
         Some(position) => Verdict::Duplicate { position },
         None => Verdict::New {
             circuits: named_circuits(directory, c, heading),
@@ -127,28 +129,21 @@ fn judge_parts(
 /// What a message leads to on circuit `c`.
 pub fn judge_in(
     directory: &Directory,
-    count: u64,
-    accepted: &[Stored],
-    line: &Line,
+    table: &DupTable,
+    store: &Store,
+    lane: &Lane,
     c: u32,
     message: &[u8],
 ) -> Verdict
     requires circuit { c < length directory.now.circuits }
-    requires there { IsTrue (list_all (has (positions accepted.now)) line.now.circuit.taken) }
-    requires few { draws line.now.circuit ≤ 2 ^ 62 }
-    ensures { verdict_told count result
-        ≡ judged_by directory.now count accepted.now line.now c message.now }
+    requires kept { c < length store.now.circuits }
+    requires bodies { AreBodies store.now }
+    ensures { (count : ℕ) (recent : List Bulletin) → AreNoted table.now store.now recent
+        → verdict_told count result ≡ judged_by directory.now count recent
+        (length lane.now.owed) store.now c message.now }
 {
     match Message::split(message) {
-        Ok(parts) => judge_parts(
-            directory,
-            count,
-            accepted,
-            line,
-            c,
-            &parts.heading,
-            parts.text,
-        ),
+        Ok(parts) => judge_parts(directory, table, store, lane, c, &parts.heading, parts.text),
         Err(field) => Verdict::Refused(Refusal::Message(field)),
     }
 }

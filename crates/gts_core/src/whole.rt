@@ -1,46 +1,49 @@
 ghost use Rattle.std.specs.Prelude.{◌≡◌, ◌<◌, ◌+◌, ◌^◌, length, IfOk, OnOk, IsTrue};
-ghost use Rattle.gts_core.specs.Words.{Directory, Nothing, most_accepted};
+ghost use Rattle.gts_directory.specs.Directory.{Directory};
 ghost use Rattle.gts_event.specs.State.{State, empty};
 ghost use Rattle.gts_event.specs.declared.event.Event.TheVariants.{Heard};
+ghost use Rattle.gts_core.specs.Begin.{need_of, is_sound, begun};
+ghost use Rattle.gts_event.specs.declared.outcome.Outcome.TheVariants.{Nothing};
 ghost use Rattle.gts_core.specs.Owed.{all_waiting};
-ghost use Rattle.gts_event.specs.Need.{is_sound, begun};
-ghost use Rattle.gts_event.specs.Items.{need_of};
 ghost use Rattle.gts_core.specs.Core.{Holds, IsFor, IsReady, HasPosition, IsStep, Keeps, Judges, Chooses, Takes, Says, Restarts, Needs};
 
 use crate::answer::{Choice, Verdict};
-use crate::granting::grant_in;
+use crate::begin::store_of;
+use crate::entering::{accept_in, make_room, reserve_body};
+use crate::granting::grant_on;
 use crate::judging::judge_in;
-use crate::line::Line;
+use crate::lane::Lane;
 use crate::needs::need_in;
-use crate::opening::{begun_bulletins, begun_lines, idle_lines};
+use crate::opening::{empty_lanes, kept_limits};
 use crate::owed::owed_in;
-use crate::room::{copied_body, make_room};
-use crate::routing::accept_in;
-use crate::stored::Stored;
-use crate::taking::{choose, restart_in, take_in};
+use crate::resuming::{lanes_of, table_of};
+use crate::taking::{choose, restart_in, take_on};
 use gts_alphabet::NoMemory;
 use gts_directory::Directory;
+use gts_dup::DupTable;
 use gts_event::{Need, Outcome};
 use gts_frame::{FrameBuf, Kind};
+use gts_store::Store;
 use std::alloc::Global;
 use std::marker::Model;
 
-/// The switch as a value. Contracts see what later answers depend on; how it is kept, nobody can tell.
+/// The switch as a value. Contracts see what later answers depend on; it keeps no more than that.
 #[derive(Drop)]
 pub struct Core {
     window: u32,
     count: u64,
-    accepted: Vec<Stored>,
-    lines: Vec<Line>,
-    ready: Option<Vec<u8>>,
+    table: DupTable,
+    store: Store,
+    lanes: Vec<Lane>,
+    ready: bool,
 }
 
 impl Model for Core {
-    ghost use Rattle.gts_core.specs.Core as cores;
+    ghost use Rattle.gts_core.specs.Parts as cores;
 
     ghost Value = { cores.Core };
 
-    ghost use Rattle.gts_core.specs.Whole.{core_of, IsSoundCore};
+    ghost use Rattle.gts_core.specs.Kept.{core_of, IsSoundCore};
 
     ghost view = { core_of };
 
@@ -52,30 +55,40 @@ impl Core {
     pub fn new(alloc: Global, directory: &Directory) -> Result<Core, NoMemory>
         ensures { IfOk result (λ core. Holds directory.now core (empty directory.now)) }
     {
-        let lines = idle_lines(alloc, directory)?;
+        let limits = kept_limits(alloc, directory)?;
+        let store = Store::new(alloc, &limits)?;
+        store.has_what_it_keeps();
+        let table = DupTable::new(alloc, directory.window())?;
+        let lanes = empty_lanes(alloc, directory.circuits())?;
         Ok(Core {
             window: directory.window(),
             count: 0,
-            accepted: Vec::new(alloc),
-            lines,
-            ready: None,
+            table,
+            store,
+            lanes,
+            ready: false,
         })
     }
 
-    /// A core that stands for a sound start under a directory. The room for repetitions is taken here; the bodies aren't
+    /// A core that stands for a sound start under a directory. The room for repetitions is taken here, and the bodies are
     /// copied.
     pub fn of_need(alloc: Global, directory: &Directory, need: Need) -> Result<Core, NoMemory>
         requires { IsTrue (is_sound directory.now (need_of need)) }
         ensures { IfOk result (λ core. Holds directory.now core (begun (need_of need))) }
     {
-        let lines = begun_lines(alloc, directory, need.circuits)?;
-        let accepted = begun_bulletins(alloc, directory, need.bulletins)?;
+        let window = directory.window();
+        let store = store_of(alloc, directory, &need)?;
+        let circuits = need.circuits.as_slice();
+        let bulletins = need.bulletins.as_slice();
+        let lanes = lanes_of(alloc, directory, &store, circuits)?;
+        let table = table_of(alloc, window, need.accepted, bulletins)?;
         Ok(Core {
-            window: directory.window(),
+            window,
             count: need.accepted,
-            accepted,
-            lines,
-            ready: None,
+            table,
+            store,
+            lanes,
+            ready: false,
         })
     }
 
@@ -86,14 +99,8 @@ impl Core {
         requires circuit { c < length self.now.kept }
         ensures { Judges directory.now self.now c message.now result }
     {
-        judge_in(
-            directory,
-            self.count,
-            self.accepted.as_slice(),
-            &self.lines[c as usize],
-            c,
-            message,
-        )
+        let lane = &self.lanes[c as usize];
+        judge_in(directory, &self.table, &self.store, lane, c, message)
     }
 
     /// Takes all the memory for a message that came in on circuit `c`, where it would be accepted. The directory is the
@@ -111,11 +118,12 @@ impl Core {
         ensures ready { OnOk result (IsReady directory.now self.new c message.now) }
     {
         let verdict = self.judge(directory, c, message);
-        self.ready = None;
+        self.ready = false;
         if let Verdict::New { .. } = verdict {
-            self.accepted.reserve(1)?;
-            make_room(self.lines.as_mut_slice())?;
-            self.ready = Some(copied_body(alloc, message)?);
+            self.table.reserve()?;
+            make_room(&mut self.lanes)?;
+            reserve_body(alloc, &mut self.store, message)?;
+            self.ready = true;
         }
         Ok(())
     }
@@ -135,25 +143,27 @@ impl Core {
             Verdict::Refused(refusal) => Outcome::Refused(refusal),
             Verdict::Duplicate { position } => Outcome::Duplicate { position },
             Verdict::Asked { found, missing } => {
-                self.ready = None;
-                grant_in(
-                    directory,
-                    self.count,
-                    self.accepted.as_slice(),
-                    self.lines.as_mut_slice(),
-                    c,
-                    message,
-                );
+                self.ready = false;
+                let lane = &mut self.lanes[c as usize];
+                grant_on(lane, &self.store, c, message);
                 Outcome::Asked { found, missing }
             }
             Verdict::New { circuits } => {
                 let position = self.count;
-                if let Some(body) = self.ready.take() {
-                    let accepted = &mut self.accepted;
-                    let lines = self.lines.as_mut_slice();
-                    accept_in(directory, position, accepted, lines, c, kind, message, body);
-                    self.count = position + 1;
-                }
+                self.ready = false;
+                let table = &mut self.table;
+                let store = &mut self.store;
+                accept_in(
+                    directory,
+                    position,
+                    table,
+                    store,
+                    &mut self.lanes,
+                    c,
+                    kind,
+                    message,
+                );
+                self.count = position + 1;
                 Outcome::Accepted { position, circuits }
             }
         }
@@ -172,7 +182,7 @@ impl Core {
         ensures { (d : Directory) (s : State) → Holds d self.now s
             → result ≡ all_waiting s.circuits }
     {
-        owed_in(self.lines.as_slice())
+        owed_in(self.lanes.as_slice())
     }
 
     /// What a take on a circuit would give. Takes no memory.
@@ -180,7 +190,7 @@ impl Core {
         requires { c < length self.now.kept }
         ensures { Chooses self.now c result }
     {
-        choose(self.accepted.as_slice(), &self.lines[c as usize])
+        choose(&self.lanes[c as usize], &self.store, c)
     }
 
     /// One take on a circuit: a repetition or a draw leaves its frame in `out`. Takes no memory.
@@ -190,26 +200,19 @@ impl Core {
         ensures frame { (result ≡ Nothing → ⊥) → Says self.old c out.new }
         ensures nothing { result ≡ Nothing → out.new ≡ out.old }
     {
-        self.ready = None;
-        take_in(
-            self.count,
-            self.accepted.as_slice(),
-            self.lines.as_mut_slice(),
-            c,
-            out,
-        )
+        self.ready = false;
+        let lane = &mut self.lanes[c as usize];
+        let outcome = take_on(lane, &mut self.store, c, out);
+        self.store.has_what_it_keeps();
+        outcome
     }
 
     /// The journal was opened again: each circuit is owed its last draw alone. Takes no memory.
     pub fn restart(&mut self)
         ensures { Restarts self.old self.new }
     {
-        self.ready = None;
-        restart_in(
-            self.count,
-            self.accepted.as_slice(),
-            self.lines.as_mut_slice(),
-        );
+        self.ready = false;
+        restart_in(&mut self.lanes, &self.store);
     }
 
     /// All that later answers depend on, with copies of the bodies: what a journal is compacted to, and what a core can be
@@ -217,12 +220,7 @@ impl Core {
     pub fn need(&self, alloc: Global) -> Result<Need, NoMemory>
         ensures { IfOk result (λ n. Needs self.now (need_of n)) }
     {
-        need_in(
-            alloc,
-            self.window,
-            self.count,
-            self.accepted.as_slice(),
-            self.lines.as_slice(),
-        )
+        let lanes = self.lanes.as_slice();
+        need_in(alloc, self.window, self.count, &self.store, lanes)
     }
 }

@@ -20,6 +20,7 @@ use Rattle.gts_event.specs.declared.fault.Device.TheVariants.{Disk, Say}
 use Rattle.gts_event.proofs.LawLemmas.{said-append, restarted-same}
 use Rattle.gts_record.specs.declared.fault.OpenFault.{OpenFault}
 use Rattle.gts_core.specs.Core.{Holds}
+use Rattle.gts_core.proofs.LawLemmas.{held-same, both-held}
 use Rattle.gts_opening.specs.Journal.{opens}
 use Rattle.gts_opening.specs.Room.{HasUnsaid, IsReading, StopsOnce, is_idle}
 use Rattle.gts_opening.specs.Crash.{LeavesReading, IsLeftNow, LeavesWhole}
@@ -31,9 +32,8 @@ use Rattle.gts_engine.specs.Origin.{Origin, history_of, state_at, told}
 use Rattle.gts_engine.specs.Keeping.{LeavesFront, SaysFront, HasSaid, HasFailed, Keeps, HasRead}
 use Rattle.gts_engine.proofs.EntryLemmas.{none_behind, nothing_said, only_itself, read_itself}
 use Rattle.gts_engine.proofs.LeavingLemmas.{whole}
-use Rattle.gts_engine.proofs.GoingLemmas.{both_held}
 use Rattle.gts_engine.proofs.BeginLemmas.{no_doubt_yet, no_unsaid_yet}
-use Rattle.gts_engine.proofs.ReopenLemmas.{opens_by, held_same}
+use Rattle.gts_engine.proofs.ReopenLemmas.{opens_by}
 
 -- ---- an engine that was opened
 
@@ -48,7 +48,7 @@ read_holds d files e n r is =
     let both : ◌≡◌ {A = Result Need OpenFault} (Ok (need d (restarted r.state))) (Ok n) = sym (opens_by d files r.state e.used r.opened) ∙ is in
     let same : need d (restarted r.state) ≡ n = cc both in
     subst (λ (m : Need). Holds d e.core (begun m)) same
-    (held_same d e.core (restarted r.state) (begun (need d (restarted r.state))) r.core (opened-begins d files r.state e.used r.core.keeps r.opened))
+    (held-same d e.core (restarted r.state) (begun (need d (restarted r.state))) r.core (opened-begins d files r.state e.used r.core.keeps r.opened))
 
 -- ---- a crash
 
@@ -180,7 +180,7 @@ opens_now tells mode o entries e t kept going holds tell files image =
     let read : left.0 ≡ entries = only_itself entries left.0 failed.0 left.1 in
     let here : Holds o.directory e.core (state_at o entries) = kept.core going in
     left.2 ∙ ap (λ (l : List Entry). Ok (need o.directory (restarted (state_at o l)))) read
-    ∙ ap {A = Need} (λ n. Ok n) (restarted-same o.directory (state_at o entries) t here.keeps (both_held o.directory e.core (state_at o entries) t here holds)).same
+    ∙ ap {A = Need} (λ n. Ok n) (restarted-same o.directory (state_at o entries) t here.keeps (both-held o.directory e.core (state_at o entries) t here holds)).same
 
 pub begins_anew : (tells : Type 0) (mode : SayMode) (o : Origin) (entries : List Entry) (e : Shown) (n : Need) → Keeps tells mode o entries e → e.stopped ≡ None → Holds e.directory e.core (begun n)
     → Keeps tells mode (record { directory = e.directory; start = n; used = e.used; calls = e.calls }) [] e

@@ -1,10 +1,8 @@
-use Rattle.std.proofs.Common.{◌≡◌}
 use Rattle.gts_event.specs.History.{found}
-use Rattle.gts_core.proofs.TallyLemmas.{numbers_left}
-use Rattle.gts_core.proofs.HearLemmas.{Owing}
+use Rattle.gts_core.specs.Judging.{number_place}
+use Rattle.gts_core.proofs.TallyLemmas.{Owing, numbers_left}
 use Rattle.gts_core.proofs.granting.owe_numbers.Given as goal
 
 abbrev pub invariant-loop-k : goal.invariant-loop-k
 invariant-loop-k l =
-    (l.line.kept ≡ l.initial.line.kept)
-    × Owing l.initial.line.circuit l.line.circuit (found (numbers_left l.kept l.initial.line.circuit l.first l.k-end l.k)) (found (numbers_left l.kept l.initial.line.circuit l.first l.k-end 0))
+    Owing l.initial.lane l.lane (found (numbers_left (number_place l.store l.c) l.first l.k-end l.k)) (found (numbers_left (number_place l.store l.c) l.first l.k-end 0))

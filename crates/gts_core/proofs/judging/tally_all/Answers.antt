@@ -10,7 +10,7 @@ use Rattle.gts_core.proofs.judging.tally_all.Goals as goal
 
 pub loop-item-preserved : goal.loop-item-preserved
 loop-item-preserved c =
-    let pl : Item → List (Option ℕ) = item_places c.args.accepted.now c.args.kept c.args.line.now.circuit in
+    let pl : Item → List (Option ℕ) = item_places c.args.store.now c.args.c in
     let x : Item = item_of c.in-Some.item in
     let rest : List Item = c.next.new.self in
     let e : c.loop-item.items ≡ x ∷ rest = c.in-Some.ensures.steps in
@@ -24,7 +24,7 @@ loop-item-preserved c =
 
 pub returns : goal.returns
 returns c =
-    let pl : Item → List (Option ℕ) = item_places c.args.accepted.now c.args.kept c.args.line.now.circuit in
+    let pl : Item → List (Option ℕ) = item_places c.args.store.now c.args.c in
     let e : c.loop-item.items ≡ [] = c.in_default.ensures.steps.0 in
     record {
       found = omega (arith, c.loop-item.invariant.0, ap (λ (xs : List Item). length (found (flat_map pl xs))) e);

@@ -8,8 +8,8 @@ use Rattle.gts_core.proofs.judging.tally_all.Given as goal
 
 abbrev pub invariant-loop-item : goal.invariant-loop-item
 invariant-loop-item l =
-    (l.tally.found + length (found (flat_map (item_places l.accepted l.kept l.line.circuit) l.items)) ≡ length (found (flat_map (item_places l.accepted l.kept l.line.circuit) l.request)))
-    × (l.tally.missing + count_by is_none (flat_map (item_places l.accepted l.kept l.line.circuit) l.items) ≡ count_by is_none (flat_map (item_places l.accepted l.kept l.line.circuit) l.request))
+    (l.tally.found + length (found (flat_map (item_places l.store l.c) l.items)) ≡ length (found (flat_map (item_places l.store l.c) l.request)))
+    × (l.tally.missing + count_by is_none (flat_map (item_places l.store l.c) l.items) ≡ count_by is_none (flat_map (item_places l.store l.c) l.request))
     × AllByRecursion IsItem l.items
     × (l.tally.found + l.tally.missing + 1000 * length l.items ≤ 1000 * length l.request)
 

@@ -1,40 +1,22 @@
-use Rattle.std.proofs.Common.{◌≡◌, ℕ, ◌<◌, true, List, length, sym, ap, ◌∙◌, subst, arith}
-use Rattle.std.specs.List.{list_all}
-use Rattle.std.proofs.lemmas.List.{length-map}
-use Rattle.gts_event.specs.State.{has}
+use Rattle.std.proofs.Common.{◌≡◌, ◌<◌, length, sym, ap, subst, ◌∙◌, arith}
+use Rattle.std.proofs.lemmas.List.{length-map, get_or_default}
+use Rattle.gts_directory.specs.Directory.{Circuit}
 use Rattle.gts_event.proofs.LawLemmas.{choice-same}
-use Rattle.gts_core.specs.declared.stored.Stored.{Stored}
-use Rattle.gts_core.specs.Line.{Line}
-use Rattle.gts_core.specs.Stored.{positions, HasLevels}
-use Rattle.gts_core.specs.Taking.{choice_by}
+use Rattle.gts_store.specs.Shelf.{circuit_at}
+use Rattle.gts_core.specs.Lane.{Lane, Stands}
+use Rattle.gts_core.specs.Whole.{level_in}
+use Rattle.gts_core.specs.Parts.{lane_in, idle_lane, need_on}
 use Rattle.gts_core.specs.Core.{Core, Holds}
-use Rattle.gts_core.specs.Whole.{core_of}
-use Rattle.gts_core.proofs.StoredLemmas.{level_at, has_levels}
-use Rattle.gts_core.proofs.TakeLemmas.{on_line, line_sound}
+use Rattle.gts_core.specs.Kept.{core_of}
 use Rattle.gts_core.proofs.whole.Core.choice.Goals as goal
-
-pub choose-requires : goal.choose-requires
-choose-requires c =
-    let i = c.self.inside in
-    let hs = i.accepted.items in
-    let ls = i.lines.items in
-    let l : Line = c.index.result.now in
-    let lt : c.args.c < length ls = omega (arith, c.requires, ap (λ (k : Core). length k.kept) c.self.view_is, length-map ls (λ (x : Line). x.kept)) in
-    let sound = line_sound i.count hs ls c.args.c l lt c.self.invariant.sound in
-    subst (λ (xs : List Stored). list_all (has (positions xs)) l.circuit.routed ≡ true) (sym c.as_slice.ensures.value)
-    (subst (λ (x : Line). list_all (has (positions hs)) x.circuit.routed ≡ true) (sym c.index.ensures) sound.routed)
 
 pub returns : goal.returns
 returns c = λ d s h.
     let i = c.self.inside in
-    let hs = i.accepted.items in
-    let ls = i.lines.items in
-    let l : Line = c.index.result.now in
-    let lt : c.args.c < length ls = omega (arith, c.requires, ap (λ (k : Core). length k.kept) c.self.view_is, length-map ls (λ (x : Line). x.kept)) in
-    let own : Holds d (core_of i) s = subst (λ (k : Core). Holds d k s) (sym c.self.view_is) h in
-    let level : ℕ → ℕ = level_at d i.count hs ls in
-    let levels : HasLevels level c.as_slice.result.now = subst (λ (xs : List Stored). HasLevels level xs) (sym c.as_slice.ensures.value) (has_levels d i.count hs ls own.levels) in
-    c.choose.ensures.chosen level levels
-    ∙ ap (λ (x : Line). choice_by level x.circuit) c.index.ensures
-    ∙ ap (choice_by level) (sym (on_line ls c.args.c l lt))
-    ∙ choice-same d (core_of i).state s c.args.c own.need
+    let k = c.args.c in
+    let own : Holds d (core_of i) s = subst (λ (x : Core). Holds d x s) (sym c.self.view_is) h in
+    let t = own.state in
+    let here : k < length d.circuits = omega (arith, c.requires, ap length h.kept, length-map d.circuits (λ (row : Circuit). row.kept)) in
+    let at : c.index.result.now ≡ lane_in i.lanes.items k = c.index.ensures ∙ get_or_default i.lanes.items k c.index.result.now idle_lane (omega (arith, here, own.parts.lanes)) in
+    c.choose.ensures (level_in d t) (need_on d t k) (subst (λ (l : Lane). Stands (level_in d t) (need_on d t k) l (circuit_at i.store k)) (sym at) (own.parts.stands k here))
+    ∙ choice-same d t s k own.need

@@ -1,169 +1,246 @@
-use Rattle.std.proofs.Common.{◌≡◌, ℕ, ◌+◌, ◌<◌, ◌≤◌, List, Option, Some, None, length, map, refl, sym, ap, ◌∙◌, subst, arith}
-use Rattle.gts_directory.specs.Directory.{named}
-use Rattle.gts_event.specs.State.{State, on_circuit, most_accepted}
-use Rattle.gts_event.specs.History.{outcome, body_of, heading_of_message, found, places, items_of, most_owed, with_owed, with_bulletin}
-use Rattle.gts_event.specs.declared.event.Event.{Event}
+use Rattle.std.proofs.Common.{◌≡◌, ◌<◌, ◌+◌, ℕ, true, false, List, length, map, get_or, set, Option, Some, is_ok, refl, sym, ap, subst, ◌∙◌, arith}
+use Rattle.std.specs.List.{flat_map}
+use Rattle.std.specs.Vec.{with_item}
+use Rattle.std.proofs.lemmas.Bool.{true≢false}
+use Rattle.std.proofs.lemmas.List.{length-map, length-set, get_or_default}
+use Rattle.gts_directory.specs.Directory.{Directory, Circuit, level_of}
+use Rattle.gts_event.specs.State.{State, most_accepted}
+use Rattle.gts_event.specs.History.{outcome, after_heard, found, places, items_of, body_of, heading_of_message}
+use Rattle.gts_frame.specs.declared.kind.Kind.{Kind}
+use Rattle.gts_event.specs.Need.{Need, IsOrdered}
 use Rattle.gts_event.specs.declared.event.Event.TheVariants.{Heard}
 use Rattle.gts_event.specs.declared.outcome.Outcome.{Outcome}
 use Rattle.gts_event.specs.declared.outcome.Outcome.TheVariants as out
-use Rattle.gts_core.specs.declared.stored.Stored.{Stored}
-use Rattle.gts_core.specs.Line.{Line}
-use Rattle.gts_core.specs.Stored.{levels_of}
-use Rattle.gts_core.specs.Lists.{state_of, IsSound}
-use Rattle.gts_core.specs.Core.{Core, Holds, IsStep}
-use Rattle.std.specs.Vec.{with_items}
+use Rattle.gts_event.proofs.LawLemmas.{was_read}
+use Rattle.gts_dup.specs.Window as digests
+use Rattle.gts_store.specs.Shelf.{Shelf, Drawn, uses_of}
+use Rattle.gts_core.specs.Lane.{Lane}
+use Rattle.gts_core.specs.Judging.{item_places, OwesMore}
+use Rattle.gts_core.specs.Parts.{lane_in, idle_lane}
+use Rattle.gts_core.specs.Entering.{CanRoute, Accepts}
+use Rattle.gts_core.specs.Core.{Core, Holds, AreParts, IsStep, IsReady, HasPosition}
+use Rattle.gts_core.specs.Kept.{core_of}
 use Rattle.gts_core.specs.declared.whole.Core.TheInside.{Inside}
-use Rattle.gts_core.specs.Whole.{core_of, IsSoundCore}
-use Rattle.gts_core.proofs.CoreLemmas.{steps_from, refilled}
-use Rattle.gts_core.proofs.HearLemmas.{holds_own, heard_by, asked_few, accepted_read, sound_more}
+use Rattle.gts_core.proofs.PartsLemmas.{circuit_there}
+use Rattle.gts_core.proofs.WindowLemmas.{noted_below}
+use Rattle.gts_core.proofs.JudgeLemmas.{places_same}
+use Rattle.gts_core.proofs.HearLemmas.{asked_few, ordered_heard, parts_owed, own_state, ready_parts, none_yet, leaving_used, can_route, parts_entered, hears}
 use Rattle.gts_core.proofs.whole.Core.hear.Goals as goal
 
-pub grant_in-requires-clause-few : goal.grant_in-requires-clause-few
-grant_in-requires-clause-few c =
-    let d = c.args.directory.now in
-    let m = c.args.message.now in
-    let i = c.self.inside in
-    let told : out.Asked c.in-Asked.found c.in-Asked.missing ≡ outcome d (core_of i).state (Heard c.args.c c.args.kind m) =
-    subst (λ (k : Core). out.Asked c.in-Asked.found c.in-Asked.missing ≡ outcome d k.state (Heard c.args.c c.args.kind m)) (sym c.self.view_is)
-    (c.in-Asked.ensures c.args.self.now.state c.args.kind (holds_own d c.args.self.now c.requires.directory.0 c.requires.directory.1)) in
-    subst (λ (xs : List Stored). length (on_circuit (state_of i.count xs c.as_mut_slice.result.now) c.args.c).owed + length (found (places d (state_of i.count xs c.as_mut_slice.result.now) c.args.c (items_of m))) ≤ most_owed)
-    (sym c.as_slice.ensures.value)
-    (subst (λ (ls : List Line). length (on_circuit (state_of i.count i.accepted.items ls) c.args.c).owed + length (found (places d (state_of i.count i.accepted.items ls) c.args.c (items_of m))) ≤ most_owed)
-    (sym c.as_mut_slice.ensures.value)
-    (asked_few d (core_of i).state c.args.c c.args.kind m c.in-Asked.found c.in-Asked.missing told))
+-- a circuit of the core is one of the directory
+here_in : (d : Directory) (core : Core) (s : State) (k : ℕ) → Holds d core s → k < length core.kept → k < length d.circuits
+here_in d core s k h lt = omega (arith, lt, ap length h.kept, length-map d.circuits (λ (row : Circuit). row.kept))
 
-pub accept_in-requires-clause-read : goal.accept_in-requires-clause-read
-accept_in-requires-clause-read c =
+-- the lane that was looked up
+lane_at : (ls : List Lane) (k : ℕ) (l : Lane) → k < length ls → l ≡ get_or ls k l → l ≡ lane_in ls k
+lane_at ls k l lt e = e ∙ get_or_default ls k l idle_lane lt
+
+pub grant_on-requires-clause-few : goal.grant_on-requires-clause-few
+grant_on-requires-clause-few c =
+    let i : Inside = c.self.inside in
     let d = c.args.directory.now in
-    accepted_read d c.args.self.now.state c.args.c c.args.kind c.args.message.now c.args.self.now.state.count c.in-New.circuits
-    (c.in-New.ensures c.args.self.now.state c.args.kind (holds_own d c.args.self.now c.requires.directory.0 c.requires.directory.1))
+    let k = c.args.c in
+    let m = c.args.message.now in
+    let s : State = c.requires.directory.0 in
+    let h : Holds d (core_of i) s = subst (λ (x : Core). Holds d x s) (sym c.self.view_is) c.requires.directory.1 in
+    let t : State = h.state in
+    let here : k < length d.circuits = here_in d c.args.self.now s k c.requires.directory.1 c.requires.circuit in
+    let inside : k < length i.store.circuits = circuit_there d (core_of i) t h.parts refl k here in
+    let own : Holds d c.args.self.now t = subst (λ (x : Core). Holds d x t) c.self.view_is (own_state d (core_of i) s h) in
+    let told : out.Asked c.in-Asked.found c.in-Asked.missing ≡ outcome d t (Heard k c.args.kind m) = c.in-Asked.ensures t c.args.kind own in
+    let few = asked_few d t k c.args.kind m c.in-Asked.found c.in-Asked.missing told in
+    let same = places_same d (core_of i) t h.parts k here inside (items_of m) in
+    let at = lane_at i.lanes.items k c.index_mut-lane.result.now (omega (arith, here, h.parts.lanes)) c.index_mut-lane.ensures.value in
+    omega (arith, few, ap (λ (ps : List (Option ℕ)). length (found ps)) same, ap (λ (l : Lane). length l.owed) at, ap (λ (os : List ℕ). length os) (h.parts.stands k here).owed)
+
+-- the parts where a granted request was owed
+asked_parts : (d : Directory) (i new : Inside) (t : State) (k : ℕ) (was lane : Lane) (m : List ℕ) → k < length d.circuits → AreParts d (core_of i) t
+    → was ≡ get_or i.lanes.items k was → (core_of new).window ≡ i.window → new.count ≡ i.count → new.table ≡ i.table → new.store ≡ i.store → new.lanes.items ≡ set i.lanes.items k lane
+    → OwesMore was lane (found (flat_map (item_places i.store k) (items_of m))) → (f n : ℕ) (kind : Kind) → IsOrdered d (after_heard d t k kind m (out.Asked f n))
+    → AreParts d (core_of new) (after_heard d t k kind m (out.Asked f n))
+asked_parts d i new t k was lane m here are at window count table store lanes more f n kind ordered =
+    let inside : k < length i.store.circuits = circuit_there d (core_of i) t are refl k here in
+    let same = places_same d (core_of i) t are k here inside (items_of m) in
+    let owes : OwesMore (lane_in i.lanes.items k) lane (found (places d t k (items_of m))) =
+    subst (λ (ps : List (Option ℕ)). OwesMore (lane_in i.lanes.items k) lane (found ps)) same
+    (subst (λ (l : Lane). OwesMore l lane (found (flat_map (item_places i.store k) (items_of m)))) (lane_at i.lanes.items k was (omega (arith, here, are.lanes)) at) more) in
+    parts_owed d (core_of i) (core_of new) t k lane (found (places d t k (items_of m))) here are window (ap (λ (s : Shelf). map (λ q. q.limit) s.circuits) store) count table store lanes refl owes ordered
+
+pub invariant_of-self : goal.invariant_of-self
+invariant_of-self c =
+    let i : Inside = c.self.inside in
+    let new : Inside = record { window = i.window; count = i.count; table = i.table; store = i.store; lanes = with_item i.lanes c.args.c c.grant_on.new.lane; ready = false } in
+    let d = c.args.directory.now in
+    let k = c.args.c in
+    let m = c.args.message.now in
+    let s : State = c.requires.directory.0 in
+    let h : Holds d (core_of i) s = subst (λ (x : Core). Holds d x s) (sym c.self.view_is) c.requires.directory.1 in
+    let t : State = h.state in
+    let here : k < length d.circuits = here_in d c.args.self.now s k c.requires.directory.1 c.requires.circuit in
+    let own : Holds d c.args.self.now t = subst (λ (x : Core). Holds d x t) c.self.view_is (own_state d (core_of i) s h) in
+    let o : Outcome = out.Asked c.in-Asked.found c.in-Asked.missing in
+    let told : o ≡ outcome d t (Heard k c.args.kind m) = c.in-Asked.ensures t c.args.kind own in
+    record {
+      directory = d;
+      state = after_heard d t k c.args.kind m o;
+      parts = asked_parts d i new t k c.index_mut-lane.result.now c.grant_on.new.lane m here h.parts c.index_mut-lane.ensures.value refl refl refl refl refl
+          c.grant_on.ensures c.in-Asked.found c.in-Asked.missing c.args.kind (ordered_heard d t k c.args.kind m o h.parts.going.ordered told);
+      few = omega (arith, length-set i.lanes.items k c.grant_on.new.lane, c.self.invariant.few);
+      room = λ e. absurd (true≢false (sym e));
+    }
+
+pub returns-in-Asked : goal.returns-in-Asked
+returns-in-Asked c =
+    let i : Inside = c.self.inside in
+    let new : Inside = record { window = i.window; count = i.count; table = i.table; store = i.store; lanes = with_item i.lanes c.args.c c.grant_on.new.lane; ready = false } in
+    let d = c.args.directory.now in
+    let k = c.args.c in
+    let m = c.args.message.now in
+    let here : k < length d.circuits = here_in d c.args.self.now c.requires.directory.0 k c.requires.directory.1 c.requires.circuit in
+    let o : Outcome = out.Asked c.in-Asked.found c.in-Asked.missing in
+    subst (λ (x : Core). IsStep d x (core_of new) (Heard k c.args.kind m) o) c.self.view_is
+    (hears d (core_of i) (core_of new) k c.args.kind m o
+    (λ s h. c.in-Asked.ensures s c.args.kind (subst (λ (x : Core). Holds d x s) c.self.view_is h))
+    (λ t are told ordered. asked_parts d i new t k c.index_mut-lane.result.now c.grant_on.new.lane m here are c.index_mut-lane.ensures.value refl refl refl refl refl
+    c.grant_on.ensures c.in-Asked.found c.in-Asked.missing c.args.kind ordered))
 
 pub returns-in-Refused : goal.returns-in-Refused
 returns-in-Refused c =
     let d = c.args.directory.now in
     let core : Core = c.args.self.now in
     let o : Outcome = out.Refused c.in-Refused.refusal in
-    steps_from d core core (Heard c.args.c c.args.kind c.args.message.now) o (λ s h. (
-      refl,
-      refl,
-      h.levels,
-      heard_by d core.state core.state c.args.c c.args.kind c.args.message.now o (c.in-Refused.ensures core.state c.args.kind (holds_own d core s h)) refl,
-    ))
+    hears d core core c.args.c c.args.kind c.args.message.now o (λ s h. c.in-Refused.ensures s c.args.kind h) (λ t are told ordered. are)
 
 pub returns-in-Duplicate : goal.returns-in-Duplicate
 returns-in-Duplicate c =
     let d = c.args.directory.now in
     let core : Core = c.args.self.now in
     let o : Outcome = out.Duplicate c.in-Duplicate.position in
-    steps_from d core core (Heard c.args.c c.args.kind c.args.message.now) o (λ s h. (
-      refl,
-      refl,
-      h.levels,
-      heard_by d core.state core.state c.args.c c.args.kind c.args.message.now o (c.in-Duplicate.ensures core.state c.args.kind (holds_own d core s h)) refl,
-    ))
+    hears d core core c.args.c c.args.kind c.args.message.now o (λ s h. c.in-Duplicate.ensures s c.args.kind h) (λ t are told ordered. are)
 
-pub returns-in-Asked : goal.returns-in-Asked
-returns-in-Asked c =
+-- ---- an accepted message
+
+-- what is known where a message is new
+record IsNew (d : Directory) (i : Inside) (c : ℕ) (kind : Kind) (m : List ℕ) (n : ℕ) : Type 0 where
+  state : State
+  parts : AreParts d (core_of i) state
+  told : out.Accepted state.count n ≡ outcome d state (Heard c kind m)
+  count : i.count ≡ state.count
+  few : state.count < most_accepted
+  ready : i.ready ≡ true
+  aside : i.store.aside ≡ Some (body_of m)
+
+new_here : (d : Directory) (i : Inside) (core : Core) (c : ℕ) (kind : Kind) (m : List ℕ) (n : ℕ) → core_of i ≡ core → (s : State) × Holds d core s
+    → ((s : State) (kind : Kind) → Holds d core s → out.Accepted s.count n ≡ outcome d s (Heard c kind m)) → IsReady d core c m → HasPosition d core c m → IsNew d i c kind m n
+new_here d i core c kind m n view held told ready position =
+    let h : Holds d (core_of i) held.0 = subst (λ (x : Core). Holds d x held.0) (sym view) held.1 in
+    let t : State = h.state in
+    let own : Holds d core t = subst (λ (x : Core). Holds d x t) view (own_state d (core_of i) held.0 h) in
+    let e : out.Accepted t.count n ≡ outcome d t (Heard c kind m) = told t kind own in
+    let made = ready_parts i.ready i.store.aside (body_of m) (ap (λ (x : Core). x.ready) view ∙ ready t kind t.count n own (sym e)) in
+    record {
+      state = t;
+      parts = h.parts;
+      told = e;
+      count = h.parts.count;
+      few = omega (arith, position t kind t.count n own (sym e), ap (λ (x : Core). x.state.count) view, h.parts.count);
+      ready = made.0;
+      aside = made.1;
+    }
+
+pub accept_in-requires-clause-read : goal.accept_in-requires-clause-read
+accept_in-requires-clause-read c =
     let d = c.args.directory.now in
+    let i : Inside = c.self.inside in
+    let x = new_here c.args.directory.now c.self.inside c.args.self.now c.args.c c.args.kind c.args.message.now c.in-New.circuits c.self.view_is c.requires.directory c.in-New.ensures c.requires.ready c.requires.few in
+    (let w = was_read d x.state c.args.c c.args.kind c.args.message.now x.state.count c.in-New.circuits (sym x.told) in ap is_ok w.read)
+
+pub accept_in-requires-clause-room : goal.accept_in-requires-clause-room
+accept_in-requires-clause-room c =
+    let d = c.args.directory.now in
+    let i : Inside = c.self.inside in
+    let x = new_here c.args.directory.now c.self.inside c.args.self.now c.args.c c.args.kind c.args.message.now c.in-New.circuits c.self.view_is c.requires.directory c.in-New.ensures c.requires.ready c.requires.few in
+    (c.self.invariant.room x.ready).digest
+
+pub accept_in-requires-clause-above : goal.accept_in-requires-clause-above
+accept_in-requires-clause-above c =
+    let d = c.args.directory.now in
+    let i : Inside = c.self.inside in
+    let x = new_here c.args.directory.now c.self.inside c.args.self.now c.args.c c.args.kind c.args.message.now c.in-New.circuits c.self.view_is c.requires.directory c.in-New.ensures c.requires.ready c.requires.few in
+    subst (λ (n : ℕ). digests.AllBelow n i.table.noted) (sym x.count) (subst (λ (ps : List (List ℕ × ℕ)). digests.AllBelow x.state.count ps) (sym x.parts.noted.noted) (noted_below x.state.count _ x.state.accepted x.parts.going.below))
+
+pub accept_in-requires-clause-aside : goal.accept_in-requires-clause-aside
+accept_in-requires-clause-aside c =
+    let d = c.args.directory.now in
+    let i : Inside = c.self.inside in
+    let x = new_here c.args.directory.now c.self.inside c.args.self.now c.args.c c.args.kind c.args.message.now c.in-New.circuits c.self.view_is c.requires.directory c.in-New.ensures c.requires.ready c.requires.few in
+    x.aside
+
+pub accept_in-requires-clause-gone : goal.accept_in-requires-clause-gone
+accept_in-requires-clause-gone c =
+    let d = c.args.directory.now in
+    let i : Inside = c.self.inside in
+    let x = new_here c.args.directory.now c.self.inside c.args.self.now c.args.c c.args.kind c.args.message.now c.in-New.circuits c.self.view_is c.requires.directory c.in-New.ensures c.requires.ready c.requires.few in
+    ap (uses_of i.store) x.count ∙ none_yet d (core_of i) x.state x.parts
+
+pub accept_in-requires-clause-recent : goal.accept_in-requires-clause-recent
+accept_in-requires-clause-recent c =
+    let d = c.args.directory.now in
+    let i : Inside = c.self.inside in
+    let x = new_here c.args.directory.now c.self.inside c.args.self.now c.args.c c.args.kind c.args.message.now c.in-New.circuits c.self.view_is c.requires.directory c.in-New.ensures c.requires.ready c.requires.few in
+    (λ p e. leaving_used d (core_of i) x.state x.parts p (e ∙ x.count))
+
+pub accept_in-requires-clause-can : goal.accept_in-requires-clause-can
+accept_in-requires-clause-can c =
+    let d = c.args.directory.now in
+    let i : Inside = c.self.inside in
+    let x = new_here c.args.directory.now c.self.inside c.args.self.now c.args.c c.args.kind c.args.message.now c.in-New.circuits c.self.view_is c.requires.directory c.in-New.ensures c.requires.ready c.requires.few in
+    (λ k low. subst (λ (n : ℕ). CanRoute (level_of d (heading_of_message c.args.message.now)) n (lane_in i.lanes.items k)) (sym x.count)
+    (can_route d (core_of i) x.state k (level_of d (heading_of_message c.args.message.now)) x.parts x.few (omega (arith, low, x.parts.lanes)) ((c.self.invariant.room x.ready).lanes k low)))
+
+-- the parts where it was accepted
+new_parts : (d : Directory) (i new : Inside) (t : State) (c n : ℕ) (kind : Kind) (m : List ℕ) → AreParts d (core_of i) t → i.count ≡ t.count → t.count < most_accepted → new.window ≡ i.window → new.count ≡ i.count + 1
+    → Accepts d i.count c kind m i.table new.table i.store new.store i.lanes.items new.lanes.items → IsOrdered d (after_heard d t c kind m (out.Accepted t.count n))
+    → AreParts d (core_of new) (after_heard d t c kind m (out.Accepted t.count n))
+new_parts d i new t c n kind m are count few window more acc ordered =
+    let at : Accepts d t.count c kind m i.table new.table i.store new.store i.lanes.items new.lanes.items =
+    subst (λ (p : ℕ). Accepts d p c kind m i.table new.table i.store new.store i.lanes.items new.lanes.items) count acc in
+    parts_entered d (core_of i) (core_of new) t c n kind m are at few ordered window (ap (map (λ (q : Drawn). q.limit)) at.entered.circuits) (more ∙ ap (λ (p : ℕ). p + 1) count) refl
+
+pub invariant_of-self-in-New : goal.invariant_of-self-in-New
+invariant_of-self-in-New c =
+    let d = c.args.directory.now in
+    let i : Inside = c.self.inside in
+    let x = new_here c.args.directory.now c.self.inside c.args.self.now c.args.c c.args.kind c.args.message.now c.in-New.circuits c.self.view_is c.requires.directory c.in-New.ensures c.requires.ready c.requires.few in
+    let new : Inside = record { window = i.window; count = i.count + 1; table = c.accept_in.new.table; store = c.accept_in.new.store; lanes = c.accept_in.new.lanes; ready = false } in
+    let o : Outcome = out.Accepted x.state.count c.in-New.circuits in
+    record {
+      directory = d;
+      state = after_heard d x.state c.args.c c.args.kind c.args.message.now o;
+      parts = new_parts d i new x.state c.args.c c.in-New.circuits c.args.kind c.args.message.now x.parts x.count x.few refl refl c.accept_in.ensures
+          (ordered_heard d x.state c.args.c c.args.kind c.args.message.now o x.parts.going.ordered x.told);
+      few = omega (arith, c.accept_in.ensures.each, c.self.invariant.few);
+      room = λ e. absurd (true≢false (sym e));
+    }
+
+pub returns-in-New : goal.returns-in-New
+returns-in-New c =
+    let d = c.args.directory.now in
+    let i : Inside = c.self.inside in
+    let k = c.args.c in
+    let kind = c.args.kind in
     let m = c.args.message.now in
-    let i = c.self.inside in
-    let hs = i.accepted.items in
-    let ls = c.grant_in.new.lines in
-    let st : State = (core_of i).state in
-    let o : Outcome = out.Asked c.in-Asked.found c.in-Asked.missing in
-    let event : Event = Heard c.args.c c.args.kind m in
-    let told : o ≡ outcome d st event =
-    subst (λ (k : Core). o ≡ outcome d k.state event) (sym c.self.view_is)
-    (c.in-Asked.ensures c.args.self.now.state c.args.kind (holds_own d c.args.self.now c.requires.directory.0 c.requires.directory.1)) in
-    let size : length ls ≡ length i.lines.items = omega (arith, c.grant_in.auto.lines, ap length c.as_mut_slice.ensures.value) in
-    let owed : state_of i.count hs ls ≡ with_owed st c.args.c (found (places d st c.args.c (items_of m))) =
-    subst (λ (xs : List Line). state_of i.count hs ls ≡ with_owed (state_of i.count hs xs) c.args.c (found (places d (state_of i.count hs xs) c.args.c (items_of m)))) c.as_mut_slice.ensures.value
-    (subst (λ (xs : List Stored). state_of i.count xs ls ≡ with_owed (state_of i.count xs c.as_mut_slice.result.now) c.args.c (found (places d (state_of i.count xs c.as_mut_slice.result.now) c.args.c (items_of m))))
-    c.as_slice.ensures.value c.grant_in.ensures.owed) in
-    let core = λ (xs : List Line). (let k : Core = record { window = i.window; kept = map (λ (l : Line). l.kept) xs; levels = levels_of hs; state = state_of i.count hs xs; ready = None } in k) in
-    subst (λ (xs : List Line). IsStep d c.args.self.now (core xs) event o) (sym (refilled i.lines.len i.lines.items ls i.lines.ok.0 size))
-    (subst (λ (k : Core). IsStep d k (core ls) event o) c.self.view_is
-    (steps_from d (core_of i) (core ls) event o (λ s own. (
-      refl,
-      c.grant_in.ensures.kept ∙ ap (map (λ (l : Line). l.kept)) c.as_mut_slice.ensures.value,
-      own.levels,
-      heard_by d st (state_of i.count hs ls) c.args.c c.args.kind m o told owed,
-    ))))
-
--- what was made ready
-some_ready : {A : Type 0} (r : Option A) (f : A → List ℕ) (b : A) (x : List ℕ) → r ≡ Some b → (elim r as (λ _. Option (List ℕ)) [ None ↦ None | Some y ↦ Some (f y) ]) ≡ Some x → f b ≡ x
-some_ready None f b x e k = absurd (cc)
-some_ready (Some a) f b x e k = let same : a ≡ b = cc in let is : f a ≡ x = cc in ap f (sym same) ∙ is
-
-none_ready : {A : Type 0} (r : Option A) (f : A → List ℕ) (x : List ℕ) → (elim r as (λ _. Option (List ℕ)) [ None ↦ None | Some y ↦ Some (f y) ]) ≡ Some x → ((b : A) → r ≡ Some b → ⊥) → ⊥
-none_ready None f x k n = absurd (cc)
-none_ready (Some a) f x k n = n a refl
-
-pub accept_in-requires-clause-body : goal.accept_in-requires-clause-body
-accept_in-requires-clause-body c =
-    let d = c.args.directory.now in
-    let core : Core = c.args.self.now in
-    let own : Holds d core core.state = holds_own d core c.requires.directory.0 c.requires.directory.1 in
-    let ready : (core_of c.self.inside).ready ≡ Some (body_of c.args.message.now) =
-    ap (λ (k : Core). k.ready) c.self.view_is ∙ c.requires.ready core.state c.args.kind core.state.count c.in-New.circuits own (sym (c.in-New.ensures core.state c.args.kind own)) in
-    some_ready c.self.inside.ready (λ b. b.items) c.in-Some.body (body_of c.args.message.now) (sym c.in-Some.ensures.value) ready
-
-pub returns-in_default : goal.returns-in_default
-returns-in_default c =
-    let d = c.args.directory.now in
-    let core : Core = c.args.self.now in
-    let own : Holds d core core.state = holds_own d core c.requires.directory.0 c.requires.directory.1 in
-    let ready : (core_of c.self.inside).ready ≡ Some (body_of c.args.message.now) =
-    ap (λ (k : Core). k.ready) c.self.view_is ∙ c.requires.ready core.state c.args.kind core.state.count c.in-New.circuits own (sym (c.in-New.ensures core.state c.args.kind own)) in
-    absurd (none_ready c.self.inside.ready (λ b. b.items) (body_of c.args.message.now) ready (λ b e. c.in_default.not-Some b (c.take.ensures.value ∙ e)))
-
-pub invariant_of-self-in-Some : goal.invariant_of-self-in-Some
-invariant_of-self-in-Some c =
-    let d = c.args.directory.now in
-    let m = c.args.message.now in
-    let i = c.self.inside in
-    let hs = i.accepted.items in
-    let new = c.accept_in.new.accepted in
-    let ls = c.accept_in.new.lines in
-    let cs : List ℕ = named d c.args.c (heading_of_message m) in
-    let size : length ls ≡ length i.lines.items = omega (arith, c.accept_in.auto.lines, ap length c.as_mut_slice-lines.ensures.value) in
-    let core : Core = c.args.self.now in
-    let own : Holds d core core.state = holds_own d core c.requires.directory.0 c.requires.directory.1 in
-    let left : core.state.count < most_accepted =
-    c.requires.few core.state c.args.kind core.state.count c.in-New.circuits own (sym (c.in-New.ensures core.state c.args.kind own)) in
-    let few : i.count + 1 ≤ most_accepted = omega (arith, left, ap (λ (k : Core). k.state.count) c.self.view_is) in
-    let bulletin : state_of (i.count + 1) new.items ls ≡ with_bulletin (state_of i.count hs i.lines.items) c.args.c c.args.kind (body_of m) cs =
-    subst (λ (xs : List Line). state_of (i.count + 1) new.items ls ≡ with_bulletin (state_of i.count hs xs) c.args.c c.args.kind (body_of m) cs) c.as_mut_slice-lines.ensures.value c.accept_in.ensures.bulletin in
-    let sound : IsSound (i.count + 1) new.items ls =
-    sound_more i.count c.args.c c.args.kind (body_of m) cs hs new.items i.lines.items ls c.self.invariant.sound few bulletin in
-    subst (λ r. (let k : Inside = record { window = i.window; count = i.count + 1; accepted = new; lines = with_items i.lines ls; ready = r } in IsSoundCore k)) (sym c.take.ensures.after)
-    (record { sound = subst (λ (xs : List Line). IsSound (i.count + 1) new.items xs) (sym (refilled i.lines.len i.lines.items ls i.lines.ok.0 size)) sound; room = tt })
-
-pub returns-in-Some : goal.returns-in-Some
-returns-in-Some c =
-    let d = c.args.directory.now in
-    let m = c.args.message.now in
-    let i = c.self.inside in
-    let hs = i.accepted.items in
-    let new = c.accept_in.new.accepted.items in
-    let ls = c.accept_in.new.lines in
-    let cs : List ℕ = named d c.args.c (heading_of_message m) in
-    let st : State = (core_of i).state in
-    let o : Outcome = out.Accepted i.count c.in-New.circuits in
-    let event : Event = Heard c.args.c c.args.kind m in
-    let told : o ≡ outcome d st event =
-    subst (λ (k : Core). out.Accepted k.state.count c.in-New.circuits ≡ outcome d k.state event) (sym c.self.view_is)
-    (c.in-New.ensures c.args.self.now.state c.args.kind (holds_own d c.args.self.now c.requires.directory.0 c.requires.directory.1)) in
-    let size : length ls ≡ length i.lines.items = omega (arith, c.accept_in.auto.lines, ap length c.as_mut_slice-lines.ensures.value) in
-    let bulletin : state_of (i.count + 1) new ls ≡ with_bulletin st c.args.c c.args.kind (body_of m) cs =
-    subst (λ (xs : List Line). state_of (i.count + 1) new ls ≡ with_bulletin (state_of i.count hs xs) c.args.c c.args.kind (body_of m) cs) c.as_mut_slice-lines.ensures.value c.accept_in.ensures.bulletin in
-    let ready : Option (List ℕ) = elim c.take.new.self as (λ _. Option (List ℕ)) [ None ↦ None | Some body ↦ Some body.items ] in
-    let core = λ (xs : List Line). (let k : Core = record { window = i.window; kept = map (λ (l : Line). l.kept) xs; levels = levels_of new; state = state_of (i.count + 1) new xs; ready = ready } in k) in
-    subst (λ (xs : List Line). IsStep d c.args.self.now (core xs) event o) (sym (refilled i.lines.len i.lines.items ls i.lines.ok.0 size))
-    (subst (λ (k : Core). IsStep d k (core ls) event o) c.self.view_is
-    (steps_from d (core_of i) (core ls) event o (λ s own. (
-      refl,
-      c.accept_in.ensures.kept ∙ ap (map (λ (l : Line). l.kept)) c.as_mut_slice-lines.ensures.value,
-      c.accept_in.ensures.levels own.levels,
-      heard_by d st (state_of (i.count + 1) new ls) c.args.c c.args.kind m o told bulletin,
-    ))))
+    let n = c.in-New.circuits in
+    let x = new_here c.args.directory.now c.self.inside c.args.self.now c.args.c c.args.kind c.args.message.now c.in-New.circuits c.self.view_is c.requires.directory c.in-New.ensures c.requires.ready c.requires.few in
+    let new : Inside = record { window = i.window; count = i.count + 1; table = c.accept_in.new.table; store = c.accept_in.new.store; lanes = c.accept_in.new.lanes; ready = false } in
+    let o : Outcome = out.Accepted i.count n in
+    subst (λ (y : Core). IsStep d y (core_of new) (Heard k kind m) o) c.self.view_is
+    (hears d (core_of i) (core_of new) k kind m o
+    (λ s h.
+    let count : i.count ≡ s.count = h.parts.count ∙ ap (λ (y : Need). y.accepted) h.need.same in
+    ap (λ (p : ℕ). out.Accepted p n) count ∙ c.in-New.ensures s kind (subst (λ (y : Core). Holds d y s) c.self.view_is h))
+    (λ t are told ordered.
+    let count : i.count ≡ t.count = are.count in
+    subst (λ (p : ℕ). AreParts d (core_of new) (after_heard d t k kind m (out.Accepted p n))) (sym count)
+    (new_parts d i new t k n kind m are count (omega (arith, x.few, x.count, count)) refl refl c.accept_in.ensures
+    (subst (λ (p : ℕ). IsOrdered d (after_heard d t k kind m (out.Accepted p n))) count ordered))))

@@ -1,18 +1,16 @@
-use Rattle.std.proofs.Common.{◌≡◌, ℕ, ◌<◌, ◌≤◌, ◌^◌, true, List, length, sym, ap, ◌∙◌, subst, arith}
-use Rattle.std.specs.List.{list_all}
-use Rattle.std.proofs.lemmas.List.{length-map}
+use Rattle.std.proofs.Common.{◌≡◌, ◌<◌, ℕ, length, refl, sym, ap, subst, ◌∙◌, arith}
+use Rattle.std.proofs.lemmas.List.{length-map, get_or_default}
 use Rattle.gts_directory.specs.Directory.{Circuit}
-use Rattle.gts_event.specs.State.{has, draws}
-use Rattle.gts_event.specs.declared.event.Event.TheVariants.{Heard}
 use Rattle.gts_event.specs.Need.{Need}
+use Rattle.gts_event.specs.declared.event.Event.TheVariants.{Heard}
 use Rattle.gts_event.proofs.LawLemmas.{outcome-same}
-use Rattle.gts_core.specs.declared.stored.Stored.{Stored}
-use Rattle.gts_core.specs.Line.{Line}
-use Rattle.gts_core.specs.Stored.{positions}
+use Rattle.gts_core.specs.Lane.{Lane}
+use Rattle.gts_core.specs.Whole.{recent}
+use Rattle.gts_core.specs.Parts.{lane_in, idle_lane}
 use Rattle.gts_core.specs.Judging.{verdict_told, judged_by}
 use Rattle.gts_core.specs.Core.{Core, Holds}
-use Rattle.gts_core.specs.Whole.{core_of}
-use Rattle.gts_core.proofs.TakeLemmas.{line_sound}
+use Rattle.gts_core.specs.Kept.{core_of}
+use Rattle.gts_core.proofs.PartsLemmas.{bodies_whole, circuit_there}
 use Rattle.gts_core.proofs.JudgeLemmas.{judged_is}
 use Rattle.gts_core.proofs.whole.Core.judge.Goals as goal
 
@@ -21,42 +19,27 @@ judge_in-requires-clause-circuit c =
     let rows = c.args.directory.now.circuits in
     omega (arith, c.requires.circuit, ap length c.requires.directory.1.kept, length-map rows (λ (row : Circuit). row.kept))
 
-pub judge_in-requires-clause-there : goal.judge_in-requires-clause-there
-judge_in-requires-clause-there c =
-    let i = c.self.inside in
-    let hs = i.accepted.items in
-    let ls = i.lines.items in
-    let l : Line = c.index.result.now in
-    let lt : c.args.c < length ls = omega (arith, c.requires.circuit, ap (λ (k : Core). length k.kept) c.self.view_is, length-map ls (λ (x : Line). x.kept)) in
-    let sound = line_sound i.count hs ls c.args.c l lt c.self.invariant.sound in
-    subst (λ (xs : List Stored). list_all (has (positions xs)) l.circuit.taken ≡ true) (sym c.as_slice.ensures.value)
-    (subst (λ (x : Line). list_all (has (positions hs)) x.circuit.taken ≡ true) (sym c.index.ensures) sound.taken)
-
-pub judge_in-requires-clause-few : goal.judge_in-requires-clause-few
-judge_in-requires-clause-few c =
-    let i = c.self.inside in
-    let hs = i.accepted.items in
-    let ls = i.lines.items in
-    let l : Line = c.index.result.now in
-    let lt : c.args.c < length ls = omega (arith, c.requires.circuit, ap (λ (k : Core). length k.kept) c.self.view_is, length-map ls (λ (x : Line). x.kept)) in
-    let sound = line_sound i.count hs ls c.args.c l lt c.self.invariant.sound in
-    subst (λ (x : Line). draws x.circuit ≤ 2 ^ 62) (sym c.index.ensures) (omega (arith, sound.few, c.self.invariant.sound.few))
+pub judge_in-requires-clause-bodies : goal.judge_in-requires-clause-bodies
+judge_in-requires-clause-bodies c =
+    let v = c.self.invariant in
+    let here : c.args.c < length v.directory.circuits = omega (arith, c.requires.circuit, ap (λ (x : Core). length x.kept) c.self.view_is, ap length v.parts.kept, length-map v.directory.circuits (λ (row : Circuit). row.kept)) in
+    bodies_whole v.directory (core_of c.self.inside) v.state v.parts refl c.args.c here
 
 pub returns : goal.returns
-returns c = λ s kind h.
+returns c = λ s kind was.
     let d = c.args.directory.now in
-    let message = c.args.message.now in
     let i = c.self.inside in
-    let hs = i.accepted.items in
-    let ls = i.lines.items in
-    let l : Line = c.index.result.now in
+    let k = c.args.c in
+    let m = c.args.message.now in
     let told = c.judge_in.result in
-    let lt : c.args.c < length ls = omega (arith, c.requires.circuit, ap (λ (k : Core). length k.kept) c.self.view_is, length-map ls (λ (x : Line). x.kept)) in
-    let own : Holds d (core_of i) s = subst (λ (k : Core). Holds d k s) (sym c.self.view_is) h in
-    let count : s.count ≡ i.count = sym (ap (λ (n : Need). n.accepted) own.need.same) in
+    let h : Holds d (core_of i) s = subst (λ (x : Core). Holds d x s) (sym c.self.view_is) was in
+    let t = h.state in
+    let here : k < length d.circuits = omega (arith, c.requires.circuit, ap length was.kept, length-map d.circuits (λ (row : Circuit). row.kept)) in
+    let inside : k < length i.store.circuits = circuit_there d (core_of i) t h.parts refl k here in
+    let at : c.index-lane.result.now ≡ lane_in i.lanes.items k = c.index-lane.ensures ∙ get_or_default i.lanes.items k c.index-lane.result.now idle_lane (omega (arith, here, h.parts.lanes)) in
+    let count : s.count ≡ t.count = sym (ap (λ (n : Need). n.accepted) h.need.same) in
     ap (λ (n : ℕ). verdict_told n told) count
-    ∙ c.judge_in.ensures
-    ∙ ap (λ (xs : List Stored). judged_by d i.count xs l c.args.c message) c.as_slice.ensures.value
-    ∙ ap (λ (x : Line). judged_by d i.count hs x c.args.c message) c.index.ensures
-    ∙ judged_is d i.count hs ls c.args.c l kind message lt own.kept
-    ∙ outcome-same d (core_of i).state s (Heard c.args.c kind message) own.need
+    ∙ c.judge_in.ensures t.count (recent d t) h.parts.noted
+    ∙ ap (λ (l : Lane). judged_by d t.count (recent d t) (length l.owed) i.store k m) at
+    ∙ judged_is d (core_of i) t h.parts k here inside kind m
+    ∙ outcome-same d t s (Heard k kind m) h.need

@@ -1,31 +1,37 @@
-use Rattle.std.proofs.Common.{List, [], None, map, sym, ap, ◌∙◌, subst, arith}
-use Rattle.std.specs.List.{AllByRecursion}
-use Rattle.gts_event.specs.State.{CircuitState}
-use Rattle.gts_core.specs.declared.stored.Stored.{Stored}
-use Rattle.gts_core.specs.Line.{Line}
-use Rattle.gts_core.specs.Stored.{positions, levels_of}
-use Rattle.gts_core.specs.Taking.{IsLineOf}
-use Rattle.gts_core.specs.Lists.{state_of}
+use Rattle.std.proofs.Common.{ℕ, map, false, refl, sym, ap, subst, ◌∙◌, arith}
+use Rattle.std.proofs.lemmas.Bool.{true≢false}
+use Rattle.gts_event.specs.State.{empty}
+use Rattle.gts_event.proofs.LawLemmas.{ordered-empty}
+use Rattle.gts_store.specs.Shelf.{undrawn}
+use Rattle.gts_core.specs.Parts.{AreIdle}
 use Rattle.gts_core.specs.Core.{Core}
-use Rattle.gts_core.proofs.CoreLemmas.{holds_empty, idle_sound}
+use Rattle.gts_core.specs.Kept.{core_of}
+use Rattle.gts_core.proofs.EmptyLemmas.{parts_empty}
+use Rattle.gts_core.proofs.StepLemmas.{holds_by}
 use Rattle.gts_core.proofs.whole.Core.new.Goals as goal
 
 pub invariant_of-result : goal.invariant_of-result
 invariant_of-result c =
+    let d = c.args.directory.now in
+    let core : Core = core_of (record { window = c.window-2.result; count = 0; table = c.in_ok-table.table; store = c.in_ok-store.store; lanes = c.in_ok-lanes.lanes; ready = false }) in
     record {
-      sound = record {
-        few = omega arith;
-        lines = subst (λ (qs : List CircuitState). AllByRecursion (IsLineOf 0 (positions c.new.result.items)) qs) (sym c.in_ok-lines.ensures.idle) (idle_sound c.new.result.items c.args.directory.now.circuits);
-      };
-      room = tt;
+      directory = d;
+      state = empty d;
+      parts = parts_empty d core c.in_ok-limits.ensures.keeps (omega (arith, c.window-2.ensures.range.0, c.window-2.ensures.value)) c.window-2.ensures.value refl refl refl c.has_what_it_keeps.ensures
+          (subst (λ (n : ℕ). AreIdle n c.in_ok-lanes.lanes.items) c.circuits.ensures.value c.in_ok-lanes.ensures)
+          c.in_ok-table.ensures.noted (c.in_ok-table.ensures.width ∙ c.window.ensures.value) c.in_ok-store.ensures.bulletins
+          (c.in_ok-store.ensures.circuits ∙ ap (map undrawn) (c.deref.ensures.value ∙ c.in_ok-limits.ensures.kept));
+      few = omega (arith, c.in_ok-lanes.ensures.each, c.circuits.ensures.few);
+      room = λ e. absurd (true≢false (sym e));
     }
 
 pub returns : goal.returns
 returns c =
     let d = c.args.directory.now in
-    let hs = c.new.result.items in
-    let ls = c.in_ok-lines.lines.items in
-    let core : Core = record { window = c.window.result; kept = map (λ (l : Line). l.kept) ls; levels = levels_of hs; state = state_of 0 hs ls; ready = None } in
-    holds_empty d core c.window.ensures.value c.in_ok-lines.ensures.kept c.in_ok-lines.ensures.keeps
-    (ap levels_of c.new.ensures.items)
-    (ap (λ (xs : List Stored). state_of 0 xs ls) c.new.ensures.items ∙ ap (λ (qs : List CircuitState). record { count = 0; accepted = []; circuits = qs }) c.in_ok-lines.ensures.idle)
+    let core : Core = core_of (record { window = c.window-2.result; count = 0; table = c.in_ok-table.table; store = c.in_ok-store.store; lanes = c.in_ok-lanes.lanes; ready = false }) in
+    holds_by d core (empty d) (empty d)
+    (parts_empty d core c.in_ok-limits.ensures.keeps (omega (arith, c.window-2.ensures.range.0, c.window-2.ensures.value)) c.window-2.ensures.value refl refl refl c.has_what_it_keeps.ensures
+    (subst (λ (n : ℕ). AreIdle n c.in_ok-lanes.lanes.items) c.circuits.ensures.value c.in_ok-lanes.ensures)
+    c.in_ok-table.ensures.noted (c.in_ok-table.ensures.width ∙ c.window.ensures.value) c.in_ok-store.ensures.bulletins
+    (c.in_ok-store.ensures.circuits ∙ ap (map undrawn) (c.deref.ensures.value ∙ c.in_ok-limits.ensures.kept)))
+    (record { first = ordered-empty d; second = ordered-empty d; same = refl })

@@ -1,0 +1,16 @@
+pub mod FirstLemmas
+pub mod StoredLemmas
+pub mod CountLemmas
+pub mod FrameLemmas
+pub mod TakeLemmas
+pub mod CoreLemmas
+pub mod PlaceLemmas
+pub mod TallyLemmas
+pub mod ItemLemmas
+pub mod JudgeLemmas
+pub mod OwedLemmas
+pub mod RoomLemmas
+pub mod ReadyLemmas
+pub mod HearLemmas
+pub mod NeedsLemmas
+pub mod OpeningLemmas

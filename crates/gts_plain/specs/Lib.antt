@@ -1,0 +1,13 @@
+pub mod Line
+pub mod Stored
+pub mod First
+pub mod Taking
+pub mod Lists
+pub mod Core
+pub mod Whole
+pub mod Judging
+pub mod Owed
+pub mod Hearing
+pub mod Needs
+pub mod Opening
+pub mod Words
