@@ -74,6 +74,8 @@ impl<P: Station> Engine<P> {
         ensures begins { IfOk result (λ engine. (mode : SayModeOf) (n : NeedOf)
             → Holds directory engine.core (begun n)
             → Keeps P.tells mode (origin_of P.calls engine n) [] (shown P.calls engine)) }
+        ensures whole { IfOk result (λ engine. (n : NeedOf)
+            → Needs engine.core n → Holds directory engine.core (begun n)) }
         ensures reads { P.tells → IfOk result (λ engine.
             HasRead directory (seen (P.calls station)) engine) }
         ensures directory { IfOk result (λ engine. engine.directory ≡ directory) }
