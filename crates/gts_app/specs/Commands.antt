@@ -1,9 +1,18 @@
--- The commands that are built.
-use Rattle.std.specs.Prelude.{◌≡◌, ◌⊎◌, ℕ, List}
-use Rattle.gts_app.specs.Init.{init_words}
-use Rattle.gts_app.specs.Replay.{replay_words}
-use Rattle.gts_app.specs.Show.{show_words}
+-- The words that name a command which is built.
+use Rattle.std.specs.Prelude.{◌≡◌, ℕ, List, Some}
+use Rattle.gts_words.specs.declared.command.Command.{Command}
+use Rattle.gts_words.specs.declared.command.Command.TheVariants.{Init, Replay, Serve, Show, Compact, Generate}
+use Rattle.gts_words.specs.{command_of}
 
--- the words name a command
+-- which commands are built
+abbrev pub IsBuilt : Command → Type 0
+IsBuilt Init = Unit {0}
+IsBuilt Replay = Unit {0}
+IsBuilt Show = Unit {0}
+IsBuilt Serve = ⊥
+IsBuilt Compact = ⊥
+IsBuilt (Generate count) = ⊥
+
+-- the words name a command that is built
 abbrev pub IsCommand : List (List ℕ) → Type 0
-IsCommand words = (words ≡ init_words) ⊎ ((words ≡ replay_words) ⊎ (words ≡ show_words))
+IsCommand words = (command : Command) × (command_of words ≡ Some command) × IsBuilt command
