@@ -29,7 +29,7 @@ body-size : (i : ℕ) → length (body i) ≤ 40
 body-size i = one-of (i % 100 == 99) (i % 100 == 49) i (i - 1)
 
 -- a frame can stand in a feed
-frame-size : (i : ℕ) → length (frame An (message i)) ≤ 999999
+pub frame-size : (i : ℕ) → length (frame An (message i)) ≤ 999999
 unfolding dec
 frame-size i = omega (arith, body-size i)
 

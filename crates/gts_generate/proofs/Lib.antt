@@ -3,3 +3,4 @@ pub mod SaidLemmas
 pub mod SummaryLemmas
 pub mod CentreLemmas
 pub mod LawLemmas
+mod RunningLemmas

@@ -3,3 +3,5 @@ pub mod DayView
 pub mod Centre
 pub mod Summary
 pub mod Worked
+pub mod History
+pub mod Running

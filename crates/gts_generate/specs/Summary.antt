@@ -38,16 +38,20 @@ draws_of need = sum (map (λ circuit. circuit.draws) need.circuits)
 abbrev pub line : List ℕ → ℕ → List ℕ
 line name number = name ++ then_number number ++ 10 ∷ []
 
--- The summary of a day of so many messages, of which this was said, behind which this is needed, and the journal has so many
--- bytes in use.
-abbrev pub summary_text : ℕ → Outside → Need → ℕ → List ℕ
-summary_text count outside need used =
+-- The summary of a day of so many messages, of which this was said, of which so many were accepted and drawn, and behind which
+-- the journal has so many bytes in use.
+abbrev pub summary_lines : ℕ → Outside → (accepted draws used : ℕ) → List ℕ
+summary_lines count outside accepted draws used =
     line (codes "messages") count
-    ++ line (codes "accepted") need.accepted
+    ++ line (codes "accepted") accepted
     ++ line (codes "duplicates") (receipts_of (codes "DUP") outside)
     ++ line (codes "requests") (receipts_of (codes "ASK") outside)
-    ++ line (codes "draws") (draws_of need)
-    ++ line (codes "resends") (frames_in (frames_said outside) - draws_of need)
+    ++ line (codes "draws") draws
+    ++ line (codes "resends") (frames_in (frames_said outside) - draws)
     ++ line (codes "bytes") (length (frames_said outside))
     ++ line (codes "journal") used
     ++ codes "digest " ++ encode_lower (sha256 (frames_said outside)) ++ codes "\nend\n"
+
+-- the summary of a day behind which this is needed
+abbrev pub summary_text : ℕ → Outside → Need → ℕ → List ℕ
+summary_text count outside need used = summary_lines count outside need.accepted (draws_of need) used

@@ -1,6 +1,7 @@
 //! A day of a centre, made as it is read: its capture, its directory, and the summary of what came of it.
 #![tactic(auto)]
 
+mod day;
 mod directory;
 mod generated;
 mod laws;
@@ -10,6 +11,7 @@ mod said;
 mod summing;
 mod worked;
 
+pub use day::{DayFault, day_summary};
 pub use directory::generated_directory;
 pub use generated::Generated;
 pub use laws::the_capture_is_read_as_its_steps;

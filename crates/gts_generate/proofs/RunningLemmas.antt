@@ -1,0 +1,274 @@
+-- What a run of the day's capture comes to, from how it ended.
+use Rattle.std.proofs.Common.{◌≡◌, ℕ, ◌+◌, ◌*◌, ◌%◌, ◌^◌, ◌<◌, ◌≤◌, List, [], ◌∷◌, ◌++◌, length, map, sum, Option, Some, None, Result, Ok, Err, IsTrue, refl, sym, ap, subst, ◌∙◌, arith, length-append}
+use Rattle.std.specs.Prelude.{replicate, if◌then◌else◌, nat_eq}
+use Rattle.std.specs.List.{AllByRecursion, slice_index_or, flat_map, range_with_len, starts_with}
+use Rattle.std.proofs.lemmas.List.FromFn.{length-range_with_len}
+use Rattle.gts_alphabet.specs.Digits.{dec}
+use Rattle.gts_traits.specs.Calls.{Outside, Did, Syncs, said_by}
+use Rattle.gts_traits.specs.Disk.{Files, seen}
+use Rattle.gts_memory.specs.Objects.{StationInMemory}
+use Rattle.gts_frame.specs.declared.kind.Kind.TheVariants.{An}
+use Rattle.gts_frame.specs.Frame.{frame}
+use Rattle.gts_directory.specs.Directory as directories
+use Rattle.gts_event.specs.State.{State, EachRoutedOnce, empty}
+use Rattle.gts_event.specs.History.{after_all, restarted}
+use Rattle.gts_event.specs.Need.{Need, IsOrdered, need, nothing, begun, is_sound}
+use Rattle.gts_event.specs.Items.{need_of, circuit_need_of}
+use Rattle.gts_event.specs.declared.plain.Need as plain
+use Rattle.gts_event.specs.declared.plain.CircuitNeed as plain_circuits
+use Rattle.gts_event.specs.Drain.{EachOwedFew, all_done, takes_of_drain}
+use Rattle.gts_event.specs.declared.event.Event.{Event}
+use Rattle.gts_event.specs.declared.event.Entry.{Entry}
+use Rattle.gts_event.specs.declared.event.Entry.TheVariants.{Done, Unsaid, Doubt, Idle, Restarted}
+use Rattle.gts_event.specs.declared.fault.Device.{Device}
+use Rattle.gts_event.specs.declared.fault.Device.TheVariants.{Disk, Say}
+use Rattle.gts_event.specs.declared.fault.SwitchFault.TheVariants as switch
+use Rattle.gts_record.specs.declared.fault.OpenFault.{OpenFault}
+use Rattle.gts_record.specs.Record.{journal_text}
+use Rattle.gts_connection.specs.Connection.{events_added}
+use Rattle.gts_connection.specs.Capture.{Step, Feed, Take, Reopen, Drain, Restart, Compact, Connections, entries, entries_from, entries_of_step, after_step, no_bytes, FeedHead, TakeHead, EndHead, head_text, step_text, Reading, Whole, IsWhole}
+use Rattle.gts_connection.proofs.LawLemmas.{reads_once}
+use Rattle.gts_opening.specs.Journal.{Opened, opens, files_open, file_opens, selected}
+use Rattle.gts_opening.specs.Room.{HasDoubt, HasUnsaid}
+use Rattle.gts_core.specs.Core.{Holds, Needs}
+use Rattle.gts_engine.specs.declared.mode.SayMode.{SayMode}
+use Rattle.gts_engine.specs.declared.mode.SayMode.TheVariants.{Station}
+use Rattle.gts_engine.specs.Engine.{Engine, shown}
+use Rattle.gts_engine.specs.Keeping.{Keeps, HasFailed, HasRead, HasSaid, origin_of}
+use Rattle.gts_engine.specs.Switching.{Told, switch_words}
+use Rattle.gts_replay.specs.declared.end.ReplayEnd.{ReplayEnd}
+use Rattle.gts_replay.specs.declared.end.ReplayEnd.TheVariants as end
+use Rattle.gts_replay.specs.{IsStart, StandsFor, IsDone, IsCut, StopsAtFault, Ends}
+use Rattle.gts_generate.specs.Centre.{directory}
+use Rattle.gts_generate.specs.Day.{message, steps_of, steps, capture, capture_from, turn, drains, ending}
+use Rattle.gts_generate.specs.Summary.{summary_lines, summary_text, draws_of}
+use Rattle.gts_generate.specs.History.{start, history, state_after, outside_of, draws_in, day_summary, IsFullOn}
+use Rattle.gts_generate.specs.Running.{calls_on, day_origin, BeginsDay, EndsDay}
+use Rattle.gts_generate.proofs.DayLemmas.{capture-pieces}
+use Rattle.gts_generate.proofs.LawLemmas.{frame-size, read-as-steps}
+
+-- ---- the capture is read as its steps
+
+-- a whole capture is a reading of its bytes
+whole-reading : (d : directories.Directory) (bytes : List ℕ) (ss : List Step) → IsWhole d bytes ss → (place : ℕ) × Reading d bytes ss place
+whole-reading d bytes ss h =
+    let texts : List ℕ = flat_map step_text ss in
+    let tail : List ℕ = head_text EndHead in
+    (length texts + length tail, Whole h.unread h.are h.text (omega (arith, ap (λ (x : List ℕ). length x) h.text, length-append (texts ++ tail) h.unread, length-append texts tail)))
+
+-- and has no other
+one-reading : (count : ℕ) (ss : List Step) (at : ℕ) → Reading directory (capture count) ss at → ss ≡ steps count
+one-reading count ss at read =
+    let whole = whole-reading directory (capture count) (steps count) (read-as-steps count) in
+    (reads_once directory (capture count) ss (steps count) at whole.0 (omega arith) read whole.1).0
+
+-- a feed of a frame and a take are short
+three-sizes : (h f t : List ℕ) → length h ≡ 12 → length f ≤ 999999 → length t ≡ 5 → length ((h ++ f) ++ t) ≤ 1000016
+three-sizes h f t eh ef et = omega (arith, eh, ef, et, length-append (h ++ f) t, length-append h f)
+
+feed-size : (c n : ℕ) → length (head_text (FeedHead c n)) ≡ 12
+unfolding dec
+feed-size c n = refl
+
+take-size : (c : ℕ) → length (step_text (Take c) ++ []) ≡ 5
+unfolding dec
+take-size c = refl
+
+turn-size : (i : ℕ) → length (turn i) ≤ 1000016
+turn-size i =
+    let f : List ℕ = frame An (message i) in
+    three-sizes (head_text (FeedHead (i % 8) (length f))) f (step_text (Take ((3 * i) % 8)) ++ []) (feed-size (i % 8) (length f)) (frame-size i) (take-size ((3 * i) % 8))
+
+turns-size : (numbers : List ℕ) → length (flat_map turn numbers) ≤ 1000016 * length numbers
+turns-size [] = omega arith
+turns-size (i ∷ numbers) = omega (arith, turn-size i, turns-size numbers, length-append (turn i) (flat_map turn numbers))
+
+ending-size : length ending ≡ 42
+unfolding dec
+ending-size = refl
+
+-- so its bytes can be counted
+pub few-bytes : (count : ℕ) → count ≤ 100000 → length (capture count) < 2 ^ 64
+few-bytes count few =
+    let front : List ℕ = flat_map turn (range_with_len 0 count) in
+    let all : length (capture count) ≡ length (front ++ ending) = ap length (capture-pieces count) in
+    omega (arith, few, all, length-append front ending, ending-size, turns-size (range_with_len 0 count), length-range_with_len 0 count)
+
+-- ---- each entry of the day is done
+
+abbrev WasDone : Entry → Type 0
+WasDone (Done event) = Unit {0}
+WasDone Restarted = Unit {0}
+WasDone _ = ⊥
+
+abbrev AllDone : List Entry → Type 0
+AllDone es = AllByRecursion WasDone es
+
+both-done : (xs ys : List Entry) → AllDone xs → AllDone ys → AllDone (xs ++ ys)
+both-done [] ys a b = b
+both-done (x ∷ xs) ys a b = (a.0, both-done xs ys a.1 b)
+
+events-done : (events : List Event) → AllDone (all_done events)
+events-done [] = tt
+events-done (e ∷ es) = (tt, events-done es)
+
+step-done : (s : State) (bs : Connections) (step : Step) → AllDone (entries_of_step s bs step)
+step-done s bs (Feed c bytes) = events-done (events_added c (slice_index_or bs c []) bytes)
+step-done s bs (Take c) = (tt, tt)
+step-done s bs (Reopen c) = tt
+step-done s bs (Drain c) = events-done (takes_of_drain s c)
+step-done s bs Restart = (tt, tt)
+step-done s bs Compact = tt
+
+steps-done : (d : directories.Directory) (s : State) (bs : Connections) (ss : List Step) → AllDone (entries_from d s bs ss)
+steps-done d s bs [] = tt
+steps-done d s bs (step ∷ ss) =
+    both-done (entries_of_step s bs step) (entries_from d (after_all d s (entries_of_step s bs step)) (after_step d bs step) ss)
+    (step-done s bs step) (steps-done d (after_all d s (entries_of_step s bs step)) (after_step d bs step) ss)
+
+done-at : (front : List Entry) (e : Entry) (back : List Entry) → AllDone (front ++ e ∷ back) → WasDone e
+done-at [] e back all = all.0
+done-at (x ∷ front) e back all = done-at front e back all.1
+
+-- so nothing has failed
+goes-on : (stopped : Option Device) (es : List Entry) → AllDone es → HasFailed stopped es → stopped ≡ None
+goes-on None es all failed = refl
+goes-on (Some Disk) es all failed = absurd (done-at failed.0 (Doubt failed.1) failed.2 (subst AllDone failed.3 all))
+goes-on (Some Say) es all failed = absurd (done-at failed.0 (Unsaid failed.1) failed.2 (subst AllDone failed.3 all))
+
+-- ---- an empty journal
+
+new-file : file_opens directory 0 (journal_text (replicate 32 0) []) ≡ Ok (empty directory, 41)
+new-file = refl
+
+-- its files open to nothing
+pub new-files : (files : Files) → files 0 ≡ journal_text (replicate 32 0) [] → files 2 ≡ [] → files_open directory files ≡ Ok (empty directory, 41)
+new-files files first third =
+    let none : selected files ≡ 0 = ap (λ (b : List ℕ). if starts_with nat_eq b (1 ∷ []) then 1 else 0) third in
+    ap (λ (k : ℕ). file_opens directory k (files k)) none ∙ ap (λ (b : List ℕ). file_opens directory 0 b) first ∙ new-file
+
+nothing-is : need directory (restarted (empty directory)) ≡ nothing directory
+nothing-is = refl
+
+pub new-need : (files : Files) → files_open directory files ≡ Ok (empty directory, 41) → opens directory files ≡ Ok (nothing directory)
+new-need files is =
+    ap (λ (r : Opened). elim r as (λ _. Result Need OpenFault) [ Err fault ↦ Err fault | Ok opened ↦ Ok (need directory (restarted opened.0)) ]) is
+    ∙ ap (λ (n : Need). Ok n) nothing-is
+
+pub used-there : (files : Files) (s : State) (used : ℕ) → files_open directory files ≡ Ok (empty directory, 41) → files_open directory files ≡ Ok (s, used) → used ≡ 41
+used-there files s used one other = let same : (s, used) ≡ (empty directory, 41) = cc in ap (λ (x : State × ℕ). x.1) same
+
+-- ---- the switch before the day
+
+-- an engine that was opened over an empty journal begins the day
+pub begun-day : (d : directories.Directory) (mark : List ℕ) (old : StationInMemory) (e : Engine StationInMemory) → d ≡ directory → mark ≡ d.mark
+    → seen (calls_on old) 0 ≡ journal_text mark [] → seen (calls_on old) 2 ≡ [] → said_by (calls_on old) ≡ []
+    → e.directory ≡ d → HasRead d (seen (calls_on old)) e → calls_on e.station ≡ Did Syncs ∷ calls_on old
+    → ((m : SayMode) (n : Need) → Holds d e.core (begun n) → Keeps (Unit {0}) m (origin_of calls_on e n) [] (shown calls_on e))
+    → ((n : Need) → opens d (seen (calls_on old)) ≡ Ok n → IsTrue (is_sound d n) × Holds d e.core (begun n))
+    → ((x : directories.Directory) (n : Need) → IsTrue (is_sound x n) → IsOrdered x (begun n))
+    → ((x : directories.Directory) (n : Need) → IsTrue (is_sound x n) → EachRoutedOnce (begun n))
+    → ((x : directories.Directory) (n : Need) → IsTrue (is_sound x n) → EachOwedFew (begun n)) → BeginsDay e
+begun-day d mark old e same mark_is first third silent under reads synced begins sound ordered once few =
+    let files : Files = seen (calls_on old) in
+    let n : Need = nothing directory in
+    let zero : files 0 ≡ journal_text (replicate 32 0) [] = first ∙ ap (λ (m : List ℕ). journal_text m []) (mark_is ∙ ap (λ (x : directories.Directory). x.mark) same) in
+    let opened = new-files files zero third in
+    let here : HasRead directory files e = subst (λ (x : directories.Directory). HasRead x files e) same reads in
+    let used : e.used ≡ 41 = used-there files here.state e.used opened here.opened in
+    let sure : IsTrue (is_sound directory n) × Holds directory e.core (begun n)
+    = subst (λ (x : directories.Directory). (m : Need) → opens x files ≡ Ok m → IsTrue (is_sound x m) × Holds x e.core (begun m)) same sound n (new-need files opened) in
+    let keeps : Keeps (Unit {0}) Station (origin_of calls_on e n) [] (shown calls_on e)
+    = subst (λ (x : directories.Directory). Holds x e.core (begun n) → Keeps (Unit {0}) Station (origin_of calls_on e n) [] (shown calls_on e)) same (begins Station n) sure.1 in
+    let K : directories.Directory → ℕ → Type 0
+    = λ x u. Keeps (Unit {0}) Station (record { directory = x; start = n; used = u; calls = calls_on e.station }) [] (shown calls_on e) in
+    record {
+      under = under ∙ same;
+      silent = ap said_by synced ∙ silent;
+      begins = record { keeps = sure.1.keeps; ordered = ordered directory n sure.0; once = once directory n sure.0; few = few directory n sure.0 };
+      stands = subst (λ (u : ℕ). K directory u) used (subst (λ (x : directories.Directory). K x e.used) (under ∙ same) keeps);
+    }
+
+-- ---- how the run ended
+
+module _ (count : ℕ) (first last : Engine StationInMemory) (b : BeginsDay first) (few : count ≤ 100000) where
+  abbrev o : Told (Unit {0})
+  o = record { told = tt; origin = day_origin (calls_on first.station) }
+
+  -- the entries of the steps that were read are those of the day
+  entries-are : (ss : List Step) → ss ≡ steps count → entries first.directory start ss ≡ history count
+  entries-are ss same = ap (λ (d : directories.Directory). entries d start ss) b.under ∙ ap (λ (x : List Step). entries directory start x) same
+
+  read-here : (ss : List Step) (at : ℕ) → Reading first.directory (capture count) ss at → ss ≡ steps count
+  read-here ss at read = one-reading count ss at (subst (λ (d : directories.Directory). Reading d (capture count) ss at) b.under read)
+
+  pub day-done : IsDone (switch_words (Unit {0}) calls_on) o [] (Unit {0}) first last (capture count) → EndsDay count last
+  day-done x =
+      let whole : IsWhole directory (capture count) x.steps = subst (λ (d : directories.Directory). IsWhole d (capture count) x.steps) b.under (x.whole tt (few-bytes count few)) in
+      let read = whole-reading directory (capture count) x.steps whole in
+      let same : x.steps ≡ steps count = one-reading count x.steps read.0 read.1 in
+      let keeps : Keeps (Unit {0}) Station (day_origin (calls_on first.station)) (history count) (shown calls_on last)
+      = subst (λ (es : List Entry). Keeps (Unit {0}) Station (day_origin (calls_on first.station)) es (shown calls_on last)) (entries-are x.steps same) x.stands in
+      let going : last.stopped ≡ None = goes-on last.stopped (history count) (steps-done directory start (no_bytes directory) (steps count)) keeps.failed in
+      let said = subst (λ (stopped : Option Device). HasSaid Station (day_origin (calls_on first.station)) (history count) stopped (calls_on last.station)) going (keeps.leaves tt).said in
+      record {
+        going = going;
+        core = keeps.core going;
+        used = keeps.used going;
+        said = said ∙ ap (λ (l : Outside). l ++ outside_of count) b.silent;
+      }
+
+  pub day-full : (used wanted limit : ℕ) → StopsAtFault (switch_words (Unit {0}) calls_on) o [] (Unit {0}) (switch.Full used wanted limit) first last (capture count)
+      → IsFullOn count used wanted limit
+  day-full used wanted limit x =
+      let read = x.read tt (few-bytes count few) in
+      let same : x.steps ≡ steps count = read-here x.steps read.0 read.1 in
+      record {
+        front = x.breaks.front;
+        event = x.breaks.event;
+        back = x.breaks.behind;
+        parts = sym (entries-are x.steps same) ∙ x.breaks.parts;
+        full = x.breaks.cause;
+      }
+
+  pub day-whole : (at : ℕ) → IsCut (switch_words (Unit {0}) calls_on) o [] (Unit {0}) at first last (capture count) → ⊥
+  day-whole at x =
+      x.none tt (few-bytes count few) (steps count) (subst (λ (d : directories.Directory). IsWhole d (capture count) (steps count)) (sym b.under) (read-as-steps count))
+
+  stands-for : StandsFor (switch_words (Unit {0}) calls_on) o [] first
+  stands-for = record { start = subst (λ (d : directories.Directory). IsStart d start) (sym b.under) b.begins; stands = b.stands }
+
+  module _ (e : ReplayEnd) (bytes left : List ℕ) (is : bytes ≡ capture count)
+      (ends : (t : Told (Unit {0})) (h : List Entry) → StandsFor (switch_words (Unit {0}) calls_on) t h first
+      → Ends (switch_words (Unit {0}) calls_on) (Unit {0}) t h (Unit {0}) e first last bytes left) where
+    all : Ends (switch_words (Unit {0}) calls_on) (Unit {0}) o [] (Unit {0}) e first last (capture count) left
+    all = subst (λ (bs : List ℕ). Ends (switch_words (Unit {0}) calls_on) (Unit {0}) o [] (Unit {0}) e first last bs left) is (ends o [] stands-for)
+
+    pub run-done : e ≡ end.Done → EndsDay count last
+    run-done at_end = day-done (all.done at_end)
+
+    pub run-full : (used wanted limit : ℕ) → e ≡ end.Fault (switch.Full used wanted limit) → IsFullOn count used wanted limit
+    run-full used wanted limit full = day-full used wanted limit (all.fault (switch.Full used wanted limit) full)
+
+    pub run-whole : (at : ℕ) → e ≡ end.Capture at → ⊥
+    run-whole at cut = day-whole at (all.capture at cut)
+
+-- ---- what is summed up of it
+
+pub draws-are : (n : plain.Need) → draws_of n ≡ draws_in (need_of n)
+draws-are n = ap sum (same n.circuits)
+  where
+    same : (cs : List plain_circuits.CircuitNeed) → map (λ c. c.draws) cs ≡ map (λ c. c.draws) (map circuit_need_of cs)
+    same [] = refl
+    same (c ∷ cs) = ap (λ (l : List ℕ). c.draws ∷ l) (same cs)
+
+-- the summary is that of the day's history
+pub summed : (count : ℕ) (e : Engine StationInMemory) (station : StationInMemory) (n : plain.Need) (used : ℕ) → EndsDay count e
+    → Needs e.core (need_of n) → used ≡ e.used → station ≡ e.station → summary_text count (said_by (calls_on station)) n used ≡ day_summary count
+summed count e station n used ends needs used_is station_is =
+    let behind : Need = need directory (state_after (history count)) in
+    let need_is : need_of n ≡ behind = needs directory (state_after (history count)) ends.core in
+    ap (λ (o : Outside). summary_lines count o n.accepted (draws_of n) used) (ap (λ (s : StationInMemory). said_by (calls_on s)) station_is ∙ ends.said)
+    ∙ ap (λ (k : ℕ). summary_lines count (outside_of count) k (draws_of n) used) (ap (λ (x : Need). x.accepted) need_is)
+    ∙ ap (λ (k : ℕ). summary_lines count (outside_of count) behind.accepted k used) (draws-are n ∙ ap draws_in need_is)
+    ∙ ap (λ (k : ℕ). summary_lines count (outside_of count) behind.accepted (draws_in behind) k) (used_is ∙ ends.used)
