@@ -1,4 +1,4 @@
-//! The core over whole lists, which forgets nothing: what `gts_core` is compared with in its tests. It judges messages, keeps
+//! The core over whole lists, which forgets nothing: what `gts_core` is compared with in tests. It judges messages, keeps
 //! what was accepted, chooses what each circuit is given next, and leaves frames in a buffer.
 #![tactic(auto)]
 
