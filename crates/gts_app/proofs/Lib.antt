@@ -4,3 +4,5 @@ pub mod RefusalLemmas
 pub mod EndLemmas
 pub mod ReplayLemmas
 pub mod ShowLemmas
+pub mod ServeLemmas
+pub mod GenerateLemmas

@@ -16,7 +16,7 @@ use Rattle.gts_record.specs.declared.fault.OpenFault.TheVariants as opening
 use Rattle.gts_journal.specs.{OnlySyncs, is_checkpoint, selected_bytes}
 use Rattle.gts_opening.specs.Journal.{Opened, opens, files_open}
 use Rattle.gts_engine.specs.Words.{IsAnswer}
-use Rattle.gts_core.specs.Core.{Holds}
+use Rattle.gts_core.specs.Core.{Holds, Needs}
 use Rattle.gts_engine.specs.declared.mode.SayMode.{SayMode}
 use Rattle.gts_engine.specs.declared.mode.SayMode.TheVariants as mode
 use Rattle.gts_engine.specs.Engine.{Engine, shown}
@@ -25,10 +25,10 @@ use Rattle.gts_engine.specs.Keeping.{HasRead, Keeps, origin_of}
 use Rattle.gts_engine.specs.Switching.{switch_words}
 use Rattle.gts_replay.specs.{StandsFor}
 use Rattle.gts_app.specs.declared.status.Status.{Status}
-use Rattle.gts_app.specs.declared.status.Status.TheVariants.{Done, Words, Directory, Capture, NoJournal, NotThis, Damaged, Exists, DiskFault, SourceFault, SayFault, Full, NoMemory}
+use Rattle.gts_app.specs.declared.status.Status.TheVariants.{Done, Words, Directory, Capture, NoJournal, NotThis, Damaged, Exists, DiskFault, SourceFault, SayFault, Full, LineFault, LongSession, Spent, NoMemory}
 use Rattle.gts_app.specs.Ending.{refusal}
 use Rattle.gts_app.specs.Reading.{IsReadEnd, ReadsDirectory}
-use Rattle.gts_app.specs.Opening.{IsOfFiles, IsOrigin, IsRefusal, Opens}
+use Rattle.gts_app.specs.Opening.{IsOfFiles, IsOrigin, IsRefusal, BeginsWith, Opens}
 
 -- ---- there is no directory
 
@@ -46,6 +46,9 @@ is_refusal (Exists size) ends = absurd ends
 is_refusal DiskFault ends = absurd ends
 is_refusal SayFault ends = absurd ends
 is_refusal (Full used need limit) ends = absurd ends
+is_refusal (LineFault c) ends = absurd ends
+is_refusal (LongSession c) ends = absurd ends
+is_refusal (Spent c) ends = absurd ends
 
 -- no fault of a journal's files is one of reading the directory
 of_files : (fault : OpenFault) → IsOfFiles fault → IsReadEnd (refusal fault) → ⊥
@@ -59,6 +62,7 @@ pub no_directory : {S P : Type 0} (source : SourceWords S) (w : StationWords P) 
     → ReadsDirectory source (Err status) od nd → Opens source w (Err (status, old)) od nd old
 no_directory {S} {P} source w status od nd old h = record {
   opened = λ e is. absurd (cc);
+  begun = λ e is. absurd (cc);
   kept = λ e is. absurd (cc);
   refused = λ s new is.
       let both : (status, old) ≡ (s, new) = cc in
@@ -130,6 +134,7 @@ pub no_journal : {S P : Type 0} (source : SourceWords S) (w : StationWords P) (f
     → Opens source w (Err (refusal fault, at)) od nd old
 no_journal {S} {P} source w fault d od nd old at h answer told later rose say = record {
   opened = λ e is. absurd (cc);
+  begun = λ e is. absurd (cc);
   kept = λ e is. absurd (cc);
   refused = λ s new is.
       let both : (refusal fault, at) ≡ (s, new) = cc in
@@ -163,14 +168,27 @@ pub record Beginnings : Type 0 where
   pub once : (d : directories.Directory) (n : Need) → IsTrue (is_sound d n) → EachRoutedOnce (begun n)
   pub few : (d : directories.Directory) (n : Need) → IsTrue (is_sound d n) → EachOwedFew (begun n)
 
+-- an engine that has read the files begins where they open to
+is_origin : {P : Type 0} (w : StationWords P) (d : directories.Directory) (old : P) (e : Engine P) (n : Need) → e.directory ≡ d
+    → HasRead d (seen (w.calls old)) e → opens d (seen (w.calls old)) ≡ Ok n → IsTrue (is_sound d n) → w.calls e.station ≡ Did Syncs ∷ w.calls old
+    → IsOrigin (w.calls old) (origin_of w.calls e n)
+is_origin w d old e n same r to sound synced = record {
+  opened = subst (λ (x : directories.Directory). opens x (seen (w.calls old)) ≡ Ok n) (sym same) to;
+  sound = subst (λ (x : directories.Directory). IsTrue (is_sound x n)) (sym same) sound;
+  state = r.state;
+  used = subst (λ (x : directories.Directory). files_open x (seen (w.calls old)) ≡ Ok (r.state, e.used)) (sym same) r.opened;
+  synced = synced;
+}
+
 pub journal : {S P : Type 0} (source : SourceWords S) (w : StationWords P) (d : directories.Directory) (od nd : S) (old : P) (e : Engine P)
     → Beginnings → ReadsDirectory source (Ok d) od nd → e.directory ≡ d
     → (w.tells → HasRead d (seen (w.calls old)) e) → (w.tells → w.calls e.station ≡ Did Syncs ∷ w.calls old)
     → ((m : SayMode) (n : Need) → Holds d e.core (begun n) → Keeps w.tells m (origin_of w.calls e n) [] (shown w.calls e))
+    → ((n : Need) → Needs e.core n → Holds d e.core (begun n))
     → (w.tells → (n : Need) → opens d (seen (w.calls old)) ≡ Ok n → IsTrue (is_sound d n) × Holds d e.core (begun n))
     → w.disk_faults old ≤ w.disk_faults e.station → w.say_faults e.station ≡ w.say_faults old
     → Opens source w (Ok e) od nd old
-journal {S} {P} source w d od nd old e laws h same reads synced begins sound later say = record {
+journal {S} {P} source w d od nd old e laws h same reads synced begins whole sound later say = record {
   opened = λ e2 is told.
       let one : e2 ≡ e = cc in
       let r = reads told in
@@ -183,13 +201,7 @@ journal {S} {P} source w d od nd old e laws h same reads synced begins sound lat
         n,
         λ tells. subst (λ (x : directories.Directory). directory_of_bytes (source.left od) ≡ Ok x) (sym same) (h.read tells d refl),
         (
-          record {
-            opened = subst (λ (x : directories.Directory). opens x (seen (w.calls old)) ≡ Ok n) (sym same) to;
-            sound = subst (λ (x : directories.Directory). IsTrue (is_sound x n)) (sym same) sure.0;
-            state = r.state;
-            used = subst (λ (x : directories.Directory). files_open x (seen (w.calls old)) ≡ Ok (r.state, e.used)) (sym same) r.opened;
-            synced = synced told;
-          },
+          is_origin w d old e n same r to sure.0 (synced told),
           record {
             start = record {
               keeps = subst (λ (x : directories.Directory). IsTrue (keeps_one x)) (sym same) sure.1.keeps;
@@ -201,6 +213,19 @@ journal {S} {P} source w d od nd old e laws h same reads synced begins sound lat
           },
         ),
       );
+  begun = λ e2 is n needs.
+      let one : e2 ≡ e = cc in
+      let N : Engine P → Type 0 = λ x. Needs x.core n in
+      let has : Needs e.core n = subst N one needs in
+      subst (λ (x : Engine P). BeginsWith source w od old x n) (sym one) (record {
+        keeps = begins mode.Caller n (whole n has);
+        read = λ tells. subst (λ (x : directories.Directory). directory_of_bytes (source.left od) ≡ Ok x) (sym same) (h.read tells d refl);
+        origin = λ told.
+            let r = reads told in
+            let to : opens d (seen (w.calls old)) ≡ Ok n =
+            opens_to d (seen (w.calls old)) r.state e.used r.opened ∙ ap {A = Need} (λ m. Ok m) (sym (has d (restarted r.state) r.core)) in
+            is_origin w d old e n same r to (sound told n to).0 (synced told);
+      });
   kept = λ e2 is. let one : e2 ≡ e = cc in subst (λ (x : Engine P). (w.disk_faults old ≤ w.disk_faults x.station) × (w.say_faults x.station ≡ w.say_faults old)) (sym one) (later, say);
   refused = λ s new is. absurd (cc);
   taken = h.taken;

@@ -12,7 +12,7 @@ use Rattle.gts_record.specs.declared.fault.OpenFault.TheVariants as opening
 use Rattle.gts_opening.specs.Journal.{opens}
 use Rattle.gts_engine.specs.Engine.{Engine}
 use Rattle.gts_app.specs.declared.status.Status.{Status}
-use Rattle.gts_app.specs.declared.status.Status.TheVariants.{Done, Words, Directory, Capture, NoJournal, NotThis, Damaged, Exists, DiskFault, SourceFault, SayFault, Full, NoMemory}
+use Rattle.gts_app.specs.declared.status.Status.TheVariants.{Done, Words, Directory, Capture, NoJournal, NotThis, Damaged, Exists, DiskFault, SourceFault, SayFault, Full, LineFault, LongSession, Spent, NoMemory}
 use Rattle.gts_app.specs.Ending.{refusal}
 use Rattle.gts_app.specs.Opening.{IsOfFiles, AreRefused, IsRefusal, Refuses, Opens}
 use Rattle.gts_app.specs.Replay.{world, Replays, Untouched}
@@ -36,6 +36,9 @@ refusals DiskFault ends = inr (inr (inl refl))
 refusals SourceFault ends = inr (inr (inr (inl refl)))
 refusals SayFault ends = absurd ends
 refusals (Full used need limit) ends = absurd ends
+refusals (LineFault c) ends = absurd ends
+refusals (LongSession c) ends = absurd ends
+refusals (Spent c) ends = absurd ends
 refusals NoMemory ends = inr (inr (inr (inr refl)))
 
 -- bytes say one directory
@@ -64,6 +67,9 @@ refused source w status od nd oc old new result is h =
       done = λ is. absurd (subst IsRefusal is ends);
       words = λ is. subst IsRefusal is ends;
       exists = λ size is. subst IsRefusal is ends;
+      line_fault = λ c is. subst IsRefusal is ends;
+      long_session = λ c is. subst IsRefusal is ends;
+      spent = λ c is. subst IsRefusal is ends;
       directory = λ fault is. (refl, (r.directory fault is).0, (r.directory fault is).1);
       no_journal = λ is told. (untouched, λ tells. r.journal opening.NoJournal is tt tells told);
       not_this = λ want found is told. (untouched, λ tells. r.journal (opening.NotThis want found) is tt tells told);

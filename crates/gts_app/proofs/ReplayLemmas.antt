@@ -32,7 +32,7 @@ use Rattle.gts_replay.specs.declared.end.ReplayEnd.{ReplayEnd}
 use Rattle.gts_replay.specs.declared.end.ReplayEnd.TheVariants as end
 use Rattle.gts_replay.specs.{StandsFor, BreaksOff, Ends, HasReplayCause}
 use Rattle.gts_app.specs.declared.status.Status.{Status}
-use Rattle.gts_app.specs.declared.status.Status.TheVariants.{Done, Words, Directory, Capture, NoJournal, NotThis, Damaged, Exists, DiskFault, SourceFault, SayFault, Full, NoMemory}
+use Rattle.gts_app.specs.declared.status.Status.TheVariants.{Done, Words, Directory, Capture, NoJournal, NotThis, Damaged, Exists, DiskFault, SourceFault, SayFault, Full, LineFault, LongSession, Spent, NoMemory}
 use Rattle.gts_app.specs.Laws.{KeepsLaws}
 use Rattle.gts_app.specs.Ending.{refusal, status_of}
 use Rattle.gts_app.specs.Opening.{IsOrigin, Opens}
@@ -64,6 +64,9 @@ IsOf DiskFault e = (e ≡ end.Fault switch.DiskFault) ⊎ (e ≡ end.Reopen open
 IsOf SourceFault e = e ≡ end.SourceFault
 IsOf SayFault e = e ≡ end.Fault switch.SayFault
 IsOf (Full used need limit) e = e ≡ end.Fault (switch.Full used need limit)
+IsOf (LineFault c) e = ⊥
+IsOf (LongSession c) e = ⊥
+IsOf (Spent c) e = ⊥
 IsOf NoMemory e = IsSpare e
 
 is_of : (e : ReplayEnd) → IsOf (status_of e) e
@@ -99,6 +102,9 @@ left_over DiskFault e of cut source disk say again full = absurd (disk refl)
 left_over SourceFault e of cut source disk say again full = absurd (source refl)
 left_over SayFault e of cut source disk say again full = absurd (say refl)
 left_over (Full used need limit) e of cut source disk say again full = absurd (full used need limit of)
+left_over (LineFault c) e of cut source disk say again full = absurd of
+left_over (LongSession c) e of cut source disk say again full = absurd of
+left_over (Spent c) e of cut source disk say again full = absurd of
 left_over NoMemory e of cut source disk say again full = inr refl
 
 -- ---- a run over devices that tell
@@ -312,6 +318,9 @@ replays source w e od nd oc nc old first last opens laws ends narrow cause =
           (origin_of w.calls first r.n, r.read tells, r.origin, (x.steps, x.whole tells few, steps_went source w e od oc nc old first last r x.steps x.stands));
       words = λ is. of Words is;
       exists = λ size is. of (Exists size) is;
+      line_fault = λ c is. of (LineFault c) is;
+      long_session = λ c is. of (LongSession c) is;
+      spent = λ c is. of (Spent c) is;
       directory = λ fault is. absurd (of (Directory fault) is);
       no_journal = λ is told. absurd (again source w e od oc nc old first last (run told) opening.NoJournal (of NoJournal is));
       not_this = λ want found is told. absurd (again source w e od oc nc old first last (run told) (opening.NotThis want found) (of (NotThis want found) is));

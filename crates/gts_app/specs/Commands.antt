@@ -9,9 +9,9 @@ abbrev pub IsBuilt : Command → Type 0
 IsBuilt Init = Unit {0}
 IsBuilt Replay = Unit {0}
 IsBuilt Show = Unit {0}
-IsBuilt Serve = ⊥
+IsBuilt Serve = Unit {0}
 IsBuilt Compact = ⊥
-IsBuilt (Generate count) = ⊥
+IsBuilt (Generate count) = Unit {0}
 
 -- the words name a command that is built
 abbrev pub IsCommand : List (List ℕ) → Type 0

@@ -1,5 +1,5 @@
 -- What each end of the command `init` means for what it works on.
-use Rattle.std.specs.Prelude.{◌≡◌, ◌⊎◌, ℕ, ◌+◌, ◌≤◌, false, true, List, [], ◌∷◌, ◌++◌, length, codes, Ok, Err}
+use Rattle.std.specs.Prelude.{◌≡◌, ◌⊎◌, ℕ, ◌+◌, ◌≤◌, false, true, List, [], ◌∷◌, ◌++◌, length, Ok, Err}
 use Rattle.gts_traits.specs.declared.source.Source.{Ghosts as SourceWords}
 use Rattle.gts_traits.specs.declared.station.Station.{Ghosts as StationWords}
 use Rattle.gts_traits.specs.Counts.{Rose}
@@ -12,10 +12,6 @@ use Rattle.gts_record.specs.Record.{journal_text}
 use Rattle.gts_journal.specs.{is_begun, selected_bytes}
 use Rattle.gts_app.specs.declared.status.Status.{Status}
 use Rattle.gts_app.specs.declared.status.Status.TheVariants.{Done, Directory, Exists, DiskFault, SourceFault, NoMemory}
-
--- the words of the command
-abbrev pub init_words : List (List ℕ)
-init_words = codes "init" ∷ []
 
 -- the files are an empty journal of a directory, and all are on the disk
 pub record IsNewJournal (d : directories.Directory) (calls : List Call) : Type 0 where

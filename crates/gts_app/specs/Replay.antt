@@ -1,5 +1,5 @@
 -- What each end of the command `replay` means for what it works on.
-use Rattle.std.specs.Prelude.{◌≡◌, ◌⊎◌, ℕ, ◌+◌, ◌^◌, ◌<◌, ◌≤◌, false, List, [], ◌∷◌, ◌++◌, length, codes, Option, Some, None, Ok, Err}
+use Rattle.std.specs.Prelude.{◌≡◌, ◌⊎◌, ℕ, ◌+◌, ◌^◌, ◌<◌, ◌≤◌, false, List, [], ◌∷◌, ◌++◌, length, Option, Some, None, Ok, Err}
 use Rattle.gts_traits.specs.declared.source.Source.{Ghosts as SourceWords}
 use Rattle.gts_traits.specs.declared.station.Station.{Ghosts as StationWords}
 use Rattle.gts_traits.specs.Counts.{Rose}
@@ -27,14 +27,10 @@ use Rattle.gts_engine.specs.declared.mode.SayMode.TheVariants as mode
 use Rattle.gts_engine.specs.Origin.{Origin, state_at, used_at}
 use Rattle.gts_engine.specs.Keeping.{Leaving}
 use Rattle.gts_app.specs.declared.status.Status.{Status}
-use Rattle.gts_app.specs.declared.status.Status.TheVariants.{Done, Words, Directory, Capture, NoJournal, NotThis, Damaged, Exists, DiskFault, SourceFault, SayFault, Full, NoMemory}
+use Rattle.gts_app.specs.declared.status.Status.TheVariants.{Done, Words, Directory, Capture, NoJournal, NotThis, Damaged, Exists, DiskFault, SourceFault, SayFault, Full, LineFault, LongSession, Spent, NoMemory}
 use Rattle.gts_app.specs.Laws.{KeepsLaws}
 use Rattle.gts_app.specs.Ending.{refusal}
 use Rattle.gts_app.specs.Opening.{IsOrigin, IsOfFiles, AreRefused}
-
--- the words of the command
-abbrev pub replay_words : List (List ℕ)
-replay_words = codes "replay" ∷ []
 
 -- what the command works on
 pub record World (S P : Type 0) : Type 0 where
@@ -116,9 +112,12 @@ pub record Replays {S P : Type 0} (source : SourceWords S) (station : StationWor
   -- the capture was read through its end, and its history was done
   pub done : status ≡ Done → Under source station old (λ o. (steps : List Step)
       × IsWhole o.directory (source.left old.capture) steps × Does o (history o steps) None (station.calls new.station))
-  -- the command was given its words, and makes no journal
+  -- the command was given its words, makes no journal, and opens no lines
   pub words : status ≡ Words → ⊥
   pub exists : (size : ℕ) → status ≡ Exists size → ⊥
+  pub line_fault : (c : ℕ) → status ≡ LineFault c → ⊥
+  pub long_session : (c : ℕ) → status ≡ LongSession c → ⊥
+  pub spent : (c : ℕ) → status ≡ Spent c → ⊥
   -- the directory has this fault; nothing was read of the capture, and nothing said
   pub directory : (fault : DirFault) → status ≡ Directory fault → (new.capture ≡ old.capture) × (new.station ≡ old.station)
       × (source.tells → directory_of_bytes (source.left old.directory) ≡ Err fault)

@@ -1,5 +1,5 @@
 -- What each end of the command `show` means for what it works on.
-use Rattle.std.specs.Prelude.{◌≡◌, ◌⊎◌, ℕ, ◌+◌, ◌≤◌, false, List, [], ◌∷◌, ◌++◌, length, codes, Ok, Err}
+use Rattle.std.specs.Prelude.{◌≡◌, ◌⊎◌, ℕ, ◌+◌, ◌≤◌, false, List, [], ◌∷◌, ◌++◌, length, Ok, Err}
 use Rattle.gts_traits.specs.declared.source.Source.{Ghosts as SourceWords}
 use Rattle.gts_traits.specs.declared.station.Station.{Ghosts as StationWords}
 use Rattle.gts_traits.specs.Counts.{Rose}
@@ -16,10 +16,6 @@ use Rattle.gts_app.specs.declared.status.Status.{Status}
 use Rattle.gts_app.specs.declared.status.Status.TheVariants.{Done, SayFault, NoMemory}
 use Rattle.gts_app.specs.Ending.{refusal}
 use Rattle.gts_app.specs.Opening.{IsRefusal, Refuses}
-
--- the words of the command
-abbrev pub show_words : List (List ℕ)
-show_words = codes "show" ∷ []
 
 -- where source and station tell, the directory is read under which the files open to a need, and this holds of the report of that
 abbrev pub Reported : {S P : Type 0} → SourceWords S → StationWords P → S → P → (List ℕ → Type 0) → Type 0

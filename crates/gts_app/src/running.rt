@@ -1,23 +1,28 @@
-ghost use Rattle.std.specs.Prelude.{◌≡◌, ◌⊎◌, ◌<◌, ◌^◌, Some, length};
+ghost use Rattle.std.specs.Prelude.{◌≡◌, ◌⊎◌, ◌<◌, ◌^◌, ℕ, Some, length};
 ghost use Rattle.gts_words.specs.{command_of};
 ghost use Rattle.gts_app.specs.Commands.{IsCommand};
+ghost use Rattle.gts_app.specs.Generate.{Generates};
 ghost use Rattle.gts_app.specs.Init.{Inits};
 ghost use Rattle.gts_app.specs.Replay.{Replays, world, IsNoCapture};
+ghost use Rattle.gts_serve.specs.{seen_lines as seen};
 ghost use Rattle.gts_app.specs.Show.{Shows};
+ghost use Rattle.gts_app.specs.Serve.{Serves};
 
 use crate::Status;
+use crate::commands::generate::generate;
 use crate::commands::init::init;
 use crate::commands::replay::replay;
+use crate::commands::serve::serve;
 use crate::commands::show::show;
 use gts_traits::{Gate, Lines, Source, Station, WordList};
-use gts_words::{Command, WordsFault, read_words};
+use gts_words::{Command, WordsFault, a_count_is_within_its_limits, read_words};
 use std::alloc::Global;
 use std::sync::Wait;
 use std::thread::Threads;
 
-/// Runs the command that the words name; so far these are `init`, `replay` and `show`. The station and the capture are handed
-/// back. The runtime, the lines and the gate are for what is built later.
-pub fn run<R: Threads + Wait + Sync, S: Source, P: Station + Send, L: Lines, G: Gate>(
+/// Runs the command that the words name: `init`, `replay`, `serve`, `show` or `generate`. The station and the capture are handed
+/// back.
+pub fn run<R, S, P, L, G>(
     rt: &R,
     alloc: Global,
     words: &WordList,
@@ -27,6 +32,14 @@ pub fn run<R: Threads + Wait + Sync, S: Source, P: Station + Send, L: Lines, G: 
     lines: &mut L,
     gate: &G,
 ) -> (Status, P, S)
+where
+    R: Threads + Wait + Sync,
+    S: Source,
+    P: Station + Send + Drop,
+    L: Lines,
+    L::In: Drop,
+    L::Out: Drop,
+    G: Gate,
     // The words are looked at first; other words change nothing.
     ensures words { (result.0 ≡ Status.Words → IsCommand words.now → ⊥)
         × ((IsCommand words.now → ⊥)
@@ -37,19 +50,28 @@ pub fn run<R: Threads + Wait + Sync, S: Source, P: Station + Send, L: Lines, G: 
     // What each end of a command means.
     ensures init { command_of words.now ≡ Some Command.Init → (result.2 ≡ capture)
         × Inits S.Source P.Station result.0 directory.old station directory.new result.1 }
-    ensures replay { command_of words.now ≡ Some Command.Replay → Replays S.Source P.Station result.0
+    ensures replay { command_of words.now ≡ Some Command.Replay
+        → Replays S.Source P.Station result.0
         (world directory.old capture station) (world directory.new result.2 result.1) }
     ensures show { command_of words.now ≡ Some Command.Show → (result.2 ≡ capture)
         × Shows S.Source P.Station result.0 directory.old station directory.new result.1 }
+    ensures serve { command_of words.now ≡ Some Command.Serve → Serves S.Source P.Station
+        L.In.tells L.Out.tells result.0 directory.old station (seen L.is_open L.faults L.bytes
+        lines.old) directory.new result.1 (seen L.is_open L.faults L.bytes lines.new) }
+    ensures unread { command_of words.now ≡ Some Command.Serve → result.2 ≡ capture }
+    ensures generate { (count : ℕ) → command_of words.now ≡ Some (Command.Generate count)
+        → (directory.new ≡ directory.old) × (result.2 ≡ capture)
+        × Generates P.Station result.0 count station result.1 }
 
     // Bytes that are no capture of the directory are not done.
     ensures no_capture { command_of words.now ≡ Some Command.Replay → S.tells → P.tells
         → length (S.left capture) < 2 ^ 64 → IsNoCapture (S.left directory.old) (S.left capture)
         → result.0 ≡ Status.Done → ⊥ }
 
-    // What no command changes so far.
-    ensures untouched { lines.new ≡ lines.old }
+    // No other command changes the lines.
+    ensures untouched { (command_of words.now ≡ Some Command.Serve → ⊥) → lines.new ≡ lines.old }
 {
+    a_count_is_within_its_limits();
     let command = match read_words(alloc, words) {
         Ok(command) => command,
         Err(WordsFault::Words) => return (Status::Words, station, capture),
@@ -68,9 +90,15 @@ pub fn run<R: Threads + Wait + Sync, S: Source, P: Station + Send, L: Lines, G: 
             let (status, station) = show(alloc, directory, station);
             (status, station, capture)
         }
-        // These are not built yet.
-        Command::Serve | Command::Compact | Command::Generate { .. } => {
-            (Status::Words, station, capture)
+        Command::Serve => {
+            let (status, station) = serve(rt, alloc, directory, station, lines, gate);
+            (status, station, capture)
         }
+        Command::Generate { count } => {
+            let status = generate(alloc, count, &mut station);
+            (status, station, capture)
+        }
+        // This is not built yet.
+        Command::Compact => (Status::Words, station, capture),
     }
 }

@@ -1,12 +1,17 @@
+mod draws;
+mod generates;
 mod journals;
+mod serves;
 mod shows;
+mod waits;
 
 use super::*;
 use gts_alphabet::digits_of;
 use gts_directory::{DirFault, Part};
 use gts_memory::{MemLines, MemSource, MemStation};
 use gts_traits::{FreeGate, WordList};
-use std::alloc::Global;
+use std::alloc::{AllocError, Global};
+use std::process::Abort;
 use std::sync::Wait;
 use std::test::Fail;
 use std::thread::Threads;
@@ -41,6 +46,15 @@ const NONE: Failing<'static> = Failing {
     calls: &[],
 };
 
+/// The words of a command line.
+fn words_of(alloc: Global, words: &[&str]) -> Result<WordList, Fail> {
+    let mut list = WordList::new();
+    for word in words {
+        list.push(alloc, word)?;
+    }
+    Ok(list)
+}
+
 /// Runs words over a directory, a capture and a station.
 fn run_on<R: AllocGlobal + Threads + Wait + Sync>(
     rt: &R,
@@ -51,24 +65,34 @@ fn run_on<R: AllocGlobal + Threads + Wait + Sync>(
     station: MemStation,
 ) -> Result<(Status, MemStation), Fail> {
     let alloc = rt.alloc();
-    let mut list = WordList::new();
-    for word in words {
-        list.push(alloc, word)?;
-    }
-    let mut directory = MemSource::new(alloc, directory, failing.directory)?;
+    let words = words_of(alloc, words)?;
+    let directory = MemSource::new(alloc, directory, failing.directory)?;
     let capture = MemSource::new(alloc, capture, failing.capture)?;
-    let mut lines = MemLines::new(alloc, &[])?;
+    let lines = MemLines::new(alloc, &[])?;
+    Ok(end_of(rt, &words, directory, capture, lines, station))
+}
+
+/// How a run over these devices ends.
+fn end_of<R: AllocGlobal + Threads + Wait + Sync>(
+    rt: &R,
+    words: &WordList,
+    mut directory: MemSource,
+    capture: MemSource,
+    mut lines: MemLines,
+    station: MemStation,
+) -> (Status, MemStation) {
+    let alloc = rt.alloc();
     let (status, station, _) = run(
         rt,
         alloc,
-        &list,
+        words,
         &mut directory,
         capture,
         station,
         &mut lines,
         &FreeGate,
     );
-    Ok((status, station))
+    (status, station)
 }
 
 /// Runs words over a directory, a capture and a new station.
@@ -108,16 +132,6 @@ fn replayed<R: AllocGlobal + Threads + Wait + Sync>(
     run_on(rt, &["replay"], directory, capture, failing, station)
 }
 
-/// Replays a capture over the journal that is there.
-fn replayed_on<R: AllocGlobal + Threads + Wait + Sync>(
-    rt: &R,
-    directory: &[u8],
-    capture: &[u8],
-    station: MemStation,
-) -> Result<(Status, MemStation), Fail> {
-    run_on(rt, &["replay"], directory, capture, &NONE, station)
-}
-
 /// The bytes of a text in which `^` stands for SOH, `|` for a line end and `$` for ETX.
 fn spelled(alloc: Global, text: &[u8]) -> Result<Vec<u8>, Fail> {
     let mut bytes = Vec::new(alloc);
@@ -135,53 +149,138 @@ fn spelled(alloc: Global, text: &[u8]) -> Result<Vec<u8>, Fail> {
 /// The frame of a message that is spelled without its first and its last line end: the two letters of the type, a blank and
 /// the circuit, which is passed over, stand in front of it.
 fn framed(alloc: Global, step: &str) -> Result<Vec<u8>, Fail> {
-    let mut message = Vec::from_slice(alloc, b"\x01\r\r\n")?;
-    let text = step.as_bytes().get(6..).ok_or("a message")?;
-    message.extend_from_slice(&spelled(alloc, text)?)?;
-    message.extend_from_slice(b"\r\r\n\x03")?;
+    let text = spelled(alloc, step.as_bytes().get(6..).ok_or("a message")?)?;
+    let message = [b"\x01\r\r\n".as_slice(), &text, b"\r\r\n\x03"].concat(alloc)?;
+    let letters = step.as_bytes().get(..2).ok_or("the letters of a type")?;
     let length = digits_of::<8>(u32::try_from(message.len())?);
-    let mut frame = Vec::from_slice(alloc, &length)?;
-    frame.extend_from_slice(step.as_bytes().get(..2).ok_or("the letters of a type")?)?;
-    frame.extend_from_slice(&message)?;
-    Ok(frame)
+    Ok([length.as_slice(), letters, &message].concat(alloc)?)
 }
 
-/// A capture of these steps and its end. A step that begins with the letters of a frame's type is a feed with that frame,
-/// one that begins with `F` a feed with these bytes as they are spelled.
+/// The frames of these messages.
+fn frames_of(alloc: Global, steps: &[&str]) -> Result<Vec<u8>, Fail> {
+    let mut frames = Vec::new(alloc);
+    for step in steps {
+        frames.extend_from_slice(&framed(alloc, step)?)?;
+    }
+    Ok(frames)
+}
+
+/// The line of a feed on the circuit of these digits, and the bytes that are fed.
+fn feed_of(alloc: Global, circuit: &[u8], fed: &[u8]) -> Result<Vec<u8>, Fail> {
+    let length = digits_of::<6>(u32::try_from(fed.len())?);
+    Ok([b"F ".as_slice(), circuit, b" ", &length, b"\n", fed].concat(alloc)?)
+}
+
+/// The feed of a step that spells its bytes.
+fn spelled_feed(alloc: Global, step: &[u8]) -> Result<Vec<u8>, Fail> {
+    let fed = spelled(alloc, step.get(5..).ok_or("a feed")?)?;
+    feed_of(alloc, step.get(2..4).ok_or("a circuit")?, &fed)
+}
+
+/// The feed of a step that is a frame.
+fn framed_feed(alloc: Global, step: &str) -> Result<Vec<u8>, Fail> {
+    let fed = framed(alloc, step)?;
+    feed_of(alloc, step.as_bytes().get(3..5).ok_or("a circuit")?, &fed)
+}
+
+/// What a step stands for in a capture. A step that begins with the letters of a frame's type is a feed with that frame, one
+/// that begins with `F` a feed with these bytes as they are spelled.
+fn step_of(alloc: Global, step: &str) -> Result<Vec<u8>, Fail> {
+    match step.as_bytes() {
+        [b'A' | b'B', b'N' | b'I', ..] => framed_feed(alloc, step),
+        [b'F', ..] => spelled_feed(alloc, step.as_bytes()),
+        bytes => Ok([bytes, b"\n"].concat(alloc)?),
+    }
+}
+
+/// A capture of these steps and its end.
 fn captured(alloc: Global, steps: &[&str]) -> Result<Vec<u8>, Fail> {
     let mut capture = Vec::new(alloc);
     for step in steps {
-        let bytes = step.as_bytes();
-        let (circuit, fed) = match bytes {
-            [b'A' | b'B', b'N' | b'I', ..] => (bytes.get(3..5), framed(alloc, step)?),
-            [b'F', ..] => (
-                bytes.get(2..4),
-                spelled(alloc, bytes.get(5..).ok_or("a feed")?)?,
-            ),
-            _ => {
-                capture.extend_from_slice(bytes)?;
-                capture.push(b'\n')?;
-                continue;
-            }
-        };
-        capture.extend_from_slice(b"F ")?;
-        capture.extend_from_slice(circuit.ok_or("a circuit")?)?;
-        capture.push(b' ')?;
-        capture.extend_from_slice(&digits_of::<6>(u32::try_from(fed.len())?))?;
-        capture.push(b'\n')?;
-        capture.extend_from_slice(&fed)?;
+        capture.extend_from_slice(&step_of(alloc, step)?)?;
     }
     capture.extend_from_slice(b"E\n")?;
     Ok(capture)
 }
 
 /// A directory of these pieces.
-fn directory_of(alloc: Global, pieces: &[&str]) -> Result<Vec<u8>, Fail> {
+fn directory_of(alloc: Global, pieces: &[&str]) -> Result<Vec<u8>, AllocError> {
     let mut text = Vec::new(alloc);
     for piece in pieces {
         text.extend_from_slice(piece.as_bytes())?;
     }
     Ok(text)
+}
+
+/// Replays bytes under a directory of these pieces over a new journal.
+fn replayed_bytes<R: AllocGlobal + Threads + Wait + Sync>(
+    rt: &R,
+    pieces: &[&str],
+    capture: &[u8],
+    failing: &Failing<'_>,
+) -> Result<(Status, MemStation), Fail> {
+    let directory = directory_of(rt.alloc(), pieces)?;
+    replayed(rt, &directory, capture, failing)
+}
+
+/// Replays a capture of these steps under a directory of these pieces over a new journal.
+fn replay_of<R: AllocGlobal + Threads + Wait + Sync>(
+    rt: &R,
+    pieces: &[&str],
+    steps: &[&str],
+    failing: &Failing<'_>,
+) -> Result<(Status, MemStation), Fail> {
+    let capture = captured(rt.alloc(), steps)?;
+    replayed_bytes(rt, pieces, &capture, failing)
+}
+
+/// Replays a capture of these steps under a directory of these pieces over the journal that is there.
+fn replay_on<R: AllocGlobal + Threads + Wait + Sync>(
+    rt: &R,
+    pieces: &[&str],
+    steps: &[&str],
+    station: MemStation,
+) -> Result<(Status, MemStation), Fail> {
+    let alloc = rt.alloc();
+    let directory = directory_of(alloc, pieces)?;
+    let capture = captured(alloc, steps)?;
+    run_on(rt, &["replay"], &directory, &capture, &NONE, station)
+}
+
+/// Runs a word that reads no capture, under a directory of these pieces.
+fn command_on<R: AllocGlobal + Threads + Wait + Sync>(
+    rt: &R,
+    word: &str,
+    pieces: &[&str],
+    station: MemStation,
+) -> Result<(Status, MemStation), Fail> {
+    let directory = directory_of(rt.alloc(), pieces)?;
+    run_on(rt, &[word], &directory, b"", &NONE, station)
+}
+
+/// A station on which nothing was done.
+fn new_station<R: AllocGlobal>(rt: &R) -> Result<MemStation, Fail> {
+    Ok(MemStation::new(rt.alloc(), &[])?)
+}
+
+/// A run ended so, with these receipts.
+fn ended<R: Abort>(rt: &R, row: usize, end: &(Status, MemStation), wanted: Status, receipts: &str) {
+    assert_eq!(rt; end.0, wanted, "row {row}");
+    assert_eq!(rt; end.1.said(0), receipts.as_bytes(), "row {row}");
+}
+
+/// The frames of these messages, and no others, were said on this circuit.
+fn has_frames<R: AllocGlobal + Abort>(
+    rt: &R,
+    row: usize,
+    station: &MemStation,
+    circuit: u32,
+    steps: &[&str],
+) -> Result<(), Fail> {
+    let frames = frames_of(rt.alloc(), steps)?;
+    let circuit = if circuit < 64 { circuit } else { 0 };
+    assert_eq!(rt; station.said(circuit + 1), frames.as_slice(), "row {row}");
+    Ok(())
 }
 
 /// What a capture says under a directory: the receipts, and on a circuit the frames of these messages.
@@ -442,40 +541,42 @@ fn rows() -> &'static [Row<'static>] {
     ROWS
 }
 
+/// A row says its receipts and its frames.
+fn row_is_said<R: AllocGlobal + Threads + Wait + Sync + Abort>(
+    rt: &R,
+    i: usize,
+    row: &Row<'_>,
+) -> Result<(), Fail> {
+    let end = replay_of(rt, row.directory, row.steps, &NONE)?;
+    ended(rt, i, &end, Status::Done, row.receipts);
+    has_frames(rt, i, &end.1, row.circuit, row.frames)
+}
+
 #[test]
 fn each_row_says_its_receipts_and_frames(rt: HostRuntime) -> Result<(), Fail> {
-    let alloc = rt.alloc();
     for (i, row) in rows().iter().enumerate() {
-        let directory = directory_of(alloc, row.directory)?;
-        let capture = captured(alloc, row.steps)?;
-        let (status, station) = replayed(&rt, &directory, &capture, &NONE)?;
-        assert_eq!(rt; status, Status::Done, "row {i}");
-        assert_eq!(rt; station.said(0), row.receipts.as_bytes(), "row {i}");
-        let mut frames = Vec::new(alloc);
-        for frame in row.frames {
-            frames.extend_from_slice(&framed(alloc, frame)?)?;
-        }
-        let circuit = if row.circuit < 64 { row.circuit } else { 0 };
-        assert_eq!(rt; station.said(circuit + 1), frames.as_slice(), "row {i}");
+        row_is_said(&rt, i, row)?;
     }
     Ok(())
 }
 
-#[test]
-fn a_frame_may_be_cut_anywhere(rt: HostRuntime) -> Result<(), Fail> {
-    let alloc = rt.alloc();
+/// A capture in which each byte of a frame is fed alone.
+fn fed_alone(alloc: Global, step: &str) -> Result<Vec<u8>, Fail> {
     let mut capture = Vec::new(alloc);
-    for byte in framed(alloc, BULLETIN)?.iter() {
+    for byte in framed(alloc, step)?.iter() {
         capture.extend_from_slice(b"F 00 000001\n")?;
         capture.push(*byte)?;
     }
     capture.extend_from_slice(b"T 01\nE\n")?;
-    let directory = directory_of(alloc, AB)?;
-    let (status, station) = replayed(&rt, &directory, &capture, &NONE)?;
-    assert_eq!(rt; status, Status::Done);
-    assert_eq!(rt; station.said(0), ACCEPTED.as_bytes());
-    assert_eq!(rt; station.said(2), framed(alloc, BULLETIN)?.as_slice());
-    Ok(())
+    Ok(capture)
+}
+
+#[test]
+fn a_frame_may_be_cut_anywhere(rt: HostRuntime) -> Result<(), Fail> {
+    let capture = fed_alone(rt.alloc(), BULLETIN)?;
+    let end = replayed_bytes(&rt, AB, &capture, &NONE)?;
+    ended(&rt, 0, &end, Status::Done, ACCEPTED);
+    has_frames(&rt, 0, &end.1, 1, &[BULLETIN])
 }
 
 /// A message of 500,000 bytes, as a step of a capture.
@@ -484,27 +585,25 @@ fn longest_step(alloc: Global, number: &str, text: usize) -> Result<Vec<u8>, Fai
     Ok([b"AN 00 ", number.as_bytes(), b"|SMVG01 TVSV 280000|", &text].concat(alloc)?)
 }
 
+/// How a capture of the longest body, and of a longer one, ends.
+fn longest_replayed<R: AllocGlobal + Threads + Wait + Sync>(
+    rt: &R,
+) -> Result<(Status, MemStation), Fail> {
+    let longest = longest_step(rt.alloc(), "00001", 499_963)?;
+    let longer = longest_step(rt.alloc(), "001", 499_965)?;
+    let longest = std::str::from_utf8(&longest)?;
+    let longer = std::str::from_utf8(&longer)?;
+    replay_of(rt, AB, &[longest, longer, "T 01", "T 01"], &NONE)
+}
+
 #[test]
 fn the_longest_body_is_sent_on(rt: HostRuntime) -> Result<(), Fail> {
-    let alloc = rt.alloc();
-    let longest = longest_step(alloc, "00001", 499_963)?;
-    let longer = longest_step(alloc, "001", 499_965)?;
-    let steps = [
-        std::str::from_utf8(&longest)?,
-        std::str::from_utf8(&longer)?,
-        "T 01",
-        "T 01",
-    ];
-    let capture = captured(alloc, &steps)?;
-    let directory = directory_of(alloc, AB)?;
-    let (status, station) = replayed(&rt, &directory, &capture, &NONE)?;
-    assert_eq!(rt; status, Status::Done);
-    assert_eq!(rt;
-        station.said(0),
-        b"ACC 0 0 1 SMVG01 TVSV 280000\nREF 0 Size\n".as_slice()
-    );
-    let sent = longest_step(alloc, "001", 499_963)?;
-    assert!(rt; station.said(2) == framed(alloc, std::str::from_utf8(&sent)?)?.as_slice());
+    let receipts = "ACC 0 0 1 SMVG01 TVSV 280000\nREF 0 Size\n";
+    let end = longest_replayed(&rt)?;
+    ended(&rt, 0, &end, Status::Done, receipts);
+    let sent = longest_step(rt.alloc(), "001", 499_963)?;
+    let frame = framed(rt.alloc(), std::str::from_utf8(&sent)?)?;
+    assert!(rt; end.1.said(2) == frame.as_slice());
     Ok(())
 }
 
@@ -525,62 +624,73 @@ fn bulletins(alloc: Global, count: u32, behind: &[u8]) -> Result<Vec<u8>, Fail> 
     Ok(steps)
 }
 
+/// Sixteen requests for 256 numbers each, which leave as many owed as may be, and what comes behind them.
+fn requests(alloc: Global) -> Result<Vec<&'static str>, AllocError> {
+    let request = "AN 01 001|BMRR01 TVSV 281030|BBBB|SQN 001-256=";
+    let mut asked = vec![in alloc; request; 16]?;
+    let behind = [
+        "AN 01 001|BMRR01 TVSV 281030|BBBB|SQN 001=",
+        "T 01",
+        "AN 01 001|BMRR01 TVSV 281030|BBBB|SQN 001=",
+    ];
+    asked.extend_from_slice(&behind)?;
+    Ok(asked)
+}
+
+/// Bulletins that are drawn, and then those requests.
+fn much_is_asked(alloc: Global) -> Result<Vec<u8>, Fail> {
+    let steps = bulletins(alloc, 256, b"T 01\n")?;
+    let asked = captured(alloc, &requests(alloc)?)?;
+    Ok([steps.as_slice(), &asked].concat(alloc)?)
+}
+
 #[test]
 fn no_more_than_4096_are_owed(rt: HostRuntime) -> Result<(), Fail> {
-    let alloc = rt.alloc();
-    let steps = bulletins(alloc, 256, b"T 01\n")?;
-    // Sixteen requests for 256 numbers each leave as many owed as may be.
-    let request = "AN 01 001|BMRR01 TVSV 281030|BBBB|SQN 001-256=";
-    let mut asked = Vec::new(alloc);
-    for _ in 0..16 {
-        asked.push(request)?;
-    }
-    asked.push("AN 01 001|BMRR01 TVSV 281030|BBBB|SQN 001=")?;
-    asked.push("T 01")?;
-    asked.push("AN 01 001|BMRR01 TVSV 281030|BBBB|SQN 001=")?;
-    let asked = captured(alloc, &asked)?;
-    let capture = [steps.as_slice(), &asked].concat(alloc)?;
-    let directory = directory_of(alloc, &[TOP, "window = 1\n", A, B, "kept = 256\n", RULE])?;
-    let (status, station) = replayed(&rt, &directory, &capture, &NONE)?;
+    let capture = much_is_asked(rt.alloc())?;
+    let directory = [TOP, "window = 1\n", A, B, "kept = 256\n", RULE];
+    let (status, station) = replayed_bytes(&rt, &directory, &capture, &NONE)?;
     assert_eq!(rt; status, Status::Done);
-    assert!(rt;
-        station
-            .said(0)
-            .ends_with(b"ASK 1 256 0\nASK 1 256 0\nREF 1 Many\nASK 1 1 0\n")
-    );
+    let last = b"ASK 1 256 0\nASK 1 256 0\nREF 1 Many\nASK 1 1 0\n";
+    assert!(rt; station.said(0).ends_with(last));
     assert_eq!(rt; station.said(2).len(), 257 * 49);
     Ok(())
 }
 
+/// A capture's bytes are done up to there, with these receipts.
+fn is_done_up_to<R: AllocGlobal + Threads + Wait + Sync + Abort>(
+    rt: &R,
+    i: usize,
+    capture: &[u8],
+    wanted: Status,
+    receipts: &str,
+) -> Result<(), Fail> {
+    let end = replayed_bytes(rt, AB, capture, &NONE)?;
+    ended(rt, i, &end, wanted, receipts);
+    Ok(())
+}
+
+#[test]
+fn a_capture_that_is_cut_or_goes_on(rt: HostRuntime) -> Result<(), Fail> {
+    let whole = captured(rt.alloc(), &[BULLETIN])?;
+    let front = whole.get(..32).ok_or("a front")?;
+    is_done_up_to(&rt, 0, front, Status::Capture { at: 32 }, "")?;
+    let behind = [whole.as_slice(), b"T"].concat(rt.alloc())?;
+    is_done_up_to(&rt, 2, &behind, Status::Done, ACCEPTED)
+}
+
+#[test]
+fn a_feed_that_is_too_long_is_done(rt: HostRuntime) -> Result<(), Fail> {
+    let whole = captured(rt.alloc(), &[BULLETIN])?;
+    let frame = whole.get(12..61).ok_or("a frame")?;
+    let long = [b"F 00 000060\n".as_slice(), frame].concat(rt.alloc())?;
+    is_done_up_to(&rt, 1, &long, Status::Capture { at: 61 }, ACCEPTED)
+}
+
 #[test]
 fn a_bad_capture_is_done_up_to_its_first_bad_place(rt: HostRuntime) -> Result<(), Fail> {
-    let alloc = rt.alloc();
-    let directory = directory_of(alloc, AB)?;
-    let whole = captured(alloc, &[BULLETIN])?;
-    let long = [
-        b"F 00 000060\n".as_slice(),
-        whole.get(12..61).ok_or("a frame")?,
-    ]
-    .concat(alloc)?;
-    let behind = [whole.as_slice(), b"T"].concat(alloc)?;
-    let rows = [
-        (
-            whole.get(..32).ok_or("a front")?,
-            Status::Capture { at: 32 },
-            "",
-        ),
-        (long.as_slice(), Status::Capture { at: 61 }, ACCEPTED),
-        (behind.as_slice(), Status::Done, ACCEPTED),
-        (b"T 02\nE\n", Status::Capture { at: 3 }, ""),
-        (b"E", Status::Capture { at: 1 }, ""),
-        (b"", Status::Capture { at: 0 }, ""),
-    ];
-    for (i, (capture, wanted, receipts)) in rows.iter().enumerate() {
-        let (status, station) = replayed(&rt, &directory, capture, &NONE)?;
-        assert_eq!(rt; status, *wanted, "capture {i}");
-        assert_eq!(rt; station.said(0), receipts.as_bytes(), "capture {i}");
-    }
-    Ok(())
+    is_done_up_to(&rt, 3, b"T 02\nE\n", Status::Capture { at: 3 }, "")?;
+    is_done_up_to(&rt, 4, b"E", Status::Capture { at: 1 }, "")?;
+    is_done_up_to(&rt, 5, b"", Status::Capture { at: 0 }, "")
 }
 
 /// Directories at fault, each with its fault.
@@ -642,56 +752,96 @@ fn faulty_directories() -> &'static [(&'static [&'static str], DirFault)] {
     FAULTY_DIRECTORIES
 }
 
-#[test]
-fn a_directory_at_fault_is_told_and_nothing_is_said(rt: HostRuntime) -> Result<(), Fail> {
-    let alloc = rt.alloc();
-    let capture = captured(alloc, &[BULLETIN])?;
-    for (i, (pieces, fault)) in faulty_directories().iter().enumerate() {
-        let directory = directory_of(alloc, pieces)?;
-        let (status, station) = run_words(&rt, &["replay"], &directory, &capture, &NONE)?;
-        assert_eq!(rt; status, Status::Directory(*fault), "directory {i}");
-        assert_eq!(rt; station.calls(), 0, "directory {i}");
-    }
+/// A replay under a directory at fault tells the fault, and makes no call.
+fn is_told<R: AllocGlobal + Threads + Wait + Sync + Abort>(
+    rt: &R,
+    i: usize,
+    pieces: &[&str],
+    fault: DirFault,
+) -> Result<(), Fail> {
+    let station = new_station(rt)?;
+    let (status, station) = replay_on(rt, pieces, &[BULLETIN], station)?;
+    assert_eq!(rt; status, Status::Directory(fault), "directory {i}");
+    assert_eq!(rt; station.calls(), 0, "directory {i}");
     Ok(())
 }
 
 #[test]
-fn a_directory_with_too_much_is_refused(rt: HostRuntime) -> Result<(), Fail> {
-    let alloc = rt.alloc();
+fn a_directory_at_fault_is_told_and_nothing_is_said(rt: HostRuntime) -> Result<(), Fail> {
+    for (i, (pieces, fault)) in faulty_directories().iter().enumerate() {
+        is_told(&rt, i, pieces, *fault)?;
+    }
+    Ok(())
+}
+
+/// A directory of one circuit more than there may be.
+fn many_circuits(alloc: Global) -> Result<Vec<u8>, AllocError> {
     let mut circuits = directory_of(alloc, &[TOP])?;
     for i in 0..65 {
         circuits.extend_from_slice(b"[[circuit]]\npeer = \"AAAA\"\nname = \"")?;
         circuits.extend_from_slice(&digits_of::<2>(i))?;
         circuits.extend_from_slice(b"\"\n")?;
     }
-    let (status, _) = run_words(&rt, &["replay"], &circuits, b"E\n", &NONE)?;
+    Ok(circuits)
+}
+
+/// How a replay under a directory of these bytes ends.
+fn replayed_under<R: AllocGlobal + Threads + Wait + Sync>(
+    rt: &R,
+    directory: &[u8],
+) -> Result<Status, Fail> {
+    let (status, _) = run_words(rt, &["replay"], directory, b"E\n", &NONE)?;
+    Ok(status)
+}
+
+#[test]
+fn a_directory_with_too_much_is_refused(rt: HostRuntime) -> Result<(), Fail> {
+    let many = DirFault::TooMany {
+        part: Part::Circuit,
+    };
+    let circuits = many_circuits(rt.alloc())?;
+    assert_eq!(rt; replayed_under(&rt, &circuits)?, Status::Directory(many));
+    let long = vec![in rt.alloc(); b'#'; 262_145]?;
     assert_eq!(rt;
-        status,
-        Status::Directory(DirFault::TooMany {
-            part: Part::Circuit
-        })
+        replayed_under(&rt, &long)?,
+        Status::Directory(DirFault::TooLong)
     );
-    let long = vec![in alloc; b'#'; 262_145]?;
-    let (status, _) = run_words(&rt, &["replay"], &long, b"E\n", &NONE)?;
-    assert_eq!(rt; status, Status::Directory(DirFault::TooLong));
+    Ok(())
+}
+
+/// Words that are no command.
+const OTHER_WORDS: &[&[&str]] = &[
+    &[],
+    &["help"],
+    &["replay", "replay"],
+    &["init", "init"],
+    &["Replay"],
+    &["show", "show"],
+    &["serve", "serve"],
+    &["compact"],
+];
+
+/// Those words, of which a proof knows nothing.
+fn other_words() -> &'static [&'static [&'static str]] {
+    OTHER_WORDS
+}
+
+/// These words are no command, and make no call.
+fn is_no_command<R: AllocGlobal + Threads + Wait + Sync + Abort>(
+    rt: &R,
+    i: usize,
+    words: &[&str],
+) -> Result<(), Fail> {
+    let (status, station) = run_words(rt, words, b"", b"E\n", &NONE)?;
+    assert_eq!(rt; status, Status::Words, "list {i}");
+    assert_eq!(rt; station.calls(), 0, "list {i}");
     Ok(())
 }
 
 #[test]
 fn other_words_are_no_command_yet(rt: HostRuntime) -> Result<(), Fail> {
-    let lists = [
-        [].as_slice(),
-        &["help"],
-        &["replay", "replay"],
-        &["init", "init"],
-        &["Replay"],
-        &["show", "show"],
-        &["serve"],
-    ];
-    for (i, words) in lists.iter().enumerate() {
-        let (status, station) = run_words(&rt, words, b"", b"E\n", &NONE)?;
-        assert_eq!(rt; status, Status::Words, "list {i}");
-        assert_eq!(rt; station.calls(), 0, "list {i}");
+    for (i, words) in other_words().iter().enumerate() {
+        is_no_command(&rt, i, words)?;
     }
     Ok(())
 }
@@ -699,76 +849,147 @@ fn other_words_are_no_command_yet(rt: HostRuntime) -> Result<(), Fail> {
 /// The number of the first call of a replay: those before it make the journal.
 const FIRST: u64 = 8;
 
+/// Calls of the devices that fail in a run, how it ends, and its receipts. Four calls open the journal, four write the record
+/// of the bulletin, and then its receipt is said; as many write that of the draw, and then its frame is said.
+const BROKEN: &[(Failing<'static>, Status, &str)] = &[
+    (
+        Failing {
+            directory: &[0],
+            ..NONE
+        },
+        Status::SourceFault,
+        "",
+    ),
+    (
+        Failing {
+            capture: &[0],
+            ..NONE
+        },
+        Status::SourceFault,
+        "",
+    ),
+    // The first call that opens the journal, that writes the record, and the gate of the record.
+    (
+        Failing {
+            calls: &[FIRST],
+            ..NONE
+        },
+        Status::DiskFault,
+        "",
+    ),
+    (
+        Failing {
+            calls: &[FIRST + 4],
+            ..NONE
+        },
+        Status::DiskFault,
+        "",
+    ),
+    (
+        Failing {
+            calls: &[FIRST + 7],
+            ..NONE
+        },
+        Status::DiskFault,
+        "",
+    ),
+    // The receipt, the record of the draw, and the frame.
+    (
+        Failing {
+            calls: &[FIRST + 8],
+            ..NONE
+        },
+        Status::SayFault,
+        "",
+    ),
+    (
+        Failing {
+            calls: &[FIRST + 9],
+            ..NONE
+        },
+        Status::DiskFault,
+        ACCEPTED,
+    ),
+    (
+        Failing {
+            calls: &[FIRST + 13],
+            ..NONE
+        },
+        Status::SayFault,
+        ACCEPTED,
+    ),
+];
+
+/// The rows of that table, of which a proof knows nothing.
+fn broken() -> &'static [(Failing<'static>, Status, &'static str)] {
+    BROKEN
+}
+
+/// How a replay ends whose devices fail so: its journal was made before, by a station that fails at the same calls.
+fn replayed_broken<R: AllocGlobal + Threads + Wait + Sync>(
+    rt: &R,
+    failing: &Failing<'_>,
+) -> Result<(Status, MemStation), Fail> {
+    replay_of(rt, AB, &[BULLETIN, "T 01"], failing)
+}
+
+/// The devices that fail so end a replay so.
+fn is_ended<R: AllocGlobal + Threads + Wait + Sync + Abort>(
+    rt: &R,
+    i: usize,
+    failing: &Failing<'_>,
+    wanted: Status,
+    receipts: &str,
+) -> Result<(), Fail> {
+    let end = replayed_broken(rt, failing)?;
+    ended(rt, i, &end, wanted, receipts);
+    has_frames(rt, i, &end.1, 1, &[])
+}
+
 #[test]
 fn a_device_that_fails_ends_the_run(rt: HostRuntime) -> Result<(), Fail> {
-    let alloc = rt.alloc();
-    let directory = directory_of(alloc, AB)?;
-    let capture = captured(alloc, &[BULLETIN, "T 01"])?;
-    let first: &[u64] = &[0];
-    let none: &[u64] = &[];
-    // Four calls open the journal, four write the record of the bulletin, and then its receipt is said; as many write that of
-    // the draw, and then its frame is said.
-    let opening: &[u64] = &[FIRST];
-    let record: &[u64] = &[FIRST + 4];
-    let gate: &[u64] = &[FIRST + 7];
-    let receipt: &[u64] = &[FIRST + 8];
-    let draw: &[u64] = &[FIRST + 9];
-    let frame: &[u64] = &[FIRST + 13];
-    let rows = [
-        (first, none, none, Status::SourceFault, ""),
-        (none, first, none, Status::SourceFault, ""),
-        (none, none, opening, Status::DiskFault, ""),
-        (none, none, record, Status::DiskFault, ""),
-        (none, none, gate, Status::DiskFault, ""),
-        (none, none, receipt, Status::SayFault, ""),
-        (none, none, draw, Status::DiskFault, ACCEPTED),
-        (none, none, frame, Status::SayFault, ACCEPTED),
-    ];
-    for (i, (directory_calls, capture_calls, calls, wanted, receipts)) in rows.iter().enumerate() {
-        let failing = Failing {
-            directory: directory_calls,
-            capture: capture_calls,
-            calls,
-        };
-        let station = with_journal(&rt, &directory, calls)?;
-        let (status, station) = run_on(&rt, &["replay"], &directory, &capture, &failing, station)?;
-        assert_eq!(rt; status, *wanted, "row {i}");
-        assert_eq!(rt; station.said(0), receipts.as_bytes(), "row {i}");
-        assert_eq!(rt; station.said(2), b"".as_slice(), "row {i}");
+    for (i, (failing, wanted, receipts)) in broken().iter().enumerate() {
+        is_ended(&rt, i, failing, *wanted, receipts)?;
     }
     Ok(())
 }
 
 #[test]
 fn a_journal_is_made_once(rt: HostRuntime) -> Result<(), Fail> {
-    let directory = directory_of(rt.alloc(), AB)?;
-    let (status, station) = run_words(&rt, &["init"], &directory, b"", &NONE)?;
-    assert_eq!(rt; status, Status::Done);
-    assert_eq!(rt; station.file(0).len(), 41);
-    assert_eq!(rt; station.said(0), b"".as_slice());
-    let (status, station) = run_on(&rt, &["init"], &directory, b"", &NONE, station)?;
+    let station = new_station(&rt)?;
+    let end = command_on(&rt, "init", AB, station)?;
+    ended(&rt, 0, &end, Status::Done, "");
+    assert_eq!(rt; end.1.file(0).len(), 41);
+    let (status, station) = command_on(&rt, "init", AB, end.1)?;
     assert_eq!(rt; status, Status::Exists { size: 41 });
     assert_eq!(rt; station.file(0).len(), 41);
     Ok(())
 }
 
 #[test]
-fn init_under_a_directory_at_fault_or_a_disk_that_fails(rt: HostRuntime) -> Result<(), Fail> {
-    let directory = directory_of(rt.alloc(), AB)?;
-    let (status, station) = run_words(&rt, &["init"], b"", b"", &NONE)?;
+fn init_under_a_directory_at_fault(rt: HostRuntime) -> Result<(), Fail> {
+    let station = new_station(&rt)?;
+    let (status, station) = command_on(&rt, "init", &[], station)?;
     let fault = DirFault::BadKey {
         part: Part::Top,
         row: 0,
     };
     assert_eq!(rt; status, Status::Directory(fault));
     assert_eq!(rt; station.calls(), 0);
+    Ok(())
+}
+
+/// How `init` ends over a station that fails at this call.
+fn init_failing<R: AllocGlobal + Threads + Wait + Sync>(rt: &R, call: u64) -> Result<Status, Fail> {
+    let station = MemStation::new(rt.alloc(), &[call])?;
+    let (status, _) = command_on(rt, "init", AB, station)?;
+    Ok(status)
+}
+
+#[test]
+fn init_on_a_disk_that_fails(rt: HostRuntime) -> Result<(), Fail> {
     for call in 0..8 {
-        let failing = Failing {
-            calls: &[call],
-            ..NONE
-        };
-        let (status, _) = run_words(&rt, &["init"], &directory, b"", &failing)?;
-        assert_eq!(rt; status, Status::DiskFault, "call {call}");
+        assert_eq!(rt; init_failing(&rt, call)?, Status::DiskFault, "call {call}");
     }
     Ok(())
 }

@@ -3,6 +3,7 @@ use Rattle.std.proofs.Common.{◌≡◌, ℕ, ◌+◌, ◌⊎◌, ◌<◌, ◌�
 use Rattle.std.specs.List.{filter}
 use mathlib.Core.Option.{some, some-injective, some-ne-none}
 use lib.ListN.{get_elem?}
+use Rattle.gts_lock.specs.declared.limits.TheConstants.{MOST_TURNS}
 use Rattle.gts_lock.specs.{Known, entries, entries_under, StartsWith, AllJoined, Accounts, NamesAreJoined, after_join}
 use Rattle.gts_event.specs.declared.event.Entry.{Entry}
 use Rattle.gts_housed.specs.{Beginning}
@@ -88,9 +89,10 @@ module _ (b : Beginning) {S K : Type 0} (source_tells : Type 0) (left : S → Li
   module _ (p : Known Entry) (lines : List (Line S K)) (works : List (Work S K)) where
     -- over the whole history each line stands for what it has under the worker's name
     pub all_stand : AreGathered b source_tells left source_faults sink_tells written sink_faults p lines (length works) works → Accounts p p.seen
+        → (p.full ≡ true → length p.seen ≡ MOST_TURNS)
         → ((k : ℕ) (w : Work S K) → get_elem? works k ≡ some w → w.ended ≡ true)
         → AllStand b source_tells left source_faults sink_tells written sink_faults p.seen lines works
-    all_stand gathered accounts ended k w at =
+    all_stand gathered accounts spent ended k w at =
         let g = gathered k w (at_less works k w at) at in
         record {
           line = g.line;
@@ -98,6 +100,7 @@ module _ (b : Beginning) {S K : Type 0} (source_tells : Type 0) (left : S → Li
           pass = g.pass;
           front = g.front;
           own = sym (accounts.1 k (g.pass.name, g.pass.own) g.joined_at) ∙ g.keeps.knows;
+          full = λ e. spent (g.full e);
           keeps = g.keeps;
           ended = g.ended ∙ ended k w at;
         }

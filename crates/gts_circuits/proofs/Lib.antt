@@ -1,4 +1,4 @@
-mod PlacesLemmas
-mod StaffLemmas
+pub mod PlacesLemmas
+pub mod StaffLemmas
 mod GatheredLemmas
 mod TestLemmas

@@ -1,7 +1,8 @@
 -- What is known of all workers that were joined.
-use Rattle.std.specs.Prelude.{◌≡◌, ℕ, ◌<◌, ◌≤◌, true, List}
+use Rattle.std.specs.Prelude.{◌≡◌, ℕ, ◌<◌, ◌≤◌, true, List, length}
 use mathlib.Core.Option.{some}
 use lib.ListN.{get_elem?}
+use Rattle.gts_lock.specs.declared.limits.TheConstants.{MOST_TURNS}
 use Rattle.gts_lock.specs.{Known, entries_under, StartsWith}
 use Rattle.gts_event.specs.declared.event.Entry.{Entry}
 use Rattle.gts_housed.specs.{Beginning}
@@ -32,6 +33,8 @@ module _ (b : Beginning) {S K : Type 0} (source_tells : Type 0) (left : S → Li
     pub pass : Known Entry
     pub front : StartsWith history pass.seen
     pub own : entries_under pass.name history ≡ entries_under pass.name pass.seen
+    -- it found no turn left only where none is left
+    pub full : pass.full ≡ true → length history ≡ MOST_TURNS
     pub keeps : PassKeeps b source_tells left source_faults sink_tells written sink_faults w.circuit w.hall w.first line pass
     pub ended : has_end line ≡ true
 

@@ -55,6 +55,7 @@ where
     ensures own { result.own ≡ first.own }
     ensures joined { AllJoined result }
     ensures counted { length result.joined ≡ 2 * length sockets.items }
+    ensures count { length lines.new.items ≡ 2 * length sockets.items }
     ensures gathered { AreGathered B.beginning S.tells S.left S.faults K.tells K.written K.faults
         result lines.new.items (2 * length sockets.items)
         (map ends (works_of hall.now sockets.items)) }
@@ -94,6 +95,7 @@ where
     ensures lines { IfOk result (λ ran. (hall : TableId)
         × AllStand B.beginning S.tells S.left S.faults K.tells K.written K.faults
         ran.pass.seen ran.lines.items (map ends (works_of hall sockets.items))) }
+    ensures count { IfOk result (λ ran. length ran.lines.items ≡ 2 * length sockets.items) }
     ensures names { IfOk result (λ ran. NamesAreUpTo (2 * length sockets.items) ran.pass.seen) }
     ensures full { IfOk result (λ ran. ran.pass.full ≡ true → length ran.pass.seen ≡ MOST_TURNS) }
 

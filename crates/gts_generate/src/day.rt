@@ -95,6 +95,20 @@ fn run(alloc: Global, count: u32, engine: &mut Engine<MemStation>) -> Result<(),
     }
 }
 
+/// The summary of a day of so many messages that was done.
+fn summarised(alloc: Global, count: u32, engine: Engine<MemStation>) -> Result<ReportText, NoMemory>
+    requires few { count ≤ MOST_MESSAGES }
+    requires ends { EndsDay count engine }
+    ensures { IfOk result (λ text. text ≡ day.day_summary count) }
+{
+    let need = engine.need(alloc)?;
+    let used = engine.used();
+    let (station, _directory) = engine.into_parts();
+    let mut text = ReportText::new();
+    summary(alloc, count, &station, &need, used, &mut text)?;
+    Ok(text)
+}
+
 /// Runs a day of so many messages over a switch in memory, which begins with nothing, and gives the summary of its history.
 /// `Full` where the journal is full for a message of it.
 pub fn day_summary(alloc: Global, count: u32) -> Result<ReportText, DayFault>
@@ -104,11 +118,8 @@ pub fn day_summary(alloc: Global, count: u32) -> Result<ReportText, DayFault>
         → IsFullOn count used need limit }
 {
     let mut engine = begin(alloc)?;
-    run(alloc, count, &mut engine)?;
-    let need = engine.need(alloc)?;
-    let used = engine.used();
-    let (station, _directory) = engine.into_parts();
-    let mut text = ReportText::new();
-    summary(alloc, count, &station, &need, used, &mut text)?;
-    Ok(text)
+    match run(alloc, count, &mut engine) {
+        Ok(()) => Ok(summarised(alloc, count, engine)?),
+        Err(fault) => Err(fault),
+    }
 }

@@ -1,2 +1,2 @@
 mod StandingLemmas
-mod TurningLemmas
+pub mod TurningLemmas

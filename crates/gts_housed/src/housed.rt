@@ -56,11 +56,12 @@ impl<P: Station, B: Began> Housed<P, B> {
     }
 
     /// One take on circuit `c`: what it gives is left in `out`, and the station says nothing of it.
-    pub(crate) fn take(&mut self, c: u32, out: &mut FrameBuf) -> Result<Outcome, SwitchFault>
+    pub fn take(&mut self, c: u32, out: &mut FrameBuf) -> Result<Outcome, SwitchFault>
         requires { c < length self.old.engine.directory.circuits }
         ensures adds { Turns P.tells P.calls P.disk_faults P.say_faults B.beginning
             (Taken c) (LeavesFrame B.beginning.origin.directory c out.new)
             result self.old.engine self.new.engine }
+        ensures directory { self.new.engine.directory ≡ self.old.engine.directory }
         ensures silent { result ≢ Err SwitchFault.SayFault }
         ensures no_memory { Never P.tells P.calls P.disk_faults P.say_faults B.beginning
             SwitchFault.NoMemory result self.old.engine }

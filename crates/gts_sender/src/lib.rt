@@ -6,7 +6,8 @@ mod sending;
 mod writing;
 
 pub use end::SendEnd;
-pub use sending::send;
+pub use sending::{index_of, send};
+pub use writing::write_all;
 
 #[cfg(test)]
 mod tests;

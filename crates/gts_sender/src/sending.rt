@@ -81,7 +81,7 @@ fn send_one<D: Desk, K: Sink, G: Gate>(
 }
 
 /// The index of the frame that a take left, where it gave something.
-fn index_of(outcome: Outcome) -> Option<u64>
+pub fn index_of(outcome: Outcome) -> Option<u64>
     ensures { result ≡ given_index outcome }
 {
     match outcome {

@@ -47,6 +47,9 @@ impl fmt::Display for FaultLine {
             Status::Full { used, need, limit } => {
                 write!(f, "journal: full, used {used} need {need} limit {limit}")
             }
+            Status::LineFault { c } => write!(f, "line fault on circuit {c}"),
+            Status::LongSession { c } => write!(f, "session too long on circuit {c}"),
+            Status::Spent { c } => write!(f, "tickets spent on circuit {c}"),
             Status::NoMemory => write!(f, "no memory"),
         }
     }
@@ -69,6 +72,9 @@ pub fn exit_status(status: Status) -> u8
         Status::SayFault => 7,
         Status::SourceFault => 8,
         Status::Full { .. } => 9,
+        Status::LineFault { .. } => 10,
+        Status::LongSession { .. } => 10,
+        Status::Spent { .. } => 10,
         Status::NoMemory => 11,
     }
 }

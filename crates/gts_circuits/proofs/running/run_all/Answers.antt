@@ -21,7 +21,7 @@ returns-clause-lines g c =
       hall,
       subst P (sym c.close-housed-2.ensures.pass)
           (all_stand g.B.Began.beginning g.S.Source.tells g.S.Source.left g.S.Source.faults g.K.Sink.tells g.K.Sink.written g.K.Sink.faults p lines works
-          (subst G (sym (count_works hall sockets)) c.work-first.ensures.gathered) c.close-housed-2.ensures.accounts (each_ended hall sockets)),
+          (subst G (sym (count_works hall sockets)) c.work-first.ensures.gathered) c.close-housed-2.ensures.accounts c.close-housed-2.ensures.full (each_ended hall sockets)),
     )
 
 pub returns-clause-names : goal.returns-clause-names

@@ -75,5 +75,15 @@ returns-clause-counted g c =
     let all = after_all ends (works_of hall sockets) new.items c.as_mut_slice.result.now c.work_all.new.workers new.len is c.as_mut_slice.ensures.value new.ok.0 kept c.work_all.ensures in
     c.gather.ensures.joined ∙ ap (λ (l : List (Work _ _)). length l) all ∙ count_works hall sockets
 
+pub returns-clause-count : goal.returns-clause-count
+returns-clause-count g c =
+    let hall = c.args.hall.now in
+    let sockets = c.args.sockets.items in
+    let new = c.line_up.new.workers in
+    let is : new.items ≡ works_of hall sockets = c.line_up.ensures ∙ ap (λ (l : List (Work _ _)). l ++ c.staff-first.new.senders.items) c.staff-first.ensures.receivers ∙ ap (λ (l : List (Work _ _)). receivers_of hall 0 sockets ++ l) c.staff-first.ensures.senders in
+    let kept : length c.work_all.new.workers ≡ length c.as_mut_slice.result.now = search rules in
+    let all = after_all ends (works_of hall sockets) new.items c.as_mut_slice.result.now c.work_all.new.workers new.len is c.as_mut_slice.ensures.value new.ok.0 kept c.work_all.ensures in
+    c.gather.ensures.count ∙ ap (λ (l : List (Work _ _)). length l) all ∙ count_works hall sockets
+
 pub returns-clause-own : goal.returns-clause-own
 returns-clause-own g c = c.gather.ensures.pass.1 ∙ ap (λ (p : Known _). p.own) c.staff-first.ensures.pass

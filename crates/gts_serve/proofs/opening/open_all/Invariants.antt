@@ -1,0 +1,16 @@
+use Rattle.std.proofs.Common.{◌≡◌, ◌≤◌, ◌++◌, length, vec_capacity}
+use Rattle.gts_serve.specs.Serving.{seen_lines}
+use Rattle.gts_serve.specs.Standing.{AreOpened}
+use Rattle.gts_serve.proofs.opening.open_all.Given as goal
+
+-- the circuits so far are open
+abbrev pub invariant-loop-decoder : goal.invariant-loop-decoder
+invariant-loop-decoder g l = record {
+  can : (goal.iterator-loop-decoder g).can_next l.decoder-iterator × (goal.iterator-loop-decoder g).is_finite l.decoder-iterator;
+  split : l.yielded ++ l.decoder-iterator.rest.items ≡ l.fn.rooms.items;
+  place : l.c ≡ length l.yielded;
+  count : length l.sockets.items ≡ length l.yielded;
+  room : length l.fn.rooms.items ≤ vec_capacity l.sockets;
+  opened : AreOpened g.L.In.Source.tells g.L.In.Source.left g.L.In.Source.faults g.L.Out.Sink.tells g.L.Out.Sink.written g.L.Out.Sink.faults
+      (seen_lines g.L.Lines.is_open g.L.Lines.faults g.L.Lines.bytes l.fn.lines) (seen_lines g.L.Lines.is_open g.L.Lines.faults g.L.Lines.bytes l.lines) l.sockets.items l.c;
+}

@@ -1,0 +1,181 @@
+-- What a run of all circuits leaves: the history of all threads and the takes behind it, the bytes of each circuit, and its end.
+use Rattle.std.specs.Prelude.{◌≡◌, ◌⊎◌, ℕ, ◌+◌, ◌*◌, ◌<◌, ◌≤◌, Bool, true, false, List, [], ◌∷◌, ◌++◌, length, Option, Some, None}
+use mathlib.Core.Option.{some}
+use lib.ListN.{get_elem?}
+use Rattle.atomic_table.specs.Seated.{TableId}
+use Rattle.gts_traits.specs.Calls.{Call}
+use Rattle.gts_traits.specs.Counts.{Rose}
+use Rattle.gts_traits.specs.Lines.{CircuitBytes}
+use Rattle.gts_event.specs.State.{State, on_circuit, waiting}
+use Rattle.gts_event.specs.declared.event.Event.{Event}
+use Rattle.gts_event.specs.declared.event.Event.TheVariants.{Taken}
+use Rattle.gts_event.specs.declared.event.Entry.{Entry}
+use Rattle.gts_event.specs.declared.event.Entry.TheVariants as of_entry
+use Rattle.gts_lock.specs.{Known, entries, entries_under, StartsWith}
+use Rattle.gts_lock.specs.declared.limits.TheConstants.{MOST_TURNS}
+use Rattle.gts_desk.specs.{Seen}
+use Rattle.gts_engine.specs.Engine.{Engine}
+use Rattle.gts_engine.specs.Origin.{state_at}
+use Rattle.gts_housed.specs.{Beginning, Stands}
+use Rattle.gts_receiver.specs.{Receives}
+use Rattle.gts_receiver.specs.declared.end.ReceiveEnd.{ReceiveEnd}
+use Rattle.gts_receiver.specs.declared.end.ReceiveEnd.TheVariants.{Ended, LostSync, SourceFault}
+use Rattle.gts_sender.specs.{Sends}
+use Rattle.gts_sender.specs.declared.end.SendEnd.{SendEnd}
+use Rattle.gts_sender.specs.declared.end.SendEnd.TheVariants.{Quiet, LineFault}
+use Rattle.gts_workers.specs.{fresh, receiver_name, sender_name}
+use Rattle.gts_circuits.specs.{NamesAreUpTo}
+use Rattle.gts_serve.specs.declared.end.ServeEnd.{ServeEnd}
+use Rattle.gts_serve.specs.declared.end.ServeEnd.TheVariants.{Done, NotOpened, Receiver, Sender, NoMemory}
+
+-- ---- lines
+
+-- what contracts see of lines: which circuits are open, how often each has failed, and its bytes
+pub record LinesSeen : Type 0 where
+  pub is_open : ℕ → Bool
+  pub faults : ℕ → ℕ
+  pub bytes : ℕ → CircuitBytes
+
+abbrev pub seen_lines : {L : Type 0} → (L → ℕ → Bool) → (L → ℕ → ℕ) → (L → ℕ → CircuitBytes) → L → LinesSeen
+seen_lines is_open faults bytes lines = record { is_open = is_open lines; faults = faults lines; bytes = bytes lines }
+
+-- circuit c is as it was
+pub record IsSame (before now : LinesSeen) (c : ℕ) : Type 0 where
+  pub is_open : now.is_open c ≡ before.is_open c
+  pub faults : now.faults c ≡ before.faults c
+  pub bytes : now.bytes c ≡ before.bytes c
+
+-- circuit c was opened and handed back, and nothing was read or written
+pub record IsHandedBack (source_tells sink_tells : Type 0) (before now : LinesSeen) (c : ℕ) : Type 0 where
+  pub closed : now.is_open c ≡ false
+  pub left : source_tells → (now.bytes c).left ≡ (now.bytes c).told
+  pub taken : sink_tells → (now.bytes c).taken ≡ []
+  pub later : before.faults c ≤ now.faults c
+
+-- Of so many circuits, circuit f failed to open, by which its count rose. Those before it were handed back, and those behind it
+-- are as they were.
+pub record StopsAtOpening (source_tells sink_tells : Type 0) (count f : ℕ) (before now : LinesSeen) : Type 0 where
+  pub within : f < count
+  pub rose : Rose (before.faults f) (now.faults f)
+  pub unopened : now.is_open f ≡ before.is_open f
+  pub handed_back : (c : ℕ) → c < f → IsHandedBack source_tells sink_tells before now c
+  pub others : (c : ℕ) → f < c → IsSame before now c
+
+-- each of so many circuits was handed back or is as it was, and so are all others
+pub record GivesUp (source_tells sink_tells : Type 0) (count : ℕ) (before now : LinesSeen) : Type 0 where
+  pub each : (c : ℕ) → c < count → IsHandedBack source_tells sink_tells before now c ⊎ IsSame before now c
+  pub others : (c : ℕ) → count ≤ c → IsSame before now c
+
+-- ---- the end
+
+-- the receiver's end, where it is a fault, comes before what comes behind it
+abbrev pub receiver_first : ℕ → ReceiveEnd → ServeEnd → ServeEnd
+receiver_first c (Ended rest) behind = behind
+receiver_first c (LostSync field at) behind = behind
+receiver_first c end behind = Receiver c end
+
+abbrev pub sender_first : ℕ → SendEnd → ServeEnd → ServeEnd
+sender_first c Quiet behind = behind
+sender_first c end behind = Sender c end
+
+-- the first fault of the circuits from c on, each with the ends of its receiver and its sender
+abbrev pub first_fault : ℕ → List (ReceiveEnd × SendEnd) → ServeEnd
+first_fault c [] = Done
+first_fault c (x ∷ xs) = receiver_first c x.0 (sender_first c x.1 (first_fault (c + 1) xs))
+
+-- ---- circuits
+
+-- what a pass of this name has seen that has seen this history
+abbrev pub seen_at : Beginning → TableId → ℕ → Bool → List (ℕ × Entry) → Seen
+seen_at b hall name full history = record {
+  hall = Some hall;
+  directory = b.origin.directory;
+  start = b.origin.start;
+  used = b.origin.used;
+  name = name;
+  alone = false;
+  full = full;
+  history = history;
+}
+
+-- A worker of this name came to its end over a front of the history, behind which nothing is its own. It found no turn left only
+-- where the threads left none.
+pub record EndsWithin (threads history : List (ℕ × Entry)) (name : ℕ) (full : Bool) (upto : List (ℕ × Entry)) : Type 0 where
+  pub front : StartsWith history upto
+  pub own : entries_under name history ≡ entries_under name upto
+  pub spent : full ≡ true → length threads ≡ MOST_TURNS
+
+-- the receiver of c told these bytes
+pub record IsReceived (b : Beginning) (threads history : List (ℕ × Entry)) (c : ℕ) (given : List ℕ) (end : ReceiveEnd) : Type 0 where
+  pub hall : TableId
+  pub full : Bool
+  pub upto : List (ℕ × Entry)
+  pub within : EndsWithin threads history (receiver_name c) full upto
+  pub received : Receives c (fresh b hall (receiver_name c)) (seen_at b hall (receiver_name c) full upto) given end
+
+-- the sender of c, with the takes behind the threads, wrote these bytes
+pub record IsSent (b : Beginning) (threads history : List (ℕ × Entry)) (c : ℕ) (bytes : List ℕ) (end : SendEnd) : Type 0 where
+  pub hall : TableId
+  pub full : Bool
+  pub upto : List (ℕ × Entry)
+  pub within : EndsWithin threads history (sender_name c) full upto
+  pub sent : Sends c (fresh b hall (sender_name c)) (seen_at b hall (sender_name c) full upto) bytes end
+
+-- Circuit c was served, and came to these ends: what its source gave was told, what it had left is left, and its sink took what
+-- its sender wrote. Its count rose where one of its sockets failed. It was handed back.
+pub record ServesCircuit (b : Beginning) (source_tells sink_tells : Type 0) (threads history : List (ℕ × Entry))
+    (before now : LinesSeen) (c : ℕ) (received : ReceiveEnd) (sent : SendEnd) : Type 0 where
+  pub given : List ℕ
+  pub written : List ℕ
+  pub receives : IsReceived b threads history c given received
+  pub sends : IsSent b threads history c written sent
+  pub told : source_tells → (now.bytes c).told ≡ given ++ (now.bytes c).left
+  pub ended : source_tells → (rest : ℕ) → received ≡ Ended rest → (now.bytes c).left ≡ []
+  pub taken : sink_tells → (now.bytes c).taken ≡ written
+  pub source_failed : received ≡ SourceFault → Rose (before.faults c) (now.faults c)
+  pub sink_failed : (index : ℕ) → sent ≡ LineFault index → Rose (before.faults c) (now.faults c)
+  pub closed : now.is_open c ≡ false
+
+-- ---- the whole run
+
+-- a take on c, whatever became of it
+abbrev pub IsTake : ℕ → Entry → Type 0
+IsTake c (of_entry.Done event) = event ≡ Taken c
+IsTake c (of_entry.Unsaid event) = event ≡ Taken c
+IsTake c (of_entry.Idle event fault) = event ≡ Taken c
+IsTake c (of_entry.Doubt event) = event ≡ Taken c
+IsTake c of_entry.Restarted = ⊥
+
+-- each entry was done, and nothing waits or is owed on any of so many circuits
+pub record IsAtRest (b : Beginning) (count : ℕ) (history : List Entry) : Type 0 where
+  pub done_all : (k : ℕ) (x : Entry) → get_elem? history k ≡ some x → (event : Event) × (x ≡ of_entry.Done event)
+  pub nothing_owed : (c : ℕ) → c < count → (on_circuit (state_at b.origin history) c).owed ≡ []
+  pub nothing_waits : (c : ℕ) → c < count → waiting (on_circuit (state_at b.origin history) c) ≡ []
+
+module _ {P : Type 0} (tells : Type 0) (calls : P → List Call) (disk say : P → ℕ) (b : Beginning)
+    (source_tells sink_tells : Type 0) (before now : LinesSeen) where
+  -- All circuits were served: the engine stands for the history of all threads and the takes behind it, and each circuit has
+  -- its part of it. The end is the first fault.
+  pub record Serves (threads : List (ℕ × Entry)) (full : Bool) (engine : Engine P) (end : ServeEnd) : Type 0 where
+    pub drained : List (ℕ × Entry)
+    pub ends : List (ReceiveEnd × SendEnd)
+    pub counted : length ends ≡ length b.origin.directory.circuits
+    pub stands : Stands tells calls disk say b (entries (threads ++ drained)) engine
+    pub takes : (k : ℕ) (x : ℕ × Entry) → get_elem? drained k ≡ some x
+        → (c : ℕ) × (c < length ends) × (x.0 ≡ sender_name c) × IsTake c x.1
+    pub circuits : (c : ℕ) (x : ReceiveEnd × SendEnd) → get_elem? ends c ≡ some x
+        → ServesCircuit b source_tells sink_tells threads (threads ++ drained) before now c x.0 x.1
+    pub others : (c : ℕ) → length ends ≤ c → IsSame before now c
+    pub names : NamesAreUpTo (2 * length ends) (threads ++ drained)
+    pub full_is : full ≡ true → length threads ≡ MOST_TURNS
+    pub end_is : end ≡ first_fault 0 ends
+    pub at_rest : end ≡ Done → IsAtRest b (length ends) (entries (threads ++ drained))
+
+  -- What came of a run, by the pass and the end. Without a pass nothing was read, written or said.
+  abbrev pub IsServed : Option (Known Entry) → ServeEnd → Engine P → Type 0
+  IsServed (Some pass) end engine = Serves pass.seen pass.full engine end
+  IsServed None (NotOpened c) engine =
+      Stands tells calls disk say b [] engine × StopsAtOpening source_tells sink_tells (length b.origin.directory.circuits) c before now
+  IsServed None NoMemory engine =
+      Stands tells calls disk say b [] engine × GivesUp source_tells sink_tells (length b.origin.directory.circuits) before now
+  IsServed None end engine = ⊥
