@@ -30,11 +30,11 @@ use Rattle.gts_engine.specs.Keeping.{Keeps, HasFailed, origin_of}
 use Rattle.gts_engine.specs.Switching.{Told, switch_words}
 use Rattle.gts_replay.specs.declared.end.ReplayEnd.{ReplayEnd}
 use Rattle.gts_replay.specs.declared.end.ReplayEnd.TheVariants as end
-use Rattle.gts_replay.specs.{StandsFor, BreaksOff, Ends, HasReplayCause}
+use Rattle.gts_replay.specs.{StandsFor, Ends, HasReplayCause}
 use Rattle.gts_app.specs.declared.status.Status.{Status}
 use Rattle.gts_app.specs.declared.status.Status.TheVariants.{Done, Words, Directory, Capture, NoJournal, NotThis, Damaged, Exists, DiskFault, SourceFault, SayFault, Full, LineFault, LongSession, Spent, NoMemory}
 use Rattle.gts_app.specs.Laws.{KeepsLaws}
-use Rattle.gts_app.specs.Ending.{refusal, status_of}
+use Rattle.gts_app.specs.Ending.{status_of}
 use Rattle.gts_app.specs.Opening.{IsOrigin, Opens}
 use Rattle.gts_app.specs.Replay.{world, Replays, history, Does, BreaksAt, StopsAfter, ForNoReason, BecauseFull, HasRoom}
 use Rattle.gts_app.proofs.OpeningLemmas.{opens_to}

@@ -1,5 +1,5 @@
 -- What `serve` comes to, from the opening and from what came of serving the circuits.
-use Rattle.std.proofs.Common.{◌≡◌, ◌≤◌, ◌⊎◌, ℕ, zero, suc, ◌+◌, List, [], ◌∷◌, ◌++◌, length, length-append, Option, Some, None, Result, Ok, Err, inl, inr, refl, sym, ap, subst, ◌∙◌, arith}
+use Rattle.std.proofs.Common.{◌≡◌, ◌⊎◌, ℕ, suc, ◌+◌, List, [], ◌∷◌, ◌++◌, length, length-append, Option, Some, None, Result, Ok, Err, inl, inr, refl, sym, ap, subst, ◌∙◌, arith}
 use mathlib.Core.Option.{some}
 use lib.ListN.{get_elem?}
 use Rattle.gts_traits.specs.declared.source.Source.{Ghosts as SourceWords}
@@ -27,9 +27,9 @@ use Rattle.gts_serve.specs.declared.end.ServeEnd.{ServeEnd}
 use Rattle.gts_serve.specs.declared.end.ServeEnd.TheVariants as serving
 use Rattle.gts_app.specs.declared.status.Status.{Status}
 use Rattle.gts_app.specs.declared.status.Status.TheVariants.{Done, LineFault, NoMemory}
-use Rattle.gts_app.specs.Opening.{IsOfFiles, Opens, BeginsWith}
+use Rattle.gts_app.specs.Opening.{IsOfFiles, Opens}
 use Rattle.gts_app.specs.Ending.{refusal}
-use Rattle.gts_app.specs.Serve.{CameTo, Ran, Serves, status_of_fault, status_served}
+use Rattle.gts_app.specs.Serve.{CameTo, Serves, status_of_fault, status_served}
 
 -- what an engine begins with that was just opened
 abbrev pub beginning_of : {P : Type 0} → StationWords P → Engine P → Need → Beginning

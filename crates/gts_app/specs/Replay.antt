@@ -13,7 +13,7 @@ use Rattle.gts_event.specs.History.{restarted}
 use Rattle.gts_event.specs.Need.{Need, need, begun}
 use Rattle.gts_event.specs.declared.event.Event.{Event}
 use Rattle.gts_event.specs.declared.event.Entry.{Entry}
-use Rattle.gts_event.specs.declared.event.Entry.TheVariants.{Done as Did, Unsaid, Doubt, Idle, Restarted}
+use Rattle.gts_event.specs.declared.event.Entry.TheVariants.{Done as Did, Unsaid, Doubt, Idle}
 use Rattle.gts_event.specs.declared.fault.Device.{Device}
 use Rattle.gts_event.specs.declared.fault.Device.TheVariants.{Disk, Say}
 use Rattle.gts_event.specs.declared.fault.SwitchFault.TheVariants as switch
@@ -30,7 +30,7 @@ use Rattle.gts_app.specs.declared.status.Status.{Status}
 use Rattle.gts_app.specs.declared.status.Status.TheVariants.{Done, Words, Directory, Capture, NoJournal, NotThis, Damaged, Exists, DiskFault, SourceFault, SayFault, Full, LineFault, LongSession, Spent, NoMemory}
 use Rattle.gts_app.specs.Laws.{KeepsLaws}
 use Rattle.gts_app.specs.Ending.{refusal}
-use Rattle.gts_app.specs.Opening.{IsOrigin, IsOfFiles, AreRefused}
+use Rattle.gts_app.specs.Opening.{IsOrigin, AreRefused}
 
 -- what the command works on
 pub record World (S P : Type 0) : Type 0 where

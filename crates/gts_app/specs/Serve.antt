@@ -1,5 +1,5 @@
 -- What each end of the command `serve` means for what it works on.
-use Rattle.std.specs.Prelude.{◌≡◌, ◌⊎◌, ℕ, ◌+◌, ◌≤◌, List, [], ◌∷◌, ◌++◌, length, Option, Ok}
+use Rattle.std.specs.Prelude.{◌≡◌, ◌⊎◌, ℕ, ◌+◌, ◌≤◌, List, ◌++◌, length, Option, Ok}
 use Rattle.gts_traits.specs.declared.source.Source.{Ghosts as SourceWords}
 use Rattle.gts_traits.specs.declared.station.Station.{Ghosts as StationWords}
 use Rattle.gts_traits.specs.Counts.{Rose}
@@ -11,7 +11,6 @@ use Rattle.gts_event.specs.declared.fault.SwitchFault.{SwitchFault}
 use Rattle.gts_event.specs.declared.fault.SwitchFault.TheVariants as switch
 use Rattle.gts_lock.specs.{Known}
 use Rattle.gts_engine.specs.Engine.{Engine}
-use Rattle.gts_engine.specs.Origin.{Origin}
 use Rattle.gts_housed.specs.{Beginning}
 use Rattle.gts_receiver.specs.declared.end.ReceiveEnd.{ReceiveEnd}
 use Rattle.gts_receiver.specs.declared.end.ReceiveEnd.TheVariants as received

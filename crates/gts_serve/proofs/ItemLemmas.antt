@@ -1,6 +1,6 @@
 -- Items of lists, by their places.
 use Rattle.std.proofs.Common.{◌≡◌, ◌≢◌, ℕ, zero, suc, ◌<◌, List, [], ◌∷◌, ◌++◌, length, length-append, ◌+◌, get_or, slice_set, refl, sym, ap, ◌∙◌, arith}
-use mathlib.Core.Option.{some, some-ne-none}
+use mathlib.Core.Option.{some}
 use lib.ListN.{get_elem?}
 
 module _ {A : Type 0} where

@@ -1,14 +1,13 @@
 -- Lines, circuit by circuit.
-use Rattle.std.proofs.Common.{◌≡◌, ◌≢◌, ◌⊎◌, inl, inr, ℕ, zero, suc, ◌+◌, ◌<◌, ◌≤◌, Bool, true, false, List, [], ◌∷◌, ◌++◌, length, refl, sym, ap, ◌∙◌, subst, arith, append_assoc}
+use Rattle.std.proofs.Common.{◌≡◌, ◌≢◌, ◌⊎◌, inl, inr, ℕ, zero, suc, ◌+◌, ◌<◌, ◌≤◌, true, false, List, [], ◌∷◌, ◌++◌, length, refl, sym, ap, ◌∙◌, subst, arith}
 use mathlib.Core.Option.{some, some-injective, some-ne-none}
 use lib.ListN.{get_elem?}
-use Rattle.gts_traits.specs.Counts.{Rose}
 use Rattle.gts_traits.specs.Lines.{CircuitBytes, CountsSockets, IsEndOf, SameElsewhere}
 use Rattle.gts_circuits.specs.declared.sockets.Sockets.{Sockets}
 use Rattle.gts_serve.specs.declared.sockets.Incoming.{Incoming}
 use Rattle.gts_serve.specs.declared.sockets.Outgoing.{Outgoing}
 use Rattle.gts_serve.proofs.DrainLemmas.{same_or_not}
-use Rattle.gts_serve.specs.Serving.{LinesSeen, IsSame, IsHandedBack}
+use Rattle.gts_serve.specs.Serving.{LinesSeen, IsSame}
 use Rattle.gts_serve.specs.Standing.{IsOpened, AreOpened, IsClosed}
 
 abbrev pub Elsewhere : ℕ → LinesSeen → LinesSeen → Type 0

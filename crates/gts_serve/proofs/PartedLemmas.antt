@@ -1,22 +1,20 @@
 -- The sockets of all lines, once the workers have ended.
-use Rattle.std.proofs.Common.{◌≡◌, ◌⊎◌, inl, inr, ℕ, zero, suc, ◌+◌, ◌*◌, ◌<◌, ◌≤◌, Bool, true, false, List, [], ◌∷◌, ◌++◌, length, map, Option, Some, None, refl, sym, ap, ◌∙◌, subst, arith, append_assoc}
+use Rattle.std.proofs.Common.{◌≡◌, ℕ, zero, suc, ◌+◌, ◌*◌, ◌<◌, true, false, List, [], ◌∷◌, ◌++◌, length, map, Option, Some, None, refl, sym, ap, ◌∙◌, subst, arith, append_assoc}
 use Rattle.std.proofs.lemmas.List.{append-nil}
 use mathlib.Core.Option.{some, some-injective, some-ne-none}
 use lib.ListN.{get_elem?}
 use Rattle.atomic_table.specs.Seated.{TableId}
 use Rattle.gts_traits.specs.Lines.{IsEndOf}
-use Rattle.gts_lock.specs.{Known, entries, entries_under, StartsWith}
+use Rattle.gts_lock.specs.{Known, entries_under, StartsWith}
 use Rattle.gts_lock.specs.declared.limits.TheConstants.{MOST_TURNS}
 use Rattle.gts_event.specs.declared.event.Entry.{Entry}
 use Rattle.gts_desk.specs.{Seen}
 use Rattle.gts_housed.specs.{Beginning, seen_by}
 use Rattle.gts_receiver.specs.{Receives}
-use Rattle.gts_receiver.specs.declared.end.ReceiveEnd.{ReceiveEnd}
 use Rattle.gts_sender.specs.{Sends}
-use Rattle.gts_sender.specs.declared.end.SendEnd.{SendEnd}
 use Rattle.gts_workers.specs.declared.line.Line.{Line}
 use Rattle.gts_workers.specs.declared.line.Line.TheVariants as lines
-use Rattle.gts_workers.specs.{Work, Socket, Reads, Writes, fresh, receiver_name, sender_name, has_end, ends, LineKeeps, ReceiverKeeps, SenderKeeps, PassKeeps}
+use Rattle.gts_workers.specs.{Work, Reads, Writes, fresh, receiver_name, sender_name, has_end, ends, ReceiverKeeps, SenderKeeps, PassKeeps}
 use Rattle.gts_circuits.specs.declared.sockets.Sockets.{Sockets}
 use Rattle.gts_circuits.specs.Staff.{receivers_of, senders_of, works_of}
 use Rattle.gts_circuits.specs.Gathering.{Stands, AllStand}
@@ -24,7 +22,7 @@ use Rattle.gts_circuits.proofs.PlacesLemmas.{at_longer, at_behind, at_less, ther
 use Rattle.gts_circuits.proofs.StaffLemmas.{count_receivers, count_works}
 use Rattle.gts_serve.specs.declared.sockets.Incoming.{Incoming}
 use Rattle.gts_serve.specs.declared.sockets.Outgoing.{Outgoing}
-use Rattle.gts_serve.specs.Serving.{LinesSeen, seen_at, EndsWithin, IsReceived, IsSent}
+use Rattle.gts_serve.specs.Serving.{LinesSeen, seen_at, EndsWithin}
 use Rattle.gts_serve.specs.Standing.{IsOpened, AreOpened, ReceiverStands, SenderStands}
 use Rattle.gts_serve.specs.Passing.{source_of, sink_of, incoming_of, outgoing_of}
 

@@ -1,9 +1,9 @@
 -- Entries under a name, and what stays so of a worker that has ended while the history goes on.
-use Rattle.std.proofs.Common.{◌≡◌, ◌≢◌, ℕ, ◌+◌, ◌*◌, ◌<◌, ◌==◌, zero, suc, List, [], ◌∷◌, ◌++◌, Bool, true, false, cond, Some, None, refl, sym, ap, ◌∙◌, subst, arith, append_assoc}
+use Rattle.std.proofs.Common.{◌≡◌, ◌≢◌, ℕ, ◌==◌, suc, List, [], ◌∷◌, ◌++◌, Bool, true, false, cond, refl, sym, ap, ◌∙◌, subst, arith, append_assoc}
 use Rattle.std.proofs.lemmas.Bool.{eqb-true}
 use Rattle.std.specs.List.{filter}
 use Rattle.std.proofs.lemmas.List.{append-nil, append_cancel_left}
-use mathlib.Core.Option.{some, some-injective, some-ne-none}
+use mathlib.Core.Option.{some}
 use lib.ListN.{get_elem?}
 use Rattle.atomic_table.specs.Seated.{TableId}
 use Rattle.gts_directory.specs.Directory.{Directory}
@@ -11,17 +11,16 @@ use Rattle.gts_event.specs.State.{State}
 use Rattle.gts_event.specs.Need.{begun}
 use Rattle.gts_event.specs.History.{after_entry, after_all}
 use Rattle.gts_event.specs.declared.event.Entry.{Entry}
-use Rattle.gts_lock.specs.{entries, entries_under, StartsWith}
-use Rattle.gts_desk.specs.{Seen, own, own_frames, frame_of, frames}
+use Rattle.gts_lock.specs.{entries, entries_under}
+use Rattle.gts_desk.specs.{frame_of, frames}
 use Rattle.gts_housed.specs.{Beginning}
 use Rattle.gts_receiver.specs.declared.end.ReceiveEnd.{ReceiveEnd}
 use Rattle.gts_sender.specs.{Sending}
 use Rattle.gts_sender.specs.declared.end.SendEnd.{SendEnd}
 use Rattle.gts_workers.specs.{fresh, receiver_name, sender_name}
-use Rattle.gts_serve.specs.declared.sockets.Incoming.{Incoming}
 use Rattle.gts_serve.specs.declared.sockets.Outgoing.{Outgoing}
 use Rattle.gts_serve.specs.Serving.{seen_at, EndsWithin, IsReceived, IsSent}
-use Rattle.gts_serve.specs.Standing.{ReceiverStands, SenderStands}
+use Rattle.gts_serve.specs.Standing.{SenderStands}
 
 abbrev History : Type 0
 History = List (ℕ × Entry)

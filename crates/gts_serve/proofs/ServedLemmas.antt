@@ -1,13 +1,11 @@
 -- What a run of all circuits leaves, of what opening, the threads, the takes behind them and closing leave.
-use Rattle.std.proofs.Common.{◌≡◌, ◌≢◌, ◌⊎◌, inl, inr, ⊎_elim, ℕ, zero, suc, ◌+◌, ◌-◌, ◌*◌, ◌<◌, ◌≤◌, ◌==◌, Bool, true, false, cond, List, [], ◌∷◌, ◌++◌, length, map, replicate, Option, Some, None, refl, sym, ap, ◌∙◌, subst, arith, append_assoc}
+use Rattle.std.proofs.Common.{◌≡◌, inl, inr, ℕ, zero, suc, ◌+◌, ◌-◌, ◌*◌, ◌<◌, ◌≤◌, ◌==◌, Bool, true, false, cond, List, [], ◌∷◌, ◌++◌, length, refl, sym, ap, ◌∙◌, subst, arith}
 use Rattle.std.proofs.lemmas.Bool.{eq-eqb}
-use Rattle.std.proofs.lemmas.List.{append-nil}
 use Rattle.std.specs.List.{filter}
 use mathlib.Core.Option.{some, some-injective, some-ne-none}
 use lib.ListN.{get_elem?}
 use Rattle.gts_traits.specs.Calls.{Call}
 use Rattle.gts_traits.specs.Counts.{Rose}
-use Rattle.gts_traits.specs.Lines.{CircuitBytes, CountsSockets}
 use Rattle.gts_event.specs.State.{on_circuit, waiting}
 use Rattle.gts_event.specs.Drain.{all_done}
 use Rattle.gts_event.specs.declared.event.Event.{Event}
@@ -17,10 +15,9 @@ use Rattle.gts_event.specs.declared.event.Entry.TheVariants as of_entry
 use Rattle.gts_connection.specs.Connection.{connection}
 use Rattle.gts_lock.specs.{entries, entries_under}
 use Rattle.gts_lock.specs.declared.limits.TheConstants.{MOST_TURNS}
-use Rattle.gts_desk.specs.{own}
 use Rattle.gts_engine.specs.Engine.{Engine}
 use Rattle.gts_engine.specs.Origin.{state_at}
-use Rattle.gts_housed.specs.{Beginning, Stands}
+use Rattle.gts_housed.specs.{Beginning}
 use Rattle.gts_receiver.specs.declared.end.ReceiveEnd.{ReceiveEnd}
 use Rattle.gts_receiver.specs.declared.end.ReceiveEnd.TheVariants.{Ended, LostSync, SourceFault, Long, Fault}
 use Rattle.gts_sender.specs.{takes}
@@ -36,8 +33,8 @@ use Rattle.gts_serve.specs.declared.end.ServeEnd.TheVariants.{Done, Receiver, Se
 use Rattle.gts_serve.specs.declared.sockets.Incoming.{Incoming}
 use Rattle.gts_serve.specs.declared.sockets.Outgoing.{Outgoing}
 use Rattle.gts_serve.specs.Passing.{incoming_of, outgoing_of, ends_of}
-use Rattle.gts_serve.specs.Serving.{LinesSeen, IsSame, IsHandedBack, GivesUp, StopsAtOpening, seen_at, IsReceived, IsSent, IsTake, ServesCircuit, IsAtRest, Serves, receiver_first, sender_first, first_fault}
-use Rattle.gts_serve.specs.Standing.{IsOpened, AreOpened, IsClosed, ReceiverStands, SenderStands, GivesNothing, AreDrained, IsFinished}
+use Rattle.gts_serve.specs.Serving.{LinesSeen, IsSame, IsHandedBack, GivesUp, StopsAtOpening, IsReceived, IsSent, ServesCircuit, IsAtRest, Serves, receiver_first, sender_first, first_fault}
+use Rattle.gts_serve.specs.Standing.{IsOpened, AreOpened, IsClosed, ReceiverStands, IsFinished}
 use Rattle.gts_serve.proofs.PastLemmas.{none_under, received_more, not_receiver}
 use Rattle.gts_serve.proofs.DrainLemmas.{in_both}
 use Rattle.gts_serve.proofs.RestLemmas.{nothing_there}

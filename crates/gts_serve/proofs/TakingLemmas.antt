@@ -1,8 +1,7 @@
 -- Takes behind the threads, as those of the sender of their circuit.
-use Rattle.std.proofs.Common.{◌≡◌, ◌≢◌, ℕ, zero, suc, List, [], ◌∷◌, ◌++◌, Bool, true, false, Some, None, Result, Ok, Err, refl, sym, ap, ◌∙◌, subst, append_assoc}
+use Rattle.std.proofs.Common.{◌≡◌, ℕ, zero, suc, List, [], ◌∷◌, ◌++◌, Bool, true, false, Some, None, Result, Ok, Err, refl, sym, ap, subst, append_assoc}
 use Rattle.std.proofs.lemmas.List.{append-nil}
-use mathlib.Core.Option.{some, some-injective, some-ne-none}
-use lib.ListN.{get_elem?}
+use mathlib.Core.Option.{some-injective, some-ne-none}
 use Rattle.atomic_table.specs.Seated.{TableId}
 use Rattle.gts_traits.specs.Calls.{Call}
 use Rattle.gts_traits.specs.Station.{IsFront}
@@ -17,12 +16,11 @@ use Rattle.gts_engine.specs.Engine.{Engine}
 use Rattle.gts_housed.specs.{Beginning, Stands, Turns, Never, entry_by}
 use Rattle.gts_housed.proofs.TurningLemmas.{answers}
 use Rattle.gts_sender.specs.{given_index, Sending, Tried}
-use Rattle.gts_sender.specs.declared.end.SendEnd.{SendEnd}
-use Rattle.gts_sender.specs.declared.end.SendEnd.TheVariants.{Quiet, LineFault, Fault}
-use Rattle.gts_sender.proofs.DrawLemmas.{drew, broke, drew_nothing, take_failed, sending_nothing}
+use Rattle.gts_sender.specs.declared.end.SendEnd.TheVariants.{LineFault, Fault}
+use Rattle.gts_sender.proofs.DrawLemmas.{drew, broke, drew_nothing, take_failed}
 use Rattle.gts_workers.specs.{sender_name}
 use Rattle.gts_serve.specs.Serving.{seen_at, IsTake}
-use Rattle.gts_serve.specs.Standing.{AreTakes, Takes, TakesOnce, TakesSome, TakesAll}
+use Rattle.gts_serve.specs.Standing.{AreTakes, Takes, TakesOnce, TakesSome}
 use Rattle.gts_serve.proofs.PastLemmas.{entries-append}
 
 by_take : (c : ℕ) (result : Result Outcome SwitchFault) → IsTake c (entry_by (Taken c) result)

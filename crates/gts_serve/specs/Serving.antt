@@ -6,7 +6,7 @@ use Rattle.atomic_table.specs.Seated.{TableId}
 use Rattle.gts_traits.specs.Calls.{Call}
 use Rattle.gts_traits.specs.Counts.{Rose}
 use Rattle.gts_traits.specs.Lines.{CircuitBytes}
-use Rattle.gts_event.specs.State.{State, on_circuit, waiting}
+use Rattle.gts_event.specs.State.{on_circuit, waiting}
 use Rattle.gts_event.specs.declared.event.Event.{Event}
 use Rattle.gts_event.specs.declared.event.Event.TheVariants.{Taken}
 use Rattle.gts_event.specs.declared.event.Entry.{Entry}

@@ -1,11 +1,10 @@
 -- What is known of the circuits on the way: of sockets that were opened, of ended workers, and of the takes behind the threads.
-use Rattle.std.specs.Prelude.{◌≡◌, ℕ, ◌<◌, ◌≤◌, Bool, true, false, List, [], ◌∷◌, ◌++◌, length, Result, Ok, Err}
+use Rattle.std.specs.Prelude.{◌≡◌, ℕ, ◌<◌, ◌≤◌, Bool, true, false, List, [], ◌++◌, length, Result}
 use mathlib.Core.Option.{some}
 use lib.ListN.{get_elem?}
 use Rattle.atomic_table.specs.Seated.{TableId}
 use Rattle.gts_traits.specs.Calls.{Call}
 use Rattle.gts_traits.specs.Lines.{CountsSockets}
-use Rattle.gts_event.specs.State.{State}
 use Rattle.gts_event.specs.History.{outcome}
 use Rattle.gts_event.specs.declared.event.Event.TheVariants.{Taken}
 use Rattle.gts_event.specs.declared.event.Entry.{Entry}
@@ -15,7 +14,6 @@ use Rattle.gts_desk.specs.{Seen}
 use Rattle.gts_engine.specs.Engine.{Engine}
 use Rattle.gts_engine.specs.Origin.{state_at}
 use Rattle.gts_housed.specs.{Beginning, Stands}
-use Rattle.gts_receiver.specs.declared.end.ReceiveEnd.{ReceiveEnd}
 use Rattle.gts_receiver.specs.declared.end.ReceiveEnd.TheVariants.{Ended, SourceFault}
 use Rattle.gts_sender.specs.{Sending, Sends, Tried}
 use Rattle.gts_sender.specs.declared.end.SendEnd.{SendEnd}

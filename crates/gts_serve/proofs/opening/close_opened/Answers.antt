@@ -1,5 +1,4 @@
-use Rattle.std.proofs.Common.{rules, ◌≡◌, ℕ, ◌+◌, ◌<◌, ◌≤◌, ◌∷◌, ◌++◌, [], List, length, length-append, append_assoc, refl, sym, ap, ◌∙◌, subst, arith}
-use mathlib.Core.Option.{some}
+use Rattle.std.proofs.Common.{rules, ◌≡◌, ℕ, ◌+◌, ◌∷◌, ◌++◌, [], length, length-append, append_assoc, refl, sym, ap, ◌∙◌, subst, arith}
 use lib.ListN.{get_elem?}
 use Rattle.gts_traits.specs.Lines.{CircuitBytes}
 use Rattle.gts_circuits.proofs.PlacesLemmas.{in_middle, nothing_left}

@@ -1,4 +1,4 @@
-use Rattle.std.proofs.Common.{rules, ◌≡◌, ℕ, ◌+◌, ◌<◌, ◌≤◌, ◌∷◌, ◌++◌, [], List, length, length-append, append_assoc, refl, sym, ap, ◌∙◌, subst, arith}
+use Rattle.std.proofs.Common.{rules, ◌≡◌, ℕ, ◌+◌, ◌∷◌, ◌++◌, [], List, length, length-append, append_assoc, refl, sym, ap, ◌∙◌, subst, arith}
 use Rattle.gts_traits.specs.Counts.{Rose}
 use Rattle.gts_circuits.proofs.PlacesLemmas.{nothing_left}
 use Rattle.gts_circuits.specs.declared.sockets.Sockets.{Sockets}

@@ -1,9 +1,9 @@
-use Rattle.std.proofs.Common.{◌≡◌, ◌<◌, ◌≤◌, ℕ, List, length, true, sym, ap, ◌∙◌, subst, arith}
+use Rattle.std.proofs.Common.{◌≡◌, ℕ, List, length, sym, ap, ◌∙◌, subst, arith}
 use mathlib.Core.Option.{some}
 use lib.ListN.{get_elem?}
 use Rattle.gts_serve.specs.declared.sockets.Incoming.{Incoming}
 use Rattle.gts_serve.specs.declared.sockets.Outgoing.{Outgoing}
-use Rattle.gts_serve.specs.Serving.{seen_lines, first_fault}
+use Rattle.gts_serve.specs.Serving.{first_fault}
 use Rattle.gts_serve.specs.Standing.{AreDrained}
 use Rattle.gts_serve.specs.Passing.{ends_of}
 use Rattle.gts_serve.proofs.serving.finish.Goals as goal

@@ -1,5 +1,4 @@
-use Rattle.std.proofs.Common.{◌≡◌, ◌*◌, ◌<◌, ◌≤◌, ℕ, List, length, Option, Some, sym, ap, ◌∙◌, subst, arith}
-use mathlib.Core.Option.{some}
+use Rattle.std.proofs.Common.{List, length, Option, sym, ap, ◌∙◌, subst, arith}
 use lib.ListN.{get_elem?}
 use Rattle.gts_directory.specs.Directory.{Directory}
 use Rattle.gts_event.specs.declared.event.Entry.{Entry}
