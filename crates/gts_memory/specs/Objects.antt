@@ -72,6 +72,8 @@ is_open_in lines circuit = (circuit_in lines circuit).opened
 abbrev pub faults_in : LinesInMemory → ℕ → ℕ
 faults_in lines circuit = (circuit_in lines circuit).faults
 
+abbrev pub bytes_of : CircuitInMemory → CircuitBytes
+bytes_of circuit = record { told = circuit.told; left = circuit.left; taken = circuit.sent.written }
+
 abbrev pub bytes_in : LinesInMemory → ℕ → CircuitBytes
-bytes_in lines circuit =
-    record { told = (circuit_in lines circuit).told; left = (circuit_in lines circuit).left; taken = (circuit_in lines circuit).sent.written }
+bytes_in lines circuit = bytes_of (circuit_in lines circuit)

@@ -1,6 +1,6 @@
-ghost use Rattle.std.specs.Prelude.{◌≡◌, ◌≢◌, ◌+◌, ◌<◌, ◌==◌, ◌++◌, ℕ, true, false, [], IfOk, OnOk, OnErr, is_err, if◌then◌else◌, replicate};
+ghost use Rattle.std.specs.Prelude.{◌≡◌, ◌≢◌, ◌+◌, ◌<◌, ◌==◌, ◌++◌, ℕ, true, false, [], IfOk, OnOk, OnErr, if◌then◌else◌, replicate};
 ghost use Rattle.gts_traits.specs.{MOST_CIRCUITS, counted, HasCause, CountsSockets, IsEndOf, SameElsewhere};
-ghost use Rattle.gts_memory.specs.Counter.{no_calls, next, is_listed};
+ghost use Rattle.gts_memory.specs.Counter.{no_calls, CountedCall};
 ghost use Rattle.gts_memory.specs.Objects.{new_sink, still, handed_back, circuit_in, is_open_in, faults_in, bytes_in};
 
 use crate::counter::Counter;
@@ -191,10 +191,8 @@ impl Lines for MemLines {
             (bytes_in self.old) (is_open_in self.new) (faults_in self.new) (bytes_in self.new) }
 
         // Beside what the trait says.
-        ensures exact { is_err result ≡ is_listed self.old.count }
-        ensures count { self.new.count ≡ next self.old.count }
-        ensures faults { faults_in self.new c
-            ≡ (if is_err result then counted (faults_in self.old c) else faults_in self.old c) }
+        ensures counted { CountedCall result self.old.count self.new.count
+            (faults_in self.old c) (faults_in self.new c) }
         ensures input { IfOk result (λ sockets. sockets.0
             ≡ record { left = (circuit_in self.old c).fed; count = no_calls []; faults = 0 }) }
         ensures output { IfOk result (λ sockets. sockets.1
