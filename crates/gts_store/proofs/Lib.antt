@@ -1,3 +1,4 @@
 pub mod ShelfLemmas
 pub mod UsesLemmas
+pub mod MarkLemmas
 pub mod NumberLemmas

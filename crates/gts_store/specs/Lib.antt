@@ -1,4 +1,5 @@
 pub mod Shelf
+pub mod Marks
 pub mod Entries
 pub mod Shown
 pub mod Worked

@@ -1,10 +1,12 @@
 ghost use Rattle.std.specs.Prelude.{◌≡◌, ◌+◌, length, map, IfOk};
 ghost use Rattle.std.specs.List.{AllByRecursion};
 ghost use Rattle.gts_heading.specs.Heading.{fields_of};
-ghost use Rattle.gts_store.specs.Shelf.{carries, position_at, greatest_index, undrawn};
-ghost use Rattle.gts_store.specs.Entries.{drawn_of, has_heading_in, HasDrawn};
+ghost use Rattle.gts_store.specs.Shelf.{carries, position_at, greatest_index, undrawn, has_heading};
+ghost use Rattle.gts_store.specs.Entries.{drawn_of, bulletin_at, has_heading_in, HasDrawn, IsMarked, AllMarked};
+ghost use Rattle.gts_store.specs.Marks as marks;
 
 use crate::bulletins::{Bulletin, is_headed};
+use crate::mark::mark_of;
 use circular_buffer::HeapCircularBuffer;
 use gts_alphabet::NoMemory;
 use gts_heading::Heading;
@@ -12,11 +14,18 @@ use gts_number::latest;
 use std::alloc::Global;
 use std::collections::HashMap;
 
-/// What a circuit has drawn: how often, and the positions of the last draws.
+/// A draw that is kept: the position of its bulletin, and the mark of the bulletin's heading.
+#[derive(Clone, Copy)]
+pub struct KeptDraw {
+    pub position: u64,
+    pub mark: u32,
+}
+
+/// What a circuit has drawn: how often, and the last draws.
 #[derive(Drop)]
 pub struct Circuit {
     pub draws: u64,
-    pub kept: HeapCircularBuffer<u64>,
+    pub kept: HeapCircularBuffer<KeptDraw>,
 }
 
 /// How many sequence numbers there are (profile): so many draws one after another carry each of them once.
@@ -32,11 +41,11 @@ fn first_index(circuit: &Circuit) -> u64
 
 /// The positions of the kept draws, in order.
 pub fn kept_of(alloc: Global, circuit: &Circuit) -> Result<Vec<u64>, NoMemory>
-    ensures { IfOk result (λ kept. kept.items ≡ circuit.now.kept.items) }
+    ensures { IfOk result (λ kept. kept.items ≡ (drawn_of circuit.now).kept) }
 {
     let mut kept = Vec::new(alloc);
-    for position in circuit.kept.iter() {
-        kept.push(*position)?;
+    for draw in circuit.kept.iter() {
+        kept.push(draw.position)?;
     }
     Ok(kept)
 }
@@ -50,7 +59,8 @@ pub fn position_of(circuit: &Circuit, index: u64) -> Option<u64>
     if index < first {
         return None;
     }
-    circuit.kept.get((index - first) as usize).copied()
+    let draw = circuit.kept.get((index - first) as usize)?;
+    Some(draw.position)
 }
 
 /// The greatest index of a kept draw that carries a number. No draw is looked at.
@@ -65,20 +75,41 @@ pub fn index_of_number(circuit: &Circuit, number: u32) -> Option<u64>
     latest(circuit.draws, kept, number)
 }
 
+/// Whether the bulletin of a kept draw has a heading, of which the mark is given. It is looked up only where the marks
+/// are equal.
+fn is_draw_of(
+    draw: &KeptDraw,
+    bulletins: &HashMap<u64, Bulletin>,
+    heading: &Heading,
+    mark: u32,
+) -> bool
+    requires mark { mark ≡ marks.mark_of (fields_of heading.now) }
+    requires marked { IsMarked bulletins.now draw.now }
+    ensures { result
+        ≡ has_heading (bulletin_at bulletins.now draw.now.position) (fields_of heading.now) }
+{
+    if draw.mark != mark {
+        return false;
+    }
+    is_headed(bulletins, draw.position, heading)
+}
+
 /// The greatest index of a kept draw whose bulletin has a heading.
 pub fn index_of_heading(
     circuit: &Circuit,
     bulletins: &HashMap<u64, Bulletin>,
     heading: &Heading,
 ) -> Option<u64>
-    requires { HasDrawn circuit.now }
+    requires drawn { HasDrawn circuit.now }
+    requires marks { AllMarked bulletins.now circuit.now }
     ensures { result ≡ greatest_index (has_heading_in bulletins.now (fields_of heading.now))
         (drawn_of circuit.now) }
 {
+    let mark = mark_of(heading);
     let mut index = first_index(circuit);
     let mut latest = None;
-    for position in circuit.kept.iter() {
-        if is_headed(bulletins, *position, heading) {
+    for draw in circuit.kept.iter() {
+        if is_draw_of(draw, bulletins, heading, mark) {
             latest = Some(index);
         }
         index += 1;

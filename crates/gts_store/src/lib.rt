@@ -3,6 +3,7 @@
 
 mod bulletins;
 mod circuit;
+mod mark;
 mod store;
 mod worked;
 

@@ -3,8 +3,8 @@ ghost use Rattle.gts_heading.specs.Heading.{fields_of};
 ghost use Rattle.gts_store.specs.Shelf.{stored_at, stored_as, parts_of, uses_of, circuit_at, free_uses, undrawn, with_draw, with_draws, falls_out, position_at, greatest_index, carries, is_headed, ChangesAt, ChangesFree, AddsUse, TakesUse, FallsOut, ChangesCircuit, SameBulletins};
 ghost use Rattle.gts_store.specs.Shown.{shown};
 
-use crate::bulletins::{Bulletin, add_use, drop_use};
-use crate::circuit::{self, Circuit};
+use crate::bulletins::{Bulletin, add_use, drop_use, mark_at};
+use crate::circuit::{self, Circuit, KeptDraw};
 use circular_buffer::HeapCircularBuffer;
 use gts_alphabet::NoMemory;
 use gts_frame::Kind;
@@ -134,11 +134,12 @@ impl Store {
             (free_uses self.old position - 1) }
         ensures aside { self.new.aside ≡ self.old.aside }
     {
+        let mark = mark_at(&self.bulletins, position);
         let circuit = &mut self.circuits[c as usize];
         circuit.draws += 1;
-        let oldest = circuit.kept.push_back(position);
+        let oldest = circuit.kept.push_back(KeptDraw { position, mark });
         if let Some(oldest) = oldest {
-            drop_use(&mut self.bulletins, oldest);
+            drop_use(&mut self.bulletins, oldest.position);
         }
     }
 
