@@ -20,13 +20,13 @@ use Rattle.gts_record.specs.declared.fault.OpenFault.{OpenFault}
 use Rattle.gts_record.specs.declared.fault.OpenFault.TheVariants as opening
 use Rattle.gts_connection.specs.Capture.{Step, IsWhole, entries}
 use Rattle.gts_connection.proofs.LawLemmas.{reads_once}
-use Rattle.gts_opening.specs.Journal.{opens as opens_files}
+use Rattle.gts_opening.specs.Journal.{opens as opens_files, files_open}
 use Rattle.gts_opening.specs.Room.{AllHadRoom, full}
 use Rattle.gts_turns.specs.{IsReopenFault, IsCause, entry_of, outcome_at}
 use Rattle.gts_engine.specs.declared.mode.SayMode.TheVariants as mode
 use Rattle.gts_engine.specs.Engine.{Engine, shown}
 use Rattle.gts_engine.specs.Origin.{Origin, state_at, used_at}
-use Rattle.gts_engine.specs.Keeping.{Keeps, HasFailed, origin_of}
+use Rattle.gts_engine.specs.Keeping.{Keeps, HasFailed, OpensWith, origin_of}
 use Rattle.gts_engine.specs.Switching.{Told, switch_words}
 use Rattle.gts_replay.specs.declared.end.ReplayEnd.{ReplayEnd}
 use Rattle.gts_replay.specs.declared.end.ReplayEnd.TheVariants as end
@@ -147,6 +147,19 @@ steps_went : {S P : Type 0} (source : SourceWords S) (w : StationWords P) (e : R
 steps_went source w e od oc nc old first last r steps keeps =
     let o = origin_of w.calls first r.n in
     went source w e od oc nc old first last r (history o steps) (history_done o steps) keeps
+
+-- the files open with the bytes that the steps come to
+uses : {S P : Type 0} (source : SourceWords S) (w : StationWords P) (e : ReplayEnd) (od oc nc : S) (old : P) (first last : Engine P)
+    (r : Run source w e od oc nc old first last) (steps : List Step)
+    → Keeps w.tells mode.Station (origin_of w.calls first r.n) (history (origin_of w.calls first r.n) steps) (shown w.calls last)
+    → (last.stopped ≡ None → OpensWith last.directory (seen (w.calls last.station)) last.used)
+    → OpensWith first.directory (seen (w.calls last.station)) (used_at (origin_of w.calls first r.n) (history (origin_of w.calls first r.n) steps))
+uses source w e od oc nc old first last r steps keeps files =
+    let o = origin_of w.calls first r.n in
+    let going = goes_on last.stopped (history o steps) (history_done o steps) keeps.failed in
+    let x = files going in
+    (x.0, subst (λ (d : directories.Directory). files_open d (seen (w.calls last.station)) ≡ Ok (x.0, used_at o (history o steps))) keeps.directory
+    (subst (λ (used : ℕ). files_open last.directory (seen (w.calls last.station)) ≡ Ok (x.0, used)) (keeps.used going) x.1))
 
 -- it ended at an event
 broke : {S P : Type 0} (source : SourceWords S) (w : StationWords P) (e : ReplayEnd) (od oc nc : S) (old : P) (first last : Engine P)
@@ -296,8 +309,9 @@ pub replays : {S P : Type 0} (source : SourceWords S) (w : StationWords P) (e : 
     → Ends (switch_words w.tells w.calls) w.tells o h source.tells e first last (source.left oc) (source.left nc))
     → length first.directory.circuits ≤ 100
     → HasReplayCause e (w.disk_faults first.station) (w.disk_faults last.station) (w.say_faults first.station) (w.say_faults last.station) (source.faults oc) (source.faults nc)
+    → (w.tells → last.stopped ≡ None → OpensWith last.directory (seen (w.calls last.station)) last.used)
     → Replays source w (status_of e) (world od oc old) (world nd nc last.station)
-replays source w e od nd oc nc old first last opens laws ends narrow cause =
+replays source w e od nd oc nc old first last opens laws ends narrow cause files =
     let of : (s : Status) → status_of e ≡ s → IsOf s e = λ s is. subst (λ (x : Status). IsOf x e) is (is_of e) in
     let run : w.tells → Run source w e od oc nc old first last = λ told.
     let x = opens.opened first refl told in record {
@@ -315,7 +329,8 @@ replays source w e od nd oc nc old first last opens laws ends narrow cause =
     record {
       done = λ is tells told few.
           let r = run told in let x = r.ends.done (of Done is) in
-          (origin_of w.calls first r.n, r.read tells, r.origin, (x.steps, x.whole tells few, steps_went source w e od oc nc old first last r x.steps x.stands));
+          (origin_of w.calls first r.n, r.read tells, r.origin,
+          (x.steps, x.whole tells few, steps_went source w e od oc nc old first last r x.steps x.stands, uses source w e od oc nc old first last r x.steps x.stands (files told)));
       words = λ is. of Words is;
       exists = λ size is. of (Exists size) is;
       line_fault = λ c is. of (LineFault c) is;

@@ -15,7 +15,7 @@ pub use Rattle.gts_recovery.specs.{IsAnswer}
 pub use Rattle.gts_turns.specs.{IsTurn, IsReopening, HasTurnCause, HasReopenCause}
 pub use Rattle.gts_engine.specs.declared.mode.SayMode.{SayMode}
 pub use Rattle.gts_engine.specs.Engine.{engine_of, shown}
-pub use Rattle.gts_engine.specs.Keeping.{Keeps, AddsEntry, HasRead, origin_of, words_of}
+pub use Rattle.gts_engine.specs.Keeping.{Keeps, AddsEntry, HasRead, OpensWith, origin_of, words_of}
 pub use Rattle.gts_engine.specs.Switching.{switch_words}
 pub use Rattle.gts_engine.specs.Going.{IsGoing, stopped_after, Enters, Doubts}
 pub use Rattle.gts_engine.specs.Parts.{IsSound, Turns, TurnsBy, shows, IsFree, WouldAccept, IsNoBulletin, Gives, GivesOrMemory, EachRoom, IsFullFault, IsRoomFault}
