@@ -4,6 +4,7 @@ ghost use Rattle.gts_alphabet.specs.declared.limits.TheConstants.{MOST_CIRCUITS}
 ghost use Rattle.gts_prioq.specs.declared.levels.TheConstants.{LEVELS};
 ghost use Rattle.gts_dup.specs.Window.{AllBelow};
 ghost use Rattle.gts_core.specs.Words.{fields_of, split_at, level_of, body_of, heading_of_message, stored_as, uses_of, free_uses, SameBulletins};
+ghost use Rattle.gts_core.specs.Duplicates.{IsDigestOf};
 ghost use Rattle.gts_core.specs.Parts.{lane_in};
 ghost use Rattle.gts_core.specs.Entering.{HasRoom, CanRoute, RoutesWhere, Enters, Accepts};
 
@@ -116,11 +117,13 @@ pub fn accept_in(
     c: u32,
     kind: Kind,
     message: &[u8],
+    digest: [u8; 32],
 )
     requires circuit { c < length directory.now.circuits }
     requires circuits { length lanes.old.items ≡ length directory.now.circuits }
     requires few { length lanes.old.items ≤ MOST_CIRCUITS }
     requires read { IsTrue (is_ok (split_at message.now)) }
+    requires digest { IsDigestOf message.now digest }
     requires width { table.old.width ≡ directory.now.window }
     requires room { 1 ≤ table.old.spare }
     requires above { AllBelow position table.old.noted }
@@ -137,7 +140,6 @@ pub fn accept_in(
     if let Ok(parts) = Message::split(message) {
         let level = directory.level(&parts.heading);
         let mask = directory.names(c, &parts.heading);
-        let digest = DupTable::digest(&parts.heading, parts.text);
         table.put(digest, position);
         let uses = 1 + mask.count_ones();
         enter(

@@ -1,11 +1,12 @@
-ghost use Rattle.std.specs.Prelude.{◌≡◌, ◌+◌, ◌<◌, ◌≤◌, ◌^◌, ℕ, List, length, flat_map};
+ghost use Rattle.std.specs.Prelude.{◌≡◌, ◌≢◌, ◌+◌, ◌<◌, ◌≤◌, ◌^◌, ℕ, List, length, flat_map};
 ghost use Rattle.std.specs.List.{AllByRecursion};
 ghost use Rattle.gts_request.specs.Request as requests;
 ghost use Rattle.gts_event.specs.History as history;
+ghost use Rattle.gts_dup.specs.Window.{digest_of};
 ghost use Rattle.gts_core.specs.Words.{Bulletin, fields_of, named};
 ghost use Rattle.gts_core.specs.Frames.{AreBodies};
-ghost use Rattle.gts_core.specs.Duplicates.{AreNoted};
-ghost use Rattle.gts_core.specs.Judging.{item_places, Tallies, verdict_told, answer_by, verdict_by, judged_by};
+ghost use Rattle.gts_core.specs.Duplicates.{AreNoted, IsDigestOf, latest_again};
+ghost use Rattle.gts_core.specs.Judging.{item_places, Tallies, verdict_told, answer_by, entered_by, verdict_by, judged_by};
 
 use crate::answer::Verdict;
 use crate::duplicates::duplicate;
@@ -62,8 +63,9 @@ fn granted(lane: &Lane, store: &Store, c: u32, request: &Request<'_>) -> Verdict
     requires circuit { c < length store.now.circuits }
     requires items { AllByRecursion requests.IsItem request.now }
     requires size { length request.now ≤ 2 ^ 20 }
-    ensures { (count : ℕ) → verdict_told count result ≡ history.answer (length lane.now.owed)
+    ensures told { (count : ℕ) → verdict_told count result ≡ history.answer (length lane.now.owed)
         (flat_map (item_places store.now c) request.now) }
+    ensures other { (n : ℕ) → result ≢ Verdict.New n }
 {
     let tally = tally_all(store, c, request);
     if lane.owed().len() + tally.found as usize > MOST_OWED {
@@ -79,8 +81,9 @@ fn granted(lane: &Lane, store: &Store, c: u32, request: &Request<'_>) -> Verdict
 fn answered(lane: &Lane, store: &Store, c: u32, text: &[u8]) -> Verdict
     requires circuit { c < length store.now.circuits }
     requires short { length text.now < 2 ^ 20 }
-    ensures { (count : ℕ) → verdict_told count result
+    ensures told { (count : ℕ) → verdict_told count result
         ≡ answer_by (length lane.now.owed) store.now c (requests.request_at text.now) }
+    ensures other { (n : ℕ) → result ≢ Verdict.New n }
 {
     match Request::read(text) {
         Ok(request) => granted(lane, store, c, &request),
@@ -97,6 +100,49 @@ fn named_circuits(directory: &Directory, c: u32, heading: &Heading) -> u32
     directory.names(c, heading).count_ones()
 }
 
+/// A verdict, and the digest by which a duplicate was looked for; zeros where none was.
+#[derive(Drop)]
+pub struct Judged {
+    pub verdict: Verdict,
+    pub digest: [u8; 32],
+}
+
+// A verdict for which no duplicate was looked for.
+fn undigested(verdict: Verdict) -> Judged
+    ensures { result.verdict ≡ verdict }
+{
+    Judged {
+        verdict,
+        digest: [0; 32],
+    }
+}
+
+/// What a message with this heading and this text, which is no request, leads to on circuit `c`.
+fn judge_bulletin(
+    directory: &Directory,
+    table: &DupTable,
+    store: &Store,
+    c: u32,
+    heading: &Heading,
+    text: &[u8],
+) -> Judged
+    requires circuit { c < length directory.now.circuits }
+    requires bodies { AreBodies store.now }
+    ensures verdict { (count : ℕ) (recent : List Bulletin) → AreNoted table.now store.now recent
+        → verdict_told count result.verdict ≡ entered_by directory.now count c
+        (fields_of heading.now) (latest_again (fields_of heading.now) text.now recent) }
+    ensures digest { result.digest ≡ digest_of (fields_of heading.now) text.now }
+{
+    let digest = DupTable::digest(heading, text);
+    let verdict = match duplicate(table, store, heading, text, &digest) {
+        Some(position) => Verdict::Duplicate { position },
+        None => Verdict::New {
+            circuits: named_circuits(directory, c, heading),
+        },
+    };
+    Judged { verdict, digest }
+}
+
 /// What a message with this heading and this text leads to on circuit `c`.
 fn judge_parts(
     directory: &Directory,
@@ -106,24 +152,21 @@ fn judge_parts(
     c: u32,
     heading: &Heading,
     text: &[u8],
-) -> Verdict
+) -> Judged
     requires circuit { c < length directory.now.circuits }
     requires kept { c < length store.now.circuits }
     requires short { length text.now < 2 ^ 20 }
     requires bodies { AreBodies store.now }
-    ensures { (count : ℕ) (recent : List Bulletin) → AreNoted table.now store.now recent
-        → verdict_told count result ≡ verdict_by directory.now count recent
+    ensures verdict { (count : ℕ) (recent : List Bulletin) → AreNoted table.now store.now recent
+        → verdict_told count result.verdict ≡ verdict_by directory.now count recent
         (length lane.now.owed) store.now c (fields_of heading.now) text.now }
+    ensures digest { (n : ℕ) → result.verdict ≡ Verdict.New n
+        → result.digest ≡ digest_of (fields_of heading.now) text.now }
 {
     if is_request(directory, heading) {
-        return answered(lane, store, c, text);
+        return undigested(answered(lane, store, c, text));
     }
-    match duplicate(table, store, heading, text) {
-        Some(position) => Verdict::Duplicate { position },
-        None => Verdict::New {
-            circuits: named_circuits(directory, c, heading),
-        },
-    }
+    judge_bulletin(directory, table, store, c, heading, text)
 }
 
 /// What a message leads to on circuit `c`.
@@ -134,16 +177,18 @@ pub fn judge_in(
     lane: &Lane,
     c: u32,
     message: &[u8],
-) -> Verdict
+) -> Judged
     requires circuit { c < length directory.now.circuits }
     requires kept { c < length store.now.circuits }
     requires bodies { AreBodies store.now }
-    ensures { (count : ℕ) (recent : List Bulletin) → AreNoted table.now store.now recent
-        → verdict_told count result ≡ judged_by directory.now count recent
+    ensures verdict { (count : ℕ) (recent : List Bulletin) → AreNoted table.now store.now recent
+        → verdict_told count result.verdict ≡ judged_by directory.now count recent
         (length lane.now.owed) store.now c message.now }
+    ensures digest { (n : ℕ) → result.verdict ≡ Verdict.New n
+        → IsDigestOf message.now result.digest }
 {
     match Message::split(message) {
         Ok(parts) => judge_parts(directory, table, store, lane, c, &parts.heading, parts.text),
-        Err(field) => Verdict::Refused(Refusal::Message(field)),
+        Err(field) => undigested(Verdict::Refused(Refusal::Message(field))),
     }
 }

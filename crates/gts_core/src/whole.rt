@@ -1,9 +1,10 @@
-ghost use Rattle.std.specs.Prelude.{◌≡◌, ◌<◌, ◌+◌, ◌^◌, length, IfOk, OnOk, IsTrue};
+ghost use Rattle.std.specs.Prelude.{◌≡◌, ◌<◌, ◌+◌, ◌^◌, ℕ, length, IfOk, OnOk, IsTrue};
 ghost use Rattle.gts_directory.specs.Directory.{Directory};
 ghost use Rattle.gts_event.specs.State.{State, empty};
 ghost use Rattle.gts_event.specs.declared.event.Event.TheVariants.{Heard};
 ghost use Rattle.gts_core.specs.Begin.{need_of, is_sound, begun};
 ghost use Rattle.gts_event.specs.declared.outcome.Outcome.TheVariants.{Nothing};
+ghost use Rattle.gts_core.specs.Duplicates.{IsDigestOf};
 ghost use Rattle.gts_core.specs.Owed.{all_waiting};
 ghost use Rattle.gts_core.specs.Core.{Holds, IsFor, IsReady, HasPosition, IsStep, Keeps, Judges, Chooses, Takes, Says, Restarts, Needs};
 
@@ -11,7 +12,7 @@ use crate::answer::{Choice, Verdict};
 use crate::begin::store_of;
 use crate::entering::{accept_in, make_room, reserve_body};
 use crate::granting::grant_on;
-use crate::judging::judge_in;
+use crate::judging::{Judged, judge_in};
 use crate::lane::Lane;
 use crate::needs::need_in;
 use crate::opening::{empty_lanes, kept_limits};
@@ -99,6 +100,18 @@ impl Core {
         requires circuit { c < length self.now.kept }
         ensures { Judges directory.now self.now c message.now result }
     {
+        self.weigh(directory, c, message).verdict
+    }
+
+    /// The same, with the digest that `accept` wants of a new message. The directory is the one with which the core was made.
+    /// Takes no memory.
+    pub fn weigh(&self, directory: &Directory, c: u32, message: &[u8]) -> Judged
+        requires directory { IsFor directory.now self.now }
+        requires circuit { c < length self.now.kept }
+        ensures verdict { Judges directory.now self.now c message.now result.verdict }
+        ensures digest { (n : ℕ) → result.verdict ≡ Verdict.New n
+            → IsDigestOf message.now result.digest }
+    {
         let lane = &self.lanes[c as usize];
         judge_in(directory, &self.table, &self.store, lane, c, message)
     }
@@ -117,14 +130,22 @@ impl Core {
         ensures kept { Keeps self.old self.new }
         ensures ready { OnOk result (IsReady directory.now self.new c message.now) }
     {
-        let verdict = self.judge(directory, c, message);
-        self.ready = false;
-        if let Verdict::New { .. } = verdict {
-            self.table.reserve()?;
-            make_room(&mut self.lanes)?;
-            reserve_body(alloc, &mut self.store, message)?;
-            self.ready = true;
+        if let Verdict::New { .. } = self.judge(directory, c, message) {
+            return self.prepare(alloc, message);
         }
+        Ok(())
+    }
+
+    /// Takes all the memory for a message, for a caller who has judged that it is new.
+    pub fn prepare(&mut self, alloc: Global, message: &[u8]) -> Result<(), NoMemory>
+        ensures kept { Keeps self.old self.new }
+        ensures ready { OnOk result ((d : Directory) (c : ℕ) → IsReady d self.new c message.now) }
+    {
+        self.ready = false;
+        self.table.reserve()?;
+        make_room(&mut self.lanes)?;
+        reserve_body(alloc, &mut self.store, message)?;
+        self.ready = true;
         Ok(())
     }
 
@@ -138,8 +159,8 @@ impl Core {
         requires few { HasPosition directory.now self.old c message.now }
         ensures { IsStep directory.now self.old self.new (Heard c kind message.now) result }
     {
-        let verdict = self.judge(directory, c, message);
-        match verdict {
+        let judged = self.weigh(directory, c, message);
+        match judged.verdict {
             Verdict::Refused(refusal) => Outcome::Refused(refusal),
             Verdict::Duplicate { position } => Outcome::Duplicate { position },
             Verdict::Asked { found, missing } => {
@@ -149,24 +170,47 @@ impl Core {
                 Outcome::Asked { found, missing }
             }
             Verdict::New { circuits } => {
-                let position = self.count;
-                self.ready = false;
-                let table = &mut self.table;
-                let store = &mut self.store;
-                accept_in(
-                    directory,
-                    position,
-                    table,
-                    store,
-                    &mut self.lanes,
-                    c,
-                    kind,
-                    message,
-                );
-                self.count = position + 1;
-                Outcome::Accepted { position, circuits }
+                self.accept(directory, c, kind, message, circuits, judged.digest)
             }
         }
+    }
+
+    /// A message that `weigh` found new, for so many circuits, is accepted; memory was taken for it. The directory is the one
+    /// with which the core was made. Takes no memory.
+    pub fn accept(
+        &mut self,
+        directory: &Directory,
+        c: u32,
+        kind: Kind,
+        message: &[u8],
+        circuits: u32,
+        digest: [u8; 32],
+    ) -> Outcome
+        requires directory { IsFor directory.now self.old }
+        requires circuit { c < length self.old.kept }
+        requires ready { IsReady directory.now self.old c message.now }
+        requires few { HasPosition directory.now self.old c message.now }
+        requires judged { Judges directory.now self.old c message.now (Verdict.New circuits) }
+        requires digest { IsDigestOf message.now digest }
+        ensures { IsStep directory.now self.old self.new (Heard c kind message.now) result }
+    {
+        let position = self.count;
+        self.ready = false;
+        let table = &mut self.table;
+        let store = &mut self.store;
+        accept_in(
+            directory,
+            position,
+            table,
+            store,
+            &mut self.lanes,
+            c,
+            kind,
+            message,
+            digest,
+        );
+        self.count = position + 1;
+        Outcome::Accepted { position, circuits }
     }
 
     /// How many bulletins were accepted, which is the position of the next one. Takes no memory.
