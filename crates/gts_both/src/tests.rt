@@ -2,6 +2,7 @@ mod chance;
 mod comparing;
 mod directory;
 mod events;
+mod memory;
 mod messages;
 mod running;
 
@@ -18,7 +19,7 @@ use gts_number::number_of;
 use messages::{
     bulletin, heading_of, request, request_for_headings, request_for_numbers, request_many_times,
 };
-use running::{Run, Tally, begin_again, new_run, restart, run_on, step};
+use running::{Run, Tally, begin_again, heard, new_run, restart, run_on, step, taken};
 use std::alloc::{AllocError, Global};
 use std::test::Fail;
 

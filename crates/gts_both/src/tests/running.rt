@@ -85,7 +85,7 @@ pub fn new_run(alloc: Global, seed: u32) -> Result<Run, Fail> {
 }
 
 /// What a message that comes on circuit `c` leads to in both.
-fn heard(
+pub fn heard(
     alloc: Global,
     both: &mut Both,
     c: u32,
@@ -108,7 +108,7 @@ fn heard(
 }
 
 /// What a take on circuit `c` leads to in both.
-fn taken(run: &mut Run, c: u32) -> Result<Outcome, Fail> {
+pub fn taken(run: &mut Run, c: u32) -> Result<Outcome, Fail> {
     if c >= run.both.circuits() {
         return Err("there is no such circuit".into());
     }
