@@ -1,8 +1,13 @@
--- The words that name a command which is built.
+-- The words that name a command which is built, and what each command comes to.
 use Rattle.std.specs.Prelude.{◌≡◌, ℕ, List, Some}
 use Rattle.gts_words.specs.declared.command.Command.{Command}
 use Rattle.gts_words.specs.declared.command.Command.TheVariants.{Init, Replay, Serve, Show, Compact, Generate}
 use Rattle.gts_words.specs.{command_of}
+pub use Rattle.gts_app.specs.Generate.{Generates}
+pub use Rattle.gts_app.specs.Init.{Inits}
+pub use Rattle.gts_app.specs.Replay.{Replays, world, IsNoCapture}
+pub use Rattle.gts_app.specs.Serve.{Serves}
+pub use Rattle.gts_app.specs.Show.{Shows}
 
 -- which commands are built
 abbrev pub IsBuilt : Command → Type 0

@@ -1,12 +1,7 @@
 ghost use Rattle.std.specs.Prelude.{◌≡◌, ◌⊎◌, ◌<◌, ◌^◌, ℕ, Some, length};
 ghost use Rattle.gts_words.specs.{command_of};
-ghost use Rattle.gts_app.specs.Commands.{IsCommand};
-ghost use Rattle.gts_app.specs.Generate.{Generates};
-ghost use Rattle.gts_app.specs.Init.{Inits};
-ghost use Rattle.gts_app.specs.Replay.{Replays, world, IsNoCapture};
 ghost use Rattle.gts_serve.specs.{seen_lines as seen};
-ghost use Rattle.gts_app.specs.Show.{Shows};
-ghost use Rattle.gts_app.specs.Serve.{Serves};
+ghost use Rattle.gts_app.specs.Commands.{IsCommand, Inits, Replays, world, IsNoCapture, Shows, Serves, Generates};
 
 use crate::Status;
 use crate::commands::generate::generate;

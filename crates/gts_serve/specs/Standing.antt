@@ -3,6 +3,9 @@ use Rattle.std.specs.Prelude.{◌≡◌, ℕ, ◌<◌, ◌≤◌, Bool, true, fa
 use mathlib.Core.Option.{some}
 use lib.ListN.{get_elem?}
 use Rattle.atomic_table.specs.Seated.{TableId}
+use Rattle.gts_traits.specs.declared.source.Source.{Ghosts as SourceWords}
+use Rattle.gts_traits.specs.declared.sink.Sink.{Ghosts as SinkWords}
+use Rattle.gts_traits.specs.declared.station.Station.{Ghosts as StationWords}
 use Rattle.gts_traits.specs.Calls.{Call}
 use Rattle.gts_traits.specs.Lines.{CountsSockets}
 use Rattle.gts_event.specs.History.{outcome}
@@ -53,6 +56,16 @@ module _ {S K : Type 0} (source_tells : Type 0) (left : S → List ℕ) (source_
     pub taken : sink_tells → (now.bytes c).taken ≡ written sink
     pub counted : CountsSockets (source_faults source) (sink_faults sink) (before.faults c) (now.faults c)
 
+  -- the sockets of each circuit were handed back whose workers ended so
+  abbrev pub AreClosed : List (Incoming S) → List (Outgoing K) → Type 0
+  AreClosed incoming outgoing =
+      (c : ℕ) (x : Incoming S) (y : Outgoing K) → get_elem? incoming c ≡ some x → get_elem? outgoing c ≡ some y
+      → IsClosed c x.source y.sink
+
+  -- the sockets of each circuit were handed back, of which none was used
+  abbrev pub AreClosedUnused : List (Sockets S K) → Type 0
+  AreClosedUnused sockets = (c : ℕ) (x : Sockets S K) → get_elem? sockets c ≡ some x → IsClosed c x.source x.sink
+
 -- ---- ended workers
 
 module _ (b : Beginning) {S : Type 0} (tells : Type 0) (left : S → List ℕ) (faults : S → ℕ) where
@@ -73,6 +86,10 @@ module _ (b : Beginning) {K : Type 0} (tells : Type 0) (written : K → List ℕ
     pub failed : (index : ℕ) → x.end ≡ LineFault index → 0 < faults x.sink
 
 -- ---- takes behind the threads
+
+-- the sink took these bytes
+abbrev pub SinkTook : {K : Type 0} → Type 0 → (K → List ℕ) → (old new : K) → List ℕ → Type 0
+SinkTook tells written old new bytes = tells → written new ≡ written old ++ bytes
 
 -- a take on c would give nothing
 abbrev pub GivesNothing : Beginning → ℕ → List (ℕ × Entry) → Type 0
@@ -145,7 +162,13 @@ module _ {P S K : Type 0} (tells : Type 0) (calls : P → List Call) (disk say :
     pub sinks : List (Outgoing K)
     pub count : length sinks ≡ length (outgoing_of lines)
     pub drained : AreDrained tells calls disk say b sink_tells written sink_faults threads sinks (length sinks) e
-    pub closed : (c : ℕ) (x : Incoming S) (y : Outgoing K) → get_elem? (incoming_of lines) c ≡ some x → get_elem? sinks c ≡ some y
-        → IsClosed source_tells left source_faults sink_tells written sink_faults before now c x.source y.sink
+    pub closed : AreClosed source_tells left source_faults sink_tells written sink_faults before now (incoming_of lines) sinks
     pub others : (c : ℕ) → length sinks ≤ c → IsSame before now c
     pub end_is : end ≡ first_fault 0 (ends_of (incoming_of lines) sinks)
+
+-- that, in the words of a station, of sources and of sinks
+abbrev pub Finishes : {P S K : Type 0} → StationWords P → Beginning → SourceWords S → SinkWords K → (before now : LinesSeen)
+    → List (ℕ × Entry) → List (Line S K) → ServeEnd → Engine P → Type 0
+Finishes station b source sink before now =
+    IsFinished station.tells station.calls station.disk_faults station.say_faults b
+    source.tells source.left source.faults sink.tells sink.written sink.faults before now

@@ -3,10 +3,8 @@ ghost use Rattle.std.specs.Prelude.{◌≡◌, ℕ, ◌<◌, ◌≤◌, true, le
 ghost use mathlib.Core.Option.{some};
 ghost use lib.ListN.{get_elem?};
 ghost use Rattle.gts_alphabet.specs.declared.limits.TheConstants.{MOST_CIRCUITS};
-ghost use Rattle.gts_traits.specs.{IsEndOf};
 ghost use Rattle.gts_serve.specs.declared.sockets.Incoming.{Incoming as IncomingOf};
-ghost use Rattle.gts_serve.specs.declared.sockets.Outgoing.{Outgoing as OutgoingOf};
-ghost use Rattle.gts_serve.specs.Words.{seen_lines, IsSame, IsClosed, first_fault, ends_of};
+ghost use Rattle.gts_serve.specs.Words.{IsEndOf, seen_lines as seen, IsSame, AreClosed, first_fault, ends_of};
 
 use crate::ServeEnd;
 use crate::ending::end_with;
@@ -28,14 +26,12 @@ where
     requires told { L.In.tells → (c : ℕ) (x : IncomingOf L.In)
         → get_elem? incoming.items c ≡ some x
         → IsEndOf (L.bytes lines.old c).told (L.In.left x.source) }
-    ensures closed { (c : ℕ) (x : IncomingOf L.In) (y : OutgoingOf L.Out)
-        → get_elem? incoming.items c ≡ some x → get_elem? outgoing.items c ≡ some y
-        → IsClosed L.In.tells L.In.left L.In.faults L.Out.tells L.Out.written L.Out.faults
-        (seen_lines L.is_open L.faults L.bytes lines.old)
-        (seen_lines L.is_open L.faults L.bytes lines.new) c x.source y.sink }
+    ensures closed { AreClosed L.In.tells L.In.left L.In.faults L.Out.tells L.Out.written
+        L.Out.faults (seen L.is_open L.faults L.bytes lines.old)
+        (seen L.is_open L.faults L.bytes lines.new) incoming.items outgoing.items }
     ensures others { (c : ℕ) → length outgoing.items ≤ c
-        → IsSame (seen_lines L.is_open L.faults L.bytes lines.old)
-        (seen_lines L.is_open L.faults L.bytes lines.new) c }
+        → IsSame (seen L.is_open L.faults L.bytes lines.old)
+        (seen L.is_open L.faults L.bytes lines.new) c }
     ensures end { result ≡ first_fault 0 (ends_of incoming.items outgoing.items) }
 {
     let mut incoming = incoming;

@@ -4,7 +4,7 @@ ghost use mathlib.Core.Option.{some};
 ghost use lib.ListN.{get_elem?};
 ghost use Rattle.gts_alphabet.specs.declared.limits.TheConstants.{MOST_CIRCUITS};
 ghost use Rattle.gts_traits.specs.Counts.{Rose};
-ghost use Rattle.gts_serve.specs.Words.{Sockets as SocketsOf, seen_lines, IsSame, AreOpened, IsOpened, IsClosed};
+ghost use Rattle.gts_serve.specs.Words.{Sockets as SocketsOf, seen_lines as seen, IsSame, AreOpened, IsOpened, AreClosedUnused};
 
 use gts_circuits::Sockets;
 use gts_directory::Directory;
@@ -22,14 +22,13 @@ pub(crate) fn open_all<L: Lines>(
     requires circuits { length rooms.items ≤ length directory.now.circuits }
     requires empty { sockets.old.items ≡ [] }
     requires room { length rooms.items ≤ vec_capacity sockets.old }
-    ensures opened { OnOk result (AreOpened L.In.tells L.In.left L.In.faults
-        L.Out.tells L.Out.written L.Out.faults (seen_lines L.is_open L.faults L.bytes lines.old)
-        (seen_lines L.is_open L.faults L.bytes lines.new) sockets.new.items
-        (length sockets.new.items)) }
+    ensures opened { OnOk result (AreOpened L.In.tells L.In.left L.In.faults L.Out.tells
+        L.Out.written L.Out.faults (seen L.is_open L.faults L.bytes lines.old)
+        (seen L.is_open L.faults L.bytes lines.new) sockets.new.items (length sockets.new.items)) }
     ensures count { OnOk result (length sockets.new.items ≡ length rooms.items) }
     ensures stopped { IfErr result (λ c. AreOpened L.In.tells L.In.left L.In.faults
-        L.Out.tells L.Out.written L.Out.faults (seen_lines L.is_open L.faults L.bytes lines.old)
-        (seen_lines L.is_open L.faults L.bytes lines.new) sockets.new.items (c + 1)) }
+        L.Out.tells L.Out.written L.Out.faults (seen L.is_open L.faults L.bytes lines.old)
+        (seen L.is_open L.faults L.bytes lines.new) sockets.new.items (c + 1)) }
     ensures place { IfErr result (λ c. (length sockets.new.items ≡ c)
         × (c < length rooms.items)) }
     ensures failed { IfErr result (λ c. (L.is_open lines.new c ≡ L.is_open lines.old c)
@@ -65,14 +64,12 @@ where
     requires told { L.In.tells → (c : ℕ) (x : SocketsOf L.In L.Out)
         → get_elem? sockets.items c ≡ some x
         → (L.bytes lines.old c).told ≡ L.In.left x.source }
-    ensures closed { (c : ℕ) (x : SocketsOf L.In L.Out)
-        → get_elem? sockets.items c ≡ some x
-        → IsClosed L.In.tells L.In.left L.In.faults L.Out.tells L.Out.written L.Out.faults
-        (seen_lines L.is_open L.faults L.bytes lines.old)
-        (seen_lines L.is_open L.faults L.bytes lines.new) c x.source x.sink }
+    ensures closed { AreClosedUnused L.In.tells L.In.left L.In.faults L.Out.tells L.Out.written
+        L.Out.faults (seen L.is_open L.faults L.bytes lines.old)
+        (seen L.is_open L.faults L.bytes lines.new) sockets.items }
     ensures others { (c : ℕ) → length sockets.items ≤ c
-        → IsSame (seen_lines L.is_open L.faults L.bytes lines.old)
-        (seen_lines L.is_open L.faults L.bytes lines.new) c }
+        → IsSame (seen L.is_open L.faults L.bytes lines.old)
+        (seen L.is_open L.faults L.bytes lines.new) c }
 {
     let mut c = 0u32;
     for both in sockets {

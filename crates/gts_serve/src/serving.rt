@@ -2,11 +2,9 @@ ghost use Rattle.std.specs.Prelude.{◌≡◌, ℕ, ◌*◌, ◌<◌, ◌≤◌,
 ghost use mathlib.Core.Option.{some};
 ghost use lib.ListN.{get_elem?};
 ghost use Rattle.gts_alphabet.specs.declared.limits.TheConstants.{MOST_CIRCUITS};
-ghost use Rattle.gts_traits.specs.{IsEndOf};
-ghost use Rattle.gts_workers.specs.{has_end};
 ghost use Rattle.gts_workers.specs.declared.line.Line.{Line as LineOf};
 ghost use Rattle.gts_serve.specs.declared.sockets.Incoming.{Incoming as IncomingOf};
-ghost use Rattle.gts_serve.specs.Words.{Stands, seen_lines, incoming_of, outgoing_of, AreDrained, IsFinished, IsServed};
+ghost use Rattle.gts_serve.specs.Words.{IsEndOf, has_end, Stands, seen_lines as seen, incoming_of, outgoing_of, AreDrained, Finishes, IsServed};
 
 use crate::closing::close_all;
 use crate::draining::drain_all;
@@ -106,10 +104,8 @@ where
     requires told { L.In.tells → (c : ℕ) (x : IncomingOf L.In)
         → get_elem? (incoming_of ran.lines.items) c ≡ some x
         → IsEndOf (L.bytes lines.old c).told (L.In.left x.source) }
-    ensures finished { IsFinished P.tells P.calls P.disk_faults P.say_faults B.beginning
-        L.In.tells L.In.left L.In.faults L.Out.tells L.Out.written L.Out.faults
-        (seen_lines L.is_open L.faults L.bytes lines.old)
-        (seen_lines L.is_open L.faults L.bytes lines.new)
+    ensures finished { Finishes P.Station B.beginning L.In.Source L.Out.Sink
+        (seen L.is_open L.faults L.bytes lines.old) (seen L.is_open L.faults L.bytes lines.new)
         ran.pass.seen ran.lines.items result.end result.engine }
     ensures pass { result.pass ≡ Some ran.pass }
 {
@@ -150,8 +146,8 @@ where
     G: Gate,
     requires stands { Stands P.tells P.calls P.disk_faults P.say_faults B.beginning [] engine }
     ensures { IsServed P.tells P.calls P.disk_faults P.say_faults B.beginning
-        L.In.tells L.Out.tells (seen_lines L.is_open L.faults L.bytes lines.old)
-        (seen_lines L.is_open L.faults L.bytes lines.new) result.pass result.end result.engine }
+        L.In.tells L.Out.tells (seen L.is_open L.faults L.bytes lines.old)
+        (seen L.is_open L.faults L.bytes lines.new) result.pass result.end result.engine }
 {
     let housed: Housed<P, B> = Housed {
         engine,
