@@ -3,6 +3,7 @@ use Rattle.std.proofs.Common.{◌≡◌, ℕ, ◌+◌, ◌*◌, ◌^◌, ◌<◌
 use Rattle.std.specs.List.{list_all}
 use Rattle.std.proofs.lemmas.Bool.{and_from as both_true, lt-ltb}
 use Rattle.std.proofs.lemmas.List.{length-map}
+use Rattle.gts_alphabet.specs.declared.limits.TheConstants.{MOST_CIRCUITS}
 use Rattle.gts_traits.specs.Station.{on}
 use Rattle.gts_directory.specs.Directory.{Directory, Circuit}
 use Rattle.gts_event.specs.State.{State, CircuitState, most_accepted, empty, idle, waiting}
@@ -19,6 +20,7 @@ use Rattle.gts_event.proofs.LawLemmas.{held-all, held-empty, held-begun, sound-h
 use Rattle.gts_plain.specs.Core as plains
 use Rattle.gts_core.specs.Core as cores
 use Rattle.gts_both.specs.Both.{AreOne}
+use Rattle.gts_both.specs.declared.both.TheConstants.{MOST_HEARD}
 
 -- an event on a circuit of the directory leaves a state that is held
 held_done : (d : Directory) (s : State) (event : Event) → keeps_one d ≡ true → circuit_of_event event < length d.circuits → IsHeld d s → IsHeld d (after d s event)
@@ -120,16 +122,16 @@ same_frame d plain core c one other before before' out out' h same p n q m e =
       | inr some ↦ said_once (c + 1) out out' (sym (p some d h.state h.listed) ∙ q (λ none. some (same ∙ none)) d h.state h.forgetting)
     ]
 
-few_waiting : (qs : List CircuitState) → ((k : ℕ) → k < length qs → length (waiting (get_or qs k idle)) ≤ 1048576) → all_waiting qs ≤ length qs * 1048576
+few_waiting : (qs : List CircuitState) → ((k : ℕ) → k < length qs → length (waiting (get_or qs k idle)) ≤ MOST_HEARD) → all_waiting qs ≤ length qs * MOST_HEARD
 few_waiting [] h = omega arith
 few_waiting (q ∷ qs) h =
-    let here : length (waiting q) ≤ 1048576 = h zero (omega arith) in
-    let more : all_waiting qs ≤ length qs * 1048576 = few_waiting qs (λ k lt. h (suc k) (omega arith)) in
+    let here : length (waiting q) ≤ MOST_HEARD = h zero (omega arith) in
+    let more : all_waiting qs ≤ length qs * MOST_HEARD = few_waiting qs (λ k lt. h (suc k) (omega arith)) in
     omega (arith, here, more)
 
 -- few draws wait where few bulletins were accepted
-pub waiting_few : (d : Directory) (s : State) → IsHeld d s → s.count ≤ 1048576 → length d.circuits ≤ 64 → all_waiting s.circuits < 2 ^ 64
+pub waiting_few : (d : Directory) (s : State) → IsHeld d s → s.count ≤ MOST_HEARD → length d.circuits ≤ MOST_CIRCUITS → all_waiting s.circuits < 2 ^ 64
 waiting_few d s held few circuits =
-    let all : all_waiting s.circuits ≤ length s.circuits * 1048576 =
+    let all : all_waiting s.circuits ≤ length s.circuits * MOST_HEARD =
     few_waiting s.circuits (λ k lt. let each = (held.each k (omega (arith, lt, held.ordered.circuits))).few in omega (arith, each, few)) in
     omega (arith, all, held.ordered.circuits, circuits)

@@ -2,8 +2,7 @@ ghost use Rattle.std.specs.Prelude.{◌≡◌, ◌≢◌, ◌+◌, ◌<◌, ◌�
 ghost use Rattle.std.specs.List.{AllByRecursion};
 ghost use Rattle.gts_request.specs.Request as requests;
 ghost use Rattle.gts_event.specs.History as history;
-ghost use Rattle.gts_dup.specs.Window.{digest_of};
-ghost use Rattle.gts_core.specs.Words.{Bulletin, fields_of, named};
+ghost use Rattle.gts_core.specs.Words.{Bulletin, digest_of, fields_of, named};
 ghost use Rattle.gts_core.specs.Frames.{AreBodies};
 ghost use Rattle.gts_core.specs.Duplicates.{AreNoted, IsDigestOf, latest_again};
 ghost use Rattle.gts_core.specs.Judging.{item_places, Tallies, verdict_told, answer_by, entered_by, verdict_by, judged_by};

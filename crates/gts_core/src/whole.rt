@@ -1,9 +1,6 @@
 ghost use Rattle.std.specs.Prelude.{◌≡◌, ◌<◌, ◌+◌, ◌^◌, ℕ, length, IfOk, OnOk, IsTrue};
-ghost use Rattle.gts_directory.specs.Directory.{Directory};
-ghost use Rattle.gts_event.specs.State.{State, empty};
-ghost use Rattle.gts_event.specs.declared.event.Event.TheVariants.{Heard};
 ghost use Rattle.gts_core.specs.Begin.{need_of, is_sound, begun};
-ghost use Rattle.gts_event.specs.declared.outcome.Outcome.TheVariants.{Nothing};
+ghost use Rattle.gts_core.specs.Words.{Directory, State, empty, Heard, Nothing};
 ghost use Rattle.gts_core.specs.Duplicates.{IsDigestOf};
 ghost use Rattle.gts_core.specs.Owed.{all_waiting};
 ghost use Rattle.gts_core.specs.Core.{Holds, IsFor, IsReady, HasPosition, IsStep, Keeps, Judges, Chooses, Takes, Says, Restarts, Needs};
