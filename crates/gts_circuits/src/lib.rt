@@ -1,12 +1,16 @@
-//! All circuits at once over one hall: the workers of all sockets, their run, and what they leave.
+//! All circuits at once in one hall: the workers of all sockets, their run, and what they leave.
 #![tactic(auto)]
 
+mod closing;
+mod crew;
 mod gathering;
 mod running;
 mod sockets;
 mod staffing;
 
-pub use running::{Ran, run_all};
+pub use closing::{Ran, close};
+pub use crew::Crew;
+pub use running::run_all;
 pub use sockets::Sockets;
 
 #[cfg(test)]

@@ -9,11 +9,12 @@ use gts_engine::{Engine, an_opened_engine_begins_with_what_the_files_open_to};
 use gts_frame::{Decoder, FrameBuf};
 use gts_housed::{Began, Housed};
 use gts_journal::Journal;
+use gts_lock::Hall;
 use gts_memory::{MemSink, MemSource, MemStation};
 use gts_receiver::ReceiveEnd;
 use gts_sender::SendEnd;
 use gts_traits::{FreeGate, Station};
-use gts_workers::Line;
+use gts_workers::{Line, RunBell};
 use std::alloc::Global;
 use std::marker::{Brand, PhantomData};
 use std::sync::Wait;
@@ -116,18 +117,24 @@ where
         engine,
         began: PhantomData,
     };
-    match run_all(rt, alloc, &FreeGate, housed, sockets) {
-        Ok(ran) => {
-            let Ran {
-                housed,
-                pass: _,
-                lines,
-            } = ran;
-            let (station, _) = housed.engine.into_parts();
-            Some((station, lines))
-        }
-        Err(_) => None,
-    }
+    let circuits = sockets.len();
+    let bell = RunBell::new(circuits as u64);
+    let (hall, first) = match Hall::new(alloc, housed) {
+        Ok(both) => both,
+        Err(_) => return None,
+    };
+    let Ok(crew) = Crew::with_room(alloc, circuits) else {
+        let _ = hall.close(first);
+        return None;
+    };
+    let (first, lines) = run_all(rt, alloc, &FreeGate, &hall, &bell, first, sockets, crew);
+    let Ran {
+        housed,
+        pass: _,
+        lines,
+    } = close(hall, first, lines);
+    let (station, _) = housed.engine.into_parts();
+    Some((station, lines))
 }
 
 /// Opens the journal of a station that tells, and runs its engine with these sockets.
