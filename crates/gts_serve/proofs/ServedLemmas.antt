@@ -33,7 +33,7 @@ use Rattle.gts_serve.specs.declared.end.ServeEnd.TheVariants.{Done, Receiver, Se
 use Rattle.gts_serve.specs.declared.sockets.Incoming.{Incoming}
 use Rattle.gts_serve.specs.declared.sockets.Outgoing.{Outgoing}
 use Rattle.gts_serve.specs.Passing.{incoming_of, outgoing_of, ends_of}
-use Rattle.gts_serve.specs.Serving.{LinesSeen, IsSame, IsHandedBack, GivesUp, StopsAtOpening, IsReceived, IsSent, ServesCircuit, IsAtRest, Serves, receiver_first, sender_first, first_fault}
+use Rattle.gts_serve.specs.Serving.{LinesSeen, IsSame, IsHandedBack, StopsAtOpening, IsReceived, IsSent, ServesCircuit, IsAtRest, Serves, receiver_first, sender_first, first_fault}
 use Rattle.gts_serve.specs.Standing.{IsOpened, AreOpened, IsClosed, ReceiverStands, IsFinished}
 use Rattle.gts_serve.proofs.PastLemmas.{none_under, received_more, not_receiver}
 use Rattle.gts_serve.proofs.DrainLemmas.{in_both}
@@ -147,15 +147,6 @@ module _ {S K : Type 0} (source_tells : Type 0) (left : S → List ℕ) (source_
     left = λ tells. z.left_is tells ∙ sym (o.told tells) ∙ sym (z.told tells);
     taken = λ tells. z.taken tells ∙ o.unwritten tells;
     later = let l = z.counted.sound (omega (arith, o.source_fresh, o.sink_fresh)) in omega (arith, l, o.later);
-  }
-
-  pub gives_up : (xs : List (Sockets S K)) (count : ℕ) → length xs ≡ count
-      → AreOpened source_tells left source_faults sink_tells written sink_faults before mid xs (length xs)
-      → ((c : ℕ) (x : Sockets S K) → get_elem? xs c ≡ some x → IsClosed source_tells left source_faults sink_tells written sink_faults mid now c x.source x.sink)
-      → ((c : ℕ) → length xs ≤ c → IsSame mid now c) → GivesUp source_tells sink_tells count before now
-  gives_up xs count many opened closed others = record {
-    each = λ c less. let t = there xs c (omega (arith, less, many)) in inl (handed_back c t.0 (opened.each c t.0 t.1) (closed c t.0 t.1));
-    others = λ c from. same_twice before mid now c (opened.others c (omega (arith, from, many))) (others c (omega (arith, from, many)));
   }
 
   pub stops : (xs : List (Sockets S K)) (count f : ℕ) → f < count → length xs ≡ f → mid.is_open f ≡ before.is_open f → Rose (before.faults f) (mid.faults f)

@@ -1,5 +1,5 @@
 -- What a run of all circuits leaves: the history of all threads and the takes behind it, the bytes of each circuit, and its end.
-use Rattle.std.specs.Prelude.{◌≡◌, ◌⊎◌, ℕ, ◌+◌, ◌*◌, ◌<◌, ◌≤◌, Bool, true, false, List, [], ◌∷◌, ◌++◌, length, Option, Some, None}
+use Rattle.std.specs.Prelude.{◌≡◌, ℕ, ◌+◌, ◌*◌, ◌<◌, ◌≤◌, Bool, true, false, List, [], ◌∷◌, ◌++◌, length, Option, Some, None}
 use mathlib.Core.Option.{some}
 use lib.ListN.{get_elem?}
 use Rattle.atomic_table.specs.Seated.{TableId}
@@ -61,10 +61,9 @@ pub record StopsAtOpening (source_tells sink_tells : Type 0) (count f : ℕ) (be
   pub handed_back : (c : ℕ) → c < f → IsHandedBack source_tells sink_tells before now c
   pub others : (c : ℕ) → f < c → IsSame before now c
 
--- each of so many circuits was handed back or is as it was, and so are all others
-pub record GivesUp (source_tells sink_tells : Type 0) (count : ℕ) (before now : LinesSeen) : Type 0 where
-  pub each : (c : ℕ) → c < count → IsHandedBack source_tells sink_tells before now c ⊎ IsSame before now c
-  pub others : (c : ℕ) → count ≤ c → IsSame before now c
+-- each circuit is as it was
+abbrev pub AreUntouched : (before now : LinesSeen) → Type 0
+AreUntouched before now = (c : ℕ) → IsSame before now c
 
 -- ---- the end
 
@@ -176,6 +175,5 @@ module _ {P : Type 0} (tells : Type 0) (calls : P → List Call) (disk say : P �
   IsServed (Some pass) end engine = Serves pass.seen pass.full engine end
   IsServed None (NotOpened c) engine =
       Stands tells calls disk say b [] engine × StopsAtOpening source_tells sink_tells (length b.origin.directory.circuits) c before now
-  IsServed None NoMemory engine =
-      Stands tells calls disk say b [] engine × GivesUp source_tells sink_tells (length b.origin.directory.circuits) before now
+  IsServed None NoMemory engine = Stands tells calls disk say b [] engine × AreUntouched before now
   IsServed None end engine = ⊥

@@ -6,20 +6,17 @@ ghost use Rattle.gts_alphabet.specs.declared.limits.TheConstants.{MOST_CIRCUITS}
 ghost use Rattle.gts_traits.specs.Counts.{Rose};
 ghost use Rattle.gts_serve.specs.Words.{Sockets as SocketsOf, seen_lines as seen, IsSame, AreOpened, IsOpened, AreClosedUnused};
 
+use crate::room::CircuitRoom;
 use gts_circuits::Sockets;
-use gts_directory::Directory;
-use gts_frame::{Decoder, FrameBuf};
 use gts_traits::{Failed, Lines};
 
-/// Opens the lines of the first circuits, one for each decoder and frame. It stops at the first that fails.
+/// Opens the lines of the first circuits, one for each room. It stops at the first that fails.
 pub(crate) fn open_all<L: Lines>(
     lines: &mut L,
-    directory: &Directory,
-    rooms: Vec<(Decoder, FrameBuf)>,
+    rooms: Vec<CircuitRoom>,
     sockets: &mut Vec<Sockets<L::In, L::Out>>,
 ) -> Result<(), u32>
     requires few { length rooms.items ≤ MOST_CIRCUITS }
-    requires circuits { length rooms.items ≤ length directory.now.circuits }
     requires empty { sockets.old.items ≡ [] }
     requires room { length rooms.items ≤ vec_capacity sockets.old }
     ensures opened { OnOk result (AreOpened L.In.tells L.In.left L.In.faults L.Out.tells
@@ -35,9 +32,13 @@ pub(crate) fn open_all<L: Lines>(
         × Rose (L.faults lines.old c) (L.faults lines.new c)) }
 {
     let mut c = 0u32;
-    for (decoder, frame) in rooms {
-        let row = directory.circuit(c);
-        let (input, output) = (row.input as u16, row.output as u16);
+    for room in rooms {
+        let CircuitRoom {
+            input,
+            output,
+            decoder,
+            frame,
+        } = room;
         let (source, sink) = match lines.open(c, input, output) {
             Ok(both) => both,
             Err(Failed) => return Err(c),

@@ -1,7 +1,8 @@
-ghost use Rattle.std.specs.Prelude.{◌≡◌, ℕ, ◌*◌, ◌<◌, ◌≤◌, [], true, length, Some, None, vec_capacity, IfOk};
+ghost use Rattle.std.specs.Prelude.{◌≡◌, ℕ, ◌*◌, ◌<◌, ◌≤◌, [], true, length, Some, None, vec_capacity};
 ghost use mathlib.Core.Option.{some};
 ghost use lib.ListN.{get_elem?};
 ghost use Rattle.gts_alphabet.specs.declared.limits.TheConstants.{MOST_CIRCUITS};
+ghost use Rattle.gts_lock.specs.{first_pass};
 ghost use Rattle.gts_workers.specs.declared.line.Line.{Line as LineOf};
 ghost use Rattle.gts_serve.specs.declared.sockets.Incoming.{Incoming as IncomingOf};
 ghost use Rattle.gts_serve.specs.Words.{IsEndOf, has_end, Stands, seen_lines as seen, incoming_of, outgoing_of, AreDrained, Finishes, IsServed};
@@ -10,62 +11,26 @@ use crate::closing::close_all;
 use crate::draining::drain_all;
 use crate::opening::{close_opened, open_all};
 use crate::parting::part;
+use crate::room::{Room, room_for};
 use crate::sockets::{Incoming, Outgoing};
 use crate::{ServeEnd, Served};
-use gts_circuits::{Ran, Sockets, run_all};
+use gts_circuits::{Crew, Ran, close, run_all};
 use gts_engine::Engine;
-use gts_frame::{Decoder, FrameBuf};
 use gts_housed::{Began, Housed};
-use gts_traits::{Gate, Lines, NoMemory, Station};
+use gts_lock::{Hall, Pass};
+use gts_traits::{Gate, Lines, Station};
+use gts_workers::RunBell;
 use std::alloc::Global;
 use std::marker::PhantomData;
 use std::sync::Wait;
 use std::thread::Threads;
 
-/// The memory that a run takes for its lines.
-#[derive(Drop)]
-struct Room<S, K> {
-    rooms: Vec<(Decoder, FrameBuf)>,
-    sockets: Vec<Sockets<S, K>>,
-    incoming: Vec<Incoming<S>>,
-    outgoing: Vec<Outgoing<K>>,
-}
-
-/// A decoder and room for a frame, for each of so many circuits.
-fn rooms_for(alloc: Global, circuits: u32) -> Result<Vec<(Decoder, FrameBuf)>, NoMemory>
-    ensures { IfOk result (λ rooms. length rooms.items ≡ circuits) }
-{
-    let mut rooms = Vec::with_capacity(alloc, circuits as usize)?;
-    for _ in 0..circuits {
-        rooms.push_reserved((Decoder::new(alloc)?, FrameBuf::new(alloc)?));
-    }
-    Ok(rooms)
-}
-
-/// The memory for the lines of so many circuits.
-fn room_for<S: Drop, K: Drop>(alloc: Global, circuits: u32) -> Result<Room<S, K>, NoMemory>
-    ensures rooms { IfOk result (λ room. length room.rooms.items ≡ circuits) }
-    ensures empty { IfOk result (λ room. (room.sockets.items ≡ []) × (room.incoming.items ≡ [])
-        × (room.outgoing.items ≡ [])) }
-    ensures sockets { IfOk result (λ room. circuits ≤ vec_capacity room.sockets) }
-    ensures lines { IfOk result (λ room. (2 * circuits ≤ vec_capacity room.incoming)
-        × (2 * circuits ≤ vec_capacity room.outgoing)) }
-{
-    let count = circuits as usize;
-    Ok(Room {
-        rooms: rooms_for(alloc, circuits)?,
-        sockets: Vec::with_capacity(alloc, count)?,
-        incoming: Vec::with_capacity(alloc, 2 * count)?,
-        outgoing: Vec::with_capacity(alloc, 2 * count)?,
-    })
-}
-
 /// What is left where no circuit was served.
-fn unserved<P: Station, B: Began>(housed: Housed<P, B>, end: ServeEnd) -> Served<P, B>
-    ensures { result ≡ record { engine = housed.engine; end = end; pass = None } }
+fn unserved<P: Station, B: Began>(engine: Engine<P>, end: ServeEnd) -> Served<P, B>
+    ensures { result ≡ record { engine = engine; end = end; pass = None } }
 {
     Served {
-        engine: housed.engine,
+        engine,
         end,
         pass: None,
     }
@@ -127,8 +92,62 @@ where
     }
 }
 
-/// Serves all circuits: opens their lines, runs a receiver and a sender for each, all at once, until each has come to its end,
-/// sends what is left on each circuit whose sender has nothing against it, and hands the lines back.
+/// Serves all circuits in a hall in which nothing has happened yet: takes the memory of the workers, opens the lines of all
+/// circuits in their order, and lets the workers come to their ends. Where one fails to open, those before it are handed back.
+fn serve_in<R, P, B, L, G>(
+    rt: &R,
+    alloc: Global,
+    hall: Hall<Housed<P, B>>,
+    first: Pass<Housed<P, B>>,
+    room: Room<L::In, L::Out>,
+    lines: &mut L,
+    gate: &G,
+) -> Served<P, B>
+where
+    R: Threads + Wait + Sync,
+    P: Station + Send + Drop,
+    B: Began + Send,
+    L: Lines,
+    L::In: Drop,
+    L::Out: Drop,
+    G: Gate,
+    requires new { first ≡ first_pass hall }
+    requires circuits { length room.rooms.items
+        ≡ length B.beginning.origin.directory.circuits }
+    requires few { length room.rooms.items ≤ MOST_CIRCUITS }
+    requires empty { (room.sockets.items ≡ []) × (room.incoming.items ≡ [])
+        × (room.outgoing.items ≡ []) }
+    requires sockets { length room.rooms.items ≤ vec_capacity room.sockets }
+    requires lines { (2 * length room.rooms.items ≤ vec_capacity room.incoming)
+        × (2 * length room.rooms.items ≤ vec_capacity room.outgoing) }
+    ensures { IsServed P.tells P.calls P.disk_faults P.say_faults B.beginning
+        L.In.tells L.Out.tells (seen L.is_open L.faults L.bytes lines.old)
+        (seen L.is_open L.faults L.bytes lines.new) result.pass result.end result.engine }
+{
+    let circuits = room.rooms.len();
+    let bell = RunBell::new(circuits as u64);
+    let Ok(crew) = Crew::with_room(alloc, circuits) else {
+        let (housed, _) = hall.close(first);
+        return unserved(housed.engine, ServeEnd::NoMemory);
+    };
+    let Room {
+        rooms,
+        mut sockets,
+        incoming,
+        outgoing,
+    } = room;
+    if let Err(c) = open_all(lines, rooms, &mut sockets) {
+        close_opened(lines, sockets);
+        let (housed, _) = hall.close(first);
+        return unserved(housed.engine, ServeEnd::NotOpened { c });
+    }
+    let (first, ended) = run_all(rt, alloc, gate, &hall, &bell, first, sockets, crew);
+    finish(rt, close(hall, first, ended), lines, incoming, outgoing)
+}
+
+/// Serves all circuits: takes the memory for their lines and their workers, opens the lines, runs a receiver and a sender for
+/// each, all at once, until each has come to its end, sends what is left on each circuit whose sender has nothing against it, and
+/// hands the lines back. Without memory no line is touched.
 pub fn serve<R, P, B, L, G>(
     rt: &R,
     alloc: Global,
@@ -149,29 +168,15 @@ where
         L.In.tells L.Out.tells (seen L.is_open L.faults L.bytes lines.old)
         (seen L.is_open L.faults L.bytes lines.new) result.pass result.end result.engine }
 {
+    let Ok(room) = room_for(alloc, engine.directory()) else {
+        return unserved(engine, ServeEnd::NoMemory);
+    };
     let housed: Housed<P, B> = Housed {
         engine,
         began: PhantomData,
     };
-    let circuits = housed.engine.directory().circuits();
-    let Ok(room) = room_for(alloc, circuits) else {
-        return unserved(housed, ServeEnd::NoMemory);
-    };
-    let Room {
-        rooms,
-        mut sockets,
-        incoming,
-        outgoing,
-    } = room;
-    if let Err(c) = open_all(lines, housed.engine.directory(), rooms, &mut sockets) {
-        close_opened(lines, sockets);
-        return unserved(housed, ServeEnd::NotOpened { c });
-    }
-    match run_all(rt, alloc, gate, housed, sockets) {
-        Ok(ran) => finish(rt, ran, lines, incoming, outgoing),
-        Err((housed, sockets)) => {
-            close_opened(lines, sockets);
-            unserved(housed, ServeEnd::NoMemory)
-        }
+    match Hall::new(alloc, housed) {
+        Ok((hall, first)) => serve_in(rt, alloc, hall, first, room, lines, gate),
+        Err((housed, _)) => unserved(housed.engine, ServeEnd::NoMemory),
     }
 }

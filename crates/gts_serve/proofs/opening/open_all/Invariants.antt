@@ -4,10 +4,10 @@ use Rattle.gts_serve.specs.Standing.{AreOpened}
 use Rattle.gts_serve.proofs.opening.open_all.Given as goal
 
 -- the circuits so far are open
-abbrev pub invariant-loop-decoder : goal.invariant-loop-decoder
-invariant-loop-decoder g l = record {
-  can : (goal.iterator-loop-decoder g).can_next l.decoder-iterator × (goal.iterator-loop-decoder g).is_finite l.decoder-iterator;
-  split : l.yielded ++ l.decoder-iterator.rest.items ≡ l.fn.rooms.items;
+abbrev pub invariant-loop-room : goal.invariant-loop-room
+invariant-loop-room g l = record {
+  can : (goal.iterator-loop-room g).can_next l.room-iterator × (goal.iterator-loop-room g).is_finite l.room-iterator;
+  split : l.yielded ++ l.room-iterator.rest.items ≡ l.fn.rooms.items;
   place : l.c ≡ length l.yielded;
   count : length l.sockets.items ≡ length l.yielded;
   room : length l.fn.rooms.items ≤ vec_capacity l.sockets;
