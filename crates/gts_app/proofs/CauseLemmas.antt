@@ -24,7 +24,7 @@ use Rattle.gts_receiver.specs.declared.end.ReceiveEnd.TheVariants as received
 use Rattle.gts_sender.specs.{takes}
 use Rattle.gts_sender.specs.declared.end.SendEnd.{SendEnd}
 use Rattle.gts_sender.specs.declared.end.SendEnd.TheVariants as sent
-use Rattle.gts_serve.specs.{LinesSeen, IsServed, ServesCircuit, GivesUp, threads_of, history_of, HasFault, GaveMost}
+use Rattle.gts_serve.specs.{LinesSeen, IsServed, ServesCircuit, AreUntouched, threads_of, history_of, HasFault, GaveMost}
 use Rattle.gts_serve.specs.Serving.{receiver_first, sender_first, first_fault}
 use Rattle.gts_serve.specs.declared.end.ServeEnd.{ServeEnd}
 use Rattle.gts_serve.specs.declared.end.ServeEnd.TheVariants as serving
@@ -194,9 +194,9 @@ module _ {P : Type 0} (w : StationWords P) (b : Beginning) (source_tells sink_te
   abbrev Came : Option (Known Entry) → ServeEnd → Type 0
   Came pass end = IsServed w.tells w.calls w.disk_faults w.say_faults b source_tells sink_tells before now pass end engine
 
-  -- no circuit was served, and the lines were handed back
+  -- no circuit was served, and the lines are as they were
   abbrev IsUnserved : Option (Known Entry) → Type 0
-  IsUnserved pass = (pass ≡ None) × GivesUp source_tells sink_tells (length b.origin.directory.circuits) before now
+  IsUnserved pass = (pass ≡ None) × AreUntouched before now
 
   -- the cause of each status
   abbrev pub EndsBy : (pass : Option (Known Entry)) (end : ServeEnd) → Came pass end → Status → Type 0

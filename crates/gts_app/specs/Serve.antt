@@ -21,7 +21,7 @@ use Rattle.gts_receiver.specs.declared.end.ReceiveEnd.{ReceiveEnd}
 use Rattle.gts_receiver.specs.declared.end.ReceiveEnd.TheVariants as received
 use Rattle.gts_sender.specs.declared.end.SendEnd.{SendEnd}
 use Rattle.gts_sender.specs.declared.end.SendEnd.TheVariants as sent
-use Rattle.gts_serve.specs.{LinesSeen, IsServed, GivesUp, threads_of, history_of, HasFault, GaveMost}
+use Rattle.gts_serve.specs.{LinesSeen, IsServed, AreUntouched, threads_of, history_of, HasFault, GaveMost}
 use Rattle.gts_serve.specs.declared.end.ServeEnd.{ServeEnd}
 use Rattle.gts_serve.specs.declared.end.ServeEnd.TheVariants as serving
 use Rattle.gts_app.specs.declared.status.Status.{Status}
@@ -103,9 +103,9 @@ pub record HasEndCause {P : Type 0} (station : StationWords P) (b : Beginning) (
   pub long_session : (c : ℕ) → status ≡ LongSession c → GaveMost source_tells now (history_come came) c
   -- the threads took as many turns as there are
   pub spent : (c : ℕ) → status ≡ Spent c → length (threads_come came) ≡ MOST_TURNS
-  -- nothing was read, written or said; or there was no memory for a bulletin of the history
+  -- nothing was read, written or said, and no line was opened; or there was no memory for a bulletin of the history
   pub no_memory : status ≡ NoMemory
-      → ((came.pass ≡ None) × GivesUp source_tells sink_tells (length b.origin.directory.circuits) before now)
+      → ((came.pass ≡ None) × AreUntouched before now)
       ⊎ HasFault (entries (history_come came)) switch.NoMemory (BecauseNoMemory b.origin)
 
 -- The circuits were served from a beginning on, which is where the files open to over a station that tells: of all threads there is
