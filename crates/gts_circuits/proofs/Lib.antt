@@ -1,4 +1,4 @@
 pub mod PlacesLemmas
 pub mod StaffLemmas
 mod GatheredLemmas
-mod TestLemmas
+mod OpenedLemmas

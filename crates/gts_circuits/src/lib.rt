@@ -4,12 +4,14 @@
 mod closing;
 mod crew;
 mod gathering;
+mod laws;
 mod running;
 mod sockets;
 mod staffing;
 
 pub use closing::{Ran, close};
 pub use crew::Crew;
+pub use laws::an_opened_engine_stands_for_no_entry;
 pub use running::run_all;
 pub use sockets::Sockets;
 

@@ -154,6 +154,7 @@ where
 {
     // What its history begins with.
     an_opened_engine_begins_with_what_the_files_open_to::<P>();
+    an_opened_engine_stands_for_no_entry::<P>();
     match Engine::open(alloc, station, directory) {
         Ok(engine) => run::<R, P, Brand>(rt, alloc, engine, sockets),
         Err(_) => None,
