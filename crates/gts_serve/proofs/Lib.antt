@@ -7,4 +7,3 @@ pub mod DrainLemmas
 pub mod PartedLemmas
 pub mod PartingLemmas
 pub mod ServedLemmas
-mod TestLemmas

@@ -3,6 +3,7 @@ ghost use Rattle.std.specs.Prelude.{[]};
 ghost use Rattle.gts_serve.specs.Words.{Stands};
 
 use super::*;
+use gts_circuits::an_opened_engine_stands_for_no_entry;
 use gts_directory::{CircuitRow, DirRows, Directory, RuleRow};
 use gts_engine::{Engine, an_opened_engine_begins_with_what_the_files_open_to};
 use gts_housed::Began;
@@ -84,6 +85,7 @@ where
 {
     // What its history begins with.
     an_opened_engine_begins_with_what_the_files_open_to::<P>();
+    an_opened_engine_stands_for_no_entry::<P>();
     match Engine::open(alloc, station, directory) {
         Ok(engine) => Some(run::<R, P, Brand>(rt, alloc, engine, lines)),
         Err(_) => None,
