@@ -41,7 +41,7 @@ under-append name (x ∷ g) h = go (under-append name g h) (x.0 == name) refl
 not_empty : {A : Type 0} (x : A) (xs : List A) → x ∷ xs ≡ [] → ⊥
 not_empty x xs e = cc e
 
-frames-append : (d : Directory) (s : State) (name : ℕ) (xs ys : History)
+pub frames-append : (d : Directory) (s : State) (name : ℕ) (xs ys : History)
     → frames d s name (xs ++ ys) ≡ frames d s name xs ++ frames d (after_all d s (entries xs)) name ys
 frames-append d s name [] ys = refl
 frames-append d s name (x ∷ xs) ys =
@@ -122,23 +122,26 @@ module _ (b : Beginning) (threads history added : History) (c : ℕ) where
 
 module _ (b : Beginning) (hall : TableId) (threads history : History) (c : ℕ) (full : Bool) (upto : History)
     (w : EndsWithin threads history (sender_name c) full upto) where
-  none_behind : entries_under (sender_name c) w.front.0 ≡ []
+  pub none_behind : entries_under (sender_name c) w.front.0 ≡ []
   none_behind = append_cancel_left (entries_under (sender_name c) upto) (entries_under (sender_name c) w.front.0) []
       (sym (under-append (sender_name c) upto w.front.0) ∙ ap (entries_under (sender_name c)) (sym w.front.1) ∙ w.own ∙ sym (append-nil (entries_under (sender_name c) upto)))
 
-  pub sending_whole : (bytes : List ℕ) → Sending c (fresh b hall (sender_name c)) (seen_at b hall (sender_name c) full upto) bytes
-      → Sending c (fresh b hall (sender_name c)) (seen_at b hall (sender_name c) full history) bytes
-  sending_whole bytes s =
+  -- nothing behind it draws a frame more
+  pub frames_whole : frames b.origin.directory (begun b.origin.start) (sender_name c) history
+      ≡ frames b.origin.directory (begun b.origin.start) (sender_name c) upto
+  frames_whole =
       let d : Directory = b.origin.directory in
       let t : State = begun b.origin.start in
       let n : ℕ = sender_name c in
-      let same : frames d t n history ≡ frames d t n upto =
       ap (frames d t n) w.front.1 ∙ frames-append d t n upto w.front.0
       ∙ ap (λ (l : List ℕ). frames d t n upto ++ l) (frames_none d (after_all d t (entries upto)) n w.front.0 none_behind)
-      ∙ append-nil (frames d t n upto) in
-      record {
-        desk = record { hall = refl; directory = refl; start = refl; used = refl; name = refl; alone = refl; later = (history, refl) };
-        count = s.count;
-        added = w.own ∙ s.added;
-        written = same ∙ s.written;
-      }
+      ∙ append-nil (frames d t n upto)
+
+  pub sending_whole : (bytes : List ℕ) → Sending c (fresh b hall (sender_name c)) (seen_at b hall (sender_name c) full upto) bytes
+      → Sending c (fresh b hall (sender_name c)) (seen_at b hall (sender_name c) full history) bytes
+  sending_whole bytes s = record {
+    desk = record { hall = refl; directory = refl; start = refl; used = refl; name = refl; alone = refl; later = (history, refl) };
+    count = s.count;
+    added = w.own ∙ s.added;
+    written = frames_whole ∙ s.written;
+  }

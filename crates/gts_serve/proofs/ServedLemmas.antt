@@ -33,9 +33,10 @@ use Rattle.gts_serve.specs.declared.end.ServeEnd.TheVariants.{Done, Receiver, Se
 use Rattle.gts_serve.specs.declared.sockets.Incoming.{Incoming}
 use Rattle.gts_serve.specs.declared.sockets.Outgoing.{Outgoing}
 use Rattle.gts_serve.specs.Passing.{incoming_of, outgoing_of, ends_of}
-use Rattle.gts_serve.specs.Serving.{LinesSeen, IsSame, IsHandedBack, StopsAtOpening, IsReceived, IsSent, ServesCircuit, IsAtRest, Serves, receiver_first, sender_first, first_fault}
+use Rattle.gts_serve.specs.Serving.{LinesSeen, IsSame, IsHandedBack, StopsAtOpening, IsReceived, IsSent, TookFrames, ServesCircuit, IsAtRest, Serves, receiver_first, sender_first, first_fault}
 use Rattle.gts_serve.specs.Standing.{IsOpened, AreOpened, IsClosed, ReceiverStands, IsFinished}
 use Rattle.gts_serve.proofs.PastLemmas.{none_under, received_more, not_receiver}
+use Rattle.gts_serve.proofs.FramesLemmas.{took_frames, entered}
 use Rattle.gts_serve.proofs.DrainLemmas.{in_both}
 use Rattle.gts_serve.proofs.RestLemmas.{nothing_there}
 
@@ -211,6 +212,10 @@ module _ {S K : Type 0} (source_tells : Type 0) (left : S → List ℕ) (source_
           told = λ tells. z.told tells ∙ r.told_is tells ∙ ap (λ (l : List ℕ). r.given ++ l) (sym (z.left_is tells));
           ended = λ tells rest e. z.left_is tells ∙ r.ended tells rest e;
           taken = λ tells. z.taken tells ∙ s.told tells;
+          entered = entered b threads whole c r.given x.end (received_more b threads threads drained c r.given x.end (none_received c) r.received);
+          took = λ tells.
+              let T : List ℕ → Type 0 = λ l. TookFrames b c whole y.end l in
+              subst T (sym (z.taken tells ∙ s.told tells)) (took_frames b threads whole c s.bytes y.end s.sent);
           source_failed = λ e. rose_before (before.faults c) (mid.faults c) (now.faults c) o.later (z.counted.failed (let l = r.failed e in omega (arith, l)));
           sink_failed = λ index e. rose_before (before.faults c) (mid.faults c) (now.faults c) o.later (z.counted.failed (let l = s.failed index e in omega (arith, l)));
           closed = z.closed;

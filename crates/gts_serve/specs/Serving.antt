@@ -1,26 +1,34 @@
 -- What a run of all circuits leaves: the history of all threads and the takes behind it, the bytes of each circuit, and its end.
-use Rattle.std.specs.Prelude.{◌≡◌, ℕ, ◌+◌, ◌*◌, ◌<◌, ◌≤◌, Bool, true, false, List, [], ◌∷◌, ◌++◌, length, Option, Some, None}
+use Rattle.std.specs.Prelude.{◌≡◌, ℕ, ◌+◌, ◌*◌, ◌<◌, ◌≤◌, Bool, true, false, List, [], ◌∷◌, ◌++◌, length, Option, Some, None, Err}
 use mathlib.Core.Option.{some}
 use lib.ListN.{get_elem?}
 use Rattle.atomic_table.specs.Seated.{TableId}
 use Rattle.gts_traits.specs.Calls.{Call}
 use Rattle.gts_traits.specs.Counts.{Rose}
 use Rattle.gts_traits.specs.Lines.{CircuitBytes}
+use Rattle.gts_traits.specs.Station.{IsFront}
+use Rattle.gts_event.specs.Need.{begun}
+use Rattle.gts_event.specs.History.{outcome, after}
+use Rattle.gts_event.specs.Said.{line}
+use Rattle.gts_event.specs.Drain.{all_done}
 use Rattle.gts_event.specs.State.{on_circuit, waiting}
 use Rattle.gts_event.specs.declared.event.Event.{Event}
 use Rattle.gts_event.specs.declared.event.Event.TheVariants.{Taken}
 use Rattle.gts_event.specs.declared.event.Entry.{Entry}
 use Rattle.gts_event.specs.declared.event.Entry.TheVariants as of_entry
+use Rattle.gts_event.specs.declared.fault.SwitchFault.{SwitchFault}
+use Rattle.gts_connection.specs.Connection.{connection}
+use Rattle.gts_turns.specs.Turns.{entry_of}
 use Rattle.gts_lock.specs.{Known, entries, entries_under, StartsWith}
 use Rattle.gts_lock.specs.declared.limits.TheConstants.{MOST_TURNS}
-use Rattle.gts_desk.specs.{Seen}
+use Rattle.gts_desk.specs.{Seen, frames}
 use Rattle.gts_engine.specs.Engine.{Engine}
 use Rattle.gts_engine.specs.Origin.{state_at}
 use Rattle.gts_housed.specs.{Beginning, Stands}
 use Rattle.gts_receiver.specs.{Receives}
 use Rattle.gts_receiver.specs.declared.end.ReceiveEnd.{ReceiveEnd}
-use Rattle.gts_receiver.specs.declared.end.ReceiveEnd.TheVariants.{Ended, LostSync, SourceFault}
-use Rattle.gts_sender.specs.{Sends}
+use Rattle.gts_receiver.specs.declared.end.ReceiveEnd.TheVariants.{Ended, LostSync, SourceFault, Fault}
+use Rattle.gts_sender.specs.{Sends, given_index}
 use Rattle.gts_sender.specs.declared.end.SendEnd.{SendEnd}
 use Rattle.gts_sender.specs.declared.end.SendEnd.TheVariants.{Quiet, LineFault}
 use Rattle.gts_workers.specs.{fresh, receiver_name, sender_name}
@@ -120,6 +128,42 @@ pub record IsSent (b : Beginning) (threads history : List (ℕ × Entry)) (c : �
   pub within : EndsWithin threads history (sender_name c) full upto
   pub sent : Sends c (fresh b hall (sender_name c)) (seen_at b hall (sender_name c) full upto) bytes end
 
+-- of the events of a connection, those before one were done, and that one was answered with this fault
+pub record EntersUpTo (events : List Event) (fault : SwitchFault) (entered : List Entry) : Type 0 where
+  pub front : List Event
+  pub event : Event
+  pub behind : List Event
+  pub parts : events ≡ front ++ event ∷ behind
+  pub is : entered ≡ all_done front ++ entry_of event (Err fault)
+
+-- What a receiver entered over a whole history, by its end, where its source gave these bytes: the events of the connection, each
+-- of them once and in their order. Only where one was answered with a fault, it entered no more behind that.
+abbrev pub EnteredConnection : ℕ → List ℕ → ReceiveEnd → List Entry → Type 0
+EnteredConnection c given (Fault fault) entered = EntersUpTo (connection c given) fault entered
+EnteredConnection c given end entered = entered ≡ all_done (connection c given)
+
+-- the frames that the takes on c gave over a history, each whole and in their order
+abbrev pub frames_on : Beginning → ℕ → List (ℕ × Entry) → List ℕ
+frames_on b c history = frames b.origin.directory (begun b.origin.start) (sender_name c) history
+
+-- A sink took each frame of its circuit but the last, and a front of that. The last is that of the draw of this index, which the
+-- last take on c gave.
+pub record BreaksOff (b : Beginning) (c index : ℕ) (history : List (ℕ × Entry)) (bytes : List ℕ) : Type 0 where
+  pub earlier : List (ℕ × Entry)
+  pub later : List (ℕ × Entry)
+  pub is : history ≡ earlier ++ (sender_name c, of_entry.Done (Taken c)) ∷ later
+  pub last : entries_under (sender_name c) later ≡ []
+  pub gave : given_index (outcome b.origin.directory (state_at b.origin (entries earlier)) (Taken c)) ≡ Some index
+  pub part : List ℕ
+  pub front : IsFront part (line (after b.origin.directory (state_at b.origin (entries earlier)) (Taken c)) c index)
+  pub whole : bytes ≡ frames_on b c earlier ++ part
+
+-- The bytes that a sink took over a whole history, by its sender's end: all frames of its circuit. Only where the line failed, the
+-- last of them may be there in part.
+abbrev pub TookFrames : Beginning → ℕ → List (ℕ × Entry) → SendEnd → List ℕ → Type 0
+TookFrames b c history (LineFault index) bytes = BreaksOff b c index history bytes
+TookFrames b c history end bytes = bytes ≡ frames_on b c history
+
 -- Circuit c was served, and came to these ends: what its source gave was told, what it had left is left, and its sink took what
 -- its sender wrote. Its count rose where one of its sockets failed. It was handed back.
 pub record ServesCircuit (b : Beginning) (source_tells sink_tells : Type 0) (threads history : List (ℕ × Entry))
@@ -131,6 +175,8 @@ pub record ServesCircuit (b : Beginning) (source_tells sink_tells : Type 0) (thr
   pub told : source_tells → (now.bytes c).told ≡ given ++ (now.bytes c).left
   pub ended : source_tells → (rest : ℕ) → received ≡ Ended rest → (now.bytes c).left ≡ []
   pub taken : sink_tells → (now.bytes c).taken ≡ written
+  pub entered : EnteredConnection c given received (entries_under (receiver_name c) history)
+  pub took : sink_tells → TookFrames b c history sent (now.bytes c).taken
   pub source_failed : received ≡ SourceFault → Rose (before.faults c) (now.faults c)
   pub sink_failed : (index : ℕ) → sent ≡ LineFault index → Rose (before.faults c) (now.faults c)
   pub closed : now.is_open c ≡ false
