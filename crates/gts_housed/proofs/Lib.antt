@@ -1,2 +1,3 @@
 mod StandingLemmas
 pub mod TurningLemmas
+pub mod LawLemmas

@@ -7,6 +7,7 @@ use Rattle.gts_traits.specs.Calls.{Call}
 use Rattle.gts_lock.specs.{entries, entries_under, Known, StartsWith, after_seeing, after_adding}
 use Rattle.gts_event.specs.State.{State}
 use Rattle.gts_event.specs.declared.event.Event.{Event}
+use Rattle.gts_event.specs.declared.event.Event.TheVariants.{Taken}
 use Rattle.gts_event.specs.declared.event.Entry.{Entry}
 use Rattle.gts_event.specs.declared.outcome.Outcome.{Outcome}
 use Rattle.gts_event.specs.declared.event.Entry.TheVariants.{Done, Unsaid, Idle, Doubt}
@@ -15,10 +16,10 @@ use Rattle.gts_event.specs.declared.fault.SwitchFault.TheVariants.{DiskFault, Sa
 use Rattle.gts_opening.specs.Room.{IsCaused}
 use Rattle.gts_engine.specs.Engine.{Engine}
 use Rattle.gts_engine.specs.Origin.{history_of, state_at}
-use Rattle.gts_desk.specs.{Adds, Answers}
+use Rattle.gts_desk.specs.{Adds, Answers, LeavesFrame}
 use Rattle.gts_housed.specs.Housed as housed
 use Rattle.gts_housed.specs.Housed.{Beginning, Stands, entry_by}
-use Rattle.gts_housed.specs.Turning.{KnowsOwn, seen_by}
+use Rattle.gts_housed.specs.Turning.{KnowsOwn, seen_by, IsTurn, DeskTakes}
 
 -- a lifetime within those of both types
 pub within_both : (κ P B : List ℕ) → κ ⊑ P → κ ⊑ B
@@ -81,3 +82,16 @@ module _ {P : Type 0} (tells : Type 0) (calls : P → List Call) (disk say : P �
   answers (Err (Stopped by)) adds is = added (Idle event (Stopped by)) _ is adds.stands tt
   answers (Err Spent) adds is = absurd (adds.spent refl)
   answers (Err NoMemory) adds is = inl (added (Idle event NoMemory) _ is adds.stands tt)
+
+-- the desk of the pass answers what the turn answered, a take's too
+turned : {P : Type 0} (tells : Type 0) (calls : P → List Call) (disk say : P → ℕ) (b : Beginning) (event : Event)
+    (Holds : Outcome → State → Type 0) (result : Result Outcome SwitchFault) (p q : Known Entry)
+    → IsTurn tells calls disk say b event Holds result p q → Answers (seen_by b p) event Holds result (seen_by b q)
+turned tells calls disk say b event Holds result p q t =
+    answers tells calls disk say b event Holds p q t.history t.engine t.later t.knows t.own result t.adds t.is
+
+pub taken : {P : Type 0} (tells : Type 0) (calls : P → List Call) (disk say : P → ℕ) (b : Beginning) (c : ℕ) (out : List ℕ)
+    (result : Result Outcome SwitchFault) (p q : Known Entry)
+    → IsTurn tells calls disk say b (Taken c) (LeavesFrame b.origin.directory c out) result p q → DeskTakes b c out result p q
+taken tells calls disk say b c out result p q t =
+    turned tells calls disk say b (Taken c) (LeavesFrame b.origin.directory c out) result p q t

@@ -1,9 +1,17 @@
 -- What a pass has seen, as a desk.
-use Rattle.std.specs.Prelude.{◌≡◌, false}
-use Rattle.gts_lock.specs.{entries_under, Known}
+use Rattle.std.specs.Prelude.{◌≡◌, ℕ, false, List, Result}
+use Rattle.gts_traits.specs.declared.station.Station.{Ghosts as StationWords}
+use Rattle.gts_traits.specs.Calls.{Call}
+use Rattle.gts_lock.specs.{entries, entries_under, Known, StartsWith, after_seeing, after_adding}
+use Rattle.gts_event.specs.State.{State}
+use Rattle.gts_event.specs.declared.event.Event.{Event}
+use Rattle.gts_event.specs.declared.event.Event.TheVariants.{Taken}
 use Rattle.gts_event.specs.declared.event.Entry.{Entry}
-use Rattle.gts_desk.specs.{Seen}
-use Rattle.gts_housed.specs.Housed.{Beginning}
+use Rattle.gts_event.specs.declared.outcome.Outcome.{Outcome}
+use Rattle.gts_event.specs.declared.fault.SwitchFault.{SwitchFault}
+use Rattle.gts_engine.specs.Engine.{Engine}
+use Rattle.gts_desk.specs.{Seen, Answers, LeavesFrame}
+use Rattle.gts_housed.specs.Housed.{Beginning, Adds, entry_by}
 
 -- the entries of the pass's own turns are those under its name
 abbrev pub KnowsOwn : Known Entry → Type 0
@@ -21,3 +29,24 @@ seen_by b p = record {
   full = p.full;
   history = p.seen;
 }
+
+-- In a turn behind a history that begins with what the pass p had seen, an event was answered so, which added its entry, and p
+-- became q.
+pub record IsTurn {P : Type 0} (tells : Type 0) (calls : P → List Call) (disk say : P → ℕ) (b : Beginning) (event : Event)
+    (Holds : Outcome → State → Type 0) (result : Result Outcome SwitchFault) (p q : Known Entry) : Type 0 where
+  pub history : List (ℕ × Entry)
+  pub engine : Engine P
+  pub later : StartsWith history p.seen
+  pub knows : KnowsOwn p
+  pub own : p.own ≡ entries_under p.name history
+  pub adds : Adds tells calls disk say b (entries history) event Holds result engine
+  pub is : q ≡ after_adding (after_seeing p history) (entry_by event result)
+
+-- that of a take on c, which leaves its frame in out, in the words of a station
+abbrev pub TakesTurn : {P : Type 0} → StationWords P → Beginning → ℕ → List ℕ → Result Outcome SwitchFault → (p q : Known Entry) → Type 0
+TakesTurn station b c out result p q =
+    IsTurn station.tells station.calls station.disk_faults station.say_faults b (Taken c) (LeavesFrame b.origin.directory c out) result p q
+
+-- what the desk of the pass answers for it
+abbrev pub DeskTakes : Beginning → ℕ → List ℕ → Result Outcome SwitchFault → (p q : Known Entry) → Type 0
+DeskTakes b c out result p q = Answers (seen_by b p) (Taken c) (LeavesFrame b.origin.directory c out) result (seen_by b q)

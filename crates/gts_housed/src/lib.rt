@@ -6,9 +6,11 @@ mod began;
 mod crossing;
 mod desk;
 mod housed;
+mod laws;
 mod turns;
 
 pub use began::Began;
 pub use crossing::an_engine_crosses_threads;
 pub use desk::HallDesk;
 pub use housed::Housed;
+pub use laws::a_desk_answers_what_its_turn_took;

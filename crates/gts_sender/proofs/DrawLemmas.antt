@@ -1,5 +1,5 @@
 -- The steps of a sender.
-use Rattle.std.proofs.Common.{◌≡◌, ◌⊎◌, ℕ, zero, suc, ◌+◌, List, [], ◌∷◌, ◌++◌, Some, None, Err, inl, inr, refl, sym, ap, ◌∙◌, append_assoc, add-one}
+use Rattle.std.proofs.Common.{◌≡◌, ◌⊎◌, ℕ, zero, suc, ◌+◌, List, [], ◌∷◌, ◌++◌, Some, None, true, false, Ok, Err, inl, inr, refl, sym, ap, ◌∙◌, append_assoc, add-one}
 use Rattle.std.specs.Prelude.{replicate}
 use Rattle.std.proofs.lemmas.List.{append-nil, map-append}
 use Rattle.gts_traits.specs.Station.{IsFront}
@@ -21,7 +21,8 @@ use Rattle.gts_turns.specs.Turns.{entry_of}
 use Rattle.gts_desk.specs.Desks.{Seen, own, state_at, Adds, AddsJust, Answers, LeavesFrame}
 use Rattle.gts_desk.specs.Frames.{frame_of_outcome, frame_of, own_frames}
 use Rattle.gts_desk.proofs.LawLemmas.{own_added, frames_added, own_spent, frames_spent, goes_on, goes_on_spent, goes_further, stays}
-use Rattle.gts_sender.specs.Sender.{takes, given_index, Sending, TookLast, Breaks, Fails}
+use Rattle.gts_sender.specs.declared.end.SendEnd.TheVariants as ends
+use Rattle.gts_sender.specs.Sender.{takes, given_index, Sending, TookLast, Breaks, Fails, SendsMore, AnswersTake}
 
 more : {A : Type 0} (x : A) (n : ℕ) → replicate n x ++ x ∷ [] ≡ replicate (suc n) x
 more x zero = refl
@@ -171,3 +172,20 @@ module _ (c : ℕ) (first old new : Seen) (sent : List ℕ) (so_far : Sending c 
         silent = silent;
         memory = memory;
       }
+
+-- ---- what a take sends, whatever was sent before
+
+module _ (c : ℕ) (old new : Seen) (out : List ℕ) where
+  pub whole : (o : Outcome) (index : ℕ) → AnswersTake c out (Ok o) old new → given_index o ≡ Some index → SendsMore c old new out (Ok true)
+  whole o index answers given first sent so_far = drew c first old new sent so_far o out answers index given
+
+  pub broken : (o : Outcome) (index : ℕ) (bytes : List ℕ) → AnswersTake c out (Ok o) old new → given_index o ≡ Some index → IsFront bytes out
+      → SendsMore c old new bytes (Err (ends.LineFault index))
+  broken o index bytes answers given front first sent so_far = broke c first old new sent so_far o out answers index bytes given front
+
+  pub none : (o : Outcome) → AnswersTake c out (Ok o) old new → given_index o ≡ None → SendsMore c old new [] (Ok false)
+  none o answers given first sent so_far = drew_nothing c first old new sent so_far o out answers given
+
+  pub failed : (fault : SwitchFault) → AnswersTake c out (Err fault) old new → (fault ≡ SayFault → ⊥) → (fault ≡ NoMemory → ⊥)
+      → SendsMore c old new [] (Err (ends.Fault fault))
+  failed fault answers silent memory first sent so_far = take_failed c first old new sent so_far fault out silent memory answers

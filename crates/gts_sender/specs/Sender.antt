@@ -11,7 +11,7 @@ use Rattle.gts_event.specs.declared.outcome.Outcome.TheVariants.{Resend, Draw, N
 use Rattle.gts_event.specs.declared.fault.SwitchFault.{SwitchFault}
 use Rattle.gts_event.specs.declared.fault.SwitchFault.TheVariants.{SayFault, Spent, NoMemory}
 use Rattle.gts_turns.specs.Turns.{entry_of}
-use Rattle.gts_desk.specs.Desks.{Seen, own, state_at, GoesOn}
+use Rattle.gts_desk.specs.Desks.{Seen, own, state_at, Answers, LeavesFrame, GoesOn}
 use Rattle.gts_desk.specs.Frames.{own_frames}
 use Rattle.gts_sender.specs.declared.end.SendEnd.{SendEnd}
 use Rattle.gts_sender.specs.declared.end.SendEnd.TheVariants.{Quiet, LineFault, Fault}
@@ -81,3 +81,7 @@ Tried c first new bytes (Err end) = Sends c first new bytes end
 -- whatever was sent before, that try sends these bytes more
 abbrev pub SendsMore : ℕ → Seen → Seen → List ℕ → Result Bool SendEnd → Type 0
 SendsMore c old new bytes result = (first : Seen) (sent : List ℕ) → Sending c first old sent → Tried c first new (sent ++ bytes) result
+
+-- a call for a take on c was answered so at a desk, and its frame stands in out
+abbrev pub AnswersTake : ℕ → List ℕ → Result Outcome SwitchFault → (old new : Seen) → Type 0
+AnswersTake c out result old new = Answers old (Taken c) (LeavesFrame old.directory c out) result new

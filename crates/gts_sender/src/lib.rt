@@ -2,10 +2,12 @@
 #![tactic(auto)]
 
 mod end;
+mod laws;
 mod sending;
 mod writing;
 
 pub use end::SendEnd;
+pub use laws::a_take_sends_what_it_gave;
 pub use sending::{index_of, send};
 pub use writing::write_all;
 

@@ -19,7 +19,7 @@ use Rattle.gts_circuits.specs.declared.sockets.Sockets.{Sockets}
 use Rattle.gts_circuits.specs.Staff.{receivers_of, senders_of, works_of}
 use Rattle.gts_circuits.specs.Gathering.{Stands, AllStand}
 use Rattle.gts_circuits.proofs.PlacesLemmas.{at_longer, at_behind, at_less, there, map_at}
-use Rattle.gts_circuits.proofs.StaffLemmas.{count_receivers, count_works}
+use Rattle.gts_circuits.proofs.LawLemmas.{count_receivers, count_works}
 use Rattle.gts_serve.specs.declared.sockets.Incoming.{Incoming}
 use Rattle.gts_serve.specs.declared.sockets.Outgoing.{Outgoing}
 use Rattle.gts_serve.specs.Serving.{LinesSeen, seen_at, EndsWithin}

@@ -1,0 +1,26 @@
+//! A law of what a sender sends: the contract of a function with an empty body.
+ghost use Rattle.std.specs.Prelude.{◌≡◌, ℕ, List, [], Ok, Err, true, false, Some, None};
+ghost use Rattle.gts_traits.specs.{IsFront};
+ghost use Rattle.gts_desk.specs.{Seen};
+ghost use Rattle.gts_event.specs.declared.outcome.Outcome.{Outcome};
+ghost use Rattle.gts_event.specs.declared.fault.SwitchFault.{SwitchFault};
+ghost use Rattle.gts_event.specs.declared.fault.SwitchFault.TheVariants.{SayFault, NoMemory};
+ghost use Rattle.gts_sender.specs.declared.end.SendEnd.TheVariants.{LineFault, Fault};
+ghost use Rattle.gts_sender.specs.{given_index, SendsMore, AnswersTake};
+
+/// What a take adds to what was sent: the frame that it gave; a front of it, where the line failed in it; and nothing, where it
+/// gave none or was answered with a fault.
+pub fn a_take_sends_what_it_gave()
+    ensures whole { (c : ℕ) (old new : Seen) (out : List ℕ) (o : Outcome) (index : ℕ)
+        → AnswersTake c out (Ok o) old new → given_index o ≡ Some index
+        → SendsMore c old new out (Ok true) }
+    ensures broken { (c : ℕ) (old new : Seen) (out : List ℕ) (o : Outcome) (index : ℕ)
+        (bytes : List ℕ) → AnswersTake c out (Ok o) old new → given_index o ≡ Some index
+        → IsFront bytes out → SendsMore c old new bytes (Err (LineFault index)) }
+    ensures none { (c : ℕ) (old new : Seen) (out : List ℕ) (o : Outcome)
+        → AnswersTake c out (Ok o) old new → given_index o ≡ None
+        → SendsMore c old new [] (Ok false) }
+    ensures failed { (c : ℕ) (old new : Seen) (out : List ℕ) (fault : SwitchFault)
+        → AnswersTake c out (Err fault) old new → (fault ≡ SayFault → ⊥)
+        → (fault ≡ NoMemory → ⊥) → SendsMore c old new [] (Err (Fault fault)) }
+{}
