@@ -1,7 +1,7 @@
 -- The words that name a command which is built, and what each command comes to.
 use Rattle.std.specs.Prelude.{◌≡◌, ℕ, List, Some}
 use Rattle.gts_words.specs.declared.command.Command.{Command}
-use Rattle.gts_words.specs.declared.command.Command.TheVariants.{Init, Replay, Serve, Show, Compact, Generate}
+use Rattle.gts_words.specs.declared.command.Command.TheVariants.{Init, Replay, Serve, Show, Compact, Generate, Unpack, Pack, Gaps}
 use Rattle.gts_words.specs.{command_of}
 pub use Rattle.gts_app.specs.Generate.{Generates}
 pub use Rattle.gts_app.specs.Init.{Inits}
@@ -14,9 +14,12 @@ abbrev pub IsBuilt : Command → Type 0
 IsBuilt Init = Unit {0}
 IsBuilt Replay = Unit {0}
 IsBuilt Show = Unit {0}
-IsBuilt Serve = Unit {0}
+IsBuilt (Serve connections) = Unit {0}
 IsBuilt Compact = ⊥
 IsBuilt (Generate count) = Unit {0}
+IsBuilt (Unpack c) = ⊥
+IsBuilt Pack = ⊥
+IsBuilt (Gaps day hour minute) = ⊥
 
 -- the words name a command that is built
 abbrev pub IsCommand : List (List ℕ) → Type 0

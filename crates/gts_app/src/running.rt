@@ -50,10 +50,10 @@ where
         (world directory.old capture station) (world directory.new result.2 result.1) }
     ensures show { command_of words.now ≡ Some Command.Show → (result.2 ≡ capture)
         × Shows S.Source P.Station result.0 directory.old station directory.new result.1 }
-    ensures serve { command_of words.now ≡ Some Command.Serve → Serves S.Source P.Station
-        L.In.tells L.Out.tells result.0 directory.old station (seen L.is_open L.faults L.bytes
-        lines.old) directory.new result.1 (seen L.is_open L.faults L.bytes lines.new) }
-    ensures unread { command_of words.now ≡ Some Command.Serve → result.2 ≡ capture }
+    ensures serve { (connections : ℕ) → command_of words.now ≡ Some (Command.Serve connections)
+        → (result.2 ≡ capture) × Serves S.Source P.Station L.In.tells L.Out.tells connections
+        result.0 directory.old station (seen L.is_open L.faults L.ports L.bytes lines.old)
+        directory.new result.1 (seen L.is_open L.faults L.ports L.bytes lines.new) }
     ensures generate { (count : ℕ) → command_of words.now ≡ Some (Command.Generate count)
         → (directory.new ≡ directory.old) × (result.2 ≡ capture)
         × Generates P.Station result.0 count station result.1 }
@@ -64,7 +64,8 @@ where
         → result.0 ≡ Status.Done → ⊥ }
 
     // No other command changes the lines.
-    ensures untouched { (command_of words.now ≡ Some Command.Serve → ⊥) → lines.new ≡ lines.old }
+    ensures untouched { ((connections : ℕ)
+        → command_of words.now ≡ Some (Command.Serve connections) → ⊥) → lines.new ≡ lines.old }
 {
     a_count_is_within_its_limits();
     let command = match read_words(alloc, words) {
@@ -85,15 +86,17 @@ where
             let (status, station) = show(alloc, directory, station);
             (status, station, capture)
         }
-        Command::Serve => {
-            let (status, station) = serve(rt, alloc, directory, station, lines, gate);
+        Command::Serve { connections } => {
+            let (status, station) = serve(rt, alloc, directory, station, lines, connections, gate);
             (status, station, capture)
         }
         Command::Generate { count } => {
             let status = generate(alloc, count, &mut station);
             (status, station, capture)
         }
-        // This is not built yet.
-        Command::Compact => (Status::Words, station, capture),
+        // These are not built yet.
+        Command::Compact | Command::Unpack { .. } | Command::Pack | Command::Gaps { .. } => {
+            (Status::Words, station, capture)
+        }
     }
 }

@@ -43,6 +43,7 @@ fn three_circuits(alloc: Global) -> Result<Directory, Fail> {
             name,
             peer,
             kept: 20,
+            digits: 3,
             input,
             output: input + 1,
         })?;
@@ -82,6 +83,7 @@ fn sockets_of(
     let bytes = input(alloc, circuit)?;
     Ok(Sockets {
         source: MemSource::new(alloc, bytes.as_slice(), reads)?,
+        connections: 1,
         decoder: Decoder::new(alloc)?,
         sink: MemSink::new(alloc, writes)?,
         frame: FrameBuf::new(alloc)?,

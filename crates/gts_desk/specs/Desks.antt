@@ -83,8 +83,8 @@ SaysNoMore o s = Unit {0}
 
 -- A take leaves its frame: that of the draw of this index, drawn just now or earlier.
 abbrev pub LeavesFrame : Directory → ℕ → List ℕ → Outcome → State → Type 0
-LeavesFrame d c out (Resend index) s = out ≡ line (after d s (Taken c)) c index
-LeavesFrame d c out (Draw index) s = out ≡ line (after d s (Taken c)) c index
+LeavesFrame d c out (Resend index) s = out ≡ line d (after d s (Taken c)) c index
+LeavesFrame d c out (Draw index) s = out ≡ line d (after d s (Taken c)) c index
 LeavesFrame d c out _ s = Unit {0}
 
 -- the history went on, and the desk is the same

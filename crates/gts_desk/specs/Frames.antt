@@ -14,16 +14,16 @@ use Rattle.gts_event.specs.declared.outcome.Outcome.TheVariants.{Resend, Draw}
 use Rattle.gts_desk.specs.Desks.{Seen}
 
 -- the frame of a take with this outcome, which left this state: none where nothing was given
-abbrev pub frame_of_outcome : State → ℕ → Outcome → List ℕ
-frame_of_outcome s c (Resend index) = line s c index
-frame_of_outcome s c (Draw index) = line s c index
-frame_of_outcome s c _ = []
+abbrev pub frame_of_outcome : Directory → State → ℕ → Outcome → List ℕ
+frame_of_outcome d s c (Resend index) = line d s c index
+frame_of_outcome d s c (Draw index) = line d s c index
+frame_of_outcome d s c _ = []
 
 -- of an event that comes to this state
 abbrev pub frame_of_event : Directory → State → Event → List ℕ
 frame_of_event d s (Heard c kind message) = []
 frame_of_event d s (Lost c field) = []
-frame_of_event d s (Taken c) = frame_of_outcome (after d s (Taken c)) c (outcome d s (Taken c))
+frame_of_event d s (Taken c) = frame_of_outcome d (after d s (Taken c)) c (outcome d s (Taken c))
 
 -- of an entry
 abbrev pub frame_of : Directory → State → Entry → List ℕ

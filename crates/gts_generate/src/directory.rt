@@ -29,6 +29,7 @@ fn circuit_row(j: u32) -> CircuitRow
         name: [b'C', b'0' + j as u8, b' ', b' ', b' ', b' ', b' ', b' '],
         peer: [b'A' + j as u8; 4],
         kept: KEPT,
+        digits: 3,
         input: 0,
         output: 0,
     }

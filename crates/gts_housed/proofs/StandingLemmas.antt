@@ -142,17 +142,17 @@ module _ {P : Type 0} (tells : Type 0) (calls : P → List Call) (disk say : P �
       same bytes e = sym (channel_bytes-on (c + 1) out) ∙ ap (channel_bytes (c + 1)) (sym e) ∙ channel_bytes-on (c + 1) bytes
 
       said_of : Choice → Outside
-      said_of (Repeats index) = on (c + 1) (line (after d s (Taken c)) c index)
-      said_of (Draws index position) = on (c + 1) (line (after d s (Taken c)) c index)
+      said_of (Repeats index) = on (c + 1) (line d (after d s (Taken c)) c index)
+      said_of (Draws index position) = on (c + 1) (line d (after d s (Taken c)) c index)
       said_of Nothing_waits = []
 
       go : (ch : Choice) → choice d s c ≡ ch → (o : Outcome) → o ≡ outcome d s (Taken c) → (o ≢ Nothing → spoken d s (Taken c) ≡ on (c + 1) out) → LeavesFrame d c out o s
       go (Repeats index) e o is says =
           let o_is : o ≡ Resend index = is ∙ ap (λ (x : Choice). elim x [ Repeats index ↦ Resend index | Draws index position ↦ Draw index | Nothing_waits ↦ Nothing ]) e in
-          subst (λ (x : Outcome). LeavesFrame d c out x s) (sym o_is) (same (line (after d s (Taken c)) c index) (sym (ap said_of e) ∙ says (λ n. let z : Resend index ≡ Nothing = sym o_is ∙ n in cc z)))
+          subst (λ (x : Outcome). LeavesFrame d c out x s) (sym o_is) (same (line d (after d s (Taken c)) c index) (sym (ap said_of e) ∙ says (λ n. let z : Resend index ≡ Nothing = sym o_is ∙ n in cc z)))
       go (Draws index position) e o is says =
           let o_is : o ≡ Draw index = is ∙ ap (λ (x : Choice). elim x [ Repeats index ↦ Resend index | Draws index position ↦ Draw index | Nothing_waits ↦ Nothing ]) e in
-          subst (λ (x : Outcome). LeavesFrame d c out x s) (sym o_is) (same (line (after d s (Taken c)) c index) (sym (ap said_of e) ∙ says (λ n. let z : Draw index ≡ Nothing = sym o_is ∙ n in cc z)))
+          subst (λ (x : Outcome). LeavesFrame d c out x s) (sym o_is) (same (line d (after d s (Taken c)) c index) (sym (ap said_of e) ∙ says (λ n. let z : Draw index ≡ Nothing = sym o_is ∙ n in cc z)))
       go Nothing_waits e o is says =
           let o_is : o ≡ Nothing = is ∙ ap (λ (x : Choice). elim x [ Repeats index ↦ Resend index | Draws index position ↦ Draw index | Nothing_waits ↦ Nothing ]) e in
           subst (λ (x : Outcome). LeavesFrame d c out x s) (sym o_is) tt

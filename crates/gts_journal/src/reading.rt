@@ -1,10 +1,11 @@
 ghost use Rattle.std.specs.Prelude.{◌≡◌, ◌⊎◌, ◌+◌, ◌≤◌, ◌<◌, ◌^◌, true, false, length, if◌then◌else◌, IfOk, IfSome, OnOk, IsErrOf};
 ghost use Rattle.std.specs.Borrow.{sem};
 ghost use Rattle.gts_traits.specs.{HasCause, Rose};
+ghost use Rattle.gts_record.specs.Format.{held};
 ghost use Rattle.gts_journal.specs.{StandsOn, next_entry, Gives, HasGoneOn, GoesOn, record_of, IsRecord};
 
 use crate::{AHEAD, Journal, LONGEST, OPEN};
-use gts_record::{OpenFault, Record, decode};
+use gts_record::{OpenFault, Record, Version, decode_sealed};
 use gts_traits::{Failed, Station};
 
 impl Journal {
@@ -17,9 +18,24 @@ impl Journal {
 
     /// The selected file.
     pub fn file(&self) -> u32
-        ensures { result ≡ self.now.file }
+        ensures file { result ≡ self.now.file }
+        ensures below { result < 2 }
     {
         self.file
+    }
+
+    /// The version of the journal's format.
+    pub fn version(&self) -> Version
+        ensures { result ≡ self.now.version }
+    {
+        self.version
+    }
+
+    /// The seal of the last record that was read or added, or the one before the first; in version 1 it has no byte that counts.
+    pub fn seal(&self) -> [u8; 32]
+        ensures { held self.now.version result ≡ self.now.seal }
+    {
+        self.seal
     }
 
     // Reads on from the gate.
@@ -93,14 +109,17 @@ impl Journal {
             self.ended = true;
             return Ok(None);
         }
-        let Some((found, size)) = decode(rest) else {
+        let Some(found) = decode_sealed(self.version, &self.seal, rest) else {
             return Err(OpenFault::Damaged {
                 file: self.file,
                 at: self.gate + 1,
             });
         };
+        let size = found.1;
+        let seal = found.2;
         self.begin += 1 + size;
         self.gate += 1 + size as u64;
-        Ok(Some(found))
+        self.seal = seal;
+        Ok(Some(found.0))
     }
 }

@@ -45,9 +45,9 @@ gave_nothing d s c o is none = no_frame (choice d s c) o is none
 
 -- one that gave the frame of an index left that frame, and repeated or drew it
 pub gave : (d : Directory) (s : State) (c : ℕ) (out : List ℕ) (o : Outcome) (index : ℕ) → LeavesFrame d c out o s → given_index o ≡ Some index
-    → (frame_of_outcome (after d s (Taken c)) c o ≡ out) × (out ≡ line (after d s (Taken c)) c index) × ((o ≡ Resend index) ⊎ (o ≡ Draw index))
-gave d s c out (Resend k) index leaves is = let e : k ≡ index = cc is in (sym leaves, leaves ∙ ap (line (after d s (Taken c)) c) e, inl (ap (λ (n : ℕ). Resend n) e))
-gave d s c out (Draw k) index leaves is = let e : k ≡ index = cc is in (sym leaves, leaves ∙ ap (line (after d s (Taken c)) c) e, inr (ap (λ (n : ℕ). Draw n) e))
+    → (frame_of_outcome d (after d s (Taken c)) c o ≡ out) × (out ≡ line d (after d s (Taken c)) c index) × ((o ≡ Resend index) ⊎ (o ≡ Draw index))
+gave d s c out (Resend k) index leaves is = let e : k ≡ index = cc is in (sym leaves, leaves ∙ ap (line d (after d s (Taken c)) c) e, inl (ap (λ (n : ℕ). Resend n) e))
+gave d s c out (Draw k) index leaves is = let e : k ≡ index = cc is in (sym leaves, leaves ∙ ap (line d (after d s (Taken c)) c) e, inr (ap (λ (n : ℕ). Draw n) e))
 gave d s c out (Accepted position circuits) index leaves is = absurd (cc is)
 gave d s c out (Duplicate position) index leaves is = absurd (cc is)
 gave d s c out (Asked found missing) index leaves is = absurd (cc is)
@@ -78,9 +78,9 @@ module _ (c : ℕ) (first old new : Seen) (sent : List ℕ) (so_far : Sending c 
         ∙ append_assoc (own first) (takes c so_far.count) (entry ∷ []) ∙ ap (λ (l : List Entry). own first ++ l) (one_take c so_far.count)
 
     -- its frame is the last of the desk's own
-    drew_frame : (bytes : List ℕ) → frame_of_outcome (after old.directory s (Taken c)) c o ≡ bytes → own_frames new ≡ own_frames first ++ (sent ++ bytes)
+    drew_frame : (bytes : List ℕ) → frame_of_outcome old.directory (after old.directory s (Taken c)) c o ≡ bytes → own_frames new ≡ own_frames first ++ (sent ++ bytes)
     drew_frame bytes is =
-        let same : frame_of old.directory s entry ≡ bytes = ap (frame_of_outcome (after old.directory s (Taken c)) c) (sym adds.holds.0) ∙ is in
+        let same : frame_of old.directory s entry ≡ bytes = ap (frame_of_outcome old.directory (after old.directory s (Taken c)) c) (sym adds.holds.0) ∙ is in
         frames_added old new entry one ∙ ap (λ (l : List ℕ). own_frames old ++ l) same ∙ ap (λ (l : List ℕ). l ++ bytes) so_far.written ∙ append_assoc (own_frames first) sent bytes
 
     last : (p : Outcome) → o ≡ p → TookLast c new p
@@ -108,7 +108,9 @@ module _ (c : ℕ) (first old new : Seen) (sent : List ℕ) (so_far : Sending c 
     pub broke : (index : ℕ) (bytes : List ℕ) → given_index o ≡ Some index → IsFront bytes out → Breaks c index first new (sent ++ bytes)
     broke index bytes is front =
         let g = gave old.directory s c out o index adds.holds.1 is in
-        let same : out ≡ line (state_at new new.history) c index = g.1 ∙ ap (λ (t : State). line t c index) (sym here) in
+        let one_directory : old.directory ≡ new.directory = sym (ap (λ (d : Seen). d.directory) adds.is) in
+        let same : out ≡ line new.directory (state_at new new.history) c index =
+        g.1 ∙ ap (λ (t : State). line old.directory t c index) (sym here) ∙ ap (λ (d : Directory). line d (state_at new new.history) c index) one_directory in
         record {
           desk = goes_further first old new so_far.desk (goes_on old new entry one);
           count = so_far.count + 1;
@@ -116,7 +118,7 @@ module _ (c : ℕ) (first old new : Seen) (sent : List ℕ) (so_far : Sending c 
           last = which g.2;
           whole = sent;
           part = bytes;
-          drawn = drew_frame (line (state_at new new.history) c index) (g.0 ∙ same);
+          drawn = drew_frame (line new.directory (state_at new new.history) c index) (g.0 ∙ same);
           front = (front.0, sym same ∙ front.1);
           is = refl;
         }
@@ -132,7 +134,7 @@ module _ (c : ℕ) (first old new : Seen) (sent : List ℕ) (so_far : Sending c 
             desk = goes_further first old new so_far.desk (goes_on old new entry one);
             count = so_far.count + 1;
             added = took;
-            written = drew_frame [] (ap (frame_of_outcome (after old.directory s (Taken c)) c) is);
+            written = drew_frame [] (ap (frame_of_outcome old.directory (after old.directory s (Taken c)) c) is);
           },
           last Nothing is,
         )

@@ -52,8 +52,8 @@ pub record Breaks (c index : ℕ) (old new : Seen) (bytes : List ℕ) : Type 0 w
   pub last : TookLast c new (Resend index) ⊎ TookLast c new (Draw index)
   pub whole : List ℕ
   pub part : List ℕ
-  pub drawn : own_frames new ≡ own_frames old ++ (whole ++ line (state_at new new.history) c index)
-  pub front : IsFront part (line (state_at new new.history) c index)
+  pub drawn : own_frames new ≡ own_frames old ++ (whole ++ line new.directory (state_at new new.history) c index)
+  pub front : IsFront part (line new.directory (state_at new new.history) c index)
   pub is : bytes ≡ whole ++ part
 
 -- The last take was answered with a fault, and gave nothing. It is none of saying or of memory.

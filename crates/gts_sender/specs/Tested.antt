@@ -16,7 +16,7 @@ one_circuit = record {
   window = 0;
   limit = 0;
   mark = [];
-  circuits = record { name = []; peer = []; kept = 1; input = 0; output = 0 } ∷ [];
+  circuits = record { name = []; peer = []; kept = 1; digits = 3; input = 0; output = 0 } ∷ [];
   rules = [];
   levels = [];
 }

@@ -12,7 +12,8 @@ use Rattle.gts_event.specs.declared.event.Entry.TheVariants.{Done}
 use Rattle.gts_event.specs.declared.outcome.Outcome.{Outcome}
 use Rattle.gts_event.specs.declared.outcome.Outcome.TheVariants.{Resend, Draw}
 use Rattle.gts_event.proofs.LawLemmas.{after_all-append}
-use Rattle.gts_connection.specs.Connection.{connection}
+use Rattle.gts_traits.specs.Connections.{Part}
+use Rattle.gts_receiver.specs.{events_over}
 use Rattle.gts_lock.specs.{entries, entries_under}
 use Rattle.gts_desk.specs.{frame_of, frame_of_outcome, frames}
 use Rattle.gts_housed.specs.{Beginning}
@@ -22,7 +23,7 @@ use Rattle.gts_sender.specs.{given_index}
 use Rattle.gts_sender.specs.declared.end.SendEnd.{SendEnd}
 use Rattle.gts_sender.specs.declared.end.SendEnd.TheVariants as sending
 use Rattle.gts_workers.specs.{receiver_name, sender_name}
-use Rattle.gts_serve.specs.Serving.{IsReceived, IsSent, EntersUpTo, EnteredConnection, BreaksOff, TookFrames}
+use Rattle.gts_serve.specs.Serving.{IsReceived, IsSent, EntersUpTo, EnteredConnections, BreaksOff, TookFrames}
 use Rattle.gts_serve.proofs.PastLemmas.{entries-append, frames-append, none_behind, frames_whole}
 
 abbrev History : Type 0
@@ -35,7 +36,7 @@ same_name n = grind arith
 take_frames : (d : Directory) (s : State) (name c : ℕ) (before : History)
     → frames d s name (before ++ (name, Done (Taken c)) ∷ [])
     ≡ frames d s name before
-    ++ frame_of_outcome (after d (after_all d s (entries before)) (Taken c)) c (outcome d (after_all d s (entries before)) (Taken c))
+    ++ frame_of_outcome d (after d (after_all d s (entries before)) (Taken c)) c (outcome d (after_all d s (entries before)) (Taken c))
 take_frames d s name c before =
     let t : State = after_all d s (entries before) in
     let f : List ℕ = frame_of d t (Done (Taken c)) in
@@ -44,14 +45,14 @@ take_frames d s name c before =
     ∙ ap (λ (l : List ℕ). frames d s name before ++ l) (subst Q (sym (same_name name)) (append-nil f))
 
 -- what a take that gave the frame of this index came to
-record Gave (o : Outcome) (s : State) (c index : ℕ) : Type 0 where
+record Gave (d : Directory) (o : Outcome) (s : State) (c index : ℕ) : Type 0 where
   given : given_index o ≡ Some index
-  frame : frame_of_outcome s c o ≡ line s c index
+  frame : frame_of_outcome d s c o ≡ line d s c index
 
-gave : (o : Outcome) (s : State) (c index : ℕ) → (Resend index ≡ o) ⊎ (Draw index ≡ o) → Gave o s c index
-gave o s c index one = elim one as (λ _. Gave o s c index) [
-  | inl e ↦ subst (λ (p : Outcome). Gave p s c index) e (record { given = refl; frame = refl })
-  | inr e ↦ subst (λ (p : Outcome). Gave p s c index) e (record { given = refl; frame = refl })
+gave : (d : Directory) (o : Outcome) (s : State) (c index : ℕ) → (Resend index ≡ o) ⊎ (Draw index ≡ o) → Gave d o s c index
+gave d o s c index one = elim one as (λ _. Gave d o s c index) [
+  | inl e ↦ subst (λ (p : Outcome). Gave d p s c index) e (record { given = refl; frame = refl })
+  | inr e ↦ subst (λ (p : Outcome). Gave d p s c index) e (record { given = refl; frame = refl })
 ]
 
 module _ (b : Beginning) (threads history : History) (c : ℕ) (bytes : List ℕ) where
@@ -80,12 +81,12 @@ module _ (b : Beginning) (threads history : History) (c : ℕ) (bytes : List ℕ
           let behind : History = s.within.front.0 in
           let o : Outcome = outcome d (state before) (Taken c) in
           let t : State = after d (state before) (Taken c) in
-          let g : Gave o t c index = gave o t c index one in
+          let g : Gave d o t c index = gave d o t c index one in
           let here : state s.upto ≡ t =
           ap state is ∙ ap (after_all d start) (entries-append before ((name, Done (Taken c)) ∷ []))
           ∙ after_all-append d start (entries before) (Done (Taken c) ∷ []) in
-          let one_line : line (state s.upto) c index ≡ line t c index = ap (λ (x : State). line x c index) here in
-          let drawn : frames d start name before ++ line t c index ≡ s.sent.whole ++ line t c index =
+          let one_line : line d (state s.upto) c index ≡ line d t c index = ap (λ (x : State). line d x c index) here in
+          let drawn : frames d start name before ++ line d t c index ≡ s.sent.whole ++ line d t c index =
           sym (ap (frames d start name) is ∙ take_frames d start name c before ∙ ap (λ (l : List ℕ). frames d start name before ++ l) g.frame)
           ∙ s.sent.drawn ∙ ap (λ (l : List ℕ). s.sent.whole ++ l) one_line in
           record {
@@ -96,7 +97,7 @@ module _ (b : Beginning) (threads history : History) (c : ℕ) (bytes : List ℕ
             gave = g.given;
             part = s.sent.part;
             front = (s.sent.front.0, sym one_line ∙ s.sent.front.1);
-            whole = s.sent.is ∙ ap (λ (l : List ℕ). l ++ s.sent.part) (sym (append_cancel_right (frames d start name before) s.sent.whole (line t c index) drawn));
+            whole = s.sent.is ∙ ap (λ (l : List ℕ). l ++ s.sent.part) (sym (append_cancel_right (frames d start name before) s.sent.whole (line d t c index) drawn));
           }
 
   pub took_frames : (end : SendEnd) → IsSent b threads history c bytes end → TookFrames b c history end bytes
@@ -104,16 +105,16 @@ module _ (b : Beginning) (threads history : History) (c : ℕ) (bytes : List ℕ
   took_frames (sending.LineFault index) s = broke index s
   took_frames (sending.Fault fault) s = sym (frames_whole b s.hall threads history c s.full s.upto s.within ∙ s.sent.written)
 
-module _ (b : Beginning) (threads history : History) (c : ℕ) (given : List ℕ) where
-  pub entered : (end : ReceiveEnd) → IsReceived b threads history c given end
-      → EnteredConnection c given end (entries_under (receiver_name c) history)
+module _ (b : Beginning) (threads history : History) (c connections : ℕ) (earlier : List Part) (last : Part) where
+  pub entered : (end : ReceiveEnd) → IsReceived b threads history c connections earlier last end
+      → EnteredConnections c (earlier ++ last ∷ []) end (entries_under (receiver_name c) history)
   entered (Ended rest) r = r.within.own ∙ r.received.ends.0
   entered (LostSync field at) r = r.within.own ∙ r.received.ends.0
-  entered SourceFault r = r.within.own ∙ r.received.ends.0
+  entered SourceFault r = r.within.own ∙ r.received.ends
   entered Long r = r.within.own ∙ r.received.ends.0
   entered (Fault fault) r =
       let f = r.received.ends in
-      elim f.added as (λ _. EntersUpTo (connection c given) fault (entries_under (receiver_name c) history)) [
+      elim f.added as (λ _. EntersUpTo (events_over c (earlier ++ last ∷ [])) fault (entries_under (receiver_name c) history)) [
         | inl added ↦ record { front = f.front; event = f.event; behind = f.behind; parts = f.parts; is = r.within.own ∙ added }
         | inr none ↦ absurd (let n : false ≡ true = none.1 in cc n)
       ]

@@ -1,12 +1,14 @@
 -- What a run of all circuits leaves: the history of all threads and the takes behind it, the bytes of each circuit, and its end.
-use Rattle.std.specs.Prelude.{◌≡◌, ℕ, ◌+◌, ◌*◌, ◌<◌, ◌≤◌, Bool, true, false, List, [], ◌∷◌, ◌++◌, length, Option, Some, None, Err}
+use Rattle.std.specs.Prelude.{◌≡◌, ℕ, ◌+◌, ◌*◌, ◌<◌, ◌≤◌, Bool, true, false, List, [], ◌∷◌, ◌++◌, length, map, Option, Some, None, Err}
 use mathlib.Core.Option.{some}
 use lib.ListN.{get_elem?}
 use Rattle.atomic_table.specs.Seated.{TableId}
 use Rattle.gts_traits.specs.Calls.{Call}
 use Rattle.gts_traits.specs.Counts.{Rose}
-use Rattle.gts_traits.specs.Lines.{CircuitBytes}
+use Rattle.gts_traits.specs.Connections.{Part}
+use Rattle.gts_traits.specs.Lines.{Ports, CircuitBytes}
 use Rattle.gts_traits.specs.Station.{IsFront}
+use Rattle.gts_directory.specs.Directory.{Directory, Circuit}
 use Rattle.gts_event.specs.Need.{begun}
 use Rattle.gts_event.specs.History.{outcome, after}
 use Rattle.gts_event.specs.Said.{line}
@@ -17,7 +19,6 @@ use Rattle.gts_event.specs.declared.event.Event.TheVariants.{Taken}
 use Rattle.gts_event.specs.declared.event.Entry.{Entry}
 use Rattle.gts_event.specs.declared.event.Entry.TheVariants as of_entry
 use Rattle.gts_event.specs.declared.fault.SwitchFault.{SwitchFault}
-use Rattle.gts_connection.specs.Connection.{connection}
 use Rattle.gts_turns.specs.Turns.{entry_of}
 use Rattle.gts_lock.specs.{Known, entries, entries_under, StartsWith}
 use Rattle.gts_lock.specs.declared.limits.TheConstants.{MOST_TURNS}
@@ -25,7 +26,7 @@ use Rattle.gts_desk.specs.{Seen, frames}
 use Rattle.gts_engine.specs.Engine.{Engine}
 use Rattle.gts_engine.specs.Origin.{state_at}
 use Rattle.gts_housed.specs.{Beginning, Stands}
-use Rattle.gts_receiver.specs.{Receives}
+use Rattle.gts_receiver.specs.{events_over, Receives, AreOver, WentThroughAll}
 use Rattle.gts_receiver.specs.declared.end.ReceiveEnd.{ReceiveEnd}
 use Rattle.gts_receiver.specs.declared.end.ReceiveEnd.TheVariants.{Ended, LostSync, SourceFault, Fault}
 use Rattle.gts_sender.specs.{Sends, given_index}
@@ -38,35 +39,48 @@ use Rattle.gts_serve.specs.declared.end.ServeEnd.TheVariants.{Done, NotOpened, R
 
 -- ---- lines
 
--- what contracts see of lines: which circuits are open, how often each has failed, and its bytes
+-- what contracts see of lines: which circuits are open, how often each has failed, the ports it was last opened with, and its bytes
 pub record LinesSeen : Type 0 where
   pub is_open : ℕ → Bool
   pub faults : ℕ → ℕ
+  pub ports : ℕ → Ports
   pub bytes : ℕ → CircuitBytes
 
-abbrev pub seen_lines : {L : Type 0} → (L → ℕ → Bool) → (L → ℕ → ℕ) → (L → ℕ → CircuitBytes) → L → LinesSeen
-seen_lines is_open faults bytes lines = record { is_open = is_open lines; faults = faults lines; bytes = bytes lines }
+abbrev pub seen_lines : {L : Type 0} → (L → ℕ → Bool) → (L → ℕ → ℕ) → (L → ℕ → Ports) → (L → ℕ → CircuitBytes) → L → LinesSeen
+seen_lines is_open faults ports bytes lines =
+    record { is_open = is_open lines; faults = faults lines; ports = ports lines; bytes = bytes lines }
+
+-- the ports of a circuit in the directory
+abbrev pub ports_of : Circuit → Ports
+ports_of row = record { input = row.input; output = row.output }
+
+-- circuit c was opened, or was to be, with the ports that the directory has for it
+abbrev pub HasPorts : Directory → LinesSeen → ℕ → Type 0
+HasPorts d now c = get_elem? (map ports_of d.circuits) c ≡ some (now.ports c)
 
 -- circuit c is as it was
 pub record IsSame (before now : LinesSeen) (c : ℕ) : Type 0 where
   pub is_open : now.is_open c ≡ before.is_open c
   pub faults : now.faults c ≡ before.faults c
+  pub ports : now.ports c ≡ before.ports c
   pub bytes : now.bytes c ≡ before.bytes c
 
 -- circuit c was opened and handed back, and nothing was read or written
-pub record IsHandedBack (source_tells sink_tells : Type 0) (before now : LinesSeen) (c : ℕ) : Type 0 where
+pub record IsHandedBack (d : Directory) (source_tells sink_tells : Type 0) (before now : LinesSeen) (c : ℕ) : Type 0 where
   pub closed : now.is_open c ≡ false
-  pub left : source_tells → (now.bytes c).left ≡ (now.bytes c).told
+  pub ports : HasPorts d now c
+  pub unread : source_tells → (left : List ℕ) × ((now.bytes c).parts ≡ record { given = []; left = left } ∷ [])
   pub taken : sink_tells → (now.bytes c).taken ≡ []
   pub later : before.faults c ≤ now.faults c
 
 -- Of so many circuits, circuit f failed to open, by which its count rose. Those before it were handed back, and those behind it
 -- are as they were.
-pub record StopsAtOpening (source_tells sink_tells : Type 0) (count f : ℕ) (before now : LinesSeen) : Type 0 where
-  pub within : f < count
+pub record StopsAtOpening (d : Directory) (source_tells sink_tells : Type 0) (f : ℕ) (before now : LinesSeen) : Type 0 where
+  pub within : f < length d.circuits
+  pub ports : HasPorts d now f
   pub rose : Rose (before.faults f) (now.faults f)
   pub unopened : now.is_open f ≡ before.is_open f
-  pub handed_back : (c : ℕ) → c < f → IsHandedBack source_tells sink_tells before now c
+  pub handed_back : (c : ℕ) → c < f → IsHandedBack d source_tells sink_tells before now c
   pub others : (c : ℕ) → f < c → IsSame before now c
 
 -- each circuit is as it was
@@ -112,13 +126,14 @@ pub record EndsWithin (threads history : List (ℕ × Entry)) (name : ℕ) (full
   pub own : entries_under name history ≡ entries_under name upto
   pub spent : full ≡ true → length threads ≡ MOST_TURNS
 
--- the receiver of c told these bytes
-pub record IsReceived (b : Beginning) (threads history : List (ℕ × Entry)) (c : ℕ) (given : List ℕ) (end : ReceiveEnd) : Type 0 where
+-- the receiver of c told what came over these connections, of which it might begin so many, and the last one
+pub record IsReceived (b : Beginning) (threads history : List (ℕ × Entry)) (c connections : ℕ) (earlier : List Part) (last : Part)
+    (end : ReceiveEnd) : Type 0 where
   pub hall : TableId
   pub full : Bool
   pub upto : List (ℕ × Entry)
   pub within : EndsWithin threads history (receiver_name c) full upto
-  pub received : Receives c (fresh b hall (receiver_name c)) (seen_at b hall (receiver_name c) full upto) given end
+  pub received : Receives c connections (fresh b hall (receiver_name c)) (seen_at b hall (receiver_name c) full upto) earlier last end
 
 -- the sender of c, with the takes behind the threads, wrote these bytes
 pub record IsSent (b : Beginning) (threads history : List (ℕ × Entry)) (c : ℕ) (bytes : List ℕ) (end : SendEnd) : Type 0 where
@@ -128,7 +143,7 @@ pub record IsSent (b : Beginning) (threads history : List (ℕ × Entry)) (c : �
   pub within : EndsWithin threads history (sender_name c) full upto
   pub sent : Sends c (fresh b hall (sender_name c)) (seen_at b hall (sender_name c) full upto) bytes end
 
--- of the events of a connection, those before one were done, and that one was answered with this fault
+-- of the events of some connections, those before one were done, and that one was answered with this fault
 pub record EntersUpTo (events : List Event) (fault : SwitchFault) (entered : List Entry) : Type 0 where
   pub front : List Event
   pub event : Event
@@ -136,11 +151,12 @@ pub record EntersUpTo (events : List Event) (fault : SwitchFault) (entered : Lis
   pub parts : events ≡ front ++ event ∷ behind
   pub is : entered ≡ all_done front ++ entry_of event (Err fault)
 
--- What a receiver entered over a whole history, by its end, where its source gave these bytes: the events of the connection, each
--- of them once and in their order. Only where one was answered with a fault, it entered no more behind that.
-abbrev pub EnteredConnection : ℕ → List ℕ → ReceiveEnd → List Entry → Type 0
-EnteredConnection c given (Fault fault) entered = EntersUpTo (connection c given) fault entered
-EnteredConnection c given end entered = entered ≡ all_done (connection c given)
+-- What a receiver entered over a whole history, by its end, where its source gave these connections: the events of each connection,
+-- one connection after another, each event once and in their order. Only where one was answered with a fault, it entered no more
+-- behind that.
+abbrev pub EnteredConnections : ℕ → List Part → ReceiveEnd → List Entry → Type 0
+EnteredConnections c parts (Fault fault) entered = EntersUpTo (events_over c parts) fault entered
+EnteredConnections c parts end entered = entered ≡ all_done (events_over c parts)
 
 -- the frames that the takes on c gave over a history, each whole and in their order
 abbrev pub frames_on : Beginning → ℕ → List (ℕ × Entry) → List ℕ
@@ -155,7 +171,7 @@ pub record BreaksOff (b : Beginning) (c index : ℕ) (history : List (ℕ × Ent
   pub last : entries_under (sender_name c) later ≡ []
   pub gave : given_index (outcome b.origin.directory (state_at b.origin (entries earlier)) (Taken c)) ≡ Some index
   pub part : List ℕ
-  pub front : IsFront part (line (after b.origin.directory (state_at b.origin (entries earlier)) (Taken c)) c index)
+  pub front : IsFront part (line b.origin.directory (after b.origin.directory (state_at b.origin (entries earlier)) (Taken c)) c index)
   pub whole : bytes ≡ frames_on b c earlier ++ part
 
 -- The bytes that a sink took over a whole history, by its sender's end: all frames of its circuit. Only where the line failed, the
@@ -164,18 +180,25 @@ abbrev pub TookFrames : Beginning → ℕ → List (ℕ × Entry) → SendEnd �
 TookFrames b c history (LineFault index) bytes = BreaksOff b c index history bytes
 TookFrames b c history end bytes = bytes ≡ frames_on b c history
 
--- Circuit c was served, and came to these ends: what its source gave was told, what it had left is left, and its sink took what
--- its sender wrote. Its count rose where one of its sockets failed. It was handed back.
-pub record ServesCircuit (b : Beginning) (source_tells sink_tells : Type 0) (threads history : List (ℕ × Entry))
+-- Circuit c was served on the ports that the directory has for it, and came to these ends: what its source gave on its
+-- connections was told, and its sink took what its sender wrote. Its count rose where one of its sockets failed. It was handed back.
+pub record ServesCircuit (b : Beginning) (source_tells sink_tells : Type 0) (connections : ℕ) (threads history : List (ℕ × Entry))
     (before now : LinesSeen) (c : ℕ) (received : ReceiveEnd) (sent : SendEnd) : Type 0 where
-  pub given : List ℕ
+  pub earlier : List Part
+  pub last : Part
   pub written : List ℕ
-  pub receives : IsReceived b threads history c given received
+  pub receives : IsReceived b threads history c connections earlier last received
   pub sends : IsSent b threads history c written sent
-  pub told : source_tells → (now.bytes c).told ≡ given ++ (now.bytes c).left
-  pub ended : source_tells → (rest : ℕ) → received ≡ Ended rest → (now.bytes c).left ≡ []
+  pub ports : HasPorts b.origin.directory now c
+  -- its source began these connections, at most as many as it might
+  pub parts : source_tells → (now.bytes c).parts ≡ earlier ++ last ∷ []
+  pub few : length (earlier ++ last ∷ []) ≤ connections
+  -- where its receiver went through all of them, each was read to its end or lost synchronisation
+  pub over : source_tells → WentThroughAll received
+      → (length (now.bytes c).parts ≡ connections) × AreOver c (now.bytes c).parts
+  pub ended : source_tells → (rest : ℕ) → received ≡ Ended rest → last.left ≡ []
   pub taken : sink_tells → (now.bytes c).taken ≡ written
-  pub entered : EnteredConnection c given received (entries_under (receiver_name c) history)
+  pub entered : EnteredConnections c (earlier ++ last ∷ []) received (entries_under (receiver_name c) history)
   pub took : sink_tells → TookFrames b c history sent (now.bytes c).taken
   pub source_failed : received ≡ SourceFault → Rose (before.faults c) (now.faults c)
   pub sink_failed : (index : ℕ) → sent ≡ LineFault index → Rose (before.faults c) (now.faults c)
@@ -198,7 +221,7 @@ pub record IsAtRest (b : Beginning) (count : ℕ) (history : List Entry) : Type 
   pub nothing_waits : (c : ℕ) → c < count → waiting (on_circuit (state_at b.origin history) c) ≡ []
 
 module _ {P : Type 0} (tells : Type 0) (calls : P → List Call) (disk say : P → ℕ) (b : Beginning)
-    (source_tells sink_tells : Type 0) (before now : LinesSeen) where
+    (source_tells sink_tells : Type 0) (connections : ℕ) (before now : LinesSeen) where
   -- All circuits were served: the engine stands for the history of all threads and the takes behind it, and each circuit has
   -- its part of it. The end is the first fault.
   pub record Serves (threads : List (ℕ × Entry)) (full : Bool) (engine : Engine P) (end : ServeEnd) : Type 0 where
@@ -209,17 +232,21 @@ module _ {P : Type 0} (tells : Type 0) (calls : P → List Call) (disk say : P �
     pub takes : (k : ℕ) (x : ℕ × Entry) → get_elem? drained k ≡ some x
         → (c : ℕ) × (c < length ends) × (x.0 ≡ sender_name c) × IsTake c x.1
     pub circuits : (c : ℕ) (x : ReceiveEnd × SendEnd) → get_elem? ends c ≡ some x
-        → ServesCircuit b source_tells sink_tells threads (threads ++ drained) before now c x.0 x.1
+        → ServesCircuit b source_tells sink_tells connections threads (threads ++ drained) before now c x.0 x.1
     pub others : (c : ℕ) → length ends ≤ c → IsSame before now c
     pub names : NamesAreUpTo (2 * length ends) (threads ++ drained)
     pub full_is : full ≡ true → length threads ≡ MOST_TURNS
     pub end_is : end ≡ first_fault 0 ends
     pub at_rest : end ≡ Done → IsAtRest b (length ends) (entries (threads ++ drained))
+    -- done is answered only where each source that tells began all its connections, and each was read to its end or lost
+    -- synchronisation
+    pub went_through : end ≡ Done → source_tells → (c : ℕ) → c < length ends
+        → (length (now.bytes c).parts ≡ connections) × AreOver c (now.bytes c).parts
 
   -- What came of a run, by the pass and the end. Without a pass nothing was read, written or said.
   abbrev pub IsServed : Option (Known Entry) → ServeEnd → Engine P → Type 0
   IsServed (Some pass) end engine = Serves pass.seen pass.full engine end
   IsServed None (NotOpened c) engine =
-      Stands tells calls disk say b [] engine × StopsAtOpening source_tells sink_tells (length b.origin.directory.circuits) c before now
+      Stands tells calls disk say b [] engine × StopsAtOpening b.origin.directory source_tells sink_tells c before now
   IsServed None NoMemory engine = Stands tells calls disk say b [] engine × AreUntouched before now
   IsServed None end engine = ⊥

@@ -31,6 +31,7 @@ fn two_circuits(alloc: Global) -> Result<Directory, Fail> {
             name,
             peer,
             kept: 20,
+            digits: 3,
             input,
             output: input + 1,
         })?;
@@ -64,7 +65,7 @@ where
     requires stands { Stands P.tells P.calls P.disk_faults P.say_faults B.beginning [] engine }
     requires tells { P.tells }
 {
-    let served: Served<P, B> = serve(rt, alloc, engine, lines, &FreeGate);
+    let served: Served<P, B> = serve(rt, alloc, engine, lines, 1, &FreeGate);
     let Served { engine, end, pass } = served;
     let (station, _) = engine.into_parts();
     (station, end, pass.is_some())

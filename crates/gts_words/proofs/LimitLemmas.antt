@@ -1,61 +1,95 @@
 -- The count of a command is within its limits.
-use Rattle.std.proofs.Common.{◌≡◌, ℕ, ◌≤◌, Bool, true, false, ◌&&◌, List, [], ◌∷◌, Option, Some, None, length, nat_le, cond, codes, refl, sym, ap, subst, ◌∙◌}
-use Rattle.std.specs.Prelude.{option_map}
+use Rattle.std.proofs.Common.{◌≡◌, ℕ, ◌≤◌, ◌/◌, ◌%◌, Bool, true, false, ◌&&◌, List, [], ◌∷◌, Option, Some, None, length, nat_le, cond, codes, refl, subst, arith}
+use Rattle.std.specs.Prelude.{option_map, ◌==◌}
 use Rattle.std.specs.Char.{is_ascii_digit}
 use Rattle.std.specs.List.{list_all}
 use Rattle.std.specs.Str.Parse.{digits_value}
 use Rattle.std.proofs.lemmas.Bool.{leb-true, and_parts}
-use Rattle.gts_words.specs.declared.count.TheConstants.{MOST_GENERATED, LONGEST_COUNT}
+use Rattle.gts_words.specs.declared.count.TheConstants.{MOST_GENERATED, LONGEST_COUNT, MOST_CONNECTIONS, LONGEST_CONNECTIONS}
 use Rattle.gts_words.specs.declared.command.Command.{Command}
-use Rattle.gts_words.specs.declared.command.Command.TheVariants.{Init, Replay, Serve, Show, Compact, Generate}
-use Rattle.gts_words.specs.Commands.{same, alone, is_count, count_in, counted, command_of}
+use Rattle.gts_words.specs.declared.command.Command.TheVariants.{Init, Replay, Serve, Show, Compact, Generate, Unpack, Pack, Gaps}
+use Rattle.gts_words.specs.Commands.{same, alone, is_count, count_in, number_in, circuit_in, is_moment, gaps_of, moment_in, command_of}
 
 -- a command has no count, or one within the limits
 abbrev IsWithin : Command → Type 0
 IsWithin (Generate count) = (1 ≤ count) × (count ≤ MOST_GENERATED)
+IsWithin (Serve connections) = (1 ≤ connections) × (connections ≤ MOST_CONNECTIONS)
 IsWithin _ = Unit {0}
 
 abbrev AllWithin : Option Command → Type 0
 AllWithin None = Unit {0}
 AllWithin (Some command) = IsWithin command
 
-one_of : (a b c d e : Bool)
-    → AllWithin (cond a (Some Init) (cond b (Some Replay) (cond c (Some Serve) (cond d (Some Show) (cond e (Some Compact) None)))))
-one_of true b c d e = tt
-one_of false true c d e = tt
-one_of false false true d e = tt
-one_of false false false true e = tt
-one_of false false false false true = tt
-one_of false false false false false = tt
+one_of : (a b c d e f : Bool)
+    → AllWithin (cond a (Some Init) (cond b (Some Replay) (cond c (Some (Serve 1)) (cond d (Some Show) (cond e (Some Compact) (cond f (Some Pack) None))))))
+one_of true b c d e f = tt
+one_of false true c d e f = tt
+one_of false false true d e f = (omega arith, omega arith)
+one_of false false false true e f = tt
+one_of false false false false true f = tt
+one_of false false false false false true = tt
+one_of false false false false false false = tt
 
 alone_within : (name : List ℕ) → AllWithin (alone name)
-alone_within name = one_of (same name (codes "init")) (same name (codes "replay")) (same name (codes "serve")) (same name (codes "show")) (same name (codes "compact"))
+alone_within name = one_of (same name (codes "init")) (same name (codes "replay")) (same name (codes "serve")) (same name (codes "show")) (same name (codes "compact")) (same name (codes "pack"))
 
 -- a word that spells a count
-spelled : (w : List ℕ) → is_count w ≡ true → (1 ≤ digits_value 10 w) × (digits_value 10 w ≤ MOST_GENERATED)
-spelled w is =
+spelled : (longest top : ℕ) (w : List ℕ) → is_count longest top w ≡ true → (1 ≤ digits_value 10 w) × (digits_value 10 w ≤ top)
+spelled longest top w is =
     let some : Bool = nat_le 1 (length w) in
-    let short : Bool = nat_le (length w) LONGEST_COUNT in
+    let short : Bool = nat_le (length w) longest in
     let digits : Bool = list_all is_ascii_digit w in
     let least : Bool = nat_le 1 (digits_value 10 w) in
-    let most : Bool = nat_le (digits_value 10 w) MOST_GENERATED in
+    let most : Bool = nat_le (digits_value 10 w) top in
     let last = and_parts (some && short && digits && least) most is in
     let before = and_parts (some && short && digits) least last.0 in
-    (leb-true 1 (digits_value 10 w) before.1, leb-true (digits_value 10 w) MOST_GENERATED last.1)
+    (leb-true 1 (digits_value 10 w) before.1, leb-true (digits_value 10 w) top last.1)
 
-by_count : (w : List ℕ) (b : Bool) → is_count w ≡ b → AllWithin (option_map (λ n. Generate n) (cond b (Some (digits_value 10 w)) None))
-by_count w true is = spelled w is
+by_count : (w : List ℕ) (b : Bool) → is_count LONGEST_COUNT MOST_GENERATED w ≡ b → AllWithin (option_map (λ n. Generate n) (cond b (Some (digits_value 10 w)) None))
+by_count w true is = spelled LONGEST_COUNT MOST_GENERATED w is
 by_count w false is = tt
 
-by_name : (w : List ℕ) (b : Bool) → AllWithin (cond b (option_map (λ n. Generate n) (count_in w)) None)
-by_name w true = by_count w (is_count w) refl
-by_name w false = tt
+by_connections : (w : List ℕ) (b : Bool) → is_count LONGEST_CONNECTIONS MOST_CONNECTIONS w ≡ b
+    → AllWithin (option_map (λ n. Serve n) (cond b (Some (digits_value 10 w)) None))
+by_connections w true is = spelled LONGEST_CONNECTIONS MOST_CONNECTIONS w is
+by_connections w false is = tt
+
+-- a circuit has no count, and neither has a time
+no_count : (found : Option ℕ) → AllWithin (option_map (λ c. Unpack c) found)
+no_count None = tt
+no_count (Some c) = tt
+
+at_moment : (day hour minute : ℕ) (b : Bool) → AllWithin (cond b (Some (Gaps day hour minute)) None)
+at_moment day hour minute true = tt
+at_moment day hour minute false = tt
+
+at_gaps : (found : Option ℕ) → AllWithin (gaps_of found)
+at_gaps None = tt
+at_gaps (Some n) = at_moment (n / 10000) (n / 100 % 100) (n % 100) (is_moment (n / 10000) (n / 100 % 100) (n % 100))
+
+in_moment : (w : List ℕ) (b : Bool) → AllWithin (cond b (gaps_of (number_in w)) None)
+in_moment w true = at_gaps (number_in w)
+in_moment w false = tt
+
+by_name : (w : List ℕ) (a b c e : Bool) → AllWithin (cond a (option_map (λ n. Generate n) (count_in LONGEST_COUNT MOST_GENERATED w))
+    (cond b (option_map (λ n. Serve n) (count_in LONGEST_CONNECTIONS MOST_CONNECTIONS w))
+    (cond c (option_map (λ c. Unpack c) (circuit_in w)) (cond e (moment_in w) None))))
+by_name w true b c e = by_count w (is_count LONGEST_COUNT MOST_GENERATED w) refl
+by_name w false true c e = by_connections w (is_count LONGEST_CONNECTIONS MOST_CONNECTIONS w) refl
+by_name w false false true e = no_count (circuit_in w)
+by_name w false false false true = in_moment w (length w == 6)
+by_name w false false false false = tt
 
 command_within : (words : List (List ℕ)) → AllWithin (command_of words)
 command_within [] = tt
 command_within (name ∷ []) = alone_within name
-command_within (name ∷ count ∷ []) = by_name count (same name (codes "generate"))
+command_within (name ∷ count ∷ []) =
+    by_name count (same name (codes "generate")) (same name (codes "serve")) (same name (codes "unpack")) (same name (codes "gaps"))
 command_within (name ∷ count ∷ more ∷ words) = tt
+
+pub within_connections : (words : List (List ℕ)) (connections : ℕ) → command_of words ≡ Some (Serve connections)
+    → (1 ≤ connections) × (connections ≤ MOST_CONNECTIONS)
+within_connections words connections is = subst AllWithin is (command_within words)
 
 pub within_limits : (words : List (List ℕ)) (count : ℕ) → command_of words ≡ Some (Generate count) → (1 ≤ count) × (count ≤ MOST_GENERATED)
 within_limits words count is = subst AllWithin is (command_within words)

@@ -1,12 +1,12 @@
 -- The lists of words that are commands (profile).
-use Rattle.std.specs.Prelude.{◌≡◌, ℕ, Bool, false, ◌&&◌, ◌==◌, nat_eq, nat_le, List, [], ◌∷◌, length, Option, Some, None, Result, Ok, Err, if◌then◌else◌, option_map, codes}
+use Rattle.std.specs.Prelude.{◌≡◌, ℕ, Bool, false, ◌&&◌, ◌==◌, nat_eq, nat_le, List, [], ◌∷◌, length, ◌/◌, ◌%◌, Option, Some, None, Result, Ok, Err, if◌then◌else◌, option_map, codes}
 use Rattle.std.specs.Char.{is_ascii_digit}
 use Rattle.std.specs.Cmp.Lexicographic.{pointwise}
 use Rattle.std.specs.List.{list_all}
 use Rattle.std.specs.Str.Parse.{digits_value}
-use Rattle.gts_words.specs.declared.count.TheConstants.{MOST_GENERATED, LONGEST_COUNT}
+use Rattle.gts_words.specs.declared.count.TheConstants.{MOST_GENERATED, LONGEST_COUNT, MOST_CONNECTIONS, LONGEST_CONNECTIONS}
 use Rattle.gts_words.specs.declared.command.Command.{Command}
-use Rattle.gts_words.specs.declared.command.Command.TheVariants.{Init, Replay, Serve, Show, Compact, Generate}
+use Rattle.gts_words.specs.declared.command.Command.TheVariants.{Init, Replay, Serve, Show, Compact, Generate, Unpack, Pack, Gaps}
 use Rattle.gts_words.specs.declared.command.WordsFault.{WordsFault}
 use Rattle.gts_words.specs.declared.command.WordsFault.TheVariants as fault
 
@@ -24,24 +24,56 @@ abbrev pub alone : List ℕ → Option Command
 alone name =
     if same name (codes "init") then Some Init
     else (if same name (codes "replay") then Some Replay
-    else (if same name (codes "serve") then Some Serve
+    else (if same name (codes "serve") then Some (Serve 1)
     else (if same name (codes "show") then Some Show
     else (if same name (codes "compact") then Some Compact
-    else None))))
+    else (if same name (codes "pack") then Some Pack
+    else None)))))
 
--- a count is spelled by one to six digits, and its value is 1 to 100,000
-abbrev pub is_count : List ℕ → Bool
-is_count word =
-    nat_le 1 (length word) && nat_le (length word) LONGEST_COUNT && list_all is_ascii_digit word
-    && nat_le 1 (digits_value 10 word) && nat_le (digits_value 10 word) MOST_GENERATED
+-- a count is spelled by one to so many digits, and its value is 1 to this one
+abbrev pub is_count : (longest most : ℕ) → List ℕ → Bool
+is_count longest most word =
+    nat_le 1 (length word) && nat_le (length word) longest && list_all is_ascii_digit word
+    && nat_le 1 (digits_value 10 word) && nat_le (digits_value 10 word) most
 
 -- the count that a word spells
-abbrev pub count_in : List ℕ → Option ℕ
-count_in word = if is_count word then Some (digits_value 10 word) else None
+abbrev pub count_in : (longest most : ℕ) → List ℕ → Option ℕ
+count_in longest most word = if is_count longest most word then Some (digits_value 10 word) else None
 
--- the command that a word and a count are
+-- the number of a word that is digits
+abbrev pub number_in : List ℕ → Option ℕ
+number_in word = if list_all is_ascii_digit word then Some (digits_value 10 word) else None
+
+-- a circuit is spelled by two digits
+abbrev pub circuit_in : List ℕ → Option ℕ
+circuit_in word = if length word == 2 then number_in word else None
+
+-- a day of a month, an hour and a minute
+abbrev pub is_moment : ℕ → ℕ → ℕ → Bool
+is_moment day hour minute = nat_le 1 day && nat_le day 31 && nat_le hour 23 && nat_le minute 59
+
+-- the command at this time
+abbrev pub gaps_at : ℕ → ℕ → ℕ → Option Command
+gaps_at day hour minute = if is_moment day hour minute then Some (Gaps day hour minute) else None
+
+-- the command at the time that a number of six digits writes: two of the day, two of the hour, and two of the minute
+abbrev pub gaps_of : Option ℕ → Option Command
+gaps_of (Some n) = gaps_at (n / 10000) (n / 100 % 100) (n % 100)
+gaps_of None = None
+
+-- a time is spelled by six digits
+abbrev pub moment_in : List ℕ → Option Command
+moment_in word = if length word == 6 then gaps_of (number_in word) else None
+
+-- The command that a word and another one are: messages are counted by one to six digits, up to 100,000; connections by one to
+-- four, up to 1,000.
 abbrev pub counted : List ℕ → List ℕ → Option Command
-counted name count = if same name (codes "generate") then option_map (λ n. Generate n) (count_in count) else None
+counted name word =
+    if same name (codes "generate") then option_map (λ n. Generate n) (count_in LONGEST_COUNT MOST_GENERATED word)
+    else (if same name (codes "serve") then option_map (λ n. Serve n) (count_in LONGEST_CONNECTIONS MOST_CONNECTIONS word)
+    else (if same name (codes "unpack") then option_map (λ c. Unpack c) (circuit_in word)
+    else (if same name (codes "gaps") then moment_in word
+    else None)))
 
 -- the command that a list of words is
 abbrev pub command_of : List (List ℕ) → Option Command

@@ -1,15 +1,16 @@
 -- Worked rows: lists of words, and what they are.
 use Rattle.std.specs.Prelude.{◌≡◌, [], ◌∷◌, None, Some, codes}
-use Rattle.gts_words.specs.declared.command.Command.TheVariants.{Init, Replay, Serve, Show, Compact, Generate}
+use Rattle.gts_words.specs.declared.command.Command.TheVariants.{Init, Replay, Serve, Show, Compact, Generate, Unpack, Pack, Gaps}
 use Rattle.gts_words.specs.Commands.{command_of}
 
 -- Each command of one word.
 abbrev pub OneWord : Type 0
 OneWord = (command_of (codes "init" ∷ []) ≡ Some Init)
     × (command_of (codes "replay" ∷ []) ≡ Some Replay)
-    × (command_of (codes "serve" ∷ []) ≡ Some Serve)
+    × (command_of (codes "serve" ∷ []) ≡ Some (Serve 1))
     × (command_of (codes "show" ∷ []) ≡ Some Show)
     × (command_of (codes "compact" ∷ []) ≡ Some Compact)
+    × (command_of (codes "pack" ∷ []) ≡ Some Pack)
 
 -- A count has one to six digits and a value from 1 to 100,000.
 abbrev pub Counts : Type 0
@@ -21,6 +22,30 @@ Counts = (command_of (codes "generate" ∷ codes "200" ∷ []) ≡ Some (Generat
     × (command_of (codes "generate" ∷ codes "0000200" ∷ []) ≡ None)
     × (command_of (codes "generate" ∷ codes "+20" ∷ []) ≡ None)
     × (command_of (codes "generate" ∷ [] ∷ []) ≡ None)
+
+-- Connections are counted by one to four digits, with a value from 1 to 1,000.
+abbrev pub ConnectionCounts : Type 0
+ConnectionCounts = (command_of (codes "serve" ∷ codes "2" ∷ []) ≡ Some (Serve 2))
+    × (command_of (codes "serve" ∷ codes "0012" ∷ []) ≡ Some (Serve 12))
+    × (command_of (codes "serve" ∷ codes "1000" ∷ []) ≡ Some (Serve 1000))
+    × (command_of (codes "serve" ∷ codes "0" ∷ []) ≡ None)
+    × (command_of (codes "serve" ∷ codes "1001" ∷ []) ≡ None)
+    × (command_of (codes "serve" ∷ codes "00001" ∷ []) ≡ None)
+    × (command_of (codes "serve" ∷ codes "+2" ∷ []) ≡ None)
+
+-- A circuit has two digits, whatever circuits there are; a time has six, in their ranges.
+abbrev pub DigitWords : Type 0
+DigitWords = (command_of (codes "unpack" ∷ codes "00" ∷ []) ≡ Some (Unpack 0))
+    × (command_of (codes "unpack" ∷ codes "99" ∷ []) ≡ Some (Unpack 99))
+    × (command_of (codes "unpack" ∷ codes "7" ∷ []) ≡ None)
+    × (command_of (codes "unpack" ∷ codes "0a" ∷ []) ≡ None)
+    × (command_of (codes "gaps" ∷ codes "281030" ∷ []) ≡ Some (Gaps 28 10 30))
+    × (command_of (codes "gaps" ∷ codes "312359" ∷ []) ≡ Some (Gaps 31 23 59))
+    × (command_of (codes "gaps" ∷ codes "002359" ∷ []) ≡ None)
+    × (command_of (codes "gaps" ∷ codes "282400" ∷ []) ≡ None)
+    × (command_of (codes "gaps" ∷ codes "281060" ∷ []) ≡ None)
+    × (command_of (codes "gaps" ∷ codes "28103" ∷ []) ≡ None)
+    × (command_of (codes "pack" ∷ codes "00" ∷ []) ≡ None)
 
 -- No words, a word that isn't known, a word too many and one too few.
 abbrev pub NoCommands : Type 0

@@ -10,14 +10,20 @@ pub enum Command {
     Init,
     /// To work through a capture.
     Replay,
-    /// To work on the lines of the circuits.
-    Serve,
+    /// To work on the lines of the circuits, each over so many incoming connections.
+    Serve { connections: u32 },
     /// To say what the switch stands at.
     Show,
     /// To write the journal anew, shorter.
     Compact,
     /// To work through so many messages that it makes itself.
     Generate { count: u32 },
+    /// To work through a file of accumulated bulletins, with its messages on this circuit.
+    Unpack { c: u32 },
+    /// To make a file of accumulated bulletins of a stream of frames.
+    Pack,
+    /// To tell which numbers are missing in a capture, and to ask for them at this time.
+    Gaps { day: u32, hour: u32, minute: u32 },
 }
 
 /// Why words are no command.

@@ -4,15 +4,19 @@
 
 mod command;
 mod count;
+mod digits;
 mod laws;
 mod reading;
 mod worked;
 
 pub use command::{Command, WordsFault};
-pub use count::{LONGEST_COUNT, MOST_GENERATED};
+pub use count::{LONGEST_CONNECTIONS, LONGEST_COUNT, MOST_CONNECTIONS, MOST_GENERATED};
 pub use laws::a_count_is_within_its_limits;
 pub use reading::read_words;
-pub use worked::{commands_of_one_word, counts_of_one_to_six_digits, other_lists_are_no_command};
+pub use worked::{
+    circuits_and_times_of_digits, commands_of_one_word, connections_of_one_to_four_digits,
+    counts_of_one_to_six_digits, other_lists_are_no_command,
+};
 
 #[cfg(test)]
 mod tests;

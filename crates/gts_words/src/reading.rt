@@ -3,7 +3,10 @@ ghost use Rattle.clap.specs.Words.{app_of, kind_of, found_of, first_value};
 ghost use Rattle.gts_words.specs.Commands as commands;
 ghost use Rattle.gts_words.specs.Grammar.{grammar};
 
-use crate::count::count_in;
+use crate::count::{
+    LONGEST_CONNECTIONS, LONGEST_COUNT, MOST_CONNECTIONS, MOST_GENERATED, count_in,
+};
+use crate::digits::{circuit_in, moment_in};
 use crate::{Command, WordsFault};
 use clap::error::ErrorKind;
 use clap::{Arg, ArgMatches};
@@ -51,25 +54,38 @@ fn alone(name: &str) -> Option<Command>
     } else if name == "replay" {
         Some(Command::Replay)
     } else if name == "serve" {
-        Some(Command::Serve)
+        Some(Command::Serve { connections: 1 })
     } else if name == "show" {
         Some(Command::Show)
     } else if name == "compact" {
         Some(Command::Compact)
+    } else if name == "pack" {
+        Some(Command::Pack)
     } else {
         None
     }
 }
 
-/// The command that a word and a count are.
-fn counted(name: &str, count: &str) -> Option<Command>
-    ensures { result ≡ commands.counted name.now count.now }
+/// The command that a word and another one are.
+fn counted(name: &str, word: &str) -> Option<Command>
+    ensures { result ≡ commands.counted name.now word.now }
 {
-    if name != "generate" {
-        return None;
+    if name == "generate" {
+        let count = count_in(LONGEST_COUNT, MOST_GENERATED, word)?;
+        return Some(Command::Generate { count });
     }
-    let count = count_in(count)?;
-    Some(Command::Generate { count })
+    if name == "serve" {
+        let connections = count_in(LONGEST_CONNECTIONS, MOST_CONNECTIONS, word)?;
+        return Some(Command::Serve { connections });
+    }
+    if name == "unpack" {
+        let c = circuit_in(word)?;
+        return Some(Command::Unpack { c });
+    }
+    if name == "gaps" {
+        return moment_in(word);
+    }
+    None
 }
 
 /// The command that the parts of a command line are.

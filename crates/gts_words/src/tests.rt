@@ -14,10 +14,13 @@ fn read(alloc: Global, words: &[&str]) -> Result<Result<Command, WordsFault>, Fa
 
 #[test]
 fn the_lists_that_are_defined_are_commands(rt: HostRuntime) -> Result<(), Fail> {
-    let cases: [(&[&str], Command); 8] = [
+    let cases: [(&[&str], Command); 15] = [
         (&["init"], Command::Init),
         (&["replay"], Command::Replay),
-        (&["serve"], Command::Serve),
+        (&["serve"], Command::Serve { connections: 1 }),
+        (&["serve", "2"], Command::Serve { connections: 2 }),
+        (&["serve", "0012"], Command::Serve { connections: 12 }),
+        (&["serve", "1000"], Command::Serve { connections: 1000 }),
         (&["show"], Command::Show),
         (&["compact"], Command::Compact),
         (&["generate", "200"], Command::Generate { count: 200 }),
@@ -25,6 +28,17 @@ fn the_lists_that_are_defined_are_commands(rt: HostRuntime) -> Result<(), Fail> 
         (
             &["generate", "100000"],
             Command::Generate { count: 100_000 },
+        ),
+        (&["unpack", "07"], Command::Unpack { c: 7 }),
+        (&["unpack", "99"], Command::Unpack { c: 99 }),
+        (&["pack"], Command::Pack),
+        (
+            &["gaps", "281030"],
+            Command::Gaps {
+                day: 28,
+                hour: 10,
+                minute: 30,
+            },
         ),
     ];
     for (words, command) in cases {
@@ -35,7 +49,7 @@ fn the_lists_that_are_defined_are_commands(rt: HostRuntime) -> Result<(), Fail> 
 
 #[test]
 fn other_lists_are_no_command(rt: HostRuntime) -> Result<(), Fail> {
-    let cases: [&[&str]; 14] = [
+    let cases: [&[&str]; 24] = [
         &[],
         &["help"],
         &["--help"],
@@ -49,7 +63,17 @@ fn other_lists_are_no_command(rt: HostRuntime) -> Result<(), Fail> {
         &["generate", "0000200"],
         &["generate", "-5"],
         &["generate", "5", "5"],
+        &["serve", "0"],
+        &["serve", "1001"],
+        &["serve", "00001"],
+        &["serve", "two"],
         &["", "5"],
+        &["pack", "00"],
+        &["unpack"],
+        &["unpack", "7"],
+        &["unpack", "007"],
+        &["gaps", "28103"],
+        &["gaps", "320000"],
     ];
     for words in cases {
         assert_eq!(rt; read(rt.alloc(), words)?, Err(WordsFault::Words));

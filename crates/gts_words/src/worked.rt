@@ -1,8 +1,8 @@
 //! Lists of words, each row the contract of a function with an empty body.
 
-ghost use Rattle.gts_words.specs.Worked.{OneWord, Counts, NoCommands};
+ghost use Rattle.gts_words.specs.Worked.{OneWord, Counts, ConnectionCounts, DigitWords, NoCommands};
 
-/// Five commands are one word.
+/// Six commands are one word.
 pub fn commands_of_one_word()
     ensures { OneWord }
 {}
@@ -10,6 +10,16 @@ pub fn commands_of_one_word()
 /// `generate` has a count of one to six digits.
 pub fn counts_of_one_to_six_digits()
     ensures { Counts }
+{}
+
+/// `serve` alone means one connection, and else has their count of one to four digits.
+pub fn connections_of_one_to_four_digits()
+    ensures { ConnectionCounts }
+{}
+
+/// `unpack` has a circuit of two digits, and `gaps` a time of six.
+pub fn circuits_and_times_of_digits()
+    ensures { DigitWords }
 {}
 
 /// All other lists are no command.

@@ -1,0 +1,157 @@
+-- A checkpoint as it is read: its first bytes, its bulletins and its circuits.
+use Rattle.std.proofs.Common.{◌≡◌, ℕ, zero, suc, ◌+◌, ◌^◌, ◌<◌, ◌≤◌, List, [], ◌∷◌, ◌++◌, length, map, take, drop, flat_map, refl, sym, ap, ◌∙◌, arith, take-append-drop, append_assoc}
+use Rattle.std.specs.List.{AllByRecursion}
+use Rattle.std.proofs.lemmas.List.{length-map}
+use Rattle.gts_event.specs.State.{Bulletin}
+use Rattle.gts_event.specs.Need as needs
+use Rattle.gts_event.specs.Items.{bulletin_of, circuit_need_of, need_of}
+use Rattle.gts_event.specs.declared.plain.Bulletin as plain
+use Rattle.gts_event.specs.declared.plain.CircuitNeed as plain_circuit
+use Rattle.gts_event.specs.declared.plain.Need.{Need}
+use Rattle.gts_record.specs.Record.{bytes_of, number_in}
+use Rattle.gts_record.proofs.LawLemmas.{number_in-bytes_of}
+use Rattle.gts_opening.specs.Journal.{bulletin_text, circuit_text, checkpoint_text, compacted_bytes, unowed, unowed_circuit, FitsBulletin, FitsCircuit, FitsNeed}
+use Rattle.gts_checkpoint.specs.Writing.{head_text, written_bulletin, written_circuit}
+use Rattle.gts_checkpoint.specs.Reading.{BeginsWith, FitBodies, FitsPlain, FitsPlainCircuit}
+use Rattle.gts_checkpoint.proofs.PieceLemmas.{cancel_front, same_bulletin, fits_plain}
+use Rattle.gts_checkpoint.proofs.NeedLemmas.{need_text, need_size}
+
+take_whole : (n : ℕ) (xs : List ℕ) → length xs ≡ n → take n xs ≡ xs
+take_whole zero [] long = refl
+take_whole zero (x ∷ xs) long = absurd (omega arith)
+take_whole (suc n) [] long = refl
+take_whole (suc n) (x ∷ xs) long = ap (λ (l : List ℕ). x ∷ l) (take_whole n xs (omega arith))
+
+pub front_stands : (bytes : List ℕ) (circuits accepted bulletins : ℕ) → length (drop 8 (drop 4 (drop 4 bytes))) ≡ 4 → take 4 bytes ≡ 67 ∷ 0 ∷ 0 ∷ 0 ∷ []
+    → take 4 (drop 4 bytes) ≡ bytes_of 4 circuits → take 8 (drop 4 (drop 4 bytes)) ≡ bytes_of 8 accepted → take 4 (drop 8 (drop 4 (drop 4 bytes))) ≡ bytes_of 4 bulletins
+    → bytes ≡ head_text circuits accepted bulletins
+front_stands bytes circuits accepted bulletins long l c a b =
+    let first : List ℕ = drop 4 bytes in
+    let second : List ℕ = drop 4 first in
+    let third : List ℕ = drop 8 second in
+    let last : third ≡ bytes_of 4 bulletins = sym (take_whole 4 third long) ∙ b in
+    let more : second ≡ bytes_of 8 accepted ++ bytes_of 4 bulletins = sym (take-append-drop 8 second) ∙ (λ i. a i ++ last i) in
+    let rest : first ≡ bytes_of 4 circuits ++ (bytes_of 8 accepted ++ bytes_of 4 bulletins) = sym (take-append-drop 4 first) ∙ (λ i. c i ++ more i) in
+    sym (take-append-drop 4 bytes) ∙ (λ i. l i ++ rest i)
+
+-- ---- a text that stands there is that of a need
+
+same_number : (w m n : ℕ) → m < 256 ^ w → n < 256 ^ w → bytes_of w m ≡ bytes_of w n → m ≡ n
+same_number w m n low high same = sym (number_in-bytes_of w m low) ∙ ap number_in same ∙ number_in-bytes_of w n high
+
+record SameFront (circuits bulletins : ℕ) (m : needs.Need) (rest more : List ℕ) : Type 0 where
+  pub circuits_are : circuits ≡ length m.circuits
+  pub bulletins_are : bulletins ≡ length m.bulletins
+  pub behind_it : rest ≡ flat_map bulletin_text m.bulletins ++ (flat_map circuit_text m.circuits ++ more)
+
+-- the front of a need whose checkpoint stands there
+same_front : (bytes head rest : List ℕ) (circuits accepted bulletins : ℕ) (m : needs.Need) → bytes ≡ head ++ rest → head ≡ head_text circuits accepted bulletins → circuits < 2 ^ 32 → bulletins < 2 ^ 32
+    → FitsNeed m → (begins : BeginsWith bytes (checkpoint_text m)) → SameFront circuits bulletins m rest begins.0
+same_front bytes head rest circuits accepted bulletins m stands is low high fits begins =
+    let k : ℕ = length m.circuits in
+    let n : ℕ = length m.bulletins in
+    let h : List ℕ = head_text k m.accepted n in
+    let bs : List ℕ = flat_map bulletin_text m.bulletins in
+    let cs : List ℕ = flat_map circuit_text m.circuits in
+    let split : (h ++ bs ++ cs) ++ begins.0 ≡ h ++ (bs ++ (cs ++ begins.0)) =
+    append_assoc (h ++ bs) cs begins.0 ∙ append_assoc h bs (cs ++ begins.0) in
+    let both = cancel_front head h rest (bs ++ (cs ++ begins.0)) (ap (λ (l : List ℕ). length l) is) (sym stands ∙ begins.1 ∙ split) in
+    let heads : head_text circuits accepted bulletins ≡ h = sym is ∙ both.0 in
+    let four = cancel_front (67 ∷ 0 ∷ 0 ∷ 0 ∷ bytes_of 4 circuits) (67 ∷ 0 ∷ 0 ∷ 0 ∷ bytes_of 4 k) (bytes_of 8 accepted ++ bytes_of 4 bulletins) (bytes_of 8 m.accepted ++ bytes_of 4 n) refl heads in
+    let c = cancel_front (67 ∷ 0 ∷ 0 ∷ 0 ∷ []) (67 ∷ 0 ∷ 0 ∷ 0 ∷ []) (bytes_of 4 circuits) (bytes_of 4 k) refl four.0 in
+    let b = cancel_front (bytes_of 8 accepted) (bytes_of 8 m.accepted) (bytes_of 4 bulletins) (bytes_of 4 n) refl four.1 in
+    record {
+      circuits_are = same_number 4 circuits k (omega (arith, low)) fits.few_circuits c.1;
+      bulletins_are = same_number 4 bulletins n (omega (arith, high)) fits.few_bulletins b.1;
+      behind_it = both.1;
+    }
+
+-- a checkpoint begins with a front
+pub no_front : (bytes head : List ℕ) (m : needs.Need) → BeginsWith bytes head → length head ≡ 20 → ((circuits accepted bulletins : ℕ) → head ≡ head_text circuits accepted bulletins → ⊥)
+    → BeginsWith bytes (checkpoint_text m) → ⊥
+no_front bytes head m stands long none begins =
+    let h : List ℕ = head_text (length m.circuits) m.accepted (length m.bulletins) in
+    let bs : List ℕ = flat_map bulletin_text m.bulletins in
+    let cs : List ℕ = flat_map circuit_text m.circuits in
+    let split : (h ++ bs ++ cs) ++ begins.0 ≡ h ++ (bs ++ (cs ++ begins.0)) = append_assoc (h ++ bs) cs begins.0 ∙ append_assoc h bs (cs ++ begins.0) in
+    none (length m.circuits) m.accepted (length m.bulletins)
+    (cancel_front head h stands.0 (bs ++ (cs ++ begins.0)) long (sym stands.1 ∙ begins.1 ∙ split)).0
+
+-- it is for as many circuits as its front says
+pub other_count : (bytes head : List ℕ) (circuits accepted bulletins count : ℕ) (m : needs.Need) → BeginsWith bytes head → head ≡ head_text circuits accepted bulletins → circuits < 2 ^ 32 → bulletins < 2 ^ 32
+    → (circuits ≡ count → ⊥) → FitsNeed m → length m.circuits ≡ count → BeginsWith bytes (checkpoint_text m) → ⊥
+other_count bytes head circuits accepted bulletins count m stands is low high other fits size begins =
+    other ((same_front bytes head stands.0 circuits accepted bulletins m stands.1 is low high fits begins).circuits_are ∙ size)
+
+-- without bulletins behind the front there is none
+pub no_bulletins : (bytes head : List ℕ) (circuits accepted bulletins : ℕ) (m : needs.Need) → (stands : BeginsWith bytes head) → head ≡ head_text circuits accepted bulletins → circuits < 2 ^ 32 → bulletins < 2 ^ 32
+    → ((bs : List Bulletin) → length bs ≡ bulletins → FitBodies bs → BeginsWith stands.0 (flat_map bulletin_text bs) → ⊥) → FitsNeed m → FitBodies m.bulletins → BeginsWith bytes (checkpoint_text m) → ⊥
+no_bulletins bytes head circuits accepted bulletins m stands is low high none fits bodies begins =
+    let s = same_front bytes head stands.0 circuits accepted bulletins m stands.1 is low high fits begins in
+    none m.bulletins (sym s.bulletins_are) bodies (flat_map circuit_text m.circuits ++ begins.0, s.behind_it)
+
+-- bulletins that stand at one front, as many, have one text
+same_bulletins : (xs : List plain.Bulletin) (ys : List Bulletin) (rest more : List ℕ) → length xs ≡ length ys → AllByRecursion FitsPlain xs → FitBodies ys
+    → flat_map written_bulletin xs ++ rest ≡ flat_map bulletin_text ys ++ more → rest ≡ more
+same_bulletins [] [] rest more long good fit same = same
+same_bulletins [] (y ∷ ys) rest more long good fit same = absurd (omega arith)
+same_bulletins (x ∷ xs) [] rest more long good fit same = absurd (omega arith)
+same_bulletins (x ∷ xs) (y ∷ ys) rest more long good fit same =
+    let split : written_bulletin x ++ (flat_map written_bulletin xs ++ rest) ≡ bulletin_text y ++ (flat_map bulletin_text ys ++ more) =
+    sym (append_assoc (written_bulletin x) (flat_map written_bulletin xs) rest) ∙ same ∙ append_assoc (bulletin_text y) (flat_map bulletin_text ys) more in
+    let one : written_bulletin x ≡ bulletin_text y = same_bulletin x y (flat_map written_bulletin xs ++ rest) (flat_map bulletin_text ys ++ more) good.0 fit.0 split in
+    same_bulletins xs ys rest more (omega (arith, long)) good.1 fit.1
+    (cancel_front (written_bulletin x) (bulletin_text y) (flat_map written_bulletin xs ++ rest) (flat_map bulletin_text ys ++ more) (ap (λ (l : List ℕ). length l) one) split).1
+
+-- without circuits behind the bulletins there is none
+pub no_circuits : (bytes head : List ℕ) (circuits accepted : ℕ) (xs : List plain.Bulletin) (m : needs.Need) → (stands : BeginsWith bytes head) → head ≡ head_text circuits accepted (length xs) → circuits < 2 ^ 32 → length xs < 2 ^ 32
+    → (second : BeginsWith stands.0 (flat_map written_bulletin xs)) → AllByRecursion FitsPlain xs
+    → ((cs : List needs.CircuitNeed) → length cs ≡ circuits → AllByRecursion FitsCircuit cs → BeginsWith second.0 (flat_map circuit_text cs) → ⊥) → FitsNeed m → FitBodies m.bulletins → BeginsWith bytes (checkpoint_text m) → ⊥
+no_circuits bytes head circuits accepted xs m stands is low high second good none fits bodies begins =
+    let s = same_front bytes head stands.0 circuits accepted (length xs) m stands.1 is low high fits begins in
+    let rest : second.0 ≡ flat_map circuit_text m.circuits ++ begins.0 =
+    same_bulletins xs m.bulletins second.0 (flat_map circuit_text m.circuits ++ begins.0) s.bulletins_are good bodies (sym second.1 ∙ s.behind_it) in
+    none m.circuits (sym s.circuits_are) fits.circuits (begins.0, rest)
+
+-- ---- what was found
+
+all_fit : (xs : List plain.Bulletin) → AllByRecursion FitsPlain xs → AllByRecursion FitsBulletin (map bulletin_of xs)
+all_fit [] good = tt
+all_fit (x ∷ xs) good = ((omega (arith, good.0.0), omega (arith, good.0.1)), all_fit xs good.1)
+
+all_circuits_fit : (cs : List plain_circuit.CircuitNeed) → AllByRecursion FitsPlainCircuit cs → AllByRecursion FitsCircuit (map circuit_need_of cs)
+all_circuits_fit [] good = tt
+all_circuits_fit (c ∷ cs) good = (fits_plain c good.0, all_circuits_fit cs good.1)
+
+pub need_fits : (n : Need) → n.accepted < 2 ^ 64 → length n.bulletins < 2 ^ 32 → length n.circuits ≤ 64 → AllByRecursion FitsPlain n.bulletins → AllByRecursion FitsPlainCircuit n.circuits → FitsNeed (need_of n)
+need_fits n low few_bulletins few_circuits bulletins circuits = record {
+  accepted = omega (arith, low);
+  few_bulletins = omega (arith, few_bulletins, length-map n.bulletins bulletin_of);
+  few_circuits = omega (arith, few_circuits, length-map n.circuits circuit_need_of);
+  bulletins = all_fit n.bulletins bulletins;
+  circuits = all_circuits_fit n.circuits circuits;
+}
+
+unowed_all : (cs : List plain_circuit.CircuitNeed) → AllByRecursion FitsPlainCircuit cs → map unowed_circuit (map circuit_need_of cs) ≡ map circuit_need_of cs
+unowed_all [] good = refl
+unowed_all (c ∷ cs) good =
+    ap (λ (o : List ℕ). (let q : needs.CircuitNeed = record { draws = c.draws; waiting = c.waiting; kept = c.kept; owed = o } in q) ∷ map unowed_circuit (map circuit_need_of cs)) (sym good.0.5)
+    ∙ ap (λ (l : List needs.CircuitNeed). circuit_need_of c ∷ l) (unowed_all cs good.1)
+
+pub need_unowed : (n : Need) → AllByRecursion FitsPlainCircuit n.circuits → unowed (need_of n) ≡ need_of n
+need_unowed n good = ap (λ (cs : List needs.CircuitNeed). let m : needs.Need = record { accepted = n.accepted; bulletins = map bulletin_of n.bulletins; circuits = cs } in m) (unowed_all n.circuits good)
+
+pub need_stands : (bytes head : List ℕ) (n : Need) → (stands : BeginsWith bytes head) → head ≡ head_text (length n.circuits) n.accepted (length n.bulletins)
+    → (second : BeginsWith stands.0 (flat_map written_bulletin n.bulletins)) → BeginsWith second.0 (flat_map written_circuit n.circuits) → BeginsWith bytes (checkpoint_text (need_of n))
+need_stands bytes head n stands is second third =
+    let h : List ℕ = head_text (length n.circuits) n.accepted (length n.bulletins) in
+    let bs : List ℕ = flat_map written_bulletin n.bulletins in
+    let cs : List ℕ = flat_map written_circuit n.circuits in (
+      third.0,
+      stands.1 ∙ ap (λ (l : List ℕ). l ++ stands.0) is ∙ ap (λ (l : List ℕ). h ++ l) (second.1 ∙ ap (λ (l : List ℕ). bs ++ l) third.1)
+          ∙ sym (append_assoc h bs (cs ++ third.0)) ∙ sym (append_assoc (h ++ bs) cs third.0) ∙ ap (λ (l : List ℕ). l ++ third.0) (need_text n),
+    )
+
+pub gate_behind : (n : Need) (at behind_bulletins : ℕ) → behind_bulletins ≡ 41 + 20 + length (flat_map written_bulletin n.bulletins) → at ≡ behind_bulletins + length (flat_map written_circuit n.circuits)
+    → at ≡ 41 + length (checkpoint_text (need_of n))
+gate_behind n at behind_bulletins first second = omega (arith, need_size n, first, second)

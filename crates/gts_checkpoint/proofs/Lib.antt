@@ -1,0 +1,7 @@
+pub mod AloneLemmas
+pub mod PenLemmas
+pub mod PieceLemmas
+pub mod NeedLemmas
+pub mod FrontLemmas
+pub mod ReadLemmas
+pub mod SealLemmas

@@ -1,0 +1,120 @@
+-- A need as it is written.
+use Rattle.std.proofs.Common.{◌≡◌, ℕ, ◌+◌, ◌*◌, ◌^◌, ◌<◌, ◌≤◌, List, [], ◌∷◌, ◌++◌, Bool, cond, take, length, map, flat_map, refl, sym, ap, subst, ◌∙◌, append_assoc, length-append, arith}
+use Rattle.std.specs.List.{AllByRecursion}
+use Rattle.std.proofs.lemmas.List.{append-nil, length-map}
+use Rattle.std.specs.Prelude.{Result, Ok, Err, OnOk}
+use Rattle.std.proofs.lemmas.Bool.{eq-eqb}
+use Rattle.gts_traits.specs.Station.{Cuts, Syncs, Writes, Call, Did, overwritten, seen, IsSynced, Tries}
+use Rattle.gts_event.specs.Need as needs
+use Rattle.gts_event.specs.Items.{bulletin_of, circuit_need_of, need_of}
+use Rattle.gts_event.specs.declared.plain.Bulletin.{Bulletin}
+use Rattle.gts_event.specs.declared.plain.CircuitNeed.{CircuitNeed}
+use Rattle.gts_event.specs.declared.plain.Need.{Need}
+use Rattle.gts_record.specs.Record.{open_gate, closed_gate, bytes_of}
+use Rattle.gts_record.specs.Format.{magic, sealed, first_seal, file_text, written}
+use Rattle.gts_opening.specs.Journal.{bulletin_text, circuit_text, checkpoint_text, compacted_bytes}
+use Rattle.gts_checkpoint.specs.Writing.{FitsByte, FitBytes, CanPutBulletin, CanPutCircuit, head_text, bulletin_head, written_bulletin, written_circuit, header_text, sealed_need, checkpoint_file, HasWritten}
+use Rattle.gts_checkpoint.specs.Pen.{Pen, put_by, HasPut}
+use Rattle.gts_checkpoint.proofs.PenLemmas.{written_end}
+use Rattle.gts_checkpoint.proofs.PieceLemmas.{head_long, numbers_long}
+
+flat_of : {A B : Type 0} (f : B → List ℕ) (g : A → B) (xs : List A) → flat_map (λ x. f (g x)) xs ≡ flat_map f (map g xs)
+flat_of f g [] = refl
+flat_of f g (x ∷ xs) = ap (λ (l : List ℕ). f (g x) ++ l) (flat_of f g xs)
+
+-- the pieces of a need are its checkpoint
+pub need_text : (n : Need) → head_text (length n.circuits) n.accepted (length n.bulletins) ++ flat_map written_bulletin n.bulletins ++ flat_map written_circuit n.circuits ≡ checkpoint_text (need_of n)
+need_text n =
+    let b : List ℕ = flat_map bulletin_text (map bulletin_of n.bulletins) in
+    let c : List ℕ = flat_map circuit_text (map circuit_need_of n.circuits) in
+    ap (λ (l : List ℕ). head_text (length n.circuits) n.accepted (length n.bulletins) ++ l ++ flat_map written_circuit n.circuits) (flat_of bulletin_text bulletin_of n.bulletins)
+    ∙ ap (λ (l : List ℕ). head_text (length n.circuits) n.accepted (length n.bulletins) ++ b ++ l) (flat_of circuit_text circuit_need_of n.circuits)
+    ∙ ap (λ (k : ℕ). head_text k n.accepted (length n.bulletins) ++ b ++ c) (sym (length-map n.circuits circuit_need_of))
+    ∙ ap (λ (k : ℕ). head_text (length (map circuit_need_of n.circuits)) n.accepted k ++ b ++ c) (sym (length-map n.bulletins bulletin_of))
+
+-- ---- what is written is longer than what is in it
+
+pub body_within : (b : Bulletin) → 16 + length b.body ≡ length (written_bulletin b)
+body_within b =
+    let h : List ℕ = bulletin_head b.position b.from b.kind (length b.body) in
+    let long : length h ≡ 16 = head_long b.position b.from b.kind (length b.body) in
+    let e : length (h ++ b.body) ≡ 16 + length b.body = omega (arith, length-append h b.body, long) in sym e
+
+pub lists_within : (c : CircuitNeed) → 16 + 8 * (length c.waiting + length c.kept) ≡ length (written_circuit c)
+lists_within c =
+    let t : List ℕ = flat_map (bytes_of 8) (c.waiting ++ c.kept) in
+    let e : 16 + 8 * (length c.waiting + length c.kept) ≡ 16 + length t = omega (arith, numbers_long (c.waiting ++ c.kept), length-append c.waiting c.kept) in
+    let f : 16 + length t ≡ length (written_circuit c) = omega arith in e ∙ f
+
+pub many_bulletins : (bs : List Bulletin) → 16 * length bs ≤ length (flat_map written_bulletin bs)
+many_bulletins [] = omega arith
+many_bulletins (b ∷ bs) = omega (arith, length-append (written_bulletin b) (flat_map written_bulletin bs), body_within b, many_bulletins bs)
+
+pub many_circuits : (cs : List CircuitNeed) → 16 * length cs ≤ length (flat_map written_circuit cs)
+many_circuits [] = omega arith
+many_circuits (c ∷ cs) = omega (arith, length-append (written_circuit c) (flat_map written_circuit cs), lists_within c, many_circuits cs)
+
+pub can_put_bulletins : (bs : List Bulletin) → AllByRecursion FitsByte (map bulletin_of bs) → length (flat_map written_bulletin bs) < 2 ^ 32 → AllByRecursion CanPutBulletin bs
+can_put_bulletins [] fits few = tt
+can_put_bulletins (b ∷ bs) fits few =
+    let size = length-append (written_bulletin b) (flat_map written_bulletin bs) in
+    ((fits.0, omega (arith, size, body_within b, few)), can_put_bulletins bs fits.1 (omega (arith, size, few)))
+
+pub can_put_circuits : (cs : List CircuitNeed) → length (flat_map written_circuit cs) < 2 ^ 32 → AllByRecursion CanPutCircuit cs
+can_put_circuits [] few = tt
+can_put_circuits (c ∷ cs) few =
+    let size = length-append (written_circuit c) (flat_map written_circuit cs) in
+    ((omega (arith, size, lists_within c, few), omega (arith, size, lists_within c, few)), can_put_circuits cs (omega (arith, size, few)))
+
+-- how the parts of a checkpoint's size come together
+pub need_size : (n : Need) → 20 + length (flat_map written_bulletin n.bulletins) + length (flat_map written_circuit n.circuits) ≡ length (checkpoint_text (need_of n))
+need_size n =
+    let h : List ℕ = head_text (length n.circuits) n.accepted (length n.bulletins) in
+    let b : List ℕ = flat_map written_bulletin n.bulletins in
+    let c : List ℕ = flat_map written_circuit n.circuits in
+    let long : length h ≡ 20 = refl in
+    let e : 20 + length b + length c ≡ length ((h ++ b) ++ c) = omega (arith, long, length-append h b, length-append (h ++ b) c) in
+    e ∙ ap (λ (l : List ℕ). length l) (need_text n)
+
+-- ---- the whole file
+
+pub file_is : (mark : List ℕ) (n : needs.Need) → header_text mark ++ (sealed_need mark n ++ (closed_gate ∷ [])) ≡ checkpoint_file mark n
+file_is mark n =
+    let m : List ℕ = magic written in
+    let s : List ℕ = sealed_need mark n in
+    let c : List ℕ = closed_gate ∷ [] in
+    ap (λ (l : List ℕ). l ++ (s ++ c)) (sym (append_assoc m mark (open_gate ∷ [])))
+    ∙ append_assoc (m ++ mark) (open_gate ∷ []) (s ++ c)
+    ∙ sym (append_assoc (m ++ mark) (open_gate ∷ s) c)
+    ∙ ap (λ (l : List ℕ). ((m ++ mark) ++ (open_gate ∷ l)) ++ c) (sym (append-nil s))
+
+-- what was put behind what a file has is what it has then, where nothing is held
+pub file_has : (text : List ℕ) (old new : List Call) (pen next : Pen) → pen.held ≡ [] → next.held ≡ [] → next.file ≡ pen.file → put_by new next ≡ put_by old pen ++ text
+    → seen new pen.file ≡ seen old pen.file ++ text
+file_has text old new pen next held none in_file put =
+    sym (append-nil (seen new pen.file))
+    ∙ ap (λ (l : List ℕ). seen new pen.file ++ l) (sym none)
+    ∙ ap (λ (k : ℕ). seen new k ++ next.held) (sym in_file)
+    ∙ put
+    ∙ ap (λ (l : List ℕ). (seen old pen.file ++ l) ++ text) held
+    ∙ ap (λ (l : List ℕ). l ++ text) (append-nil (seen old pen.file))
+
+-- ---- cut before, and synced behind
+
+pub cut_empty : (file : ℕ) (old mid new : List Call) → mid ≡ Did (Cuts file 0) ∷ old → new ≡ Did Syncs ∷ mid → seen new file ≡ []
+cut_empty file old mid new first second =
+    ap (λ (l : List Call). seen l file) (second ∙ ap (λ (l : List Call). Did Syncs ∷ l) first)
+    ∙ ap (λ (b : Bool). cond b (take 0 (seen old file)) (seen old file)) (eq-eqb file file refl)
+
+pub wrote_front : (file : ℕ) (text : List ℕ) (old new : List Call) → new ≡ Did (Writes file 0 text) ∷ old → seen old file ≡ [] → seen new file ≡ text
+wrote_front file text old new is none =
+    ap (λ (l : List Call). seen l file) is
+    ∙ ap (λ (b : Bool). cond b (overwritten (seen old file) 0 text) (seen old file)) (eq-eqb file file refl)
+    ∙ ap (λ (l : List ℕ). overwritten l 0 text) none
+    ∙ written_end [] text
+
+pub has_written : (mark : List ℕ) (n : needs.Need) (file : ℕ) (mid new : List Call) → new ≡ Did Syncs ∷ mid → seen mid file ≡ checkpoint_file mark n → HasWritten mark n file new
+has_written mark n file mid new is text = record {
+  text = ap (λ (l : List Call). seen l file) is ∙ text;
+  synced = λ k. let P : List Call → Type 0 = λ l. IsSynced l k in subst P (sym is) (record { same = refl; untouched = λ p. refl });
+}

@@ -1,0 +1,75 @@
+-- The file that a checkpoint is written to.
+use Rattle.std.specs.Prelude.{◌≡◌, ◌<◌, ◌^◌, ℕ, List, [], ◌∷◌, ◌++◌, length, take, codes}
+use Rattle.std.specs.List.{AllByRecursion}
+use Rattle.gts_traits.specs.Station.{Call, seen, IsSynced}
+use Rattle.gts_frame.specs.declared.kind.Kind.{Kind}
+use Rattle.gts_frame.specs.Frame.{letters}
+use Rattle.gts_event.specs.State.{Bulletin}
+use Rattle.gts_event.specs.declared.plain.Bulletin as plain
+use Rattle.gts_event.specs.declared.plain.CircuitNeed as plain_circuit
+use Rattle.gts_event.specs.Items.{bulletin_of, circuit_need_of}
+use Rattle.gts_event.specs.Need.{Need}
+use Rattle.gts_record.specs.Record.{open_gate, closed_gate, bytes_of}
+use Rattle.gts_record.specs.Format.{magic, seal, sealed, first_seal, file_text, written}
+use Rattle.gts_opening.specs.Journal.{bulletin_text, circuit_text, checkpoint_text}
+
+-- a journal that is a checkpoint alone: the checkpoint of this need with its seal behind an open gate, and a closed gate
+abbrev pub checkpoint_file : List ℕ → Need → List ℕ
+checkpoint_file mark n = file_text written mark (checkpoint_text n ∷ []) [] (closed_gate ∷ [])
+
+-- what stands in front of a checkpoint: the magic, the mark and an open gate
+abbrev pub header_text : List ℕ → List ℕ
+header_text mark = magic written ++ (mark ++ open_gate ∷ [])
+
+-- a checkpoint with its seal, where the seal of the header stands before it
+abbrev pub sealed_need : List ℕ → Need → List ℕ
+sealed_need mark n = sealed written (first_seal written mark) (checkpoint_text n)
+
+-- the seal of a checkpoint
+abbrev pub need_seal : List ℕ → Need → List ℕ
+need_seal mark n = seal written (first_seal written mark) (checkpoint_text n)
+
+-- the circuit that a bulletin came in on fits a byte
+abbrev pub FitsByte : Bulletin → Type 0
+FitsByte b = b.from < 256
+
+-- each of a need's
+abbrev pub FitBytes : Need → Type 0
+FitBytes n = AllByRecursion FitsByte n.bulletins
+
+-- the checkpoint stands in the file, and all files are synced
+pub record HasWritten (mark : List ℕ) (n : Need) (file : ℕ) (calls : List Call) : Type 0 where
+  pub text : seen calls file ≡ checkpoint_file mark n
+  pub synced : (k : ℕ) → IsSynced calls k
+
+-- ---- the pieces in which a checkpoint is written
+
+-- its first bytes, up to the bulletins
+abbrev pub head_text : ℕ → ℕ → ℕ → List ℕ
+head_text circuits accepted bulletins = codes "C" ++ 0 ∷ 0 ∷ 0 ∷ bytes_of 4 circuits ++ bytes_of 8 accepted ++ bytes_of 4 bulletins
+
+-- the letter of a type
+abbrev pub letter_text : Kind → List ℕ
+letter_text kind = take 1 (letters kind)
+
+-- what stands in front of a body
+abbrev pub bulletin_head : ℕ → ℕ → Kind → ℕ → List ℕ
+bulletin_head position from kind size = bytes_of 8 position ++ from ∷ letter_text kind ++ 0 ∷ 0 ∷ bytes_of 4 size
+
+-- what stands in front of a circuit's positions
+abbrev pub circuit_head : ℕ → ℕ → ℕ → List ℕ
+circuit_head draws waiting kept = bytes_of 8 draws ++ bytes_of 4 waiting ++ bytes_of 4 kept
+
+-- a bulletin, and what is needed of a circuit, as they are written
+abbrev pub written_bulletin : plain.Bulletin → List ℕ
+written_bulletin b = bulletin_text (bulletin_of b)
+
+abbrev pub written_circuit : plain_circuit.CircuitNeed → List ℕ
+written_circuit c = circuit_text (circuit_need_of c)
+
+-- their numbers fit the bytes that they have
+abbrev pub CanPutBulletin : plain.Bulletin → Type 0
+CanPutBulletin b = (b.from < 256) × (length b.body < 2 ^ 32)
+
+abbrev pub CanPutCircuit : plain_circuit.CircuitNeed → Type 0
+CanPutCircuit c = (length c.waiting < 2 ^ 32) × (length c.kept < 2 ^ 32)

@@ -1,0 +1,252 @@
+//! The pieces of a checkpoint, read from a place of a file on.
+ghost use Rattle.std.specs.Prelude.{◌≡◌, ◌+◌, ◌*◌, ◌^◌, ◌<◌, ◌≤◌, true, false, length, IfOk, IfErr, IfSome, IfNone, IsSome, Ok, IsErrOf, vec_len};
+ghost use Rattle.gts_alphabet.specs.declared.limits.TheConstants.{LONGEST_BODY as longest_body};
+ghost use Rattle.gts_traits.specs.{HasCause, Rose};
+ghost use Rattle.gts_record.specs.Record.{kind_of};
+ghost use Rattle.gts_checkpoint.specs.Writing.{bulletin_head, circuit_head};
+ghost use Rattle.gts_checkpoint.specs.Reading.{bytes_from, BeginsWith, IsNoHead, FindsBytes, FindsNumbers, FindsBulletin, FindsCircuit, ArePlaces, FitsPlainCircuit, IsReadFault};
+
+use crate::numbers::{number_in_eight, number_in_four};
+use gts_alphabet::LONGEST_BODY;
+use gts_event::{Bulletin, Bytes, CircuitNeed, Items, Places};
+use gts_frame::Kind;
+use gts_record::OpenFault;
+use gts_traits::{Failed, Station};
+use std::alloc::{AllocError, Global};
+
+/// Reads as many bytes of a file as there is room for, from a place on: false where fewer are there.
+pub(crate) fn fetch<P: Station>(
+    station: &mut P,
+    file: u32,
+    at: u64,
+    into: &mut [u8],
+) -> Result<bool, Failed>
+    requires { file < 3 }
+    ensures whole { P.tells → result ≡ Ok true
+        → BeginsWith (bytes_from (P.calls station.old) file at) into.new }
+    ensures short { P.tells → result ≡ Ok false
+        → length (bytes_from (P.calls station.old) file at) < length into.old }
+    ensures told { P.tells → P.calls station.new ≡ P.calls station.old }
+    ensures cause { HasCause result (P.disk_faults station.old) (P.disk_faults station.new) }
+    ensures say { P.say_faults station.new ≡ P.say_faults station.old }
+{
+    let count = station.read(file, at, into)?;
+    Ok(count == into.len())
+}
+
+// The type of frame that a letter stands for.
+fn read_kind(letter: u8) -> Option<Kind>
+    ensures { result ≡ kind_of letter }
+{
+    match letter {
+        b'A' => Some(Kind::An),
+        b'B' => Some(Kind::Bi),
+        b'F' => Some(Kind::Fx),
+        _ => None,
+    }
+}
+
+/// What stands in front of a body.
+#[derive(Clone, Copy)]
+struct Head {
+    position: u64,
+    from: u8,
+    kind: Kind,
+    size: u32,
+}
+
+// The head of a bulletin, whose body isn't too long.
+fn head_in(bytes: &[u8]) -> Option<Head>
+    requires { length bytes.now ≡ 16 }
+    ensures found { IfSome result
+        (λ h. bytes.now ≡ bulletin_head h.position h.from h.kind h.size) }
+    ensures short { IfSome result (λ h. h.size ≤ longest_body) }
+    ensures none { IfNone result (IsNoHead bytes.now) }
+{
+    let (position, rest) = bytes.split_first_chunk::<8>()?;
+    let (letters, rest) = rest.split_first_chunk::<4>()?;
+    let [from, letter, 0, 0] = *letters else {
+        return None;
+    };
+    let kind = read_kind(letter)?;
+    let (size, _) = rest.split_first_chunk::<4>()?;
+    let size = number_in_four(size);
+    if size as usize > LONGEST_BODY {
+        return None;
+    }
+    Some(Head {
+        position: number_in_eight(position),
+        from,
+        kind,
+        size,
+    })
+}
+
+// So many zero bytes.
+fn zeros(alloc: Global, size: usize) -> Result<Vec<u8>, AllocError>
+    ensures { IfOk result (λ bytes. vec_len bytes ≡ size) }
+{
+    vec![in alloc; 0u8; size]
+}
+
+// A body of so many bytes.
+pub(crate) fn body_at<P: Station>(
+    alloc: Global,
+    station: &mut P,
+    file: u32,
+    at: u64,
+    size: u32,
+) -> Result<Option<Bytes>, OpenFault>
+    requires file { file < 3 }
+    ensures found { P.tells → IfOk result
+        (FindsBytes (bytes_from (P.calls station.old) file at) size) }
+    ensures size { IfOk result (λ found. IfSome found (λ body. length body ≡ size)) }
+    ensures told { P.tells → P.calls station.new ≡ P.calls station.old }
+    ensures kind { IfErr result IsReadFault }
+    ensures disk_fault { IsErrOf result OpenFault.DiskFault
+        → Rose (P.disk_faults station.old) (P.disk_faults station.new) }
+    ensures later { P.disk_faults station.old ≤ P.disk_faults station.new }
+    ensures say { P.say_faults station.new ≡ P.say_faults station.old }
+{
+    let mut body = zeros(alloc, size as usize)?;
+    if fetch(station, file, at, &mut body)? {
+        Ok(Some(Items::from_vec(body)))
+    } else {
+        Ok(None)
+    }
+}
+
+/// The bulletin that stands in a file at a place, if one does whose body isn't too long.
+pub(crate) fn bulletin_at<P: Station>(
+    alloc: Global,
+    station: &mut P,
+    file: u32,
+    at: u64,
+) -> Result<Option<Bulletin>, OpenFault>
+    requires file { file < 3 }
+    requires place { at < 2 ^ 62 }
+    ensures found { P.tells → IfOk result
+        (FindsBulletin (bytes_from (P.calls station.old) file at)) }
+    ensures short { IfOk result (λ found. IfSome found (λ b. (b.position < 2 ^ 64)
+        × (length b.body ≤ longest_body))) }
+    ensures told { P.tells → P.calls station.new ≡ P.calls station.old }
+    ensures kind { IfErr result IsReadFault }
+    ensures disk_fault { IsErrOf result OpenFault.DiskFault
+        → Rose (P.disk_faults station.old) (P.disk_faults station.new) }
+    ensures later { P.disk_faults station.old ≤ P.disk_faults station.new }
+    ensures say { P.say_faults station.new ≡ P.say_faults station.old }
+{
+    let mut bytes = [0u8; 16];
+    if !fetch(station, file, at, &mut bytes)? {
+        return Ok(None);
+    }
+    let Some(head) = head_in(&bytes) else {
+        return Ok(None);
+    };
+    let Some(body) = body_at(alloc, station, file, at + 16, head.size)? else {
+        return Ok(None);
+    };
+    Ok(Some(Bulletin {
+        position: head.position,
+        from: u32::from(head.from),
+        kind: head.kind,
+        body,
+    }))
+}
+
+/// So many positions, which stand in a file at a place.
+fn positions_at<P: Station>(
+    alloc: Global,
+    station: &mut P,
+    file: u32,
+    at: u64,
+    count: u32,
+) -> Result<Option<Places>, OpenFault>
+    requires file { file < 3 }
+    requires place { at < 2 ^ 62 }
+    ensures found { P.tells → IfOk result
+        (FindsNumbers (bytes_from (P.calls station.old) file at) count) }
+    ensures size { IfOk result (λ found. IfSome found (λ ps. length ps ≡ count)) }
+    ensures fits { IfOk result (λ found. IfSome found ArePlaces) }
+    ensures told { P.tells → P.calls station.new ≡ P.calls station.old }
+    ensures kind { IfErr result IsReadFault }
+    ensures disk_fault { IsErrOf result OpenFault.DiskFault
+        → Rose (P.disk_faults station.old) (P.disk_faults station.new) }
+    ensures later { P.disk_faults station.old ≤ P.disk_faults station.new }
+    ensures say { P.say_faults station.new ≡ P.say_faults station.old }
+{
+    let mut places = Places::new();
+    for i in 0..count {
+        let mut bytes = [0u8; 8];
+        if !fetch(station, file, at + 8 * u64::from(i), &mut bytes)? {
+            return Ok(None);
+        }
+        places.push(alloc, number_in_eight(&bytes))?;
+    }
+    Ok(Some(places))
+}
+
+/// What stands in front of the positions of a circuit.
+#[derive(Clone, Copy)]
+struct Counts {
+    draws: u64,
+    waiting: u32,
+    kept: u32,
+}
+
+// The head of a circuit.
+fn counts_in(bytes: &[u8]) -> Option<Counts>
+    requires { length bytes.now ≡ 16 }
+    ensures found { IfSome result (λ h. bytes.now ≡ circuit_head h.draws h.waiting h.kept) }
+    ensures some { IsSome result }
+{
+    let (draws, rest) = bytes.split_first_chunk::<8>()?;
+    let (waiting, rest) = rest.split_first_chunk::<4>()?;
+    let (kept, _) = rest.split_first_chunk::<4>()?;
+    Some(Counts {
+        draws: number_in_eight(draws),
+        waiting: number_in_four(waiting),
+        kept: number_in_four(kept),
+    })
+}
+
+/// What is needed of a circuit, where it stands in a file at a place.
+pub(crate) fn circuit_at<P: Station>(
+    alloc: Global,
+    station: &mut P,
+    file: u32,
+    at: u64,
+) -> Result<Option<CircuitNeed>, OpenFault>
+    requires file { file < 3 }
+    requires place { at < 2 ^ 61 }
+    ensures found { P.tells → IfOk result
+        (FindsCircuit (bytes_from (P.calls station.old) file at)) }
+    ensures fits { IfOk result (λ found. IfSome found FitsPlainCircuit) }
+    ensures told { P.tells → P.calls station.new ≡ P.calls station.old }
+    ensures kind { IfErr result IsReadFault }
+    ensures disk_fault { IsErrOf result OpenFault.DiskFault
+        → Rose (P.disk_faults station.old) (P.disk_faults station.new) }
+    ensures later { P.disk_faults station.old ≤ P.disk_faults station.new }
+    ensures say { P.say_faults station.new ≡ P.say_faults station.old }
+{
+    let mut bytes = [0u8; 16];
+    if !fetch(station, file, at, &mut bytes)? {
+        return Ok(None);
+    }
+    let Some(counts) = counts_in(&bytes) else {
+        return Ok(None);
+    };
+    let Some(waiting) = positions_at(alloc, station, file, at + 16, counts.waiting)? else {
+        return Ok(None);
+    };
+    let behind = at + 16 + 8 * u64::from(counts.waiting);
+    let Some(kept) = positions_at(alloc, station, file, behind, counts.kept)? else {
+        return Ok(None);
+    };
+    Ok(Some(CircuitNeed {
+        draws: counts.draws,
+        waiting,
+        kept,
+        owed: Places::new(),
+    }))
+}

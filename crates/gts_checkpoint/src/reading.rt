@@ -1,0 +1,197 @@
+ghost use Rattle.std.specs.Prelude.{◌≡◌, ◌+◌, ◌-◌, ◌<◌, ◌≤◌, ◌^◌, length, take, flat_map, is_some, min, IfOk, IfErr, IfSome, IfNone, IsErrOf};
+ghost use Rattle.gts_traits.specs.{Rose};
+ghost use Rattle.gts_event.specs.Items as items;
+ghost use Rattle.gts_record.specs.Format.{seal, is_sealed, held};
+ghost use Rattle.gts_opening.specs.Journal.{checkpoint_text, FitsNeed, unowed};
+ghost use Rattle.gts_checkpoint.specs.Writing.{head_text};
+ghost use Rattle.gts_checkpoint.specs.Reading.{bytes_from, HasRead, CanBegin, IsDamage, IsNoFront, FindsText, IsReadFault, first_of, waiting_of};
+
+use crate::lists::{bulletins_at, circuits_at};
+use crate::numbers::{number_in_eight, number_in_four};
+use crate::pieces::{body_at, fetch};
+use crate::sound::is_sound;
+use gts_directory::Directory;
+use gts_event::{CircuitNeed, Need};
+use gts_record::{OpenFault, Version, first_seal};
+use gts_traits::Station;
+use std::alloc::Global;
+
+/// The place of the record behind the header and the first gate.
+const FIRST_RECORD: u64 = 41;
+
+/// What stands in front of the bulletins of a checkpoint.
+#[derive(Clone, Copy)]
+struct Front {
+    circuits: u32,
+    accepted: u64,
+    bulletins: u32,
+}
+
+/// The first bytes of a checkpoint.
+fn front_in(bytes: &[u8]) -> Option<Front>
+    requires { length bytes.now ≡ 20 }
+    ensures found { IfSome result
+        (λ h. bytes.now ≡ head_text h.circuits h.accepted h.bulletins) }
+    ensures none { IfNone result (IsNoFront bytes.now) }
+{
+    let (letter, rest) = bytes.split_first_chunk::<4>()?;
+    let [b'C', 0, 0, 0] = *letter else {
+        return None;
+    };
+    let (circuits, rest) = rest.split_first_chunk::<4>()?;
+    let (accepted, rest) = rest.split_first_chunk::<8>()?;
+    let (bulletins, _) = rest.split_first_chunk::<4>()?;
+    Some(Front {
+        circuits: number_in_four(circuits),
+        accepted: number_in_eight(accepted),
+        bulletins: number_in_four(bulletins),
+    })
+}
+
+/// The need whose checkpoint stands behind the header of a file, and the place behind it: whatever its numbers mean,
+/// its bytes are those of a checkpoint for so many circuits.
+fn need_at<P: Station>(
+    alloc: Global,
+    station: &mut P,
+    file: u32,
+    circuits: u32,
+) -> Result<Option<(Need, u64)>, OpenFault>
+    requires file { file < 3 }
+    requires few { circuits ≤ 64 }
+    ensures found { P.tells → IfOk result (λ found. FindsText
+        (bytes_from (P.calls station.old) file 41) circuits (first_of found)) }
+    ensures fits { IfOk result (λ found. IfSome found (λ n. FitsNeed (items.need_of n.0))) }
+    ensures unowed { IfOk result (λ found. IfSome found
+        (λ n. unowed (items.need_of n.0) ≡ items.need_of n.0)) }
+    ensures place { IfOk result (λ found. IfSome found
+        (λ n. n.1 ≡ 41 + length (checkpoint_text (items.need_of n.0)))) }
+    ensures told { P.tells → P.calls station.new ≡ P.calls station.old }
+    ensures kind { IfErr result IsReadFault }
+    ensures disk_fault { IsErrOf result OpenFault.DiskFault
+        → Rose (P.disk_faults station.old) (P.disk_faults station.new) }
+    ensures later { P.disk_faults station.old ≤ P.disk_faults station.new }
+    ensures say { P.say_faults station.new ≡ P.say_faults station.old }
+{
+    let mut bytes = [0u8; 20];
+    if !fetch(station, file, FIRST_RECORD, &mut bytes)? {
+        return Ok(None);
+    }
+    let Some(front) = front_in(&bytes) else {
+        return Ok(None);
+    };
+    if front.circuits != circuits {
+        return Ok(None);
+    }
+    let at = FIRST_RECORD + 20;
+    let Some((bulletins, at)) = bulletins_at(alloc, station, file, at, front.bulletins)? else {
+        return Ok(None);
+    };
+    let Some((circuits, at)) = circuits_at(alloc, station, file, at, circuits)? else {
+        return Ok(None);
+    };
+    Ok(Some((
+        Need {
+            accepted: front.accepted,
+            bulletins,
+            circuits,
+        },
+        at,
+    )))
+}
+
+/// How many positions wait over all circuits, up to the greatest number.
+fn waiting(circuits: &[CircuitNeed]) -> u64
+    ensures { result ≡ min (length (flat_map waiting_of circuits.now)) (2 ^ 64 - 1) }
+{
+    let mut waiting: u64 = 0;
+    for circuit in circuits {
+        waiting = waiting.saturating_add(circuit.waiting.len());
+    }
+    waiting
+}
+
+/// The seal of the so many bytes that stand behind the header of a file, where it stands behind them.
+fn seal_at<P: Station>(
+    alloc: Global,
+    station: &mut P,
+    version: Version,
+    before: &[u8; 32],
+    file: u32,
+    size: u32,
+) -> Result<Option<[u8; 32]>, OpenFault>
+    requires file { file < 2 }
+    requires size { size ≤ 2 ^ 30 }
+    requires there { P.tells → size ≤ length (bytes_from (P.calls station.old) file 41) }
+    ensures found { P.tells → IfOk result (λ found. IfSome found (λ last. held version last
+        ≡ seal version (held version before.now)
+        (take size (bytes_from (P.calls station.old) file 41)))) }
+    ensures stands { P.tells → IfOk result (λ found. is_some found
+        ≡ is_sealed version (held version before.now)
+        (take size (bytes_from (P.calls station.old) file 41))
+        (bytes_from (P.calls station.old) file 41)) }
+    ensures told { P.tells → P.calls station.new ≡ P.calls station.old }
+    ensures kind { IfErr result IsReadFault }
+    ensures disk_fault { IsErrOf result OpenFault.DiskFault
+        → Rose (P.disk_faults station.old) (P.disk_faults station.new) }
+    ensures later { P.disk_faults station.old ≤ P.disk_faults station.new }
+    ensures say { P.say_faults station.new ≡ P.say_faults station.old }
+{
+    let count = version.seal_size();
+    let Some(bytes) = body_at(alloc, station, file, FIRST_RECORD, size + count as u32)? else {
+        return Ok(None);
+    };
+    let (text, behind) = bytes.as_slice().split_at(size as usize);
+    let seal = version.seal(before, text);
+    if !behind.starts_with(&seal[..count]) {
+        return Ok(None);
+    }
+    Ok(Some(seal))
+}
+
+/// Reads the checkpoint of a journal of this version, which stands behind the header and the first gate of a file, with its
+/// seal, and answers the need, the place of the gate behind it, and the seal.
+pub fn read<P: Station>(
+    alloc: Global,
+    station: &mut P,
+    version: Version,
+    file: u32,
+    directory: &Directory,
+) -> Result<(Need, u64, [u8; 32]), OpenFault>
+    requires { file < 2 }
+    ensures found { P.tells → IfOk result (λ found. HasRead version directory.now
+        (bytes_from (P.calls station.old) file 41) (items.need_of found.0)
+        (held version found.2)) }
+    ensures begins { IfOk result
+        (λ found. CanBegin version directory.now (items.need_of found.0) found.1) }
+
+    // Damage is answered exactly where no checkpoint stands there with its seal that may be the first record.
+    ensures fault { P.tells → IfErr result (IsDamage version directory.now file
+        (bytes_from (P.calls station.old) file 41)) }
+    ensures told { P.tells → P.calls station.new ≡ P.calls station.old }
+    ensures disk_fault { IsErrOf result OpenFault.DiskFault
+        → Rose (P.disk_faults station.old) (P.disk_faults station.new) }
+    ensures later { P.disk_faults station.old ≤ P.disk_faults station.new }
+    ensures say { P.say_faults station.new ≡ P.say_faults station.old }
+{
+    let limit = directory.limit();
+    let damage = OpenFault::Damaged {
+        file,
+        at: FIRST_RECORD,
+    };
+    let Some((need, at)) = need_at(alloc, station, file, directory.circuits())? else {
+        return Err(damage);
+    };
+    let gate = at.saturating_add(version.seal_size() as u64);
+    let due = waiting(need.circuits.as_slice());
+    let draws = due.saturating_mul(version.draw_size());
+    let wanted = draws.saturating_add(gate).saturating_add(1);
+    if !is_sound(directory, &need) || wanted > limit {
+        return Err(damage);
+    }
+    let before = first_seal(version, &directory.mark());
+    let size = (at - FIRST_RECORD) as u32;
+    let Some(seal) = seal_at(alloc, station, version, &before, file, size)? else {
+        return Err(damage);
+    };
+    Ok((need, gate, seal))
+}

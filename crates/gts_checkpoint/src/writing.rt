@@ -1,0 +1,308 @@
+ghost use Rattle.std.specs.Prelude.{◌≡◌, ◌+◌, ◌^◌, ◌<◌, ◌≤◌, [], ◌∷◌, ◌++◌, length, flat_map, IfOk, OnOk, IsErrOf};
+ghost use Rattle.std.specs.List.{AllByRecursion};
+ghost use Rattle.gts_traits.specs.{HasCause, Rose, seen};
+ghost use Rattle.gts_record.specs.Record.{closed_gate, bytes_of};
+ghost use Rattle.gts_record.specs.Format.{seal, sealed, first_seal, held, written};
+ghost use Rattle.gts_record.specs.Sealing.{Seals};
+ghost use Rattle.gts_opening.specs.Journal.{checkpoint_text, compacted_bytes};
+ghost use Rattle.gts_event.specs.Items as items;
+ghost use Rattle.gts_checkpoint.specs.Alone.{OnlyOn, WorksBeside};
+ghost use Rattle.gts_checkpoint.specs.Pen.{Stands, HasPut, count_of};
+ghost use Rattle.gts_checkpoint.specs.Writing.{FitBytes, HasWritten, need_seal, header_text, head_text, letter_text, bulletin_head, circuit_head, written_bulletin, written_circuit, CanPutBulletin, CanPutCircuit};
+
+use crate::fault::WriteFault;
+use crate::numbers::{eight_bytes, four_bytes};
+use crate::pen::Pen;
+use gts_event::{Bulletin, CircuitNeed, Need};
+use gts_frame::Kind;
+use gts_record::{Sealer, Version, first_seal};
+use gts_traits::{Failed, Station};
+use std::alloc::Global;
+
+/// How many bytes stand in front of a checkpoint.
+const HEADER: u64 = 41;
+
+/// An open gate.
+const OPEN: u8 = 0x4f;
+
+/// A closed gate, as it is written.
+const CLOSED: u8 = 0x43;
+
+/// What stands in front of a checkpoint: the magic, the mark and an open gate.
+fn header(mark: [u8; 32]) -> [u8; 41]
+    ensures { result ≡ header_text mark }
+{
+    let mut text = [OPEN; 41];
+    text[..8].copy_from_slice(&Version::written().magic());
+    text[8..40].copy_from_slice(&mark);
+    text
+}
+
+/// The first bytes of a checkpoint, up to its bulletins.
+fn head(circuits: u32, accepted: u64, bulletins: u32) -> [u8; 20]
+    ensures { result ≡ head_text circuits accepted bulletins }
+{
+    let mut text = [0u8; 20];
+    text[0] = b'C';
+    text[4..8].copy_from_slice(&four_bytes(circuits));
+    text[8..16].copy_from_slice(&eight_bytes(accepted));
+    text[16..].copy_from_slice(&four_bytes(bulletins));
+    text
+}
+
+/// The letter that stands for the type of a frame.
+fn letter_of(kind: Kind) -> u8
+    ensures { result ∷ [] ≡ letter_text kind }
+{
+    match kind {
+        Kind::An => b'A',
+        Kind::Bi => b'B',
+        Kind::Fx => b'F',
+    }
+}
+
+/// What stands in front of a body.
+fn before_body(position: u64, from: u8, kind: Kind, size: u32) -> [u8; 16]
+    ensures { result ≡ bulletin_head position from kind size }
+{
+    let mut text = [0u8; 16];
+    text[..8].copy_from_slice(&eight_bytes(position));
+    text[8] = from;
+    text[9] = letter_of(kind);
+    text[12..].copy_from_slice(&four_bytes(size));
+    text
+}
+
+/// What stands in front of the positions of a circuit.
+fn before_positions(draws: u64, waiting: u32, kept: u32) -> [u8; 16]
+    ensures { result ≡ circuit_head draws waiting kept }
+{
+    let mut text = [0u8; 16];
+    text[..8].copy_from_slice(&eight_bytes(draws));
+    text[8..12].copy_from_slice(&four_bytes(waiting));
+    text[12..].copy_from_slice(&four_bytes(kept));
+    text
+}
+
+/// Puts a bulletin.
+fn put_bulletin<P: Station>(
+    pen: &mut Pen,
+    station: &mut P,
+    bulletin: &Bulletin,
+) -> Result<(), Failed>
+    requires from { bulletin.now.from < 256 }
+    requires short { length bulletin.now.body < 2 ^ 32 }
+    requires room { count_of pen.old + length (written_bulletin bulletin.now) ≤ 2 ^ 40 }
+    requires stands { P.tells → Stands (P.calls station.old) pen.old }
+    ensures put { OnOk result (HasPut P.tells (written_bulletin bulletin.now)
+        (P.calls station.old) pen.old (P.calls station.new) pen.new) }
+    ensures alone { P.tells → OnlyOn pen.old.file (P.calls station.old) (P.calls station.new) }
+    ensures cause { HasCause result (P.disk_faults station.old) (P.disk_faults station.new) }
+    ensures say { P.say_faults station.new ≡ P.say_faults station.old }
+{
+    let body = bulletin.body.as_slice();
+    let from = bulletin.from as u8;
+    let text = before_body(bulletin.position, from, bulletin.kind, body.len() as u32);
+    pen.put(station, &text)?;
+    pen.put(station, body)
+}
+
+/// Puts bulletins.
+fn put_bulletins<P: Station>(
+    pen: &mut Pen,
+    station: &mut P,
+    bulletins: &[Bulletin],
+) -> Result<(), Failed>
+    requires from { AllByRecursion CanPutBulletin bulletins.now }
+    requires room { count_of pen.old + length (flat_map written_bulletin bulletins.now) ≤ 2 ^ 40 }
+    requires stands { P.tells → Stands (P.calls station.old) pen.old }
+    ensures put { OnOk result (HasPut P.tells (flat_map written_bulletin bulletins.now)
+        (P.calls station.old) pen.old (P.calls station.new) pen.new) }
+    ensures alone { P.tells → OnlyOn pen.old.file (P.calls station.old) (P.calls station.new) }
+    ensures cause { HasCause result (P.disk_faults station.old) (P.disk_faults station.new) }
+    ensures say { P.say_faults station.new ≡ P.say_faults station.old }
+{
+    for bulletin in bulletins {
+        put_bulletin(pen, station, bulletin)?;
+    }
+    Ok(())
+}
+
+/// Puts positions.
+fn put_positions<P: Station>(
+    pen: &mut Pen,
+    station: &mut P,
+    positions: &[u64],
+) -> Result<(), Failed>
+    requires room { count_of pen.old + length (flat_map (bytes_of 8) positions.now) ≤ 2 ^ 40 }
+    requires stands { P.tells → Stands (P.calls station.old) pen.old }
+    ensures put { OnOk result (HasPut P.tells (flat_map (bytes_of 8) positions.now)
+        (P.calls station.old) pen.old (P.calls station.new) pen.new) }
+    ensures alone { P.tells → OnlyOn pen.old.file (P.calls station.old) (P.calls station.new) }
+    ensures cause { HasCause result (P.disk_faults station.old) (P.disk_faults station.new) }
+    ensures say { P.say_faults station.new ≡ P.say_faults station.old }
+{
+    for position in positions {
+        pen.put(station, &eight_bytes(*position))?;
+    }
+    Ok(())
+}
+
+/// Puts what is needed of a circuit.
+fn put_circuit<P: Station>(
+    pen: &mut Pen,
+    station: &mut P,
+    circuit: &CircuitNeed,
+) -> Result<(), Failed>
+    requires waiting { length circuit.now.waiting < 2 ^ 32 }
+    requires kept { length circuit.now.kept < 2 ^ 32 }
+    requires room { count_of pen.old + length (written_circuit circuit.now) ≤ 2 ^ 40 }
+    requires stands { P.tells → Stands (P.calls station.old) pen.old }
+    ensures put { OnOk result (HasPut P.tells (written_circuit circuit.now)
+        (P.calls station.old) pen.old (P.calls station.new) pen.new) }
+    ensures alone { P.tells → OnlyOn pen.old.file (P.calls station.old) (P.calls station.new) }
+    ensures cause { HasCause result (P.disk_faults station.old) (P.disk_faults station.new) }
+    ensures say { P.say_faults station.new ≡ P.say_faults station.old }
+{
+    let waiting = circuit.waiting.as_slice();
+    let kept = circuit.kept.as_slice();
+    let text = before_positions(circuit.draws, waiting.len() as u32, kept.len() as u32);
+    pen.put(station, &text)?;
+    put_positions(pen, station, waiting)?;
+    put_positions(pen, station, kept)
+}
+
+/// Puts what is needed of circuits.
+fn put_circuits<P: Station>(
+    pen: &mut Pen,
+    station: &mut P,
+    circuits: &[CircuitNeed],
+) -> Result<(), Failed>
+    requires few { AllByRecursion CanPutCircuit circuits.now }
+    requires room { count_of pen.old + length (flat_map written_circuit circuits.now) ≤ 2 ^ 40 }
+    requires stands { P.tells → Stands (P.calls station.old) pen.old }
+    ensures put { OnOk result (HasPut P.tells (flat_map written_circuit circuits.now)
+        (P.calls station.old) pen.old (P.calls station.new) pen.new) }
+    ensures alone { P.tells → OnlyOn pen.old.file (P.calls station.old) (P.calls station.new) }
+    ensures cause { HasCause result (P.disk_faults station.old) (P.disk_faults station.new) }
+    ensures say { P.say_faults station.new ≡ P.say_faults station.old }
+{
+    for circuit in circuits {
+        put_circuit(pen, station, circuit)?;
+    }
+    Ok(())
+}
+
+/// Puts the checkpoint of a need.
+fn put_need<P: Station>(pen: &mut Pen, station: &mut P, need: &Need) -> Result<(), Failed>
+    requires fits { FitBytes (items.need_of need.now) }
+    requires small { length (checkpoint_text (items.need_of need.now)) ≤ 2 ^ 30 }
+    requires room { count_of pen.old + length (checkpoint_text (items.need_of need.now)) ≤ 2 ^ 40 }
+    requires stands { P.tells → Stands (P.calls station.old) pen.old }
+    ensures put { OnOk result (HasPut P.tells (checkpoint_text (items.need_of need.now))
+        (P.calls station.old) pen.old (P.calls station.new) pen.new) }
+    ensures alone { P.tells → OnlyOn pen.old.file (P.calls station.old) (P.calls station.new) }
+    ensures cause { HasCause result (P.disk_faults station.old) (P.disk_faults station.new) }
+    ensures say { P.say_faults station.new ≡ P.say_faults station.old }
+{
+    let circuits = need.circuits.as_slice();
+    let bulletins = need.bulletins.as_slice();
+    let text = head(circuits.len() as u32, need.accepted, bulletins.len() as u32);
+    pen.put(station, &text)?;
+    put_bulletins(pen, station, bulletins)?;
+    put_circuits(pen, station, circuits)
+}
+
+/// Puts the checkpoint of a need, its seal and a closed gate, and writes all of it; answers the seal.
+fn put_all<P: Station>(
+    pen: &mut Pen,
+    station: &mut P,
+    before: &[u8; 32],
+    need: &Need,
+) -> Result<[u8; 32], Failed>
+    requires begins { (pen.old.place ≡ 41) × (pen.old.held ≡ []) }
+    requires seals { Seals pen.old.sealer written (held written before.now) [] }
+    requires fits { FitBytes (items.need_of need.now) }
+    requires room { compacted_bytes written (items.need_of need.now) ≤ 2 ^ 30 }
+    requires stands { P.tells → Stands (P.calls station.old) pen.old }
+    ensures written { P.tells → OnOk result (seen (P.calls station.new) pen.old.file
+        ≡ seen (P.calls station.old) pen.old.file ++ (sealed written (held written before.now)
+        (checkpoint_text (items.need_of need.now)) ++ closed_gate ∷ [])) }
+    ensures seal { IfOk result (λ last. held written last ≡ seal written (held written before.now)
+        (checkpoint_text (items.need_of need.now))) }
+    ensures alone { P.tells → OnlyOn pen.old.file (P.calls station.old) (P.calls station.new) }
+    ensures cause { HasCause result (P.disk_faults station.old) (P.disk_faults station.new) }
+    ensures say { P.say_faults station.new ≡ P.say_faults station.old }
+{
+    put_need(pen, station, need)?;
+    let seal = pen.take_seal();
+    let count = Version::written().seal_size();
+    pen.put(station, &seal[..count])?;
+    pen.put(station, &[CLOSED])?;
+    pen.flush(station)?;
+    Ok(seal)
+}
+
+/// Cuts the file to nothing and syncs, writes it and syncs; answers the checkpoint's seal.
+fn write_with<P: Station>(
+    pen: &mut Pen,
+    station: &mut P,
+    file: u32,
+    mark: [u8; 32],
+    before: &[u8; 32],
+    need: &Need,
+) -> Result<[u8; 32], Failed>
+    requires file { file < 2 }
+    requires begins { (pen.old.file ≡ file) × (pen.old.place ≡ 41) × (pen.old.held ≡ []) }
+    requires seals { Seals pen.old.sealer written (held written before.now) [] }
+    requires first { held written before.now ≡ first_seal written mark }
+    requires fits { FitBytes (items.need_of need.now) }
+    requires room { compacted_bytes written (items.need_of need.now) ≤ 2 ^ 30 }
+    ensures written { P.tells → OnOk result (HasWritten mark (items.need_of need.now) file
+        (P.calls station.new)) }
+    ensures seal { IfOk result
+        (λ last. held written last ≡ need_seal mark (items.need_of need.now)) }
+    ensures alone { P.tells → OnlyOn file (P.calls station.old) (P.calls station.new) }
+    ensures cause { HasCause result (P.disk_faults station.old) (P.disk_faults station.new) }
+    ensures say { P.say_faults station.new ≡ P.say_faults station.old }
+{
+    station.cut(file, 0)?;
+    station.sync()?;
+    let front = header(mark);
+    station.write_at(file, 0, &front)?;
+    let seal = put_all(pen, station, before, need)?;
+    station.sync()?;
+    Ok(seal)
+}
+
+/// Writes the checkpoint of a need to a file, which is then a journal of its own: the file is cut to nothing and synced, and
+/// then written and synced. Answers the checkpoint's seal. All memory is taken first.
+pub fn write<P: Station>(
+    alloc: Global,
+    station: &mut P,
+    file: u32,
+    mark: [u8; 32],
+    need: &Need,
+) -> Result<[u8; 32], WriteFault>
+    requires file { file < 2 }
+    requires fits { FitBytes (items.need_of need.now) }
+    requires room { compacted_bytes written (items.need_of need.now) ≤ 2 ^ 30 }
+    ensures written { P.tells → OnOk result (HasWritten mark (items.need_of need.now) file
+        (P.calls station.new)) }
+    ensures seal { IfOk result
+        (λ last. held written last ≡ need_seal mark (items.need_of need.now)) }
+    // A crash at any moment leaves the other files as they were, and so does a fault.
+    ensures beside { P.tells → WorksBeside file (P.calls station.old) (P.calls station.new) }
+    ensures no_memory { IsErrOf result WriteFault.NoMemory → station.new ≡ station.old }
+    ensures disk_fault { IsErrOf result WriteFault.DiskFault
+        → Rose (P.disk_faults station.old) (P.disk_faults station.new) }
+    ensures later { P.disk_faults station.old ≤ P.disk_faults station.new }
+    ensures say { P.say_faults station.new ≡ P.say_faults station.old }
+{
+    let version = Version::written();
+    let before = first_seal(version, &mark);
+    let sealer = Sealer::new(version, &before);
+    let mut pen = Pen::new(alloc, file, HEADER, sealer)?;
+    let seal = write_with(&mut pen, station, file, mark, &before, need)?;
+    Ok(seal)
+}

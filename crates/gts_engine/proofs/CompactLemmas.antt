@@ -1,0 +1,262 @@
+-- The journal is compacted: what a crash leaves meanwhile, and where the journal stands then.
+use Rattle.std.proofs.Common.{◌≡◌, ◌≢◌, ◌⊎◌, inl, inr, ℕ, zero, suc, ◌+◌, ◌-◌, ◌*◌, ◌^◌, ◌<◌, ◌≤◌, nat_eq, nat_lt, Bool, true, false, cond, List, [], ◌∷◌, ◌++◌, length, map, take, drop, Some, None, Ok, refl, sym, ap, subst, ◌∙◌, arith, length-append}
+use Rattle.std.specs.Prelude.{min}
+use Rattle.std.specs.List.{list_all, starts_with, AllByRecursion}
+use Rattle.std.proofs.lemmas.Bool.{lt-ltb, le-ltb, cases_eq}
+use Rattle.std.proofs.lemmas.Bool.Decides.{nat_tests}
+use Rattle.gts_event.specs.declared.fault.SwitchFault.TheVariants.{Full}
+use Rattle.std.proofs.lemmas.List.{take_at}
+use Rattle.gts_traits.specs.Calls.{Call, Outside}
+use Rattle.gts_traits.specs.Disk.{Files, seen}
+use Rattle.gts_traits.specs.Moments.{EachSince}
+use Rattle.gts_traits.proofs.LawLemmas.{weaker, started}
+use Rattle.gts_directory.specs.Directory.{Directory}
+use Rattle.gts_event.specs.State.{State, CircuitState, Bulletin}
+use Rattle.gts_event.specs.History.{restarted}
+use Rattle.gts_event.specs.Need.{Need, CircuitNeed, need, begun, begun_circuit, is_sound, is_bulletin}
+use Rattle.gts_event.specs.Stand.{SameNeed}
+use Rattle.gts_event.proofs.LawLemmas.{need-begun, ordered-begun, routed_once-begun, held-begun, sound-held, sound-parts}
+use Rattle.gts_core.specs.Core.{Core, Holds}
+use Rattle.gts_core.proofs.LawLemmas.{held-same}
+use Rattle.gts_record.specs.Record.{open_gate, closed_gate}
+use Rattle.gts_record.specs.declared.version.Version.{Version}
+use Rattle.gts_record.proofs.LawLemmas.{length-sealed}
+use Rattle.gts_record.specs.Format.{magic, sealed, first_seal, seal_size, draw_size, written}
+use Rattle.gts_opening.specs.Journal.{selected, checkpoint_text, compacted_bytes, due, opens, opened_of, file_opens, unowed, unowed_on, unowed_circuit, unowed_state}
+use Rattle.gts_opening.specs.Room.{full_compacted}
+use Rattle.gts_opening.proofs.LawLemmas.{compacted_opened, opened_again}
+use Rattle.gts_opening.proofs.FileLemmas.{magic_size, file_opens-checkpoint, room_for, due-left}
+use Rattle.gts_checkpoint.specs.Alone.{LeavesOthers, WorksBeside}
+use Rattle.gts_checkpoint.specs.Writing.{FitsByte, FitBytes, HasWritten, checkpoint_file, need_seal}
+use Rattle.gts_journal.specs.{InHand, EndsAt, StandsOn, StandsFor, IsClosedAt, LeavesBoth, selecting as selecting_at}
+use Rattle.gts_journal.specs.Law.{OpensAsBefore}
+use Rattle.gts_engine.specs.Going.{IsGoing}
+use Rattle.gts_engine.proofs.GoingLemmas.{opened_same, images}
+use Rattle.gts_engine.proofs.ReopenLemmas.{opens_by}
+
+-- ---- the file of a checkpoint
+
+-- it ends at the closed gate behind the checkpoint
+pub ends_there : (mark : List ℕ) (n : Need) (used : ℕ) → length mark ≡ 32 → used ≡ compacted_bytes written n
+    → EndsAt (take (used - 1) (checkpoint_file mark n)) (checkpoint_file mark n)
+ends_there mark n used long size =
+    let last : List ℕ = first_seal written mark in
+    let cp : List ℕ = sealed written last (checkpoint_text n) in
+    let m : List ℕ = magic written in
+    let front : List ℕ = (m ++ mark) ++ ((open_gate ∷ cp) ++ []) in
+    let at : length front ≡ used - 1 =
+    omega (arith, size, long, magic_size written, length-append m mark, length-append (m ++ mark) ((open_gate ∷ cp) ++ []), length-append cp [], length-sealed written last (checkpoint_text n)) in
+    let same : take (used - 1) (front ++ closed_gate ∷ []) ≡ front = take_at front (closed_gate ∷ []) (used - 1) at in
+    record { gate = closed_gate; behind = []; closed = refl; is = ap (λ (l : List ℕ). l ++ closed_gate ∷ []) (sym same) }
+
+-- each bulletin of a sound need came in on a circuit
+below_all : (d : Directory) (count : ℕ) (bs : List Bulletin) → length d.circuits ≤ 64 → list_all (is_bulletin d count) bs ≡ true → AllByRecursion FitsByte bs
+below_all d count [] few all = tt
+below_all d count (b ∷ bs) few all =
+    let here : nat_lt b.from (length d.circuits) ≡ true = grind (arith, nat_tests) in
+    let rest : list_all (is_bulletin d count) bs ≡ true = grind (arith, nat_tests) in
+    let low : b.from < 256 = grind (arith, nat_tests) in
+    (low, below_all d count bs few rest)
+
+pub fit_bytes : (d : Directory) (n : Need) → length d.circuits ≤ 64 → is_sound d n ≡ true → FitBytes n
+fit_bytes d n few sound = below_all d n.accepted n.bulletins few (sound-parts d n sound).bodies
+
+-- a need with nothing owed begins what has nothing owed
+unowed_of : (cs : List CircuitNeed) → map unowed_on (map begun_circuit cs) ≡ map begun_circuit (map unowed_circuit cs)
+unowed_of [] = refl
+unowed_of (c ∷ cs) = ap (λ (qs : List CircuitState). begun_circuit (unowed_circuit c) ∷ qs) (unowed_of cs)
+
+-- ---- an engine that goes on
+
+module _ (tells : Type 0) (d : Directory) (old : List Call) (core : Core) (j : InHand) (g : IsGoing tells d old core j) (n : Need) (n_is : n ≡ need d g.state) where
+  pub sound : is_sound d n ≡ true
+  sound = ap (is_sound d) n_is ∙ sound-held d g.state g.few g.held
+
+  pub begins_same : SameNeed d g.state (begun n)
+  begins_same = record { first = g.held.ordered; second = ordered-begun d n sound; same = sym n_is ∙ sym (need-begun d n sound) }
+
+  -- the other file
+  abbrev other : ℕ
+  other = 1 - j.file
+
+  -- what is due is due of what the need begins
+  has_room : n ≡ need d g.state → full_compacted d g.state ≡ None → compacted_bytes written n + draw_size written * due (begun n) ≤ d.limit
+  has_room is free =
+      let l = room_for d g.state free in
+      subst (λ (m : Need). compacted_bytes written m + draw_size written * due (begun m) ≤ d.limit) (sym is)
+      (omega (arith, l, ap (λ (k : ℕ). draw_size written * k) (due-left d g.state g.held.ordered.circuits)))
+
+  module _ (low : j.file < 2) (tell : tells) where
+    stood : StandsFor d (unowed_state g.state) old j
+    stood = g.stands tell
+
+    not_other : j.file ≢ other
+    not_other e = omega (arith, e, low)
+
+    not_selector : 2 ≢ other
+    not_selector e = omega (arith, e, low)
+
+    file_here : file_opens j.version d j.file (seen old j.file) ≡ Ok (unowed_state g.state, j.gate + 1, j.seal)
+    file_here = ap (λ (k : ℕ). file_opens j.version d k (seen old k)) (sym stood.stands.selected_is) ∙ stood.opens_to
+
+    opens_old : (files : Files) → selected files ≡ j.file → files j.file ≡ seen old j.file → opens d files ≡ Ok (need d (restarted (unowed_state g.state)))
+    opens_old files at same =
+        opens_by d files (unowed_state g.state) (j.gate + 1)
+        (ap opened_of (ap (λ (k : ℕ). file_opens written d k (files k)) at ∙ ap (file_opens written d j.file) same
+        ∙ ap (λ (v : Version). file_opens v d j.file (seen old j.file)) (sym stood.current) ∙ file_here))
+
+    to_state : (s : State) → Holds d core s → need d (restarted (unowed_state g.state)) ≡ need d (restarted s)
+    to_state s holds = opened_same d core g.state s g.holds holds
+
+    -- while the other file is written
+    pub writing : (mid : List Call) → WorksBeside other old mid → (s : State) → Holds d core s → EachSince old mid (OpensAsBefore d s)
+    writing mid beside s holds = weaker (LeavesOthers other old) (OpensAsBefore d s) old mid
+        (λ files outside left. (
+          left.silent,
+          opens_old files
+              (ap (λ (l : List ℕ). selected (λ _. l)) (left.others 2 not_selector stood.stands.selector_synced) ∙ stood.stands.selected_is)
+              (left.others j.file not_other stood.stands.file_synced)
+              ∙ ap {A = Need} (λ m. Ok m) (to_state s holds),
+        )) beside.moments
+
+    module _ (mid : List Call) (beside : WorksBeside other old mid) (wrote : HasWritten d.mark n other mid) where
+      -- the journal stands where it stood
+      still : StandsOn mid j
+      still =
+          let selector = beside.seen 2 not_selector in
+          let file = beside.seen j.file not_other in
+          let A : List ℕ → Type 0 = λ l. j.ahead ≡ take (length j.ahead) (drop j.gate l) in
+          let B : List ℕ → Type 0 = λ l. j.is_all ≡ true → length j.ahead ≡ length l - j.gate in
+          let E : List ℕ → Type 0 = λ l. j.ended ≡ true → EndsAt (take j.gate l) l in
+          record {
+            selected_is = ap (λ (l : List ℕ). selected (λ _. l)) selector ∙ stood.stands.selected_is;
+            selector_synced = beside.synced 2 not_selector stood.stands.selector_synced;
+            file_synced = beside.synced j.file not_other stood.stands.file_synced;
+            ahead_is = subst A (sym file) stood.stands.ahead_is;
+            all_is = subst B (sym file) stood.stands.all_is;
+            end_is = subst E (sym file) stood.stands.end_is;
+          }
+
+      pub stands_still : StandsOn mid j
+      stands_still = still
+
+      pub is_journal : length d.mark ≡ 32 → (used : ℕ) → used ≡ compacted_bytes written n → IsClosedAt mid j other used
+      is_journal long used size =
+          let E : List ℕ → Type 0 = λ l. EndsAt (take (used - 1) l) l in
+          record { synced = wrote.synced other; ends = subst E (sym wrote.text) (ends_there d.mark n used long size) }
+
+      module _ (long : length d.mark ≡ 32) (free : full_compacted d g.state ≡ None) where
+        -- files of which the other one is selected
+        opens_new : (files : Files) → selected files ≡ other → files other ≡ seen mid other → opens d files ≡ Ok (need d (restarted g.state))
+        opens_new files at same =
+            compacted_opened d files g.state closed_gate [] long stood.limit g.holds.keeps g.held.ordered (sound-held d g.state g.few g.held) free refl
+            (ap files at ∙ same ∙ wrote.text ∙ ap (checkpoint_file d.mark) n_is)
+
+        -- while it is selected
+        pub selecting : (new : List Call) → EachSince mid new (LeavesBoth mid) → (s : State) → Holds d core s → EachSince mid new (OpensAsBefore d s)
+        selecting new each s holds = weaker (LeavesBoth mid) (OpensAsBefore d s) mid new
+            (λ files outside left. (left.silent, by_choice files left ∙ ap {A = Need} (λ m. Ok m) (to_state s holds))) each
+          where
+            kept : (files : Files) {outside : Outside} → LeavesBoth mid files outside → (k : ℕ) → k < 2 → files k ≡ seen mid k
+            kept files left zero lt = left.first
+            kept files left (suc zero) lt = left.second
+            kept files left (suc (suc k)) lt = absurd (omega (arith, lt))
+
+            below : (b : Bool) → cond b 1 0 < 2
+            below true = omega arith
+            below false = omega arith
+
+            by_choice : (files : Files) {outside : Outside} → LeavesBoth mid files outside → opens d files ≡ Ok (need d (restarted (unowed_state g.state)))
+            by_choice files left = elim (cases_eq (selected files) j.file) as (λ _. opens d files ≡ Ok (need d (restarted (unowed_state g.state)))) [
+              | inl at ↦ opens_old files at (kept files left j.file low ∙ beside.seen j.file not_other)
+              | inr elsewhere ↦
+                  opens_new files (omega (arith, below (starts_with nat_eq (files 2) (1 ∷ [])), low, elsewhere)) (kept files left other (omega (arith, low)))
+                  ∙ ap (λ (u : State). Ok (need d u)) (sym (opened_again g.state).1)
+            ]
+
+        module _ (new : List Call) (place : InHand) (used : ℕ) (size : used ≡ compacted_bytes written n) (last : List ℕ) (last_is : last ≡ need_seal d.mark n) (at : place ≡ selecting_at written other used last j) (stands : StandsOn new place)
+            (files : (k : ℕ) → k ≢ 2 → seen new k ≡ seen mid k) where
+          chosen : selected (seen new) ≡ other
+          chosen = stands.selected_is ∙ ap (λ (k : InHand). k.file) at
+
+          other_not : other ≢ 2
+          other_not e = omega (arith, e)
+
+          pub text : seen new (selected (seen new)) ≡ checkpoint_file d.mark n
+          text = ap (seen new) chosen ∙ files other other_not ∙ wrote.text
+
+          pub apart : selected (seen new) ≢ selected (seen old)
+          apart e = not_other (sym stood.stands.selected_is ∙ sym e ∙ chosen)
+
+          pub goes_for : StandsFor d (unowed_state (begun n)) new place
+          goes_for =
+              let room : compacted_bytes written n + draw_size written * due (begun n) ≤ d.limit = has_room n_is free in
+              let opened : file_opens written d other (checkpoint_file d.mark n) ≡ Ok (begun (unowed n), compacted_bytes written n - 1 + 1, need_seal d.mark n) =
+              file_opens-checkpoint written d other n [] closed_gate [] long stood.limit sound room tt refl in
+              let version : place.version ≡ written = ap (λ (k : InHand). k.version) at in
+              let gate : compacted_bytes written n - 1 + 1 ≡ place.gate + 1 = omega (arith, ap (λ (k : InHand). k.gate) at, size) in
+              let bare : begun (unowed n) ≡ unowed_state (begun n) = ap (λ (qs : List CircuitState). record (begun n) { circuits = qs }) (sym (unowed_of n.circuits)) in
+              record {
+                limit = stood.limit;
+                current = version;
+                stands = stands;
+                ended = ap (λ (k : InHand). k.ended) at;
+                opens_to = ap (λ (k : ℕ). file_opens place.version d k (seen new k)) chosen
+                    ∙ ap (λ (v : Version). file_opens v d other (seen new other)) version
+                    ∙ ap (file_opens written d other) (files other other_not ∙ wrote.text)
+                    ∙ opened
+                    ∙ ap (λ (u : State). Ok (u, compacted_bytes written n - 1 + 1, need_seal d.mark n)) bare
+                    ∙ ap (λ (k : ℕ). Ok (unowed_state (begun n), k, need_seal d.mark n)) gate
+                    ∙ ap (λ (l : List ℕ). Ok (unowed_state (begun n), place.gate + 1, l)) (sym last_is ∙ sym (ap (λ (k : InHand). k.seal) at));
+              }
+
+  -- the engine goes on, with what its need begins
+  pub goes_on_compacted : (new : List Call) (place : InHand) (used : ℕ) (last : List ℕ) → used ≡ compacted_bytes written n → place ≡ selecting_at written other used last j → full_compacted d g.state ≡ None
+      → (tells → StandsFor d (unowed_state (begun n)) new place) → IsGoing tells d new core place
+  goes_on_compacted new place used last size at free stands =
+      let room : compacted_bytes written n + draw_size written * due (begun n) ≤ d.limit = has_room n_is free in
+      record {
+        state = begun n;
+        holds = held-same d core g.state (begun n) g.holds begins_same;
+        once = routed_once-begun d n sound;
+        few = (sound-parts d n sound).few;
+        held = held-begun d n sound;
+        ended = ap (λ (k : InHand). k.ended) at;
+        current = ap (λ (k : InHand). k.version) at;
+        room = omega (arith, room, size, ap (λ (k : InHand). k.gate) at);
+        stands = stands;
+      }
+
+-- ---- whether there is room
+
+pub no_room_compacted : (d : Directory) (s : State) (size wanted at limit : ℕ) → size ≡ min (length (checkpoint_text (need d s))) (2 ^ 64 - 1)
+    → wanted ≡ min (size + (seal_size written + draw_size written * due s)) (2 ^ 64 - 1) → at ≡ 42 → limit ≡ d.limit → d.limit < min (wanted + 42) (2 ^ 64 - 1) → d.limit < 2 ^ 63
+    → (real : ℕ) × (full_compacted d s ≡ Some (Full 42 real limit)) × (at ≡ 42) × (wanted ≡ min real (2 ^ 64 - 1))
+no_room_compacted d s size wanted at limit s_is w_is at_is l_is past low =
+    let real : ℕ = length (checkpoint_text (need d s)) + seal_size written + draw_size written * due s in
+    let over : d.limit < 42 + real = omega (arith, s_is, w_is, past, low) in
+    let test : nat_lt d.limit (42 + real) ≡ true = lt-ltb d.limit (42 + real) over in (
+      real,
+      ap (λ (b : Bool). cond b (Some (Full 42 real d.limit)) None) test ∙ ap (λ (k : ℕ). Some (Full 42 real k)) (sym l_is),
+      at_is,
+      omega (arith, s_is, w_is),
+    )
+
+pub has_room_compacted : (d : Directory) (s : State) (size wanted : ℕ) → size ≡ min (length (checkpoint_text (need d s))) (2 ^ 64 - 1)
+    → wanted ≡ min (size + (seal_size written + draw_size written * due s)) (2 ^ 64 - 1) → min (wanted + 42) (2 ^ 64 - 1) ≤ d.limit → d.limit < 2 ^ 63 → full_compacted d s ≡ None
+has_room_compacted d s size wanted s_is w_is within low =
+    let real : ℕ = length (checkpoint_text (need d s)) + seal_size written + draw_size written * due s in
+    let fits : 42 + real ≤ d.limit = omega (arith, s_is, w_is, within, low) in
+    ap (λ (b : Bool). cond b (Some (Full 42 real d.limit)) None) (le-ltb d.limit (42 + real) fits)
+
+-- where there is room, the size is the very one
+pub size_free : (d : Directory) (s : State) (n : Need) (size : ℕ) → n ≡ need d s → size ≡ min (length (checkpoint_text n)) (2 ^ 64 - 1) → full_compacted d s ≡ None → d.limit < 2 ^ 63
+    → 42 + seal_size written + size ≡ compacted_bytes written n
+size_free d s n size is size_is free low =
+    let room = room_for d s free in
+    let there : compacted_bytes written n + draw_size written * due s ≤ d.limit = subst (λ (m : Need). compacted_bytes written m + draw_size written * due s ≤ d.limit) (sym is) room in
+    omega (arith, size_is, there, low)
+
+-- nothing was done yet
+pub stays_at : (tells : Type 0) (d : Directory) (calls : List Call) (core : Core) (j : InHand) → IsGoing tells d calls core j → tells → (s : State) → Holds d core s → EachSince calls calls (OpensAsBefore d s)
+stays_at tells d calls core j g tell s holds = started calls (OpensAsBefore d s) (λ files image. (refl, images tells d calls core j g tell s holds files image))

@@ -1,0 +1,150 @@
+-- What an engine stands for whose journal was compacted, or was to be.
+use Rattle.std.proofs.Common.{◌≡◌, true, ℕ, ◌+◌, List, [], ◌∷◌, ◌++◌, length, drop, Option, Some, None, Ok, Err, refl, sym, ap, subst, ◌∙◌, arith}
+use Rattle.std.specs.List.{last_or, AllByRecursion}
+use Rattle.std.proofs.lemmas.List.{append-nil, take_all, drop_all}
+use Rattle.gts_traits.specs.Calls.{Call, Outside, said_by, SaidSince}
+use Rattle.gts_traits.specs.Disk.{Files, IsImage}
+use Rattle.gts_traits.specs.Moments.{EachSince}
+use Rattle.gts_traits.proofs.LawLemmas.{weaker, joined}
+use Rattle.gts_directory.specs.Directory.{Directory}
+use Rattle.gts_event.specs.Need.{Need, need, begun, is_sound}
+use Rattle.gts_event.specs.Stand.{SameNeed}
+use Rattle.gts_event.specs.declared.event.Entry.{Entry}
+use Rattle.gts_event.specs.declared.fault.Device.{Device}
+use Rattle.gts_event.specs.declared.fault.Device.TheVariants.{Disk}
+use Rattle.gts_event.specs.declared.fault.SwitchFault.TheVariants.{DiskFault, NoMemory}
+use Rattle.gts_event.proofs.LawLemmas.{need-begun, ordered-begun}
+use Rattle.gts_core.specs.Core.{Core, Holds, Needs}
+use Rattle.gts_journal.specs.Law.{OpensAsBefore}
+use Rattle.gts_record.specs.Format.{written}
+use Rattle.gts_opening.specs.Journal.{compacted_bytes}
+use Rattle.gts_opening.specs.Room.{bytes_of_entries, IsReading}
+use Rattle.gts_opening.proofs.LawLemmas.{caused-compaction}
+use Rattle.gts_engine.specs.declared.mode.SayMode.{SayMode}
+use Rattle.gts_engine.specs.Engine.{Engine, Shown, shown}
+use Rattle.gts_engine.specs.Origin.{Origin, IsAnchor, compacted_after, history_of, state_at, used_at, told}
+use Rattle.gts_engine.specs.Keeping.{LeavesFront, OpensToReading, HasSaid, HasFailed, IsLeft, Keeps}
+use Rattle.gts_engine.specs.Compacting.{IsCompaction, StaysAt}
+use Rattle.gts_engine.proofs.EntryLemmas.{used_since, read_itself}
+use Rattle.gts_engine.proofs.LeavingLemmas.{at_end, whole}
+
+last_end : (first : Option ℕ) (cs : List ℕ) (k : ℕ) → last_or first (cs ++ k ∷ []) ≡ Some k
+last_end first [] k = refl
+last_end first (c ∷ cs) k = last_end (Some c) cs k
+
+-- the bytes that a compaction leaves in use
+pub used_compacted : (o : Origin) (h : List Entry) → used_at (compacted_after o h) h ≡ compacted_bytes written (need o.directory (state_at o h))
+used_compacted o h =
+    let d : Directory = o.directory in
+    ap (used_since d (history_of o h)) (last_end None o.compactions (length h))
+    ∙ ap (λ (es : List Entry). let n : Need = need d (state_at o es) in compacted_bytes written n + bytes_of_entries d (begun n) (drop (length h) h)) (take_all (length h) h (omega arith))
+    ∙ ap (λ (es : List Entry). compacted_bytes written (need d (state_at o h)) + bytes_of_entries d (begun (need d (state_at o h))) es) (drop_all (length h) h (omega arith))
+    ∙ (let e : compacted_bytes written (need d (state_at o h)) + 0 ≡ compacted_bytes written (need d (state_at o h)) = omega arith in e)
+
+-- what doesn't depend on the compactions
+anchor_on : (o : Origin) (g h : List Entry) (k : ℕ) → IsAnchor o h k → IsAnchor (compacted_after o g) h k
+anchor_on o g h k anchor = record { within = anchor.within; same = anchor.same }
+
+anchors_on : (o : Origin) (g h : List Entry) (cs : List ℕ) → AllByRecursion (IsAnchor o h) cs → AllByRecursion (IsAnchor (compacted_after o g) h) cs
+anchors_on o g h [] all = tt
+anchors_on o g h (c ∷ cs) all = (anchor_on o g h c all.0, anchors_on o g h cs all.1)
+
+front_on : (mode : SayMode) (o : Origin) (g h : List Entry) (files : Files) (outside : Outside) → LeavesFront mode o h files outside → LeavesFront mode (compacted_after o g) h files outside
+front_on mode o g h files outside left =
+    record { read = left.read; reading = left.reading; n = left.n; within = left.within; opened = left.opened; rest = left.rest; heard_before = left.heard_before }
+
+all_and_one : (P : ℕ → Type 0) (cs : List ℕ) (k : ℕ) → AllByRecursion P cs → P k → AllByRecursion P (cs ++ k ∷ [])
+all_and_one P [] k all one = (one, tt)
+all_and_one P (c ∷ cs) k all one = (all.0, all_and_one P cs k all.1 one)
+
+module _ (tells : Type 0) (mode : SayMode) (o : Origin) (h : List Entry) (old new : Shown) (kept : Keeps tells mode o h old) (going : old.stopped ≡ None) (directory : new.directory ≡ old.directory)
+    (silent : tells → said_by new.calls ≡ said_by old.calls)
+    (moments : tells → EachSince old.calls new.calls (OpensAsBefore o.directory (state_at o h))) where
+  free : HasFailed None h
+  free = subst (λ (x : Option Device). HasFailed x h) going kept.failed
+
+  said_before : tells → SaidSince o.calls old.calls (told mode o h)
+  said_before tell = let P : Option Device → Type 0 = λ x. HasSaid mode o h x old.calls in subst P going (kept.leaves tell).said
+
+  own : IsReading h h
+  own = read_itself h free.0
+
+  moments_on : tells → EachSince o.calls new.calls (LeavesFront mode o h)
+  moments_on tell =
+      joined (LeavesFront mode o h) (OpensAsBefore o.directory (state_at o h)) o.calls old.calls new.calls (told mode o h)
+      (kept.leaves tell).moments (said_before tell) (moments tell)
+      (λ files later left. whole mode o h h files (told mode o h ++ later) [] own left.1
+      (sym (append-nil (told mode o h)) ∙ ap (λ (l : Outside). told mode o h ++ l) (sym left.0) ∙ sym (append-nil (told mode o h ++ later))))
+
+  now_on : tells → (files : Files) → IsImage new.calls files → OpensToReading o h files
+  now_on tell files image = (h, own, (at_end (OpensAsBefore o.directory (state_at o h)) old.calls new.calls (moments tell) files image).1)
+
+  said_on : tells → SaidSince o.calls new.calls (told mode o h)
+  said_on tell = silent tell ∙ said_before tell
+
+  -- it was compacted
+  pub compacted_keeps : new.stopped ≡ None → new.core ≡ old.core → is_sound o.directory (need o.directory (state_at o h)) ≡ true
+      → new.used ≡ compacted_bytes written (need o.directory (state_at o h)) → Keeps tells mode (compacted_after o h) h new
+  compacted_keeps goes core sound used =
+      let holds = kept.core going in
+      let F : Option Device → Type 0 = λ x. HasFailed x h in
+      let K : Core → Type 0 = λ k. Holds o.directory k (state_at o h) in
+      let n : Need = need o.directory (state_at o h) in
+      let all : List Entry → Type 0 = λ es. SameNeed o.directory (begun (need o.directory (state_at o es))) (state_at o es) in
+      record {
+        directory = directory ∙ kept.directory;
+        core = λ e. subst K (sym core) holds;
+        used = λ e. used ∙ sym (used_compacted o h);
+        failed = subst F (sym goes) free;
+        once = kept.once;
+        anchors = all_and_one (IsAnchor (compacted_after o h) h) o.compactions (length h) (anchors_on o h h o.compactions kept.anchors) (record {
+          within = omega arith;
+          same = subst all (sym (take_all (length h) h (omega arith))) (record { first = ordered-begun o.directory n sound; second = holds.need.second; same = need-begun o.directory n sound });
+        });
+        caused = caused-compaction o.directory (history_of o h) o.compactions kept.caused;
+        leaves = λ tell.
+            let R : Option Device → Type 0 = λ x. HasSaid mode (compacted_after o h) h x new.calls in
+            record { moments = weaker (LeavesFront mode o h) (LeavesFront mode (compacted_after o h) h) o.calls new.calls (front_on mode o h h) (moments_on tell); now = now_on tell; said = subst R (sym goes) (said_on tell) };
+      }
+
+  -- the disk failed meanwhile
+  pub left_behind : new.stopped ≡ Some Disk → IsLeft tells mode o h new
+  left_behind stopped = record {
+    directory = directory ∙ kept.directory;
+    stopped = stopped;
+    failed = free;
+    leaves = λ tell. record { moments = moments_on tell; now = now_on tell; said = said_on tell };
+  }
+
+-- ---- the engine
+
+module _ {P : Type 0} (tells : Type 0) (calls : P → List Call) (old new : Engine P) (going : old.stopped ≡ None) (directory : new.directory ≡ old.directory)
+    (silent : tells → said_by (calls new.station) ≡ said_by (calls old.station))
+    (moments : tells → StaysAt old.directory old.core (calls old.station) (calls new.station)) where
+  moments_at : (mode : SayMode) (o : Origin) (h : List Entry) → Keeps tells mode o h (shown calls old) → tells → EachSince (calls old.station) (calls new.station) (OpensAsBefore o.directory (state_at o h))
+  moments_at mode o h kept tell =
+      let M : Directory → Type 0 = λ d. Holds d old.core (state_at o h) → EachSince (calls old.station) (calls new.station) (OpensAsBefore d (state_at o h)) in
+      subst M kept.directory (λ holds. moments tell (state_at o h) holds) (kept.core going)
+
+  pub compacted_so : (n : Need) → Needs old.core n → new.stopped ≡ None → new.core ≡ old.core → is_sound old.directory n ≡ true → new.used ≡ compacted_bytes written n
+      → IsCompaction tells calls (Ok tt) old new
+  compacted_so n needs goes core sound used = record {
+    directory = directory;
+    done = λ e mode o h kept.
+        let n_is : n ≡ need o.directory (state_at o h) = needs o.directory (state_at o h) (kept.core going) in
+        let S : Directory → Type 0 = λ d. is_sound d n ≡ true in
+        let T : Need → Type 0 = λ m. is_sound o.directory m ≡ true in
+        compacted_keeps tells mode o h (shown calls old) (shown calls new) kept going directory silent (moments_at mode o h kept) goes core
+        (subst T n_is (subst S kept.directory sound)) (used ∙ ap (compacted_bytes written) n_is);
+    failed = λ e. absurd (cc e);
+  }
+
+  pub left_so : new.stopped ≡ Some Disk → IsCompaction tells calls (Err DiskFault) old new
+  left_so stopped = record {
+    directory = directory;
+    done = λ e. absurd (cc e);
+    failed = λ e mode o h kept. left_behind tells mode o h (shown calls old) (shown calls new) kept going directory silent (moments_at mode o h kept) stopped;
+  }
+
+pub memory_so : {P : Type 0} (tells : Type 0) (calls : P → List Call) (old new : Engine P) → new.directory ≡ old.directory → IsCompaction tells calls (Err NoMemory) old new
+memory_so tells calls old new directory = record { directory = directory; done = λ e. absurd (cc e); failed = λ e. absurd (cc e) }

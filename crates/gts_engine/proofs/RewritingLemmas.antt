@@ -1,0 +1,165 @@
+-- The two steps of a compaction, over an engine's parts.
+use Rattle.std.proofs.Common.{◌≡◌, ◌≢◌, ℕ, ◌+◌, ◌-◌, ◌<◌, true, List, [], length, None, Some, Result, Ok, Err, refl, sym, ap, subst, ◌∙◌, arith}
+use Rattle.std.specs.Prelude.{OnOk}
+use Rattle.std.proofs.lemmas.List.{append-nil}
+use Rattle.gts_traits.specs.Calls.{Call, said_by}
+use Rattle.gts_traits.specs.Disk.{seen}
+use Rattle.gts_traits.specs.Moments.{EachSince}
+use Rattle.gts_traits.proofs.LawLemmas.{joined}
+use Rattle.gts_directory.specs.Directory.{Directory}
+use Rattle.gts_event.specs.State.{State}
+use Rattle.gts_event.specs.Need.{Need, need, begun, is_sound}
+use Rattle.gts_event.specs.declared.fault.Device.TheVariants.{Disk}
+use Rattle.gts_event.specs.declared.fault.SwitchFault.{SwitchFault}
+use Rattle.gts_event.specs.declared.fault.SwitchFault.TheVariants.{DiskFault, SayFault, Full, Stopped, Spent, NoMemory}
+use Rattle.gts_core.specs.Core.{Core, Holds, Needs}
+use Rattle.gts_record.specs.Format.{written}
+use Rattle.gts_opening.specs.Journal.{compacted_bytes, unowed_state}
+use Rattle.gts_opening.specs.Room.{full_compacted}
+use Rattle.gts_checkpoint.specs.Alone.{WorksBeside}
+use Rattle.gts_checkpoint.specs.Writing.{HasWritten, checkpoint_file, need_seal}
+use Rattle.gts_journal.specs.{InHand, StandsOn, StandsFor, IsClosedAt, LeavesBoth, selecting as selecting_at}
+use Rattle.gts_journal.specs.Law.{OpensAsBefore}
+use Rattle.gts_engine.specs.declared.parts.Parts.{Parts}
+use Rattle.gts_engine.specs.Engine.{engine_of}
+use Rattle.gts_engine.specs.Going.{IsGoing, stopped_after}
+use Rattle.gts_engine.specs.Parts.{IsSound}
+use Rattle.gts_engine.specs.Compacting.{IsCompaction, IsRewritten, IsBehind, StaysAt, IsWriteFault}
+use Rattle.gts_engine.proofs.CompactLemmas.{sound, writing, stands_still, is_journal, selecting, text, apart, goes_for, goes_on_compacted}
+use Rattle.gts_engine.proofs.CompactingLemmas.{compacted_so, left_so, memory_so}
+use Rattle.gts_engine.proofs.StepLemmas.{stopped_sound}
+
+module _ {P : Type 0} (tells : Type 0) (calls : P → List Call) (p : Parts P) (going : p.stopped ≡ None) (g : IsGoing tells p.directory (calls p.station) p.core p.journal) (n : Need) (needs : Needs p.core n)
+    (free : (s : State) → Holds p.directory p.core s → full_compacted p.directory s ≡ None) (low : p.journal.file < 2) (file : ℕ) (file_is : file ≡ 1 - p.journal.file)
+    (mark : List ℕ) (mark_is : mark ≡ p.directory.mark) (long : length mark ≡ 32) (used : ℕ) (used_is : used ≡ compacted_bytes written n) where
+  n_is : n ≡ need p.directory g.state
+  n_is = needs p.directory g.state g.holds
+
+  pub is_sound_need : is_sound p.directory n ≡ true
+  is_sound_need = sound tells p.directory (calls p.station) p.core p.journal g n n_is
+
+  mark_long : length p.directory.mark ≡ 32
+  mark_long = sym (ap (λ (l : List ℕ). length l) mark_is) ∙ long
+
+  module _ (q : Parts P) (rest : q ≡ record p { station = q.station; stopped = q.stopped }) (beside : tells → WorksBeside file (calls p.station) (calls q.station)) where
+    besides : tells → WorksBeside (1 - p.journal.file) (calls p.station) (calls q.station)
+    besides tell = subst (λ (k : ℕ). WorksBeside k (calls p.station) (calls q.station)) file_is (beside tell)
+
+    pub moments_put : tells → StaysAt p.directory p.core (calls p.station) (calls q.station)
+    moments_put tell s holds = writing tells p.directory (calls p.station) p.core p.journal g n n_is low tell (calls q.station) (besides tell) s holds
+
+    silent_put : tells → said_by (calls q.station) ≡ said_by (calls p.station)
+    silent_put tell = (beside tell).silent
+
+    directory_put : q.directory ≡ p.directory
+    directory_put = ap (λ (x : Parts P). x.directory) rest
+
+    pub left_put : q.stopped ≡ Some Disk → IsCompaction tells calls (Err DiskFault) (engine_of p) (engine_of q)
+    left_put stopped = left_so tells calls (engine_of p) (engine_of q) going directory_put silent_put moments_put stopped
+
+    pub failed_put : (e : SwitchFault) → IsWriteFault e → q.stopped ≡ stopped_after p.stopped (let r : Result (Unit {0}) SwitchFault = Err e in r) → IsCompaction tells calls (Err e) (engine_of p) (engine_of q)
+    failed_put DiskFault may stops = left_put stops
+    failed_put NoMemory may stops = memory_so tells calls (engine_of p) (engine_of q) directory_put
+    failed_put SayFault may stops = absurd may
+    failed_put (Full at wanted limit) may stops = absurd may
+    failed_put (Stopped by) may stops = absurd may
+    failed_put Spent may stops = absurd may
+
+    module _ (wrote : tells → HasWritten mark n file (calls q.station)) (last : List ℕ) (last_is : last ≡ need_seal mark n) where
+      seal_is : last ≡ need_seal p.directory.mark n
+      seal_is = last_is ∙ ap (λ (l : List ℕ). need_seal l n) mark_is
+
+      has_written : tells → HasWritten p.directory.mark n (1 - p.journal.file) (calls q.station)
+      has_written tell =
+          subst (λ (l : List ℕ). HasWritten l n (1 - p.journal.file) (calls q.station)) mark_is (subst (λ (k : ℕ). HasWritten mark n k (calls q.station)) file_is (wrote tell))
+
+      pub whole_put : tells → IsClosedAt (calls q.station) q.journal file used
+      whole_put tell =
+          subst (λ (k : InHand). IsClosedAt (calls q.station) k file used) (sym (ap (λ (x : Parts P). x.journal) rest))
+          (subst (λ (k : ℕ). IsClosedAt (calls q.station) p.journal k used) (sym file_is)
+          (is_journal tells p.directory (calls p.station) p.core p.journal g n n_is low tell (calls q.station) (besides tell) (has_written tell) mark_long used used_is))
+
+      pub stands_put : tells → StandsOn (calls q.station) p.journal
+      stands_put tell = stands_still tells p.directory (calls p.station) p.core p.journal g n n_is low tell (calls q.station) (besides tell) (has_written tell)
+
+      module _ (r : Parts P) (behind : IsBehind q r) (silent : tells → said_by (calls r.station) ≡ said_by (calls q.station))
+          (moments : tells → EachSince (calls q.station) (calls r.station) (LeavesBoth (calls q.station))) where
+        moments_choose : tells → (s : State) → Holds p.directory p.core s → EachSince (calls q.station) (calls r.station) (OpensAsBefore p.directory s)
+        moments_choose tell s holds =
+            selecting tells p.directory (calls p.station) p.core p.journal g n n_is low tell (calls q.station) (besides tell) (has_written tell) mark_long (free g.state g.holds) (calls r.station) (moments tell) s holds
+
+        pub moments_all : tells → StaysAt p.directory p.core (calls p.station) (calls r.station)
+        moments_all tell s holds =
+            joined (OpensAsBefore p.directory s) (OpensAsBefore p.directory s) (calls p.station) (calls q.station) (calls r.station) []
+            (moments_put tell s holds) (silent_put tell ∙ sym (append-nil (said_by (calls p.station)))) (moments_choose tell s holds)
+            (λ files later left. (left.0, left.1))
+
+        silent_all : tells → said_by (calls r.station) ≡ said_by (calls p.station)
+        silent_all tell = silent tell ∙ silent_put tell
+
+        directory_all : r.directory ≡ p.directory
+        directory_all = ap (λ (x : Parts P). x.directory) behind ∙ directory_put
+
+        core_all : r.core ≡ p.core
+        core_all = ap (λ (x : Parts P). x.core) behind ∙ ap (λ (x : Parts P). x.core) rest
+
+        module _ (place : r.journal ≡ selecting_at written file used last p.journal) (stands : tells → StandsOn (calls r.station) r.journal)
+            (files : tells → (k : ℕ) → k ≢ 2 → seen (calls r.station) k ≡ seen (calls q.station) k) where
+          at : r.journal ≡ selecting_at written (1 - p.journal.file) used last p.journal
+          at = place ∙ ap (λ (k : ℕ). selecting_at written k used last p.journal) file_is
+
+          gate : r.journal.gate + 1 ≡ compacted_bytes written n
+          gate = omega (arith, ap (λ (k : InHand). k.gate) at, used_is)
+
+          stands_for : tells → StandsFor p.directory (unowed_state (begun n)) (calls r.station) r.journal
+          stands_for tell =
+              goes_for tells p.directory (calls p.station) p.core p.journal g n n_is low tell (calls q.station) (besides tell) (has_written tell) mark_long (free g.state g.holds) (calls r.station) r.journal used used_is last seal_is at
+              (stands tell) (files tell)
+
+          pub sound_all : IsSound tells calls r
+          sound_all same =
+              let G : Directory → Type 0 = λ d. IsGoing tells d (calls r.station) r.core r.journal in
+              let K : Core → Type 0 = λ k. IsGoing tells p.directory (calls r.station) k r.journal in
+              subst G (sym directory_all) (subst K (sym core_all)
+              (goes_on_compacted tells p.directory (calls p.station) p.core p.journal g n n_is (calls r.station) r.journal used last used_is at (free g.state g.holds) stands_for))
+
+          pub compaction_all : r.stopped ≡ None → IsCompaction tells calls (Ok tt) (engine_of p) (engine_of r)
+          compaction_all goes =
+              compacted_so tells calls (engine_of p) (engine_of r) going directory_all silent_all moments_all n needs goes core_all is_sound_need gate
+
+          pub written_all : tells → (s : State) → Holds p.directory p.core s → IsRewritten p.directory s (calls p.station) (calls r.station) (r.journal.gate + 1)
+          written_all tell s holds =
+              let is : n ≡ need p.directory s = needs p.directory s holds in
+              record {
+                other = apart tells p.directory (calls p.station) p.core p.journal g n n_is low tell (calls q.station) (besides tell) (has_written tell) mark_long (free g.state g.holds) (calls r.station) r.journal used used_is last seal_is at
+                    (stands tell) (files tell);
+                text = text tells p.directory (calls p.station) p.core p.journal g n n_is low tell (calls q.station) (besides tell) (has_written tell) mark_long (free g.state g.holds) (calls r.station) r.journal used used_is last seal_is at
+                    (stands tell) (files tell) ∙ ap (checkpoint_file p.directory.mark) is;
+                size = gate ∙ ap (compacted_bytes written) is;
+              }
+
+        pub left_all : r.stopped ≡ Some Disk → IsCompaction tells calls (Err DiskFault) (engine_of p) (engine_of r)
+        left_all stopped = left_so tells calls (engine_of p) (engine_of r) going directory_all silent_all moments_all stopped
+
+        -- by the answer
+        pub compaction_by : (result : Result (Unit {0}) SwitchFault) → q.stopped ≡ None → r.stopped ≡ stopped_after q.stopped result
+            → ((e : SwitchFault) → result ≡ Err e → e ≡ DiskFault) → OnOk result (r.journal ≡ selecting_at written file used last p.journal) → (tells → OnOk result (StandsOn (calls r.station) r.journal))
+            → (tells → (k : ℕ) → k ≢ 2 → OnOk result (seen (calls r.station) k ≡ seen (calls q.station) k)) → IsCompaction tells calls result (engine_of p) (engine_of r)
+        compaction_by (Ok done) goes stops fault place stands files = compaction_all place stands files (stops ∙ goes)
+        compaction_by (Err e) goes stops fault place stands files =
+            let is : e ≡ DiskFault = fault e refl in
+            subst (λ (x : SwitchFault). IsCompaction tells calls (Err x) (engine_of p) (engine_of r)) (sym is)
+            (left_all (stops ∙ ap (λ (x : SwitchFault). stopped_after q.stopped (let r : Result (Unit {0}) SwitchFault = Err x in r)) is))
+
+        pub sound_by : (result : Result (Unit {0}) SwitchFault) → q.stopped ≡ None → r.stopped ≡ stopped_after q.stopped result
+            → ((e : SwitchFault) → result ≡ Err e → e ≡ DiskFault) → OnOk result (r.journal ≡ selecting_at written file used last p.journal) → (tells → OnOk result (StandsOn (calls r.station) r.journal))
+            → (tells → (k : ℕ) → k ≢ 2 → OnOk result (seen (calls r.station) k ≡ seen (calls q.station) k)) → IsSound tells calls r
+        sound_by (Ok done) goes stops fault place stands files = sound_all place stands files
+        sound_by (Err e) goes stops fault place stands files =
+            stopped_sound tells calls r Disk (stops ∙ ap (λ (x : SwitchFault). stopped_after q.stopped (let r : Result (Unit {0}) SwitchFault = Err x in r)) (fault e refl))
+
+        pub written_by : (result : Result (Unit {0}) SwitchFault) → OnOk result (r.journal ≡ selecting_at written file used last p.journal) → (tells → OnOk result (StandsOn (calls r.station) r.journal))
+            → (tells → (k : ℕ) → k ≢ 2 → OnOk result (seen (calls r.station) k ≡ seen (calls q.station) k)) → tells
+            → OnOk result ((s : State) → Holds p.directory p.core s → IsRewritten p.directory s (calls p.station) (calls r.station) (r.journal.gate + 1))
+        written_by (Ok done) place stands files tell = written_all place stands files tell
+        written_by (Err e) place stands files tell = tt

@@ -1,0 +1,79 @@
+-- The journal is compacted.
+use Rattle.std.specs.Prelude.{◌≡◌, ◌≢◌, ℕ, List, None, Result, Ok, Err}
+use Rattle.gts_traits.specs.Calls.{Call}
+use Rattle.gts_traits.specs.Disk.{seen}
+use Rattle.gts_traits.specs.Moments.{EachSince}
+use Rattle.gts_directory.specs.Directory.{Directory}
+use Rattle.gts_event.specs.State.{State}
+use Rattle.gts_event.specs.Need.{need}
+use Rattle.gts_event.specs.declared.event.Entry.{Entry}
+use Rattle.gts_event.specs.declared.fault.SwitchFault.{SwitchFault}
+use Rattle.gts_event.specs.declared.fault.SwitchFault.TheVariants.{DiskFault, Full, Stopped, NoMemory}
+use Rattle.gts_core.specs.Core.{Core, Holds}
+use Rattle.gts_journal.specs.Law.{OpensAsBefore}
+use Rattle.gts_record.specs.Format.{written}
+use Rattle.gts_opening.specs.Journal.{selected, compacted_bytes}
+use Rattle.gts_opening.specs.Room.{full_compacted}
+use Rattle.gts_checkpoint.specs.{checkpoint_file}
+use Rattle.gts_engine.specs.declared.mode.SayMode.{SayMode}
+use Rattle.gts_engine.specs.declared.parts.Parts.{Parts}
+use Rattle.gts_engine.specs.Engine.{Engine, shown}
+use Rattle.gts_engine.specs.Origin.{Origin, compacted_after}
+use Rattle.gts_engine.specs.Keeping.{IsLeft, IsFullCompacted, Keeps}
+
+-- The journal was to be compacted, with this answer: the engine stands for the same entries, behind which the journal was
+-- compacted; or it was left behind them.
+pub record IsCompaction {P : Type 0} (tells : Type 0) (calls : P → List Call) (result : Result (Unit {0}) SwitchFault) (old new : Engine P) : Type 0 where
+  pub directory : new.directory ≡ old.directory
+  pub done : result ≡ Ok tt → (mode : SayMode) (o : Origin) (h : List Entry) → Keeps tells mode o h (shown calls old)
+      → Keeps tells mode (compacted_after o h) h (shown calls new)
+  pub failed : result ≡ Err DiskFault → (mode : SayMode) (o : Origin) (h : List Entry) → Keeps tells mode o h (shown calls old)
+      → IsLeft tells mode o h (shown calls new)
+
+-- The other file is selected. It is the checkpoint of the need alone, and all of it is in use.
+pub record IsRewritten (d : Directory) (s : State) (old new : List Call) (used : ℕ) : Type 0 where
+  pub other : selected (seen new) ≢ selected (seen old)
+  pub text : seen new (selected (seen new)) ≡ checkpoint_file d.mark (need d s)
+  pub size : used ≡ compacted_bytes written (need d s)
+
+-- The journal would be full after a compaction, and that is answered, with the bytes that are wanted up to the greatest number;
+-- or it would not be full. An engine that goes on isn't stopped.
+abbrev pub GivesRoom : Result (Unit {0}) SwitchFault → Directory → State → Type 0
+GivesRoom (Err (Full at wanted limit)) d s = IsFullCompacted d s (Full at wanted limit)
+GivesRoom (Err (Stopped by)) d s = ⊥
+GivesRoom (Err NoMemory) d s = Unit {0}
+GivesRoom result d s = full_compacted d s ≡ None
+
+-- an answer with which nothing changed
+abbrev pub IsIdleFault : Result (Unit {0}) SwitchFault → Type 0
+IsIdleFault (Err (Full used need limit)) = Unit {0}
+IsIdleFault (Err (Stopped by)) = Unit {0}
+IsIdleFault (Err NoMemory) = Unit {0}
+IsIdleFault _ = ⊥
+
+-- only the station, the journal and what stopped it are other ones
+abbrev pub IsBehind : {P : Type 0} → (old new : Parts P) → Type 0
+IsBehind old new = new ≡ record old { station = new.station; journal = new.journal; stopped = new.stopped }
+
+-- each moment opens to the state that the core holds, and nothing is said
+abbrev pub StaysAt : Directory → Core → List Call → List Call → Type 0
+StaysAt d core old new = (s : State) → Holds d core s → EachSince old new (OpensAsBefore d s)
+
+-- what may be answered where a checkpoint is written
+abbrev pub IsWriteFault : SwitchFault → Type 0
+IsWriteFault DiskFault = Unit {0}
+IsWriteFault NoMemory = Unit {0}
+IsWriteFault _ = ⊥
+
+-- what may be answered where a journal is to be compacted
+abbrev pub IsCompactFault : SwitchFault → Type 0
+IsCompactFault DiskFault = Unit {0}
+IsCompactFault (Full used need limit) = Unit {0}
+IsCompactFault (Stopped by) = Unit {0}
+IsCompactFault NoMemory = Unit {0}
+IsCompactFault _ = ⊥
+
+-- what may be answered where the room is looked at
+abbrev pub IsRoomFault : SwitchFault → Type 0
+IsRoomFault (Full used need limit) = Unit {0}
+IsRoomFault _ = ⊥

@@ -1,0 +1,198 @@
+ghost use Rattle.std.specs.Prelude.{◌≡◌, ◌≢◌, ◌+◌, ◌-◌, ◌^◌, ◌<◌, ◌≤◌, ℕ, min, length, None, Some, Ok, Err, IfOk, IfSome, IfErr, OnOk, IsErrOf};
+ghost use Rattle.gts_traits.specs.{seen, said_by, EachSince};
+ghost use Rattle.gts_opening.specs.Journal.{selected, checkpoint_text, compacted_bytes};
+ghost use Rattle.gts_opening.specs.Room.{full_compacted};
+ghost use Rattle.gts_checkpoint.specs.{checkpoint_file, need_seal, FitBytes, HasWritten, WorksBeside};
+ghost use Rattle.gts_event.specs.State.{State};
+ghost use Rattle.gts_event.specs.Items.{need_of};
+ghost use Rattle.gts_event.specs.Need.{need as need_at};
+ghost use Rattle.gts_record.specs.Format.{held, written};
+ghost use Rattle.gts_journal.specs.{StandsOn, IsClosedAt, selecting, LeavesBoth};
+ghost use Rattle.gts_engine.specs.Words.{Rose, Holds, Needs, IsSound, stopped_after, HasTurnCause, IsUnchanged, engine_of};
+ghost use Rattle.gts_engine.specs.Compacting.{IsCompaction, IsRewritten, GivesRoom, IsIdleFault, IsBehind, StaysAt, IsWriteFault, IsCompactFault, IsRoomFault};
+
+use crate::parts::Parts;
+use gts_checkpoint::{WriteFault, size, write};
+use gts_core::a_core_has_the_waiting_draws_of_its_state;
+use gts_event::{Device, Need, SwitchFault};
+use gts_journal::Version;
+use gts_traits::Station;
+use std::alloc::Global;
+
+/// The bytes of a compacted journal beside its checkpoint and the seal: header, and two gates.
+const BESIDE_CHECKPOINT: u64 = 42;
+
+/// Whether a checkpoint of this size leaves room for all draws that are due.
+fn check_checkpoint<P: Station>(parts: &Parts<P>, size: u64) -> Result<(), SwitchFault>
+    requires going { parts.now.stopped ≡ None }
+    requires sound { IsSound P.tells P.calls parts.now }
+    ensures room { (s : State) → Holds parts.now.directory parts.now.core s
+        → size ≡ min (length (checkpoint_text (need_at parts.now.directory s))) (2 ^ 64 - 1)
+        → GivesRoom result parts.now.directory s }
+    ensures kind { IfErr result IsRoomFault }
+{
+    a_core_has_the_waiting_draws_of_its_state();
+    let limit = parts.directory.limit();
+    let version = Version::written();
+    let seal = version.seal_size() as u64;
+    let draws = version.draw_size() * parts.core.owed();
+    let wanted = size.saturating_add(seal + draws);
+    if wanted.saturating_add(BESIDE_CHECKPOINT) > limit {
+        return Err(SwitchFault::Full {
+            used: BESIDE_CHECKPOINT,
+            need: wanted,
+            limit,
+        });
+    }
+    Ok(())
+}
+
+/// Writes the checkpoint of a need to a file that isn't selected, and answers its seal. A failure of the disk stops the engine.
+fn put<P: Station>(
+    parts: &mut Parts<P>,
+    alloc: Global,
+    file: u32,
+    mark: [u8; 32],
+    need: &Need,
+) -> Result<[u8; 32], SwitchFault>
+    requires file { file < 2 }
+    requires fits { FitBytes (need_of need.now) }
+    requires room { compacted_bytes written (need_of need.now) ≤ 2 ^ 30 }
+    ensures written { P.tells → OnOk result (HasWritten mark (need_of need.now)
+        file (P.calls parts.new.station)) }
+    ensures seal { IfOk result (λ last. held written last ≡ need_seal mark (need_of need.now)) }
+    ensures beside { P.tells
+        → WorksBeside file (P.calls parts.old.station) (P.calls parts.new.station) }
+    ensures rest { parts.new
+        ≡ record parts.old { station = parts.new.station; stopped = parts.new.stopped } }
+    ensures stops { parts.new.stopped ≡ stopped_after parts.old.stopped result }
+    ensures no_memory { IsErrOf result SwitchFault.NoMemory → parts.new ≡ parts.old }
+    ensures fault { IfErr result IsWriteFault }
+    ensures disk { IsErrOf result SwitchFault.DiskFault
+        → Rose (P.disk_faults parts.old.station) (P.disk_faults parts.new.station) }
+    ensures later { P.disk_faults parts.old.station ≤ P.disk_faults parts.new.station }
+    ensures say { P.say_faults parts.new.station ≡ P.say_faults parts.old.station }
+{
+    match write(alloc, &mut parts.station, file, mark, need) {
+        Ok(seal) => Ok(seal),
+        Err(WriteFault::NoMemory) => Err(SwitchFault::NoMemory),
+        Err(WriteFault::DiskFault) => {
+            parts.stopped = Some(Device::Disk);
+            Err(SwitchFault::DiskFault)
+        }
+    }
+}
+
+/// Selects the other file. A failure stops the engine.
+fn choose<P: Station>(
+    parts: &mut Parts<P>,
+    file: u32,
+    used: u64,
+    seal: [u8; 32],
+) -> Result<(), SwitchFault>
+    requires file { file < 2 }
+    requires other { file ≢ parts.old.journal.file }
+    requires used { used ≤ 2 ^ 40 }
+    requires stands { P.tells → StandsOn (P.calls parts.old.station) parts.old.journal }
+    requires whole { P.tells
+        → IsClosedAt (P.calls parts.old.station) parts.old.journal file used }
+    ensures place { OnOk result (parts.new.journal
+        ≡ selecting written file used (held written seal) parts.old.journal) }
+    ensures stands { P.tells
+        → OnOk result (StandsOn (P.calls parts.new.station) parts.new.journal) }
+    ensures files { P.tells → (k : ℕ) → k ≢ 2 → OnOk result
+        (seen (P.calls parts.new.station) k ≡ seen (P.calls parts.old.station) k) }
+    ensures moments { P.tells → EachSince (P.calls parts.old.station) (P.calls parts.new.station)
+        (LeavesBoth (P.calls parts.old.station)) }
+    ensures silent { P.tells
+        → said_by (P.calls parts.new.station) ≡ said_by (P.calls parts.old.station) }
+    ensures rest { IsBehind parts.old parts.new }
+    ensures stops { parts.new.stopped ≡ stopped_after parts.old.stopped result }
+    ensures fault { IfErr result (λ e. (e ≡ SwitchFault.DiskFault)
+        × Rose (P.disk_faults parts.old.station) (P.disk_faults parts.new.station)) }
+    ensures later { P.disk_faults parts.old.station ≤ P.disk_faults parts.new.station }
+    ensures say { P.say_faults parts.new.station ≡ P.say_faults parts.old.station }
+{
+    match parts.journal.select(&mut parts.station, file, used, seal) {
+        Ok(()) => Ok(()),
+        Err(_) => {
+            parts.stopped = Some(Device::Disk);
+            Err(SwitchFault::DiskFault)
+        }
+    }
+}
+
+/// Writes the checkpoint of a need, for which there is room, to the file that isn't selected, and selects that.
+fn rewrite<P: Station>(
+    parts: &mut Parts<P>,
+    alloc: Global,
+    need: &Need,
+    size: u64,
+) -> Result<(), SwitchFault>
+    requires going { parts.old.stopped ≡ None }
+    requires sound { IsSound P.tells P.calls parts.old }
+    requires need { Needs parts.old.core (need_of need.now) }
+    requires size { size ≡ min (length (checkpoint_text (need_of need.now))) (2 ^ 64 - 1) }
+    requires free { (s : State) → Holds parts.old.directory parts.old.core s
+        → full_compacted parts.old.directory s ≡ None }
+    ensures compaction { IsCompaction P.tells P.calls result
+        (engine_of parts.old) (engine_of parts.new) }
+    ensures sound { IsSound P.tells P.calls parts.new }
+    ensures moments { P.tells → StaysAt parts.old.directory parts.old.core
+        (P.calls parts.old.station) (P.calls parts.new.station) }
+    ensures written { P.tells → OnOk result ((s : State) → Holds parts.old.directory parts.old.core s
+        → IsRewritten parts.old.directory s (P.calls parts.old.station)
+        (P.calls parts.new.station) (parts.new.journal.gate + 1)) }
+    ensures stops { parts.new.stopped ≡ stopped_after parts.old.stopped result }
+    ensures kind { IfErr result IsWriteFault }
+    ensures unchanged { IsIdleFault result → parts.new ≡ parts.old }
+    ensures cause { HasTurnCause result
+        (P.disk_faults parts.old.station) (P.disk_faults parts.new.station)
+        (P.say_faults parts.old.station) (P.say_faults parts.new.station) }
+{
+    // A directory is within its bounds.
+    let _ = (parts.directory.circuits(), parts.directory.limit());
+    let mark = parts.directory.mark();
+    let other = 1 - parts.journal.file();
+    let used = BESIDE_CHECKPOINT + Version::written().seal_size() as u64 + size;
+    match put(parts, alloc, other, mark, need) {
+        Ok(seal) => choose(parts, other, used, seal),
+        Err(fault) => Err(fault),
+    }
+}
+
+/// Compacts the journal: it goes on in the other file, with a checkpoint of what the core needs.
+pub fn compact<P: Station>(parts: &mut Parts<P>, alloc: Global) -> Result<(), SwitchFault>
+    requires { IsSound P.tells P.calls parts.old }
+    ensures compaction { IsCompaction P.tells P.calls result
+        (engine_of parts.old) (engine_of parts.new) }
+    ensures sound { IsSound P.tells P.calls parts.new }
+    ensures moments { P.tells → parts.old.stopped ≡ None → StaysAt parts.old.directory
+        parts.old.core (P.calls parts.old.station) (P.calls parts.new.station) }
+    ensures written { P.tells → OnOk result ((s : State) → Holds parts.old.directory parts.old.core s
+        → IsRewritten parts.old.directory s (P.calls parts.old.station)
+        (P.calls parts.new.station) (parts.new.journal.gate + 1)) }
+    ensures full { (s : State) → parts.old.stopped ≡ None → Holds parts.old.directory parts.old.core s
+        → GivesRoom result parts.old.directory s }
+    ensures stopped { IfSome parts.old.stopped
+        (λ by. (result ≡ Err (SwitchFault.Stopped by)) × (parts.new ≡ parts.old)) }
+    ensures stops { parts.new.stopped ≡ stopped_after parts.old.stopped result }
+    ensures kind { IfErr result IsCompactFault }
+    ensures unchanged { IsIdleFault result → parts.new ≡ parts.old }
+    ensures cause { HasTurnCause result
+        (P.disk_faults parts.old.station) (P.disk_faults parts.new.station)
+        (P.say_faults parts.old.station) (P.say_faults parts.new.station) }
+{
+    if let Some(by) = parts.stopped {
+        return Err(SwitchFault::Stopped { by });
+    }
+    let need = match parts.core.need(alloc) {
+        Ok(need) => need,
+        Err(_) => return Err(SwitchFault::NoMemory),
+    };
+    let size = size(&need);
+    match check_checkpoint(parts, size) {
+        Ok(()) => rewrite(parts, alloc, &need, size),
+        Err(fault) => Err(fault),
+    }
+}
