@@ -1,3 +1,5 @@
+ghost use Rattle.std.specs.Prelude.{◌≡◌};
+
 /// The most bytes of a message, from SOH to ETX inclusive (profile).
 pub const LONGEST_MESSAGE: usize = 500_000;
 
@@ -18,3 +20,13 @@ pub const MOST_CIRCUITS: usize = 64;
 
 /// The channels of what the switch says: one for receipts and reports, and one for each circuit.
 pub const CHANNELS: usize = MOST_CIRCUITS + 1;
+
+/// The limits, each with its number.
+pub fn limits_are_these_numbers()
+    ensures message { LONGEST_MESSAGE ≡ 500000 }
+    ensures body { LONGEST_BODY ≡ 499988 }
+    ensures head { FRAME_HEAD ≡ 10 }
+    ensures frame { LONGEST_FRAME ≡ 500010 }
+    ensures circuits { MOST_CIRCUITS ≡ 64 }
+    ensures channels { CHANNELS ≡ 65 }
+{}

@@ -1,6 +1,9 @@
 //! Rows of a day in literal bytes, each the contract of a function with an empty body.
 
+ghost use Rattle.std.specs.Prelude.{◌≡◌};
 ghost use Rattle.gts_generate.specs.Worked as rows;
+
+use crate::{CIRCUITS, MOST_MESSAGES};
 
 /// The first message, byte for byte; and one behind the number 999.
 pub fn messages_are_spelled()
@@ -32,4 +35,10 @@ pub fn the_directory_names_two_circuits()
 /// What of all that was said counts.
 pub fn what_was_said_is_counted()
     ensures { rows.WhatWasSaid }
+{}
+
+/// The limits of a day, each with its number.
+pub fn limits_are_these_numbers()
+    ensures messages { MOST_MESSAGES ≡ 100000 }
+    ensures circuits { CIRCUITS ≡ 8 }
 {}

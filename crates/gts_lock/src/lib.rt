@@ -18,7 +18,7 @@ pub use crossing::halls_passes_and_turns_cross_threads;
 pub use gts_alphabet::NoMemory;
 pub use hall::Hall;
 pub use laws::no_two_passes_are_confused;
-pub use limits::MOST_TURNS;
+pub use limits::{MOST_TURNS, limits_are_these_numbers};
 pub use pass::Pass;
 pub use told::Told;
 pub use turn::Turn;

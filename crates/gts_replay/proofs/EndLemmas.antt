@@ -91,7 +91,7 @@ fault_ends words station o h tells f old new bytes left is = record {
 }
 
 memory_ends : {O W : Type 0} (words : Standing O W) (station : Type 0) (o : O) (h : List Entry) (tells : Type 0) (old new : W) (bytes left : List ℕ)
-    → LacksMemory words o h tells old new bytes → Ends words station o h tells end.NoMemory old new bytes left
+    → LacksMemory words station o h tells old new bytes → Ends words station o h tells end.NoMemory old new bytes left
 memory_ends words station o h tells old new bytes left is = record {
   done = λ e. absurd (cc);
   capture = λ at e. absurd (cc);
@@ -109,12 +109,7 @@ ends_unmade words station o h tells now bytes left start =
     memory_ends words station o h tells now now bytes left record {
       steps = r.0;
       read = λ t small. (r.1, r.2);
-      stands = inl record {
-        front = [];
-        behind = entries_at words now o h r.0;
-        parts = refl;
-        stands = subst (λ (x : List Entry). words.stands o x now) (sym (append-nil h)) start.stands;
-      };
+      stands = inl record { same = refl; stands = start.stands };
     }
 
 -- ---- at a head
@@ -404,7 +399,7 @@ ends_step words station tells bytes first steps old mid new before left after ds
         memory_ends words station o h tells first later bytes after record {
           steps = follow.all;
           read = follow.read;
-          stands = inl record { front = b.front; behind = Restarted ∷ b.behind; parts = b.parts; stands = b.stands };
+          stands = inr (inl b);
         }
     go (step.Switch switch.DiskFault) w = fault_ends words station o h tells switch.DiskFault first later bytes after (stops switch.DiskFault tt w)
     go (step.Switch switch.SayFault) w = fault_ends words station o h tells switch.SayFault first later bytes after (stops switch.SayFault tt w)
@@ -416,4 +411,4 @@ ends_step words station tells bytes first steps old mid new before left after ds
         absurd ((breaks switch.Spent w follow).cause)
     go (step.Switch switch.NoMemory) w =
         let follow = follows d tells bytes steps w.step old mid before left head runs.read reads valid w.of_head w.taken in
-        memory_ends words station o h tells first later bytes after record { steps = follow.all; read = follow.read; stands = inr (breaks switch.NoMemory w follow) }
+        memory_ends words station o h tells first later bytes after record { steps = follow.all; read = follow.read; stands = inr (inr (breaks switch.NoMemory w follow)) }

@@ -83,19 +83,19 @@ pub record StopsAtRestart {O W : Type 0} (words : Standing O W) (station : Type 
   pub breaks : BreaksAtRestart words station o h (entries_at words old o h steps) fault new
   pub memory : fault ≡ opening.NoMemory → ⊥
 
--- the first of these entries were added
-pub record AddsFront {O W : Type 0} (words : Standing O W) (o : O) (h more : List Entry) (now : W) : Type 0 where
-  pub front : List Entry
-  pub behind : List Entry
-  pub parts : more ≡ front ++ behind
-  pub stands : words.stands o (h ++ front) now
+-- Nothing was done yet: the switch is as it was.
+pub record IsUnbegun {O W : Type 0} (words : Standing O W) (o : O) (h : List Entry) (old now : W) : Type 0 where
+  pub same : now ≡ old
+  pub stands : words.stands o h now
 
--- There was no memory. The first entries of the capture's steps were added, or these and that an event was left for want of it.
-pub record LacksMemory {O W : Type 0} (words : Standing O W) (o : O) (h : List Entry)
+-- There was no memory: before the first step; or of the entries of the capture's steps, those before were added, and the journal
+-- was not opened again there; or those before an event, and that it was left for want of memory.
+pub record LacksMemory {O W : Type 0} (words : Standing O W) (station : Type 0) (o : O) (h : List Entry)
     (tells : Type 0) (old new : W) (bytes : List ℕ) : Type 0 where
   pub steps : List Step
   pub read : AreRead words old tells bytes steps
-  pub stands : AddsFront words o h (entries_at words old o h steps) new ⊎ BreaksOff words o h (entries_at words old o h steps) NoMemory new
+  pub stands : IsUnbegun words o h old new ⊎ (BreaksAtRestart words station o h (entries_at words old o h steps) opening.NoMemory new
+      ⊎ BreaksOff words o h (entries_at words old o h steps) NoMemory new)
 
 -- How a run of a capture ended, by its answer: of a switch that stood for these entries since this origin, over a source with
 -- these bytes.
@@ -106,7 +106,7 @@ pub record Ends {O W : Type 0} (words : Standing O W) (station : Type 0) (o : O)
   pub source_fault : result ≡ end.SourceFault → LosesSource words o h tells old new bytes left
   pub reopen : (fault : OpenFault) → result ≡ end.Reopen fault → StopsAtRestart words station o h tells fault old new bytes
   pub fault : (fault : SwitchFault) → result ≡ end.Fault fault → StopsAtFault words o h tells fault old new bytes
-  pub no_memory : result ≡ end.NoMemory → LacksMemory words o h tells old new bytes
+  pub no_memory : result ≡ end.NoMemory → LacksMemory words station o h tells old new bytes
 
 -- a fault of a device is answered only where its count rose, and no count falls
 pub record HasReplayCause (result : ReplayEnd) (disk disk_now say say_now source source_now : ℕ) : Type 0 where

@@ -10,7 +10,9 @@ mod reading;
 mod worked;
 
 pub use command::{Command, WordsFault};
-pub use count::{LONGEST_CONNECTIONS, LONGEST_COUNT, MOST_CONNECTIONS, MOST_GENERATED};
+pub use count::{
+    LONGEST_CONNECTIONS, LONGEST_COUNT, MOST_CONNECTIONS, MOST_GENERATED, limits_are_these_numbers,
+};
 pub use laws::a_count_is_within_its_limits;
 pub use reading::read_words;
 pub use worked::{

@@ -1,0 +1,121 @@
+-- What is turned away, and the lines of kept draws.
+use Rattle.std.proofs.Common.{◌≡◌, cond, ◌&&◌, ◌||◌, ℕ, ◌+◌, ◌<◌, ◌≤◌, Bool, true, false, ◌==◌, inl, inr, nat_le, nat_lt, List, [], ◌∷◌, length, Some, refl, ap, arith}
+use Rattle.std.specs.List.{find, enumerate_from}
+use Rattle.std.proofs.lemmas.Bool.{leb-true, ltb-true, eq-eqb, cases_lt}
+use Rattle.gts_traits.specs.Station.{Outside, on}
+use Rattle.gts_frame.specs.declared.kind.Kind.{Kind}
+use Rattle.gts_directory.specs.Directory.{Directory, is_named}
+use Rattle.gts_event.specs.State.{State, CircuitState, Bulletin, on_circuit, has, draws, no_heading, heading_of}
+use Rattle.gts_event.specs.History.{Event, Heard, Lost, Taken, kept_on, Choice, choice, Repeats, Draws, Nothing_waits, outcome, after, after_heard, after_take, heading_of_message}
+use Rattle.gts_event.specs.Receipt.{receipt_text}
+use Rattle.gts_event.specs.Said.{HasLine, IsTurnedAway, line, spoken}
+use Rattle.gts_event.specs.Need.{circuit_need, is_kept, is_for, circuit_of_event}
+use Rattle.gts_event.specs.Held.{IsHeld}
+use Rattle.gts_event.specs.declared.outcome.Outcome.{Outcome}
+use Rattle.gts_event.specs.declared.outcome.Outcome.TheVariants.{Accepted, Duplicate, Asked, Refused, LineLost, Resend, Draw, Nothing}
+use Rattle.gts_heading.specs.Heading.{HeadingFields}
+use Rattle.gts_event.proofs.ListLemmas.{and_true, or_left, or_right}
+use Rattle.gts_event.proofs.OrderLemmas.{list_all-has}
+use Rattle.gts_event.proofs.LeftLemmas.{kept_positions, length-kept}
+
+-- ---- what is turned away
+
+state_heard : (d : Directory) (s : State) (c : ℕ) (kind : Kind) (message : List ℕ) (o : Outcome) → IsTurnedAway o → after_heard d s c kind message o ≡ s
+state_heard d s c kind message (Accepted p n) h = absurd h
+state_heard d s c kind message (Asked f m) h = absurd h
+state_heard d s c kind message (Duplicate position) h = refl
+state_heard d s c kind message (Refused refusal) h = refl
+state_heard d s c kind message (LineLost field) h = refl
+state_heard d s c kind message (Resend index) h = refl
+state_heard d s c kind message (Draw index) h = refl
+state_heard d s c kind message Nothing h = refl
+
+-- only an accepted bulletin's receipt has its heading
+receipt_alone : (c : ℕ) (o : Outcome) (heading : HeadingFields) → IsTurnedAway o → receipt_text c o heading ≡ receipt_text c o no_heading
+receipt_alone c (Accepted p n) heading h = absurd h
+receipt_alone c (Asked f m) heading h = refl
+receipt_alone c (Duplicate position) heading h = refl
+receipt_alone c (Refused refusal) heading h = refl
+receipt_alone c (LineLost field) heading h = refl
+receipt_alone c (Resend index) heading h = refl
+receipt_alone c (Draw index) heading h = refl
+receipt_alone c Nothing heading h = refl
+
+abbrev take_outcome : Choice → Outcome
+take_outcome ch = elim ch as (λ _. Outcome) [ Repeats index ↦ Resend index | Draws index position ↦ Draw index | Nothing_waits ↦ Nothing ]
+
+-- no take is turned away
+no_take : (ch : Choice) → IsTurnedAway (take_outcome ch) → ⊥
+no_take (Repeats index) h = h
+no_take (Draws index position) h = h
+no_take Nothing_waits h = h
+
+pub turned-state : (d : Directory) (s : State) (event : Event) → IsTurnedAway (outcome d s event) → after d s event ≡ s
+turned-state d s (Heard c kind message) h = state_heard d s c kind message (outcome d s (Heard c kind message)) h
+turned-state d s (Lost c field) h = refl
+turned-state d s (Taken c) h = absurd (no_take (choice d s c) h)
+
+pub turned-said : (d : Directory) (s : State) (event : Event) → IsTurnedAway (outcome d s event)
+    → spoken d s event ≡ on 0 (receipt_text (circuit_of_event event) (outcome d s event) no_heading)
+turned-said d s (Heard c kind message) h = ap (on 0) (receipt_alone c (outcome d s (Heard c kind message)) (heading_of_message message) h)
+turned-said d s (Lost c field) h = refl
+turned-said d s (Taken c) h = absurd (no_take (choice d s c) h)
+
+abbrev said_take : State → ℕ → Choice → Outside
+said_take t c ch =
+    elim ch as (λ _. Outside) [
+      | Repeats index ↦ on (c + 1) (line t c index)
+      | Draws index position ↦ on (c + 1) (line t c index)
+      | Nothing_waits ↦ []
+    ]
+
+pub nothing-given : (d : Directory) (s : State) (c : ℕ) → choice d s c ≡ Nothing_waits → (after d s (Taken c) ≡ s) × (spoken d s (Taken c) ≡ [])
+nothing-given d s c e = (ap (after_take s c) e, ap (said_take (after d s (Taken c)) c) e)
+
+-- ---- the line of a kept draw
+
+differ : (b : Bool) → b ≡ true → b ≡ false → ⊥
+differ b one other = cc
+
+-- the next index is meant where this one isn't
+later_index : (a i : ℕ) → a ≤ i → (a == i) ≡ false → a + 1 ≤ i
+later_index a i low e = elim (cases_lt a i) as (λ _. a + 1 ≤ i) [
+  | inl more ↦ omega (arith, more)
+  | inr all ↦ absurd (differ (a == i) (eq-eqb a i (omega (arith, low, all))) e)
+]
+
+-- the draw of an index among those of these positions
+draw_there : (a i : ℕ) (ps : List ℕ) → a ≤ i → i < a + length ps → (draw : ℕ × ℕ) × (find (λ r. r.0 == i) (enumerate_from a ps) ≡ Some draw) × (has ps draw.1 ≡ true)
+draw_there a i [] low high = absurd (omega arith)
+draw_there a i (p ∷ ps) low high = go (a == i) refl (λ more. draw_there (a + 1) i ps more (omega arith))
+  where
+    go : (b : Bool) → (a == i) ≡ b
+        → (a + 1 ≤ i → (draw : ℕ × ℕ) × (find (λ r. r.0 == i) (enumerate_from (a + 1) ps) ≡ Some draw) × (has ps draw.1 ≡ true))
+        → (draw : ℕ × ℕ) × (cond b (Some (a, p)) (find (λ r. r.0 == i) (enumerate_from (a + 1) ps)) ≡ Some draw) × (((p == draw.1) || has ps draw.1) ≡ true)
+    go true e rest = ((a, p), refl, or_left (p == p) (has ps p) (eq-eqb p p refl))
+    go false e rest =
+        let more = rest (later_index a i low e) in
+        (more.0, more.1, or_right (p == more.0.1) (has ps more.0.1) more.2)
+
+-- a position that has its bulletin
+bulletin_there : (d : Directory) (c p : ℕ) (bs : List Bulletin) → is_for d bs c p ≡ true → (b : Bulletin) × (find (λ x. x.position == p) bs ≡ Some b)
+bulletin_there d c p [] h = absurd (cc)
+bulletin_there d c p (b ∷ bs) h = go (b.position == p) (bulletin_there d c p bs) h
+  where
+    go : (t : Bool) → (is_for d bs c p ≡ true → (x : Bulletin) × (find (λ x. x.position == p) bs ≡ Some x))
+        → ((t && is_named d b.from (heading_of b.body) c) || is_for d bs c p) ≡ true
+        → (x : Bulletin) × (cond t (Some b) (find (λ x. x.position == p) bs) ≡ Some x)
+    go true rest more = (b, refl)
+    go false rest more = rest more
+
+pub kept-line : (d : Directory) (s : State) (c i : ℕ) → c < length d.circuits → IsHeld d s → is_kept (circuit_need (kept_on d c) (on_circuit s c)) i ≡ true → HasLine s c i
+kept-line d s c i lt held h =
+    let q : CircuitState = on_circuit s c in
+    let k : ℕ = kept_on d c in
+    let both = and_true (nat_le (draws q) (i + length (kept_positions k q))) (nat_lt i (draws q)) h in
+    let low : draws q ≤ i + length (kept_positions k q) = leb-true (draws q) (i + length (kept_positions k q)) both.0 in
+    let high : i < draws q = ltb-true i (draws q) both.1 in
+    let found = draw_there q.earlier i q.taken (omega (arith, low, length-kept k q)) high in
+    let known : is_for d s.accepted c found.0.1 ≡ true = list_all-has (is_for d s.accepted c) q.taken found.0.1 (held.each c lt).taken_for found.2 in
+    let b = bulletin_there d c found.0.1 s.accepted known in
+    (found.0, b.0, found.1, b.1)
