@@ -61,16 +61,16 @@ turned-said d s (Heard c kind message) h = ap (on 0) (receipt_alone c (outcome d
 turned-said d s (Lost c field) h = refl
 turned-said d s (Taken c) h = absurd (no_take (choice d s c) h)
 
-abbrev said_take : State → ℕ → Choice → Outside
-said_take t c ch =
+abbrev said_take : Directory → State → ℕ → Choice → Outside
+said_take d t c ch =
     elim ch as (λ _. Outside) [
-      | Repeats index ↦ on (c + 1) (line t c index)
-      | Draws index position ↦ on (c + 1) (line t c index)
+      | Repeats index ↦ on (c + 1) (line d t c index)
+      | Draws index position ↦ on (c + 1) (line d t c index)
       | Nothing_waits ↦ []
     ]
 
 pub nothing-given : (d : Directory) (s : State) (c : ℕ) → choice d s c ≡ Nothing_waits → (after d s (Taken c) ≡ s) × (spoken d s (Taken c) ≡ [])
-nothing-given d s c e = (ap (after_take s c) e, ap (said_take (after d s (Taken c)) c) e)
+nothing-given d s c e = (ap (after_take s c) e, ap (said_take d (after d s (Taken c)) c) e)
 
 -- ---- the line of a kept draw
 
