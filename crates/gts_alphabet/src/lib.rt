@@ -14,8 +14,8 @@ pub use laws::{
     dec_is_read_back, dec_writes_every_number, digits_pass_the_test, longest_body_fits_a_message,
 };
 pub use limits::{
-    limits_are_these_numbers,
     CHANNELS, FRAME_HEAD, LONGEST_BODY, LONGEST_FRAME, LONGEST_MESSAGE, MOST_CIRCUITS,
+    limits_are_these_numbers,
 };
 pub use memory::NoMemory;
 

@@ -17,10 +17,9 @@ pub use generated::Generated;
 pub use laws::the_capture_is_read_as_its_steps;
 pub use summing::summary;
 pub use worked::{
-    limits_are_these_numbers,
-    all_circuits_are_drained_at_the_end, messages_are_spelled, the_directory_names_two_circuits,
-    the_fiftieth_message_repeats_the_one_before_it, the_hundredth_message_is_a_request,
-    what_was_said_is_counted,
+    all_circuits_are_drained_at_the_end, limits_are_these_numbers, messages_are_spelled,
+    the_directory_names_two_circuits, the_fiftieth_message_repeats_the_one_before_it,
+    the_hundredth_message_is_a_request, what_was_said_is_counted,
 };
 
 /// The most messages of a day (profile).
