@@ -23,7 +23,8 @@ use Rattle.gts_engine.specs.Keeping.{IsLeft, IsFullCompacted, Keeps}
 
 -- The journal was to be compacted, with this answer: the engine stands for the same entries, behind which the journal was
 -- compacted; or it was left behind them.
-pub record IsCompaction {P : Type 0} (tells : Type 0) (calls : P → List Call) (result : Result (Unit {0}) SwitchFault) (old new : Engine P) : Type 0 where
+pub record IsCompaction {P : Type 0} (tells : Type 0) (calls : P → List Call)
+    (result : Result (Unit {0}) SwitchFault) (old new : Engine P) : Type 0 where
   pub directory : new.directory ≡ old.directory
   pub done : result ≡ Ok tt → (mode : SayMode) (o : Origin) (h : List Entry) → Keeps tells mode o h (shown calls old)
       → Keeps tells mode (compacted_after o h) h (shown calls new)

@@ -140,7 +140,8 @@ fn rewrite<P: Station>(
     ensures sound { IsSound P.tells P.calls parts.new }
     ensures moments { P.tells → StaysAt parts.old.directory parts.old.core
         (P.calls parts.old.station) (P.calls parts.new.station) }
-    ensures written { P.tells → OnOk result ((s : State) → Holds parts.old.directory parts.old.core s
+    ensures written { P.tells → OnOk result ((s : State)
+        → Holds parts.old.directory parts.old.core s
         → IsRewritten parts.old.directory s (P.calls parts.old.station)
         (P.calls parts.new.station) (parts.new.journal.gate + 1)) }
     ensures stops { parts.new.stopped ≡ stopped_after parts.old.stopped result }
@@ -169,10 +170,12 @@ pub fn compact<P: Station>(parts: &mut Parts<P>, alloc: Global) -> Result<(), Sw
     ensures sound { IsSound P.tells P.calls parts.new }
     ensures moments { P.tells → parts.old.stopped ≡ None → StaysAt parts.old.directory
         parts.old.core (P.calls parts.old.station) (P.calls parts.new.station) }
-    ensures written { P.tells → OnOk result ((s : State) → Holds parts.old.directory parts.old.core s
+    ensures written { P.tells → OnOk result ((s : State)
+        → Holds parts.old.directory parts.old.core s
         → IsRewritten parts.old.directory s (P.calls parts.old.station)
         (P.calls parts.new.station) (parts.new.journal.gate + 1)) }
-    ensures full { (s : State) → parts.old.stopped ≡ None → Holds parts.old.directory parts.old.core s
+    ensures full { (s : State) → parts.old.stopped ≡ None
+        → Holds parts.old.directory parts.old.core s
         → GivesRoom result parts.old.directory s }
     ensures stopped { IfSome parts.old.stopped
         (λ by. (result ≡ Err (SwitchFault.Stopped by)) × (parts.new ≡ parts.old)) }

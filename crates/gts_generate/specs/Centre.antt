@@ -29,7 +29,14 @@ directory = directory_of (map circuit (range_with_len 0 8)) (map rule (range_wit
 
 -- the rows in which it is said: a name is padded with blanks, and circuits are the bits of a mask
 abbrev pub circuit_row : ℕ → CircuitRow
-circuit_row j = record { name = codes "C" ++ dec 1 j ++ codes "      "; peer = replicate 4 (65 + j); kept = 1000; digits = 3; input = 0; output = 0 }
+circuit_row j = record {
+  name = codes "C" ++ dec 1 j ++ codes "      ";
+  peer = replicate 4 (65 + j);
+  kept = 1000;
+  digits = 3;
+  input = 0;
+  output = 0;
+}
 
 abbrev pub rule_row : ℕ → RuleRow
 rule_row j = record { heading = codes "****" ++ dec 2 j ++ codes " ****"; to = 2 ^ (j % 8) + 2 ^ ((j + 3) % 8) }
