@@ -14,9 +14,9 @@ const KEPT: usize = 1000;
 /// The levels, the highest first.
 const LEVELS: [u8; 4] = [1, 2, 3, 4];
 
-/// The bytes of a record of the journal beside the body: an accepted bulletin's and a draw's, each with its gate.
-const ACCEPT_RECORD: usize = 17;
-const DRAW_RECORD: usize = 24;
+/// The bytes of a record of the journal beside the body: an accepted bulletin's and a draw's, each with its seal and its gate.
+const ACCEPT_RECORD: usize = 49;
+const DRAW_RECORD: usize = 56;
 
 /// An empty journal.
 const EMPTY_JOURNAL: usize = 41;
