@@ -23,7 +23,7 @@ where
 // A switch of one circuit that writes what it reads.
 fn echo<R>(rt: &R, input: u16, output: u16) -> Result<(), Failed>
 where
-    R: Net<Listener = TcpListener, Stream = TcpStream> + Clock,
+    R: Net<Listener = TcpListener, Stream = TcpStream> + Clock + Sync,
 {
     let mut lines = TcpLines::new(rt, TRIES);
     let (mut from, mut to) = lines.open(0, input, output)?;
