@@ -60,9 +60,27 @@ def directory(names, receivers, ports):
     return '\n'.join(rows) + '\n'
 
 
+def faults_of(got, sent):
+    """What is wrong with what a reader got: every frame once, numbered on, and each sender's in the order sent. Each
+    sender has a heading of its own."""
+    messages, rest = messages_of(got)
+    faults = []
+    if rest:
+        faults.append(f'{len(rest)} bytes behind the frames')
+    if [number_of(message) for message in messages] != [(k + 1) % 1000 for k in range(len(messages))]:
+        faults.append('the numbers do not go on')
+    for sender, frames in enumerate(sent):
+        want = [body_of(messages_of(one)[0][0]) for one in frames]
+        mark = want[0][:18]
+        got_of_sender = [body_of(message) for message in messages if body_of(message)[:18] == mark]
+        if got_of_sender != want:
+            faults.append(f'sender {sender}: {len(got_of_sender)} frames of {len(want)}, or in another order')
+    return faults
+
+
 class Neighbour(threading.Thread):
     """A neighbour of one circuit: it listens on the port `output`, connects to the port `input`, sends what `say` sends,
-    and reads to the end. Its listener stands as soon as it is made."""
+    and reads to the end. Its listener stands as soon as it is made. `say` may connect again, as often as it wants."""
 
     def __init__(self, input_port, output_port, say, seconds, listens_to_end=True, room=None):
         super().__init__(daemon=True)
@@ -181,9 +199,20 @@ class Switch:
         done = subprocess.run([self.program, word], cwd=self.folder, capture_output=True, timeout=seconds)
         return done.returncode, done.stdout, done.stderr.decode().strip()
 
-    def serve(self):
+    def serve(self, connections=None):
+        """Serves one incoming connection of each circuit, or so many."""
+        words = ['serve'] if connections is None else ['serve', str(connections)]
         with open(self.path('receipts'), 'wb') as out, open(self.path('faults'), 'wb') as err:
-            self.process = subprocess.Popen([self.program, 'serve'], cwd=self.folder, stdout=out, stderr=err)
+            self.process = subprocess.Popen([self.program, *words], cwd=self.folder, stdout=out, stderr=err)
+
+    def descriptors(self):
+        """How many descriptors the process has open now."""
+        return len(os.listdir(f'/proc/{self.process.pid}/fd'))
+
+    def memory(self):
+        """How many kibibytes of memory the process has in use now."""
+        with open(f'/proc/{self.process.pid}/status') as file:
+            return next(int(line.split()[1]) for line in file if line.startswith('VmRSS:'))
 
     def receipts(self):
         with open(self.path('receipts'), 'rb') as file:
