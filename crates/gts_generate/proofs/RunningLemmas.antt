@@ -24,11 +24,13 @@ use Rattle.gts_event.specs.declared.fault.Device.{Device}
 use Rattle.gts_event.specs.declared.fault.Device.TheVariants.{Disk, Say}
 use Rattle.gts_event.specs.declared.fault.SwitchFault.TheVariants as switch
 use Rattle.gts_record.specs.declared.fault.OpenFault.{OpenFault}
-use Rattle.gts_record.specs.Record.{journal_text}
+use Rattle.gts_record.specs.declared.version.Version.{Version}
+use Rattle.gts_record.specs.declared.version.Version.TheVariants.{One, Two}
+use Rattle.gts_record.specs.Format.{journal_text, written}
 use Rattle.gts_connection.specs.Connection.{events_added}
 use Rattle.gts_connection.specs.Capture.{Step, Feed, Take, Reopen, Drain, Restart, Compact, Connections, entries, entries_from, entries_of_step, after_step, no_bytes, FeedHead, TakeHead, EndHead, head_text, step_text, Reading, Whole, IsWhole}
 use Rattle.gts_connection.proofs.LawLemmas.{reads_once}
-use Rattle.gts_opening.specs.Journal.{Opened, opens, files_open, file_opens, selected}
+use Rattle.gts_opening.specs.Journal.{Opened, opens, files_open, file_opens, opened_of, selected}
 use Rattle.gts_opening.specs.Room.{HasDoubt, HasUnsaid}
 use Rattle.gts_core.specs.Core.{Holds, Needs}
 use Rattle.gts_engine.specs.declared.mode.SayMode.{SayMode}
@@ -138,14 +140,15 @@ goes-on (Some Say) es all failed = absurd (done-at failed.0 (Unsaid failed.1) fa
 
 -- ---- an empty journal
 
-new-file : file_opens directory 0 (journal_text (replicate 32 0) []) ≡ Ok (empty directory, 41)
-new-file = refl
+new-file : (v : Version) → opened_of (file_opens v directory 0 (journal_text v (replicate 32 0) [])) ≡ Ok (empty directory, 41)
+new-file One = refl
+new-file Two = refl
 
 -- its files open to nothing
-pub new-files : (files : Files) → files 0 ≡ journal_text (replicate 32 0) [] → files 2 ≡ [] → files_open directory files ≡ Ok (empty directory, 41)
+pub new-files : (files : Files) → files 0 ≡ journal_text written (replicate 32 0) [] → files 2 ≡ [] → files_open directory files ≡ Ok (empty directory, 41)
 new-files files first third =
     let none : selected files ≡ 0 = ap (λ (b : List ℕ). if starts_with nat_eq b (1 ∷ []) then 1 else 0) third in
-    ap (λ (k : ℕ). file_opens directory k (files k)) none ∙ ap (λ (b : List ℕ). file_opens directory 0 b) first ∙ new-file
+    ap (λ (k : ℕ). opened_of (file_opens written directory k (files k))) none ∙ ap (λ (b : List ℕ). opened_of (file_opens written directory 0 b)) first ∙ new-file written
 
 nothing-is : need directory (restarted (empty directory)) ≡ nothing directory
 nothing-is = refl
@@ -162,7 +165,7 @@ used-there files s used one other = let same : (s, used) ≡ (empty directory, 4
 
 -- an engine that was opened over an empty journal begins the day
 pub begun-day : (d : directories.Directory) (mark : List ℕ) (old : StationInMemory) (e : Engine StationInMemory) → d ≡ directory → mark ≡ d.mark
-    → seen (calls_on old) 0 ≡ journal_text mark [] → seen (calls_on old) 2 ≡ [] → said_by (calls_on old) ≡ []
+    → seen (calls_on old) 0 ≡ journal_text written mark [] → seen (calls_on old) 2 ≡ [] → said_by (calls_on old) ≡ []
     → e.directory ≡ d → HasRead d (seen (calls_on old)) e → calls_on e.station ≡ Did Syncs ∷ calls_on old
     → ((m : SayMode) (n : Need) → Holds d e.core (begun n) → Keeps (Unit {0}) m (origin_of calls_on e n) [] (shown calls_on e))
     → ((n : Need) → opens d (seen (calls_on old)) ≡ Ok n → IsTrue (is_sound d n) × Holds d e.core (begun n))
@@ -172,7 +175,7 @@ pub begun-day : (d : directories.Directory) (mark : List ℕ) (old : StationInMe
 begun-day d mark old e same mark_is first third silent under reads synced begins sound ordered once few =
     let files : Files = seen (calls_on old) in
     let n : Need = nothing directory in
-    let zero : files 0 ≡ journal_text (replicate 32 0) [] = first ∙ ap (λ (m : List ℕ). journal_text m []) (mark_is ∙ ap (λ (x : directories.Directory). x.mark) same) in
+    let zero : files 0 ≡ journal_text written (replicate 32 0) [] = first ∙ ap (λ (m : List ℕ). journal_text written m []) (mark_is ∙ ap (λ (x : directories.Directory). x.mark) same) in
     let opened = new-files files zero third in
     let here : HasRead directory files e = subst (λ (x : directories.Directory). HasRead x files e) same reads in
     let used : e.used ≡ 41 = used-there files here.state e.used opened here.opened in
@@ -181,7 +184,7 @@ begun-day d mark old e same mark_is first third silent under reads synced begins
     let keeps : Keeps (Unit {0}) Station (origin_of calls_on e n) [] (shown calls_on e)
     = subst (λ (x : directories.Directory). Holds x e.core (begun n) → Keeps (Unit {0}) Station (origin_of calls_on e n) [] (shown calls_on e)) same (begins Station n) sure.1 in
     let K : directories.Directory → ℕ → Type 0
-    = λ x u. Keeps (Unit {0}) Station (record { directory = x; start = n; used = u; calls = calls_on e.station }) [] (shown calls_on e) in
+    = λ x u. Keeps (Unit {0}) Station (record { directory = x; start = n; used = u; calls = calls_on e.station; compactions = [] }) [] (shown calls_on e) in
     record {
       under = under ∙ same;
       silent = ap said_by synced ∙ silent;

@@ -19,7 +19,7 @@ calls_on station = calls_of station.past
 
 -- the history of a day begins with nothing, behind these calls
 abbrev pub day_origin : List Call → Origin
-day_origin calls = record { directory = directory; start = nothing directory; used = 41; calls = calls }
+day_origin calls = record { directory = directory; start = nothing directory; used = 41; calls = calls; compactions = [] }
 
 -- nothing came yet, and nothing was said
 pub record BeginsDay (e : Engine StationInMemory) : Type 0 where

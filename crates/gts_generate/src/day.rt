@@ -1,6 +1,6 @@
 ghost use Rattle.std.specs.Prelude.{◌≡◌, ◌≤◌, ℕ, [], Err, IfOk, OnOk, replicate};
 ghost use Rattle.gts_traits.specs.{seen, said_by};
-ghost use Rattle.gts_record.specs.Record.{journal_text};
+ghost use Rattle.gts_record.specs.Format.{journal_text, written};
 ghost use Rattle.gts_memory.specs.Past.{calls_of};
 ghost use Rattle.gts_generate.specs.History as day;
 ghost use Rattle.gts_generate.specs.History.{IsFullOn};
@@ -46,7 +46,7 @@ impl From<NoMemory> for DayFault {
 /// memory.
 fn empty_journal(alloc: Global, mark: [u8; 32]) -> Result<MemStation, NoMemory>
     ensures journal { IfOk result (λ station.
-        seen (calls_of station.past) 0 ≡ journal_text mark []) }
+        seen (calls_of station.past) 0 ≡ journal_text written mark []) }
     ensures selector { IfOk result (λ station. seen (calls_of station.past) 2 ≡ []) }
     ensures silent { IfOk result (λ station. said_by (calls_of station.past) ≡ []) }
 {

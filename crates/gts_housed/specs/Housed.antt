@@ -1,5 +1,5 @@
 -- The engine as a hall's value: what it stands for, and what a call on it adds.
-use Rattle.std.specs.Prelude.{◌≡◌, ◌≢◌, ℕ, ◌≤◌, List, [], ◌∷◌, ◌++◌, Result, Ok, Err}
+use Rattle.std.specs.Prelude.{◌≡◌, refl, ◌≢◌, ℕ, ◌≤◌, List, [], ◌∷◌, ◌++◌, Result, Ok, Err}
 use Rattle.gts_traits.specs.Calls.{Call}
 use Rattle.gts_traits.specs.Counts.{Rose}
 use Rattle.gts_directory.specs.Directory.{Directory, directory_of}
@@ -18,18 +18,21 @@ use Rattle.gts_engine.specs.Engine.{Engine, shown}
 use Rattle.gts_engine.specs.Origin.{Origin, state_at}
 use Rattle.gts_engine.specs.Keeping.{Keeps}
 
--- What a hall's history begins with: the engine's origin, and the counts of its station's faults by then.
+-- What a hall's history begins with: the engine's origin, with no compaction since, and the counts of its station's faults by
+-- then.
 pub record Beginning : Type 0 where
   pub origin : Origin
   pub disk : ℕ
   pub say : ℕ
+  pub fresh : origin.compactions ≡ []
 
 -- a beginning that no run has picked yet
 abbrev pub unset : Beginning
 unset = record {
-  origin = let d : Directory = directory_of [] [] [] in record { directory = d; start = nothing d; used = 0; calls = [] };
+  origin = let d : Directory = directory_of [] [] [] in record { directory = d; start = nothing d; used = 0; calls = []; compactions = [] };
   disk = 0;
   say = 0;
+  fresh = refl;
 }
 
 -- The entry that a turn adds: its event as it was done; done and not said; in doubt; or idle, with the fault.

@@ -60,6 +60,7 @@ caused_step {T} result fault d e f s t u a b c de st ab is cause = go fault (sub
     go (step.Capture (Bad at)) w = none (step.Capture (Bad at)) (λ x. absurd (cc)) (λ x. absurd (cc)) (λ x. absurd (cc)) (λ x. absurd (cc))
     go (step.Capture SourceFault) w = none (step.Capture SourceFault) (λ x. absurd (cc)) (λ x. absurd (cc)) (λ x. absurd (cc)) (λ x. rose_since a b c ab (w.source_failed refl))
     go (step.Reopen opening.NoJournal) w = none (step.Reopen opening.NoJournal) (λ x. absurd (cc)) (λ x. absurd (cc)) (λ x. absurd (cc)) (λ x. absurd (cc))
+    go (step.Reopen opening.OldVersion) w = none (step.Reopen opening.OldVersion) (λ x. absurd (cc)) (λ x. absurd (cc)) (λ x. absurd (cc)) (λ x. absurd (cc))
     go (step.Reopen (opening.NotThis want found)) w = none (step.Reopen (opening.NotThis want found)) (λ x. absurd (cc)) (λ x. absurd (cc)) (λ x. absurd (cc)) (λ x. absurd (cc))
     go (step.Reopen (opening.Damaged file at)) w = none (step.Reopen (opening.Damaged file at)) (λ x. absurd (cc)) (λ x. absurd (cc)) (λ x. absurd (cc)) (λ x. absurd (cc))
     go (step.Reopen opening.DiskFault) w = none (step.Reopen opening.DiskFault) (λ x. absurd (cc)) (λ x. rose_since d e f de (w.reopen_failed refl)) (λ x. absurd (cc)) (λ x. absurd (cc))

@@ -389,6 +389,7 @@ ends_step words station tells bytes first steps old mid new before left after ds
           stands = all_added w.step (w.went bs o (h ++ es) runs.decode on);
         }
     go (step.Reopen opening.NoJournal) w = reopen_ends words station o h tells opening.NoJournal first later bytes after (unopened opening.NoJournal (λ e. cc) w)
+    go (step.Reopen opening.OldVersion) w = reopen_ends words station o h tells opening.OldVersion first later bytes after (unopened opening.OldVersion (λ e. cc) w)
     go (step.Reopen (opening.NotThis want found)) w =
         reopen_ends words station o h tells (opening.NotThis want found) first later bytes after (unopened (opening.NotThis want found) (λ e. cc) w)
     go (step.Reopen (opening.Damaged file at)) w = reopen_ends words station o h tells (opening.Damaged file at) first later bytes after (unopened (opening.Damaged file at) (λ e. cc) w)
