@@ -185,7 +185,7 @@ pub fn read<P: Station>(
     let due = waiting(need.circuits.as_slice());
     let draws = due.saturating_mul(version.draw_size());
     let wanted = draws.saturating_add(gate).saturating_add(1);
-    if !is_sound(directory, &need) || wanted > limit {
+    if wanted > limit || !is_sound(alloc, directory, &need)? {
         return Err(damage);
     }
     let before = first_seal(version, &directory.mark());

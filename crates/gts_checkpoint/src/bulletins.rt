@@ -1,0 +1,121 @@
+//! Whether the bulletins of a need are those of a history, and on which circuits they are named.
+
+ghost use Rattle.std.specs.Prelude.{◌≡◌, ◌<◌, ◌&&◌, ◌==◌, map, length, not, is_ok, true};
+ghost use Rattle.std.specs.Int.{bit_at};
+ghost use Rattle.std.specs.List.{list_all};
+ghost use Rattle.gts_checkpoint.specs.Sound as words;
+ghost use Rattle.gts_checkpoint.specs.Sound.{AreBulletins, positions, fields_of, body_at, has, heading_of, ascends, recent_positions, bulletin_of, need_of};
+
+use crate::ascending::place_of;
+use gts_alphabet::LONGEST_BODY;
+use gts_directory::{Directory, a_mask_has_the_bits_of_its_circuits};
+use gts_event::{Bulletin, Need};
+use gts_heading::Heading;
+use gts_message::Body;
+
+/// The heading of a request for repetition to the own centre (profile, after the Manual's designators).
+fn is_request(directory: &Directory, heading: &Heading) -> bool
+    ensures { result ≡ words.is_request directory.now (fields_of heading.now) }
+{
+    heading.tt == *b"BM" && heading.aa == *b"RR" && heading.cccc == directory.centre()
+}
+
+/// Whether these are the bytes of a message that is no request.
+fn is_body(directory: &Directory, body: &[u8]) -> bool
+    ensures { result ≡ (is_ok (body_at body.now)
+        && not (words.is_request directory.now (heading_of body.now))) }
+{
+    match Body::split(body) {
+        Ok((heading, _)) => !is_request(directory, &heading),
+        Err(_) => false,
+    }
+}
+
+/// Whether a bulletin came in on a circuit of the directory, has a position below the number accepted, and the body of a
+/// message that is no request.
+fn is_bulletin(directory: &Directory, accepted: u64, bulletin: &Bulletin) -> bool
+    ensures { result ≡ words.is_bulletin directory.now accepted (bulletin_of bulletin.now) }
+{
+    let body = bulletin.body.as_slice();
+    bulletin.from < directory.circuits()
+        && bulletin.position < accepted
+        && body.len() <= LONGEST_BODY
+        && is_body(directory, body)
+}
+
+/// Whether each of these is a bulletin that was accepted.
+pub(crate) fn are_bulletins(directory: &Directory, accepted: u64, bulletins: &[Bulletin]) -> bool
+    ensures { result ≡ list_all (words.is_bulletin directory.now accepted)
+        (map bulletin_of bulletins.now) }
+{
+    bulletins
+        .iter()
+        .all(|bulletin| is_bulletin(directory, accepted, bulletin))
+}
+
+/// Whether the bulletins of the last positions are there.
+pub(crate) fn has_recent(directory: &Directory, accepted: u64, bulletins: &[Bulletin]) -> bool
+    requires { ascends (positions bulletins.now) ≡ true }
+    ensures { result ≡ list_all (has (positions bulletins.now))
+        (recent_positions directory.now accepted) }
+{
+    let first = accepted.saturating_sub(u64::from(directory.window()));
+    for position in first..accepted {
+        if place_of(bulletins, position).is_none() {
+            return false;
+        }
+    }
+    true
+}
+
+/// Whether a mask has a bit.
+fn has_bit(mask: u64, i: u32) -> bool
+    requires { i < 64 }
+    ensures { result ≡ (bit_at mask i == 1) }
+{
+    (mask >> i) % 2 == 1
+}
+
+/// Whether a bulletin is named on a circuit.
+fn is_named(directory: &Directory, bulletin: &Bulletin, circuit: u32) -> bool
+    requires from { bulletin.now.from < length directory.now.circuits }
+    requires circuit { circuit < length directory.now.circuits }
+    requires body { is_ok (body_at bulletin.now.body) ≡ true }
+    ensures { result ≡ words.is_named directory.now bulletin.now.from
+        (heading_of bulletin.now.body) circuit }
+{
+    a_mask_has_the_bits_of_its_circuits();
+    match Body::split(bulletin.body.as_slice()) {
+        Ok((heading, _)) => has_bit(directory.names(bulletin.from, &heading), circuit),
+        Err(_) => false,
+    }
+}
+
+/// Whether a position has its bulletin, and that is named on a circuit.
+fn is_for(directory: &Directory, need: &Need, circuit: u32, position: u64) -> bool
+    requires bulletins { AreBulletins directory.now (need_of need.now) }
+    requires circuit { circuit < length directory.now.circuits }
+    ensures { result ≡ words.is_for directory.now (map bulletin_of need.now.bulletins)
+        circuit position }
+{
+    let bulletins = need.bulletins.as_slice();
+    match place_of(bulletins, position) {
+        Some(place) => is_named(directory, &bulletins[place], circuit),
+        None => false,
+    }
+}
+
+/// Whether each of these positions has its bulletin, and that is named on a circuit.
+pub(crate) fn are_for(directory: &Directory, need: &Need, circuit: u32, positions: &[u64]) -> bool
+    requires bulletins { AreBulletins directory.now (need_of need.now) }
+    requires circuit { circuit < length directory.now.circuits }
+    ensures { result ≡ list_all (words.is_for directory.now
+        (map bulletin_of need.now.bulletins) circuit) positions.now }
+{
+    for position in positions {
+        if !is_for(directory, need, circuit, *position) {
+            return false;
+        }
+    }
+    true
+}
