@@ -1,4 +1,5 @@
 pub mod AloneLemmas
+pub mod AscendingLemmas
 pub mod PenLemmas
 pub mod PieceLemmas
 pub mod NeedLemmas

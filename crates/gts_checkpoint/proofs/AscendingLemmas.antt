@@ -1,0 +1,109 @@
+-- Numbers that ascend, and what is found among them.
+use Rattle.std.proofs.Common.{◌≡◌, ◌≢◌, ℕ, zero, suc, ◌+◌, ◌<◌, ◌≤◌, Bool, true, false, ◌||◌, ◌==◌, ◌⊎◌, inl, inr, nat_lt, List, [], ◌∷◌, length, get_or, Ok, Err, Result, is_ok, refl, sym, ap, arith}
+use Rattle.std.specs.Result.{MatchResult}
+use Rattle.std.proofs.lemmas.Bool.{and_parts, and_from, false_from_ne_true, ltb-true, lt-ltb, eq-eqb, ne_eqb, cases_lt}
+use Rattle.gts_event.specs.State.{has}
+use Rattle.gts_event.specs.Need.{ascends}
+use Rattle.gts_event.specs.declared.plain.Bulletin.{Bulletin}
+use Rattle.gts_checkpoint.specs.Sound.{positions}
+
+pub rises : (xs : List ℕ) (i j : ℕ) → ascends xs ≡ true → i < j → j < length xs → get_or xs i 0 < get_or xs j 0
+rises [] i j h l m = absurd (omega arith)
+rises (x ∷ []) i j h l m = absurd (omega arith)
+rises (x ∷ y ∷ zs) i zero h l m = absurd (omega arith)
+rises (x ∷ y ∷ zs) zero (suc zero) h l m = ltb-true x y (and_parts (nat_lt x y) (ascends (y ∷ zs)) h).0
+rises (x ∷ y ∷ zs) zero (suc (suc j)) h l m =
+    let both = and_parts (nat_lt x y) (ascends (y ∷ zs)) h in
+    let a : x < y = ltb-true x y both.0 in
+    let b : y < get_or zs j 0 = rises (y ∷ zs) zero (suc j) both.1 (omega arith) (omega arith) in omega arith
+rises (x ∷ y ∷ zs) (suc i) (suc j) h l m =
+    rises (y ∷ zs) i j (and_parts (nat_lt x y) (ascends (y ∷ zs)) h).1 (omega arith) (omega arith)
+
+-- each is below the next
+pub ascends-from : (xs : List ℕ) → ((i : ℕ) → suc i < length xs → get_or xs i 0 < get_or xs (suc i) 0) → ascends xs ≡ true
+ascends-from [] h = refl
+ascends-from (x ∷ []) h = refl
+ascends-from (x ∷ y ∷ zs) h =
+    and_from (nat_lt x y) (ascends (y ∷ zs)) (lt-ltb x y (h zero (omega arith))) (ascends-from (y ∷ zs) (λ i l. h (suc i) (omega arith)))
+
+pub ascends-not : (xs : List ℕ) (i j : ℕ) → j ≡ i + 1 → j < length xs → get_or xs j 0 ≤ get_or xs i 0 → ascends xs ≡ false
+ascends-not xs i j e l m = false_from_ne_true (ascends xs) (λ h. let up : get_or xs i 0 < get_or xs j 0 = rises xs i j h (omega arith) l in omega arith)
+
+-- the numbers below a place, each below the next
+abbrev pub RiseTo : List ℕ → ℕ → Type 0
+RiseTo xs n = (i : ℕ) → suc i < n → get_or xs i 0 < get_or xs (suc i) 0
+
+pub rise-none : (xs : List ℕ) → RiseTo xs 1
+rise-none xs i l = absurd (omega arith)
+
+pub rise-more : (xs : List ℕ) (n k : ℕ) → RiseTo xs n → n ≡ k + 1 → get_or xs k 0 < get_or xs n 0 → RiseTo xs (n + 1)
+rise-more xs n k h e l i m = go (cases_lt (suc i) n)
+  where
+    go : (suc i < n) ⊎ (n ≤ suc i) → get_or xs i 0 < get_or xs (suc i) 0
+    go (inl t) = h i t
+    go (inr t) =
+        let at : i ≡ k = omega arith in
+        let next : suc i ≡ n = omega arith in rw (at, ← e') l
+      where
+        e' : n ≡ suc k
+        e' = omega arith
+
+-- ---- what is among numbers
+
+pub has-at : (xs : List ℕ) (i n : ℕ) → i < length xs → get_or xs i 0 ≡ n → has xs n ≡ true
+has-at [] i n l e = absurd (omega arith)
+has-at (x ∷ xs) zero n l e = rw (eq-eqb x n e) refl
+has-at (x ∷ xs) (suc i) n l e = go (x == n) (has-at xs i n (omega arith) e)
+  where
+    go : (b : Bool) → has xs n ≡ true → (b || has xs n) ≡ true
+    go true h = refl
+    go false h = h
+
+pub has-not : (xs : List ℕ) (n : ℕ) → ((k : ℕ) → k < length xs → get_or xs k 0 ≢ n) → has xs n ≡ false
+has-not [] n h = refl
+has-not (x ∷ xs) n h = rw (ne_eqb x n (h zero (omega arith))) (has-not xs n (λ k l. h (suc k) (omega arith)))
+
+pub has-searched : (xs : List ℕ) (n : ℕ) (r : Result ℕ ℕ)
+    → MatchResult r (λ i. (i < length xs) × (get_or xs i 0 ≡ n)) (λ i. (i ≤ length xs) × ((k : ℕ) → k < i → get_or xs k 0 < n) × ((k : ℕ) → i ≤ k → k < length xs → n < get_or xs k 0))
+    → is_ok r ≡ has xs n
+has-searched xs n (Ok i) h = sym (has-at xs i n h.0 h.1)
+has-searched xs n (Err i) h = sym (has-not xs n (λ k l. apart k l (cases_lt k i)))
+  where
+    apart : (k : ℕ) → k < length xs → (k < i) ⊎ (i ≤ k) → get_or xs k 0 ≢ n
+    apart k l (inl t) = λ e. let below : get_or xs k 0 < n = h.1 k t in absurd (omega arith)
+    apart k l (inr t) = λ e. let above : n < get_or xs k 0 = h.2 k t l in absurd (omega arith)
+
+-- ---- positions of bulletins
+
+pub positions-length : (bs : List Bulletin) → length (positions bs) ≡ length bs
+positions-length [] = refl
+positions-length (b ∷ bs) = let e = positions-length bs in omega arith
+
+pub position-at : (bs : List Bulletin) (i : ℕ) (b : Bulletin) → i < length bs → get_or (positions bs) i 0 ≡ (get_or bs i b).position
+position-at [] i b l = absurd (omega arith)
+position-at (x ∷ bs) zero b l = refl
+position-at (x ∷ bs) (suc i) b l = position-at bs i b (omega arith)
+
+-- ---- the halves of a search
+
+pub below-half : (xs : List ℕ) (n m : ℕ) → ascends xs ≡ true → m < length xs → get_or xs m 0 < n → (k : ℕ) → k < m + 1 → get_or xs k 0 < n
+below-half xs n m h l less k t = go (cases_lt k m)
+  where
+    go : (k < m) ⊎ (m ≤ k) → get_or xs k 0 < n
+    go (inl t') = let up : get_or xs k 0 < get_or xs m 0 = rises xs k m h t' l in omega arith
+    go (inr t') = let same : k ≡ m = omega arith in rw same less
+
+pub above-half : (xs : List ℕ) (n m : ℕ) → ascends xs ≡ true → n < get_or xs m 0 → (k : ℕ) → m ≤ k → k < length xs → n < get_or xs k 0
+above-half xs n m h more k t l = go (cases_lt m k)
+  where
+    go : (m < k) ⊎ (k ≤ m) → n < get_or xs k 0
+    go (inl t') = let up : get_or xs m 0 < get_or xs k 0 = rises xs m k h t' l in omega arith
+    go (inr t') = let same : k ≡ m = omega arith in rw same more
+
+pub found_none : (xs : List ℕ) (n m size : ℕ) → ((k : ℕ) → k < m → get_or xs k 0 < n) → ((k : ℕ) → m ≤ k → k < size → n < get_or xs k 0)
+    → (k : ℕ) → k < size → get_or xs k 0 ≢ n
+found_none xs n m size below above k l = go (cases_lt k m)
+  where
+    go : (k < m) ⊎ (m ≤ k) → get_or xs k 0 ≢ n
+    go (inl t) = λ e. let less : get_or xs k 0 < n = below k t in absurd (omega arith)
+    go (inr t) = λ e. let more : n < get_or xs k 0 = above k t l in absurd (omega arith)
