@@ -1,5 +1,7 @@
 pub mod AloneLemmas
 pub mod AscendingLemmas
+pub mod NamedLemmas
+pub mod SoundLemmas
 pub mod PenLemmas
 pub mod PieceLemmas
 pub mod NeedLemmas

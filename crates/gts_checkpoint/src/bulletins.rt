@@ -70,10 +70,9 @@ pub(crate) fn has_recent(directory: &Directory, accepted: u64, bulletins: &[Bull
 
 /// Whether a mask has a bit.
 fn has_bit(mask: u64, i: u32) -> bool
-    requires { i < 64 }
     ensures { result ≡ (bit_at mask i == 1) }
 {
-    (mask >> i) % 2 == 1
+    i < u64::BITS && (mask >> i) % 2 == 1
 }
 
 /// Whether a bulletin is named on a circuit.

@@ -1,0 +1,119 @@
+-- Bulletins that are found by their positions, and lists of which each element passes a test.
+use Rattle.std.proofs.Common.{◌≡◌, ℕ, zero, suc, ◌+◌, ◌-◌, ◌<◌, ◌≤◌, Bool, true, false, not, ◌&&◌, ◌||◌, ◌==◌, nat_lt, nat_le, List, [], ◌∷◌, length, get_or, map, take, slice_get, Option, Some, None, is_ok, ◌⊎◌, inl, inr, refl, sym, ap, ◌∙◌, arith}
+use Rattle.std.specs.Prelude.{IfSome, IfNone, is_some}
+use Rattle.std.specs.List.{list_all, list_any, range_with_len}
+use Rattle.std.proofs.lemmas.Bool.{and_parts, and_from, ltb-true, eq-eqb, ne_eqb, cases_lt}
+use Rattle.std.proofs.lemmas.List.{take_all}
+use Rattle.std.proofs.lemmas.List.Folds.{list_all_more, list_all_at}
+use Rattle.std.proofs.lemmas.List.FromFn.{length-range_with_len, get_or-range_with_len}
+use Rattle.gts_alphabet.specs.declared.limits.TheConstants.{LONGEST_BODY}
+use Rattle.gts_directory.specs.Directory.{Directory}
+use Rattle.gts_message.specs.Message.{body_at}
+use Rattle.gts_event.specs.State.{Bulletin, has, heading_of}
+use Rattle.gts_event.specs.History.{is_request}
+use Rattle.gts_event.specs.Need.{ascends, is_bulletin}
+use Rattle.gts_event.specs.Items.{bulletin_of}
+use Rattle.gts_event.specs.declared.plain.Bulletin as plain
+use Rattle.gts_checkpoint.specs.Sound.{positions}
+use Rattle.gts_checkpoint.proofs.AscendingLemmas.{rises, has-not}
+
+-- ---- each element passes
+
+pub all-more : {X : Type 0} (f : X → Bool) (xs : List X) (i : ℕ) (x : X) → i < length xs → x ≡ get_or xs i x
+    → list_all f (take i xs) ≡ true → f x ≡ true → list_all f (take (i + 1) xs) ≡ true
+all-more f xs i x l is h e = list_all_more f xs i x l ∙ and_from (list_all f (take i xs)) (f (get_or xs i x)) h (sym (ap f is) ∙ e)
+
+pub all-not : {X : Type 0} (f : X → Bool) (xs : List X) (i : ℕ) (x : X) → i < length xs → x ≡ get_or xs i x → f x ≡ false → list_all f xs ≡ false
+all-not f xs i x l is e = list_all_at f xs i x l (sym (ap f is) ∙ e)
+
+pub all-end : {X : Type 0} (f : X → Bool) (xs : List X) (i : ℕ) → length xs ≤ i → list_all f (take i xs) ≡ true → list_all f xs ≡ true
+all-end f xs i l h = sym (ap (list_all f) (take_all i xs l)) ∙ h
+
+pub range-all : (f : ℕ → Bool) (a n : ℕ) → ((p : ℕ) → a ≤ p → p < a + n → f p ≡ true) → list_all f (range_with_len a n) ≡ true
+range-all f a zero h = refl
+range-all f a (suc n) h =
+    and_from (f a) (list_all f (range_with_len (a + 1) n)) (h a (omega arith) (omega arith)) (range-all f (a + 1) n (λ p l m. h p (omega arith) (omega arith)))
+
+pub range-not : (f : ℕ → Bool) (a n p : ℕ) → a ≤ p → p < a + n → f p ≡ false → list_all f (range_with_len a n) ≡ false
+range-not f a n p l m e =
+    let is : get_or (range_with_len a n) (p - a) 0 ≡ p = get_or-range_with_len a n (p - a) 0 (omega arith) ∙ (omega arith) in
+    list_all_at f (range_with_len a n) (p - a) 0 (omega (arith, length-range_with_len a n)) (ap f is ∙ e)
+
+-- from one place up to another, and one more
+pub all-below-more : (f : ℕ → Bool) (a n : ℕ) → ((p : ℕ) → a ≤ p → p < n → f p ≡ true) → f n ≡ true → (p : ℕ) → a ≤ p → p < n + 1 → f p ≡ true
+all-below-more f a n h e p l m = go (cases_lt p n)
+  where
+    go : (p < n) ⊎ (n ≤ p) → f p ≡ true
+    go (inl t) = h p l t
+    go (inr t) = let same : p ≡ n = omega arith in rw same e
+
+-- ---- what is found at a place
+
+pub get-bounds : (xs : List ℕ) (i n : ℕ) → slice_get xs i ≡ Some n → (i < length xs) × (get_or xs i 0 ≡ n)
+get-bounds [] i n e = absurd (cc)
+get-bounds (x ∷ xs) zero n e = (omega arith, cc)
+get-bounds (x ∷ xs) (suc i) n e = let more = get-bounds xs i n e in (omega arith, more.1)
+
+has-get : (xs : List ℕ) (i n : ℕ) → slice_get xs i ≡ Some n → has xs n ≡ true
+has-get [] i n e = absurd (cc)
+has-get (x ∷ xs) zero n e = let same : x ≡ n = cc in rw (eq-eqb x n same) refl
+has-get (x ∷ xs) (suc i) n e = go (x == n) (has-get xs i n e)
+  where
+    go : (b : Bool) → has xs n ≡ true → (b || has xs n) ≡ true
+    go true h = refl
+    go false h = h
+
+-- a search of a place finds what is there
+pub has-found : (xs : List ℕ) (n : ℕ) (r : Option ℕ) → IfSome r (λ place. slice_get xs place ≡ Some n) → IfNone r (has xs n ≡ false) → has xs n ≡ is_some r
+has-found xs n (Some i) h k = has-get xs i n h
+has-found xs n None h k = k
+
+-- ---- bulletins
+
+pub bulletin-at : (d : Directory) (a : ℕ) (bs : List plain.Bulletin) (i : ℕ) (b : plain.Bulletin) → list_all (is_bulletin d a) (map bulletin_of bs) ≡ true
+    → i < length (positions bs) → b ≡ get_or bs i b → is_bulletin d a (bulletin_of b) ≡ true
+bulletin-at d a [] i b h l is = absurd (omega arith)
+bulletin-at d a (x ∷ bs) zero b h l is =
+    ap (λ (y : plain.Bulletin). is_bulletin d a (bulletin_of y)) is ∙ (and_parts (is_bulletin d a (bulletin_of x)) (list_all (is_bulletin d a) (map bulletin_of bs)) h).0
+bulletin-at d a (x ∷ bs) (suc i) b h l is =
+    bulletin-at d a bs i b (and_parts (is_bulletin d a (bulletin_of x)) (list_all (is_bulletin d a) (map bulletin_of bs)) h).1 (omega arith) is
+
+-- the circuit and the body of an accepted bulletin
+pub bulletin-has : (d : Directory) (a : ℕ) (b : Bulletin) → is_bulletin d a b ≡ true → (b.from < length d.circuits) × (is_ok (body_at b.body) ≡ true)
+bulletin-has d a b h =
+    let h4 = and_parts _ (not (is_request d (heading_of b.body))) h in
+    let h3 = and_parts _ (is_ok (body_at b.body)) h4.0 in
+    let h2 = and_parts _ (nat_le (length b.body) LONGEST_BODY) h3.0 in
+    let h1 = and_parts (nat_lt b.from (length d.circuits)) (nat_lt b.position a) h2.0 in
+    (ltb-true b.from (length d.circuits) h1.0, h3.1)
+
+pub none-for : (f : Bulletin → Bool) (bs : List plain.Bulletin) (p : ℕ) → has (positions bs) p ≡ false
+    → list_any (λ x. (x.position == p) && f x) (map bulletin_of bs) ≡ false
+none-for f [] p h = refl
+none-for f (b ∷ bs) p h = go (b.position == p) h (none-for f bs p)
+  where
+    go : (t : Bool) → (t || has (positions bs) p) ≡ false → (has (positions bs) p ≡ false → list_any (λ x. (x.position == p) && f x) (map bulletin_of bs) ≡ false)
+        → ((t && f (bulletin_of b)) || list_any (λ x. (x.position == p) && f x) (map bulletin_of bs)) ≡ false
+    go true e more = absurd (cc)
+    go false e more = more e
+
+ascends-tail : (x : ℕ) (xs : List ℕ) → ascends (x ∷ xs) ≡ true → ascends xs ≡ true
+ascends-tail x [] h = refl
+ascends-tail x (y ∷ ys) h = (and_parts (nat_lt x y) (ascends (y ∷ ys)) h).1
+
+or_none : (b c : Bool) → c ≡ false → b ≡ (b || c)
+or_none true c e = refl
+or_none false c e = sym e
+
+-- among bulletins in order, only the one that is found has the position
+pub found-for : (f : Bulletin → Bool) (bs : List plain.Bulletin) (i p : ℕ) (b : plain.Bulletin) → ascends (positions bs) ≡ true
+    → slice_get (positions bs) i ≡ Some p → b ≡ get_or bs i b → f (bulletin_of b) ≡ list_any (λ x. (x.position == p) && f x) (map bulletin_of bs)
+found-for f [] i p b h at is = absurd (cc)
+found-for f (x ∷ bs) zero p b h at is =
+    let same : x.position ≡ p = cc in
+    let none = none-for f bs p (has-not (positions bs) p (λ k l e. let up = rises (positions (x ∷ bs)) zero (suc k) h (omega arith) (omega arith) in absurd (omega arith))) in
+    rw (eq-eqb x.position p same) (ap (λ (y : plain.Bulletin). f (bulletin_of y)) is ∙ or_none (f (bulletin_of x)) _ none)
+found-for f (x ∷ bs) (suc i) p b h at is =
+    let place = get-bounds (positions bs) i p at in
+    let up : x.position < get_or (positions bs) i 0 = rises (positions (x ∷ bs)) zero (suc i) h (omega arith) (omega arith) in
+    rw (ne_eqb x.position p (λ (e : x.position ≡ p). omega (arith, place.1))) (found-for f bs i p b (ascends-tail x.position (positions bs) h) at is)

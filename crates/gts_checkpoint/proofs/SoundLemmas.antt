@@ -1,0 +1,122 @@
+-- Numbers that differ, what is held on circuits, and the parts of soundness.
+use Rattle.std.proofs.Common.{◌≡◌, ◌≢◌, ℕ, zero, suc, ◌+◌, ◌-◌, ◌<◌, ◌≤◌, Bool, true, false, not, ◌&&◌, ◌||◌, ◌==◌, ◌⊎◌, inl, inr, nat_lt, nat_le, List, [], ◌∷◌, ◌++◌, length, get_or, map, take, filter, zip, slice_get, Option, Some, None, refl, sym, ap, ◌∙◌, arith}
+use Rattle.std.specs.List.{list_all, list_any, enumerate_from, sum_by}
+use Rattle.std.specs.List.Sorted.{IsNonDecreasing, IsPermutation}
+use Rattle.std.proofs.Math.Bool.{and-false, and-true}
+use Rattle.std.proofs.lemmas.Bool.{and_parts, and_from, eq-eqb, ne_eqb, eqb-true, cases_lt}
+use Rattle.std.proofs.lemmas.List.Folds.{list_all-append, list_any-append, list_any_more}
+use Rattle.std.proofs.lemmas.List.Sums.{length-filter}
+use Rattle.std.proofs.lemmas.List.Sorted.{IsPermutation-sym, All-permutation, sum_by-IsPermutation, list_any-IsPermutation}
+use Rattle.gts_event.specs.State.{has}
+use Rattle.gts_event.specs.Need.{ascends, is_distinct}
+use Rattle.gts_checkpoint.proofs.AscendingLemmas.{rises, ascends-from}
+
+same-tests : (a b : Bool) → (a ≡ true → b ≡ true) → (b ≡ true → a ≡ true) → a ≡ b
+same-tests true b h k = sym (h refl)
+same-tests false true h k = k refl
+same-tests false false h k = refl
+
+-- ---- how often a number stands in a list
+
+abbrev count : ℕ → List ℕ → ℕ
+count n xs = length (filter (λ m. m == n) xs)
+
+count-same : (x : ℕ) (xs : List ℕ) (n : ℕ) → x ≡ n → count n (x ∷ xs) ≡ count n xs + 1
+count-same x xs n e = rw (eq-eqb x n e) (omega arith)
+
+count-other : (x : ℕ) (xs : List ℕ) (n : ℕ) → x ≢ n → count n (x ∷ xs) ≡ count n xs
+count-other x xs n e = rw (ne_eqb x n e) refl
+
+count-le : (x : ℕ) (xs : List ℕ) (n : ℕ) → count n xs ≤ count n (x ∷ xs)
+count-le x xs n = go (x == n) refl
+  where
+    go : (b : Bool) → (x == n) ≡ b → count n xs ≤ count n (x ∷ xs)
+    go true e = omega (arith, count-same x xs n (eqb-true x n e))
+    go false e = rw e (omega arith)
+
+count-none : (xs : List ℕ) (n : ℕ) → ((k : ℕ) → k < length xs → get_or xs k 0 ≢ n) → count n xs ≡ 0
+count-none [] n h = refl
+count-none (x ∷ xs) n h = count-other x xs n (h zero (omega arith)) ∙ count-none xs n (λ k l. h (suc k) (omega arith))
+
+count-once : (xs : List ℕ) (i n : ℕ) → i < length xs → get_or xs i 0 ≡ n → ((k : ℕ) → k < length xs → k ≢ i → get_or xs k 0 ≢ n) → count n xs ≡ 1
+count-once [] i n l e h = absurd (omega arith)
+count-once (x ∷ xs) zero n l e h =
+    let none = count-none xs n (λ k l'. h (suc k) (omega arith) (λ (e' : suc k ≡ 0). omega arith)) in omega (arith, none, count-same x xs n e)
+count-once (x ∷ xs) (suc i) n l e h =
+    count-other x xs n (h zero (omega arith) (λ (e' : zero ≡ suc i). omega arith))
+    ∙ count-once xs i n (omega arith) e (λ k l' d. h (suc k) (omega arith) (λ (e' : suc k ≡ suc i). d (omega arith)))
+
+count-some : (xs : List ℕ) (i n : ℕ) → i < length xs → get_or xs i 0 ≡ n → 1 ≤ count n xs
+count-some [] i n l e = absurd (omega arith)
+count-some (x ∷ xs) zero n l e = omega (arith, count-same x xs n e)
+count-some (x ∷ xs) (suc i) n l e = let more = count-some xs i n (omega arith) e in omega (arith, more, count-le x xs n)
+
+count-twice : (xs : List ℕ) (i j n : ℕ) → i < j → j < length xs → get_or xs i 0 ≡ n → get_or xs j 0 ≡ n → 2 ≤ count n xs
+count-twice [] i j n t l e f = absurd (omega arith)
+count-twice (x ∷ xs) i zero n t l e f = absurd (omega arith)
+count-twice (x ∷ xs) zero (suc j) n t l e f = let more = count-some xs j n (omega arith) f in omega (arith, more, count-same x xs n e)
+count-twice (x ∷ xs) (suc i) (suc j) n t l e f = let more = count-twice xs i j n (omega arith) (omega arith) e f in omega (arith, more, count-le x xs n)
+
+count-permuted : (xs ys : List ℕ) (n : ℕ) → IsPermutation xs ys → count n ys ≡ count n xs
+count-permuted xs ys n p = length-filter (λ m. m == n) ys ∙ sum_by-IsPermutation _ xs ys p ∙ sym (length-filter (λ m. m == n) xs)
+
+-- ---- numbers that differ
+
+all-at : (f : ℕ → Bool) (xs : List ℕ) → list_all f xs ≡ true → (k d : ℕ) → k < length xs → f (get_or xs k d) ≡ true
+all-at f [] h k d l = absurd (omega arith)
+all-at f (x ∷ xs) h zero d l = (and_parts (f x) (list_all f xs) h).0
+all-at f (x ∷ xs) h (suc k) d l = all-at f xs (and_parts (f x) (list_all f xs) h).1 k d (omega arith)
+
+all-from : (f : ℕ → Bool) (xs : List ℕ) → ((k : ℕ) → k < length xs → f (get_or xs k 0) ≡ true) → list_all f xs ≡ true
+all-from f [] h = refl
+all-from f (x ∷ xs) h = and_from (f x) (list_all f xs) (h zero (omega arith)) (all-from f xs (λ k l. h (suc k) (omega arith)))
+
+distinct-permuted : (xs ys : List ℕ) → IsPermutation xs ys → is_distinct xs ≡ true → is_distinct ys ≡ true
+distinct-permuted xs ys p h =
+    let all = All-permutation (λ n. (count n xs == 1) ≡ true) xs ys p (all-at (λ n. count n xs == 1) xs h) in
+    all-from (λ n. count n ys == 1) ys (λ k l. ap (λ (c : ℕ). c == 1) (count-permuted xs ys (get_or ys k 0) p) ∙ all k 0 l)
+
+ascending-distinct : (xs : List ℕ) → ascends xs ≡ true → is_distinct xs ≡ true
+ascending-distinct xs h =
+    all-from (λ n. count n xs == 1) xs (λ k l. eq-eqb (count (get_or xs k 0) xs) 1 (count-once xs k (get_or xs k 0) l refl (λ j m d. apart k l j m d (cases_lt j k))))
+  where
+    apart : (k : ℕ) → k < length xs → (j : ℕ) → j < length xs → j ≢ k → (j < k) ⊎ (k ≤ j) → get_or xs j 0 ≢ get_or xs k 0
+    apart k l j m d (inl t) = λ e. let up = rises xs j k h t l in absurd (omega arith)
+    apart k l j m d (inr t) = λ e. let up = rises xs k j h (omega (arith, d)) m in absurd (omega arith)
+
+distinct-ascending : (xs : List ℕ) → IsNonDecreasing xs → is_distinct xs ≡ true → ascends xs ≡ true
+distinct-ascending xs up h = ascends-from xs (λ i l. strict i l (cases_lt (get_or xs i 0) (get_or xs (suc i) 0)))
+  where
+    strict : (i : ℕ) → suc i < length xs → (get_or xs i 0 < get_or xs (suc i) 0) ⊎ (get_or xs (suc i) 0 ≤ get_or xs i 0) → get_or xs i 0 < get_or xs (suc i) 0
+    strict i l (inl t) = t
+    strict i l (inr t) =
+        let le : get_or xs i 0 ≤ get_or xs (suc i) 0 = up i (suc i) 0 (omega arith) l in
+        let same : get_or xs (suc i) 0 ≡ get_or xs i 0 = omega arith in
+        let one : count (get_or xs i 0) xs ≡ 1 = eqb-true _ 1 (all-at (λ n. count n xs == 1) xs h i 0 (omega arith)) in
+        absurd (omega (arith, one, count-twice xs i (suc i) (get_or xs i 0) (omega arith) l refl same))
+
+-- numbers differ exactly where they ascend once they are sorted
+pub distinct-sorted : (xs ys : List ℕ) → IsPermutation xs ys → IsNonDecreasing ys → ascends ys ≡ is_distinct xs
+distinct-sorted xs ys p up =
+    same-tests (ascends ys) (is_distinct xs)
+    (λ h. distinct-permuted ys xs (IsPermutation-sym xs ys p) (ascending-distinct ys h))
+    (λ h. distinct-ascending ys up (distinct-permuted xs ys p h))
+
+pub has-sorted : (xs ys : List ℕ) (n : ℕ) → IsPermutation xs ys → has ys n ≡ has xs n
+has-sorted xs ys n p = sym (list_any-IsPermutation (λ m. m == n) xs ys p)
+
+-- ---- tests that agree
+
+pub all-agree : {X : Type 0} (f g : X → Bool) (xs : List X) → ((x : X) → f x ≡ g x) → list_all f xs ≡ list_all g xs
+all-agree f g [] h = refl
+all-agree f g (x ∷ xs) h = rw (h x, all-agree f g xs h) refl
+
+-- ---- the parts of a circuit's soundness, in another order
+
+pub regrouped : (a p1 p2 p3 p4 o1 o2 : Bool) → (a && p1 && p2 && p3 && p4 && o1 && o2) ≡ (a && (o1 && o2) && (p1 && p2 && p3 && p4))
+regrouped false p1 p2 p3 p4 o1 o2 = refl
+regrouped true false p2 p3 p4 o1 o2 = sym (and-false (o1 && o2))
+regrouped true true false p3 p4 o1 o2 = sym (and-false (o1 && o2))
+regrouped true true true false p4 o1 o2 = sym (and-false (o1 && o2))
+regrouped true true true true false o1 o2 = sym (and-false (o1 && o2))
+regrouped true true true true true o1 o2 = sym (and-true (o1 && o2))

@@ -1,0 +1,14 @@
+use Rattle.std.proofs.Common.{sym, ◌∙◌, rules}
+use Rattle.std.proofs.lemmas.Iterator.{YieldsList-from_slice}
+use Rattle.std.proofs.lemmas.Iterator.Search.{all_from_yields_List}
+use Rattle.std.proofs.lemmas.List.Folds.{list_all-map}
+use borrow.Author.Tests.{tests}
+use Rattle.gts_checkpoint.specs.Sound.{is_bulletin, bulletin_of}
+use Rattle.gts_checkpoint.proofs.bulletins.are_bulletins.Goals as goal
+
+pub returns : goal.returns
+returns c =
+    let d = c.args.directory.now in
+    let n = c.args.accepted in
+    all_from_yields_List (λ b. is_bulletin d n (bulletin_of b)) _ _ c.all.result c.all.ensures.ran (YieldsList-from_slice c.args.bulletins.now cc) (λ x b q k. search (rules, tests))
+    ∙ sym (list_all-map (is_bulletin d n) bulletin_of c.args.bulletins.now)
