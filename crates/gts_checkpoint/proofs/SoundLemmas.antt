@@ -3,12 +3,16 @@ use Rattle.std.proofs.Common.{◌≡◌, ◌≢◌, ℕ, zero, suc, ◌+◌, ◌
 use Rattle.std.specs.List.{list_all, list_any, enumerate_from, sum_by}
 use Rattle.std.specs.List.Sorted.{IsNonDecreasing, IsPermutation}
 use Rattle.std.proofs.Math.Bool.{and-false, and-true}
-use Rattle.std.proofs.lemmas.Bool.{and_parts, and_from, eq-eqb, ne_eqb, eqb-true, cases_lt}
+use Rattle.std.proofs.lemmas.Bool.{and_parts, and_from, eq-eqb, ne_eqb, eqb-true, leb-true, le-leb, false_from_ne_true, cases_lt}
 use Rattle.std.proofs.lemmas.List.Folds.{list_all-append, list_any-append, list_any_more}
 use Rattle.std.proofs.lemmas.List.Sums.{length-filter}
 use Rattle.std.proofs.lemmas.List.Sorted.{IsPermutation-sym, All-permutation, sum_by-IsPermutation, list_any-IsPermutation}
-use Rattle.gts_event.specs.State.{has}
-use Rattle.gts_event.specs.Need.{ascends, is_distinct}
+use Rattle.gts_directory.specs.Directory.{Directory, Circuit}
+use Rattle.gts_event.specs.State.{has, is_recent}
+use Rattle.gts_event.specs.Need.{CircuitNeed, ascends, is_distinct, is_needed}
+use Rattle.gts_event.specs.Items.{circuit_need_of}
+use Rattle.gts_event.specs.declared.plain.CircuitNeed as plain
+use Rattle.gts_checkpoint.specs.Sound.{has_positions, is_held}
 use Rattle.gts_checkpoint.proofs.AscendingLemmas.{rises, ascends-from}
 
 same-tests : (a b : Bool) → (a ≡ true → b ≡ true) → (b ≡ true → a ≡ true) → a ≡ b
@@ -120,3 +124,63 @@ regrouped true true false p3 p4 o1 o2 = sym (and-false (o1 && o2))
 regrouped true true true false p4 o1 o2 = sym (and-false (o1 && o2))
 regrouped true true true true false o1 o2 = sym (and-false (o1 && o2))
 regrouped true true true true true o1 o2 = sym (and-true (o1 && o2))
+
+-- the parts of what is asked of positions
+pub positions-are : (test : ℕ → Bool) (waiting kept draws : List ℕ) → IsPermutation kept draws → IsNonDecreasing draws
+    → has_positions test waiting kept
+    ≡ (ascends waiting && ascends draws && list_all (λ n. not (has draws n)) waiting && (list_all test waiting && list_all test kept))
+positions-are test waiting kept draws p up =
+    rw (distinct-sorted kept draws p up, all-agree (λ n. not (has draws n)) (λ n. not (has kept n)) waiting (λ n. ap not (has-sorted kept draws n p)), list_all-append test waiting kept) refl
+
+-- ---- what is needed
+
+recent-not : (d : Directory) (count position first : ℕ) → first ≡ count - d.window → position < first → is_recent d count position ≡ false
+recent-not d count position first e l = false_from_ne_true (nat_le count (position + d.window)) (λ h. let le : count ≤ position + d.window = leb-true count (position + d.window) h in omega arith)
+
+pub needed-not : (d : Directory) (count : ℕ) (cs : List CircuitNeed) (position first : ℕ) → first ≡ count - d.window → position < first → is_held cs position ≡ false
+    → is_needed d count cs position ≡ false
+needed-not d count cs position first e l h = rw (recent-not d count position first e l) h
+
+pub needed-recent : (d : Directory) (count : ℕ) (cs : List CircuitNeed) (position first : ℕ) → first ≡ count - d.window → first ≤ position
+    → is_needed d count cs position ≡ true
+needed-recent d count cs position first e l = rw (le-leb count (position + d.window) (omega arith)) refl
+
+pub needed-held : (d : Directory) (count : ℕ) (cs : List CircuitNeed) (position : ℕ) → is_held cs position ≡ true → is_needed d count cs position ≡ true
+needed-held d count cs position h = go (is_recent d count position)
+  where
+    go : (b : Bool) → (b || is_held cs position) ≡ true
+    go true = refl
+    go false = h
+
+-- ---- what is owed
+
+pub kept-is : (draws kept first index : ℕ) → first ≡ draws - kept
+    → (nat_le first index && nat_lt index draws) ≡ (nat_le draws (index + kept) && nat_lt index draws)
+kept-is draws kept first index e =
+    ap (λ (b : Bool). b && nat_lt index draws)
+    (same-tests (nat_le first index) (nat_le draws (index + kept))
+      (λ h. let le : first ≤ index = leb-true first index h in le-leb draws (index + kept) (omega arith))
+      (λ h. let le : draws ≤ index + kept = leb-true draws (index + kept) h in le-leb first index (omega arith)))
+
+-- ---- each circuit beside its row
+
+pub rows-all : (f : ℕ × (Circuit × CircuitNeed) → Bool) (m : ℕ) (rows : List Circuit) (qs : List plain.CircuitNeed)
+    → ((k n : ℕ) (row : Circuit) (q : plain.CircuitNeed) → n ≡ m + k → slice_get rows k ≡ Some row → slice_get qs k ≡ Some q → f (n, (row, circuit_need_of q)) ≡ true)
+    → list_all f (enumerate_from m (zip rows (map circuit_need_of qs))) ≡ true
+rows-all f m [] qs h = refl
+rows-all f m (row ∷ rows) [] h = refl
+rows-all f m (row ∷ rows) (q ∷ qs) h =
+    and_from (f (m, (row, circuit_need_of q))) (list_all f (enumerate_from (m + 1) (zip rows (map circuit_need_of qs))))
+    (h zero m row q (omega arith) refl refl)
+    (rows-all f (m + 1) rows qs (λ k n row' q' e a b. h (suc k) n row' q' (omega arith) a b))
+
+pub rows-not : (f : ℕ × (Circuit × CircuitNeed) → Bool) (m : ℕ) (rows : List Circuit) (qs : List plain.CircuitNeed)
+    → (k n : ℕ) (row : Circuit) (q : plain.CircuitNeed) → n ≡ m + k → slice_get rows k ≡ Some row → slice_get qs k ≡ Some q → f (n, (row, circuit_need_of q)) ≡ false
+    → list_all f (enumerate_from m (zip rows (map circuit_need_of qs))) ≡ false
+rows-not f m [] qs k n row q e a b h = absurd (cc)
+rows-not f m (x ∷ rows) [] k n row q e a b h = absurd (cc)
+rows-not f m (x ∷ rows) (y ∷ qs) zero n row q e a b h =
+    let here : f (m, (x, circuit_need_of y)) ≡ false = let same : n ≡ m = omega arith in cc in
+    ap (λ (t : Bool). t && list_all f (enumerate_from (m + 1) (zip rows (map circuit_need_of qs)))) here
+rows-not f m (x ∷ rows) (y ∷ qs) (suc k) n row q e a b h =
+    ap (λ (t : Bool). f (m, (x, circuit_need_of y)) && t) (rows-not f (m + 1) rows qs k n row q (omega arith) a b h) ∙ and-false (f (m, (x, circuit_need_of y)))

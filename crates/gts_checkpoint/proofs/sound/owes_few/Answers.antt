@@ -1,0 +1,18 @@
+use Rattle.std.proofs.Common.{◌≡◌, ℕ, Bool, true, ◌&&◌, nat_le, nat_lt, length, sym, ap, ◌∙◌, rules}
+use Rattle.std.specs.List.{list_all}
+use Rattle.std.proofs.lemmas.Bool.{le-leb}
+use Rattle.std.proofs.lemmas.Iterator.{YieldsList-from_slice}
+use Rattle.std.proofs.lemmas.Iterator.Search.{all_from_yields_List}
+use borrow.Author.Tests.{tests}
+use Rattle.gts_checkpoint.specs.Sound.{most_owed, is_kept, circuit_need_of}
+use Rattle.gts_checkpoint.proofs.SoundLemmas.{all-agree, kept-is}
+use Rattle.gts_checkpoint.proofs.sound.owes_few.Goals as goal
+
+pub returns-then-len-le-MOST_OWED : goal.returns-then-len-le-MOST_OWED
+returns-then-len-le-MOST_OWED c =
+    let q = c.args.circuit.now in
+    let first = c.saturating_sub-first.result in
+    let few : nat_le (length q.owed) most_owed ≡ true = le-leb (length q.owed) most_owed (omega arith) in
+    let each = all_from_yields_List (λ i. nat_le first i && nat_lt i q.draws) _ _ c.all.result c.all.ensures.ran (YieldsList-from_slice q.owed cc) (λ x b q k. search (rules, tests)) in
+    let same = all-agree (λ i. nat_le first i && nat_lt i q.draws) (is_kept (circuit_need_of q)) q.owed (λ i. kept-is q.draws (length q.kept) first i (omega arith)) in
+    each ∙ same ∙ sym (ap (λ (b : Bool). b && list_all (is_kept (circuit_need_of q)) q.owed) few)
