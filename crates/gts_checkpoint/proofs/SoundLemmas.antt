@@ -1,18 +1,22 @@
 -- Numbers that differ, what is held on circuits, and the parts of soundness.
-use Rattle.std.proofs.Common.{◌≡◌, ◌≢◌, ℕ, zero, suc, ◌+◌, ◌-◌, ◌<◌, ◌≤◌, Bool, true, false, not, ◌&&◌, ◌||◌, ◌==◌, ◌⊎◌, inl, inr, nat_lt, nat_le, List, [], ◌∷◌, ◌++◌, length, get_or, map, take, filter, zip, slice_get, Option, Some, None, refl, sym, ap, ◌∙◌, arith}
+use Rattle.std.proofs.Common.{◌≡◌, ◌≢◌, ℕ, zero, suc, ◌+◌, ◌-◌, ◌<◌, ◌≤◌, Bool, true, false, not, ◌&&◌, ◌||◌, ◌==◌, ◌⊎◌, inl, inr, nat_lt, nat_le, List, [], ◌∷◌, ◌++◌, length, get_or, map, take, filter, zip, slice_get, Option, Some, None, Result, Ok, Err, refl, sym, ap, ◌∙◌, arith}
 use Rattle.std.specs.List.{list_all, list_any, enumerate_from, sum_by}
 use Rattle.std.specs.List.Sorted.{IsNonDecreasing, IsPermutation}
 use Rattle.std.proofs.Math.Bool.{and-false, and-true}
 use Rattle.std.proofs.lemmas.Bool.{and_parts, and_from, eq-eqb, ne_eqb, eqb-true, leb-true, le-leb, false_from_ne_true, cases_lt}
 use Rattle.std.proofs.lemmas.List.Folds.{list_all-append, list_any-append, list_any_more}
 use Rattle.std.proofs.lemmas.List.Sums.{length-filter}
+use Rattle.std.proofs.lemmas.Option.{slice_get_cases, slice_get_read}
+use Rattle.std.specs.Result.{IfOk}
 use Rattle.std.proofs.lemmas.List.Sorted.{IsPermutation-sym, All-permutation, sum_by-IsPermutation, list_any-IsPermutation}
 use Rattle.gts_directory.specs.Directory.{Directory, Circuit}
 use Rattle.gts_event.specs.State.{has, is_recent}
-use Rattle.gts_event.specs.Need.{CircuitNeed, ascends, is_distinct, is_needed}
-use Rattle.gts_event.specs.Items.{circuit_need_of}
+use Rattle.gts_event.specs.Need.{Need, CircuitNeed, ascends, is_distinct, is_needed, is_for, is_kept, has_counts, is_circuit_sound}
+use Rattle.gts_event.specs.History.{most_owed}
+use Rattle.gts_event.specs.Items.{circuit_need_of, need_of}
 use Rattle.gts_event.specs.declared.plain.CircuitNeed as plain
-use Rattle.gts_checkpoint.specs.Sound.{has_positions, is_held}
+use Rattle.gts_event.specs.declared.plain.Need as plain_need
+use Rattle.gts_checkpoint.specs.Sound.{has_positions, is_held, are_circuits_sound}
 use Rattle.gts_checkpoint.proofs.AscendingLemmas.{rises, ascends-from}
 
 same-tests : (a b : Bool) → (a ≡ true → b ≡ true) → (b ≡ true → a ≡ true) → a ≡ b
@@ -132,6 +136,30 @@ pub positions-are : (test : ℕ → Bool) (waiting kept draws : List ℕ) → Is
 positions-are test waiting kept draws p up =
     rw (distinct-sorted kept draws p up, all-agree (λ n. not (has draws n)) (λ n. not (has kept n)) waiting (λ n. ap not (has-sorted kept draws n p)), list_all-append test waiting kept) refl
 
+and-fails : (a b l rest : Bool) → (a ≡ false) ⊎ ((b ≡ false) ⊎ (l ≡ false)) → (a && b && l && rest) ≡ false
+and-fails a b l rest (inl e) = rw e refl
+and-fails a b l rest (inr (inl e)) = rw (e, and-false a) refl
+and-fails a b l rest (inr (inr e)) = rw (e, and-false (a && b)) refl
+
+pub positions-fail : (test : ℕ → Bool) (waiting kept draws : List ℕ) → IsPermutation kept draws → IsNonDecreasing draws
+    → (ascends waiting ≡ false) ⊎ ((ascends draws ≡ false) ⊎ (list_all (λ n. not (has draws n)) waiting ≡ false)) → false ≡ has_positions test waiting kept
+positions-fail test waiting kept draws p up h =
+    sym (positions-are test waiting kept draws p up
+      ∙ and-fails (ascends waiting) (ascends draws) (list_all (λ n. not (has draws n)) waiting) (list_all test waiting && list_all test kept) h)
+
+pub positions-pass : (test : ℕ → Bool) (waiting kept draws : List ℕ) → IsPermutation kept draws → IsNonDecreasing draws
+    → ascends waiting ≡ true → ascends draws ≡ true → list_all (λ n. not (has draws n)) waiting ≡ true
+    → has_positions test waiting kept ≡ (list_all test waiting && list_all test kept)
+positions-pass test waiting kept draws p up a b l = positions-are test waiting kept draws p up ∙ rw (a, b, l) refl
+
+pub circuit-is : (d : Directory) (n : Need) (circuit kept : ℕ) (c : CircuitNeed) → has_counts n.accepted kept c ≡ true
+    → (nat_le (length c.owed) most_owed && list_all (is_kept c) c.owed) ≡ true
+    → is_circuit_sound d n circuit kept c ≡ has_positions (is_for d n.bulletins circuit) c.waiting c.kept
+circuit-is d n circuit kept c counts owes =
+    regrouped (has_counts n.accepted kept c) (ascends c.waiting) (is_distinct c.kept) (list_all (λ position. not (has c.kept position)) c.waiting)
+      (list_all (is_for d n.bulletins circuit) (c.waiting ++ c.kept)) (nat_le (length c.owed) most_owed) (list_all (is_kept c) c.owed)
+    ∙ rw (counts, owes) refl
+
 -- ---- what is needed
 
 recent-not : (d : Directory) (count position first : ℕ) → first ≡ count - d.window → position < first → is_recent d count position ≡ false
@@ -184,3 +212,40 @@ rows-not f m (x ∷ rows) (y ∷ qs) zero n row q e a b h =
     ap (λ (t : Bool). t && list_all f (enumerate_from (m + 1) (zip rows (map circuit_need_of qs)))) here
 rows-not f m (x ∷ rows) (y ∷ qs) (suc k) n row q e a b h =
     ap (λ (t : Bool). f (m, (x, circuit_need_of y)) && t) (rows-not f (m + 1) rows qs k n row q (omega arith) a b h) ∙ and-false (f (m, (x, circuit_need_of y)))
+
+pub get-below : {X : Type 0} (xs : List X) (k : ℕ) (x : X) → slice_get xs k ≡ Some x → k < length xs
+get-below [] k x e = absurd (cc)
+get-below (y ∷ xs) zero x e = omega arith
+get-below (y ∷ xs) (suc k) x e = let more = get-below xs k x e in omega arith
+
+pub circuits-fail : (d : Directory) (m : plain_need.Need) (k : ℕ) (q : plain.CircuitNeed) → k < length d.circuits → k < length m.circuits → q ≡ get_or m.circuits k q
+    → ((row : Circuit) → slice_get d.circuits k ≡ Some row → is_circuit_sound d (need_of m) k row.kept (circuit_need_of q) ≡ false)
+    → are_circuits_sound d (need_of m) ≡ false
+circuits-fail d m k q l lq is h = go (slice_get_cases d.circuits k).1
+  where
+    go : ((x : Circuit) × (k < length d.circuits) × (slice_get d.circuits k ≡ Some x) × (get_or d.circuits k x ≡ x)) ⊎ ((length d.circuits ≤ k) × (slice_get d.circuits k ≡ None))
+        → are_circuits_sound d (need_of m) ≡ false
+    go (inl x) =
+        rows-not (λ row. is_circuit_sound d (need_of m) row.0 row.1.0.kept row.1.1) 0 d.circuits m.circuits k k x.0 q (omega arith) x.2
+        (slice_get_read m.circuits (length m.circuits) k q refl lq is) (h x.0 x.2)
+    go (inr n) = absurd (omega (arith, n.0))
+
+-- one circuit more was looked at
+pub circuits-more : (f : ℕ → Circuit → plain.CircuitNeed → Bool) (rows : List Circuit) (qs : List plain.CircuitNeed) (c : ℕ) (here : plain.CircuitNeed)
+    → ((k : ℕ) (row : Circuit) (q : plain.CircuitNeed) → k < c → slice_get rows k ≡ Some row → slice_get qs k ≡ Some q → f k row q ≡ true)
+    → slice_get qs c ≡ Some here → ((row : Circuit) → slice_get rows c ≡ Some row → f c row here ≡ true)
+    → (k : ℕ) (row : Circuit) (q : plain.CircuitNeed) → k < c + 1 → slice_get rows k ≡ Some row → slice_get qs k ≡ Some q → f k row q ≡ true
+circuits-more f rows qs c here before is h k row q l a b = go (cases_lt k c)
+  where
+    go : (k < c) ⊎ (c ≤ k) → f k row q ≡ true
+    go (inl t) = before k row q t a b
+    go (inr t) =
+        let same : k ≡ c = omega arith in
+        let at : slice_get rows c ≡ Some row = sym (ap (slice_get rows) same) ∙ a in
+        let there : slice_get qs c ≡ Some q = sym (ap (slice_get qs) same) ∙ b in
+        let one : q ≡ here = cc in
+        let sound = h row at in cc
+
+pub if-ok : {T E : Type 0} (P Q : T → Type 0) (r : Result T E) → ((x : T) → P x → Q x) → IfOk r P → IfOk r Q
+if-ok P Q (Ok x) f h = f x h
+if-ok P Q (Err e) f h = tt
