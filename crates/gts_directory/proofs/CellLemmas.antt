@@ -60,7 +60,7 @@ allows-matches (a ∷ b ∷ c ∷ d ∷ e ∷ f ∷ g ∷ p ∷ q ∷ r ∷ s �
       allows-cell pattern 7 (get_or h.cccc 0 0) text.centre_first,
       allows-cell pattern 8 (get_or h.cccc 1 0) text.centre_second ∙ ap (fits q) (second h.cccc),
       allows-cell pattern 9 (get_or h.cccc 2 0) text.centre_third ∙ ap (fits r) (third h.cccc),
-      allows-cell pattern 10 (get_or h.cccc 3 0) text.centre_fourth ∙ ap (fits s) (fourth h.cccc)
+      allows-cell pattern 10 (get_or h.cccc 3 0) text.centre_fourth ∙ ap (fits s) (fourth h.cccc),
     )
     (by_parts (fits a (get_or h.tt 0 0)) (fits b (get_or (drop 1 h.tt) 0 0)) (fits c (get_or h.aa 0 0)) (fits d (get_or (drop 1 h.aa) 0 0))
     (fits e (get_or ii 0 0)) (fits f (get_or (drop 1 ii) 0 0)) (fits p (get_or h.cccc 0 0)) (fits q (get_or (drop 1 h.cccc) 0 0))
