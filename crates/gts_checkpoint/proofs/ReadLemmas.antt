@@ -1,12 +1,12 @@
 -- Whether a need that was read may be the first record of a journal.
-use Rattle.std.proofs.Common.{◌≡◌, ℕ, ◌+◌, ◌*◌, ◌^◌, ◌<◌, ◌≤◌, Bool, true, false, ◌&&◌, nat_eq, nat_le, List, [], ◌∷◌, ◌++◌, length, map, take, drop, zip, flat_map, Result, Ok, Err, refl, sym, ap, ◌∙◌, arith, length-append}
-use Rattle.std.specs.Prelude.{IfErr}
+use Rattle.std.proofs.Common.{◌≡◌, ℕ, ◌+◌, ◌-◌, ◌*◌, ◌^◌, ◌<◌, ◌≤◌, Bool, true, false, ◌&&◌, nat_eq, nat_le, List, [], ◌∷◌, ◌++◌, length, map, take, drop, zip, flat_map, Result, Ok, Err, refl, sym, ap, subst, ◌∙◌, arith, length-append}
 use Rattle.std.specs.List.{fold, list_all, starts_with}
 use Rattle.std.specs.Cmp.Lexicographic.{same_text}
-use Rattle.std.specs.Prelude.{min}
+use Rattle.std.specs.Prelude.{min, is_some, IfErr, IfSome, Option, None, Some}
 use Rattle.std.proofs.Math.Nat.{add-mul, mul_comm}
-use Rattle.std.proofs.lemmas.Bool.{and_parts, and_from, le-leb, leb-true}
+use Rattle.std.proofs.lemmas.Bool.{false≢true, and_parts, and_from, le-leb, leb-true}
 use Rattle.std.proofs.lemmas.List.{length-map, take_at, take-append-drop}
+use Rattle.gts_traits.specs.Station.{Call}
 use Rattle.gts_directory.specs.Directory.{Directory, Circuit}
 use Rattle.gts_event.specs.State.{Bulletin, CircuitState, waiting}
 use Rattle.gts_event.specs.Need as needs
@@ -20,10 +20,10 @@ use Rattle.gts_opening.specs.Journal.{checkpoint_text, compacted_bytes, need_in,
 use Rattle.gts_opening.proofs.CheckpointLemmas.{need_in-text}
 use Rattle.gts_opening.proofs.FileLemmas.{fits-sound}
 use Rattle.gts_record.specs.declared.version.Version.{Version}
-use Rattle.gts_record.specs.Format.{first_seal, seal_size, draw_size, is_sealed}
+use Rattle.gts_record.specs.Format.{seal, held, first_seal, seal_size, draw_size, is_sealed}
 use Rattle.gts_record.specs.declared.fault.OpenFault.{OpenFault}
 use Rattle.gts_record.specs.declared.fault.OpenFault.TheVariants.{NoJournal, OldVersion, NotThis, Damaged, DiskFault, NoMemory}
-use Rattle.gts_checkpoint.specs.Reading.{BeginsWith, FitBodies, IsDamage, IsReadFault, waiting_of}
+use Rattle.gts_checkpoint.specs.Reading.{bytes_from, BeginsWith, FitBodies, HasRead, CanBegin, IsDamage, IsReadFault, FindsText, first_of, waiting_of}
 
 -- ---- what waits on circuits of which this is needed
 
@@ -130,25 +130,125 @@ no_damage v d file bytes (Err (Damaged f at)) h = absurd h
 
 -- ---- the room that is counted
 
+-- a number that is counted up to the greatest one, where it isn't that
+counted : (w waits : ℕ) → w ≡ min waits (2 ^ 64 - 1) → w ≤ 2 ^ 30 → w ≡ waits
+counted w waits is low = omega arith
+
+all_counted : (w waits : ℕ) → w ≡ min waits (2 ^ 64 - 1) → waits ≤ 2 ^ 30 → w ≡ waits
+all_counted w waits is low = omega arith
+
 times_some : (k n : ℕ) → n ≤ (24 + k) * n
 times_some k n = omega (arith, add-mul 24 k n)
 
-module _ (v : Version) (waits w size draws gate wanted at text last limit : ℕ) (w_is : w ≡ min waits (2 ^ 64 - 1)) (size_is : size ≡ draw_size v) (last_is : last ≡ seal_size v) (few : last ≤ 32)
-    (draws_are : draws ≡ min (w * size) (2 ^ 64 - 1)) (gate_is : gate ≡ min (at + last) (2 ^ 64 - 1)) (place : at ≡ 41 + text) (wanted_is : wanted ≡ min (min (draws + gate) (2 ^ 64 - 1) + 1) (2 ^ 64 - 1))
-    (low : limit ≤ 2 ^ 30) where
-  product : w * size ≡ draw_size v * w
-  product = ap (λ (k : ℕ). w * k) size_is ∙ mul_comm w (draw_size v)
+-- a checkpoint's text stands at the front, and its need is as a checkpoint has it
+pub record Stands (bytes : List ℕ) (n : needs.Need) : Type 0 where
+  pub begins : BeginsWith bytes (checkpoint_text n)
+  pub fits : FitsNeed n
+  pub free : unowed n ≡ n
 
-  pub room_there : wanted ≤ limit → (gate ≡ 41 + text + seal_size v) × (42 + text + seal_size v + draw_size v * waits ≤ limit)
-  room_there within =
-      let some = times_some (seal_size v) w in
-      let exact : w ≡ waits = omega (arith, w_is, draws_are, wanted_is, product, some, within, low) in
-      let same : draw_size v * w ≡ draw_size v * waits = ap (λ (k : ℕ). draw_size v * k) exact in
-      (omega (arith, gate_is, place, last_is, wanted_is, within, low), omega (arith, draws_are, gate_is, place, last_is, wanted_is, product, same, within, low))
+-- How much waits was counted up to the greatest number, the text ends at a place, and the limit is that of the directory.
+pub record Counted (d : Directory) (n : Need) (at w limit : ℕ) : Type 0 where
+  pub waits : w ≡ min (length (flat_map waiting_of n.circuits)) (2 ^ 64 - 1)
+  pub place : at ≡ 41 + length (checkpoint_text (need_of n))
+  pub limit_is : limit ≡ d.limit
+  pub low : limit ≤ 2 ^ 30
 
-  pub no_room_there : limit < wanted → 42 + text + seal_size v + draw_size v * waits ≤ limit → ⊥
-  no_room_there over room =
+pub stands_there : (bytes : List ℕ) (count : ℕ) (found : Option (Need × ℕ)) (n : Need) (at : ℕ) → found ≡ Some (n, at) → FindsText bytes count (first_of found)
+    → IfSome found (λ f. FitsNeed (need_of f.0)) → IfSome found (λ f. unowed (need_of f.0) ≡ need_of f.0) → Stands bytes (need_of n)
+stands_there bytes count found n at is finds fits free = record {
+  begins = (let F : Option (Need × ℕ) → Type 0 = λ o. FindsText bytes count (first_of o) in subst F is finds);
+  fits = (let F : Option (Need × ℕ) → Type 0 = λ o. IfSome o (λ f. FitsNeed (need_of f.0)) in subst F is fits);
+  free = (let F : Option (Need × ℕ) → Type 0 = λ o. IfSome o (λ f. unowed (need_of f.0) ≡ need_of f.0) in subst F is free);
+}
+
+place_is : (found : Option (Need × ℕ)) (n : Need) (at : ℕ) → found ≡ Some (n, at) → IfSome found (λ f. f.1 ≡ 41 + length (checkpoint_text (need_of f.0))) → at ≡ 41 + length (checkpoint_text (need_of n))
+place_is found n at is place = let F : Option (Need × ℕ) → Type 0 = λ o. IfSome o (λ f. f.1 ≡ 41 + length (checkpoint_text (need_of f.0))) in subst F is place
+
+pub counts_there : (d : Directory) (found : Option (Need × ℕ)) (n : Need) (at w limit : ℕ) (circuits : List plain_circuit.CircuitNeed) → found ≡ Some (n, at)
+    → IfSome found (λ f. f.1 ≡ 41 + length (checkpoint_text (need_of f.0))) → w ≡ min (length (flat_map waiting_of circuits)) (2 ^ 64 - 1) → circuits ≡ n.circuits → limit ≡ d.limit → limit ≤ 2 ^ 30
+    → Counted d n at w limit
+counts_there d found n at w limit circuits is place w_is same limit_is low = record {
+  waits = w_is ∙ ap (λ (l : List plain_circuit.CircuitNeed). min (length (flat_map waiting_of l)) (2 ^ 64 - 1)) same;
+  place = place_is found n at is place;
+  limit_is = limit_is;
+  low = low;
+}
+
+-- the bytes of the text stand there
+pub size_there : (bytes : List ℕ) (n : Need) (found : Option (Need × ℕ)) (at : ℕ) → found ≡ Some (n, at) → Stands bytes (need_of n)
+    → IfSome found (λ f. f.1 ≡ 41 + length (checkpoint_text (need_of f.0))) → at - 41 ≤ length bytes
+size_there bytes n found at is stands place =
+    let at_is = place_is found n at is place in
+    there_are bytes (need_of n) (at - 41) stands.begins (omega (arith, at_is))
+
+-- there is room for all that is due
+pub can_begin : (v : Version) (d : Directory) (n : Need) (at w limit gate : ℕ) → Counted d n at w limit → unowed (need_of n) ≡ need_of n → is_sound d (need_of n) ≡ true
+    → gate ≡ at + seal_size v → gate + 1 + draw_size v * w ≤ limit → CanBegin v d (need_of n) gate
+can_begin v d n at w limit gate counts free sound gate_is room =
+    let some = times_some (seal_size v) w in
+    let all : w ≡ length (flat_map waiting_of n.circuits) = counted w (length (flat_map waiting_of n.circuits)) counts.waits (omega (arith, some, room, counts.low)) in
+    let exact : w ≡ due (begun (need_of n)) = all ∙ sym (due_is d n sound) in
+    let same : draw_size v * w ≡ draw_size v * due (begun (need_of n)) = ap (λ (k : ℕ). draw_size v * k) exact in
+    record {
+      sound = sound;
+      unowed = free;
+      place = omega (arith, gate_is, counts.place);
+      room = omega (arith, same, room, counts.limit_is);
+    }
+
+-- there is none, however it is counted
+pub no_room : (v : Version) (d : Directory) (bytes : List ℕ) (n : Need) (at w limit : ℕ) → Stands bytes (need_of n) → Counted d n at w limit
+    → limit < at + seal_size v + 1 + draw_size v * w → admits_checkpoint v d bytes (need_in bytes) ≡ false
+no_room v d bytes n at w limit stands counts over =
+    not_first v d bytes (need_of n) (need_read bytes (need_of n) stands.begins stands.fits stands.free) (λ sound room.
+      let waits : ℕ = length (flat_map waiting_of n.circuits) in
       let some = times_some (seal_size v) waits in
-      let exact : w ≡ waits = omega (arith, w_is, some, room, low) in
+      let there : draw_size v * due (begun (need_of n)) ≡ draw_size v * waits = ap (λ (k : ℕ). draw_size v * k) (due_is d n sound) in
+      let exact : w ≡ waits = all_counted w waits counts.waits (omega (arith, some, there, room, counts.limit_is, counts.low)) in
       let same : draw_size v * w ≡ draw_size v * waits = ap (λ (k : ℕ). draw_size v * k) exact in
-      omega (arith, draws_are, gate_is, place, last_is, wanted_is, product, same, over, room, low)
+      omega (arith, same, there, room, over, counts.limit_is, counts.place))
+
+-- no history can have it
+pub not_sound : (v : Version) (d : Directory) (bytes : List ℕ) (n : needs.Need) → Stands bytes n → is_sound d n ≡ false → admits_checkpoint v d bytes (need_in bytes) ≡ false
+not_sound v d bytes n stands none =
+    not_first v d bytes n (need_read bytes n stands.begins stands.fits stands.free) (λ sound room. absurd (false≢true (sym none ∙ sound)))
+
+-- ---- its seal
+
+-- what was compared: as many bytes as the text has, with the seal of what they are, where this seal stands before them
+pub record Compared (v : Version) (d : Directory) (bytes : List ℕ) (n : needs.Need) (before : List ℕ) (size : ℕ) (found : Option (List ℕ)) : Type 0 where
+  pub before_is : held v before ≡ first_seal v d.mark
+  pub size_is : size ≡ length (checkpoint_text n)
+  pub stands : is_some found ≡ is_sealed v (held v before) (take size bytes) bytes
+
+pub compares : (v : Version) (d : Directory) (calls now : List Call) (file : ℕ) (n : Need) (at : ℕ) (found : Option (Need × ℕ)) (before mark : List ℕ) (last : Option (List ℕ)) → found ≡ Some (n, at)
+    → IfSome found (λ f. f.1 ≡ 41 + length (checkpoint_text (need_of f.0))) → now ≡ calls → held v before ≡ first_seal v mark → mark ≡ d.mark
+    → is_some last ≡ is_sealed v (held v before) (take (at - 41) (bytes_from now file 41)) (bytes_from now file 41) → Compared v d (bytes_from calls file 41) (need_of n) before (at - 41) last
+compares v d calls now file n at found before mark last is place told before_is mark_is stands =
+    let at_is = place_is found n at is place in
+    record {
+      before_is = before_is ∙ ap (first_seal v) mark_is;
+      size_is = omega (arith, at_is);
+      stands = stands ∙ ap (λ (l : List Call). is_sealed v (held v before) (take (at - 41) (bytes_from l file 41)) (bytes_from l file 41)) told;
+    }
+
+same_seal : (v : Version) (d : Directory) (bytes : List ℕ) (n : needs.Need) (before : List ℕ) (size : ℕ) (found : Option (List ℕ)) → Stands bytes n → Compared v d bytes n before size found
+    → is_sealed v (first_seal v d.mark) (checkpoint_text n) bytes ≡ is_some found
+same_seal v d bytes n before size found stands compared =
+    ap (λ (l : List ℕ). is_sealed v (first_seal v d.mark) l bytes) (sym (text_there bytes n size stands.begins compared.size_is))
+    ∙ ap (λ (l : List ℕ). is_sealed v l (take size bytes) bytes) (sym compared.before_is) ∙ sym compared.stands
+
+-- it stands there without its seal
+pub no_seal : (v : Version) (d : Directory) (bytes : List ℕ) (n : needs.Need) (before : List ℕ) (size : ℕ) (found : Option (List ℕ)) → Stands bytes n → Compared v d bytes n before size found
+    → found ≡ None → admits_checkpoint v d bytes (need_in bytes) ≡ false
+no_seal v d bytes n before size found stands compared is =
+    not_sealed v d bytes n (need_read bytes n stands.begins stands.fits stands.free) (same_seal v d bytes n before size found stands compared ∙ ap (λ (o : Option (List ℕ)). is_some o) is)
+
+-- it stands there with its seal
+pub has_read : (v : Version) (d : Directory) (bytes : List ℕ) (n : needs.Need) (before : List ℕ) (size gate : ℕ) (found : Option (List ℕ)) (last : List ℕ) → Stands bytes n → Compared v d bytes n before size found
+    → CanBegin v d n gate → found ≡ Some last → held v last ≡ seal v (held v before) (take size bytes) → HasRead v d bytes n (held v last)
+has_read v d bytes n before size gate found last stands compared can is seal_of = record {
+  need = need_read bytes n stands.begins stands.fits stands.free;
+  admitted = admitted v d bytes n stands.begins (same_seal v d bytes n before size found stands compared ∙ ap (λ (o : Option (List ℕ)). is_some o) is) can.sound (omega (arith, can.place, can.room));
+  seal_is = seal_of ∙ ap (λ (l : List ℕ). seal v l (take size bytes)) compared.before_is ∙ ap (seal v (first_seal v d.mark)) (text_there bytes n size stands.begins compared.size_is);
+}

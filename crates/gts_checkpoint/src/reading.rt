@@ -1,23 +1,26 @@
-ghost use Rattle.std.specs.Prelude.{◌≡◌, ◌+◌, ◌-◌, ◌<◌, ◌≤◌, ◌^◌, length, take, flat_map, is_some, min, IfOk, IfErr, IfSome, IfNone, IsErrOf};
-ghost use Rattle.gts_traits.specs.{Rose};
+ghost use Rattle.std.specs.Prelude.{◌≡◌, ◌+◌, ◌-◌, ◌*◌, ◌<◌, ◌≤◌, ◌^◌, length, take, flat_map, is_some, min, IsSome, IfOk, IfErr, IfSome, IfNone, IsErrOf};
+ghost use Rattle.gts_traits.specs.{HasCause, Rose};
 ghost use Rattle.gts_event.specs.Items as items;
-ghost use Rattle.gts_record.specs.Format.{seal, is_sealed, held};
+ghost use Rattle.gts_record.specs.Format.{seal, seal_size, draw_size, is_sealed, held};
 ghost use Rattle.gts_opening.specs.Journal.{checkpoint_text, FitsNeed, unowed};
 ghost use Rattle.gts_checkpoint.specs.Writing.{head_text};
 ghost use Rattle.gts_checkpoint.specs.Reading.{bytes_from, HasRead, CanBegin, IsDamage, IsNoFront, FindsText, IsReadFault, first_of, waiting_of};
 
 use crate::lists::{bulletins_at, circuits_at};
 use crate::numbers::{number_in_eight, number_in_four};
-use crate::pieces::{body_at, fetch};
+use crate::pieces::fetch;
 use crate::sound::is_sound;
 use gts_directory::Directory;
 use gts_event::{CircuitNeed, Need};
-use gts_record::{OpenFault, Version, first_seal};
-use gts_traits::Station;
+use gts_record::{OpenFault, Sealer, Version, first_seal};
+use gts_traits::{Failed, Station};
 use std::alloc::Global;
 
 /// The place of the record behind the header and the first gate.
 const FIRST_RECORD: u64 = 41;
+
+/// How many bytes of a checkpoint are read at once for its seal.
+const PIECE: usize = 4096;
 
 /// What stands in front of the bulletins of a checkpoint.
 #[derive(Clone, Copy)]
@@ -110,9 +113,60 @@ fn waiting(circuits: &[CircuitNeed]) -> u64
     waiting
 }
 
+/// The place of the gate behind a checkpoint that ends at a place, where a journal up to a limit has room for the gate and for so
+/// many draws behind it.
+fn gate_behind(version: Version, at: u64, due: u64, limit: u64) -> Option<u64>
+    requires { limit ≤ 2 ^ 30 }
+    ensures place { IfSome result (λ gate. gate ≡ at + seal_size version) }
+    ensures room { IfSome result (λ gate. gate + 1 + draw_size version * due ≤ limit) }
+    ensures none { IfNone result
+        (limit < at + seal_size version + 1 + draw_size version * due) }
+{
+    let gate = at.saturating_add(version.seal_size() as u64);
+    let draws = due.saturating_mul(version.draw_size());
+    let behind = gate.saturating_add(1);
+    if behind.saturating_add(draws) > limit {
+        return None;
+    }
+    Some(gate)
+}
+
+/// The seal of the so many bytes that stand behind the header of a file, read piece by piece.
+fn seal_of<P: Station>(
+    station: &mut P,
+    version: Version,
+    before: &[u8; 32],
+    file: u32,
+    size: u32,
+) -> Result<Option<[u8; 32]>, Failed>
+    requires file { file < 2 }
+    requires size { size ≤ 2 ^ 30 }
+    requires there { P.tells → size ≤ length (bytes_from (P.calls station.old) file 41) }
+    ensures found { P.tells → IfOk result (λ found. IfSome found (λ last. held version last
+        ≡ seal version (held version before.now)
+        (take size (bytes_from (P.calls station.old) file 41)))) }
+    ensures some { P.tells → IfOk result (λ found. IsSome found) }
+    ensures told { P.tells → P.calls station.new ≡ P.calls station.old }
+    ensures cause { HasCause result (P.disk_faults station.old) (P.disk_faults station.new) }
+    ensures say { P.say_faults station.new ≡ P.say_faults station.old }
+{
+    let mut sealer = Sealer::new(version, before);
+    let mut piece = [0u8; PIECE];
+    let mut done: u32 = 0;
+    'piece: while done < size {
+        let count = (size - done).min(PIECE as u32);
+        let part = &mut piece[..count as usize];
+        if !fetch(station, file, FIRST_RECORD + u64::from(done), part)? {
+            return Ok(None);
+        }
+        sealer.add(part);
+        done += count;
+    }
+    Ok(Some(sealer.seal()))
+}
+
 /// The seal of the so many bytes that stand behind the header of a file, where it stands behind them.
 fn seal_at<P: Station>(
-    alloc: Global,
     station: &mut P,
     version: Version,
     before: &[u8; 32],
@@ -136,12 +190,15 @@ fn seal_at<P: Station>(
     ensures later { P.disk_faults station.old ≤ P.disk_faults station.new }
     ensures say { P.say_faults station.new ≡ P.say_faults station.old }
 {
-    let count = version.seal_size();
-    let Some(bytes) = body_at(alloc, station, file, FIRST_RECORD, size + count as u32)? else {
+    let Some(seal) = seal_of(station, version, before, file, size)? else {
         return Ok(None);
     };
-    let (text, behind) = bytes.as_slice().split_at(size as usize);
-    let seal = version.seal(before, text);
+    let count = version.seal_size();
+    let mut room = [0u8; 32];
+    let behind = &mut room[..count];
+    if !fetch(station, file, FIRST_RECORD + u64::from(size), behind)? {
+        return Ok(None);
+    }
     if !behind.starts_with(&seal[..count]) {
         return Ok(None);
     }
@@ -181,16 +238,16 @@ pub fn read<P: Station>(
     let Some((need, at)) = need_at(alloc, station, file, directory.circuits())? else {
         return Err(damage);
     };
-    let gate = at.saturating_add(version.seal_size() as u64);
     let due = waiting(need.circuits.as_slice());
-    let draws = due.saturating_mul(version.draw_size());
-    let wanted = draws.saturating_add(gate).saturating_add(1);
-    if wanted > limit || !is_sound(alloc, directory, &need)? {
+    let Some(gate) = gate_behind(version, at, due, limit) else {
+        return Err(damage);
+    };
+    if !is_sound(alloc, directory, &need)? {
         return Err(damage);
     }
     let before = first_seal(version, &directory.mark());
     let size = (at - FIRST_RECORD) as u32;
-    let Some(seal) = seal_at(alloc, station, version, &before, file, size)? else {
+    let Some(seal) = seal_at(station, version, &before, file, size)? else {
         return Err(damage);
     };
     Ok((need, gate, seal))

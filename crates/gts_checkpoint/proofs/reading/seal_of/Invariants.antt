@@ -1,0 +1,18 @@
+use Rattle.std.proofs.Common.{◌≡◌, ◌-◌, ◌≤◌, length, take}
+use Rattle.gts_record.specs.Format.{held}
+use Rattle.gts_record.specs.Sealing.{Seals}
+use Rattle.gts_checkpoint.specs.Reading.{bytes_from}
+use Rattle.gts_checkpoint.proofs.reading.seal_of.Given as goal
+
+-- the first bytes were added
+abbrev pub invariant-piece : goal.invariant-piece
+invariant-piece g l = record {
+  inside : l.done ≤ l.size;
+  seals : g.P.Station.tells → Seals l.sealer l.fn.version (held l.fn.version l.before) (take l.done (bytes_from (g.P.Station.calls l.fn.station) l.file 41));
+  told : g.P.Station.tells → g.P.Station.calls l.station ≡ g.P.Station.calls l.fn.station;
+  later : g.P.Station.disk_faults l.fn.station ≤ g.P.Station.disk_faults l.station;
+  say : g.P.Station.say_faults l.station ≡ g.P.Station.say_faults l.fn.station;
+}
+
+abbrev pub decreases-piece : goal.decreases-piece
+decreases-piece g l = l.size - l.done
