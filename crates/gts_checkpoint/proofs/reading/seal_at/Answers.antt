@@ -1,8 +1,6 @@
-use Rattle.std.proofs.Common.{◌≡◌, ◌+◌, ◌<◌, ◌≤◌, ℕ, true, false, nat_eq, List, Option, Some, None, Ok, length, take, refl, sym, ap, subst, ◌∙◌, arith}
-use Rattle.std.specs.List.{starts_with}
+use Rattle.std.proofs.Common.{◌≡◌, ◌+◌, ◌<◌, ℕ, List, Ok, length, take, refl, sym, ap, ◌∙◌, arith}
 use Rattle.std.proofs.lemmas.List.{length-take-le}
-use Rattle.gts_traits.specs.Station.{Call}
-use Rattle.gts_record.specs.Format.{seal, held, seal_size, is_sealed}
+use Rattle.gts_record.specs.Format.{held, seal_size}
 use Rattle.gts_checkpoint.specs.Reading.{bytes_from, BeginsWith}
 use Rattle.gts_checkpoint.proofs.SealLemmas.{sealed_there, sealed_not, same_place, last_is}
 use Rattle.gts_checkpoint.proofs.reading.seal_at.Goals as goal

@@ -1,4 +1,4 @@
-use Rattle.std.proofs.Common.{◌≡◌, ◌-◌, ◌≤◌, length, take}
+use Rattle.std.proofs.Common.{◌≡◌, ◌-◌, ◌≤◌, take}
 use Rattle.gts_record.specs.Format.{held}
 use Rattle.gts_record.specs.Sealing.{Seals}
 use Rattle.gts_checkpoint.specs.Reading.{bytes_from}
