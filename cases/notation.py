@@ -12,7 +12,7 @@ class Fault(Exception):
 
 def number(word):
     if not word.isdecimal():
-        raise Fault(f'{word} is no number')
+        raise Fault(f'{word or "nothing"} is no number')
     return int(word)
 
 
@@ -68,12 +68,9 @@ class Reader:
         """The bytes of a tag, and the place behind them."""
         tag, words = words[0], words[1:]
         if tag == 'REPEAT':
-            pieces = []
-            behind = at
-            for i in range(number(' '.join(words))):
-                piece, behind = self.bytes(at, tag, i)
-                pieces.append(piece)
-            return b''.join(pieces), behind
+            times = number(' '.join(words))
+            pieces = [self.bytes(at, tag, i) for i in range(max(times, 1))]
+            return b''.join(piece for piece, _ in pieces[:times]), pieces[0][1]
         if tag in PARTS:
             inside, at = self.bytes(at, tag, count)
             return whole(tag, words, inside), at
