@@ -1,0 +1,18 @@
+use Rattle.std.proofs.Common.{◌≡◌, ◌≤◌, ◌-◌, ◌++◌, ℕ, List, length}
+use Rattle.gts_accum.specs.Packs.{Stands}
+use Rattle.gts_accum.specs.declared.limits.TheConstants.{LONGEST_STREAM}
+use Rattle.gts_accum.proofs.packing.pack.Given as goal
+
+-- the bytes so far were taken
+abbrev pub invariant-stream : goal.invariant-stream
+invariant-stream g l = record {
+  taken : (bytes : List ℕ) × (g.S.Source.tells → g.S.Source.left l.fn.stream ≡ bytes ++ g.S.Source.left l.stream) × (l.at ≡ length bytes)
+      × Stands g.P.Station.tells (g.P.Station.calls l.fn.station) (g.P.Station.calls l.station) bytes l.decoder;
+  short : l.at ≤ LONGEST_STREAM;
+  read_later : g.S.Source.faults l.fn.stream ≤ g.S.Source.faults l.stream;
+  say_later : g.P.Station.say_faults l.fn.station ≤ g.P.Station.say_faults l.station;
+  disk : g.P.Station.disk_faults l.station ≡ g.P.Station.disk_faults l.fn.station;
+}
+
+abbrev pub decreases-stream : goal.decreases-stream
+decreases-stream g l = LONGEST_STREAM - l.at

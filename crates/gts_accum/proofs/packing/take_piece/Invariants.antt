@@ -1,0 +1,17 @@
+use Rattle.std.proofs.Common.{◌≡◌, ◌≤◌, ◌+◌, ◌++◌, ℕ, List, length}
+use Rattle.gts_traits.specs.{Call}
+use Rattle.gts_accum.specs.Packs.{Stands}
+use Rattle.gts_accum.proofs.packing.take_piece.Given as goal
+
+-- the bytes before the rest were taken
+abbrev pub invariant-piece : goal.invariant-piece
+invariant-piece g l = record {
+  taken : (done : List ℕ) × (l.fn.piece ≡ done ++ l.rest) × (l.at ≡ l.fn.start + length done)
+      × ((first : List Call) (before : List ℕ) → Stands g.P.Station.tells first (g.P.Station.calls l.fn.station) before l.fn.decoder
+      → Stands g.P.Station.tells first (g.P.Station.calls l.station) (before ++ done) l.decoder);
+  later : g.P.Station.say_faults l.fn.station ≤ g.P.Station.say_faults l.station;
+  disk : g.P.Station.disk_faults l.station ≡ g.P.Station.disk_faults l.fn.station;
+}
+
+abbrev pub decreases-piece : goal.decreases-piece
+decreases-piece g l = length l.rest

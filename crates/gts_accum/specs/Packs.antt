@@ -1,0 +1,69 @@
+-- How packing a stream ended, and what of its file was said.
+use Rattle.std.specs.Prelude.{◌≡◌, ℕ, ◌≤◌, List, [], ◌++◌, length, Option, Some, None, Result, Ok, Err}
+use Rattle.gts_traits.specs.{Call, Rose, on, seen}
+use Rattle.gts_say.specs.Say.{SaysOnly, SaysFront}
+use Rattle.gts_frame.specs.Decoder.{Decoding}
+use Rattle.gts_frame.specs.Signs.{signs_in, held_in}
+use Rattle.gts_accum.specs.Packing.{entries_text, messages_of, bad_in_stream, packed}
+use Rattle.gts_accum.specs.declared.pack_end.PackEnd.{PackEnd}
+use Rattle.gts_accum.specs.declared.pack_end.PackEnd.TheVariants as end
+use Rattle.gts_accum.specs.declared.packing.Stop.{Stop}
+use Rattle.gts_accum.specs.declared.packing.Stop.TheVariants.{Lost, Unsaid}
+
+-- the entries of the messages in these bytes
+abbrev pub entries_in : List ℕ → List ℕ
+entries_in bytes = entries_text (messages_of (signs_in bytes))
+
+-- Of a stream these bytes were taken, behind which these are held: the entries of their messages were said, and nothing else.
+pub record Holds (tells : Type 0) (first now : List Call) (bytes held : List ℕ) : Type 0 where
+  pub is : held_in bytes ≡ Some held
+  pub said : tells → SaysOnly first now (on 0 (entries_in bytes))
+
+-- the same, where the decoder holds them
+pub record Stands (tells : Type 0) (first now : List Call) (bytes : List ℕ) (decoder : Decoding) : Type 0 where
+  pub held : List ℕ
+  pub is : decoder.held ≡ Some held
+  pub holds : Holds tells first now bytes held
+
+-- the stream is bad at this place, and what is said of it was said
+pub record IsBad (tells : Type 0) (first now : List Call) (stream : List ℕ) (at : ℕ) : Type 0 where
+  pub place : bad_in_stream stream ≡ Some at
+  pub said : tells → SaysOnly first now (on 0 (packed stream))
+
+-- Whatever follows these bytes of a stream: they were taken; or the stream is bad in them; or a front of its file was said.
+abbrev pub PieceEnds : Type 0 → List Call → List Call → List ℕ → Result (Unit {0}) Stop → Decoding → Type 0
+PieceEnds tells first now bytes (Ok _) decoder = Stands tells first now bytes decoder
+PieceEnds tells first now bytes (Err (Lost at)) decoder = (more : List ℕ) → IsBad tells first now (bytes ++ more) at
+PieceEnds tells first now bytes (Err Unsaid) decoder = (more : List ℕ) → tells → SaysFront first now (on 0 (packed (bytes ++ more)))
+
+-- these bytes were taken of a stream, and the entries of their messages were said
+pub record IsTaken (tells : Type 0) (first now : List Call) (stream left : List ℕ) : Type 0 where
+  pub taken : List ℕ
+  pub text : stream ≡ taken ++ left
+  pub said : tells → SaysOnly first now (on 0 (entries_in taken))
+
+-- What each end of packing a stream means, of which this is left: where it is bad, and what was said.
+abbrev pub Packs : (tells : Type 0) → PackEnd → (stream left : List ℕ) → (old new : List Call) → Type 0
+Packs tells end.Done stream left old new = (bad_in_stream stream ≡ None) × (tells → SaysOnly old new (on 0 (packed stream)))
+Packs tells (end.Bad at) stream left old new = IsBad tells old new stream at
+Packs tells end.SourceFault stream left old new = IsTaken tells old new stream left
+Packs tells end.SayFault stream left old new = tells → SaysFront old new (on 0 (packed stream))
+Packs tells end.NoMemory stream left old new = (left ≡ stream) × (tells → SaysOnly old new [])
+
+-- what reads of the files give stays
+abbrev pub SameFiles : List Call → List Call → Type 0
+SameFiles old new = (file : ℕ) → seen new file ≡ seen old file
+
+-- saying is answered as failed only where its count rose, and no count falls
+pub record HasStopCause (result : Result (Unit {0}) Stop) (before now : ℕ) : Type 0 where
+  pub later : before ≤ now
+  pub failed : result ≡ Err Unsaid → Rose before now
+
+pub record HasSayCause (result : PackEnd) (before now : ℕ) : Type 0 where
+  pub later : before ≤ now
+  pub failed : result ≡ end.SayFault → Rose before now
+
+-- and so is reading
+pub record HasReadCause (result : PackEnd) (before now : ℕ) : Type 0 where
+  pub later : before ≤ now
+  pub failed : result ≡ end.SourceFault → Rose before now

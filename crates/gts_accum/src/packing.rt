@@ -1,0 +1,149 @@
+ghost use Rattle.std.specs.Prelude.{◌≡◌, ◌+◌, ◌≤◌, ◌++◌, ℕ, List, [], length};
+ghost use Rattle.gts_traits.specs.{Call, HasCause, on};
+ghost use Rattle.gts_say.specs.Say.{Tells};
+ghost use Rattle.gts_frame.specs.Frame.{IsFramed};
+ghost use Rattle.gts_frame.specs.Decoder.{signs_of_step, HasMessage};
+ghost use Rattle.gts_accum.specs.File.{entry_text};
+ghost use Rattle.gts_accum.specs.Packing.{entries_text, messages_of, whole};
+ghost use Rattle.gts_accum.specs.Packs as packs;
+
+use crate::{ENTRY_HEAD, LONGEST_STREAM, PackEnd, entry_head};
+use gts_frame::{Decoder, Step};
+use gts_say::say;
+use gts_traits::{Failed, Source, Station};
+use std::alloc::Global;
+
+/// The channel on which a file is said.
+const FILE: u32 = 0;
+
+/// The most bytes of a stream that are read at once.
+const PIECE: usize = 4_096;
+
+/// Why a piece of a stream was not packed to its end.
+#[derive(Clone, Copy, Debug, PartialEq, Eq)]
+pub(crate) enum Stop {
+    /// Synchronisation is lost at the byte in this place of the stream.
+    Lost { at: u64 },
+    /// Saying failed.
+    Unsaid,
+}
+
+/// Says a message as a whole entry.
+fn say_entry<P: Station>(message: &[u8], station: &mut P) -> Result<(), Failed>
+    requires { IsFramed message.now }
+    ensures told { P.tells → Tells result (on FILE (entry_text (whole message.now)))
+        (P.calls station.old) (P.calls station.new) }
+    ensures cause { HasCause result (P.say_faults station.old) (P.say_faults station.new) }
+    ensures disk { P.disk_faults station.new ≡ P.disk_faults station.old }
+{
+    let mut head = [0; ENTRY_HEAD];
+    entry_head(message.len() as u32, &mut head);
+    if let Err(Failed) = say(station, FILE, &head) {
+        return Err(Failed);
+    }
+    say(station, FILE, message)
+}
+
+/// Says what a step of the decoder adds to the file: the entry of a frame.
+fn say_step<P: Station>(step: Step, message: &[u8], station: &mut P) -> Result<(), Failed>
+    requires { HasMessage step message.now }
+    ensures told { P.tells
+        → Tells result (on FILE (entries_text (messages_of (signs_of_step step message.now))))
+        (P.calls station.old) (P.calls station.new) }
+    ensures cause { HasCause result (P.say_faults station.old) (P.say_faults station.new) }
+    ensures disk { P.disk_faults station.new ≡ P.disk_faults station.old }
+{
+    match step {
+        Step::Frame(_) => say_entry(message, station),
+        Step::More | Step::KeepAlive | Step::Lost(_) | Step::Dropped => Ok(()),
+    }
+}
+
+/// Takes a piece of a stream that stands at this place: the messages that it ends are said as entries.
+fn take_piece<P: Station>(
+    decoder: &mut Decoder,
+    start: u64,
+    piece: &[u8],
+    station: &mut P,
+) -> Result<(), Stop>
+    requires { start + length piece.now ≤ LONGEST_STREAM }
+    ensures ends { (first : List Call) (before : List ℕ) → start ≡ length before
+        → packs.Stands P.tells first (P.calls station.old) before decoder.old
+        → packs.PieceEnds P.tells first (P.calls station.new) (before ++ piece.now)
+        result decoder.new }
+    ensures cause { packs.HasStopCause result
+        (P.say_faults station.old) (P.say_faults station.new) }
+    ensures disk { P.disk_faults station.new ≡ P.disk_faults station.old }
+{
+    let mut rest = piece;
+    let mut at = start;
+    'piece: while !rest.is_empty() {
+        let (count, step) = decoder.take(rest);
+        if let Step::Lost(_) = step {
+            return Err(Stop::Lost {
+                at: at + (count as u64 - 1),
+            });
+        }
+        if let Err(Failed) = say_step(step, decoder.message(), station) {
+            return Err(Stop::Unsaid);
+        }
+        rest = &rest[count..];
+        at += count as u64;
+    }
+    Ok(())
+}
+
+/// The stream ends at this place, where so many bytes of a frame or keep-alive are held that isn't whole.
+fn finish<P: Station>(at: u64, rest: u32, station: &mut P) -> PackEnd
+    requires { at ≤ LONGEST_STREAM }
+    ensures ends { (first : List Call) (stream held : List ℕ) → at ≡ length stream
+        → packs.Holds P.tells first (P.calls station.old) stream held → rest ≡ length held
+        → packs.Packs P.tells result stream [] first (P.calls station.new) }
+    ensures read { result ≡ PackEnd.SourceFault → ⊥ }
+    ensures cause { packs.HasSayCause result (P.say_faults station.old) (P.say_faults station.new) }
+    ensures disk { P.disk_faults station.new ≡ P.disk_faults station.old }
+{
+    if rest > 0 {
+        return PackEnd::Bad { at };
+    }
+    let mut head = [0; ENTRY_HEAD];
+    entry_head(0, &mut head);
+    match say(station, FILE, &head) {
+        Ok(()) => PackEnd::Done,
+        Err(Failed) => PackEnd::SayFault,
+    }
+}
+
+/// Says the file of a stream's messages, as the stream is read: a whole entry for each frame, and the end. Keep-alives are left
+/// out. Beside the decoder's room it takes no memory.
+pub fn pack<S: Source, P: Station>(alloc: Global, stream: &mut S, station: &mut P) -> PackEnd
+    ensures packs { S.tells → packs.Packs P.tells result (S.left stream.old) (S.left stream.new)
+        (P.calls station.old) (P.calls station.new) }
+    ensures files { P.tells → packs.SameFiles (P.calls station.old) (P.calls station.new) }
+    ensures source { packs.HasReadCause result (S.faults stream.old) (S.faults stream.new) }
+    ensures say { packs.HasSayCause result (P.say_faults station.old) (P.say_faults station.new) }
+    ensures disk { P.disk_faults station.new ≡ P.disk_faults station.old }
+{
+    let Ok(mut decoder) = Decoder::new(alloc) else {
+        return PackEnd::NoMemory;
+    };
+    let mut piece = [0; PIECE];
+    let mut at: u64 = 0;
+    'stream: loop {
+        let count = match stream.read(&mut piece) {
+            Ok(0) => return finish(at, decoder.rest(), station),
+            Ok(count) => count,
+            Err(Failed) => return PackEnd::SourceFault,
+        };
+        let room = (LONGEST_STREAM - at).min(count as u64) as usize;
+        match take_piece(&mut decoder, at, &piece[..room], station) {
+            Ok(()) => {}
+            Err(Stop::Lost { at }) => return PackEnd::Bad { at },
+            Err(Stop::Unsaid) => return PackEnd::SayFault,
+        }
+        if room < count {
+            return PackEnd::Bad { at: LONGEST_STREAM };
+        }
+        at += count as u64;
+    }
+}
