@@ -1,0 +1,192 @@
+-- Steps of a capture, one after another, and the numbers that they add.
+use Rattle.std.proofs.Common.{◌≡◌, ℕ, ◌+◌, ◌*◌, ◌-◌, ◌^◌, ◌<◌, ◌≤◌, false, List, [], ◌∷◌, ◌++◌, length, refl, sym, ap, subst, ◌∙◌, arith, append_assoc, length-append}
+use Rattle.std.specs.List.{flat_map}
+use Rattle.std.proofs.lemmas.List.{append-nil}
+use Rattle.gts_alphabet.specs.Digits.{dec}
+use Rattle.gts_directory.specs.Directory.{Directory}
+use Rattle.gts_frame.specs.Decoder.{Decoding}
+use Rattle.gts_connection.specs.Capture.{Step, Feed, Head, FeedHead, TakeHead, ReopenHead, DrainHead, RestartHead, CompactHead, EndHead, head_text, head_of, bytes_of_step, step_text, IsHead, AreSteps, IsWhole, EndsEarly, Connections, no_bytes, after_step, connections_after}
+use Rattle.gts_connection.proofs.LawLemmas.{connections_go_on}
+use Rattle.gts_capture.specs.{IsHeadIn, bytes_announced, IsReadTo, IsBadAt, at_start, counted_to}
+use Rattle.gts_capture.specs.Held.{Held}
+use Rattle.gts_capture.proofs.LawLemmas.{begins, one_step, at_bad, in_feed}
+use Rattle.gts_replay.specs.Going.{Decode}
+use Rattle.gts_replay.specs.Replay.{IfTold}
+use Rattle.gts_replay.specs.Ending.{IsStepOf, EndsBehind, Takes}
+use Rattle.gts_replay.proofs.RunLemmas.{ReadsHead, head_here}
+use Rattle.gts_gap.specs.Numbers.{Numbered}
+use Rattle.gts_gap.specs.Capture.{number_of_event, events_with, numbers_from, numbers}
+use Rattle.gts_gap.specs.Ring.{StandsAt}
+use Rattle.gts_missing.specs.Counting.{Rings, IsNew, StandFor, IsRead, IsCutAt, DoesAll, EndsInStep}
+
+-- These steps were done: the table stands for their numbers, the decoders have what came on their connections, and the reader
+-- stands behind them.
+pub record Runs (tells : Type 0) (d : Directory) (bytes : List ℕ) (steps : List Step) (held : Held) (left : List ℕ) (ds : List Decoding) (rings : Rings) : Type 0 where
+  pub circuits : held.circuits ≡ length d.circuits
+  pub plain : held.plain ≡ false
+  pub are : AreSteps d steps
+  pub read : IfTold tells bytes (IsReadTo d bytes steps held (held.ahead ++ left))
+  pub decoders : length ds ≡ length d.circuits
+  pub decode : Decode ds (connections_after d (no_bytes d) steps)
+  pub rings : length rings ≡ length d.circuits
+  pub stand : StandFor d steps rings
+
+pub runs_none : (tells : Type 0) (d : Directory) (bytes : List ℕ) (held : Held) (ds : List Decoding) (rings : Rings)
+    → held ≡ at_start (length rings) false → length ds ≡ length rings → IsNew d rings ds → Runs tells d bytes [] held bytes ds rings
+runs_none tells d bytes held ds rings is each new =
+    let here : held ≡ at_start (length d.circuits) false = is ∙ ap (λ (n : ℕ). at_start n false) new.circuits in
+    let P : Held → Type 0 = λ x. IsReadTo d bytes [] x (x.ahead ++ bytes) in
+    record {
+      circuits = ap (λ (x : Held). x.circuits) here;
+      plain = ap (λ (x : Held). x.plain) here;
+      are = tt;
+      read = λ t small. subst P (sym here) (begins d bytes (at_start (length d.circuits) false) small refl);
+      decoders = each ∙ new.circuits;
+      decode = new.decode;
+      rings = new.circuits;
+      stand = new.empty;
+    }
+
+-- ---- one step more
+
+-- a step that was done is that of its head
+step_whole : (head : Head) (step : Step) → IsStepOf head step → length (bytes_of_step step) ≡ bytes_announced head → head_of step ≡ head
+step_whole (FeedHead c n) step of size = ap head_of of.1 ∙ ap (FeedHead c) (ap (λ (s : Step). length (bytes_of_step s)) (sym of.1) ∙ size)
+step_whole (TakeHead c) step of size = of
+step_whole (ReopenHead c) step of size = of
+step_whole (DrainHead c) step of size = of
+step_whole RestartHead step of size = of
+step_whole CompactHead step of size = of
+step_whole EndHead step of size = of
+
+are_more : (d : Directory) (steps : List Step) (step : Step) → AreSteps d steps → IsHead d (head_of step) → AreSteps d (steps ++ step ∷ [])
+are_more d [] step are valid = (valid, tt)
+are_more d (s ∷ steps) step are valid = (are.0, are_more d steps step are.1 valid)
+
+numbers_go_on : (d : Directory) (bs : Connections) (c : ℕ) (steps more : List Step)
+    → numbers_from d bs c (steps ++ more) ≡ numbers_from d bs c steps ++ numbers_from d (connections_after d bs steps) c more
+numbers_go_on d bs c [] more = refl
+numbers_go_on d bs c (step ∷ steps) more =
+    let first : List Numbered = flat_map (number_of_event c) (events_with bs step) in
+    ap (λ (l : List Numbered). first ++ l) (numbers_go_on d (after_step d bs step) c steps more)
+    ∙ sym (append_assoc first (numbers_from d (after_step d bs step) c steps) (numbers_from d (connections_after d (after_step d bs step) steps) c more))
+
+numbers_more : (d : Directory) (c : ℕ) (steps : List Step) (step : Step)
+    → numbers d c (steps ++ step ∷ []) ≡ numbers d c steps ++ flat_map (number_of_event c) (events_with (connections_after d (no_bytes d) steps) step)
+numbers_more d c steps step =
+    let bs : Connections = connections_after d (no_bytes d) steps in
+    numbers_go_on d (no_bytes d) c steps (step ∷ []) ∙ ap (λ (l : List Numbered). numbers d c steps ++ l) (append-nil (flat_map (number_of_event c) (events_with bs step)))
+
+pub runs_more : (tells : Type 0) (d : Directory) (bytes : List ℕ) (steps : List Step) (old mid new : Held) (before left after : List ℕ) (ds ds_now : List Decoding) (rings rings_now : Rings) (head : Head)
+    → Runs tells d bytes steps old before ds rings → ReadsHead tells head old mid before left → (does : DoesAll tells head mid new left after ds ds_now rings rings_now)
+    → length rings_now ≡ length rings → Runs tells d bytes (steps ++ does.step ∷ []) new after ds_now rings_now
+runs_more tells d bytes steps old mid new before left after ds ds_now rings rings_now head runs reads does each =
+    let step : Step = does.step in
+    let bs : Connections = connections_after d (no_bytes d) steps in
+    let x : List ℕ = bytes_of_step step in
+    let taken : Takes tells x mid new left after = does.taken in
+    let size : length x ≡ bytes_announced head = omega (arith, taken.feed, does.whole, reads.feed) in
+    let whole : head_of step ≡ head = step_whole head step does.of_head size in
+    let small : mid.at < 2 ^ 64 = omega (arith, reads.at) in
+    let place : new.at ≡ counted_to (mid.at + length x) = taken.at small in
+    let valid : IsHeadIn old.circuits old.plain (head_of step) = subst (λ (k : Head). IsHeadIn old.circuits old.plain k) (sym whole) reads.valid in
+    let long : length (step_text step) ≡ length (head_text head) + length x = length-append (head_text (head_of step)) x ∙ ap (λ (k : Head). length (head_text k) + length x) whole in
+    record {
+      circuits = taken.same.circuits ∙ reads.same.circuits ∙ runs.circuits;
+      plain = taken.same.plain ∙ reads.same.plain ∙ runs.plain;
+      are = are_more d steps step runs.are (head_here d old.circuits (head_of step) old.plain runs.circuits valid);
+      read = λ t few.
+          let text : old.ahead ++ before ≡ step_text step ++ (new.ahead ++ after) =
+          reads.told t ∙ ap (λ (xs : List ℕ). head_text head ++ xs) (taken.told t) ∙ sym (append_assoc (head_text head) x (new.ahead ++ after))
+          ∙ ap (λ (k : Head). head_text k ++ x ++ (new.ahead ++ after)) (sym whole) in
+          one_step d bytes (old.ahead ++ before) (new.ahead ++ after) steps step old new (runs.read t few) valid text
+          record { circuits = taken.same.circuits ∙ reads.same.circuits; plain = taken.same.plain ∙ reads.same.plain } (omega (arith, place, reads.at, long));
+      decoders = does.circuits ∙ runs.decoders;
+      decode = subst (λ cs. Decode ds_now cs) (sym (connections_go_on d steps (step ∷ []))) (does.decode d bs (sym runs.decoders) runs.decode);
+      rings = each ∙ runs.rings;
+      stand = λ c within. subst (λ (l : List Numbered). StandsAt rings_now c l) (sym (numbers_more d c steps step)) (does.adds bs runs.decode c (numbers d c steps) (runs.stand c within));
+    }
+
+-- ---- how it ends
+
+pub ends_done : (tells : Type 0) (d : Directory) (bytes : List ℕ) (steps : List Step) (old new : Held) (before after : List ℕ) (ds : List Decoding) (rings : Rings)
+    → Runs tells d bytes steps old before ds rings → (tells → old.ahead ++ before ≡ head_text EndHead ++ (new.ahead ++ after)) → IsRead tells d rings bytes
+ends_done tells d bytes steps old new before after ds rings runs told = record {
+  steps = steps;
+  whole = λ t small. record {
+    are = runs.are;
+    unread = new.ahead ++ after;
+    text = (runs.read t small).text ∙ ap (λ (xs : List ℕ). flat_map step_text steps ++ xs) (told t) ∙ sym (append_assoc (flat_map step_text steps) (head_text EndHead) (new.ahead ++ after));
+  };
+  circuits = runs.rings;
+  stand = runs.stand;
+}
+
+pub ends_bad : (tells : Type 0) (d : Directory) (bytes : List ℕ) (steps : List Step) (old : Held) (before : List ℕ) (ds : List Decoding) (rings : Rings) (at : ℕ)
+    → Runs tells d bytes steps old before ds rings → (tells → IsBadAt old (old.ahead ++ before) at) → IsCutAt tells d bytes at
+ends_bad tells d bytes steps old before ds rings at runs bad = λ t small. (steps, at_bad d bytes (old.ahead ++ before) steps old at (runs.read t small) (bad t))
+
+-- the bytes end in a step: it is a feed
+cut_in : (d : Directory) (bytes : List ℕ) (steps : List Step) (old mid : Held) (before left : List ℕ) (at : ℕ) (tells : Type 0) (head : Head) (step : Step) → tells
+    → IsReadTo d bytes steps old (old.ahead ++ before) → ReadsHead tells head old mid before left → IsHead d head → IsStepOf head step → EndsBehind tells (bytes_of_step step) at mid left
+    → EndsEarly d bytes (steps ++ step ∷ []) at
+cut_in d bytes steps old mid before left at tells (FeedHead c n) step t read reads valid of ends =
+    let x : List ℕ = of.0 in
+    let feed : step ≡ Feed c x = of.1 in
+    let same : bytes_of_step step ≡ x = ap bytes_of_step feed in
+    let all : old.ahead ++ before ≡ head_text (FeedHead c n) ++ x = reads.told t ∙ ap (λ (xs : List ℕ). head_text (FeedHead c n) ++ xs) (ends.all t ∙ same) in
+    let short : length x < n = let s = ends.short t in omega (arith, s, ap length same, reads.feed) in
+    let found : EndsEarly d bytes (steps ++ Feed c x ∷ []) (length bytes) = in_feed d bytes (old.ahead ++ before) x steps old c n read valid short all in
+    let small : mid.at < 2 ^ 64 = omega (arith, reads.at) in
+    let place = ends.place t small in
+    let here : length bytes ≡ at =
+    omega (
+      arith,
+      place,
+      ap length same,
+      reads.at,
+      read.place,
+      read.small,
+      ap length read.text,
+      length-append (flat_map step_text steps) (old.ahead ++ before),
+      ap length all,
+      length-append (head_text (FeedHead c n)) x,
+    ) in
+    subst (λ (k : ℕ). EndsEarly d bytes (steps ++ step ∷ []) k) here (subst (λ (s : Step). EndsEarly d bytes (steps ++ s ∷ []) (length bytes)) (sym feed) found)
+cut_in d bytes steps old mid before left at tells (TakeHead c) step t read reads valid of ends = absurd (let s = ends.short t in omega (arith, s, reads.feed))
+cut_in d bytes steps old mid before left at tells (ReopenHead c) step t read reads valid of ends = absurd (let s = ends.short t in omega (arith, s, reads.feed))
+cut_in d bytes steps old mid before left at tells (DrainHead c) step t read reads valid of ends = absurd (let s = ends.short t in omega (arith, s, reads.feed))
+cut_in d bytes steps old mid before left at tells RestartHead step t read reads valid of ends = absurd (let s = ends.short t in omega (arith, s, reads.feed))
+cut_in d bytes steps old mid before left at tells CompactHead step t read reads valid of ends = absurd (let s = ends.short t in omega (arith, s, reads.feed))
+cut_in d bytes steps old mid before left at tells EndHead step t read reads valid of ends = absurd (let s = ends.short t in omega (arith, s, reads.feed))
+
+pub ends_in_step : (tells : Type 0) (d : Directory) (bytes : List ℕ) (steps : List Step) (old mid : Held) (before left : List ℕ) (ds : List Decoding) (rings : Rings) (head : Head) (at : ℕ)
+    → Runs tells d bytes steps old before ds rings → ReadsHead tells head old mid before left → EndsInStep tells head at mid left → IsCutAt tells d bytes at
+ends_in_step tells d bytes steps old mid before left ds rings head at runs reads ends = λ t small. (
+  steps ++ ends.step ∷ [],
+  cut_in d bytes steps old mid before left at tells head ends.step t (runs.read t small) reads (head_here d old.circuits head old.plain runs.circuits reads.valid) ends.of_head ends.ends,
+)
+
+-- ---- more steps than can be
+
+two_bytes : (h : Head) → 2 ≤ length (head_text h)
+unfolding dec
+two_bytes (FeedHead c n) = omega arith
+two_bytes (TakeHead c) = omega arith
+two_bytes (ReopenHead c) = omega arith
+two_bytes (DrainHead c) = omega arith
+two_bytes RestartHead = omega arith
+two_bytes CompactHead = omega arith
+two_bytes EndHead = omega arith
+
+two_each : (steps : List Step) → 2 * length steps ≤ length (flat_map step_text steps)
+two_each [] = omega arith
+two_each (s ∷ steps) =
+    let more = two_each steps in
+    omega (arith, more, two_bytes (head_of s), length-append (step_text s) (flat_map step_text steps), length-append (head_text (head_of s)) (bytes_of_step s))
+
+pub ends_never : (tells : Type 0) (d : Directory) (bytes : List ℕ) (steps : List Step) (held : Held) (left : List ℕ) (ds : List Decoding) (rings : Rings) (at : ℕ)
+    → Runs tells d bytes steps held left ds rings → 2 ^ 64 - 1 ≤ length steps → IsCutAt tells d bytes at
+ends_never tells d bytes steps held left ds rings at runs many = λ t small. absurd (
+let r = runs.read t small in
+omega (arith, many, small, two_each steps, ap length r.text, length-append (flat_map step_text steps) (held.ahead ++ left)))

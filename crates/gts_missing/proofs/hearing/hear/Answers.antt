@@ -1,0 +1,4 @@
+use Rattle.gts_missing.proofs.hearing.hear.Goals as goal
+
+pub returns : goal.returns
+returns c = ?

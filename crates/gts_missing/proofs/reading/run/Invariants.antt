@@ -1,0 +1,19 @@
+use Rattle.std.proofs.Common.{◌≡◌, ◌≤◌, false, List, length}
+use Rattle.gts_directory.specs.Directory.{Directory}
+use Rattle.gts_connection.specs.Capture.{Step}
+use Rattle.gts_missing.specs.Counting.{IsNew}
+use Rattle.gts_missing.proofs.RunLemmas.{Runs}
+use Rattle.gts_missing.proofs.reading.run.Given as goal
+
+-- so many steps were done
+abbrev pub invariant-loop : goal.invariant-loop
+invariant-loop g l = record {
+  done : (d : Directory) → IsNew d l.fn.table l.fn.decoders → (steps : List Step) × (length steps ≡ l.counter)
+      × Runs g.S.Source.tells d (g.S.Source.left l.fn.capture) steps l.steps (g.S.Source.left l.capture) l.decoders l.table;
+  plain : l.steps.plain ≡ false;
+  taken : l.steps.feed ≡ 0;
+  here : l.steps.circuits ≡ length l.fn.table;
+  circuits : length l.table ≡ length l.fn.table;
+  decoders : length l.decoders ≡ length l.fn.table;
+  later : g.S.Source.faults l.fn.capture ≤ g.S.Source.faults l.capture;
+}

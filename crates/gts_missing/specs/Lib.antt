@@ -1,0 +1,2 @@
+pub mod Counting
+pub use Rattle.gts_missing.specs.Counting.{IsTabled, HasTableCause}

@@ -1,0 +1,100 @@
+ghost use Rattle.std.specs.Prelude.{◌≡◌, ◌<◌, ◌≤◌, List, length, false, Err};
+ghost use Rattle.gts_directory.specs.Directory.{Directory as DirectoryFields};
+ghost use Rattle.gts_connection.specs.Capture.{no_bytes};
+ghost use Rattle.gts_capture.specs.{IsHeadIn, bytes_announced, head_of, at_start, HasSourceCause};
+ghost use Rattle.gts_replay.specs.Going.{Decode};
+ghost use Rattle.gts_missing.specs.Counting.{DoesStep, IsNew, Comes, IsTabled, HasTableCause};
+
+use crate::TableFault;
+use crate::decoders::{new_decoders, reopen_all};
+use crate::hearing::feed;
+use gts_capture::{CaptureFault, Head, Steps};
+use gts_directory::Directory;
+use gts_frame::Decoder;
+use gts_gap::GapTable;
+use gts_traits::Source;
+use std::alloc::Global;
+
+/// Does the step of a head that was read. Only feeds and new connections change what the numbers are.
+fn do_step<S: Source>(
+    table: &mut GapTable,
+    decoders: &mut [Decoder],
+    steps: &mut Steps,
+    capture: &mut S,
+    head: Head,
+) -> Result<(), CaptureFault>
+    requires valid { IsHeadIn (length table.old) false (head_of head) }
+    requires some { head ≡ Head.End → ⊥ }
+    requires feed { steps.old.feed ≡ bytes_announced (head_of head) }
+    requires decoders { length decoders.old ≡ length table.old }
+    ensures does { DoesStep S.tells (head_of head) result steps.old steps.new
+        (S.left capture.old) (S.left capture.new) decoders.old decoders.new table.old table.new }
+    ensures circuits { length table.new ≡ length table.old }
+    ensures cause { HasSourceCause result (S.faults capture.old) (S.faults capture.new) }
+{
+    match head {
+        Head::Feed { c, .. } => {
+            let decoder = &mut decoders[c as usize];
+            return feed(table, c, decoder, steps, capture);
+        }
+        Head::Reopen { c } => decoders[c as usize].reopen(),
+        Head::Restart => reopen_all(decoders),
+        Head::Take { .. } | Head::Drain { .. } | Head::End => {}
+    }
+    Ok(())
+}
+
+/// Does the steps of a capture, one after another, through its end.
+fn run<S: Source>(
+    table: &mut GapTable,
+    decoders: &mut [Decoder],
+    steps: &mut Steps,
+    capture: &mut S,
+) -> Result<(), CaptureFault>
+    requires begins { steps.old ≡ at_start (length table.old) false }
+    requires few { length table.old ≤ 100 }
+    requires decoders { length decoders.old ≡ length table.old }
+    ensures comes { (d : DirectoryFields) → IsNew d table.old decoders.old
+        → Comes S.tells d result table.new (S.left capture.old) }
+    ensures circuits { length table.new ≡ length table.old }
+    ensures cause { HasSourceCause result (S.faults capture.old) (S.faults capture.new) }
+{
+    for _ in 0..u64::MAX {
+        let head = match steps.next(capture) {
+            Ok(Head::End) => return Ok(()),
+            Ok(head) => head,
+            Err(fault) => return Err(fault),
+        };
+        if let Err(fault) = do_step(table, decoders, steps, capture, head) {
+            return Err(fault);
+        }
+    }
+    // No capture that is told has so many steps: their bytes could not be counted.
+    Err(CaptureFault::Bad { at: u64::MAX })
+}
+
+/// Reads a capture through its end, and notes the numbers that came on each circuit of the directory. All memory is taken before
+/// the first step.
+pub fn table_of<S: Source>(
+    alloc: Global,
+    directory: &Directory,
+    capture: &mut S,
+) -> Result<GapTable, TableFault>
+    ensures comes { IsTabled S.tells directory.now result (S.left capture.old) }
+    ensures unread { result ≡ Err TableFault.NoMemory → capture.new ≡ capture.old }
+    ensures cause { HasTableCause result (S.faults capture.old) (S.faults capture.new) }
+{
+    let circuits = directory.circuits();
+    let Ok(mut table) = GapTable::new(alloc, circuits) else {
+        return Err(TableFault::NoMemory);
+    };
+    let Ok(mut decoders) = new_decoders(alloc, circuits) else {
+        return Err(TableFault::NoMemory);
+    };
+    let mut steps = Steps::new(circuits);
+    match run(&mut table, &mut decoders, &mut steps, capture) {
+        Ok(()) => Ok(table),
+        Err(CaptureFault::Bad { at }) => Err(TableFault::Capture { at }),
+        Err(CaptureFault::SourceFault) => Err(TableFault::SourceFault),
+    }
+}
