@@ -1,5 +1,5 @@
 -- Numbers that are added, as the bytes of a connection come.
-use Rattle.std.proofs.Common.{◌≡◌, ℕ, ◌<◌, List, [], ◌∷◌, ◌++◌, length, get_or, set, take, drop, map, Ok, Err, refl, sym, ap, subst, ◌∙◌, arith, append_assoc}
+use Rattle.std.proofs.Common.{◌≡◌, ℕ, ◌<◌, List, [], ◌∷◌, ◌++◌, length, get_or, set, take, drop, map, Result, Ok, Err, refl, sym, ap, subst, ◌∙◌, arith, append_assoc}
 use Rattle.std.specs.List.{flat_map}
 use Rattle.std.proofs.lemmas.Grind.{flat_map-append}
 use Rattle.std.proofs.lemmas.List.{append-nil, length-set, length-map}
@@ -139,3 +139,9 @@ does_restart tells held left ds ds_now old anew none = record {
   decode = λ d bs each e. subst (λ (xs : List Decoding). Decode xs (no_bytes d)) (sym anew) (decode_reopened ds d (sym each));
   circuits = ap length anew ∙ length-map {B = Decoding} ds (λ _. fresh);
 }
+
+pub feeds_step : (tells : Type 0) (c n : ℕ) (result : Result (Unit {0}) CaptureFault) (held held_now : Held) (left left_now : List ℕ) (ds : List Decoding) (x next : Decoding) (old new : Rings) → c < length ds
+    → Feeds tells c result held held_now left left_now (get_or ds c x) next old new → DoesStep tells (FeedHead c n) result held held_now left left_now ds (set ds c next) old new
+feeds_step tells c n (Ok u) held held_now left left_now ds x next old new within f = does_feed tells c n held held_now left left_now ds x next old new within f
+feeds_step tells c n (Err (Bad at)) held held_now left left_now ds x next old new within f = record { step = Feed c f.0; of_head = (f.0, refl); ends = f.1 }
+feeds_step tells c n (Err SourceFault) held held_now left left_now ds x next old new within f = tt

@@ -28,7 +28,7 @@ pub record Runs (tells : Type 0) (d : Directory) (bytes : List ℕ) (steps : Lis
   pub read : IfTold tells bytes (IsReadTo d bytes steps held (held.ahead ++ left))
   pub decoders : length ds ≡ length d.circuits
   pub decode : Decode ds (connections_after d (no_bytes d) steps)
-  pub rings : length rings ≡ length d.circuits
+  pub each : length rings ≡ length d.circuits
   pub stand : StandFor d steps rings
 
 pub runs_none : (tells : Type 0) (d : Directory) (bytes : List ℕ) (held : Held) (ds : List Decoding) (rings : Rings)
@@ -43,7 +43,7 @@ runs_none tells d bytes held ds rings is each new =
       read = λ t small. subst P (sym here) (begins d bytes (at_start (length d.circuits) false) small refl);
       decoders = each ∙ new.circuits;
       decode = new.decode;
-      rings = new.circuits;
+      each = new.circuits;
       stand = new.empty;
     }
 
@@ -80,7 +80,7 @@ numbers_more d c steps step =
 pub runs_more : (tells : Type 0) (d : Directory) (bytes : List ℕ) (steps : List Step) (old mid new : Held) (before left after : List ℕ) (ds ds_now : List Decoding) (rings rings_now : Rings) (head : Head)
     → Runs tells d bytes steps old before ds rings → ReadsHead tells head old mid before left → (does : DoesAll tells head mid new left after ds ds_now rings rings_now)
     → length rings_now ≡ length rings → Runs tells d bytes (steps ++ does.step ∷ []) new after ds_now rings_now
-runs_more tells d bytes steps old mid new before left after ds ds_now rings rings_now head runs reads does each =
+runs_more tells d bytes steps old mid new before left after ds ds_now rings rings_now head runs reads does same =
     let step : Step = does.step in
     let bs : Connections = connections_after d (no_bytes d) steps in
     let x : List ℕ = bytes_of_step step in
@@ -103,7 +103,7 @@ runs_more tells d bytes steps old mid new before left after ds ds_now rings ring
           record { circuits = taken.same.circuits ∙ reads.same.circuits; plain = taken.same.plain ∙ reads.same.plain } (omega (arith, place, reads.at, long));
       decoders = does.circuits ∙ runs.decoders;
       decode = subst (λ cs. Decode ds_now cs) (sym (connections_go_on d steps (step ∷ []))) (does.decode d bs (sym runs.decoders) runs.decode);
-      rings = each ∙ runs.rings;
+      each = same ∙ runs.each;
       stand = λ c within. subst (λ (l : List Numbered). StandsAt rings_now c l) (sym (numbers_more d c steps step)) (does.adds bs runs.decode c (numbers d c steps) (runs.stand c within));
     }
 
@@ -118,7 +118,7 @@ ends_done tells d bytes steps old new before after ds rings runs told = record {
     unread = new.ahead ++ after;
     text = (runs.read t small).text ∙ ap (λ (xs : List ℕ). flat_map step_text steps ++ xs) (told t) ∙ sym (append_assoc (flat_map step_text steps) (head_text EndHead) (new.ahead ++ after));
   };
-  circuits = runs.rings;
+  circuits = runs.each;
   stand = runs.stand;
 }
 
@@ -187,6 +187,6 @@ two_each (s ∷ steps) =
 
 pub ends_never : (tells : Type 0) (d : Directory) (bytes : List ℕ) (steps : List Step) (held : Held) (left : List ℕ) (ds : List Decoding) (rings : Rings) (at : ℕ)
     → Runs tells d bytes steps held left ds rings → 2 ^ 64 - 1 ≤ length steps → IsCutAt tells d bytes at
-ends_never tells d bytes steps held left ds rings at runs many = λ t small. absurd (
-let r = runs.read t small in
-omega (arith, many, small, two_each steps, ap length r.text, length-append (flat_map step_text steps) (held.ahead ++ left)))
+ends_never tells d bytes steps held left ds rings at runs many = λ t small.
+    let r = runs.read t small in
+    absurd (omega (arith, many, small, two_each steps, ap length r.text, length-append (flat_map step_text steps) (held.ahead ++ left)))

@@ -39,7 +39,9 @@ fn do_step<S: Source>(
         }
         Head::Reopen { c } => decoders[c as usize].reopen(),
         Head::Restart => reopen_all(decoders),
-        Head::Take { .. } | Head::Drain { .. } | Head::End => {}
+        Head::Take { c: _ } => {}
+        Head::Drain { c: _ } => {}
+        Head::End => {}
     }
     Ok(())
 }

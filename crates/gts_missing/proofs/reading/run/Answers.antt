@@ -1,0 +1,87 @@
+use Rattle.std.proofs.Common.{◌≡◌, ◌+◌, ◌≤◌, ◌++◌, ℕ, List, [], ◌∷◌, length, Result, Ok, Err, refl, sym, ap, subst, ◌∙◌, arith, length-append}
+use Rattle.gts_directory.specs.Directory.{Directory}
+use Rattle.gts_capture.specs.{head_of, line_of}
+use Rattle.gts_capture.specs.Held.{Held}
+use Rattle.gts_capture.specs.declared.capture_fault.CaptureFault.{CaptureFault}
+use Rattle.gts_capture.specs.declared.capture_fault.CaptureFault.TheVariants.{Bad, SourceFault}
+use Rattle.gts_capture.specs.declared.head.Head.{Head}
+use Rattle.gts_replay.proofs.RunLemmas.{ReadsHead}
+use Rattle.gts_missing.specs.Counting.{Comes, DoesStep, IsNew}
+use Rattle.gts_missing.proofs.RunLemmas.{runs_none, runs_more, ends_done, ends_bad, ends_in_step, ends_never}
+use Rattle.gts_missing.proofs.reading.run.Goals as goal
+
+pub loop-init : goal.loop-init
+loop-init g c = record {
+  done = λ d new. ([], refl, runs_none g.S.Source.tells d (g.S.Source.left c.args.capture.now) c.args.steps.now c.args.decoders.now c.args.table.now c.requires.begins c.requires.decoders new);
+  plain = ap (λ (h : Held). h.plain) c.requires.begins;
+  taken = ap (λ (h : Held). h.feed) c.requires.begins;
+  here = ap (λ (h : Held). h.circuits) c.requires.begins;
+  circuits = refl;
+  decoders = c.requires.decoders;
+  later = omega arith;
+}
+
+pub returns-in-Ok-End-clause-comes : goal.returns-in-Ok-End-clause-comes
+returns-in-Ok-End-clause-comes g c = λ d new.
+    let done = c.loop.invariant.done d new in
+    let told : g.S.Source.tells → c.loop.steps.ahead ++ g.S.Source.left c.loop.capture ≡ line_of c.in-Ok-End.field-0 ++ (c.next.new.self.ahead ++ g.S.Source.left c.next.new.source) = c.in-Ok-End.ensures.told in
+    ends_done g.S.Source.tells d (g.S.Source.left c.args.capture.now) done.0 c.loop.steps c.next.new.self (g.S.Source.left c.loop.capture) (g.S.Source.left c.next.new.source) c.loop.decoders c.loop.table done.2
+    (λ t. told t ∙ ap (λ (head : Head). line_of head ++ (c.next.new.self.ahead ++ g.S.Source.left c.next.new.source)) c.in-Ok-End.field-0-is)
+
+pub returns-in-Err-clause-comes : goal.returns-in-Err-clause-comes
+returns-in-Err-clause-comes g c = λ d new.
+    let done = c.loop.invariant.done d new in
+    let C : CaptureFault → Type 0 = λ fault. Comes g.S.Source.tells d (Err fault) c.loop.table (g.S.Source.left c.args.capture.now) in
+    let go : (fault : CaptureFault) → c.next.result ≡ Err fault → C fault = elim [
+      | Bad at ↦ λ is. ends_bad g.S.Source.tells d (g.S.Source.left c.args.capture.now) done.0 c.loop.steps (g.S.Source.left c.loop.capture) c.loop.decoders c.loop.table at done.2 (λ t. c.next.ensures.bad t at is)
+      | SourceFault ↦ λ is. tt
+    ] in
+    go c.in-Err.fault c.in-Err.is
+
+pub returns-in-Err-do_step-clause-comes : goal.returns-in-Err-do_step-clause-comes
+returns-in-Err-do_step-clause-comes g c = λ d new.
+    let done = c.loop.invariant.done d new in
+    let head = head_of c.in-Ok.head in
+    let reads : ReadsHead g.S.Source.tells head c.loop.steps c.next.new.self (g.S.Source.left c.loop.capture) (g.S.Source.left c.next.new.source) =
+    record { told = c.in-Ok.ensures.told; valid = c.in-Ok.ensures.valid; feed = c.in-Ok.ensures.feed; at = c.in-Ok.ensures.at; same = c.next.ensures.same } in
+    let D : CaptureFault → Type 0 = λ fault. DoesStep g.S.Source.tells head (Err fault) c.next.new.self c.do_step.new.steps (g.S.Source.left c.next.new.source) (g.S.Source.left c.do_step.new.capture)
+    c.loop.decoders c.do_step.new.decoders c.loop.table c.do_step.new.table in
+    let does : D c.in-Err-do_step.fault = subst (λ (r : Result (Unit {0}) CaptureFault). DoesStep g.S.Source.tells head r c.next.new.self c.do_step.new.steps (g.S.Source.left c.next.new.source) (g.S.Source.left c.do_step.new.capture)
+    c.loop.decoders c.do_step.new.decoders c.loop.table c.do_step.new.table) c.in-Err-do_step.is c.do_step.ensures.does in
+    let C : CaptureFault → Type 0 = λ fault. Comes g.S.Source.tells d (Err fault) c.do_step.new.table (g.S.Source.left c.args.capture.now) in
+    let go : (fault : CaptureFault) → D fault → C fault = elim [
+      | Bad at ↦ λ ends. ends_in_step g.S.Source.tells d (g.S.Source.left c.args.capture.now) done.0 c.loop.steps c.next.new.self (g.S.Source.left c.loop.capture) (g.S.Source.left c.next.new.source)
+          c.loop.decoders c.loop.table head at done.2 reads ends
+      | SourceFault ↦ λ ends. tt
+    ] in
+    go c.in-Err-do_step.fault does
+
+pub loop-preserved : goal.loop-preserved
+loop-preserved g c =
+    let head = head_of c.in-Ok.head in
+    let reads : ReadsHead g.S.Source.tells head c.loop.steps c.next.new.self (g.S.Source.left c.loop.capture) (g.S.Source.left c.next.new.source) =
+    record { told = c.in-Ok.ensures.told; valid = c.in-Ok.ensures.valid; feed = c.in-Ok.ensures.feed; at = c.in-Ok.ensures.at; same = c.next.ensures.same } in
+    let does = subst (λ (r : Result (Unit {0}) CaptureFault). DoesStep g.S.Source.tells head r c.next.new.self c.do_step.new.steps (g.S.Source.left c.next.new.source)
+    (g.S.Source.left c.do_step.new.capture) c.loop.decoders c.do_step.new.decoders c.loop.table c.do_step.new.table) c.in_default.is c.do_step.ensures.does in
+    let same = does.taken.same in
+    record {
+      done = λ d new.
+          let done = c.loop.invariant.done d new in (
+            done.0 ++ does.step ∷ [],
+            length-append done.0 (does.step ∷ []) ∙ ap (λ (n : ℕ). n + 1) done.1,
+            runs_more g.S.Source.tells d (g.S.Source.left c.args.capture.now) done.0 c.loop.steps c.next.new.self c.do_step.new.steps (g.S.Source.left c.loop.capture) (g.S.Source.left c.next.new.source)
+                (g.S.Source.left c.do_step.new.capture) c.loop.decoders c.do_step.new.decoders c.loop.table c.do_step.new.table head done.2 reads does c.do_step.ensures.circuits,
+          );
+      plain = same.plain ∙ c.next.ensures.same.plain ∙ c.loop.invariant.plain;
+      taken = does.whole;
+      here = same.circuits ∙ c.next.ensures.same.circuits ∙ c.loop.invariant.here;
+      circuits = c.do_step.ensures.circuits ∙ c.loop.invariant.circuits;
+      decoders = does.circuits ∙ c.loop.invariant.decoders;
+      later = omega (arith, c.loop.invariant.later, c.next.ensures.cause.later, c.do_step.ensures.cause.later);
+    }
+
+pub returns-clause-comes : goal.returns-clause-comes
+returns-clause-comes g c = λ d new.
+    let done = c.loop.invariant.done d new in
+    ends_never g.S.Source.tells d (g.S.Source.left c.args.capture.now) done.0 c.loop.steps (g.S.Source.left c.loop.capture) c.loop.decoders c.loop.table 18446744073709551615 done.2
+    (omega (arith, done.1, c.loop-test.false))
