@@ -9,3 +9,18 @@ pub enum TableFault {
     /// There was no memory. Nothing was read.
     NoMemory,
 }
+
+/// How a run of a capture ended that names the missing numbers.
+#[derive(Clone, Copy, Debug, PartialEq, Eq)]
+pub enum GapsEnd {
+    /// What is missing was said.
+    Done,
+    /// The bytes are no capture, as at a table. Nothing was said.
+    Capture { at: u64 },
+    /// Reading the capture failed. Nothing was said.
+    SourceFault,
+    /// Saying failed.
+    SayFault,
+    /// There was no memory. Nothing was said.
+    NoMemory,
+}

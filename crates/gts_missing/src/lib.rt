@@ -4,7 +4,12 @@
 mod decoders;
 mod fault;
 mod hearing;
+mod moment;
 mod reading;
+mod reporting;
+mod saying;
 
-pub use fault::TableFault;
+pub use fault::{GapsEnd, TableFault};
+pub use moment::Moment;
 pub use reading::table_of;
+pub use reporting::gaps;

@@ -2,7 +2,9 @@
 #![tactic(auto)]
 
 mod laws;
+mod piece;
 mod saying;
 
 pub use laws::{a_front_stays_a_front, pieces_that_are_said_join};
+pub use piece::{LONGEST_PIECE, Piece};
 pub use saying::say;

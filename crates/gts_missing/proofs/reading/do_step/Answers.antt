@@ -46,4 +46,3 @@ returns-in-Drain-clause-does g c =
     let P : Head → Type 0 = λ head. DoesStep g.S.Source.tells (head_of head) (Ok tt) c.args.steps.now c.args.steps.now left left
     c.args.decoders.now c.args.decoders.now c.args.table.now c.args.table.now in
     subst P (sym c.in-Drain.is) (does_drain g.S.Source.tells _ c.args.steps.now left c.args.decoders.now c.args.table.now none)
-

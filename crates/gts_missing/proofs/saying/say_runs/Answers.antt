@@ -1,0 +1,50 @@
+use Rattle.std.proofs.Common.{◌≡◌, ◌∷◌, ◌++◌, List, ℕ, Result, Err, Ok, sym, ap, subst, ◌∙◌, append_assoc, arith}
+use Rattle.std.specs.List.{AllByRecursion}
+use Rattle.gts_gap.specs.Ring.{HasDigits}
+use Rattle.gts_traits.specs.{on}
+use Rattle.gts_traits.specs.declared.failed.Failed.{Failed}
+use Rattle.gts_say.specs.Say.{Tells, SaysOnly, SaysFront}
+use Rattle.gts_missing.specs.Saying.{run_line, run_lines}
+use Rattle.gts_missing.proofs.SayingLemmas.{tells_on, front_on}
+use Rattle.gts_missing.proofs.saying.say_runs.Goals as goal
+
+pub returns-in-Err-clause-told : goal.returns-in-Err-clause-told
+returns-in-Err-clause-told g c = λ t.
+    let x = c.loop-first.invariant.said t in
+    let line : List ℕ = run_line c.args.c (c.in-Some.first, c.in-Some.last, c.in-Some.digits) in
+    let rest : List ℕ = run_lines c.args.c c.next.new.self in
+    let a = g.P.Station.calls c.args.station.now in
+    let b = g.P.Station.calls c.loop-first.station in
+    let d = g.P.Station.calls c.say.new.station in
+    let T : List ℕ → Result (Unit {0}) Failed → Type 0 = λ piece r. Tells r (on 0 piece) b d in
+    let said : Tells {T = Unit {0}} (Err c.in-Err.field-0) (on 0 line) b d =
+    subst (λ (piece : List ℕ). T piece (Err c.in-Err.field-0)) (c.bytes.ensures ∙ c.line_of-line.ensures) (subst (T c.bytes.result.now) c.in-Err.is (c.say.ensures.told t)) in
+    let front : SaysFront a d (on 0 (x.0 ++ line)) = tells_on {T = Unit {0}} (Err c.in-Err.field-0) a b d 0 x.0 line x.2 said in
+    let all : run_lines c.args.c c.args.runs ≡ (x.0 ++ line) ++ rest = x.1 ∙ ap (λ (rs : List (ℕ × ℕ × ℕ)). x.0 ++ run_lines c.args.c rs) c.in-Some.ensures.steps ∙ sym (append_assoc x.0 line rest) in
+    subst (λ (l : List ℕ). SaysFront a d (on 0 l)) (sym all) (front_on a d 0 (x.0 ++ line) rest front)
+
+pub loop-first-preserved : goal.loop-first-preserved
+loop-first-preserved g c =
+    let line : List ℕ = run_line c.args.c (c.in-Some.first, c.in-Some.last, c.in-Some.digits) in
+    let rest : List ℕ = run_lines c.args.c c.next.new.self in
+    let a = g.P.Station.calls c.args.station.now in
+    let b = g.P.Station.calls c.loop-first.station in
+    let d = g.P.Station.calls c.say.new.station in
+    let T : List ℕ → Result (Unit {0}) Failed → Type 0 = λ piece r. Tells r (on 0 piece) b d in
+    let both : AllByRecursion HasDigits ((c.in-Some.first, c.in-Some.last, c.in-Some.digits) ∷ c.next.new.self) =
+    subst (λ (rs : List (ℕ × ℕ × ℕ)). AllByRecursion HasDigits rs) c.in-Some.ensures.steps c.loop-first.invariant.digits in
+    record {
+      can = tt;
+      finite = tt;
+      digits = both.1;
+      said = λ t.
+          let x = c.loop-first.invariant.said t in
+          let said : SaysOnly b d (on 0 line) =
+          subst (λ (piece : List ℕ). T piece (Ok c.in_default-say.field-0)) (c.bytes.ensures ∙ c.line_of-line.ensures) (subst (T c.bytes.result.now) c.in_default-say.is (c.say.ensures.told t)) in (
+            x.0 ++ line,
+            x.1 ∙ ap (λ (rs : List (ℕ × ℕ × ℕ)). x.0 ++ run_lines c.args.c rs) c.in-Some.ensures.steps ∙ sym (append_assoc x.0 line rest),
+            tells_on {T = Unit {0}} {E = Failed} (Ok tt) a b d 0 x.0 line x.2 said,
+          );
+      later = omega (arith, c.loop-first.invariant.later, c.say.ensures.cause.later);
+      disk = c.say.ensures.disk ∙ c.loop-first.invariant.disk;
+    }
