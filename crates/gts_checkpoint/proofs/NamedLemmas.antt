@@ -1,20 +1,24 @@
 -- Bulletins that are found by their positions, and lists of which each element passes a test.
 use Rattle.std.proofs.Common.{◌≡◌, ℕ, zero, suc, ◌+◌, ◌-◌, ◌<◌, ◌≤◌, Bool, true, false, not, ◌&&◌, ◌||◌, ◌==◌, nat_lt, nat_le, List, [], ◌∷◌, length, get_or, map, take, slice_get, Option, Some, None, is_ok, ◌⊎◌, inl, inr, refl, sym, ap, ◌∙◌, arith}
 use Rattle.std.specs.Prelude.{IfSome, IfNone, is_some}
-use Rattle.std.specs.List.{list_all, list_any, range_with_len}
+use Rattle.std.specs.List.{list_all, range_with_len}
+use Rattle.std.specs.Int.{bit_at}
 use Rattle.std.proofs.lemmas.Bool.{and_parts, and_from, ltb-true, eq-eqb, ne_eqb, cases_lt}
 use Rattle.std.proofs.lemmas.List.{take_all}
 use Rattle.std.proofs.lemmas.List.Folds.{list_all_more, list_all_at}
 use Rattle.std.proofs.lemmas.List.FromFn.{length-range_with_len, get_or-range_with_len}
 use Rattle.gts_alphabet.specs.declared.limits.TheConstants.{LONGEST_BODY}
-use Rattle.gts_directory.specs.Directory.{Directory}
+use Rattle.gts_directory.specs.Directory.{Directory, named, is_named}
+use Rattle.gts_directory.specs.Rows.{mask_of}
+use Rattle.gts_directory.specs.Routing.{bit}
+use Rattle.gts_heading.specs.Heading.{HeadingFields}
 use Rattle.gts_message.specs.Message.{body_at}
 use Rattle.gts_event.specs.State.{Bulletin, has, heading_of}
 use Rattle.gts_event.specs.History.{is_request}
-use Rattle.gts_event.specs.Need.{ascends, is_bulletin}
+use Rattle.gts_event.specs.Need.{ascends, is_bulletin, is_for, positions_of}
 use Rattle.gts_event.specs.Items.{bulletin_of}
 use Rattle.gts_event.specs.declared.plain.Bulletin as plain
-use Rattle.gts_checkpoint.specs.Sound.{positions}
+use Rattle.gts_checkpoint.specs.Sound.{positions, mask_at, is_marked}
 use Rattle.gts_checkpoint.proofs.AscendingLemmas.{rises, has-not}
 
 -- ---- each element passes
@@ -87,13 +91,14 @@ bulletin-has d a b h =
     let h1 = and_parts (nat_lt b.from (length d.circuits)) (nat_lt b.position a) h2.0 in
     (ltb-true b.from (length d.circuits) h1.0, h3.1)
 
-pub none-for : (f : Bulletin → Bool) (bs : List plain.Bulletin) (p : ℕ) → has (positions bs) p ≡ false
-    → list_any (λ x. (x.position == p) && f x) (map bulletin_of bs) ≡ false
-none-for f [] p h = refl
-none-for f (b ∷ bs) p h = go (b.position == p) h (none-for f bs p)
+-- ---- masks beside positions
+
+pub marked-not : (ps ms : List ℕ) (c p : ℕ) → has ps p ≡ false → is_marked ps ms c p ≡ false
+marked-not [] ms c p h = refl
+marked-not (x ∷ ps) [] c p h = refl
+marked-not (x ∷ ps) (m ∷ ms) c p h = go (x == p) h (marked-not ps ms c p)
   where
-    go : (t : Bool) → (t || has (positions bs) p) ≡ false → (has (positions bs) p ≡ false → list_any (λ x. (x.position == p) && f x) (map bulletin_of bs) ≡ false)
-        → ((t && f (bulletin_of b)) || list_any (λ x. (x.position == p) && f x) (map bulletin_of bs)) ≡ false
+    go : (t : Bool) → (t || has ps p) ≡ false → (has ps p ≡ false → is_marked ps ms c p ≡ false) → ((t && (bit_at m c == 1)) || is_marked ps ms c p) ≡ false
     go true e more = absurd (cc)
     go false e more = more e
 
@@ -105,15 +110,28 @@ or_none : (b c : Bool) → c ≡ false → b ≡ (b || c)
 or_none true c e = refl
 or_none false c e = sym e
 
--- among bulletins in order, only the one that is found has the position
-pub found-for : (f : Bulletin → Bool) (bs : List plain.Bulletin) (i p : ℕ) (b : plain.Bulletin) → ascends (positions bs) ≡ true
-    → slice_get (positions bs) i ≡ Some p → b ≡ get_or bs i b → f (bulletin_of b) ≡ list_any (λ x. (x.position == p) && f x) (map bulletin_of bs)
-found-for f [] i p b h at is = absurd (cc)
-found-for f (x ∷ bs) zero p b h at is =
-    let same : x.position ≡ p = cc in
-    let none = none-for f bs p (has-not (positions bs) p (λ k l e. let up = rises (positions (x ∷ bs)) zero (suc k) h (omega arith) (omega arith) in absurd (omega arith))) in
-    rw (eq-eqb x.position p same) (ap (λ (y : plain.Bulletin). f (bulletin_of y)) is ∙ or_none (f (bulletin_of x)) _ none)
-found-for f (x ∷ bs) (suc i) p b h at is =
-    let place = get-bounds (positions bs) i p at in
-    let up : x.position < get_or (positions bs) i 0 = rises (positions (x ∷ bs)) zero (suc i) h (omega arith) (omega arith) in
-    rw (ne_eqb x.position p (λ (e : x.position ≡ p). omega (arith, place.1))) (found-for f bs i p b (ascends-tail x.position (positions bs) h) at is)
+-- among positions in order, only the one that is found counts
+pub marked-at : (ps ms : List ℕ) (c i p : ℕ) → ascends ps ≡ true → slice_get ps i ≡ Some p → i < length ms
+    → (bit_at (get_or ms i 0) c == 1) ≡ is_marked ps ms c p
+marked-at [] ms c i p h at l = absurd (cc)
+marked-at (x ∷ ps) [] c i p h at l = absurd (omega arith)
+marked-at (x ∷ ps) (y ∷ ms) c zero p h at l =
+    let same : x ≡ p = cc in
+    let none = marked-not ps ms c p (has-not ps p (λ k l' e. let up = rises (x ∷ ps) zero (suc k) h (omega arith) (omega arith) in absurd (omega arith))) in
+    rw (eq-eqb x p same) (or_none (bit_at y c == 1) _ none)
+marked-at (x ∷ ps) (y ∷ ms) c (suc i) p h at l =
+    let place = get-bounds ps i p at in
+    let up : x < get_or ps i 0 = rises (x ∷ ps) zero (suc i) h (omega arith) (omega arith) in
+    rw (ne_eqb x p (λ (e : x ≡ p). omega (arith, place.1))) (marked-at ps ms c i p (ascends-tail x ps h) at (omega arith))
+
+-- a circuit's bit in the masks tells on which bulletins it is named
+pub marked-for : (d : Directory) (bs : List Bulletin) (c p : ℕ)
+    → ((from : ℕ) (h : HeadingFields) → bit_at (mask_of (named d from h)) c ≡ bit (is_named d from h c))
+    → is_marked (positions_of bs) (map (mask_at d) bs) c p ≡ is_for d bs c p
+marked-for d [] c p law = refl
+marked-for d (b ∷ bs) c p law =
+    rw (law b.from (heading_of b.body), bit-is (is_named d b.from (heading_of b.body) c), marked-for d bs c p law) refl
+  where
+    bit-is : (t : Bool) → (bit t == 1) ≡ t
+    bit-is true = refl
+    bit-is false = refl

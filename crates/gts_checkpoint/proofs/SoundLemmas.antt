@@ -1,10 +1,10 @@
 -- Numbers that differ, what is held on circuits, and the parts of soundness.
-use Rattle.std.proofs.Common.{◌≡◌, ◌≢◌, ℕ, zero, suc, ◌+◌, ◌-◌, ◌<◌, ◌≤◌, Bool, true, false, not, ◌&&◌, ◌||◌, ◌==◌, ◌⊎◌, inl, inr, nat_lt, nat_le, List, [], ◌∷◌, ◌++◌, length, get_or, map, take, filter, zip, slice_get, Option, Some, None, Result, Ok, Err, refl, sym, ap, ◌∙◌, arith}
-use Rattle.std.specs.List.{list_all, list_any, enumerate_from, sum_by}
+use Rattle.std.proofs.Common.{◌≡◌, ◌≢◌, ℕ, zero, suc, ◌+◌, ◌-◌, ◌<◌, ◌≤◌, Bool, true, false, not, ◌&&◌, ◌||◌, ◌==◌, ◌⊎◌, inl, inr, nat_lt, nat_le, List, [], ◌∷◌, ◌++◌, length, get_or, map, filter, zip, slice_get, Some, None, Result, Ok, Err, refl, sym, ap, ◌∙◌, arith}
+use Rattle.std.specs.List.{list_all, enumerate_from}
 use Rattle.std.specs.List.Sorted.{IsNonDecreasing, IsPermutation}
 use Rattle.std.proofs.Math.Bool.{and-false, and-true}
 use Rattle.std.proofs.lemmas.Bool.{and_parts, and_from, eq-eqb, ne_eqb, eqb-true, leb-true, le-leb, false_from_ne_true, cases_lt}
-use Rattle.std.proofs.lemmas.List.Folds.{list_all-append, list_any-append, list_any_more}
+use Rattle.std.proofs.lemmas.List.Folds.{list_all-append}
 use Rattle.std.proofs.lemmas.List.Sums.{length-filter}
 use Rattle.std.proofs.lemmas.Option.{slice_get_cases, slice_get_read}
 use Rattle.std.specs.Result.{IfOk}
@@ -145,19 +145,22 @@ pub positions-fail : (test : ℕ → Bool) (waiting kept draws : List ℕ) → I
     → (ascends waiting ≡ false) ⊎ ((ascends draws ≡ false) ⊎ (list_all (λ n. not (has draws n)) waiting ≡ false)) → false ≡ has_positions test waiting kept
 positions-fail test waiting kept draws p up h =
     sym (positions-are test waiting kept draws p up
-      ∙ and-fails (ascends waiting) (ascends draws) (list_all (λ n. not (has draws n)) waiting) (list_all test waiting && list_all test kept) h)
+    ∙ and-fails (ascends waiting) (ascends draws) (list_all (λ n. not (has draws n)) waiting) (list_all test waiting && list_all test kept) h)
 
 pub positions-pass : (test : ℕ → Bool) (waiting kept draws : List ℕ) → IsPermutation kept draws → IsNonDecreasing draws
     → ascends waiting ≡ true → ascends draws ≡ true → list_all (λ n. not (has draws n)) waiting ≡ true
     → has_positions test waiting kept ≡ (list_all test waiting && list_all test kept)
 positions-pass test waiting kept draws p up a b l = positions-are test waiting kept draws p up ∙ rw (a, b, l) refl
 
+pub positions-agree : (f g : ℕ → Bool) (waiting kept : List ℕ) → ((p : ℕ) → f p ≡ g p) → has_positions f waiting kept ≡ has_positions g waiting kept
+positions-agree f g waiting kept h = rw (all-agree f g (waiting ++ kept) h) refl
+
 pub circuit-is : (d : Directory) (n : Need) (circuit kept : ℕ) (c : CircuitNeed) → has_counts n.accepted kept c ≡ true
     → (nat_le (length c.owed) most_owed && list_all (is_kept c) c.owed) ≡ true
     → is_circuit_sound d n circuit kept c ≡ has_positions (is_for d n.bulletins circuit) c.waiting c.kept
 circuit-is d n circuit kept c counts owes =
     regrouped (has_counts n.accepted kept c) (ascends c.waiting) (is_distinct c.kept) (list_all (λ position. not (has c.kept position)) c.waiting)
-      (list_all (is_for d n.bulletins circuit) (c.waiting ++ c.kept)) (nat_le (length c.owed) most_owed) (list_all (is_kept c) c.owed)
+    (list_all (is_for d n.bulletins circuit) (c.waiting ++ c.kept)) (nat_le (length c.owed) most_owed) (list_all (is_kept c) c.owed)
     ∙ rw (counts, owes) refl
 
 -- ---- what is needed
@@ -187,8 +190,8 @@ pub kept-is : (draws kept first index : ℕ) → first ≡ draws - kept
 kept-is draws kept first index e =
     ap (λ (b : Bool). b && nat_lt index draws)
     (same-tests (nat_le first index) (nat_le draws (index + kept))
-      (λ h. let le : first ≤ index = leb-true first index h in le-leb draws (index + kept) (omega arith))
-      (λ h. let le : draws ≤ index + kept = leb-true draws (index + kept) h in le-leb first index (omega arith)))
+    (λ h. let le : first ≤ index = leb-true first index h in le-leb draws (index + kept) (omega arith))
+    (λ h. let le : draws ≤ index + kept = leb-true draws (index + kept) h in le-leb first index (omega arith)))
 
 -- ---- each circuit beside its row
 

@@ -1,14 +1,17 @@
 -- Words for the lists of a need whose soundness is judged.
-use Rattle.std.specs.Prelude.{◌≡◌, ℕ, Bool, true, not, ◌&&◌, ◌||◌, List, ◌++◌, map, zip}
+use Rattle.std.specs.Prelude.{◌≡◌, ℕ, Bool, true, not, ◌&&◌, ◌||◌, ◌==◌, List, ◌++◌, map, zip, slice_get, Some}
 use Rattle.std.specs.List.{list_any, list_all, enumerate_from}
-use Rattle.gts_directory.specs.Directory.{Directory}
-pub use Rattle.gts_directory.specs.Directory.{Circuit, is_named}
+use Rattle.std.specs.Int.{bit_at}
+use Rattle.gts_directory.specs.Directory.{Directory, named}
+use Rattle.gts_directory.specs.Rows.{mask_of}
+pub use Rattle.gts_directory.specs.Directory.{Circuit}
 pub use Rattle.gts_heading.specs.Heading.{fields_of}
 pub use Rattle.gts_message.specs.Message.{body_at}
+use Rattle.gts_event.specs.State.{Bulletin}
 pub use Rattle.gts_event.specs.State.{has, heading_of}
 pub use Rattle.gts_event.specs.History.{is_request, most_owed}
 use Rattle.gts_event.specs.Need.{Need, CircuitNeed, is_distinct, positions_of}
-pub use Rattle.gts_event.specs.Need.{ascends, recent_positions, is_bulletin, is_needed, is_for, is_kept, has_counts, is_circuit_sound, is_sound}
+pub use Rattle.gts_event.specs.Need.{ascends, recent_positions, is_bulletin, is_needed, is_kept, has_counts, is_circuit_sound, is_sound}
 pub use Rattle.gts_event.specs.Items.{bulletin_of, circuit_need_of, need_of}
 use Rattle.gts_event.specs.declared.plain.Bulletin as plain
 
@@ -25,10 +28,27 @@ pub record AreBulletins (d : Directory) (n : Need) : Type 0 where
   pub each : list_all (is_bulletin d n.accepted) n.bulletins ≡ true
   pub order : ascends (positions_of n.bulletins) ≡ true
 
+-- the circuits on which a bulletin is named, as the bits of a mask
+abbrev pub mask_at : Directory → Bulletin → ℕ
+mask_at d b = mask_of (named d b.from (heading_of b.body))
+
+-- the bulletins of a need stand in the order of their positions, and these are their masks
+pub record AreNamed (d : Directory) (n : Need) (masks : List ℕ) : Type 0 where
+  pub order : ascends (positions_of n.bulletins) ≡ true
+  pub masks_are : masks ≡ map (mask_at d) n.bulletins
+
+-- a position is there, and the mask beside it has a circuit's bit
+abbrev pub is_marked : List ℕ → List ℕ → ℕ → ℕ → Bool
+is_marked numbers masks circuit position = list_any (λ row. (row.0 == position) && (bit_at row.1 circuit == 1)) (zip numbers masks)
+
 -- Positions that wait on a circuit ascend, those that are kept differ, none is both, and each passes a test.
 abbrev pub has_positions : (ℕ → Bool) → List ℕ → List ℕ → Bool
 has_positions test waiting kept =
     ascends waiting && is_distinct kept && list_all (λ position. not (has kept position)) waiting && list_all test (waiting ++ kept)
+
+-- whether what is needed of a circuit is sound beside the circuit's row
+abbrev pub IsJudged : Directory → Need → ℕ → CircuitNeed → Bool → Type 0
+IsJudged d n circuit c sound = (row : Circuit) → slice_get d.circuits circuit ≡ Some row → sound ≡ is_circuit_sound d n circuit row.kept c
 
 -- what is needed of each circuit is sound
 abbrev pub are_circuits_sound : Directory → Need → Bool

@@ -1,17 +1,18 @@
 //! Whether the bulletins of a need are those of a history, and on which circuits they are named.
 
-ghost use Rattle.std.specs.Prelude.{◌≡◌, ◌<◌, ◌&&◌, ◌==◌, map, length, not, is_ok, true};
+ghost use Rattle.std.specs.Prelude.{◌≡◌, ◌<◌, ◌&&◌, ◌==◌, map, length, not, is_ok, true, IfOk};
 ghost use Rattle.std.specs.Int.{bit_at};
 ghost use Rattle.std.specs.List.{list_all};
 ghost use Rattle.gts_checkpoint.specs.Sound as words;
-ghost use Rattle.gts_checkpoint.specs.Sound.{AreBulletins, positions, fields_of, body_at, has, heading_of, ascends, recent_positions, bulletin_of, need_of};
+ghost use Rattle.gts_checkpoint.specs.Sound.{AreBulletins, AreNamed, positions, mask_at, fields_of, body_at, has, heading_of, ascends, recent_positions, bulletin_of, need_of};
 
 use crate::ascending::place_of;
-use gts_alphabet::LONGEST_BODY;
-use gts_directory::{Directory, a_mask_has_the_bits_of_its_circuits};
+use gts_alphabet::{LONGEST_BODY, NoMemory};
+use gts_directory::Directory;
 use gts_event::{Bulletin, Need};
 use gts_heading::Heading;
 use gts_message::Body;
+use std::alloc::Global;
 
 /// The heading of a request for repetition to the own centre (profile, after the Manual's designators).
 fn is_request(directory: &Directory, heading: &Heading) -> bool
@@ -75,44 +76,56 @@ fn has_bit(mask: u64, i: u32) -> bool
     i < u64::BITS && (mask >> i) % 2 == 1
 }
 
-/// Whether a bulletin is named on a circuit.
-fn is_named(directory: &Directory, bulletin: &Bulletin, circuit: u32) -> bool
+/// The circuits on which a bulletin is named, as the bits of a mask.
+fn named_on(directory: &Directory, bulletin: &Bulletin) -> u64
     requires from { bulletin.now.from < length directory.now.circuits }
-    requires circuit { circuit < length directory.now.circuits }
     requires body { is_ok (body_at bulletin.now.body) ≡ true }
-    ensures { result ≡ words.is_named directory.now bulletin.now.from
-        (heading_of bulletin.now.body) circuit }
+    ensures { result ≡ mask_at directory.now (bulletin_of bulletin.now) }
 {
-    a_mask_has_the_bits_of_its_circuits();
     match Body::split(bulletin.body.as_slice()) {
-        Ok((heading, _)) => has_bit(directory.names(bulletin.from, &heading), circuit),
-        Err(_) => false,
+        Ok((heading, _)) => directory.names(bulletin.from, &heading),
+        Err(_) => 0,
     }
 }
 
-/// Whether a position has its bulletin, and that is named on a circuit.
-fn is_for(directory: &Directory, need: &Need, circuit: u32, position: u64) -> bool
-    requires bulletins { AreBulletins directory.now (need_of need.now) }
-    requires circuit { circuit < length directory.now.circuits }
-    ensures { result ≡ words.is_for directory.now (map bulletin_of need.now.bulletins)
-        circuit position }
+/// The circuits on which each bulletin is named, as the bits of a mask for each.
+pub(crate) fn masks(alloc: Global, directory: &Directory, need: &Need) -> Result<Vec<u64>, NoMemory>
+    requires { AreBulletins directory.now (need_of need.now) }
+    ensures { IfOk result (λ masks. AreNamed directory.now (need_of need.now) masks.items) }
 {
-    let bulletins = need.bulletins.as_slice();
+    let mut masks = Vec::new(alloc);
+    for bulletin in need.bulletins.as_slice() {
+        masks.push(named_on(directory, bulletin))?;
+    }
+    Ok(masks)
+}
+
+/// Whether a position has its bulletin, and the mask of that has a circuit's bit.
+fn is_marked(bulletins: &[Bulletin], masks: &[u64], circuit: u32, position: u64) -> bool
+    requires order { ascends (positions bulletins.now) ≡ true }
+    requires each { length masks.now ≡ length bulletins.now }
+    ensures { result ≡ words.is_marked (positions bulletins.now) masks.now circuit position }
+{
     match place_of(bulletins, position) {
-        Some(place) => is_named(directory, &bulletins[place], circuit),
+        Some(place) => has_bit(masks[place], circuit),
         None => false,
     }
 }
 
-/// Whether each of these positions has its bulletin, and that is named on a circuit.
-pub(crate) fn are_for(directory: &Directory, need: &Need, circuit: u32, positions: &[u64]) -> bool
-    requires bulletins { AreBulletins directory.now (need_of need.now) }
-    requires circuit { circuit < length directory.now.circuits }
-    ensures { result ≡ list_all (words.is_for directory.now
-        (map bulletin_of need.now.bulletins) circuit) positions.now }
+/// Whether each of these positions has its bulletin, and the mask of that has a circuit's bit.
+pub(crate) fn are_marked(
+    bulletins: &[Bulletin],
+    masks: &[u64],
+    circuit: u32,
+    numbers: &[u64],
+) -> bool
+    requires order { ascends (positions bulletins.now) ≡ true }
+    requires each { length masks.now ≡ length bulletins.now }
+    ensures { result
+        ≡ list_all (words.is_marked (positions bulletins.now) masks.now circuit) numbers.now }
 {
-    for position in positions {
-        if !is_for(directory, need, circuit, *position) {
+    for number in numbers {
+        if !is_marked(bulletins, masks, circuit, *number) {
             return false;
         }
     }

@@ -1,4 +1,3 @@
-use Rattle.std.proofs.Common.{length}
 use Rattle.gts_checkpoint.proofs.AscendingLemmas.{RiseTo}
 use Rattle.gts_checkpoint.proofs.ascending.ascend.Given as goal
 

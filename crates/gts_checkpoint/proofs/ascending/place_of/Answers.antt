@@ -1,4 +1,4 @@
-use Rattle.std.proofs.Common.{◌≡◌, ℕ, ◌+◌, ◌-◌, ◌<◌, ◌≤◌, ◌/◌, length, get_or, Some, ap, ◌∙◌, arith}
+use Rattle.std.proofs.Common.{◌+◌, ◌-◌, ◌/◌, length, Some, ap, ◌∙◌, arith}
 use Rattle.std.proofs.lemmas.Option.{slice_get-get_or}
 use Rattle.gts_checkpoint.specs.Sound.{positions}
 use Rattle.gts_checkpoint.proofs.AscendingLemmas.{has-not, position-at, positions-length, below-half, above-half, found_none}
@@ -40,4 +40,4 @@ pub returns-clause-none : goal.returns-clause-none
 returns-clause-none c =
     let bs = c.args.bulletins.now in
     has-not (positions bs) c.args.position (λ k l. found_none (positions bs) c.args.position c.loop-low.low (length bs)
-      c.loop-low.invariant.below (λ k t l. c.loop-low.invariant.above k (omega arith) l) k (omega (arith, positions-length bs)))
+    c.loop-low.invariant.below (λ k t l. c.loop-low.invariant.above k (omega arith) l) k (omega (arith, positions-length bs)))

@@ -1,4 +1,4 @@
-use Rattle.std.proofs.Common.{◌≡◌, ℕ, ◌-◌, get_or, List, sym, arith}
+use Rattle.std.proofs.Common.{◌-◌, sym, arith}
 use Rattle.gts_checkpoint.specs.Sound.{positions}
 use Rattle.gts_checkpoint.proofs.AscendingLemmas.{ascends-from, ascends-not, rise-more, position-at, positions-length}
 use Rattle.gts_checkpoint.proofs.ascending.positions_ascend.Goals as goal

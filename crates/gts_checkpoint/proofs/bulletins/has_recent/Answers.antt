@@ -1,6 +1,5 @@
-use Rattle.std.proofs.Common.{◌≡◌, ◌-◌, ◌<◌, ◌≤◌, ◌⊎◌, inl, inr, true, not, sym, ap, ◌∙◌, arith}
+use Rattle.std.proofs.Common.{◌-◌, not, sym, ap, ◌∙◌, arith}
 use Rattle.std.specs.Prelude.{min}
-use Rattle.std.proofs.lemmas.Bool.{cases_lt}
 use Rattle.gts_checkpoint.specs.Sound.{positions, has}
 use Rattle.gts_checkpoint.proofs.NamedLemmas.{range-all, range-not, has-found, all-below-more}
 use Rattle.gts_checkpoint.proofs.bulletins.has_recent.Goals as goal
@@ -12,7 +11,7 @@ returns-then-is_none c =
     let p = c.loop-position.position in
     let found = has-found ps p c.place_of.result c.place_of.ensures.found c.place_of.ensures.none in
     sym (range-not (has ps) (c.args.accepted - d.window) (min d.window c.args.accepted) p (omega arith) (omega arith)
-      (found ∙ c.is_none.ensures ∙ ap not c.if-is_none.true))
+    (found ∙ c.is_none.ensures ∙ ap not c.if-is_none.true))
 
 pub loop-position-preserved : goal.loop-position-preserved
 loop-position-preserved c =

@@ -39,14 +39,14 @@ returns-in_default-gate_behind-clause-fault g c = λ tells.
     let F : Option ℕ → Type 0 = λ o. IfNone o (c.limit-limit.result < at + seal_size v + 1 + draw_size v * c.waiting-due.result) in
     (refl, no_room v d bytes n at c.waiting-due.result c.limit-limit.result stands counts (subst F c.in_default-gate_behind.is c.gate_behind.ensures.none))
 
-pub returns-then-not-is_sound-clause-fault : goal.returns-then-not-is_sound-clause-fault
-returns-then-not-is_sound-clause-fault g c = λ tells.
+pub returns-then-not-branch-clause-fault : goal.returns-then-not-branch-clause-fault
+returns-then-not-branch-clause-fault g c = λ tells.
     let d = c.args.directory.now in
     let n : Need = c.in-Some.need in
     let at : ℕ = c.in-Some.at in
     let bytes = bytes_from (g.P.Station.calls c.args.station.now) c.args.file 41 in
     let stands = stands_there bytes c.circuits.result c.in_ok-need.field-0 n at c.in-Some.is (c.in_ok-need.ensures.found tells) c.in_ok-need.ensures.fits c.in_ok-need.ensures.unowed in
-    (refl, not_sound c.args.version d bytes (need_of n) stands (sym c.is_sound.ensures ∙ c.if-not-is_sound.true))
+    (refl, not_sound c.args.version d bytes (need_of n) stands (sym c.in_ok-is_sound.ensures ∙ c.if-not-branch.true))
 
 pub seal_at-requires-clause-there : goal.seal_at-requires-clause-there
 seal_at-requires-clause-there g c = λ tells.
@@ -81,7 +81,7 @@ returns-clause-begins g c =
     let F : Option (Need × ℕ) → Type 0 = λ o. IfSome o (λ f. unowed (need_of f.0) ≡ need_of f.0) in
     let P : Option ℕ → Type 0 = λ o. IfSome o (λ gate. gate ≡ at + seal_size v) in
     let R : Option ℕ → Type 0 = λ o. IfSome o (λ gate. gate + 1 + draw_size v * c.waiting-due.result ≤ c.limit-limit.result) in
-    can_begin v d n at c.waiting-due.result c.limit-limit.result c.in-Some-gate_behind.gate counts (subst F c.in-Some.is c.in_ok-need.ensures.unowed) (sym c.is_sound.ensures ∙ c.if-not-is_sound.false)
+    can_begin v d n at c.waiting-due.result c.limit-limit.result c.in-Some-gate_behind.gate counts (subst F c.in-Some.is c.in_ok-need.ensures.unowed) (sym c.in_ok-is_sound.ensures ∙ c.if-not-branch.false)
     (subst P c.in-Some-gate_behind.is c.gate_behind.ensures.place) (subst R c.in-Some-gate_behind.is c.gate_behind.ensures.room)
 
 pub returns-clause-found : goal.returns-clause-found

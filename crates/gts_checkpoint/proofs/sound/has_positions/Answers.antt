@@ -1,47 +1,47 @@
-use Rattle.std.proofs.Common.{◌≡◌, ℕ, true, false, not, ◌&&◌, List, map, refl, sym, ap, ◌∙◌, inl, inr}
+use Rattle.std.proofs.Common.{◌≡◌, ℕ, true, false, not, List, refl, sym, ap, ◌∙◌, inl, inr}
 use Rattle.std.specs.List.{list_all}
-use Rattle.gts_checkpoint.specs.Sound.{ascends, has, is_for, bulletin_of}
+use Rattle.gts_checkpoint.specs.Sound.{ascends, has, positions, is_marked}
 use Rattle.gts_checkpoint.proofs.SoundLemmas.{positions-fail, positions-pass}
 use Rattle.gts_checkpoint.proofs.sound.has_positions.Goals.{then-not-ascend-via-then-not-ascend, then-not-ascend-via-else-not-ascend+then-not-ascend-2, then-not-ascend-via-else-not-ascend+else-not-ascend-2+then-not-are_apart}
 use Rattle.gts_checkpoint.proofs.sound.has_positions.Goals as goal
 
 pub returns-then-not-ascend : goal.returns-then-not-ascend
 returns-then-not-ascend c =
-    let test = is_for c.args.directory.now (map bulletin_of c.args.need.now.bulletins) c.args.circuit in
+    let test = is_marked (positions c.args.bulletins.now) c.args.masks.now c.args.circuit in
     let waiting = c.args.waiting.now in
     let draws = c.in_ok-draws in
     let fail = positions-fail test waiting c.args.kept.now draws.draws.items draws.ensures.same draws.ensures.order in
     elim c.then-not-ascend.branch [
       | then-not-ascend-via-then-not-ascend w ↦ fail (inl (sym c.ascend.ensures ∙ w.if-not-ascend.true))
       | then-not-ascend-via-else-not-ascend+then-not-ascend-2 w ↦
-        fail (inr (inl (ap ascends (sym w.deref.ensures.value) ∙ sym w.ascend-else-not-ascend.ensures ∙ w.if-not-ascend-2.true)))
+          fail (inr (inl (ap ascends (sym w.deref.ensures.value) ∙ sym w.ascend-else-not-ascend.ensures ∙ w.if-not-ascend-2.true)))
       | then-not-ascend-via-else-not-ascend+else-not-ascend-2+then-not-are_apart w ↦
-        fail (inr (inr (ap (λ (ds : List ℕ). list_all (λ n. not (has ds n)) waiting) (sym w.deref-else-not-ascend-2.ensures.value)
+          fail (inr (inr (ap (λ (ds : List ℕ). list_all (λ n. not (has ds n)) waiting) (sym w.deref-else-not-ascend-2.ensures.value)
           ∙ sym w.are_apart.ensures ∙ w.if-not-are_apart.true)))
     ]
 
-pub returns-then-not-are_for : goal.returns-then-not-are_for
-returns-then-not-are_for c =
-    let test = is_for c.args.directory.now (map bulletin_of c.args.need.now.bulletins) c.args.circuit in
+pub returns-then-not-are_marked : goal.returns-then-not-are_marked
+returns-then-not-are_marked c =
+    let test = is_marked (positions c.args.bulletins.now) c.args.masks.now c.args.circuit in
     let waiting = c.args.waiting.now in
     let draws = c.in_ok-draws in
     let pass = positions-pass test waiting c.args.kept.now draws.draws.items draws.ensures.same draws.ensures.order
-      (sym c.ascend.ensures ∙ c.if-not-ascend.false)
-      (ap ascends (sym c.deref.ensures.value) ∙ sym c.ascend-else-not-ascend.ensures ∙ c.if-not-ascend-2.false)
-      (ap (λ (ds : List ℕ). list_all (λ n. not (has ds n)) waiting) (sym c.deref-else-not-ascend-2.ensures.value)
-        ∙ sym c.are_apart.ensures ∙ c.if-not-are_apart.false) in
-    let not-for : list_all test waiting ≡ false = sym c.are_for.ensures ∙ c.if-not-are_for.true in
-    sym (pass ∙ rw not-for refl)
+    (sym c.ascend.ensures ∙ c.if-not-ascend.false)
+    (ap ascends (sym c.deref.ensures.value) ∙ sym c.ascend-else-not-ascend.ensures ∙ c.if-not-ascend-2.false)
+    (ap (λ (ds : List ℕ). list_all (λ n. not (has ds n)) waiting) (sym c.deref-else-not-ascend-2.ensures.value)
+    ∙ sym c.are_apart.ensures ∙ c.if-not-are_apart.false) in
+    let not-marked : list_all test waiting ≡ false = sym c.are_marked.ensures ∙ c.if-not-are_marked.true in
+    sym (pass ∙ rw not-marked refl)
 
 pub returns : goal.returns
 returns c =
-    let test = is_for c.args.directory.now (map bulletin_of c.args.need.now.bulletins) c.args.circuit in
+    let test = is_marked (positions c.args.bulletins.now) c.args.masks.now c.args.circuit in
     let waiting = c.args.waiting.now in
     let draws = c.in_ok-draws in
     let pass = positions-pass test waiting c.args.kept.now draws.draws.items draws.ensures.same draws.ensures.order
-      (sym c.ascend.ensures ∙ c.if-not-ascend.false)
-      (ap ascends (sym c.deref.ensures.value) ∙ sym c.ascend-else-not-ascend.ensures ∙ c.if-not-ascend-2.false)
-      (ap (λ (ds : List ℕ). list_all (λ n. not (has ds n)) waiting) (sym c.deref-else-not-ascend-2.ensures.value)
-        ∙ sym c.are_apart.ensures ∙ c.if-not-are_apart.false) in
-    let each : list_all test waiting ≡ true = sym c.are_for.ensures ∙ c.if-not-are_for.false in
-    c.are_for-2.ensures ∙ sym (pass ∙ rw each refl)
+    (sym c.ascend.ensures ∙ c.if-not-ascend.false)
+    (ap ascends (sym c.deref.ensures.value) ∙ sym c.ascend-else-not-ascend.ensures ∙ c.if-not-ascend-2.false)
+    (ap (λ (ds : List ℕ). list_all (λ n. not (has ds n)) waiting) (sym c.deref-else-not-ascend-2.ensures.value)
+    ∙ sym c.are_apart.ensures ∙ c.if-not-are_apart.false) in
+    let each : list_all test waiting ≡ true = sym c.are_marked.ensures ∙ c.if-not-are_marked.false in
+    c.are_marked-2.ensures ∙ sym (pass ∙ rw each refl)
