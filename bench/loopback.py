@@ -8,6 +8,8 @@ import threading
 import time
 
 HOST = '127.0.0.1'
+# Where folders are made for runs that aren't about the disk: in memory, where the system has a folder there.
+IN_MEMORY = '/dev/shm' if os.access('/dev/shm', os.W_OK) else None
 EOL = b'\r\r\n'
 
 
