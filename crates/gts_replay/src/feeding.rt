@@ -15,10 +15,8 @@ use gts_traits::Source;
 use gts_turns::Switch;
 use std::alloc::Global;
 
-/// How many bytes of a feed are taken at once.
-const PIECE: usize = 4_096;
-
-/// A feed: its bytes come on a circuit, piece by piece, until all came that its head announced.
+/// A feed: its bytes come on a circuit, piece by piece, until all came that its head announced. A piece is as long as
+/// `piece` at most.
 pub(crate) fn feed<W: Switch, S: Source>(
     alloc: Global,
     switch: &mut W,
@@ -26,8 +24,10 @@ pub(crate) fn feed<W: Switch, S: Source>(
     decoder: &mut Decoder,
     steps: &mut Steps,
     capture: &mut S,
+    piece: &mut [u8],
 ) -> Result<(), StepFault>
     requires circuit { c < length (W.words.directory switch.old).circuits }
+    requires piece { 0 < length piece.old }
     ensures feeds { Feeds W.words S.tells c result steps.old steps.new (S.left capture.old)
         (S.left capture.new) decoder.old decoder.new switch.old switch.new }
     ensures directory { W.words.directory switch.new ≡ W.words.directory switch.old }
@@ -35,9 +35,8 @@ pub(crate) fn feed<W: Switch, S: Source>(
         (W.say_faults switch.old) (W.say_faults switch.new)
         (S.faults capture.old) (S.faults capture.new) }
 {
-    let mut piece = [0; PIECE];
     'feed: loop {
-        let count = match steps.bytes(capture, &mut piece) {
+        let count = match steps.bytes(capture, piece) {
             Ok(0) => return Ok(()),
             Ok(count) => count,
             Err(fault) => return Err(StepFault::Capture(fault)),

@@ -17,9 +17,12 @@ use gts_traits::Source;
 use gts_turns::Switch;
 use std::alloc::Global;
 
+/// How many bytes of a feed are taken at once.
+const PIECE: usize = 4_096;
+
 /// Runs a capture through a switch, up to its end or the first fault: bytes that come are heard frame by frame, each circuit
-/// over a connection of its own; takes, drains and restarts are the switch's. Decoders and the room for a frame are made
-/// before the first step.
+/// over a connection of its own; takes, drains and restarts are the switch's. Decoders, the room for a frame
+/// and that for a piece of a feed are made before the first step.
 pub fn replay<W: Switch, S: Source>(alloc: Global, switch: &mut W, capture: &mut S) -> ReplayEnd
     ensures ends { (o : W.Origin) (h : List Entry) → StandsFor W.words o h switch.old
         → Ends W.words W.tells o h S.tells result switch.old switch.new
@@ -36,8 +39,17 @@ pub fn replay<W: Switch, S: Source>(alloc: Global, switch: &mut W, capture: &mut
     let Ok(mut out) = FrameBuf::new(alloc) else {
         return ReplayEnd::NoMemory;
     };
+    let mut piece = [0; PIECE];
     let mut steps = Steps::new(circuits);
-    run(alloc, switch, capture, &mut steps, &mut decoders, &mut out)
+    run(
+        alloc,
+        switch,
+        capture,
+        &mut steps,
+        &mut decoders,
+        &mut out,
+        &mut piece,
+    )
 }
 
 /// Does the steps of a capture, one after another.
@@ -48,10 +60,12 @@ fn run<W: Switch, S: Source>(
     steps: &mut Steps,
     decoders: &mut [Decoder],
     out: &mut FrameBuf,
+    piece: &mut [u8],
 ) -> ReplayEnd
     requires begins { steps.old
         ≡ at_start (length (W.words.directory switch.old).circuits) false }
     requires few { length (W.words.directory switch.old).circuits ≤ 100 }
+    requires piece { 0 < length piece.old }
     requires decode { Decode decoders.old (no_bytes (W.words.directory switch.old)) }
     ensures ends { (o : W.Origin) (h : List Entry) → StandsFor W.words o h switch.old
         → Ends W.words W.tells o h S.tells result switch.old switch.new
@@ -67,7 +81,7 @@ fn run<W: Switch, S: Source>(
             Ok(head) => head,
             Err(fault) => return end_after(StepFault::Capture(fault)),
         };
-        if let Err(fault) = do_step(alloc, switch, capture, steps, decoders, out, head) {
+        if let Err(fault) = do_step(alloc, switch, capture, steps, decoders, out, piece, head) {
             return end_after(fault);
         }
     }
@@ -83,11 +97,13 @@ fn do_step<W: Switch, S: Source>(
     steps: &mut Steps,
     decoders: &mut [Decoder],
     out: &mut FrameBuf,
+    piece: &mut [u8],
     head: Head,
 ) -> Result<(), StepFault>
     requires valid { let d = W.words.directory switch.old in
         IsHeadIn (length d.circuits) false (head_of head) }
     requires some { head ≡ Head.End → ⊥ }
+    requires piece { 0 < length piece.old }
     requires feed { steps.old.feed ≡ bytes_announced (head_of head) }
     requires decoders { length decoders.old ≡ length (W.words.directory switch.old).circuits }
     ensures does { DoesStep W.words W.tells S.tells (head_of head) result steps.old steps.new
@@ -100,7 +116,7 @@ fn do_step<W: Switch, S: Source>(
     match head {
         Head::Feed { c, .. } => {
             let decoder = &mut decoders[c as usize];
-            return feed(alloc, switch, c, decoder, steps, capture);
+            return feed(alloc, switch, c, decoder, steps, capture, piece);
         }
         Head::Take { c } => {
             if let Err(fault) = switch.take(c, out) {
