@@ -201,12 +201,12 @@ pub no_room : (v : Version) (d : Directory) (bytes : List ℕ) (n : Need) (at w 
     → limit < at + seal_size v + 1 + draw_size v * w → admits_checkpoint v d bytes (need_in bytes) ≡ false
 no_room v d bytes n at w limit stands counts over =
     not_first v d bytes (need_of n) (need_read bytes (need_of n) stands.begins stands.fits stands.free) (λ sound room.
-      let waits : ℕ = length (flat_map waiting_of n.circuits) in
-      let some = times_some (seal_size v) waits in
-      let there : draw_size v * due (begun (need_of n)) ≡ draw_size v * waits = ap (λ (k : ℕ). draw_size v * k) (due_is d n sound) in
-      let exact : w ≡ waits = all_counted w waits counts.waits (omega (arith, some, there, room, counts.limit_is, counts.low)) in
-      let same : draw_size v * w ≡ draw_size v * waits = ap (λ (k : ℕ). draw_size v * k) exact in
-      omega (arith, same, there, room, over, counts.limit_is, counts.place))
+    let waits : ℕ = length (flat_map waiting_of n.circuits) in
+    let some = times_some (seal_size v) waits in
+    let there : draw_size v * due (begun (need_of n)) ≡ draw_size v * waits = ap (λ (k : ℕ). draw_size v * k) (due_is d n sound) in
+    let exact : w ≡ waits = all_counted w waits counts.waits (omega (arith, some, there, room, counts.limit_is, counts.low)) in
+    let same : draw_size v * w ≡ draw_size v * waits = ap (λ (k : ℕ). draw_size v * k) exact in
+    omega (arith, same, there, room, over, counts.limit_is, counts.place))
 
 -- no history can have it
 pub not_sound : (v : Version) (d : Directory) (bytes : List ℕ) (n : needs.Need) → Stands bytes n → is_sound d n ≡ false → admits_checkpoint v d bytes (need_in bytes) ≡ false
