@@ -1,5 +1,5 @@
 -- What is read of a checkpoint.
-use Rattle.std.specs.Prelude.{◌≡◌, ◌<◌, ◌≤◌, ◌+◌, ◌*◌, ◌^◌, ℕ, true, false, List, [], ◌++◌, length, drop, flat_map, Option, Some, None, IsTrue}
+use Rattle.std.specs.Prelude.{◌≡◌, ◌<◌, ◌≤◌, ◌+◌, ◌*◌, ◌^◌, ℕ, Bool, true, false, List, [], ◌++◌, length, take, drop, flat_map, Option, Some, None, IsTrue}
 use Rattle.std.specs.List.{AllByRecursion}
 use Rattle.gts_alphabet.specs.declared.limits.TheConstants.{LONGEST_BODY}
 use Rattle.gts_traits.specs.Station.{Call, seen}
@@ -13,7 +13,7 @@ use Rattle.gts_event.specs.declared.plain.CircuitNeed as plain_circuit
 use Rattle.gts_event.specs.declared.plain.Need as plain_need
 use Rattle.gts_record.specs.declared.version.Version.{Version}
 use Rattle.gts_record.specs.Record.{bytes_of}
-use Rattle.gts_record.specs.Format.{seal, first_seal, draw_size}
+use Rattle.gts_record.specs.Format.{seal, first_seal, draw_size, is_sealed}
 use Rattle.gts_record.specs.declared.fault.OpenFault.{OpenFault}
 use Rattle.gts_record.specs.declared.fault.OpenFault.TheVariants.{Damaged, DiskFault, NoMemory}
 use Rattle.gts_opening.specs.Journal.{bulletin_text, circuit_text, checkpoint_text, compacted_bytes, need_in, admits_checkpoint, due, unowed, FitsCircuit, FitsNeed}
@@ -26,6 +26,10 @@ bytes_from calls file at = drop at (seen calls file)
 -- this text stands at the front
 abbrev pub BeginsWith : List ℕ → List ℕ → Type 0
 BeginsWith bytes text = (rest : List ℕ) × (bytes ≡ text ++ rest)
+
+-- as many bytes as this, at the front, have their seal behind them, where this seal stands before them
+abbrev pub is_sealed_front : Version → List ℕ → List ℕ → ℕ → Bool
+is_sealed_front v before bytes size = is_sealed v before (take size bytes) bytes
 
 -- ---- the pieces
 
@@ -65,7 +69,8 @@ FindsBulletins bytes count None = (bs : List Bulletin) → length bs ≡ count �
 -- so many circuits stand there, or none so many that fit their bytes
 abbrev pub FindsCircuits : List ℕ → ℕ → Option (List plain_circuit.CircuitNeed) → Type 0
 FindsCircuits bytes count (Some found) = BeginsWith bytes (flat_map (λ c. circuit_text (circuit_need_of c)) found) × (length found ≡ count)
-FindsCircuits bytes count None = (cs : List CircuitNeed) → length cs ≡ count → AllByRecursion FitsCircuit cs → BeginsWith bytes (flat_map circuit_text cs) → ⊥
+FindsCircuits bytes count None =
+    (cs : List CircuitNeed) → length cs ≡ count → AllByRecursion FitsCircuit cs → BeginsWith bytes (flat_map circuit_text cs) → ⊥
 
 -- these bytes are not the first of a checkpoint
 abbrev pub IsNoFront : List ℕ → Type 0

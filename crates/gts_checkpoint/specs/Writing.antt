@@ -9,11 +9,15 @@ use Rattle.gts_event.specs.declared.plain.Bulletin as plain
 use Rattle.gts_event.specs.declared.plain.CircuitNeed as plain_circuit
 use Rattle.gts_event.specs.Items.{bulletin_of, circuit_need_of}
 use Rattle.gts_event.specs.Need.{Need}
-use Rattle.gts_record.specs.Record.{open_gate, closed_gate, bytes_of}
-use Rattle.gts_record.specs.Format.{magic, seal, sealed, first_seal, file_text, written}
-use Rattle.gts_opening.specs.Journal.{bulletin_text, circuit_text, checkpoint_text}
+use Rattle.gts_record.specs.Record.{open_gate}
+pub use Rattle.gts_record.specs.Record.{closed_gate, bytes_of}
+use Rattle.gts_record.specs.Format.{magic, file_text}
+pub use Rattle.gts_record.specs.Format.{seal, sealed, first_seal, held, written}
+use Rattle.gts_opening.specs.Journal.{bulletin_text, circuit_text}
+pub use Rattle.gts_opening.specs.Journal.{checkpoint_text, compacted_bytes}
 
--- a journal that is a checkpoint alone: the checkpoint of this need with its seal behind an open gate, and a closed gate
+-- The file that is written (profile), a journal of the version that is written: its magic and this mark, an open gate, the
+-- checkpoint of this need with its seal, where the seal of the header stands before it, and a closed gate. No record is behind it.
 abbrev pub checkpoint_file : List ℕ → Need → List ℕ
 checkpoint_file mark n = file_text written mark (checkpoint_text n ∷ []) [] (closed_gate ∷ [])
 

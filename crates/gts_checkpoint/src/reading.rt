@@ -1,10 +1,10 @@
 ghost use Rattle.std.specs.Prelude.{◌≡◌, ◌+◌, ◌-◌, ◌*◌, ◌<◌, ◌≤◌, ◌^◌, length, take, flat_map, is_some, min, IsSome, IfOk, IfErr, IfSome, IfNone, IsErrOf};
 ghost use Rattle.gts_traits.specs.{HasCause, Rose};
 ghost use Rattle.gts_event.specs.Items as items;
-ghost use Rattle.gts_record.specs.Format.{seal, seal_size, draw_size, is_sealed, held};
+ghost use Rattle.gts_record.specs.Format.{seal, seal_size, draw_size, held};
 ghost use Rattle.gts_opening.specs.Journal.{checkpoint_text, FitsNeed, unowed};
 ghost use Rattle.gts_checkpoint.specs.Writing.{head_text};
-ghost use Rattle.gts_checkpoint.specs.Reading.{bytes_from, HasRead, CanBegin, IsDamage, IsNoFront, FindsText, IsReadFault, first_of, waiting_of};
+ghost use Rattle.gts_checkpoint.specs.Reading.{bytes_from, HasRead, CanBegin, IsDamage, IsNoFront, FindsText, IsReadFault, is_sealed_front, first_of, waiting_of};
 
 use crate::lists::{bulletins_at, circuits_at};
 use crate::numbers::{number_in_eight, number_in_four};
@@ -180,9 +180,8 @@ fn seal_at<P: Station>(
         ≡ seal version (held version before.now)
         (take size (bytes_from (P.calls station.old) file 41)))) }
     ensures stands { P.tells → IfOk result (λ found. is_some found
-        ≡ is_sealed version (held version before.now)
-        (take size (bytes_from (P.calls station.old) file 41))
-        (bytes_from (P.calls station.old) file 41)) }
+        ≡ is_sealed_front version (held version before.now)
+        (bytes_from (P.calls station.old) file 41) size) }
     ensures told { P.tells → P.calls station.new ≡ P.calls station.old }
     ensures kind { IfErr result IsReadFault }
     ensures disk_fault { IsErrOf result OpenFault.DiskFault

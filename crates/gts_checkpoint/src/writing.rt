@@ -1,14 +1,11 @@
 ghost use Rattle.std.specs.Prelude.{◌≡◌, ◌+◌, ◌^◌, ◌<◌, ◌≤◌, [], ◌∷◌, ◌++◌, length, flat_map, IfOk, OnOk, IsErrOf};
 ghost use Rattle.std.specs.List.{AllByRecursion};
 ghost use Rattle.gts_traits.specs.{HasCause, Rose, seen};
-ghost use Rattle.gts_record.specs.Record.{closed_gate, bytes_of};
-ghost use Rattle.gts_record.specs.Format.{seal, sealed, first_seal, held, written};
 ghost use Rattle.gts_record.specs.Sealing.{Seals};
-ghost use Rattle.gts_opening.specs.Journal.{checkpoint_text, compacted_bytes};
 ghost use Rattle.gts_event.specs.Items as items;
 ghost use Rattle.gts_checkpoint.specs.Alone.{OnlyOn, WorksBeside};
 ghost use Rattle.gts_checkpoint.specs.Pen.{Stands, HasPut, count_of};
-ghost use Rattle.gts_checkpoint.specs.Writing.{FitBytes, HasWritten, need_seal, header_text, head_text, letter_text, bulletin_head, circuit_head, written_bulletin, written_circuit, CanPutBulletin, CanPutCircuit};
+ghost use Rattle.gts_checkpoint.specs.Writing.{seal, sealed, first_seal, held, written, closed_gate, bytes_of, checkpoint_text, compacted_bytes, FitBytes, HasWritten, need_seal, header_text, head_text, letter_text, bulletin_head, circuit_head, written_bulletin, written_circuit, CanPutBulletin, CanPutCircuit};
 
 use crate::fault::WriteFault;
 use crate::numbers::{eight_bytes, four_bytes};
