@@ -3,41 +3,52 @@
 #![tactic(auto)]
 
 use gts_directory::Directory;
-use gts_dirfile::{LONGEST_DIRECTORY, read_directory};
+use gts_dirfile::read_directory;
 use gts_engine::Engine;
 use gts_real::{FileSource, FileStation};
 use gts_replay::{ReplayEnd, replay};
-use gts_traits::Source;
+use gts_traits::{Source, Station};
 use std::alloc::Global;
 use std::process::ExitCode;
 
-/// The directory that a source holds, and `None` where it can't be read or is none.
+/// How many pieces of 4,096 bytes are read of a directory: those of the longest one, and one more.
+const PIECES: u32 = 65;
+
+/// The directory that a file holds, and `None` where it can't be read or is none.
 fn directory_of<S: Source>(alloc: Global, source: &mut S) -> Option<Directory> {
-    let mut bytes = vec![in alloc; 0; LONGEST_DIRECTORY + 1].ok()?;
-    let mut filled = 0;
-    while filled <= LONGEST_DIRECTORY {
-        let count = source.read(&mut bytes[filled..]).ok()?;
-        if count == 0 {
-            break;
-        }
-        filled += count;
+    let mut bytes = Vec::new(alloc);
+    let mut piece = [0; 4096];
+    for _ in 0..PIECES {
+        let count = source.read(&mut piece).ok()?;
+        bytes.extend_from_slice(&piece[..count]).ok()?;
     }
-    read_directory(alloc, &bytes[..filled]).ok()
+    read_directory(alloc, &bytes).ok()
+}
+
+/// Whether the capture was done from where the journal ends. What came of it was said by the station.
+fn is_done<S: Source, P: Station + Drop>(
+    alloc: Global,
+    directory: &mut S,
+    capture: &mut S,
+    station: P,
+) -> bool {
+    let Some(directory) = directory_of(alloc, directory) else {
+        return false;
+    };
+    match Engine::open(alloc, station, directory) {
+        Ok(mut engine) => replay(alloc, &mut engine, capture) == ReplayEnd::Done,
+        Err(_) => false,
+    }
 }
 
 /// Ends with 0 where the capture was done, and else with 1.
 fn main(rt: HostRuntime) -> ExitCode {
-    let alloc = rt.alloc();
-    let mut file = FileSource::new(&rt, "directory.toml");
-    let Some(directory) = directory_of(alloc, &mut file) else {
-        return ExitCode::from(1);
-    };
-    let Ok(mut engine) = Engine::open(alloc, FileStation::new(&rt), directory) else {
-        return ExitCode::from(1);
-    };
+    let mut directory = FileSource::new(&rt, "directory.toml");
     let mut capture = FileSource::new(&rt, "capture.gts");
-    match replay(alloc, &mut engine, &mut capture) {
-        ReplayEnd::Done => ExitCode::from(0),
-        _ => ExitCode::from(1),
+    let station = FileStation::new(&rt);
+    if is_done(rt.alloc(), &mut directory, &mut capture, station) {
+        ExitCode::from(0)
+    } else {
+        ExitCode::from(1)
     }
 }
