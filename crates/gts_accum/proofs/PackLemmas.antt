@@ -1,19 +1,18 @@
 -- Streams that are packed as they are read.
-use Rattle.std.proofs.Common.{◌≡◌, ℕ, zero, suc, ◌+◌, ◌-◌, ◌<◌, ◌≤◌, ◌⊎◌, min, Bool, true, false, cond, List, [], ◌∷◌, ◌++◌, length, take, drop, Option, Some, None, inl, inr, refl, sym, ap, subst, ◌∙◌, append_assoc, arith}
+use Rattle.std.proofs.Common.{◌≡◌, ℕ, ◌+◌, ◌-◌, ◌<◌, ◌≤◌, min, Bool, false, cond, List, [], ◌∷◌, ◌++◌, length, take, drop, Option, Some, None, refl, sym, ap, subst, ◌∙◌, append_assoc, arith}
 use Rattle.std.specs.Prelude.{is_none, option_map, IfSome, Result, Ok, Err}
-use Rattle.std.specs.List.{find, range_with_len}
-use Rattle.std.proofs.lemmas.Bool.{cases_lt, le-ltb, lt-ltb}
-use Rattle.std.proofs.lemmas.List.{append-nil, length-append, length-drop, length-take, length-take-le, take_all, take_at, take-append-drop, take-append-le}
+use Rattle.std.proofs.lemmas.Bool.{le-ltb, lt-ltb}
+use Rattle.std.proofs.lemmas.List.{append-nil, length-append, length-drop, length-take-le, take_all, take_at, take-append-drop, take-append-le}
 use Rattle.std.proofs.Math.Seq.{take-append-add}
 use Rattle.gts_traits.specs.{Call, Outside, on}
 use Rattle.gts_traits.proofs.OutsideLemmas.{on-append}
 use Rattle.gts_say.specs.Say.{SaysOnly, SaysFront, Tells}
 use Rattle.gts_say.proofs.SayLemmas.{said_none, said_more, front_behind, front_more}
-use Rattle.gts_frame.specs.Decoder.{Decoding, ReadsOn, Makes, after_step, signs_of_step, fresh, is_part, is_break}
+use Rattle.gts_frame.specs.Decoder.{Decoding, ReadsOn, Makes, after_step, signs_of_step, fresh}
 use Rattle.gts_frame.specs.declared.step.Step.{Step}
 use Rattle.gts_frame.specs.declared.step.Step.TheVariants as step
 use Rattle.gts_frame.specs.declared.lost.LostField.{LostField}
-use Rattle.gts_frame.specs.Signs.{Sign, Carries, KeepsAlive, Breaks, signs_in, held_in}
+use Rattle.gts_frame.specs.Signs.{Sign, Breaks, signs_in, held_in}
 use Rattle.gts_frame.proofs.SignLemmas.{reads-open, reads-lost, reads-part, IsBreak, IsBreak-from}
 use Rattle.gts_frame.proofs.TestLemmas.{IsFirst, find-first, take_split}
 use Rattle.gts_accum.specs.declared.format.Format.TheVariants.{Whole}

@@ -1,5 +1,5 @@
 -- How packing a stream ended, and what of its file was said.
-use Rattle.std.specs.Prelude.{◌≡◌, ℕ, ◌≤◌, List, [], ◌++◌, length, Option, Some, None, Result, Ok, Err}
+use Rattle.std.specs.Prelude.{◌≡◌, ℕ, ◌≤◌, List, [], ◌++◌, Some, None, Result, Ok, Err}
 use Rattle.gts_traits.specs.{Call, Rose, on, seen}
 use Rattle.gts_say.specs.Say.{SaysOnly, SaysFront}
 use Rattle.gts_frame.specs.Decoder.{Decoding}

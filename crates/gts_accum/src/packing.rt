@@ -99,7 +99,7 @@ fn finish<P: Station>(at: u64, rest: u32, station: &mut P) -> PackEnd
     ensures ends { (first : List Call) (stream held : List ℕ) → at ≡ length stream
         → packs.Holds P.tells first (P.calls station.old) stream held → rest ≡ length held
         → packs.Packs P.tells result stream [] first (P.calls station.new) }
-    ensures read { result ≡ PackEnd.SourceFault → ⊥ }
+    ensures read { (result ≡ PackEnd.SourceFault → ⊥) × (result ≡ PackEnd.NoMemory → ⊥) }
     ensures cause { packs.HasSayCause result (P.say_faults station.old) (P.say_faults station.new) }
     ensures disk { P.disk_faults station.new ≡ P.disk_faults station.old }
 {
@@ -119,6 +119,8 @@ fn finish<P: Station>(at: u64, rest: u32, station: &mut P) -> PackEnd
 pub fn pack<S: Source, P: Station>(alloc: Global, stream: &mut S, station: &mut P) -> PackEnd
     ensures packs { S.tells → packs.Packs P.tells result (S.left stream.old) (S.left stream.new)
         (P.calls station.old) (P.calls station.new) }
+    ensures unmade { result ≡ PackEnd.NoMemory
+        → (stream.new ≡ stream.old) × (station.new ≡ station.old) }
     ensures files { P.tells → packs.SameFiles (P.calls station.old) (P.calls station.new) }
     ensures source { packs.HasReadCause result (S.faults stream.old) (S.faults stream.new) }
     ensures say { packs.HasSayCause result (P.say_faults station.old) (P.say_faults station.new) }

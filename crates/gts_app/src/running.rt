@@ -1,22 +1,25 @@
 ghost use Rattle.std.specs.Prelude.{◌≡◌, ◌⊎◌, ◌<◌, ◌^◌, ℕ, Some, length};
 ghost use Rattle.gts_words.specs.{command_of};
 ghost use Rattle.gts_serve.specs.{seen_lines as seen};
-ghost use Rattle.gts_app.specs.Commands.{IsCommand, Inits, Replays, world, IsNoCapture, Shows, Serves, Generates};
+ghost use Rattle.gts_app.specs.Commands.{IsCommand, Inits, Replays, world, IsNoCapture, Shows, Serves, Generates, PacksStream, NamesGaps, moment_at};
 
 use crate::Status;
+use crate::commands::gaps::gaps;
 use crate::commands::generate::generate;
 use crate::commands::init::init;
+use crate::commands::pack::pack;
 use crate::commands::replay::replay;
 use crate::commands::serve::serve;
 use crate::commands::show::show;
+use gts_missing::Moment;
 use gts_traits::{Gate, Lines, Source, Station, WordList};
 use gts_words::{Command, WordsFault, a_count_is_within_its_limits, read_words};
 use std::alloc::Global;
 use std::sync::Wait;
 use std::thread::Threads;
 
-/// Runs the command that the words name: `init`, `replay`, `serve`, `show` or `generate`. The station and the capture are handed
-/// back.
+/// Runs the command that the words name: `init`, `replay`, `serve`, `show`, `generate`, `pack` or `gaps`. The station and the
+/// capture are handed back.
 pub fn run<R, S, P, L, G>(
     rt: &R,
     alloc: Global,
@@ -57,6 +60,11 @@ where
     ensures generate { (count : ℕ) → command_of words.now ≡ Some (Command.Generate count)
         → (directory.new ≡ directory.old) × (result.2 ≡ capture)
         × Generates P.Station result.0 count station result.1 }
+    ensures pack { command_of words.now ≡ Some Command.Pack → PacksStream S.Source P.Station
+        result.0 (world directory.old capture station) (world directory.new result.2 result.1) }
+    ensures gaps { (day hour minute : ℕ) → command_of words.now ≡ Some (Command.Gaps day hour minute)
+        → NamesGaps S.Source P.Station (moment_at day hour minute) result.0
+        (world directory.old capture station) (world directory.new result.2 result.1) }
 
     // Bytes that are no capture of the directory are not done.
     ensures no_capture { command_of words.now ≡ Some Command.Replay → S.tells → P.tells
@@ -94,9 +102,16 @@ where
             let status = generate(alloc, count, &mut station);
             (status, station, capture)
         }
-        // These are not built yet.
-        Command::Compact | Command::Unpack { .. } | Command::Pack | Command::Gaps { .. } => {
-            (Status::Words, station, capture)
+        Command::Pack => {
+            let status = pack(alloc, directory, &mut capture, &mut station);
+            (status, station, capture)
         }
+        Command::Gaps { day, hour, minute } => {
+            let moment = Moment { day, hour, minute };
+            let status = gaps(alloc, moment, directory, &mut capture, &mut station);
+            (status, station, capture)
+        }
+        // These are not built yet.
+        Command::Compact | Command::Unpack { .. } => (Status::Words, station, capture),
     }
 }

@@ -5,7 +5,7 @@ use Rattle.std.proofs.lemmas.List.{append-nil}
 use Rattle.gts_alphabet.specs.Digits.{dec}
 use Rattle.gts_directory.specs.Directory.{Directory}
 use Rattle.gts_frame.specs.Decoder.{Decoding}
-use Rattle.gts_connection.specs.Capture.{Step, Feed, Head, FeedHead, TakeHead, ReopenHead, DrainHead, RestartHead, CompactHead, EndHead, head_text, head_of, bytes_of_step, step_text, IsHead, AreSteps, IsWhole, EndsEarly, Connections, no_bytes, after_step, connections_after}
+use Rattle.gts_connection.specs.Capture.{Step, Feed, Head, FeedHead, TakeHead, ReopenHead, DrainHead, RestartHead, CompactHead, EndHead, head_text, head_of, bytes_of_step, step_text, IsHead, AreSteps, EndsEarly, Connections, no_bytes, after_step, connections_after}
 use Rattle.gts_connection.proofs.LawLemmas.{connections_go_on}
 use Rattle.gts_capture.specs.{IsHeadIn, bytes_announced, IsReadTo, IsBadAt, at_start, counted_to}
 use Rattle.gts_capture.specs.Held.{Held}

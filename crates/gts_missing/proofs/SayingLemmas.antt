@@ -1,5 +1,5 @@
 -- What is said of missing numbers, piece by piece.
-use Rattle.std.proofs.Common.{◌≡◌, ℕ, zero, suc, ◌+◌, ◌<◌, ◌≤◌, List, [], ◌∷◌, ◌++◌, length, map, get_or, Option, Some, None, Result, Ok, Err, inl, inr, refl, sym, ap, subst, ◌∙◌, arith, append_assoc}
+use Rattle.std.proofs.Common.{◌≡◌, ℕ, zero, suc, ◌+◌, ◌<◌, List, [], ◌∷◌, ◌++◌, length, map, get_or, Some, Result, Ok, Err, inl, inr, refl, sym, ap, subst, ◌∙◌, arith, append_assoc}
 use Rattle.std.specs.Prelude.{codes, slice_get}
 use Rattle.std.proofs.lemmas.Bool.{cases_lt}
 use Rattle.std.proofs.lemmas.List.{append-nil, length-append}
@@ -17,13 +17,12 @@ use Rattle.gts_say.specs.Say.{SaysOnly, SaysFront, Tells}
 use Rattle.gts_say.proofs.SayLemmas.{said_more, front_behind, front_more}
 use Rattle.gts_directory.specs.Directory.{Directory, Circuit, peer_of}
 use Rattle.gts_gap.specs.Numbers.{Numbered}
-use Rattle.gts_gap.specs.Gaps.{Run, gaps}
-use Rattle.gts_gap.specs.Ring.{digits_of, runs_given}
-use Rattle.gts_gap.specs.Asking.{item_text, ask_text, ask_heading, ask_frame, gap_lines}
+use Rattle.gts_gap.specs.Gaps.{Run}
+use Rattle.gts_gap.specs.Asking.{item_text, ask_heading, ask_frame, gap_lines}
 use Rattle.gts_gap.specs.Text.{text_of}
 use Rattle.gts_gap.proofs.AskLemmas.{triples, one-line}
 use Rattle.gts_missing.specs.declared.moment.Moment.{Moment}
-use Rattle.gts_missing.specs.Saying.{run_lines, front_text, request_of, asked, said_of, said_from}
+use Rattle.gts_missing.specs.Saying.{run_lines, front_text, asked, said_of, said_from}
 
 -- ---- pieces
 

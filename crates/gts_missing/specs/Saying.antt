@@ -1,6 +1,5 @@
 -- What is said of the numbers that are missing, on the channels on which it is said (profile).
 use Rattle.std.specs.Prelude.{ℕ, zero, suc, ◌+◌, List, [], ◌∷◌, ◌++◌, length, codes}
-use Rattle.std.specs.List.{slice_index_or}
 use Rattle.gts_alphabet.specs.Digits.{dec}
 use Rattle.gts_alphabet.specs.declared.characters.TheConstants.{SOH, EOL}
 use Rattle.gts_traits.specs.{Outside, on}

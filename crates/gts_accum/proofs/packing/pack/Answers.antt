@@ -1,13 +1,10 @@
-use Rattle.std.proofs.Common.{◌≡◌, ◌≤◌, ◌+◌, ◌-◌, ◌++◌, min, ℕ, List, [], length, take, drop, Result, Err, Ok, Option, refl, sym, ap, subst, ◌∙◌, append_assoc, arith, rules}
-use Rattle.std.proofs.lemmas.Grind.{common_steps}
+use Rattle.std.proofs.Common.{◌≡◌, ◌≤◌, ◌++◌, ℕ, List, [], length, take, drop, Result, Err, Option, sym, ap, subst, ◌∙◌, append_assoc, arith}
 use Rattle.std.specs.Prelude.{unwrap_or}
 use Rattle.std.proofs.lemmas.List.{append-nil, length-append, length-take-le, length-drop}
 use Rattle.gts_traits.specs.{Call, on}
-use Rattle.gts_frame.specs.Decoder.{Decoding}
 use Rattle.gts_accum.specs.declared.limits.TheConstants.{LONGEST_STREAM}
 use Rattle.gts_accum.specs.declared.packing.Stop.{Stop}
 use Rattle.gts_accum.specs.declared.packing.Stop.TheVariants.{Lost, Unsaid}
-use Rattle.gts_accum.specs.declared.pack_end.PackEnd.TheVariants as end
 use Rattle.gts_accum.specs.Packs.{Stands, PieceEnds, IsBad, Packs}
 use Rattle.gts_say.specs.Say.{SaysFront}
 use Rattle.gts_accum.specs.Packing.{packed}
@@ -39,7 +36,10 @@ returns-in-Ok-eq0-clause-files g c =
     (c.finish.ensures.ends first taken.0 st.held taken.2 st.holds (c.rest.ensures ∙ ap (λ (o : Option (List ℕ)). length (unwrap_or o [])) st.is))
 
 pub returns-in-Ok-eq0-clause-source : goal.returns-in-Ok-eq0-clause-source
-returns-in-Ok-eq0-clause-source g c = record { later = omega (arith, c.stream.invariant.read_later, c.read.ensures.cause.later); failed = λ e. absurd (c.finish.ensures.read e) }
+returns-in-Ok-eq0-clause-source g c = record { later = omega (arith, c.stream.invariant.read_later, c.read.ensures.cause.later); failed = λ e. absurd (c.finish.ensures.read.0 e) }
+
+pub returns-in-Ok-eq0-clause-unmade : goal.returns-in-Ok-eq0-clause-unmade
+returns-in-Ok-eq0-clause-unmade g c = λ e. absurd (c.finish.ensures.read.1 e)
 
 pub returns-in-Err-Lost-clause-packs : goal.returns-in-Err-Lost-clause-packs
 returns-in-Err-Lost-clause-packs g c = λ s.

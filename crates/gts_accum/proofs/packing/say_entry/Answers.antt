@@ -1,4 +1,4 @@
-use Rattle.std.proofs.Common.{◌++◌, List, ℕ, length, Result, Err, Ok, sym, ap, subst}
+use Rattle.std.proofs.Common.{List, ℕ, length, Result, Err, Ok, subst}
 use Rattle.gts_traits.specs.{on}
 use Rattle.gts_traits.specs.declared.failed.Failed.{Failed}
 use Rattle.gts_say.specs.Say.{Tells}

@@ -1,4 +1,4 @@
-use Rattle.std.proofs.Common.{◌≡◌, ◌-◌, ◌++◌, ℕ, List, [], take, drop, refl, sym, ap, subst, ◌∙◌, append_assoc, arith, length, length-drop}
+use Rattle.std.proofs.Common.{◌-◌, ◌++◌, ℕ, List, [], take, drop, refl, sym, ap, subst, ◌∙◌, append_assoc, arith, length, length-drop}
 use Rattle.std.proofs.lemmas.List.{take-append-drop, take_all}
 use Rattle.gts_frame.specs.Decoder.{signs_of_step}
 use Rattle.gts_connection.specs.Steps.{events_of_signs}

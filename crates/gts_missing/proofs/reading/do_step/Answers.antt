@@ -1,7 +1,6 @@
-use Rattle.std.proofs.Common.{◌≡◌, ◌<◌, false, ℕ, List, length, set, Result, Ok, Err, sym, subst, arith}
+use Rattle.std.proofs.Common.{◌≡◌, ◌<◌, false, ℕ, List, length, set, Ok, sym, subst, arith}
 use Rattle.gts_capture.specs.{IsHeadIn, head_of, bytes_announced}
 use Rattle.gts_capture.specs.declared.head.Head.{Head}
-use Rattle.gts_capture.specs.declared.capture_fault.CaptureFault.{CaptureFault}
 use Rattle.gts_missing.specs.Counting.{DoesStep}
 use Rattle.gts_missing.proofs.CountingLemmas.{does_take, does_drain, does_reopen, does_restart, feeds_step}
 use Rattle.gts_missing.proofs.reading.do_step.Goals as goal

@@ -1,8 +1,7 @@
-use Rattle.std.proofs.Common.{◌≡◌, ℕ, List, length, replicate, Result, Ok, Err, sym, ap, subst, ◌∙◌, arith}
-use Rattle.gts_frame.specs.Decoder.{Decoding, fresh}
+use Rattle.std.proofs.Common.{ℕ, List, Result, Err, sym, ap, subst, ◌∙◌, arith}
+use Rattle.gts_frame.specs.Decoder.{Decoding}
 use Rattle.gts_connection.specs.Capture.{no_bytes}
 use Rattle.gts_capture.specs.declared.capture_fault.CaptureFault.{CaptureFault}
-use Rattle.gts_capture.specs.declared.capture_fault.CaptureFault.TheVariants.{Bad, SourceFault}
 use Rattle.gts_replay.specs.Going.{Decode}
 use Rattle.gts_replay.proofs.DecoderLemmas.{decode_fresh}
 use Rattle.gts_missing.specs.Counting.{IsNew, Comes, IsCutAt}

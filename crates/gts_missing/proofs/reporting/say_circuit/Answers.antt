@@ -1,4 +1,4 @@
-use Rattle.std.proofs.Common.{◌≡◌, ◌+◌, ◌++◌, List, [], ℕ, Result, Err, Ok, sym, ap, subst, ◌∙◌, arith}
+use Rattle.std.proofs.Common.{◌≡◌, ◌+◌, ◌++◌, List, [], ℕ, Result, Err, Ok, sym, ap, subst, ◌∙◌}
 use Rattle.std.proofs.lemmas.List.{append-nil}
 use Rattle.gts_traits.specs.{Outside, on}
 use Rattle.gts_traits.specs.declared.failed.Failed.{Failed}
@@ -10,7 +10,7 @@ use Rattle.gts_gap.specs.Gaps.{gaps}
 use Rattle.gts_gap.specs.Ring.{digits_of, runs_given}
 use Rattle.gts_gap.specs.Asking.{ask_frame, ask_heading, gap_lines}
 use Rattle.gts_gap.specs.Text.{text_of}
-use Rattle.gts_missing.specs.Saying.{run_lines, asked, said_of}
+use Rattle.gts_missing.specs.Saying.{run_lines, asked}
 use Rattle.gts_missing.proofs.SayingLemmas.{lines_given, asked_none, asked_some, peer_is, tells_behind}
 use Rattle.gts_missing.proofs.reporting.say_circuit.Goals as goal
 

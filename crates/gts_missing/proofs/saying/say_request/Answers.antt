@@ -1,4 +1,4 @@
-use Rattle.std.proofs.Common.{◌≡◌, ◌+◌, ◌++◌, List, ℕ, length, Result, Err, Ok, sym, ap, subst, ◌∙◌, arith}
+use Rattle.std.proofs.Common.{◌+◌, ◌++◌, List, ℕ, length, Result, Err, Ok, sym, subst, ◌∙◌, arith}
 use Rattle.gts_message.specs.Message.{message_end}
 use Rattle.gts_traits.specs.{on}
 use Rattle.gts_traits.specs.declared.failed.Failed.{Failed}

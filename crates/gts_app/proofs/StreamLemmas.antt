@@ -1,0 +1,157 @@
+-- What the commands come to that read a stream or a capture and use no journal.
+use Rattle.std.proofs.Common.{◌≡◌, ◌≤◌, ℕ, List, Ok, Err, inl, inr, refl, sym, ap, subst, arith}
+use Rattle.std.specs.Prelude.{◌⊎◌}
+use Rattle.gts_traits.specs.declared.source.Source.{Ghosts as SourceWords}
+use Rattle.gts_traits.specs.declared.station.Station.{Ghosts as StationWords}
+use Rattle.gts_traits.specs.Counts.{Rose}
+use Rattle.gts_traits.specs.{seen}
+use Rattle.gts_directory.specs.Directory as directories
+use Rattle.gts_directory.specs.declared.fault.DirFault.{DirFault}
+use Rattle.gts_dirfile.specs.{directory_of_bytes}
+use Rattle.gts_accum.specs.Packs.{Packs, HasReadCause, HasSayCause, SameFiles}
+use Rattle.gts_accum.specs.declared.pack_end.PackEnd.{PackEnd}
+use Rattle.gts_accum.specs.declared.pack_end.PackEnd.TheVariants as packs
+use Rattle.gts_missing.specs.{Names, HasGapsCause}
+use Rattle.gts_missing.specs.declared.moment.Moment.{Moment}
+use Rattle.gts_missing.specs.declared.fault.GapsEnd.{GapsEnd}
+use Rattle.gts_missing.specs.declared.fault.GapsEnd.TheVariants as gaps
+use Rattle.gts_app.specs.declared.status.Status.{Status}
+use Rattle.gts_app.specs.declared.status.Status.TheVariants.{Done, Words, Directory, Capture, NoJournal, OldVersion, NotThis, Damaged, Exists, Accum, DiskFault, SourceFault, SayFault, Full, LineFault, LongSession, Spent, NoMemory}
+use Rattle.gts_app.specs.Reading.{IsReadEnd, ReadsDirectory}
+use Rattle.gts_app.specs.Replay.{World, world}
+use Rattle.gts_app.specs.Pack.{status_packed, PackedAs, KeepsFiles, PacksStream}
+use Rattle.gts_app.specs.Gaps.{status_named, NamedAs, NamesGaps}
+
+-- ---- where there is no directory
+
+-- the ends that reading a directory has
+abbrev Ended : Status → Type 0
+Ended status = ((fault : DirFault) × (status ≡ Directory fault)) ⊎ ((status ≡ SourceFault) ⊎ (status ≡ NoMemory))
+
+ended : (status : Status) → IsReadEnd status → Ended status
+ended (Directory fault) e = inl (fault, refl)
+ended SourceFault e = inr (inl refl)
+ended NoMemory e = inr (inr refl)
+ended Done e = absurd e
+ended Words e = absurd e
+ended (Capture _) e = absurd e
+ended NoJournal e = absurd e
+ended OldVersion e = absurd e
+ended (NotThis _ _) e = absurd e
+ended (Damaged _ _) e = absurd e
+ended (Exists _) e = absurd e
+ended (Accum _) e = absurd e
+ended DiskFault e = absurd e
+ended SayFault e = absurd e
+ended (Full _ _ _) e = absurd e
+ended (LineFault _) e = absurd e
+ended (LongSession _) e = absurd e
+ended (Spent _) e = absurd e
+
+unread_keeps : {S P : Type 0} (source : SourceWords S) (station : StationWords P) (status : Status) (od nd oc : S) (at : P)
+    → ReadsDirectory source (Err status) od nd → KeepsFiles source station (world od oc at) (world nd oc at)
+unread_keeps source station status od nd oc at h = record {
+  taken = h.taken;
+  source_counts = (h.cause.later, omega arith);
+  station_counts = (omega arith, refl);
+  files = λ tells k. refl;
+}
+
+pub pack_unread : {S P : Type 0} (source : SourceWords S) (station : StationWords P) (status : Status) (od nd oc : S) (at : P)
+    → ReadsDirectory source (Err status) od nd → PacksStream source station status (world od oc at) (world nd oc at)
+pack_unread source station status od nd oc at h = record {
+  means = go (ended status (h.ends status refl));
+  keeps = unread_keeps source station status od nd oc at h;
+}
+  where
+    go : Ended status → PackedAs source station status (world od oc at) (world nd oc at)
+    go (inl e) =
+        subst (λ (s : Status). PackedAs source station s (world od oc at) (world nd oc at)) (sym e.1)
+        ((refl, refl), λ tells. h.fault tells e.0 (ap (λ (s : Status). Err s) e.1))
+    go (inr (inl e)) =
+        subst (λ (s : Status). PackedAs source station s (world od oc at) (world nd oc at)) (sym e)
+        (inl ((refl, refl), h.cause.failed (ap (λ (s : Status). Err s) e)))
+    go (inr (inr e)) = subst (λ (s : Status). PackedAs source station s (world od oc at) (world nd oc at)) (sym e) (refl, refl)
+
+pub gaps_unread : {S P : Type 0} (source : SourceWords S) (station : StationWords P) (moment : Moment) (status : Status) (od nd oc : S) (at : P)
+    → ReadsDirectory source (Err status) od nd → NamesGaps source station moment status (world od oc at) (world nd oc at)
+gaps_unread source station moment status od nd oc at h = record {
+  means = go (ended status (h.ends status refl));
+  keeps = unread_keeps source station status od nd oc at h;
+}
+  where
+    go : Ended status → NamedAs source station moment status (world od oc at) (world nd oc at)
+    go (inl e) =
+        subst (λ (s : Status). NamedAs source station moment s (world od oc at) (world nd oc at)) (sym e.1)
+        ((refl, refl), λ tells. h.fault tells e.0 (ap (λ (s : Status). Err s) e.1))
+    go (inr (inl e)) =
+        subst (λ (s : Status). NamedAs source station moment s (world od oc at) (world nd oc at)) (sym e)
+        (refl, inl (h.cause.failed (ap (λ (s : Status). Err s) e)))
+    go (inr (inr e)) = subst (λ (s : Status). NamedAs source station moment s (world od oc at) (world nd oc at)) (sym e) refl
+
+-- ---- where there is one
+
+pub pack_ends : {S P : Type 0} (source : SourceWords S) (station : StationWords P) (d : directories.Directory) (end : PackEnd) (od nd oc nc : S) (old new : P)
+    → ReadsDirectory source (Ok d) od nd
+    → (source.tells → Packs station.tells end (source.left oc) (source.left nc) (station.calls old) (station.calls new))
+    → (end ≡ packs.NoMemory → (nc ≡ oc) × (new ≡ old)) → (station.tells → SameFiles (station.calls old) (station.calls new))
+    → HasReadCause end (source.faults oc) (source.faults nc) → HasSayCause end (station.say_faults old) (station.say_faults new)
+    → station.disk_faults new ≡ station.disk_faults old
+    → PacksStream source station (status_packed end) (world od oc old) (world nd nc new)
+pack_ends source station d end od nd oc nc old new h is unmade files read say disk = record {
+  means = go end is unmade read say;
+  keeps = record {
+    taken = h.taken;
+    source_counts = (h.cause.later, read.later);
+    station_counts = (say.later, disk);
+    files = files;
+  };
+}
+  where
+    accepted : source.tells → (d : directories.Directory) × (directory_of_bytes (source.left od) ≡ Ok d)
+    accepted tells = (d, h.read tells d refl)
+
+    go : (e : PackEnd) → (source.tells → Packs station.tells e (source.left oc) (source.left nc) (station.calls old) (station.calls new))
+        → (e ≡ packs.NoMemory → (nc ≡ oc) × (new ≡ old)) → HasReadCause e (source.faults oc) (source.faults nc) → HasSayCause e (station.say_faults old) (station.say_faults new)
+        → PackedAs source station (status_packed e) (world od oc old) (world nd nc new)
+    go packs.Done is unmade read say = (accepted, is)
+    go (packs.Bad at) is unmade read say = (accepted, is)
+    go packs.SourceFault is unmade read say = inr (read.failed refl, is)
+    go packs.SayFault is unmade read say = (say.failed refl, is)
+    go packs.NoMemory is unmade read say = unmade refl
+
+pub gaps_ends : {S P : Type 0} (source : SourceWords S) (station : StationWords P) (moment : Moment) (d : directories.Directory) (end : GapsEnd) (od nd oc nc : S) (old new : P)
+    → ReadsDirectory source (Ok d) od nd
+    → Names source.tells station.tells d moment end (source.left oc) old new (station.calls old) (station.calls new)
+    → HasGapsCause end (source.faults oc) (source.faults nc) (station.say_faults old) (station.say_faults new)
+    → station.disk_faults new ≡ station.disk_faults old
+    → NamesGaps source station moment (status_named end) (world od oc old) (world nd nc new)
+gaps_ends {S} {P} source station moment d end od nd oc nc old new h is cause disk = record {
+  means = go end is cause;
+  keeps = record {
+    taken = h.taken;
+    source_counts = (h.cause.later, cause.source_later);
+    station_counts = (cause.say_later, disk);
+    files = files end is;
+  };
+}
+  where
+    go : (e : GapsEnd) → Names source.tells station.tells d moment e (source.left oc) old new (station.calls old) (station.calls new)
+        → HasGapsCause e (source.faults oc) (source.faults nc) (station.say_faults old) (station.say_faults new)
+        → NamedAs source station moment (status_named e) (world od oc old) (world nd nc new)
+    go gaps.Done is cause = record { directory = d; read = λ tells. h.read tells d refl; holds = is }
+    go (gaps.Capture at) is cause = (is.1, record { directory = d; read = λ tells. h.read tells d refl; holds = is.0 })
+    go gaps.SourceFault is cause = (is, inr (cause.source_failed refl))
+    go gaps.SayFault is cause = (cause.say_failed refl, record { directory = d; read = λ tells. h.read tells d refl; holds = is })
+    go gaps.NoMemory is cause = is
+
+    unchanged : new ≡ old → station.tells → (k : ℕ) → seen (station.calls new) k ≡ seen (station.calls old) k
+    unchanged same told k = ap (λ (p : P). seen (station.calls p) k) same
+
+    files : (e : GapsEnd) → Names source.tells station.tells d moment e (source.left oc) old new (station.calls old) (station.calls new)
+        → station.tells → (k : ℕ) → seen (station.calls new) k ≡ seen (station.calls old) k
+    files gaps.Done is = λ told. (is.holds told).files
+    files (gaps.Capture at) is = unchanged is.1
+    files gaps.SourceFault is = unchanged is
+    files gaps.SayFault is = λ told. (is.holds told).said.files
+    files gaps.NoMemory is = unchanged is

@@ -1,0 +1,74 @@
+-- What each end of the command `pack` means for what it works on.
+use Rattle.std.specs.Prelude.{◌≡◌, ◌⊎◌, ℕ, ◌+◌, ◌≤◌, List, ◌++◌, length, Ok, Err, None}
+use Rattle.gts_traits.specs.declared.source.Source.{Ghosts as SourceWords}
+use Rattle.gts_traits.specs.declared.station.Station.{Ghosts as StationWords}
+use Rattle.gts_traits.specs.Counts.{Rose}
+use Rattle.gts_traits.specs.{on, seen}
+use Rattle.gts_say.specs.Say.{SaysOnly, SaysFront}
+use Rattle.gts_directory.specs.Directory as directories
+use Rattle.gts_directory.specs.declared.fault.DirFault.{DirFault}
+use Rattle.gts_dirfile.specs.declared.limits.TheConstants.{LONGEST_DIRECTORY}
+use Rattle.gts_dirfile.specs.{directory_of_bytes}
+use Rattle.gts_accum.specs.Packing.{bad_in_stream, packed}
+use Rattle.gts_accum.specs.Packs.{IsBad, IsTaken}
+use Rattle.gts_accum.specs.declared.pack_end.PackEnd.{PackEnd}
+use Rattle.gts_accum.specs.declared.pack_end.PackEnd.TheVariants as end
+use Rattle.gts_app.specs.declared.status.Status.{Status}
+use Rattle.gts_app.specs.declared.status.Status.TheVariants.{Done, Directory, Accum, SourceFault, SayFault, NoMemory}
+use Rattle.gts_app.specs.Replay.{World}
+
+abbrev pub status_packed : PackEnd → Status
+status_packed end.Done = Done
+status_packed (end.Bad at) = Accum at
+status_packed end.SourceFault = SourceFault
+status_packed end.SayFault = SayFault
+status_packed end.NoMemory = NoMemory
+
+-- where the source tells, the directory's bytes are a directory
+abbrev pub IsAccepted : {S P : Type 0} → SourceWords S → World S P → Type 0
+IsAccepted source old = source.tells → (d : directories.Directory) × (directory_of_bytes (source.left old.directory) ≡ Ok d)
+
+-- nothing was read of what stands beside the directory, and nothing was done with the station
+abbrev pub IsUnbegun : {S P : Type 0} → World S P → World S P → Type 0
+IsUnbegun old new = (new.capture ≡ old.capture) × (new.station ≡ old.station)
+
+-- the directory has this fault, and nothing else was read, and nothing said
+abbrev pub IsTurnedAway : {S P : Type 0} → SourceWords S → DirFault → World S P → World S P → Type 0
+IsTurnedAway source fault old new = IsUnbegun old new × (source.tells → directory_of_bytes (source.left old.directory) ≡ Err fault)
+
+-- For each status, what it means: the file of the stream's messages was said on channel 0, with its end where the stream isn't bad.
+abbrev pub PackedAs : {S P : Type 0} → SourceWords S → StationWords P → Status → World S P → World S P → Type 0
+PackedAs source station Done old new =
+    IsAccepted source old
+    × (source.tells → (bad_in_stream (source.left old.capture) ≡ None)
+    × (station.tells → SaysOnly (station.calls old.station) (station.calls new.station) (on 0 (packed (source.left old.capture)))))
+PackedAs source station (Accum at) old new =
+    IsAccepted source old
+    × (source.tells → IsBad station.tells (station.calls old.station) (station.calls new.station) (source.left old.capture) at)
+PackedAs source station SayFault old new =
+    Rose (station.say_faults old.station) (station.say_faults new.station)
+    × (source.tells → station.tells
+    → SaysFront (station.calls old.station) (station.calls new.station) (on 0 (packed (source.left old.capture))))
+PackedAs source station SourceFault old new =
+    (IsUnbegun old new × Rose (source.faults old.directory) (source.faults new.directory))
+    ⊎ (Rose (source.faults old.capture) (source.faults new.capture)
+    × (source.tells → IsTaken station.tells (station.calls old.station) (station.calls new.station)
+    (source.left old.capture) (source.left new.capture)))
+PackedAs source station (Directory fault) old new = IsTurnedAway source fault old new
+PackedAs source station NoMemory old new = IsUnbegun old new
+PackedAs source station _ old new = ⊥
+
+-- Of the source of the directory no more is read than it may have and a byte, no count falls, and the files stay.
+pub record KeepsFiles {S P : Type 0} (source : SourceWords S) (station : StationWords P) (old new : World S P) : Type 0 where
+  pub taken : source.tells → (taken : List ℕ) × (source.left old.directory ≡ taken ++ source.left new.directory)
+      × (length taken ≤ LONGEST_DIRECTORY + 1)
+  pub source_counts : (source.faults old.directory ≤ source.faults new.directory)
+      × (source.faults old.capture ≤ source.faults new.capture)
+  pub station_counts : (station.say_faults old.station ≤ station.say_faults new.station)
+      × (station.disk_faults new.station ≡ station.disk_faults old.station)
+  pub files : station.tells → (k : ℕ) → seen (station.calls new.station) k ≡ seen (station.calls old.station) k
+
+-- what its end means, and what holds of every run
+pub record PacksStream {S P : Type 0} (source : SourceWords S) (station : StationWords P) (status : Status) (old new : World S P) : Type 0 where
+  pub means : PackedAs source station status old new
+  pub keeps : KeepsFiles source station old new

@@ -1,0 +1,43 @@
+ghost use Rattle.std.specs.Prelude.{◌≡◌};
+ghost use Rattle.gts_app.specs.Gaps as gapping;
+ghost use Rattle.gts_app.specs.Gaps.{NamesGaps};
+ghost use Rattle.gts_app.specs.Replay.{world};
+
+use crate::Status;
+use crate::directory::directory_of;
+use gts_missing::{GapsEnd, Moment};
+use gts_traits::{Source, Station};
+use std::alloc::Global;
+
+/// The status of how the missing numbers were named.
+fn status_of(end: GapsEnd) -> Status
+    ensures { result ≡ gapping.status_named end }
+{
+    match end {
+        GapsEnd::Done => Status::Done,
+        GapsEnd::Capture { at } => Status::Capture { at },
+        GapsEnd::SourceFault => Status::SourceFault,
+        GapsEnd::SayFault => Status::SayFault,
+        GapsEnd::NoMemory => Status::NoMemory,
+    }
+}
+
+/// Reads the directory, and then a capture through its end, and says which numbers are missing on each circuit, and the requests
+/// for them: lines on channel 0, the request of circuit c on channel c + 1. The files of the journal are not looked at.
+pub fn gaps<S: Source, P: Station>(
+    alloc: Global,
+    moment: Moment,
+    directory: &mut S,
+    capture: &mut S,
+    station: &mut P,
+) -> Status
+    ensures { NamesGaps S.Source P.Station moment result
+        (world directory.old capture.old station.old)
+        (world directory.new capture.new station.new) }
+{
+    let directory = match directory_of(alloc, directory) {
+        Ok(directory) => directory,
+        Err(status) => return status,
+    };
+    status_of(gts_missing::gaps(alloc, &directory, moment, capture, station))
+}
