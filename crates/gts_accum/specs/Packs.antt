@@ -1,5 +1,5 @@
 -- How packing a stream ended, and what of its file was said.
-use Rattle.std.specs.Prelude.{◌≡◌, ℕ, ◌≤◌, List, [], ◌++◌, Some, None, Result, Ok, Err}
+use Rattle.std.specs.Prelude.{◌≡◌, ℕ, ◌≤◌, List, [], ◌++◌, length, Some, None, Result, Ok, Err}
 use Rattle.gts_traits.specs.{Call, Rose, on, seen}
 use Rattle.gts_say.specs.Say.{SaysOnly, SaysFront}
 use Rattle.gts_frame.specs.Decoder.{Decoding}
@@ -35,6 +35,13 @@ abbrev pub PieceEnds : Type 0 → List Call → List Call → List ℕ → Resul
 PieceEnds tells first now bytes (Ok _) decoder = Stands tells first now bytes decoder
 PieceEnds tells first now bytes (Err (Lost at)) decoder = (more : List ℕ) → IsBad tells first now (bytes ++ more) at
 PieceEnds tells first now bytes (Err Unsaid) decoder = (more : List ℕ) → tells → SaysFront first now (on 0 (packed (bytes ++ more)))
+
+-- A piece that stands at this place of a stream was taken, whatever bytes stand before it.
+abbrev pub TakesPiece : (tells : Type 0) → (start : ℕ) → (piece : List ℕ) → Result (Unit {0}) Stop → (old new : List Call)
+    → (decoder now : Decoding) → Type 0
+TakesPiece tells start piece result old new decoder now =
+    (first : List Call) (before : List ℕ) → start ≡ length before → Stands tells first old before decoder
+    → PieceEnds tells first new (before ++ piece) result now
 
 -- these bytes were taken of a stream, and the entries of their messages were said
 pub record IsTaken (tells : Type 0) (first now : List Call) (stream left : List ℕ) : Type 0 where

@@ -67,10 +67,8 @@ fn take_piece<P: Station>(
     station: &mut P,
 ) -> Result<(), Stop>
     requires { start + length piece.now ≤ LONGEST_STREAM }
-    ensures ends { (first : List Call) (before : List ℕ) → start ≡ length before
-        → packs.Stands P.tells first (P.calls station.old) before decoder.old
-        → packs.PieceEnds P.tells first (P.calls station.new) (before ++ piece.now)
-        result decoder.new }
+    ensures ends { packs.TakesPiece P.tells start piece.now result (P.calls station.old)
+        (P.calls station.new) decoder.old decoder.new }
     ensures cause { packs.HasStopCause result
         (P.say_faults station.old) (P.say_faults station.new) }
     ensures disk { P.disk_faults station.new ≡ P.disk_faults station.old }

@@ -1,5 +1,5 @@
 -- The words that name a command which is built, and what each command comes to.
-use Rattle.std.specs.Prelude.{◌≡◌, ℕ, List, Some}
+use Rattle.std.specs.Prelude.{◌≡◌, ℕ, List, Option, Some}
 use Rattle.gts_words.specs.declared.command.Command.{Command}
 use Rattle.gts_words.specs.declared.command.Command.TheVariants.{Init, Replay, Serve, Show, Compact, Generate, Unpack, Pack, Gaps}
 use Rattle.gts_words.specs.{command_of}
@@ -8,8 +8,12 @@ pub use Rattle.gts_app.specs.Init.{Inits}
 pub use Rattle.gts_app.specs.Replay.{Replays, world, IsNoCapture}
 pub use Rattle.gts_app.specs.Serve.{Serves}
 pub use Rattle.gts_app.specs.Show.{Shows}
-pub use Rattle.gts_app.specs.Pack.{PacksStream}
-pub use Rattle.gts_app.specs.Gaps.{NamesGaps}
+use Rattle.gts_app.specs.Pack.{PacksStream}
+use Rattle.gts_app.specs.Gaps.{NamesGaps}
+use Rattle.gts_app.specs.Replay.{World}
+use Rattle.gts_app.specs.declared.status.Status.{Status}
+use Rattle.gts_traits.specs.declared.source.Source.{Ghosts as SourceWords}
+use Rattle.gts_traits.specs.declared.station.Station.{Ghosts as StationWords}
 use Rattle.gts_missing.specs.declared.moment.Moment.{Moment}
 
 -- which commands are built
@@ -31,3 +35,10 @@ IsCommand words = (command : Command) × (command_of words ≡ Some command) × 
 -- the moment of a request
 abbrev pub moment_at : (day hour minute : ℕ) → Moment
 moment_at day hour minute = record { day = day; hour = hour; minute = minute }
+
+-- what comes of the commands that read beside the directory alone, and no journal
+abbrev pub ReadsApart : {S P : Type 0} → SourceWords S → StationWords P → Option Command → Status → (old new : World S P) → Type 0
+ReadsApart source station command status old new =
+    (command ≡ Some Pack → PacksStream source station status old new)
+    × ((day hour minute : ℕ) → command ≡ Some (Gaps day hour minute)
+    → NamesGaps source station (moment_at day hour minute) status old new)

@@ -69,6 +69,7 @@ pub record KeepsFiles {S P : Type 0} (source : SourceWords S) (station : Station
   pub files : station.tells → (k : ℕ) → seen (station.calls new.station) k ≡ seen (station.calls old.station) k
 
 -- what its end means, and what holds of every run
-pub record PacksStream {S P : Type 0} (source : SourceWords S) (station : StationWords P) (status : Status) (old new : World S P) : Type 0 where
+pub record PacksStream {S P : Type 0} (source : SourceWords S) (station : StationWords P) (status : Status)
+    (old new : World S P) : Type 0 where
   pub means : PackedAs source station status old new
   pub keeps : KeepsFiles source station old new

@@ -1,7 +1,7 @@
 ghost use Rattle.std.specs.Prelude.{◌≡◌, ◌⊎◌, ◌<◌, ◌^◌, ℕ, Some, length};
 ghost use Rattle.gts_words.specs.{command_of};
 ghost use Rattle.gts_serve.specs.{seen_lines as seen};
-ghost use Rattle.gts_app.specs.Commands.{IsCommand, Inits, Replays, world, IsNoCapture, Shows, Serves, Generates, PacksStream, NamesGaps, moment_at};
+ghost use Rattle.gts_app.specs.Commands.{IsCommand, Inits, Replays, world, IsNoCapture, Shows, Serves, Generates, ReadsApart};
 
 use crate::Status;
 use crate::commands::gaps::gaps;
@@ -60,10 +60,7 @@ where
     ensures generate { (count : ℕ) → command_of words.now ≡ Some (Command.Generate count)
         → (directory.new ≡ directory.old) × (result.2 ≡ capture)
         × Generates P.Station result.0 count station result.1 }
-    ensures pack { command_of words.now ≡ Some Command.Pack → PacksStream S.Source P.Station
-        result.0 (world directory.old capture station) (world directory.new result.2 result.1) }
-    ensures gaps { (day hour minute : ℕ) → command_of words.now ≡ Some (Command.Gaps day hour minute)
-        → NamesGaps S.Source P.Station (moment_at day hour minute) result.0
+    ensures apart { ReadsApart S.Source P.Station (command_of words.now) result.0
         (world directory.old capture station) (world directory.new result.2 result.1) }
 
     // Bytes that are no capture of the directory are not done.
