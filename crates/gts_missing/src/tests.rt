@@ -7,7 +7,8 @@ use std::test::Fail;
 const DIRECTORY: &[u8] = b"centre = \"TVSV\"\n[[circuit]]\nname = \"A\"\npeer = \"AAAA\"\n";
 
 /// The numbers 001, 002, 005 and 003 on circuit 0.
-const CAPTURE: &[u8] = b"F 00 000049\n00000039AN\x01\r\r\n001\r\r\nSMVG01 TVSV 280000\r\r\nNIL=\r\r\n\x03\
+const CAPTURE: &[u8] =
+    b"F 00 000049\n00000039AN\x01\r\r\n001\r\r\nSMVG01 TVSV 280000\r\r\nNIL=\r\r\n\x03\
 F 00 000049\n00000039AN\x01\r\r\n002\r\r\nSMVG01 TVSV 280000\r\r\nNIL=\r\r\n\x03\
 F 00 000049\n00000039AN\x01\r\r\n005\r\r\nSMVG01 TVSV 280000\r\r\nNIL=\r\r\n\x03\
 O 00\nF 00 000049\n00000039AN\x01\r\r\n003\r\r\nSMVG01 TVSV 280000\r\r\nNIL=\r\r\n\x03E\n";
