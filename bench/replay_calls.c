@@ -1,14 +1,14 @@
 /* Makes the calls on files that a replay of a capture makes, without anything proved and without looking for duplicates:
  * reads the capture, appends an accepted record and a gate for each bulletin, says its receipt, and at the end of the
  * capture appends a draw record and a gate for each bulletin and writes its frame. It is what `replay` is measured
- * against; its records have the sizes of the journal's, and not their checks. */
+ * against; its records have the sizes of the journal's with their seals, and not their checks. */
 #include <fcntl.h>
 #include <stdio.h>
 #include <stdlib.h>
 #include <string.h>
 #include <unistd.h>
 
-enum { PIECE = 65536, LONGEST = 500010 };
+enum { PIECE = 65536, LONGEST = 500010, SEAL = 32 };
 
 static int capture, journal, receipts = 1, circuit;
 static off_t gate = 40;
@@ -51,8 +51,9 @@ static void line(char *into, size_t size)
 static void append(const char *record, size_t size)
 {
     char open = 43, closed = 0;
-    char *bytes = malloc(size + 1);
+    char *bytes = calloc(size + SEAL + 1, 1);
     memcpy(bytes, record, size);
+    size += SEAL;
     bytes[size] = closed;
     if (pwrite(journal, bytes, size + 1, gate + 1) != (ssize_t)(size + 1))
         fail("pwrite");

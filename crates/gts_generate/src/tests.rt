@@ -21,7 +21,7 @@ requests 2
 draws 274
 resends 2
 bytes 16284
-journal 17593
+journal 32633
 digest 37c29f2d4ccf982dace5f2620bfd827f5bb964f335647a472a1ee7c2c0383533
 end
 ";
