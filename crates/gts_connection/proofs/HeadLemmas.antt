@@ -97,29 +97,30 @@ some_of d f one valid =
 
 some_head : (d : Directory) (f : Head → Bool) → Passing d f ⊎ ((h : Head) → IsHead d h → f h ≡ false)
 some_head d f =
-    go (some_feed d f) (some_of d f TakeHead (λ c h. h)) (some_of d f ReopenHead (λ c h. h)) (some_of d f DrainHead (λ c h. h)) (decided f RestartHead) (decided f EndHead)
+    go (some_feed d f) (some_of d f TakeHead (λ c h. h)) (some_of d f ReopenHead (λ c h. h)) (some_of d f DrainHead (λ c h. h)) (decided f RestartHead) (decided f CompactHead) (decided f EndHead)
   where
     all : ((c n : ℕ) → IsHead d (FeedHead c n) → f (FeedHead c n) ≡ false) → ((c : ℕ) → c < length d.circuits → f (TakeHead c) ≡ false) → ((c : ℕ) → c < length d.circuits → f (ReopenHead c) ≡ false)
-        → ((c : ℕ) → c < length d.circuits → f (DrainHead c) ≡ false) → f RestartHead ≡ false → f EndHead ≡ false → (h : Head) → IsHead d h → f h ≡ false
-    all feed take reopen drain r e (FeedHead k n) h = feed k n h
-    all feed take reopen drain r e (TakeHead k) h = take k h
-    all feed take reopen drain r e (ReopenHead k) h = reopen k h
-    all feed take reopen drain r e (DrainHead k) h = drain k h
-    all feed take reopen drain r e RestartHead h = r
-    all feed take reopen drain r e CompactHead h = absurd h
-    all feed take reopen drain r e EndHead h = e
+        → ((c : ℕ) → c < length d.circuits → f (DrainHead c) ≡ false) → f RestartHead ≡ false → f CompactHead ≡ false → f EndHead ≡ false → (h : Head) → IsHead d h → f h ≡ false
+    all feed take reopen drain r k e (FeedHead c n) h = feed c n h
+    all feed take reopen drain r k e (TakeHead c) h = take c h
+    all feed take reopen drain r k e (ReopenHead c) h = reopen c h
+    all feed take reopen drain r k e (DrainHead c) h = drain c h
+    all feed take reopen drain r k e RestartHead h = r
+    all feed take reopen drain r k e CompactHead h = k
+    all feed take reopen drain r k e EndHead h = e
 
     go : Passing d f ⊎ ((c n : ℕ) → IsHead d (FeedHead c n) → f (FeedHead c n) ≡ false) → Passing d f ⊎ ((c : ℕ) → c < length d.circuits → f (TakeHead c) ≡ false)
         → Passing d f ⊎ ((c : ℕ) → c < length d.circuits → f (ReopenHead c) ≡ false) → Passing d f ⊎ ((c : ℕ) → c < length d.circuits → f (DrainHead c) ≡ false)
-        → (f RestartHead ≡ true) ⊎ (f RestartHead ≡ false) → (f EndHead ≡ true) ⊎ (f EndHead ≡ false)
+        → (f RestartHead ≡ true) ⊎ (f RestartHead ≡ false) → (f CompactHead ≡ true) ⊎ (f CompactHead ≡ false) → (f EndHead ≡ true) ⊎ (f EndHead ≡ false)
         → Passing d f ⊎ ((h : Head) → IsHead d h → f h ≡ false)
-    go (inl p) t o q r e = inl p
-    go (inr n) (inl p) o q r e = inl p
-    go (inr n) (inr t) (inl p) q r e = inl p
-    go (inr n) (inr t) (inr o) (inl p) r e = inl p
-    go (inr n) (inr t) (inr o) (inr q) (inl p) e = inl (RestartHead, tt, p)
-    go (inr n) (inr t) (inr o) (inr q) (inr r) (inl p) = inl (EndHead, tt, p)
-    go (inr n) (inr t) (inr o) (inr q) (inr r) (inr e) = inr (all n t o q r e)
+    go (inl p) t o q r k e = inl p
+    go (inr n) (inl p) o q r k e = inl p
+    go (inr n) (inr t) (inl p) q r k e = inl p
+    go (inr n) (inr t) (inr o) (inl p) r k e = inl p
+    go (inr n) (inr t) (inr o) (inr q) (inl p) k e = inl (RestartHead, tt, p)
+    go (inr n) (inr t) (inr o) (inr q) (inr r) (inl p) e = inl (CompactHead, tt, p)
+    go (inr n) (inr t) (inr o) (inr q) (inr r) (inr k) (inl p) = inl (EndHead, tt, p)
+    go (inr n) (inr t) (inr o) (inr q) (inr r) (inr k) (inr e) = inr (all n t o q r k e)
 
 -- a whole head stands at the front
 abbrev pub HeadAt : Directory → List ℕ → Type 0

@@ -185,7 +185,7 @@ read_head d n bytes few again (TakeHead c) rest valid e = read_step d n (Take c)
 read_head d n bytes few again (ReopenHead c) rest valid e = read_step d n (Reopen c) bytes rest few again valid (bare (head_text (ReopenHead c)) rest bytes e)
 read_head d n bytes few again (DrainHead c) rest valid e = read_step d n (Drain c) bytes rest few again valid (bare (head_text (DrainHead c)) rest bytes e)
 read_head d n bytes few again RestartHead rest valid e = read_step d n Restart bytes rest few again tt (bare (head_text RestartHead) rest bytes e)
-read_head d n bytes few again CompactHead rest valid e = absurd valid
+read_head d n bytes few again CompactHead rest valid e = read_step d n Compact bytes rest few again tt (bare (head_text CompactHead) rest bytes e)
 read_head d n bytes few again EndHead rest valid e =
     ([], length (head_text EndHead), last_part d bytes [] (length (head_text EndHead)) (AtEnd rest refl e (omega (arith, ap length e, length-append (head_text EndHead) rest))))
 

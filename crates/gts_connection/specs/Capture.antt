@@ -41,14 +41,14 @@ head_text RestartHead = codes "R\n"
 head_text CompactHead = codes "C\n"
 head_text EndHead = codes "E\n"
 
--- A head names a circuit of the directory, and at most 999,999 bytes. No capture of this version compacts the journal.
+-- A head names a circuit of the directory, and at most 999,999 bytes.
 abbrev pub IsHead : Directory → Head → Type 0
 IsHead d (FeedHead circuit size) = (circuit < length d.circuits) × (size ≤ 999999)
 IsHead d (TakeHead circuit) = circuit < length d.circuits
 IsHead d (ReopenHead circuit) = circuit < length d.circuits
 IsHead d (DrainHead circuit) = circuit < length d.circuits
 IsHead d RestartHead = Unit {0}
-IsHead d CompactHead = ⊥
+IsHead d CompactHead = Unit {0}
 IsHead d EndHead = Unit {0}
 
 -- the head of a step
@@ -152,6 +152,22 @@ entries_from d s bs (step ∷ steps) =
 -- the entries of the steps of a whole capture
 abbrev pub entries : Directory → State → List Step → List Entry
 entries d s steps = entries_from d s (no_bytes d) steps
+
+-- how many entries there were at a step that compacts the journal; of any other step nothing
+abbrev pub count_at : ℕ → Step → List ℕ
+count_at n Compact = n ∷ []
+count_at n _ = []
+
+-- how many entries there were at each compaction of steps, behind so many entries
+abbrev pub compactions_from : Directory → State → Connections → ℕ → List Step → List ℕ
+compactions_from d s bs n [] = []
+compactions_from d s bs n (step ∷ steps) =
+    let added : List Entry = entries_of_step s bs step in
+    count_at n step ++ compactions_from d (after_all d s added) (after_step d bs step) (n + length added) steps
+
+-- how many entries there were at each compaction of the steps of a whole capture, which stands behind so many entries
+abbrev pub compactions : Directory → State → ℕ → List Step → List ℕ
+compactions d s n steps = compactions_from d s (no_bytes d) n steps
 
 -- a feed and a feed of the same circuit behind it are one
 abbrev pub join : Step → List Step → List Step

@@ -1,9 +1,9 @@
 //! Laws over the definitions, each the contract of a function with an empty body.
 ghost use Rattle.std.specs.Prelude.{◌≡◌, ◌↔◌, ◌+◌, ◌≤◌, ◌++◌, [], ◌∷◌, ℕ, List, IsTrue, true, false, length};
-ghost use Rattle.std.specs.List.{list_any, list_all};
+ghost use Rattle.std.specs.List.{list_any, list_all, AllByRecursion};
 ghost use Rattle.gts_connection.specs.Words.{Kind, Directory, State, Event, Heard, frame, IsFramed, IsFront, IsStreamFront, is_front, is_here};
 ghost use Rattle.gts_connection.specs.Words.{IsConnection, connection, events_in, events_added, is_lost, Step, AreSteps, Reading, entries, joined};
-ghost use Rattle.gts_connection.specs.Words.{IsWhole, EndsEarly, entries_from, connections_after, no_bytes, after_all};
+ghost use Rattle.gts_connection.specs.Words.{IsWhole, EndsEarly, entries_from, compactions, compactions_from, Connections, connections_after, no_bytes, after_all};
 ghost use Rattle.gts_connection.specs.Words.{Decoding, ReadsOn, FrameStep, signs_in, signs_of_step, events_of_signs};
 
 /// A frame at the front of a connection is heard, and then what is behind it.
@@ -70,6 +70,18 @@ pub fn steps_go_on()
         connections_after d (no_bytes d) (steps ++ more) ≡ connections_after d bs more }
     ensures each { (d : Directory) (steps : List Step)
         → length (connections_after d (no_bytes d) steps) ≡ length d.circuits }
+{}
+
+/// The compactions of more steps come behind those of the steps before, and each comes behind the entries of the steps
+/// before it: behind no fewer than there were at first, and no more than there are at last.
+pub fn compactions_go_on_with_the_entries()
+    ensures more { (d : Directory) (s : State) (n : ℕ) (steps more : List Step)
+        → let first = entries d s steps in let bs = connections_after d (no_bytes d) steps in
+        compactions d s n (steps ++ more) ≡ compactions d s n steps
+        ++ compactions_from d (after_all d s first) bs (n + length first) more }
+    ensures between { (d : Directory) (s : State) (bs : Connections) (n : ℕ) (steps : List Step)
+        → let all = length (entries_from d s bs steps) in
+        AllByRecursion (λ k. (n ≤ k) × (k ≤ n + all)) (compactions_from d s bs n steps) }
 {}
 
 /// What a capture does comes on circuits of the directory.

@@ -1,5 +1,5 @@
 //! Worked rows over literal bytes, each the contract of a function with an empty body.
-ghost use Rattle.gts_connection.specs.Worked.{ByteByByte, KeepAliveBetween, LossAndReopen, Losses, FramesBeforeLoss, DrainTakes, RestartedConnections, WholeCapture};
+ghost use Rattle.gts_connection.specs.Worked.{ByteByByte, KeepAliveBetween, LossAndReopen, Losses, FramesBeforeLoss, DrainTakes, RestartedConnections, CountedCompactions, WholeCapture};
 ghost use Rattle.gts_connection.specs.Worked.{CutInFeed, CutInHead, BadByte};
 
 /// A frame in pieces of one byte is heard as in one piece.
@@ -35,6 +35,11 @@ pub fn a_drain_takes_once_more_than_there_is()
 /// What a restart, a compaction and a new connection do to bytes that came before.
 pub fn a_restart_begins_each_connection_anew()
     ensures { RestartedConnections }
+{}
+
+/// Each compaction of a capture comes behind so many entries, and is read as a step.
+pub fn a_compaction_comes_behind_so_many_entries()
+    ensures { CountedCompactions }
 {}
 
 /// The text of a small capture, and how it is read.
