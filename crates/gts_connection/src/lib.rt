@@ -2,9 +2,11 @@
 //! text of steps.
 #![tactic(auto)]
 
+mod kind;
 mod laws;
 mod worked;
 
+pub use kind::CaptureKind;
 pub use laws::{
     a_capture_comes_on_circuits_of_the_directory, a_capture_has_one_reading,
     a_capture_that_ends_early_is_none, a_connection_has_one_reading,

@@ -10,4 +10,4 @@ use Rattle.gts_connection.proofs.worked.a_compaction_comes_behind_so_many_entrie
 
 pub returns : goal.returns
 unfolding digits dec heading_text plain_heading_at bare_group_at message_group_at heading_at bare_heading_at number_at text_at body_at split_at request_at
-returns c = (refl, Whole [] (tt, (omega arith, (tt, tt))) refl refl)
+returns c = (refl, Whole [] (refl, (omega arith, (refl, tt))) refl refl)
