@@ -1,0 +1,4 @@
+mod RowLemmas
+mod CountLemmas
+mod SoundLemmas
+mod WindowLemmas

@@ -1,0 +1,17 @@
+//! What came and went: by the first two groups of the heading the number of the last bulletins, their bytes and their kept
+//! draws, and by circuit how many of them came in and how many draws are kept.
+#![tactic(auto)]
+
+mod laws;
+mod numbers;
+mod recent;
+mod rows;
+mod worked;
+
+pub use laws::an_accepted_message_joins_the_window;
+pub use numbers::Numbers;
+pub use recent::Recent;
+pub use rows::{Row, add_row, join, join_draw, leave, leave_draw, row_of, set_row};
+pub use worked::{
+    a_duplicate_is_not_counted, nothing_is_counted_of_nothing, the_window_bounds_what_is_counted,
+};
