@@ -2,3 +2,11 @@ mod RowLemmas
 mod CountLemmas
 mod SoundLemmas
 mod WindowLemmas
+mod StateLemmas
+mod OrderedLemmas
+mod StepLemmas
+mod FollowLemmas
+mod KeyLemmas
+mod CountingLemmas
+mod TakingLemmas
+mod TurnLemmas

@@ -119,7 +119,7 @@ recent_all d t b new one e at count accepted =
 -- ---- what is counted of them
 
 -- what is counted is what the window has, though a need has fewer bulletins than a state
-counts_window : (d : Directory) (t : State) → (tally d (need d t)).recent ≡ map recent_of (window_of d t)
+pub counts_window : (d : Directory) (t : State) → (tally d (need d t)).recent ≡ map recent_of (window_of d t)
 counts_window d t =
     let others : ℕ → Bool = λ position. list_any (λ c. has c.waiting position || has c.kept position) (circuit_needs d t) in
     ap (map recent_of) (filter_first (λ (b : Bulletin). is_needed d t.count (circuit_needs d t) b.position) (λ (b : Bulletin). is_recent d t.count b.position) t.accepted

@@ -1,4 +1,4 @@
-ghost use Rattle.std.specs.Prelude.{◌≡◌, ◌<◌, ◌++◌, [], ◌∷◌, ℕ, List, drop, length, slice_set, IsTrue, OnOk};
+ghost use Rattle.std.specs.Prelude.{◌≡◌, ◌<◌, ◌++◌, [], ◌∷◌, ℕ, List, drop, length, slice_set, IsTrue, OnOk, OnErr, false};
 ghost use Rattle.circular_buffer.specs.Buffer.{buffer, keep_last};
 ghost use Rattle.gts_count.specs.Numbers.{IsSound, ring_at, without_oldest, with_newest, kept_with};
 ghost use Rattle.gts_count.specs.Rows.{has_row};
@@ -130,6 +130,7 @@ impl Numbers {
     pub fn prepare(&mut self, key: [u8; 11]) -> Result<(), NoMemory>
         requires sound { IsSound self.old }
         ensures row { OnOk result (IsTrue (has_row self.new.rows key)) }
+        ensures none { OnErr result (has_row self.old.rows key ≡ false) }
         ensures sound { IsSound self.new }
         ensures recent { self.new.recent ≡ self.old.recent }
         ensures drawn { self.new.drawn ≡ self.old.drawn }
