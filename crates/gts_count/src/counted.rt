@@ -1,8 +1,8 @@
 ghost use Rattle.std.specs.Prelude.{◌≡◌};
 ghost use Rattle.gts_count.specs.Numbers.{IsSound};
 
-use crate::steps::{compact, hear, leave, lose, restart, take};
 use crate::Parts;
+use crate::steps::{compact, hear, leave, lose, restart, take};
 use gts_event::{Outcome, SwitchFault};
 use gts_frame::{FrameBuf, Kind, LostField};
 use gts_record::OpenFault;
