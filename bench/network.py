@@ -469,7 +469,10 @@ class Reader(threading.Thread):
     def hear(self, connection, stream):
         while not self.over:
             if select.select([connection], [], [], 10 * POLL)[0]:
-                piece = connection.recv(1 << 16)
+                try:
+                    piece = connection.recv(1 << 16)
+                except OSError:
+                    return
                 if not piece:
                     return
                 stream.add(piece)
@@ -547,7 +550,8 @@ class Relay(Caller):
 
     def carry(self, giver, taker, file):
         """Until one of the two ends its connection, or the line is cut. The other centre sends nothing here."""
-        while not self.over:
+        cuts = self.cuts
+        while not self.over and self.cuts == cuts:
             ready = select.select([giver, taker], [], [], POLL)[0]
             if taker in ready or self.is_due():
                 return
@@ -560,8 +564,6 @@ class Relay(Caller):
                 self.kept[-1].add(passed)
                 file.write(passed)
                 taker.sendall(passed)
-                if self.is_down:
-                    return
                 time.sleep(DELAY)
 
     def meet(self, piece):

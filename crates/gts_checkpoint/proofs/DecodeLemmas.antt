@@ -1,6 +1,5 @@
 -- Whether bytes that stand in no file are a checkpoint.
-use Rattle.std.proofs.Common.{◌≡◌, ℕ, ◌+◌, ◌-◌, ◌*◌, ◌^◌, ◌<◌, ◌≤◌, Bool, true, false, List, [], ◌∷◌, ◌++◌, length, Option, Some, None, refl, sym, ap, subst, ◌∙◌, arith, length-append}
-use Rattle.std.specs.Prelude.{IfSome}
+use Rattle.std.proofs.Common.{◌≡◌, ℕ, ◌+◌, ◌-◌, ◌*◌, ◌^◌, ◌<◌, false, List, [], ◌∷◌, ◌++◌, length, Option, None, sym, ap, subst, ◌∙◌, arith, length-append}
 use Rattle.std.proofs.lemmas.Bool.{false≢true}
 use Rattle.std.proofs.lemmas.List.{append-nil}
 use Rattle.gts_directory.specs.Directory.{Directory}
@@ -11,12 +10,12 @@ use Rattle.gts_event.specs.declared.plain.Need.{Need}
 use Rattle.gts_event.proofs.LawLemmas.{sound-parts}
 use Rattle.gts_record.specs.declared.version.Version.{Version}
 use Rattle.gts_record.specs.Format.{seal_size, draw_size}
-use Rattle.gts_opening.specs.Journal.{checkpoint_text, need_in, FitsNeed}
+use Rattle.gts_opening.specs.Journal.{checkpoint_text, FitsNeed}
 use Rattle.gts_opening.proofs.FileLemmas.{fits-sound}
-use Rattle.gts_checkpoint.specs.Reading.{bytes_from, BeginsWith, FitBodies, CanBegin, FindsText, first_of}
+use Rattle.gts_checkpoint.specs.Reading.{bytes_from, BeginsWith, CanBegin, FindsText, first_of}
 use Rattle.gts_checkpoint.specs.Loose.{laid, IsCheckpoint}
 use Rattle.gts_checkpoint.proofs.LooseLemmas.{behind-in_front}
-use Rattle.gts_checkpoint.proofs.ReadLemmas.{Stands, Counted, need_read, fit_bodies, over_limit, can_begin}
+use Rattle.gts_checkpoint.proofs.ReadLemmas.{Stands, Counted, need_read, fit_bodies, over_limit}
 
 pub bytes_there : (loose bytes : List ℕ) → laid loose ≡ laid bytes → bytes_from (laid loose) 0 41 ≡ bytes
 bytes_there loose bytes same = ap (λ l. bytes_from l 0 41) same ∙ behind-in_front bytes 41 (omega arith)

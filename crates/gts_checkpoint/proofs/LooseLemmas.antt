@@ -1,5 +1,5 @@
 -- What is read of a checkpoint that stands in no file.
-use Rattle.std.proofs.Common.{◌≡◌, ℕ, zero, suc, ◌+◌, ◌-◌, ◌≤◌, min, List, [], ◌∷◌, ◌++◌, length, take, drop, refl, sym, ap, subst, ◌∙◌, arith, length-append}
+use Rattle.std.proofs.Common.{◌≡◌, ℕ, zero, suc, ◌+◌, ◌-◌, ◌≤◌, min, List, [], ◌∷◌, ◌++◌, length, take, drop, refl, sym, ap, ◌∙◌, arith, length-append}
 use Rattle.std.proofs.Math.Seq.{drop-nil, drop-append-add}
 use Rattle.std.proofs.lemmas.List.{append-nil, take_at, length-take}
 use Rattle.gts_traits.specs.Station.{seen}

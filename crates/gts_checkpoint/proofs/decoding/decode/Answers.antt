@@ -1,11 +1,10 @@
-use Rattle.std.proofs.Common.{rules, ◌≡◌, ◌+◌, ◌-◌, ◌*◌, ◌^◌, ◌<◌, ◌≤◌, ℕ, List, Option, Some, None, length, sym, ap, subst, ◌∙◌, arith}
+use Rattle.std.proofs.Common.{◌≡◌, ◌+◌, ◌*◌, ◌^◌, ◌<◌, ◌≤◌, ℕ, List, Option, length, sym, ap, subst, ◌∙◌, arith}
 use Rattle.std.specs.Prelude.{IfSome, IfNone}
 use Rattle.gts_event.specs.Items.{need_of}
 use Rattle.gts_event.specs.declared.plain.Need.{Need}
 use Rattle.gts_record.specs.Format.{written, seal_size, draw_size}
 use Rattle.gts_opening.specs.Journal.{checkpoint_text, unowed}
-use Rattle.gts_checkpoint.specs.Reading.{bytes_from, FindsText, first_of}
-use Rattle.gts_checkpoint.specs.Loose.{laid, IsCheckpoint}
+use Rattle.gts_checkpoint.specs.Reading.{FindsText, first_of}
 use Rattle.gts_checkpoint.proofs.ReadLemmas.{stands_there, counts_there, can_begin}
 use Rattle.gts_checkpoint.proofs.DecodeLemmas.{bytes_there, no_text, not_whole, no_limit, no_history, is_checkpoint}
 use Rattle.gts_checkpoint.proofs.decoding.decode.Goals as goal

@@ -1,5 +1,4 @@
-use Rattle.std.proofs.Common.{◌≡◌, ℕ, ◌+◌, ◌-◌, ◌≤◌, List, ◌++◌, length, take, drop, sym, ap, ◌∙◌, arith, rules}
-use Rattle.gts_checkpoint.specs.Loose.{laid}
+use Rattle.std.proofs.Common.{length, drop}
 use Rattle.gts_checkpoint.proofs.LooseLemmas.{counted-laid, taken-laid}
 use Rattle.gts_checkpoint.proofs.loose.LooseStation.read.Goals as goal
 
