@@ -37,7 +37,7 @@ abbrev pub moment_at : (day hour minute : ℕ) → Moment
 moment_at day hour minute = record { day = day; hour = hour; minute = minute }
 
 -- what comes of the commands that read beside the directory alone, and no journal
-abbrev pub ReadsApart : {S P : Type 0} → SourceWords S → StationWords P → Option Command → Status → (old new : World S P) → Type 0
+abbrev pub ReadsApart : {S P : Type 0} → SourceWords S → StationWords P → Option Command → Status → (old new : World S S P) → Type 0
 ReadsApart source station command status old new =
     (command ≡ Some Pack → PacksStream source station status old new)
     × ((day hour minute : ℕ) → command ≡ Some (Gaps day hour minute)

@@ -49,7 +49,7 @@ where
     ensures init { command_of words.now ≡ Some Command.Init → (result.2 ≡ capture)
         × Inits S.Source P.Station result.0 directory.old station directory.new result.1 }
     ensures replay { command_of words.now ≡ Some Command.Replay
-        → Replays S.Source P.Station result.0
+        → Replays S.Source S.Source P.Station result.0
         (world directory.old capture station) (world directory.new result.2 result.1) }
     ensures show { command_of words.now ≡ Some Command.Show → (result.2 ≡ capture)
         × Shows S.Source P.Station result.0 directory.old station directory.new result.1 }

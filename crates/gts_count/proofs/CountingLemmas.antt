@@ -1,0 +1,187 @@
+-- What is kept beside a switch, by what the switch answers.
+use Rattle.std.proofs.Common.{◌≡◌, ℕ, zero, suc, ◌+◌, ◌-◌, ◌<◌, ◌≤◌, Bool, true, false, ◌&&◌, ◌==◌, cond, List, [], ◌∷◌, ◌++◌, length, get_or, map, reverse, Option, Some, None, Result, Ok, Err, slice_get, refl, sym, ap, subst, ◌∙◌, arith, append_assoc}
+use Rattle.std.specs.Prelude.{IsTrue, nat_eq, take}
+use Rattle.std.specs.Cmp.Lexicographic.{pointwise}
+use Rattle.std.specs.List.{All, find}
+use Rattle.std.proofs.lemmas.Bool.{true≢false}
+use Rattle.std.proofs.lemmas.List.{append-nil, length-map, reverse-append, get_or-map}
+use Rattle.std.proofs.lemmas.List.Elements.{All-append}
+use Rattle.gts_heading.specs.Heading.{HeadingFields, heading_text}
+use Rattle.gts_heading.specs.declared.field.Field.{Field}
+use Rattle.gts_message.specs.Message.{MessageParts, split_at}
+use Rattle.gts_frame.specs.declared.kind.Kind.{Kind}
+use Rattle.gts_directory.specs.Directory.{Directory, Circuit, named}
+use Rattle.gts_event.specs.State.{State, Bulletin, is_recent, is_same_heading, heading_of, text_of, duplicate}
+use Rattle.gts_event.specs.History.{is_request, answer_to, verdict, outcome, choice, after, after_entry, after_all, body_of, Choice, Draws, digits_on}
+use Rattle.gts_event.specs.Held.{IsHeld, WasRead}
+use Rattle.gts_event.specs.Need.{is_bulletin, circuit_of_event}
+use Rattle.gts_event.specs.Said.{spoken}
+use Rattle.gts_event.specs.declared.event.Event.{Event}
+use Rattle.gts_event.specs.declared.event.Event.TheVariants.{Heard, Lost, Taken}
+use Rattle.gts_event.specs.declared.event.Entry.{Entry}
+use Rattle.gts_event.specs.declared.event.Entry.TheVariants.{Done, Unsaid, Idle, Doubt, Restarted}
+use Rattle.gts_event.specs.declared.outcome.Outcome.{Outcome}
+use Rattle.gts_event.specs.declared.outcome.Outcome.TheVariants.{Accepted, Duplicate, Asked, Refused, LineLost, Resend, Draw, Nothing}
+use Rattle.gts_event.specs.declared.outcome.Refusal.TheVariants.{Message}
+use Rattle.gts_event.specs.declared.fault.SwitchFault.{SwitchFault}
+use Rattle.gts_event.specs.declared.fault.SwitchFault.TheVariants.{DiskFault, SayFault, Full, Stopped, Spent, NoMemory}
+use Rattle.gts_event.proofs.LawLemmas.{outcome-same, spoken-same}
+use Rattle.gts_traits.specs.Station.{on}
+use Rattle.gts_opening.specs.Room.{HasUnsaid, IsAccepted}
+use Rattle.gts_turns.specs.Turns.{entry_of}
+use Rattle.circular_buffer.specs.Buffer.{Buffer}
+use Rattle.gts_count.specs.declared.recent.Recent.{Recent}
+use Rattle.gts_count.specs.declared.numbers.Numbers.{Numbers}
+use Rattle.gts_count.specs.declared.counting.Counting.{Counting}
+use Rattle.gts_count.specs.Tally.{key_of, key_at}
+use Rattle.gts_count.specs.Rows.{has_row}
+use Rattle.gts_count.specs.Numbers.{IsSound}
+use Rattle.gts_count.specs.Going.{heard_of}
+use Rattle.gts_count.specs.Counting.{Follows, Knows, Counts, CountsIf, CanNote, IsReady, IsTold, GoesOn, Prepares, KeepsRest, Notes, NotesDraw, AfterAccepted, AfterHeard, AfterTaken, IsDrawn, outdated, key_of_frame}
+use Rattle.gts_count.proofs.SoundLemmas.{single}
+use Rattle.gts_count.proofs.KeyLemmas.{key_message}
+use Rattle.gts_count.proofs.FollowLemmas.{follows_heard, follows_taken, follows_restarted, follows_prepared, follows_accepted, follows_drawn, drawn_there, choice_is}
+
+pub current_counts : (d : Directory) (s : State) (h : List Entry) (c : Counting) → c.current ≡ true → Counts d s h c → Knows d c × Follows d s c.numbers
+current_counts d s h c is counts = subst (λ (b : Bool). CountsIf b d s h c) is counts
+
+pub circuits_of : (d : Directory) (s : State) (n : Numbers) → Follows d s n → (length n.drawn.items ≡ length d.circuits) × (length n.came.items ≡ length d.circuits)
+circuits_of d s n f =
+    let size : length n.drawn.items ≡ length d.circuits = sym (length-map n.drawn.items (λ (r : Buffer (List ℕ)). r.capacity)) ∙ ap length f.kept ∙ length-map d.circuits (λ (row : Circuit). row.kept) in
+    (size, sym f.sound.circuits.0 ∙ size)
+
+-- ---- a message whose key has no row would be accepted
+
+and_true : (a b : Bool) → (a && b) ≡ true → (a ≡ true) × (b ≡ true)
+and_true true b e = (refl, e)
+and_true false b e = absurd (true≢false (sym e))
+
+all_reverse : {X : Type 0} (P : X → Type 0) (xs : List X) → All P xs → All P (reverse xs)
+all_reverse P [] all = all
+all_reverse {X} P (x ∷ xs) all =
+    subst (λ (ys : List X). All P ys) (sym (reverse-append (x ∷ []) xs))
+    (All-append P (reverse xs) (x ∷ []) (all_reverse P xs (λ k d inside. all (suc k) d (omega (arith, inside)))) (single P x (all 0 x (omega arith))))
+
+found_one : {X : Type 0} (P : X → Type 0) (f : X → Bool) (xs : List X) (x : X) → All P xs → find f xs ≡ Some x → P x × (f x ≡ true)
+found_one P f [] x all e = absurd (cc)
+found_one {X} P f (y ∷ ys) x all e = go (f y) refl e (λ more. found_one P f ys x (λ k d inside. all (suc k) d (omega (arith, inside))) more)
+  where
+    go : (b : Bool) → f y ≡ b → cond b (Some y) (find f ys) ≡ Some x → (find f ys ≡ Some x → P x × (f x ≡ true)) → P x × (f x ≡ true)
+    go true k is rest = let same : y ≡ x = cc in subst (λ (z : X). P z × (f z ≡ true)) same (all 0 y (omega arith), k)
+    go false k is rest = rest is
+
+same_numbers : (xs ys : List ℕ) → pointwise nat_eq xs ys ≡ true → xs ≡ ys
+same_numbers xs ys e = Rattle.gts_count.proofs.RowLemmas.same_numbers xs ys e
+
+no_twin : (d : Directory) (t : State) (rows : List ℕ → Bool) (h : HeadingFields) (text : List ℕ) → All (λ b. IsTrue (rows (key_of b.body))) t.accepted → rows (take 11 (heading_text h)) ≡ false
+    → duplicate d t h text ≡ None
+no_twin d t rows h text all none = go (duplicate d t h text) refl
+  where
+    test : Bulletin → Bool
+    test b = is_recent d t.count b.position && is_same_heading (heading_of b.body) h && pointwise nat_eq (text_of b.body) text
+
+    go : (o : Option Bulletin) → duplicate d t h text ≡ o → o ≡ None
+    go None e = refl
+    go (Some b) e =
+        let twin = found_one (λ b. IsTrue (rows (key_of b.body))) test (reverse t.accepted) b (all_reverse (λ b. IsTrue (rows (key_of b.body))) t.accepted all) e in
+        let both = (and_true (is_recent d t.count b.position && is_same_heading (heading_of b.body) h) (pointwise nat_eq (text_of b.body) text) twin.1).0 in
+        let heading = (and_true (is_recent d t.count b.position) (is_same_heading (heading_of b.body) h) both).1 in
+        let same : heading_text (heading_of b.body) ≡ heading_text h = same_numbers (heading_text (heading_of b.body)) (heading_text h) heading in
+        absurd (true≢false (sym twin.0 ∙ ap (λ (x : List ℕ). rows (take 11 x)) same ∙ none))
+
+outcome_read : (d : Directory) (t : State) (c : ℕ) (kind : Kind) (m : List ℕ) (w : WasRead d m) → duplicate d t w.parts.heading w.parts.text ≡ None → outcome d t (Heard c kind m) ≡ Accepted t.count (length (named d c w.parts.heading))
+outcome_read d t c kind m w none =
+    ap (λ (r : Result MessageParts Field). elim r as (λ _. Outcome) [ Err field ↦ Refused (Message field) | Ok parts ↦ verdict d t c parts ]) w.read
+    ∙ ap (λ (b : Bool). cond b (answer_to d t c (Rattle.gts_request.specs.Request.request_at w.parts.text)) (elim (duplicate d t w.parts.heading w.parts.text) as (λ _. Outcome) [ Some b ↦ Duplicate b.position | None ↦ Accepted t.count (length (named d c w.parts.heading)) ])) w.other
+    ∙ ap (λ (o : Option Bulletin). elim o as (λ _. Outcome) [ Some b ↦ Duplicate b.position | None ↦ Accepted t.count (length (named d c w.parts.heading)) ]) none
+
+pub left_accepted : (d : Directory) (s : State) (n : Numbers) (c : ℕ) (kind : Kind) (m : List ℕ) → Follows d s n → WasRead d m → has_row n.rows (key_of (body_of m)) ≡ false → IsAccepted (outcome d s (Heard c kind m))
+left_accepted d s n c kind m f w none =
+    let read = key_message m w.parts w.read in
+    let key : key_of (body_of m) ≡ take 11 (heading_text w.parts.heading) = ap (λ (h : HeadingFields). take 11 (heading_text h)) read.3 in
+    subst IsAccepted (sym (outcome-same d s f.state (Heard c kind m) f.same ∙ outcome_read d f.state c kind m w (no_twin d f.state (has_row n.rows) w.parts.heading w.parts.text f.rows (ap (has_row n.rows) (sym key) ∙ none)))) tt
+
+-- ---- an entry is added
+
+-- saying failed before, and so it did before more entries
+unsaid_more : (h xs : List Entry) → HasUnsaid h → HasUnsaid (h ++ xs)
+unsaid_more h xs (front, event, back, e) = (front, event, back ++ xs, ap (λ (l : List Entry). l ++ xs) e ∙ append_assoc front (Unsaid event ∷ back) xs)
+
+-- while they are current they don't depend on the entries
+grown : (b : Bool) (d : Directory) (s : State) (h xs : List Entry) (c : Counting) → CountsIf b d s h c → CountsIf b d s (h ++ xs) c
+grown true d s h xs c counts = counts
+grown false d s h xs c counts = unsaid_more h xs counts
+
+pub counts_more : (d : Directory) (s : State) (h xs : List Entry) (c : Counting) → Counts d s h c → Counts d s (h ++ xs) c
+counts_more d s h xs c counts = grown c.current d s h xs c counts
+
+-- another state, and other numbers, as long as they are current
+pub carried_by : (d : Directory) (s s' : State) (h xs : List Entry) (old new : Counting) → KeepsRest old new → (old.current ≡ true → Knows d old → Follows d s old.numbers → Follows d s' new.numbers) → Counts d s h old → Counts d s' (h ++ xs) new
+carried_by d s s' h xs old new rest step counts =
+    subst (λ (b : Bool). CountsIf b d s' (h ++ xs) new) (sym rest.current) (go old.current refl counts)
+  where
+    go : (b : Bool) → old.current ≡ b → CountsIf b d s h old → CountsIf b d s' (h ++ xs) new
+    go true is (knows, follows) = (record { centre = rest.centre ∙ knows.centre; digits = ap (λ v. v.items) rest.digits ∙ knows.digits }, step is knows follows)
+    go false is unsaid = unsaid_more h xs unsaid
+
+pub carried : (d : Directory) (s s' : State) (h xs : List Entry) (old new : Counting) → KeepsRest old new → (old.current ≡ true → Follows d s old.numbers → Follows d s' new.numbers) → Counts d s h old → Counts d s' (h ++ xs) new
+carried d s s' h xs old new rest step counts = carried_by d s s' h xs old new rest (λ is knows f. step is f) counts
+
+pub all_rest : (c : Counting) → KeepsRest c c
+all_rest c = record { centre = refl; digits = refl; current = refl }
+
+pub counts_prepared : (d : Directory) (s : State) (h : List Entry) (old new : Counting) → Prepares old.numbers new.numbers → KeepsRest old new → Counts d s h old → Counts d s h new
+counts_prepared d s h old new prepares rest counts =
+    subst (λ (l : List Entry). Counts d s l new) (append-nil h) (carried d s s h [] old new rest (λ is f. follows_prepared d s old.numbers new.numbers f prepares) counts)
+
+pub same_after : (d : Directory) (s : State) (h : List Entry) (old new : Counting) → new ≡ old → Counts d s h old → Counts d s h new
+same_after d s h old new is counts = subst (λ (c : Counting). Counts d s h c) (sym is) counts
+
+-- saying failed: the numbers aren't current any more
+pub outdated_after : (d : Directory) (s : State) (h : List Entry) (event : Event) (old new : Counting) → new ≡ outdated old → Counts d s (h ++ Unsaid event ∷ []) new
+outdated_after d s h event old new is = subst (λ (c : Counting). Counts d s (h ++ Unsaid event ∷ []) c) (sym is) (h, event, [], refl)
+
+-- what was answered with a fault changed no state, but where saying failed
+pub idle_after : (d : Directory) (s : State) (h xs : List Entry) (old new : Counting) → new ≡ old → Counts d s h old → Counts d s (h ++ xs) new
+idle_after d s h xs old new is counts = same_after d s (h ++ xs) old new is (counts_more d s h xs old counts)
+
+module _ (d : Directory) (s : State) (h : List Entry) where
+  accepted_after : (old new : Counting) (c : ℕ) (kind : Kind) (m : List ℕ) (ready : Option Recent) (p n : ℕ) → c < length d.circuits → outcome d s (Heard c kind m) ≡ Accepted p n → (old.current ≡ true → IsReady c m ready d s) → CanNote old ready
+      → AfterAccepted ready old new → Counts d s h old → Counts d (after d s (Heard c kind m)) (h ++ Done (Heard c kind m) ∷ []) new
+  accepted_after old new c kind m (Some b) p n here is readies note noted counts =
+      carried d s (after d s (Heard c kind m)) h (Done (Heard c kind m) ∷ []) old new noted.0
+      (λ current f.
+      let same : b ≡ heard_of c m = let e = readies current kind p n is in cc in
+      follows_accepted d s old.numbers new.numbers c kind m p n here f is
+      (subst (λ (r : Recent). Notes old.numbers new.numbers r) same noted.1)
+      (sym (ap (λ (r : Recent). has_row old.numbers.rows r.key) same) ∙ note.0))
+      counts
+  accepted_after old new c kind m None p n here is readies note noted counts =
+      subst (λ (x : Counting). Counts d (after d s (Heard c kind m)) (h ++ Done (Heard c kind m) ∷ []) x) (sym noted)
+      (carried d s (after d s (Heard c kind m)) h (Done (Heard c kind m) ∷ []) old old (all_rest old)
+      (λ current f. absurd (let e = readies current kind p n is in cc)) counts)
+
+  -- a message that was heard and not accepted
+  unaccepted_after : (old new : Counting) (c : ℕ) (kind : Kind) (m : List ℕ) (o : Outcome) → c < length d.circuits → o ≡ outcome d s (Heard c kind m) → ((p n : ℕ) → o ≡ Accepted p n → ⊥) → new ≡ old
+      → Counts d s h old → Counts d (after d s (Heard c kind m)) (h ++ Done (Heard c kind m) ∷ []) new
+  unaccepted_after old new c kind m o here is none same counts =
+      same_after d (after d s (Heard c kind m)) (h ++ Done (Heard c kind m) ∷ []) old new same
+      (carried d s (after d s (Heard c kind m)) h (Done (Heard c kind m) ∷ []) old old (all_rest old)
+      (λ current f. follows_heard d s old.numbers c kind m here f (λ p n e. none p n (is ∙ e))) counts)
+
+  pub counts_heard : (old new : Counting) (c : ℕ) (kind : Kind) (m : List ℕ) (ready : Option Recent) (result : Result Outcome SwitchFault) → c < length d.circuits → (old.current ≡ true → IsReady c m ready d s) → CanNote old ready
+      → IsTold result d s (Heard c kind m) → AfterHeard ready result old new → Counts d s h old → GoesOn d s h (Heard c kind m) result new
+  counts_heard old new c kind m ready (Ok (Accepted p n)) here readies note told noted counts = accepted_after old new c kind m ready p n here (sym (told (Accepted p n) refl)) readies note noted counts
+  counts_heard old new c kind m ready (Ok (Duplicate p)) here readies note told noted counts = unaccepted_after old new c kind m (Duplicate p) here (told (Duplicate p) refl) (λ q k e. cc e) noted counts
+  counts_heard old new c kind m ready (Ok (Asked a b)) here readies note told noted counts = unaccepted_after old new c kind m (Asked a b) here (told (Asked a b) refl) (λ q k e. cc e) noted counts
+  counts_heard old new c kind m ready (Ok (Refused r)) here readies note told noted counts = unaccepted_after old new c kind m (Refused r) here (told (Refused r) refl) (λ q k e. cc e) noted counts
+  counts_heard old new c kind m ready (Ok (LineLost f)) here readies note told noted counts = unaccepted_after old new c kind m (LineLost f) here (told (LineLost f) refl) (λ q k e. cc e) noted counts
+  counts_heard old new c kind m ready (Ok (Resend i)) here readies note told noted counts = unaccepted_after old new c kind m (Resend i) here (told (Resend i) refl) (λ q k e. cc e) noted counts
+  counts_heard old new c kind m ready (Ok (Draw i)) here readies note told noted counts = unaccepted_after old new c kind m (Draw i) here (told (Draw i) refl) (λ q k e. cc e) noted counts
+  counts_heard old new c kind m ready (Ok Nothing) here readies note told noted counts = unaccepted_after old new c kind m Nothing here (told Nothing refl) (λ q k e. cc e) noted counts
+  counts_heard old new c kind m ready (Err DiskFault) here readies note told noted counts = idle_after d s h (Doubt (Heard c kind m) ∷ []) old new noted counts
+  counts_heard old new c kind m ready (Err SayFault) here readies note told noted counts = outdated_after d (after d s (Heard c kind m)) h (Heard c kind m) old new noted
+  counts_heard old new c kind m ready (Err (Full a b l)) here readies note told noted counts = idle_after d s h (Idle (Heard c kind m) (Full a b l) ∷ []) old new noted counts
+  counts_heard old new c kind m ready (Err (Stopped by)) here readies note told noted counts = idle_after d s h (Idle (Heard c kind m) (Stopped by) ∷ []) old new noted counts
+  counts_heard old new c kind m ready (Err Spent) here readies note told noted counts = idle_after d s h [] old new noted counts
+  counts_heard old new c kind m ready (Err NoMemory) here readies note told noted counts = idle_after d s h (Idle (Heard c kind m) NoMemory ∷ []) old new noted counts

@@ -1,0 +1,295 @@
+-- The running numbers follow a history, entry by entry.
+use Rattle.std.proofs.Common.{◌≡◌, ℕ, zero, suc, ◌+◌, ◌-◌, ◌<◌, ◌≤◌, Bool, true, false, not, ◌&&◌, ◌||◌, ◌==◌, nat_lt, nat_le, cond, ◌⊎◌, inl, inr, ⊎_elim, List, [], ◌∷◌, ◌++◌, length, get_or, set, drop, map, filter, Option, Some, None, Result, Ok, Err, refl, sym, ap, subst, ◌∙◌, arith}
+use Rattle.std.specs.Prelude.{IsTrue}
+use Rattle.std.specs.List.{All, list_any, list_all, find}
+use Rattle.std.proofs.lemmas.Bool.{true≢false, eqb-true, eq-eqb, lt-ltb}
+use Rattle.std.proofs.lemmas.List.{append-nil, append_assoc, get_or-map, set-get_or, map-set, length-map}
+use Rattle.std.proofs.lemmas.List.Elements.{All-append}
+use Rattle.circular_buffer.specs.Buffer.{Buffer, buffer, keep_last}
+use Rattle.gts_frame.specs.declared.kind.Kind.{Kind}
+use Rattle.gts_directory.specs.Directory.{Directory, Circuit, named, is_named}
+use Rattle.gts_event.specs.State.{State, CircuitState, Bulletin, has, is_recent, last_of, on_circuit, idle, waiting, next, heading_of}
+use Rattle.gts_event.specs.History.{Choice, Repeats, Draws, Nothing_waits, choice, outcome, after, after_heard, after_take, after_entry, after_all, with_bulletin, with_drawn, body_of, heading_of_message, restarted, found, places, items_of}
+use Rattle.gts_event.specs.Need.{need, keeps_one, is_here, is_for, circuit_of_event, IsOrdered}
+use Rattle.gts_event.specs.Held.{IsHeld}
+use Rattle.gts_event.specs.Stand.{SameNeed}
+use Rattle.gts_event.specs.declared.event.Event.{Event}
+use Rattle.gts_event.specs.declared.event.Event.TheVariants.{Heard, Lost, Taken}
+use Rattle.gts_event.specs.declared.event.Entry.{Entry}
+use Rattle.gts_event.specs.declared.event.Entry.TheVariants.{Done, Unsaid, Idle, Doubt, Restarted}
+use Rattle.gts_event.specs.declared.outcome.Outcome.{Outcome}
+use Rattle.gts_event.specs.declared.outcome.Outcome.TheVariants.{Accepted, Duplicate, Asked, Refused, LineLost, Resend, Draw, Nothing}
+use Rattle.gts_event.proofs.LawLemmas.{after-same, outcome-same, restarted-same, held-all, list_all-has, draw_position, next_waits, waiting_routed}
+use Rattle.gts_count.specs.declared.recent.Recent.{Recent}
+use Rattle.gts_count.specs.declared.numbers.Numbers.{Numbers}
+use Rattle.gts_count.specs.Tally.{Tally, tally, recent_of, key_of, key_at}
+use Rattle.gts_count.specs.Rows.{has_row}
+use Rattle.gts_count.specs.Numbers.{IsSound, tally_of, IsRing, no_ring, ring_at, kept_with}
+use Rattle.gts_count.specs.Going.{window_of, heard_of}
+use Rattle.gts_count.specs.State.{takens_of, drawn_of, tally_at}
+use Rattle.gts_count.specs.Counting.{Follows, Notes, NotesDraw, Prepares}
+use Rattle.gts_count.proofs.WindowLemmas.{joins_window, counts_window}
+use Rattle.gts_count.proofs.StateLemmas.{tally-need, tally_is, takens-routed, takens-same, takens-restarted, drawn-accepted, drawn-drew}
+use Rattle.gts_count.proofs.StepLemmas.{window_whole}
+use Rattle.gts_count.proofs.SoundLemmas.{single}
+
+-- what is counted of a state depends on these alone
+record Quiet (t u : State) : Type 0 where
+  count : u.count ≡ t.count
+  accepted : u.accepted ≡ t.accepted
+  takens : takens_of u ≡ takens_of t
+
+tally-quiet : (d : Directory) (t u : State) → Quiet t u → tally_at d u ≡ tally_at d t
+tally-quiet d t u q = tally_is (tally_at d u) (tally_at d t)
+    (ap (λ (bs : List Bulletin). map recent_of (filter (λ b. is_recent d u.count b.position) bs)) q.accepted
+    ∙ ap (λ (n : ℕ). map recent_of (filter (λ b. is_recent d n b.position) t.accepted)) q.count)
+    (ap (λ (bs : List Bulletin). drawn_of d.circuits bs (takens_of u)) q.accepted ∙ ap (drawn_of d.circuits t.accepted) q.takens)
+
+still : (t : State) → Quiet t t
+still t = record { count = refl; accepted = refl; takens = refl }
+
+quiet_heard : (d : Directory) (t : State) (c : ℕ) (kind : Kind) (m : List ℕ) (o : Outcome) → ((p n : ℕ) → o ≡ Accepted p n → ⊥) → Quiet t (after_heard d t c kind m o)
+quiet_heard d t c kind m (Accepted p n) none = absurd (none p n refl)
+quiet_heard d t c kind m (Asked n k) none =
+    let q : CircuitState = on_circuit t c in
+    record { count = refl; accepted = refl; takens = takens-same t.circuits c (record q { owed = q.owed ++ found (places d t c (items_of m)) }) refl }
+quiet_heard d t c kind m (Duplicate p) none = still t
+quiet_heard d t c kind m (Refused r) none = still t
+quiet_heard d t c kind m (LineLost field) none = still t
+quiet_heard d t c kind m (Resend i) none = still t
+quiet_heard d t c kind m (Draw i) none = still t
+quiet_heard d t c kind m Nothing none = still t
+
+quiet_take : (t : State) (c : ℕ) (ch : Choice) → ((i p : ℕ) → ch ≡ Draws i p → ⊥) → Quiet t (after_take t c ch)
+quiet_take t c (Repeats i) none =
+    let q : CircuitState = on_circuit t c in
+    record { count = refl; accepted = refl; takens = takens-same t.circuits c (record q { owed = drop 1 q.owed }) refl }
+quiet_take t c (Draws i p) none = absurd (none i p refl)
+quiet_take t c Nothing_waits none = still t
+
+-- what a take leads to, by what it gives
+abbrev pub told_by : Choice → Outcome
+told_by ch = elim ch as (λ _. Outcome) [ Repeats index ↦ Resend index | Draws index position ↦ Draw index | Nothing_waits ↦ Nothing ]
+
+pub choice_is : (ch : Choice) (i : ℕ) → told_by ch ≡ Draw i → (p : ℕ) × (ch ≡ Draws i p)
+choice_is (Repeats j) i e = absurd (cc)
+choice_is (Draws j p) i e = (p, let same : j ≡ i = cc in ap (λ (x : ℕ). Draws x p) same)
+choice_is Nothing_waits i e = absurd (cc)
+
+here_of : (d : Directory) (event : Event) → circuit_of_event event < length d.circuits → list_all (is_here d) (Done event ∷ []) ≡ true
+here_of d event here = ap (λ (b : Bool). b && true) (lt-ltb (circuit_of_event event) (length d.circuits) here)
+
+-- the same numbers under another state
+follows_on : (d : Directory) (s s' : State) (n : Numbers) (f : Follows d s n) (u : State) → SameNeed d s' u → IsHeld d u → Quiet f.state u → Follows d s' n
+follows_on d s s' n f u same held quiet = record {
+  sound = f.sound;
+  numbers = f.numbers ∙ ap (tally d) f.same.same ∙ tally-need d f.state ∙ sym (tally-quiet d f.state u quiet) ∙ sym (tally-need d u) ∙ sym (ap (tally d) same.same);
+  window = f.window;
+  kept = f.kept;
+  keeps = f.keeps;
+  state = u;
+  same = same;
+  held = held;
+  rows = subst (λ (bs : List Bulletin). All (λ b. IsTrue (has_row n.rows (key_of b.body))) bs) (sym quiet.accepted) f.rows;
+}
+
+-- a message that isn't accepted
+pub follows_heard : (d : Directory) (s : State) (n : Numbers) (c : ℕ) (kind : Kind) (m : List ℕ) → c < length d.circuits → Follows d s n → ((p k : ℕ) → outcome d s (Heard c kind m) ≡ Accepted p k → ⊥) → Follows d (after d s (Heard c kind m)) n
+follows_heard d s n c kind m here f none =
+    let event : Event = Heard c kind m in
+    follows_on d s (after d s event) n f (after d f.state event) (after-same d s f.state event f.same) (held-all d f.state (Done event ∷ []) f.keeps (here_of d event here) f.held)
+    (quiet_heard d f.state c kind m (outcome d f.state event) (λ p k e. none p k (outcome-same d s f.state event f.same ∙ e)))
+
+-- a take that draws nothing
+pub follows_taken : (d : Directory) (s : State) (n : Numbers) (c : ℕ) → c < length d.circuits → Follows d s n → ((i : ℕ) → outcome d s (Taken c) ≡ Draw i → ⊥) → Follows d (after d s (Taken c)) n
+follows_taken d s n c here f none =
+    follows_on d s (after d s (Taken c)) n f (after d f.state (Taken c)) (after-same d s f.state (Taken c) f.same) (held-all d f.state (Done (Taken c) ∷ []) f.keeps (here_of d (Taken c) here) f.held)
+    (quiet_take f.state c (choice d f.state c) (λ i p e. none i (outcome-same d s f.state (Taken c) f.same ∙ ap told_by e)))
+
+pub follows_restarted : (d : Directory) (s : State) (n : Numbers) → Follows d s n → Follows d (restarted s) n
+follows_restarted d s n f =
+    follows_on d s (restarted s) n f (restarted f.state) (restarted-same d s f.state f.keeps f.same) (held-all d f.state (Restarted ∷ []) f.keeps refl f.held)
+    (record { count = refl; accepted = refl; takens = takens-restarted f.state.circuits })
+
+-- ---- a bulletin is accepted
+
+rows_still : (bs : List Bulletin) (old new : List ℕ → Bool) → ((key : List ℕ) → IsTrue (old key) → IsTrue (new key)) → All (λ b. IsTrue (old (key_of b.body))) bs → All (λ b. IsTrue (new (key_of b.body))) bs
+rows_still bs old new more all k b inside = more (key_of (get_or bs k b).body) (all k b inside)
+
+pub follows_prepared : (d : Directory) (s : State) (old new : Numbers) → Follows d s old → Prepares old new → Follows d s new
+follows_prepared d s old new f p = record {
+  sound = p.sound;
+  numbers = tally_is (tally_of new) (tally_of old) (ap (λ (b : Buffer Recent). b.items) p.recent) (ap (λ v. map (λ q. q.items) v.items) p.drawn) ∙ f.numbers;
+  window = ap (λ (b : Buffer Recent). b.capacity) p.recent ∙ f.window;
+  kept = ap (λ v. map (λ q. q.capacity) v.items) p.drawn ∙ f.kept;
+  keeps = f.keeps;
+  state = f.state;
+  same = f.same;
+  held = f.held;
+  rows = rows_still f.state.accepted (has_row old.rows) (has_row new.rows) p.rows f.rows;
+}
+
+pub follows_accepted : (d : Directory) (s : State) (old new : Numbers) (c : ℕ) (kind : Kind) (m : List ℕ) (p n : ℕ) → c < length d.circuits → Follows d s old → outcome d s (Heard c kind m) ≡ Accepted p n
+    → Notes old new (heard_of c m) → IsTrue (has_row old.rows (key_of (body_of m))) → Follows d (after d s (Heard c kind m)) new
+follows_accepted d s old new c kind m p n here f is noted has = record {
+  sound = noted.sound;
+  numbers = now ∙ sym (ap (tally d) same.same);
+  window = noted.window ∙ f.window;
+  kept = ap (λ v. map (λ q. q.capacity) v.items) noted.drawn ∙ f.kept;
+  keeps = f.keeps;
+  state = after d t event;
+  same = same;
+  held = held-all d t (Done event ∷ []) f.keeps (here_of d event here) f.held;
+  rows = subst (λ (bs : List Bulletin). All (λ b. IsTrue (has_row new.rows (key_of b.body))) bs) (sym (ap (λ (u : State). u.accepted) then))
+      (rows_still (t.accepted ++ b ∷ []) (has_row old.rows) (has_row new.rows) (λ key there. noted.rows key ∙ there)
+      (All-append (λ (x : Bulletin). IsTrue (has_row old.rows (key_of x.body))) t.accepted (b ∷ []) f.rows (single (λ (x : Bulletin). IsTrue (has_row old.rows (key_of x.body))) b has)));
+}
+  where
+    event : Event
+    event = Heard c kind m
+
+    t : State
+    t = f.state
+
+    b : Bulletin
+    b = record { position = t.count; from = c; kind = kind; body = body_of m }
+
+    now_is : outcome d t event ≡ Accepted p n
+    now_is = sym (outcome-same d s t event f.same) ∙ is
+
+    then : after d t event ≡ with_bulletin t c kind (body_of m) (named d c (heading_of_message m))
+    then = ap (λ (o : Outcome). after_heard d t c kind m o) now_is
+
+    same : SameNeed d (after d s event) (after d t event)
+    same = after-same d s t event f.same
+
+    at : tally_of old ≡ tally d (need d t)
+    at = f.numbers ∙ ap (tally d) f.same.same
+
+    wide : 1 ≤ d.window
+    wide = let w = f.sound.window in omega (arith, w.1, f.window)
+
+    recent : new.recent.items ≡ (tally d (need d (after d t event))).recent
+    recent =
+        noted.recent
+        ∙ ap (λ (k : ℕ). keep_last k (old.recent.items ++ heard_of c m ∷ [])) f.window
+        ∙ ap (λ (rs : List Recent). keep_last d.window (rs ++ heard_of c m ∷ [])) (ap (λ (x : Tally). x.recent) at)
+        ∙ sym (joins_window d t c kind m p n wide (window_whole d t f.held) now_is)
+
+    drawn : map (λ q. q.items) new.drawn.items ≡ (tally d (need d (after d t event))).drawn
+    drawn =
+        ap (λ v. map (λ q. q.items) v.items) noted.drawn
+        ∙ ap (λ (x : Tally). x.drawn) at
+        ∙ ap (λ (x : Tally). x.drawn) (tally-need d t)
+        ∙ sym (drawn-accepted d.circuits t.accepted b t.circuits f.held.ordered.below)
+        ∙ sym (ap (drawn_of d.circuits (t.accepted ++ b ∷ [])) (takens-routed (named d c (heading_of_message m)) t.count t t.circuits))
+        ∙ sym (ap (λ (u : State). drawn_of d.circuits u.accepted (takens_of u)) then)
+        ∙ sym (ap (λ (x : Tally). x.drawn) (tally-need d (after d t event)))
+
+    now : tally_of new ≡ tally d (need d (after d t event))
+    now = tally_is (tally_of new) (tally d (need d (after d t event))) recent drawn
+
+-- ---- a bulletin is drawn
+
+or_cases : (a b : Bool) → (a || b) ≡ true → (a ≡ true) ⊎ (b ≡ true)
+or_cases true b e = inl refl
+or_cases false b e = inr e
+
+and_true : (a b : Bool) → (a && b) ≡ true → (a ≡ true) × (b ≡ true)
+and_true true b e = (refl, e)
+and_true false b e = absurd (true≢false (sym e))
+
+-- a position for which a bulletin is there has its bulletin, which is one of all
+pub bulletin_there : (P : Bulletin → Type 0) (d : Directory) (bs : List Bulletin) (c p : ℕ) → is_for d bs c p ≡ true → All P bs → (b : Bulletin) × (find (λ x. x.position == p) bs ≡ Some b) × P b
+bulletin_there P d [] c p e all = absurd (true≢false (sym e))
+bulletin_there P d (b ∷ bs) c p e all = go (b.position == p) refl (λ more. bulletin_there P d bs c p more (λ k x inside. all (suc k) x (omega (arith, inside))))
+  where
+    Found : Option Bulletin → Type 0
+    Found o = (x : Bulletin) × (o ≡ Some x) × P x
+
+    go : (t : Bool) → (b.position == p) ≡ t → (is_for d bs c p ≡ true → (x : Bulletin) × (find (λ x. x.position == p) bs ≡ Some x) × P x)
+        → (x : Bulletin) × (cond t (Some b) (find (λ x. x.position == p) bs) ≡ Some x) × P x
+    go true same rest = (b, refl, all 0 b (omega arith))
+    go false other rest =
+        rest (elim (or_cases ((b.position == p) && is_named d b.from (heading_of b.body) c) (is_for d bs c p) e) [
+          | inl here ↦ absurd (true≢false (sym (and_true (b.position == p) (is_named d b.from (heading_of b.body) c) here).0 ∙ other))
+          | inr there ↦ there
+        ])
+
+-- the bulletin of a draw is there
+pub drawn_there : (P : Bulletin → Type 0) (d : Directory) (t : State) (c i p : ℕ) → c < length d.circuits → IsHeld d t → choice d t c ≡ Draws i p → All P t.accepted
+    → (b : Bulletin) × (find (λ x. x.position == p) t.accepted ≡ Some b) × P b
+drawn_there P d t c i p here held is all =
+    let q : CircuitState = on_circuit t c in
+    let routed : has q.routed p ≡ true = waiting_routed q p (next_waits d t q p (draw_position d t c i p is)) in
+    bulletin_there P d t.accepted c p (list_all-has (is_for d t.accepted c) q.routed p (held.each c here).routed_for routed) all
+
+pub follows_drawn : (d : Directory) (s : State) (old new : Numbers) (c i p : ℕ) (key : List ℕ) → c < length d.circuits → (f : Follows d s old) → choice d f.state c ≡ Draws i p → key ≡ key_at f.state.accepted p
+    → NotesDraw old new c key → Follows d (after d s (Taken c)) new
+follows_drawn d s old new c i p key here f is key_is noted = record {
+  sound = noted.sound;
+  numbers = now ∙ sym (ap (tally d) same.same);
+  window = ap (λ (b : Buffer Recent). b.capacity) noted.recent ∙ f.window;
+  kept = kept;
+  keeps = f.keeps;
+  state = after d t (Taken c);
+  same = same;
+  held = held-all d t (Done (Taken c) ∷ []) f.keeps (here_of d (Taken c) here) f.held;
+  rows = subst (λ (bs : List Bulletin). All (λ b. IsTrue (has_row new.rows (key_of b.body))) bs) (sym (ap (λ (u : State). u.accepted) then))
+      (rows_still t.accepted (has_row old.rows) (has_row new.rows) (λ k there. noted.rows k ∙ there) f.rows);
+}
+  where
+    t : State
+    t = f.state
+
+    q : CircuitState
+    q = on_circuit t c
+
+    then : after d t (Taken c) ≡ record t { circuits = set t.circuits c (with_drawn p q) }
+    then = ap (λ (ch : Choice). after_take t c ch) is
+
+    same : SameNeed d (after d s (Taken c)) (after d t (Taken c))
+    same = after-same d s t (Taken c) f.same
+
+    at : tally_of old ≡ tally_at d t
+    at = f.numbers ∙ ap (tally d) f.same.same ∙ tally-need d t
+
+    size : length old.drawn.items ≡ length d.circuits
+    size = sym (length-map old.drawn.items (λ (r : Buffer (List ℕ)). r.capacity)) ∙ ap length f.kept ∙ length-map d.circuits (λ (row : Circuit). row.kept)
+
+    ring : Buffer (List ℕ)
+    ring = ring_at old c
+
+    room : ring.capacity ≡ get_or (map (λ (row : Circuit). row.kept) d.circuits) c 0
+    room = sym (get_or-map (λ (r : Buffer (List ℕ)). r.capacity) old.drawn.items c no_ring 0 (omega (arith, here, size))) ∙ ap (λ (ks : List ℕ). get_or ks c 0) f.kept
+
+    keys : ring.items ≡ get_or (drawn_of d.circuits t.accepted (takens_of t)) c []
+    keys = sym (get_or-map (λ (r : Buffer (List ℕ)). r.items) old.drawn.items c no_ring [] (omega (arith, here, size))) ∙ ap (λ (x : Tally). get_or x.drawn c []) at
+
+    kept : map (λ (r : Buffer (List ℕ)). r.capacity) new.drawn.items ≡ map (λ (row : Circuit). row.kept) d.circuits
+    kept =
+        ap (map (λ (r : Buffer (List ℕ)). r.capacity)) noted.drawn
+        ∙ map-set (λ (r : Buffer (List ℕ)). r.capacity) old.drawn.items c (kept_with ring key)
+        ∙ ap (λ (k : ℕ). set (map (λ (r : Buffer (List ℕ)). r.capacity) old.drawn.items) c k) (sym (get_or-map (λ (r : Buffer (List ℕ)). r.capacity) old.drawn.items c no_ring 0 (omega (arith, here, size))))
+        ∙ set-get_or (map (λ (r : Buffer (List ℕ)). r.capacity) old.drawn.items) c 0
+        ∙ f.kept
+
+    drawn : map (λ (r : Buffer (List ℕ)). r.items) new.drawn.items ≡ (tally_at d (after d t (Taken c))).drawn
+    drawn =
+        ap (map (λ (r : Buffer (List ℕ)). r.items)) noted.drawn
+        ∙ map-set (λ (r : Buffer (List ℕ)). r.items) old.drawn.items c (kept_with ring key)
+        ∙ ap (λ (kss : List (List (List ℕ))). set kss c (keep_last ring.capacity (ring.items ++ key ∷ []))) (ap (λ (x : Tally). x.drawn) at)
+        ∙ ap (λ (k : ℕ). set (tally_at d t).drawn c (keep_last k (ring.items ++ key ∷ []))) room
+        ∙ ap (λ (ks : List (List ℕ)). set (tally_at d t).drawn c (keep_last (get_or (map (λ (row : Circuit). row.kept) d.circuits) c 0) (ks ++ key ∷ []))) keys
+        ∙ ap (λ (k : List ℕ). set (tally_at d t).drawn c (keep_last (get_or (map (λ (row : Circuit). row.kept) d.circuits) c 0) (get_or (tally_at d t).drawn c [] ++ k ∷ []))) key_is
+        ∙ sym (drawn-drew d.circuits t.accepted t.circuits c p (with_drawn p q) here (omega (arith, here, f.held.ordered.circuits)) refl)
+        ∙ sym (ap (λ (u : State). drawn_of d.circuits u.accepted (takens_of u)) then)
+
+    recent : new.recent.items ≡ (tally_at d (after d t (Taken c))).recent
+    recent =
+        ap (λ (b : Buffer Recent). b.items) noted.recent
+        ∙ ap (λ (x : Tally). x.recent) at
+        ∙ sym (ap (λ (u : State). map recent_of (window_of d u)) then)
+
+    now : tally_of new ≡ tally d (need d (after d t (Taken c)))
+    now = tally_is (tally_of new) (tally_at d (after d t (Taken c))) recent drawn ∙ sym (tally-need d (after d t (Taken c)))

@@ -1,0 +1,174 @@
+-- The key of a bulletin is its first eleven bytes, and stands so in its frames.
+use Rattle.std.proofs.Common.{◌≡◌, ℕ, zero, suc, ◌+◌, ◌-◌, ◌<◌, ◌≤◌, Bool, true, false, ◌==◌, cond, List, [], ◌∷◌, ◌++◌, length, get_or, set, take, drop, Option, Some, None, Result, Ok, Err, refl, sym, ap, subst, ◌∙◌, arith, length-append}
+use Rattle.std.specs.Prelude.{is_ok}
+use Rattle.std.specs.List.{All, find, enumerate_from}
+use Rattle.std.proofs.lemmas.Bool.{true≢false, eq-eqb, ne_eqb}
+use Rattle.std.proofs.lemmas.List.{take-append-le, get_or-set_same}
+use Rattle.std.proofs.Math.Seq.{drop-append-add}
+use Rattle.gts_alphabet.specs.Digits.{dec}
+use Rattle.gts_alphabet.specs.Message.{message_of}
+use Rattle.gts_alphabet.specs.declared.characters.TheConstants.{SOH, EOL}
+use Rattle.gts_alphabet.proofs.LawLemmas.{length-dec}
+use Rattle.gts_traits.specs.Station.{Outside, on, channel_bytes}
+use Rattle.gts_traits.proofs.LawLemmas.{channel_bytes-on}
+use Rattle.gts_heading.specs.declared.field.Field.{Field}
+use Rattle.gts_heading.specs.Heading.{HeadingFields, IsHeading, heading_text, group_text}
+use Rattle.gts_message.specs.Message.{MessageParts, IsBody, body_at, split_at, message_end}
+use Rattle.gts_message.proofs.LawLemmas.{body_is_spelled, body_of_message}
+use Rattle.gts_frame.specs.declared.kind.Kind.{Kind}
+use Rattle.gts_frame.specs.declared.kind.Kind.TheVariants.{An, Bi, Fx}
+use Rattle.gts_frame.specs.Frame.{frame, letters}
+use Rattle.gts_frame.proofs.LawLemmas.{length-frame}
+use Rattle.gts_directory.specs.Directory.{Directory}
+use Rattle.gts_event.specs.State.{State, CircuitState, Bulletin, on_circuit, idle, drawn, draws, bulletin_at, heading_of, no_heading}
+use Rattle.gts_event.specs.History.{Choice, Repeats, Draws, Nothing_waits, choice, after, after_take, with_drawn, digits_on, body_of}
+use Rattle.gts_number.specs.Number.{number_in}
+use Rattle.gts_event.specs.Said.{line, spoken, numbered_frame}
+use Rattle.gts_event.specs.declared.event.Event.TheVariants.{Taken}
+use Rattle.gts_event.proofs.LawLemmas.{draw_index}
+use Rattle.gts_count.specs.Tally.{key_of}
+use Rattle.gts_count.specs.Counting.{key_of_frame}
+
+-- ---- in a body
+
+long_heading : (h : HeadingFields) → IsHeading h → 11 ≤ length (heading_text h)
+unfolding heading_text
+long_heading h is =
+    let a1 : List ℕ = h.tt ++ h.aa in
+    let a2 : List ℕ = a1 ++ dec 2 h.ii in
+    let a3 : List ℕ = a2 ++ 32 ∷ [] in
+    let a4 : List ℕ = a3 ++ h.cccc in
+    let a5 : List ℕ = a4 ++ 32 ∷ [] in
+    let a6 : List ℕ = a5 ++ dec 2 h.day in
+    let a7 : List ℕ = a6 ++ dec 2 h.hour in
+    let a8 : List ℕ = a7 ++ dec 2 h.minute in
+    omega (
+      arith,
+      length-append h.tt h.aa,
+      length-append a1 (dec 2 h.ii),
+      length-append a2 (32 ∷ []),
+      length-append a3 h.cccc,
+      length-append a4 (32 ∷ []),
+      length-append a5 (dec 2 h.day),
+      length-append a6 (dec 2 h.hour),
+      length-append a7 (dec 2 h.minute),
+      length-append a8 (group_text h.bbb),
+      length-dec 2 h.ii,
+      is.tt.0,
+      is.aa.0,
+      is.cccc.0,
+    )
+
+-- the first of what is put together
+front_is : (a b : List ℕ) → 11 ≤ length a → (11 ≤ length (a ++ b)) × (take 11 (a ++ b) ≡ take 11 a)
+front_is a b long = (omega (arith, long, length-append a b), take-append-le 11 a b long)
+
+heading_is : (body : List ℕ) (found : HeadingFields × List ℕ) → body_at body ≡ Ok found → heading_of body ≡ found.0
+heading_is body found e = ap (λ (r : Result (HeadingFields × List ℕ) Field). elim r as (λ _. HeadingFields) [ Ok found ↦ found.0 | Err _ ↦ no_heading ]) e
+
+pub key_body : (body : List ℕ) → is_ok (body_at body) ≡ true → (11 ≤ length body) × (take 11 body ≡ key_of body)
+key_body body good = go (body_at body) refl good
+  where
+    go : (r : Result (HeadingFields × List ℕ) Field) → body_at body ≡ r → is_ok r ≡ true → (11 ≤ length body) × (take 11 body ≡ key_of body)
+    go (Err field) e ok = absurd (true≢false (sym ok))
+    go (Ok found) e ok =
+        let is : IsBody body found.0 found.1 = body_is_spelled body found.1 found.0 e in
+        let gap : List ℕ = is.spelled.0 in
+        let a : List ℕ = heading_text found.0 in
+        let f1 = front_is a gap (long_heading found.0 is.heading_is) in
+        let f2 = front_is (a ++ gap) EOL f1.0 in
+        let f3 = front_is (a ++ gap ++ EOL) found.1 f2.0 in
+        let f4 = front_is (a ++ gap ++ EOL ++ found.1) message_end f3.0 in
+        (omega (arith, f4.0, ap length is.spelled.2), ap (take 11) is.spelled.2 ∙ f4.1 ∙ f3.1 ∙ f2.1 ∙ f1.1 ∙ sym (ap (λ (h : HeadingFields). take 11 (heading_text h)) (heading_is body found e)))
+
+-- the body of a message that could be read
+pub key_message : (m : List ℕ) (parts : MessageParts) → split_at m ≡ Ok parts → (body_of m ≡ parts.body) × (11 ≤ length parts.body) × (take 11 parts.body ≡ key_of (body_of m)) × (heading_of (body_of m) ≡ parts.heading)
+key_message m parts e =
+    let same : body_of m ≡ parts.body = ap (λ (r : Result MessageParts Field). elim r as (λ _. List ℕ) [ Err _ ↦ [] | Ok p ↦ p.body ]) e in
+    let read : body_at parts.body ≡ Ok (parts.heading, parts.text) = body_of_message m parts e in
+    let key = key_body parts.body (ap is_ok read) in
+    (same, key.0, key.1 ∙ sym (ap key_of same), ap heading_of same ∙ heading_is parts.body (parts.heading, parts.text) read)
+
+-- ---- in a frame
+
+drop_is : (xs ys : List ℕ) (n k : ℕ) → k ≡ length xs + n → drop k (xs ++ ys) ≡ drop n ys
+drop_is xs ys n k e = ap (λ (j : ℕ). drop j (xs ++ ys)) e ∙ drop-append-add xs ys n
+
+two_letters : (kind : Kind) → length (letters kind) ≡ 2
+two_letters An = refl
+two_letters Bi = refl
+two_letters Fx = refl
+
+-- behind the head, the number and the ends of lines stands the body
+body_in_frame : (kind : Kind) (w n : ℕ) (body : List ℕ) → drop (17 + w) (frame kind (message_of (dec w n) body)) ≡ body
+body_in_frame kind w n body =
+    let m : List ℕ = message_of (dec w n) body in
+    let line : List ℕ = SOH ∷ EOL in
+    drop_is (dec 8 (length m) ++ letters kind) m (7 + w) (17 + w) (omega (arith, length-append (dec 8 (length m)) (letters kind), length-dec 8 (length m), two_letters kind))
+    ∙ drop_is line (dec w n ++ EOL ++ body) (w + 3) (7 + w) (omega arith)
+    ∙ drop_is (dec w n ++ EOL) body 0 (w + 3) (omega (arith, length-append (dec w n) EOL, length-dec w n))
+
+pub key_frame : (b : Bulletin) (w i : ℕ) → is_ok (body_at b.body) ≡ true → (28 + w ≤ length (numbered_frame w i b)) × (key_of_frame w (numbered_frame w i b) ≡ key_of b.body)
+key_frame b w i good =
+    let n : ℕ = number_in w i in
+    let key = key_body b.body good in
+    let m : List ℕ = message_of (dec w n) b.body in (
+      omega (arith, key.0, length-frame b.kind m, length-append (dec w n ++ EOL) b.body, length-append (dec w n) EOL, length-dec w n),
+      ap (take 11) (body_in_frame b.kind w n b.body) ∙ key.1,
+    )
+
+-- ---- the frame of a draw
+
+find_last : (e : ℕ) (ts : List ℕ) (p : ℕ) → find (λ (draw : ℕ × ℕ). draw.0 == (e + length ts)) (enumerate_from e (ts ++ p ∷ [])) ≡ Some (e + length ts, p)
+find_last e [] p =
+    let here : e ≡ e + 0 = omega arith in
+    ap (λ b. cond b (Some (e, p)) None) (eq-eqb e (e + 0) here) ∙ ap (λ (x : ℕ). Some (x, p)) here
+find_last e (t ∷ ts) p =
+    let n : ℕ = e + length (t ∷ ts) in
+    let same : e + 1 + length ts ≡ n = omega arith in
+    ap (λ b. cond b (Some (e, t)) (find (λ (draw : ℕ × ℕ). draw.0 == n) (enumerate_from (e + 1) (ts ++ p ∷ [])))) (ne_eqb e n (λ k. omega (arith, k)))
+    ∙ ap (λ (x : ℕ). find (λ (draw : ℕ × ℕ). draw.0 == x) (enumerate_from (e + 1) (ts ++ p ∷ []))) (sym same)
+    ∙ find_last (e + 1) ts p
+    ∙ ap (λ (x : ℕ). Some (x, p)) same
+
+-- what a take says that draws
+pub draw_says : (d : Directory) (t : State) (c i p : ℕ) (b : Bulletin) → c < length t.circuits → choice d t c ≡ Draws i p → find (λ x. x.position == p) t.accepted ≡ Some b
+    → spoken d t (Taken c) ≡ on (c + 1) (numbered_frame (digits_on d c) i b)
+draw_says d t c i p b here is there =
+    ap said_so is ∙ ap (λ (u : State). on (c + 1) (line d u c i)) then ∙ ap (on (c + 1)) (ap line_so found ∙ ap frame_so there)
+  where
+    q : CircuitState
+    q = on_circuit t c
+
+    u : State
+    u = record t { circuits = set t.circuits c (with_drawn p q) }
+
+    said_so : Choice → Outside
+    said_so ch = elim ch as (λ _. Outside) [
+      | Repeats index ↦ on (c + 1) (line d (after d t (Taken c)) c index)
+      | Draws index position ↦ on (c + 1) (line d (after d t (Taken c)) c index)
+      | Nothing_waits ↦ []
+    ]
+
+    then : after d t (Taken c) ≡ u
+    then = ap (λ (ch : Choice). after_take t c ch) is
+
+    frame_so : Option Bulletin → List ℕ
+    frame_so o = elim o as (λ _. List ℕ) [ None ↦ [] | Some x ↦ numbered_frame (digits_on d c) i x ]
+
+    line_so : Option (ℕ × ℕ) → List ℕ
+    line_so o = elim o as (λ _. List ℕ) [ None ↦ [] | Some draw ↦ frame_so (bulletin_at u draw.1) ]
+
+    at : q.earlier + length q.taken ≡ i
+    at = draw_index d t c i p is
+
+    found : find (λ (r : ℕ × ℕ). r.0 == i) (drawn (on_circuit u c)) ≡ Some (i, p)
+    found =
+        ap (λ (r : CircuitState). find (λ (r : ℕ × ℕ). r.0 == i) (drawn r)) (get_or-set_same t.circuits c (with_drawn p q) idle here)
+        ∙ ap (λ (x : ℕ). find (λ (r : ℕ × ℕ). r.0 == x) (enumerate_from q.earlier (q.taken ++ p ∷ []))) (sym at)
+        ∙ find_last q.earlier q.taken p
+        ∙ ap (λ (x : ℕ). Some (x, p)) at
+
+-- the bytes that are said on a channel
+pub said_bytes : (channel : ℕ) (xs ys : List ℕ) → on channel xs ≡ on channel ys → xs ≡ ys
+said_bytes channel xs ys e = sym (channel_bytes-on channel xs) ∙ ap (channel_bytes channel) e ∙ channel_bytes-on channel ys

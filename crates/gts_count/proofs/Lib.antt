@@ -1,0 +1,12 @@
+mod RowLemmas
+mod CountLemmas
+mod SoundLemmas
+mod WindowLemmas
+mod StateLemmas
+mod OrderedLemmas
+mod StepLemmas
+mod FollowLemmas
+mod KeyLemmas
+mod CountingLemmas
+mod TakingLemmas
+mod TurnLemmas

@@ -1,0 +1,64 @@
+-- The rows of a map, one key after another.
+use Rattle.std.proofs.Common.{◌≡◌, ℕ, Bool, true, false, cond, ◌&&◌, nat_eq, List, [], ◌∷◌, Option, Some, None, is_some, refl, sym, ap, subst, ◌∙◌}
+use Rattle.std.specs.Ordering.{is_eq}
+use Rattle.std.specs.Cmp.Lexicographic.{pointwise}
+use Rattle.std.specs.BTreeMap.{get}
+use Rattle.std.proofs.lemmas.Bool.{true≢false, eqb-true}
+use Rattle.std.proofs.lemmas.Cmp.{nat_list_eq_equiv}
+use Rattle.std.proofs.lemmas.Map.Text.{is_eq-slice_cmp}
+use Rattle.gts_count.specs.declared.rows.Row.{Row}
+use Rattle.gts_count.specs.Table.{bytes_below}
+use Rattle.gts_count.specs.Rows.{Rows, row_in, row_at, no_row, ChangesRow, AddsRow}
+
+-- lists of the same numbers
+pub same_numbers : (xs ys : List ℕ) → pointwise nat_eq xs ys ≡ true → xs ≡ ys
+same_numbers [] [] e = refl
+same_numbers [] (y ∷ ys) e = absurd (true≢false (sym e))
+same_numbers (x ∷ xs) [] e = absurd (true≢false (sym e))
+same_numbers (x ∷ xs) (y ∷ ys) e =
+    elim (nat_eq x y) as (λ b. nat_eq x y ≡ b → (b && pointwise nat_eq xs ys) ≡ true → x ∷ xs ≡ y ∷ ys) [
+      | true ↦ λ here rest. let same : x ≡ y = eqb-true x y here in let more : xs ≡ ys = same_numbers xs ys rest in cc
+      | false ↦ λ here rest. absurd (true≢false (sym rest))
+    ] refl e
+
+-- two tests of the same key
+pub same_test : (key k : List ℕ) → is_eq (bytes_below key k) ≡ pointwise nat_eq k key
+same_test key k = is_eq-slice_cmp key k ∙ nat_list_eq_equiv.symm key k
+
+pub row_in-cond : (b : Bool) (row : Row) (o : Option Row) → row_in (cond b (Some row) o) ≡ cond b row (row_in o)
+row_in-cond true row o = refl
+row_in-cond false row o = refl
+
+pub is_some-cond : (b : Bool) (row : Row) (o : Option Row) → (b ≡ true → is_some o ≡ true) → is_some (cond b (Some row) o) ≡ is_some o
+is_some-cond true row o there = sym (there refl)
+is_some-cond false row o there = refl
+
+-- the row that is there keeps its key
+pub there_too : (m : Rows) (key k : List ℕ) → is_some (get bytes_below m key) ≡ true → is_eq (bytes_below key k) ≡ true → is_some (get bytes_below m k) ≡ true
+there_too m key k has same =
+    let equal : key ≡ k = sym (same_numbers k key (sym (same_test key k) ∙ same)) in
+    subst (λ (x : List ℕ). is_some (get bytes_below m x) ≡ true) equal has
+
+pub changes : (m n : Rows) (key : List ℕ) (row : Row) → ((q : List ℕ) → get bytes_below n q ≡ cond (is_eq (bytes_below key q)) (Some row) (get bytes_below m q)) → is_some (get bytes_below m key) ≡ true → ChangesRow m n key row
+changes m n key row updates has = record {
+  numbers = λ k. ap row_in (updates k) ∙ row_in-cond (is_eq (bytes_below key k)) row (get bytes_below m k) ∙ ap (λ b. cond b row (row_at m k)) (same_test key k);
+  keeps = λ k. ap is_some (updates k) ∙ is_some-cond (is_eq (bytes_below key k)) row (get bytes_below m k) (there_too m key k has);
+}
+
+there_still : (b : Bool) (o : Option Row) → is_some o ≡ true → is_some (cond b (Some no_row) o) ≡ true
+there_still true o there = refl
+there_still false o there = there
+
+none_in : (o : Option Row) → is_some o ≡ false → row_in o ≡ no_row
+none_in None is = refl
+none_in (Some row) is = absurd (true≢false is)
+
+pub adds : (m n : Rows) (key : List ℕ) → ((q : List ℕ) → get bytes_below n q ≡ cond (is_eq (bytes_below key q)) (Some no_row) (get bytes_below m q)) → is_some (get bytes_below m key) ≡ false → AddsRow m n
+adds m n key updates none = record {
+  numbers = λ k. ap row_in (updates k) ∙ row_in-cond (is_eq (bytes_below key k)) no_row (get bytes_below m k) ∙ zero k (is_eq (bytes_below key k)) refl;
+  keeps = λ k there. ap is_some (updates k) ∙ there_still (is_eq (bytes_below key k)) (get bytes_below m k) there;
+}
+  where
+    zero : (k : List ℕ) (b : Bool) → is_eq (bytes_below key k) ≡ b → cond b no_row (row_at m k) ≡ row_at m k
+    zero k true same = sym (ap (λ (x : List ℕ). row_at m x) (same_numbers k key (sym (same_test key k) ∙ same)) ∙ none_in (get bytes_below m key) none)
+    zero k false same = refl

@@ -1,0 +1,203 @@
+-- What is counted of a need is what is counted of its state; and what changes that.
+use Rattle.std.proofs.Common.{◌≡◌, ℕ, zero, suc, ◌+◌, ◌-◌, ◌<◌, ◌≤◌, Bool, true, false, not, ◌&&◌, ◌||◌, ◌==◌, nat_lt, cond, List, [], ◌∷◌, ◌++◌, length, get_or, set, drop, map, filter, zip, Option, Some, None, refl, sym, ap, ◌∙◌, inl, inr, ◌⊎◌, arith}
+use Rattle.std.specs.List.{list_any, list_all, find, enumerate_from}
+use Rattle.std.proofs.lemmas.Bool.{true≢false, eqb-true, eq-eqb, ne_eqb, ltb-true}
+use Rattle.std.proofs.lemmas.List.{drop-map, length-map, length-drop, length-append, map-append, map-set, set-get_or, drop-append-le, drop-drop, get_or-map}
+use Rattle.circular_buffer.specs.Buffer.{keep_last}
+use Rattle.gts_directory.specs.Directory.{Directory, Circuit}
+use Rattle.gts_event.specs.State.{State, CircuitState, Bulletin, has, is_recent, last_of, on_circuit, idle}
+use Rattle.gts_event.specs.Need.{need, is_needed, circuit_need, circuit_needs, CircuitNeed, are_below}
+use Rattle.gts_event.specs.History.{with_routed, routed_to, owed_last}
+use Rattle.gts_count.specs.declared.recent.Recent.{Recent}
+use Rattle.gts_count.specs.Tally.{Tally, tally, key_of, key_at}
+use Rattle.gts_count.specs.State.{takens_of, drawn_of, tally_at}
+use Rattle.gts_count.proofs.WindowLemmas.{counts_window}
+
+-- ---- a need has the bulletins that its kept draws have
+
+-- the first that passes a test is found after a test that holds wherever this one does
+find_filter : {X : Type 0} (f g : X → Bool) (xs : List X) → ((x : X) → g x ≡ true → f x ≡ true) → find g (filter f xs) ≡ find g xs
+find_filter f g [] h = refl
+find_filter {X} f g (x ∷ xs) h = go (find_filter f g xs h) (f x) refl (g x) refl
+  where
+    go : find g (filter f xs) ≡ find g xs → (b : Bool) → f x ≡ b → (c : Bool) → g x ≡ c → find g (cond b (x ∷ filter f xs) (filter f xs)) ≡ cond c (Some x) (find g xs)
+    go more true e true e' = rw e' refl
+    go more true e false e' = rw e' more
+    go more false e true e' = absurd (let t : f x ≡ true = h x e' in true≢false (sym t ∙ e))
+    go more false e false e' = more
+
+or_left : (a b : Bool) → a ≡ true → (a || b) ≡ true
+or_left a b e = rw e refl
+
+or_right : (a b : Bool) → b ≡ true → (a || b) ≡ true
+or_right true b e = refl
+or_right false b e = e
+
+or_cases : (a b : Bool) → (a || b) ≡ true → (a ≡ true) ⊎ (b ≡ true)
+or_cases true b e = inl refl
+or_cases false b e = inr e
+
+and_true : (a b : Bool) → (a && b) ≡ true → (a ≡ true) × (b ≡ true)
+and_true true b e = (refl, e)
+and_true false b e = absurd (true≢false (sym e))
+
+-- the same of each position of a list
+same_keys : (f g : ℕ → List ℕ) (ps : List ℕ) → ((p : ℕ) → has ps p ≡ true → f p ≡ g p) → map f ps ≡ map g ps
+same_keys f g [] h = refl
+same_keys f g (p ∷ ps) h =
+    ap (λ (x : List ℕ). x ∷ map f ps) (h p (or_left (p == p) (has ps p) (itself p)))
+    ∙ ap (λ (xs : List (List ℕ)). g p ∷ xs) (same_keys f g ps (λ q there. h q (or_right (p == q) (has ps q) there)))
+  where
+    itself : (n : ℕ) → (n == n) ≡ true
+    itself n = eq-eqb n n refl
+
+-- a position that is kept on a circuit is needed
+any_kept : (p : ℕ) (cs : List CircuitNeed) → list_any (λ c. has c.kept p) cs ≡ true → list_any (λ c. has c.waiting p || has c.kept p) cs ≡ true
+any_kept p [] e = e
+any_kept p (c ∷ cs) e = elim (or_cases (has c.kept p) (list_any (λ c. has c.kept p) cs) e) [
+  | inl here ↦ or_left (has c.waiting p || has c.kept p) (list_any (λ c. has c.waiting p || has c.kept p) cs) (or_right (has c.waiting p) (has c.kept p) here)
+  | inr there ↦ or_right (has c.waiting p || has c.kept p) (list_any (λ c. has c.waiting p || has c.kept p) cs) (any_kept p cs there)
+]
+
+-- its bulletin has its key in the need too
+key-need : (d : Directory) (s : State) (p : ℕ) → list_any (λ c. has c.kept p) (circuit_needs d s) ≡ true → key_at (need d s).bulletins p ≡ key_at s.accepted p
+key-need d s p kept =
+    ap (λ (o : Option Bulletin). key_of (elim o as (λ _. List ℕ) [ None ↦ [] | Some b ↦ b.body ]))
+    (find_filter (λ (b : Bulletin). is_needed d s.count (circuit_needs d s) b.position) (λ (b : Bulletin). b.position == p) s.accepted
+    (λ b same. or_right (is_recent d s.count b.position) (list_any (λ c. has c.waiting b.position || has c.kept b.position) (circuit_needs d s))
+    (any_kept b.position (circuit_needs d s) (ap (λ (q : ℕ). list_any (λ (c : CircuitNeed). has c.kept q) (circuit_needs d s)) (eqb-true b.position p same) ∙ kept))))
+
+-- the positions that a circuit keeps are the last ones drawn
+positions-enumerate : (n : ℕ) (xs : List ℕ) → map (λ (r : ℕ × ℕ). r.1) (enumerate_from n xs) ≡ xs
+positions-enumerate n [] = refl
+positions-enumerate n (x ∷ xs) = ap (λ (ys : List ℕ). x ∷ ys) (positions-enumerate (n + 1) xs)
+
+pub kept-is : (k : ℕ) (q : CircuitState) → (circuit_need k q).kept ≡ last_of k q.taken
+kept-is k q =
+    let all : List (ℕ × ℕ) = enumerate_from q.earlier q.taken in
+    let size : length all ≡ length q.taken = sym (length-map all (λ (r : ℕ × ℕ). r.1)) ∙ ap length (positions-enumerate q.earlier q.taken) in
+    sym (drop-map (λ (r : ℕ × ℕ). r.1) (length all - k) all)
+    ∙ ap (drop (length all - k)) (positions-enumerate q.earlier q.taken)
+    ∙ ap (λ (n : ℕ). drop (n - k) q.taken) size
+
+abbrev needs_of : List Circuit → List CircuitState → List CircuitNeed
+needs_of rows qs = map (λ row. circuit_need row.0.kept row.1) (zip rows qs)
+
+cons_lists : {X : Type 0} (x y : X) (xs ys : List X) → x ≡ y → xs ≡ ys → x ∷ xs ≡ y ∷ ys
+cons_lists {X} x y xs ys e es = ap (λ (z : X). z ∷ xs) e ∙ ap (λ (zs : List X). y ∷ zs) es
+
+drawn-need : (bs all : List Bulletin) (rows : List Circuit) (qs : List CircuitState) → ((p : ℕ) → list_any (λ c. has c.kept p) (needs_of rows qs) ≡ true → key_at bs p ≡ key_at all p)
+    → map (λ (c : CircuitNeed). map (key_at bs) c.kept) (needs_of rows qs) ≡ drawn_of rows all (map (λ (q : CircuitState). q.taken) qs)
+drawn-need bs all [] qs h = refl
+drawn-need bs all (row ∷ rows) [] h = refl
+drawn-need bs all (row ∷ rows) (q ∷ qs) h =
+    let c : CircuitNeed = circuit_need row.kept q in
+    cons_lists (map (key_at bs) c.kept) (map (key_at all) (last_of row.kept q.taken)) (map (λ (c : CircuitNeed). map (key_at bs) c.kept) (needs_of rows qs)) (drawn_of rows all (map (λ (q : CircuitState). q.taken) qs))
+    (same_keys (key_at bs) (key_at all) c.kept (λ p there. h p (or_left (has c.kept p) (list_any (λ c. has c.kept p) (needs_of rows qs)) there)) ∙ ap (map (key_at all)) (kept-is row.kept q))
+    (drawn-need bs all rows qs (λ p there. h p (or_right (has c.kept p) (list_any (λ c. has c.kept p) (needs_of rows qs)) there)))
+
+pub tally_is : (a b : Tally) → a.recent ≡ b.recent → a.drawn ≡ b.drawn → a ≡ b
+tally_is a b recent drawn = ap (λ (r : List Recent). record { recent = r; drawn = a.drawn }) recent ∙ ap (λ (k : List (List (List ℕ))). record { recent = b.recent; drawn = k }) drawn
+
+-- what is counted of the need of a state
+pub tally-need : (d : Directory) (s : State) → tally d (need d s) ≡ tally_at d s
+tally-need d s = tally_is (tally d (need d s)) (tally_at d s) (counts_window d s) (drawn-need (need d s).bulletins s.accepted d.circuits s.circuits (key-need d s))
+
+-- ---- what leaves the draws as they were
+
+taken-routed : (cs : List ℕ) (p n : ℕ) (qs : List CircuitState) → map (λ (q : CircuitState). q.taken) (map (λ (r : ℕ × CircuitState). cond (has cs r.0) (with_routed p r.1) r.1) (enumerate_from n qs)) ≡ map (λ (q : CircuitState). q.taken) qs
+taken-routed cs p n [] = refl
+taken-routed cs p n (q ∷ qs) =
+    cons_lists (cond (has cs n) (with_routed p q) q).taken q.taken (map (λ (q : CircuitState). q.taken) (map (λ (r : ℕ × CircuitState). cond (has cs r.0) (with_routed p r.1) r.1) (enumerate_from (n + 1) qs))) (map (λ (q : CircuitState). q.taken) qs)
+    (either (has cs n)) (taken-routed cs p (n + 1) qs)
+  where
+    either : (b : Bool) → (cond b (with_routed p q) q).taken ≡ q.taken
+    either true = refl
+    either false = refl
+
+-- a bulletin is routed
+pub takens-routed : (cs : List ℕ) (p : ℕ) (s : State) (qs : List CircuitState) → map (λ (q : CircuitState). q.taken) (routed_to cs p qs) ≡ map (λ (q : CircuitState). q.taken) qs
+takens-routed cs p s qs = taken-routed cs p 0 qs
+
+-- another circuit state with the same draws
+pub takens-same : (qs : List CircuitState) (c : ℕ) (r : CircuitState) → r.taken ≡ (get_or qs c idle).taken → map (λ (q : CircuitState). q.taken) (set qs c r) ≡ map (λ (q : CircuitState). q.taken) qs
+takens-same [] c r e = refl
+takens-same (q ∷ qs) zero r e = ap (λ (t : List ℕ). t ∷ map (λ (q : CircuitState). q.taken) qs) e
+takens-same (q ∷ qs) (suc c) r e = ap (λ (ts : List (List ℕ)). q.taken ∷ ts) (takens-same qs c r e)
+
+-- the journal was opened again
+pub takens-restarted : (qs : List CircuitState) → map (λ (q : CircuitState). q.taken) (map owed_last qs) ≡ map (λ (q : CircuitState). q.taken) qs
+takens-restarted [] = refl
+takens-restarted (q ∷ qs) = ap (λ (ts : List (List ℕ)). q.taken ∷ ts) (takens-restarted qs)
+
+-- ---- one bulletin more
+
+find-more : (bs : List Bulletin) (b : Bulletin) (p : ℕ) → (b.position == p) ≡ false → find (λ x. x.position == p) (bs ++ b ∷ []) ≡ find (λ x. x.position == p) bs
+find-more [] b p e = rw e refl
+find-more (x ∷ bs) b p e = ap (λ (o : Option Bulletin). cond (x.position == p) (Some x) o) (find-more bs b p e)
+
+key-more : (bs : List Bulletin) (b : Bulletin) (p : ℕ) → (b.position == p) ≡ false → key_at (bs ++ b ∷ []) p ≡ key_at bs p
+key-more bs b p e = ap (λ (o : Option Bulletin). key_of (elim o as (λ _. List ℕ) [ None ↦ [] | Some b ↦ b.body ])) (find-more bs b p e)
+
+all_has : (n : ℕ) (ps : List ℕ) (p : ℕ) → list_all (λ q. nat_lt q n) ps ≡ true → has ps p ≡ true → nat_lt p n ≡ true
+all_has n [] p all there = absurd (true≢false (sym there))
+all_has n (q ∷ ps) p all there = elim (or_cases (q == p) (has ps p) there) [
+  | inl same ↦ ap (λ (x : ℕ). nat_lt x n) (sym (eqb-true q p same)) ∙ (and_true (nat_lt q n) (list_all (λ q. nat_lt q n) ps) all).0
+  | inr rest ↦ all_has n ps p (and_true (nat_lt q n) (list_all (λ q. nat_lt q n) ps) all).1 rest
+]
+
+has_drop : (k : ℕ) (xs : List ℕ) (p : ℕ) → has (drop k xs) p ≡ true → has xs p ≡ true
+has_drop zero xs p h = h
+has_drop (suc k) [] p h = h
+has_drop (suc k) (x ∷ xs) p h = or_right (x == p) (has xs p) (has_drop k xs p h)
+
+drawn-more : (rows : List Circuit) (bs : List Bulletin) (b : Bulletin) (qs : List CircuitState) → list_all (are_below b.position) qs ≡ true
+    → drawn_of rows (bs ++ b ∷ []) (map (λ (q : CircuitState). q.taken) qs) ≡ drawn_of rows bs (map (λ (q : CircuitState). q.taken) qs)
+drawn-more [] bs b qs all = refl
+drawn-more (row ∷ rows) bs b [] all = refl
+drawn-more (row ∷ rows) bs b (q ∷ qs) all =
+    let both = and_true (are_below b.position q) (list_all (are_below b.position) qs) all in
+    let taken = (and_true (list_all (λ p. nat_lt p b.position) q.routed) (list_all (λ p. nat_lt p b.position) q.taken) both.0).1 in
+    cons_lists (map (key_at (bs ++ b ∷ [])) (last_of row.kept q.taken)) (map (key_at bs) (last_of row.kept q.taken)) (drawn_of rows (bs ++ b ∷ []) (map (λ (q : CircuitState). q.taken) qs)) (drawn_of rows bs (map (λ (q : CircuitState). q.taken) qs))
+    (same_keys (key_at (bs ++ b ∷ [])) (key_at bs) (last_of row.kept q.taken)
+    (λ p there. key-more bs b p (ne_eqb b.position p (λ e. below p (all_has b.position q.taken p taken (has_drop (length q.taken - row.kept) q.taken p there)) e))))
+    (drawn-more rows bs b qs both.1)
+  where
+    below : (p : ℕ) → nat_lt p b.position ≡ true → b.position ≡ p → ⊥
+    below p less e = let lt : p < b.position = ltb-true p b.position less in omega (arith, lt, e)
+
+-- a bulletin of a new position changes no key
+pub drawn-accepted : (rows : List Circuit) (bs : List Bulletin) (b : Bulletin) (qs : List CircuitState) → list_all (are_below b.position) qs ≡ true
+    → drawn_of rows (bs ++ b ∷ []) (map (λ (q : CircuitState). q.taken) qs) ≡ drawn_of rows bs (map (λ (q : CircuitState). q.taken) qs)
+drawn-accepted rows bs b qs all = drawn-more rows bs b qs all
+
+-- ---- one draw more
+
+last-more : {A : Type 0} (k : ℕ) (xs ys : List A) → last_of k (last_of k xs ++ ys) ≡ last_of k (xs ++ ys)
+last-more k xs ys =
+    let m : ℕ = length xs - k in
+    let low : m ≤ length xs = omega arith in
+    let e : m + (length (drop m xs ++ ys) - k) ≡ length (xs ++ ys) - k = omega (arith, length-append (drop m xs) ys, length-append xs ys, length-drop m xs) in
+    sym (ap (drop (length (drop m xs ++ ys) - k)) (drop-append-le m xs ys low))
+    ∙ drop-drop (length (drop m xs ++ ys) - k) m (xs ++ ys)
+    ∙ ap (λ (n : ℕ). drop n (xs ++ ys)) e
+
+keys-more : (f : ℕ → List ℕ) (k : ℕ) (ts : List ℕ) (p : ℕ) → map f (last_of k (ts ++ p ∷ [])) ≡ keep_last k (map f (last_of k ts) ++ f p ∷ [])
+keys-more f k ts p =
+    let mine : List ℕ = last_of k ts ++ p ∷ [] in
+    ap (map f) (sym (last-more k ts (p ∷ [])))
+    ∙ sym (drop-map f (length mine - k) mine)
+    ∙ ap (λ (n : ℕ). drop (n - k) (map f mine)) (sym (length-map mine f))
+    ∙ ap (keep_last k) (map-append f (last_of k ts) (p ∷ []))
+
+-- the draws of one circuit get one more
+pub drawn-drew : (rows : List Circuit) (bs : List Bulletin) (qs : List CircuitState) (c p : ℕ) (r : CircuitState) → c < length rows → c < length qs → r.taken ≡ (get_or qs c idle).taken ++ p ∷ []
+    → drawn_of rows bs (map (λ (q : CircuitState). q.taken) (set qs c r))
+    ≡ set (drawn_of rows bs (map (λ (q : CircuitState). q.taken) qs)) c (keep_last (get_or (map (λ (row : Circuit). row.kept) rows) c 0) (get_or (drawn_of rows bs (map (λ (q : CircuitState). q.taken) qs)) c [] ++ key_at bs p ∷ []))
+drawn-drew [] bs qs c p r inside within e = absurd (omega (arith, inside))
+drawn-drew (row ∷ rows) bs [] c p r inside within e = absurd (omega (arith, within))
+drawn-drew (row ∷ rows) bs (q ∷ qs) zero p r inside within e =
+    ap (λ (ks : List (List ℕ)). ks ∷ drawn_of rows bs (map (λ (q : CircuitState). q.taken) qs))
+    (ap (λ (ts : List ℕ). map (key_at bs) (last_of row.kept ts)) e ∙ keys-more (key_at bs) row.kept q.taken p)
+drawn-drew (row ∷ rows) bs (q ∷ qs) (suc c) p r inside within e =
+    ap (λ (kss : List (List (List ℕ))). map (key_at bs) (last_of row.kept q.taken) ∷ kss) (drawn-drew rows bs qs c p r (omega (arith, inside)) (omega (arith, within)) e)

@@ -1,0 +1,113 @@
+-- A call on a switch with running numbers beside it is one of the switch.
+use Rattle.std.proofs.Common.{◌≡◌, ℕ, List, [], ◌∷◌, ◌++◌, Result, Ok, Err, refl, sym, ap, subst, ◌∙◌}
+use Rattle.gts_frame.specs.declared.kind.Kind.{Kind}
+use Rattle.gts_directory.specs.Directory.{Directory}
+use Rattle.gts_event.specs.State.{State}
+use Rattle.gts_event.specs.History.{outcome, after_all}
+use Rattle.gts_event.specs.declared.event.Event.{Event}
+use Rattle.gts_event.specs.declared.event.Event.TheVariants.{Heard}
+use Rattle.gts_event.specs.declared.event.Entry.{Entry}
+use Rattle.gts_event.specs.declared.event.Entry.TheVariants.{Idle}
+use Rattle.gts_event.specs.declared.outcome.Outcome.{Outcome}
+use Rattle.gts_event.specs.declared.fault.SwitchFault.{SwitchFault}
+use Rattle.gts_event.specs.declared.fault.SwitchFault.TheVariants.{DiskFault, NoMemory}
+use Rattle.gts_event.proofs.LawLemmas.{after_all-append}
+use Rattle.gts_record.specs.declared.fault.OpenFault.{OpenFault}
+use Rattle.gts_opening.specs.Room.{IsAccepted}
+use Rattle.gts_turns.specs.Turns.{Standing, IsTurn, IsReopening, IsCompacting, LeavesFrame, MayLeave, IsCause, entry_of, restart_of, outcome_at}
+use Rattle.gts_count.specs.declared.parts.Parts.{Parts}
+use Rattle.gts_count.specs.declared.counting.Counting.{Counting}
+use Rattle.gts_count.specs.Counting.{Counts, GoesOn, IsTold}
+use Rattle.gts_count.specs.Counted.{state_at, counted_words, words_by}
+use Rattle.gts_count.proofs.CountingLemmas.{counts_more}
+use Rattle.gts_count.proofs.TakingLemmas.{counts_restarted}
+
+module _ {O T : Type 0} (words : Standing O T) where
+  -- the numbers of a history with more entries, under the directory that the switch has then
+  behind : (o : O) (h xs : List Entry) (old new : Parts T) → words.directory new.switch ≡ words.directory old.switch
+      → Counts (words.directory old.switch) (after_all (words.directory old.switch) (state_at words old.switch o h) xs) (h ++ xs) new.counting
+      → Counts (words.directory new.switch) (state_at words new.switch o (h ++ xs)) (h ++ xs) new.counting
+  behind o h xs old new same counts =
+      let d : Directory = words.directory old.switch in
+      let there : Counts d (after_all d (words.begin o) (h ++ xs)) (h ++ xs) new.counting =
+      subst (λ (s : State). Counts d s (h ++ xs) new.counting) (sym (after_all-append d (words.begin o) h xs)) counts in
+      subst (λ (e : Directory). Counts e (after_all e (words.begin o) (h ++ xs)) (h ++ xs) new.counting) (sym same) there
+
+  pub counted_turn : (event : Event) (result : Result Outcome SwitchFault) (old new : Parts T) → IsTurn words event result old.switch new.switch
+      → ((o : O) (h : List Entry) → words.stands o h old.switch → IsTold result (words.directory old.switch) (state_at words old.switch o h) event
+      → Counts (words.directory old.switch) (state_at words old.switch o h) h old.counting → GoesOn (words.directory old.switch) (state_at words old.switch o h) h event result new.counting)
+      → IsTurn (counted_words words) event result old new
+  counted_turn event result old new t goes = record {
+    directory = t.directory;
+    adds = λ o h stood. (t.adds o h stood.0, behind o h (entry_of event result) old new t.directory (goes o h stood.0 (t.outcome o h stood.0) stood.1));
+    outcome = λ o h stood answer e. t.outcome o h stood.0 answer e;
+    caused = λ o h stood fault e. t.caused o h stood.0 fault e;
+  }
+
+  -- a message that was left, since there was no memory for its numbers
+  pub left_turn : (c : ℕ) (kind : Kind) (m : List ℕ) (old new : Parts T) → new.switch ≡ old.switch → MayLeave words old.switch
+      → ((d : Directory) (s : State) (h : List Entry) → Counts d s h old.counting → Counts d s h new.counting)
+      → ((d : Directory) (s : State) (h : List Entry) → Counts d s h old.counting → IsAccepted (outcome d s (Heard c kind m)))
+      → IsTurn (counted_words words) (Heard c kind m) (Err NoMemory) old new
+  left_turn c kind m old new same leave keeps accepted = record {
+    directory = ap words.directory same;
+    adds = λ o h stood.
+        let d : Directory = words.directory old.switch in
+        let s : State = state_at words old.switch o h in
+        let entry : Entry = Idle (Heard c kind m) NoMemory in (
+          subst (λ (w : T). words.stands o (h ++ entry ∷ []) w) (sym same) (leave o h c kind m stood.0 (accepted d s h stood.1)),
+          behind o h (entry ∷ []) old new (ap words.directory same) (counts_more d s h (entry ∷ []) new.counting (keeps d s h stood.1)),
+        );
+    outcome = λ o h stood answer e. absurd (cc e);
+    caused = λ o h stood fault e.
+        let d : Directory = words.directory old.switch in
+        let s : State = state_at words old.switch o h in
+        let is : NoMemory ≡ fault = cc in
+        let event : Event = Heard c kind m in
+        subst (λ (f : SwitchFault). IsCause (words.is_full o h event) h (outcome_at words old.switch o h event) f) is (accepted d s h stood.1);
+  }
+
+  pub counted_leave : (now : Parts T) → MayLeave words now.switch → MayLeave (counted_words words) now
+  counted_leave now leave = λ o h c kind m stood accepted. (
+    leave o h c kind m stood.0 accepted,
+    behind o h (Idle (Heard c kind m) NoMemory ∷ []) now now refl (counts_more (words.directory now.switch) (state_at words now.switch o h) h (Idle (Heard c kind m) NoMemory ∷ []) now.counting stood.1),
+  )
+
+  pub counted_reopening : (tells : Type 0) (result : Result (Unit {0}) OpenFault) (old new : Parts T) → new.counting ≡ old.counting → IsReopening words tells result old.switch new.switch → IsReopening (counted_words words) tells result old new
+  counted_reopening tells result old new same r = record {
+    directory = r.directory;
+    adds = λ o h stood.
+        let d : Directory = words.directory old.switch in
+        let s : State = state_at words old.switch o h in (
+          r.adds o h stood.0,
+          behind o h (restart_of result) old new r.directory
+              (subst (λ (c : Counting). Counts d (after_all d s (restart_of result)) (h ++ restart_of result) c) (sym same) (counts_restarted d s h old.counting old.counting result stood.1)),
+        );
+    fault = λ told o h stood f e. r.fault told o h stood.0 f e;
+  }
+
+  pub counted_compacting : (result : Result (Unit {0}) SwitchFault) (old new : Parts T) → new.counting ≡ old.counting → IsCompacting words result old.switch new.switch → IsCompacting (counted_words words) result old new
+  counted_compacting result old new same r = record {
+    directory = r.directory;
+    begins = r.begins;
+    done = λ o h stood e. (r.done o h stood.0 e, subst (λ (s : State). Counts (words.directory new.switch) (after_all (words.directory new.switch) s h) h new.counting) (sym (r.begins o h)) (still o h stood.1));
+    left = λ o h stood e. r.left o h stood.0 e;
+    idle = λ o h stood f e i. (r.idle o h stood.0 f e i, still o h stood.1);
+    caused = λ o h stood f e. r.caused o h stood.0 f e;
+  }
+    where
+      still : (o : O) (h : List Entry) → Counts (words.directory old.switch) (state_at words old.switch o h) h old.counting → Counts (words.directory new.switch) (state_at words new.switch o h) h new.counting
+      still o h counts =
+          subst (λ (d : Directory). Counts d (after_all d (words.begin o) h) h new.counting) (sym r.directory)
+          (subst (λ (c : Counting). Counts (words.directory old.switch) (state_at words old.switch o h) h c) (sym same) counts)
+
+-- what holds of the parts holds of what stands for what they do
+module _ {O T W : Type 0} (parts : W → Parts T) (words : Standing O T) where
+  pub turn_by : (event : Event) (result : Result Outcome SwitchFault) (old new : W) → IsTurn (counted_words words) event result (parts old) (parts new) → IsTurn (words_by parts words) event result old new
+  turn_by event result old new t = record { directory = t.directory; adds = t.adds; outcome = t.outcome; caused = t.caused }
+
+  pub reopening_by : (tells : Type 0) (result : Result (Unit {0}) OpenFault) (old new : W) → IsReopening (counted_words words) tells result (parts old) (parts new) → IsReopening (words_by parts words) tells result old new
+  reopening_by tells result old new r = record { directory = r.directory; adds = r.adds; fault = r.fault }
+
+  pub compacting_by : (result : Result (Unit {0}) SwitchFault) (old new : W) → IsCompacting (counted_words words) result (parts old) (parts new) → IsCompacting (words_by parts words) result old new
+  compacting_by result old new r = record { directory = r.directory; begins = r.begins; done = r.done; left = r.left; idle = r.idle; caused = r.caused }

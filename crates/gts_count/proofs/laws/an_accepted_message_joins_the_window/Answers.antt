@@ -1,0 +1,15 @@
+use Rattle.std.proofs.Common.{◌≡◌, ℕ, ◌-◌, min, ap, arith}
+use Rattle.std.specs.List.{range_with_len}
+use Rattle.gts_count.proofs.WindowLemmas.{joins_window, window_goes_on}
+use Rattle.gts_count.proofs.laws.an_accepted_message_joins_the_window.Goals as goal
+
+pub returns-clause-empty : goal.returns-clause-empty
+returns-clause-empty c = λ d.
+    let none : 0 ≡ min d.window 0 = omega arith in
+    ap (λ (n : ℕ). range_with_len (0 - d.window) n) none
+
+pub returns-clause-joins : goal.returns-clause-joins
+returns-clause-joins c = λ d s circuit kind m p n one has is. joins_window d s circuit kind m p n one has is
+
+pub returns-clause-goes_on : goal.returns-clause-goes_on
+returns-clause-goes_on c = λ d s circuit kind m p n one has is. window_goes_on d s circuit kind m p n one has is

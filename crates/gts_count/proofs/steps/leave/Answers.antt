@@ -1,0 +1,5 @@
+use Rattle.gts_count.proofs.TurnLemmas.{counted_leave}
+use Rattle.gts_count.proofs.steps.leave.Goals as goal
+
+pub returns : goal.returns
+returns g c = counted_leave g.T.Switch.words c.args.parts.now c.leave.ensures.leaves

@@ -1,0 +1,10 @@
+pub mod Tally
+pub mod Table
+pub mod Rows
+pub mod Numbers
+pub mod Going
+pub mod State
+pub mod Counting
+pub mod Counted
+pub mod Worked
+pub use Rattle.gts_count.specs.Table.{table}

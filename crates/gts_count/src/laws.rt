@@ -1,0 +1,24 @@
+//! Laws of what is counted, each the contract of a function with an empty body.
+ghost use Rattle.std.specs.Prelude.{◌≡◌, ℕ, ◌≤◌, List, [], ◌∷◌, ◌++◌};
+ghost use Rattle.circular_buffer.specs.Buffer.{keep_last};
+ghost use Rattle.gts_frame.specs.declared.kind.Kind.{Kind};
+ghost use Rattle.gts_directory.specs.Directory.{Directory};
+ghost use Rattle.gts_event.specs.State.{State, empty};
+ghost use Rattle.gts_event.specs.History.{outcome, after};
+ghost use Rattle.gts_event.specs.Need.{need};
+ghost use Rattle.gts_event.specs.declared.event.Event.TheVariants.{Heard};
+ghost use Rattle.gts_event.specs.declared.outcome.Outcome.TheVariants.{Accepted};
+ghost use Rattle.gts_count.specs.Tally.{tally};
+ghost use Rattle.gts_count.specs.Going.{HasWindow, heard_of};
+
+/// An accepted message joins the bulletins that are counted, of which the last ones stay.
+pub fn an_accepted_message_joins_the_window()
+    ensures empty { (d : Directory) → HasWindow d (empty d) }
+    ensures joins { (d : Directory) (s : State) (c : ℕ) (kind : Kind) (m : List ℕ) (p n : ℕ)
+        → 1 ≤ d.window → HasWindow d s → outcome d s (Heard c kind m) ≡ Accepted p n
+        → (tally d (need d (after d s (Heard c kind m)))).recent
+        ≡ keep_last d.window ((tally d (need d s)).recent ++ heard_of c m ∷ []) }
+    ensures goes_on { (d : Directory) (s : State) (c : ℕ) (kind : Kind) (m : List ℕ) (p n : ℕ)
+        → 1 ≤ d.window → HasWindow d s → outcome d s (Heard c kind m) ≡ Accepted p n
+        → HasWindow d (after d s (Heard c kind m)) }
+{}

@@ -1,0 +1,24 @@
+//! What came and went: by the first two groups of the heading the number of the last bulletins, their bytes and their kept
+//! draws, and by circuit how many of them came in and how many draws are kept.
+#![tactic(auto)]
+
+mod counted;
+mod counting;
+mod laws;
+mod numbers;
+mod parts;
+mod recent;
+mod rows;
+mod steps;
+mod worked;
+
+pub use counted::Counted;
+pub use counting::{Counting, key_in, note_heard, note_taken, ready};
+pub use laws::an_accepted_message_joins_the_window;
+pub use numbers::Numbers;
+pub use parts::Parts;
+pub use recent::Recent;
+pub use rows::{Row, add_row, has_row, join, join_draw, leave, leave_draw, row_of, set_row};
+pub use worked::{
+    a_duplicate_is_not_counted, nothing_is_counted_of_nothing, the_window_bounds_what_is_counted,
+};

@@ -1,0 +1,8 @@
+use crate::Counting;
+
+/// A switch, and what is counted beside it.
+#[derive(Drop)]
+pub struct Parts<T> {
+    pub switch: T,
+    pub counting: Counting,
+}

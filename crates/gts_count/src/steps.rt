@@ -1,0 +1,116 @@
+//! The calls of a switch, each passed on, and its outcome noted.
+ghost use Rattle.std.specs.Prelude.{◌≡◌, ◌<◌, ◌≤◌, length};
+ghost use Rattle.gts_alphabet.specs.declared.limits.TheConstants.{LONGEST_MESSAGE};
+ghost use Rattle.gts_event.specs.declared.event.Event.TheVariants.{Heard, Lost, Taken};
+ghost use Rattle.gts_turns.specs.Turns.{IsTurn, IsReopening, IsCompacting, LeavesFrame, MayLeave, HasTurnCause, HasReopenCause};
+ghost use Rattle.gts_count.specs.Numbers.{IsSound};
+ghost use Rattle.gts_count.specs.Counted.{counted_words};
+
+use crate::Parts;
+use crate::counting::{note_heard, note_taken, ready};
+use gts_alphabet::NoMemory;
+use gts_event::{Outcome, SwitchFault};
+use gts_frame::{FrameBuf, Kind, LostField};
+use gts_record::OpenFault;
+use gts_turns::Switch;
+use std::alloc::Global;
+
+/// A message came whole. The growth that its numbers want is taken first: where there is no memory for it, the switch isn't
+/// called.
+pub fn hear<T: Switch>(
+    parts: &mut Parts<T>,
+    alloc: Global,
+    c: u32,
+    kind: Kind,
+    message: &[u8],
+) -> Result<Outcome, SwitchFault>
+    requires circuit { c < length (T.words.directory parts.old.switch).circuits }
+    requires short { length message.now ≤ LONGEST_MESSAGE }
+    requires sound { IsSound parts.old.counting.numbers }
+    ensures turn { IsTurn (counted_words T.words) (Heard c kind message.now) result
+        parts.old parts.new }
+    ensures sound { IsSound parts.new.counting.numbers }
+    ensures cause { HasTurnCause result
+        (T.disk_faults parts.old.switch) (T.disk_faults parts.new.switch)
+        (T.say_faults parts.old.switch) (T.say_faults parts.new.switch) }
+{
+    match ready(&mut parts.counting, c, message) {
+        Ok(ready) => {
+            let answer = parts.switch.hear(alloc, c, kind, message);
+            note_heard(&mut parts.counting, ready, answer);
+            answer
+        }
+        Err(NoMemory) => {
+            parts.switch.leave();
+            Err(SwitchFault::NoMemory)
+        }
+    }
+}
+
+/// Synchronisation was lost. Takes no memory.
+pub fn lose<T: Switch>(
+    parts: &mut Parts<T>,
+    c: u32,
+    field: LostField,
+) -> Result<Outcome, SwitchFault>
+    requires circuit { c < length (T.words.directory parts.old.switch).circuits }
+    requires sound { IsSound parts.old.counting.numbers }
+    ensures turn { IsTurn (counted_words T.words) (Lost c field) result parts.old parts.new }
+    ensures sound { IsSound parts.new.counting.numbers }
+    ensures cause { HasTurnCause result
+        (T.disk_faults parts.old.switch) (T.disk_faults parts.new.switch)
+        (T.say_faults parts.old.switch) (T.say_faults parts.new.switch) }
+{
+    let answer = parts.switch.lost(c, field);
+    note_heard(&mut parts.counting, None, answer);
+    answer
+}
+
+/// One take. Wants no memory for the numbers: each bulletin that waits has its row.
+pub fn take<T: Switch>(
+    parts: &mut Parts<T>,
+    c: u32,
+    out: &mut FrameBuf,
+) -> Result<Outcome, SwitchFault>
+    requires circuit { c < length (T.words.directory parts.old.switch).circuits }
+    requires sound { IsSound parts.old.counting.numbers }
+    ensures turn { IsTurn (counted_words T.words) (Taken c) result parts.old parts.new }
+    ensures frame { LeavesFrame (counted_words T.words) c result parts.old out.new }
+    ensures sound { IsSound parts.new.counting.numbers }
+    ensures cause { HasTurnCause result
+        (T.disk_faults parts.old.switch) (T.disk_faults parts.new.switch)
+        (T.say_faults parts.old.switch) (T.say_faults parts.new.switch) }
+{
+    let answer = parts.switch.take(c, out);
+    note_taken(&mut parts.counting, c, out.bytes(), answer);
+    answer
+}
+
+/// A message may be left for want of memory: it changes no numbers. Does nothing.
+pub fn leave<T: Switch>(parts: &Parts<T>)
+    ensures { MayLeave (counted_words T.words) parts.now }
+{
+    parts.switch.leave();
+}
+
+/// Opens the journal again, which changes no numbers.
+pub fn restart<T: Switch>(parts: &mut Parts<T>, alloc: Global) -> Result<(), OpenFault>
+    ensures reopening { IsReopening (counted_words T.words) T.tells result parts.old parts.new }
+    ensures counting { parts.new.counting ≡ parts.old.counting }
+    ensures cause { HasReopenCause result
+        (T.disk_faults parts.old.switch) (T.disk_faults parts.new.switch)
+        (T.say_faults parts.old.switch) (T.say_faults parts.new.switch) }
+{
+    parts.switch.restart(alloc)
+}
+
+/// Compacts the journal, which changes no numbers.
+pub fn compact<T: Switch>(parts: &mut Parts<T>, alloc: Global) -> Result<(), SwitchFault>
+    ensures compacting { IsCompacting (counted_words T.words) result parts.old parts.new }
+    ensures counting { parts.new.counting ≡ parts.old.counting }
+    ensures cause { HasTurnCause result
+        (T.disk_faults parts.old.switch) (T.disk_faults parts.new.switch)
+        (T.say_faults parts.old.switch) (T.say_faults parts.new.switch) }
+{
+    parts.switch.compact(alloc)
+}

@@ -1,0 +1,18 @@
+//! Tables of literal histories, each row the contract of a function with an empty body.
+
+ghost use Rattle.gts_count.specs.Worked.{DuplicateNotCounted, WindowOfOne, NothingYet};
+
+/// Three bulletins came in and were drawn on the other circuit. The duplicate between them isn't counted.
+pub fn a_duplicate_is_not_counted()
+    ensures { DuplicateNotCounted }
+{}
+
+/// With a window of one only the last bulletin is counted. All draws are kept, and counted.
+pub fn the_window_bounds_what_is_counted()
+    ensures { WindowOfOne }
+{}
+
+/// Where nothing was accepted, each circuit has its line.
+pub fn nothing_is_counted_of_nothing()
+    ensures { NothingYet }
+{}
