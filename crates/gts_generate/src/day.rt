@@ -12,6 +12,7 @@ use crate::directory::generated_directory;
 use crate::generated::Generated;
 use crate::laws::the_capture_is_read_as_its_steps;
 use crate::summing::summary;
+use gts_connection::CaptureKind;
 use gts_engine::{Engine, an_opened_engine_begins_with_what_the_files_open_to};
 use gts_event::{
     SwitchFault, each_bulletin_is_routed_once, no_circuit_is_owed_more_than_may_be,
@@ -19,7 +20,6 @@ use gts_event::{
 };
 use gts_journal::Journal;
 use gts_memory::MemStation;
-use gts_connection::CaptureKind;
 use gts_replay::{ReplayEnd, replay};
 use gts_report::ReportText;
 use gts_traits::NoMemory;

@@ -22,11 +22,7 @@ fn status_of(compacted: Result<(), SwitchFault>) -> Status
 
 /// Reads the directory, opens the journal, and compacts it: the other file gets a checkpoint of all that is still needed, and is
 /// selected. Nothing is said. The station is handed back.
-pub fn compact<S: Source, P: Station>(
-    alloc: Global,
-    directory: &mut S,
-    station: P,
-) -> (Status, P)
+pub fn compact<S: Source, P: Station>(alloc: Global, directory: &mut S, station: P) -> (Status, P)
     ensures { Compacts S.Source P.Station result.0
         directory.old station directory.new result.1 }
 {
