@@ -26,7 +26,7 @@ use Rattle.gts_event.specs.declared.fault.SwitchFault.TheVariants as switch
 use Rattle.gts_record.specs.declared.fault.OpenFault.{OpenFault}
 use Rattle.gts_record.specs.declared.version.Version.{Version}
 use Rattle.gts_record.specs.declared.version.Version.TheVariants.{One, Two}
-use Rattle.gts_record.specs.Format.{written}
+use Rattle.gts_record.specs.Format.{journal_text, written}
 use Rattle.gts_connection.specs.Connection.{events_added}
 use Rattle.gts_connection.specs.declared.kind.CaptureKind.TheVariants.{Journaled}
 use Rattle.gts_connection.specs.Capture.{Step, Feed, Take, Reopen, Drain, Restart, Compact, Connections, entries, entries_from, entries_of_step, after_step, no_bytes, FeedHead, TakeHead, EndHead, head_text, step_text, Reading, Whole, IsWhole, compactions}
