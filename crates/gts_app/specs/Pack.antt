@@ -25,19 +25,19 @@ status_packed end.SayFault = SayFault
 status_packed end.NoMemory = NoMemory
 
 -- where the source tells, the directory's bytes are a directory
-abbrev pub IsAccepted : {S P : Type 0} → SourceWords S → World S P → Type 0
+abbrev pub IsAccepted : {S P : Type 0} → SourceWords S → World S S P → Type 0
 IsAccepted source old = source.tells → (d : directories.Directory) × (directory_of_bytes (source.left old.directory) ≡ Ok d)
 
 -- nothing was read of what stands beside the directory, and nothing was done with the station
-abbrev pub IsUnbegun : {S P : Type 0} → World S P → World S P → Type 0
+abbrev pub IsUnbegun : {S P : Type 0} → World S S P → World S S P → Type 0
 IsUnbegun old new = (new.capture ≡ old.capture) × (new.station ≡ old.station)
 
 -- the directory has this fault, and nothing else was read, and nothing said
-abbrev pub IsTurnedAway : {S P : Type 0} → SourceWords S → DirFault → World S P → World S P → Type 0
+abbrev pub IsTurnedAway : {S P : Type 0} → SourceWords S → DirFault → World S S P → World S S P → Type 0
 IsTurnedAway source fault old new = IsUnbegun old new × (source.tells → directory_of_bytes (source.left old.directory) ≡ Err fault)
 
 -- For each status, what it means: the file of the stream's messages was said on channel 0, with its end where the stream isn't bad.
-abbrev pub PackedAs : {S P : Type 0} → SourceWords S → StationWords P → Status → World S P → World S P → Type 0
+abbrev pub PackedAs : {S P : Type 0} → SourceWords S → StationWords P → Status → World S S P → World S S P → Type 0
 PackedAs source station Done old new =
     IsAccepted source old
     × (source.tells → (bad_in_stream (source.left old.capture) ≡ None)
@@ -59,7 +59,7 @@ PackedAs source station NoMemory old new = IsUnbegun old new
 PackedAs source station _ old new = ⊥
 
 -- Of the source of the directory no more is read than it may have and a byte, no count falls, and the files stay.
-pub record KeepsFiles {S P : Type 0} (source : SourceWords S) (station : StationWords P) (old new : World S P) : Type 0 where
+pub record KeepsFiles {S P : Type 0} (source : SourceWords S) (station : StationWords P) (old new : World S S P) : Type 0 where
   pub taken : source.tells → (taken : List ℕ) × (source.left old.directory ≡ taken ++ source.left new.directory)
       × (length taken ≤ LONGEST_DIRECTORY + 1)
   pub source_counts : (source.faults old.directory ≤ source.faults new.directory)
@@ -70,6 +70,6 @@ pub record KeepsFiles {S P : Type 0} (source : SourceWords S) (station : Station
 
 -- what its end means, and what holds of every run
 pub record PacksStream {S P : Type 0} (source : SourceWords S) (station : StationWords P) (status : Status)
-    (old new : World S P) : Type 0 where
+    (old new : World S S P) : Type 0 where
   pub means : PackedAs source station status old new
   pub keeps : KeepsFiles source station old new

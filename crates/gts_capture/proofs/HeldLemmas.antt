@@ -4,6 +4,7 @@ use Rattle.std.proofs.lemmas.List.{take-append-drop, drop-take, drop-drop, appen
 use Rattle.std.proofs.Math.Seq.{take-append-add, take-append_seam}
 use borrow.Rule.Slice.PartMut.{put_mid, post_of}
 use Rattle.gts_alphabet.specs.Digits.{dec}
+use Rattle.gts_connection.specs.declared.kind.CaptureKind.{CaptureKind}
 use Rattle.gts_connection.specs.Capture.{FeedHead, TakeHead, ReopenHead, DrainHead, RestartHead, CompactHead, EndHead, head_text}
 use Rattle.gts_connection.specs.Capture as capture
 use Rattle.gts_capture.specs.declared.head.Head.{Head}
@@ -38,8 +39,8 @@ filled a k n xs ys within few =
 
 -- ---- what is left
 
-pub begins_all : (circuits : ℕ) (plain : _) (ahead rest left : List ℕ) (head : Head) → BeginsWithHead circuits plain ahead head rest → ahead ++ left ≡ head_text (head_of head) ++ (rest ++ left)
-begins_all circuits plain ahead rest left head h = ap (λ (xs : List ℕ). xs ++ left) h.text ∙ append_assoc (head_text (head_of head)) rest left
+pub begins_all : (circuits : ℕ) (kind : CaptureKind) (ahead rest left : List ℕ) (head : Head) → BeginsWithHead circuits kind ahead head rest → ahead ++ left ≡ head_text (head_of head) ++ (rest ++ left)
+begins_all circuits kind ahead rest left head h = ap (λ (xs : List ℕ). xs ++ left) h.text ∙ append_assoc (head_text (head_of head)) rest left
 
 -- a head has at most 12 bytes
 longest_head : (h : capture.Head) → length (head_text h) ≤ 12
@@ -52,10 +53,10 @@ longest_head RestartHead = omega arith
 longest_head CompactHead = omega arith
 longest_head EndHead = omega arith
 
-pub part_is_short : (circuits : ℕ) (plain : _) (bytes : List ℕ) → IsPartIn circuits plain bytes → length bytes < 12
-part_is_short circuits plain bytes h = omega (arith, longest_head h.0, ap length h.4, length-append bytes (h.1 ∷ h.2))
+pub part_is_short : (circuits : ℕ) (kind : CaptureKind) (bytes : List ℕ) → IsPartIn circuits kind bytes → length bytes < 12
+part_is_short circuits kind bytes h = omega (arith, longest_head h.0, ap length h.4, length-append bytes (h.1 ∷ h.2))
 
-pub stop_is_bad : (held : Held) (left : List ℕ) (behind at : ℕ) → IsStop held.circuits held.plain held.ahead (Bad behind) → at ≡ counted_to (held.at + (length held.ahead - behind))
+pub stop_is_bad : (held : Held) (left : List ℕ) (behind at : ℕ) → IsStop held.circuits held.kind held.ahead (Bad behind) → at ≡ counted_to (held.at + (length held.ahead - behind))
     → IsBadAt held (held.ahead ++ left) at
 stop_is_bad held left behind at stop place =
     let front : List ℕ = stop.0 in
@@ -64,15 +65,15 @@ stop_is_bad held left behind at stop place =
     let good : length held.ahead - behind ≡ length front = omega (arith, ap length stop.3, length-append front rest, stop.4) in
     BadByte front stop.1 (stop.2 ++ left) stop.5 stop.6 text (place ∙ ap (λ (n : ℕ). counted_to (held.at + n)) good)
 
-pub stop_is_inside : (held : Held) (behind : ℕ) → IsStop held.circuits held.plain held.ahead (Bad behind) → behind ≤ length held.ahead
+pub stop_is_inside : (held : Held) (behind : ℕ) → IsStop held.circuits held.kind held.ahead (Bad behind) → behind ≤ length held.ahead
 stop_is_inside held behind stop = omega (arith, ap length stop.3, length-append stop.0 (stop.1 ∷ stop.2), stop.4)
 
-pub end_is_bad : (held : Held) (left : List ℕ) (at : ℕ) → IsPartIn held.circuits held.plain held.ahead → left ≡ [] → at ≡ counted_to (held.at + (length held.ahead - 0))
+pub end_is_bad : (held : Held) (left : List ℕ) (at : ℕ) → IsPartIn held.circuits held.kind held.ahead → left ≡ [] → at ≡ counted_to (held.at + (length held.ahead - 0))
     → IsBadAt held (held.ahead ++ left) at
 end_is_bad held left at part nothing place =
     let all : held.ahead ≡ held.ahead ++ left = sym (append-nil held.ahead) ∙ ap (λ (xs : List ℕ). held.ahead ++ xs) (sym nothing) in
     let count : length held.ahead - 0 ≡ length (held.ahead ++ left) = ap (λ (n : ℕ). n) (omega (arith, ap length all)) in
-    EndsInHead (subst (λ (xs : List ℕ). IsPartIn held.circuits held.plain xs) all part) (place ∙ ap (λ (n : ℕ). counted_to (held.at + n)) count)
+    EndsInHead (subst (λ (xs : List ℕ). IsPartIn held.circuits held.kind xs) all part) (place ∙ ap (λ (n : ℕ). counted_to (held.at + n)) count)
 
 -- what is bad stays bad at the same place, whatever of it was read ahead
 pub bad_since : (old now : Held) (text left : List ℕ) (at : ℕ) → now ≡ record old { ahead = now.ahead } → left ≡ text → IsBadAt now left at → IsBadAt old text at

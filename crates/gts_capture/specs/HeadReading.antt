@@ -1,9 +1,11 @@
 -- A head read from left to right: it is there, and leaves the bytes behind it; or the bytes end in it; or a byte can't
 -- stand in its place.
-use Rattle.std.specs.Prelude.{ℕ, zero, suc, ◌+◌, ◌-◌, ◌*◌, ◌/◌, Bool, not, ◌&&◌, ◌||◌, ◌==◌, nat_lt, List, [], ◌∷◌, length, Result, Ok, Err, if◌then◌else◌}
+use Rattle.std.specs.Prelude.{ℕ, zero, suc, ◌+◌, ◌-◌, ◌*◌, ◌/◌, Bool, ◌&&◌, ◌||◌, ◌==◌, nat_lt, List, [], ◌∷◌, length, Result, Ok, Err, if◌then◌else◌}
 use Rattle.std.specs.Char.{is_ascii_digit}
+use Rattle.gts_connection.specs.declared.kind.CaptureKind.{CaptureKind}
+use Rattle.gts_capture.specs.Heads.{has_journal}
 use Rattle.gts_capture.specs.declared.head.Head.{Head}
-use Rattle.gts_capture.specs.declared.head.Head.TheVariants.{Feed, Take, Reopen, Drain, Restart, End}
+use Rattle.gts_capture.specs.declared.head.Head.TheVariants.{Feed, Take, Reopen, Drain, Restart, Compact, End}
 use Rattle.gts_capture.specs.declared.head_cursor.Stop.{Stop}
 use Rattle.gts_capture.specs.declared.head_cursor.Stop.TheVariants.{More, Bad}
 
@@ -54,15 +56,15 @@ end_at head bytes = do
   lf ← byte_where (λ byte. byte == 10) bytes
   Ok (head, lf.1)
 
--- Some head begins with this byte. F, T, O and D (70, 84, 79 and 68) name a circuit; R (82) stands in no plain capture; E is
--- 69.
-abbrev pub is_letter : (circuits : ℕ) → (plain : Bool) → ℕ → Bool
-is_letter circuits plain byte =
+-- Some head begins with this byte. F, T, O and D (70, 84, 79 and 68) name a circuit; R and C (82 and 67) stand in no plain
+-- capture; E is 69.
+abbrev pub is_letter : (circuits : ℕ) → CaptureKind → ℕ → Bool
+is_letter circuits kind byte =
     (nat_lt 0 circuits && ((byte == 70) || (byte == 84) || (byte == 79) || (byte == 68)))
-    || (not plain && (byte == 82)) || (byte == 69)
+    || (has_journal kind && ((byte == 82) || (byte == 67))) || (byte == 69)
 
-abbrev pub letter_at : (circuits : ℕ) → (plain : Bool) → List ℕ → Result (ℕ × List ℕ) Stop
-letter_at circuits plain bytes = byte_where (is_letter circuits plain) bytes
+abbrev pub letter_at : (circuits : ℕ) → CaptureKind → List ℕ → Result (ℕ × List ℕ) Stop
+letter_at circuits kind bytes = byte_where (is_letter circuits kind) bytes
 
 -- what stands behind the first byte of a head
 unfoldable pub behind_letter : ℕ → ℕ × List ℕ → Result (Head × List ℕ) Stop
@@ -71,8 +73,9 @@ behind_letter circuits first =
     else if first.0 == 84 then circuit_at circuits first.1 >>= (λ c. end_at (Take c.0) c.1)
     else if first.0 == 79 then circuit_at circuits first.1 >>= (λ c. end_at (Reopen c.0) c.1)
     else if first.0 == 68 then circuit_at circuits first.1 >>= (λ c. end_at (Drain c.0) c.1)
-    else if first.0 == 82 then end_at Restart first.1 else end_at End first.1
+    else if first.0 == 82 then end_at Restart first.1
+    else if first.0 == 67 then end_at Compact first.1 else end_at End first.1
 
 -- a head at the front
-unfoldable pub head_at : (circuits : ℕ) → (plain : Bool) → List ℕ → Result (Head × List ℕ) Stop
-head_at circuits plain bytes = letter_at circuits plain bytes >>= behind_letter circuits
+unfoldable pub head_at : (circuits : ℕ) → CaptureKind → List ℕ → Result (Head × List ℕ) Stop
+head_at circuits kind bytes = letter_at circuits kind bytes >>= behind_letter circuits

@@ -1,5 +1,6 @@
 -- What a reader of a capture holds, and what its answers say.
-use Rattle.std.specs.Prelude.{◌≡◌, ℕ, ◌+◌, ◌-◌, ◌^◌, ◌<◌, ◌≤◌, min, Bool, List, [], ◌∷◌, ◌++◌, length, Result, Err}
+use Rattle.std.specs.Prelude.{◌≡◌, ℕ, ◌+◌, ◌-◌, ◌^◌, ◌<◌, ◌≤◌, min, List, [], ◌∷◌, ◌++◌, length, Result, Err}
+use Rattle.gts_connection.specs.declared.kind.CaptureKind.{CaptureKind}
 use Rattle.gts_connection.specs.Capture.{head_text}
 use Rattle.gts_traits.specs.Counts.{Rose}
 use Rattle.gts_capture.specs.declared.capture_fault.CaptureFault.{CaptureFault}
@@ -9,30 +10,30 @@ use Rattle.gts_capture.specs.declared.head_cursor.Stop.{Stop}
 use Rattle.gts_capture.specs.declared.head_cursor.Stop.TheVariants.{More, Bad}
 use Rattle.gts_capture.specs.Heads.{head_of, IsHeadIn, IsPartIn, IsFrontIn}
 
--- Of how many circuits the capture is; whether it is a plain one; the bytes that were read ahead; the place of the first of
+-- Of how many circuits the capture is, and of which kind; the bytes that were read ahead; the place of the first of
 -- these in the capture; and how many bytes of the last feed weren't taken yet.
 pub record Held : Type 0 where
   pub circuits : ℕ
-  pub plain : Bool
+  pub kind : CaptureKind
   pub ahead : List ℕ
   pub at : ℕ
   pub feed : ℕ
 
 -- before the first byte of a capture
-abbrev pub at_start : (circuits : ℕ) → (plain : Bool) → Held
-at_start circuits plain = record { circuits = circuits; plain = plain; ahead = []; at = 0; feed = 0 }
+abbrev pub at_start : (circuits : ℕ) → (kind : CaptureKind) → Held
+at_start circuits kind = record { circuits = circuits; kind = kind; ahead = []; at = 0; feed = 0 }
 
 -- a head stands at the front of these bytes, and these behind it
-pub record BeginsWithHead (circuits : ℕ) (plain : Bool) (bytes : List ℕ) (head : Head) (rest : List ℕ) : Type 0 where
-  pub valid : IsHeadIn circuits plain (head_of head)
+pub record BeginsWithHead (circuits : ℕ) (kind : CaptureKind) (bytes : List ℕ) (head : Head) (rest : List ℕ) : Type 0 where
+  pub valid : IsHeadIn circuits kind (head_of head)
   pub text : bytes ≡ head_text (head_of head) ++ rest
 
 -- why no head stands at the front of these bytes: they end in one, or so many are left from the first bad one on
-abbrev pub IsStop : (circuits : ℕ) → (plain : Bool) → List ℕ → Stop → Type 0
-IsStop circuits plain bytes More = IsPartIn circuits plain bytes
-IsStop circuits plain bytes (Bad left) =
+abbrev pub IsStop : (circuits : ℕ) → (kind : CaptureKind) → List ℕ → Stop → Type 0
+IsStop circuits kind bytes More = IsPartIn circuits kind bytes
+IsStop circuits kind bytes (Bad left) =
     (front : List ℕ) × (byte : ℕ) × (unread : List ℕ) × (bytes ≡ front ++ byte ∷ unread) × (left ≡ length (byte ∷ unread))
-    × IsPartIn circuits plain front × (IsFrontIn circuits plain (front ++ byte ∷ []) → ⊥)
+    × IsPartIn circuits kind front × (IsFrontIn circuits kind (front ++ byte ∷ []) → ⊥)
 
 -- a count of bytes, which stands still at its type's end
 abbrev pub counted_to : ℕ → ℕ
@@ -41,14 +42,14 @@ counted_to n = min n (2 ^ 64 - 1)
 -- of the same capture
 pub record IsSameCapture (old new : Held) : Type 0 where
   pub circuits : new.circuits ≡ old.circuits
-  pub plain : new.plain ≡ old.plain
+  pub kind : new.kind ≡ old.kind
 
 -- What is left is bad at a place: at the first byte that no capture has there, or where the bytes end in a head.
 pub data IsBadAt (held : Held) (left : List ℕ) (at : ℕ) : Type 0 where
-  BadByte : (front : List ℕ) (byte : ℕ) (unread : List ℕ) → IsPartIn held.circuits held.plain front
-      → (IsFrontIn held.circuits held.plain (front ++ byte ∷ []) → ⊥) → left ≡ front ++ byte ∷ unread
+  BadByte : (front : List ℕ) (byte : ℕ) (unread : List ℕ) → IsPartIn held.circuits held.kind front
+      → (IsFrontIn held.circuits held.kind (front ++ byte ∷ []) → ⊥) → left ≡ front ++ byte ∷ unread
       → at ≡ counted_to (held.at + length front) → IsBadAt held left at
-  EndsInHead : IsPartIn held.circuits held.plain left → at ≡ counted_to (held.at + length left) → IsBadAt held left at
+  EndsInHead : IsPartIn held.circuits held.kind left → at ≡ counted_to (held.at + length left) → IsBadAt held left at
 
 -- What is left ends in a feed: nothing is left of it, and bytes of it are still to come.
 pub record EndsInFeed (held : Held) (left : List ℕ) (at : ℕ) : Type 0 where
@@ -59,7 +60,7 @@ pub record EndsInFeed (held : Held) (left : List ℕ) (at : ℕ) : Type 0 where
 -- The source failed in a head: what is held is the beginning of one, and nothing else was taken from what is left.
 pub record StopsInHead (old new : Held) (before after : List ℕ) : Type 0 where
   pub kept : new.ahead ++ after ≡ old.ahead ++ before
-  pub begun : IsPartIn new.circuits new.plain new.ahead
+  pub begun : IsPartIn new.circuits new.kind new.ahead
   pub place : new.at ≡ old.at
 
 -- The source failed in a feed: nothing is held, and nothing was taken from what is left.

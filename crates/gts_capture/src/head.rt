@@ -11,6 +11,8 @@ pub enum Head {
     Drain { c: u32 },
     /// The switch is given up and its journal opened again; every circuit begins a new connection.
     Restart,
+    /// The journal is compacted.
+    Compact,
     /// The end: nothing behind it is read.
     End,
 }

@@ -5,6 +5,7 @@ ghost use Rattle.gts_capture.specs.HeadReading as reading;
 
 use crate::head::Head;
 use gts_alphabet::{BLANK, LF};
+use gts_connection::CaptureKind;
 use std::marker::Model;
 
 /// How many digits the number of a feed's bytes has.
@@ -19,17 +20,21 @@ pub(crate) enum Stop {
     Bad { left: usize },
 }
 
-/// Reads the head at the front, in a capture of so many circuits, and answers how many bytes it has.
-pub(crate) fn read_head(bytes: &[u8], circuits: u32, plain: bool) -> Result<(Head, usize), Stop>
+/// Reads the head at the front, in a capture of so many circuits and of this kind, and answers how many bytes it has.
+pub(crate) fn read_head(
+    bytes: &[u8],
+    circuits: u32,
+    kind: CaptureKind,
+) -> Result<(Head, usize), Stop>
     requires { circuits ≤ 100 }
     ensures head { IfOk result (λ read.
-        BeginsWithHead circuits plain bytes.now read.0 (drop read.1 bytes.now)) }
+        BeginsWithHead circuits kind bytes.now read.0 (drop read.1 bytes.now)) }
     ensures length { IfOk result (λ read. read.1 ≡ length (line_of read.0)) }
     ensures within { IfOk result (λ read. read.1 ≤ length bytes.now) }
-    ensures stop { IfErr result (IsStop circuits plain bytes.now) }
+    ensures stop { IfErr result (IsStop circuits kind bytes.now) }
 {
     let mut cursor = HeadCursor::new(bytes);
-    let head = cursor.head(circuits, plain)?;
+    let head = cursor.head(circuits, kind)?;
     Ok((head, bytes.len() - cursor.rest().len()))
 }
 
@@ -62,26 +67,26 @@ impl<'a> HeadCursor<'a> {
         self.rest
     }
 
-    /// Reads a head, in a capture of so many circuits; a plain one has no `R`.
+    /// Reads a head, in a capture of so many circuits and of this kind.
     #[tactic(auto, unfolding(crate::specs::HeadReading::head_at))]
-    pub(crate) fn head(&mut self, circuits: u32, plain: bool) -> Result<Head, Stop>
+    pub(crate) fn head(&mut self, circuits: u32, kind: CaptureKind) -> Result<Head, Stop>
         requires { circuits ≤ 100 }
         ensures { MatchResult result
-            (λ head. reading.head_at circuits plain self.old ≡ Ok (head, self.new))
-            (λ stop. reading.head_at circuits plain self.old ≡ Err stop) }
+            (λ head. reading.head_at circuits kind self.old ≡ Ok (head, self.new))
+            (λ stop. reading.head_at circuits kind self.old ≡ Err stop) }
     {
-        let letter = self.letter(circuits, plain)?;
+        let letter = self.letter(circuits, kind)?;
         self.behind_letter(circuits, letter)
     }
 
     /// Reads the first byte of a head.
-    fn letter(&mut self, circuits: u32, plain: bool) -> Result<u8, Stop>
+    fn letter(&mut self, circuits: u32, kind: CaptureKind) -> Result<u8, Stop>
         ensures { MatchResult result
-            (λ letter. reading.letter_at circuits plain self.old ≡ Ok (letter, self.new))
-            (λ stop. reading.letter_at circuits plain self.old ≡ Err stop) }
+            (λ letter. reading.letter_at circuits kind self.old ≡ Ok (letter, self.new))
+            (λ stop. reading.letter_at circuits kind self.old ≡ Err stop) }
     {
         let (letter, rest) = self.rest.split_first().ok_or(Stop::More)?;
-        if !is_letter(circuits, plain, *letter) {
+        if !is_letter(circuits, kind, *letter) {
             return Err(self.bad());
         }
         self.rest = rest;
@@ -114,6 +119,7 @@ impl<'a> HeadCursor<'a> {
                 c: self.circuit(circuits)?,
             },
             b'R' => Head::Restart,
+            b'C' => Head::Compact,
             _ => Head::End,
         };
         self.end(head)
@@ -208,12 +214,12 @@ impl<'a> HeadCursor<'a> {
 }
 
 /// Whether some head begins with this byte.
-fn is_letter(circuits: u32, plain: bool, byte: u8) -> bool
-    ensures { result ≡ reading.is_letter circuits plain byte }
+fn is_letter(circuits: u32, kind: CaptureKind, byte: u8) -> bool
+    ensures { result ≡ reading.is_letter circuits kind byte }
 {
     match byte {
         b'F' | b'T' | b'O' | b'D' => circuits > 0,
-        b'R' => !plain,
+        b'R' | b'C' => kind == CaptureKind::Journaled,
         _ => byte == b'E',
     }
 }

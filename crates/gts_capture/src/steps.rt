@@ -6,6 +6,7 @@ ghost use Rattle.gts_capture.specs.Held.{BeginsWithHead, IsStop, IsSameCapture, 
 use crate::capture_fault::CaptureFault;
 use crate::head::Head;
 use crate::head_cursor::{Stop, read_head};
+use gts_connection::CaptureKind;
 use gts_traits::{Failed, Source};
 use std::marker::Model;
 
@@ -17,7 +18,7 @@ const BUFFER: usize = 65_536;
 #[derive(Drop)]
 pub struct Steps {
     circuits: u32,
-    plain: bool,
+    kind: CaptureKind,
     buffer: [u8; BUFFER],
     start: usize,
     end: usize,
@@ -34,7 +35,7 @@ impl Model for Steps {
 
     ghost view = { λ s. record {
       circuits = s.circuits;
-      plain = s.plain;
+      kind = s.kind;
       at = s.at;
       feed = s.feed;
       ahead = take (s.end - s.start) (drop s.start s.buffer);
@@ -44,29 +45,14 @@ impl Model for Steps {
 }
 
 impl Steps {
-    /// A reader of a capture of so many circuits, before its first byte.
-    pub fn new(circuits: u32) -> Steps
+    /// A reader of a capture of so many circuits and of this kind, before its first byte.
+    pub fn new(circuits: u32, kind: CaptureKind) -> Steps
         requires { circuits ≤ 100 }
-        ensures { result ≡ at_start circuits false }
-    {
-        Steps::of(circuits, false)
-    }
-
-    /// The same for a plain capture, in which the switch is not opened again: `R` begins no head.
-    pub fn plain(circuits: u32) -> Steps
-        requires { circuits ≤ 100 }
-        ensures { result ≡ at_start circuits true }
-    {
-        Steps::of(circuits, true)
-    }
-
-    fn of(circuits: u32, plain: bool) -> Steps
-        requires { circuits ≤ 100 }
-        ensures { result ≡ at_start circuits plain }
+        ensures { result ≡ at_start circuits kind }
     {
         Steps {
             circuits,
-            plain,
+            kind,
             buffer: [0; BUFFER],
             start: 0,
             end: 0,
@@ -84,7 +70,7 @@ impl Steps {
         ensures told { S.tells → IfOk result (λ head. self.old.ahead ++ S.left source.old
             ≡ line_of head ++ (self.new.ahead ++ S.left source.new)) }
         ensures valid { IfOk result (λ head.
-            IsHeadIn self.old.circuits self.old.plain (head_of head)) }
+            IsHeadIn self.old.circuits self.old.kind (head_of head)) }
         ensures feed { IfOk result (λ head. self.new.feed ≡ bytes_announced (head_of head)) }
         ensures at { IfOk result (λ head.
             self.new.at ≡ counted_to (self.old.at + length (line_of head))) }
@@ -142,8 +128,8 @@ impl Steps {
     /// Reads the head at the front of what is held, and passes over it. Nothing changes where none stands there.
     fn held_head(&mut self) -> Result<Head, Stop>
         ensures head { IfOk result (λ head.
-            BeginsWithHead self.old.circuits self.old.plain self.old.ahead head self.new.ahead) }
-        ensures stop { IfErr result (IsStop self.old.circuits self.old.plain self.old.ahead) }
+            BeginsWithHead self.old.circuits self.old.kind self.old.ahead head self.new.ahead) }
+        ensures stop { IfErr result (IsStop self.old.circuits self.old.kind self.old.ahead) }
         ensures unchanged { OnErr result (self.new ≡ self.old) }
         ensures feed { IfOk result (λ head. self.new.feed ≡ bytes_announced (head_of head)) }
         ensures at { IfOk result (λ head.
@@ -151,7 +137,7 @@ impl Steps {
         ensures same { IsSameCapture self.old self.new }
     {
         let held = &self.buffer[self.start..self.end];
-        let (head, length) = read_head(held, self.circuits, self.plain)?;
+        let (head, length) = read_head(held, self.circuits, self.kind)?;
         self.start += length;
         self.at = self.at.saturating_add(length as u64);
         self.feed = announced(head);

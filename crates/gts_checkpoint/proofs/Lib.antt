@@ -8,3 +8,5 @@ pub mod NeedLemmas
 pub mod FrontLemmas
 pub mod ReadLemmas
 pub mod SealLemmas
+pub mod LooseLemmas
+pub mod DecodeLemmas

@@ -82,7 +82,7 @@ not_true : (b : Bool) → (b ≡ true → ⊥) → b ≡ false
 not_true true h = absurd (h refl)
 not_true false h = refl
 
-fit_bodies : (d : Directory) (accepted : ℕ) (bs : List Bulletin) → accepted ≤ 2 ^ 62 → list_all (is_bulletin d accepted) bs ≡ true → FitBodies bs
+pub fit_bodies : (d : Directory) (accepted : ℕ) (bs : List Bulletin) → accepted ≤ 2 ^ 62 → list_all (is_bulletin d accepted) bs ≡ true → FitBodies bs
 fit_bodies d accepted [] few all = tt
 fit_bodies d accepted (b ∷ bs) few all =
     let p = and_parts (is_bulletin d accepted b) (list_all (is_bulletin d accepted) bs) all in
@@ -197,16 +197,20 @@ can_begin v d n at w limit gate counts free sound gate_is room =
     }
 
 -- there is none, however it is counted
-pub no_room : (v : Version) (d : Directory) (bytes : List ℕ) (n : Need) (at w limit : ℕ) → Stands bytes (need_of n) → Counted d n at w limit
-    → limit < at + seal_size v + 1 + draw_size v * w → admits_checkpoint v d bytes (need_in bytes) ≡ false
-no_room v d bytes n at w limit stands counts over =
-    not_first v d bytes (need_of n) (need_read bytes (need_of n) stands.begins stands.fits stands.free) (λ sound room.
+pub over_limit : (v : Version) (d : Directory) (n : Need) (at w limit : ℕ) → Counted d n at w limit → limit < at + seal_size v + 1 + draw_size v * w
+    → is_sound d (need_of n) ≡ true → compacted_bytes v (need_of n) + draw_size v * due (begun (need_of n)) ≤ d.limit → ⊥
+over_limit v d n at w limit counts over sound room =
     let waits : ℕ = length (flat_map waiting_of n.circuits) in
     let some = times_some (seal_size v) waits in
     let there : draw_size v * due (begun (need_of n)) ≡ draw_size v * waits = ap (λ (k : ℕ). draw_size v * k) (due_is d n sound) in
     let exact : w ≡ waits = all_counted w waits counts.waits (omega (arith, some, there, room, counts.limit_is, counts.low)) in
     let same : draw_size v * w ≡ draw_size v * waits = ap (λ (k : ℕ). draw_size v * k) exact in
-    omega (arith, same, there, room, over, counts.limit_is, counts.place))
+    omega (arith, same, there, room, over, counts.limit_is, counts.place)
+
+pub no_room : (v : Version) (d : Directory) (bytes : List ℕ) (n : Need) (at w limit : ℕ) → Stands bytes (need_of n) → Counted d n at w limit
+    → limit < at + seal_size v + 1 + draw_size v * w → admits_checkpoint v d bytes (need_in bytes) ≡ false
+no_room v d bytes n at w limit stands counts over =
+    not_first v d bytes (need_of n) (need_read bytes (need_of n) stands.begins stands.fits stands.free) (over_limit v d n at w limit counts over)
 
 -- no history can have it
 pub not_sound : (v : Version) (d : Directory) (bytes : List ℕ) (n : needs.Need) → Stands bytes n → is_sound d n ≡ false → admits_checkpoint v d bytes (need_in bytes) ≡ false

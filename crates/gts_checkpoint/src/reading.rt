@@ -17,7 +17,7 @@ use gts_traits::{Failed, Station};
 use std::alloc::Global;
 
 /// The place of the record behind the header and the first gate.
-const FIRST_RECORD: u64 = 41;
+pub(crate) const FIRST_RECORD: u64 = 41;
 
 /// How many bytes of a checkpoint are read at once for its seal.
 const PIECE: usize = 4096;
@@ -53,7 +53,7 @@ fn front_in(bytes: &[u8]) -> Option<Front>
 
 /// The need whose checkpoint stands behind the header of a file, and the place behind it: whatever its numbers mean,
 /// its bytes are those of a checkpoint for so many circuits.
-fn need_at<P: Station>(
+pub(crate) fn need_at<P: Station>(
     alloc: Global,
     station: &mut P,
     file: u32,
@@ -103,7 +103,7 @@ fn need_at<P: Station>(
 }
 
 /// How many positions wait over all circuits, up to the greatest number.
-fn waiting(circuits: &[CircuitNeed]) -> u64
+pub(crate) fn waiting(circuits: &[CircuitNeed]) -> u64
     ensures { result ≡ min (length (flat_map waiting_of circuits.now)) (2 ^ 64 - 1) }
 {
     let mut waiting: u64 = 0;
@@ -115,7 +115,7 @@ fn waiting(circuits: &[CircuitNeed]) -> u64
 
 /// The place of the gate behind a checkpoint that ends at a place, where a journal up to a limit has room for the gate and for so
 /// many draws behind it.
-fn gate_behind(version: Version, at: u64, due: u64, limit: u64) -> Option<u64>
+pub(crate) fn gate_behind(version: Version, at: u64, due: u64, limit: u64) -> Option<u64>
     requires { limit ≤ 2 ^ 30 }
     ensures place { IfSome result (λ gate. gate ≡ at + seal_size version) }
     ensures room { IfSome result (λ gate. gate + 1 + draw_size version * due ≤ limit) }

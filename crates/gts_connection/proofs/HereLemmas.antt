@@ -13,7 +13,8 @@ use Rattle.gts_event.specs.declared.event.Entry.{Entry}
 use Rattle.gts_event.specs.History.{after_all}
 use Rattle.gts_event.specs.Need.{circuit_of_event, is_here}
 use Rattle.gts_connection.specs.Connection.{events_of, loss_of, connection, events_added}
-use Rattle.gts_connection.specs.Capture.{Step, Feed, Take, Reopen, Drain, Restart, Compact, IsHead, head_of, AreSteps, Connections, no_bytes, entries_of_step, after_step, entries_from, entries}
+use Rattle.gts_connection.specs.declared.kind.CaptureKind.{CaptureKind}
+use Rattle.gts_connection.specs.Capture.{Step, Feed, Take, Reopen, Drain, Restart, Compact, IsHeadOf, head_of, AreStepsOf, Connections, no_bytes, entries_of_step, after_step, entries_from, entries}
 use Rattle.gts_event.specs.Drain.{all_done}
 use Rattle.gts_connection.proofs.StreamLemmas.{connection-is}
 
@@ -50,26 +51,26 @@ done_here d [] h = refl
 done_here d (e ∷ es) h =
     let both = and_parts (below (length d.circuits) e) (list_all (below (length d.circuits)) es) h in and_from (below (length d.circuits) e) (list_all (is_here d) (all_done es)) both.0 (done_here d es both.1)
 
-step_here : (d : Directory) (s : State) (bs : Connections) (step : Step) → IsHead d (head_of step) → list_all (is_here d) (entries_of_step s bs step) ≡ true
-step_here d s bs (Feed c bytes) h =
+step_here : (kind : CaptureKind) (d : Directory) (s : State) (bs : Connections) (step : Step) → IsHeadOf kind d (head_of step) → list_all (is_here d) (entries_of_step s bs step) ≡ true
+step_here kind d s bs (Feed c bytes) h =
     let lt : nat_lt c (length d.circuits) ≡ true = lt-ltb c (length d.circuits) h.0 in
     let before : List ℕ = get_or bs c [] in
     done_here d (events_added c before bytes) (all_dropped (below (length d.circuits)) (length (connection c before)) (connection c (before ++ bytes)) (connection_below (length d.circuits) c (before ++ bytes) lt))
-step_here d s bs (Take c) h = and_from (nat_lt c (length d.circuits)) true (lt-ltb c (length d.circuits) h) refl
-step_here d s bs (Drain c) h =
+step_here kind d s bs (Take c) h = and_from (nat_lt c (length d.circuits)) true (lt-ltb c (length d.circuits) h) refl
+step_here kind d s bs (Drain c) h =
     let lt : nat_lt c (length d.circuits) ≡ true = lt-ltb c (length d.circuits) h in
     done_here d (replicate (left_to_give (on_circuit s c) + 1) (Taken c)) (all_repeated (below (length d.circuits)) (left_to_give (on_circuit s c) + 1) (Taken c) lt)
-step_here d s bs (Reopen c) h = refl
-step_here d s bs Restart h = refl
-step_here d s bs Compact h = refl
+step_here kind d s bs (Reopen c) h = refl
+step_here kind d s bs Restart h = refl
+step_here kind d s bs Compact h = refl
 
-steps_here : (d : Directory) (s : State) (bs : Connections) (steps : List Step) → AreSteps d steps → list_all (is_here d) (entries_from d s bs steps) ≡ true
-steps_here d s bs [] h = refl
-steps_here d s bs (step ∷ steps) h =
+steps_here : (kind : CaptureKind) (d : Directory) (s : State) (bs : Connections) (steps : List Step) → AreStepsOf kind d steps → list_all (is_here d) (entries_from d s bs steps) ≡ true
+steps_here kind d s bs [] h = refl
+steps_here kind d s bs (step ∷ steps) h =
     let added : List Entry = entries_of_step s bs step in
     let more : List Entry = entries_from d (after_all d s added) (after_step d bs step) steps in
     list_all-append (is_here d) added more
-    ∙ and_from (list_all (is_here d) added) (list_all (is_here d) more) (step_here d s bs step h.0) (steps_here d (after_all d s added) (after_step d bs step) steps h.1)
+    ∙ and_from (list_all (is_here d) added) (list_all (is_here d) more) (step_here kind d s bs step h.0) (steps_here kind d (after_all d s added) (after_step d bs step) steps h.1)
 
-pub entries_here : (d : Directory) (s : State) (steps : List Step) → AreSteps d steps → list_all (is_here d) (entries d s steps) ≡ true
-entries_here d s steps h = steps_here d s (no_bytes d) steps h
+pub entries_here : (kind : CaptureKind) (d : Directory) (s : State) (steps : List Step) → AreStepsOf kind d steps → list_all (is_here d) (entries d s steps) ≡ true
+entries_here kind d s steps h = steps_here kind d s (no_bytes d) steps h

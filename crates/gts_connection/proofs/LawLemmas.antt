@@ -5,6 +5,6 @@ pub use Rattle.gts_connection.proofs.StreamLemmas.{connection-is, connection-uni
 pub use Rattle.gts_connection.proofs.CutLemmas.{cuts_same}
 pub use Rattle.gts_connection.proofs.HeadLemmas.{shorter_front}
 pub use Rattle.gts_connection.proofs.ReadingLemmas.{reads, reads_once, early_is_none}
-pub use Rattle.gts_connection.proofs.StepsGoLemmas.{entries_go_on, connections_go_on, each_connection}
+pub use Rattle.gts_connection.proofs.StepsGoLemmas.{entries_go_on, connections_go_on, each_connection, compactions_go_on, compactions_between}
 pub use Rattle.gts_connection.proofs.HereLemmas.{entries_here}
 pub use Rattle.gts_connection.proofs.StepsLemmas.{connection-signs, added-signs}

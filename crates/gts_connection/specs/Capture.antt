@@ -8,6 +8,8 @@ use Rattle.gts_event.specs.declared.event.Event.TheVariants.{Taken}
 use Rattle.gts_event.specs.declared.event.Entry.{Entry}
 use Rattle.gts_event.specs.declared.event.Entry.TheVariants.{Done, Restarted}
 use Rattle.gts_event.specs.History.{after_all}
+use Rattle.gts_connection.specs.declared.kind.CaptureKind.{CaptureKind}
+use Rattle.gts_connection.specs.declared.kind.CaptureKind.TheVariants.{Journaled}
 use Rattle.gts_connection.specs.Connection.{events_added}
 use Rattle.gts_event.specs.Drain.{takes_of_drain, all_done}
 
@@ -41,15 +43,22 @@ head_text RestartHead = codes "R\n"
 head_text CompactHead = codes "C\n"
 head_text EndHead = codes "E\n"
 
--- A head names a circuit of the directory, and at most 999,999 bytes. No capture of this version compacts the journal.
+-- In a capture of so many circuits a head names one of them, and at most 999,999 bytes; a plain one has no `R` and no `C`.
+abbrev pub IsHeadIn : (circuits : ℕ) → CaptureKind → Head → Type 0
+IsHeadIn circuits kind (FeedHead circuit size) = (circuit < circuits) × (size ≤ 999999)
+IsHeadIn circuits kind (TakeHead circuit) = circuit < circuits
+IsHeadIn circuits kind (ReopenHead circuit) = circuit < circuits
+IsHeadIn circuits kind (DrainHead circuit) = circuit < circuits
+IsHeadIn circuits kind RestartHead = kind ≡ Journaled
+IsHeadIn circuits kind CompactHead = kind ≡ Journaled
+IsHeadIn circuits kind EndHead = Unit {0}
+
+-- under a directory, in a capture of this kind; and in one of a switch that keeps a journal
+abbrev pub IsHeadOf : CaptureKind → Directory → Head → Type 0
+IsHeadOf kind d head = IsHeadIn (length d.circuits) kind head
+
 abbrev pub IsHead : Directory → Head → Type 0
-IsHead d (FeedHead circuit size) = (circuit < length d.circuits) × (size ≤ 999999)
-IsHead d (TakeHead circuit) = circuit < length d.circuits
-IsHead d (ReopenHead circuit) = circuit < length d.circuits
-IsHead d (DrainHead circuit) = circuit < length d.circuits
-IsHead d RestartHead = Unit {0}
-IsHead d CompactHead = ⊥
-IsHead d EndHead = Unit {0}
+IsHead d head = IsHeadOf Journaled d head
 
 -- the head of a step
 abbrev pub head_of : Step → Head
@@ -70,45 +79,67 @@ abbrev pub step_text : Step → List ℕ
 step_text step = head_text (head_of step) ++ bytes_of_step step
 
 -- steps of a capture: each has a head that may stand there
+abbrev pub AreStepsOf : CaptureKind → Directory → List Step → Type 0
+AreStepsOf kind d steps = AllByRecursion (λ step. IsHeadOf kind d (head_of step)) steps
+
 abbrev pub AreSteps : Directory → List Step → Type 0
-AreSteps d steps = AllByRecursion (λ step. IsHead d (head_of step)) steps
+AreSteps d steps = AreStepsOf Journaled d steps
 
 -- some head begins with these bytes, and goes on behind them
-abbrev pub IsPartialHead : Directory → List ℕ → Type 0
-IsPartialHead d bytes = (head : Head) × (next : ℕ) × (more : List ℕ) × IsHead d head × (head_text head ≡ bytes ++ next ∷ more)
+abbrev pub IsPartIn : (circuits : ℕ) → CaptureKind → List ℕ → Type 0
+IsPartIn circuits kind bytes =
+    (head : Head) × (next : ℕ) × (more : List ℕ) × IsHeadIn circuits kind head × (head_text head ≡ bytes ++ next ∷ more)
 
 -- some head begins with these bytes
-abbrev pub IsHeadFront : Directory → List ℕ → Type 0
-IsHeadFront d bytes = (head : Head) × (more : List ℕ) × IsHead d head × (head_text head ≡ bytes ++ more)
+abbrev pub IsFrontIn : (circuits : ℕ) → CaptureKind → List ℕ → Type 0
+IsFrontIn circuits kind bytes = (head : Head) × (more : List ℕ) × IsHeadIn circuits kind head × (head_text head ≡ bytes ++ more)
+
+abbrev pub IsPartialHead : CaptureKind → Directory → List ℕ → Type 0
+IsPartialHead kind d bytes = IsPartIn (length d.circuits) kind bytes
+
+abbrev pub IsHeadFront : CaptureKind → Directory → List ℕ → Type 0
+IsHeadFront kind d bytes = IsFrontIn (length d.circuits) kind bytes
 
 -- What bytes are read as, and up to which place: steps through the end, behind which nothing is read; steps before the
 -- first byte that no capture has in its place, or before the end of bytes that end too early, in a head or in a feed.
-pub data Reading (d : Directory) (bytes : List ℕ) (steps : List Step) (at : ℕ) : Type 0 where
-  Whole : (unread : List ℕ) → AreSteps d steps → bytes ≡ flat_map step_text steps ++ head_text EndHead ++ unread
-      → at + length unread ≡ length bytes → Reading d bytes steps at
-  Bad : (front : List ℕ) (byte : ℕ) (unread : List ℕ) → AreSteps d steps → IsPartialHead d front → (IsHeadFront d (front ++ byte ∷ []) → ⊥)
-      → bytes ≡ flat_map step_text steps ++ front ++ byte ∷ unread → at + 1 + length unread ≡ length bytes → Reading d bytes steps at
-  EndsInHead : (front : List ℕ) → AreSteps d steps → IsPartialHead d front → bytes ≡ flat_map step_text steps ++ front
-      → at ≡ length bytes → Reading d bytes steps at
-  EndsInFeed : (before : List Step) (circuit size : ℕ) (piece : List ℕ) → AreSteps d before → IsHead d (FeedHead circuit size)
+pub data ReadingOf (kind : CaptureKind) (d : Directory) (bytes : List ℕ) (steps : List Step) (at : ℕ) : Type 0 where
+  Whole : (unread : List ℕ) → AreStepsOf kind d steps → bytes ≡ flat_map step_text steps ++ head_text EndHead ++ unread
+      → at + length unread ≡ length bytes → ReadingOf kind d bytes steps at
+  Bad : (front : List ℕ) (byte : ℕ) (unread : List ℕ) → AreStepsOf kind d steps → IsPartialHead kind d front
+      → (IsHeadFront kind d (front ++ byte ∷ []) → ⊥)
+      → bytes ≡ flat_map step_text steps ++ front ++ byte ∷ unread → at + 1 + length unread ≡ length bytes → ReadingOf kind d bytes steps at
+  EndsInHead : (front : List ℕ) → AreStepsOf kind d steps → IsPartialHead kind d front → bytes ≡ flat_map step_text steps ++ front
+      → at ≡ length bytes → ReadingOf kind d bytes steps at
+  EndsInFeed : (before : List Step) (circuit size : ℕ) (piece : List ℕ) → AreStepsOf kind d before → IsHeadOf kind d (FeedHead circuit size)
       → length piece < size
       → steps ≡ before ++ Feed circuit piece ∷ [] → bytes ≡ flat_map step_text before ++ head_text (FeedHead circuit size) ++ piece
-      → at ≡ length bytes → Reading d bytes steps at
+      → at ≡ length bytes → ReadingOf kind d bytes steps at
 
 -- the capture of these steps stands at the front of the bytes
-pub record IsWhole (d : Directory) (bytes : List ℕ) (steps : List Step) : Type 0 where
-  pub are : AreSteps d steps
+pub record IsWholeOf (kind : CaptureKind) (d : Directory) (bytes : List ℕ) (steps : List Step) : Type 0 where
+  pub are : AreStepsOf kind d steps
   pub unread : List ℕ
   pub text : bytes ≡ flat_map step_text steps ++ head_text EndHead ++ unread
 
 -- a reading that doesn't come to the end
-abbrev pub IsEarly : {d : Directory} {bytes : List ℕ} {steps : List Step} {at : ℕ} → Reading d bytes steps at → Type 0
+abbrev pub IsEarly : {kind : CaptureKind} {d : Directory} {bytes : List ℕ} {steps : List Step} {at : ℕ}
+    → ReadingOf kind d bytes steps at → Type 0
 IsEarly (Whole unread are text place) = ⊥
 IsEarly _ = Unit {0}
 
 -- the bytes are bad at this place, or end there too early
+abbrev pub EndsEarlyOf : CaptureKind → Directory → List ℕ → List Step → ℕ → Type 0
+EndsEarlyOf kind d bytes steps at = (read : ReadingOf kind d bytes steps at) × IsEarly read
+
+-- the same of the captures of a switch that keeps a journal
+abbrev pub Reading : Directory → List ℕ → List Step → ℕ → Type 0
+Reading d bytes steps at = ReadingOf Journaled d bytes steps at
+
+abbrev pub IsWhole : Directory → List ℕ → List Step → Type 0
+IsWhole d bytes steps = IsWholeOf Journaled d bytes steps
+
 abbrev pub EndsEarly : Directory → List ℕ → List Step → ℕ → Type 0
-EndsEarly d bytes steps at = (read : Reading d bytes steps at) × IsEarly read
+EndsEarly d bytes steps at = EndsEarlyOf Journaled d bytes steps at
 
 -- the bytes that each circuit's connection had so far
 abbrev pub Connections : Type 0
@@ -152,6 +183,22 @@ entries_from d s bs (step ∷ steps) =
 -- the entries of the steps of a whole capture
 abbrev pub entries : Directory → State → List Step → List Entry
 entries d s steps = entries_from d s (no_bytes d) steps
+
+-- how many entries there were at a step that compacts the journal; of any other step nothing
+abbrev pub count_at : ℕ → Step → List ℕ
+count_at n Compact = n ∷ []
+count_at n _ = []
+
+-- how many entries there were at each compaction of steps, behind so many entries
+abbrev pub compactions_from : Directory → State → Connections → ℕ → List Step → List ℕ
+compactions_from d s bs n [] = []
+compactions_from d s bs n (step ∷ steps) =
+    let added : List Entry = entries_of_step s bs step in
+    count_at n step ++ compactions_from d (after_all d s added) (after_step d bs step) (n + length added) steps
+
+-- how many entries there were at each compaction of the steps of a whole capture, which stands behind so many entries
+abbrev pub compactions : Directory → State → ℕ → List Step → List ℕ
+compactions d s n steps = compactions_from d s (no_bytes d) n steps
 
 -- a feed and a feed of the same circuit behind it are one
 abbrev pub join : Step → List Step → List Step

@@ -9,8 +9,9 @@ use Rattle.gts_event.specs.declared.event.Event.TheVariants.{Heard, Lost}
 use Rattle.gts_event.specs.declared.event.Entry.{Entry}
 use Rattle.gts_event.specs.declared.event.Entry.TheVariants.{Restarted}
 use Rattle.gts_event.specs.Worked.{two, report, message_text, frame_of, first, second, take_on, channel}
+use Rattle.gts_connection.specs.declared.kind.CaptureKind.TheVariants.{Plain}
 use Rattle.gts_connection.specs.Connection.{connection}
-use Rattle.gts_connection.specs.Capture.{Step, Feed, Take, Reopen, Drain, Restart, Compact, EndHead, head_text, step_text, entries, Reading}
+use Rattle.gts_connection.specs.Capture.{Step, Feed, Take, Reopen, Drain, Restart, Compact, EndHead, head_text, step_text, entries, compactions, Reading, ReadingOf}
 
 -- two frames
 abbrev pub frame_1 : List ℕ
@@ -83,6 +84,17 @@ RestartedConnections =
     ≡ first ∷ take_on 1 ∷ Restarted ∷ second ∷ take_on 1 ∷ take_on 1 ∷ take_on 1 ∷ [])
     × (entries_of (Feed 0 (take 20 frame_1) ∷ Compact ∷ Reopen 0 ∷ Feed 0 frame_1 ∷ []) ≡ first ∷ [])
     × (entries_of (Feed 0 (take 20 frame_1) ∷ Compact ∷ Feed 0 (drop 20 frame_1) ∷ []) ≡ first ∷ [])
+
+-- A compaction behind one entry, and two behind three: the restart is an entry, a compaction is none. Each is read as a step.
+abbrev pub CountedCompactions : Type 0
+CountedCompactions =
+    (compactions two (empty two) 0 (Feed 0 frame_1 ∷ Compact ∷ Take 1 ∷ Restart ∷ Compact ∷ Compact ∷ []) ≡ 1 ∷ 3 ∷ 3 ∷ [])
+    × Reading two (codes "C\nT 01\nC\nE\n") (Compact ∷ Take 1 ∷ Compact ∷ []) 11
+
+-- In a plain capture the head of a restart or of a compaction is bad at its first byte.
+abbrev pub PlainHeads : Type 0
+PlainHeads =
+    ReadingOf Plain two (codes "T 01\nR\nE\n") (Take 1 ∷ []) 5 × ReadingOf Plain two (codes "T 01\nC\nE\n") (Take 1 ∷ []) 5
 
 -- one bulletin and one draw
 abbrev pub steps_of_one_draw : List Step

@@ -1,9 +1,9 @@
 //! Laws over the definitions, each the contract of a function with an empty body.
 ghost use Rattle.std.specs.Prelude.{◌≡◌, ◌↔◌, ◌+◌, ◌≤◌, ◌++◌, [], ◌∷◌, ℕ, List, IsTrue, true, false, length};
-ghost use Rattle.std.specs.List.{list_any, list_all};
+ghost use Rattle.std.specs.List.{list_any, list_all, AllByRecursion};
 ghost use Rattle.gts_connection.specs.Words.{Kind, Directory, State, Event, Heard, frame, IsFramed, IsFront, IsStreamFront, is_front, is_here};
-ghost use Rattle.gts_connection.specs.Words.{IsConnection, connection, events_in, events_added, is_lost, Step, AreSteps, Reading, entries, joined};
-ghost use Rattle.gts_connection.specs.Words.{IsWhole, EndsEarly, entries_from, connections_after, no_bytes, after_all};
+ghost use Rattle.gts_connection.specs.Words.{IsConnection, connection, events_in, events_added, is_lost, CaptureKind, Step, AreSteps, AreStepsOf, ReadingOf, entries, joined};
+ghost use Rattle.gts_connection.specs.Words.{IsWholeOf, EndsEarlyOf, entries_from, compactions, compactions_from, Connections, connections_after, no_bytes, after_all};
 ghost use Rattle.gts_connection.specs.Words.{Decoding, ReadsOn, FrameStep, signs_in, signs_of_step, events_of_signs};
 
 /// A frame at the front of a connection is heard, and then what is behind it.
@@ -45,19 +45,21 @@ pub fn feeds_may_be_cut_anywhere()
         → entries d s steps ≡ entries d s others }
 {}
 
-/// Any bytes are read as a capture, up to some place, and in one way: two digits tell up to 100 circuits apart.
+/// Any bytes are read as a capture of either kind, up to some place, and in one way: two digits tell up to 100 circuits
+/// apart.
 pub fn a_capture_has_one_reading()
-    ensures some { (d : Directory) (bytes : List ℕ)
-        → (steps : List Step) × (at : ℕ) × Reading d bytes steps at }
-    ensures one { (d : Directory) (bytes : List ℕ) (steps others : List Step) (at place : ℕ)
-        → length d.circuits ≤ 100 → Reading d bytes steps at → Reading d bytes others place
-        → (steps ≡ others) × (at ≡ place) }
+    ensures some { (kind : CaptureKind) (d : Directory) (bytes : List ℕ)
+        → (steps : List Step) × (at : ℕ) × ReadingOf kind d bytes steps at }
+    ensures one { (kind : CaptureKind) (d : Directory) (bytes : List ℕ) (steps others : List Step)
+        (at place : ℕ) → length d.circuits ≤ 100 → ReadingOf kind d bytes steps at
+        → ReadingOf kind d bytes others place → (steps ≡ others) × (at ≡ place) }
 {}
 
 /// Bytes that are bad, or end too early, have no capture at their front.
 pub fn a_capture_that_ends_early_is_none()
-    ensures { (d : Directory) (bytes : List ℕ) (steps others : List Step) (at : ℕ)
-        → length d.circuits ≤ 100 → EndsEarly d bytes steps at → IsWhole d bytes others → ⊥ }
+    ensures { (kind : CaptureKind) (d : Directory) (bytes : List ℕ) (steps others : List Step)
+        (at : ℕ) → length d.circuits ≤ 100 → EndsEarlyOf kind d bytes steps at
+        → IsWholeOf kind d bytes others → ⊥ }
 {}
 
 /// The entries of more steps come behind those of the steps before, from the state and the connections that these leave.
@@ -72,10 +74,22 @@ pub fn steps_go_on()
         → length (connections_after d (no_bytes d) steps) ≡ length d.circuits }
 {}
 
+/// The compactions of more steps come behind those of the steps before, and each comes behind the entries of the steps
+/// before it: behind no fewer than there were at first, and no more than there are at last.
+pub fn compactions_go_on_with_the_entries()
+    ensures more { (d : Directory) (s : State) (n : ℕ) (steps more : List Step)
+        → let first = entries d s steps in let bs = connections_after d (no_bytes d) steps in
+        compactions d s n (steps ++ more) ≡ compactions d s n steps
+        ++ compactions_from d (after_all d s first) bs (n + length first) more }
+    ensures between { (d : Directory) (s : State) (bs : Connections) (n : ℕ) (steps : List Step)
+        → let all = length (entries_from d s bs steps) in
+        AllByRecursion (λ k. (n ≤ k) × (k ≤ n + all)) (compactions_from d s bs n steps) }
+{}
+
 /// What a capture does comes on circuits of the directory.
 pub fn a_capture_comes_on_circuits_of_the_directory()
-    ensures { (d : Directory) (s : State) (steps : List Step)
-        → AreSteps d steps → IsTrue (list_all (is_here d) (entries d s steps)) }
+    ensures { (kind : CaptureKind) (d : Directory) (s : State) (steps : List Step)
+        → AreStepsOf kind d steps → IsTrue (list_all (is_here d) (entries d s steps)) }
 {}
 
 /// The events of a connection are those of the signs that its bytes show, and each step of a decoder adds its own.

@@ -1,6 +1,6 @@
 //! Worked rows over literal bytes, each the contract of a function with an empty body.
-ghost use Rattle.gts_connection.specs.Worked.{ByteByByte, KeepAliveBetween, LossAndReopen, Losses, FramesBeforeLoss, DrainTakes, RestartedConnections, WholeCapture};
-ghost use Rattle.gts_connection.specs.Worked.{CutInFeed, CutInHead, BadByte};
+ghost use Rattle.gts_connection.specs.Worked.{ByteByByte, KeepAliveBetween, LossAndReopen, Losses, FramesBeforeLoss, DrainTakes, RestartedConnections, CountedCompactions, WholeCapture};
+ghost use Rattle.gts_connection.specs.Worked.{CutInFeed, CutInHead, BadByte, PlainHeads};
 
 /// A frame in pieces of one byte is heard as in one piece.
 pub fn a_frame_may_come_byte_by_byte()
@@ -37,6 +37,11 @@ pub fn a_restart_begins_each_connection_anew()
     ensures { RestartedConnections }
 {}
 
+/// Each compaction of a capture comes behind so many entries, and is read as a step.
+pub fn a_compaction_comes_behind_so_many_entries()
+    ensures { CountedCompactions }
+{}
+
 /// The text of a small capture, and how it is read.
 pub fn a_capture_is_read_through_its_end()
     ensures { WholeCapture }
@@ -55,4 +60,9 @@ pub fn a_capture_may_end_in_a_head()
 /// A capture with a wrong byte is read up to that byte.
 pub fn a_capture_may_have_a_bad_byte()
     ensures { BadByte }
+{}
+
+/// A capture that is about circuits alone is read up to a step of the journal.
+pub fn a_plain_capture_has_no_step_of_the_journal()
+    ensures { PlainHeads }
 {}

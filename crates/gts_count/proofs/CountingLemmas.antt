@@ -151,10 +151,10 @@ module _ (d : Directory) (s : State) (h : List Entry) where
   accepted_after old new c kind m (Some b) p n here is readies note noted counts =
       carried d s (after d s (Heard c kind m)) h (Done (Heard c kind m) ∷ []) old new noted.0
       (λ current f.
-        let same : b ≡ heard_of c m = let e = readies current kind p n is in cc in
-        follows_accepted d s old.numbers new.numbers c kind m p n here f is
-        (subst (λ (r : Recent). Notes old.numbers new.numbers r) same noted.1)
-        (sym (ap (λ (r : Recent). has_row old.numbers.rows r.key) same) ∙ note.0))
+      let same : b ≡ heard_of c m = let e = readies current kind p n is in cc in
+      follows_accepted d s old.numbers new.numbers c kind m p n here f is
+      (subst (λ (r : Recent). Notes old.numbers new.numbers r) same noted.1)
+      (sym (ap (λ (r : Recent). has_row old.numbers.rows r.key) same) ∙ note.0))
       counts
   accepted_after old new c kind m None p n here is readies note noted counts =
       subst (λ (x : Counting). Counts d (after d s (Heard c kind m)) (h ++ Done (Heard c kind m) ∷ []) x) (sym noted)

@@ -112,9 +112,10 @@ pub key_frame : (b : Bulletin) (w i : ℕ) → is_ok (body_at b.body) ≡ true �
 key_frame b w i good =
     let n : ℕ = number_in w i in
     let key = key_body b.body good in
-    let m : List ℕ = message_of (dec w n) b.body in
-    (omega (arith, key.0, length-frame b.kind m, length-append (dec w n ++ EOL) b.body, length-append (dec w n) EOL, length-dec w n),
-    ap (take 11) (body_in_frame b.kind w n b.body) ∙ key.1)
+    let m : List ℕ = message_of (dec w n) b.body in (
+      omega (arith, key.0, length-frame b.kind m, length-append (dec w n ++ EOL) b.body, length-append (dec w n) EOL, length-dec w n),
+      ap (take 11) (body_in_frame b.kind w n b.body) ∙ key.1,
+    )
 
 -- ---- the frame of a draw
 

@@ -172,16 +172,16 @@ window_whole d t held =
         let ps : List ℕ = positions_of t.accepted in
         both_same (has (filter near ps) q) (has (range_with_len (t.count - d.window) (min d.window t.count)) q)
         (λ there.
-          let both = and_both (has ps q) (near q) (sym (has_filtered near ps q) ∙ there) in
-          let low : q < t.count = ltb-true q t.count (list_all-has (λ p. nat_lt p t.count) ps q (positions_low d t.count t.accepted held.bodies) both.0) in
-          let high : t.count ≤ q + d.window = leb-true t.count (q + d.window) both.1 in
-          has_range (t.count - d.window) (min d.window t.count) q
-          ∙ ap (λ (b : Bool). nat_le (t.count - d.window) q && b) (lt-ltb q (t.count - d.window + min d.window t.count) (omega (arith, low, high)))
-          ∙ and_is (nat_le (t.count - d.window) q) true true (le-leb (t.count - d.window) q (omega (arith, low, high))))
+        let both = and_both (has ps q) (near q) (sym (has_filtered near ps q) ∙ there) in
+        let low : q < t.count = ltb-true q t.count (list_all-has (λ p. nat_lt p t.count) ps q (positions_low d t.count t.accepted held.bodies) both.0) in
+        let high : t.count ≤ q + d.window = leb-true t.count (q + d.window) both.1 in
+        has_range (t.count - d.window) (min d.window t.count) q
+        ∙ ap (λ (b : Bool). nat_le (t.count - d.window) q && b) (lt-ltb q (t.count - d.window + min d.window t.count) (omega (arith, low, high)))
+        ∙ and_is (nat_le (t.count - d.window) q) true true (le-leb (t.count - d.window) q (omega (arith, low, high))))
         (λ there.
-          let both = and_both (nat_le (t.count - d.window) q) (nat_lt q (t.count - d.window + min d.window t.count)) (sym (has_range (t.count - d.window) (min d.window t.count) q) ∙ there) in
-          let low = leb-true (t.count - d.window) q both.0 in
-          let high = ltb-true q (t.count - d.window + min d.window t.count) both.1 in
-          let below : q < t.count = omega (arith, low, high) in
-          let recent : t.count ≤ q + d.window = omega (arith, low, high) in
-          has_filtered near ps q ∙ ap (λ (b : Bool). b && near q) (held.recent q below recent) ∙ le-leb t.count (q + d.window) recent)
+        let both = and_both (nat_le (t.count - d.window) q) (nat_lt q (t.count - d.window + min d.window t.count)) (sym (has_range (t.count - d.window) (min d.window t.count) q) ∙ there) in
+        let low = leb-true (t.count - d.window) q both.0 in
+        let high = ltb-true q (t.count - d.window + min d.window t.count) both.1 in
+        let below : q < t.count = omega (arith, low, high) in
+        let recent : t.count ≤ q + d.window = omega (arith, low, high) in
+        has_filtered near ps q ∙ ap (λ (b : Bool). b && near q) (held.recent q below recent) ∙ le-leb t.count (q + d.window) recent)

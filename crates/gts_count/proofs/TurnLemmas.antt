@@ -38,7 +38,7 @@ module _ {O T : Type 0} (words : Standing O T) where
 
   pub counted_turn : (event : Event) (result : Result Outcome SwitchFault) (old new : Parts T) → IsTurn words event result old.switch new.switch
       → ((o : O) (h : List Entry) → words.stands o h old.switch → IsTold result (words.directory old.switch) (state_at words old.switch o h) event
-          → Counts (words.directory old.switch) (state_at words old.switch o h) h old.counting → GoesOn (words.directory old.switch) (state_at words old.switch o h) h event result new.counting)
+      → Counts (words.directory old.switch) (state_at words old.switch o h) h old.counting → GoesOn (words.directory old.switch) (state_at words old.switch o h) h event result new.counting)
       → IsTurn (counted_words words) event result old new
   counted_turn event result old new t goes = record {
     directory = t.directory;
@@ -57,9 +57,10 @@ module _ {O T : Type 0} (words : Standing O T) where
     adds = λ o h stood.
         let d : Directory = words.directory old.switch in
         let s : State = state_at words old.switch o h in
-        let entry : Entry = Idle (Heard c kind m) NoMemory in
-        (subst (λ (w : T). words.stands o (h ++ entry ∷ []) w) (sym same) (leave o h c kind m stood.0 (accepted d s h stood.1)),
-        behind o h (entry ∷ []) old new (ap words.directory same) (counts_more d s h (entry ∷ []) new.counting (keeps d s h stood.1)));
+        let entry : Entry = Idle (Heard c kind m) NoMemory in (
+          subst (λ (w : T). words.stands o (h ++ entry ∷ []) w) (sym same) (leave o h c kind m stood.0 (accepted d s h stood.1)),
+          behind o h (entry ∷ []) old new (ap words.directory same) (counts_more d s h (entry ∷ []) new.counting (keeps d s h stood.1)),
+        );
     outcome = λ o h stood answer e. absurd (cc e);
     caused = λ o h stood fault e.
         let d : Directory = words.directory old.switch in
@@ -70,19 +71,21 @@ module _ {O T : Type 0} (words : Standing O T) where
   }
 
   pub counted_leave : (now : Parts T) → MayLeave words now.switch → MayLeave (counted_words words) now
-  counted_leave now leave = λ o h c kind m stood accepted.
-      (leave o h c kind m stood.0 accepted,
-      behind o h (Idle (Heard c kind m) NoMemory ∷ []) now now refl (counts_more (words.directory now.switch) (state_at words now.switch o h) h (Idle (Heard c kind m) NoMemory ∷ []) now.counting stood.1))
+  counted_leave now leave = λ o h c kind m stood accepted. (
+    leave o h c kind m stood.0 accepted,
+    behind o h (Idle (Heard c kind m) NoMemory ∷ []) now now refl (counts_more (words.directory now.switch) (state_at words now.switch o h) h (Idle (Heard c kind m) NoMemory ∷ []) now.counting stood.1),
+  )
 
   pub counted_reopening : (tells : Type 0) (result : Result (Unit {0}) OpenFault) (old new : Parts T) → new.counting ≡ old.counting → IsReopening words tells result old.switch new.switch → IsReopening (counted_words words) tells result old new
   counted_reopening tells result old new same r = record {
     directory = r.directory;
     adds = λ o h stood.
         let d : Directory = words.directory old.switch in
-        let s : State = state_at words old.switch o h in
-        (r.adds o h stood.0,
-        behind o h (restart_of result) old new r.directory
-        (subst (λ (c : Counting). Counts d (after_all d s (restart_of result)) (h ++ restart_of result) c) (sym same) (counts_restarted d s h old.counting old.counting result stood.1)));
+        let s : State = state_at words old.switch o h in (
+          r.adds o h stood.0,
+          behind o h (restart_of result) old new r.directory
+              (subst (λ (c : Counting). Counts d (after_all d s (restart_of result)) (h ++ restart_of result) c) (sym same) (counts_restarted d s h old.counting old.counting result stood.1)),
+        );
     fault = λ told o h stood f e. r.fault told o h stood.0 f e;
   }
 

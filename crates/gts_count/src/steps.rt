@@ -6,8 +6,8 @@ ghost use Rattle.gts_turns.specs.Turns.{IsTurn, IsReopening, IsCompacting, Leave
 ghost use Rattle.gts_count.specs.Numbers.{IsSound};
 ghost use Rattle.gts_count.specs.Counted.{counted_words};
 
-use crate::counting::{note_heard, note_taken, ready};
 use crate::Parts;
+use crate::counting::{note_heard, note_taken, ready};
 use gts_alphabet::NoMemory;
 use gts_event::{Outcome, SwitchFault};
 use gts_frame::{FrameBuf, Kind, LostField};

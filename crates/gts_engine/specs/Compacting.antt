@@ -11,9 +11,8 @@ use Rattle.gts_event.specs.declared.fault.SwitchFault.{SwitchFault}
 use Rattle.gts_event.specs.declared.fault.SwitchFault.TheVariants.{DiskFault, Full, Stopped, NoMemory}
 use Rattle.gts_core.specs.Core.{Core, Holds}
 use Rattle.gts_journal.specs.Law.{OpensAsBefore}
-use Rattle.gts_record.specs.Format.{written}
-use Rattle.gts_opening.specs.Journal.{selected, compacted_bytes}
-use Rattle.gts_opening.specs.Room.{full_compacted}
+use Rattle.gts_opening.specs.Journal.{selected}
+use Rattle.gts_opening.specs.Room.{compacted_size, full_compacted}
 use Rattle.gts_checkpoint.specs.{checkpoint_file}
 use Rattle.gts_engine.specs.declared.mode.SayMode.{SayMode}
 use Rattle.gts_engine.specs.declared.parts.Parts.{Parts}
@@ -35,7 +34,7 @@ pub record IsCompaction {P : Type 0} (tells : Type 0) (calls : P → List Call)
 pub record IsRewritten (d : Directory) (s : State) (old new : List Call) (used : ℕ) : Type 0 where
   pub other : selected (seen new) ≢ selected (seen old)
   pub text : seen new (selected (seen new)) ≡ checkpoint_file d.mark (need d s)
-  pub size : used ≡ compacted_bytes written (need d s)
+  pub size : used ≡ compacted_size (need d s)
 
 -- The journal would be full after a compaction, and that is answered, with the bytes that are wanted up to the greatest number;
 -- or it would not be full. An engine that goes on isn't stopped.

@@ -1,11 +1,10 @@
 -- What the files open to, before and after an append.
-use Rattle.std.proofs.Common.{◌≡◌, ◌⊎◌, inl, inr, ℕ, zero, suc, ◌+◌, ◌-◌, ◌<◌, ◌≤◌, Bool, true, false, ◌&&◌, cond, List, [], ◌∷◌, ◌++◌, length, take, drop, Option, Some, None, Result, Ok, Err, refl, sym, ◌∙◌, ap, subst, arith, append_assoc, take-append-drop}
-use Rattle.std.specs.Prelude.{◌==◌, nat_eq, nat_lt, not, codes}
+use Rattle.std.proofs.Common.{◌≡◌, ◌⊎◌, inl, inr, ℕ, zero, suc, ◌+◌, ◌-◌, ◌<◌, ◌≤◌, Bool, true, false, cond, List, [], ◌∷◌, ◌++◌, length, take, drop, Option, Some, None, Result, Ok, Err, refl, sym, ◌∙◌, ap, subst, arith}
+use Rattle.std.specs.Prelude.{◌==◌, nat_eq, nat_lt, not}
 use Rattle.std.specs.List.{starts_with}
 use Rattle.std.specs.Cmp.Lexicographic.{pointwise}
 use Rattle.std.proofs.lemmas.Bool.{cases_eq}
-use Rattle.std.proofs.lemmas.List.{append-nil, drop_at, length-take}
-use Rattle.gts_journal.proofs.GateLemmas.{gate_at}
+use Rattle.std.proofs.lemmas.List.{append-nil}
 use Rattle.gts_traits.specs.Station.{Outside, Call, Says, Syncs, Tries, said_by, Files, seen, IsImage}
 use Rattle.gts_traits.specs.Moments.{EachSince}
 use Rattle.gts_traits.proofs.LawLemmas.{weaker, started, synced, said_is, synced_image, says_keeps}
@@ -16,10 +15,10 @@ use Rattle.gts_event.specs.Need.{Need, need}
 use Rattle.gts_record.specs.declared.version.Version.{Version}
 use Rattle.gts_record.specs.declared.fault.OpenFault.{OpenFault}
 use Rattle.gts_record.specs.declared.fault.OpenFault.TheVariants.{NoJournal, OldVersion, NotThis, Damaged}
-use Rattle.gts_record.specs.Record.{Record, Accept, Drew, open_gate, closed_gate, record_text, IsRecord}
+use Rattle.gts_record.specs.Record.{Record, open_gate, closed_gate, record_text}
 use Rattle.gts_record.specs.Format.{magic, seal, sealed_at, is_older, first_seal, record_size, written}
-use Rattle.gts_opening.specs.Journal.{IsClosed, agreeing, need_in, checkpoint_opens, behind_header, event_of_record, admits, Opened, Read, opened_of, records_at, file_opens, files_read, selected}
-use Rattle.gts_opening.proofs.LawLemmas.{far_enough, opens_same, opens_more}
+use Rattle.gts_opening.specs.Journal.{IsClosed, agreeing, need_in, checkpoint_opens, event_of_record, admits, Read, opened_of, records_at, file_opens, files_read, selected}
+use Rattle.gts_opening.proofs.LawLemmas.{opens_same, opens_more}
 use Rattle.gts_journal.specs.Hand.{InHand}
 use Rattle.gts_journal.specs.Standing.{EndsAt, StandsOn, file_of, front_of, next_seal, sealed_next, LeavesEither, LeavesBoth, HasAppended, selecting, entry_at, OnlySyncs}
 use Rattle.gts_journal.specs.Opening.{header_fault, is_checkpoint}

@@ -2,6 +2,7 @@
 //! the same crates as `gts_switch replay`. It takes no words and serves no circuits, so it is built in half the time.
 #![tactic(auto)]
 
+use gts_connection::CaptureKind;
 use gts_directory::Directory;
 use gts_dirfile::read_directory;
 use gts_engine::Engine;
@@ -36,7 +37,9 @@ fn is_done<S: Source, P: Station + Drop>(
         return false;
     };
     match Engine::open(alloc, station, directory) {
-        Ok(mut engine) => replay(alloc, &mut engine, capture) == ReplayEnd::Done,
+        Ok(mut engine) => {
+            replay(alloc, &mut engine, capture, CaptureKind::Journaled) == ReplayEnd::Done
+        },
         Err(_) => false,
     }
 }

@@ -7,7 +7,7 @@ use Rattle.gts_frame.specs.Decoder.{Decoding, ReadsOn, signs_of_step, fresh}
 use Rattle.gts_frame.specs.Signs.{held_in}
 use Rattle.gts_frame.specs.declared.step.Step.{Step as FrameStep}
 use Rattle.gts_connection.specs.Connection.{events_added}
-use Rattle.gts_connection.specs.Capture.{Feed, Take, Reopen, Drain, Restart, FeedHead, TakeHead, ReopenHead, DrainHead, RestartHead, no_bytes}
+use Rattle.gts_connection.specs.Capture.{Feed, Take, Reopen, Drain, Restart, Compact, FeedHead, TakeHead, ReopenHead, DrainHead, RestartHead, CompactHead, no_bytes}
 use Rattle.gts_connection.specs.Steps.{events_of_signs}
 use Rattle.gts_connection.proofs.LawLemmas.{added-twice, added-signs}
 use Rattle.gts_capture.specs.Held.{Held}
@@ -105,6 +105,17 @@ does_take tells c held left ds old none = record {
 pub does_drain : (tells : Type 0) (c : ℕ) (held : Held) (left : List ℕ) (ds : List Decoding) (old : Rings) → held.feed ≡ 0 → DoesAll tells (DrainHead c) held held left left ds ds old old
 does_drain tells c held left ds old none = record {
   step = Drain c;
+  of_head = refl;
+  taken = takes_none tells held left;
+  whole = none;
+  adds = λ bs e. adds_none old (λ e. []) (λ e. refl);
+  decode = λ d bs each e. e;
+  circuits = refl;
+}
+
+pub does_compact : (tells : Type 0) (held : Held) (left : List ℕ) (ds : List Decoding) (old : Rings) → held.feed ≡ 0 → DoesAll tells CompactHead held held left left ds ds old old
+does_compact tells held left ds old none = record {
+  step = Compact;
   of_head = refl;
   taken = takes_none tells held left;
   whole = none;

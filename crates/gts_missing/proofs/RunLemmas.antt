@@ -1,10 +1,11 @@
 -- Steps of a capture, one after another, and the numbers that they add.
-use Rattle.std.proofs.Common.{◌≡◌, ℕ, ◌+◌, ◌*◌, ◌-◌, ◌^◌, ◌<◌, ◌≤◌, false, List, [], ◌∷◌, ◌++◌, length, refl, sym, ap, subst, ◌∙◌, arith, append_assoc, length-append}
+use Rattle.std.proofs.Common.{◌≡◌, ℕ, ◌+◌, ◌*◌, ◌-◌, ◌^◌, ◌<◌, ◌≤◌, List, [], ◌∷◌, ◌++◌, length, refl, sym, ap, subst, ◌∙◌, arith, append_assoc, length-append}
 use Rattle.std.specs.List.{flat_map}
 use Rattle.std.proofs.lemmas.List.{append-nil}
 use Rattle.gts_alphabet.specs.Digits.{dec}
 use Rattle.gts_directory.specs.Directory.{Directory}
 use Rattle.gts_frame.specs.Decoder.{Decoding}
+use Rattle.gts_connection.specs.declared.kind.CaptureKind.TheVariants.{Journaled}
 use Rattle.gts_connection.specs.Capture.{Step, Feed, Head, FeedHead, TakeHead, ReopenHead, DrainHead, RestartHead, CompactHead, EndHead, head_text, head_of, bytes_of_step, step_text, IsHead, AreSteps, EndsEarly, Connections, no_bytes, after_step, connections_after}
 use Rattle.gts_connection.proofs.LawLemmas.{connections_go_on}
 use Rattle.gts_capture.specs.{IsHeadIn, bytes_announced, IsReadTo, IsBadAt, at_start, counted_to}
@@ -23,24 +24,24 @@ use Rattle.gts_missing.specs.Counting.{Rings, IsNew, StandFor, IsRead, IsCutAt, 
 -- stands behind them.
 pub record Runs (tells : Type 0) (d : Directory) (bytes : List ℕ) (steps : List Step) (held : Held) (left : List ℕ) (ds : List Decoding) (rings : Rings) : Type 0 where
   pub circuits : held.circuits ≡ length d.circuits
-  pub plain : held.plain ≡ false
+  pub of_kind : held.kind ≡ Journaled
   pub are : AreSteps d steps
-  pub read : IfTold tells bytes (IsReadTo d bytes steps held (held.ahead ++ left))
+  pub read : IfTold tells bytes (IsReadTo Journaled d bytes steps held (held.ahead ++ left))
   pub decoders : length ds ≡ length d.circuits
   pub decode : Decode ds (connections_after d (no_bytes d) steps)
   pub each : length rings ≡ length d.circuits
   pub stand : StandFor d steps rings
 
 pub runs_none : (tells : Type 0) (d : Directory) (bytes : List ℕ) (held : Held) (ds : List Decoding) (rings : Rings)
-    → held ≡ at_start (length rings) false → length ds ≡ length rings → IsNew d rings ds → Runs tells d bytes [] held bytes ds rings
+    → held ≡ at_start (length rings) Journaled → length ds ≡ length rings → IsNew d rings ds → Runs tells d bytes [] held bytes ds rings
 runs_none tells d bytes held ds rings is each new =
-    let here : held ≡ at_start (length d.circuits) false = is ∙ ap (λ (n : ℕ). at_start n false) new.circuits in
-    let P : Held → Type 0 = λ x. IsReadTo d bytes [] x (x.ahead ++ bytes) in
+    let here : held ≡ at_start (length d.circuits) Journaled = is ∙ ap (λ (n : ℕ). at_start n Journaled) new.circuits in
+    let P : Held → Type 0 = λ x. IsReadTo Journaled d bytes [] x (x.ahead ++ bytes) in
     record {
       circuits = ap (λ (x : Held). x.circuits) here;
-      plain = ap (λ (x : Held). x.plain) here;
+      of_kind = ap (λ (x : Held). x.kind) here;
       are = tt;
-      read = λ t small. subst P (sym here) (begins d bytes (at_start (length d.circuits) false) small refl);
+      read = λ t small. subst P (sym here) (begins Journaled d bytes (at_start (length d.circuits) Journaled) small refl);
       decoders = each ∙ new.circuits;
       decode = new.decode;
       each = new.circuits;
@@ -89,18 +90,18 @@ runs_more tells d bytes steps old mid new before left after ds ds_now rings ring
     let whole : head_of step ≡ head = step_whole head step does.of_head size in
     let small : mid.at < 2 ^ 64 = omega (arith, reads.at) in
     let place : new.at ≡ counted_to (mid.at + length x) = taken.at small in
-    let valid : IsHeadIn old.circuits old.plain (head_of step) = subst (λ (k : Head). IsHeadIn old.circuits old.plain k) (sym whole) reads.valid in
+    let valid : IsHeadIn old.circuits old.kind (head_of step) = subst (λ (k : Head). IsHeadIn old.circuits old.kind k) (sym whole) reads.valid in
     let long : length (step_text step) ≡ length (head_text head) + length x = length-append (head_text (head_of step)) x ∙ ap (λ (k : Head). length (head_text k) + length x) whole in
     record {
       circuits = taken.same.circuits ∙ reads.same.circuits ∙ runs.circuits;
-      plain = taken.same.plain ∙ reads.same.plain ∙ runs.plain;
-      are = are_more d steps step runs.are (head_here d old.circuits (head_of step) old.plain runs.circuits valid);
+      of_kind = taken.same.kind ∙ reads.same.kind ∙ runs.of_kind;
+      are = are_more d steps step runs.are (head_here Journaled d old.circuits (head_of step) old.kind runs.circuits runs.of_kind valid);
       read = λ t few.
           let text : old.ahead ++ before ≡ step_text step ++ (new.ahead ++ after) =
           reads.told t ∙ ap (λ (xs : List ℕ). head_text head ++ xs) (taken.told t) ∙ sym (append_assoc (head_text head) x (new.ahead ++ after))
           ∙ ap (λ (k : Head). head_text k ++ x ++ (new.ahead ++ after)) (sym whole) in
-          one_step d bytes (old.ahead ++ before) (new.ahead ++ after) steps step old new (runs.read t few) valid text
-          record { circuits = taken.same.circuits ∙ reads.same.circuits; plain = taken.same.plain ∙ reads.same.plain } (omega (arith, place, reads.at, long));
+          one_step Journaled d bytes (old.ahead ++ before) (new.ahead ++ after) steps step old new (runs.read t few) valid text
+          record { circuits = taken.same.circuits ∙ reads.same.circuits; kind = taken.same.kind ∙ reads.same.kind } (omega (arith, place, reads.at, long));
       decoders = does.circuits ∙ runs.decoders;
       decode = subst (λ cs. Decode ds_now cs) (sym (connections_go_on d steps (step ∷ []))) (does.decode d bs (sym runs.decoders) runs.decode);
       each = same ∙ runs.each;
@@ -124,11 +125,11 @@ ends_done tells d bytes steps old new before after ds rings runs told = record {
 
 pub ends_bad : (tells : Type 0) (d : Directory) (bytes : List ℕ) (steps : List Step) (old : Held) (before : List ℕ) (ds : List Decoding) (rings : Rings) (at : ℕ)
     → Runs tells d bytes steps old before ds rings → (tells → IsBadAt old (old.ahead ++ before) at) → IsCutAt tells d bytes at
-ends_bad tells d bytes steps old before ds rings at runs bad = λ t small. (steps, at_bad d bytes (old.ahead ++ before) steps old at (runs.read t small) (bad t))
+ends_bad tells d bytes steps old before ds rings at runs bad = λ t small. (steps, at_bad Journaled d bytes (old.ahead ++ before) steps old at (runs.read t small) (bad t))
 
 -- the bytes end in a step: it is a feed
 cut_in : (d : Directory) (bytes : List ℕ) (steps : List Step) (old mid : Held) (before left : List ℕ) (at : ℕ) (tells : Type 0) (head : Head) (step : Step) → tells
-    → IsReadTo d bytes steps old (old.ahead ++ before) → ReadsHead tells head old mid before left → IsHead d head → IsStepOf head step → EndsBehind tells (bytes_of_step step) at mid left
+    → IsReadTo Journaled d bytes steps old (old.ahead ++ before) → ReadsHead tells head old mid before left → IsHead d head → IsStepOf head step → EndsBehind tells (bytes_of_step step) at mid left
     → EndsEarly d bytes (steps ++ step ∷ []) at
 cut_in d bytes steps old mid before left at tells (FeedHead c n) step t read reads valid of ends =
     let x : List ℕ = of.0 in
@@ -136,7 +137,7 @@ cut_in d bytes steps old mid before left at tells (FeedHead c n) step t read rea
     let same : bytes_of_step step ≡ x = ap bytes_of_step feed in
     let all : old.ahead ++ before ≡ head_text (FeedHead c n) ++ x = reads.told t ∙ ap (λ (xs : List ℕ). head_text (FeedHead c n) ++ xs) (ends.all t ∙ same) in
     let short : length x < n = let s = ends.short t in omega (arith, s, ap length same, reads.feed) in
-    let found : EndsEarly d bytes (steps ++ Feed c x ∷ []) (length bytes) = in_feed d bytes (old.ahead ++ before) x steps old c n read valid short all in
+    let found : EndsEarly d bytes (steps ++ Feed c x ∷ []) (length bytes) = in_feed Journaled d bytes (old.ahead ++ before) x steps old c n read valid short all in
     let small : mid.at < 2 ^ 64 = omega (arith, reads.at) in
     let place = ends.place t small in
     let here : length bytes ≡ at =
@@ -164,7 +165,7 @@ pub ends_in_step : (tells : Type 0) (d : Directory) (bytes : List ℕ) (steps : 
     → Runs tells d bytes steps old before ds rings → ReadsHead tells head old mid before left → EndsInStep tells head at mid left → IsCutAt tells d bytes at
 ends_in_step tells d bytes steps old mid before left ds rings head at runs reads ends = λ t small. (
   steps ++ ends.step ∷ [],
-  cut_in d bytes steps old mid before left at tells head ends.step t (runs.read t small) reads (head_here d old.circuits head old.plain runs.circuits reads.valid) ends.of_head ends.ends,
+  cut_in d bytes steps old mid before left at tells head ends.step t (runs.read t small) reads (head_here Journaled d old.circuits head old.kind runs.circuits runs.of_kind reads.valid) ends.of_head ends.ends,
 )
 
 -- ---- more steps than can be

@@ -1,4 +1,4 @@
-ghost use Rattle.std.specs.Prelude.{◌≡◌, ◌<◌, ◌≤◌, List, length, false, Err};
+ghost use Rattle.std.specs.Prelude.{◌≡◌, ◌<◌, ◌≤◌, List, length, Err};
 ghost use Rattle.gts_directory.specs.Directory.{Directory as DirectoryFields};
 ghost use Rattle.gts_connection.specs.Capture.{no_bytes};
 ghost use Rattle.gts_capture.specs.{IsHeadIn, bytes_announced, head_of, at_start, HasSourceCause};
@@ -9,6 +9,7 @@ use crate::TableFault;
 use crate::decoders::{new_decoders, reopen_all};
 use crate::hearing::feed;
 use gts_capture::{CaptureFault, Head, Steps};
+use gts_connection::CaptureKind;
 use gts_directory::Directory;
 use gts_frame::Decoder;
 use gts_gap::GapTable;
@@ -23,7 +24,7 @@ fn do_step<S: Source>(
     capture: &mut S,
     head: Head,
 ) -> Result<(), CaptureFault>
-    requires valid { IsHeadIn (length table.old) false (head_of head) }
+    requires valid { IsHeadIn (length table.old) CaptureKind.Journaled (head_of head) }
     requires some { head ≡ Head.End → ⊥ }
     requires feed { steps.old.feed ≡ bytes_announced (head_of head) }
     requires decoders { length decoders.old ≡ length table.old }
@@ -41,6 +42,7 @@ fn do_step<S: Source>(
         Head::Restart => reopen_all(decoders),
         Head::Take { c: _ } => {}
         Head::Drain { c: _ } => {}
+        Head::Compact => {}
         Head::End => {}
     }
     Ok(())
@@ -53,7 +55,7 @@ fn run<S: Source>(
     steps: &mut Steps,
     capture: &mut S,
 ) -> Result<(), CaptureFault>
-    requires begins { steps.old ≡ at_start (length table.old) false }
+    requires begins { steps.old ≡ at_start (length table.old) CaptureKind.Journaled }
     requires few { length table.old ≤ 100 }
     requires decoders { length decoders.old ≡ length table.old }
     ensures comes { (d : DirectoryFields) → IsNew d table.old decoders.old
@@ -93,7 +95,7 @@ pub fn table_of<S: Source>(
     let Ok(mut decoders) = new_decoders(alloc, circuits) else {
         return Err(TableFault::NoMemory);
     };
-    let mut steps = Steps::new(circuits);
+    let mut steps = Steps::new(circuits, CaptureKind::Journaled);
     match run(&mut table, &mut decoders, &mut steps, capture) {
         Ok(()) => Ok(table),
         Err(CaptureFault::Bad { at }) => Err(TableFault::Capture { at }),

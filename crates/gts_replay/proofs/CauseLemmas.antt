@@ -25,6 +25,7 @@ caused_read {T} result fault d e s t a b c de st ab is cause = go fault is
       say_later = st;
       source_later = omega (arith, ab, cause.later);
       disk_failed = λ x. absurd (cc);
+      compaction_failed = λ x. absurd (cc);
       reopen_failed = λ x. absurd (cc);
       say_failed = λ x. absurd (cc);
       source_failed = λ x. absurd (cc);
@@ -34,6 +35,7 @@ caused_read {T} result fault d e s t a b c de st ab is cause = go fault is
       say_later = st;
       source_later = omega (arith, ab, cause.later);
       disk_failed = λ x. absurd (cc);
+      compaction_failed = λ x. absurd (cc);
       reopen_failed = λ x. absurd (cc);
       say_failed = λ x. absurd (cc);
       source_failed = λ x. rose_since a b c ab (cause.failed is);
@@ -52,22 +54,28 @@ caused_step {T} result fault d e f s t u a b c de st ab is cause = go fault (sub
     source : a ≤ c
     source = omega (arith, ab, cause.source_later)
 
-    none : (x : StepFault) → (end_of x ≡ end.Fault switch.DiskFault → Rose d f) → (end_of x ≡ end.Reopen opening.DiskFault → Rose d f) → (end_of x ≡ end.Fault switch.SayFault → Rose s u)
+    none : (x : StepFault) → (end_of x ≡ end.Fault switch.DiskFault → Rose d f) → (end_of x ≡ end.Compaction switch.DiskFault → Rose d f) → (end_of x ≡ end.Reopen opening.DiskFault → Rose d f) → (end_of x ≡ end.Fault switch.SayFault → Rose s u)
         → (end_of x ≡ end.SourceFault → Rose a c) → HasReplayCause (end_of x) d f s u a c
-    none x i j k l = record { disk_later = disk; say_later = say; source_later = source; disk_failed = i; reopen_failed = j; say_failed = k; source_failed = l }
+    none x i c j k l = record { disk_later = disk; say_later = say; source_later = source; disk_failed = i; compaction_failed = c; reopen_failed = j; say_failed = k; source_failed = l }
 
     go : (x : StepFault) → HasRunCause {T = T} (Err x) e f t u b c → HasReplayCause (end_of x) d f s u a c
-    go (step.Capture (Bad at)) w = none (step.Capture (Bad at)) (λ x. absurd (cc)) (λ x. absurd (cc)) (λ x. absurd (cc)) (λ x. absurd (cc))
-    go (step.Capture SourceFault) w = none (step.Capture SourceFault) (λ x. absurd (cc)) (λ x. absurd (cc)) (λ x. absurd (cc)) (λ x. rose_since a b c ab (w.source_failed refl))
-    go (step.Reopen opening.NoJournal) w = none (step.Reopen opening.NoJournal) (λ x. absurd (cc)) (λ x. absurd (cc)) (λ x. absurd (cc)) (λ x. absurd (cc))
-    go (step.Reopen opening.OldVersion) w = none (step.Reopen opening.OldVersion) (λ x. absurd (cc)) (λ x. absurd (cc)) (λ x. absurd (cc)) (λ x. absurd (cc))
-    go (step.Reopen (opening.NotThis want found)) w = none (step.Reopen (opening.NotThis want found)) (λ x. absurd (cc)) (λ x. absurd (cc)) (λ x. absurd (cc)) (λ x. absurd (cc))
-    go (step.Reopen (opening.Damaged file at)) w = none (step.Reopen (opening.Damaged file at)) (λ x. absurd (cc)) (λ x. absurd (cc)) (λ x. absurd (cc)) (λ x. absurd (cc))
-    go (step.Reopen opening.DiskFault) w = none (step.Reopen opening.DiskFault) (λ x. absurd (cc)) (λ x. rose_since d e f de (w.reopen_failed refl)) (λ x. absurd (cc)) (λ x. absurd (cc))
-    go (step.Reopen opening.NoMemory) w = none (step.Reopen opening.NoMemory) (λ x. absurd (cc)) (λ x. absurd (cc)) (λ x. absurd (cc)) (λ x. absurd (cc))
-    go (step.Switch switch.DiskFault) w = none (step.Switch switch.DiskFault) (λ x. rose_since d e f de (w.disk_failed refl)) (λ x. absurd (cc)) (λ x. absurd (cc)) (λ x. absurd (cc))
-    go (step.Switch switch.SayFault) w = none (step.Switch switch.SayFault) (λ x. absurd (cc)) (λ x. absurd (cc)) (λ x. rose_since s t u st (w.say_failed refl)) (λ x. absurd (cc))
-    go (step.Switch (switch.Full used need limit)) w = none (step.Switch (switch.Full used need limit)) (λ x. absurd (cc)) (λ x. absurd (cc)) (λ x. absurd (cc)) (λ x. absurd (cc))
-    go (step.Switch (switch.Stopped by)) w = none (step.Switch (switch.Stopped by)) (λ x. absurd (cc)) (λ x. absurd (cc)) (λ x. absurd (cc)) (λ x. absurd (cc))
-    go (step.Switch switch.Spent) w = none (step.Switch switch.Spent) (λ x. absurd (cc)) (λ x. absurd (cc)) (λ x. absurd (cc)) (λ x. absurd (cc))
-    go (step.Switch switch.NoMemory) w = none (step.Switch switch.NoMemory) (λ x. absurd (cc)) (λ x. absurd (cc)) (λ x. absurd (cc)) (λ x. absurd (cc))
+    go (step.Capture (Bad at)) w = none (step.Capture (Bad at)) (λ x. absurd (cc)) (λ x. absurd (cc)) (λ x. absurd (cc)) (λ x. absurd (cc)) (λ x. absurd (cc))
+    go (step.Capture SourceFault) w = none (step.Capture SourceFault) (λ x. absurd (cc)) (λ x. absurd (cc)) (λ x. absurd (cc)) (λ x. absurd (cc)) (λ x. rose_since a b c ab (w.source_failed refl))
+    go (step.Reopen opening.NoJournal) w = none (step.Reopen opening.NoJournal) (λ x. absurd (cc)) (λ x. absurd (cc)) (λ x. absurd (cc)) (λ x. absurd (cc)) (λ x. absurd (cc))
+    go (step.Reopen opening.OldVersion) w = none (step.Reopen opening.OldVersion) (λ x. absurd (cc)) (λ x. absurd (cc)) (λ x. absurd (cc)) (λ x. absurd (cc)) (λ x. absurd (cc))
+    go (step.Reopen (opening.NotThis want found)) w = none (step.Reopen (opening.NotThis want found)) (λ x. absurd (cc)) (λ x. absurd (cc)) (λ x. absurd (cc)) (λ x. absurd (cc)) (λ x. absurd (cc))
+    go (step.Reopen (opening.Damaged file at)) w = none (step.Reopen (opening.Damaged file at)) (λ x. absurd (cc)) (λ x. absurd (cc)) (λ x. absurd (cc)) (λ x. absurd (cc)) (λ x. absurd (cc))
+    go (step.Reopen opening.DiskFault) w = none (step.Reopen opening.DiskFault) (λ x. absurd (cc)) (λ x. absurd (cc)) (λ x. rose_since d e f de (w.reopen_failed refl)) (λ x. absurd (cc)) (λ x. absurd (cc))
+    go (step.Reopen opening.NoMemory) w = none (step.Reopen opening.NoMemory) (λ x. absurd (cc)) (λ x. absurd (cc)) (λ x. absurd (cc)) (λ x. absurd (cc)) (λ x. absurd (cc))
+    go (step.Compaction switch.DiskFault) w = none (step.Compaction switch.DiskFault) (λ x. absurd (cc)) (λ x. rose_since d e f de (w.compaction_failed refl)) (λ x. absurd (cc)) (λ x. absurd (cc)) (λ x. absurd (cc))
+    go (step.Compaction switch.SayFault) w = none (step.Compaction switch.SayFault) (λ x. absurd (cc)) (λ x. absurd (cc)) (λ x. absurd (cc)) (λ x. absurd (cc)) (λ x. absurd (cc))
+    go (step.Compaction (switch.Full used need limit)) w = none (step.Compaction (switch.Full used need limit)) (λ x. absurd (cc)) (λ x. absurd (cc)) (λ x. absurd (cc)) (λ x. absurd (cc)) (λ x. absurd (cc))
+    go (step.Compaction (switch.Stopped by)) w = none (step.Compaction (switch.Stopped by)) (λ x. absurd (cc)) (λ x. absurd (cc)) (λ x. absurd (cc)) (λ x. absurd (cc)) (λ x. absurd (cc))
+    go (step.Compaction switch.Spent) w = none (step.Compaction switch.Spent) (λ x. absurd (cc)) (λ x. absurd (cc)) (λ x. absurd (cc)) (λ x. absurd (cc)) (λ x. absurd (cc))
+    go (step.Compaction switch.NoMemory) w = none (step.Compaction switch.NoMemory) (λ x. absurd (cc)) (λ x. absurd (cc)) (λ x. absurd (cc)) (λ x. absurd (cc)) (λ x. absurd (cc))
+    go (step.Switch switch.DiskFault) w = none (step.Switch switch.DiskFault) (λ x. rose_since d e f de (w.disk_failed refl)) (λ x. absurd (cc)) (λ x. absurd (cc)) (λ x. absurd (cc)) (λ x. absurd (cc))
+    go (step.Switch switch.SayFault) w = none (step.Switch switch.SayFault) (λ x. absurd (cc)) (λ x. absurd (cc)) (λ x. absurd (cc)) (λ x. rose_since s t u st (w.say_failed refl)) (λ x. absurd (cc))
+    go (step.Switch (switch.Full used need limit)) w = none (step.Switch (switch.Full used need limit)) (λ x. absurd (cc)) (λ x. absurd (cc)) (λ x. absurd (cc)) (λ x. absurd (cc)) (λ x. absurd (cc))
+    go (step.Switch (switch.Stopped by)) w = none (step.Switch (switch.Stopped by)) (λ x. absurd (cc)) (λ x. absurd (cc)) (λ x. absurd (cc)) (λ x. absurd (cc)) (λ x. absurd (cc))
+    go (step.Switch switch.Spent) w = none (step.Switch switch.Spent) (λ x. absurd (cc)) (λ x. absurd (cc)) (λ x. absurd (cc)) (λ x. absurd (cc)) (λ x. absurd (cc))
+    go (step.Switch switch.NoMemory) w = none (step.Switch switch.NoMemory) (λ x. absurd (cc)) (λ x. absurd (cc)) (λ x. absurd (cc)) (λ x. absurd (cc)) (λ x. absurd (cc))

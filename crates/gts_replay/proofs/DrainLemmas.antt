@@ -188,7 +188,7 @@ drained_all words first now later o h c i result start same drained turn is =
 -- a take was answered with a fault
 pub drained_breaks : {O W : Type 0} (words : Standing O W) (first now later : W) (o : O) (h : List Entry) (c i : ℕ) (result : Result Outcome SwitchFault) (fault : SwitchFault)
     → Drained words first o h c i now → IsTurn words (Taken c) result now later → result ≡ Err fault
-    → BreaksOff words o h (all_done (takes_of_drain (state_at words first o h) c)) fault later
+    → BreaksOff words (λ _. o) h (all_done (takes_of_drain (state_at words first o h) c)) fault later
 drained_breaks words first now later o h c i result fault drained turn is =
     let before : List Entry = h ++ takes c i in
     let k : ℕ = left_to_give (on_circuit (state_at words first o before) c) in

@@ -77,7 +77,7 @@ fed_breaks words c old first bytes x rest step decoder next now later result r f
     let front : List Entry = all_done (events_added c before bytes) in
     let made : List Entry = all_done (events_of_signs c (signs_of_step step next.message)) in
     let behind : List Entry = all_done (events_added c ((before ++ bytes) ++ x) rest) in
-    let broken : BreaksOff words o (h ++ front) made fault later =
+    let broken : BreaksOff words (λ _. o) (h ++ front) made fault later =
     subst (λ (e : Result (Unit {0}) SwitchFault). Goes words o (h ++ front) made e later) is (goes o (h ++ front) (fed.adds before o h held stands)) in
     let all = then_goes words o h front (made ++ behind) (Err fault) later (breaks_before words o (h ++ front) made behind fault later broken) in
     let same : all_done (events_added c before (bytes ++ (x ++ rest))) ≡ front ++ (made ++ behind) =
@@ -104,13 +104,13 @@ fed_piece words c old first bytes piece decoder next now later fed held goes = r
 -- a piece broke off
 pub breaks_piece : {O W : Type 0} (words : Standing O W) (c : ℕ) (old : Decoding) (first : W) (bytes piece : List ℕ) (decoder : Decoding) (now later : W) (fault : SwitchFault)
     → IsFed words c old first bytes decoder now
-    → ((before : List ℕ) (o : O) (h : List Entry) → decoder.held ≡ held_in before → words.stands o h now → BreaksOff words o h (all_done (events_added c before piece)) fault later)
-    → (before : List ℕ) (o : O) (h : List Entry) → old.held ≡ held_in before → words.stands o h first → BreaksOff words o h (all_done (events_added c before (bytes ++ piece))) fault later
+    → ((before : List ℕ) (o : O) (h : List Entry) → decoder.held ≡ held_in before → words.stands o h now → BreaksOff words (λ _. o) h (all_done (events_added c before piece)) fault later)
+    → (before : List ℕ) (o : O) (h : List Entry) → old.held ≡ held_in before → words.stands o h first → BreaksOff words (λ _. o) h (all_done (events_added c before (bytes ++ piece))) fault later
 breaks_piece words c old first bytes piece decoder now later fault fed goes before o h is stands =
     let front : List Entry = all_done (events_added c before bytes) in
     let more = goes (before ++ bytes) o (h ++ front) (fed.held before is) (fed.adds before o h is stands) in
     let all = then_goes words o h front (all_done (events_added c (before ++ bytes) piece)) (Err fault) later more in
-    subst (λ (x : List Entry). BreaksOff words o h x fault later) (sym (done_twice c before bytes piece)) all
+    subst (λ (x : List Entry). BreaksOff words (λ _. o) h x fault later) (sym (done_twice c before bytes piece)) all
 
 -- a slice from a place on
 pub slice_from : (n : ℕ) (xs : List ℕ) → take (length xs - n) (drop n xs) ≡ drop n xs

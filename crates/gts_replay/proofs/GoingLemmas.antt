@@ -63,7 +63,7 @@ then_goes words o h xs ys (Err fault) now b =
 
 -- what would have come behind a fault doesn't matter
 pub breaks_before : {O W : Type 0} (words : Standing O W) (o : O) (h xs ys : List Entry) (fault : SwitchFault) (now : W)
-    → BreaksOff words o h xs fault now → BreaksOff words o h (xs ++ ys) fault now
+    → BreaksOff words (λ _. o) h xs fault now → BreaksOff words (λ _. o) h (xs ++ ys) fault now
 breaks_before words o h xs ys fault now b = record {
   front = b.front;
   event = b.event;

@@ -7,3 +7,4 @@ pub mod SureLemmas
 pub mod RunLemmas
 pub mod EndLemmas
 pub mod CauseLemmas
+pub mod OriginLemmas

@@ -5,22 +5,23 @@ use Rattle.gts_event.specs.declared.event.Event.TheVariants.{Taken}
 use Rattle.gts_event.specs.declared.event.Entry.{Entry}
 use Rattle.gts_event.specs.declared.outcome.Outcome.{Outcome}
 use Rattle.gts_event.specs.declared.fault.SwitchFault.{SwitchFault}
+use Rattle.gts_event.specs.declared.fault.SwitchFault.TheVariants as switch
 use Rattle.gts_event.specs.Drain.{all_done, takes_of_drain}
 use Rattle.gts_frame.specs.Decoder.{Decoding, fresh}
 use Rattle.gts_frame.specs.Signs.{held_in}
 use Rattle.gts_record.specs.declared.fault.OpenFault.{OpenFault}
-use Rattle.gts_connection.specs.Capture.{Feed, Take, Reopen, Drain, Restart, FeedHead, TakeHead, ReopenHead, DrainHead, RestartHead, Connections, no_bytes}
+use Rattle.gts_connection.specs.Capture.{Feed, Take, Reopen, Drain, Restart, Compact, FeedHead, TakeHead, ReopenHead, DrainHead, RestartHead, CompactHead, Connections, no_bytes}
 use Rattle.gts_capture.specs.Held.{Held, IsSameCapture, EndsInFeed, StopsInFeed, counted_to}
-use Rattle.gts_turns.specs.{Standing, IsTurn, IsReopening, entry_of, restart_of}
+use Rattle.gts_turns.specs.{Standing, IsTurn, IsReopening, IsCompacting, entry_of, restart_of}
 use Rattle.gts_replay.specs.declared.fault.StepFault.{StepFault}
 use Rattle.gts_replay.specs.declared.fault.StepFault.TheVariants as step
-use Rattle.gts_replay.specs.Going.{StandsFor, state_at, BreaksOff, Decode}
+use Rattle.gts_replay.specs.Going.{StandsFor, state_at, BreaksOff, Remains, Decode}
 use Rattle.gts_replay.specs.Ending.{Takes, EndsBehind, StopsBehind, TakesNoMore, Feeds, DoesStep}
 use Rattle.gts_replay.proofs.GoingLemmas.{one_breaks}
 use Rattle.gts_replay.proofs.DecoderLemmas.{decode_at, decode_set, decode_reopened}
 
 same_capture : (held : Held) → IsSameCapture held held
-same_capture held = record { circuits = refl; plain = refl }
+same_capture held = record { circuits = refl; kind = refl }
 
 -- ---- a feed's bytes, piece by piece
 
@@ -34,7 +35,7 @@ takes_more tells bytes piece old now new before left after taken told feed place
   told = λ t. taken.told t ∙ ap (λ (xs : List ℕ). bytes ++ xs) (told t) ∙ sym (append_assoc bytes piece (new.ahead ++ after));
   feed = omega (arith, feed, taken.feed, length-append bytes piece);
   at = λ small. let first = taken.at small in omega (arith, place, first, length-append bytes piece);
-  same = record { circuits = same.circuits ∙ taken.same.circuits; plain = same.plain ∙ taken.same.plain };
+  same = record { circuits = same.circuits ∙ taken.same.circuits; kind = same.kind ∙ taken.same.kind };
 }
 
 -- the bytes end in the feed
@@ -77,6 +78,7 @@ does_take words station tells c held left ds old new result answer turn is none 
   taken = (takes_none tells held left, none);
   went = λ bs o h decode start. subst (λ (r : Result Outcome SwitchFault). words.stands o (h ++ entry_of (Taken c) r) new) is (turn.adds o h start.stands);
   decode = λ bs e. e;
+  begins = λ o h. refl;
 }
 
 pub fails_take : {O W : Type 0} (words : Standing O W) (station tells : Type 0) (c : ℕ) (held : Held) (left : List ℕ) (ds : List Decoding) (old new : W) (result : Result Outcome SwitchFault) (fault : SwitchFault)
@@ -87,6 +89,7 @@ fails_take words station tells c held left ds old new result fault turn is = rec
   taken = nothing_taken tells held left;
   went = λ bs o h decode start. one_breaks words (Taken c) result fault (Err fault) old new turn is refl o h start.stands;
   decode = λ bs e. tt;
+  begins = λ o h. tt;
 }
 
 pub does_drain : {O W : Type 0} (words : Standing O W) (station tells : Type 0) (c : ℕ) (held : Held) (left : List ℕ) (ds : List Decoding) (old new : W)
@@ -98,10 +101,11 @@ does_drain words station tells c held left ds old new goes none = record {
   taken = (takes_none tells held left, none);
   went = λ bs o h decode start. goes o h start;
   decode = λ bs e. e;
+  begins = λ o h. refl;
 }
 
 pub fails_drain : {O W : Type 0} (words : Standing O W) (station tells : Type 0) (c : ℕ) (held : Held) (left : List ℕ) (ds : List Decoding) (old new : W) (fault : SwitchFault)
-    → ((o : O) (h : List Entry) → StandsFor words o h old → BreaksOff words o h (all_done (takes_of_drain (state_at words old o h) c)) fault new)
+    → ((o : O) (h : List Entry) → StandsFor words o h old → BreaksOff words (λ _. o) h (all_done (takes_of_drain (state_at words old o h) c)) fault new)
     → DoesStep words station tells (DrainHead c) (Err (step.Switch fault)) held held left left ds ds old new
 fails_drain words station tells c held left ds old new fault goes = record {
   step = Drain c;
@@ -109,6 +113,7 @@ fails_drain words station tells c held left ds old new fault goes = record {
   taken = nothing_taken tells held left;
   went = λ bs o h decode start. goes o h start;
   decode = λ bs e. tt;
+  begins = λ o h. tt;
 }
 
 pub does_reopen : {O W : Type 0} (words : Standing O W) (station tells : Type 0) (c : ℕ) (held : Held) (left : List ℕ) (ds : List Decoding) (next : Decoding) (old : W)
@@ -119,6 +124,7 @@ does_reopen words station tells c held left ds next old is none = record {
   taken = (takes_none tells held left, none);
   went = λ bs o h decode start. subst (λ (x : List Entry). words.stands o x old) (sym (append-nil h)) start.stands;
   decode = λ bs e. decode_set ds bs c next [] e (ap (λ (d : Decoding). d.held) is);
+  begins = λ o h. refl;
 }
 
 pub does_restart : {O W : Type 0} (words : Standing O W) (station tells : Type 0) (held : Held) (left : List ℕ) (ds ds_now : List Decoding) (old new : W) (result : Result (Unit {0}) OpenFault) (u : Unit {0})
@@ -130,6 +136,7 @@ does_restart words station tells held left ds ds_now old new result u reopening 
   taken = (takes_none tells held left, none);
   went = λ bs o h decode start. subst (λ (r : Result (Unit {0}) OpenFault). words.stands o (h ++ restart_of r) new) is (reopening.adds o h start.stands);
   decode = λ bs e. subst (λ (xs : List Decoding). Decode xs (no_bytes (words.directory old))) (sym anew) (decode_reopened ds (words.directory old) each);
+  begins = λ o h. refl;
 }
 
 pub fails_restart : {O W : Type 0} (words : Standing O W) (station tells : Type 0) (held : Held) (left : List ℕ) (ds : List Decoding) (old new : W) (result : Result (Unit {0}) OpenFault) (fault : OpenFault)
@@ -138,15 +145,49 @@ fails_restart words station tells held left ds old new result fault reopening is
   step = Restart;
   of_head = refl;
   taken = nothing_taken tells held left;
-  went = λ bs o h decode start. record {
-    front = [];
-    behind = [];
-    parts = refl;
-    stands = subst (λ (r : Result (Unit {0}) OpenFault). words.stands o (h ++ restart_of r) new) is (reopening.adds o h start.stands);
-    fault_is = λ t. reopening.fault t o h start.stands fault is;
-  };
+  went = λ bs o h decode start. (
+    refl,
+    record {
+      front = [];
+      behind = [];
+      parts = refl;
+      stands = subst (λ (r : Result (Unit {0}) OpenFault). words.stands o (h ++ restart_of r) new) is (reopening.adds o h start.stands);
+      fault_is = λ t. reopening.fault t o h start.stands fault is;
+    },
+  );
   decode = λ bs e. tt;
+  begins = λ o h. tt;
 }
+
+pub does_compact : {O W : Type 0} (words : Standing O W) (station tells : Type 0) (held : Held) (left : List ℕ) (ds : List Decoding) (old new : W) (result : Result (Unit {0}) SwitchFault) (u : Unit {0})
+    → IsCompacting words result old new → result ≡ Ok u → held.feed ≡ 0 → DoesStep words station tells CompactHead (Ok tt) held held left left ds ds old new
+does_compact words station tells held left ds old new result u compacting is none = record {
+  step = Compact;
+  of_head = refl;
+  taken = (takes_none tells held left, none);
+  went = λ bs o h decode start. subst (λ (x : List Entry). words.stands (words.compacts o h) x new) (sym (append-nil h)) (compacting.done o h start.stands is);
+  decode = λ bs e. e;
+  begins = λ o h. compacting.begins o h;
+}
+
+pub fails_compact : {O W : Type 0} (words : Standing O W) (station tells : Type 0) (held : Held) (left : List ℕ) (ds : List Decoding) (old new : W) (result : Result (Unit {0}) SwitchFault) (fault : SwitchFault)
+    → IsCompacting words result old new → result ≡ Err fault → DoesStep words station tells CompactHead (Err (step.Compaction fault)) held held left left ds ds old new
+fails_compact {O} {W} words station tells held left ds old new result fault compacting is = record {
+  step = Compact;
+  of_head = refl;
+  taken = nothing_taken tells held left;
+  went = λ bs o h decode start. record { at_step = refl; remains = remains o h start.stands fault is; cause = compacting.caused o h start.stands fault is };
+  decode = λ bs e. tt;
+  begins = λ o h. tt;
+}
+  where
+    remains : (o : O) (h : List Entry) → words.stands o h old → (f : SwitchFault) → result ≡ Err f → Remains words o h f new
+    remains o h stands switch.DiskFault e = compacting.left o h stands e
+    remains o h stands switch.SayFault e = compacting.idle o h stands switch.SayFault e tt
+    remains o h stands (switch.Full used need limit) e = compacting.idle o h stands (switch.Full used need limit) e tt
+    remains o h stands (switch.Stopped by) e = compacting.idle o h stands (switch.Stopped by) e tt
+    remains o h stands switch.Spent e = compacting.idle o h stands switch.Spent e tt
+    remains o h stands switch.NoMemory e = compacting.idle o h stands switch.NoMemory e tt
 
 pub does_feed : {O W : Type 0} (words : Standing O W) (station tells : Type 0) (c n : ℕ) (result : Result (Unit {0}) StepFault) (held held_now : Held) (left left_now : List ℕ)
     (ds : List Decoding) (x next : Decoding) (old new : W) → c < length ds → Feeds words tells c result held held_now left left_now (get_or ds c x) next old new
@@ -164,6 +205,7 @@ does_feed words station tells c n result held held_now left left_now ds x next o
       taken = f.taken;
       went = λ bs o h e start. f.fed.adds (get_or bs c []) o h (holds bs e) start.stands;
       decode = λ bs e. decode_set ds bs c next (get_or bs c [] ++ f.bytes) e (f.fed.held (get_or bs c []) (holds bs e));
+      begins = λ o h. refl;
     }
     go (Err (step.Capture fault)) f = record {
       step = Feed c f.bytes;
@@ -171,6 +213,7 @@ does_feed words station tells c n result held held_now left left_now ds x next o
       taken = f.taken;
       went = λ bs o h e start. f.fed.adds (get_or bs c []) o h (holds bs e) start.stands;
       decode = λ bs e. tt;
+      begins = λ o h. tt;
     }
     go (Err (step.Switch fault)) f = record {
       step = Feed c f.bytes;
@@ -178,5 +221,7 @@ does_feed words station tells c n result held held_now left left_now ds x next o
       taken = f.taken;
       went = λ bs o h e start. f.fed (get_or bs c []) o h (holds bs e) start.stands;
       decode = λ bs e. tt;
+      begins = λ o h. tt;
     }
     go (Err (step.Reopen fault)) f = absurd f.fed
+    go (Err (step.Compaction fault)) f = absurd f.fed

@@ -12,7 +12,7 @@ use Rattle.gts_event.specs.declared.fault.SwitchFault.TheVariants.{DiskFault, Sa
 use Rattle.gts_event.specs.declared.outcome.Outcome.{Outcome}
 use Rattle.gts_event.specs.Drain.{all_done}
 use Rattle.gts_connection.specs.Capture.{Step, Feed, Take, Reopen, Drain, Restart, Compact, Connections, entries_of_step, after_step, entries_from}
-use Rattle.gts_turns.specs.{IsCause}
+use Rattle.gts_turns.specs.{IsCause, IsCompactCause}
 use Rattle.gts_replay.specs.Replay.{StoppedBefore}
 
 -- an entry was done, or is an opening
@@ -71,3 +71,12 @@ stopped_before IsFull h front o SayFault sure cause = tt
 stopped_before IsFull h front o (Full used need limit) sure cause = tt
 stopped_before IsFull h front o Spent sure cause = tt
 stopped_before IsFull h front o NoMemory sure cause = tt
+
+pub uncompacted_before : (IsFull : SwitchFault → Type 0) (h front : List Entry) (fault : SwitchFault) → AllSure front → IsCompactCause IsFull (h ++ front) fault → StoppedBefore h fault
+uncompacted_before IsFull h front (Stopped Disk) sure cause = let w = unsure_before (Doubt cause.1) (λ none. none) h front cause.0 cause.2 sure cause.3 in (w.0, cause.1, w.1, w.2)
+uncompacted_before IsFull h front (Stopped Say) sure cause = let w = unsure_before (Unsaid cause.1) (λ none. none) h front cause.0 cause.2 sure cause.3 in (w.0, cause.1, w.1, w.2)
+uncompacted_before IsFull h front DiskFault sure cause = tt
+uncompacted_before IsFull h front SayFault sure cause = tt
+uncompacted_before IsFull h front (Full used need limit) sure cause = tt
+uncompacted_before IsFull h front Spent sure cause = tt
+uncompacted_before IsFull h front NoMemory sure cause = tt

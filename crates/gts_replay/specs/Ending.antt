@@ -2,18 +2,19 @@
 use Rattle.std.specs.Prelude.{◌≡◌, ℕ, ◌+◌, ◌^◌, ◌<◌, ◌≤◌, List, ◌++◌, length, Result, Ok, Err, IsErrOf, OnOk}
 use Rattle.gts_traits.specs.Counts.{Rose}
 use Rattle.gts_event.specs.declared.event.Entry.{Entry}
+use Rattle.gts_event.specs.declared.fault.SwitchFault.{SwitchFault}
 use Rattle.gts_event.specs.declared.fault.SwitchFault.TheVariants as switch
 use Rattle.gts_frame.specs.Decoder.{Decoding}
 use Rattle.gts_record.specs.declared.fault.OpenFault.TheVariants as opening
-use Rattle.gts_connection.specs.Capture.{Step, Feed, Head, FeedHead, head_of, bytes_of_step, entries_of_step, after_step, Connections}
+use Rattle.gts_connection.specs.Capture.{Step, Feed, Restart, Compact, Head, FeedHead, head_of, bytes_of_step, entries_of_step, after_step, Connections}
 use Rattle.gts_capture.specs.declared.capture_fault.CaptureFault.TheVariants.{Bad, SourceFault}
 use Rattle.gts_capture.specs.Held.{Held, IsSameCapture, counted_to}
-use Rattle.gts_turns.specs.{Standing}
+use Rattle.gts_turns.specs.{Standing, IsCompactCause}
 use Rattle.gts_replay.specs.declared.end.ReplayEnd.{ReplayEnd}
 use Rattle.gts_replay.specs.declared.end.ReplayEnd.TheVariants as end
 use Rattle.gts_replay.specs.declared.fault.StepFault.{StepFault}
 use Rattle.gts_replay.specs.declared.fault.StepFault.TheVariants as step
-use Rattle.gts_replay.specs.Going.{StandsFor, state_at, BreaksOff, BreaksAtRestart, Decode, IsFed, BreaksFeed}
+use Rattle.gts_replay.specs.Going.{StandsFor, state_at, BreaksOff, BreaksAtRestart, Remains, Decode, IsFed, BreaksFeed}
 
 -- the end of a run in which a step was not done to its end
 abbrev pub end_of : StepFault → ReplayEnd
@@ -21,6 +22,8 @@ end_of (step.Capture (Bad at)) = end.Capture at
 end_of (step.Capture SourceFault) = end.SourceFault
 end_of (step.Reopen opening.NoMemory) = end.NoMemory
 end_of (step.Reopen fault) = end.Reopen fault
+end_of (step.Compaction switch.NoMemory) = end.NoMemory
+end_of (step.Compaction fault) = end.Compaction fault
 end_of (step.Switch switch.NoMemory) = end.NoMemory
 end_of (step.Switch fault) = end.Fault fault
 
@@ -63,14 +66,27 @@ HasTaken tells bytes (Err _) old new before after = TakesNoMore tells bytes old 
 abbrev pub IsFedOr : {O W : Type 0} → Standing O W → ℕ → Decoding → W → List ℕ → Result (Unit {0}) StepFault → Decoding → W → Type 0
 IsFedOr words c old first bytes (Err (step.Switch fault)) decoder now = BreaksFeed words c old first bytes fault now
 IsFedOr words c old first bytes (Err (step.Reopen fault)) decoder now = ⊥
+IsFedOr words c old first bytes (Err (step.Compaction fault)) decoder now = ⊥
 IsFedOr words c old first bytes _ decoder now = IsFed words c old first bytes decoder now
 
--- these entries were to be added: all were, or those before a fault
-abbrev pub Went : {O W : Type 0} → Standing O W → Type 0 → O → (h more : List Entry) → Result (Unit {0}) StepFault → W → Type 0
-Went words station o h more (Ok _) now = words.stands o (h ++ more) now
-Went words station o h more (Err (step.Capture fault)) now = words.stands o (h ++ more) now
-Went words station o h more (Err (step.Reopen fault)) now = BreaksAtRestart words station o h more fault now
-Went words station o h more (Err (step.Switch fault)) now = BreaksOff words o h more fault now
+-- the origin behind a step
+abbrev pub origin_after : {O W : Type 0} → Standing O W → O → List Entry → Step → O
+origin_after words o h Compact = words.compacts o h
+origin_after words o h _ = o
+
+-- The journal was to be compacted, and was not.
+pub record IsUncompacted {O W : Type 0} (words : Standing O W) (o : O) (h : List Entry) (step : Step) (fault : SwitchFault) (now : W) : Type 0 where
+  pub at_step : step ≡ Compact
+  pub remains : Remains words o h fault now
+  pub cause : IsCompactCause (words.is_full_compacted o h) h fault
+
+-- these entries of a step were to be added: all were, or those before a fault
+abbrev pub Went : {O W : Type 0} → Standing O W → Type 0 → O → (h more : List Entry) → Step → Result (Unit {0}) StepFault → W → Type 0
+Went words station o h more s (Ok _) now = words.stands (origin_after words o h s) (h ++ more) now
+Went words station o h more s (Err (step.Capture fault)) now = words.stands (origin_after words o h s) (h ++ more) now
+Went words station o h more s (Err (step.Reopen fault)) now = (s ≡ Restart) × BreaksAtRestart words station (λ _. o) h more fault now
+Went words station o h more s (Err (step.Compaction fault)) now = IsUncompacted words o h s fault now
+Went words station o h more s (Err (step.Switch fault)) now = BreaksOff words (λ _. o) h more fault now
 
 -- Bytes of a feed came on a circuit: what they add was added, or what stands before a fault, and then the decoder took them.
 pub record Feeds {O W : Type 0} (words : Standing O W) (tells : Type 0) (c : ℕ) (result : Result (Unit {0}) StepFault)
@@ -94,7 +110,8 @@ pub record DoesStep {O W : Type 0} (words : Standing O W) (station tells : Type 
   pub of_head : IsStepOf head step
   pub taken : HasTaken tells (bytes_of_step step) result held held_now left left_now
   pub went : (bs : Connections) (o : O) (h : List Entry) → Decode decoders bs → StandsFor words o h old
-      → Went words station o h (entries_of_step (state_at words old o h) bs step) result new
+      → Went words station o h (entries_of_step (state_at words old o h) bs step) step result new
+  pub begins : (o : O) (h : List Entry) → OnOk result (words.begin (origin_after words o h step) ≡ words.begin o)
   pub decode : (bs : Connections) → Decode decoders bs → OnOk result (Decode decoders_now (after_step (words.directory old) bs step))
 
 -- a fault of a device is answered only where its count rose, and no count falls
@@ -103,6 +120,7 @@ pub record HasRunCause {T : Type 0} (result : Result T StepFault) (disk disk_now
   pub say_later : say ≤ say_now
   pub source_later : source ≤ source_now
   pub disk_failed : IsErrOf result (step.Switch switch.DiskFault) → Rose disk disk_now
+  pub compaction_failed : IsErrOf result (step.Compaction switch.DiskFault) → Rose disk disk_now
   pub reopen_failed : IsErrOf result (step.Reopen opening.DiskFault) → Rose disk disk_now
   pub say_failed : IsErrOf result (step.Switch switch.SayFault) → Rose say say_now
   pub source_failed : IsErrOf result (step.Capture SourceFault) → Rose source source_now

@@ -1,5 +1,5 @@
 -- Entries that a run was to add, and those that it added.
-use Rattle.std.specs.Prelude.{◌≡◌, ℕ, List, ◌∷◌, ◌++◌, map, Result, Ok, Err}
+use Rattle.std.specs.Prelude.{◌≡◌, ℕ, List, [], ◌∷◌, ◌++◌, length, take, map, Result, Ok, Err}
 use Rattle.gts_directory.specs.Directory.{Directory}
 use Rattle.gts_event.specs.State.{State, EachRoutedOnce}
 use Rattle.gts_event.specs.History.{after_all}
@@ -8,10 +8,12 @@ use Rattle.gts_event.specs.declared.event.Event.{Event}
 use Rattle.gts_event.specs.declared.event.Entry.{Entry}
 use Rattle.gts_event.specs.declared.event.Entry.TheVariants.{Done, Restarted}
 use Rattle.gts_event.specs.declared.fault.SwitchFault.{SwitchFault}
+use Rattle.gts_event.specs.declared.fault.SwitchFault.TheVariants.{DiskFault}
 use Rattle.gts_event.specs.Drain.{all_done, EachOwedFew}
 use Rattle.gts_frame.specs.Decoder.{Decoding}
 use Rattle.gts_frame.specs.Signs.{held_in}
 use Rattle.gts_record.specs.declared.fault.OpenFault.{OpenFault}
+use Rattle.gts_opening.specs.Room.{done_by}
 use Rattle.gts_connection.specs.Capture.{Connections}
 use Rattle.gts_connection.specs.Connection.{events_added}
 use Rattle.gts_turns.specs.{Standing, IsCause, IsReopenFault, entry_of, outcome_at}
@@ -34,29 +36,45 @@ pub record StandsFor {O W : Type 0} (words : Standing O W) (o : O) (h : List Ent
 abbrev pub state_at : {O W : Type 0} → Standing O W → W → O → List Entry → State
 state_at words now o h = after_all (words.directory now) (words.begin o) h
 
--- Of the entries that were to be added, those before one were, and of that what its fault adds. The fault has its cause.
-pub record BreaksOff {O W : Type 0} (words : Standing O W) (o : O) (h more : List Entry) (fault : SwitchFault) (now : W) : Type 0 where
+-- the origin once the journal was compacted behind so many of these entries each
+abbrev pub compacted_at : {O W : Type 0} → Standing O W → O → List Entry → List ℕ → O
+compacted_at words o entries [] = o
+compacted_at words o entries (k ∷ ks) = compacted_at words (words.compacts o (take k entries)) entries ks
+
+-- the origin behind these entries: of these compactions those were done that come behind no more
+abbrev pub origin_behind : {O W : Type 0} → Standing O W → O → List ℕ → List Entry → O
+origin_behind words o ks entries = compacted_at words o entries (done_by (length entries) ks)
+
+-- Of the entries that were to be added, those before one were, and of that what its fault adds. The fault has its cause. So the
+-- switch stands since the origin that it has behind them.
+pub record BreaksOff {O W : Type 0} (words : Standing O W) (at : List Entry → O) (h more : List Entry) (fault : SwitchFault) (now : W) : Type 0 where
   pub front : List Entry
   pub event : Event
   pub behind : List Entry
   pub parts : more ≡ front ++ Done event ∷ behind
-  pub stands : words.stands o ((h ++ front) ++ entry_of event (Err fault)) now
-  pub cause : IsCause (words.is_full o (h ++ front) event) (h ++ front) (outcome_at words now o (h ++ front) event) fault
+  pub stands : words.stands (at (h ++ front)) ((h ++ front) ++ entry_of event (Err fault)) now
+  pub cause : IsCause (words.is_full (at (h ++ front)) (h ++ front) event) (h ++ front)
+      (outcome_at words now (at (h ++ front)) (h ++ front) event) fault
 
 -- Of the entries that were to be added, those before one were: the journal was not opened again there. Over a station that
 -- tells, only the disk and want of memory prevent that.
 pub record BreaksAtRestart {O W : Type 0} (words : Standing O W) (station : Type 0)
-    (o : O) (h more : List Entry) (fault : OpenFault) (now : W) : Type 0 where
+    (at : List Entry → O) (h more : List Entry) (fault : OpenFault) (now : W) : Type 0 where
   pub front : List Entry
   pub behind : List Entry
   pub parts : more ≡ front ++ Restarted ∷ behind
-  pub stands : words.stands o (h ++ front) now
+  pub stands : words.stands (at (h ++ front)) (h ++ front) now
   pub fault_is : station → IsReopenFault fault
 
 -- these entries were to be added: all were, or they broke off
 abbrev pub Goes : {O W : Type 0} → Standing O W → O → (h more : List Entry) → Result (Unit {0}) SwitchFault → W → Type 0
 Goes words o h more (Ok _) now = words.stands o (h ++ more) now
-Goes words o h more (Err fault) now = BreaksOff words o h more fault now
+Goes words o h more (Err fault) now = BreaksOff words (λ _. o) h more fault now
+
+-- What stays of a switch whose journal was to be compacted: it was left by the disk, or nothing changed.
+abbrev pub Remains : {O W : Type 0} → Standing O W → O → List Entry → SwitchFault → W → Type 0
+Remains words o h DiskFault now = words.left o h now
+Remains words o h _ now = words.stands o h now
 
 -- the decoders of connections that have these bytes
 abbrev pub Decode : List Decoding → Connections → Type 0
@@ -73,4 +91,4 @@ pub record IsFed {O W : Type 0} (words : Standing O W) (c : ℕ) (old : Decoding
 abbrev pub BreaksFeed : {O W : Type 0} → Standing O W → ℕ → Decoding → W → List ℕ → SwitchFault → W → Type 0
 BreaksFeed words c old first bytes fault now =
     (before : List ℕ) (o : _) (h : List Entry) → old.held ≡ held_in before → words.stands o h first
-    → BreaksOff words o h (all_done (events_added c before bytes)) fault now
+    → BreaksOff words (λ _. o) h (all_done (events_added c before bytes)) fault now

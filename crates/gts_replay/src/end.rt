@@ -18,9 +18,11 @@ pub enum ReplayEnd {
     SourceFault,
     /// The journal was not opened again.
     Reopen(OpenFault),
+    /// The journal was not compacted: it would be full, or the disk failed.
+    Compaction(SwitchFault),
     /// An event was answered with this fault.
     Fault(SwitchFault),
-    /// There was no memory: before the first step, for a bulletin, or to open the journal again.
+    /// There was no memory: before the first step, for a bulletin, or to open or compact the journal.
     NoMemory,
 }
 
@@ -33,6 +35,8 @@ pub(crate) fn end_after(fault: StepFault) -> ReplayEnd
         StepFault::Capture(CaptureFault::SourceFault) => ReplayEnd::SourceFault,
         StepFault::Reopen(OpenFault::NoMemory) => ReplayEnd::NoMemory,
         StepFault::Reopen(fault) => ReplayEnd::Reopen(fault),
+        StepFault::Compaction(SwitchFault::NoMemory) => ReplayEnd::NoMemory,
+        StepFault::Compaction(fault) => ReplayEnd::Compaction(fault),
         StepFault::Switch(SwitchFault::NoMemory) => ReplayEnd::NoMemory,
         StepFault::Switch(fault) => ReplayEnd::Fault(fault),
     }

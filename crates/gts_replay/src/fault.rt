@@ -9,6 +9,8 @@ pub(crate) enum StepFault {
     Capture(CaptureFault),
     /// The journal was not opened again.
     Reopen(OpenFault),
+    /// The journal was not compacted.
+    Compaction(SwitchFault),
     /// An event was answered with this fault.
     Switch(SwitchFault),
 }

@@ -1,4 +1,4 @@
-ghost use Rattle.std.specs.Prelude.{◌≡◌, ◌<◌, ◌≤◌, List, length, false};
+ghost use Rattle.std.specs.Prelude.{◌≡◌, ◌<◌, ◌≤◌, List, length};
 ghost use Rattle.gts_event.specs.declared.event.Entry.{Entry};
 ghost use Rattle.gts_connection.specs.Capture.{no_bytes};
 ghost use Rattle.gts_capture.specs.{IsHeadIn, bytes_announced, head_of, at_start};
@@ -12,6 +12,7 @@ use crate::end::{ReplayEnd, end_after};
 use crate::fault::StepFault;
 use crate::feeding::feed;
 use gts_capture::{Head, Steps};
+use gts_connection::CaptureKind;
 use gts_frame::{Decoder, FrameBuf};
 use gts_traits::Source;
 use gts_turns::Switch;
@@ -20,12 +21,17 @@ use std::alloc::Global;
 /// How many bytes of a feed are taken at once.
 const PIECE: usize = 4_096;
 
-/// Runs a capture through a switch, up to its end or the first fault: bytes that come are heard frame by frame, each circuit
-/// over a connection of its own; takes, drains and restarts are the switch's. Decoders, the room for a frame
-/// and that for a piece of a feed are made before the first step.
-pub fn replay<W: Switch, S: Source>(alloc: Global, switch: &mut W, capture: &mut S) -> ReplayEnd
+/// Runs a capture of this kind through a switch, up to its end or the first fault: bytes that come are heard frame by frame,
+/// each circuit over a connection of its own; takes, drains, restarts and compactions are the switch's. Decoders, the room
+/// for a frame and that for a piece of a feed are made before the first step.
+pub fn replay<W: Switch, S: Source>(
+    alloc: Global,
+    switch: &mut W,
+    capture: &mut S,
+    kind: CaptureKind,
+) -> ReplayEnd
     ensures ends { (o : W.Origin) (h : List Entry) → StandsFor W.words o h switch.old
-        → Ends W.words W.tells o h S.tells result switch.old switch.new
+        → Ends W.words W.tells kind o h S.tells result switch.old switch.new
         (S.left capture.old) (S.left capture.new) }
     ensures directory { W.words.directory switch.new ≡ W.words.directory switch.old }
     ensures cause { HasReplayCause result (W.disk_faults switch.old) (W.disk_faults switch.new)
@@ -40,7 +46,7 @@ pub fn replay<W: Switch, S: Source>(alloc: Global, switch: &mut W, capture: &mut
         return ReplayEnd::NoMemory;
     };
     let mut piece = [0; PIECE];
-    let mut steps = Steps::new(circuits);
+    let mut steps = Steps::new(circuits, kind);
     run(
         alloc,
         switch,
@@ -63,12 +69,12 @@ fn run<W: Switch, S: Source>(
     piece: &mut [u8],
 ) -> ReplayEnd
     requires begins { steps.old
-        ≡ at_start (length (W.words.directory switch.old).circuits) false }
+        ≡ at_start (length (W.words.directory switch.old).circuits) steps.old.kind }
     requires few { length (W.words.directory switch.old).circuits ≤ 100 }
     requires piece { 0 < length piece.old }
     requires decode { Decode decoders.old (no_bytes (W.words.directory switch.old)) }
     ensures ends { (o : W.Origin) (h : List Entry) → StandsFor W.words o h switch.old
-        → Ends W.words W.tells o h S.tells result switch.old switch.new
+        → Ends W.words W.tells steps.old.kind o h S.tells result switch.old switch.new
         (S.left capture.old) (S.left capture.new) }
     ensures directory { W.words.directory switch.new ≡ W.words.directory switch.old }
     ensures cause { HasReplayCause result (W.disk_faults switch.old) (W.disk_faults switch.new)
@@ -101,7 +107,7 @@ fn do_step<W: Switch, S: Source>(
     head: Head,
 ) -> Result<(), StepFault>
     requires valid { let d = W.words.directory switch.old in
-        IsHeadIn (length d.circuits) false (head_of head) }
+        IsHeadIn (length d.circuits) steps.old.kind (head_of head) }
     requires some { head ≡ Head.End → ⊥ }
     requires piece { 0 < length piece.old }
     requires feed { steps.old.feed ≡ bytes_announced (head_of head) }
@@ -134,6 +140,11 @@ fn do_step<W: Switch, S: Source>(
                 return Err(StepFault::Reopen(fault));
             }
             reopen_all(decoders);
+        }
+        Head::Compact => {
+            if let Err(fault) = switch.compact(alloc) {
+                return Err(StepFault::Compaction(fault));
+            }
         }
         Head::End => {}
     }

@@ -10,4 +10,4 @@ pub returns-clause-bad : goal.returns-clause-bad
 returns-clause-bad c = at_bad
 
 pub returns-clause-cut : goal.returns-clause-cut
-returns-clause-cut c = λ d bytes piece steps held c n h valid short. in_feed d bytes (head_text (FeedHead c n) ++ piece) piece steps held c n h valid short refl
+returns-clause-cut c = λ kind d bytes piece steps held c n h valid short. in_feed kind d bytes (head_text (FeedHead c n) ++ piece) piece steps held c n h valid short refl

@@ -8,10 +8,10 @@ pub returns-in-Ok-clause-turn : goal.returns-in-Ok-clause-turn
 returns-in-Ok-clause-turn g c =
     counted_turn g.T.Switch.words (Heard c.args.c c.args.kind c.args.message.now) c.hear-answer.result c.args.parts.now _ c.hear-answer.ensures.turn
     (λ o h stood told counts.
-      counts_heard _ _ h c.ready.new.counting c.note_heard.new.counting c.args.c c.args.kind c.args.message.now c.in-Ok.ready c.hear-answer.result c.requires.circuit
-      (λ current. c.in-Ok.ensures.ready _ _ h (sym c.in-Ok.ensures.rest.current ∙ current) c.requires.circuit counts)
-      c.in-Ok.ensures.note told c.note_heard.ensures.noted
-      (counts_prepared _ _ h c.args.parts.now.counting c.ready.new.counting c.in-Ok.ensures.prepares c.in-Ok.ensures.rest counts))
+    counts_heard _ _ h c.ready.new.counting c.note_heard.new.counting c.args.c c.args.kind c.args.message.now c.in-Ok.ready c.hear-answer.result c.requires.circuit
+    (λ current. c.in-Ok.ensures.ready _ _ h (sym c.in-Ok.ensures.rest.current ∙ current) c.requires.circuit counts)
+    c.in-Ok.ensures.note told c.note_heard.ensures.noted
+    (counts_prepared _ _ h c.args.parts.now.counting c.ready.new.counting c.in-Ok.ensures.prepares c.in-Ok.ensures.rest counts))
 
 pub returns-in-Err-clause-turn : goal.returns-in-Err-clause-turn
 returns-in-Err-clause-turn g c =

@@ -1,13 +1,14 @@
-use Rattle.std.proofs.Common.{◌≡◌, ◌<◌, false, ℕ, List, length, set, Ok, sym, subst, arith}
+use Rattle.std.proofs.Common.{◌≡◌, ◌<◌, ℕ, List, length, set, Ok, sym, subst, arith}
+use Rattle.gts_connection.specs.declared.kind.CaptureKind.TheVariants.{Journaled}
 use Rattle.gts_capture.specs.{IsHeadIn, head_of, bytes_announced}
 use Rattle.gts_capture.specs.declared.head.Head.{Head}
 use Rattle.gts_missing.specs.Counting.{DoesStep}
-use Rattle.gts_missing.proofs.CountingLemmas.{does_take, does_drain, does_reopen, does_restart, feeds_step}
+use Rattle.gts_missing.proofs.CountingLemmas.{does_take, does_drain, does_reopen, does_restart, does_compact, feeds_step}
 use Rattle.gts_missing.proofs.reading.do_step.Goals as goal
 
 pub returns-in-Feed-clause-does : goal.returns-in-Feed-clause-does
 returns-in-Feed-clause-does g c =
-    let valid = subst (λ (head : Head). IsHeadIn (length c.args.table.now) false (head_of head)) c.in-Feed.is c.requires.valid in
+    let valid = subst (λ (head : Head). IsHeadIn (length c.args.table.now) Journaled (head_of head)) c.in-Feed.is c.requires.valid in
     let within : c.in-Feed.c < length c.args.decoders.now = omega (arith, valid.0, c.requires.decoders) in
     let P : Head → Type 0 = λ head. DoesStep g.S.Source.tells (head_of head) c.feed.result c.args.steps.now c.feed.new.steps (g.S.Source.left c.args.capture.now)
     (g.S.Source.left c.feed.new.capture) c.args.decoders.now (set c.args.decoders.now c.in-Feed.c c.feed.new.decoder) c.args.table.now c.feed.new.table in
@@ -45,3 +46,11 @@ returns-in-Drain-clause-does g c =
     let P : Head → Type 0 = λ head. DoesStep g.S.Source.tells (head_of head) (Ok tt) c.args.steps.now c.args.steps.now left left
     c.args.decoders.now c.args.decoders.now c.args.table.now c.args.table.now in
     subst P (sym c.in-Drain.is) (does_drain g.S.Source.tells _ c.args.steps.now left c.args.decoders.now c.args.table.now none)
+
+pub returns-in-Compact-clause-does : goal.returns-in-Compact-clause-does
+returns-in-Compact-clause-does g c =
+    let left : List ℕ = g.S.Source.left c.args.capture.now in
+    let none = subst (λ (head : Head). c.args.steps.now.feed ≡ bytes_announced (head_of head)) c.in-Compact.is c.requires.feed in
+    let P : Head → Type 0 = λ head. DoesStep g.S.Source.tells (head_of head) (Ok tt) c.args.steps.now c.args.steps.now left left
+    c.args.decoders.now c.args.decoders.now c.args.table.now c.args.table.now in
+    subst P (sym c.in-Compact.is) (does_compact g.S.Source.tells c.args.steps.now left c.args.decoders.now c.args.table.now none)

@@ -12,7 +12,7 @@ use Rattle.gts_missing.proofs.reading.run.Goals as goal
 pub loop-init : goal.loop-init
 loop-init g c = record {
   done = λ d new. ([], refl, runs_none g.S.Source.tells d (g.S.Source.left c.args.capture.now) c.args.steps.now c.args.decoders.now c.args.table.now c.requires.begins c.requires.decoders new);
-  plain = ap (λ (h : Held). h.plain) c.requires.begins;
+  of_kind = ap (λ (h : Held). h.kind) c.requires.begins;
   taken = ap (λ (h : Held). h.feed) c.requires.begins;
   here = ap (λ (h : Held). h.circuits) c.requires.begins;
   circuits = refl;
@@ -71,7 +71,7 @@ loop-preserved g c =
             runs_more g.S.Source.tells d (g.S.Source.left c.args.capture.now) done.0 c.loop.steps c.next.new.self c.do_step.new.steps (g.S.Source.left c.loop.capture) (g.S.Source.left c.next.new.source)
                 (g.S.Source.left c.do_step.new.capture) c.loop.decoders c.do_step.new.decoders c.loop.table c.do_step.new.table head done.2 reads does c.do_step.ensures.circuits,
           );
-      plain = same.plain ∙ c.next.ensures.same.plain ∙ c.loop.invariant.plain;
+      of_kind = same.kind ∙ c.next.ensures.same.kind ∙ c.loop.invariant.of_kind;
       taken = does.whole;
       here = same.circuits ∙ c.next.ensures.same.circuits ∙ c.loop.invariant.here;
       circuits = c.do_step.ensures.circuits ∙ c.loop.invariant.circuits;

@@ -1,5 +1,6 @@
-use Rattle.std.proofs.Common.{◌≡◌, ◌≤◌, false, List, length}
+use Rattle.std.proofs.Common.{◌≡◌, ◌≤◌, List, length}
 use Rattle.gts_directory.specs.Directory.{Directory}
+use Rattle.gts_connection.specs.declared.kind.CaptureKind.TheVariants.{Journaled}
 use Rattle.gts_connection.specs.Capture.{Step}
 use Rattle.gts_missing.specs.Counting.{IsNew}
 use Rattle.gts_missing.proofs.RunLemmas.{Runs}
@@ -10,7 +11,7 @@ abbrev pub invariant-loop : goal.invariant-loop
 invariant-loop g l = record {
   done : (d : Directory) → IsNew d l.fn.table l.fn.decoders → (steps : List Step) × (length steps ≡ l.counter)
       × Runs g.S.Source.tells d (g.S.Source.left l.fn.capture) steps l.steps (g.S.Source.left l.capture) l.decoders l.table;
-  plain : l.steps.plain ≡ false;
+  of_kind : l.steps.kind ≡ Journaled;
   taken : l.steps.feed ≡ 0;
   here : l.steps.circuits ≡ length l.fn.table;
   circuits : length l.table ≡ length l.fn.table;

@@ -1,4 +1,4 @@
-use Rattle.std.proofs.Common.{◌≡◌, ◌<◌, false, ℕ, List, length, set, Result, Ok, Err, sym, subst, arith}
+use Rattle.std.proofs.Common.{◌≡◌, ◌<◌, ℕ, List, length, set, Result, Ok, Err, sym, subst, arith}
 use Rattle.gts_event.specs.declared.fault.SwitchFault.{SwitchFault}
 use Rattle.gts_event.specs.Drain.{all_done, takes_of_drain}
 use Rattle.gts_capture.specs.{IsHeadIn, head_of, bytes_announced}
@@ -6,12 +6,12 @@ use Rattle.gts_capture.specs.declared.head.Head.{Head}
 use Rattle.gts_replay.specs.declared.fault.StepFault.TheVariants as step
 use Rattle.gts_replay.specs.Going.{Goes, state_at}
 use Rattle.gts_replay.specs.Ending.{DoesStep}
-use Rattle.gts_replay.proofs.StepLemmas.{does_take, fails_take, does_drain, fails_drain, does_reopen, does_restart, fails_restart, does_feed}
+use Rattle.gts_replay.proofs.StepLemmas.{does_take, fails_take, does_drain, fails_drain, does_reopen, does_restart, fails_restart, does_compact, fails_compact, does_feed}
 use Rattle.gts_replay.proofs.replaying.do_step.Goals as goal
 
 pub returns-in-Feed-clause-does : goal.returns-in-Feed-clause-does
 returns-in-Feed-clause-does g c =
-    let valid = subst (λ (head : Head). IsHeadIn (length (g.W.Switch.words.directory c.args.switch.now).circuits) false (head_of head)) c.in-Feed.is c.requires.valid in
+    let valid = subst (λ (head : Head). IsHeadIn (length (g.W.Switch.words.directory c.args.switch.now).circuits) c.args.steps.now.kind (head_of head)) c.in-Feed.is c.requires.valid in
     let within : c.in-Feed.c < length c.args.decoders.now = omega (arith, valid.0, c.requires.decoders) in
     let P : Head → Type 0 = λ head. DoesStep g.W.Switch.words g.W.Switch.tells g.S.Source.tells (head_of head) c.feed.result c.args.steps.now c.feed.new.steps (g.S.Source.left c.args.capture.now)
     (g.S.Source.left c.feed.new.capture) c.args.decoders.now (set c.args.decoders.now c.in-Feed.c c.feed.new.decoder) c.args.switch.now c.feed.new.switch in
@@ -78,3 +78,20 @@ returns-in_default-restart-clause-does g c =
     c.args.decoders.now c.reopen_all.new.decoders c.args.switch.now c.restart.new.self in
     subst P (sym c.in-Restart.is) (does_restart g.W.Switch.words g.W.Switch.tells g.S.Source.tells c.args.steps.now left c.args.decoders.now c.reopen_all.new.decoders c.args.switch.now c.restart.new.self
     c.restart.result c.in_default-restart.field-0 c.restart.ensures.reopening c.in_default-restart.is c.reopen_all.ensures c.requires.decoders none)
+
+pub returns-in-Err-compact-clause-does : goal.returns-in-Err-compact-clause-does
+returns-in-Err-compact-clause-does g c =
+    let left : List ℕ = g.S.Source.left c.args.capture.now in
+    let P : Head → Type 0 = λ head. DoesStep g.W.Switch.words g.W.Switch.tells g.S.Source.tells (head_of head) (Err (step.Compaction c.in-Err-compact.fault)) c.args.steps.now c.args.steps.now left left
+    c.args.decoders.now c.args.decoders.now c.args.switch.now c.compact.new.self in
+    subst P (sym c.in-Compact.is) (fails_compact g.W.Switch.words g.W.Switch.tells g.S.Source.tells c.args.steps.now left c.args.decoders.now c.args.switch.now c.compact.new.self c.compact.result
+    c.in-Err-compact.fault c.compact.ensures.compacting c.in-Err-compact.is)
+
+pub returns-in_default-compact-clause-does : goal.returns-in_default-compact-clause-does
+returns-in_default-compact-clause-does g c =
+    let left : List ℕ = g.S.Source.left c.args.capture.now in
+    let none = subst (λ (head : Head). c.args.steps.now.feed ≡ bytes_announced (head_of head)) c.in-Compact.is c.requires.feed in
+    let P : Head → Type 0 = λ head. DoesStep g.W.Switch.words g.W.Switch.tells g.S.Source.tells (head_of head) (Ok tt) c.args.steps.now c.args.steps.now left left
+    c.args.decoders.now c.args.decoders.now c.args.switch.now c.compact.new.self in
+    subst P (sym c.in-Compact.is) (does_compact g.W.Switch.words g.W.Switch.tells g.S.Source.tells c.args.steps.now left c.args.decoders.now c.args.switch.now c.compact.new.self
+    c.compact.result c.in_default-compact.field-0 c.compact.ensures.compacting c.in_default-compact.is none)

@@ -11,7 +11,7 @@ returns-in-Err-Bad-clause-bad g c = λ tells at e.
     let is = c.bad.ensures in
     let place : at ≡ counted_to (c.held_head.new.self.at + (length c.held_head.new.self.ahead - behind)) = cc in
     let there : at ≡ counted_to (held.at + (length held.ahead - behind)) = place ∙ ap (λ (h : Held). counted_to (h.at + (length h.ahead - behind))) unchanged in
-    let stop = subst (IsStop held.circuits held.plain held.ahead) c.in-Err-Bad.field-0-is c.in-Err-Bad.ensures.stop in
+    let stop = subst (IsStop held.circuits held.kind held.ahead) c.in-Err-Bad.field-0-is c.in-Err-Bad.ensures.stop in
     bad_since c.args.self.now held (c.args.self.now.ahead ++ g.S.Source.left c.args.source.now) (held.ahead ++ g.S.Source.left c.loop-head.source) at
     c.loop-head.invariant.others (c.loop-head.invariant.told tells) (stop_is_bad held (g.S.Source.left c.loop-head.source) behind at stop there)
 
@@ -19,12 +19,12 @@ pub fill-requires : goal.fill-requires
 fill-requires g c =
     let held = c.loop-head.self in
     let same : length c.held_head.new.self.ahead ≡ length held.ahead = ap (λ (h : Held). length h.ahead) c.in-Err-More.ensures.unchanged in
-    let stop = subst (IsStop held.circuits held.plain held.ahead) c.in-Err-More.field-0-is c.in-Err-More.ensures.stop in
-    omega (arith, same, part_is_short held.circuits held.plain held.ahead stop)
+    let stop = subst (IsStop held.circuits held.kind held.ahead) c.in-Err-More.field-0-is c.in-Err-More.ensures.stop in
+    omega (arith, same, part_is_short held.circuits held.kind held.ahead stop)
 
 pub loop-head-smaller : goal.loop-head-smaller
 loop-head-smaller g c =
     let held = c.loop-head.self in
     let same : length c.held_head.new.self.ahead ≡ length held.ahead = ap (λ (h : Held). length h.ahead) c.in-Err-More.ensures.unchanged in
-    let stop = subst (IsStop held.circuits held.plain held.ahead) c.in-Err-More.field-0-is c.in-Err-More.ensures.stop in
-    omega (arith, same, part_is_short held.circuits held.plain held.ahead stop, c.in_ok-fill.ensures.count)
+    let stop = subst (IsStop held.circuits held.kind held.ahead) c.in-Err-More.field-0-is c.in-Err-More.ensures.stop in
+    omega (arith, same, part_is_short held.circuits held.kind held.ahead stop, c.in_ok-fill.ensures.count)

@@ -1,0 +1,44 @@
+//! A checkpoint that stands in no file.
+ghost use Rattle.std.specs.Prelude.{◌≡◌, IfOk, IfSome, IfNone};
+ghost use Rattle.gts_event.specs.Items.{need_of};
+ghost use Rattle.gts_event.specs.Need.{Need as NeedOf};
+ghost use Rattle.gts_record.specs.Format.{written};
+ghost use Rattle.gts_checkpoint.specs.Loose.{IsCheckpoint};
+
+use crate::loose::Loose;
+use crate::reading::{FIRST_RECORD, gate_behind, need_at, waiting};
+use crate::sound::is_sound;
+use gts_alphabet::NoMemory;
+use gts_directory::Directory;
+use gts_event::Need;
+use gts_record::Version;
+use std::alloc::Global;
+
+/// The need of the one whole checkpoint that these bytes are, without its seal, where it may be the first record of a journal of
+/// the version that is written. `None` exactly where they are none, or one that may not stand there.
+pub fn decode(alloc: Global, bytes: &[u8], directory: &Directory) -> Result<Option<Need>, NoMemory>
+    ensures found { IfOk result (λ found. IfSome found
+        (λ n. IsCheckpoint written directory.now bytes.now (need_of n))) }
+    ensures none { IfOk result (λ found. IfNone found
+        ((n : NeedOf) → IsCheckpoint written directory.now bytes.now n → ⊥)) }
+{
+    let limit = directory.limit();
+    let mut loose = Loose::new(bytes);
+    let Ok(found) = need_at(alloc, &mut loose, 0, directory.circuits()) else {
+        return Err(NoMemory);
+    };
+    let Some((need, at)) = found else {
+        return Ok(None);
+    };
+    if at - FIRST_RECORD != bytes.len() as u64 {
+        return Ok(None);
+    }
+    let due = waiting(need.circuits.as_slice());
+    let Some(_gate) = gate_behind(Version::written(), at, due, limit) else {
+        return Ok(None);
+    };
+    if !is_sound(alloc, directory, &need)? {
+        return Ok(None);
+    }
+    Ok(Some(need))
+}

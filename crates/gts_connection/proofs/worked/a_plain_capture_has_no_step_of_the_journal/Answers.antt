@@ -1,0 +1,35 @@
+use Rattle.std.proofs.Common.{◌≡◌, ℕ, List, [], ◌∷◌, get_or, refl, ap, arith}
+use Rattle.std.specs.Prelude.{codes}
+use Rattle.gts_alphabet.specs.Digits.{dec}
+use Rattle.gts_event.specs.Worked.{two}
+use Rattle.gts_connection.specs.declared.kind.CaptureKind.TheVariants.{Plain}
+use Rattle.gts_connection.specs.Capture.{Head, FeedHead, TakeHead, ReopenHead, DrainHead, RestartHead, CompactHead, EndHead, head_text, IsHeadOf, Bad}
+use Rattle.gts_connection.proofs.worked.a_plain_capture_has_no_step_of_the_journal.Goals as goal
+
+-- no head begins so
+no_restart : (h : Head) (more : List ℕ) → IsHeadOf Plain two h → head_text h ≡ 82 ∷ more → ⊥
+unfolding dec
+no_restart (FeedHead c n) more here e = omega (arith, ap (λ (xs : List ℕ). get_or xs 0 0) e)
+no_restart (TakeHead c) more here e = omega (arith, ap (λ (xs : List ℕ). get_or xs 0 0) e)
+no_restart (ReopenHead c) more here e = omega (arith, ap (λ (xs : List ℕ). get_or xs 0 0) e)
+no_restart (DrainHead c) more here e = omega (arith, ap (λ (xs : List ℕ). get_or xs 0 0) e)
+no_restart RestartHead more here e = cc
+no_restart CompactHead more here e = cc
+no_restart EndHead more here e = omega (arith, ap (λ (xs : List ℕ). get_or xs 0 0) e)
+
+no_compaction : (h : Head) (more : List ℕ) → IsHeadOf Plain two h → head_text h ≡ 67 ∷ more → ⊥
+unfolding dec
+no_compaction (FeedHead c n) more here e = omega (arith, ap (λ (xs : List ℕ). get_or xs 0 0) e)
+no_compaction (TakeHead c) more here e = omega (arith, ap (λ (xs : List ℕ). get_or xs 0 0) e)
+no_compaction (ReopenHead c) more here e = omega (arith, ap (λ (xs : List ℕ). get_or xs 0 0) e)
+no_compaction (DrainHead c) more here e = omega (arith, ap (λ (xs : List ℕ). get_or xs 0 0) e)
+no_compaction RestartHead more here e = cc
+no_compaction CompactHead more here e = cc
+no_compaction EndHead more here e = omega (arith, ap (λ (xs : List ℕ). get_or xs 0 0) e)
+
+pub returns : goal.returns
+unfolding dec
+returns c = (
+  Bad [] 82 (codes "\nE\n") (omega arith, tt) (EndHead, 69, 10 ∷ [], tt, refl) (λ h. no_restart h.0 h.1 h.2 h.3) refl refl,
+  Bad [] 67 (codes "\nE\n") (omega arith, tt) (EndHead, 69, 10 ∷ [], tt, refl) (λ h. no_compaction h.0 h.1 h.2 h.3) refl refl,
+)

@@ -1,0 +1,8 @@
+use Rattle.std.proofs.Common.{sym, subst}
+use Rattle.gts_core.specs.declared.answer.Verdict.{Verdict}
+use Rattle.gts_core.specs.Core.{Judges}
+use Rattle.gts_core.proofs.whole.Core.judge.Goals as goal
+
+pub returns : goal.returns
+returns c =
+    subst (λ (v : Verdict). Judges c.args.directory.now c.args.self.now c.args.c c.args.message.now v) (sym c.verdict.ensures) c.weigh.ensures.verdict

@@ -1,0 +1,19 @@
+-- A new bulletin as it is handed on from where it was weighed to where it is accepted.
+use Rattle.std.specs.Prelude.{◌≡◌, ℕ, List, Ok}
+use Rattle.gts_heading.specs.Heading.{fields_of}
+use Rattle.gts_message.specs.Message.{split_at, parts_of}
+use Rattle.gts_dup.specs.Window.{digest_of}
+use Rattle.gts_core.specs.declared.bulletin.Bulletin.TheInside.{Inside}
+
+-- its message, and the circuits that it is for, as the bits of a mask
+pub record NewBulletin : Type 0 where
+  pub message : List ℕ
+  pub mask : ℕ
+
+abbrev pub bulletin_of : Inside → NewBulletin
+bulletin_of b = record { message = b.message.now; mask = b.mask }
+
+-- the parts and the digest are those of the message
+pub record IsSplit (b : Inside) : Type 0 where
+  pub read : split_at b.message.now ≡ Ok (parts_of b.parts)
+  pub digest : b.digest ≡ digest_of (fields_of b.parts.heading) b.parts.text.now

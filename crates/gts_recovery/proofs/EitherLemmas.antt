@@ -1,0 +1,126 @@
+-- A journal that is opened in the version that its magic tells is never one of an older version.
+use Rattle.std.proofs.Common.{◌≡◌, ℕ, zero, suc, ◌+◌, ◌-◌, Bool, true, false, ◌==◌, nat_eq, nat_lt, List, [], ◌∷◌, length, take, drop, cond, Option, Some, None, Result, Ok, Err, refl, sym, ap, subst, ◌∙◌, inl, inr}
+use Rattle.std.specs.List.{starts_with}
+use Rattle.std.specs.Cmp.Lexicographic.{pointwise}
+use Rattle.std.proofs.lemmas.Bool.{cases_Bool}
+use Rattle.gts_traits.specs.Station.{Files}
+use Rattle.gts_directory.specs.Directory.{Directory}
+use Rattle.gts_event.specs.State.{State, empty}
+use Rattle.gts_event.specs.History.{after, restarted}
+use Rattle.gts_event.specs.Need.{Need, need, begun}
+use Rattle.gts_record.specs.declared.version.Version.{Version}
+use Rattle.gts_record.specs.declared.version.Version.TheVariants.{One, Two}
+use Rattle.gts_record.specs.declared.fault.OpenFault.{OpenFault}
+use Rattle.gts_record.specs.declared.fault.OpenFault.TheVariants.{NoJournal, OldVersion, NotThis, Damaged, DiskFault, NoMemory}
+use Rattle.gts_record.specs.Record.{Record, open_gate, record_text}
+use Rattle.gts_record.specs.Format.{magic, seal, first_seal, is_older, record_size}
+use Rattle.gts_opening.specs.Journal.{Opened, Read, opened_of, admits_checkpoint, need_in, checkpoint_text, compacted_bytes, event_of_record, record_behind, records_at, checkpoint_opens, behind_header, behind_magic, bytes_open, file_opens, files_open_in, agreeing, selected}
+use Rattle.gts_journal.specs.{version_of, selected_bytes}
+use Rattle.gts_recovery.specs.Opened.{IsAnswer, opens_any}
+
+-- no older version is answered
+abbrev pub NotOlder : {A : Type 0} → Result A OpenFault → Type 0
+NotOlder (Err OldVersion) = ⊥
+NotOlder _ = Unit {0}
+
+-- what a record that was found leads to
+abbrev after_record : Version → Directory → ℕ → ℕ → List ℕ → State → ℕ → List ℕ → Option Record → Read
+after_record v d n file before s gate bytes o = elim o as (λ _. Read) [
+  | None ↦ Err (Damaged file (gate + 1))
+  | Some r ↦ records_at v d n file (seal v before (record_text r)) (after d s (event_of_record r)) (gate + record_size v r) (drop (record_size v r - 1) bytes)
+]
+
+records_not : (v : Version) (d : Directory) (n file : ℕ) (before : List ℕ) (s : State) (gate : ℕ) (bytes : List ℕ) → NotOlder (records_at v d n file before s gate bytes)
+records_not v d zero file before s gate bytes = tt
+records_not v d (suc n) file before s gate [] = tt
+records_not v d (suc n) file before s gate (mark ∷ bytes) =
+    by_mark (λ r. records_not v d n file (seal v before (record_text r)) (after d s (event_of_record r)) (gate + record_size v r) (drop (record_size v r - 1) bytes)) (mark == open_gate)
+  where
+    record_not : ((r : Record) → NotOlder (records_at v d n file (seal v before (record_text r)) (after d s (event_of_record r)) (gate + record_size v r) (drop (record_size v r - 1) bytes)))
+        → (o : Option Record) → NotOlder (after_record v d n file before s gate bytes o)
+    record_not more None = tt
+    record_not more (Some r) = more r
+
+    by_mark : ((r : Record) → NotOlder (records_at v d n file (seal v before (record_text r)) (after d s (event_of_record r)) (gate + record_size v r) (drop (record_size v r - 1) bytes)))
+        → (b : Bool) → NotOlder (elim b as (λ _. Read) [ false ↦ Ok (s, gate + 1, before) | true ↦ after_record v d n file before s gate bytes (record_behind v d before s gate bytes) ])
+    by_mark more false = tt
+    by_mark more true = record_not more (record_behind v d before s gate bytes)
+
+-- what stands behind a checkpoint
+abbrev behind_checkpoint : Version → Directory → ℕ → List ℕ → Need → Read
+behind_checkpoint v d file bytes n =
+    records_at v d (length bytes) file (seal v (first_seal v d.mark) (checkpoint_text n)) (begun n) (compacted_bytes v n - 1) (drop (compacted_bytes v n - 1) bytes)
+
+checkpoint_not : (v : Version) (d : Directory) (file : ℕ) (bytes : List ℕ) (n : Need) → NotOlder (checkpoint_opens v d file bytes n)
+checkpoint_not v d file bytes n = by_admission (admits_checkpoint v d (drop 41 bytes) n)
+  where
+    by_admission : (b : Bool) → NotOlder (elim b as (λ _. Read) [ false ↦ Err (Damaged file 41) | true ↦ behind_checkpoint v d file bytes n ])
+    by_admission false = tt
+    by_admission true = records_not v d (length bytes) file (seal v (first_seal v d.mark) (checkpoint_text n)) (begun n) (compacted_bytes v n - 1) (drop (compacted_bytes v n - 1) bytes)
+
+header_not : (v : Version) (d : Directory) (file : ℕ) (bytes : List ℕ) → NotOlder (behind_header v d file bytes)
+header_not v d file bytes = by_letter _
+  where
+    by_letter : (b : Bool) → NotOlder (elim b as (λ _. Read) [
+      | false ↦ records_at v d (length bytes) file (first_seal v d.mark) (empty d) 40 (drop 40 bytes)
+      | true ↦ checkpoint_opens v d file bytes (need_in (drop 41 bytes))
+    ])
+    by_letter false = records_not v d (length bytes) file (first_seal v d.mark) (empty d) 40 (drop 40 bytes)
+    by_letter true = checkpoint_not v d file bytes (need_in (drop 41 bytes))
+
+magic_not : (v : Version) (d : Directory) (file : ℕ) (bytes : List ℕ) → NotOlder (behind_magic v d file bytes)
+magic_not v d file bytes = by_size (nat_lt (length bytes) 40)
+  where
+    by_mark : (b : Bool) → NotOlder (elim b as (λ _. Read) [ false ↦ Err (NotThis d.mark (take 32 (drop 8 bytes))) | true ↦ behind_header v d file bytes ])
+    by_mark false = tt
+    by_mark true = header_not v d file bytes
+
+    by_size : (b : Bool) → NotOlder (elim b as (λ _. Read) [
+      | true ↦ Err (Damaged file (length bytes))
+      | false ↦ elim (pointwise nat_eq (take 32 (drop 8 bytes)) d.mark) as (λ _. Read) [ false ↦ Err (NotThis d.mark (take 32 (drop 8 bytes))) | true ↦ behind_header v d file bytes ]
+    ])
+    by_size true = tt
+    by_size false = by_mark (pointwise nat_eq (take 32 (drop 8 bytes)) d.mark)
+
+-- the version of the magic is no newer one
+own_version : (bytes : List ℕ) → is_older (version_of bytes) bytes ≡ false
+own_version bytes = by_first (starts_with nat_eq bytes (magic One)) refl
+  where
+    by_first : (b : Bool) → b ≡ starts_with nat_eq bytes (magic One) → is_older (cond b One Two) bytes ≡ false
+    by_first true e = refl
+    by_first false e = sym e
+
+file_not : (d : Directory) (file : ℕ) (bytes : List ℕ) → NotOlder (file_opens (version_of bytes) d file bytes)
+file_not d file bytes = by_none (length bytes == 0)
+  where
+    by_magic : (b : Bool) → NotOlder (elim b as (λ _. Read) [ false ↦ Err (Damaged file (agreeing (magic (version_of bytes)) bytes)) | true ↦ behind_magic (version_of bytes) d file bytes ])
+    by_magic false = tt
+    by_magic true = magic_not (version_of bytes) d file bytes
+
+    by_age : (b : Bool) → b ≡ false → NotOlder (elim b as (λ _. Read) [
+      | true ↦ Err OldVersion
+      | false ↦ elim (starts_with nat_eq bytes (magic (version_of bytes))) as (λ _. Read) [ false ↦ Err (Damaged file (agreeing (magic (version_of bytes)) bytes)) | true ↦ behind_magic (version_of bytes) d file bytes ]
+    ])
+    by_age true e = absurd (cc)
+    by_age false e = by_magic (starts_with nat_eq bytes (magic (version_of bytes)))
+
+    by_none : (b : Bool) → NotOlder (elim b as (λ _. Read) [ true ↦ Err NoJournal | false ↦ bytes_open (version_of bytes) d file bytes ])
+    by_none true = tt
+    by_none false = by_age (is_older (version_of bytes) bytes) (own_version bytes)
+
+of_read : (d : Directory) (r : Read) → NotOlder r → NotOlder (elim (opened_of r) as (λ _. Result Need OpenFault) [ Err fault ↦ Err fault | Ok opened ↦ Ok (need d (restarted opened.0)) ])
+of_read d (Ok read) h = tt
+of_read d (Err NoJournal) h = tt
+of_read d (Err OldVersion) h = absurd h
+of_read d (Err (NotThis want found)) h = tt
+of_read d (Err (Damaged file at)) h = tt
+of_read d (Err DiskFault) h = tt
+of_read d (Err NoMemory) h = tt
+
+pub never_older : (d : Directory) (files : Files) → opens_any d files ≡ Err OldVersion → ⊥
+never_older d files e =
+    let none : NotOlder (opens_any d files) = of_read d (file_opens (version_of (selected_bytes files)) d (selected files) (files (selected files))) (file_not d (selected files) (files (selected files))) in
+    subst (λ (r : Result Need OpenFault). NotOlder r) e none
+
+pub not_older : (d : Directory) (files : Files) (e : OpenFault) → IsAnswer e (opens_any d files) → e ≡ OldVersion → ⊥
+not_older d files e is same = never_older d files (subst (λ (f : OpenFault). IsAnswer f (opens_any d files)) same is)

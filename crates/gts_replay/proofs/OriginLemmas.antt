@@ -1,0 +1,113 @@
+-- The origin as the journal is compacted.
+use Rattle.std.proofs.Common.{◌≡◌, ℕ, ◌+◌, ◌<◌, ◌≤◌, Bool, true, false, nat_le, cond, List, [], ◌∷◌, ◌++◌, length, take, refl, sym, ap, ◌∙◌, arith, length-append}
+use Rattle.std.specs.List.{AllByRecursion}
+use Rattle.std.proofs.lemmas.Bool.{le-leb, leb-true}
+use Rattle.std.proofs.lemmas.List.{append-nil, take-append-le}
+use Rattle.std.proofs.lemmas.List.Elements.{filter-append}
+use Rattle.std.proofs.Math.Seq.{take-append_seam}
+use Rattle.gts_directory.specs.Directory.{Directory}
+use Rattle.gts_event.specs.State.{State}
+use Rattle.gts_event.specs.declared.event.Entry.{Entry}
+use Rattle.gts_opening.specs.Room.{done_by}
+use Rattle.gts_connection.specs.Capture.{Step, Feed, Take, Reopen, Drain, Restart, Compact, no_bytes, count_at}
+use Rattle.gts_connection.proofs.LawLemmas.{compactions_go_on, compactions_between}
+use Rattle.gts_turns.specs.{Standing}
+use Rattle.gts_replay.specs.Going.{state_at, compacted_at, origin_behind}
+use Rattle.gts_replay.specs.Replay.{entries_at, compactions_at}
+use Rattle.gts_replay.specs.Ending.{origin_after}
+
+abbrev pub AllWithin : ℕ → List ℕ → Type 0
+AllWithin n ks = AllByRecursion (λ k. k ≤ n) ks
+
+abbrev pub AllBehind : ℕ → List ℕ → Type 0
+AllBehind n ks = AllByRecursion (λ k. n < k) ks
+
+-- ---- which compactions were done by then
+
+test_is : (k n : ℕ) (b : Bool) → nat_le k n ≡ b → (ks : List ℕ) → done_by n (k ∷ ks) ≡ cond b (k ∷ done_by n ks) (done_by n ks)
+test_is k n b e ks = ap (λ (t : Bool). cond t (k ∷ done_by n ks) (done_by n ks)) e
+
+pub all_done_by : (n : ℕ) (ks : List ℕ) → AllWithin n ks → done_by n ks ≡ ks
+all_done_by n [] each = refl
+all_done_by n (k ∷ ks) each = test_is k n true (le-leb k n each.0) ks ∙ ap (λ (xs : List ℕ). k ∷ xs) (all_done_by n ks each.1)
+
+pub none_done_by : (n : ℕ) (ks : List ℕ) → AllBehind n ks → done_by n ks ≡ []
+none_done_by n [] each = refl
+none_done_by n (k ∷ ks) each = test_is k n false (no (nat_le k n) refl) ks ∙ none_done_by n ks each.1
+  where
+    no : (b : Bool) → nat_le k n ≡ b → nat_le k n ≡ false
+    no false e = e
+    no true e = absurd (let le : k ≤ n = leb-true k n e in omega (arith, le, each.0))
+
+-- ---- the origin with its compactions
+
+module _ {O W : Type 0} (words : Standing O W) where
+  pub compacted_front : (o : O) (h x : List Entry) (ks : List ℕ) → AllWithin (length h) ks → compacted_at words o (h ++ x) ks ≡ compacted_at words o h ks
+  compacted_front o h x [] each = refl
+  compacted_front o h x (k ∷ ks) each =
+      compacted_front (words.compacts o (take k (h ++ x))) h x ks each.1
+      ∙ ap (λ (t : List Entry). compacted_at words (words.compacts o t) h ks) (take-append-le k h x each.0)
+
+  compacted_append : (o : O) (h : List Entry) (xs ys : List ℕ) → compacted_at words o h (xs ++ ys) ≡ compacted_at words (compacted_at words o h xs) h ys
+  compacted_append o h [] ys = refl
+  compacted_append o h (x ∷ xs) ys = compacted_append (words.compacts o (take x h)) h xs ys
+
+  -- the compaction of a step behind entries
+  one_compacted : (o : O) (h x : List Entry) (step : Step) → compacted_at words o (h ++ x) (count_at (length h) step) ≡ origin_after words o h step
+  one_compacted o h x (Feed c bytes) = refl
+  one_compacted o h x (Take c) = refl
+  one_compacted o h x (Reopen c) = refl
+  one_compacted o h x (Drain c) = refl
+  one_compacted o h x Restart = refl
+  one_compacted o h x Compact = ap (λ (t : List Entry). words.compacts o t) (take-append_seam h x)
+
+  -- the origin behind the compactions that were done is the same, whatever comes later
+  pub origin_is : (o : O) (h x : List Entry) (ks later : List ℕ) → AllWithin (length h) ks → AllBehind (length (h ++ x)) later
+      → origin_behind words o (ks ++ later) (h ++ x) ≡ compacted_at words o h ks
+  origin_is o h x ks later each none =
+      let n : ℕ = length (h ++ x) in
+      let all : done_by n (ks ++ later) ≡ ks =
+      filter-append (λ k. nat_le k n) ks later ∙ ap (λ (xs : List ℕ). done_by n ks ++ xs) (none_done_by n later none) ∙ append-nil (done_by n ks)
+      ∙ all_done_by n ks (wider (length h) n ks (omega (arith, length-append h x)) each) in
+      ap (λ (xs : List ℕ). compacted_at words o (h ++ x) xs) all ∙ compacted_front o h x ks each
+    where
+      wider : (m n : ℕ) (ks : List ℕ) → m ≤ n → AllWithin m ks → AllWithin n ks
+      wider m n [] le each = tt
+      wider m n (k ∷ ks) le each = (omega (arith, le, each.0), wider m n ks le each.1)
+
+  module _ (first : W) (o : O) (h : List Entry) (steps : List Step) where
+    abbrev d : Directory
+    d = words.directory first
+
+    abbrev s : State
+    s = state_at words first o h
+
+    abbrev es : List Entry
+    es = entries_at words first o h steps
+
+    abbrev ks : List ℕ
+    ks = compactions_at words first o h steps
+
+    pub counts_within : AllWithin (length (h ++ es)) ks
+    counts_within = go ks (compactions_between d s (no_bytes d) (length h) steps)
+      where
+        go : (xs : List ℕ) → AllByRecursion (λ k. (length h ≤ k) × (k ≤ length h + length es)) xs → AllWithin (length (h ++ es)) xs
+        go [] each = tt
+        go (x ∷ xs) each = (omega (arith, each.0.1, length-append h es), go xs each.1)
+
+    -- the compactions of one step more
+    pub counts_more : (step : Step) → compactions_at words first o h (steps ++ step ∷ []) ≡ ks ++ count_at (length (h ++ es)) step
+    counts_more step =
+        compactions_go_on d s (length h) steps (step ∷ []) ∙ ap (λ (xs : List ℕ). ks ++ xs) (append-nil (count_at (length h + length es) step))
+        ∙ ap (λ (n : ℕ). ks ++ count_at n step) (sym (length-append h es))
+
+    pub origin_more : (step : Step) (added : List Entry) → h ++ entries_at words first o h (steps ++ step ∷ []) ≡ (h ++ es) ++ added
+        → compacted_at words o (h ++ entries_at words first o h (steps ++ step ∷ [])) (compactions_at words first o h (steps ++ step ∷ []))
+        ≡ origin_after words (compacted_at words o (h ++ es) ks) (h ++ es) step
+    origin_more step added is =
+        let one : List ℕ = count_at (length (h ++ es)) step in
+        ap (λ (x : List Entry). compacted_at words o x (compactions_at words first o h (steps ++ step ∷ []))) is
+        ∙ ap (λ (xs : List ℕ). compacted_at words o ((h ++ es) ++ added) xs) (counts_more step)
+        ∙ compacted_append o ((h ++ es) ++ added) ks one
+        ∙ ap (λ (p : O). compacted_at words p ((h ++ es) ++ added) one) (compacted_front o (h ++ es) added ks counts_within)
+        ∙ one_compacted (compacted_at words o (h ++ es) ks) (h ++ es) added step
