@@ -173,7 +173,7 @@ drawn-accepted rows bs b qs all = drawn-more rows bs b qs all
 
 -- ---- one draw more
 
-last-more : {A : Type 0} (k : ℕ) (xs ys : List A) → last_of k (last_of k xs ++ ys) ≡ last_of k (xs ++ ys)
+pub last-more : {A : Type 0} (k : ℕ) (xs ys : List A) → last_of k (last_of k xs ++ ys) ≡ last_of k (xs ++ ys)
 last-more k xs ys =
     let m : ℕ = length xs - k in
     let low : m ≤ length xs = omega arith in
