@@ -171,22 +171,22 @@ module _ (d : Directory) (n : Need) (sound : is_sound d n ≡ true) where
           ext_get_or [] (map (λ (r : Buffer (List ℕ)). r.items) new.drawn.items) (map (λ (c : CircuitNeed). map (key_at n.bulletins) c.kept) n.circuits)
           (omega (arith, length-map new.drawn.items (λ (r : Buffer (List ℕ)). r.items), length-map n.circuits (λ (c : CircuitNeed). map (key_at n.bulletins) c.kept), count))
           (λ k inside.
-            let bound : k < length n.circuits = omega (arith, inside, length-map new.drawn.items (λ (r : Buffer (List ℕ)). r.items), count) in
-            get_or-map (λ (r : Buffer (List ℕ)). r.items) new.drawn.items k no_ring [] (omega (arith, bound, count))
-            ∙ ring_now k bound
-            ∙ sym (get_or-map (λ (c : CircuitNeed). map (key_at n.bulletins) c.kept) n.circuits k unused [] bound))
+          let bound : k < length n.circuits = omega (arith, inside, length-map new.drawn.items (λ (r : Buffer (List ℕ)). r.items), count) in
+          get_or-map (λ (r : Buffer (List ℕ)). r.items) new.drawn.items k no_ring [] (omega (arith, bound, count))
+          ∙ ring_now k bound
+          ∙ sym (get_or-map (λ (c : CircuitNeed). map (key_at n.bulletins) c.kept) n.circuits k unused [] bound))
 
       kept_now : map (λ (r : Buffer (List ℕ)). r.capacity) new.drawn.items ≡ map (λ (row : Circuit). row.kept) d.circuits
       kept_now =
           ext_get_or 0 (map (λ (r : Buffer (List ℕ)). r.capacity) new.drawn.items) (map (λ (row : Circuit). row.kept) d.circuits)
           (omega (arith, length-map new.drawn.items (λ (r : Buffer (List ℕ)). r.capacity), length-map d.circuits (λ (row : Circuit). row.kept), count, parts.same))
           (λ k inside.
-            let bound : k < length n.circuits = omega (arith, inside, length-map new.drawn.items (λ (r : Buffer (List ℕ)). r.capacity), count) in
-            get_or-map (λ (r : Buffer (List ℕ)). r.capacity) new.drawn.items k no_ring 0 (omega (arith, bound, count))
-            ∙ ap (λ (r : Buffer (List ℕ)). r.capacity) (draws.noted k bound)
-            ∙ ap (λ v. (get_or v.items k no_ring).capacity) all.drawn
-            ∙ sym (get_or-map (λ (r : Buffer (List ℕ)). r.capacity) none.drawn.items k no_ring 0 (omega (arith, bound, count, draws.count, ap (λ v. length v.items) all.drawn)))
-            ∙ ap (λ (ks : List ℕ). get_or ks k 0) begins.rings.kept)
+          let bound : k < length n.circuits = omega (arith, inside, length-map new.drawn.items (λ (r : Buffer (List ℕ)). r.capacity), count) in
+          get_or-map (λ (r : Buffer (List ℕ)). r.capacity) new.drawn.items k no_ring 0 (omega (arith, bound, count))
+          ∙ ap (λ (r : Buffer (List ℕ)). r.capacity) (draws.noted k bound)
+          ∙ ap (λ v. (get_or v.items k no_ring).capacity) all.drawn
+          ∙ sym (get_or-map (λ (r : Buffer (List ℕ)). r.capacity) none.drawn.items k no_ring 0 (omega (arith, bound, count, draws.count, ap (λ v. length v.items) all.drawn)))
+          ∙ ap (λ (ks : List ℕ). get_or ks k 0) begins.rings.kept)
 
       pub starts : Starts d n new
       starts = record {

@@ -168,8 +168,7 @@ drawn_counts key (kept ∷ drawn) =
     let some : sum_by (draws_among key) (kept ∷ drawn) ≡ draws_among key kept + sum_by (draws_among key) drawn = sum_by-cons (draws_among key) kept drawn in
     let split : there key (kept ++ rest) ≡ (there key kept || there key rest) = there_append key kept rest in
     let here = kept_counts key kept in
-    let more = drawn_counts key drawn in
-    (
+    let more = drawn_counts key drawn in (
       (λ e. let both = or_false (there key kept) (there key rest) (sym split ∙ e) in omega (arith, some, here.0 both.0, more.0 both.1)),
       (λ e. elim (or_cases (there key kept) (there key rest) (sym split ∙ e)) [ inl a ↦ omega (arith, some, here.1 a) | inr b ↦ omega (arith, some, more.1 b) ]),
     )
@@ -271,9 +270,10 @@ found_later x es (e ∷ rest) up all =
 
 each_found : (es : Entries Row) → Up Under (keys_in es) → AllByRecursion (Found es) es
 each_found [] up = tt
-each_found (e ∷ es) up =
-    (ap (λ (b : Bool). cond b (Some e.1) (lookup (is_at (bytes_below e.0)) es)) (same_test e.0 e.0 ∙ nat_list_eq_equiv.refl e.0),
-    found_later e es es up.0 (each_found es up.1))
+each_found (e ∷ es) up = (
+  ap (λ (b : Bool). cond b (Some e.1) (lookup (is_at (bytes_below e.0)) es)) (same_test e.0 e.0 ∙ nat_list_eq_equiv.refl e.0),
+  found_later e es es up.0 (each_found es up.1),
+)
 
 -- their lines
 lines_of : (t : Tally) (rows : Rows) (es : Entries Row) → IsCount t rows → AllByRecursion (Found rows.entries) es → flat_map entry_text es ≡ flat_map (key_line t) (keys_in (filter (λ e. is_counted e.1) es))
