@@ -1,5 +1,5 @@
 -- The keys of the rows that have numbers are those that are counted, each once, ascending.
-use Rattle.std.proofs.Common.{◌≡◌, ℕ, zero, suc, ◌+◌, ◌<◌, ◌≤◌, Bool, true, false, not, ◌&&◌, ◌||◌, ◌==◌, cond, ◌⊎◌, inl, inr, nat_eq, List, [], ◌∷◌, ◌++◌, length, map, filter, fold, flat_map, sum_by, Option, Some, None, refl, sym, ap, subst, ◌∙◌, arith}
+use Rattle.std.proofs.Common.{◌≡◌, ℕ, ◌+◌, ◌≤◌, Bool, true, false, not, ◌&&◌, ◌||◌, ◌==◌, cond, ◌⊎◌, inl, inr, nat_eq, List, [], ◌∷◌, ◌++◌, map, filter, fold, flat_map, sum_by, Option, Some, None, refl, sym, ap, subst, ◌∙◌, arith}
 use Rattle.std.specs.List.{list_any, AllByRecursion}
 use Rattle.std.specs.List.Sorted.{IsStrictlySortedBy}
 use Rattle.std.specs.Map.{lookup}
@@ -7,17 +7,16 @@ use Rattle.std.specs.Ordering.{match_ordering, ordering_reverse, is_eq}
 use Rattle.std.specs.declared.cmp.Ordering.{Ordering}
 use Rattle.std.specs.declared.cmp.Ordering.TheVariants.{Less, Equal, Greater}
 use Rattle.std.specs.Cmp.Lexicographic.{pointwise}
-use Rattle.std.specs.BTreeMap.{insert_entry, is_at, IsOrdered, get}
+use Rattle.std.specs.BTreeMap.{insert_entry, is_at}
 use Rattle.std.proofs.lemmas.Bool.{true≢false, eq-eqb, ne_eqb}
 use Rattle.std.proofs.lemmas.Cmp.{nat_list_cmp_total, nat_list_eq_equiv}
 use Rattle.std.proofs.lemmas.Map.Lookups.{exact_bytes}
-use Rattle.std.proofs.lemmas.List.{append-nil, append_assoc}
-use Rattle.std.proofs.lemmas.List.Sums.{sum_by-cons, sum_by-append}
+use Rattle.std.proofs.lemmas.List.Sums.{sum_by-cons}
 use Rattle.gts_count.specs.declared.recent.Recent.{Recent}
 use Rattle.gts_count.specs.declared.rows.Row.{Row}
 use Rattle.gts_count.specs.Tally.{Tally, is_of, once, bulletins, bytes, draws, draws_among}
 use Rattle.gts_count.specs.Table.{bytes_below, with_key, keys, key_line, key_text}
-use Rattle.gts_count.specs.Rows.{Rows, row_in, row_at, no_row, counted, IsCount}
+use Rattle.gts_count.specs.Rows.{Rows, row_in, counted, IsCount}
 use Rattle.gts_count.specs.Text.{is_counted, entry_text, key_lines}
 use Rattle.gts_count.proofs.RowLemmas.{same_numbers, same_test}
 use Rattle.gts_count.proofs.OrderedLemmas.{Up, one_list}
@@ -168,8 +167,7 @@ drawn_counts key (kept ∷ drawn) =
     let some : sum_by (draws_among key) (kept ∷ drawn) ≡ draws_among key kept + sum_by (draws_among key) drawn = sum_by-cons (draws_among key) kept drawn in
     let split : there key (kept ++ rest) ≡ (there key kept || there key rest) = there_append key kept rest in
     let here = kept_counts key kept in
-    let more = drawn_counts key drawn in
-    (
+    let more = drawn_counts key drawn in (
       (λ e. let both = or_false (there key kept) (there key rest) (sym split ∙ e) in omega (arith, some, here.0 both.0, more.0 both.1)),
       (λ e. elim (or_cases (there key kept) (there key rest) (sym split ∙ e)) [ inl a ↦ omega (arith, some, here.1 a) | inr b ↦ omega (arith, some, more.1 b) ]),
     )
@@ -271,9 +269,10 @@ found_later x es (e ∷ rest) up all =
 
 each_found : (es : Entries Row) → Up Under (keys_in es) → AllByRecursion (Found es) es
 each_found [] up = tt
-each_found (e ∷ es) up =
-    (ap (λ (b : Bool). cond b (Some e.1) (lookup (is_at (bytes_below e.0)) es)) (same_test e.0 e.0 ∙ nat_list_eq_equiv.refl e.0),
-    found_later e es es up.0 (each_found es up.1))
+each_found (e ∷ es) up = (
+  ap (λ (b : Bool). cond b (Some e.1) (lookup (is_at (bytes_below e.0)) es)) (same_test e.0 e.0 ∙ nat_list_eq_equiv.refl e.0),
+  found_later e es es up.0 (each_found es up.1),
+)
 
 -- their lines
 lines_of : (t : Tally) (rows : Rows) (es : Entries Row) → IsCount t rows → AllByRecursion (Found rows.entries) es → flat_map entry_text es ≡ flat_map (key_line t) (keys_in (filter (λ e. is_counted e.1) es))

@@ -1,9 +1,9 @@
 ghost use Rattle.std.specs.Prelude.{◌≡◌};
 ghost use Rattle.gts_count.specs.Numbers.{IsSound};
 
-use crate::steps::{compact, hear, leave, lose, restart, take};
 use crate::Parts;
 use crate::start::counting_of;
+use crate::steps::{compact, hear, leave, lose, restart, take};
 use crate::text::table;
 use gts_alphabet::NoMemory;
 use gts_directory::Directory;

@@ -170,11 +170,7 @@ fn note_kept(numbers: &mut Numbers, c: u32, kept: &[u64], keys: &BTreeMap<u64, [
 }
 
 /// Notes the kept draws of all circuits. Takes no memory.
-fn note_draws(
-    numbers: &mut Numbers,
-    circuits: &[CircuitNeed],
-    keys: &BTreeMap<u64, [u8; 11]>,
-)
+fn note_draws(numbers: &mut Numbers, circuits: &[CircuitNeed], keys: &BTreeMap<u64, [u8; 11]>)
     requires sound { IsSound numbers.old }
     requires circuits { length circuits.now ≡ length numbers.old.drawn.items }
     requires rows { HasEachRow keys.now numbers.old }
@@ -188,11 +184,7 @@ fn note_draws(
 }
 
 /// The numbers of a need. `NoMemory` where there is none for them.
-pub fn numbers_of(
-    alloc: Global,
-    directory: &Directory,
-    need: &Need,
-) -> Result<Numbers, NoMemory>
+pub fn numbers_of(alloc: Global, directory: &Directory, need: &Need) -> Result<Numbers, NoMemory>
     requires { IsTrue (is_sound directory.now (need_of need.now)) }
     ensures { IfOk result (Starts directory.now (need_of need.now)) }
 {
@@ -206,11 +198,7 @@ pub fn numbers_of(
 }
 
 /// What is kept beside a switch that stands for a need.
-pub fn counting_of(
-    alloc: Global,
-    directory: &Directory,
-    need: &Need,
-) -> Result<Counting, NoMemory>
+pub fn counting_of(alloc: Global, directory: &Directory, need: &Need) -> Result<Counting, NoMemory>
     requires { IsTrue (is_sound directory.now (need_of need.now)) }
     ensures sound { IfOk result (λ c. IsSound c.numbers) }
     ensures counts { IfOk result (λ c. (s : states.State) (h : List Entry)

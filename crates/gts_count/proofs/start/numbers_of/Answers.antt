@@ -1,4 +1,4 @@
-use Rattle.std.proofs.Common.{◌≡◌, ℕ, List, length, get_or, map, sym, ap, subst, ◌∙◌, arith}
+use Rattle.std.proofs.Common.{List, map, sym, subst, arith}
 use Rattle.std.specs.Prelude.{IsTrue, IsSome}
 use Rattle.std.specs.List.{All}
 use Rattle.std.specs.Ordering.{nat_cmp}
@@ -38,8 +38,8 @@ note_draws-requires-clause-known c =
     let has = subst (λ (xs : List plain.Bulletin). HasKeys (map bulletin_of xs) c.in_ok-keys.keys) c.as_slice-bulletins.ensures c.in_ok-keys.ensures in
     subst (λ (xs : List needs.CircuitNeed). All (λ q. All (λ p. IsSome (get nat_cmp c.in_ok-keys.keys p)) q.kept) xs) (sym c.as_slice-circuits.ensures)
     (λ k q inside.
-      subst (λ (x : CircuitNeed). All (λ p. IsSome (get nat_cmp c.in_ok-keys.keys p)) x.kept) (get_or-map circuit_need_of cs k q unused inside)
-      (each_known c.args.directory.now n c.requires c.in_ok-keys.keys has k (omega (arith, inside, length-map cs circuit_need_of))))
+    subst (λ (x : CircuitNeed). All (λ p. IsSome (get nat_cmp c.in_ok-keys.keys p)) x.kept) (get_or-map circuit_need_of cs k q unused inside)
+    (each_known c.args.directory.now n c.requires c.in_ok-keys.keys has k (omega (arith, inside, length-map cs circuit_need_of))))
 
 pub returns : goal.returns
 returns c =
