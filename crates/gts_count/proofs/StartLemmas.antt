@@ -1,11 +1,10 @@
 -- The numbers of a start: nothing, and what is noted.
-use Rattle.std.proofs.Common.{◌≡◌, ℕ, zero, suc, ◌+◌, ◌-◌, ◌<◌, ◌≤◌, ◌^◌, min, Bool, true, false, ◌&&◌, ◌==◌, cond, List, [], ◌∷◌, ◌++◌, length, get_or, set, take, drop, map, filter, replicate, sum_by, slice_get, Option, Some, None, refl, sym, ap, subst, ◌∙◌, arith, length-append}
-use Rattle.std.specs.Prelude.{IsTrue, is_ok}
+use Rattle.std.proofs.Common.{◌≡◌, ℕ, zero, suc, ◌+◌, ◌-◌, ◌<◌, ◌≤◌, ◌^◌, Bool, true, false, cond, List, [], ◌∷◌, ◌++◌, length, get_or, take, drop, map, replicate, sum_by, slice_get, Some, refl, sym, ap, subst, ◌∙◌, arith}
+use Rattle.std.specs.Prelude.{IsTrue}
 use Rattle.std.specs.List.{All}
 use Rattle.std.specs.Map.{lookup}
 use Rattle.std.specs.BTreeMap.{is_at}
 use Rattle.std.proofs.Math.Seq.{take-suc}
-use Rattle.std.proofs.lemmas.Bool.{true≢false}
 use Rattle.std.proofs.lemmas.List.{append-nil, length-map, length-replicate, map-append}
 use Rattle.std.proofs.lemmas.List.Sums.{sum_by-cons}
 use Rattle.std.proofs.lemmas.List.Elements.{All-append}
@@ -18,9 +17,9 @@ use Rattle.gts_event.proofs.LawLemmas.{bulletin-parts}
 use Rattle.gts_count.specs.declared.recent.Recent.{Recent}
 use Rattle.gts_count.specs.declared.rows.Row.{Row}
 use Rattle.gts_count.specs.declared.numbers.Numbers.{Numbers}
-use Rattle.gts_count.specs.Tally.{Tally, came, draws_among, key_of, recent_of, recent_in}
+use Rattle.gts_count.specs.Tally.{came, draws_among, key_of, recent_of, recent_in}
 use Rattle.gts_count.specs.Table.{bytes_below}
-use Rattle.gts_count.specs.Rows.{Rows, row_in, row_at, has_row, no_row, counted, IsCount}
+use Rattle.gts_count.specs.Rows.{row_in, has_row, no_row, counted}
 use Rattle.gts_count.specs.Numbers.{IsSound, IsRing, IsSmall, tally_of}
 use Rattle.gts_count.specs.Counting.{Notes, Prepares}
 use Rattle.gts_count.specs.Start.{HasRings, Begins, NotesStart, nothing_drawn}

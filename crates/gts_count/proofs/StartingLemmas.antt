@@ -1,7 +1,7 @@
 -- A start is noted item by item: its bulletins, the keys by their positions, and the kept draws.
-use Rattle.std.proofs.Common.{◌≡◌, ℕ, zero, suc, ◌+◌, ◌-◌, ◌<◌, ◌≤◌, Bool, true, false, ◌==◌, cond, ◌⊎◌, inl, inr, List, [], ◌∷◌, ◌++◌, length, get_or, set, take, drop, map, filter, Option, Some, None, is_some, refl, sym, ap, subst, ◌∙◌, arith, length-append, append_assoc}
-use Rattle.std.specs.Prelude.{IsTrue, IsSome, option_map, unwrap_or}
-use Rattle.std.specs.List.{All, find}
+use Rattle.std.proofs.Common.{◌≡◌, ℕ, suc, ◌+◌, ◌-◌, ◌<◌, ◌≤◌, Bool, true, false, ◌==◌, cond, ◌⊎◌, inl, inr, List, [], ◌∷◌, ◌++◌, length, get_or, set, take, drop, map, filter, Option, Some, None, is_some, refl, sym, ap, subst, ◌∙◌, arith, length-append, append_assoc}
+use Rattle.std.specs.Prelude.{IsTrue, option_map, unwrap_or}
+use Rattle.std.specs.List.{All}
 use Rattle.std.specs.Ordering.{nat_cmp, is_eq}
 use Rattle.std.specs.declared.cmp.Ordering.TheVariants.{Less, Equal, Greater}
 use Rattle.std.specs.Cmp.{nat_cmp_is}
@@ -19,9 +19,9 @@ use Rattle.gts_count.specs.declared.recent.Recent.{Recent}
 use Rattle.gts_count.specs.declared.numbers.Numbers.{Numbers}
 use Rattle.gts_count.specs.Tally.{key_of, recent_of, recent_in}
 use Rattle.gts_count.specs.Rows.{has_row}
-use Rattle.gts_count.specs.Numbers.{IsSound, IsRing, no_ring, ring_at, kept_with}
+use Rattle.gts_count.specs.Numbers.{IsSound, no_ring, ring_at, kept_with}
 use Rattle.gts_count.specs.Counting.{NotesDraw}
-use Rattle.gts_count.specs.Start.{HasRings, HaveRows, NotesStart, NotesAll, HasKeys, at_position, key_by, HasEachRow, ring_with, NotesKept, NotesDraws}
+use Rattle.gts_count.specs.Start.{NotesStart, NotesAll, HasKeys, at_position, key_by, ring_with, NotesKept, NotesDraws}
 use Rattle.gts_count.proofs.StateLemmas.{last-more}
 use Rattle.gts_count.proofs.SoundLemmas.{single}
 

@@ -1,5 +1,5 @@
 -- A call on a switch with running numbers beside it is one of the switch.
-use Rattle.std.proofs.Common.{◌≡◌, ℕ, Bool, true, false, List, [], ◌∷◌, ◌++◌, Result, Ok, Err, refl, sym, ap, subst, ◌∙◌}
+use Rattle.std.proofs.Common.{◌≡◌, ℕ, Bool, true, false, List, [], ◌∷◌, ◌++◌, Result, Err, refl, sym, ap, subst, ◌∙◌}
 use Rattle.gts_frame.specs.declared.kind.Kind.{Kind}
 use Rattle.gts_directory.specs.Directory.{Directory}
 use Rattle.gts_event.specs.State.{State}
@@ -10,11 +10,11 @@ use Rattle.gts_event.specs.declared.event.Entry.{Entry}
 use Rattle.gts_event.specs.declared.event.Entry.TheVariants.{Idle}
 use Rattle.gts_event.specs.declared.outcome.Outcome.{Outcome}
 use Rattle.gts_event.specs.declared.fault.SwitchFault.{SwitchFault}
-use Rattle.gts_event.specs.declared.fault.SwitchFault.TheVariants.{DiskFault, NoMemory}
+use Rattle.gts_event.specs.declared.fault.SwitchFault.TheVariants.{NoMemory}
 use Rattle.gts_event.proofs.LawLemmas.{after_all-append}
 use Rattle.gts_record.specs.declared.fault.OpenFault.{OpenFault}
 use Rattle.gts_opening.specs.Room.{IsAccepted}
-use Rattle.gts_turns.specs.Turns.{Standing, IsTurn, IsReopening, IsCompacting, LeavesFrame, MayLeave, IsCause, entry_of, restart_of, outcome_at}
+use Rattle.gts_turns.specs.Turns.{Standing, IsTurn, IsReopening, IsCompacting, MayLeave, IsCause, entry_of, restart_of, outcome_at}
 use Rattle.gts_count.specs.declared.parts.Parts.{Parts}
 use Rattle.gts_count.specs.declared.counting.Counting.{Counting}
 use Rattle.gts_event.specs.Need.{need}

@@ -1,6 +1,5 @@
 -- The table as it is written from the running numbers.
-use Rattle.std.specs.Prelude.{ℕ, ◌+◌, Bool, not, ◌&&◌, ◌==◌, List, [], ◌∷◌, ◌++◌, length, map, flat_map, codes, if◌then◌else◌}
-use Rattle.std.specs.BTreeMap.{BTreeMap}
+use Rattle.std.specs.Prelude.{ℕ, ◌+◌, Bool, not, ◌&&◌, ◌==◌, List, [], ◌∷◌, ◌++◌, length, flat_map, codes, if◌then◌else◌}
 use Rattle.circular_buffer.specs.Buffer.{Buffer}
 use Rattle.gts_count.specs.declared.rows.Row.{Row}
 use Rattle.gts_count.specs.declared.numbers.Numbers.{Numbers}

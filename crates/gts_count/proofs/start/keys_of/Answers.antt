@@ -1,4 +1,4 @@
-use Rattle.std.proofs.Common.{◌≡◌, List, map, take, sym, subst}
+use Rattle.std.proofs.Common.{List, map, take, sym, subst}
 use Rattle.std.specs.Prelude.{IsTrue, is_ok}
 use Rattle.gts_message.specs.Message.{body_at}
 use Rattle.gts_event.specs.State.{Bulletin}

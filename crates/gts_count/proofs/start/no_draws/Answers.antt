@@ -1,6 +1,6 @@
-use Rattle.std.proofs.Common.{List, [], ◌∷◌, ◌++◌, sym, subst, ◌∙◌}
+use Rattle.std.proofs.Common.{[], sym, subst, ◌∙◌}
 use Rattle.std.specs.List.{All}
-use Rattle.circular_buffer.specs.Buffer.{Buffer, buffer}
+use Rattle.circular_buffer.specs.Buffer.{buffer}
 use Rattle.gts_directory.specs.Directory.{Circuit}
 use Rattle.gts_directory.specs.Rows.{circuit_of_row}
 use Rattle.gts_count.specs.Numbers.{IsRing}

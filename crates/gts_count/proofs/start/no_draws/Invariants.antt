@@ -1,6 +1,6 @@
-use Rattle.std.proofs.Common.{◌≡◌, ℕ, List, [], map, take}
+use Rattle.std.proofs.Common.{◌≡◌, [], map, take}
 use Rattle.std.specs.List.{All}
-use Rattle.circular_buffer.specs.Buffer.{Buffer, buffer}
+use Rattle.circular_buffer.specs.Buffer.{buffer}
 use Rattle.gts_directory.specs.Directory.{Circuit}
 use Rattle.gts_count.specs.Numbers.{IsRing}
 use Rattle.gts_count.proofs.start.no_draws.Given as goal

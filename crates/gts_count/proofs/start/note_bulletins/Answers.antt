@@ -1,4 +1,4 @@
-use Rattle.std.proofs.Common.{◌≡◌, List, map, take, sym, subst, arith}
+use Rattle.std.proofs.Common.{List, map, take, sym, subst}
 use Rattle.gts_event.specs.State.{Bulletin}
 use Rattle.gts_event.specs.Items.{bulletin_of}
 use Rattle.gts_count.specs.Start.{NotesAll}

@@ -1,4 +1,4 @@
-use Rattle.std.proofs.Common.{◌≡◌, map, take}
+use Rattle.std.proofs.Common.{map, take}
 use Rattle.gts_event.specs.Items.{bulletin_of}
 use Rattle.gts_count.specs.Start.{NotesAll}
 use Rattle.gts_count.proofs.start.note_bulletins.Given as goal

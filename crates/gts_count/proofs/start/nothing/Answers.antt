@@ -1,4 +1,4 @@
-use Rattle.std.proofs.Common.{◌≡◌, ◌≤◌, ℕ, [], ap, ◌∙◌, arith, replicate}
+use Rattle.std.proofs.Common.{ℕ, [], ap, ◌∙◌, arith, replicate}
 use Rattle.circular_buffer.specs.Buffer.{buffer}
 use Rattle.gts_count.specs.declared.recent.Recent.{Recent}
 use Rattle.gts_count.proofs.StartLemmas.{begins}
