@@ -144,7 +144,7 @@ module _ {S P : Type 0} (source : SourceWords S) (w : StationWords P) (od nd : S
       journal = λ fault of files tells told. absurd (of_memory fault files of);
       disk_fault = λ of. absurd (cc);
       source_fault = λ of. absurd (cc);
-      only_syncs = λ told. inr (inl (known told).synced);
+      only_syncs = λ told. inl (known told).synced;
       say = (h.kept e is).1;
       later = (h.kept e is).0;
     });
@@ -242,9 +242,13 @@ module _ {S P : Type 0} (source : SourceWords S) (w : StationWords P) (od nd : S
         record {
           done = λ of. absurd (cc);
           full = λ a b c of.
-              let one : Full used wanted limit ≡ Full a b c = of in
-              let F : Status → Type 0 = λ s. elim s [ Full x y z ↦ Over source w od old (λ d n. IsTooLarge d n x y z (w.calls old) (w.calls new.station)) | _ ↦ Unit {0} ] in
-              subst F one (over new.station (λ d n. IsTooLarge d n used wanted limit (w.calls old) (w.calls new.station)) (λ k. record { sum = sum k; synced = calls_are k }));
+              let one : used ≡ a = cc in
+              let two : wanted ≡ b = cc in
+              let three : limit ≡ c = cc in
+              subst (λ (x : ℕ). Over source w od old (λ d n. IsTooLarge d n x b c (w.calls old) (w.calls new.station))) one
+              (subst (λ (x : ℕ). Over source w od old (λ d n. IsTooLarge d n used x c (w.calls old) (w.calls new.station))) two
+              (subst (λ (x : ℕ). Over source w od old (λ d n. IsTooLarge d n used wanted x (w.calls old) (w.calls new.station))) three
+              (over new.station (λ d n. IsTooLarge d n used wanted limit (w.calls old) (w.calls new.station)) (λ k. record { sum = sum k; synced = calls_are k }))));
           refused = λ ends. absurd ends;
           disk_fault = λ of. absurd (cc);
           ends = tt;
