@@ -5,14 +5,12 @@ use Rattle.gts_traits.specs.declared.source.Source.{Ghosts as SourceWords}
 use Rattle.gts_traits.specs.declared.station.Station.{Ghosts as StationWords}
 use Rattle.gts_traits.specs.Counts.{Rose}
 use Rattle.gts_traits.specs.Moments.{EachSince}
-use Rattle.gts_traits.specs.Station.{Call, Did, Syncs, Outside, seen, said_by}
+use Rattle.gts_traits.specs.Station.{Call, Did, Syncs, seen, said_by}
 use Rattle.gts_directory.specs.Directory as directories
 use Rattle.gts_dirfile.specs.{directory_of_bytes}
 use Rattle.gts_event.specs.State.{State}
 use Rattle.gts_event.specs.Need.{Need, need, begun, is_sound}
-use Rattle.gts_event.specs.declared.event.Entry.{Entry}
 use Rattle.gts_event.specs.declared.fault.Device.{Device}
-use Rattle.gts_event.specs.declared.fault.Device.TheVariants.{Disk, Say}
 use Rattle.gts_event.specs.declared.fault.SwitchFault.{SwitchFault}
 use Rattle.gts_event.specs.declared.fault.SwitchFault.TheVariants as switch
 use Rattle.gts_record.specs.declared.fault.OpenFault.{OpenFault}
@@ -29,8 +27,8 @@ use Rattle.gts_engine.specs.Origin.{compacted_after}
 use Rattle.gts_engine.specs.Keeping.{Keeps, HasSaid, OpensWith, origin_of}
 use Rattle.gts_engine.specs.Compacting.{IsCompaction, IsRewritten, GivesRoom, IsIdleFault, StaysAt, IsCompactFault}
 use Rattle.gts_app.specs.declared.status.Status.{Status}
-use Rattle.gts_app.specs.declared.status.Status.TheVariants.{Done, Directory, DiskFault, SourceFault, Full, NoMemory}
-use Rattle.gts_app.specs.Opening.{IsOfFiles, IsRefusal, Opens, Refuses}
+use Rattle.gts_app.specs.declared.status.Status.TheVariants.{Done, DiskFault, Full, NoMemory}
+use Rattle.gts_app.specs.Opening.{IsOfFiles, IsRefusal, Opens}
 use Rattle.gts_app.specs.Ending.{refusal, status_compacted}
 use Rattle.gts_app.specs.Compact.{Compacts, IsCompacted, IsTooLarge, IsCompactEnd, Over, StaysThere}
 use Rattle.gts_app.proofs.RefusalLemmas.{refused, refusals, no_fault, same_directory, one_answer}

@@ -19,11 +19,11 @@ AllWithin n ks = AllByRecursion (λ k. k ≤ n) ks
 
 done_within : (n : ℕ) (ks : List ℕ) → AllWithin n (done_by n ks)
 done_within n [] = tt
-done_within n (k ∷ ks) = go (nat_le k n) refl
+done_within n (k ∷ ks) = go (done_within n ks) (nat_le k n) refl
   where
-    go : (b : Bool) → nat_le k n ≡ b → AllWithin n (done_by n (k ∷ ks))
-    go true e = subst (λ (xs : List ℕ). AllWithin n xs) (sym (ap (λ (t : Bool). cond t (k ∷ done_by n ks) (done_by n ks)) e)) (leb-true k n e, done_within n ks)
-    go false e = subst (λ (xs : List ℕ). AllWithin n xs) (sym (ap (λ (t : Bool). cond t (k ∷ done_by n ks) (done_by n ks)) e)) (done_within n ks)
+    go : AllWithin n (done_by n ks) → (b : Bool) → nat_le k n ≡ b → AllWithin n (done_by n (k ∷ ks))
+    go rest true e = subst (λ (xs : List ℕ). AllWithin n xs) (sym (ap (λ (t : Bool). cond t (k ∷ done_by n ks) (done_by n ks)) e)) (leb-true k n e, rest)
+    go rest false e = subst (λ (xs : List ℕ). AllWithin n xs) (sym (ap (λ (t : Bool). cond t (k ∷ done_by n ks) (done_by n ks)) e)) rest
 
 -- the origin with these compactions more
 abbrev pub with_more : {tells : Type 0} → Told tells → List ℕ → Told tells

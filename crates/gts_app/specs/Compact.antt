@@ -6,7 +6,6 @@ use Rattle.gts_traits.specs.Counts.{Rose}
 use Rattle.gts_traits.specs.Moments.{EachSince}
 use Rattle.gts_traits.specs.Station.{Call, Did, Syncs, seen, said_by}
 use Rattle.gts_directory.specs.Directory as directories
-use Rattle.gts_directory.specs.declared.fault.DirFault.{DirFault}
 use Rattle.gts_dirfile.specs.declared.limits.TheConstants.{LONGEST_DIRECTORY}
 use Rattle.gts_dirfile.specs.{directory_of_bytes}
 use Rattle.gts_event.specs.Need.{Need, begun}
@@ -18,9 +17,9 @@ use Rattle.gts_opening.specs.Journal.{opens, selected}
 use Rattle.gts_opening.specs.Room.{compacted_size, full_compacted}
 use Rattle.gts_engine.specs.Keeping.{OpensWith, IsFullCompacted}
 use Rattle.gts_app.specs.declared.status.Status.{Status}
-use Rattle.gts_app.specs.declared.status.Status.TheVariants.{Done, Directory, NoJournal, OldVersion, NotThis, Damaged, DiskFault, SourceFault, Full, NoMemory}
+use Rattle.gts_app.specs.declared.status.Status.TheVariants.{Done, DiskFault, Full, NoMemory}
 use Rattle.gts_app.specs.Ending.{refusal}
-use Rattle.gts_app.specs.Opening.{IsOfFiles, IsRefusal, Refuses}
+use Rattle.gts_app.specs.Opening.{IsRefusal, Refuses}
 
 -- where source and station tell, the directory is read under which the files open to a need, and this holds of both
 abbrev pub Over : {S P : Type 0} → SourceWords S → StationWords P → S → P → (directories.Directory → Need → Type 0) → Type 0

@@ -106,9 +106,7 @@ fn are_sent_by<R: AllocGlobal + Threads + Wait + Sync + Abort>(
 
 /// Whether two stations have the same files.
 fn have_same_files(left: &MemStation, plain: &MemStation) -> bool {
-    left.file(0) == plain.file(0)
-        && left.file(1) == plain.file(1)
-        && left.file(2) == plain.file(2)
+    left.file(0) == plain.file(0) && left.file(1) == plain.file(1) && left.file(2) == plain.file(2)
 }
 
 /// So it is after a crash in this call, whatever it leaves. Where no place of the journal was touched, each choice leaves the
