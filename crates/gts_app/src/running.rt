@@ -8,6 +8,7 @@ use crate::commands::compact::compact;
 use crate::commands::gaps::gaps;
 use crate::commands::generate::generate;
 use crate::commands::init::init;
+use crate::commands::migrate::migrate;
 use crate::commands::pack::pack;
 use crate::commands::replay::replay;
 use crate::commands::serve::serve;
@@ -20,8 +21,8 @@ use std::alloc::Global;
 use std::sync::Wait;
 use std::thread::Threads;
 
-/// Runs the command that the words name: `init`, `replay`, `serve`, `show`, `compact`, `generate`, `unpack`, `pack` or `gaps`. The
-/// station and the capture are handed back.
+/// Runs the command that the words name: `init`, `replay`, `serve`, `show`, `compact`, `generate`, `migrate`, `unpack`, `pack` or
+/// `gaps`. The station and the capture are handed back.
 pub fn run<R, S, P, L, G>(
     rt: &R,
     alloc: Global,
@@ -103,6 +104,10 @@ where
         }
         Command::Generate { count } => {
             let status = generate(alloc, count, &mut station);
+            (status, station, capture)
+        }
+        Command::Migrate => {
+            let (status, station) = migrate(alloc, directory, &mut capture, station);
             (status, station, capture)
         }
         Command::Pack => {
