@@ -289,12 +289,12 @@ module _ {S P : Type 0} (source : SourceWords S) (station : StationWords P) (d o
       → full_compacted d (widened (length d.circuits) s) ≡ None
       → (Rose (station.disk_faults old) (station.disk_faults new) → ⊥) → (status_migrated r ≡ Done) ⊎ (status_migrated r ≡ NoMemory)
   complete (Ok done) x t s used is free quiet = inl refl
-  complete (Err (fault.Open opening.NoJournal)) x t s used is free quiet = absurd (two_answers (need o (restarted s)) opening.NoJournal _ (need_of o _ s used is) (x.answers t).0)
-  complete (Err (fault.Open opening.OldVersion)) x t s used is free quiet = absurd (two_answers (need o (restarted s)) opening.OldVersion _ (need_of o _ s used is) (x.answers t).0)
+  complete (Err (fault.Open opening.NoJournal)) x t s used is free quiet = absurd (two_answers (need o (restarted s)) opening.NoJournal _ (need_of o (seen (station.calls old)) s used is) (x.answers t).0)
+  complete (Err (fault.Open opening.OldVersion)) x t s used is free quiet = absurd (two_answers (need o (restarted s)) opening.OldVersion _ (need_of o (seen (station.calls old)) s used is) (x.answers t).0)
   complete (Err (fault.Open (opening.NotThis want found))) x t s used is free quiet =
-      absurd (two_answers (need o (restarted s)) (opening.NotThis want found) _ (need_of o _ s used is) (x.answers t).0)
+      absurd (two_answers (need o (restarted s)) (opening.NotThis want found) _ (need_of o (seen (station.calls old)) s used is) (x.answers t).0)
   complete (Err (fault.Open (opening.Damaged file at))) x t s used is free quiet =
-      absurd (two_answers (need o (restarted s)) (opening.Damaged file at) _ (need_of o _ s used is) (x.answers t).0)
+      absurd (two_answers (need o (restarted s)) (opening.Damaged file at) _ (need_of o (seen (station.calls old)) s used is) (x.answers t).0)
   complete (Err (fault.Open opening.DiskFault)) x t s used is free quiet = absurd (quiet (x.disk tt))
   complete (Err (fault.Open opening.NoMemory)) x t s used is free quiet = inr refl
   complete (Err (fault.Full at wanted limit)) x t s used is free quiet = let f = x.full t s used is in absurd (no_room _ _ f.1 free)
