@@ -1,9 +1,8 @@
 -- What the commands come to that read a stream or a capture and use no journal.
-use Rattle.std.proofs.Common.{◌≡◌, ◌≤◌, ℕ, List, Ok, Err, inl, inr, refl, sym, ap, subst, arith}
+use Rattle.std.proofs.Common.{◌≡◌, ℕ, Ok, Err, inl, inr, refl, sym, ap, subst, arith}
 use Rattle.std.specs.Prelude.{◌⊎◌}
 use Rattle.gts_traits.specs.declared.source.Source.{Ghosts as SourceWords}
 use Rattle.gts_traits.specs.declared.station.Station.{Ghosts as StationWords}
-use Rattle.gts_traits.specs.Counts.{Rose}
 use Rattle.gts_traits.specs.{seen}
 use Rattle.gts_directory.specs.Directory as directories
 use Rattle.gts_directory.specs.declared.fault.DirFault.{DirFault}
@@ -16,24 +15,26 @@ use Rattle.gts_missing.specs.declared.moment.Moment.{Moment}
 use Rattle.gts_missing.specs.declared.fault.GapsEnd.{GapsEnd}
 use Rattle.gts_missing.specs.declared.fault.GapsEnd.TheVariants as gaps
 use Rattle.gts_app.specs.declared.status.Status.{Status}
-use Rattle.gts_app.specs.declared.status.Status.TheVariants.{Done, Words, Directory, Capture, NoJournal, OldVersion, NotThis, Damaged, Exists, Accum, DiskFault, SourceFault, SayFault, Full, LineFault, LongSession, Spent, NoMemory}
+use Rattle.gts_app.specs.declared.status.Status.TheVariants.{Done, Words, Directory, OldDirectory, Changed, Capture, NoJournal, OldVersion, NotThis, Damaged, Exists, Accum, DiskFault, SourceFault, SayFault, Full, LineFault, LongSession, Spent, NoMemory}
 use Rattle.gts_app.specs.Reading.{IsReadEnd, ReadsDirectory}
-use Rattle.gts_app.specs.Replay.{World, world}
+use Rattle.gts_app.specs.Replay.{world}
 use Rattle.gts_app.specs.Pack.{status_packed, PackedAs, KeepsFiles, PacksStream}
 use Rattle.gts_app.specs.Gaps.{status_named, NamedAs, NamesGaps}
 
 -- ---- where there is no directory
 
 -- the ends that reading a directory has
-abbrev Ended : Status → Type 0
+abbrev pub Ended : Status → Type 0
 Ended status = ((fault : DirFault) × (status ≡ Directory fault)) ⊎ ((status ≡ SourceFault) ⊎ (status ≡ NoMemory))
 
-ended : (status : Status) → IsReadEnd status → Ended status
+pub ended : (status : Status) → IsReadEnd status → Ended status
 ended (Directory fault) e = inl (fault, refl)
 ended SourceFault e = inr (inl refl)
 ended NoMemory e = inr (inr refl)
 ended Done e = absurd e
 ended Words e = absurd e
+ended (OldDirectory _) e = absurd e
+ended (Changed _ _) e = absurd e
 ended (Capture _) e = absurd e
 ended NoJournal e = absurd e
 ended OldVersion e = absurd e

@@ -1,15 +1,18 @@
 -- The words that name a command which is built, and what each command comes to.
 use Rattle.std.specs.Prelude.{◌≡◌, ℕ, List, Option, Some}
 use Rattle.gts_words.specs.declared.command.Command.{Command}
-use Rattle.gts_words.specs.declared.command.Command.TheVariants.{Init, Replay, Serve, Show, Compact, Generate, Unpack, Pack, Gaps}
+use Rattle.gts_words.specs.declared.command.Command.TheVariants.{Init, Replay, Serve, Show, Compact, Generate, Migrate, Unpack, Pack, Gaps}
 use Rattle.gts_words.specs.{command_of}
 pub use Rattle.gts_app.specs.Generate.{Generates}
 pub use Rattle.gts_app.specs.Init.{Inits}
 pub use Rattle.gts_app.specs.Replay.{Replays, world, IsNoCapture}
 pub use Rattle.gts_app.specs.Serve.{Serves}
-pub use Rattle.gts_app.specs.Show.{Shows}
+use Rattle.gts_app.specs.Show.{Shows}
 use Rattle.gts_app.specs.Pack.{PacksStream}
 use Rattle.gts_app.specs.Gaps.{NamesGaps}
+use Rattle.gts_app.specs.Unpack.{Unpacks}
+use Rattle.gts_app.specs.Compact.{Compacts}
+use Rattle.gts_app.specs.Migrate.{Migrates}
 use Rattle.gts_app.specs.Replay.{World}
 use Rattle.gts_app.specs.declared.status.Status.{Status}
 use Rattle.gts_traits.specs.declared.source.Source.{Ghosts as SourceWords}
@@ -22,9 +25,10 @@ IsBuilt Init = Unit {0}
 IsBuilt Replay = Unit {0}
 IsBuilt Show = Unit {0}
 IsBuilt (Serve connections) = Unit {0}
-IsBuilt Compact = ⊥
+IsBuilt Compact = Unit {0}
 IsBuilt (Generate count) = Unit {0}
-IsBuilt (Unpack c) = ⊥
+IsBuilt Migrate = Unit {0}
+IsBuilt (Unpack c) = Unit {0}
 IsBuilt Pack = Unit {0}
 IsBuilt (Gaps day hour minute) = Unit {0}
 
@@ -32,13 +36,33 @@ IsBuilt (Gaps day hour minute) = Unit {0}
 abbrev pub IsCommand : List (List ℕ) → Type 0
 IsCommand words = (command : Command) × (command_of words ≡ Some command) × IsBuilt command
 
+-- the command names a circuit, which the directory might not have
+abbrev pub NamesCircuit : Command → Type 0
+NamesCircuit (Unpack c) = Unit {0}
+NamesCircuit _ = ⊥
+
+-- the words name a command that is built, and no circuit
+abbrev pub IsSettled : List (List ℕ) → Type 0
+IsSettled words = (command : Command) × (command_of words ≡ Some command) × IsBuilt command × (NamesCircuit command → ⊥)
+
 -- the moment of a request
 abbrev pub moment_at : (day hour minute : ℕ) → Moment
 moment_at day hour minute = record { day = day; hour = hour; minute = minute }
 
--- what comes of the commands that read beside the directory alone, and no journal
+-- what comes of the commands that read something else than a capture through a switch: a file, a stream, an old directory, or a
+-- capture alone
 abbrev pub ReadsApart : {S P : Type 0} → SourceWords S → StationWords P → Option Command → Status → (old new : World S S P) → Type 0
 ReadsApart source station command status old new =
-    (command ≡ Some Pack → PacksStream source station status old new)
+    ((c : ℕ) → command ≡ Some (Unpack c) → Unpacks source station c status old new)
+    × (command ≡ Some Pack → PacksStream source station status old new)
+    × (command ≡ Some Migrate → Migrates source station status old new)
     × ((day hour minute : ℕ) → command ≡ Some (Gaps day hour minute)
     → NamesGaps source station (moment_at day hour minute) status old new)
+
+-- what comes of the commands that open the journal, and read no capture
+abbrev pub OpensJournal : {S P : Type 0} → SourceWords S → StationWords P → Option Command → Status → (old new : World S S P) → Type 0
+OpensJournal source station command status old new =
+    (command ≡ Some Show → (new.capture ≡ old.capture)
+    × Shows source station status old.directory old.station new.directory new.station)
+    × (command ≡ Some Compact → (new.capture ≡ old.capture)
+    × Compacts source station status old.directory old.station new.directory new.station)

@@ -20,7 +20,7 @@ use gts_traits::Station;
 use std::alloc::Global;
 
 /// The bytes of a compacted journal beside its checkpoint and the seal: header, and two gates.
-pub(crate) const BESIDE_CHECKPOINT: u64 = 42;
+const BESIDE_CHECKPOINT: u64 = 42;
 
 /// Whether a checkpoint of this size leaves room for all draws that are due.
 fn check_checkpoint<P: Station>(parts: &Parts<P>, size: u64) -> Result<(), SwitchFault>

@@ -1,7 +1,8 @@
 -- A journal that is opened in the version that its magic tells is never one of an older version.
-use Rattle.std.proofs.Common.{◌≡◌, ℕ, zero, suc, ◌+◌, ◌-◌, Bool, true, false, ◌==◌, nat_eq, nat_lt, List, [], ◌∷◌, length, take, drop, cond, Option, Some, None, Result, Ok, Err, refl, sym, subst}
+use Rattle.std.proofs.Common.{◌≡◌, ℕ, zero, suc, ◌+◌, ◌-◌, Bool, true, false, ◌==◌, nat_eq, nat_lt, List, [], ◌∷◌, length, take, drop, cond, Option, Some, None, Result, Ok, Err, refl, sym, ap, subst, ◌∙◌, inl, inr}
 use Rattle.std.specs.List.{starts_with}
 use Rattle.std.specs.Cmp.Lexicographic.{pointwise}
+use Rattle.std.proofs.lemmas.Bool.{cases_Bool}
 use Rattle.gts_traits.specs.Station.{Files}
 use Rattle.gts_directory.specs.Directory.{Directory}
 use Rattle.gts_event.specs.State.{State, empty}
@@ -13,7 +14,7 @@ use Rattle.gts_record.specs.declared.fault.OpenFault.{OpenFault}
 use Rattle.gts_record.specs.declared.fault.OpenFault.TheVariants.{NoJournal, OldVersion, NotThis, Damaged, DiskFault, NoMemory}
 use Rattle.gts_record.specs.Record.{Record, open_gate, record_text}
 use Rattle.gts_record.specs.Format.{magic, seal, first_seal, is_older, record_size}
-use Rattle.gts_opening.specs.Journal.{Read, opened_of, admits_checkpoint, need_in, checkpoint_text, compacted_bytes, event_of_record, record_behind, records_at, checkpoint_opens, behind_header, behind_magic, bytes_open, file_opens, agreeing, selected}
+use Rattle.gts_opening.specs.Journal.{Opened, Read, opened_of, admits_checkpoint, need_in, checkpoint_text, compacted_bytes, event_of_record, record_behind, records_at, checkpoint_opens, behind_header, behind_magic, bytes_open, file_opens, files_open_in, agreeing, selected}
 use Rattle.gts_journal.specs.{version_of, selected_bytes}
 use Rattle.gts_recovery.specs.Opened.{IsAnswer, opens_any}
 

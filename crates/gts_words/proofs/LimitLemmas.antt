@@ -7,7 +7,7 @@ use Rattle.std.specs.Str.Parse.{digits_value}
 use Rattle.std.proofs.lemmas.Bool.{leb-true, and_parts}
 use Rattle.gts_words.specs.declared.count.TheConstants.{MOST_GENERATED, LONGEST_COUNT, MOST_CONNECTIONS, LONGEST_CONNECTIONS}
 use Rattle.gts_words.specs.declared.command.Command.{Command}
-use Rattle.gts_words.specs.declared.command.Command.TheVariants.{Init, Replay, Serve, Show, Compact, Generate, Unpack, Pack, Gaps}
+use Rattle.gts_words.specs.declared.command.Command.TheVariants.{Init, Replay, Serve, Show, Compact, Generate, Migrate, Unpack, Pack, Gaps}
 use Rattle.gts_words.specs.Commands.{same, alone, is_count, count_in, number_in, circuit_in, is_moment, gaps_of, moment_in, command_of}
 
 -- a command has no count, or one within the limits
@@ -20,18 +20,20 @@ abbrev AllWithin : Option Command → Type 0
 AllWithin None = Unit {0}
 AllWithin (Some command) = IsWithin command
 
-one_of : (a b c d e f : Bool)
-    → AllWithin (cond a (Some Init) (cond b (Some Replay) (cond c (Some (Serve 1)) (cond d (Some Show) (cond e (Some Compact) (cond f (Some Pack) None))))))
-one_of true b c d e f = tt
-one_of false true c d e f = tt
-one_of false false true d e f = (omega arith, omega arith)
-one_of false false false true e f = tt
-one_of false false false false true f = tt
-one_of false false false false false true = tt
-one_of false false false false false false = tt
+-- one of two
+either : (b : Bool) (x y : Option Command) → AllWithin x → AllWithin y → AllWithin (cond b x y)
+either true x y first rest = first
+either false x y first rest = rest
 
 alone_within : (name : List ℕ) → AllWithin (alone name)
-alone_within name = one_of (same name (codes "init")) (same name (codes "replay")) (same name (codes "serve")) (same name (codes "show")) (same name (codes "compact")) (same name (codes "pack"))
+alone_within name =
+    either (same name (codes "init")) (Some Init) _ tt
+    (either (same name (codes "replay")) (Some Replay) _ tt
+    (either (same name (codes "serve")) (Some (Serve 1)) _ (omega arith, omega arith)
+    (either (same name (codes "show")) (Some Show) _ tt
+    (either (same name (codes "compact")) (Some Compact) _ tt
+    (either (same name (codes "migrate")) (Some Migrate) _ tt
+    (either (same name (codes "pack")) (Some Pack) None tt tt))))))
 
 -- a word that spells a count
 spelled : (longest top : ℕ) (w : List ℕ) → is_count longest top w ≡ true → (1 ≤ digits_value 10 w) × (digits_value 10 w ≤ top)

@@ -1,6 +1,6 @@
 -- Worked rows: lists of words, and what they are.
 use Rattle.std.specs.Prelude.{◌≡◌, [], ◌∷◌, None, Some, codes}
-use Rattle.gts_words.specs.declared.command.Command.TheVariants.{Init, Replay, Serve, Show, Compact, Generate, Unpack, Pack, Gaps}
+use Rattle.gts_words.specs.declared.command.Command.TheVariants.{Init, Replay, Serve, Show, Compact, Generate, Migrate, Unpack, Pack, Gaps}
 use Rattle.gts_words.specs.Commands.{command_of}
 
 -- Each command of one word.
@@ -10,6 +10,7 @@ OneWord = (command_of (codes "init" ∷ []) ≡ Some Init)
     × (command_of (codes "serve" ∷ []) ≡ Some (Serve 1))
     × (command_of (codes "show" ∷ []) ≡ Some Show)
     × (command_of (codes "compact" ∷ []) ≡ Some Compact)
+    × (command_of (codes "migrate" ∷ []) ≡ Some Migrate)
     × (command_of (codes "pack" ∷ []) ≡ Some Pack)
 
 -- A count has one to six digits and a value from 1 to 100,000.
@@ -54,6 +55,7 @@ NoCommands = (command_of [] ≡ None)
     × (command_of (codes "--help" ∷ []) ≡ None)
     × (command_of (codes "replay" ∷ codes "replay" ∷ []) ≡ None)
     × (command_of (codes "show" ∷ codes "1" ∷ []) ≡ None)
+    × (command_of (codes "migrate" ∷ codes "1" ∷ []) ≡ None)
     × (command_of (codes "generate" ∷ []) ≡ None)
     × (command_of (codes "generate" ∷ codes "5" ∷ codes "5" ∷ []) ≡ None)
     × (command_of (codes "Show" ∷ []) ≡ None)

@@ -18,6 +18,8 @@ pub enum Command {
     Compact,
     /// To work through so many messages that it makes itself.
     Generate { count: u32 },
+    /// To take the journal over under a directory that extends its own.
+    Migrate,
     /// To work through a file of accumulated bulletins, with its messages on this circuit.
     Unpack { c: u32 },
     /// To make a file of accumulated bulletins of a stream of frames.

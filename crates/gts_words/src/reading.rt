@@ -59,6 +59,8 @@ fn alone(name: &str) -> Option<Command>
         Some(Command::Show)
     } else if name == "compact" {
         Some(Command::Compact)
+    } else if name == "migrate" {
+        Some(Command::Migrate)
     } else if name == "pack" {
         Some(Command::Pack)
     } else {

@@ -14,7 +14,7 @@ fn read(alloc: Global, words: &[&str]) -> Result<Result<Command, WordsFault>, Fa
 
 #[test]
 fn the_lists_that_are_defined_are_commands(rt: HostRuntime) -> Result<(), Fail> {
-    let cases: [(&[&str], Command); 15] = [
+    let cases: [(&[&str], Command); 16] = [
         (&["init"], Command::Init),
         (&["replay"], Command::Replay),
         (&["serve"], Command::Serve { connections: 1 }),
@@ -23,6 +23,7 @@ fn the_lists_that_are_defined_are_commands(rt: HostRuntime) -> Result<(), Fail> 
         (&["serve", "1000"], Command::Serve { connections: 1000 }),
         (&["show"], Command::Show),
         (&["compact"], Command::Compact),
+        (&["migrate"], Command::Migrate),
         (&["generate", "200"], Command::Generate { count: 200 }),
         (&["generate", "000001"], Command::Generate { count: 1 }),
         (

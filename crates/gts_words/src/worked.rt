@@ -2,7 +2,7 @@
 
 ghost use Rattle.gts_words.specs.Worked.{OneWord, Counts, ConnectionCounts, DigitWords, NoCommands};
 
-/// Six commands are one word.
+/// Each command that is one word.
 pub fn commands_of_one_word()
     ensures { OneWord }
 {}

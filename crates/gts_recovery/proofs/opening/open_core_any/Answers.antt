@@ -1,7 +1,7 @@
-use Rattle.std.proofs.Common.{◌≡◌, true, List, ℕ, None, subst, ap, ◌∙◌, arith}
+use Rattle.std.proofs.Common.{◌≡◌, true, List, ℕ, None, subst, sym, ap, ◌∙◌, arith}
 use Rattle.gts_record.specs.declared.version.Version.{Version}
 use Rattle.gts_record.specs.Format.{first_seal}
-use Rattle.gts_traits.specs.Station.{seen}
+use Rattle.gts_traits.specs.Station.{Call, seen}
 use Rattle.gts_journal.specs.{fault_sought, version_of, selected_bytes, IsFaultOf}
 use Rattle.gts_recovery.proofs.EitherLemmas.{not_older}
 use Rattle.gts_recovery.proofs.OpenLemmas.{header_answer, started, opened_any, records_answer, same_opened}

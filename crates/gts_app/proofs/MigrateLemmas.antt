@@ -1,0 +1,339 @@
+-- What `migrate` comes to: where a directory is refused, where a row doesn't stay, and behind the opening of the journal.
+use Rattle.std.specs.Prelude.{OnOk}
+use Rattle.std.proofs.Common.{◌≡◌, ◌≤◌, ◌⊎◌, ℕ, ◌+◌, List, [], ◌∷◌, ◌++◌, length, Option, None, Some, Result, Ok, Err, inl, inr, refl, sym, ap, subst, ◌∙◌, arith}
+use Rattle.gts_traits.specs.declared.source.Source.{Ghosts as SourceWords}
+use Rattle.gts_traits.specs.declared.station.Station.{Ghosts as StationWords}
+use Rattle.gts_traits.specs.Counts.{Rose}
+use Rattle.gts_traits.specs.Station.{Call, Did, Syncs, Files, seen, said_by}
+use Rattle.gts_traits.specs.Moments.{EachSince}
+use Rattle.gts_directory.specs.Directory as directories
+use Rattle.gts_directory.specs.Extending.{Extends, first_change}
+use Rattle.gts_directory.specs.declared.extending.Change.{Change}
+use Rattle.gts_directory.specs.declared.fault.DirFault.{DirFault}
+use Rattle.gts_dirfile.specs.{directory_of_bytes}
+use Rattle.gts_event.specs.State.{State}
+use Rattle.gts_event.specs.History.{restarted}
+use Rattle.gts_event.specs.Need.{Need, need}
+use Rattle.gts_event.specs.declared.fault.SwitchFault.{SwitchFault}
+use Rattle.gts_record.specs.declared.fault.OpenFault.{OpenFault}
+use Rattle.gts_record.specs.declared.fault.OpenFault.TheVariants as opening
+use Rattle.gts_journal.specs.{OnlySyncs}
+use Rattle.gts_opening.specs.Journal.{Opened}
+use Rattle.gts_opening.specs.Room.{full_compacted}
+use Rattle.gts_recovery.specs.Wider.{widened}
+use Rattle.gts_recovery.specs.Opened.{IsAnswer, opens_any, files_open_any}
+use Rattle.gts_engine.specs.Keeping.{IsFullCompacted}
+use Rattle.gts_migrate.specs.Migrating.{OpensEither, IsMigrated, GivesRoomFor, AnswersOpening, WasOpened, LeavesFiles, IsDiskFaultOf}
+use Rattle.gts_migrate.specs.declared.migrating.MigrateFault.{MigrateFault}
+use Rattle.gts_migrate.specs.declared.migrating.MigrateFault.TheVariants as fault
+use Rattle.gts_app.specs.declared.status.Status.{Status}
+use Rattle.gts_app.specs.declared.status.Status.TheVariants.{Done, Words, Directory, OldDirectory, Changed, Capture, NoJournal, OldVersion, NotThis, Damaged, Exists, Accum, DiskFault, SourceFault, SayFault, Full, LineFault, LongSession, Spent, NoMemory}
+use Rattle.gts_app.specs.Ending.{refusal}
+use Rattle.gts_app.specs.Reading.{IsReadEnd, IsOldReadEnd, ReadsDirectory, ReadsOldDirectory}
+use Rattle.gts_app.specs.Replay.{World, world}
+use Rattle.gts_app.specs.Migrate.{status_migrated, AreRead, UnderBoth, OpensUnder, IsRefusedBy, MigratedAs, LeavesJournal, IsCalm, ReadsFew, Migrates}
+use Rattle.gts_app.proofs.RefusalLemmas.{same_directory, no_fault}
+use Rattle.gts_app.proofs.StreamLemmas.{Ended, ended}
+
+-- nothing of a source was read
+none_taken : {S : Type 0} (source : SourceWords S) (at : S) → ReadsFew source at at
+none_taken source at tells = ([], refl, omega arith)
+
+-- the ends that reading the old directory has
+abbrev OldEnded : Status → Type 0
+OldEnded status = ((e : DirFault) × (status ≡ OldDirectory e)) ⊎ ((status ≡ SourceFault) ⊎ (status ≡ NoMemory))
+
+old_ended : (status : Status) → IsOldReadEnd status → OldEnded status
+old_ended (OldDirectory e) h = inl (e, refl)
+old_ended SourceFault h = inr (inl refl)
+old_ended NoMemory h = inr (inr refl)
+old_ended Done h = absurd h
+old_ended Words h = absurd h
+old_ended (Directory _) h = absurd h
+old_ended (Changed _ _) h = absurd h
+old_ended (Capture _) h = absurd h
+old_ended NoJournal h = absurd h
+old_ended OldVersion h = absurd h
+old_ended (NotThis _ _) h = absurd h
+old_ended (Damaged _ _) h = absurd h
+old_ended (Exists _) h = absurd h
+old_ended (Accum _) h = absurd h
+old_ended DiskFault h = absurd h
+old_ended SayFault h = absurd h
+old_ended (Full _ _ _) h = absurd h
+old_ended (LineFault _) h = absurd h
+old_ended (LongSession _) h = absurd h
+old_ended (Spent _) h = absurd h
+
+-- ---- the directory was not read
+
+pub new_unread : {S P : Type 0} (source : SourceWords S) (station : StationWords P) (status : Status) (od nd oc : S) (at : P)
+    → ReadsDirectory source (Err status) od nd → Migrates source station status (world od oc at) (world nd oc at)
+new_unread {S} {P} source station status od nd oc at h =
+    let end : Ended status = ended status (h.ends status refl) in
+    record {
+      means = means end;
+      moments = λ tells told new old n read is. inl (inr (inl refl));
+      silent = λ told. refl;
+      old_refused = λ tells new e read bad calm. inr (only_memory tells new read calm.0 end);
+      changed = λ tells new old c read first calm. inr (only_memory tells new read.0 calm.0 end);
+      answered = λ tells told new old e read extends bad calm quiet. inr (only_memory tells new read.0 calm.0 end);
+      complete = λ tells told new old s used read extends is free calm quiet. inr (only_memory tells new read.0 calm.0 end);
+      taken = h.taken;
+      old_taken = none_taken source oc;
+      counts = (h.cause.later, omega arith, omega arith, refl);
+    }
+  where
+    means : Ended status → MigratedAs source station status (world od oc at) (world nd oc at)
+    means (inl e) =
+        subst (λ (s : Status). MigratedAs source station s (world od oc at) (world nd oc at)) (sym e.1)
+        ((refl, refl), λ tells. h.fault tells e.0 (ap (λ (s : Status). Err s) e.1))
+    means (inr (inl e)) =
+        subst (λ (s : Status). MigratedAs source station s (world od oc at) (world nd oc at)) (sym e)
+        (refl, inl (h.cause.failed (ap (λ (s : Status). Err s) e)))
+    means (inr (inr e)) = subst (λ (s : Status). MigratedAs source station s (world od oc at) (world nd oc at)) (sym e) tt
+
+    only_memory : source.tells → (new : directories.Directory) → directory_of_bytes (source.left od) ≡ Ok new → (Rose (source.faults od) (source.faults nd) → ⊥) → Ended status → status ≡ NoMemory
+    only_memory tells new read calm (inl e) = absurd (no_fault new e.0 (directory_of_bytes (source.left od)) read (h.fault tells e.0 (ap (λ (s : Status). Err s) e.1)))
+    only_memory tells new read calm (inr (inl e)) = absurd (calm (h.cause.failed (ap (λ (s : Status). Err s) e)))
+    only_memory tells new read calm (inr (inr e)) = e
+
+-- ---- the old directory was not read
+
+pub old_unread : {S P : Type 0} (source : SourceWords S) (station : StationWords P) (status : Status) (d : directories.Directory) (od nd oc nc : S) (at : P)
+    → ReadsDirectory source (Ok d) od nd → ReadsOldDirectory source (Err status) oc nc → Migrates source station status (world od oc at) (world nd nc at)
+old_unread {S} {P} source station status d od nd oc nc at first h =
+    let end : OldEnded status = old_ended status (h.ends status refl) in
+    record {
+      means = means end;
+      moments = λ tells told new old n read is. inl (inr (inl refl));
+      silent = λ told. refl;
+      old_refused = λ tells new e read bad calm. refused tells e bad calm.1 end;
+      changed = λ tells new old c read first calm. inr (only_memory tells old read.1 calm.1 end);
+      answered = λ tells told new old e read extends bad calm quiet. inr (only_memory tells old read.1 calm.1 end);
+      complete = λ tells told new old s used read extends is free calm quiet. inr (only_memory tells old read.1 calm.1 end);
+      taken = first.taken;
+      old_taken = h.taken;
+      counts = (first.cause.later, h.cause.later, omega arith, refl);
+    }
+  where
+    means : OldEnded status → MigratedAs source station status (world od oc at) (world nd nc at)
+    means (inl e) =
+        subst (λ (s : Status). MigratedAs source station s (world od oc at) (world nd nc at)) (sym e.1)
+        (refl, λ tells. (d, first.read tells d refl, h.fault tells e.0 (ap (λ (s : Status). Err s) e.1)))
+    means (inr (inl e)) =
+        subst (λ (s : Status). MigratedAs source station s (world od oc at) (world nd nc at)) (sym e)
+        (refl, inr (h.cause.failed (ap (λ (s : Status). Err s) e)))
+    means (inr (inr e)) = subst (λ (s : Status). MigratedAs source station s (world od oc at) (world nd nc at)) (sym e) tt
+
+    only_memory : source.tells → (old : directories.Directory) → directory_of_bytes (source.left oc) ≡ Ok old → (Rose (source.faults oc) (source.faults nc) → ⊥) → OldEnded status → status ≡ NoMemory
+    only_memory tells old read calm (inl e) = absurd (no_fault old e.0 (directory_of_bytes (source.left oc)) read (h.fault tells e.0 (ap (λ (s : Status). Err s) e.1)))
+    only_memory tells old read calm (inr (inl e)) = absurd (calm (h.cause.failed (ap (λ (s : Status). Err s) e)))
+    only_memory tells old read calm (inr (inr e)) = e
+
+    one_fault : (a b : DirFault) (r : Result directories.Directory DirFault) → r ≡ Err a → r ≡ Err b → a ≡ b
+    one_fault a b r one other = cc
+
+    refused : source.tells → (e : DirFault) → directory_of_bytes (source.left oc) ≡ Err e → (Rose (source.faults oc) (source.faults nc) → ⊥) → OldEnded status
+        → (status ≡ OldDirectory e) ⊎ (status ≡ NoMemory)
+    refused tells e bad calm (inl x) =
+        inl (x.1 ∙ ap (λ (y : DirFault). OldDirectory y) (one_fault x.0 e (directory_of_bytes (source.left oc)) (h.fault tells x.0 (ap (λ (s : Status). Err s) x.1)) bad))
+    refused tells e bad calm (inr (inl x)) = absurd (calm (h.cause.failed (ap (λ (s : Status). Err s) x)))
+    refused tells e bad calm (inr (inr x)) = inr x
+
+-- ---- both were read
+
+one_change : (a b : Change) (r : Option Change) → r ≡ Some a → r ≡ Some b → a ≡ b
+one_change a b r one other = cc
+
+module _ {S P : Type 0} (source : SourceWords S) (station : StationWords P) (d o : directories.Directory) (od nd oc nc : S) (first : ReadsDirectory source (Ok d) od nd) (second : ReadsOldDirectory source (Ok o) oc nc) where
+  both : source.tells → (directory_of_bytes (source.left od) ≡ Ok d) × (directory_of_bytes (source.left oc) ≡ Ok o)
+  both tells = (first.read tells d refl, second.read tells o refl)
+
+  new_is : source.tells → (new : directories.Directory) → directory_of_bytes (source.left od) ≡ Ok new → d ≡ new
+  new_is tells new read = same_directory d new (directory_of_bytes (source.left od)) (both tells).0 read
+
+  old_is : source.tells → (old : directories.Directory) → directory_of_bytes (source.left oc) ≡ Ok old → o ≡ old
+  old_is tells old read = same_directory o old (directory_of_bytes (source.left oc)) (both tells).1 read
+
+  never_refused : source.tells → (e : DirFault) → directory_of_bytes (source.left oc) ≡ Err e → ⊥
+  never_refused tells e bad = no_fault o e (directory_of_bytes (source.left oc)) (both tells).1 bad
+
+  -- a row doesn't stay
+  pub row_changed : (c : Change) (at : P) → first_change d o ≡ Some c → (Extends d o → ⊥) → Migrates source station (Changed c.part c.row) (world od oc at) (world nd nc at)
+  row_changed c at is apart =
+      let both_read : UnderBoth source (world od oc at) (λ new old. first_change new old ≡ Some (record { part = c.part; row = c.row })) =
+          record { new = d; old = o; read = both; holds = is } in
+      record {
+        means = (refl, both_read);
+        moments = λ tells told new old n read opened. inl (inr (inl refl));
+        silent = λ told. refl;
+        old_refused = λ tells new e read bad calm. absurd (never_refused tells e bad);
+        changed = λ tells new old other read there calm.
+            let same : first_change d o ≡ Some other =
+                ap (λ (x : directories.Directory). first_change x o) (new_is tells new read.0) ∙ ap (first_change new) (old_is tells old read.1) ∙ there in
+            let one : c ≡ other = one_change c other (first_change d o) is same in
+            inl (ap (λ (x : Change). Changed x.part x.row) one);
+        answered = λ tells told new old e read extends bad calm quiet. absurd (apart_from tells new old read extends);
+        complete = λ tells told new old s used read extends opened free calm quiet. absurd (apart_from tells new old read extends);
+        taken = first.taken;
+        old_taken = second.taken;
+        counts = (first.cause.later, second.cause.later, omega arith, refl);
+      }
+    where
+      apart_from : source.tells → (new old : directories.Directory) → AreRead source (world od oc at) new old → Extends new old → ⊥
+      apart_from tells new old read extends =
+          apart (subst (λ (x : directories.Directory). Extends d x) (sym (old_is tells old read.1)) (subst (λ (x : directories.Directory). Extends x old) (sym (new_is tells new read.0)) extends))
+
+-- ---- the journal was to be taken over
+
+-- what the files of an answer open to
+abbrev need_opened : directories.Directory → Opened → Result Need OpenFault
+need_opened d opened = elim opened as (λ _. Result Need OpenFault) [ Err e ↦ Err e | Ok x ↦ Ok (need d (restarted x.0)) ]
+
+files_of : (d : directories.Directory) (files : Files) (n : Need) → opens_any d files ≡ Ok n → (s : State) × (used : ℕ) × (files_open_any d files ≡ Ok (s, used))
+files_of d files n e = go (files_open_any d files) refl e
+  where
+    go : (opened : Opened) → files_open_any d files ≡ opened → need_opened d opened ≡ Ok n → (s : State) × (used : ℕ) × (files_open_any d files ≡ Ok (s, used))
+    go (Ok x) is e = (x.0, x.1, is)
+    go (Err f) is e = absurd (let none : Err f ≡ Ok n = e in cc none)
+
+need_of : (d : directories.Directory) (files : Files) (s : State) (used : ℕ) → files_open_any d files ≡ Ok (s, used) → opens_any d files ≡ Ok (need d (restarted s))
+need_of d files s used e = ap (need_opened d) e
+
+two_answers : (n : Need) (e : OpenFault) (opened : Result Need OpenFault) → opened ≡ Ok n → opened ≡ Err e → ⊥
+two_answers n e opened one other = cc
+
+one_open : (a b : OpenFault) (opened : Result Need OpenFault) → opened ≡ Err a → opened ≡ Err b → a ≡ b
+one_open a b opened one other = cc
+
+no_room : (x : SwitchFault) (r : Option SwitchFault) → r ≡ Some x → r ≡ None → ⊥
+no_room x r one other = cc
+
+-- it was opened, or nothing but a sync was done
+opened_or_left : (r : Result (Unit {0}) MigrateFault) → WasOpened r ⊎ LeavesFiles r
+opened_or_left (Ok done) = inl tt
+opened_or_left (Err (fault.Open e)) = inr tt
+opened_or_left (Err (fault.Full used need limit)) = inl tt
+opened_or_left (Err fault.DiskFault) = inl tt
+opened_or_left (Err fault.NoMemory) = inl tt
+
+-- What is known of an answer, over the station before and after.
+pub record Known (tells : Type 0) (d o : directories.Directory) (r : Result (Unit {0}) MigrateFault) (before after : List Call) (disk_before disk_after : ℕ) : Type 0 where
+  pub moments : tells → (n : Need) → WasOpened r → opens_any o (seen before) ≡ Ok n → EachSince (Did Syncs ∷ before) after (OpensEither o d n)
+  pub migrated : tells → (s : State) (used : ℕ) → files_open_any o (seen before) ≡ Ok (s, used) → OnOk r (IsMigrated o d s before after)
+  pub full : tells → (s : State) (used : ℕ) → files_open_any o (seen before) ≡ Ok (s, used) → GivesRoomFor r d (widened (length d.circuits) s)
+  pub answers : tells → AnswersOpening r (opens_any o (seen before))
+  pub told : tells → LeavesFiles r → OnlySyncs before after
+  pub disk : IsDiskFaultOf r → Rose disk_before disk_after
+
+module _ {S P : Type 0} (source : SourceWords S) (station : StationWords P) (d o : directories.Directory) (od nd oc nc : S) (first : ReadsDirectory source (Ok d) od nd) (second : ReadsOldDirectory source (Ok o) oc nc)
+    (extends : Extends d o) (stays : (c : Change) → first_change d o ≡ Some c → ⊥) (old new : P) where
+  abbrev Ends : Result (Unit {0}) MigrateFault → Type 0
+  Ends r = Known station.tells d o r (station.calls old) (station.calls new) (station.disk_faults old) (station.disk_faults new)
+
+  read_both : source.tells → (directory_of_bytes (source.left od) ≡ Ok d) × (directory_of_bytes (source.left oc) ≡ Ok o)
+  read_both tells = (first.read tells d refl, second.read tells o refl)
+
+  refused_by : (e : OpenFault) → (station.tells → opens_any o (seen (station.calls old)) ≡ Err e) → IsRefusedBy source station (world od oc old) e
+  refused_by e is = record { new = d; old = o; read = read_both; holds = (extends, is) }
+
+  means : (r : Result (Unit {0}) MigrateFault) → Ends r → MigratedAs source station (status_migrated r) (world od oc old) (world nd nc new)
+  means (Ok done) e = record {
+    new = d;
+    old = o;
+    read = read_both;
+    holds = record {
+      extends = extends;
+      opened = λ t.
+          let x = files_of o (seen (station.calls old)) (e.answers t).0 (e.answers t).1 in
+          (x.0, x.1, x.2, e.migrated t x.0 x.1 x.2);
+    };
+  }
+  means (Err (fault.Open opening.NoJournal)) e = refused_by opening.NoJournal (λ t. (e.answers t).0)
+  means (Err (fault.Open opening.OldVersion)) e = λ t. (e.answers t).1 refl
+  means (Err (fault.Open (opening.NotThis want found))) e = refused_by (opening.NotThis want found) (λ t. (e.answers t).0)
+  means (Err (fault.Open (opening.Damaged file at))) e = refused_by (opening.Damaged file at) (λ t. (e.answers t).0)
+  means (Err (fault.Open opening.DiskFault)) e = e.disk tt
+  means (Err (fault.Open opening.NoMemory)) e = tt
+  means (Err (fault.Full used need limit)) e = record {
+    new = d;
+    old = o;
+    read = read_both;
+    holds = record {
+      extends = extends;
+      opened = λ t.
+          let x = files_of o (seen (station.calls old)) (e.answers t).0 (e.answers t).1 in
+          (x.0, x.1, x.2, e.full t x.0 x.1 x.2);
+    };
+  }
+  means (Err fault.DiskFault) e = e.disk tt
+  means (Err fault.NoMemory) e = tt
+
+  -- a fault of the files is answered
+  answered : (r : Result (Unit {0}) MigrateFault) → Ends r → station.tells → (e : OpenFault) → opens_any o (seen (station.calls old)) ≡ Err e
+      → (Rose (station.disk_faults old) (station.disk_faults new) → ⊥) → (status_migrated r ≡ refusal e) ⊎ (status_migrated r ≡ NoMemory)
+  answered (Ok done) x t e bad quiet = absurd (two_answers (x.answers t).0 e _ (x.answers t).1 bad)
+  answered (Err (fault.Open opening.NoJournal)) x t e bad quiet = inl (ap refusal (one_open opening.NoJournal e _ (x.answers t).0 bad))
+  answered (Err (fault.Open opening.OldVersion)) x t e bad quiet = inl (ap refusal (one_open opening.OldVersion e _ (x.answers t).0 bad))
+  answered (Err (fault.Open (opening.NotThis want found))) x t e bad quiet = inl (ap refusal (one_open (opening.NotThis want found) e _ (x.answers t).0 bad))
+  answered (Err (fault.Open (opening.Damaged file at))) x t e bad quiet = inl (ap refusal (one_open (opening.Damaged file at) e _ (x.answers t).0 bad))
+  answered (Err (fault.Open opening.DiskFault)) x t e bad quiet = absurd (quiet (x.disk tt))
+  answered (Err (fault.Open opening.NoMemory)) x t e bad quiet = inr refl
+  answered (Err (fault.Full used need limit)) x t e bad quiet = absurd (two_answers (x.answers t).0 e _ (x.answers t).1 bad)
+  answered (Err fault.DiskFault) x t e bad quiet = absurd (quiet (x.disk tt))
+  answered (Err fault.NoMemory) x t e bad quiet = inr refl
+
+  -- with room and without faults it is done
+  complete : (r : Result (Unit {0}) MigrateFault) → Ends r → station.tells → (s : State) (used : ℕ) → files_open_any o (seen (station.calls old)) ≡ Ok (s, used)
+      → full_compacted d (widened (length d.circuits) s) ≡ None
+      → (Rose (station.disk_faults old) (station.disk_faults new) → ⊥) → (status_migrated r ≡ Done) ⊎ (status_migrated r ≡ NoMemory)
+  complete (Ok done) x t s used is free quiet = inl refl
+  complete (Err (fault.Open opening.NoJournal)) x t s used is free quiet = absurd (two_answers (need o (restarted s)) opening.NoJournal _ (need_of o (seen (station.calls old)) s used is) (x.answers t).0)
+  complete (Err (fault.Open opening.OldVersion)) x t s used is free quiet = absurd (two_answers (need o (restarted s)) opening.OldVersion _ (need_of o (seen (station.calls old)) s used is) (x.answers t).0)
+  complete (Err (fault.Open (opening.NotThis want found))) x t s used is free quiet =
+      absurd (two_answers (need o (restarted s)) (opening.NotThis want found) _ (need_of o (seen (station.calls old)) s used is) (x.answers t).0)
+  complete (Err (fault.Open (opening.Damaged file at))) x t s used is free quiet =
+      absurd (two_answers (need o (restarted s)) (opening.Damaged file at) _ (need_of o (seen (station.calls old)) s used is) (x.answers t).0)
+  complete (Err (fault.Open opening.DiskFault)) x t s used is free quiet = absurd (quiet (x.disk tt))
+  complete (Err (fault.Open opening.NoMemory)) x t s used is free quiet = inr refl
+  complete (Err (fault.Full at wanted limit)) x t s used is free quiet = let f = x.full t s used is in absurd (no_room _ _ f.1 free)
+  complete (Err fault.DiskFault) x t s used is free quiet = absurd (quiet (x.disk tt))
+  complete (Err fault.NoMemory) x t s used is free quiet = inr refl
+
+  leaves : (r : Result (Unit {0}) MigrateFault) → Ends r → station.tells → (n : Need) → opens_any o (seen (station.calls old)) ≡ Ok n → LeavesJournal station (world od oc old) (world nd nc new) d o n
+  leaves r x t n is = elim (opened_or_left r) [
+    | inl was ↦ inr (x.moments t n was is)
+    | inr left ↦ inl (x.told t left)
+  ]
+
+  pub taken_over : (r : Result (Unit {0}) MigrateFault) (status : Status) → status ≡ status_migrated r → Ends r → (station.tells → said_by (station.calls new) ≡ said_by (station.calls old))
+      → station.disk_faults old ≤ station.disk_faults new → station.say_faults new ≡ station.say_faults old
+      → Migrates source station status (world od oc old) (world nd nc new)
+  taken_over r status is x silent later say =
+      subst (λ (s : Status). Migrates source station s (world od oc old) (world nd nc new)) (sym is) (record {
+        means = means r x;
+        moments = λ tells t other under n read opened.
+            let same = new_is source station d o od nd oc nc first second tells other read.0 in
+            let so = old_is source station d o od nd oc nc first second tells under read.1 in
+            subst (λ (y : directories.Directory). LeavesJournal station (world od oc old) (world nd nc new) other y n) so
+            (subst (λ (y : directories.Directory). LeavesJournal station (world od oc old) (world nd nc new) y o n) same
+            (leaves r x t n (subst (λ (y : directories.Directory). opens_any y (seen (station.calls old)) ≡ Ok n) (sym so) opened)));
+        silent = silent;
+        old_refused = λ tells other e read bad calm. absurd (never_refused source station d o od nd oc nc first second tells e bad);
+        changed = λ tells other under c read there calm.
+            let same = new_is source station d o od nd oc nc first second tells other read.0 in
+            let so = old_is source station d o od nd oc nc first second tells under read.1 in
+            absurd (stays c (ap (λ (y : directories.Directory). first_change y o) same ∙ ap (first_change other) so ∙ there));
+        answered = λ tells t other under e read more bad calm quiet.
+            let so = old_is source station d o od nd oc nc first second tells under read.1 in
+            answered r x t e (subst (λ (y : directories.Directory). opens_any y (seen (station.calls old)) ≡ Err e) (sym so) bad) quiet;
+        complete = λ tells t other under s used read more opened free calm quiet.
+            let same = new_is source station d o od nd oc nc first second tells other read.0 in
+            let so = old_is source station d o od nd oc nc first second tells under read.1 in
+            complete r x t s used (subst (λ (y : directories.Directory). files_open_any y (seen (station.calls old)) ≡ Ok (s, used)) (sym so) opened)
+            (subst (λ (y : directories.Directory). full_compacted y (widened (length y.circuits) s) ≡ None) (sym same) free) quiet;
+        taken = first.taken;
+        old_taken = second.taken;
+        counts = (first.cause.later, second.cause.later, later, say);
+      })

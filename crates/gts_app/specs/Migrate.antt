@@ -1,0 +1,137 @@
+-- What each end of the command `migrate` means for what it works on: the directory, the old directory in the place of a capture,
+-- and the station.
+use Rattle.std.specs.Prelude.{◌≡◌, ◌⊎◌, ℕ, ◌+◌, ◌≤◌, List, ◌∷◌, ◌++◌, length, None, Some, Result, Ok, Err}
+use Rattle.gts_traits.specs.declared.source.Source.{Ghosts as SourceWords}
+use Rattle.gts_traits.specs.declared.station.Station.{Ghosts as StationWords}
+use Rattle.gts_traits.specs.Counts.{Rose}
+use Rattle.gts_traits.specs.{Did, Syncs, seen, said_by, EachSince}
+use Rattle.gts_directory.specs.Directory as directories
+use Rattle.gts_directory.specs.Extending.{Extends, first_change}
+use Rattle.gts_directory.specs.declared.extending.Change.{Change}
+use Rattle.gts_directory.specs.declared.fault.DirFault.{DirFault}
+use Rattle.gts_dirfile.specs.declared.limits.TheConstants.{LONGEST_DIRECTORY}
+use Rattle.gts_dirfile.specs.{directory_of_bytes}
+use Rattle.gts_event.specs.State.{State}
+use Rattle.gts_event.specs.Need.{Need}
+use Rattle.gts_event.specs.declared.fault.SwitchFault.TheVariants as switch
+use Rattle.gts_record.specs.declared.fault.OpenFault.{OpenFault}
+use Rattle.gts_record.specs.declared.fault.OpenFault.TheVariants as opening
+use Rattle.gts_journal.specs.{OnlySyncs}
+use Rattle.gts_opening.specs.Room.{full_compacted}
+use Rattle.gts_recovery.specs.Wider.{widened}
+use Rattle.gts_recovery.specs.Opened.{opens_any, files_open_any}
+use Rattle.gts_engine.specs.Keeping.{IsFullCompacted}
+use Rattle.gts_migrate.specs.Migrating.{OpensEither, IsMigrated}
+use Rattle.gts_migrate.specs.declared.migrating.MigrateFault.{MigrateFault}
+use Rattle.gts_migrate.specs.declared.migrating.MigrateFault.TheVariants as fault
+use Rattle.gts_app.specs.declared.status.Status.{Status}
+use Rattle.gts_app.specs.declared.status.Status.TheVariants.{Done, Directory, OldDirectory, Changed, NoJournal, OldVersion, NotThis, Damaged, DiskFault, SourceFault, Full, NoMemory}
+use Rattle.gts_app.specs.Ending.{refusal}
+use Rattle.gts_app.specs.Opening.{IsOfFiles}
+use Rattle.gts_app.specs.Pack.{IsTurnedAway}
+use Rattle.gts_app.specs.Replay.{World}
+
+-- the status of a journal that was to be taken over
+abbrev pub status_migrated : Result (Unit {0}) MigrateFault → Status
+status_migrated (Ok done) = Done
+status_migrated (Err (fault.Open e)) = refusal e
+status_migrated (Err (fault.Full used need limit)) = Full used need limit
+status_migrated (Err fault.DiskFault) = DiskFault
+status_migrated (Err fault.NoMemory) = NoMemory
+
+-- the bytes of the two sources are these directories, the new one and the old one
+abbrev pub AreRead : {S P : Type 0} → SourceWords S → World S S P → directories.Directory → directories.Directory → Type 0
+AreRead source w new old = (directory_of_bytes (source.left w.directory) ≡ Ok new) × (directory_of_bytes (source.left w.capture) ≡ Ok old)
+
+-- two directories, which are those of the sources where these tell, of which this holds
+pub record UnderBoth {S P : Type 0} (source : SourceWords S) (w : World S S P)
+    (OfThem : directories.Directory → directories.Directory → Type 0) : Type 0 where
+  pub new : directories.Directory
+  pub old : directories.Directory
+  pub read : source.tells → AreRead source w new old
+  pub holds : OfThem new old
+
+-- The new directory extends the old one, and where the station tells, the files open to a state under that, of which this holds.
+pub record OpensUnder {S P : Type 0} (station : StationWords P) (w : World S S P) (new old : directories.Directory)
+    (OfIt : State → Type 0) : Type 0 where
+  pub extends : Extends new old
+  pub opened : station.tells → (s : State) × (used : ℕ) × (files_open_any old (seen (station.calls w.station)) ≡ Ok (s, used)) × OfIt s
+
+-- under the old directory, which the new one extends, the files open to this fault
+abbrev pub IsRefusedBy : {S P : Type 0} → SourceWords S → StationWords P → World S S P → OpenFault → Type 0
+IsRefusedBy source station w e =
+    UnderBoth source w (λ new old. Extends new old × (station.tells → opens_any old (seen (station.calls w.station)) ≡ Err e))
+
+-- the station was not touched, and the old directory's bytes have this fault
+abbrev pub IsOldRefused : {S P : Type 0} → SourceWords S → World S S P → World S S P → DirFault → Type 0
+IsOldRefused source w v e =
+    (v.station ≡ w.station)
+    × (source.tells → (d : directories.Directory) × (directory_of_bytes (source.left w.directory) ≡ Ok d)
+    × (directory_of_bytes (source.left w.capture) ≡ Err e))
+
+-- For each status, what it means: the journal was taken over; or what refused it.
+abbrev pub MigratedAs : {S P : Type 0} → SourceWords S → StationWords P → Status → World S S P → World S S P → Type 0
+MigratedAs source station Done w v =
+    UnderBoth source w (λ new old. OpensUnder station w new old
+    (λ s. IsMigrated old new s (station.calls w.station) (station.calls v.station)))
+MigratedAs source station (Directory e) w v = IsTurnedAway source e w v
+MigratedAs source station (OldDirectory e) w v = IsOldRefused source w v e
+MigratedAs source station (Changed part row) w v =
+    (v.station ≡ w.station) × UnderBoth source w (λ new old. first_change new old ≡ Some (record { part = part; row = row }))
+MigratedAs source station NoJournal w v = IsRefusedBy source station w opening.NoJournal
+MigratedAs source station OldVersion w v = station.tells → ⊥
+MigratedAs source station (NotThis want found) w v = IsRefusedBy source station w (opening.NotThis want found)
+MigratedAs source station (Damaged file at) w v = IsRefusedBy source station w (opening.Damaged file at)
+MigratedAs source station (Full used need limit) w v =
+    UnderBoth source w (λ new old. OpensUnder station w new old
+    (λ s. IsFullCompacted new (widened (length new.circuits) s) (switch.Full used need limit)))
+MigratedAs source station DiskFault w v = Rose (station.disk_faults w.station) (station.disk_faults v.station)
+MigratedAs source station SourceFault w v =
+    (v.station ≡ w.station)
+    × (Rose (source.faults w.directory) (source.faults v.directory) ⊎ Rose (source.faults w.capture) (source.faults v.capture))
+MigratedAs source station NoMemory w v = Unit {0}
+MigratedAs source station _ w v = ⊥
+
+-- at most a sync was tried; or since a sync that was done each moment opens under the old directory or, wider, under the new one
+abbrev pub LeavesJournal : {S P : Type 0} → StationWords P → World S S P → World S S P → directories.Directory → directories.Directory → Need → Type 0
+LeavesJournal station w v new old n =
+    OnlySyncs (station.calls w.station) (station.calls v.station)
+    ⊎ EachSince (Did Syncs ∷ station.calls w.station) (station.calls v.station) (OpensEither old new n)
+
+-- no read failed
+abbrev pub IsCalm : {S P : Type 0} → SourceWords S → World S S P → World S S P → Type 0
+IsCalm source w v =
+    (Rose (source.faults w.directory) (source.faults v.directory) → ⊥) × (Rose (source.faults w.capture) (source.faults v.capture) → ⊥)
+
+-- so much of a source was read at most
+abbrev pub ReadsFew : {S : Type 0} → SourceWords S → S → S → Type 0
+ReadsFew source old new =
+    source.tells → (taken : List ℕ) × (source.left old ≡ taken ++ source.left new) × (length taken ≤ LONGEST_DIRECTORY + 1)
+
+-- What its end means, and what holds of every run.
+pub record Migrates {S P : Type 0} (source : SourceWords S) (station : StationWords P) (status : Status)
+    (w v : World S S P) : Type 0 where
+  pub means : MigratedAs source station status w v
+  -- a crash at any moment since the sync of the opening leaves a journal under one of the directories
+  pub moments : source.tells → station.tells → (new old : directories.Directory) (n : Need) → AreRead source w new old
+      → opens_any old (seen (station.calls w.station)) ≡ Ok n → LeavesJournal station w v new old n
+  -- nothing is said
+  pub silent : station.tells → said_by (station.calls v.station) ≡ said_by (station.calls w.station)
+  -- an old directory that is refused, a row that doesn't stay, and a fault of the files are answered, but for memory and devices
+  pub old_refused : source.tells → (new : directories.Directory) (e : DirFault) → directory_of_bytes (source.left w.directory) ≡ Ok new
+      → directory_of_bytes (source.left w.capture) ≡ Err e → IsCalm source w v → (status ≡ OldDirectory e) ⊎ (status ≡ NoMemory)
+  pub changed : source.tells → (new old : directories.Directory) (c : Change) → AreRead source w new old → first_change new old ≡ Some c
+      → IsCalm source w v → (status ≡ Changed c.part c.row) ⊎ (status ≡ NoMemory)
+  pub answered : source.tells → station.tells → (new old : directories.Directory) (e : OpenFault) → AreRead source w new old
+      → Extends new old → opens_any old (seen (station.calls w.station)) ≡ Err e → IsCalm source w v
+      → (Rose (station.disk_faults w.station) (station.disk_faults v.station) → ⊥) → (status ≡ refusal e) ⊎ (status ≡ NoMemory)
+  -- where the files open, and there is room, and no device fails, it is done, but for memory
+  pub complete : source.tells → station.tells → (new old : directories.Directory) (s : State) (used : ℕ) → AreRead source w new old
+      → Extends new old → files_open_any old (seen (station.calls w.station)) ≡ Ok (s, used)
+      → full_compacted new (widened (length new.circuits) s) ≡ None → IsCalm source w v
+      → (Rose (station.disk_faults w.station) (station.disk_faults v.station) → ⊥) → (status ≡ Done) ⊎ (status ≡ NoMemory)
+  -- what is read, and that no count falls
+  pub taken : ReadsFew source w.directory v.directory
+  pub old_taken : ReadsFew source w.capture v.capture
+  pub counts : (source.faults w.directory ≤ source.faults v.directory) × (source.faults w.capture ≤ source.faults v.capture)
+      × (station.disk_faults w.station ≤ station.disk_faults v.station) × (station.say_faults v.station ≡ station.say_faults w.station)

@@ -1,0 +1,215 @@
+-- What is left of a feed, record by record.
+use Rattle.std.proofs.Common.{◌≡◌, ℕ, zero, suc, ◌+◌, ◌-◌, ◌<◌, ◌≤◌, Bool, true, false, cond, List, [], ◌∷◌, ◌++◌, length, take, drop, Option, Some, None, Result, Ok, Err, refl, sym, ap, subst, ◌∙◌, arith, length-append, length-drop}
+use Rattle.std.specs.Prelude.{◌==◌}
+use Rattle.std.proofs.lemmas.Bool.Decides.{nat_tests}
+use Rattle.std.proofs.lemmas.List.{drop-drop, take_at}
+use Rattle.gts_directory.specs.Directory.{Directory}
+use Rattle.gts_event.specs.State.{State}
+use Rattle.gts_event.specs.History.{after}
+use Rattle.gts_record.specs.declared.version.Version.{Version}
+use Rattle.gts_record.specs.declared.fault.OpenFault.{OpenFault}
+use Rattle.gts_record.specs.declared.fault.OpenFault.TheVariants.{Damaged}
+use Rattle.gts_record.specs.Record.{Record, record_text, open_gate}
+use Rattle.gts_record.specs.Format.{seal, sealed, sealed_at, record_size}
+use Rattle.gts_record.proofs.LawLemmas.{length-sealed, sealed_at-stands}
+use Rattle.gts_opening.specs.Journal.{event_of_record, admits, Read, records_at}
+use Rattle.gts_journal.specs.{entry_at}
+use Rattle.gts_journal.proofs.LawLemmas.{reads_one, refuses_one, reads_end_there, reads_fault}
+use Rattle.gts_standby.specs.Feed.{feed_at}
+use Rattle.gts_standby.specs.Shipping.{Reaches}
+
+-- ---- what stands at a gate
+
+abbrev at_found : ℕ → ℕ → Option Record → Result (Option Record) OpenFault
+at_found file gate o = elim o as (λ _. Result (Option Record) OpenFault) [ None ↦ Err (Damaged file (gate + 1)) | Some r ↦ Ok (Some r) ]
+
+abbrev at_mark : Version → List ℕ → ℕ → ℕ → List ℕ → Bool → Result (Option Record) OpenFault
+at_mark v before file gate bytes b = cond b (at_found file gate (sealed_at v before bytes)) (Ok None)
+
+open_is : (m : ℕ) → true ≡ (m == open_gate) → m ≡ open_gate
+open_is m f = grind (arith, nat_tests)
+
+was_found : (v : Version) (before : List ℕ) (file gate : ℕ) (bytes : List ℕ) (r : Record) → entry_at v before file gate bytes ≡ Ok (Some r) → (rest : List ℕ) × (bytes ≡ open_gate ∷ rest) × (sealed_at v before rest ≡ Some r)
+was_found v before file gate [] r is = absurd (cc is)
+was_found v before file gate (mark ∷ bytes) r is = by_mark (mark == open_gate) refl is
+  where
+    by_mark : (b : Bool) → b ≡ (mark == open_gate) → at_mark v before file gate bytes b ≡ Ok (Some r) → (rest : List ℕ) × (mark ∷ bytes ≡ open_gate ∷ rest) × (sealed_at v before rest ≡ Some r)
+    by_mark false e is = absurd (let f : None ≡ Some r = cc is in cc f)
+    by_mark true e is = (bytes, ap (λ (m : ℕ). m ∷ bytes) (open_is mark e), by_found (sealed_at v before bytes) refl is)
+      where
+        by_found : (o : Option Record) → o ≡ sealed_at v before bytes → at_found file gate o ≡ Ok (Some r) → sealed_at v before bytes ≡ Some r
+        by_found None f is = absurd (cc is)
+        by_found (Some q) f is = let same : q ≡ r = cc is in sym f ∙ ap Some same
+
+-- ---- the feed from a gate on
+
+abbrev feed_of_record : Version → ℕ → List ℕ → List ℕ → Option Record → List ℕ
+feed_of_record v n before bytes o = elim o as (λ _. List ℕ) [
+  | None ↦ []
+  | Some r ↦ sealed v before (record_text r) ++ feed_at v n (seal v before (record_text r)) (drop (record_size v r - 1) bytes)
+]
+
+abbrev feed_of_gate : Version → ℕ → List ℕ → List ℕ → Bool → List ℕ
+feed_of_gate v n before bytes b = elim b as (λ _. List ℕ) [ false ↦ [] | true ↦ feed_of_record v n before bytes (sealed_at v before bytes) ]
+
+one_back : (k : ℕ) (mark : ℕ) (rest : List ℕ) → 1 ≤ k → drop (k - 1) rest ≡ drop k (mark ∷ rest)
+one_back k mark rest some = ap (λ (m : ℕ). drop m (mark ∷ rest)) (let e : suc (k - 1) ≡ k = omega (arith, some) in e)
+
+feed_one : (v : Version) (n file gate : ℕ) (before bytes : List ℕ) (r : Record) → entry_at v before file gate bytes ≡ Ok (Some r)
+    → feed_at v (suc n) before bytes ≡ sealed v before (record_text r) ++ feed_at v n (seal v before (record_text r)) (drop (record_size v r) bytes)
+feed_one v n file gate before bytes r is =
+    let found = was_found v before file gate bytes r is in
+    ap (feed_at v (suc n) before) found.1
+    ∙ ap (feed_of_record v n before found.0) found.2
+    ∙ ap (λ (l : List ℕ). sealed v before (record_text r) ++ feed_at v n (seal v before (record_text r)) l)
+    (one_back (record_size v r) open_gate found.0 (omega arith) ∙ ap (λ (l : List ℕ). drop (record_size v r) l) (sym found.1))
+
+feed_none : (v : Version) (n file gate : ℕ) (before bytes : List ℕ) → entry_at v before file gate bytes ≡ Ok None → feed_at v n before bytes ≡ []
+feed_none v zero file gate before bytes is = refl
+feed_none v (suc n) file gate before [] is = refl
+feed_none v (suc n) file gate before (mark ∷ bytes) is = by_mark (mark == open_gate) is
+  where
+    by_mark : (b : Bool) → at_mark v before file gate bytes b ≡ Ok None → feed_of_gate v n before bytes b ≡ []
+    by_mark false is = refl
+    by_mark true is = by_found (sealed_at v before bytes) is
+      where
+        by_found : (o : Option Record) → at_found file gate o ≡ Ok None → feed_of_record v n before bytes o ≡ []
+        by_found None is = refl
+        by_found (Some q) is = absurd (let f : Some q ≡ None = cc is in cc f)
+
+-- ---- where records come to an end
+
+some_step : (v : Version) (d : Directory) (n file : ℕ) (before : List ℕ) (s : State) (gate : ℕ) (bytes : List ℕ) (x : State × ℕ × List ℕ) → records_at v d n file before s gate bytes ≡ Ok x → (m : ℕ) × (n ≡ suc m)
+some_step v d zero file before s gate bytes x is = absurd (cc is)
+some_step v d (suc n) file before s gate bytes x is = (n, refl)
+
+-- what is found at a gate from which records come to an end
+data AtEntry (v : Version) (d : Directory) (n file : ℕ) (before : List ℕ) (s : State) (gate : ℕ) (bytes : List ℕ) (x : State × ℕ × List ℕ) : Type 0 where
+  IsEnd : entry_at v before file gate bytes ≡ Ok None → x ≡ (s, gate + 1, before) → AtEntry v d n file before s gate bytes x
+  IsRecord : (r : Record) → entry_at v before file gate bytes ≡ Ok (Some r)
+      → records_at v d n file (seal v before (record_text r)) (after d s (event_of_record r)) (gate + record_size v r) (drop (record_size v r) bytes) ≡ Ok x
+      → AtEntry v d n file before s gate bytes x
+
+at_entry : (v : Version) (d : Directory) (n file : ℕ) (before : List ℕ) (s : State) (gate : ℕ) (bytes : List ℕ) (x : State × ℕ × List ℕ) → records_at v d (suc n) file before s gate bytes ≡ Ok x
+    → AtEntry v d n file before s gate bytes x
+at_entry v d n file before s gate bytes x opens = by_entry (entry_at v before file gate bytes) refl
+  where
+    by_admitted : (r : Record) (b : Bool) → entry_at v before file gate bytes ≡ Ok (Some r) → admits v d s (gate + 1) r ≡ b → AtEntry v d n file before s gate bytes x
+    by_admitted r true is ok = IsRecord r is (sym (reads_one v d n file before s gate bytes r is ok) ∙ opens)
+    by_admitted r false is bad = absurd (let e : Err (Damaged file (gate + 1)) ≡ Ok x = sym (refuses_one v d n file before s gate bytes r is bad) ∙ opens in cc e)
+
+    by_entry : (e : Result (Option Record) OpenFault) → entry_at v before file gate bytes ≡ e → AtEntry v d n file before s gate bytes x
+    by_entry (Err fault) is = absurd (let e : Err fault ≡ Ok x = sym (reads_fault v d n file before s gate bytes fault is) ∙ opens in cc e)
+    by_entry (Ok None) is = IsEnd is (let e : Ok (s, gate + 1, before) ≡ Ok x = sym (reads_end_there v d n file before s gate bytes is) ∙ opens in cc e)
+    by_entry (Ok (Some r)) is = by_admitted r (admits v d s (gate + 1) r) is refl
+
+-- the end is behind the gate
+end_behind : (v : Version) (d : Directory) (n file : ℕ) (before : List ℕ) (s : State) (gate : ℕ) (bytes : List ℕ) (x : State × ℕ × List ℕ) → records_at v d n file before s gate bytes ≡ Ok x → gate < x.1
+end_behind v d zero file before s gate bytes x opens = absurd (cc opens)
+end_behind v d (suc n) file before s gate bytes x opens = elim (at_entry v d n file before s gate bytes x opens) [
+  | IsEnd is same ↦ (let at : x.1 ≡ gate + 1 = ap (λ (y : State × ℕ × List ℕ). y.1) same in omega (arith, at))
+  | IsRecord r is more ↦ (let far = end_behind v d n file (seal v before (record_text r)) (after d s (event_of_record r)) (gate + record_size v r) (drop (record_size v r) bytes) x more in omega (arith, far))
+]
+
+-- ---- a journal that goes on
+
+-- behind the gate's record the records come to the same end, and of the feed its text with its seal is said
+pub record GoesOn (v : Version) (d : Directory) (file : ℕ) (before : List ℕ) (gate : ℕ) (bytes : List ℕ) (end : ℕ) (left : List ℕ) (r : Record) : Type 0 where
+  pub rest : List ℕ
+  pub is : left ≡ sealed v before (record_text r) ++ rest
+  pub reaches : Reaches v d file (seal v before (record_text r)) (gate + record_size v r) bytes end rest
+
+same_record : (r q : Record) (e : Result (Option Record) OpenFault) → e ≡ Ok (Some r) → e ≡ Ok (Some q) → r ≡ q
+same_record r q e one two = let first : Result (Option Record) OpenFault = Ok (Some r) in let second : Result (Option Record) OpenFault = Ok (Some q) in let both : first ≡ second = sym one ∙ two in cc both
+
+no_record : (r : Record) (e : Result (Option Record) OpenFault) → e ≡ Ok None → e ≡ Ok (Some r) → ⊥
+no_record r e one two =
+    let first : Result (Option Record) OpenFault = Ok None in
+    let second : Result (Option Record) OpenFault = Ok (Some r) in
+    let both : first ≡ second = sym one ∙ two in
+    absurd (let none : Option Record = None in let f : none ≡ Some r = cc both in cc f)
+
+pub goes_on : (v : Version) (d : Directory) (file : ℕ) (before : List ℕ) (gate : ℕ) (bytes : List ℕ) (end : ℕ) (left : List ℕ) (r : Record) → Reaches v d file before gate bytes end left
+    → entry_at v before file gate (drop gate bytes) ≡ Ok (Some r) → GoesOn v d file before gate bytes end left r
+goes_on v d file before gate bytes end left r it found =
+    let x : State × ℕ × List ℕ = (it.then, end + 1, it.last) in
+    let some = some_step v d it.steps file before it.state gate (drop gate bytes) x it.opens in
+    let n : ℕ = some.0 in
+    let first = subst (λ (k : ℕ). records_at v d k file before it.state gate (drop gate bytes) ≡ Ok x) some.1 it.opens in
+    let far : drop (record_size v r) (drop gate bytes) ≡ drop (gate + record_size v r) bytes = drop-drop (record_size v r) gate bytes in
+    elim (at_entry v d n file before it.state gate (drop gate bytes) x first) [
+      | IsEnd is same ↦ absurd (no_record r (entry_at v before file gate (drop gate bytes)) is found)
+      | IsRecord q is more ↦
+          let same : q ≡ r = same_record q r (entry_at v before file gate (drop gate bytes)) is found in
+          let opens = subst (λ (k : Record). records_at v d n file (seal v before (record_text k)) (after d it.state (event_of_record k)) (gate + record_size v k) (drop (record_size v k) (drop gate bytes)) ≡ Ok x) same more in
+          record {
+            rest = feed_at v n (seal v before (record_text r)) (drop (record_size v r) (drop gate bytes));
+            is = it.left_is ∙ ap (λ (k : ℕ). feed_at v k before (drop gate bytes)) some.1 ∙ feed_one v n file gate before (drop gate bytes) r found;
+            reaches = record {
+              steps = n;
+              enough = omega (arith, it.enough, some.1);
+              state = after d it.state (event_of_record r);
+              then = it.then;
+              last = it.last;
+              opens = ap (records_at v d n file (seal v before (record_text r)) (after d it.state (event_of_record r)) (gate + record_size v r)) (sym far) ∙ opens;
+              left_is = ap (feed_at v n (seal v before (record_text r))) far;
+            };
+          }
+    ]
+
+-- in front of the end a record stands behind the gate
+pub no_end : (v : Version) (d : Directory) (file : ℕ) (before : List ℕ) (gate : ℕ) (bytes : List ℕ) (end : ℕ) (left : List ℕ) → Reaches v d file before gate bytes end left → gate < end
+    → entry_at v before file gate (drop gate bytes) ≡ Ok None → ⊥
+no_end v d file before gate bytes end left it low found =
+    let x : State × ℕ × List ℕ = (it.then, end + 1, it.last) in
+    let some = some_step v d it.steps file before it.state gate (drop gate bytes) x it.opens in
+    let first = subst (λ (k : ℕ). records_at v d k file before it.state gate (drop gate bytes) ≡ Ok x) some.1 it.opens in
+    let first_end : Read = Ok (it.state, gate + 1, before) in
+    let second_end : Read = Ok x in
+    let e : first_end ≡ second_end = sym (reads_end_there v d some.0 file before it.state gate (drop gate bytes) found) ∙ first in
+    let both : (it.state, gate + 1, before) ≡ x = cc e in
+    let same : gate + 1 ≡ end + 1 = ap (λ (y : State × ℕ × List ℕ). y.1) both in
+    omega (arith, same, low)
+
+pub no_fault : (v : Version) (d : Directory) (file : ℕ) (before : List ℕ) (gate : ℕ) (bytes : List ℕ) (end : ℕ) (left : List ℕ) (fault : OpenFault) → Reaches v d file before gate bytes end left
+    → entry_at v before file gate (drop gate bytes) ≡ Err fault → ⊥
+no_fault v d file before gate bytes end left fault it found =
+    let x : State × ℕ × List ℕ = (it.then, end + 1, it.last) in
+    let some = some_step v d it.steps file before it.state gate (drop gate bytes) x it.opens in
+    let first = subst (λ (k : ℕ). records_at v d k file before it.state gate (drop gate bytes) ≡ Ok x) some.1 it.opens in
+    let e : Err fault ≡ Ok x = sym (reads_fault v d some.0 file before it.state gate (drop gate bytes) fault found) ∙ first in
+    absurd (cc e)
+
+-- at the end nothing is left
+pub all_said : (v : Version) (d : Directory) (file : ℕ) (before : List ℕ) (gate : ℕ) (bytes : List ℕ) (end : ℕ) (left : List ℕ) → Reaches v d file before gate bytes end left → end ≤ gate → left ≡ []
+all_said v d file before gate bytes end left it high =
+    let x : State × ℕ × List ℕ = (it.then, end + 1, it.last) in
+    let some = some_step v d it.steps file before it.state gate (drop gate bytes) x it.opens in
+    let first = subst (λ (k : ℕ). records_at v d k file before it.state gate (drop gate bytes) ≡ Ok x) some.1 it.opens in
+    elim (at_entry v d some.0 file before it.state gate (drop gate bytes) x first) [
+      | IsEnd is same ↦ it.left_is ∙ feed_none v it.steps file gate before (drop gate bytes) is
+      | IsRecord r is more ↦
+          absurd (let far = end_behind v d some.0 file (seal v before (record_text r)) (after d it.state (event_of_record r)) (gate + record_size v r) (drop (record_size v r) (drop gate bytes)) x more in omega (arith, far, high))
+    ]
+
+-- ---- the bytes of a record
+
+-- a record that was found, with its seal, as the file has it
+pub record RecordStands (v : Version) (before : List ℕ) (gate : ℕ) (bytes : List ℕ) (r : Record) : Type 0 where
+  pub piece : take (record_size v r - 1) (drop (gate + 1) bytes) ≡ sealed v before (record_text r)
+  pub there : gate + record_size v r ≤ length bytes
+
+pub record_stands : (v : Version) (before : List ℕ) (file gate : ℕ) (bytes : List ℕ) (r : Record) → entry_at v before file gate (drop gate bytes) ≡ Ok (Some r) → RecordStands v before gate bytes r
+record_stands v before file gate bytes r is =
+    let found = was_found v before file gate (drop gate bytes) r is in
+    let stands = (sealed_at-stands v before found.0 r found.2).0 in
+    let behind : drop (gate + 1) bytes ≡ found.0 = sym (drop-drop 1 gate bytes) ∙ ap (λ (l : List ℕ). drop 1 l) found.1 in
+    let text : List ℕ = sealed v before (record_text r) in
+    let long = length-sealed v before (record_text r) in
+    let size : length text ≡ record_size v r - 1 = omega (arith, long) in
+    record {
+      piece = ap (take (record_size v r - 1)) (behind ∙ stands.1) ∙ take_at text stands.0 (record_size v r - 1) size;
+      there = (let all : length (drop gate bytes) ≡ suc (length found.0) = ap (λ (l : List ℕ). length l) found.1 in
+          let more : length found.0 ≡ length text + length stands.0 = ap (λ (l : List ℕ). length l) stands.1 ∙ length-append text stands.0 in
+          omega (arith, all, more, size, long, length-drop gate bytes));
+    }

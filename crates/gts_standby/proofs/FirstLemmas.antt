@@ -1,0 +1,363 @@
+-- How a feed begins.
+use Rattle.std.proofs.Common.{◌≡◌, ℕ, ◌+◌, ◌-◌, ◌*◌, ◌≤◌, Bool, true, false, cond, ◌&&◌, nat_eq, nat_le, nat_lt, List, [], ◌∷◌, ◌++◌, length, take, drop, Option, Some, None, Result, Ok, Err, inl, inr, refl, sym, ap, subst, ◌∙◌, arith, append_assoc, length-append, length-drop, take-append-drop}
+use Rattle.std.specs.Prelude.{◌==◌, IfErr, OnOk, not}
+use Rattle.std.specs.List.{starts_with}
+use Rattle.std.specs.Cmp.Lexicographic.{same_text, pointwise}
+use Rattle.std.proofs.lemmas.Bool.{and_parts}
+use Rattle.std.proofs.lemmas.Bool.Decides.{nat_tests}
+use Rattle.std.proofs.lemmas.List.{take_at, append-nil}
+use Rattle.gts_traits.specs.{Call, Did, Syncs, on, said_by, seen}
+use Rattle.gts_say.specs.Say.{SaysOnly, SaysFront}
+use Rattle.gts_say.proofs.SayLemmas.{said_none}
+use Rattle.gts_directory.specs.Directory.{Directory}
+use Rattle.gts_event.specs.State.{State, empty}
+use Rattle.gts_event.specs.History.{restarted}
+use Rattle.gts_event.specs.Need.{Need, need, begun, is_sound}
+use Rattle.gts_record.specs.declared.version.Version.{Version}
+use Rattle.gts_record.specs.declared.fault.OpenFault.{OpenFault}
+use Rattle.gts_record.specs.declared.fault.OpenFault.TheVariants as opening
+use Rattle.gts_record.specs.declared.fault.OpenFault.TheVariants.{Damaged}
+use Rattle.gts_record.specs.Format.{magic, is_older, seal, sealed, is_sealed, first_seal, draw_size, written}
+use Rattle.gts_record.proofs.LawLemmas.{length-sealed}
+use Rattle.gts_opening.specs.Journal.{agreeing, selected, Opened, Read, due, checkpoint_text, compacted_bytes, need_in, admits_checkpoint, checkpoint_opens, records_at, file_opens, files_read, opened_of, opens}
+use Rattle.gts_checkpoint.specs.Reading.{HasRead, IsDamage}
+use Rattle.gts_journal.specs.{InHand, StandsOn, StandsFor, OnlySyncs, file_of, selected_bytes, first_fault, IsFaultOf, header_fault, is_checkpoint, is_at_checkpoint}
+use Rattle.gts_journal.proofs.LawLemmas.{faulty_header, opens_behind}
+use Rattle.gts_recovery.specs.Opened.{IsAnswer}
+use Rattle.gts_standby.specs.declared.fault.ShipFault.{ShipFault}
+use Rattle.gts_standby.specs.declared.fault.ShipFault.TheVariants as fault
+use Rattle.gts_standby.specs.Feed.{feed, feed_at, feed_behind, checkpoint_feed}
+use Rattle.gts_standby.specs.Shipping.{ship_fault, SaysHere, IsQuiet, Reaches, IsAtGate, IsAtFirst, GoesOnBehind, SaysRest, behind_header, feed_of, ShipsOnly, IsShipFault}
+use Rattle.gts_standby.proofs.SayLemmas.{says_more, fronts_behind, fronts_more}
+
+-- ---- the header
+
+abbrev fault_by : Version → List ℕ → ℕ → List ℕ → (is_empty is_old begins is_short is_ours : Bool) → Option OpenFault
+fault_by v mark file bytes is_empty is_old begins is_short is_ours =
+    cond is_empty (Some opening.NoJournal) (cond is_old (Some opening.OldVersion) (cond (not begins) (Some (Damaged file (agreeing (magic v) bytes))) (cond is_short (Some (Damaged file (length bytes)))
+    (cond (not is_ours) (Some (opening.NotThis mark (take 32 (drop 8 bytes)))) None))))
+
+not_short : (v : Version) (mark : List ℕ) (file : ℕ) (bytes : List ℕ) (is_empty is_old begins is_short is_ours : Bool) → fault_by v mark file bytes is_empty is_old begins is_short is_ours ≡ None → is_short ≡ false
+not_short v mark file bytes true is_old begins is_short is_ours is = absurd (cc is)
+not_short v mark file bytes false true begins is_short is_ours is = absurd (cc is)
+not_short v mark file bytes false false false is_short is_ours is = absurd (cc is)
+not_short v mark file bytes false false true true is_ours is = absurd (cc is)
+not_short v mark file bytes false false true false is_ours is = refl
+
+-- all of a sound header is there
+pub header_there : (v : Version) (mark : List ℕ) (file : ℕ) (bytes : List ℕ) → header_fault v mark file bytes ≡ None → 40 ≤ length bytes
+header_there v mark file bytes is =
+    let no : nat_lt (length bytes) 40 ≡ false =
+    not_short v mark file bytes (length bytes == 0) (is_older v bytes) (starts_with nat_eq bytes (magic v)) (nat_lt (length bytes) 40) (pointwise nat_eq (take 32 (drop 8 bytes)) mark) is in
+    long (length bytes) no
+  where
+    long : (n : ℕ) → nat_lt n 40 ≡ false → 40 ≤ n
+    long n h = grind (arith, nat_tests)
+
+-- ---- without a checkpoint
+
+pub plain_first : (d : Directory) (calls : List Call) (j : InHand) (end : ℕ) → IsAtFirst d calls j end → is_at_checkpoint j ≡ false → IsAtGate d calls j end (behind_header d calls j)
+plain_first d calls j end first plain =
+    let bytes : List ℕ = file_of calls j in
+    let none : is_checkpoint bytes ≡ false = first.letter ∙ plain in
+    let opens : records_at j.version d (length bytes) j.file (first_seal j.version d.mark) (empty d) 40 (drop 40 bytes) ≡ Ok (first.then, end + 1, first.last) =
+    sym (opens_behind j.version d j.file bytes false first.header none) ∙ first.opens in
+    record {
+      steps = length bytes;
+      enough = omega arith;
+      state = empty d;
+      then = first.then;
+      last = first.last;
+      opens = ap (λ (l : List ℕ). records_at j.version d (length bytes) j.file l (empty d) j.gate (drop j.gate bytes)) first.seal_is
+          ∙ ap (λ (k : ℕ). records_at j.version d (length bytes) j.file (first_seal j.version d.mark) (empty d) k (drop k bytes)) first.gate ∙ opens;
+      left_is = ap (feed_behind j.version (first_seal j.version d.mark) bytes) none
+          ∙ ap (λ (l : List ℕ). feed_at j.version (length bytes) l (drop 40 bytes)) (sym first.seal_is) ∙ ap (λ (k : ℕ). feed_at j.version (length bytes) j.seal (drop k bytes)) (sym first.gate);
+    }
+
+-- ---- behind a checkpoint
+
+-- a checkpoint with its seal, as the file has it
+pub record CheckpointStands (v : Version) (d : Directory) (bytes : List ℕ) (n : Need) (gate : ℕ) : Type 0 where
+  pub piece : take (gate - 41) (drop 41 bytes) ≡ sealed v (first_seal v d.mark) (checkpoint_text n)
+  pub there : gate ≤ length bytes
+
+starts : (bytes text : List ℕ) → starts_with nat_eq bytes text ≡ true → bytes ≡ text ++ drop (length text) bytes
+starts bytes text is = sym (take-append-drop (length text) bytes) ∙ ap (λ (f : List ℕ). f ++ drop (length text) bytes) (sym (same_text text (take (length text) bytes) (sym is)))
+
+pub checkpoint_stands : (v : Version) (d : Directory) (bytes : List ℕ) (n : Need) (gate : ℕ) → admits_checkpoint v d (drop 41 bytes) n ≡ true → gate + 1 ≡ compacted_bytes v n → CheckpointStands v d bytes n gate
+checkpoint_stands v d bytes n gate is place =
+    let text : List ℕ = checkpoint_text n in
+    let all : List ℕ = drop 41 bytes in
+    let before : List ℕ = first_seal v d.mark in
+    let h1 = and_parts _ (nat_le (compacted_bytes v n + draw_size v * due (begun n)) d.limit) is in
+    let h2 = and_parts (starts_with nat_eq all text && is_sealed v before text all) (is_sound d n) h1.0 in
+    let h3 = and_parts (starts_with nat_eq all text) (is_sealed v before text all) h2.0 in
+    let rest : List ℕ = drop (length text) all in
+    let last : List ℕ = seal v before text in
+    let whole : all ≡ sealed v before text ++ drop (length last) rest =
+    starts all text h3.0 ∙ ap (λ (l : List ℕ). text ++ l) (starts rest last h3.1) ∙ sym (append_assoc text last (drop (length last) rest)) in
+    let long = length-sealed v before text in
+    let size : length (sealed v before text) ≡ gate - 41 = omega (arith, long, place) in
+    record {
+      piece = ap (take (gate - 41)) whole ∙ take_at (sealed v before text) (drop (length last) rest) (gate - 41) size;
+      there = (let e : length all ≡ length (sealed v before text ++ drop (length last) rest) = ap (λ (l : List ℕ). length l) whole in
+          let some : 1 ≤ length text = omega arith in
+          omega (arith, e, length-append (sealed v before text) (drop (length last) rest), long, place, length-drop 41 bytes, some));
+    }
+
+abbrev by_admission : Version → Directory → ℕ → List ℕ → Need → Bool → Read
+by_admission v d file bytes n b = elim b as (λ _. Read) [
+  | false ↦ Err (Damaged file 41)
+  | true ↦
+      records_at v d (length bytes) file (seal v (first_seal v d.mark) (checkpoint_text n)) (begun n) (compacted_bytes v n - 1)
+      (drop (compacted_bytes v n - 1) bytes)
+]
+
+-- a journal whose file opens has no damage in its checkpoint
+pub no_damage : (d : Directory) (calls : List Call) (j : InHand) (end : ℕ) → IsAtFirst d calls j end → is_at_checkpoint j ≡ true
+    → admits_checkpoint j.version d (drop 41 (file_of calls j)) (need_in (drop 41 (file_of calls j))) ≡ false → ⊥
+no_damage d calls j end first packed bad =
+    let bytes : List ℕ = file_of calls j in
+    let damage : Read = Err (Damaged j.file 41) in
+    let opened : Read = Ok (first.then, end + 1, first.last) in
+    let e : damage ≡ opened =
+    sym (ap (by_admission j.version d j.file bytes (need_in (drop 41 bytes))) bad) ∙ sym (opens_behind j.version d j.file bytes true first.header (first.letter ∙ packed)) ∙ first.opens in
+    absurd (cc e)
+
+pub quiet_read : (v : Version) (d : Directory) (file : ℕ) (bytes : List ℕ) (e : OpenFault) → IsDamage v d file bytes e → (admits_checkpoint v d bytes (need_in bytes) ≡ false → ⊥) → IsQuiet (ship_fault e)
+quiet_read v d file bytes opening.DiskFault is none = tt
+quiet_read v d file bytes opening.NoMemory is none = tt
+quiet_read v d file bytes opening.NoJournal is none = none is.1
+quiet_read v d file bytes opening.OldVersion is none = none is.1
+quiet_read v d file bytes (opening.NotThis want found) is none = none is.1
+quiet_read v d file bytes (opening.Damaged k at) is none = none is.1
+
+-- of what is sent behind the header the checkpoint stands first
+pub checkpoint_first : (d : Directory) (calls : List Call) (j : InHand) (end : ℕ) (n : Need) (last : List ℕ) (gate : ℕ) → IsAtFirst d calls j end → is_at_checkpoint j ≡ true
+    → HasRead j.version d (drop 41 (file_of calls j)) n last → gate + 1 ≡ compacted_bytes j.version n
+    → behind_header d calls j ≡ sealed j.version (first_seal j.version d.mark) (checkpoint_text n) ++ feed_at j.version (length (file_of calls j)) last (drop gate (file_of calls j))
+checkpoint_first d calls j end n last gate first packed read place =
+    let bytes : List ℕ = file_of calls j in
+    let v : Version = j.version in
+    let before : List ℕ = first_seal v d.mark in
+    let at : compacted_bytes v n - 1 ≡ gate = omega (arith, place) in
+    ap (feed_behind v before bytes) (first.letter ∙ packed) ∙ ap (checkpoint_feed v before bytes) read.need
+    ∙ ap (λ (l : List ℕ). sealed v before (checkpoint_text n) ++ feed_at v (length bytes) l (drop (compacted_bytes v n - 1) bytes)) (sym read.seal_is)
+    ∙ ap (λ (k : ℕ). sealed v before (checkpoint_text n) ++ feed_at v (length bytes) last (drop k bytes)) at
+
+checkpoint_reaches : (d : Directory) (calls : List Call) (j : InHand) (end : ℕ) (n : Need) (last : List ℕ) (gate : ℕ) → IsAtFirst d calls j end → is_at_checkpoint j ≡ true
+    → HasRead j.version d (drop 41 (file_of calls j)) n last → gate + 1 ≡ compacted_bytes j.version n
+    → Reaches j.version d j.file last gate (file_of calls j) end (feed_at j.version (length (file_of calls j)) last (drop gate (file_of calls j)))
+checkpoint_reaches d calls j end n last gate first packed read place =
+    let bytes : List ℕ = file_of calls j in
+    let v : Version = j.version in
+    let at : compacted_bytes v n - 1 ≡ gate = omega (arith, place) in
+    let opens : records_at v d (length bytes) j.file last (begun n) gate (drop gate bytes) ≡ Ok (first.then, end + 1, first.last) =
+    ap (λ (k : ℕ). records_at v d (length bytes) j.file last (begun n) k (drop k bytes)) (sym at)
+    ∙ ap (λ (l : List ℕ). records_at v d (length bytes) j.file l (begun n) (compacted_bytes v n - 1) (drop (compacted_bytes v n - 1) bytes)) read.seal_is
+    ∙ sym (ap (by_admission v d j.file bytes n) read.admitted) ∙ sym (ap (checkpoint_opens v d j.file bytes) read.need)
+    ∙ sym (opens_behind v d j.file bytes true first.header (first.letter ∙ packed)) ∙ first.opens in
+    record { steps = length bytes; enough = omega arith; state = begun n; then = first.then; last = first.last; opens = opens; left_is = refl }
+
+-- the checkpoint was said, and the journal stands behind it
+pub said_checkpoint : (d : Directory) (old new : List Call) (j next : InHand) (end : ℕ) (n : Need) (last : List ℕ) (gate : ℕ) → IsAtFirst d old j end → is_at_checkpoint j ≡ true
+    → HasRead j.version d (drop 41 (file_of old j)) n last → gate + 1 ≡ compacted_bytes j.version n → SaysHere old new (take (gate - 41) (drop 41 (file_of old j)))
+    → next ≡ record j { gate = gate; seal = last; ahead = []; is_all = false } → GoesOnBehind d old new next end (behind_header d old j)
+said_checkpoint d old new j next end n last gate first packed read place says is =
+    let bytes : List ℕ = file_of old j in
+    let v : Version = j.version in
+    let stands = checkpoint_stands v d bytes n gate read.admitted place in
+    let rest : List ℕ = feed_at v (length bytes) last (drop gate bytes) in
+    let there : InHand = record j { gate = gate; seal = last; ahead = []; is_all = false } in
+    let reaches = checkpoint_reaches d old j end n last gate first packed read place in
+    let at : IsAtGate d new there end rest = subst (λ (l : List ℕ). Reaches v d j.file last gate l end rest) (sym (says.only.files j.file)) reaches in
+    record {
+      piece = sealed v (first_seal v d.mark) (checkpoint_text n);
+      rest = rest;
+      is = checkpoint_first d old j end n last gate first packed read place;
+      says = subst (SaysHere old new) stands.piece says;
+      at = subst (λ (k : InHand). IsAtGate d new k end rest) (sym is) at;
+    }
+
+-- a front of it was said
+pub broken_checkpoint : (d : Directory) (old new : List Call) (j : InHand) (end : ℕ) (n : Need) (last : List ℕ) (gate : ℕ) → IsAtFirst d old j end → is_at_checkpoint j ≡ true
+    → HasRead j.version d (drop 41 (file_of old j)) n last → gate + 1 ≡ compacted_bytes j.version n → SaysFront old new (on 0 (take (gate - 41) (drop 41 (file_of old j))))
+    → SaysFront old new (on 0 (behind_header d old j))
+broken_checkpoint d old new j end n last gate first packed read place says =
+    let bytes : List ℕ = file_of old j in
+    let v : Version = j.version in
+    let stands = checkpoint_stands v d bytes n gate read.admitted place in
+    let front = subst (λ (l : List ℕ). SaysFront old new (on 0 l)) stands.piece says in
+    subst (λ (l : List ℕ). SaysFront old new (on 0 l)) (sym (checkpoint_first d old j end n last gate first packed read place))
+    (fronts_more old new (sealed v (first_seal v d.mark) (checkpoint_text n)) (feed_at v (length bytes) last (drop gate bytes)) front)
+
+-- ---- the opening
+
+-- a journal that was started on files that open stands at its first gate
+pub at_first : (d : Directory) (old mid new : List Call) (opened j : InHand) (s : State) (mark : List ℕ) → mid ≡ Did Syncs ∷ old → new ≡ Did Syncs ∷ mid → StandsFor d s mid opened → opened.version ≡ written
+    → mark ≡ d.mark → j.gate ≡ 40 → j.version ≡ written → j.seal ≡ first_seal j.version mark → StandsOn new j → first_fault mark (seen mid) ≡ None → is_checkpoint (file_of new j) ≡ is_at_checkpoint j
+    → IsAtFirst d new j opened.gate
+at_first d old mid new opened j s mark first second stands current ours gate version last on_it sound letter =
+    let place : selected (seen mid) ≡ j.file = ap (λ (calls : List Call). selected (seen calls)) (sym second) ∙ on_it.selected_is in
+    let bytes : file_of new j ≡ selected_bytes (seen mid) = ap (λ (calls : List Call). seen calls j.file) second ∙ ap (seen mid) (sym place) in
+    let opens_to : files_read written d (seen mid) ≡ Ok (s, opened.gate + 1, opened.seal) = ap (λ (v : Version). files_read v d (seen mid)) (sym current) ∙ stands.opens_to in
+    record {
+      gate = gate;
+      seal_is = last ∙ ap (first_seal j.version) ours;
+      header = ap (λ (v : Version). header_fault v d.mark j.file (file_of new j)) version ∙ ap (header_fault written d.mark j.file) bytes
+          ∙ ap (λ (k : ℕ). header_fault written d.mark k (selected_bytes (seen mid))) (sym place) ∙ ap (λ (l : List ℕ). header_fault written l (selected (seen mid)) (selected_bytes (seen mid))) (sym ours) ∙ sound;
+      letter = letter;
+      then = s;
+      last = opened.seal;
+      opens = ap (λ (v : Version). file_opens v d j.file (file_of new j)) version ∙ ap (file_opens written d j.file) bytes
+          ∙ ap (λ (k : ℕ). file_opens written d k (selected_bytes (seen mid))) (sym place) ∙ opens_to;
+    }
+
+-- files that open have no fault in the header
+pub no_header_fault : (d : Directory) (mid : List Call) (opened : InHand) (s : State) (mark : List ℕ) (f : OpenFault) → StandsFor d s mid opened → opened.version ≡ written → mark ≡ d.mark
+    → first_fault mark (seen mid) ≡ Some f → ⊥
+no_header_fault d mid opened s mark f stands current ours is =
+    let there : header_fault written d.mark (selected (seen mid)) (selected_bytes (seen mid)) ≡ Some f = ap (λ (l : List ℕ). header_fault written l (selected (seen mid)) (selected_bytes (seen mid))) (sym ours) ∙ is in
+    let opens_to : files_read written d (seen mid) ≡ Ok (s, opened.gate + 1, opened.seal) = ap (λ (v : Version). files_read v d (seen mid)) (sym current) ∙ stands.opens_to in
+    let one : Read = Err f in
+    let two : Read = Ok (s, opened.gate + 1, opened.seal) in
+    let e : one ≡ two = sym (faulty_header written d (selected (seen mid)) (selected_bytes (seen mid)) f there) ∙ opens_to in
+    absurd (cc e)
+
+pub quiet_start : (e : OpenFault) (found : Option OpenFault) → IsFaultOf e found → ((f : OpenFault) → found ≡ Some f → ⊥) → IsQuiet (ship_fault e)
+quiet_start opening.DiskFault found is none = tt
+quiet_start opening.NoMemory found is none = tt
+quiet_start opening.NoJournal found is none = none opening.NoJournal is
+quiet_start opening.OldVersion found is none = none opening.OldVersion is
+quiet_start (opening.NotThis want there) found is none = none (opening.NotThis want there) is
+quiet_start (opening.Damaged file at) found is none = none (opening.Damaged file at) is
+
+-- a sync says nothing
+pub syncs_say_nothing : (old new : List Call) → OnlySyncs old new → SaysOnly old new []
+syncs_say_nothing old new (inl is) = subst (λ (calls : List Call). SaysOnly old calls []) (sym is) (record { said = (said_none old).said; files = λ file. refl })
+syncs_say_nothing old new (inr (inl same)) = subst (λ (calls : List Call). SaysOnly old calls []) (sym same) (said_none old)
+syncs_say_nothing old new (inr (inr left)) = subst (λ (calls : List Call). SaysOnly old calls []) (sym left.2) (record { said = (said_none old).said; files = λ file. refl })
+
+nothing_front : (old new : List Call) (x : List ℕ) → SaysOnly old new [] → SaysFront old new (on 0 x)
+nothing_front old new x says = record { left = []; front = (on 0 x, refl); said = says }
+
+pub open_answer : (d : Directory) (old new : List Call) (e : OpenFault) → OnlySyncs old new → IsAnswer e (opens d (seen old)) → IsShipFault (ship_fault e) d old new
+open_answer d old new opening.DiskFault syncs is = nothing_front old new (feed_of d old) (syncs_say_nothing old new syncs)
+open_answer d old new opening.NoMemory syncs is = nothing_front old new (feed_of d old) (syncs_say_nothing old new syncs)
+open_answer d old new opening.NoJournal syncs is = (is, syncs_say_nothing old new syncs)
+open_answer d old new opening.OldVersion syncs is = (is, syncs_say_nothing old new syncs)
+open_answer d old new (opening.NotThis want found) syncs is = (is, syncs_say_nothing old new syncs)
+open_answer d old new (opening.Damaged file at) syncs is = (is, syncs_say_nothing old new syncs)
+
+-- a quiet fault is answered with a front of the feed
+pub quiet_answer : (d : Directory) (old new : List Call) (e : ShipFault) → IsQuiet e → SaysFront old new (on 0 (feed_of d old)) → IsShipFault e d old new
+quiet_answer d old new (fault.Open f) quiet says = absurd quiet
+quiet_answer d old new fault.DiskFault quiet says = says
+quiet_answer d old new fault.SayFault quiet says = says
+quiet_answer d old new fault.NoMemory quiet says = says
+
+-- what follows a sync follows what was before it
+pub behind_sync : (old mid new : List Call) (x : List ℕ) → SaysOnly old mid [] → SaysOnly mid new (on 0 x) → SaysOnly old new (on 0 x)
+behind_sync old mid new x first second = said_more_of (on 0 x) first second
+  where
+    said_more_of : (y : List (ℕ × ℕ)) → SaysOnly old mid [] → SaysOnly mid new y → SaysOnly old new y
+    said_more_of y a b = record {
+      said = b.said ∙ ap (λ (l : List (ℕ × ℕ)). l ++ y) (a.said ∙ append-nil (said_by old));
+      files = λ file. b.files file ∙ a.files file;
+    }
+
+pub front_behind_sync : (old mid new : List Call) (x : List ℕ) → SaysOnly old mid [] → SaysFront mid new (on 0 x) → SaysFront old new (on 0 x)
+front_behind_sync old mid new x first second = record {
+  left = second.left;
+  front = second.front;
+  said = record {
+    said = second.said.said ∙ ap (λ (l : List (ℕ × ℕ)). l ++ second.left) (first.said ∙ append-nil (said_by old));
+    files = λ file. second.said.files file ∙ first.files file;
+  };
+}
+
+-- the need that files open to
+pub opens_there : (d : Directory) (mid : List Call) (opened : InHand) (s : State) → StandsFor d s mid opened → opened.version ≡ written → opens d (seen mid) ≡ Ok (need d (restarted s))
+opens_there d mid opened s stands current =
+    let opens_to : files_read written d (seen mid) ≡ Ok (s, opened.gate + 1, opened.seal) = ap (λ (v : Version). files_read v d (seen mid)) (sym current) ∙ stands.opens_to in
+    ap (λ (r : Read). by_opened (opened_of r)) opens_to
+  where
+    by_opened : Opened → Result Need OpenFault
+    by_opened o = elim o as (λ _. Result Need OpenFault) [ Err f ↦ Err f | Ok x ↦ Ok (need d (restarted x.0)) ]
+
+-- ---- the whole
+
+-- what was said leaves a journal at its first gate
+pub first_later : (d : Directory) (old new : List Call) (j : InHand) (end : ℕ) → file_of new j ≡ file_of old j → IsAtFirst d old j end → IsAtFirst d new j end
+first_later d old new j end same first = record {
+  gate = first.gate;
+  seal_is = first.seal_is;
+  header = ap (header_fault j.version d.mark j.file) same ∙ first.header;
+  letter = ap is_checkpoint same ∙ first.letter;
+  then = first.then;
+  last = first.last;
+  opens = ap (file_opens j.version d j.file) same ∙ first.opens;
+}
+
+same_behind : (d : Directory) (old new : List Call) (j : InHand) → file_of new j ≡ file_of old j → behind_header d new j ≡ behind_header d old j
+same_behind d old new j same = ap (λ (l : List ℕ). feed_behind j.version (first_seal j.version d.mark) l (is_checkpoint l)) same
+
+-- header, checkpoint and records are the feed
+pub said_feed : {T : Type 0} (result : Result T ShipFault) (d : Directory) (old mid behind new : List Call) (j next : InHand) (end : ℕ) → SaysHere old mid (take 40 (file_of old j))
+    → (first : GoesOnBehind d mid behind next end (behind_header d mid j)) → SaysRest result behind new first.rest → SaysRest result old new (feed j.version d.mark (file_of old j))
+said_feed (Ok x) d old mid behind new j next end header first rest =
+    let tail = subst (SaysHere mid new) (sym first.is) (says_more mid behind new first.piece first.rest first.says rest) in
+    let there = subst (SaysHere mid new) (same_behind d old mid j (header.only.files j.file)) tail in
+    says_more old mid new (take 40 (file_of old j)) (behind_header d old j) header there
+said_feed (Err e) d old mid behind new j next end header first rest =
+    let tail = subst (λ (l : List ℕ). SaysFront mid new (on 0 l)) (sym first.is) (fronts_behind mid behind new first.piece first.rest first.says rest.1) in
+    let there = subst (λ (l : List ℕ). SaysFront mid new (on 0 l)) (same_behind d old mid j (header.only.files j.file)) tail in
+    (rest.0, fronts_behind old mid new (take 40 (file_of old j)) (behind_header d old j) header there)
+
+pub broken_feed : (d : Directory) (old mid new : List Call) (j : InHand) → SaysHere old mid (take 40 (file_of old j)) → SaysFront mid new (on 0 (behind_header d mid j))
+    → SaysFront old new (on 0 (feed j.version d.mark (file_of old j)))
+broken_feed d old mid new j header tail =
+    let there = subst (λ (l : List ℕ). SaysFront mid new (on 0 l)) (same_behind d old mid j (header.only.files j.file)) tail in
+    fronts_behind old mid new (take 40 (file_of old j)) (behind_header d old j) header there
+
+-- what is said of the file that was started is the feed of the files
+pub same_feed : (d : Directory) (old mid new : List Call) (j : InHand) → mid ≡ Did Syncs ∷ old → new ≡ Did Syncs ∷ mid → j.version ≡ written → StandsOn new j → feed j.version d.mark (file_of new j) ≡ feed_of d old
+same_feed d old mid new j first second version stands =
+    let place : selected (seen old) ≡ j.file =
+    ap (λ (calls : List Call). selected (seen calls)) (sym first) ∙ ap (λ (calls : List Call). selected (seen calls)) (sym second) ∙ stands.selected_is in
+    let bytes : file_of new j ≡ selected_bytes (seen old) =
+    ap (λ (calls : List Call). seen calls j.file) second ∙ ap (λ (calls : List Call). seen calls j.file) first ∙ ap (seen old) (sym place) in
+    ap (λ (v : Version). feed v d.mark (file_of new j)) version ∙ ap (feed written d.mark) bytes
+
+pub ships : (d : Directory) (old mid now new : List Call) (j opened : InHand) (s : State) → mid ≡ Did Syncs ∷ old → now ≡ Did Syncs ∷ mid → j.version ≡ written → StandsOn now j → StandsFor d s mid opened → opened.version ≡ written
+    → SaysHere now new (feed j.version d.mark (file_of now j)) → ShipsOnly d old new
+ships d old mid now new j opened s first second version stands for current says =
+    let quiet : SaysOnly old now [] = subst (λ (calls : List Call). SaysOnly old calls []) (sym (second ∙ ap (λ (l : List Call). Did Syncs ∷ l) first)) (record { said = (said_none old).said; files = λ file. refl }) in
+    record {
+      need = need d (restarted s);
+      opened = ap (λ (calls : List Call). opens d (seen calls)) (sym first) ∙ opens_there d mid opened s for current;
+      said = behind_sync old now new (feed_of d old) quiet (subst (λ (l : List ℕ). SaysOnly now new (on 0 l)) (same_feed d old mid now j first second version stands) says.only);
+    }
+
+pub breaks_off : (d : Directory) (old mid now new : List Call) (j : InHand) (e : ShipFault) → mid ≡ Did Syncs ∷ old → now ≡ Did Syncs ∷ mid → j.version ≡ written → StandsOn now j → IsQuiet e
+    → SaysFront now new (on 0 (feed j.version d.mark (file_of now j))) → IsShipFault e d old new
+breaks_off d old mid now new j e first second version stands kind says =
+    let quiet : SaysOnly old now [] = subst (λ (calls : List Call). SaysOnly old calls []) (sym (second ∙ ap (λ (l : List Call). Did Syncs ∷ l) first)) (record { said = (said_none old).said; files = λ file. refl }) in
+    quiet_answer d old new e kind (front_behind_sync old now new (feed_of d old) quiet (subst (λ (l : List ℕ). SaysFront now new (on 0 l)) (same_feed d old mid now j first second version stands) says))
+
+-- nothing was said where the journal wasn't started
+pub not_started : (d : Directory) (old mid new : List Call) (e : ShipFault) → mid ≡ Did Syncs ∷ old → OnlySyncs mid new → IsQuiet e → IsShipFault e d old new
+not_started d old mid new e first syncs kind =
+    let quiet : SaysOnly old mid [] = subst (λ (calls : List Call). SaysOnly old calls []) (sym first) (record { said = (said_none old).said; files = λ file. refl }) in
+    let more = syncs_say_nothing mid new syncs in
+    quiet_answer d old new e kind (front_behind_sync old mid new (feed_of d old) quiet (nothing_front mid new (feed_of d old) more))
+
+pub ships_on : {T : Type 0} (result : Result T ShipFault) (d : Directory) (old mid now new : List Call) (j opened : InHand) (s : State) → mid ≡ Did Syncs ∷ old → now ≡ Did Syncs ∷ mid → j.version ≡ written → StandsOn now j
+    → StandsFor d s mid opened → opened.version ≡ written → SaysRest result now new (feed j.version d.mark (file_of now j)) → OnOk result (ShipsOnly d old new)
+ships_on (Ok x) d old mid now new j opened s first second version stands for current says = ships d old mid now new j opened s first second version stands for current says
+ships_on (Err e) d old mid now new j opened s first second version stands for current says = tt
+
+pub breaks_on : {T : Type 0} (result : Result T ShipFault) (d : Directory) (old mid now new : List Call) (j : InHand) → mid ≡ Did Syncs ∷ old → now ≡ Did Syncs ∷ mid → j.version ≡ written → StandsOn now j
+    → SaysRest result now new (feed j.version d.mark (file_of now j)) → IfErr result (λ e. IsShipFault e d old new)
+breaks_on (Ok x) d old mid now new j first second version stands says = tt
+breaks_on (Err e) d old mid now new j first second version stands says = breaks_off d old mid now new j e first second version stands says.0 says.1

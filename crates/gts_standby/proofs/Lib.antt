@@ -1,0 +1,4 @@
+pub mod SayLemmas
+pub mod FeedLemmas
+pub mod ShipLemmas
+pub mod FirstLemmas

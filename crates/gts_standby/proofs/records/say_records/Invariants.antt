@@ -1,0 +1,19 @@
+use Rattle.std.proofs.Common.{◌≡◌, ◌-◌, ◌≤◌, ℕ, false, List}
+use Rattle.gts_directory.specs.Directory.{Directory}
+use Rattle.gts_journal.specs.{StandsOn}
+use Rattle.gts_standby.specs.Shipping.{IsAtGate, GoesOnBehind}
+use Rattle.gts_standby.proofs.records.say_records.Given as goal
+
+-- the records up to a gate were said
+abbrev pub invariant-record : goal.invariant-record
+invariant-record g l = record {
+  going : l.journal.ended ≡ false;
+  stands : g.P.Station.tells → StandsOn (g.P.Station.calls l.station) l.journal;
+  said : g.P.Station.tells → (d : Directory) (left : List ℕ) → IsAtGate d (g.P.Station.calls l.fn.station) l.fn.journal l.end left
+      → GoesOnBehind d (g.P.Station.calls l.fn.station) (g.P.Station.calls l.station) l.journal l.end left;
+  later : g.P.Station.disk_faults l.fn.station ≤ g.P.Station.disk_faults l.station;
+  say : g.P.Station.say_faults l.fn.station ≤ g.P.Station.say_faults l.station;
+}
+
+abbrev pub decreases-record : goal.decreases-record
+decreases-record g l = l.end - l.journal.gate

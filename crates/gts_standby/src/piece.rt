@@ -1,0 +1,65 @@
+ghost use Rattle.std.specs.Prelude.{◌≡◌, ◌≤◌, ◌<◌, ◌-◌, ◌^◌, length, take, drop, IfErr, IsErrOf};
+ghost use Rattle.gts_traits.specs.{Rose, seen};
+ghost use Rattle.gts_standby.specs.Shipping.{Speaks, IsQuiet};
+
+use crate::ShipFault;
+use gts_journal::OpenFault;
+use gts_traits::{Failed, Station};
+
+/// The channel of receipts, reports and feeds.
+const OPERATOR: u32 = 0;
+
+/// How many bytes of a file are read and said at once.
+const PIECE: usize = 4096;
+
+/// Says a piece on the operator's channel.
+fn say_piece<P: Station>(station: &mut P, piece: &[u8]) -> Result<(), ShipFault>
+    ensures told { P.tells → Speaks result (P.calls station.old) (P.calls station.new) piece.now }
+    ensures say_fault { IsErrOf result ShipFault.SayFault
+        → Rose (P.say_faults station.old) (P.say_faults station.new) }
+    ensures kind { IfErr result (λ e. e ≡ ShipFault.SayFault) }
+    ensures later { P.say_faults station.old ≤ P.say_faults station.new }
+    ensures disk { P.disk_faults station.new ≡ P.disk_faults station.old }
+{
+    match station.say(OPERATOR, piece) {
+        Ok(()) => Ok(()),
+        Err(Failed) => Err(ShipFault::SayFault),
+    }
+}
+
+/// Says the bytes of a file from one place to another, in pieces. Bytes that aren't there are damage, at the first place of a
+/// piece that isn't whole.
+pub(crate) fn say_part<P: Station>(
+    station: &mut P,
+    file: u32,
+    from: u64,
+    to: u64,
+) -> Result<(), ShipFault>
+    requires file { file < 2 }
+    requires order { from ≤ to }
+    requires room { to ≤ 2 ^ 41 }
+    requires there { P.tells → to ≤ length (seen (P.calls station.old) file) }
+    ensures told { P.tells → Speaks result (P.calls station.old) (P.calls station.new)
+        (take (to - from) (drop from (seen (P.calls station.old) file))) }
+    ensures kind { P.tells → IfErr result IsQuiet }
+    ensures disk_fault { IsErrOf result ShipFault.DiskFault
+        → Rose (P.disk_faults station.old) (P.disk_faults station.new) }
+    ensures say_fault { IsErrOf result ShipFault.SayFault
+        → Rose (P.say_faults station.old) (P.say_faults station.new) }
+    ensures later { P.disk_faults station.old ≤ P.disk_faults station.new }
+    ensures say { P.say_faults station.old ≤ P.say_faults station.new }
+{
+    let mut piece = [0u8; PIECE];
+    let mut at = from;
+    'piece: while at < to {
+        let count = (to - at).min(PIECE as u64) as usize;
+        let part = &mut piece[..count];
+        let found = station.read(file, at, part)?;
+        if found < count {
+            return Err(ShipFault::Open(OpenFault::Damaged { file, at }));
+        }
+        say_piece(station, part)?;
+        at += count as u64;
+    }
+    Ok(())
+}

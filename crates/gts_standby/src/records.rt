@@ -1,0 +1,67 @@
+ghost use Rattle.std.specs.Prelude.{◌≡◌, ◌≤◌, ◌<◌, ◌^◌, ℕ, false, List, OnOk, IsErrOf};
+ghost use Rattle.gts_traits.specs.{Rose};
+ghost use Rattle.gts_directory.specs.Directory.{Directory};
+ghost use Rattle.gts_journal.specs.{StandsOn};
+ghost use Rattle.gts_standby.specs.Shipping.{IsAtGate, SaysOne, SaysRest};
+
+use crate::ShipFault;
+use crate::piece::say_part;
+use gts_journal::{Journal, OpenFault};
+use gts_traits::Station;
+
+/// Says the record behind the gate with its seal, and goes on behind it.
+fn say_next<P: Station>(station: &mut P, journal: &mut Journal) -> Result<(), ShipFault>
+    requires going { journal.old.ended ≡ false }
+    requires room { journal.old.gate < 2 ^ 40 }
+    requires stands { P.tells → StandsOn (P.calls station.old) journal.old }
+    ensures said { P.tells → (d : Directory) (end : ℕ) (left : List ℕ)
+        → IsAtGate d (P.calls station.old) journal.old end left → journal.old.gate < end
+        → SaysOne result d (P.calls station.old) (P.calls station.new) journal.new end left }
+    ensures going { OnOk result (journal.new.ended ≡ false) }
+    ensures stands { P.tells → OnOk result (StandsOn (P.calls station.new) journal.new) }
+    ensures rises { OnOk result (journal.old.gate < journal.new.gate) }
+    ensures disk_fault { IsErrOf result ShipFault.DiskFault
+        → Rose (P.disk_faults station.old) (P.disk_faults station.new) }
+    ensures say_fault { IsErrOf result ShipFault.SayFault
+        → Rose (P.say_faults station.old) (P.say_faults station.new) }
+    ensures later { P.disk_faults station.old ≤ P.disk_faults station.new }
+    ensures say { P.say_faults station.old ≤ P.say_faults station.new }
+{
+    let gate = journal.used();
+    let file = journal.file();
+    match journal.next(station) {
+        Ok(Some(_)) => {}
+        Ok(None) => return Err(ShipFault::Open(OpenFault::Damaged { file, at: gate })),
+        Err(fault) => return Err(ShipFault::from(fault)),
+    }
+    let behind = journal.used();
+    say_part(station, file, gate + 1, behind)
+}
+
+/// Says the records from the gate on, each with its seal, up to the gate at a place.
+pub(crate) fn say_records<P: Station>(
+    station: &mut P,
+    journal: &mut Journal,
+    end: u64,
+) -> Result<(), ShipFault>
+    requires going { journal.old.ended ≡ false }
+    requires room { end < 2 ^ 40 }
+    requires stands { P.tells → StandsOn (P.calls station.old) journal.old }
+    ensures said { P.tells → (d : Directory) (left : List ℕ)
+        → IsAtGate d (P.calls station.old) journal.old end left
+        → SaysRest result (P.calls station.old) (P.calls station.new) left }
+    ensures disk_fault { IsErrOf result ShipFault.DiskFault
+        → Rose (P.disk_faults station.old) (P.disk_faults station.new) }
+    ensures say_fault { IsErrOf result ShipFault.SayFault
+        → Rose (P.say_faults station.old) (P.say_faults station.new) }
+    ensures later { P.disk_faults station.old ≤ P.disk_faults station.new }
+    ensures say { P.say_faults station.old ≤ P.say_faults station.new }
+{
+    'record: while journal.used() < end {
+        match say_next(station, journal) {
+            Ok(()) => {}
+            Err(fault) => return Err(fault),
+        }
+    }
+    Ok(())
+}

@@ -1,0 +1,131 @@
+ghost use Rattle.std.specs.Prelude.{◌≡◌, ◌≤◌, ◌<◌, ◌^◌, ℕ, false, IfErr, OnOk, IsErrOf};
+ghost use Rattle.gts_traits.specs.{Rose};
+ghost use Rattle.gts_journal.specs.{StandsOn, file_of};
+ghost use Rattle.gts_standby.specs.Feed.{feed};
+ghost use Rattle.gts_standby.specs.Shipping.{IsAtFirst, SaysOne, SaysRest, behind_header, ShipsOnly, IsShipFault};
+
+use crate::ShipFault;
+use crate::piece::say_part;
+use crate::records::say_records;
+use gts_checkpoint::read;
+use gts_directory::Directory;
+use gts_journal::Journal;
+use gts_recovery::open_core;
+use gts_traits::Station;
+use std::alloc::Global;
+
+/// The bytes in front of the first gate.
+const HEADER: u64 = 40;
+
+/// Says the checkpoint with its seal, if the journal begins with one, and goes on behind it. The records come to a closed gate at
+/// a place.
+fn say_checkpoint<P: Station>(
+    alloc: Global,
+    station: &mut P,
+    directory: &Directory,
+    journal: &mut Journal,
+    end: u64,
+) -> Result<(), ShipFault>
+    requires going { journal.old.ended ≡ false }
+    requires stands { P.tells → StandsOn (P.calls station.old) journal.old }
+    requires first { P.tells
+        → IsAtFirst directory.now (P.calls station.old) journal.old end }
+    ensures said { P.tells → SaysOne result directory.now (P.calls station.old)
+        (P.calls station.new) journal.new end
+        (behind_header directory.now (P.calls station.old) journal.old) }
+    ensures going { OnOk result (journal.new.ended ≡ false) }
+    ensures stands { P.tells → OnOk result (StandsOn (P.calls station.new) journal.new) }
+    ensures disk_fault { IsErrOf result ShipFault.DiskFault
+        → Rose (P.disk_faults station.old) (P.disk_faults station.new) }
+    ensures say_fault { IsErrOf result ShipFault.SayFault
+        → Rose (P.say_faults station.old) (P.say_faults station.new) }
+    ensures later { P.disk_faults station.old ≤ P.disk_faults station.new }
+    ensures say { P.say_faults station.old ≤ P.say_faults station.new }
+{
+    let _ = end;
+    if !journal.at_checkpoint() {
+        return Ok(());
+    }
+    // A limit is low enough for the place of the gate.
+    let _ = directory.limit();
+    let file = journal.file();
+    match read(alloc, station, journal.version(), file, directory) {
+        Ok(found) => {
+            let seal = found.2;
+            let gate = found.1;
+            match say_part(station, file, HEADER + 1, gate) {
+                Ok(()) => {
+                    journal.pass(gate, seal);
+                    Ok(())
+                }
+                Err(fault) => Err(fault),
+            }
+        }
+        Err(fault) => Err(ShipFault::from(fault)),
+    }
+}
+
+/// Says the feed of a journal that stands at its first gate, whose records come to a closed gate at a place.
+fn say_feed<P: Station>(
+    alloc: Global,
+    station: &mut P,
+    directory: &Directory,
+    journal: Journal,
+    end: u64,
+) -> Result<(), ShipFault>
+    requires going { journal.ended ≡ false }
+    requires room { end < 2 ^ 40 }
+    requires stands { P.tells → StandsOn (P.calls station.old) journal }
+    requires first { P.tells → IsAtFirst directory.now (P.calls station.old) journal end }
+    ensures said { P.tells → SaysRest result (P.calls station.old) (P.calls station.new)
+        (feed journal.version directory.now.mark (file_of (P.calls station.old) journal)) }
+    ensures disk_fault { IsErrOf result ShipFault.DiskFault
+        → Rose (P.disk_faults station.old) (P.disk_faults station.new) }
+    ensures say_fault { IsErrOf result ShipFault.SayFault
+        → Rose (P.say_faults station.old) (P.say_faults station.new) }
+    ensures later { P.disk_faults station.old ≤ P.disk_faults station.new }
+    ensures say { P.say_faults station.old ≤ P.say_faults station.new }
+{
+    let mut journal = journal;
+    match say_part(station, journal.file(), 0, HEADER) {
+        Ok(()) => {}
+        Err(fault) => return Err(fault),
+    }
+    match say_checkpoint(alloc, station, directory, &mut journal, end) {
+        Ok(()) => say_records(station, &mut journal, end),
+        Err(fault) => Err(fault),
+    }
+}
+
+/// Says the feed of the selected file on channel 0, in pieces: the header, and each record behind an open gate with its seal. The
+/// journal is opened first. Files are only read and synced. It takes memory for what the journal opens to.
+pub fn ship<P: Station>(
+    alloc: Global,
+    station: &mut P,
+    directory: &Directory,
+) -> Result<(), ShipFault>
+    // The journal opens, and its feed was said on channel 0, and nothing else.
+    ensures said { P.tells → OnOk result
+        (ShipsOnly directory.now (P.calls station.old) (P.calls station.new)) }
+
+    // A fault of the files is answered exactly where they open to it. Else a front of the feed was said.
+    ensures fault { P.tells → IfErr result (λ e.
+        IsShipFault e directory.now (P.calls station.old) (P.calls station.new)) }
+    ensures disk_fault { IsErrOf result ShipFault.DiskFault
+        → Rose (P.disk_faults station.old) (P.disk_faults station.new) }
+    ensures say_fault { IsErrOf result ShipFault.SayFault
+        → Rose (P.say_faults station.old) (P.say_faults station.new) }
+    ensures later { P.disk_faults station.old ≤ P.disk_faults station.new }
+    ensures say { P.say_faults station.old ≤ P.say_faults station.new }
+{
+    // A limit is low enough for the places of gates.
+    let _ = directory.limit();
+    let end = match open_core(alloc, station, directory) {
+        Ok((_core, opened)) => opened.used() - 1,
+        Err(fault) => return Err(ShipFault::from(fault)),
+    };
+    match Journal::start(alloc, station, directory.mark()) {
+        Ok(journal) => say_feed(alloc, station, directory, journal, end),
+        Err(fault) => Err(ShipFault::from(fault)),
+    }
+}
