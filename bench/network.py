@@ -498,7 +498,7 @@ class Relay(Caller):
         self.changing = threading.Lock()
         self.cuts = self.mid_frame_cuts = self.swallowed = self.dropped = 0
 
-    def wants(self, wish, seconds=0.5):
+    def wants(self, wish, seconds=0.8):
         self.wish_ends = time.monotonic() + seconds
         self.wish = wish
 

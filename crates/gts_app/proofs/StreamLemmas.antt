@@ -1,9 +1,8 @@
 -- What the commands come to that read a stream or a capture and use no journal.
-use Rattle.std.proofs.Common.{◌≡◌, ◌≤◌, ℕ, List, Ok, Err, inl, inr, refl, sym, ap, subst, arith}
+use Rattle.std.proofs.Common.{◌≡◌, ℕ, Ok, Err, inl, inr, refl, sym, ap, subst, arith}
 use Rattle.std.specs.Prelude.{◌⊎◌}
 use Rattle.gts_traits.specs.declared.source.Source.{Ghosts as SourceWords}
 use Rattle.gts_traits.specs.declared.station.Station.{Ghosts as StationWords}
-use Rattle.gts_traits.specs.Counts.{Rose}
 use Rattle.gts_traits.specs.{seen}
 use Rattle.gts_directory.specs.Directory as directories
 use Rattle.gts_directory.specs.declared.fault.DirFault.{DirFault}
@@ -18,7 +17,7 @@ use Rattle.gts_missing.specs.declared.fault.GapsEnd.TheVariants as gaps
 use Rattle.gts_app.specs.declared.status.Status.{Status}
 use Rattle.gts_app.specs.declared.status.Status.TheVariants.{Done, Words, Directory, Capture, NoJournal, OldVersion, NotThis, Damaged, Exists, Accum, DiskFault, SourceFault, SayFault, Full, LineFault, LongSession, Spent, NoMemory}
 use Rattle.gts_app.specs.Reading.{IsReadEnd, ReadsDirectory}
-use Rattle.gts_app.specs.Replay.{World, world}
+use Rattle.gts_app.specs.Replay.{world}
 use Rattle.gts_app.specs.Pack.{status_packed, PackedAs, KeepsFiles, PacksStream}
 use Rattle.gts_app.specs.Gaps.{status_named, NamedAs, NamesGaps}
 

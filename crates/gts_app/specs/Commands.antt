@@ -7,9 +7,10 @@ pub use Rattle.gts_app.specs.Generate.{Generates}
 pub use Rattle.gts_app.specs.Init.{Inits}
 pub use Rattle.gts_app.specs.Replay.{Replays, world, IsNoCapture}
 pub use Rattle.gts_app.specs.Serve.{Serves}
-pub use Rattle.gts_app.specs.Show.{Shows}
+use Rattle.gts_app.specs.Show.{Shows}
 use Rattle.gts_app.specs.Pack.{PacksStream}
 use Rattle.gts_app.specs.Gaps.{NamesGaps}
+use Rattle.gts_app.specs.Compact.{Compacts}
 use Rattle.gts_app.specs.Replay.{World}
 use Rattle.gts_app.specs.declared.status.Status.{Status}
 use Rattle.gts_traits.specs.declared.source.Source.{Ghosts as SourceWords}
@@ -22,7 +23,7 @@ IsBuilt Init = Unit {0}
 IsBuilt Replay = Unit {0}
 IsBuilt Show = Unit {0}
 IsBuilt (Serve connections) = Unit {0}
-IsBuilt Compact = ⊥
+IsBuilt Compact = Unit {0}
 IsBuilt (Generate count) = Unit {0}
 IsBuilt (Unpack c) = ⊥
 IsBuilt Pack = Unit {0}
@@ -42,3 +43,11 @@ ReadsApart source station command status old new =
     (command ≡ Some Pack → PacksStream source station status old new)
     × ((day hour minute : ℕ) → command ≡ Some (Gaps day hour minute)
     → NamesGaps source station (moment_at day hour minute) status old new)
+
+-- what comes of the commands that open the journal, and read no capture
+abbrev pub OpensJournal : {S P : Type 0} → SourceWords S → StationWords P → Option Command → Status → (old new : World S S P) → Type 0
+OpensJournal source station command status old new =
+    (command ≡ Some Show → (new.capture ≡ old.capture)
+    × Shows source station status old.directory old.station new.directory new.station)
+    × (command ≡ Some Compact → (new.capture ≡ old.capture)
+    × Compacts source station status old.directory old.station new.directory new.station)

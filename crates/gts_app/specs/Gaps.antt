@@ -1,5 +1,5 @@
 -- What each end of the command `gaps` means for what it works on.
-use Rattle.std.specs.Prelude.{◌≡◌, ◌⊎◌, List, Ok}
+use Rattle.std.specs.Prelude.{◌≡◌, ◌⊎◌, Ok}
 use Rattle.gts_traits.specs.declared.source.Source.{Ghosts as SourceWords}
 use Rattle.gts_traits.specs.declared.station.Station.{Ghosts as StationWords}
 use Rattle.gts_traits.specs.Counts.{Rose}

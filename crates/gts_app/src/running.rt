@@ -1,9 +1,10 @@
 ghost use Rattle.std.specs.Prelude.{◌≡◌, ◌⊎◌, ◌<◌, ◌^◌, ℕ, Some, length};
 ghost use Rattle.gts_words.specs.{command_of};
 ghost use Rattle.gts_serve.specs.{seen_lines as seen};
-ghost use Rattle.gts_app.specs.Commands.{IsCommand, Inits, Replays, world, IsNoCapture, Shows, Serves, Generates, ReadsApart};
+ghost use Rattle.gts_app.specs.Commands.{IsCommand, Inits, Replays, world, IsNoCapture, Serves, Generates, OpensJournal, ReadsApart};
 
 use crate::Status;
+use crate::commands::compact::compact;
 use crate::commands::gaps::gaps;
 use crate::commands::generate::generate;
 use crate::commands::init::init;
@@ -18,8 +19,8 @@ use std::alloc::Global;
 use std::sync::Wait;
 use std::thread::Threads;
 
-/// Runs the command that the words name: `init`, `replay`, `serve`, `show`, `generate`, `pack` or `gaps`. The station and the
-/// capture are handed back.
+/// Runs the command that the words name: `init`, `replay`, `serve`, `show`, `compact`, `generate`, `pack` or `gaps`. The station and
+/// the capture are handed back.
 pub fn run<R, S, P, L, G>(
     rt: &R,
     alloc: Global,
@@ -51,8 +52,8 @@ where
     ensures replay { command_of words.now ≡ Some Command.Replay
         → Replays S.Source S.Source P.Station result.0
         (world directory.old capture station) (world directory.new result.2 result.1) }
-    ensures show { command_of words.now ≡ Some Command.Show → (result.2 ≡ capture)
-        × Shows S.Source P.Station result.0 directory.old station directory.new result.1 }
+    ensures journal { OpensJournal S.Source P.Station (command_of words.now) result.0
+        (world directory.old capture station) (world directory.new result.2 result.1) }
     ensures serve { (connections : ℕ) → command_of words.now ≡ Some (Command.Serve connections)
         → (result.2 ≡ capture) × Serves S.Source P.Station L.In.tells L.Out.tells connections
         result.0 directory.old station (seen L.is_open L.faults L.ports L.bytes lines.old)
@@ -91,6 +92,10 @@ where
             let (status, station) = show(alloc, directory, station);
             (status, station, capture)
         }
+        Command::Compact => {
+            let (status, station) = compact(alloc, directory, station);
+            (status, station, capture)
+        }
         Command::Serve { connections } => {
             let (status, station) = serve(rt, alloc, directory, station, lines, connections, gate);
             (status, station, capture)
@@ -108,7 +113,7 @@ where
             let status = gaps(alloc, moment, directory, &mut capture, &mut station);
             (status, station, capture)
         }
-        // These are not built yet.
-        Command::Compact | Command::Unpack { .. } => (Status::Words, station, capture),
+        // This one is not built yet.
+        Command::Unpack { .. } => (Status::Words, station, capture),
     }
 }

@@ -1,46 +1,41 @@
 -- What is kept beside a switch, by what the switch answers.
-use Rattle.std.proofs.Common.{◌≡◌, ℕ, zero, suc, ◌+◌, ◌-◌, ◌<◌, ◌≤◌, Bool, true, false, ◌&&◌, ◌==◌, cond, List, [], ◌∷◌, ◌++◌, length, get_or, map, reverse, Option, Some, None, Result, Ok, Err, slice_get, refl, sym, ap, subst, ◌∙◌, arith, append_assoc}
+use Rattle.std.proofs.Common.{◌≡◌, ℕ, suc, ◌<◌, Bool, true, false, ◌&&◌, cond, List, [], ◌∷◌, ◌++◌, length, reverse, Option, Some, None, Result, Ok, Err, refl, sym, ap, subst, ◌∙◌, arith, append_assoc}
 use Rattle.std.specs.Prelude.{IsTrue, nat_eq, take}
 use Rattle.std.specs.Cmp.Lexicographic.{pointwise}
 use Rattle.std.specs.List.{All, find}
 use Rattle.std.proofs.lemmas.Bool.{true≢false}
-use Rattle.std.proofs.lemmas.List.{append-nil, length-map, reverse-append, get_or-map}
+use Rattle.std.proofs.lemmas.List.{append-nil, length-map, reverse-append}
 use Rattle.std.proofs.lemmas.List.Elements.{All-append}
 use Rattle.gts_heading.specs.Heading.{HeadingFields, heading_text}
 use Rattle.gts_heading.specs.declared.field.Field.{Field}
-use Rattle.gts_message.specs.Message.{MessageParts, split_at}
+use Rattle.gts_message.specs.Message.{MessageParts}
 use Rattle.gts_frame.specs.declared.kind.Kind.{Kind}
 use Rattle.gts_directory.specs.Directory.{Directory, Circuit, named}
 use Rattle.gts_event.specs.State.{State, Bulletin, is_recent, is_same_heading, heading_of, text_of, duplicate}
-use Rattle.gts_event.specs.History.{is_request, answer_to, verdict, outcome, choice, after, after_entry, after_all, body_of, Choice, Draws, digits_on}
-use Rattle.gts_event.specs.Held.{IsHeld, WasRead}
-use Rattle.gts_event.specs.Need.{is_bulletin, circuit_of_event}
-use Rattle.gts_event.specs.Said.{spoken}
+use Rattle.gts_event.specs.History.{answer_to, verdict, outcome, after, body_of}
+use Rattle.gts_event.specs.Held.{WasRead}
 use Rattle.gts_event.specs.declared.event.Event.{Event}
-use Rattle.gts_event.specs.declared.event.Event.TheVariants.{Heard, Lost, Taken}
+use Rattle.gts_event.specs.declared.event.Event.TheVariants.{Heard}
 use Rattle.gts_event.specs.declared.event.Entry.{Entry}
-use Rattle.gts_event.specs.declared.event.Entry.TheVariants.{Done, Unsaid, Idle, Doubt, Restarted}
+use Rattle.gts_event.specs.declared.event.Entry.TheVariants.{Done, Unsaid, Idle, Doubt}
 use Rattle.gts_event.specs.declared.outcome.Outcome.{Outcome}
 use Rattle.gts_event.specs.declared.outcome.Outcome.TheVariants.{Accepted, Duplicate, Asked, Refused, LineLost, Resend, Draw, Nothing}
 use Rattle.gts_event.specs.declared.outcome.Refusal.TheVariants.{Message}
 use Rattle.gts_event.specs.declared.fault.SwitchFault.{SwitchFault}
 use Rattle.gts_event.specs.declared.fault.SwitchFault.TheVariants.{DiskFault, SayFault, Full, Stopped, Spent, NoMemory}
-use Rattle.gts_event.proofs.LawLemmas.{outcome-same, spoken-same}
-use Rattle.gts_traits.specs.Station.{on}
+use Rattle.gts_event.proofs.LawLemmas.{outcome-same}
 use Rattle.gts_opening.specs.Room.{HasUnsaid, IsAccepted}
-use Rattle.gts_turns.specs.Turns.{entry_of}
 use Rattle.circular_buffer.specs.Buffer.{Buffer}
 use Rattle.gts_count.specs.declared.recent.Recent.{Recent}
 use Rattle.gts_count.specs.declared.numbers.Numbers.{Numbers}
 use Rattle.gts_count.specs.declared.counting.Counting.{Counting}
-use Rattle.gts_count.specs.Tally.{key_of, key_at}
+use Rattle.gts_count.specs.Tally.{key_of}
 use Rattle.gts_count.specs.Rows.{has_row}
-use Rattle.gts_count.specs.Numbers.{IsSound}
 use Rattle.gts_count.specs.Going.{heard_of}
-use Rattle.gts_count.specs.Counting.{Follows, Knows, Counts, CountsIf, CanNote, IsReady, IsTold, GoesOn, Prepares, KeepsRest, Notes, NotesDraw, AfterAccepted, AfterHeard, AfterTaken, IsDrawn, outdated, key_of_frame}
+use Rattle.gts_count.specs.Counting.{Follows, Knows, Counts, CountsIf, CanNote, IsReady, IsTold, GoesOn, Prepares, KeepsRest, Notes, AfterAccepted, AfterHeard, outdated}
 use Rattle.gts_count.proofs.SoundLemmas.{single}
 use Rattle.gts_count.proofs.KeyLemmas.{key_message}
-use Rattle.gts_count.proofs.FollowLemmas.{follows_heard, follows_taken, follows_restarted, follows_prepared, follows_accepted, follows_drawn, drawn_there, choice_is}
+use Rattle.gts_count.proofs.FollowLemmas.{follows_heard, follows_prepared, follows_accepted}
 
 pub current_counts : (d : Directory) (s : State) (h : List Entry) (c : Counting) → c.current ≡ true → Counts d s h c → Knows d c × Follows d s c.numbers
 current_counts d s h c is counts = subst (λ (b : Bool). CountsIf b d s h c) is counts

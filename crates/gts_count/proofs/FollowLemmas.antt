@@ -1,22 +1,21 @@
 -- The running numbers follow a history, entry by entry.
-use Rattle.std.proofs.Common.{◌≡◌, ℕ, zero, suc, ◌+◌, ◌-◌, ◌<◌, ◌≤◌, Bool, true, false, not, ◌&&◌, ◌||◌, ◌==◌, nat_lt, nat_le, cond, ◌⊎◌, inl, inr, ⊎_elim, List, [], ◌∷◌, ◌++◌, length, get_or, set, drop, map, filter, Option, Some, None, Result, Ok, Err, refl, sym, ap, subst, ◌∙◌, arith}
+use Rattle.std.proofs.Common.{◌≡◌, ℕ, suc, ◌<◌, ◌≤◌, Bool, true, false, ◌&&◌, ◌||◌, ◌==◌, cond, ◌⊎◌, inl, inr, List, [], ◌∷◌, ◌++◌, length, get_or, set, drop, map, filter, Option, Some, refl, sym, ap, subst, ◌∙◌, arith}
 use Rattle.std.specs.Prelude.{IsTrue}
-use Rattle.std.specs.List.{All, list_any, list_all, find}
-use Rattle.std.proofs.lemmas.Bool.{true≢false, eqb-true, eq-eqb, lt-ltb}
-use Rattle.std.proofs.lemmas.List.{append-nil, append_assoc, get_or-map, set-get_or, map-set, length-map}
+use Rattle.std.specs.List.{All, list_all, find}
+use Rattle.std.proofs.lemmas.Bool.{true≢false, lt-ltb}
+use Rattle.std.proofs.lemmas.List.{get_or-map, set-get_or, map-set, length-map}
 use Rattle.std.proofs.lemmas.List.Elements.{All-append}
-use Rattle.circular_buffer.specs.Buffer.{Buffer, buffer, keep_last}
+use Rattle.circular_buffer.specs.Buffer.{Buffer, keep_last}
 use Rattle.gts_frame.specs.declared.kind.Kind.{Kind}
 use Rattle.gts_directory.specs.Directory.{Directory, Circuit, named, is_named}
-use Rattle.gts_event.specs.State.{State, CircuitState, Bulletin, has, is_recent, last_of, on_circuit, idle, waiting, next, heading_of}
-use Rattle.gts_event.specs.History.{Choice, Repeats, Draws, Nothing_waits, choice, outcome, after, after_heard, after_take, after_entry, after_all, with_bulletin, with_drawn, body_of, heading_of_message, restarted, found, places, items_of}
-use Rattle.gts_event.specs.Need.{need, keeps_one, is_here, is_for, circuit_of_event, IsOrdered}
+use Rattle.gts_event.specs.State.{State, CircuitState, Bulletin, has, is_recent, on_circuit, heading_of}
+use Rattle.gts_event.specs.History.{Choice, Repeats, Draws, Nothing_waits, choice, outcome, after, after_heard, after_take, with_bulletin, with_drawn, body_of, heading_of_message, restarted, found, places, items_of}
+use Rattle.gts_event.specs.Need.{need, is_here, is_for, circuit_of_event}
 use Rattle.gts_event.specs.Held.{IsHeld}
 use Rattle.gts_event.specs.Stand.{SameNeed}
 use Rattle.gts_event.specs.declared.event.Event.{Event}
-use Rattle.gts_event.specs.declared.event.Event.TheVariants.{Heard, Lost, Taken}
-use Rattle.gts_event.specs.declared.event.Entry.{Entry}
-use Rattle.gts_event.specs.declared.event.Entry.TheVariants.{Done, Unsaid, Idle, Doubt, Restarted}
+use Rattle.gts_event.specs.declared.event.Event.TheVariants.{Heard, Taken}
+use Rattle.gts_event.specs.declared.event.Entry.TheVariants.{Done, Restarted}
 use Rattle.gts_event.specs.declared.outcome.Outcome.{Outcome}
 use Rattle.gts_event.specs.declared.outcome.Outcome.TheVariants.{Accepted, Duplicate, Asked, Refused, LineLost, Resend, Draw, Nothing}
 use Rattle.gts_event.proofs.LawLemmas.{after-same, outcome-same, restarted-same, held-all, list_all-has, draw_position, next_waits, waiting_routed}
@@ -24,11 +23,11 @@ use Rattle.gts_count.specs.declared.recent.Recent.{Recent}
 use Rattle.gts_count.specs.declared.numbers.Numbers.{Numbers}
 use Rattle.gts_count.specs.Tally.{Tally, tally, recent_of, key_of, key_at}
 use Rattle.gts_count.specs.Rows.{has_row}
-use Rattle.gts_count.specs.Numbers.{IsSound, tally_of, IsRing, no_ring, ring_at, kept_with}
+use Rattle.gts_count.specs.Numbers.{tally_of, no_ring, ring_at, kept_with}
 use Rattle.gts_count.specs.Going.{window_of, heard_of}
 use Rattle.gts_count.specs.State.{takens_of, drawn_of, tally_at}
 use Rattle.gts_count.specs.Counting.{Follows, Notes, NotesDraw, Prepares}
-use Rattle.gts_count.proofs.WindowLemmas.{joins_window, counts_window}
+use Rattle.gts_count.proofs.WindowLemmas.{joins_window}
 use Rattle.gts_count.proofs.StateLemmas.{tally-need, tally_is, takens-routed, takens-same, takens-restarted, drawn-accepted, drawn-drew}
 use Rattle.gts_count.proofs.StepLemmas.{window_whole}
 use Rattle.gts_count.proofs.SoundLemmas.{single}

@@ -1,7 +1,7 @@
 -- The key of a bulletin is its first eleven bytes, and stands so in its frames.
-use Rattle.std.proofs.Common.{◌≡◌, ℕ, zero, suc, ◌+◌, ◌-◌, ◌<◌, ◌≤◌, Bool, true, false, ◌==◌, cond, List, [], ◌∷◌, ◌++◌, length, get_or, set, take, drop, Option, Some, None, Result, Ok, Err, refl, sym, ap, subst, ◌∙◌, arith, length-append}
+use Rattle.std.proofs.Common.{◌≡◌, ℕ, ◌+◌, ◌<◌, ◌≤◌, true, ◌==◌, cond, List, [], ◌∷◌, ◌++◌, length, set, take, drop, Option, Some, None, Result, Ok, Err, refl, sym, ap, ◌∙◌, arith, length-append}
 use Rattle.std.specs.Prelude.{is_ok}
-use Rattle.std.specs.List.{All, find, enumerate_from}
+use Rattle.std.specs.List.{find, enumerate_from}
 use Rattle.std.proofs.lemmas.Bool.{true≢false, eq-eqb, ne_eqb}
 use Rattle.std.proofs.lemmas.List.{take-append-le, get_or-set_same}
 use Rattle.std.proofs.Math.Seq.{drop-append-add}
@@ -20,7 +20,7 @@ use Rattle.gts_frame.specs.declared.kind.Kind.TheVariants.{An, Bi, Fx}
 use Rattle.gts_frame.specs.Frame.{frame, letters}
 use Rattle.gts_frame.proofs.LawLemmas.{length-frame}
 use Rattle.gts_directory.specs.Directory.{Directory}
-use Rattle.gts_event.specs.State.{State, CircuitState, Bulletin, on_circuit, idle, drawn, draws, bulletin_at, heading_of, no_heading}
+use Rattle.gts_event.specs.State.{State, CircuitState, Bulletin, on_circuit, idle, drawn, bulletin_at, heading_of, no_heading}
 use Rattle.gts_event.specs.History.{Choice, Repeats, Draws, Nothing_waits, choice, after, after_take, with_drawn, digits_on, body_of}
 use Rattle.gts_number.specs.Number.{number_in}
 use Rattle.gts_event.specs.Said.{line, spoken, numbered_frame}

@@ -10,3 +10,8 @@ mod KeyLemmas
 mod CountingLemmas
 mod TakingLemmas
 mod TurnLemmas
+mod KeysLemmas
+mod LineLemmas
+mod StartLemmas
+mod StartingLemmas
+mod BeginningLemmas

@@ -1,16 +1,16 @@
 -- What is counted of a need is what is counted of its state; and what changes that.
-use Rattle.std.proofs.Common.{◌≡◌, ℕ, zero, suc, ◌+◌, ◌-◌, ◌<◌, ◌≤◌, Bool, true, false, not, ◌&&◌, ◌||◌, ◌==◌, nat_lt, cond, List, [], ◌∷◌, ◌++◌, length, get_or, set, drop, map, filter, zip, Option, Some, None, refl, sym, ap, ◌∙◌, inl, inr, ◌⊎◌, arith}
+use Rattle.std.proofs.Common.{◌≡◌, ℕ, zero, suc, ◌+◌, ◌-◌, ◌<◌, ◌≤◌, Bool, true, false, ◌&&◌, ◌||◌, ◌==◌, nat_lt, cond, List, [], ◌∷◌, ◌++◌, length, get_or, set, drop, map, filter, zip, Option, Some, None, refl, sym, ap, ◌∙◌, inl, inr, ◌⊎◌, arith}
 use Rattle.std.specs.List.{list_any, list_all, find, enumerate_from}
 use Rattle.std.proofs.lemmas.Bool.{true≢false, eqb-true, eq-eqb, ne_eqb, ltb-true}
-use Rattle.std.proofs.lemmas.List.{drop-map, length-map, length-drop, length-append, map-append, map-set, set-get_or, drop-append-le, drop-drop, get_or-map}
+use Rattle.std.proofs.lemmas.List.{drop-map, length-map, length-drop, length-append, map-append, drop-append-le, drop-drop}
 use Rattle.circular_buffer.specs.Buffer.{keep_last}
 use Rattle.gts_directory.specs.Directory.{Directory, Circuit}
-use Rattle.gts_event.specs.State.{State, CircuitState, Bulletin, has, is_recent, last_of, on_circuit, idle}
+use Rattle.gts_event.specs.State.{State, CircuitState, Bulletin, has, is_recent, last_of, idle}
 use Rattle.gts_event.specs.Need.{need, is_needed, circuit_need, circuit_needs, CircuitNeed, are_below}
 use Rattle.gts_event.specs.History.{with_routed, routed_to, owed_last}
 use Rattle.gts_count.specs.declared.recent.Recent.{Recent}
 use Rattle.gts_count.specs.Tally.{Tally, tally, key_of, key_at}
-use Rattle.gts_count.specs.State.{takens_of, drawn_of, tally_at}
+use Rattle.gts_count.specs.State.{drawn_of, tally_at}
 use Rattle.gts_count.proofs.WindowLemmas.{counts_window}
 
 -- ---- a need has the bulletins that its kept draws have
@@ -173,7 +173,7 @@ drawn-accepted rows bs b qs all = drawn-more rows bs b qs all
 
 -- ---- one draw more
 
-last-more : {A : Type 0} (k : ℕ) (xs ys : List A) → last_of k (last_of k xs ++ ys) ≡ last_of k (xs ++ ys)
+pub last-more : {A : Type 0} (k : ℕ) (xs ys : List A) → last_of k (last_of k xs ++ ys) ≡ last_of k (xs ++ ys)
 last-more k xs ys =
     let m : ℕ = length xs - k in
     let low : m ≤ length xs = omega arith in

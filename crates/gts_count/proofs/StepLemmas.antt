@@ -1,38 +1,14 @@
 -- The running numbers of a state, when an entry is added.
-use Rattle.std.proofs.Common.{◌≡◌, ℕ, zero, suc, ◌+◌, ◌-◌, ◌<◌, ◌≤◌, min, Bool, true, false, not, ◌&&◌, ◌||◌, ◌==◌, nat_lt, nat_le, cond, ◌⊎◌, inl, inr, ⊎_elim, List, [], ◌∷◌, ◌++◌, length, get_or, set, drop, map, filter, Option, Some, None, refl, sym, ap, subst, ◌∙◌, arith}
-use Rattle.std.specs.Prelude.{IsTrue}
-use Rattle.std.specs.List.{All, AllByRecursion, list_any, list_all, find, range_with_len}
+use Rattle.std.proofs.Common.{◌≡◌, ℕ, zero, suc, ◌+◌, ◌-◌, ◌<◌, ◌≤◌, min, Bool, true, false, ◌&&◌, ◌||◌, ◌==◌, nat_lt, nat_le, cond, inl, inr, List, [], ◌∷◌, filter, refl, sym, ap, ◌∙◌, arith}
+use Rattle.std.specs.List.{AllByRecursion, list_all, range_with_len}
 use Rattle.std.proofs.lemmas.Bool.{true≢false, eqb-true, eq-eqb, ne_eqb, lt-ltb, ltb-true, le-leb, leb-true, cases_lt, cases_eq}
-use Rattle.std.proofs.lemmas.List.{append-nil, append_assoc, get_or-map, set-get_or, map-set, length-map, length-append}
-use Rattle.std.proofs.lemmas.List.Elements.{All-append}
-use Rattle.circular_buffer.specs.Buffer.{Buffer, buffer, keep_last}
-use Rattle.gts_frame.specs.declared.kind.Kind.{Kind}
-use Rattle.gts_directory.specs.Directory.{Directory, Circuit, named}
-use Rattle.gts_event.specs.State.{State, CircuitState, Bulletin, has, is_recent, last_of, on_circuit, idle}
-use Rattle.gts_event.specs.History.{Choice, Repeats, Draws, Nothing_waits, choice, outcome, after, after_heard, after_take, after_entry, after_all, with_bulletin, body_of, heading_of_message, restarted, found, places, items_of}
-use Rattle.gts_event.specs.Need.{need, keeps_one, is_here, circuit_of_event, positions_of, recent_positions, is_bulletin, IsOrdered}
+use Rattle.gts_directory.specs.Directory.{Directory}
+use Rattle.gts_event.specs.State.{State, Bulletin, has}
+use Rattle.gts_event.specs.Need.{positions_of, is_bulletin}
 use Rattle.gts_event.specs.Held.{IsHeld, Climbs}
-use Rattle.gts_event.specs.Stand.{SameNeed}
-use Rattle.gts_event.specs.declared.event.Event.{Event}
-use Rattle.gts_event.specs.declared.event.Event.TheVariants.{Heard, Lost, Taken}
-use Rattle.gts_event.specs.declared.event.Entry.{Entry}
-use Rattle.gts_event.specs.declared.event.Entry.TheVariants.{Done, Unsaid, Idle, Doubt, Restarted}
-use Rattle.gts_event.specs.declared.outcome.Outcome.{Outcome}
-use Rattle.gts_event.specs.declared.outcome.Outcome.TheVariants.{Accepted, Duplicate, Asked, Refused, LineLost, Resend, Draw, Nothing}
-use Rattle.gts_event.proofs.LawLemmas.{after-same, outcome-same, restarted-same, held-all, list_all-has, bulletin-parts}
-use Rattle.gts_opening.specs.Room.{HasUnsaid}
-use Rattle.gts_count.specs.declared.recent.Recent.{Recent}
-use Rattle.gts_count.specs.declared.numbers.Numbers.{Numbers}
-use Rattle.gts_count.specs.Tally.{Tally, tally, recent_of, key_of, key_at}
-use Rattle.gts_count.specs.Rows.{has_row}
-use Rattle.gts_count.specs.Numbers.{IsSound, tally_of, IsRing, no_ring, ring_at, kept_with}
-use Rattle.gts_count.specs.Going.{window_of, HasWindow, heard_of}
-use Rattle.gts_count.specs.State.{takens_of, drawn_of, tally_at}
-use Rattle.gts_count.specs.Counting.{Follows, Notes, NotesDraw, Prepares}
-use Rattle.gts_count.proofs.WindowLemmas.{joins_window, counts_window}
-use Rattle.gts_count.proofs.StateLemmas.{tally-need, tally_is, takens-routed, takens-same, takens-restarted, drawn-accepted, drawn-drew}
+use Rattle.gts_event.proofs.LawLemmas.{list_all-has, bulletin-parts}
+use Rattle.gts_count.specs.Going.{HasWindow}
 use Rattle.gts_count.proofs.OrderedLemmas.{Up, one_list}
-use Rattle.gts_count.proofs.SoundLemmas.{single}
 
 -- ---- the window of a held state
 

@@ -1,7 +1,7 @@
 -- What a take leads to, a loss, and an opening of the journal, beside the numbers.
-use Rattle.std.proofs.Common.{◌≡◌, ℕ, zero, suc, ◌+◌, ◌<◌, ◌≤◌, Bool, true, false, ◌&&◌, ◌==◌, cond, List, [], ◌∷◌, ◌++◌, length, get_or, map, Option, Some, None, Result, Ok, Err, slice_get, refl, sym, ap, subst, ◌∙◌, arith}
+use Rattle.std.proofs.Common.{◌≡◌, ℕ, zero, suc, ◌+◌, ◌<◌, Bool, true, false, ◌&&◌, ◌==◌, cond, List, [], ◌∷◌, ◌++◌, length, get_or, map, Option, Some, None, Result, Ok, Err, slice_get, refl, sym, ap, ◌∙◌, arith}
 use Rattle.std.specs.Prelude.{IsTrue}
-use Rattle.std.specs.List.{All, find, list_all}
+use Rattle.std.specs.List.{find, list_all}
 use Rattle.std.proofs.lemmas.Bool.{true≢false}
 use Rattle.std.proofs.lemmas.List.{length-map}
 use Rattle.gts_directory.specs.Directory.{Directory, Circuit}
@@ -11,7 +11,7 @@ use Rattle.gts_event.specs.Need.{is_bulletin}
 use Rattle.gts_event.specs.Said.{spoken, numbered_frame}
 use Rattle.gts_event.specs.declared.event.Event.TheVariants.{Lost, Taken}
 use Rattle.gts_event.specs.declared.event.Entry.{Entry}
-use Rattle.gts_event.specs.declared.event.Entry.TheVariants.{Done, Unsaid, Idle, Doubt, Restarted}
+use Rattle.gts_event.specs.declared.event.Entry.TheVariants.{Done, Idle, Doubt, Restarted}
 use Rattle.gts_event.specs.declared.outcome.Outcome.{Outcome}
 use Rattle.gts_event.specs.declared.outcome.Outcome.TheVariants.{Accepted, Duplicate, Asked, Refused, LineLost, Resend, Draw, Nothing}
 use Rattle.gts_event.specs.declared.fault.SwitchFault.{SwitchFault}
@@ -21,14 +21,13 @@ use Rattle.gts_event.proofs.LawLemmas.{outcome-same, spoken-same, bulletin-parts
 use Rattle.gts_traits.specs.Station.{on}
 use Rattle.gts_record.specs.declared.fault.OpenFault.{OpenFault}
 use Rattle.gts_turns.specs.Turns.{restart_of}
-use Rattle.gts_count.specs.declared.numbers.Numbers.{Numbers}
 use Rattle.gts_count.specs.declared.counting.Counting.{Counting}
-use Rattle.gts_count.specs.Tally.{key_of, key_at}
+use Rattle.gts_count.specs.Tally.{key_of}
 use Rattle.gts_count.specs.Rows.{has_row}
-use Rattle.gts_count.specs.Counting.{Follows, Knows, Counts, IsTold, GoesOn, NotesDraw, AfterHeard, AfterTaken, IsDrawn, key_of_frame}
+use Rattle.gts_count.specs.Counting.{Follows, Knows, Counts, IsTold, GoesOn, AfterHeard, AfterTaken, IsDrawn, key_of_frame}
 use Rattle.gts_count.proofs.KeyLemmas.{key_frame, draw_says, said_bytes}
 use Rattle.gts_count.proofs.FollowLemmas.{follows_taken, follows_restarted, follows_drawn, drawn_there, choice_is}
-use Rattle.gts_count.proofs.CountingLemmas.{current_counts, circuits_of, counts_more, carried, carried_by, all_rest, same_after, outdated_after, idle_after}
+use Rattle.gts_count.proofs.CountingLemmas.{circuits_of, carried, carried_by, all_rest, same_after, outdated_after, idle_after}
 
 all_found : (f g : Bulletin → Bool) (bs : List Bulletin) (b : Bulletin) → list_all f bs ≡ true → find g bs ≡ Some b → f b ≡ true
 all_found f g [] b all e = absurd (cc)

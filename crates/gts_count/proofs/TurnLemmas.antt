@@ -1,5 +1,5 @@
 -- A call on a switch with running numbers beside it is one of the switch.
-use Rattle.std.proofs.Common.{◌≡◌, ℕ, List, [], ◌∷◌, ◌++◌, Result, Ok, Err, refl, sym, ap, subst, ◌∙◌}
+use Rattle.std.proofs.Common.{◌≡◌, ℕ, Bool, true, false, List, [], ◌∷◌, ◌++◌, Result, Err, refl, sym, ap, subst, ◌∙◌}
 use Rattle.gts_frame.specs.declared.kind.Kind.{Kind}
 use Rattle.gts_directory.specs.Directory.{Directory}
 use Rattle.gts_event.specs.State.{State}
@@ -10,15 +10,18 @@ use Rattle.gts_event.specs.declared.event.Entry.{Entry}
 use Rattle.gts_event.specs.declared.event.Entry.TheVariants.{Idle}
 use Rattle.gts_event.specs.declared.outcome.Outcome.{Outcome}
 use Rattle.gts_event.specs.declared.fault.SwitchFault.{SwitchFault}
-use Rattle.gts_event.specs.declared.fault.SwitchFault.TheVariants.{DiskFault, NoMemory}
+use Rattle.gts_event.specs.declared.fault.SwitchFault.TheVariants.{NoMemory}
 use Rattle.gts_event.proofs.LawLemmas.{after_all-append}
 use Rattle.gts_record.specs.declared.fault.OpenFault.{OpenFault}
 use Rattle.gts_opening.specs.Room.{IsAccepted}
-use Rattle.gts_turns.specs.Turns.{Standing, IsTurn, IsReopening, IsCompacting, LeavesFrame, MayLeave, IsCause, entry_of, restart_of, outcome_at}
+use Rattle.gts_turns.specs.Turns.{Standing, IsTurn, IsReopening, IsCompacting, MayLeave, IsCause, entry_of, restart_of, outcome_at}
 use Rattle.gts_count.specs.declared.parts.Parts.{Parts}
 use Rattle.gts_count.specs.declared.counting.Counting.{Counting}
-use Rattle.gts_count.specs.Counting.{Counts, GoesOn, IsTold}
-use Rattle.gts_count.specs.Counted.{state_at, counted_words, words_by}
+use Rattle.gts_event.specs.Need.{need}
+use Rattle.gts_count.specs.Table.{table, table_of}
+use Rattle.gts_count.specs.Numbers.{tally_of}
+use Rattle.gts_count.specs.Counting.{Counts, CountsIf, GoesOn, IsTold}
+use Rattle.gts_count.specs.Counted.{state_at, counted_words, words_by, ShowsTable}
 use Rattle.gts_count.proofs.CountingLemmas.{counts_more}
 use Rattle.gts_count.proofs.TakingLemmas.{counts_restarted}
 
@@ -111,3 +114,14 @@ module _ {O T W : Type 0} (parts : W → Parts T) (words : Standing O T) where
 
   pub compacting_by : (result : Result (Unit {0}) SwitchFault) (old new : W) → IsCompacting (counted_words words) result (parts old) (parts new) → IsCompacting (words_by parts words) result old new
   compacting_by result old new r = record { directory = r.directory; begins = r.begins; done = r.done; left = r.left; idle = r.idle; caused = r.caused }
+
+-- the table of the numbers is that of the need
+module _ {O T : Type 0} (words : Standing O T) where
+  pub shows : (parts : Parts T) (text : List ℕ) → text ≡ table_of (tally_of parts.counting.numbers) → ShowsTable words parts text
+  shows parts text is o h stood none =
+      is ∙ go parts.counting.current stood.1
+    where
+      go : (b : Bool) → CountsIf b (words.directory parts.switch) (state_at words parts.switch o h) h parts.counting
+          → table_of (tally_of parts.counting.numbers) ≡ table (words.directory parts.switch) (need (words.directory parts.switch) (state_at words parts.switch o h))
+      go true counts = ap table_of counts.1.numbers
+      go false unsaid = absurd (none unsaid)

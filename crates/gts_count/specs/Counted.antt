@@ -1,21 +1,14 @@
 -- A switch with running numbers beside it.
-use Rattle.std.specs.Prelude.{◌≡◌, ℕ, ◌+◌, List, ◌∷◌, [], ◌++◌, Result, Ok}
-use Rattle.gts_traits.specs.Station.{on}
-use Rattle.gts_frame.specs.declared.kind.Kind.{Kind}
+use Rattle.std.specs.Prelude.{◌≡◌, ℕ, List}
 use Rattle.gts_directory.specs.Directory.{Directory}
 use Rattle.gts_event.specs.State.{State}
 use Rattle.gts_event.specs.History.{after_all}
-use Rattle.gts_event.specs.Said.{spoken}
-use Rattle.gts_event.specs.declared.event.Event.TheVariants.{Heard, Taken}
+use Rattle.gts_event.specs.Need.{need}
 use Rattle.gts_event.specs.declared.event.Entry.{Entry}
-use Rattle.gts_event.specs.declared.event.Entry.TheVariants.{Idle}
-use Rattle.gts_event.specs.declared.outcome.Outcome.{Outcome}
-use Rattle.gts_event.specs.declared.outcome.Outcome.TheVariants.{Draw}
-use Rattle.gts_event.specs.declared.fault.SwitchFault.{SwitchFault}
-use Rattle.gts_event.specs.declared.fault.SwitchFault.TheVariants.{NoMemory}
-use Rattle.gts_opening.specs.Room.{IsAccepted}
-use Rattle.gts_turns.specs.Turns.{Standing, outcome_at}
+use Rattle.gts_opening.specs.Room.{HasUnsaid}
+use Rattle.gts_turns.specs.Turns.{Standing}
 use Rattle.gts_count.specs.declared.parts.Parts.{Parts}
+use Rattle.gts_count.specs.Table.{table}
 use Rattle.gts_count.specs.Counting.{Counts}
 
 -- the state for which a switch stands
@@ -38,3 +31,9 @@ words_by parts words = record {
 -- of the parts themselves
 abbrev pub counted_words : {O T : Type 0} → Standing O T → Standing O (Parts T)
 counted_words words = words_by (λ parts. parts) words
+
+-- it is the table of the need where the switch stands, unless saying failed before
+abbrev pub ShowsTable : {O T : Type 0} → Standing O T → Parts T → List ℕ → Type 0
+ShowsTable {O} words parts text =
+    (o : O) (h : List Entry) → (counted_words words).stands o h parts → (HasUnsaid h → ⊥)
+    → let d : Directory = words.directory parts.switch in text ≡ table d (need d (state_at words parts.switch o h))

@@ -6,7 +6,7 @@ use Rattle.gts_directory.specs.Directory.{Directory}
 use Rattle.gts_event.specs.State.{State}
 use Rattle.gts_event.specs.History.{outcome, after_all}
 use Rattle.gts_event.specs.Held.{IsHeld}
-use Rattle.gts_event.specs.Need.{need, keeps_one}
+use Rattle.gts_event.specs.Need.{Need, need, keeps_one, IsOrdered}
 use Rattle.gts_event.specs.Stand.{SameNeed}
 use Rattle.gts_event.specs.declared.event.Event.{Event}
 use Rattle.gts_event.specs.declared.event.Event.TheVariants.{Heard}
@@ -134,3 +134,9 @@ abbrev pub AfterTaken : ℕ → List ℕ → Result Outcome SwitchFault → Coun
 AfterTaken circuit frame (Ok (Draw index)) old new = IsDrawn circuit frame old new
 AfterTaken circuit frame (Err SayFault) old new = new ≡ outdated old
 AfterTaken circuit frame _ old new = new ≡ old
+
+-- a state that a history has under a directory, with this need
+pub record StandsAt (d : Directory) (s : State) (n : Need) : Type 0 where
+  pub keeps : IsTrue (keeps_one d)
+  pub ordered : IsOrdered d s
+  pub need : need d s ≡ n

@@ -6,5 +6,7 @@ pub mod Going
 pub mod State
 pub mod Counting
 pub mod Counted
+pub mod Text
+pub mod Start
 pub mod Worked
 pub use Rattle.gts_count.specs.Table.{table}

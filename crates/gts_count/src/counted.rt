@@ -2,8 +2,12 @@ ghost use Rattle.std.specs.Prelude.{◌≡◌};
 ghost use Rattle.gts_count.specs.Numbers.{IsSound};
 
 use crate::Parts;
+use crate::start::counting_of;
 use crate::steps::{compact, hear, leave, lose, restart, take};
-use gts_event::{Outcome, SwitchFault};
+use crate::text::table;
+use gts_alphabet::NoMemory;
+use gts_directory::Directory;
+use gts_event::{Need, Outcome, SwitchFault};
 use gts_frame::{FrameBuf, Kind, LostField};
 use gts_record::OpenFault;
 use gts_turns::Switch;
@@ -62,6 +66,49 @@ impl<T: Switch> Switch for Counted<T> {
 
     fn compact(&mut self, alloc: Global) -> Result<(), SwitchFault> {
         compact(&mut self.parts, alloc)
+    }
+}
+
+impl<T: Switch> Counted<T> {
+    ghost use Rattle.std.specs.Prelude.{IfOk, IfErr, IsTrue, List};
+    ghost use Rattle.gts_event.specs.declared.event.Entry.{Entry};
+    ghost use Rattle.gts_event.specs.Need.{is_sound};
+    ghost use Rattle.gts_event.specs.Items.{need_of};
+    ghost use Rattle.gts_count.specs.Counting.{StandsAt};
+    ghost use Rattle.gts_count.specs.Counted.{ShowsTable, counted_words, state_at};
+
+    /// A switch whose numbers begin with those of a need: with a row for each of its bulletins. A refusal hands the switch back.
+    pub fn new(
+        alloc: Global,
+        switch: T,
+        directory: &Directory,
+        need: &Need,
+    ) -> Result<Counted<T>, (T, NoMemory)>
+        requires directory { T.words.directory switch ≡ directory.now }
+        requires sound { IsTrue (is_sound directory.now (need_of need.now)) }
+        ensures switch { IfOk result (λ c. c.parts.switch ≡ switch) }
+
+        // It stands for what the switch stands for, where that has this need.
+        ensures stands { IfOk result (λ c. (o : T.Origin) (h : List Entry)
+            → T.words.stands o h switch
+            → StandsAt directory.now (state_at T.words switch o h) (need_of need.now)
+            → (counted_words T.words).stands o h c.parts) }
+        ensures err { IfErr result (λ e. e.0 ≡ switch) }
+    {
+        match counting_of(alloc, directory, need) {
+            Ok(counting) => Ok(Counted {
+                parts: Parts { switch, counting },
+            }),
+            Err(NoMemory) => Err((switch, NoMemory)),
+        }
+    }
+
+    /// The table of the need of the history: the numbers of each key of which not all are 0, of each circuit, and the end. Once
+    /// saying failed, the text says nothing of that.
+    pub fn text(&self, alloc: Global) -> Result<Vec<u8>, NoMemory>
+        ensures { IfOk result (λ text. ShowsTable T.words self.now.parts text.items) }
+    {
+        table(alloc, &self.parts.counting.numbers)
     }
 }
 

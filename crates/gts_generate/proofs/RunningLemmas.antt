@@ -28,10 +28,11 @@ use Rattle.gts_record.specs.declared.version.Version.{Version}
 use Rattle.gts_record.specs.declared.version.Version.TheVariants.{One, Two}
 use Rattle.gts_record.specs.Format.{journal_text, written}
 use Rattle.gts_connection.specs.Connection.{events_added}
-use Rattle.gts_connection.specs.Capture.{Step, Feed, Take, Reopen, Drain, Restart, Compact, Connections, entries, entries_from, entries_of_step, after_step, no_bytes, FeedHead, TakeHead, EndHead, head_text, step_text, Reading, Whole, IsWhole}
+use Rattle.gts_connection.specs.declared.kind.CaptureKind.TheVariants.{Journaled}
+use Rattle.gts_connection.specs.Capture.{Step, Feed, Take, Reopen, Drain, Restart, Compact, Connections, entries, entries_from, entries_of_step, after_step, no_bytes, FeedHead, TakeHead, EndHead, head_text, step_text, Reading, Whole, IsWhole, compactions}
 use Rattle.gts_connection.proofs.LawLemmas.{reads_once}
 use Rattle.gts_opening.specs.Journal.{Opened, opens, files_open, file_opens, opened_of, selected}
-use Rattle.gts_opening.specs.Room.{HasDoubt, HasUnsaid}
+use Rattle.gts_opening.specs.Room.{HasDoubt, HasUnsaid, full, new_journal}
 use Rattle.gts_core.specs.Core.{Holds, Needs}
 use Rattle.gts_engine.specs.declared.mode.SayMode.{SayMode}
 use Rattle.gts_engine.specs.declared.mode.SayMode.TheVariants.{Station}
@@ -40,14 +41,15 @@ use Rattle.gts_engine.specs.Keeping.{Keeps, HasFailed, HasRead, HasSaid, origin_
 use Rattle.gts_engine.specs.Switching.{Told, switch_words}
 use Rattle.gts_replay.specs.declared.end.ReplayEnd.{ReplayEnd}
 use Rattle.gts_replay.specs.declared.end.ReplayEnd.TheVariants as end
-use Rattle.gts_replay.specs.{IsStart, StandsFor, IsDone, IsCut, StopsAtFault, Ends}
+use Rattle.gts_replay.specs.{IsStart, StandsFor, IsDone, IsCut, StopsAtFault, Ends, compacted_at, origin_behind}
+use Rattle.gts_engine.specs.Origin.{state_at, used_at}
 use Rattle.gts_generate.specs.Centre.{directory}
 use Rattle.gts_generate.specs.Day.{message, steps_of, steps, capture, capture_from, turn, drains, ending}
 use Rattle.gts_generate.specs.Summary.{summary_lines, summary_text, draws_of}
 use Rattle.gts_generate.specs.History.{start, history, state_after, outside_of, draws_in, day_summary, IsFullOn}
 use Rattle.gts_generate.specs.Running.{calls_on, day_origin, BeginsDay, EndsDay}
 use Rattle.gts_generate.proofs.DayLemmas.{capture-pieces}
-use Rattle.gts_generate.proofs.LawLemmas.{frame-size, read-as-steps}
+use Rattle.gts_generate.proofs.LawLemmas.{frame-size, read-as-steps, never-compacts}
 
 -- ---- the capture is read as its steps
 
@@ -62,7 +64,7 @@ whole-reading d bytes ss h =
 one-reading : (count : ℕ) (ss : List Step) (at : ℕ) → Reading directory (capture count) ss at → ss ≡ steps count
 one-reading count ss at read =
     let whole = whole-reading directory (capture count) (steps count) (read-as-steps count) in
-    (reads_once directory (capture count) ss (steps count) at whole.0 (omega arith) read whole.1).0
+    (reads_once Journaled directory (capture count) ss (steps count) at whole.0 (omega arith) read whole.1).0
 
 -- a feed of a frame and a take are short
 three-sizes : (h f t : List ℕ) → length h ≡ 12 → length f ≤ 999999 → length t ≡ 5 → length ((h ++ f) ++ t) ≤ 1000016
@@ -145,7 +147,7 @@ new-file One = refl
 new-file Two = refl
 
 -- its files open to nothing
-pub new-files : (files : Files) → files 0 ≡ journal_text written (replicate 32 0) [] → files 2 ≡ [] → files_open directory files ≡ Ok (empty directory, 41)
+pub new-files : (files : Files) → files 0 ≡ new_journal (replicate 32 0) → files 2 ≡ [] → files_open directory files ≡ Ok (empty directory, 41)
 new-files files first third =
     let none : selected files ≡ 0 = ap (λ (b : List ℕ). if starts_with nat_eq b (1 ∷ []) then 1 else 0) third in
     ap (λ (k : ℕ). opened_of (file_opens written directory k (files k))) none ∙ ap (λ (b : List ℕ). opened_of (file_opens written directory 0 b)) first ∙ new-file written
@@ -165,7 +167,7 @@ used-there files s used one other = let same : (s, used) ≡ (empty directory, 4
 
 -- an engine that was opened over an empty journal begins the day
 pub begun-day : (d : directories.Directory) (mark : List ℕ) (old : StationInMemory) (e : Engine StationInMemory) → d ≡ directory → mark ≡ d.mark
-    → seen (calls_on old) 0 ≡ journal_text written mark [] → seen (calls_on old) 2 ≡ [] → said_by (calls_on old) ≡ []
+    → seen (calls_on old) 0 ≡ new_journal mark → seen (calls_on old) 2 ≡ [] → said_by (calls_on old) ≡ []
     → e.directory ≡ d → HasRead d (seen (calls_on old)) e → calls_on e.station ≡ Did Syncs ∷ calls_on old
     → ((m : SayMode) (n : Need) → Holds d e.core (begun n) → Keeps (Unit {0}) m (origin_of calls_on e n) [] (shown calls_on e))
     → ((n : Need) → opens d (seen (calls_on old)) ≡ Ok n → IsTrue (is_sound d n) × Holds d e.core (begun n))
@@ -175,7 +177,7 @@ pub begun-day : (d : directories.Directory) (mark : List ℕ) (old : StationInMe
 begun-day d mark old e same mark_is first third silent under reads synced begins sound ordered once few =
     let files : Files = seen (calls_on old) in
     let n : Need = nothing directory in
-    let zero : files 0 ≡ journal_text written (replicate 32 0) [] = first ∙ ap (λ (m : List ℕ). journal_text written m []) (mark_is ∙ ap (λ (x : directories.Directory). x.mark) same) in
+    let zero : files 0 ≡ new_journal (replicate 32 0) = first ∙ ap (λ (m : List ℕ). new_journal m) (mark_is ∙ ap (λ (x : directories.Directory). x.mark) same) in
     let opened = new-files files zero third in
     let here : HasRead directory files e = subst (λ (x : directories.Directory). HasRead x files e) same reads in
     let used : e.used ≡ 41 = used-there files here.state e.used opened here.opened in
@@ -202,16 +204,22 @@ module _ (count : ℕ) (first last : Engine StationInMemory) (b : BeginsDay firs
   entries-are : (ss : List Step) → ss ≡ steps count → entries first.directory start ss ≡ history count
   entries-are ss same = ap (λ (d : directories.Directory). entries d start ss) b.under ∙ ap (λ (x : List Step). entries directory start x) same
 
+  -- none of them compacts the journal
+  counts-are : (ss : List Step) → ss ≡ steps count → compactions first.directory start 0 ss ≡ []
+  counts-are ss same = ap (λ (x : List Step). compactions first.directory start 0 x) same ∙ never-compacts first.directory start 0 count
+
   read-here : (ss : List Step) (at : ℕ) → Reading first.directory (capture count) ss at → ss ≡ steps count
   read-here ss at read = one-reading count ss at (subst (λ (d : directories.Directory). Reading d (capture count) ss at) b.under read)
 
-  pub day-done : IsDone (switch_words (Unit {0}) calls_on) o [] (Unit {0}) first last (capture count) → EndsDay count last
+  pub day-done : IsDone (switch_words (Unit {0}) calls_on) Journaled o [] (Unit {0}) first last (capture count) → EndsDay count last
   day-done x =
       let whole : IsWhole directory (capture count) x.steps = subst (λ (d : directories.Directory). IsWhole d (capture count) x.steps) b.under (x.whole tt (few-bytes count few)) in
       let read = whole-reading directory (capture count) x.steps whole in
       let same : x.steps ≡ steps count = one-reading count x.steps read.0 read.1 in
       let keeps : Keeps (Unit {0}) Station (day_origin (calls_on first.station)) (history count) (shown calls_on last)
-      = subst (λ (es : List Entry). Keeps (Unit {0}) Station (day_origin (calls_on first.station)) es (shown calls_on last)) (entries-are x.steps same) x.stands in
+      = subst (λ (es : List Entry). Keeps (Unit {0}) Station (day_origin (calls_on first.station)) es (shown calls_on last)) (entries-are x.steps same)
+      (subst (λ (ks : List ℕ). (switch_words (Unit {0}) calls_on).stands (compacted_at (switch_words (Unit {0}) calls_on) o (entries first.directory start x.steps) ks)
+      (entries first.directory start x.steps) last) (counts-are x.steps same) x.stands) in
       let going : last.stopped ≡ None = goes-on last.stopped (history count) (steps-done directory start (no_bytes directory) (steps count)) keeps.failed in
       let said = subst (λ (stopped : Option Device). HasSaid Station (day_origin (calls_on first.station)) (history count) stopped (calls_on last.station)) going (keeps.leaves tt).said in
       record {
@@ -221,7 +229,7 @@ module _ (count : ℕ) (first last : Engine StationInMemory) (b : BeginsDay firs
         said = said ∙ ap (λ (l : Outside). l ++ outside_of count) b.silent;
       }
 
-  pub day-full : (used wanted limit : ℕ) → StopsAtFault (switch_words (Unit {0}) calls_on) o [] (Unit {0}) (switch.Full used wanted limit) first last (capture count)
+  pub day-full : (used wanted limit : ℕ) → StopsAtFault (switch_words (Unit {0}) calls_on) Journaled o [] (Unit {0}) (switch.Full used wanted limit) first last (capture count)
       → IsFullOn count used wanted limit
   day-full used wanted limit x =
       let read = x.read tt (few-bytes count few) in
@@ -231,10 +239,12 @@ module _ (count : ℕ) (first last : Engine StationInMemory) (b : BeginsDay firs
         event = x.breaks.event;
         back = x.breaks.behind;
         parts = sym (entries-are x.steps same) ∙ x.breaks.parts;
-        full = x.breaks.cause;
+        full = subst (λ (ks : List ℕ). let p = origin_behind (switch_words (Unit {0}) calls_on) o ks x.breaks.front in
+            full p.origin.directory (state_at p.origin x.breaks.front) (used_at p.origin x.breaks.front) x.breaks.event ≡ Some (switch.Full used wanted limit))
+            (counts-are x.steps same) x.breaks.cause;
       }
 
-  pub day-whole : (at : ℕ) → IsCut (switch_words (Unit {0}) calls_on) o [] (Unit {0}) at first last (capture count) → ⊥
+  pub day-whole : (at : ℕ) → IsCut (switch_words (Unit {0}) calls_on) Journaled o [] (Unit {0}) at first last (capture count) → ⊥
   day-whole at x =
       x.none tt (few-bytes count few) (steps count) (subst (λ (d : directories.Directory). IsWhole d (capture count) (steps count)) (sym b.under) (read-as-steps count))
 
@@ -243,9 +253,9 @@ module _ (count : ℕ) (first last : Engine StationInMemory) (b : BeginsDay firs
 
   module _ (e : ReplayEnd) (bytes left : List ℕ) (is : bytes ≡ capture count)
       (ends : (t : Told (Unit {0})) (h : List Entry) → StandsFor (switch_words (Unit {0}) calls_on) t h first
-      → Ends (switch_words (Unit {0}) calls_on) (Unit {0}) t h (Unit {0}) e first last bytes left) where
-    all : Ends (switch_words (Unit {0}) calls_on) (Unit {0}) o [] (Unit {0}) e first last (capture count) left
-    all = subst (λ (bs : List ℕ). Ends (switch_words (Unit {0}) calls_on) (Unit {0}) o [] (Unit {0}) e first last bs left) is (ends o [] stands-for)
+      → Ends (switch_words (Unit {0}) calls_on) (Unit {0}) Journaled t h (Unit {0}) e first last bytes left) where
+    all : Ends (switch_words (Unit {0}) calls_on) (Unit {0}) Journaled o [] (Unit {0}) e first last (capture count) left
+    all = subst (λ (bs : List ℕ). Ends (switch_words (Unit {0}) calls_on) (Unit {0}) Journaled o [] (Unit {0}) e first last bs left) is (ends o [] stands-for)
 
     pub run-done : e ≡ end.Done → EndsDay count last
     run-done at_end = day-done (all.done at_end)

@@ -1,6 +1,6 @@
 ghost use Rattle.std.specs.Prelude.{◌≡◌, ◌≤◌, ℕ, [], Err, IfOk, OnOk, replicate};
 ghost use Rattle.gts_traits.specs.{seen, said_by};
-ghost use Rattle.gts_record.specs.Format.{journal_text, written};
+ghost use Rattle.gts_opening.specs.Room.{new_journal};
 ghost use Rattle.gts_memory.specs.Past.{calls_of};
 ghost use Rattle.gts_generate.specs.History as day;
 ghost use Rattle.gts_generate.specs.History.{IsFullOn};
@@ -12,6 +12,7 @@ use crate::directory::generated_directory;
 use crate::generated::Generated;
 use crate::laws::the_capture_is_read_as_its_steps;
 use crate::summing::summary;
+use gts_connection::CaptureKind;
 use gts_engine::{Engine, an_opened_engine_begins_with_what_the_files_open_to};
 use gts_event::{
     SwitchFault, each_bulletin_is_routed_once, no_circuit_is_owed_more_than_may_be,
@@ -46,7 +47,7 @@ impl From<NoMemory> for DayFault {
 /// memory.
 fn empty_journal(alloc: Global, mark: [u8; 32]) -> Result<MemStation, NoMemory>
     ensures journal { IfOk result (λ station.
-        seen (calls_of station.past) 0 ≡ journal_text written mark []) }
+        seen (calls_of station.past) 0 ≡ new_journal mark) }
     ensures selector { IfOk result (λ station. seen (calls_of station.past) 2 ≡ []) }
     ensures silent { IfOk result (λ station. said_by (calls_of station.past) ≡ []) }
 {
@@ -85,13 +86,16 @@ fn run(alloc: Global, count: u32, engine: &mut Engine<MemStation>) -> Result<(),
 {
     the_capture_is_read_as_its_steps();
     let mut capture = Generated::new(count);
-    match replay(alloc, engine, &mut capture) {
+    match replay(alloc, engine, &mut capture, CaptureKind::Journaled) {
         ReplayEnd::Done => Ok(()),
         ReplayEnd::Fault(SwitchFault::Full { used, need, limit }) => {
             Err(DayFault::Full { used, need, limit })
         }
         ReplayEnd::Capture { .. } | ReplayEnd::SourceFault => unreachable!(),
-        ReplayEnd::Reopen(_) | ReplayEnd::Fault(_) | ReplayEnd::NoMemory => Err(DayFault::NoMemory),
+        ReplayEnd::Reopen(_)
+        | ReplayEnd::Compaction(_)
+        | ReplayEnd::Fault(_)
+        | ReplayEnd::NoMemory => Err(DayFault::NoMemory),
     }
 }
 

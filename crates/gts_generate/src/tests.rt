@@ -2,6 +2,7 @@ ghost use Rattle.std.specs.Prelude.{◌≡◌, IsSome};
 
 use super::*;
 use gts_capture::{Head, Steps};
+use gts_connection::CaptureKind;
 use gts_engine::Engine;
 use gts_event::Need;
 use gts_journal::Journal;
@@ -43,7 +44,7 @@ fn run_day(alloc: Global, count: u32) -> Result<Option<(MemStation, Need, u64)>,
         return Ok(None);
     };
     let mut capture = Generated::new(count.min(MOST_MESSAGES));
-    if replay(alloc, &mut engine, &mut capture) != ReplayEnd::Done {
+    if replay(alloc, &mut engine, &mut capture, CaptureKind::Journaled) != ReplayEnd::Done {
         return Ok(None);
     }
     let need = engine.need(alloc)?;
@@ -100,7 +101,7 @@ fn next_head(steps: &mut Steps, capture: &mut Generated) -> Option<Head>
 
 /// The heads of a capture, up to the thousandth.
 fn heads_of(alloc: Global, capture: &mut Generated) -> Result<Vec<Head>, Fail> {
-    let mut steps = Steps::new(CIRCUITS);
+    let mut steps = Steps::new(CIRCUITS, CaptureKind::Journaled);
     let mut heads = Vec::new(alloc);
     'heads: for _ in 0..1000 {
         let Some(head) = next_head(&mut steps, capture) else {

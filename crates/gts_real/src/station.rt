@@ -1,4 +1,4 @@
-ghost use Rattle.std.specs.Prelude.{◌≡◌, ◌+◌, ◌^◌, ◌≤◌, ◌<◌, true, false, [], length, IfOk, IsErr, is_err};
+ghost use Rattle.std.specs.Prelude.{◌≡◌, ◌+◌, ◌^◌, ◌≤◌, ◌<◌, true, false, [], length, IfOk, OnOk, IsErr, is_err};
 ghost use Rattle.gts_traits.specs.{CHANNELS, HasCause};
 ghost use Rattle.gts_real.specs.{StaysLost};
 
@@ -63,6 +63,7 @@ impl<R: Files<File = File> + Print + AllocGlobal> Station for FileStation<'_, R>
     fn size(&mut self, file: u32) -> Result<u64, Failed>
         requires { file < 3 }
         ensures cause { HasCause result self.old.disk_faults self.new.disk_faults }
+        ensures sound { OnOk result (self.new.disk_faults ≡ self.old.disk_faults) }
         ensures say { self.new.say_faults ≡ self.old.say_faults }
         ensures lost { StaysLost result self.old.is_lost self.new.is_lost }
     {
@@ -73,6 +74,7 @@ impl<R: Files<File = File> + Print + AllocGlobal> Station for FileStation<'_, R>
         requires { file < 3 }
         ensures within { IfOk result (λ n. n ≤ length into.old) }
         ensures cause { HasCause result self.old.disk_faults self.new.disk_faults }
+        ensures sound { OnOk result (self.new.disk_faults ≡ self.old.disk_faults) }
         ensures say { self.new.say_faults ≡ self.old.say_faults }
         ensures lost { StaysLost result self.old.is_lost self.new.is_lost }
     {
@@ -87,6 +89,7 @@ impl<R: Files<File = File> + Print + AllocGlobal> Station for FileStation<'_, R>
         requires file { file < 3 }
         requires room { at + length bytes.now ≤ 2 ^ 40 }
         ensures cause { HasCause result self.old.disk_faults self.new.disk_faults }
+        ensures sound { OnOk result (self.new.disk_faults ≡ self.old.disk_faults) }
         ensures say { self.new.say_faults ≡ self.old.say_faults }
         ensures lost { StaysLost result self.old.is_lost self.new.is_lost }
     {
@@ -100,6 +103,7 @@ impl<R: Files<File = File> + Print + AllocGlobal> Station for FileStation<'_, R>
     fn cut(&mut self, file: u32, size: u64) -> Result<(), Failed>
         requires { file < 3 }
         ensures cause { HasCause result self.old.disk_faults self.new.disk_faults }
+        ensures sound { OnOk result (self.new.disk_faults ≡ self.old.disk_faults) }
         ensures say { self.new.say_faults ≡ self.old.say_faults }
         ensures lost { StaysLost result self.old.is_lost self.new.is_lost }
     {
@@ -110,6 +114,7 @@ impl<R: Files<File = File> + Print + AllocGlobal> Station for FileStation<'_, R>
     /// failed, every later call on a file fails.
     fn sync(&mut self) -> Result<(), Failed>
         ensures cause { HasCause result self.old.disk_faults self.new.disk_faults }
+        ensures sound { OnOk result (self.new.disk_faults ≡ self.old.disk_faults) }
         ensures say { self.new.say_faults ≡ self.old.say_faults }
         ensures fails { self.old.is_lost ≡ true → IsErr result }
         ensures lost { self.new.is_lost ≡ is_err result }
@@ -120,6 +125,7 @@ impl<R: Files<File = File> + Print + AllocGlobal> Station for FileStation<'_, R>
     fn say(&mut self, channel: u32, bytes: &[u8]) -> Result<(), Failed>
         requires { channel < CHANNELS }
         ensures cause { HasCause result self.old.say_faults self.new.say_faults }
+        ensures sound { OnOk result (self.new.say_faults ≡ self.old.say_faults) }
         ensures disk { self.new.disk_faults ≡ self.old.disk_faults }
         ensures lost { self.new.is_lost ≡ self.old.is_lost }
     {

@@ -220,6 +220,11 @@ pub record IsAtRest (b : Beginning) (count : ℕ) (history : List Entry) : Type 
   pub nothing_owed : (c : ℕ) → c < count → (on_circuit (state_at b.origin history) c).owed ≡ []
   pub nothing_waits : (c : ℕ) → c < count → waiting (on_circuit (state_at b.origin history) c) ≡ []
 
+-- nothing waits or is owed on circuit c
+pub record HasNothing (b : Beginning) (c : ℕ) (history : List Entry) : Type 0 where
+  pub owed : (on_circuit (state_at b.origin history) c).owed ≡ []
+  pub waits : waiting (on_circuit (state_at b.origin history) c) ≡ []
+
 module _ {P : Type 0} (tells : Type 0) (calls : P → List Call) (disk say : P → ℕ) (b : Beginning)
     (source_tells sink_tells : Type 0) (connections : ℕ) (before now : LinesSeen) where
   -- All circuits were served: the engine stands for the history of all threads and the takes behind it, and each circuit has
@@ -238,6 +243,8 @@ module _ {P : Type 0} (tells : Type 0) (calls : P → List Call) (disk say : P �
     pub full_is : full ≡ true → length threads ≡ MOST_TURNS
     pub end_is : end ≡ first_fault 0 ends
     pub at_rest : end ≡ Done → IsAtRest b (length ends) (entries (threads ++ drained))
+    -- a circuit whose sender ended with nothing to send has nothing left, whatever became of the others
+    pub quiet : (c : ℕ) (x : ReceiveEnd × SendEnd) → get_elem? ends c ≡ some x → x.1 ≡ Quiet → HasNothing b c (entries (threads ++ drained))
     -- done is answered only where each source that tells began all its connections, and each was read to its end or lost
     -- synchronisation
     pub went_through : end ≡ Done → source_tells → (c : ℕ) → c < length ends

@@ -57,10 +57,11 @@ fn a_bulletin_was_accepted_where_its_gate_is_open(rt: HostRuntime) -> Result<(),
     Ok(())
 }
 
-/// Two bulletins come, the switch is opened again, and two are drawn.
+/// Two bulletins come, the switch is opened again, and two are drawn. The journal is compacted behind the first bulletin and
+/// behind the first draw.
 const BOTH: &[u8] = b"F 00 000049\n\
-    00000039AN\x01\r\r\n001\r\r\nSMVG01 TVSV 280000\r\r\nNIL=\r\r\n\x03F 00 000049\n\
-    00000039AN\x01\r\r\n002\r\r\nSMVG01 TVSV 280000\r\r\nNIM=\r\r\n\x03R\nT 01\nT 01\nE\n";
+    00000039AN\x01\r\r\n001\r\r\nSMVG01 TVSV 280000\r\r\nNIL=\r\r\n\x03C\nF 00 000049\n\
+    00000039AN\x01\r\r\n002\r\r\nSMVG01 TVSV 280000\r\r\nNIM=\r\r\n\x03R\nT 01\nC\nT 01\nE\n";
 
 /// They come once more, the other way round, and all that is left is drawn.
 const REST: &[u8] = b"F 00 000049\n\
@@ -103,6 +104,11 @@ fn are_sent_by<R: AllocGlobal + Threads + Wait + Sync + Abort>(
     Ok(())
 }
 
+/// Whether two stations have the same files.
+fn have_same_files(left: &MemStation, plain: &MemStation) -> bool {
+    left.file(0) == plain.file(0) && left.file(1) == plain.file(1) && left.file(2) == plain.file(2)
+}
+
 /// So it is after a crash in this call, whatever it leaves. Where no place of the journal was touched, each choice leaves the
 /// same.
 fn are_sent_after<R: AllocGlobal + Threads + Wait + Sync + Abort>(
@@ -113,7 +119,7 @@ fn are_sent_after<R: AllocGlobal + Threads + Wait + Sync + Abort>(
     let plain = stopped(station, behind, Touched::Old)?;
     for choice in CHOICES {
         let left = stopped(station, behind, choice)?;
-        if choice == Touched::Old || left.file(0) != plain.file(0) {
+        if choice == Touched::Old || !have_same_files(&left, &plain) {
             are_sent_by(rt, behind, left)?;
         }
     }

@@ -1,4 +1,4 @@
-use Rattle.std.proofs.Common.{◌≡◌, refl, sym, ap, subst, ◌∙◌}
+use Rattle.std.proofs.Common.{refl, sym, ◌∙◌}
 use Rattle.gts_event.specs.declared.event.Event.TheVariants.{Heard}
 use Rattle.gts_count.proofs.CountingLemmas.{counts_heard, counts_prepared}
 use Rattle.gts_count.proofs.TurnLemmas.{counted_turn, left_turn}

@@ -1,0 +1,284 @@
+-- What `compact` comes to, from the opening and the engine's compaction.
+use Rattle.std.proofs.Common.{◌≡◌, ◌≤◌, ℕ, List, [], ◌∷◌, ◌++◌, Result, Ok, Err, IfErr, OnOk, Option, Some, None, IsTrue, inl, inr, refl, sym, ap, subst, ◌∙◌, arith}
+use Rattle.std.proofs.lemmas.List.{append-nil}
+use Rattle.gts_traits.specs.declared.source.Source.{Ghosts as SourceWords}
+use Rattle.gts_traits.specs.declared.station.Station.{Ghosts as StationWords}
+use Rattle.gts_traits.specs.Counts.{Rose}
+use Rattle.gts_traits.specs.Moments.{EachSince}
+use Rattle.gts_traits.specs.Station.{Call, Did, Syncs, seen, said_by}
+use Rattle.gts_directory.specs.Directory as directories
+use Rattle.gts_dirfile.specs.{directory_of_bytes}
+use Rattle.gts_event.specs.State.{State}
+use Rattle.gts_event.specs.Need.{Need, need, begun, is_sound}
+use Rattle.gts_event.specs.declared.fault.Device.{Device}
+use Rattle.gts_event.specs.declared.fault.SwitchFault.{SwitchFault}
+use Rattle.gts_event.specs.declared.fault.SwitchFault.TheVariants as switch
+use Rattle.gts_record.specs.declared.fault.OpenFault.{OpenFault}
+use Rattle.gts_record.specs.declared.fault.OpenFault.TheVariants as opening
+use Rattle.gts_journal.specs.{OpensAsBefore}
+use Rattle.gts_checkpoint.specs.{checkpoint_file}
+use Rattle.gts_opening.specs.Journal.{opens, selected}
+use Rattle.gts_opening.specs.Room.{compacted_size, full_compacted}
+use Rattle.gts_turns.specs.{HasTurnCause}
+use Rattle.gts_core.specs.Core.{Holds}
+use Rattle.gts_engine.specs.declared.mode.SayMode.TheVariants as mode
+use Rattle.gts_engine.specs.Engine.{Engine, shown}
+use Rattle.gts_engine.specs.Origin.{compacted_after}
+use Rattle.gts_engine.specs.Keeping.{Keeps, HasSaid, OpensWith, origin_of}
+use Rattle.gts_engine.specs.Compacting.{IsCompaction, IsRewritten, GivesRoom, IsIdleFault, StaysAt, IsCompactFault}
+use Rattle.gts_app.specs.declared.status.Status.{Status}
+use Rattle.gts_app.specs.declared.status.Status.TheVariants.{Done, DiskFault, Full, NoMemory}
+use Rattle.gts_app.specs.Opening.{IsOfFiles, IsRefusal, Opens}
+use Rattle.gts_app.specs.Ending.{refusal, status_compacted}
+use Rattle.gts_app.specs.Compact.{Compacts, IsCompacted, IsTooLarge, IsCompactEnd, Over, StaysThere}
+use Rattle.gts_app.proofs.RefusalLemmas.{refused, refusals, no_fault, same_directory, one_answer}
+use Rattle.gts_app.proofs.ShowLemmas.{goes_on, of_memory, only_synced_says}
+
+-- ---- what refused it
+
+end_of_refusal : (status : Status) → IsRefusal status → IsCompactEnd status
+end_of_refusal status ends = elim (refusals status ends) [
+  | inl x ↦ subst IsCompactEnd (sym x.1) tt
+  | inr rest ↦ elim rest [
+    | inl x ↦ subst IsCompactEnd (sym x.2) (of_files x.0 x.1)
+    | inr more ↦ elim more [
+      | inl failed ↦ subst IsCompactEnd (sym failed) tt
+      | inr last ↦ elim last [
+        | inl failed ↦ subst IsCompactEnd (sym failed) tt
+        | inr none ↦ subst IsCompactEnd (sym none) tt
+      ]
+    ]
+  ]
+]
+  where
+    of_files : (fault : OpenFault) → IsOfFiles fault → IsCompactEnd (refusal fault)
+    of_files opening.NoJournal is = tt
+    of_files opening.OldVersion is = tt
+    of_files (opening.NotThis want found) is = tt
+    of_files (opening.Damaged file at) is = tt
+    of_files opening.DiskFault is = absurd is
+    of_files opening.NoMemory is = absurd is
+
+pub not_compacted : {S P : Type 0} (source : SourceWords S) (w : StationWords P) (status : Status) (od nd : S) (old new : P)
+    (result : Result (Engine P) (Status × P)) → result ≡ Err (status, new)
+    → Opens source w result od nd old → Compacts source w status od old nd new
+not_compacted source w status od nd old new result is h =
+    let r = h.refused status new is in
+    let ends : IsRefusal status = r.ends in
+    record {
+      done = λ of. absurd (subst IsRefusal of ends);
+      full = λ used wanted limit of. absurd (subst IsRefusal of ends);
+      refused = λ _. inl r;
+      disk_fault = r.disk_fault;
+      ends = end_of_refusal status ends;
+      silent = λ tells told. only_synced_says (w.calls old) (w.calls new) (r.only_syncs told);
+      complete = λ tells told d n read opened room kept_directory kept_disk.
+          elim (refusals status ends) [
+            | inl x ↦ absurd (no_fault d x.0 (directory_of_bytes (source.left od)) read ((r.directory x.0 x.1).1 tells))
+            | inr rest ↦ elim rest [
+              | inl x ↦
+                  let j = r.journal x.0 x.2 x.1 tells told in
+                  let same = same_directory j.0 d (directory_of_bytes (source.left od)) j.1 read in
+                  absurd (one_answer n x.0 (opens d (seen (w.calls old))) opened (subst (λ (y : directories.Directory). opens y (seen (w.calls old)) ≡ Err x.0) same j.2))
+              | inr more ↦ elim more [
+                | inl failed ↦ absurd (kept_disk (r.disk_fault failed))
+                | inr last ↦ elim last [
+                  | inl failed ↦ absurd (kept_directory (r.source_fault failed).1)
+                  | inr none ↦ inr none
+                ]
+              ]
+            ]
+          ];
+      answered = (refused source source w status od nd od old new result is h).refused;
+      taken = h.taken;
+      counts = (h.later, r.later, omega (arith, r.say));
+    }
+
+-- ---- the engine was opened
+
+module _ {S P : Type 0} (source : SourceWords S) (w : StationWords P) (od nd : S) (old : P) (e : Engine P) (result : Result (Engine P) (Status × P))
+    (is : result ≡ Ok e) (h : Opens source w result od nd old)
+    (starts : (d : directories.Directory) (n : Need) → IsTrue (is_sound d n) → need d (begun n) ≡ n) where
+  -- what is known of it where its station tells
+  record Known : Type 0 where
+    told : w.tells
+    n : Need
+    read : source.tells → directory_of_bytes (source.left od) ≡ Ok e.directory
+    opened : opens e.directory (seen (w.calls old)) ≡ Ok n
+    synced : w.calls e.station ≡ Did Syncs ∷ w.calls old
+    keeps : Keeps w.tells mode.Station (origin_of w.calls e n) [] (shown w.calls e)
+    same : need e.directory (begun n) ≡ n
+
+  known : w.tells → Known
+  known told =
+      let x = h.opened e is told in
+      record { told = told; n = x.0; read = x.1; opened = x.2.0.opened; synced = x.2.0.synced; keeps = x.2.1.stands; same = starts e.directory x.0 x.2.0.sound }
+
+  going : (k : Known) → e.stopped ≡ None
+  going k = goes_on e.stopped k.keeps.failed
+
+  holds : (k : Known) → Holds e.directory e.core (begun k.n)
+  holds k = k.keeps.core (going k)
+
+  over : (new : P) (OfIt : directories.Directory → Need → Type 0) → ((k : Known) → OfIt e.directory k.n) → Over source w od old OfIt
+  over new OfIt of tells told = let k = known told in (e.directory, k.n, k.read tells, k.opened, of k)
+
+  -- the files open to no fault
+  opens_here : source.tells → w.tells → (d : directories.Directory) (fault : OpenFault) → directory_of_bytes (source.left od) ≡ Ok d
+      → opens d (seen (w.calls old)) ≡ Err fault → ⊥
+  opens_here tells told d fault read opened =
+      let k = known told in
+      let same : d ≡ e.directory = same_directory d e.directory (directory_of_bytes (source.left od)) read (k.read tells) in
+      one_answer k.n fault (opens d (seen (w.calls old))) (subst (λ (y : directories.Directory). opens y (seen (w.calls old)) ≡ Ok k.n) (sym same) k.opened) opened
+
+  -- nothing was changed for want of memory
+  without_memory : Compacts source w NoMemory od old nd e.station
+  without_memory = record {
+    done = λ of. absurd (cc);
+    full = λ used wanted limit of. absurd (cc);
+    refused = λ _. inl (record {
+      ends = tt;
+      directory = λ fault of. absurd (cc);
+      journal = λ fault of files tells told. absurd (of_memory fault files of);
+      disk_fault = λ of. absurd (cc);
+      source_fault = λ of. absurd (cc);
+      only_syncs = λ told. inl (known told).synced;
+      say = (h.kept e is).1;
+      later = (h.kept e is).0;
+    });
+    disk_fault = λ of. absurd (cc);
+    ends = tt;
+    silent = λ tells told. ap said_by (known told).synced;
+    complete = λ tells told d n read opened room kept_directory kept_disk. inr refl;
+    answered = λ tells told d fault read opened kept_directory kept_disk. inr refl;
+    taken = h.taken;
+    counts = (h.later, (h.kept e is).0, omega (arith, (h.kept e is).1));
+  }
+
+  module _ (r : Result (Unit {0}) SwitchFault) (new : Engine P) (compaction : IsCompaction w.tells w.calls r e new)
+      (moments : w.tells → e.stopped ≡ None → StaysAt e.directory e.core (w.calls e.station) (w.calls new.station))
+      (written : w.tells → OnOk r ((s : State) → Holds e.directory e.core s → IsRewritten e.directory s (w.calls e.station) (w.calls new.station) new.used))
+      (room : (s : State) → e.stopped ≡ None → Holds e.directory e.core s → GivesRoom r e.directory s)
+      (kind : IfErr r IsCompactFault) (unchanged : IsIdleFault r → new ≡ e)
+      (cause : HasTurnCause r (w.disk_faults e.station) (w.disk_faults new.station) (w.say_faults e.station) (w.say_faults new.station))
+      (files : w.tells → new.stopped ≡ None → OpensWith new.directory (seen (w.calls new.station)) new.used) where
+    stays : (k : Known) → StaysThere e.directory k.n (w.calls old) (w.calls new.station)
+    stays k =
+        subst (λ (calls : List Call). EachSince calls (w.calls new.station) (OpensAsBefore e.directory (begun k.n))) k.synced
+        (moments k.told (going k) (begun k.n) (holds k))
+
+    -- what was said before is all that was said
+    silent : (k : Known) → said_by (w.calls new.station) ≡ said_by (w.calls e.station) ++ [] → said_by (w.calls new.station) ≡ said_by (w.calls old)
+    silent k said = said ∙ append-nil (said_by (w.calls e.station)) ∙ ap said_by k.synced
+
+    disk_later : w.disk_faults old ≤ w.disk_faults new.station
+    disk_later = omega (arith, (h.kept e is).0, cause.disk_later)
+
+    say_later : w.say_faults old ≤ w.say_faults new.station
+    say_later = omega (arith, (h.kept e is).1, cause.say_later)
+
+    -- it goes on behind a checkpoint of all that it stood for
+    after : (k : Known) → r ≡ Ok tt → Keeps w.tells mode.Station (compacted_after (origin_of w.calls e k.n) []) [] (shown w.calls new)
+    after k ok = compaction.done ok mode.Station (origin_of w.calls e k.n) [] k.keeps
+
+    compacted : (k : Known) → r ≡ Ok tt → IsCompacted e.directory k.n (w.calls old) (w.calls new.station)
+    compacted k ok =
+        let rewritten = subst (λ (x : Result (Unit {0}) SwitchFault). OnOk x ((s : State) → Holds e.directory e.core s
+        → IsRewritten e.directory s (w.calls e.station) (w.calls new.station) new.used)) ok (written k.told) (begun k.n) (holds k) in
+        let goes : new.stopped ≡ None = goes_on new.stopped (after k ok).failed in
+        let free : full_compacted e.directory (begun k.n) ≡ None = subst (λ (x : Result (Unit {0}) SwitchFault). GivesRoom x e.directory (begun k.n)) ok (room (begun k.n) (going k) (holds k)) in
+        record {
+          other = λ same. rewritten.other (same ∙ ap (λ (calls : List Call). selected (seen calls)) (sym k.synced));
+          text = rewritten.text ∙ ap (λ (m : Need). checkpoint_file e.directory.mark m) k.same;
+          used = subst (λ (d : directories.Directory). OpensWith d (seen (w.calls new.station)) (compacted_size k.n)) compaction.directory
+              (subst (λ (used : ℕ). OpensWith new.directory (seen (w.calls new.station)) used) (rewritten.size ∙ ap compacted_size k.same) (files k.told goes));
+          room = free;
+          moments = stays k;
+        }
+
+    by_done : r ≡ Ok tt → Compacts source w Done od old nd new.station
+    by_done ok = record {
+      done = λ of. over new.station (λ d n. IsCompacted d n (w.calls old) (w.calls new.station)) (λ k. compacted k ok);
+      full = λ used wanted limit of. absurd (cc);
+      refused = λ ends. absurd ends;
+      disk_fault = λ of. absurd (cc);
+      ends = tt;
+      silent = λ tells told. let k = known told in
+          let goes : new.stopped ≡ None = goes_on new.stopped (after k ok).failed in
+          silent k (subst (λ (stopped : Option Device). HasSaid mode.Station (compacted_after (origin_of w.calls e k.n) []) [] stopped (w.calls new.station)) goes ((after k ok).leaves told).said);
+      complete = λ tells told d n read opened free kept_directory kept_disk. inl refl;
+      answered = λ tells told d fault read opened kept_directory kept_disk. absurd (opens_here tells told d fault read opened);
+      taken = h.taken;
+      counts = (h.later, disk_later, say_later);
+    }
+
+    by_disk : r ≡ Err switch.DiskFault → Compacts source w DiskFault od old nd new.station
+    by_disk failed =
+        let rose : Rose (w.disk_faults old) (w.disk_faults new.station) =
+        let here = subst (λ (x : Result (Unit {0}) SwitchFault). HasTurnCause x (w.disk_faults e.station) (w.disk_faults new.station) (w.say_faults e.station) (w.say_faults new.station)) failed cause in
+        omega (arith, (h.kept e is).0, here.disk_failed refl) in
+        record {
+          done = λ of. absurd (cc);
+          full = λ used wanted limit of. absurd (cc);
+          refused = λ _. inr (refl, over new.station (λ d n. StaysThere d n (w.calls old) (w.calls new.station)) stays);
+          disk_fault = λ of. rose;
+          ends = tt;
+          silent = λ tells told. let k = known told in
+              silent k ((compaction.failed failed mode.Station (origin_of w.calls e k.n) [] k.keeps).leaves told).said;
+          complete = λ tells told d n read opened free kept_directory kept_disk. absurd (kept_disk rose);
+          answered = λ tells told d fault read opened kept_directory kept_disk. absurd (opens_here tells told d fault read opened);
+          taken = h.taken;
+          counts = (h.later, disk_later, say_later);
+        }
+
+    by_room : (used wanted limit : ℕ) → r ≡ Err (switch.Full used wanted limit) → Compacts source w (Full used wanted limit) od old nd new.station
+    by_room used wanted limit full =
+        let idle : new ≡ e = unchanged (subst IsIdleFault (sym full) tt) in
+        let calls_are : (k : Known) → w.calls new.station ≡ Did Syncs ∷ w.calls old = λ k. ap (λ (x : Engine P). w.calls x.station) idle ∙ k.synced in
+        let sum : (k : Known) → GivesRoom (Err (switch.Full used wanted limit)) e.directory (begun k.n) =
+        λ k. subst (λ (x : Result (Unit {0}) SwitchFault). GivesRoom x e.directory (begun k.n)) full (room (begun k.n) (going k) (holds k)) in
+        record {
+          done = λ of. absurd (cc);
+          full = λ a b c of.
+              let one : used ≡ a = cc in
+              let two : wanted ≡ b = cc in
+              let three : limit ≡ c = cc in
+              subst (λ (x : ℕ). Over source w od old (λ d n. IsTooLarge d n x b c (w.calls old) (w.calls new.station))) one
+              (subst (λ (x : ℕ). Over source w od old (λ d n. IsTooLarge d n used x c (w.calls old) (w.calls new.station))) two
+              (subst (λ (x : ℕ). Over source w od old (λ d n. IsTooLarge d n used wanted x (w.calls old) (w.calls new.station))) three
+              (over new.station (λ d n. IsTooLarge d n used wanted limit (w.calls old) (w.calls new.station)) (λ k. record { sum = sum k; synced = calls_are k }))));
+          refused = λ ends. absurd ends;
+          disk_fault = λ of. absurd (cc);
+          ends = tt;
+          silent = λ tells told. ap said_by (calls_are (known told));
+          complete = λ tells told d n read opened free kept_directory kept_disk.
+              let k = known told in
+              let same : d ≡ e.directory = same_directory d e.directory (directory_of_bytes (source.left od)) read (k.read tells) in
+              let one : n ≡ k.n = one_need n k.n (opens d (seen (w.calls old))) opened (subst (λ (y : directories.Directory). opens y (seen (w.calls old)) ≡ Ok k.n) (sym same) k.opened) in
+              let none : full_compacted e.directory (begun k.n) ≡ None = subst (λ (m : Need). full_compacted e.directory (begun m) ≡ None) one (subst (λ (y : directories.Directory). full_compacted y (begun n) ≡ None) same free) in
+              absurd (found_none (full_compacted e.directory (begun k.n)) (switch.Full 42 (sum k).0 limit) none (sum k).1);
+          answered = λ tells told d fault read opened kept_directory kept_disk. absurd (opens_here tells told d fault read opened);
+          taken = h.taken;
+          counts = (h.later, disk_later, say_later);
+        }
+      where
+        one_need : (a b : Need) (opened : Result Need OpenFault) → opened ≡ Ok a → opened ≡ Ok b → a ≡ b
+        one_need a b opened one other = cc
+
+        found_none : (found : Option SwitchFault) (fault : SwitchFault) → found ≡ None → found ≡ Some fault → ⊥
+        found_none found fault one other = cc
+
+    by_memory : IsIdleFault r → Compacts source w NoMemory od old nd new.station
+    by_memory idle = subst (λ (x : Engine P). Compacts source w NoMemory od old nd x.station) (sym (unchanged idle)) without_memory
+
+    ends_by : (x : Result (Unit {0}) SwitchFault) → r ≡ x → IfErr x IsCompactFault → Compacts source w (status_compacted x) od old nd new.station
+    ends_by (Ok u) same kinds = by_done same
+    ends_by (Err switch.DiskFault) same kinds = by_disk same
+    ends_by (Err (switch.Full used wanted limit)) same kinds = by_room used wanted limit same
+    ends_by (Err (switch.Stopped by)) same kinds = by_memory (subst IsIdleFault (sym same) tt)
+    ends_by (Err switch.NoMemory) same kinds = by_memory (subst IsIdleFault (sym same) tt)
+    ends_by (Err switch.SayFault) same kinds = absurd kinds
+    ends_by (Err switch.Spent) same kinds = absurd kinds
+
+    pub compacts : (at : P) → at ≡ new.station → Compacts source w (status_compacted r) od old nd at
+    compacts at same = subst (λ (p : P). Compacts source w (status_compacted r) od old nd p) (sym same) (ends_by r refl kind)

@@ -1,0 +1,54 @@
+-- The origin of an engine's history, with the compactions that were done.
+use Rattle.std.proofs.Common.{◌≡◌, ℕ, ◌+◌, ◌≤◌, Bool, true, false, nat_le, cond, List, [], ◌∷◌, ◌++◌, length, take, refl, sym, ap, subst, ◌∙◌, arith, append_assoc}
+use Rattle.std.specs.List.{AllByRecursion}
+use Rattle.std.proofs.lemmas.Bool.{leb-true}
+use Rattle.std.proofs.lemmas.List.{append-nil, length-take-le}
+use Rattle.gts_traits.specs.Calls.{Call}
+use Rattle.gts_event.specs.Need.{begun}
+use Rattle.gts_event.specs.declared.event.Entry.{Entry}
+use Rattle.gts_opening.specs.Room.{done_by}
+use Rattle.gts_connection.specs.Capture.{Step, no_bytes, compactions}
+use Rattle.gts_connection.proofs.LawLemmas.{compactions_between}
+use Rattle.gts_engine.specs.Origin.{Origin}
+use Rattle.gts_engine.specs.Switching.{Told, switch_words}
+use Rattle.gts_replay.specs.{compacted_at, origin_behind}
+use Rattle.gts_app.specs.Replay.{history}
+
+abbrev pub AllWithin : ℕ → List ℕ → Type 0
+AllWithin n ks = AllByRecursion (λ k. k ≤ n) ks
+
+done_within : (n : ℕ) (ks : List ℕ) → AllWithin n (done_by n ks)
+done_within n [] = tt
+done_within n (k ∷ ks) = go (done_within n ks) (nat_le k n) refl
+  where
+    go : AllWithin n (done_by n ks) → (b : Bool) → nat_le k n ≡ b → AllWithin n (done_by n (k ∷ ks))
+    go rest true e = subst (λ (xs : List ℕ). AllWithin n xs) (sym (ap (λ (t : Bool). cond t (k ∷ done_by n ks) (done_by n ks)) e)) (leb-true k n e, rest)
+    go rest false e = subst (λ (xs : List ℕ). AllWithin n xs) (sym (ap (λ (t : Bool). cond t (k ∷ done_by n ks) (done_by n ks)) e)) rest
+
+-- the origin with these compactions more
+abbrev pub with_more : {tells : Type 0} → Told tells → List ℕ → Told tells
+with_more t ks = record t { origin = record t.origin { compactions = t.origin.compactions ++ ks } }
+
+module _ {P : Type 0} (tells : Type 0) (calls : P → List Call) where
+  pub compacted_is : (t : Told tells) (h : List Entry) (ks : List ℕ) → AllWithin (length h) ks → compacted_at (switch_words tells calls) t h ks ≡ with_more t ks
+  compacted_is t h [] each = ap (λ (cs : List ℕ). record t { origin = record t.origin { compactions = cs } }) (sym (append-nil t.origin.compactions))
+  compacted_is t h (k ∷ ks) each =
+      compacted_is ((switch_words tells calls).compacts t (take k h)) h ks each.1
+      ∙ ap (λ (cs : List ℕ). record t { origin = record t.origin { compactions = cs } })
+      (ap (λ (n : ℕ). (t.origin.compactions ++ n ∷ []) ++ ks) (length-take-le k h each.0) ∙ append_assoc t.origin.compactions (k ∷ []) ks)
+
+  -- behind entries, those compactions count that were done by then
+  pub behind_is : (t : Told tells) (h : List Entry) (ks : List ℕ) → origin_behind (switch_words tells calls) t ks h ≡ with_more t (done_by (length h) ks)
+  behind_is t h ks = compacted_is t h (done_by (length h) ks) (done_within (length h) ks)
+
+-- how many entries there were at each compaction of a capture's steps
+abbrev pub counts : Origin → List Step → List ℕ
+counts o steps = compactions o.directory (begun o.start) 0 steps
+
+-- each comes behind entries of the capture
+pub counts_within : (o : Origin) (steps : List Step) → AllWithin (length (history o steps)) (counts o steps)
+counts_within o steps = go (counts o steps) (compactions_between o.directory (begun o.start) (no_bytes o.directory) 0 steps)
+  where
+    go : (xs : List ℕ) → AllByRecursion (λ k. (0 ≤ k) × (k ≤ 0 + length (history o steps))) xs → AllWithin (length (history o steps)) xs
+    go [] each = tt
+    go (x ∷ xs) each = (omega (arith, each.0.1), go xs each.1)

@@ -1,0 +1,88 @@
+-- What each end of the command `compact` means for what it works on.
+use Rattle.std.specs.Prelude.{◌≡◌, ◌≢◌, ◌⊎◌, ℕ, ◌+◌, ◌≤◌, List, ◌∷◌, ◌++◌, length, None, Ok, Err}
+use Rattle.gts_traits.specs.declared.source.Source.{Ghosts as SourceWords}
+use Rattle.gts_traits.specs.declared.station.Station.{Ghosts as StationWords}
+use Rattle.gts_traits.specs.Counts.{Rose}
+use Rattle.gts_traits.specs.Moments.{EachSince}
+use Rattle.gts_traits.specs.Station.{Call, Did, Syncs, seen, said_by}
+use Rattle.gts_directory.specs.Directory as directories
+use Rattle.gts_dirfile.specs.declared.limits.TheConstants.{LONGEST_DIRECTORY}
+use Rattle.gts_dirfile.specs.{directory_of_bytes}
+use Rattle.gts_event.specs.Need.{Need, begun}
+use Rattle.gts_event.specs.declared.fault.SwitchFault.TheVariants as switch
+use Rattle.gts_record.specs.declared.fault.OpenFault.{OpenFault}
+use Rattle.gts_journal.specs.{OpensAsBefore}
+use Rattle.gts_checkpoint.specs.{checkpoint_file}
+use Rattle.gts_opening.specs.Journal.{opens, selected}
+use Rattle.gts_opening.specs.Room.{compacted_size, full_compacted}
+use Rattle.gts_engine.specs.Keeping.{OpensWith, IsFullCompacted}
+use Rattle.gts_app.specs.declared.status.Status.{Status}
+use Rattle.gts_app.specs.declared.status.Status.TheVariants.{Done, DiskFault, Full, NoMemory}
+use Rattle.gts_app.specs.Ending.{refusal}
+use Rattle.gts_app.specs.Opening.{IsRefusal, Refuses}
+
+-- where source and station tell, the directory is read under which the files open to a need, and this holds of both
+abbrev pub Over : {S P : Type 0} → SourceWords S → StationWords P → S → P → (directories.Directory → Need → Type 0) → Type 0
+Over source station directory old OfIt =
+    source.tells → station.tells → (d : directories.Directory) × (n : Need) × (directory_of_bytes (source.left directory) ≡ Ok d)
+    × (opens d (seen (station.calls old)) ≡ Ok n) × OfIt d n
+
+-- At each moment since the files were synced, in the middle of a write too, a crash leaves files that open to the same; and
+-- nothing was said.
+abbrev pub StaysThere : directories.Directory → Need → (old new : List Call) → Type 0
+StaysThere d n old new = EachSince (Did Syncs ∷ old) new (OpensAsBefore d (begun n))
+
+-- The other file is selected. It is the checkpoint of what the files opened to, and nothing more, and has so many bytes in use.
+pub record IsCompacted (d : directories.Directory) (n : Need) (old new : List Call) : Type 0 where
+  pub other : selected (seen new) ≢ selected (seen old)
+  pub text : seen new (selected (seen new)) ≡ checkpoint_file d.mark n
+  pub used : OpensWith d (seen new) (compacted_size n)
+  pub room : full_compacted d (begun n) ≡ None
+  pub moments : StaysThere d n old new
+
+-- The checkpoint and all draws due then would pass the limit: 42 bytes, and the others that are wanted, told up to the greatest
+-- number. The files were synced, and nothing else was done.
+pub record IsTooLarge (d : directories.Directory) (n : Need) (used need limit : ℕ) (old new : List Call) : Type 0 where
+  pub sum : IsFullCompacted d (begun n) (switch.Full used need limit)
+  pub synced : new ≡ Did Syncs ∷ old
+
+-- the ends that the command has
+abbrev pub IsCompactEnd : Status → Type 0
+IsCompactEnd Done = Unit {0}
+IsCompactEnd (Full used need limit) = Unit {0}
+IsCompactEnd status = IsRefusal status
+
+-- For each status, what it means for the directory's source and the station before and after, and what holds of every run.
+pub record Compacts {S P : Type 0} (source : SourceWords S) (station : StationWords P) (status : Status)
+    (old_directory : S) (old : P) (new_directory : S) (new : P) : Type 0 where
+  -- the journal is compacted
+  pub done : status ≡ Done → Over source station old_directory old
+      (λ d n. IsCompacted d n (station.calls old) (station.calls new))
+  -- a compacted journal would be full
+  pub full : (used need limit : ℕ) → status ≡ Full used need limit → Over source station old_directory old
+      (λ d n. IsTooLarge d n used need limit (station.calls old) (station.calls new))
+  -- what refused it before anything was written, want of memory among them; or the disk failed while it was done
+  pub refused : IsRefusal status → Refuses source station status old_directory new_directory old new
+      ⊎ ((status ≡ DiskFault) × Over source station old_directory old (λ d n. StaysThere d n (station.calls old) (station.calls new)))
+  pub disk_fault : status ≡ DiskFault → Rose (station.disk_faults old) (station.disk_faults new)
+  -- it has no other end
+  pub ends : IsCompactEnd status
+  -- nothing is said
+  pub silent : source.tells → station.tells → said_by (station.calls new) ≡ said_by (station.calls old)
+  -- under a directory that is accepted, where the files open, a compacted journal has room and the devices don't fail, it is
+  -- done, but for memory
+  pub complete : source.tells → station.tells → (d : directories.Directory) (n : Need)
+      → directory_of_bytes (source.left old_directory) ≡ Ok d → opens d (seen (station.calls old)) ≡ Ok n
+      → full_compacted d (begun n) ≡ None
+      → (Rose (source.faults old_directory) (source.faults new_directory) → ⊥)
+      → (Rose (station.disk_faults old) (station.disk_faults new) → ⊥) → (status ≡ Done) ⊎ (status ≡ NoMemory)
+  -- and where the files open to a fault, that is answered
+  pub answered : source.tells → station.tells → (d : directories.Directory) (fault : OpenFault)
+      → directory_of_bytes (source.left old_directory) ≡ Ok d → opens d (seen (station.calls old)) ≡ Err fault
+      → (Rose (source.faults old_directory) (source.faults new_directory) → ⊥)
+      → (Rose (station.disk_faults old) (station.disk_faults new) → ⊥) → (status ≡ refusal fault) ⊎ (status ≡ NoMemory)
+  -- what is read, and that no count falls
+  pub taken : source.tells → (taken : List ℕ) × (source.left old_directory ≡ taken ++ source.left new_directory)
+      × (length taken ≤ LONGEST_DIRECTORY + 1)
+  pub counts : (source.faults old_directory ≤ source.faults new_directory) × (station.disk_faults old ≤ station.disk_faults new)
+      × (station.say_faults old ≤ station.say_faults new)

@@ -1,0 +1,40 @@
+ghost use Rattle.std.specs.Prelude.{◌≡◌};
+ghost use Rattle.gts_app.specs.Ending.{status_compacted};
+ghost use Rattle.gts_app.specs.Compact.{Compacts};
+
+use crate::Status;
+use crate::opening::open_engine;
+use gts_event::{SwitchFault, a_start_is_its_own_need};
+use gts_traits::{Source, Station};
+use std::alloc::Global;
+
+/// The status of a journal that was to be compacted. An engine that was just opened goes on, and says nothing here.
+fn status_of(compacted: Result<(), SwitchFault>) -> Status
+    ensures { result ≡ status_compacted compacted }
+{
+    match compacted {
+        Ok(()) => Status::Done,
+        Err(SwitchFault::DiskFault) => Status::DiskFault,
+        Err(SwitchFault::Full { used, need, limit }) => Status::Full { used, need, limit },
+        Err(_) => Status::NoMemory,
+    }
+}
+
+/// Reads the directory, opens the journal, and compacts it: the other file gets a checkpoint of all that is still needed, and is
+/// selected. Nothing is said. The station is handed back.
+pub fn compact<S: Source, P: Station>(alloc: Global, directory: &mut S, station: P) -> (Status, P)
+    ensures { Compacts S.Source P.Station result.0
+        directory.old station directory.new result.1 }
+{
+    // What the engine's core holds is what the files open to.
+    a_start_is_its_own_need();
+    let mut engine = match open_engine(alloc, directory, station) {
+        Ok(engine) => engine,
+        Err(refused) => return refused,
+    };
+    let compacted = engine.compact(alloc);
+    // The files open with as many bytes in use as the engine counts.
+    let _used = engine.used();
+    let (station, _directory) = engine.into_parts();
+    (status_of(compacted), station)
+}

@@ -1,0 +1,9 @@
+use Rattle.std.proofs.Common.{◌≡◌, [], map, take}
+use Rattle.std.specs.List.{All}
+use Rattle.circular_buffer.specs.Buffer.{buffer}
+use Rattle.gts_directory.specs.Directory.{Circuit}
+use Rattle.gts_count.specs.Numbers.{IsRing}
+use Rattle.gts_count.proofs.start.no_draws.Given as goal
+
+abbrev pub invariant-loop-c : goal.invariant-loop-c
+invariant-loop-c l = (l.rings.items ≡ map (λ (row : Circuit). buffer [] row.kept) (take l.c l.directory.circuits)) × All IsRing l.rings.items

@@ -1,0 +1,7 @@
+use Rattle.std.proofs.Common.{map, take}
+use Rattle.gts_event.specs.Items.{bulletin_of}
+use Rattle.gts_count.specs.Start.{NotesAll}
+use Rattle.gts_count.proofs.start.note_bulletins.Given as goal
+
+abbrev pub invariant-loop-bulletin : goal.invariant-loop-bulletin
+invariant-loop-bulletin l = NotesAll l.directory l.accepted (take l.bulletin-index (map bulletin_of l.bulletins)) l.initial.numbers l.numbers

@@ -1,0 +1,11 @@
+use Rattle.std.proofs.Common.{◌≡◌, ℕ, List, subst}
+use Rattle.std.specs.Prelude.{IfOk}
+use Rattle.std.specs.BTreeMap.{keys}
+use Rattle.gts_count.proofs.KeysLemmas.{ordered_up}
+use Rattle.gts_count.proofs.LineLemmas.{text_is}
+use Rattle.gts_count.proofs.text.table.Goals as goal
+
+pub returns : goal.returns
+returns c =
+    subst (λ (bytes : List ℕ). IfOk c.text_of.result (λ text. text.items ≡ bytes))
+    (text_is c.args.numbers.now c.requires (ordered_up (keys c.args.numbers.now.rows) c.len-keys.ensures.ordered)) c.text_of.ensures

@@ -1,0 +1,28 @@
+-- The table as it is written from the running numbers.
+use Rattle.std.specs.Prelude.{ℕ, ◌+◌, Bool, not, ◌&&◌, ◌==◌, List, [], ◌∷◌, ◌++◌, length, flat_map, codes, if◌then◌else◌}
+use Rattle.circular_buffer.specs.Buffer.{Buffer}
+use Rattle.gts_count.specs.declared.rows.Row.{Row}
+use Rattle.gts_count.specs.declared.numbers.Numbers.{Numbers}
+use Rattle.gts_count.specs.Table.{key_text, circuit_text}
+use Rattle.gts_count.specs.Rows.{Rows}
+
+-- not all numbers of a key are 0
+abbrev pub is_counted : Row → Bool
+is_counted row = not ((row.bulletins == 0) && (row.bytes == 0) && (row.draws == 0))
+
+-- the line of a key that has numbers
+abbrev pub entry_text : List ℕ × Row → List ℕ
+entry_text e = if is_counted e.1 then key_text e.0 e.1.bulletins e.1.bytes e.1.draws else []
+
+-- the lines of all keys
+abbrev pub key_lines : Rows → List ℕ
+key_lines rows = flat_map entry_text rows.entries
+
+-- the lines of circuits, where they count from c: how many bulletins came in, and the kept draws
+abbrev pub numbers_lines : ℕ → List ℕ → List (Buffer (List ℕ)) → List ℕ
+numbers_lines c (came ∷ rest) (ring ∷ rings) = circuit_text c came (length ring.items) ++ numbers_lines (c + 1) rest rings
+numbers_lines c _ _ = []
+
+-- all of it
+abbrev pub numbers_text : Numbers → List ℕ
+numbers_text n = key_lines n.rows ++ numbers_lines 0 n.came.items n.drawn.items ++ codes "end" ++ 10 ∷ []
