@@ -24,10 +24,10 @@ use Rattle.gts_app.specs.Gaps.{status_named, NamedAs, NamesGaps}
 -- ---- where there is no directory
 
 -- the ends that reading a directory has
-abbrev Ended : Status → Type 0
+abbrev pub Ended : Status → Type 0
 Ended status = ((fault : DirFault) × (status ≡ Directory fault)) ⊎ ((status ≡ SourceFault) ⊎ (status ≡ NoMemory))
 
-ended : (status : Status) → IsReadEnd status → Ended status
+pub ended : (status : Status) → IsReadEnd status → Ended status
 ended (Directory fault) e = inl (fault, refl)
 ended SourceFault e = inr (inl refl)
 ended NoMemory e = inr (inr refl)

@@ -11,6 +11,7 @@ use crate::commands::init::init;
 use crate::commands::pack::pack;
 use crate::commands::replay::replay;
 use crate::commands::serve::serve;
+use crate::commands::ship::ship;
 use crate::commands::show::show;
 use gts_missing::Moment;
 use gts_traits::{Gate, Lines, Source, Station, WordList};
@@ -19,8 +20,8 @@ use std::alloc::Global;
 use std::sync::Wait;
 use std::thread::Threads;
 
-/// Runs the command that the words name: `init`, `replay`, `serve`, `show`, `compact`, `generate`, `pack` or `gaps`. The station and
-/// the capture are handed back.
+/// Runs the command that the words name: `init`, `replay`, `serve`, `show`, `compact`, `generate`, `pack`, `gaps` or `ship`. The
+/// station and the capture are handed back.
 pub fn run<R, S, P, L, G>(
     rt: &R,
     alloc: Global,
@@ -111,6 +112,10 @@ where
         Command::Gaps { day, hour, minute } => {
             let moment = Moment { day, hour, minute };
             let status = gaps(alloc, moment, directory, &mut capture, &mut station);
+            (status, station, capture)
+        }
+        Command::Ship => {
+            let status = ship(alloc, directory, &mut station);
             (status, station, capture)
         }
         // This one is not built yet.

@@ -7,7 +7,7 @@ use Rattle.std.specs.Str.Parse.{digits_value}
 use Rattle.std.proofs.lemmas.Bool.{leb-true, and_parts}
 use Rattle.gts_words.specs.declared.count.TheConstants.{MOST_GENERATED, LONGEST_COUNT, MOST_CONNECTIONS, LONGEST_CONNECTIONS}
 use Rattle.gts_words.specs.declared.command.Command.{Command}
-use Rattle.gts_words.specs.declared.command.Command.TheVariants.{Init, Replay, Serve, Show, Compact, Generate, Unpack, Pack, Gaps}
+use Rattle.gts_words.specs.declared.command.Command.TheVariants.{Init, Replay, Serve, Show, Compact, Generate, Unpack, Pack, Gaps, Ship}
 use Rattle.gts_words.specs.Commands.{same, alone, is_count, count_in, number_in, circuit_in, is_moment, gaps_of, moment_in, command_of}
 
 -- a command has no count, or one within the limits
@@ -20,18 +20,21 @@ abbrev AllWithin : Option Command → Type 0
 AllWithin None = Unit {0}
 AllWithin (Some command) = IsWithin command
 
-one_of : (a b c d e f : Bool)
-    → AllWithin (cond a (Some Init) (cond b (Some Replay) (cond c (Some (Serve 1)) (cond d (Some Show) (cond e (Some Compact) (cond f (Some Pack) None))))))
-one_of true b c d e f = tt
-one_of false true c d e f = tt
-one_of false false true d e f = (omega arith, omega arith)
-one_of false false false true e f = tt
-one_of false false false false true f = tt
-one_of false false false false false true = tt
-one_of false false false false false false = tt
+one_of : (a b c d e f h : Bool)
+    → AllWithin (cond a (Some Init) (cond b (Some Replay) (cond c (Some (Serve 1)) (cond d (Some Show) (cond e (Some Compact) (cond f (Some Pack) (cond h (Some Ship) None)))))))
+one_of true b c d e f h = tt
+one_of false true c d e f h = tt
+one_of false false true d e f h = (omega arith, omega arith)
+one_of false false false true e f h = tt
+one_of false false false false true f h = tt
+one_of false false false false false true h = tt
+one_of false false false false false false true = tt
+one_of false false false false false false false = tt
 
 alone_within : (name : List ℕ) → AllWithin (alone name)
-alone_within name = one_of (same name (codes "init")) (same name (codes "replay")) (same name (codes "serve")) (same name (codes "show")) (same name (codes "compact")) (same name (codes "pack"))
+alone_within name =
+    one_of (same name (codes "init")) (same name (codes "replay")) (same name (codes "serve")) (same name (codes "show")) (same name (codes "compact")) (same name (codes "pack"))
+    (same name (codes "ship"))
 
 -- a word that spells a count
 spelled : (longest top : ℕ) (w : List ℕ) → is_count longest top w ≡ true → (1 ≤ digits_value 10 w) × (digits_value 10 w ≤ top)

@@ -61,6 +61,8 @@ fn alone(name: &str) -> Option<Command>
         Some(Command::Compact)
     } else if name == "pack" {
         Some(Command::Pack)
+    } else if name == "ship" {
+        Some(Command::Ship)
     } else {
         None
     }

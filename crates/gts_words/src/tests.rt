@@ -14,7 +14,7 @@ fn read(alloc: Global, words: &[&str]) -> Result<Result<Command, WordsFault>, Fa
 
 #[test]
 fn the_lists_that_are_defined_are_commands(rt: HostRuntime) -> Result<(), Fail> {
-    let cases: [(&[&str], Command); 15] = [
+    let cases: [(&[&str], Command); 16] = [
         (&["init"], Command::Init),
         (&["replay"], Command::Replay),
         (&["serve"], Command::Serve { connections: 1 }),
@@ -32,6 +32,7 @@ fn the_lists_that_are_defined_are_commands(rt: HostRuntime) -> Result<(), Fail> 
         (&["unpack", "07"], Command::Unpack { c: 7 }),
         (&["unpack", "99"], Command::Unpack { c: 99 }),
         (&["pack"], Command::Pack),
+        (&["ship"], Command::Ship),
         (
             &["gaps", "281030"],
             Command::Gaps {
@@ -49,7 +50,7 @@ fn the_lists_that_are_defined_are_commands(rt: HostRuntime) -> Result<(), Fail> 
 
 #[test]
 fn other_lists_are_no_command(rt: HostRuntime) -> Result<(), Fail> {
-    let cases: [&[&str]; 24] = [
+    let cases: [&[&str]; 25] = [
         &[],
         &["help"],
         &["--help"],
@@ -69,6 +70,7 @@ fn other_lists_are_no_command(rt: HostRuntime) -> Result<(), Fail> {
         &["serve", "two"],
         &["", "5"],
         &["pack", "00"],
+        &["ship", "00"],
         &["unpack"],
         &["unpack", "7"],
         &["unpack", "007"],
