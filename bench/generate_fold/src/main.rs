@@ -1,5 +1,6 @@
-//! What `gts_switch generate N` does, as a plain fold over hash maps: no journal, no proof. It prints the same summary.
-//! With the words `capture N` it prints the capture of the day.
+//! What `gts_switch generate N` does, as a plain fold over hash maps: no journal, no proof. It prints the same summary. With the
+//! words `sealed N` it also computes the seals of the records that a journal would have, and with `capture N` it prints the
+//! capture of the day.
 
 mod day;
 mod sha256;
@@ -21,12 +22,13 @@ fn main() -> ExitCode {
     let words: Vec<String> = env::args().skip(1).collect();
     let texts: Vec<&str> = words.iter().map(String::as_str).collect();
     let output = match texts[..] {
-        [count] => count_of(count).map(|count| switch::summary(count).into_bytes()),
+        [count] => count_of(count).map(|count| switch::summary(count, false).into_bytes()),
+        ["sealed", count] => count_of(count).map(|count| switch::summary(count, true).into_bytes()),
         ["capture", count] => count_of(count).map(day::capture),
         _ => None,
     };
     let Some(output) = output else {
-        eprintln!("usage: generate_fold [capture] N");
+        eprintln!("usage: generate_fold [capture | sealed] N");
         return ExitCode::from(2);
     };
     match io::stdout().write_all(&output) {

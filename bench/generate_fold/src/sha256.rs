@@ -47,8 +47,23 @@ impl Sha256 {
         }
     }
 
+    /// The digest as 32 bytes.
+    pub fn bytes(mut self) -> [u8; 32] {
+        self.finish();
+        let mut bytes = [0; 32];
+        for (place, word) in bytes.chunks_exact_mut(4).zip(self.state) {
+            place.copy_from_slice(&word.to_be_bytes());
+        }
+        bytes
+    }
+
     /// The digest in lower-case hexadecimal digits.
     pub fn hexadecimal(mut self) -> String {
+        self.finish();
+        self.state.iter().map(|word| format!("{word:08x}")).collect()
+    }
+
+    fn finish(&mut self) {
         let bits = 8 * self.length;
         self.push(0x80);
         while self.block.len() != 56 {
@@ -57,7 +72,6 @@ impl Sha256 {
         for byte in bits.to_be_bytes() {
             self.push(byte);
         }
-        self.state.iter().map(|word| format!("{word:08x}")).collect()
     }
 }
 

@@ -1,6 +1,7 @@
 //! The switch as a fold: what was accepted by its position, what waits by circuit and level, what was drawn by circuit.
 
 use std::collections::{HashMap, VecDeque};
+use std::hint::black_box;
 
 use crate::day::{CIRCUITS, Message, frame, message};
 use crate::sha256::Sha256;
@@ -36,6 +37,7 @@ struct Switch {
     bytes: usize,
     journal: usize,
     digest: Sha256,
+    seal: Option<[u8; 32]>,
 }
 
 impl Switch {
@@ -69,6 +71,9 @@ impl Switch {
             queue.push_back(self.accepted);
         }
         self.journal += ACCEPT_RECORD + body.len();
+        let position = (self.accepted as u64).to_be_bytes();
+        let length = (body.len() as u32).to_be_bytes();
+        self.seal(&[&[b'A', from as u8, b'A', 0], &position, &length, &body]);
         self.recent.insert(body.clone(), self.accepted);
         self.bodies.insert(self.accepted, body);
         self.accepted += 1;
@@ -94,8 +99,22 @@ impl Switch {
         let drawn = self.drawn.entry(circuit).or_default();
         drawn.push(position);
         let index = drawn.len() - 1;
+        let places = [(position as u64).to_be_bytes(), (index as u64).to_be_bytes()];
+        self.seal(&[&[b'D', circuit as u8, 0, 0, 0, 0, 0], &places[0], &places[1]]);
         self.say(circuit, index);
         true
+    }
+
+    /// The seal of a record: the digest of the seal before it and its bytes. Where none is kept, none is made.
+    fn seal(&mut self, record: &[&[u8]]) {
+        if let Some(before) = self.seal {
+            let mut digest = Sha256::default();
+            digest.update(&before);
+            for part in record {
+                digest.update(part);
+            }
+            self.seal = Some(digest.bytes());
+        }
     }
 
     fn say(&mut self, circuit: u32, index: usize) {
@@ -111,10 +130,19 @@ fn number_of(index: usize) -> u32 {
     ((index + 1) % 1000) as u32
 }
 
-/// The summary of a day of so many messages.
-pub fn summary(count: u32) -> String {
+/// The seal before the first record of an empty journal: the digest of its header, the magic and the mark of the directory.
+fn first_seal() -> [u8; 32] {
+    let mut digest = Sha256::default();
+    digest.update(b"GTSJ0002");
+    digest.update(&[0; 32]);
+    digest.bytes()
+}
+
+/// The summary of a day of so many messages, made with the seals of the journal's records or without them.
+pub fn summary(count: u32, has_seals: bool) -> String {
     let mut switch = Switch {
         journal: EMPTY_JOURNAL,
+        seal: has_seals.then(first_seal),
         ..Switch::default()
     };
     for i in 0..count {
@@ -124,6 +152,7 @@ pub fn summary(count: u32) -> String {
     for circuit in 0..CIRCUITS {
         while switch.take(circuit) {}
     }
+    black_box(switch.seal);
     let digest = switch.digest.hexadecimal();
     format!(
         "messages {count}\naccepted {}\nduplicates {}\nrequests {}\ndraws {}\nresends {}\nbytes {}\njournal {}\n\

@@ -1,10 +1,10 @@
 ghost use Rattle.std.specs.Prelude.{◌≡◌};
 ghost use Rattle.gts_count.specs.Numbers.{IsSound};
 
-use crate::Parts;
 use crate::start::counting_of;
 use crate::steps::{compact, hear, leave, lose, restart, take};
 use crate::text::table;
+use crate::{Counting, Parts};
 use gts_alphabet::NoMemory;
 use gts_directory::Directory;
 use gts_event::{Need, Outcome, SwitchFault};
@@ -113,6 +113,17 @@ impl<T: Switch> Counted<T> {
 }
 
 impl<T> Counted<T> {
+    /// A switch beside what is counted for it. Takes no memory.
+    pub fn beside(switch: T, counting: Counting) -> Counted<T>
+        requires { IsSound counting.numbers }
+        ensures switch { result.parts.switch ≡ switch }
+        ensures counting { result.parts.counting ≡ counting }
+    {
+        Counted {
+            parts: Parts { switch, counting },
+        }
+    }
+
     /// The switch. Takes no memory.
     pub fn into_inner(self) -> T
         ensures { result ≡ self.parts.switch }

@@ -21,6 +21,7 @@ pub use numbers::Numbers;
 pub use parts::Parts;
 pub use recent::Recent;
 pub use rows::{Row, add_row, has_row, join, join_draw, leave, leave_draw, row_of, set_row};
+pub use start::counting_of;
 pub use text::table;
 pub use worked::{
     a_duplicate_is_not_counted, nothing_is_counted_of_nothing, the_window_bounds_what_is_counted,

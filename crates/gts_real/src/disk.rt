@@ -208,15 +208,15 @@ impl Disk {
         }
     }
 
-    /// Brings a journal file to the disk, where it was changed.
+    /// Brings a journal file to the disk, where it was changed. One that wasn't isn't looked for, whether it is there or not.
     fn sync_file<R: Files<File = File>>(&mut self, rt: &R, file: u32) -> io::Result<()>
         requires { file < 3 }
-        ensures { StaysLost result self.old.is_lost self.new.is_lost }
+        ensures { self.new.is_lost ≡ self.old.is_lost }
     {
-        self.begin(rt, file)?;
         if self.synced[file as usize] {
             return Ok(());
         }
+        self.begin(rt, file)?;
         if let Some(file) = self.opened(file) {
             file.sync_data()?;
         }
@@ -239,6 +239,9 @@ impl Disk {
     fn sync_changed<R: Files<File = File>>(&mut self, rt: &R) -> io::Result<()>
         ensures { StaysLost result self.old.is_lost self.new.is_lost }
     {
+        if self.is_lost {
+            return Err(io::Error::from(ErrorKind::Other));
+        }
         self.sync_file(rt, 0)?;
         self.sync_file(rt, 1)?;
         self.sync_file(rt, 2)?;
