@@ -24,11 +24,7 @@ fn status_of(shipped: Result<(), ShipFault>) -> Status
 
 /// Reads the directory, opens the journal, and says its feed on channel 0, for a standby station. The files are synced, and not
 /// changed.
-pub fn ship<S: Source, P: Station>(
-    alloc: Global,
-    directory: &mut S,
-    station: &mut P,
-) -> Status
+pub fn ship<S: Source, P: Station>(alloc: Global, directory: &mut S, station: &mut P) -> Status
     ensures { ShipsFeed S.Source P.Station result
         directory.old station.old directory.new station.new }
 {
