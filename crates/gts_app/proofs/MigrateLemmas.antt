@@ -163,7 +163,7 @@ module _ {S P : Type 0} (source : SourceWords S) (station : StationWords P) (d o
   pub row_changed : (c : Change) (at : P) → first_change d o ≡ Some c → (Extends d o → ⊥) → Migrates source station (Changed c.part c.row) (world od oc at) (world nd nc at)
   row_changed c at is apart =
       let both_read : UnderBoth source (world od oc at) (λ new old. first_change new old ≡ Some (record { part = c.part; row = c.row })) =
-          record { new = d; old = o; read = both; holds = is } in
+      record { new = d; old = o; read = both; holds = is } in
       record {
         means = (refl, both_read);
         moments = λ tells told new old n read opened. inl (inr (inl refl));
@@ -171,7 +171,7 @@ module _ {S P : Type 0} (source : SourceWords S) (station : StationWords P) (d o
         old_refused = λ tells new e read bad calm. absurd (never_refused tells e bad);
         changed = λ tells new old other read there calm.
             let same : first_change d o ≡ Some other =
-                ap (λ (x : directories.Directory). first_change x o) (new_is tells new read.0) ∙ ap (first_change new) (old_is tells old read.1) ∙ there in
+            ap (λ (x : directories.Directory). first_change x o) (new_is tells new read.0) ∙ ap (first_change new) (old_is tells old read.1) ∙ there in
             let one : c ≡ other = one_change c other (first_change d o) is same in
             inl (ap (λ (x : Change). Changed x.part x.row) one);
         answered = λ tells told new old e read extends bad calm quiet. absurd (apart_from tells new old read extends);
