@@ -1,6 +1,6 @@
 -- What `migrate` comes to: where a directory is refused, where a row doesn't stay, and behind the opening of the journal.
 use Rattle.std.specs.Prelude.{OnOk}
-use Rattle.std.proofs.Common.{◌≡◌, ◌≤◌, ◌⊎◌, ℕ, ◌+◌, List, [], ◌∷◌, ◌++◌, length, Option, None, Some, Result, Ok, Err, inl, inr, refl, sym, ap, subst, ◌∙◌, arith}
+use Rattle.std.proofs.Common.{◌≡◌, ◌≤◌, ◌⊎◌, ℕ, List, [], ◌∷◌, length, Option, None, Some, Result, Ok, Err, inl, inr, refl, sym, ap, subst, ◌∙◌, arith}
 use Rattle.gts_traits.specs.declared.source.Source.{Ghosts as SourceWords}
 use Rattle.gts_traits.specs.declared.station.Station.{Ghosts as StationWords}
 use Rattle.gts_traits.specs.Counts.{Rose}
@@ -21,17 +21,16 @@ use Rattle.gts_journal.specs.{OnlySyncs}
 use Rattle.gts_opening.specs.Journal.{Opened}
 use Rattle.gts_opening.specs.Room.{full_compacted}
 use Rattle.gts_recovery.specs.Wider.{widened}
-use Rattle.gts_recovery.specs.Opened.{IsAnswer, opens_any, files_open_any}
-use Rattle.gts_engine.specs.Keeping.{IsFullCompacted}
+use Rattle.gts_recovery.specs.Opened.{opens_any, files_open_any}
 use Rattle.gts_migrate.specs.Migrating.{OpensEither, IsMigrated, GivesRoomFor, AnswersOpening, WasOpened, LeavesFiles, IsDiskFaultOf}
 use Rattle.gts_migrate.specs.declared.migrating.MigrateFault.{MigrateFault}
 use Rattle.gts_migrate.specs.declared.migrating.MigrateFault.TheVariants as fault
 use Rattle.gts_app.specs.declared.status.Status.{Status}
 use Rattle.gts_app.specs.declared.status.Status.TheVariants.{Done, Words, Directory, OldDirectory, Changed, Capture, NoJournal, OldVersion, NotThis, Damaged, Exists, Accum, DiskFault, SourceFault, SayFault, Full, LineFault, LongSession, Spent, NoMemory}
 use Rattle.gts_app.specs.Ending.{refusal}
-use Rattle.gts_app.specs.Reading.{IsReadEnd, IsOldReadEnd, ReadsDirectory, ReadsOldDirectory}
-use Rattle.gts_app.specs.Replay.{World, world}
-use Rattle.gts_app.specs.Migrate.{status_migrated, AreRead, UnderBoth, OpensUnder, IsRefusedBy, MigratedAs, LeavesJournal, IsCalm, ReadsFew, Migrates}
+use Rattle.gts_app.specs.Reading.{IsOldReadEnd, ReadsDirectory, ReadsOldDirectory}
+use Rattle.gts_app.specs.Replay.{world}
+use Rattle.gts_app.specs.Migrate.{status_migrated, AreRead, UnderBoth, IsRefusedBy, MigratedAs, LeavesJournal, ReadsFew, Migrates}
 use Rattle.gts_app.proofs.RefusalLemmas.{same_directory, no_fault}
 use Rattle.gts_app.proofs.StreamLemmas.{Ended, ended}
 
@@ -289,12 +288,12 @@ module _ {S P : Type 0} (source : SourceWords S) (station : StationWords P) (d o
       → full_compacted d (widened (length d.circuits) s) ≡ None
       → (Rose (station.disk_faults old) (station.disk_faults new) → ⊥) → (status_migrated r ≡ Done) ⊎ (status_migrated r ≡ NoMemory)
   complete (Ok done) x t s used is free quiet = inl refl
-  complete (Err (fault.Open opening.NoJournal)) x t s used is free quiet = absurd (two_answers (need o (restarted s)) opening.NoJournal _ (need_of o _ s used is) (x.answers t).0)
-  complete (Err (fault.Open opening.OldVersion)) x t s used is free quiet = absurd (two_answers (need o (restarted s)) opening.OldVersion _ (need_of o _ s used is) (x.answers t).0)
+  complete (Err (fault.Open opening.NoJournal)) x t s used is free quiet = absurd (two_answers (need o (restarted s)) opening.NoJournal _ (need_of o (seen (station.calls old)) s used is) (x.answers t).0)
+  complete (Err (fault.Open opening.OldVersion)) x t s used is free quiet = absurd (two_answers (need o (restarted s)) opening.OldVersion _ (need_of o (seen (station.calls old)) s used is) (x.answers t).0)
   complete (Err (fault.Open (opening.NotThis want found))) x t s used is free quiet =
-      absurd (two_answers (need o (restarted s)) (opening.NotThis want found) _ (need_of o _ s used is) (x.answers t).0)
+      absurd (two_answers (need o (restarted s)) (opening.NotThis want found) _ (need_of o (seen (station.calls old)) s used is) (x.answers t).0)
   complete (Err (fault.Open (opening.Damaged file at))) x t s used is free quiet =
-      absurd (two_answers (need o (restarted s)) (opening.Damaged file at) _ (need_of o _ s used is) (x.answers t).0)
+      absurd (two_answers (need o (restarted s)) (opening.Damaged file at) _ (need_of o (seen (station.calls old)) s used is) (x.answers t).0)
   complete (Err (fault.Open opening.DiskFault)) x t s used is free quiet = absurd (quiet (x.disk tt))
   complete (Err (fault.Open opening.NoMemory)) x t s used is free quiet = inr refl
   complete (Err (fault.Full at wanted limit)) x t s used is free quiet = let f = x.full t s used is in absurd (no_room _ _ f.1 free)

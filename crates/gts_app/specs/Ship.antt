@@ -6,7 +6,6 @@ use Rattle.gts_traits.specs.Counts.{Rose}
 use Rattle.gts_traits.specs.{on, seen}
 use Rattle.gts_say.specs.Say.{SaysFront}
 use Rattle.gts_directory.specs.Directory as directories
-use Rattle.gts_directory.specs.declared.fault.DirFault.{DirFault}
 use Rattle.gts_dirfile.specs.declared.limits.TheConstants.{LONGEST_DIRECTORY}
 use Rattle.gts_dirfile.specs.{directory_of_bytes}
 use Rattle.gts_record.specs.declared.fault.OpenFault.{OpenFault}

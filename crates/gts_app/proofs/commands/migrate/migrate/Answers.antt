@@ -1,9 +1,44 @@
-use Rattle.std.proofs.Common.{subst}
-use Rattle.gts_app.specs.Reading.{ReadsDirectory}
-use Rattle.gts_app.proofs.MigrateLemmas.{new_unread}
+use Rattle.std.proofs.Common.{refl, sym, subst, ◌∙◌}
+use Rattle.std.proofs.lemmas.Option.{none-some}
+use Rattle.gts_directory.proofs.ExtendingLemmas.{none_from}
+use Rattle.gts_app.specs.Reading.{ReadsDirectory, ReadsOldDirectory}
+use Rattle.gts_app.proofs.MigrateLemmas.{new_unread, old_unread, taken_over}
 use Rattle.gts_app.proofs.commands.migrate.migrate.Goals as goal
 
 pub returns-in-Err : goal.returns-in-Err
 returns-in-Err g c =
     new_unread g.S.Source g.P.Station c.in-Err.status c.args.directory.now c.directory_of.new.source c.args.old_directory.now c.args.station
     (subst (λ r. ReadsDirectory g.S.Source r c.args.directory.now c.directory_of.new.source) c.in-Err.is c.directory_of.ensures)
+
+pub returns-in-Err-old_directory_of : goal.returns-in-Err-old_directory_of
+returns-in-Err-old_directory_of g c =
+    let od = c.args.directory.now in
+    let nd = c.directory_of.new.source in
+    let oc = c.args.old_directory.now in
+    let nc = c.old_directory_of.new.source in
+    old_unread g.S.Source g.P.Station c.in-Err-old_directory_of.status c.in-Ok.directory od nd oc nc c.args.station
+    (subst (λ r. ReadsDirectory g.S.Source r od nd) c.in-Ok.is c.directory_of.ensures)
+    (subst (λ r. ReadsOldDirectory g.S.Source r oc nc) c.in-Err-old_directory_of.is c.old_directory_of.ensures)
+
+pub returns-in-Ok-extends : goal.returns-in-Ok-extends
+returns-in-Ok-extends g c =
+    let od = c.args.directory.now in
+    let nd = c.directory_of.new.source in
+    let oc = c.args.old_directory.now in
+    let nc = c.old_directory_of.new.source in
+    let d = c.in-Ok.directory in
+    let o = c.in-Ok-old_directory_of.directory in
+    let first = subst (λ r. ReadsDirectory g.S.Source r od nd) c.in-Ok.is c.directory_of.ensures in
+    let second = subst (λ r. ReadsOldDirectory g.S.Source r oc nc) c.in-Ok-old_directory_of.is c.old_directory_of.ensures in
+    let extends = c.in-Ok-extends.ensures.extends.0 refl in
+    let m = c.migrate-station in
+    taken_over g.S.Source g.P.Station d o od nd oc nc first second extends
+    (λ change is. none-some change (sym (none_from d o extends) ∙ is)) c.args.station m.result.0 m.result.1 c.status_of.result c.status_of.ensures
+    (record {
+      moments = m.ensures.moments;
+      migrated = m.ensures.migrated;
+      full = m.ensures.full;
+      answers = m.ensures.opening;
+      told = m.ensures.told;
+      disk = m.ensures.disk;
+    }) m.ensures.silent m.ensures.later m.ensures.say
