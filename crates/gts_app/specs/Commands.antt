@@ -11,6 +11,7 @@ use Rattle.gts_app.specs.Show.{Shows}
 use Rattle.gts_app.specs.Pack.{PacksStream}
 use Rattle.gts_app.specs.Ship.{ShipsFeed}
 use Rattle.gts_app.specs.Gaps.{NamesGaps}
+use Rattle.gts_app.specs.Unpack.{Unpacks}
 use Rattle.gts_app.specs.Compact.{Compacts}
 use Rattle.gts_app.specs.Replay.{World}
 use Rattle.gts_app.specs.declared.status.Status.{Status}
@@ -26,7 +27,7 @@ IsBuilt Show = Unit {0}
 IsBuilt (Serve connections) = Unit {0}
 IsBuilt Compact = Unit {0}
 IsBuilt (Generate count) = Unit {0}
-IsBuilt (Unpack c) = ⊥
+IsBuilt (Unpack c) = Unit {0}
 IsBuilt Pack = Unit {0}
 IsBuilt (Gaps day hour minute) = Unit {0}
 IsBuilt Ship = Unit {0}
@@ -35,14 +36,24 @@ IsBuilt Ship = Unit {0}
 abbrev pub IsCommand : List (List ℕ) → Type 0
 IsCommand words = (command : Command) × (command_of words ≡ Some command) × IsBuilt command
 
+-- the command names a circuit, which the directory might not have
+abbrev pub NamesCircuit : Command → Type 0
+NamesCircuit (Unpack c) = Unit {0}
+NamesCircuit _ = ⊥
+
+-- the words name a command that is built, and no circuit
+abbrev pub IsSettled : List (List ℕ) → Type 0
+IsSettled words = (command : Command) × (command_of words ≡ Some command) × IsBuilt command × (NamesCircuit command → ⊥)
+
 -- the moment of a request
 abbrev pub moment_at : (day hour minute : ℕ) → Moment
 moment_at day hour minute = record { day = day; hour = hour; minute = minute }
 
--- what comes of the commands that read beside the directory alone, and no journal
+-- what comes of the commands that read something else than a capture through a switch
 abbrev pub ReadsApart : {S P : Type 0} → SourceWords S → StationWords P → Option Command → Status → (old new : World S S P) → Type 0
 ReadsApart source station command status old new =
-    (command ≡ Some Pack → PacksStream source station status old new)
+    ((c : ℕ) → command ≡ Some (Unpack c) → Unpacks source station c status old new)
+    × (command ≡ Some Pack → PacksStream source station status old new)
     × ((day hour minute : ℕ) → command ≡ Some (Gaps day hour minute)
     → NamesGaps source station (moment_at day hour minute) status old new)
 

@@ -1,7 +1,7 @@
 ghost use Rattle.std.specs.Prelude.{◌≡◌, ◌⊎◌, ◌<◌, ◌^◌, ℕ, Some, length};
 ghost use Rattle.gts_words.specs.{command_of};
 ghost use Rattle.gts_serve.specs.{seen_lines as seen};
-ghost use Rattle.gts_app.specs.Commands.{IsCommand, Inits, Replays, world, IsNoCapture, Serves, Generates, OpensJournal, ReadsApart};
+ghost use Rattle.gts_app.specs.Commands.{IsCommand, IsSettled, Inits, Replays, world, IsNoCapture, Serves, Generates, OpensJournal, ReadsApart};
 
 use crate::Status;
 use crate::commands::compact::compact;
@@ -13,6 +13,7 @@ use crate::commands::replay::replay;
 use crate::commands::serve::serve;
 use crate::commands::ship::ship;
 use crate::commands::show::show;
+use crate::commands::unpack::unpack;
 use gts_missing::Moment;
 use gts_traits::{Gate, Lines, Source, Station, WordList};
 use gts_words::{Command, WordsFault, a_count_is_within_its_limits, read_words};
@@ -20,8 +21,8 @@ use std::alloc::Global;
 use std::sync::Wait;
 use std::thread::Threads;
 
-/// Runs the command that the words name: `init`, `replay`, `serve`, `show`, `compact`, `generate`, `pack`, `gaps` or `ship`. The
-/// station and the capture are handed back.
+/// Runs the command that the words name: `init`, `replay`, `serve`, `show`, `compact`, `generate`, `unpack`, `pack`, `gaps` or
+/// `ship`. The station and the capture are handed back.
 pub fn run<R, S, P, L, G>(
     rt: &R,
     alloc: Global,
@@ -40,8 +41,8 @@ where
     L::In: Drop,
     L::Out: Drop,
     G: Gate,
-    // The words are looked at first; other words change nothing.
-    ensures words { (result.0 ≡ Status.Words → IsCommand words.now → ⊥)
+    // The words are looked at first; other words change nothing. A circuit is looked for in the directory.
+    ensures words { (result.0 ≡ Status.Words → IsSettled words.now → ⊥)
         × ((IsCommand words.now → ⊥)
         → (result.0 ≡ Status.Words) ⊎ (result.0 ≡ Status.NoMemory)) }
     ensures unchanged { (IsCommand words.now → ⊥) →
@@ -118,7 +119,6 @@ where
             let status = ship(alloc, directory, &mut station);
             (status, station, capture)
         }
-        // This one is not built yet.
-        Command::Unpack { .. } => (Status::Words, station, capture),
+        Command::Unpack { c } => unpack(alloc, c, directory, capture, station),
     }
 }

@@ -1,0 +1,301 @@
+-- What each end of a file's run means for the command.
+use Rattle.std.proofs.Common.{◌≡◌, ◌⊎◌, ℕ, ◌<◌, ◌≤◌, List, [], length, Result, Ok, Err, None, IsTrue, inl, inr, refl, ap, subst, arith}
+use Rattle.gts_traits.specs.declared.source.Source.{Ghosts as SourceWords}
+use Rattle.gts_traits.specs.declared.station.Station.{Ghosts as StationWords}
+use Rattle.gts_traits.specs.Counts.{Rose}
+use Rattle.gts_traits.specs.Station.{seen}
+use Rattle.gts_directory.specs.Directory as directories
+use Rattle.gts_dirfile.specs.{directory_of_bytes}
+use Rattle.gts_event.specs.Need.{Need, is_sound, keeps_one}
+use Rattle.gts_event.specs.declared.event.Entry.{Entry}
+use Rattle.gts_event.specs.declared.fault.SwitchFault.TheVariants as switch
+use Rattle.gts_record.specs.declared.fault.OpenFault.TheVariants as opening
+use Rattle.gts_engine.specs.Engine.{Engine}
+use Rattle.gts_engine.specs.Keeping.{OpensWith, origin_of}
+use Rattle.gts_engine.specs.Switching.{switch_words}
+use Rattle.gts_replay.specs.declared.end.ReplayEnd.{ReplayEnd}
+use Rattle.gts_replay.specs.declared.end.ReplayEnd.TheVariants as end
+use Rattle.gts_replay.specs.{HasReplayCause}
+use Rattle.gts_accum.specs.File.{badplace}
+use Rattle.gts_accum.specs.Capture.{captured}
+use Rattle.gts_unpack.specs.declared.end.UnpackEnd.{UnpackEnd}
+use Rattle.gts_unpack.specs.declared.end.UnpackEnd.TheVariants.{Bad, Ended}
+use Rattle.gts_unpack.specs.{IsEndOf, IsEndAt, Unpacks as Runs, HasUnpackCause}
+use Rattle.gts_app.specs.declared.status.Status.{Status}
+use Rattle.gts_app.specs.declared.status.Status.TheVariants.{Done, Words, Directory, Capture, NoJournal, OldVersion, NotThis, Damaged, Exists, Accum, DiskFault, SourceFault, SayFault, Full, LineFault, LongSession, Spent, NoMemory}
+use Rattle.gts_app.specs.Laws.{KeepsLaws}
+use Rattle.gts_app.specs.Ending.{status_of}
+use Rattle.gts_app.specs.Opening.{IsRefusal, Opens}
+use Rattle.gts_app.specs.Reading.{IsReadEnd, ReadsDirectory}
+use Rattle.gts_app.specs.Replay.{world, Replays}
+use Rattle.gts_app.specs.Unpack.{status_unpacked, unpacked, capture_words, HasNoCircuit, IsStatusOf, Unpacks}
+use Rattle.gts_app.proofs.OpeningLemmas.{no_directory}
+use Rattle.gts_app.proofs.RefusalLemmas.{refused, same_directory, no_fault}
+use Rattle.gts_app.proofs.ReplayLemmas.{replays}
+
+-- ---- a status by that of the capture's replay
+
+status-is : (r : ReplayEnd) (result : UnpackEnd) → IsEndOf r result → IsStatusOf (status_of r) (status_unpacked result)
+status-is end.Done result is = ap status_unpacked is
+status-is (end.Capture at) result is = (is.0, ap status_unpacked is.1)
+status-is end.SourceFault result is = ap status_unpacked is
+status-is (end.Reopen opening.NoJournal) result is = ap status_unpacked is
+status-is (end.Reopen opening.OldVersion) result is = ap status_unpacked is
+status-is (end.Reopen (opening.NotThis want found)) result is = ap status_unpacked is
+status-is (end.Reopen (opening.Damaged file at)) result is = ap status_unpacked is
+status-is (end.Reopen opening.DiskFault) result is = ap status_unpacked is
+status-is (end.Reopen opening.NoMemory) result is = ap status_unpacked is
+status-is (end.Compaction switch.SayFault) result is = ap status_unpacked is
+status-is (end.Compaction (switch.Full used need limit)) result is = ap status_unpacked is
+status-is (end.Compaction switch.DiskFault) result is = ap status_unpacked is
+status-is (end.Compaction (switch.Stopped by)) result is = ap status_unpacked is
+status-is (end.Compaction switch.Spent) result is = ap status_unpacked is
+status-is (end.Compaction switch.NoMemory) result is = ap status_unpacked is
+status-is (end.Fault switch.SayFault) result is = ap status_unpacked is
+status-is (end.Fault (switch.Full used need limit)) result is = ap status_unpacked is
+status-is (end.Fault switch.DiskFault) result is = ap status_unpacked is
+status-is (end.Fault (switch.Stopped by)) result is = ap status_unpacked is
+status-is (end.Fault switch.Spent) result is = ap status_unpacked is
+status-is (end.Fault switch.NoMemory) result is = ap status_unpacked is
+status-is end.NoMemory result is = ap status_unpacked is
+
+-- which statuses the ends of a replay have, beside that of the end itself
+abbrev IsOther : Status → ReplayEnd → Type 0
+IsOther Done r = r ≡ end.Done
+IsOther Words r = ⊥
+IsOther (Accum at) r = ⊥
+IsOther _ r = Unit {0}
+
+is-other : (r : ReplayEnd) → IsOther (status_of r) r
+is-other end.Done = refl
+is-other (end.Capture at) = tt
+is-other end.SourceFault = tt
+is-other (end.Reopen opening.NoJournal) = tt
+is-other (end.Reopen opening.OldVersion) = tt
+is-other (end.Reopen (opening.NotThis want found)) = tt
+is-other (end.Reopen (opening.Damaged file at)) = tt
+is-other (end.Reopen opening.DiskFault) = tt
+is-other (end.Reopen opening.NoMemory) = tt
+is-other (end.Compaction switch.SayFault) = tt
+is-other (end.Compaction (switch.Full used need limit)) = tt
+is-other (end.Compaction switch.DiskFault) = tt
+is-other (end.Compaction (switch.Stopped by)) = tt
+is-other (end.Compaction switch.Spent) = tt
+is-other (end.Compaction switch.NoMemory) = tt
+is-other (end.Fault switch.SayFault) = tt
+is-other (end.Fault (switch.Full used need limit)) = tt
+is-other (end.Fault switch.DiskFault) = tt
+is-other (end.Fault (switch.Stopped by)) = tt
+is-other (end.Fault switch.Spent) = tt
+is-other (end.Fault switch.NoMemory) = tt
+is-other end.NoMemory = tt
+
+other : (r : ReplayEnd) (s : Status) → status_of r ≡ s → IsOther s r
+other r s is = let P : Status → Type 0 = λ x. IsOther x r in subst P is (is-other r)
+
+no-words : (result : UnpackEnd) → status_unpacked result ≡ Words → ⊥
+no-words (Bad at) is = cc
+no-words (Ended r) is = other r Words is
+
+bad-is : (result : UnpackEnd) (at : ℕ) → status_unpacked result ≡ Accum at → result ≡ Bad at
+bad-is (Bad p) at is = let same : p ≡ at = cc in ap (λ (n : ℕ). Bad n) same
+bad-is (Ended r) at is = absurd (other r (Accum at) is)
+
+done-is : (result : UnpackEnd) → status_unpacked result ≡ Done → result ≡ Ended end.Done
+done-is (Bad p) is = absurd (cc)
+done-is (Ended r) is = ap (λ (x : ReplayEnd). Ended x) (other r Done is)
+
+-- ---- causes
+
+replayed-cause : (r : ReplayEnd) (result : UnpackEnd) (disk disk_now say say_now source source_now : ℕ) → IsEndOf r result
+    → HasUnpackCause result disk disk_now say say_now source source_now → HasReplayCause r disk disk_now say say_now source source_now
+replayed-cause r result disk disk_now say say_now source source_now is k =
+    let P : ReplayEnd → Type 0 = λ x. IsEndOf x result in
+    record {
+      disk_later = k.disk_later;
+      say_later = k.say_later;
+      source_later = k.source_later;
+      disk_failed = λ e. k.disk_failed (subst P e is);
+      compaction_failed = λ e. k.compaction_failed (subst P e is);
+      reopen_failed = λ e. k.reopen_failed (subst P e is);
+      say_failed = λ e. k.say_failed (subst P e is);
+      source_failed = λ e. k.source_failed (subst P e is);
+    }
+
+-- no end for want of a circuit that is there
+present : (d : directories.Directory) (bytes : List ℕ) (c : ℕ) → c < length d.circuits → directory_of_bytes bytes ≡ Ok d → HasNoCircuit bytes c → ⊥
+present d bytes c here read none =
+    let same : length none.0.circuits ≡ length d.circuits = ap (λ (x : directories.Directory). length x.circuits) (same_directory none.0 d (directory_of_bytes bytes) none.1 read) in
+    omega (arith, here, none.2, same)
+
+-- ---- the run of a file
+
+pub unpacks : {S P : Type 0} (source : SourceWords S) (w : StationWords P) (c : ℕ) (result : UnpackEnd) (od nd oc nc : S) (old : P) (first last : Engine P)
+    → Opens source w (Ok first) od nd old
+    → ((n : Need) (es : List Entry) → IsTrue (keeps_one first.directory) → IsTrue (is_sound first.directory n) → KeepsLaws first.directory n es)
+    → Runs (switch_words w.tells w.calls) w.tells source.tells result first last (source.left oc) c
+    → length first.directory.circuits ≤ 100 → c < length first.directory.circuits → (source.tells → directory_of_bytes (source.left od) ≡ Ok first.directory)
+    → HasUnpackCause result (w.disk_faults first.station) (w.disk_faults last.station) (w.say_faults first.station) (w.say_faults last.station) (source.faults oc) (source.faults nc)
+    → (w.tells → last.stopped ≡ None → OpensWith last.directory (seen (w.calls last.station)) last.used)
+    → Unpacks source w c (status_unpacked result) (world od oc old) (world nd nc last.station)
+unpacks source w c result od nd oc nc old first last opens laws run narrow here read cause files =
+    let place : source.tells → w.tells → IsEndAt (badplace (source.left oc)) result = λ tells told.
+    let x = opens.opened first refl told in run.place (record { told = told; origin = origin_of w.calls first x.0 }) [] x.2.1 tells in
+    record {
+      words = λ is. absurd (no-words result is);
+      replays = λ some. record {
+        replayed = status_of run.replayed;
+        is = status-is run.replayed result run.is;
+        left = run.left;
+        replays = replays source (capture_words source) w run.replayed od nd (unpacked (captured (source.left oc) c) oc) (unpacked run.left nc) old first last opens laws run.ends narrow
+            (replayed-cause run.replayed result _ _ _ _ (source.faults oc) (source.faults nc) run.is cause) files;
+      };
+      accum = λ at is tells told. let P : UnpackEnd → Type 0 = λ e. IsEndAt (badplace (source.left oc)) e in subst P (bad-is result at is) (place tells told);
+      done = λ is tells told. let P : UnpackEnd → Type 0 = λ e. IsEndAt (badplace (source.left oc)) e in subst P (done-is result is) (place tells told);
+      circuit = λ tells none kept. absurd (present first.directory (source.left od) c here (read tells) none);
+      directory_taken = opens.taken;
+      directory_count = opens.later;
+    }
+
+-- ---- what ends it before
+
+refusal-is : (s : Status) → IsRefusal s → IsStatusOf s s
+refusal-is Done ends = refl
+refusal-is Words ends = refl
+refusal-is (Directory fault) ends = refl
+refusal-is (Capture at) ends = absurd ends
+refusal-is NoJournal ends = refl
+refusal-is OldVersion ends = refl
+refusal-is (NotThis want found) ends = refl
+refusal-is (Damaged file at) ends = refl
+refusal-is (Exists size) ends = refl
+refusal-is (Accum at) ends = refl
+refusal-is DiskFault ends = refl
+refusal-is SourceFault ends = refl
+refusal-is SayFault ends = refl
+refusal-is (Full used need limit) ends = refl
+refusal-is (LineFault c) ends = refl
+refusal-is (LongSession c) ends = refl
+refusal-is (Spent c) ends = refl
+refusal-is NoMemory ends = refl
+
+-- the directory was not accepted, or the journal not opened
+pub unbegun : {S P : Type 0} (source : SourceWords S) (w : StationWords P) (c : ℕ) (status : Status) (od nd oc : S) (old new : P)
+    (result : Result (Engine P) (Status × P)) → result ≡ Err (status, new) → Opens source w result od nd old
+    → (source.tells → HasNoCircuit (source.left od) c → (Rose (source.faults od) (source.faults nd) → ⊥) → (status ≡ Words) ⊎ (status ≡ NoMemory))
+    → Unpacks source w c status (world od oc old) (world nd oc new)
+unbegun source w c status od nd oc old new result is h circuit =
+    let ends : IsRefusal status = (h.refused status new is).ends in
+    let file = unpacked (captured (source.left oc) c) oc in
+    record {
+      words = λ e. absurd (subst IsRefusal e ends);
+      replays = λ some. record {
+        replayed = status;
+        is = refusal-is status ends;
+        left = captured (source.left oc) c;
+        replays = refused source (capture_words source) w status od nd file old new result is h;
+      };
+      accum = λ at e. absurd (subst IsRefusal e ends);
+      done = λ e. absurd (subst IsRefusal e ends);
+      circuit = circuit;
+      directory_taken = h.taken;
+      directory_count = h.later;
+    }
+
+-- the directory was not accepted
+pub unaccepted : {S P : Type 0} (source : SourceWords S) (w : StationWords P) (c : ℕ) (status : Status) (od nd oc : S) (old : P)
+    → ReadsDirectory source (Err status) od nd → Unpacks source w c status (world od oc old) (world nd oc old)
+unaccepted source w c status od nd oc old h =
+    unbegun source w c status od nd oc old old (Err (status, old)) refl (no_directory source w status od nd old h)
+    (λ tells none kept. go status refl (h.ends status refl) tells none kept)
+  where
+    go : (s : Status) → status ≡ s → IsReadEnd s → source.tells → HasNoCircuit (source.left od) c → (Rose (source.faults od) (source.faults nd) → ⊥) → (status ≡ Words) ⊎ (status ≡ NoMemory)
+    go (Directory fault) is ends tells none kept =
+        absurd (no_fault none.0 fault (directory_of_bytes (source.left od)) none.1 (h.fault tells fault (ap (λ (x : Status). Err x) is)))
+    go SourceFault is ends tells none kept = absurd (kept (h.cause.failed (ap (λ (x : Status). Err x) is)))
+    go NoMemory is ends tells none kept = inr is
+    go Done is ends tells none kept = absurd ends
+    go Words is ends tells none kept = absurd ends
+    go (Capture at) is ends tells none kept = absurd ends
+    go NoJournal is ends tells none kept = absurd ends
+    go OldVersion is ends tells none kept = absurd ends
+    go (NotThis want found) is ends tells none kept = absurd ends
+    go (Damaged file at) is ends tells none kept = absurd ends
+    go (Exists size) is ends tells none kept = absurd ends
+    go (Accum at) is ends tells none kept = absurd ends
+    go DiskFault is ends tells none kept = absurd ends
+    go SayFault is ends tells none kept = absurd ends
+    go (Full used need limit) is ends tells none kept = absurd ends
+    go (LineFault n) is ends tells none kept = absurd ends
+    go (LongSession n) is ends tells none kept = absurd ends
+    go (Spent n) is ends tells none kept = absurd ends
+
+-- the journal was not opened, under a directory that has the circuit
+pub unopened : {S P : Type 0} (source : SourceWords S) (w : StationWords P) (c : ℕ) (status : Status) (d : directories.Directory) (od nd oc : S) (old new : P)
+    (result : Result (Engine P) (Status × P)) → result ≡ Err (status, new) → Opens source w result od nd old
+    → c < length d.circuits → (source.tells → directory_of_bytes (source.left od) ≡ Ok d)
+    → Unpacks source w c status (world od oc old) (world nd oc new)
+unopened source w c status d od nd oc old new result is h here read =
+    unbegun source w c status od nd oc old new result is h (λ tells none kept. absurd (present d (source.left od) c here (read tells) none))
+
+-- the directory has no such circuit
+pub no-circuit : {S P : Type 0} (source : SourceWords S) (w : StationWords P) (c : ℕ) (d : directories.Directory) (od nd oc : S) (old : P)
+    → ReadsDirectory source (Ok d) od nd → length d.circuits ≤ c → Unpacks source w c Words (world od oc old) (world nd oc old)
+no-circuit source w c d od nd oc old h over = record {
+  words = λ is. (refl, refl, λ tells. (d, h.read tells d refl, over));
+  replays = λ some. absurd (some refl);
+  accum = λ at is. absurd (cc);
+  done = λ is. absurd (cc);
+  circuit = λ tells none kept. inl refl;
+  directory_taken = h.taken;
+  directory_count = h.cause.later;
+}
+
+-- ---- there was no memory to read the words
+
+unread-replay : {S C P : Type 0} (source : SourceWords S) (captures : SourceWords C) (w : StationWords P) (od : S) (oc : C) (old : P)
+    → Replays source captures w NoMemory (world od oc old) (world od oc old)
+unread-replay source captures w od oc old = record {
+  done = λ is. absurd (cc);
+  words = λ is. cc;
+  exists = λ size is. cc;
+  accum = λ at is. cc;
+  line_fault = λ n is. cc;
+  long_session = λ n is. cc;
+  spent = λ n is. cc;
+  directory = λ fault is. absurd (cc);
+  no_journal = λ is. absurd (cc);
+  old_version = λ is. absurd (cc);
+  not_this = λ want found is. absurd (cc);
+  damaged = λ file at is. absurd (cc);
+  capture = λ at is. absurd (cc);
+  source_fault = λ is. absurd (cc);
+  say_fault = λ is. absurd (cc);
+  disk_fault = λ is. absurd (cc);
+  full = λ used need limit is. absurd (cc);
+  no_memory = λ is. inl (record { capture = refl; only_syncs = λ told. inr (inl refl); no_say = refl });
+  complete = λ tells given told few d n steps read opened whole room kept_directory kept_capture kept_say kept_disk. inr refl;
+  refused = λ tells told d fault read opened kept_directory kept_disk. inr refl;
+  directory_taken = λ tells. ([], refl, omega arith);
+  source_counts = (omega arith, omega arith);
+  station_counts = (omega arith, omega arith);
+}
+
+pub unread : {S P : Type 0} (source : SourceWords S) (w : StationWords P) (c : ℕ) (od oc : S) (old : P)
+    → Unpacks source w c NoMemory (world od oc old) (world od oc old)
+unread source w c od oc old =
+    let file = unpacked (captured (source.left oc) c) oc in
+    record {
+      words = λ is. absurd (cc);
+      replays = λ some. record {
+        replayed = NoMemory;
+        is = refl;
+        left = captured (source.left oc) c;
+        replays = unread-replay source (capture_words source) w od file old;
+      };
+      accum = λ at is. absurd (cc);
+      done = λ is. absurd (cc);
+      circuit = λ tells none kept. inr refl;
+      directory_taken = λ tells. ([], refl, omega arith);
+      directory_count = omega arith;
+    }

@@ -1,0 +1,74 @@
+-- What each end of the command `unpack` means for what it works on.
+use Rattle.std.specs.Prelude.{◌≡◌, ◌⊎◌, ℕ, ◌+◌, ◌≤◌, List, ◌++◌, length, Some, None, Ok}
+use Rattle.gts_traits.specs.declared.source.Source.{Ghosts as SourceWords}
+use Rattle.gts_traits.specs.declared.station.Station.{Ghosts as StationWords}
+use Rattle.gts_traits.specs.Counts.{Rose}
+use Rattle.gts_directory.specs.Directory as directories
+use Rattle.gts_dirfile.specs.declared.limits.TheConstants.{LONGEST_DIRECTORY}
+use Rattle.gts_dirfile.specs.{directory_of_bytes}
+use Rattle.gts_accum.specs.File.{badplace}
+use Rattle.gts_accum.specs.Capture.{captured}
+use Rattle.gts_unpack.specs.declared.end.UnpackEnd.{UnpackEnd}
+use Rattle.gts_unpack.specs.declared.end.UnpackEnd.TheVariants.{Bad, Ended}
+use Rattle.gts_app.specs.declared.status.Status.{Status}
+use Rattle.gts_app.specs.declared.status.Status.TheVariants.{Done, Words, Capture, Accum, NoMemory}
+use Rattle.gts_app.specs.Ending.{status_of}
+use Rattle.gts_app.specs.Replay.{World, world, Replays}
+
+abbrev pub status_unpacked : UnpackEnd → Status
+status_unpacked (Bad at) = Accum at
+status_unpacked (Ended replayed) = status_of replayed
+
+-- a file as the source of the capture that it stands for: what is left of that, and the source of the file
+pub record Unpacked (S : Type 0) : Type 0 where
+  pub left : List ℕ
+  pub file : S
+
+abbrev pub unpacked : {S : Type 0} → List ℕ → S → Unpacked S
+unpacked left file = record { left = left; file = file }
+
+abbrev pub capture_words : {S : Type 0} → SourceWords S → SourceWords (Unpacked S)
+capture_words source = record {
+  tells = source.tells;
+  left = λ u. u.left;
+  begun = λ u. source.begun u.file;
+  faults = λ u. source.faults u.file;
+}
+
+-- c is no circuit of the directory that these bytes are
+abbrev pub HasNoCircuit : List ℕ → ℕ → Type 0
+HasNoCircuit bytes c = (d : directories.Directory) × (directory_of_bytes bytes ≡ Ok d) × (length d.circuits ≤ c)
+
+-- the status of a file by that of the replay of its capture: where this ended too early, the file is bad
+abbrev pub IsStatusOf : Status → Status → Type 0
+IsStatusOf (Capture at) status = (place : ℕ) × (status ≡ Accum place)
+IsStatusOf replayed status = status ≡ replayed
+
+-- the command did what `replay` does with the capture that the file stands for
+pub record ReplaysFile {S P : Type 0} (source : SourceWords S) (station : StationWords P) (c : ℕ) (status : Status)
+    (old new : World S S P) : Type 0 where
+  pub replayed : Status
+  pub is : IsStatusOf replayed status
+  pub left : List ℕ
+  pub replays : Replays source (capture_words source) station replayed
+      (world old.directory (unpacked (captured (source.left old.capture) c) old.capture) old.station)
+      (world new.directory (unpacked left new.capture) new.station)
+
+-- For each status, what it means for the world before and after, and what holds of every run.
+pub record Unpacks {S P : Type 0} (source : SourceWords S) (station : StationWords P) (c : ℕ) (status : Status)
+    (old new : World S S P) : Type 0 where
+  -- the directory has no such circuit; nothing was read of the file, and nothing done with the station
+  pub words : status ≡ Words → (new.capture ≡ old.capture) × (new.station ≡ old.station)
+      × (source.tells → HasNoCircuit (source.left old.directory) c)
+  -- any other end is that of a replay
+  pub replays : (status ≡ Words → ⊥) → ReplaysFile source station c status old new
+  -- the file is bad at this place; and one that was done is bad nowhere
+  pub accum : (at : ℕ) → status ≡ Accum at → source.tells → station.tells → badplace (source.left old.capture) ≡ Some at
+  pub done : status ≡ Done → source.tells → station.tells → badplace (source.left old.capture) ≡ None
+  -- where the directory is read and has no such circuit, the words are other ones, but for memory
+  pub circuit : source.tells → HasNoCircuit (source.left old.directory) c
+      → (Rose (source.faults old.directory) (source.faults new.directory) → ⊥) → (status ≡ Words) ⊎ (status ≡ NoMemory)
+  -- what is read of the directory, and that its source's count doesn't fall
+  pub directory_taken : source.tells → (taken : List ℕ) × (source.left old.directory ≡ taken ++ source.left new.directory)
+      × (length taken ≤ LONGEST_DIRECTORY + 1)
+  pub directory_count : source.faults old.directory ≤ source.faults new.directory

@@ -1,0 +1,124 @@
+use Rattle.std.proofs.Common.{◌≡◌, ◌∷◌, List, None, length, sym, subst}
+use Rattle.gts_traits.specs.Calls.{Call, Did, Syncs}
+use Rattle.gts_traits.specs.Moments.{EachSince}
+use Rattle.gts_event.specs.State.{State}
+use Rattle.gts_event.specs.History.{restarted}
+use Rattle.gts_event.specs.Need.{Need, need}
+use Rattle.gts_event.specs.Items.{need_of}
+use Rattle.gts_opening.specs.Room.{full_compacted}
+use Rattle.gts_recovery.specs.Wider.{widened}
+use Rattle.gts_recovery.specs.Opened.{opens_any}
+use Rattle.gts_traits.specs.Disk.{seen}
+use Rattle.gts_migrate.specs.Migrating.{OpensEither, IsRoomAnswer}
+use Rattle.gts_migrate.proofs.MigratingLemmas.{fits_for, can_migrate, state_is, need_is, opens_so, at_rest, room_after, opening_after, told_after, disk_after, migrated_after}
+use Rattle.gts_migrate.proofs.migrating.take_over.Goals as goal
+
+pub rewrite-requires-clause-fits : goal.rewrite-requires-clause-fits
+rewrite-requires-clause-fits g c =
+    let old = c.args.old.now in
+    let new = c.args.new.now in
+    let mid = g.P.Station.calls c.open_core_any.new.station in
+    let core = c.in-Ok.opened.0 in
+    let j = c.in-Ok.opened.1 in
+    let o = c.in-Ok.ensures.opened in
+    let n = need_of c.in-Ok-prepare.need in
+    let wide = c.in-Ok-prepare.ensures.wide in
+    fits_for g.P.Station.tells old new c.requires mid core j o n wide (c.in-Ok-prepare.ensures.room o.state o.kept.holds)
+
+pub returns-in-Ok-prepare-clause-moments : goal.returns-in-Ok-prepare-clause-moments
+returns-in-Ok-prepare-clause-moments g c = λ tell k was is.
+    let old = c.args.old.now in
+    let new = c.args.new.now in
+    let mid = g.P.Station.calls c.open_core_any.new.station in
+    let core = c.in-Ok.opened.0 in
+    let j = c.in-Ok.opened.1 in
+    let o = c.in-Ok.ensures.opened in
+    let n = need_of c.in-Ok-prepare.need in
+    let wide = c.in-Ok-prepare.ensures.wide in
+    let before = g.P.Station.calls c.args.station.now in
+    let synced = c.in-Ok.ensures.synced tell in
+    let after = g.P.Station.calls c.rewrite.new.station in
+    let can = can_migrate g.P.Station.tells old new c.requires mid core j o n wide tell in
+    let each = c.rewrite.ensures.moments tell old o.state can in
+    let here = subst (λ (calls : List Call). EachSince calls after (OpensEither old new (need old (restarted o.state)))) synced each in
+    subst (λ (m : Need). EachSince (Did Syncs ∷ before) after (OpensEither old new m)) (need_is g.P.Station.tells old new c.requires mid core j o tell before synced k is) here
+
+pub returns-in-Ok-prepare-clause-migrated : goal.returns-in-Ok-prepare-clause-migrated
+returns-in-Ok-prepare-clause-migrated g c = λ tell s used is.
+    let old = c.args.old.now in
+    let new = c.args.new.now in
+    let mid = g.P.Station.calls c.open_core_any.new.station in
+    let core = c.in-Ok.opened.0 in
+    let j = c.in-Ok.opened.1 in
+    let o = c.in-Ok.ensures.opened in
+    let n = need_of c.in-Ok-prepare.need in
+    let wide = c.in-Ok-prepare.ensures.wide in
+    let before = g.P.Station.calls c.args.station.now in
+    let synced = c.in-Ok.ensures.synced tell in
+    let can = can_migrate g.P.Station.tells old new c.requires mid core j o n wide tell in
+    migrated_after c.rewrite.result old new o.state s n before mid (g.P.Station.calls c.rewrite.new.station) j synced
+    (state_is g.P.Station.tells old new c.requires mid core j o tell before synced s used is) can (c.rewrite.ensures.written tell)
+
+pub returns-in-Ok-prepare-clause-full : goal.returns-in-Ok-prepare-clause-full
+returns-in-Ok-prepare-clause-full g c = λ tell s used is.
+    let old = c.args.old.now in
+    let new = c.args.new.now in
+    let mid = g.P.Station.calls c.open_core_any.new.station in
+    let core = c.in-Ok.opened.0 in
+    let j = c.in-Ok.opened.1 in
+    let o = c.in-Ok.ensures.opened in
+    let before = g.P.Station.calls c.args.station.now in
+    let synced = c.in-Ok.ensures.synced tell in
+    let same = state_is g.P.Station.tells old new c.requires mid core j o tell before synced s used is in
+    let free : full_compacted new (widened (length new.circuits) o.state) ≡ None = c.in-Ok-prepare.ensures.room o.state o.kept.holds in
+    room_after c.rewrite.result new (widened (length new.circuits) s) c.rewrite.ensures.kind
+    (subst (λ (t : State). full_compacted new (widened (length new.circuits) t) ≡ None) (sym same) free)
+
+pub returns-in-Ok-prepare-clause-opening : goal.returns-in-Ok-prepare-clause-opening
+returns-in-Ok-prepare-clause-opening g c = λ tell.
+    let old = c.args.old.now in
+    let new = c.args.new.now in
+    let mid = g.P.Station.calls c.open_core_any.new.station in
+    let core = c.in-Ok.opened.0 in
+    let j = c.in-Ok.opened.1 in
+    let o = c.in-Ok.ensures.opened in
+    let before = g.P.Station.calls c.args.station.now in
+    let synced = c.in-Ok.ensures.synced tell in
+    opening_after c.rewrite.result (opens_any old (seen before)) (need old (restarted o.state)) c.rewrite.ensures.kind
+    (opens_so g.P.Station.tells old new c.requires mid core j o tell before synced)
+
+pub returns-in-Ok-prepare-clause-told : goal.returns-in-Ok-prepare-clause-told
+returns-in-Ok-prepare-clause-told g c = λ tell leaves.
+    told_after g.P.Station.calls c.rewrite.result c.args.station.now c.open_core_any.new.station c.rewrite.new.station c.rewrite.ensures.kind c.rewrite.ensures.no_memory
+    (c.in-Ok.ensures.told tell) leaves
+
+pub returns-in-Ok-prepare-clause-disk : goal.returns-in-Ok-prepare-clause-disk
+returns-in-Ok-prepare-clause-disk g c = λ is.
+    disk_after c.rewrite.result (g.P.Station.disk_faults c.args.station.now) (g.P.Station.disk_faults c.open_core_any.new.station) (g.P.Station.disk_faults c.rewrite.new.station)
+    c.rewrite.ensures.kind c.rewrite.ensures.disk c.in-Ok.ensures.later is
+
+pub returns-clause-moments : goal.returns-clause-moments
+returns-clause-moments g c = λ tell k was is.
+    let old = c.args.old.now in
+    let new = c.args.new.now in
+    let mid = g.P.Station.calls c.open_core_any.new.station in
+    let core = c.in-Ok.opened.0 in
+    let j = c.in-Ok.opened.1 in
+    let o = c.in-Ok.ensures.opened in
+    let before = g.P.Station.calls c.args.station.now in
+    let synced = c.in-Ok.ensures.synced tell in
+    subst (λ (m : Need). EachSince (Did Syncs ∷ before) mid (OpensEither old new m)) (need_is g.P.Station.tells old new c.requires mid core j o tell before synced k is)
+    (at_rest g.P.Station.tells old new c.requires mid core j o tell before synced)
+
+pub returns-clause-full : goal.returns-clause-full
+returns-clause-full g c = λ tell s used is.
+    let old = c.args.old.now in
+    let new = c.args.new.now in
+    let mid = g.P.Station.calls c.open_core_any.new.station in
+    let core = c.in-Ok.opened.0 in
+    let j = c.in-Ok.opened.1 in
+    let o = c.in-Ok.ensures.opened in
+    let before = g.P.Station.calls c.args.station.now in
+    let synced = c.in-Ok.ensures.synced tell in
+    subst (λ (t : State). IsRoomAnswer c.in-Err-prepare.fault new (widened (length new.circuits) t)) (sym (state_is g.P.Station.tells old new c.requires mid core j o tell before synced s used is))
+    (c.in-Err-prepare.ensures.room o.state o.kept.holds)

@@ -1,0 +1,111 @@
+-- A journal is taken over: it goes on under a directory that extends its own.
+use Rattle.std.specs.Prelude.{◌≡◌, ◌≢◌, ◌⊎◌, ◌+◌, ◌*◌, ◌^◌, ◌<◌, ◌≤◌, List, [], length, None, Result, Ok, Err, IsTrue}
+use Rattle.gts_traits.specs.Calls.{Call, Outside}
+use Rattle.gts_traits.specs.Disk.{Files, IsImage, seen}
+use Rattle.gts_directory.specs.Directory.{Directory}
+pub use Rattle.gts_directory.specs.Extending.{Extends}
+pub use Rattle.gts_event.specs.State.{State}
+pub use Rattle.gts_event.specs.History.{restarted}
+use Rattle.gts_event.specs.Need.{Need, IsOrdered, begun, need, is_sound, keeps_one}
+pub use Rattle.gts_recovery.specs.Wider.{wider, widened}
+use Rattle.gts_event.specs.declared.fault.SwitchFault.TheVariants as switch
+use Rattle.gts_core.specs.Core.{Core, Holds}
+use Rattle.gts_record.specs.Format.{draw_size, written}
+use Rattle.gts_opening.specs.Journal.{selected, compacted_bytes, due, opens}
+use Rattle.gts_opening.specs.Room.{full_compacted}
+use Rattle.gts_checkpoint.specs.{checkpoint_file}
+use Rattle.gts_journal.specs.{InHand}
+use Rattle.gts_record.specs.declared.fault.OpenFault.{OpenFault}
+use Rattle.gts_record.specs.declared.fault.OpenFault.TheVariants as broke
+use Rattle.gts_record.specs.declared.fault.OpenFault.TheVariants.{OldVersion}
+use Rattle.gts_recovery.specs.Opened.{StandsForAny, IsAnswer}
+pub use Rattle.gts_recovery.specs.Opened.{IsOpenedAny, files_open_any, opens_any}
+pub use Rattle.gts_directory.specs.Directory.{Directory as DirectoryOf}
+pub use Rattle.gts_event.specs.Need.{Need as NeedOf, need as need_at, unused as unused_of}
+pub use Rattle.gts_event.specs.Items.{circuit_need_of, need_of}
+pub use Rattle.gts_opening.specs.Journal.{checkpoint_text}
+use Rattle.gts_engine.specs.Keeping.{IsFullCompacted}
+use Rattle.gts_migrate.specs.declared.migrating.MigrateFault.{MigrateFault}
+use Rattle.gts_migrate.specs.declared.migrating.MigrateFault.TheVariants.{Open, Full, DiskFault, NoMemory}
+
+-- Nothing is said; and the files open under the old directory, in either version, to this need, or under the new one to the
+-- wider need.
+abbrev pub OpensEither : Directory → Directory → Need → Files → Outside → Type 0
+OpensEither old new n files outside = (outside ≡ []) × ((opens_any old files ≡ Ok n) ⊎ (opens new files ≡ Ok (wider (length new.circuits) n)))
+
+-- The other file is selected. It is the checkpoint of the wider need alone, under the mark of the new directory; and whatever a
+-- crash leaves opens under that to what the old files opened to, opened again, and wider.
+pub record IsMigrated (old new : Directory) (s : State) (before after : List Call) : Type 0 where
+  pub other : selected (seen after) ≢ selected (seen before)
+  pub text : seen after (selected (seen after)) ≡ checkpoint_file new.mark (wider (length new.circuits) (need old s))
+  pub opened : (files : Files) → IsImage after files → opens new files ≡ Ok (wider (length new.circuits) (need old (restarted s)))
+
+-- The journal would be full under the new directory, and that is answered, with the numbers of a compaction; or it would not be.
+abbrev pub IsRoomAnswer : MigrateFault → Directory → State → Type 0
+IsRoomAnswer (Full at wanted limit) d s = IsFullCompacted d s (switch.Full at wanted limit)
+IsRoomAnswer DiskFault d s = full_compacted d s ≡ None
+IsRoomAnswer (Open fault) d s = Unit {0}
+IsRoomAnswer NoMemory d s = Unit {0}
+
+abbrev pub GivesRoomFor : {T : Type 0} → Result T MigrateFault → Directory → State → Type 0
+GivesRoomFor (Ok done) d s = full_compacted d s ≡ None
+GivesRoomFor (Err fault) d s = IsRoomAnswer fault d s
+
+-- A fault of the files is the one that they open to, and never that of an older version; else they open.
+abbrev pub AnswersOpening : Result (Unit {0}) MigrateFault → Result Need OpenFault → Type 0
+AnswersOpening (Err (Open fault)) opened = IsAnswer fault opened × (fault ≢ OldVersion)
+AnswersOpening result opened = (n : Need) × (opened ≡ Ok n)
+
+-- the disk failed, where the journal was opened or behind that
+abbrev pub IsDiskFaultOf : Result (Unit {0}) MigrateFault → Type 0
+IsDiskFaultOf (Err (Open broke.DiskFault)) = Unit {0}
+IsDiskFaultOf (Err DiskFault) = Unit {0}
+IsDiskFaultOf result = ⊥
+
+-- the journal was opened
+abbrev pub WasOpened : Result (Unit {0}) MigrateFault → Type 0
+WasOpened (Err (Open fault)) = ⊥
+WasOpened result = Unit {0}
+
+-- an answer with which no file was touched but by the sync of the opening
+abbrev pub LeavesFiles : Result (Unit {0}) MigrateFault → Type 0
+LeavesFiles (Err (Open fault)) = Unit {0}
+LeavesFiles (Err (Full at wanted limit)) = Unit {0}
+LeavesFiles (Err NoMemory) = Unit {0}
+LeavesFiles result = ⊥
+
+-- what may be answered where the room is looked at
+abbrev pub IsRoomFaultOf : MigrateFault → Type 0
+IsRoomFaultOf (Full at wanted limit) = Unit {0}
+IsRoomFaultOf NoMemory = Unit {0}
+IsRoomFaultOf fault = ⊥
+
+-- what may be answered where the checkpoint is written
+abbrev pub IsWriteFaultOf : MigrateFault → Type 0
+IsWriteFaultOf DiskFault = Unit {0}
+IsWriteFaultOf NoMemory = Unit {0}
+IsWriteFaultOf fault = ⊥
+
+-- The core holds a state whose draws due are few.
+pub record HasFewDue (d : Directory) (core : Core) : Type 0 where
+  pub state : State
+  pub holds : Holds d core state
+  pub few : due state < 2 ^ 32
+
+-- This need is the wider one of whatever state the core holds.
+abbrev pub IsWide : Directory → Directory → Core → Need → Type 0
+IsWide old new core n = (s : State) → Holds old core s → n ≡ wider (length new.circuits) (need old s)
+
+-- The journal stands for a state of the old directory, which the new one extends, and the need is its wider one.
+pub record CanMigrate (old new : Directory) (s : State) (n : Need) (calls : List Call) (j : InHand) : Type 0 where
+  pub extends : Extends new old
+  pub stands : StandsForAny old s calls j
+  pub keeps : IsTrue (keeps_one old)
+  pub ordered : IsOrdered old s
+  pub sound : IsTrue (is_sound old (need old s))
+  pub wide : n ≡ wider (length new.circuits) (need old s)
+
+-- the wider need is sound, and there is room for its checkpoint and all draws due
+pub record FitsFor (new : Directory) (n : Need) : Type 0 where
+  pub sound : IsTrue (is_sound new n)
+  pub room : compacted_bytes written n + draw_size written * due (begun n) ≤ new.limit

@@ -1,0 +1,240 @@
+ghost use Rattle.std.specs.Prelude.{◌≡◌, ◌-◌, ◌^◌, ◌≤◌, ◌∷◌, ℕ, min, length, Ok, IfOk, IfErr, OnOk, IsErrOf};
+ghost use Rattle.gts_traits.specs.{Did, Syncs, seen, said_by, Rose, EachSince};
+ghost use Rattle.gts_core.specs.Core.{Holds};
+ghost use Rattle.gts_journal.specs.{StandsOn, OnlySyncs};
+ghost use Rattle.gts_migrate.specs.Migrating.{DirectoryOf, Extends, State, NeedOf, circuit_need_of, need_of, unused_of, need_at, restarted, wider, widened, checkpoint_text};
+ghost use Rattle.gts_migrate.specs.Migrating.{opens_any, files_open_any, OpensEither, IsMigrated, GivesRoomFor, AnswersOpening, WasOpened, LeavesFiles, IsDiskFaultOf};
+ghost use Rattle.gts_migrate.specs.Migrating.{IsRoomFaultOf, IsWriteFaultOf, HasFewDue, IsWide, CanMigrate, FitsFor};
+
+use gts_checkpoint::{WriteFault, size, write};
+use gts_core::{Core, a_core_has_the_waiting_draws_of_its_state};
+use gts_directory::Directory;
+use gts_event::{CircuitNeed, Need, Places};
+use gts_journal::{Journal, Version};
+use gts_recovery::{OpenFault, open_core_any};
+use gts_traits::{NoMemory, Station};
+use std::alloc::Global;
+
+/// The bytes of a compacted journal beside its checkpoint and the seal: header, and two gates.
+const BESIDE_CHECKPOINT: u64 = 42;
+
+/// Why a journal was not taken over.
+#[derive(Clone, Copy, Debug, PartialEq, Eq)]
+pub enum MigrateFault {
+    /// The journal could not be opened under the old directory.
+    Open(OpenFault),
+    /// The checkpoint and all draws that are due would pass the limit of the new directory.
+    Full {
+        /// The bytes of the journal beside them.
+        used: u64,
+        /// The bytes that they take.
+        need: u64,
+        /// The limit.
+        limit: u64,
+    },
+    /// The disk failed at it.
+    DiskFault,
+    /// There was no memory.
+    NoMemory,
+}
+
+/// What is needed of a circuit on which nothing was drawn and nothing waits.
+fn unused() -> CircuitNeed
+    ensures { circuit_need_of result ≡ unused_of }
+{
+    CircuitNeed {
+        draws: 0,
+        waiting: Places::new(),
+        kept: Places::new(),
+        owed: Places::new(),
+    }
+}
+
+/// A need with further circuits of which nothing is needed, up to so many.
+fn widen(alloc: Global, need: Need, circuits: u32) -> Result<Need, NoMemory>
+    ensures { IfOk result (λ wide. need_of wide ≡ wider circuits (need_of need)) }
+{
+    let mut wide = need;
+    let further = u64::from(circuits).saturating_sub(wide.circuits.len());
+    for _ in 0..further {
+        wide.circuits.push(alloc, unused())?;
+    }
+    Ok(wide)
+}
+
+/// Whether a checkpoint of this size leaves room for all draws that are due, under the limit of the new directory.
+fn check_room(core: &Core, old: &Directory, new: &Directory, size: u64) -> Result<(), MigrateFault>
+    requires { HasFewDue old.now core.now }
+    ensures room { (s : State) → Holds old.now core.now s
+        → let t = widened (length new.now.circuits) s in
+        size ≡ min (length (checkpoint_text (need_at new.now t))) (2 ^ 64 - 1)
+        → GivesRoomFor result new.now t }
+    ensures kind { IfErr result IsRoomFaultOf }
+{
+    let _ = old;
+    a_core_has_the_waiting_draws_of_its_state();
+    let limit = new.limit();
+    let version = Version::written();
+    let seal = version.seal_size() as u64;
+    let draws = version.draw_size() * core.owed();
+    let wanted = size.saturating_add(seal + draws);
+    if wanted.saturating_add(BESIDE_CHECKPOINT) > limit {
+        return Err(MigrateFault::Full {
+            used: BESIDE_CHECKPOINT,
+            need: wanted,
+            limit,
+        });
+    }
+    Ok(())
+}
+
+/// The need that a core has under the new directory, with the size of its checkpoint, for which there is room.
+fn prepare(
+    alloc: Global,
+    core: &Core,
+    old: &Directory,
+    new: &Directory,
+) -> Result<(Need, u64), MigrateFault>
+    requires extends { Extends new.now old.now }
+    requires due { HasFewDue old.now core.now }
+    ensures wide { IfOk result (λ found. IsWide old.now new.now core.now (need_of found.0)) }
+    ensures size { IfOk result (λ found.
+        found.1 ≡ min (length (checkpoint_text (need_of found.0))) (2 ^ 64 - 1)) }
+    ensures room { (s : State) → Holds old.now core.now s
+        → GivesRoomFor result new.now (widened (length new.now.circuits) s) }
+    ensures kind { IfErr result IsRoomFaultOf }
+{
+    let need = match core.need(alloc) {
+        Ok(need) => need,
+        Err(_) => return Err(MigrateFault::NoMemory),
+    };
+    let wide = match widen(alloc, need, new.circuits()) {
+        Ok(wide) => wide,
+        Err(_) => return Err(MigrateFault::NoMemory),
+    };
+    let size = size(&wide);
+    match check_room(core, old, new, size) {
+        Ok(()) => Ok((wide, size)),
+        Err(fault) => Err(fault),
+    }
+}
+
+/// Writes the checkpoint of the wider need under the new directory to the file that isn't selected, and selects that.
+fn rewrite<P: Station>(
+    alloc: Global,
+    station: &mut P,
+    journal: Journal,
+    new: &Directory,
+    need: &Need,
+    size: u64,
+) -> Result<(), MigrateFault>
+    requires fits { FitsFor new.now (need_of need.now) }
+    requires size { size ≡ min (length (checkpoint_text (need_of need.now))) (2 ^ 64 - 1) }
+    requires stands { P.tells → StandsOn (P.calls station.old) journal }
+    ensures moments { P.tells → (old : DirectoryOf) (s : State)
+        → CanMigrate old new.now s (need_of need.now) (P.calls station.old) journal
+        → EachSince (P.calls station.old) (P.calls station.new)
+        (OpensEither old new.now (need_at old (restarted s))) }
+    ensures written { P.tells → OnOk result ((old : DirectoryOf) (s : State)
+        → CanMigrate old new.now s (need_of need.now) (P.calls station.old) journal
+        → IsMigrated old new.now s (P.calls station.old) (P.calls station.new)) }
+    ensures silent { P.tells → said_by (P.calls station.new) ≡ said_by (P.calls station.old) }
+    ensures kind { IfErr result IsWriteFaultOf }
+    ensures no_memory { IsErrOf result MigrateFault.NoMemory → station.new ≡ station.old }
+    ensures disk { IsErrOf result MigrateFault.DiskFault
+        → Rose (P.disk_faults station.old) (P.disk_faults station.new) }
+    ensures later { P.disk_faults station.old ≤ P.disk_faults station.new }
+    ensures say { P.say_faults station.new ≡ P.say_faults station.old }
+{
+    // A directory is within its bounds.
+    let _ = (new.circuits(), new.limit());
+    let mut journal = journal;
+    let other = 1 - journal.file();
+    let used = BESIDE_CHECKPOINT + Version::written().seal_size() as u64 + size;
+    match write(alloc, station, other, new.mark(), need) {
+        Ok(seal) => match journal.select(station, other, used, seal) {
+            Ok(()) => Ok(()),
+            Err(_) => Err(MigrateFault::DiskFault),
+        },
+        Err(WriteFault::NoMemory) => Err(MigrateFault::NoMemory),
+        Err(WriteFault::DiskFault) => Err(MigrateFault::DiskFault),
+    }
+}
+
+/// Takes the journal over, on a station that is lent.
+fn take_over<P: Station>(
+    alloc: Global,
+    station: &mut P,
+    old: &Directory,
+    new: &Directory,
+) -> Result<(), MigrateFault>
+    requires { Extends new.now old.now }
+    ensures moments { P.tells → (n : NeedOf) → WasOpened result
+        → opens_any old.now (seen (P.calls station.old)) ≡ Ok n
+        → EachSince (Did Syncs ∷ P.calls station.old) (P.calls station.new)
+        (OpensEither old.now new.now n) }
+    ensures migrated { P.tells → (s : State) (used : ℕ)
+        → files_open_any old.now (seen (P.calls station.old)) ≡ Ok (s, used)
+        → OnOk result (IsMigrated old.now new.now s (P.calls station.old) (P.calls station.new)) }
+    ensures full { P.tells → (s : State) (used : ℕ)
+        → files_open_any old.now (seen (P.calls station.old)) ≡ Ok (s, used)
+        → GivesRoomFor result new.now (widened (length new.now.circuits) s) }
+    ensures opening { P.tells → AnswersOpening result (opens_any old.now (seen (P.calls station.old))) }
+    ensures silent { P.tells → said_by (P.calls station.new) ≡ said_by (P.calls station.old) }
+    ensures told { P.tells → LeavesFiles result
+        → OnlySyncs (P.calls station.old) (P.calls station.new) }
+    ensures disk { IsDiskFaultOf result
+        → Rose (P.disk_faults station.old) (P.disk_faults station.new) }
+    ensures later { P.disk_faults station.old ≤ P.disk_faults station.new }
+    ensures say { P.say_faults station.new ≡ P.say_faults station.old }
+{
+    // A limit leaves few draws due.
+    let _ = old.limit();
+    let (core, journal) = match open_core_any(alloc, station, old) {
+        Ok(opened) => opened,
+        Err(fault) => return Err(MigrateFault::Open(fault)),
+    };
+    match prepare(alloc, &core, old, new) {
+        Ok((need, size)) => rewrite(alloc, station, journal, new, &need, size),
+        Err(fault) => Err(fault),
+    }
+}
+
+/// Takes a journal over under a directory that extends its own. The journal, of either version, is opened under the old
+/// directory; its other file gets a checkpoint of all that later answers depend on, with the further circuits, under the new
+/// directory, and is selected. Nothing is said. `Full` where that and all draws that are due would pass the new limit; nothing
+/// is written then.
+pub fn migrate<P: Station>(
+    alloc: Global,
+    station: P,
+    old: &Directory,
+    new: Directory,
+) -> (P, Result<(), MigrateFault>)
+    requires { Extends new old.now }
+
+    // A crash at any moment since the sync of the opening leaves files that open under the old directory to what they opened to,
+    // or under the new one to that and the further circuits.
+    ensures moments { P.tells → (n : NeedOf) → WasOpened result.1
+        → opens_any old.now (seen (P.calls station)) ≡ Ok n
+        → EachSince (Did Syncs ∷ P.calls station) (P.calls result.0)
+        (OpensEither old.now new n) }
+    ensures migrated { P.tells → (s : State) (used : ℕ)
+        → files_open_any old.now (seen (P.calls station)) ≡ Ok (s, used)
+        → OnOk result.1 (IsMigrated old.now new s (P.calls station) (P.calls result.0)) }
+    ensures full { P.tells → (s : State) (used : ℕ)
+        → files_open_any old.now (seen (P.calls station)) ≡ Ok (s, used)
+        → GivesRoomFor result.1 new (widened (length new.circuits) s) }
+
+    // A fault of the files is answered exactly where they open to it, in the version that they have.
+    ensures opening { P.tells → AnswersOpening result.1 (opens_any old.now (seen (P.calls station))) }
+    ensures silent { P.tells → said_by (P.calls result.0) ≡ said_by (P.calls station) }
+    ensures told { P.tells → LeavesFiles result.1 → OnlySyncs (P.calls station) (P.calls result.0) }
+    ensures disk { IsDiskFaultOf result.1
+        → Rose (P.disk_faults station) (P.disk_faults result.0) }
+    ensures later { P.disk_faults station ≤ P.disk_faults result.0 }
+    ensures say { P.say_faults result.0 ≡ P.say_faults station }
+{
+    let mut station = station;
+    let result = take_over(alloc, &mut station, old, &new);
+    (station, result)
+}
