@@ -1,20 +1,17 @@
 -- What `ship` comes to, from the directory and the feed.
-use Rattle.std.proofs.Common.{◌≡◌, ◌≤◌, ℕ, List, Result, Ok, Err, inl, inr, refl, sym, ap, subst, arith}
-use Rattle.std.specs.Prelude.{◌⊎◌, IfErr, OnOk, IsErrOf}
+use Rattle.std.proofs.Common.{◌≡◌, ◌≤◌, ℕ, Result, Ok, Err, inl, inr, refl, sym, ap, subst, arith}
+use Rattle.std.specs.Prelude.{IfErr, OnOk, IsErrOf}
 use Rattle.gts_traits.specs.declared.source.Source.{Ghosts as SourceWords}
 use Rattle.gts_traits.specs.declared.station.Station.{Ghosts as StationWords}
 use Rattle.gts_traits.specs.Counts.{Rose}
 use Rattle.gts_traits.specs.{seen}
 use Rattle.gts_directory.specs.Directory as directories
-use Rattle.gts_directory.specs.declared.fault.DirFault.{DirFault}
 use Rattle.gts_dirfile.specs.{directory_of_bytes}
-use Rattle.gts_record.specs.declared.fault.OpenFault.{OpenFault}
 use Rattle.gts_record.specs.declared.fault.OpenFault.TheVariants as opening
 use Rattle.gts_standby.specs.declared.fault.ShipFault.{ShipFault}
 use Rattle.gts_standby.specs.declared.fault.ShipFault.TheVariants as ship
 use Rattle.gts_standby.specs.{ShipsOnly, IsShipFault, IsNamed}
 use Rattle.gts_app.specs.declared.status.Status.{Status}
-use Rattle.gts_app.specs.declared.status.Status.TheVariants.{Directory, SourceFault, NoMemory}
 use Rattle.gts_app.specs.Reading.{ReadsDirectory}
 use Rattle.gts_app.specs.Ship.{status_shipped, ShippedAs, ShipsFeed}
 use Rattle.gts_app.proofs.StreamLemmas.{Ended, ended}
