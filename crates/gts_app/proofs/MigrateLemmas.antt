@@ -1,6 +1,6 @@
 -- What `migrate` comes to: where a directory is refused, where a row doesn't stay, and behind the opening of the journal.
 use Rattle.std.specs.Prelude.{OnOk}
-use Rattle.std.proofs.Common.{◌≡◌, ◌≤◌, ◌⊎◌, ℕ, ◌+◌, List, [], ◌∷◌, ◌++◌, length, Option, None, Some, Result, Ok, Err, inl, inr, refl, sym, ap, subst, ◌∙◌, arith}
+use Rattle.std.proofs.Common.{◌≡◌, ◌≤◌, ◌⊎◌, ℕ, List, [], ◌∷◌, length, Option, None, Some, Result, Ok, Err, inl, inr, refl, sym, ap, subst, ◌∙◌, arith}
 use Rattle.gts_traits.specs.declared.source.Source.{Ghosts as SourceWords}
 use Rattle.gts_traits.specs.declared.station.Station.{Ghosts as StationWords}
 use Rattle.gts_traits.specs.Counts.{Rose}
@@ -21,17 +21,16 @@ use Rattle.gts_journal.specs.{OnlySyncs}
 use Rattle.gts_opening.specs.Journal.{Opened}
 use Rattle.gts_opening.specs.Room.{full_compacted}
 use Rattle.gts_recovery.specs.Wider.{widened}
-use Rattle.gts_recovery.specs.Opened.{IsAnswer, opens_any, files_open_any}
-use Rattle.gts_engine.specs.Keeping.{IsFullCompacted}
+use Rattle.gts_recovery.specs.Opened.{opens_any, files_open_any}
 use Rattle.gts_migrate.specs.Migrating.{OpensEither, IsMigrated, GivesRoomFor, AnswersOpening, WasOpened, LeavesFiles, IsDiskFaultOf}
 use Rattle.gts_migrate.specs.declared.migrating.MigrateFault.{MigrateFault}
 use Rattle.gts_migrate.specs.declared.migrating.MigrateFault.TheVariants as fault
 use Rattle.gts_app.specs.declared.status.Status.{Status}
 use Rattle.gts_app.specs.declared.status.Status.TheVariants.{Done, Words, Directory, OldDirectory, Changed, Capture, NoJournal, OldVersion, NotThis, Damaged, Exists, Accum, DiskFault, SourceFault, SayFault, Full, LineFault, LongSession, Spent, NoMemory}
 use Rattle.gts_app.specs.Ending.{refusal}
-use Rattle.gts_app.specs.Reading.{IsReadEnd, IsOldReadEnd, ReadsDirectory, ReadsOldDirectory}
-use Rattle.gts_app.specs.Replay.{World, world}
-use Rattle.gts_app.specs.Migrate.{status_migrated, AreRead, UnderBoth, OpensUnder, IsRefusedBy, MigratedAs, LeavesJournal, IsCalm, ReadsFew, Migrates}
+use Rattle.gts_app.specs.Reading.{IsOldReadEnd, ReadsDirectory, ReadsOldDirectory}
+use Rattle.gts_app.specs.Replay.{world}
+use Rattle.gts_app.specs.Migrate.{status_migrated, AreRead, UnderBoth, IsRefusedBy, MigratedAs, LeavesJournal, ReadsFew, Migrates}
 use Rattle.gts_app.proofs.RefusalLemmas.{same_directory, no_fault}
 use Rattle.gts_app.proofs.StreamLemmas.{Ended, ended}
 
@@ -163,7 +162,7 @@ module _ {S P : Type 0} (source : SourceWords S) (station : StationWords P) (d o
   pub row_changed : (c : Change) (at : P) → first_change d o ≡ Some c → (Extends d o → ⊥) → Migrates source station (Changed c.part c.row) (world od oc at) (world nd nc at)
   row_changed c at is apart =
       let both_read : UnderBoth source (world od oc at) (λ new old. first_change new old ≡ Some (record { part = c.part; row = c.row })) =
-          record { new = d; old = o; read = both; holds = is } in
+      record { new = d; old = o; read = both; holds = is } in
       record {
         means = (refl, both_read);
         moments = λ tells told new old n read opened. inl (inr (inl refl));
@@ -171,7 +170,7 @@ module _ {S P : Type 0} (source : SourceWords S) (station : StationWords P) (d o
         old_refused = λ tells new e read bad calm. absurd (never_refused tells e bad);
         changed = λ tells new old other read there calm.
             let same : first_change d o ≡ Some other =
-                ap (λ (x : directories.Directory). first_change x o) (new_is tells new read.0) ∙ ap (first_change new) (old_is tells old read.1) ∙ there in
+            ap (λ (x : directories.Directory). first_change x o) (new_is tells new read.0) ∙ ap (first_change new) (old_is tells old read.1) ∙ there in
             let one : c ≡ other = one_change c other (first_change d o) is same in
             inl (ap (λ (x : Change). Changed x.part x.row) one);
         answered = λ tells told new old e read extends bad calm quiet. absurd (apart_from tells new old read extends);

@@ -1,7 +1,7 @@
 -- The words that name a command which is built, and what each command comes to.
 use Rattle.std.specs.Prelude.{◌≡◌, ℕ, List, Option, Some}
 use Rattle.gts_words.specs.declared.command.Command.{Command}
-use Rattle.gts_words.specs.declared.command.Command.TheVariants.{Init, Replay, Serve, Show, Compact, Generate, Migrate, Unpack, Pack, Gaps}
+use Rattle.gts_words.specs.declared.command.Command.TheVariants.{Init, Replay, Serve, Show, Compact, Generate, Migrate, Unpack, Pack, Gaps, Ship}
 use Rattle.gts_words.specs.{command_of}
 pub use Rattle.gts_app.specs.Generate.{Generates}
 pub use Rattle.gts_app.specs.Init.{Inits}
@@ -9,6 +9,7 @@ pub use Rattle.gts_app.specs.Replay.{Replays, world, IsNoCapture}
 pub use Rattle.gts_app.specs.Serve.{Serves}
 use Rattle.gts_app.specs.Show.{Shows}
 use Rattle.gts_app.specs.Pack.{PacksStream}
+use Rattle.gts_app.specs.Ship.{ShipsFeed}
 use Rattle.gts_app.specs.Gaps.{NamesGaps}
 use Rattle.gts_app.specs.Unpack.{Unpacks}
 use Rattle.gts_app.specs.Compact.{Compacts}
@@ -31,6 +32,7 @@ IsBuilt Migrate = Unit {0}
 IsBuilt (Unpack c) = Unit {0}
 IsBuilt Pack = Unit {0}
 IsBuilt (Gaps day hour minute) = Unit {0}
+IsBuilt Ship = Unit {0}
 
 -- the words name a command that is built
 abbrev pub IsCommand : List (List ℕ) → Type 0
@@ -66,3 +68,5 @@ OpensJournal source station command status old new =
     × Shows source station status old.directory old.station new.directory new.station)
     × (command ≡ Some Compact → (new.capture ≡ old.capture)
     × Compacts source station status old.directory old.station new.directory new.station)
+    × (command ≡ Some Ship → (new.capture ≡ old.capture)
+    × ShipsFeed source station status old.directory old.station new.directory new.station)

@@ -27,7 +27,6 @@ use Rattle.gts_migrate.specs.declared.migrating.MigrateFault.TheVariants as faul
 use Rattle.gts_app.specs.declared.status.Status.{Status}
 use Rattle.gts_app.specs.declared.status.Status.TheVariants.{Done, Directory, OldDirectory, Changed, NoJournal, OldVersion, NotThis, Damaged, DiskFault, SourceFault, Full, NoMemory}
 use Rattle.gts_app.specs.Ending.{refusal}
-use Rattle.gts_app.specs.Opening.{IsOfFiles}
 use Rattle.gts_app.specs.Pack.{IsTurnedAway}
 use Rattle.gts_app.specs.Replay.{World}
 

@@ -12,6 +12,7 @@ use crate::commands::migrate::migrate;
 use crate::commands::pack::pack;
 use crate::commands::replay::replay;
 use crate::commands::serve::serve;
+use crate::commands::ship::ship;
 use crate::commands::show::show;
 use crate::commands::unpack::unpack;
 use gts_missing::Moment;
@@ -21,8 +22,8 @@ use std::alloc::Global;
 use std::sync::Wait;
 use std::thread::Threads;
 
-/// Runs the command that the words name: `init`, `replay`, `serve`, `show`, `compact`, `generate`, `migrate`, `unpack`, `pack` or
-/// `gaps`. The station and the capture are handed back.
+/// Runs the command that the words name: `init`, `replay`, `serve`, `show`, `compact`, `generate`, `migrate`, `unpack`, `pack`,
+/// `gaps` or `ship`. The station and the capture are handed back.
 pub fn run<R, S, P, L, G>(
     rt: &R,
     alloc: Global,
@@ -120,5 +121,9 @@ where
             (status, station, capture)
         }
         Command::Unpack { c } => unpack(alloc, c, directory, capture, station),
+        Command::Ship => {
+            let status = ship(alloc, directory, &mut station);
+            (status, station, capture)
+        }
     }
 }

@@ -15,7 +15,7 @@ use Rattle.gts_record.specs.declared.fault.OpenFault.{OpenFault}
 use Rattle.gts_record.specs.declared.fault.OpenFault.TheVariants as opening
 use Rattle.gts_journal.specs.{InHand, file_of, next_entry, next_seal, Gives, HasGoneOn}
 use Rattle.gts_standby.specs.declared.fault.ShipFault.{ShipFault}
-use Rattle.gts_standby.specs.Shipping.{ship_fault, SaysHere, Speaks, IsQuiet, Reaches, IsAtGate, GoesOnBehind, SaysOne}
+use Rattle.gts_standby.specs.Shipping.{ship_fault, SaysHere, Speaks, IsQuiet, IsNamed, Reaches, IsAtGate, GoesOnBehind, SaysOne}
 use Rattle.gts_standby.proofs.SayLemmas.{says_none, says_more, fronts_behind, fronts_more}
 use Rattle.gts_standby.proofs.FeedLemmas.{goes_on, all_said, record_stands}
 
@@ -33,6 +33,15 @@ quiet_entry opening.NoJournal entry gives none = none opening.NoJournal gives
 quiet_entry opening.OldVersion entry gives none = none opening.OldVersion gives
 quiet_entry (opening.NotThis want found) entry gives none = none (opening.NotThis want found) gives
 quiet_entry (opening.Damaged file at) entry gives none = none (opening.Damaged file at) gives
+
+-- a fault of the opening keeps its name
+pub named_opening : (f : OpenFault) → IsNamed (ship_fault f)
+named_opening opening.DiskFault = tt
+named_opening opening.NoMemory = tt
+named_opening opening.NoJournal = tt
+named_opening opening.OldVersion = tt
+named_opening (opening.NotThis want found) = tt
+named_opening (opening.Damaged file at) = tt
 
 -- ---- one record
 

@@ -31,6 +31,12 @@ abbrev pub Speaks : {T E : Type 0} → Result T E → List Call → List Call �
 Speaks (Ok _) old new bytes = SaysHere old new bytes
 Speaks (Err _) old new bytes = SaysFront old new (on 0 bytes)
 
+-- a fault of a device, and want of memory, have names of their own
+abbrev pub IsNamed : ShipFault → Type 0
+IsNamed (Open opening.DiskFault) = ⊥
+IsNamed (Open opening.NoMemory) = ⊥
+IsNamed _ = Unit {0}
+
 -- a fault that isn't of the journal's bytes
 abbrev pub IsQuiet : ShipFault → Type 0
 IsQuiet (Open fault) = ⊥

@@ -1,6 +1,6 @@
 ghost use Rattle.std.specs.Prelude.{◌≡◌, ◌≤◌, ◌<◌, ◌-◌, ◌^◌, length, take, drop, IfErr, IsErrOf};
 ghost use Rattle.gts_traits.specs.{Rose, seen};
-ghost use Rattle.gts_standby.specs.Shipping.{Speaks, IsQuiet};
+ghost use Rattle.gts_standby.specs.Shipping.{Speaks, IsQuiet, IsNamed};
 
 use crate::ShipFault;
 use gts_journal::OpenFault;
@@ -42,6 +42,7 @@ pub(crate) fn say_part<P: Station>(
     ensures told { P.tells → Speaks result (P.calls station.old) (P.calls station.new)
         (take (to - from) (drop from (seen (P.calls station.old) file))) }
     ensures kind { P.tells → IfErr result IsQuiet }
+    ensures named { IfErr result IsNamed }
     ensures disk_fault { IsErrOf result ShipFault.DiskFault
         → Rose (P.disk_faults station.old) (P.disk_faults station.new) }
     ensures say_fault { IsErrOf result ShipFault.SayFault

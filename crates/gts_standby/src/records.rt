@@ -1,8 +1,8 @@
-ghost use Rattle.std.specs.Prelude.{◌≡◌, ◌≤◌, ◌<◌, ◌^◌, ℕ, false, List, OnOk, IsErrOf};
+ghost use Rattle.std.specs.Prelude.{◌≡◌, ◌≤◌, ◌<◌, ◌^◌, ℕ, false, List, IfErr, OnOk, IsErrOf};
 ghost use Rattle.gts_traits.specs.{Rose};
 ghost use Rattle.gts_directory.specs.Directory.{Directory};
 ghost use Rattle.gts_journal.specs.{StandsOn};
-ghost use Rattle.gts_standby.specs.Shipping.{IsAtGate, SaysOne, SaysRest};
+ghost use Rattle.gts_standby.specs.Shipping.{IsAtGate, SaysOne, SaysRest, IsNamed};
 
 use crate::ShipFault;
 use crate::piece::say_part;
@@ -20,6 +20,7 @@ fn say_next<P: Station>(station: &mut P, journal: &mut Journal) -> Result<(), Sh
     ensures going { OnOk result (journal.new.ended ≡ false) }
     ensures stands { P.tells → OnOk result (StandsOn (P.calls station.new) journal.new) }
     ensures rises { OnOk result (journal.old.gate < journal.new.gate) }
+    ensures named { IfErr result IsNamed }
     ensures disk_fault { IsErrOf result ShipFault.DiskFault
         → Rose (P.disk_faults station.old) (P.disk_faults station.new) }
     ensures say_fault { IsErrOf result ShipFault.SayFault
@@ -50,6 +51,7 @@ pub(crate) fn say_records<P: Station>(
     ensures said { P.tells → (d : Directory) (left : List ℕ)
         → IsAtGate d (P.calls station.old) journal.old end left
         → SaysRest result (P.calls station.old) (P.calls station.new) left }
+    ensures named { IfErr result IsNamed }
     ensures disk_fault { IsErrOf result ShipFault.DiskFault
         → Rose (P.disk_faults station.old) (P.disk_faults station.new) }
     ensures say_fault { IsErrOf result ShipFault.SayFault

@@ -2,7 +2,7 @@ ghost use Rattle.std.specs.Prelude.{◌≡◌, ◌≤◌, ◌<◌, ◌^◌, ℕ,
 ghost use Rattle.gts_traits.specs.{Rose};
 ghost use Rattle.gts_journal.specs.{StandsOn, file_of};
 ghost use Rattle.gts_standby.specs.Feed.{feed};
-ghost use Rattle.gts_standby.specs.Shipping.{IsAtFirst, SaysOne, SaysRest, behind_header, ShipsOnly, IsShipFault};
+ghost use Rattle.gts_standby.specs.Shipping.{IsAtFirst, SaysOne, SaysRest, behind_header, ShipsOnly, IsShipFault, IsNamed};
 
 use crate::ShipFault;
 use crate::piece::say_part;
@@ -35,6 +35,7 @@ fn say_checkpoint<P: Station>(
         (behind_header directory.now (P.calls station.old) journal.old) }
     ensures going { OnOk result (journal.new.ended ≡ false) }
     ensures stands { P.tells → OnOk result (StandsOn (P.calls station.new) journal.new) }
+    ensures named { IfErr result IsNamed }
     ensures disk_fault { IsErrOf result ShipFault.DiskFault
         → Rose (P.disk_faults station.old) (P.disk_faults station.new) }
     ensures say_fault { IsErrOf result ShipFault.SayFault
@@ -79,6 +80,7 @@ fn say_feed<P: Station>(
     requires first { P.tells → IsAtFirst directory.now (P.calls station.old) journal end }
     ensures said { P.tells → SaysRest result (P.calls station.old) (P.calls station.new)
         (feed journal.version directory.now.mark (file_of (P.calls station.old) journal)) }
+    ensures named { IfErr result IsNamed }
     ensures disk_fault { IsErrOf result ShipFault.DiskFault
         → Rose (P.disk_faults station.old) (P.disk_faults station.new) }
     ensures say_fault { IsErrOf result ShipFault.SayFault
@@ -111,6 +113,7 @@ pub fn ship<P: Station>(
     // A fault of the files is answered exactly where they open to it. Else a front of the feed was said.
     ensures fault { P.tells → IfErr result (λ e.
         IsShipFault e directory.now (P.calls station.old) (P.calls station.new)) }
+    ensures named { IfErr result IsNamed }
     ensures disk_fault { IsErrOf result ShipFault.DiskFault
         → Rose (P.disk_faults station.old) (P.disk_faults station.new) }
     ensures say_fault { IsErrOf result ShipFault.SayFault

@@ -1,6 +1,6 @@
 -- Worked rows: lists of words, and what they are.
 use Rattle.std.specs.Prelude.{◌≡◌, [], ◌∷◌, None, Some, codes}
-use Rattle.gts_words.specs.declared.command.Command.TheVariants.{Init, Replay, Serve, Show, Compact, Generate, Migrate, Unpack, Pack, Gaps}
+use Rattle.gts_words.specs.declared.command.Command.TheVariants.{Init, Replay, Serve, Show, Compact, Generate, Migrate, Unpack, Pack, Gaps, Ship}
 use Rattle.gts_words.specs.Commands.{command_of}
 
 -- Each command of one word.
@@ -12,6 +12,7 @@ OneWord = (command_of (codes "init" ∷ []) ≡ Some Init)
     × (command_of (codes "compact" ∷ []) ≡ Some Compact)
     × (command_of (codes "migrate" ∷ []) ≡ Some Migrate)
     × (command_of (codes "pack" ∷ []) ≡ Some Pack)
+    × (command_of (codes "ship" ∷ []) ≡ Some Ship)
 
 -- A count has one to six digits and a value from 1 to 100,000.
 abbrev pub Counts : Type 0

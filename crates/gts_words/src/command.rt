@@ -26,6 +26,8 @@ pub enum Command {
     Pack,
     /// To tell which numbers are missing in a capture, and to ask for them at this time.
     Gaps { day: u32, hour: u32, minute: u32 },
+    /// To say the feed of the journal, for a standby station.
+    Ship,
 }
 
 /// Why words are no command.

@@ -63,6 +63,8 @@ fn alone(name: &str) -> Option<Command>
         Some(Command::Migrate)
     } else if name == "pack" {
         Some(Command::Pack)
+    } else if name == "ship" {
+        Some(Command::Ship)
     } else {
         None
     }

@@ -33,6 +33,7 @@ fn the_lists_that_are_defined_are_commands(rt: HostRuntime) -> Result<(), Fail> 
         (&["unpack", "07"], Command::Unpack { c: 7 }),
         (&["unpack", "99"], Command::Unpack { c: 99 }),
         (&["pack"], Command::Pack),
+        (&["ship"], Command::Ship),
         (
             &["gaps", "281030"],
             Command::Gaps {
@@ -50,7 +51,7 @@ fn the_lists_that_are_defined_are_commands(rt: HostRuntime) -> Result<(), Fail> 
 
 #[test]
 fn other_lists_are_no_command(rt: HostRuntime) -> Result<(), Fail> {
-    let cases: [&[&str]; 24] = [
+    let cases: [&[&str]; 25] = [
         &[],
         &["help"],
         &["--help"],
@@ -70,6 +71,7 @@ fn other_lists_are_no_command(rt: HostRuntime) -> Result<(), Fail> {
         &["serve", "two"],
         &["", "5"],
         &["pack", "00"],
+        &["ship", "00"],
         &["unpack"],
         &["unpack", "7"],
         &["unpack", "007"],

@@ -5,10 +5,10 @@ use Rattle.gts_say.specs.Say.{SaysFront}
 use Rattle.gts_record.specs.Value.{record_of}
 use Rattle.gts_record.specs.declared.value.Record.{Record}
 use Rattle.gts_journal.specs.{file_of, next_entry}
-use Rattle.gts_standby.specs.Shipping.{IsQuiet, Speaks}
+use Rattle.gts_standby.specs.Shipping.{IsQuiet, IsNamed, Speaks}
 use Rattle.gts_standby.proofs.SayLemmas.{fronts_none}
 use Rattle.gts_standby.proofs.FeedLemmas.{no_end, no_fault, record_stands}
-use Rattle.gts_standby.proofs.ShipLemmas.{gone_on, quiet_entry, said_one}
+use Rattle.gts_standby.proofs.ShipLemmas.{gone_on, quiet_entry, named_opening, said_one}
 use Rattle.gts_standby.proofs.records.say_next.Goals as goal
 
 pub returns-in-Ok-None-clause-said : goal.returns-in-Ok-None-clause-said
@@ -57,3 +57,6 @@ returns-clause-said g c = λ tells d end left at low.
     let by_end = subst (λ (k : ℕ). Speaks c.say_part.result old new (take (k - (c.used-gate.result + 1)) (drop (c.used-gate.result + 1) (file_of old j)))) place by_file in
     let by_start = subst (λ (k : ℕ). Speaks c.say_part.result old new (take (next.gate - (k + 1)) (drop (k + 1) (file_of old j)))) from by_end in
     said_one c.say_part.result d old new j next r end left at entry gone by_start (c.say_part.ensures.kind tells)
+
+pub returns-in-Err-clause-named : goal.returns-in-Err-clause-named
+returns-in-Err-clause-named g c = subst IsNamed (sym c.from.ensures) (named_opening c.in-Err.fault)

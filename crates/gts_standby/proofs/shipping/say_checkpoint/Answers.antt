@@ -7,9 +7,9 @@ use Rattle.gts_record.specs.Format.{held}
 use Rattle.gts_opening.specs.Journal.{compacted_bytes}
 use Rattle.gts_checkpoint.specs.Reading.{bytes_from, HasRead, IsDamage}
 use Rattle.gts_journal.specs.{file_of, is_at_checkpoint}
-use Rattle.gts_standby.specs.Shipping.{IsQuiet, SaysHere, behind_header}
+use Rattle.gts_standby.specs.Shipping.{IsQuiet, IsNamed, SaysHere, behind_header}
 use Rattle.gts_standby.proofs.SayLemmas.{fronts_none}
-use Rattle.gts_standby.proofs.ShipLemmas.{nothing_yet}
+use Rattle.gts_standby.proofs.ShipLemmas.{named_opening, nothing_yet}
 use Rattle.gts_standby.proofs.FirstLemmas.{plain_first, checkpoint_stands, no_damage, quiet_read, said_checkpoint, broken_checkpoint}
 use Rattle.gts_standby.proofs.shipping.say_checkpoint.Goals as goal
 
@@ -85,3 +85,6 @@ returns-clause-said g c = λ tells.
       subst IsQuiet (sym c.from.ensures) quiet,
       subst (λ (calls : List Call). SaysFront old calls (on 0 (behind_header d old j))) (sym (c.in-Err.ensures.told tells)) (fronts_none old (behind_header d old j)),
     )
+
+pub returns-clause-named : goal.returns-clause-named
+returns-clause-named g c = subst IsNamed (sym c.from.ensures) (named_opening c.in-Err.fault)

@@ -2,7 +2,8 @@ use Rattle.std.proofs.Common.{◌≡◌, ◌+◌, ◌-◌, ℕ, Bool, cond, sym,
 use Rattle.gts_traits.specs.{seen}
 use Rattle.gts_journal.specs.{first_fault}
 use Rattle.gts_standby.specs.declared.fault.ShipFault.{ShipFault}
-use Rattle.gts_standby.specs.Shipping.{ship_fault, IsAtFirst, IsShipFault}
+use Rattle.gts_standby.specs.Shipping.{ship_fault, IsNamed, IsAtFirst, IsShipFault}
+use Rattle.gts_standby.proofs.ShipLemmas.{named_opening}
 use Rattle.gts_standby.proofs.FirstLemmas.{at_first, open_answer, ships_on, breaks_on, not_started, quiet_start, no_header_fault}
 use Rattle.gts_standby.proofs.shipping.ship.Goals as goal
 
@@ -56,3 +57,9 @@ returns-in-Err-start-clause-fault g c = λ tells.
     let o = c.in-Ok.ensures.opened in
     let quiet = quiet_start c.in-Err-start.fault (first_fault c.mark.result (seen mid)) (c.in-Err-start.ensures.fault tells) (λ f is. no_header_fault d mid c.in-Ok.opened o.state c.mark.result f (o.stands tells) o.current c.mark.ensures is) in
     subst (λ (e : ShipFault). IsShipFault e d old new) (sym c.from-in-Err-start.ensures) (not_started d old mid new (ship_fault c.in-Err-start.fault) (c.in-Ok.ensures.synced tells) (c.in-Err-start.ensures.told tells) quiet)
+
+pub returns-in-Err-clause-named : goal.returns-in-Err-clause-named
+returns-in-Err-clause-named g c = subst IsNamed (sym c.from.ensures) (named_opening c.in-Err.fault)
+
+pub returns-in-Err-start-clause-named : goal.returns-in-Err-start-clause-named
+returns-in-Err-start-clause-named g c = subst IsNamed (sym c.from-in-Err-start.ensures) (named_opening c.in-Err-start.fault)

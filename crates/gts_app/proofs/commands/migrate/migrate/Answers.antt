@@ -1,4 +1,4 @@
-use Rattle.std.proofs.Common.{◌≡◌, refl, sym, subst, ◌∙◌}
+use Rattle.std.proofs.Common.{refl, sym, subst, ◌∙◌}
 use Rattle.std.proofs.lemmas.Option.{none-some}
 use Rattle.gts_directory.proofs.ExtendingLemmas.{none_from}
 use Rattle.gts_app.specs.Reading.{ReadsDirectory, ReadsOldDirectory}
