@@ -14,7 +14,7 @@ fn read(alloc: Global, words: &[&str]) -> Result<Result<Command, WordsFault>, Fa
 
 #[test]
 fn the_lists_that_are_defined_are_commands(rt: HostRuntime) -> Result<(), Fail> {
-    let cases: [(&[&str], Command); 16] = [
+    let cases: [(&[&str], Command); 17] = [
         (&["init"], Command::Init),
         (&["replay"], Command::Replay),
         (&["serve"], Command::Serve { connections: 1 }),
