@@ -5,6 +5,3 @@
 mod bell;
 
 pub use bell::{Bell, Look};
-
-#[cfg(test)]
-mod tests;

@@ -4,6 +4,3 @@
 mod neighbour;
 
 pub use neighbour::talk;
-
-#[cfg(test)]
-mod tests;

@@ -1,5 +1,5 @@
 ghost use Rattle.std.specs.Prelude.{◌≡◌, ◌≤◌, ◌<◌, true, false, length, IfOk, IsErr, is_err};
-ghost use Rattle.gts_real.specs.{StaysLost};
+ghost use Rattle.gts_real.specs.{FailsWhere};
 
 use crate::lock::{Owner, lock};
 use std::fs::{File, OpenOptions};
@@ -14,6 +14,8 @@ const NAMES: [&str; 3] = ["journal.0", "journal.1", "journal.2"];
 /// The journal files. Each is opened when it is first asked for, and kept open.
 #[derive(Drop)]
 pub(crate) struct Disk {
+    // Whether the files are only read: then no lock is taken, so that another program may write meanwhile.
+    is_reader: bool,
     files: [Option<File>; 3],
     // Whether each, and the folder's list of them, was brought to the disk since it was last changed. An earlier program
     // may have ended before its sync, so nothing is at first.
@@ -24,12 +26,16 @@ pub(crate) struct Disk {
     is_lost: bool,
 }
 
-/// A file that is there, for writing where that is allowed; `None` where it isn't there.
-fn existing<R: Files<File = File>>(rt: &R, name: &str) -> io::Result<Option<File>> {
-    let opened = match OpenOptions::new().read(true).write(true).open(rt, name) {
+/// Opens a file for writing where that is allowed, and else for reading.
+fn open_for_writing<R: Files<File = File>>(rt: &R, name: &str) -> io::Result<File> {
+    match OpenOptions::new().read(true).write(true).open(rt, name) {
         Err(error) if error.kind() == ErrorKind::PermissionDenied => File::open(rt, name),
         answer => answer,
-    };
+    }
+}
+
+/// A file that is there; `None` where it isn't there.
+fn existing(opened: io::Result<File>) -> io::Result<Option<File>> {
     match opened {
         Ok(file) => Ok(Some(file)),
         Err(error) if error.kind() == ErrorKind::NotFound => Ok(None),
@@ -54,11 +60,13 @@ fn read_from(file: &File, at: u64, into: &mut [u8]) -> io::Result<usize>
 }
 
 impl Disk {
-    /// Nothing is opened yet.
-    pub(crate) fn new() -> Disk
-        ensures { result.is_lost ≡ false }
+    /// Nothing is opened yet. The files are only to be read, or also to be changed.
+    pub(crate) fn new(is_reader: bool) -> Disk
+        ensures reader { result.is_reader ≡ is_reader }
+        ensures lost { result.is_lost ≡ false }
     {
         Disk {
+            is_reader,
             files: [None, None, None],
             synced: [false; 3],
             is_folder_synced: false,
@@ -70,11 +78,17 @@ impl Disk {
     /// Opens a journal file that is there, where it isn't open yet.
     fn open<R: Files<File = File>>(&mut self, rt: &R, file: u32) -> io::Result<()>
         requires { file < 3 }
-        ensures { self.new.is_lost ≡ self.old.is_lost }
+        ensures reader { self.new.is_reader ≡ self.old.is_reader }
+        ensures lost { self.new.is_lost ≡ self.old.is_lost }
     {
         let place = file as usize;
         if self.files[place].is_none() {
-            self.files[place] = existing(rt, NAMES[place])?;
+            let opened = if self.is_reader {
+                File::open(rt, NAMES[place])
+            } else {
+                open_for_writing(rt, NAMES[place])
+            };
+            self.files[place] = existing(opened)?;
         }
         Ok(())
     }
@@ -86,15 +100,17 @@ impl Disk {
         self.files[file as usize].as_ref()
     }
 
-    /// Begins a call on a file. The first call takes the lock, so that what is read stays as it is until it is written.
+    /// Begins a call on a file. The first call of a station that may write takes the lock, so that what is read stays as it is
+    /// until it is written.
     fn begin<R: Files<File = File>>(&mut self, rt: &R, file: u32) -> io::Result<()>
         requires { file < 3 }
-        ensures { StaysLost result self.old.is_lost self.new.is_lost }
+        ensures reader { self.new.is_reader ≡ self.old.is_reader }
+        ensures lost { FailsWhere result self.old.is_lost self.new.is_lost }
     {
         if self.is_lost {
             return Err(io::Error::from(ErrorKind::Other));
         }
-        if self.owner == Owner::Unknown {
+        if self.owner == Owner::Unknown && !self.is_reader {
             self.open(rt, 0)?;
             self.owner = match self.opened(0) {
                 Some(file) => lock(file),
@@ -107,7 +123,8 @@ impl Disk {
     /// Makes a journal file. It fails where the file is there.
     fn make<R: Files<File = File>>(&mut self, rt: &R, file: u32) -> io::Result<()>
         requires { file < 3 }
-        ensures { self.new.is_lost ≡ self.old.is_lost }
+        ensures reader { self.new.is_reader ≡ self.old.is_reader }
+        ensures lost { self.new.is_lost ≡ self.old.is_lost }
     {
         let place = file as usize;
         let made = OpenOptions::new()
@@ -123,11 +140,15 @@ impl Disk {
         Ok(())
     }
 
-    /// Begins a change of a file, which is made where it isn't there. Without the lock nothing is changed.
+    /// Begins a change of a file, which is made where it isn't there. A reader changes nothing, and nobody without the lock.
     fn begin_change<R: Files<File = File>>(&mut self, rt: &R, file: u32) -> io::Result<()>
         requires { file < 3 }
-        ensures { StaysLost result self.old.is_lost self.new.is_lost }
+        ensures reader { FailsWhere result self.old.is_reader self.new.is_reader }
+        ensures lost { FailsWhere result self.old.is_lost self.new.is_lost }
     {
+        if self.is_reader {
+            return Err(io::Error::from(ErrorKind::PermissionDenied));
+        }
         self.begin(rt, file)?;
         if self.owner == Owner::Nobody {
             self.make(rt, 0)?;
@@ -145,7 +166,8 @@ impl Disk {
     /// How many bytes a journal file has: none where it isn't there.
     pub(crate) fn size<R: Files<File = File>>(&mut self, rt: &R, file: u32) -> io::Result<u64>
         requires { file < 3 }
-        ensures { StaysLost result self.old.is_lost self.new.is_lost }
+        ensures reader { self.new.is_reader ≡ self.old.is_reader }
+        ensures lost { FailsWhere result self.old.is_lost self.new.is_lost }
     {
         self.begin(rt, file)?;
         match self.opened(file) {
@@ -164,7 +186,8 @@ impl Disk {
     ) -> io::Result<usize>
         requires { file < 3 }
         ensures within { IfOk result (λ count. count ≤ length into.old) }
-        ensures lost { StaysLost result self.old.is_lost self.new.is_lost }
+        ensures reader { self.new.is_reader ≡ self.old.is_reader }
+        ensures lost { FailsWhere result self.old.is_lost self.new.is_lost }
     {
         self.begin(rt, file)?;
         match self.opened(file) {
@@ -182,7 +205,8 @@ impl Disk {
         bytes: &[u8],
     ) -> io::Result<()>
         requires { file < 3 }
-        ensures { StaysLost result self.old.is_lost self.new.is_lost }
+        ensures reader { FailsWhere result self.old.is_reader self.new.is_reader }
+        ensures lost { FailsWhere result self.old.is_lost self.new.is_lost }
     {
         self.begin_change(rt, file)?;
         match self.opened(file) {
@@ -199,7 +223,8 @@ impl Disk {
         size: u64,
     ) -> io::Result<()>
         requires { file < 3 }
-        ensures { StaysLost result self.old.is_lost self.new.is_lost }
+        ensures reader { FailsWhere result self.old.is_reader self.new.is_reader }
+        ensures lost { FailsWhere result self.old.is_lost self.new.is_lost }
     {
         self.begin_change(rt, file)?;
         match self.opened(file) {
@@ -211,7 +236,8 @@ impl Disk {
     /// Brings a journal file to the disk, where it was changed. One that wasn't isn't looked for, whether it is there or not.
     fn sync_file<R: Files<File = File>>(&mut self, rt: &R, file: u32) -> io::Result<()>
         requires { file < 3 }
-        ensures { self.new.is_lost ≡ self.old.is_lost }
+        ensures reader { self.new.is_reader ≡ self.old.is_reader }
+        ensures lost { self.new.is_lost ≡ self.old.is_lost }
     {
         if self.synced[file as usize] {
             return Ok(());
@@ -226,7 +252,8 @@ impl Disk {
 
     /// Brings the folder's list of files to the disk, where one was made.
     fn sync_folder<R: Files<File = File>>(&mut self, rt: &R) -> io::Result<()>
-        ensures { self.new.is_lost ≡ self.old.is_lost }
+        ensures reader { self.new.is_reader ≡ self.old.is_reader }
+        ensures lost { self.new.is_lost ≡ self.old.is_lost }
     {
         if !self.is_folder_synced {
             File::open(rt, ".")?.sync_all()?;
@@ -237,7 +264,8 @@ impl Disk {
 
     /// Brings to the disk what was changed: the files, and the folder where one was made.
     fn sync_changed<R: Files<File = File>>(&mut self, rt: &R) -> io::Result<()>
-        ensures { StaysLost result self.old.is_lost self.new.is_lost }
+        ensures reader { self.new.is_reader ≡ self.old.is_reader }
+        ensures lost { FailsWhere result self.old.is_lost self.new.is_lost }
     {
         if self.is_lost {
             return Err(io::Error::from(ErrorKind::Other));
@@ -250,6 +278,7 @@ impl Disk {
 
     /// Brings to the disk what was changed since the last sync. Once it has failed, every call fails.
     pub(crate) fn sync<R: Files<File = File>>(&mut self, rt: &R) -> io::Result<()>
+        ensures reader { self.new.is_reader ≡ self.old.is_reader }
         ensures fails { self.old.is_lost ≡ true → IsErr result }
         ensures lost { self.new.is_lost ≡ is_err result }
     {

@@ -12,6 +12,3 @@ mod station;
 
 pub use source::FileSource;
 pub use station::FileStation;
-
-#[cfg(test)]
-mod tests;

@@ -3,7 +3,7 @@ use std::fs::File;
 /// Who may write the journal, as far as this station knows.
 #[derive(Clone, Copy, Debug, PartialEq, Eq)]
 pub(crate) enum Owner {
-    /// It wasn't looked at yet.
+    /// It wasn't looked at yet, or the station only reads.
     Unknown,
     /// The file that is locked isn't there, so nobody has the lock.
     Nobody,

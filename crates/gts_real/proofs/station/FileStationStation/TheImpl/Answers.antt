@@ -6,6 +6,7 @@ size-tells g c = record {
   size = λ told. absurd told;
   told = λ told. absurd told;
   cause = search rules;
+  sound = search rules;
   say = search rules;
 }
 
@@ -16,6 +17,7 @@ read-tells g c = record {
   told = λ told. absurd told;
   within = search rules;
   cause = search rules;
+  sound = search rules;
   say = search rules;
 }
 
@@ -23,6 +25,7 @@ pub write_at-tells : goal.write_at-tells
 write_at-tells g c = record {
   told = λ told. absurd told;
   cause = search rules;
+  sound = search rules;
   say = search rules;
 }
 
@@ -30,6 +33,7 @@ pub cut-tells : goal.cut-tells
 cut-tells g c = record {
   told = λ told. absurd told;
   cause = search rules;
+  sound = search rules;
   say = search rules;
 }
 
@@ -37,6 +41,7 @@ pub sync-tells : goal.sync-tells
 sync-tells g c = record {
   told = λ told. absurd told;
   cause = search rules;
+  sound = search rules;
   say = search rules;
 }
 
@@ -44,5 +49,6 @@ pub say-tells : goal.say-tells
 say-tells g c = record {
   told = λ told. absurd told;
   cause = search rules;
+  sound = search rules;
   disk = search rules;
 }
