@@ -8,6 +8,3 @@ mod worked;
 pub use bbb::Bbb;
 pub use laws::kinds_are_the_groups;
 pub use worked::worked_groups;
-
-#[cfg(test)]
-mod tests;

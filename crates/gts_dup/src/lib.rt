@@ -7,6 +7,3 @@ mod worked;
 pub use gts_alphabet::NoMemory;
 pub use table::DupTable;
 pub use worked::{worked_latest, worked_window};
-
-#[cfg(test)]
-mod tests;

@@ -18,6 +18,3 @@ pub use laws::{
 };
 pub use letters::is_bbb;
 pub use worked::{worked_headings, worked_refusals};
-
-#[cfg(test)]
-mod tests;

@@ -14,6 +14,3 @@ pub use laws::{
 };
 pub use message::{Body, Message, Parts};
 pub use worked::{worked_messages, worked_refusals};
-
-#[cfg(test)]
-mod tests;

@@ -11,6 +11,3 @@ pub use laws::{what_goes_next_is_first, what_waits_follows, what_waits_stays_in_
 pub use levels::{LEVELS, limits_are_these_numbers};
 pub use queue::PrioQueue;
 pub use worked::{worked_order, worked_waiting};
-
-#[cfg(test)]
-mod tests;

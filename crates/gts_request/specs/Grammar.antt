@@ -107,7 +107,8 @@ EndsBefore rest (Latest heading) = bare_heading_at (heading_text heading ++ rest
 abbrev pub LacksNumber : List ℕ → Type 0
 LacksNumber bytes =
     (IsCount (run_at bytes) → ⊥)
-    ⊎ ((digits number : ℕ) × (rest : List ℕ) × IsCount digits × (number < 10 ^ digits) × (bytes ≡ dec digits number ++ 45 ∷ rest) × (run_at rest ≡ digits → ⊥))
+    ⊎ ((digits number : ℕ) × (rest : List ℕ) × IsCount digits × (number < 10 ^ digits)
+    × (bytes ≡ dec digits number ++ 45 ∷ rest) × (run_at rest ≡ digits → ⊥))
 
 abbrev pub LacksHeading : List ℕ → Type 0
 LacksHeading bytes = (found : HeadingFields × List ℕ) → bare_heading_at bytes ≡ Ok found → ⊥

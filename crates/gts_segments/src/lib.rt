@@ -11,6 +11,3 @@ pub use gts_alphabet::NoMemory;
 pub use laws::{a_whole_set_is_whole_in_one_way, groups_stand_at_their_places};
 pub use table::{SegmentStatus, SegmentTable};
 pub use worked::{worked_notes, worked_places};
-
-#[cfg(test)]
-mod tests;
