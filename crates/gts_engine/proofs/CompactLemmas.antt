@@ -1,65 +1,36 @@
 -- The journal is compacted: what a crash leaves meanwhile, and where the journal stands then.
 use Rattle.std.proofs.Common.{◌≡◌, ◌≢◌, ◌⊎◌, inl, inr, ℕ, zero, suc, ◌+◌, ◌-◌, ◌*◌, ◌^◌, ◌<◌, ◌≤◌, nat_eq, nat_lt, Bool, true, false, cond, List, [], ◌∷◌, ◌++◌, length, map, take, drop, Some, None, Ok, refl, sym, ap, subst, ◌∙◌, arith, length-append}
 use Rattle.std.specs.Prelude.{min}
-use Rattle.std.specs.List.{list_all, starts_with, AllByRecursion}
+use Rattle.std.specs.List.{starts_with}
 use Rattle.std.proofs.lemmas.Bool.{lt-ltb, le-ltb, cases_eq}
-use Rattle.std.proofs.lemmas.Bool.Decides.{nat_tests}
 use Rattle.gts_event.specs.declared.fault.SwitchFault.TheVariants.{Full}
-use Rattle.std.proofs.lemmas.List.{take_at}
 use Rattle.gts_traits.specs.Calls.{Call, Outside}
 use Rattle.gts_traits.specs.Disk.{Files, seen}
 use Rattle.gts_traits.specs.Moments.{EachSince}
 use Rattle.gts_traits.proofs.LawLemmas.{weaker, started}
 use Rattle.gts_directory.specs.Directory.{Directory}
-use Rattle.gts_event.specs.State.{State, CircuitState, Bulletin}
+use Rattle.gts_event.specs.State.{State, CircuitState}
 use Rattle.gts_event.specs.History.{restarted}
-use Rattle.gts_event.specs.Need.{Need, CircuitNeed, need, begun, begun_circuit, is_sound, is_bulletin}
+use Rattle.gts_event.specs.Need.{Need, CircuitNeed, need, begun, begun_circuit, is_sound}
 use Rattle.gts_event.specs.Stand.{SameNeed}
 use Rattle.gts_event.proofs.LawLemmas.{need-begun, ordered-begun, routed_once-begun, held-begun, sound-held, sound-parts}
 use Rattle.gts_core.specs.Core.{Core, Holds}
 use Rattle.gts_core.proofs.LawLemmas.{held-same}
-use Rattle.gts_record.specs.Record.{open_gate, closed_gate}
+use Rattle.gts_record.specs.Record.{closed_gate}
 use Rattle.gts_record.specs.declared.version.Version.{Version}
-use Rattle.gts_record.proofs.LawLemmas.{length-sealed}
-use Rattle.gts_record.specs.Format.{magic, sealed, first_seal, seal_size, draw_size, written}
+use Rattle.gts_record.specs.Format.{seal_size, draw_size, written}
 use Rattle.gts_opening.specs.Journal.{selected, checkpoint_text, compacted_bytes, due, opens, opened_of, file_opens, unowed, unowed_on, unowed_circuit, unowed_state}
 use Rattle.gts_opening.specs.Room.{full_compacted}
 use Rattle.gts_opening.proofs.LawLemmas.{compacted_opened, opened_again}
-use Rattle.gts_opening.proofs.FileLemmas.{magic_size, file_opens-checkpoint, room_for, due-left}
+use Rattle.gts_opening.proofs.FileLemmas.{file_opens-checkpoint, room_for, due-left}
 use Rattle.gts_checkpoint.specs.Alone.{LeavesOthers, WorksBeside}
-use Rattle.gts_checkpoint.specs.Writing.{FitsByte, FitBytes, HasWritten, checkpoint_file, need_seal}
+use Rattle.gts_checkpoint.specs.Writing.{HasWritten, checkpoint_file, need_seal}
 use Rattle.gts_journal.specs.{InHand, EndsAt, StandsOn, StandsFor, IsClosedAt, LeavesBoth, selecting as selecting_at}
 use Rattle.gts_journal.specs.Law.{OpensAsBefore}
 use Rattle.gts_engine.specs.Going.{IsGoing}
+use Rattle.gts_engine.proofs.CheckpointLemmas.{ends_there}
 use Rattle.gts_engine.proofs.GoingLemmas.{opened_same, images}
 use Rattle.gts_engine.proofs.ReopenLemmas.{opens_by}
-
--- ---- the file of a checkpoint
-
--- it ends at the closed gate behind the checkpoint
-pub ends_there : (mark : List ℕ) (n : Need) (used : ℕ) → length mark ≡ 32 → used ≡ compacted_bytes written n
-    → EndsAt (take (used - 1) (checkpoint_file mark n)) (checkpoint_file mark n)
-ends_there mark n used long size =
-    let last : List ℕ = first_seal written mark in
-    let cp : List ℕ = sealed written last (checkpoint_text n) in
-    let m : List ℕ = magic written in
-    let front : List ℕ = (m ++ mark) ++ ((open_gate ∷ cp) ++ []) in
-    let at : length front ≡ used - 1 =
-    omega (arith, size, long, magic_size written, length-append m mark, length-append (m ++ mark) ((open_gate ∷ cp) ++ []), length-append cp [], length-sealed written last (checkpoint_text n)) in
-    let same : take (used - 1) (front ++ closed_gate ∷ []) ≡ front = take_at front (closed_gate ∷ []) (used - 1) at in
-    record { gate = closed_gate; behind = []; closed = refl; is = ap (λ (l : List ℕ). l ++ closed_gate ∷ []) (sym same) }
-
--- each bulletin of a sound need came in on a circuit
-below_all : (d : Directory) (count : ℕ) (bs : List Bulletin) → length d.circuits ≤ 64 → list_all (is_bulletin d count) bs ≡ true → AllByRecursion FitsByte bs
-below_all d count [] few all = tt
-below_all d count (b ∷ bs) few all =
-    let here : nat_lt b.from (length d.circuits) ≡ true = grind (arith, nat_tests) in
-    let rest : list_all (is_bulletin d count) bs ≡ true = grind (arith, nat_tests) in
-    let low : b.from < 256 = grind (arith, nat_tests) in
-    (low, below_all d count bs few rest)
-
-pub fit_bytes : (d : Directory) (n : Need) → length d.circuits ≤ 64 → is_sound d n ≡ true → FitBytes n
-fit_bytes d n few sound = below_all d n.accepted n.bulletins few (sound-parts d n sound).bodies
 
 -- a need with nothing owed begins what has nothing owed
 unowed_of : (cs : List CircuitNeed) → map unowed_on (map begun_circuit cs) ≡ map begun_circuit (map unowed_circuit cs)
@@ -249,13 +220,16 @@ has_room_compacted d s size wanted s_is w_is within low =
     let fits : 42 + real ≤ d.limit = omega (arith, s_is, w_is, within, low) in
     ap (λ (b : Bool). cond b (Some (Full 42 real d.limit)) None) (le-ltb d.limit (42 + real) fits)
 
--- where there is room, the size is the very one
-pub size_free : (d : Directory) (s : State) (n : Need) (size : ℕ) → n ≡ need d s → size ≡ min (length (checkpoint_text n)) (2 ^ 64 - 1) → full_compacted d s ≡ None → d.limit < 2 ^ 63
-    → 42 + seal_size written + size ≡ compacted_bytes written n
-size_free d s n size is size_is free low =
-    let room = room_for d s free in
-    let there : compacted_bytes written n + draw_size written * due s ≤ d.limit = subst (λ (m : Need). compacted_bytes written m + draw_size written * due s ≤ d.limit) (sym is) room in
-    omega (arith, size_is, there, low)
+-- where there is room, the size is the very one, and small
+module _ (d : Directory) (s : State) (n : Need) (size : ℕ) (is : n ≡ need d s) (size_is : size ≡ min (length (checkpoint_text n)) (2 ^ 64 - 1)) (free : full_compacted d s ≡ None) (low : d.limit < 2 ^ 63) where
+  room : compacted_bytes written n + draw_size written * due s ≤ d.limit
+  room = subst (λ (m : Need). compacted_bytes written m + draw_size written * due s ≤ d.limit) (sym is) (room_for d s free)
+
+  pub size_free : 42 + size + seal_size written ≡ compacted_bytes written n
+  size_free = omega (arith, size_is, room, low)
+
+  pub size_few : size < 2 ^ 63
+  size_few = omega (arith, size_is, room, low)
 
 -- nothing was done yet
 pub stays_at : (tells : Type 0) (d : Directory) (calls : List Call) (core : Core) (j : InHand) → IsGoing tells d calls core j → tells → (s : State) → Holds d core s → EachSince calls calls (OpensAsBefore d s)

@@ -1,5 +1,5 @@
 -- The journal is compacted.
-use Rattle.std.specs.Prelude.{◌≡◌, ◌≢◌, ℕ, List, None, Result, Ok, Err}
+use Rattle.std.specs.Prelude.{◌≡◌, ◌≢◌, ◌+◌, ◌-◌, ◌^◌, ℕ, min, List, length, None, Result, Ok, Err, IfErr, OnOk}
 use Rattle.gts_traits.specs.Calls.{Call}
 use Rattle.gts_traits.specs.Disk.{seen}
 use Rattle.gts_traits.specs.Moments.{EachSince}
@@ -11,14 +11,18 @@ use Rattle.gts_event.specs.declared.fault.SwitchFault.{SwitchFault}
 use Rattle.gts_event.specs.declared.fault.SwitchFault.TheVariants.{DiskFault, Full, Stopped, NoMemory}
 use Rattle.gts_core.specs.Core.{Core, Holds}
 use Rattle.gts_journal.specs.Law.{OpensAsBefore}
-use Rattle.gts_opening.specs.Journal.{selected}
+use Rattle.gts_opening.specs.Journal.{selected, checkpoint_text}
 use Rattle.gts_opening.specs.Room.{compacted_size, full_compacted}
 use Rattle.gts_checkpoint.specs.{checkpoint_file}
+use Rattle.gts_turns.specs.Turns.{HasTurnCause}
+use Rattle.gts_engine.specs.declared.room.CheckpointFull.{CheckpointFull}
 use Rattle.gts_engine.specs.declared.mode.SayMode.{SayMode}
 use Rattle.gts_engine.specs.declared.parts.Parts.{Parts}
-use Rattle.gts_engine.specs.Engine.{Engine, shown}
+use Rattle.gts_engine.specs.Engine.{Engine, engine_of, shown}
 use Rattle.gts_engine.specs.Origin.{Origin, compacted_after}
 use Rattle.gts_engine.specs.Keeping.{IsLeft, IsFullCompacted, Keeps}
+use Rattle.gts_engine.specs.Going.{stopped_after}
+use Rattle.gts_engine.specs.Parts.{IsSound}
 
 -- The journal was to be compacted, with this answer: the engine stands for the same entries, behind which the journal was
 -- compacted; or it was left behind them.
@@ -44,6 +48,15 @@ GivesRoom (Err (Stopped by)) d s = ⊥
 GivesRoom (Err NoMemory) d s = Unit {0}
 GivesRoom result d s = full_compacted d s ≡ None
 
+-- the size of the checkpoint of what is needed of a state, up to the greatest number
+abbrev pub IsSizeAt : Directory → State → ℕ → Type 0
+IsSizeAt d s size = size ≡ min (length (checkpoint_text (need d s))) (2 ^ 64 - 1)
+
+-- a checkpoint and the draws that are due would pass the limit, and that is answered with the bytes; or there is room for them
+abbrev pub GivesCheckpoint : Result (Unit {0}) CheckpointFull → Directory → State → Type 0
+GivesCheckpoint (Err over) d s = IsFullCompacted d s (Full over.used over.need over.limit)
+GivesCheckpoint (Ok done) d s = full_compacted d s ≡ None
+
 -- an answer with which nothing changed
 abbrev pub IsIdleFault : Result (Unit {0}) SwitchFault → Type 0
 IsIdleFault (Err (Full used need limit)) = Unit {0}
@@ -64,6 +77,19 @@ abbrev pub IsWriteFault : SwitchFault → Type 0
 IsWriteFault DiskFault = Unit {0}
 IsWriteFault NoMemory = Unit {0}
 IsWriteFault _ = ⊥
+
+-- The journal of the parts of an engine that goes on was to go on in its other file, behind a checkpoint for which there is room.
+pub record Rewrites {P : Type 0} (tells : Type 0) (calls : P → List Call) (disk say : P → ℕ)
+    (result : Result (Unit {0}) SwitchFault) (old new : Parts P) : Type 0 where
+  pub compaction : IsCompaction tells calls result (engine_of old) (engine_of new)
+  pub sound : IsSound tells calls new
+  pub moments : tells → StaysAt old.directory old.core (calls old.station) (calls new.station)
+  pub written : tells → OnOk result ((s : State) → Holds old.directory old.core s
+      → IsRewritten old.directory s (calls old.station) (calls new.station) (new.journal.gate + 1))
+  pub stops : new.stopped ≡ stopped_after old.stopped result
+  pub kind : IfErr result IsWriteFault
+  pub unchanged : IsIdleFault result → new ≡ old
+  pub cause : HasTurnCause result (disk old.station) (disk new.station) (say old.station) (say new.station)
 
 -- what may be answered where a journal is to be compacted
 abbrev pub IsCompactFault : SwitchFault → Type 0

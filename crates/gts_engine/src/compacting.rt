@@ -1,50 +1,34 @@
-ghost use Rattle.std.specs.Prelude.{◌≡◌, ◌≢◌, ◌+◌, ◌-◌, ◌^◌, ◌<◌, ◌≤◌, ℕ, min, length, None, Some, Ok, Err, IfOk, IfSome, IfErr, OnOk, IsErrOf};
-ghost use Rattle.gts_traits.specs.{seen, said_by, EachSince};
-ghost use Rattle.gts_opening.specs.Journal.{selected, checkpoint_text, compacted_bytes};
-ghost use Rattle.gts_opening.specs.Room.{full_compacted};
-ghost use Rattle.gts_checkpoint.specs.{checkpoint_file, need_seal, FitBytes, HasWritten, WorksBeside};
-ghost use Rattle.gts_event.specs.State.{State};
-ghost use Rattle.gts_event.specs.Items.{need_of};
-ghost use Rattle.gts_event.specs.Need.{need as need_at};
-ghost use Rattle.gts_record.specs.Format.{held, written};
-ghost use Rattle.gts_journal.specs.{StandsOn, IsClosedAt, selecting, LeavesBoth};
-ghost use Rattle.gts_engine.specs.Words.{Rose, Holds, Needs, IsSound, stopped_after, HasTurnCause, IsUnchanged, engine_of};
-ghost use Rattle.gts_engine.specs.Compacting.{IsCompaction, IsRewritten, GivesRoom, IsIdleFault, IsBehind, StaysAt, IsWriteFault, IsCompactFault, IsRoomFault};
+ghost use Rattle.std.specs.Prelude.{◌≡◌, ◌≢◌, ◌-◌, ◌^◌, ◌<◌, ◌≤◌, ℕ, min, length, None, IfOk, IfErr, OnOk, IsErrOf};
+ghost use Rattle.gts_engine.specs.Words.{Rose, State, Holds, Needs, need_of, IsSound, stopped_after, seen, said_by, EachSince};
+ghost use Rattle.gts_engine.specs.Words.{StandsOn, IsClosedAt, LeavesBoth, selecting, held, written, checkpoint_text, compacted_bytes, full_compacted};
+ghost use Rattle.gts_engine.specs.Words.{need_seal, FitBytes, HasWritten, WorksBeside};
+ghost use Rattle.gts_engine.specs.Compacting.{Rewrites, GivesRoom, IsBehind, IsSizeAt, IsWriteFault, IsRoomFault};
 
 use crate::parts::Parts;
-use gts_checkpoint::{WriteFault, size, write};
+use crate::room::{check_checkpoint, compacted_size};
+use gts_checkpoint::{WriteFault, write};
 use gts_core::a_core_has_the_waiting_draws_of_its_state;
 use gts_event::{Device, Need, SwitchFault};
-use gts_journal::Version;
 use gts_traits::Station;
 use std::alloc::Global;
 
-/// The bytes of a compacted journal beside its checkpoint and the seal: header, and two gates.
-const BESIDE_CHECKPOINT: u64 = 42;
-
 /// Whether a checkpoint of this size leaves room for all draws that are due.
-fn check_checkpoint<P: Station>(parts: &Parts<P>, size: u64) -> Result<(), SwitchFault>
+pub fn check_room<P: Station>(parts: &Parts<P>, size: u64) -> Result<(), SwitchFault>
     requires going { parts.now.stopped ≡ None }
     requires sound { IsSound P.tells P.calls parts.now }
     ensures room { (s : State) → Holds parts.now.directory parts.now.core s
-        → size ≡ min (length (checkpoint_text (need_at parts.now.directory s))) (2 ^ 64 - 1)
-        → GivesRoom result parts.now.directory s }
+        → IsSizeAt parts.now.directory s size → GivesRoom result parts.now.directory s }
     ensures kind { IfErr result IsRoomFault }
 {
     a_core_has_the_waiting_draws_of_its_state();
-    let limit = parts.directory.limit();
-    let version = Version::written();
-    let seal = version.seal_size() as u64;
-    let draws = version.draw_size() * parts.core.owed();
-    let wanted = size.saturating_add(seal + draws);
-    if wanted.saturating_add(BESIDE_CHECKPOINT) > limit {
-        return Err(SwitchFault::Full {
-            used: BESIDE_CHECKPOINT,
-            need: wanted,
-            limit,
-        });
+    match check_checkpoint(&parts.directory, size, parts.core.owed()) {
+        Ok(()) => Ok(()),
+        Err(full) => Err(SwitchFault::Full {
+            used: full.used,
+            need: full.need,
+            limit: full.limit,
+        }),
     }
-    Ok(())
 }
 
 /// Writes the checkpoint of a need to a file that isn't selected, and answers its seal. A failure of the disk stops the engine.
@@ -123,7 +107,7 @@ fn choose<P: Station>(
 }
 
 /// Writes the checkpoint of a need, for which there is room, to the file that isn't selected, and selects that.
-fn rewrite<P: Station>(
+pub fn rewrite<P: Station>(
     parts: &mut Parts<P>,
     alloc: Global,
     need: &Need,
@@ -135,67 +119,15 @@ fn rewrite<P: Station>(
     requires size { size ≡ min (length (checkpoint_text (need_of need.now))) (2 ^ 64 - 1) }
     requires free { (s : State) → Holds parts.old.directory parts.old.core s
         → full_compacted parts.old.directory s ≡ None }
-    ensures compaction { IsCompaction P.tells P.calls result
-        (engine_of parts.old) (engine_of parts.new) }
-    ensures sound { IsSound P.tells P.calls parts.new }
-    ensures moments { P.tells → StaysAt parts.old.directory parts.old.core
-        (P.calls parts.old.station) (P.calls parts.new.station) }
-    ensures written { P.tells → OnOk result ((s : State)
-        → Holds parts.old.directory parts.old.core s
-        → IsRewritten parts.old.directory s (P.calls parts.old.station)
-        (P.calls parts.new.station) (parts.new.journal.gate + 1)) }
-    ensures stops { parts.new.stopped ≡ stopped_after parts.old.stopped result }
-    ensures kind { IfErr result IsWriteFault }
-    ensures unchanged { IsIdleFault result → parts.new ≡ parts.old }
-    ensures cause { HasTurnCause result
-        (P.disk_faults parts.old.station) (P.disk_faults parts.new.station)
-        (P.say_faults parts.old.station) (P.say_faults parts.new.station) }
+    ensures { Rewrites P.tells P.calls P.disk_faults P.say_faults result parts.old parts.new }
 {
     // A directory is within its bounds.
     let _ = (parts.directory.circuits(), parts.directory.limit());
     let mark = parts.directory.mark();
     let other = 1 - parts.journal.file();
-    let used = BESIDE_CHECKPOINT + Version::written().seal_size() as u64 + size;
+    let used = compacted_size(size);
     match put(parts, alloc, other, mark, need) {
         Ok(seal) => choose(parts, other, used, seal),
-        Err(fault) => Err(fault),
-    }
-}
-
-/// Compacts the journal: it goes on in the other file, with a checkpoint of what the core needs.
-pub fn compact<P: Station>(parts: &mut Parts<P>, alloc: Global) -> Result<(), SwitchFault>
-    requires { IsSound P.tells P.calls parts.old }
-    ensures compaction { IsCompaction P.tells P.calls result
-        (engine_of parts.old) (engine_of parts.new) }
-    ensures sound { IsSound P.tells P.calls parts.new }
-    ensures moments { P.tells → parts.old.stopped ≡ None → StaysAt parts.old.directory
-        parts.old.core (P.calls parts.old.station) (P.calls parts.new.station) }
-    ensures written { P.tells → OnOk result ((s : State)
-        → Holds parts.old.directory parts.old.core s
-        → IsRewritten parts.old.directory s (P.calls parts.old.station)
-        (P.calls parts.new.station) (parts.new.journal.gate + 1)) }
-    ensures full { (s : State) → parts.old.stopped ≡ None
-        → Holds parts.old.directory parts.old.core s
-        → GivesRoom result parts.old.directory s }
-    ensures stopped { IfSome parts.old.stopped
-        (λ by. (result ≡ Err (SwitchFault.Stopped by)) × (parts.new ≡ parts.old)) }
-    ensures stops { parts.new.stopped ≡ stopped_after parts.old.stopped result }
-    ensures kind { IfErr result IsCompactFault }
-    ensures unchanged { IsIdleFault result → parts.new ≡ parts.old }
-    ensures cause { HasTurnCause result
-        (P.disk_faults parts.old.station) (P.disk_faults parts.new.station)
-        (P.say_faults parts.old.station) (P.say_faults parts.new.station) }
-{
-    if let Some(by) = parts.stopped {
-        return Err(SwitchFault::Stopped { by });
-    }
-    let need = match parts.core.need(alloc) {
-        Ok(need) => need,
-        Err(_) => return Err(SwitchFault::NoMemory),
-    };
-    let size = size(&need);
-    match check_checkpoint(parts, size) {
-        Ok(()) => rewrite(parts, alloc, &need, size),
         Err(fault) => Err(fault),
     }
 }

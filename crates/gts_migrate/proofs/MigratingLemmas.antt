@@ -38,8 +38,8 @@ use Rattle.gts_recovery.specs.Opened.{IsOpenedAny, opens_any, files_open_any}
 use Rattle.gts_migrate.specs.declared.migrating.MigrateFault.{MigrateFault}
 use Rattle.gts_migrate.specs.declared.migrating.MigrateFault.TheVariants.{Open, Full, DiskFault, NoMemory}
 use Rattle.gts_migrate.specs.Migrating.{OpensEither, GivesRoomFor, AnswersOpening, LeavesFiles, IsDiskFaultOf, IsWriteFaultOf, IsMigrated, HasFewDue, IsWide, CanMigrate, FitsFor}
+use Rattle.gts_engine.proofs.LawLemmas.{ends_there}
 use Rattle.gts_migrate.proofs.RoomLemmas.{times_some}
-use Rattle.gts_migrate.proofs.RoomLemmas.{ends_there}
 
 -- ---- needs and states with further circuits
 

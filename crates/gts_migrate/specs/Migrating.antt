@@ -31,7 +31,8 @@ use Rattle.gts_migrate.specs.declared.migrating.MigrateFault.TheVariants.{Open, 
 -- Nothing is said; and the files open under the old directory, in either version, to this need, or under the new one to the
 -- wider need.
 abbrev pub OpensEither : Directory → Directory → Need → Files → Outside → Type 0
-OpensEither old new n files outside = (outside ≡ []) × ((opens_any old files ≡ Ok n) ⊎ (opens new files ≡ Ok (wider (length new.circuits) n)))
+OpensEither old new n files outside =
+    (outside ≡ []) × ((opens_any old files ≡ Ok n) ⊎ (opens new files ≡ Ok (wider (length new.circuits) n)))
 
 -- The other file is selected. It is the checkpoint of the wider need alone, under the mark of the new directory; and whatever a
 -- crash leaves opens under that to what the old files opened to, opened again, and wider.

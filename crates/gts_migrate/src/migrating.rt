@@ -2,6 +2,7 @@ ghost use Rattle.std.specs.Prelude.{◌≡◌, ◌-◌, ◌^◌, ◌≤◌, ◌�
 ghost use Rattle.gts_traits.specs.{Did, Syncs, seen, said_by, Rose, EachSince};
 ghost use Rattle.gts_core.specs.Core.{Holds};
 ghost use Rattle.gts_journal.specs.{StandsOn, OnlySyncs};
+ghost use Rattle.gts_engine.specs.Compacting.{IsSizeAt};
 ghost use Rattle.gts_migrate.specs.Migrating.{DirectoryOf, Extends, State, NeedOf, circuit_need_of, need_of, unused_of, need_at, restarted, wider, widened, checkpoint_text};
 ghost use Rattle.gts_migrate.specs.Migrating.{opens_any, files_open_any, OpensEither, IsMigrated, GivesRoomFor, AnswersOpening, WasOpened, LeavesFiles, IsDiskFaultOf};
 ghost use Rattle.gts_migrate.specs.Migrating.{IsRoomFaultOf, IsWriteFaultOf, HasFewDue, IsWide, CanMigrate, FitsFor};
@@ -9,14 +10,12 @@ ghost use Rattle.gts_migrate.specs.Migrating.{IsRoomFaultOf, IsWriteFaultOf, Has
 use gts_checkpoint::{WriteFault, size, write};
 use gts_core::{Core, a_core_has_the_waiting_draws_of_its_state};
 use gts_directory::Directory;
+use gts_engine::{check_checkpoint, compacted_size};
 use gts_event::{CircuitNeed, Need, Places};
-use gts_journal::{Journal, Version};
+use gts_journal::Journal;
 use gts_recovery::{OpenFault, open_core_any};
 use gts_traits::{NoMemory, Station};
 use std::alloc::Global;
-
-/// The bytes of a compacted journal beside its checkpoint and the seal: header, and two gates.
-const BESIDE_CHECKPOINT: u64 = 42;
 
 /// Why a journal was not taken over.
 #[derive(Clone, Copy, Debug, PartialEq, Eq)]
@@ -67,25 +66,19 @@ fn check_room(core: &Core, old: &Directory, new: &Directory, size: u64) -> Resul
     requires { HasFewDue old.now core.now }
     ensures room { (s : State) → Holds old.now core.now s
         → let t = widened (length new.now.circuits) s in
-        size ≡ min (length (checkpoint_text (need_at new.now t))) (2 ^ 64 - 1)
-        → GivesRoomFor result new.now t }
+        IsSizeAt new.now t size → GivesRoomFor result new.now t }
     ensures kind { IfErr result IsRoomFaultOf }
 {
     let _ = old;
     a_core_has_the_waiting_draws_of_its_state();
-    let limit = new.limit();
-    let version = Version::written();
-    let seal = version.seal_size() as u64;
-    let draws = version.draw_size() * core.owed();
-    let wanted = size.saturating_add(seal + draws);
-    if wanted.saturating_add(BESIDE_CHECKPOINT) > limit {
-        return Err(MigrateFault::Full {
-            used: BESIDE_CHECKPOINT,
-            need: wanted,
-            limit,
-        });
+    match check_checkpoint(new, size, core.owed()) {
+        Ok(()) => Ok(()),
+        Err(full) => Err(MigrateFault::Full {
+            used: full.used,
+            need: full.need,
+            limit: full.limit,
+        }),
     }
-    Ok(())
 }
 
 /// The need that a core has under the new directory, with the size of its checkpoint, for which there is room.
@@ -150,7 +143,7 @@ fn rewrite<P: Station>(
     let _ = (new.circuits(), new.limit());
     let mut journal = journal;
     let other = 1 - journal.file();
-    let used = BESIDE_CHECKPOINT + Version::written().seal_size() as u64 + size;
+    let used = compacted_size(size);
     match write(alloc, station, other, new.mark(), need) {
         Ok(seal) => match journal.select(station, other, used, seal) {
             Ok(()) => Ok(()),
@@ -179,7 +172,8 @@ fn take_over<P: Station>(
     ensures full { P.tells → (s : State) (used : ℕ)
         → files_open_any old.now (seen (P.calls station.old)) ≡ Ok (s, used)
         → GivesRoomFor result new.now (widened (length new.now.circuits) s) }
-    ensures opening { P.tells → AnswersOpening result (opens_any old.now (seen (P.calls station.old))) }
+    ensures opening { P.tells
+        → AnswersOpening result (opens_any old.now (seen (P.calls station.old))) }
     ensures silent { P.tells → said_by (P.calls station.new) ≡ said_by (P.calls station.old) }
     ensures told { P.tells → LeavesFiles result
         → OnlySyncs (P.calls station.old) (P.calls station.new) }
@@ -226,7 +220,8 @@ pub fn migrate<P: Station>(
         → GivesRoomFor result.1 new (widened (length new.circuits) s) }
 
     // A fault of the files is answered exactly where they open to it, in the version that they have.
-    ensures opening { P.tells → AnswersOpening result.1 (opens_any old.now (seen (P.calls station))) }
+    ensures opening { P.tells
+        → AnswersOpening result.1 (opens_any old.now (seen (P.calls station))) }
     ensures silent { P.tells → said_by (P.calls result.0) ≡ said_by (P.calls station) }
     ensures told { P.tells → LeavesFiles result.1 → OnlySyncs (P.calls station) (P.calls result.0) }
     ensures disk { IsDiskFaultOf result.1

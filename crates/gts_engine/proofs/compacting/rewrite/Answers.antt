@@ -1,11 +1,12 @@
-use Rattle.std.proofs.Common.{rules, ◌≡◌, ◌+◌, ◌-◌, ◌<◌, ℕ, Result, Err, None, length, ap, subst, ◌∙◌, arith}
+use Rattle.std.proofs.Common.{rules, ◌≡◌, ◌-◌, ◌<◌, ℕ, Result, Err, None, length, ap, subst, ◌∙◌, arith}
 use Rattle.std.specs.Prelude.{IfErr}
 use Rattle.gts_event.specs.Items.{need_of}
 use Rattle.gts_event.specs.declared.fault.SwitchFault.{SwitchFault}
 use Rattle.gts_event.specs.declared.fault.SwitchFault.TheVariants.{DiskFault}
-use Rattle.gts_record.specs.Format.{held, seal_size, written}
+use Rattle.gts_record.specs.Format.{held, written}
 use Rattle.gts_opening.specs.Journal.{compacted_bytes}
-use Rattle.gts_engine.proofs.CompactLemmas.{sound, fit_bytes, size_free}
+use Rattle.gts_engine.proofs.CheckpointLemmas.{fit_bytes}
+use Rattle.gts_engine.proofs.CompactLemmas.{sound, size_free, size_few}
 use Rattle.gts_engine.proofs.RewritingLemmas.{moments_put, failed_put, whole_put, moments_all, compaction_by, sound_by, written_by}
 use Rattle.gts_engine.proofs.compacting.rewrite.Goals as goal
 
@@ -21,6 +22,12 @@ put-requires-clause-fits g c =
     let n_is = c.requires.need p.directory g0.state g0.holds in
     fit_bytes p.directory _ p.within.circuits (sound g.P.Station.tells p.directory (g.P.Station.calls p.station) p.core p.journal g0 _ n_is)
 
+pub compacted_size-used-requires : goal.compacted_size-used-requires
+compacted_size-used-requires g c =
+    let p = c.args.parts.now in
+    let g0 = c.requires.sound c.requires.going in
+    size_few p.directory g0.state (need_of c.args.need.now) c.args.size (c.requires.need p.directory g0.state g0.holds) c.requires.size (c.requires.free g0.state g0.holds) (omega (arith, p.within.limit))
+
 pub choose-requires-clause-whole : goal.choose-requires-clause-whole
 choose-requires-clause-whole g c =
     let p = c.args.parts.now in
@@ -31,15 +38,14 @@ choose-requires-clause-whole g c =
     let file_is : file ≡ 1 - p.journal.file = ap (λ (k : ℕ). 1 - k) c.file-other.ensures.file in
     let mark = c.mark-mark.result in
     let long : length mark ≡ 32 = search rules in
-    let used : ℕ = 42 + c.seal_size.result + c.args.size in
+    let used : ℕ = c.compacted_size-used.result in
     let used_is : used ≡ compacted_bytes written n =
-    ap (λ (k : ℕ). 42 + k + c.args.size) (c.seal_size.ensures.value ∙ ap seal_size c.written.ensures)
-    ∙ size_free p.directory g0.state n c.args.size (c.requires.need p.directory g0.state g0.holds) c.requires.size (c.requires.free g0.state g0.holds) (omega (arith, p.within.limit)) in
+    c.compacted_size-used.ensures ∙ size_free p.directory g0.state n c.args.size (c.requires.need p.directory g0.state g0.holds) c.requires.size (c.requires.free g0.state g0.holds) (omega (arith, p.within.limit)) in
     let q = c.put.new.parts in
     whole_put g.P.Station.tells g.P.Station.calls p c.requires.going g0 n c.requires.need c.requires.free low file file_is mark c.mark-mark.ensures long used used_is q c.put.ensures.rest c.put.ensures.beside c.in-Ok.ensures.written (held written c.in-Ok.seal) c.in-Ok.ensures.seal
 
-pub returns-in-Ok-clause-compaction : goal.returns-in-Ok-clause-compaction
-returns-in-Ok-clause-compaction g c =
+pub returns-in-Ok : goal.returns-in-Ok
+returns-in-Ok g c =
     let p = c.args.parts.now in
     let g0 = c.requires.sound c.requires.going in
     let n = need_of c.args.need.now in
@@ -48,16 +54,24 @@ returns-in-Ok-clause-compaction g c =
     let file_is : file ≡ 1 - p.journal.file = ap (λ (k : ℕ). 1 - k) c.file-other.ensures.file in
     let mark = c.mark-mark.result in
     let long : length mark ≡ 32 = search rules in
-    let used : ℕ = 42 + c.seal_size.result + c.args.size in
+    let used : ℕ = c.compacted_size-used.result in
     let used_is : used ≡ compacted_bytes written n =
-    ap (λ (k : ℕ). 42 + k + c.args.size) (c.seal_size.ensures.value ∙ ap seal_size c.written.ensures)
-    ∙ size_free p.directory g0.state n c.args.size (c.requires.need p.directory g0.state g0.holds) c.requires.size (c.requires.free g0.state g0.holds) (omega (arith, p.within.limit)) in
+    c.compacted_size-used.ensures ∙ size_free p.directory g0.state n c.args.size (c.requires.need p.directory g0.state g0.holds) c.requires.size (c.requires.free g0.state g0.holds) (omega (arith, p.within.limit)) in
     let q = c.put.new.parts in
     let q_none : q.stopped ≡ None = c.in-Ok.ensures.stops ∙ c.requires.going in
-    compaction_by g.P.Station.tells g.P.Station.calls p c.requires.going g0 n c.requires.need c.requires.free low file file_is mark c.mark-mark.ensures long used used_is q c.put.ensures.rest c.put.ensures.beside c.in-Ok.ensures.written (held written c.in-Ok.seal) c.in-Ok.ensures.seal c.choose.new.parts c.choose.ensures.rest c.choose.ensures.silent c.choose.ensures.moments c.choose.result q_none c.choose.ensures.stops (λ e is. fault_of _ c.choose.result e is c.choose.ensures.fault) c.choose.ensures.place c.choose.ensures.stands c.choose.ensures.files
+    record {
+      compaction = compaction_by g.P.Station.tells g.P.Station.calls p c.requires.going g0 n c.requires.need c.requires.free low file file_is mark c.mark-mark.ensures long used used_is q c.put.ensures.rest c.put.ensures.beside c.in-Ok.ensures.written (held written c.in-Ok.seal) c.in-Ok.ensures.seal c.choose.new.parts c.choose.ensures.rest c.choose.ensures.silent c.choose.ensures.moments c.choose.result q_none c.choose.ensures.stops (λ e is. fault_of _ c.choose.result e is c.choose.ensures.fault) c.choose.ensures.place c.choose.ensures.stands c.choose.ensures.files;
+      sound = sound_by g.P.Station.tells g.P.Station.calls p c.requires.going g0 n c.requires.need c.requires.free low file file_is mark c.mark-mark.ensures long used used_is q c.put.ensures.rest c.put.ensures.beside c.in-Ok.ensures.written (held written c.in-Ok.seal) c.in-Ok.ensures.seal c.choose.new.parts c.choose.ensures.rest c.choose.ensures.silent c.choose.ensures.moments c.choose.result q_none c.choose.ensures.stops (λ e is. fault_of _ c.choose.result e is c.choose.ensures.fault) c.choose.ensures.place c.choose.ensures.stands c.choose.ensures.files;
+      moments = moments_all g.P.Station.tells g.P.Station.calls p c.requires.going g0 n c.requires.need c.requires.free low file file_is mark c.mark-mark.ensures long used used_is q c.put.ensures.rest c.put.ensures.beside c.in-Ok.ensures.written (held written c.in-Ok.seal) c.in-Ok.ensures.seal c.choose.new.parts c.choose.ensures.rest c.choose.ensures.silent c.choose.ensures.moments;
+      written = written_by g.P.Station.tells g.P.Station.calls p c.requires.going g0 n c.requires.need c.requires.free low file file_is mark c.mark-mark.ensures long used used_is q c.put.ensures.rest c.put.ensures.beside c.in-Ok.ensures.written (held written c.in-Ok.seal) c.in-Ok.ensures.seal c.choose.new.parts c.choose.ensures.rest c.choose.ensures.silent c.choose.ensures.moments c.choose.result c.choose.ensures.place c.choose.ensures.stands c.choose.ensures.files;
+      stops = search rules;
+      kind = search rules;
+      unchanged = search rules;
+      cause = search rules;
+    }
 
-pub returns-in-Ok-clause-sound : goal.returns-in-Ok-clause-sound
-returns-in-Ok-clause-sound g c =
+pub returns-in-Err : goal.returns-in-Err
+returns-in-Err g c =
     let p = c.args.parts.now in
     let g0 = c.requires.sound c.requires.going in
     let n = need_of c.args.need.now in
@@ -66,78 +80,17 @@ returns-in-Ok-clause-sound g c =
     let file_is : file ≡ 1 - p.journal.file = ap (λ (k : ℕ). 1 - k) c.file-other.ensures.file in
     let mark = c.mark-mark.result in
     let long : length mark ≡ 32 = search rules in
-    let used : ℕ = 42 + c.seal_size.result + c.args.size in
+    let used : ℕ = c.compacted_size-used.result in
     let used_is : used ≡ compacted_bytes written n =
-    ap (λ (k : ℕ). 42 + k + c.args.size) (c.seal_size.ensures.value ∙ ap seal_size c.written.ensures)
-    ∙ size_free p.directory g0.state n c.args.size (c.requires.need p.directory g0.state g0.holds) c.requires.size (c.requires.free g0.state g0.holds) (omega (arith, p.within.limit)) in
+    c.compacted_size-used.ensures ∙ size_free p.directory g0.state n c.args.size (c.requires.need p.directory g0.state g0.holds) c.requires.size (c.requires.free g0.state g0.holds) (omega (arith, p.within.limit)) in
     let q = c.put.new.parts in
-    let q_none : q.stopped ≡ None = c.in-Ok.ensures.stops ∙ c.requires.going in
-    sound_by g.P.Station.tells g.P.Station.calls p c.requires.going g0 n c.requires.need c.requires.free low file file_is mark c.mark-mark.ensures long used used_is q c.put.ensures.rest c.put.ensures.beside c.in-Ok.ensures.written (held written c.in-Ok.seal) c.in-Ok.ensures.seal c.choose.new.parts c.choose.ensures.rest c.choose.ensures.silent c.choose.ensures.moments c.choose.result q_none c.choose.ensures.stops (λ e is. fault_of _ c.choose.result e is c.choose.ensures.fault) c.choose.ensures.place c.choose.ensures.stands c.choose.ensures.files
-
-pub returns-in-Ok-clause-moments : goal.returns-in-Ok-clause-moments
-returns-in-Ok-clause-moments g c =
-    let p = c.args.parts.now in
-    let g0 = c.requires.sound c.requires.going in
-    let n = need_of c.args.need.now in
-    let low : p.journal.file < 2 = omega (arith, c.file-other.ensures.file, c.file-other.ensures.below) in
-    let file : ℕ = 1 - c.file-other.result in
-    let file_is : file ≡ 1 - p.journal.file = ap (λ (k : ℕ). 1 - k) c.file-other.ensures.file in
-    let mark = c.mark-mark.result in
-    let long : length mark ≡ 32 = search rules in
-    let used : ℕ = 42 + c.seal_size.result + c.args.size in
-    let used_is : used ≡ compacted_bytes written n =
-    ap (λ (k : ℕ). 42 + k + c.args.size) (c.seal_size.ensures.value ∙ ap seal_size c.written.ensures)
-    ∙ size_free p.directory g0.state n c.args.size (c.requires.need p.directory g0.state g0.holds) c.requires.size (c.requires.free g0.state g0.holds) (omega (arith, p.within.limit)) in
-    let q = c.put.new.parts in
-    moments_all g.P.Station.tells g.P.Station.calls p c.requires.going g0 n c.requires.need c.requires.free low file file_is mark c.mark-mark.ensures long used used_is q c.put.ensures.rest c.put.ensures.beside c.in-Ok.ensures.written (held written c.in-Ok.seal) c.in-Ok.ensures.seal c.choose.new.parts c.choose.ensures.rest c.choose.ensures.silent c.choose.ensures.moments
-
-pub returns-in-Ok-clause-written : goal.returns-in-Ok-clause-written
-returns-in-Ok-clause-written g c =
-    let p = c.args.parts.now in
-    let g0 = c.requires.sound c.requires.going in
-    let n = need_of c.args.need.now in
-    let low : p.journal.file < 2 = omega (arith, c.file-other.ensures.file, c.file-other.ensures.below) in
-    let file : ℕ = 1 - c.file-other.result in
-    let file_is : file ≡ 1 - p.journal.file = ap (λ (k : ℕ). 1 - k) c.file-other.ensures.file in
-    let mark = c.mark-mark.result in
-    let long : length mark ≡ 32 = search rules in
-    let used : ℕ = 42 + c.seal_size.result + c.args.size in
-    let used_is : used ≡ compacted_bytes written n =
-    ap (λ (k : ℕ). 42 + k + c.args.size) (c.seal_size.ensures.value ∙ ap seal_size c.written.ensures)
-    ∙ size_free p.directory g0.state n c.args.size (c.requires.need p.directory g0.state g0.holds) c.requires.size (c.requires.free g0.state g0.holds) (omega (arith, p.within.limit)) in
-    let q = c.put.new.parts in
-    written_by g.P.Station.tells g.P.Station.calls p c.requires.going g0 n c.requires.need c.requires.free low file file_is mark c.mark-mark.ensures long used used_is q c.put.ensures.rest c.put.ensures.beside c.in-Ok.ensures.written (held written c.in-Ok.seal) c.in-Ok.ensures.seal c.choose.new.parts c.choose.ensures.rest c.choose.ensures.silent c.choose.ensures.moments c.choose.result c.choose.ensures.place c.choose.ensures.stands c.choose.ensures.files
-
-pub returns-in-Err-clause-moments : goal.returns-in-Err-clause-moments
-returns-in-Err-clause-moments g c =
-    let p = c.args.parts.now in
-    let g0 = c.requires.sound c.requires.going in
-    let n = need_of c.args.need.now in
-    let low : p.journal.file < 2 = omega (arith, c.file-other.ensures.file, c.file-other.ensures.below) in
-    let file : ℕ = 1 - c.file-other.result in
-    let file_is : file ≡ 1 - p.journal.file = ap (λ (k : ℕ). 1 - k) c.file-other.ensures.file in
-    let mark = c.mark-mark.result in
-    let long : length mark ≡ 32 = search rules in
-    let used : ℕ = 42 + c.seal_size.result + c.args.size in
-    let used_is : used ≡ compacted_bytes written n =
-    ap (λ (k : ℕ). 42 + k + c.args.size) (c.seal_size.ensures.value ∙ ap seal_size c.written.ensures)
-    ∙ size_free p.directory g0.state n c.args.size (c.requires.need p.directory g0.state g0.holds) c.requires.size (c.requires.free g0.state g0.holds) (omega (arith, p.within.limit)) in
-    let q = c.put.new.parts in
-    moments_put g.P.Station.tells g.P.Station.calls p c.requires.going g0 n c.requires.need c.requires.free low file file_is mark c.mark-mark.ensures long used used_is q c.put.ensures.rest c.put.ensures.beside
-
-pub returns-in-Err-clause-compaction : goal.returns-in-Err-clause-compaction
-returns-in-Err-clause-compaction g c =
-    let p = c.args.parts.now in
-    let g0 = c.requires.sound c.requires.going in
-    let n = need_of c.args.need.now in
-    let low : p.journal.file < 2 = omega (arith, c.file-other.ensures.file, c.file-other.ensures.below) in
-    let file : ℕ = 1 - c.file-other.result in
-    let file_is : file ≡ 1 - p.journal.file = ap (λ (k : ℕ). 1 - k) c.file-other.ensures.file in
-    let mark = c.mark-mark.result in
-    let long : length mark ≡ 32 = search rules in
-    let used : ℕ = 42 + c.seal_size.result + c.args.size in
-    let used_is : used ≡ compacted_bytes written n =
-    ap (λ (k : ℕ). 42 + k + c.args.size) (c.seal_size.ensures.value ∙ ap seal_size c.written.ensures)
-    ∙ size_free p.directory g0.state n c.args.size (c.requires.need p.directory g0.state g0.holds) c.requires.size (c.requires.free g0.state g0.holds) (omega (arith, p.within.limit)) in
-    let q = c.put.new.parts in
-    failed_put g.P.Station.tells g.P.Station.calls p c.requires.going g0 n c.requires.need c.requires.free low file file_is mark c.mark-mark.ensures long used used_is q c.put.ensures.rest c.put.ensures.beside c.in-Err.fault c.in-Err.ensures.fault c.in-Err.ensures.stops
+    record {
+      compaction = failed_put g.P.Station.tells g.P.Station.calls p c.requires.going g0 n c.requires.need c.requires.free low file file_is mark c.mark-mark.ensures long used used_is q c.put.ensures.rest c.put.ensures.beside c.in-Err.fault c.in-Err.ensures.fault c.in-Err.ensures.stops;
+      sound = search rules;
+      moments = moments_put g.P.Station.tells g.P.Station.calls p c.requires.going g0 n c.requires.need c.requires.free low file file_is mark c.mark-mark.ensures long used used_is q c.put.ensures.rest c.put.ensures.beside;
+      written = λ tell. tt;
+      stops = search rules;
+      kind = search rules;
+      unchanged = search rules;
+      cause = search rules;
+    }

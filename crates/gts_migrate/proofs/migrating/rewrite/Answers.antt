@@ -1,13 +1,16 @@
 use Rattle.std.proofs.Common.{rules, ◌≡◌, ◌+◌, ◌-◌, ◌^◌, ◌<◌, ◌≤◌, ℕ, List, length, sym, ap, subst, ◌∙◌, arith}
 use Rattle.gts_event.specs.Items.{need_of}
-use Rattle.gts_record.specs.Format.{held, seal_size, written}
+use Rattle.gts_record.specs.Format.{held, written}
 use Rattle.gts_opening.specs.Journal.{compacted_bytes}
 use Rattle.gts_checkpoint.specs.Alone.{WorksBeside}
 use Rattle.gts_checkpoint.specs.Writing.{HasWritten}
 use Rattle.gts_journal.specs.{selecting}
-use Rattle.gts_migrate.proofs.RoomLemmas.{fit_bytes}
+use Rattle.gts_engine.proofs.LawLemmas.{fit_bytes}
 use Rattle.gts_migrate.proofs.MigratingLemmas.{writing, all_moments, migrated, closed_there, still_stands}
 use Rattle.gts_migrate.proofs.migrating.rewrite.Goals as goal
+
+pub compacted_size-used-requires : goal.compacted_size-used-requires
+compacted_size-used-requires g c = omega (arith, c.requires.size, c.requires.fits.room, c.limit.ensures.value, c.limit.ensures.range.1)
 
 pub write-requires-clause-fits : goal.write-requires-clause-fits
 write-requires-clause-fits g c =
@@ -30,10 +33,9 @@ pub select-requires-clause-closed : goal.select-requires-clause-closed
 select-requires-clause-closed g c = λ tell.
     let n = need_of c.args.need.now in
     let long : length c.mark.result ≡ 32 = search rules in
-    let seal : c.seal_size.result ≡ seal_size written = c.seal_size.ensures.value ∙ ap seal_size c.written.ensures in
     let low : c.args.new.now.limit < 2 ^ 63 = omega (arith, c.limit.ensures.value, c.limit.ensures.range.1) in
-    let used_is : 42 + c.seal_size.result + c.args.size ≡ compacted_bytes written n = omega (arith, seal, c.requires.size, c.requires.fits.room, low) in
-    closed_there c.mark.result n (1 - c.file-other.result) (g.P.Station.calls c.write.new.station) c.args.journal (42 + c.seal_size.result + c.args.size)
+    let used_is : c.compacted_size-used.result ≡ compacted_bytes written n = omega (arith, c.compacted_size-used.ensures, c.requires.size, c.requires.fits.room, low) in
+    closed_there c.mark.result n (1 - c.file-other.result) (g.P.Station.calls c.write.new.station) c.args.journal c.compacted_size-used.result
     (c.in-Ok.ensures.written tell) long used_is
 
 pub returns-in-Ok-select-clause-moments : goal.returns-in-Ok-select-clause-moments
@@ -85,7 +87,7 @@ returns-in-Ok-select-clause-written g c = λ tell from s can.
     let wrote : HasWritten new.mark n (1 - j.file) mid = subst (λ (mark : List ℕ). HasWritten mark n (1 - j.file) mid) c.mark.ensures there in
     let size : length new.mark ≡ 32 = ap (λ (mark : List ℕ). length mark) (sym c.mark.ensures) ∙ long in
     let limit : new.limit < 256 ^ 4 = omega (arith, c.limit.ensures.value, c.limit.ensures.range.1) in
-    let used : ℕ = 42 + c.seal_size.result + c.args.size in
+    let used : ℕ = c.compacted_size-used.result in
     let seal : List ℕ = held written c.in-Ok.seal in
     let at = c.in-Ok-select.ensures.place ∙ ap (λ (k : ℕ). selecting written k used seal j) file_is in
     migrated from new s n old j can low mid beside wrote c.requires.fits size limit (g.P.Station.calls c.select.new.station) c.select.new.self used seal at
