@@ -10,7 +10,8 @@ use Rattle.gts_connection.specs.Capture as capture
 use Rattle.gts_capture.specs.declared.head.Head.{Head}
 use Rattle.gts_capture.specs.declared.head_cursor.Stop.TheVariants.{Bad}
 use Rattle.gts_capture.specs.Heads.{head_of, IsPartIn}
-use Rattle.gts_capture.specs.Held.{Held, BeginsWithHead, IsStop, counted_to, IsBadAt, BadByte, EndsInHead}
+use Rattle.gts_capture.specs.Held.{Held, BeginsWithHead, IsStop, readable_from, IsBadAt, BadByte, EndsInHead}
+use Rattle.gts_connection.specs.declared.limits.TheConstants.{LONGEST_CAPTURE}
 
 -- ---- the part of a buffer from a start to an end
 
@@ -56,24 +57,32 @@ longest_head EndHead = omega arith
 pub part_is_short : (circuits : ℕ) (kind : CaptureKind) (bytes : List ℕ) → IsPartIn circuits kind bytes → length bytes < 12
 part_is_short circuits kind bytes h = omega (arith, longest_head h.0, ap length h.4, length-append bytes (h.1 ∷ h.2))
 
-pub stop_is_bad : (held : Held) (left : List ℕ) (behind at : ℕ) → IsStop held.circuits held.kind held.ahead (Bad behind) → at ≡ counted_to (held.at + (length held.ahead - behind))
+pub stop_is_bad : (held : Held) (left : List ℕ) (behind at : ℕ) → IsStop held.circuits held.kind held.ahead (Bad behind) → at ≡ held.at + (length held.ahead - behind)
     → IsBadAt held (held.ahead ++ left) at
 stop_is_bad held left behind at stop place =
     let front : List ℕ = stop.0 in
     let rest : List ℕ = stop.1 ∷ stop.2 in
     let text : held.ahead ++ left ≡ front ++ stop.1 ∷ (stop.2 ++ left) = ap (λ (xs : List ℕ). xs ++ left) stop.3 ∙ append_assoc front rest left in
     let good : length held.ahead - behind ≡ length front = omega (arith, ap length stop.3, length-append front rest, stop.4) in
-    BadByte front stop.1 (stop.2 ++ left) stop.5 stop.6 text (place ∙ ap (λ (n : ℕ). counted_to (held.at + n)) good)
+    BadByte front stop.1 (stop.2 ++ left) stop.5 stop.6 text (place ∙ ap (λ (n : ℕ). held.at + n) good)
 
 pub stop_is_inside : (held : Held) (behind : ℕ) → IsStop held.circuits held.kind held.ahead (Bad behind) → behind ≤ length held.ahead
 stop_is_inside held behind stop = omega (arith, ap length stop.3, length-append stop.0 (stop.1 ∷ stop.2), stop.4)
 
-pub end_is_bad : (held : Held) (left : List ℕ) (at : ℕ) → IsPartIn held.circuits held.kind held.ahead → left ≡ [] → at ≡ counted_to (held.at + (length held.ahead - 0))
+pub end_is_bad : (held : Held) (left : List ℕ) (at : ℕ) → IsPartIn held.circuits held.kind held.ahead → left ≡ [] → at ≡ held.at + (length held.ahead - 0)
     → IsBadAt held (held.ahead ++ left) at
 end_is_bad held left at part nothing place =
     let all : held.ahead ≡ held.ahead ++ left = sym (append-nil held.ahead) ∙ ap (λ (xs : List ℕ). held.ahead ++ xs) (sym nothing) in
     let count : length held.ahead - 0 ≡ length (held.ahead ++ left) = ap (λ (n : ℕ). n) (omega (arith, ap length all)) in
-    EndsInHead (subst (λ (xs : List ℕ). IsPartIn held.circuits held.kind xs) all part) (place ∙ ap (λ (n : ℕ). counted_to (held.at + n)) count)
+    EndsInHead (subst (λ (xs : List ℕ). IsPartIn held.circuits held.kind xs) all part) (place ∙ ap (λ (n : ℕ). held.at + n) count)
+
+-- what is read behind what is held
+pub readable-held : (held : Held) (left : List ℕ) → held.at + length held.ahead ≤ LONGEST_CAPTURE
+    → readable_from held.at (held.ahead ++ left) ≡ held.ahead ++ readable_from (held.at + length held.ahead) left
+readable-held held left within =
+    let more : ℕ = LONGEST_CAPTURE - (held.at + length held.ahead) in
+    let all : LONGEST_CAPTURE - held.at ≡ length held.ahead + more = omega (arith, within) in
+    ap (λ (n : ℕ). take n (held.ahead ++ left)) all ∙ take-append-add held.ahead left more
 
 -- what is bad stays bad at the same place, whatever of it was read ahead
 pub bad_since : (old now : Held) (text left : List ℕ) (at : ℕ) → now ≡ record old { ahead = now.ahead } → left ≡ text → IsBadAt now left at → IsBadAt old text at
@@ -84,3 +93,11 @@ bad_since old now text left at same e h =
     go : IsBadAt (record old { ahead = now.ahead }) text at → IsBadAt old text at
     go (BadByte front byte unread part none is place) = BadByte front byte unread part none is place
     go (EndsInHead part place) = EndsInHead part place
+
+-- what is read of what is left stays the same, however much of it was read ahead
+pub same_readable : (old now : Held) (before after : List ℕ) → now.at + length now.ahead ≤ LONGEST_CAPTURE → now ≡ record old { ahead = now.ahead }
+    → now.ahead ++ after ≡ old.ahead ++ before
+    → now.ahead ++ readable_from (now.at + length now.ahead) after ≡ readable_from old.at (old.ahead ++ before)
+same_readable old now before after within same told =
+    sym (readable-held now after within) ∙ ap (λ (xs : List ℕ). readable_from now.at xs) told
+    ∙ ap (λ (h : Held). readable_from h.at (old.ahead ++ before)) same

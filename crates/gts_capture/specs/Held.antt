@@ -1,6 +1,7 @@
 -- What a reader of a capture holds, and what its answers say.
-use Rattle.std.specs.Prelude.{◌≡◌, ℕ, ◌+◌, ◌-◌, ◌^◌, ◌<◌, ◌≤◌, min, List, [], ◌∷◌, ◌++◌, length, Result, Err}
+use Rattle.std.specs.Prelude.{◌≡◌, ℕ, ◌+◌, ◌-◌, ◌<◌, ◌≤◌, List, [], ◌∷◌, ◌++◌, length, take, Result, Err}
 use Rattle.gts_connection.specs.declared.kind.CaptureKind.{CaptureKind}
+use Rattle.gts_connection.specs.declared.limits.TheConstants.{LONGEST_CAPTURE}
 use Rattle.gts_connection.specs.Capture.{head_text}
 use Rattle.gts_traits.specs.Counts.{Rose}
 use Rattle.gts_capture.specs.declared.capture_fault.CaptureFault.{CaptureFault}
@@ -35,33 +36,34 @@ IsStop circuits kind bytes (Bad left) =
     (front : List ℕ) × (byte : ℕ) × (unread : List ℕ) × (bytes ≡ front ++ byte ∷ unread) × (left ≡ length (byte ∷ unread))
     × IsPartIn circuits kind front × (IsFrontIn circuits kind (front ++ byte ∷ []) → ⊥)
 
--- a count of bytes, which stands still at its type's end
-abbrev pub counted_to : ℕ → ℕ
-counted_to n = min n (2 ^ 64 - 1)
+-- What is read of bytes that stand in a capture from this place on: the longest capture ends in them.
+abbrev pub readable_from : ℕ → List ℕ → List ℕ
+readable_from place left = take (LONGEST_CAPTURE - place) left
 
 -- of the same capture
 pub record IsSameCapture (old new : Held) : Type 0 where
   pub circuits : new.circuits ≡ old.circuits
   pub kind : new.kind ≡ old.kind
 
--- What is left is bad at a place: at the first byte that no capture has there, or where the bytes end in a head.
+-- What is read of what is left is bad at a place: at the first byte that no capture has there, or where the bytes end in a head.
 pub data IsBadAt (held : Held) (left : List ℕ) (at : ℕ) : Type 0 where
   BadByte : (front : List ℕ) (byte : ℕ) (unread : List ℕ) → IsPartIn held.circuits held.kind front
       → (IsFrontIn held.circuits held.kind (front ++ byte ∷ []) → ⊥) → left ≡ front ++ byte ∷ unread
-      → at ≡ counted_to (held.at + length front) → IsBadAt held left at
-  EndsInHead : IsPartIn held.circuits held.kind left → at ≡ counted_to (held.at + length left) → IsBadAt held left at
+      → at ≡ held.at + length front → IsBadAt held left at
+  EndsInHead : IsPartIn held.circuits held.kind left → at ≡ held.at + length left → IsBadAt held left at
 
--- What is left ends in a feed: nothing is left of it, and bytes of it are still to come.
+-- What is read of what is left ends in a feed: nothing is left of it, and bytes of it are still to come.
 pub record EndsInFeed (held : Held) (left : List ℕ) (at : ℕ) : Type 0 where
   pub nothing : left ≡ []
   pub announced : 0 < held.feed
-  pub place : at ≡ counted_to held.at
+  pub place : at ≡ held.at
 
 -- The source failed in a head: what is held is the beginning of one, and nothing else was taken from what is left.
 pub record StopsInHead (old new : Held) (before after : List ℕ) : Type 0 where
   pub kept : new.ahead ++ after ≡ old.ahead ++ before
   pub begun : IsPartIn new.circuits new.kind new.ahead
   pub place : new.at ≡ old.at
+  pub within : new.at + length new.ahead ≤ LONGEST_CAPTURE
 
 -- The source failed in a feed: nothing is held, and nothing was taken from what is left.
 pub record StopsInFeed (old new : Held) (before after : List ℕ) : Type 0 where

@@ -14,6 +14,3 @@ pub use progress::{
     what_was_read_is_the_captures_beginning, what_was_taken_is_read,
 };
 pub use steps::Steps;
-
-#[cfg(test)]
-mod tests;

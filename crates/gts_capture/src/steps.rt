@@ -1,12 +1,13 @@
 ghost use Rattle.std.specs.Prelude.{◌≡◌, ◌+◌, ◌-◌, ◌<◌, ◌≤◌, ◌↔◌, ◌++◌, [], ℕ, IsTrue, IfOk, IfErr, IsErr, OnErr, Err, true, false, length, take, drop, min};
 ghost use Rattle.gts_traits.specs.Counts.{HasCause};
+ghost use Rattle.gts_connection.specs.declared.limits.TheConstants.{LONGEST_CAPTURE};
 ghost use Rattle.gts_capture.specs.Heads.{head_of, line_of, IsHeadIn, bytes_announced};
-ghost use Rattle.gts_capture.specs.Held.{BeginsWithHead, IsStop, IsSameCapture, IsBadAt, EndsInFeed, StopsInHead, StopsInFeed, HasSourceCause, at_start, counted_to};
+ghost use Rattle.gts_capture.specs.Held.{BeginsWithHead, IsStop, IsSameCapture, IsBadAt, EndsInFeed, StopsInHead, StopsInFeed, HasSourceCause, at_start, readable_from};
 
 use crate::capture_fault::CaptureFault;
 use crate::head::Head;
 use crate::head_cursor::{Stop, read_head};
-use gts_connection::CaptureKind;
+use gts_connection::{CaptureKind, LONGEST_CAPTURE};
 use gts_traits::{Failed, Source};
 use std::marker::Model;
 
@@ -27,7 +28,8 @@ pub struct Steps {
 }
 
 impl Model for Steps {
-    ghost use Rattle.std.specs.Prelude.{◌-◌, ◌≤◌, take, drop};
+    ghost use Rattle.std.specs.Prelude.{◌+◌, ◌-◌, ◌≤◌, take, drop};
+    ghost use Rattle.gts_connection.specs.declared.limits.TheConstants.{LONGEST_CAPTURE};
     ghost use Rattle.gts_capture.specs.Held.{Held};
     ghost use Rattle.gts_capture.specs.declared.steps.TheConstants.{BUFFER};
 
@@ -41,7 +43,8 @@ impl Model for Steps {
       ahead = take (s.end - s.start) (drop s.start s.buffer);
     } };
 
-    ghost invariant = { λ s. (s.start ≤ s.end) × (s.end ≤ BUFFER) × (s.circuits ≤ 100) };
+    ghost invariant = { λ s. (s.start ≤ s.end) × (s.end ≤ BUFFER) × (s.circuits ≤ 100)
+        × (s.at + (s.end - s.start) ≤ LONGEST_CAPTURE) };
 }
 
 impl Steps {
@@ -63,7 +66,7 @@ impl Steps {
 
     /// Reads the head that comes next. It needs that the last feed's bytes were taken through, and is not called after the
     /// end or a fault. `Bad` comes exactly where what is left begins with no head, with the place of the first byte that
-    /// no head has there, or of the end of the bytes. `SourceFault` comes only where the source's count of faults rose;
+    /// no head has there, or of the end of the bytes; the longest capture ends them too. `SourceFault` comes only where the source's count of faults rose;
     /// then what is held is the beginning of a head, and all that stands before it was handed on.
     pub fn next<S: Source>(&mut self, source: &mut S) -> Result<Head, CaptureFault>
         requires taken { self.old.feed ≡ 0 }
@@ -73,9 +76,11 @@ impl Steps {
             IsHeadIn self.old.circuits self.old.kind (head_of head)) }
         ensures feed { IfOk result (λ head. self.new.feed ≡ bytes_announced (head_of head)) }
         ensures at { IfOk result (λ head.
-            self.new.at ≡ counted_to (self.old.at + length (line_of head))) }
+            self.new.at ≡ self.old.at + length (line_of head)) }
+        ensures within { IfOk result (λ head. self.new.at ≤ LONGEST_CAPTURE) }
         ensures bad { S.tells → (at : ℕ) → result ≡ Err (CaptureFault.Bad at)
-            → IsBadAt self.old (self.old.ahead ++ S.left source.old) at }
+            → IsBadAt self.old
+            (readable_from self.old.at (self.old.ahead ++ S.left source.old)) at }
         ensures source_fault { S.tells → result ≡ Err CaptureFault.SourceFault
             → StopsInHead self.old self.new (S.left source.old) (S.left source.new) }
         ensures same { IsSameCapture self.old self.new }
@@ -94,8 +99,8 @@ impl Steps {
     }
 
     /// Takes the next bytes of the feed to the front of `into`, and answers how many: 0 exactly at the feed's end or for an
-    /// empty `into`. It is not called after the end or a fault. `Bad` comes exactly where the bytes end in the feed, with
-    /// their number. `SourceFault` comes only where the source's count of faults rose; then nothing is held, and all that
+    /// empty `into`. It is not called after the end or a fault. `Bad` comes exactly where the bytes end in the feed, or where
+    /// the longest capture does, with their number. `SourceFault` comes only where the source's count of faults rose; then nothing is held, and all that
     /// was read was handed on.
     pub fn bytes<S: Source>(
         &mut self,
@@ -108,9 +113,11 @@ impl Steps {
         ensures left { IsErr result → 0 < self.old.feed }
         ensures some { IfOk result (λ count. count ≡ 0 → min (length into.old) self.old.feed ≡ 0) }
         ensures feed { IfOk result (λ count. self.new.feed + count ≡ self.old.feed) }
-        ensures at { IfOk result (λ count. self.new.at ≡ counted_to (self.old.at + count)) }
+        ensures at { IfOk result (λ count. self.new.at ≡ self.old.at + count) }
+        ensures within { IfOk result (λ count. self.new.at ≤ LONGEST_CAPTURE) }
         ensures bad { S.tells → (at : ℕ) → result ≡ Err (CaptureFault.Bad at)
-            → EndsInFeed self.old (self.old.ahead ++ S.left source.old) at }
+            → EndsInFeed self.old
+            (readable_from self.old.at (self.old.ahead ++ S.left source.old)) at }
         ensures source_fault { S.tells → result ≡ Err CaptureFault.SourceFault
             → StopsInFeed self.old self.new (S.left source.old) (S.left source.new) }
         ensures same { IsSameCapture self.old self.new }
@@ -133,13 +140,14 @@ impl Steps {
         ensures unchanged { OnErr result (self.new ≡ self.old) }
         ensures feed { IfOk result (λ head. self.new.feed ≡ bytes_announced (head_of head)) }
         ensures at { IfOk result (λ head.
-            self.new.at ≡ counted_to (self.old.at + length (line_of head))) }
+            self.new.at ≡ self.old.at + length (line_of head)) }
+        ensures within { self.new.at + length self.new.ahead ≤ LONGEST_CAPTURE }
         ensures same { IsSameCapture self.old self.new }
     {
         let held = &self.buffer[self.start..self.end];
         let (head, length) = read_head(held, self.circuits, self.kind)?;
         self.start += length;
-        self.at = self.at.saturating_add(length as u64);
+        self.at += length as u64;
         self.feed = announced(head);
         Ok(head)
     }
@@ -148,11 +156,11 @@ impl Steps {
     fn bad(&self, left: usize) -> CaptureFault
         requires { left ≤ length self.now.ahead }
         ensures { result ≡ CaptureFault.Bad
-            (counted_to (self.now.at + (length self.now.ahead - left))) }
+            (self.now.at + (length self.now.ahead - left)) }
     {
         let good = self.end - self.start - left;
         CaptureFault::Bad {
-            at: self.at.saturating_add(good as u64),
+            at: self.at + good as u64,
         }
     }
 
@@ -163,23 +171,30 @@ impl Steps {
         self.start == self.end
     }
 
-    /// Reads further bytes behind those that are held, and answers how many: 0 only at the source's end.
+    /// Reads further bytes behind those that are held, and answers how many: 0 only at the source's end, and at that of the
+    /// longest capture.
     fn fill<S: Source>(&mut self, source: &mut S) -> Result<usize, Failed>
         requires { length self.old.ahead < BUFFER }
         ensures told { S.tells → IfOk result (λ count.
             self.new.ahead ++ S.left source.new ≡ self.old.ahead ++ S.left source.old) }
-        ensures end { S.tells → IfOk result (λ count. count ≡ 0 → S.left source.old ≡ []) }
+        ensures end { S.tells → IfOk result (λ count. count ≡ 0
+            → readable_from (self.old.at + length self.old.ahead) (S.left source.old) ≡ []) }
         ensures count { IfOk result (λ count.
             length self.new.ahead ≡ length self.old.ahead + count) }
         ensures others { self.new ≡ record self.old { ahead = self.new.ahead } }
         ensures unchanged { OnErr result (self.new ≡ self.old) }
         ensures untaken { S.tells → OnErr result (S.left source.new ≡ S.left source.old) }
+        ensures within { self.new.at + length self.new.ahead ≤ LONGEST_CAPTURE }
         ensures cause { HasCause result (S.faults source.old) (S.faults source.new) }
     {
         move_to_front(&mut self.buffer, self.start, self.end);
         self.end -= self.start;
         self.start = 0;
-        let count = source.read(&mut self.buffer[self.end..])?;
+        let most = room(self.at, self.end);
+        if most == 0 {
+            return Ok(0);
+        }
+        let count = source.read(&mut self.buffer[self.end..self.end + most])?;
         self.end += count;
         Ok(count)
     }
@@ -189,17 +204,29 @@ impl Steps {
         ensures taken { self.old.ahead ≡ take result into.new ++ self.new.ahead }
         ensures count { result ≡ min (min (length self.old.ahead) (length into.old)) self.old.feed }
         ensures feed { self.new.feed + result ≡ self.old.feed }
-        ensures at { self.new.at ≡ counted_to (self.old.at + result) }
+        ensures at { self.new.at ≡ self.old.at + result }
+        ensures within { self.new.at ≤ LONGEST_CAPTURE }
         ensures same { IsSameCapture self.old self.new }
     {
         let held = &self.buffer[self.start..self.end];
         let count = held.len().min(into.len()).min(self.feed as usize);
         into[..count].copy_from_slice(&held[..count]);
         self.start += count;
-        self.at = self.at.saturating_add(count as u64);
+        self.at += count as u64;
         self.feed -= count as u32;
         count
     }
+}
+
+/// How many bytes more may be held behind so many from a place of a capture on: as many as the buffer and the longest capture
+/// have room for.
+fn room(at: u64, held: usize) -> usize
+    requires buffer { held ≤ BUFFER }
+    requires capture { at + held ≤ LONGEST_CAPTURE }
+    ensures { result ≡ min (LONGEST_CAPTURE - (at + held)) (BUFFER - held) }
+{
+    let left = LONGEST_CAPTURE - (at + held as u64);
+    left.min((BUFFER - held) as u64) as usize
 }
 
 /// Moves the bytes of a range to the front.

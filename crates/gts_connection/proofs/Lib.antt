@@ -3,6 +3,7 @@ pub mod StreamLemmas
 pub mod StepsLemmas
 pub mod CutLemmas
 pub mod ReadingLemmas
+pub mod LongestLemmas
 pub mod StepsGoLemmas
 pub mod HereLemmas
 pub mod LawLemmas

@@ -6,7 +6,7 @@ use Rattle.std.proofs.lemmas.List.{length-append, length-take-le, take-append-dr
 use Rattle.gts_alphabet.specs.Digits.{dec}
 use Rattle.gts_directory.specs.Directory.{Directory}
 use Rattle.gts_connection.specs.declared.kind.CaptureKind.{CaptureKind}
-use Rattle.gts_connection.specs.Capture.{Step, Feed, Take, Reopen, Drain, Restart, Compact, Head, FeedHead, TakeHead, ReopenHead, DrainHead, RestartHead, CompactHead, EndHead, head_text, IsHeadOf, head_of, bytes_of_step, step_text, AreStepsOf, IsPartialHead, IsHeadFront, ReadingOf, Whole, Bad, EndsInHead, EndsInFeed, IsWholeOf, IsEarly}
+use Rattle.gts_connection.specs.Capture.{Step, Feed, Take, Reopen, Drain, Restart, Compact, Head, FeedHead, TakeHead, ReopenHead, DrainHead, RestartHead, CompactHead, EndHead, head_text, IsHeadOf, head_of, bytes_of_step, step_text, AreStepsOf, IsPartialHead, IsHeadFront, ReadingIn, Whole, Bad, EndsInHead, EndsInFeed, IsEarly}
 use Rattle.gts_connection.proofs.HeadLemmas.{shorter_front, same_fronts, same_heads, HeadAt, head_or_none, front_or_none}
 
 module _ (kind : CaptureKind) where
@@ -31,7 +31,7 @@ module _ (kind : CaptureKind) where
     steps_are : steps ≡ before ++ extra
     place : at ≡ length (flat_map step_text before) + left
 
-  parts_of : (d : Directory) (bytes : List ℕ) (steps : List Step) (at : ℕ) → ReadingOf kind d bytes steps at → Parts d bytes steps at
+  parts_of : (d : Directory) (bytes : List ℕ) (steps : List Step) (at : ℕ) → ReadingIn kind d bytes steps at → Parts d bytes steps at
   parts_of d bytes steps at (Whole unread are e p) =
       let tail : List ℕ = head_text EndHead ++ unread in
       let left : ℕ = length (head_text EndHead) in
@@ -87,7 +87,7 @@ module _ (kind : CaptureKind) where
         place = omega (arith, p, ap length text, length-append (flat_map step_text before) tail);
       }
 
-  reading_of : (d : Directory) (bytes : List ℕ) (steps : List Step) (at : ℕ) → Parts d bytes steps at → ReadingOf kind d bytes steps at
+  reading_of : (d : Directory) (bytes : List ℕ) (steps : List Step) (at : ℕ) → Parts d bytes steps at → ReadingIn kind d bytes steps at
   reading_of d bytes steps at k = go k.ending
     where
       text : List ℕ → List ℕ
@@ -96,7 +96,7 @@ module _ (kind : CaptureKind) where
       same : k.extra ≡ [] → k.before ≡ steps
       same e = sym (append-nil k.before) ∙ ap (λ (xs : List Step). k.before ++ xs) (sym e) ∙ sym k.steps_are
 
-      go : Ending d k.tail k.extra k.left → ReadingOf kind d bytes steps at
+      go : Ending d k.tail k.extra k.left → ReadingIn kind d bytes steps at
       go (AtEnd unread e t p) =
           Whole unread (subst (AreStepsOf kind d) (same e) k.are)
           (k.text ∙ ap (λ (xs : List ℕ). flat_map step_text k.before ++ xs) t ∙ sym (append_assoc (flat_map step_text k.before) (head_text EndHead) unread)
@@ -202,7 +202,7 @@ module _ (kind : CaptureKind) where
   read_on d (suc n) bytes few = read_any d (suc n) bytes few (λ rest lt. read_on d n rest (omega arith))
 
   -- any bytes are read as some steps, up to some place
-  pub reads : (d : Directory) (bytes : List ℕ) → (steps : List Step) × (at : ℕ) × ReadingOf kind d bytes steps at
+  pub reads : (d : Directory) (bytes : List ℕ) → (steps : List Step) × (at : ℕ) × ReadingIn kind d bytes steps at
   reads d bytes = let r = read_on d (length bytes) bytes (omega arith) in (r.0, r.1, reading_of d bytes r.0 r.1 r.2)
 
   -- ---- and in one way
@@ -339,7 +339,7 @@ module _ (kind : CaptureKind) where
       (e ∙ ap (λ (i : ℕ). Feed i piece ∷ []) circuit ∙ ap (λ (b : List ℕ). Feed k b ∷ []) same.1 ∙ sym f, p ∙ sym q)
 
   -- any two readings of the same bytes have the same steps, up to the same place
-  pub reads_once : (d : Directory) (bytes : List ℕ) (steps others : List Step) (at place : ℕ) → length d.circuits ≤ 100 → ReadingOf kind d bytes steps at → ReadingOf kind d bytes others place
+  pub reads_once : (d : Directory) (bytes : List ℕ) (steps others : List Step) (at place : ℕ) → length d.circuits ≤ 100 → ReadingIn kind d bytes steps at → ReadingIn kind d bytes others place
       → (steps ≡ others) × (at ≡ place)
   reads_once d bytes steps others at place few r s =
       let a = parts_of d bytes steps at r in
@@ -351,31 +351,33 @@ module _ (kind : CaptureKind) where
       )
 
   -- where the bytes are bad, or end too early, no capture stands at their front
-  pub early_is_none : (d : Directory) (bytes : List ℕ) (steps others : List Step) (at : ℕ) → length d.circuits ≤ 100 → (read : ReadingOf kind d bytes steps at) × IsEarly read → IsWholeOf kind d bytes others → ⊥
-  early_is_none d bytes steps others at few early w = go early.0 early.1
+  pub early_is_none : (d : Directory) (bytes : List ℕ) (steps others : List Step) (at : ℕ) (unread : List ℕ) → length d.circuits ≤ 100
+      → (read : ReadingIn kind d bytes steps at) × IsEarly read → AreStepsOf kind d others
+      → bytes ≡ flat_map step_text others ++ head_text EndHead ++ unread → ⊥
+  early_is_none d bytes steps others at behind few early are_others is = go early.0 early.1
     where
       end : List ℕ
-      end = head_text EndHead ++ w.unread
+      end = head_text EndHead ++ behind
 
       ends : Ending d end [] (length (head_text EndHead))
-      ends = AtEnd w.unread refl refl (omega (arith, length-append (head_text EndHead) w.unread))
+      ends = AtEnd behind refl refl (omega (arith, length-append (head_text EndHead) behind))
 
       text : bytes ≡ flat_map step_text others ++ end
-      text = w.text ∙ append_assoc (flat_map step_text others) (head_text EndHead) w.unread
+      text = is ∙ append_assoc (flat_map step_text others) (head_text EndHead) behind
 
       same : (before : List Step) (tail : List ℕ) (extra : List Step) (left : ℕ) → AreStepsOf kind d before → Ending d tail extra left → bytes ≡ flat_map step_text before ++ tail → tail ≡ end
-      same before tail extra left are ending e = (same_steps d before others tail end extra [] left (length (head_text EndHead)) few are w.are ending ends (sym e ∙ text)).1
+      same before tail extra left are ending e = (same_steps d before others tail end extra [] left (length (head_text EndHead)) few are are_others ending ends (sym e ∙ text)).1
 
-      go : (read : ReadingOf kind d bytes steps at) → IsEarly read → ⊥
+      go : (read : ReadingIn kind d bytes steps at) → IsEarly read → ⊥
       go (Whole unread are e p) none = none
       go (Bad front byte unread are part bad e p) _ =
           let tail : List ℕ = front ++ byte ∷ unread in
           let ending : Ending d tail [] (length front) = AtBad front byte unread refl part bad refl (omega (arith, length-append front (byte ∷ unread))) in
-          no_head_before_bad d front byte unread EndHead w.unread few part bad tt (sym (same steps tail [] (length front) are ending (e ∙ append_assoc (flat_map step_text steps) front (byte ∷ unread))))
-      go (EndsInHead front are part e p) _ = not_begun d front EndHead w.unread few part tt (sym (same steps front [] (length front) are (InHead refl part refl) e))
+          no_head_before_bad d front byte unread EndHead behind few part bad tt (sym (same steps tail [] (length front) are ending (e ∙ append_assoc (flat_map step_text steps) front (byte ∷ unread))))
+      go (EndsInHead front are part e p) _ = not_begun d front EndHead behind few part tt (sym (same steps front [] (length front) are (InHead refl part refl) e))
       go (EndsInFeed before c size piece are valid short s e p) _ =
           let tail : List ℕ = head_text (FeedHead c size) ++ piece in
           let ending : Ending d tail (Feed c piece ∷ []) (length tail) = InFeed c size piece refl valid short refl refl in
           let found : tail ≡ end = same before tail (Feed c piece ∷ []) (length tail) are ending (e ∙ append_assoc (flat_map step_text before) (head_text (FeedHead c size)) piece) in
-          let heads : FeedHead c size ≡ EndHead = (same_heads kind d (FeedHead c size) EndHead piece w.unread few valid tt found).0 in
+          let heads : FeedHead c size ≡ EndHead = (same_heads kind d (FeedHead c size) EndHead piece behind few valid tt found).0 in
           cc

@@ -1,5 +1,5 @@
 -- Captures: what came on the circuits and when something was taken, as a text of steps (profile).
-use Rattle.std.specs.Prelude.{◌≡◌, ℕ, ◌+◌, ◌<◌, ◌≤◌, ◌==◌, if◌then◌else◌, List, [], ◌∷◌, ◌++◌, length, map, codes, flat_map}
+use Rattle.std.specs.Prelude.{◌≡◌, ℕ, ◌+◌, ◌<◌, ◌≤◌, ◌==◌, if◌then◌else◌, List, [], ◌∷◌, ◌++◌, length, map, take, codes, flat_map}
 use Rattle.std.specs.List.{AllByRecursion, slice_index_or, slice_set}
 use Rattle.gts_alphabet.specs.Digits.{dec}
 use Rattle.gts_directory.specs.Directory.{Directory}
@@ -10,6 +10,7 @@ use Rattle.gts_event.specs.declared.event.Entry.TheVariants.{Done, Restarted}
 use Rattle.gts_event.specs.History.{after_all}
 use Rattle.gts_connection.specs.declared.kind.CaptureKind.{CaptureKind}
 use Rattle.gts_connection.specs.declared.kind.CaptureKind.TheVariants.{Journaled}
+use Rattle.gts_connection.specs.declared.limits.TheConstants.{LONGEST_CAPTURE}
 use Rattle.gts_connection.specs.Connection.{events_added}
 use Rattle.gts_event.specs.Drain.{takes_of_drain, all_done}
 
@@ -100,30 +101,41 @@ IsPartialHead kind d bytes = IsPartIn (length d.circuits) kind bytes
 abbrev pub IsHeadFront : CaptureKind → Directory → List ℕ → Type 0
 IsHeadFront kind d bytes = IsFrontIn (length d.circuits) kind bytes
 
--- What bytes are read as, and up to which place: steps through the end, behind which nothing is read; steps before the
--- first byte that no capture has in its place, or before the end of bytes that end too early, in a head or in a feed.
-pub data ReadingOf (kind : CaptureKind) (d : Directory) (bytes : List ℕ) (steps : List Step) (at : ℕ) : Type 0 where
+-- What bytes are read as, however many there are, and up to which place: steps through the end, behind which nothing is read;
+-- steps before the first byte that no capture has in its place, or before the end of bytes that end too early, in a head or in a
+-- feed.
+pub data ReadingIn (kind : CaptureKind) (d : Directory) (bytes : List ℕ) (steps : List Step) (at : ℕ) : Type 0 where
   Whole : (unread : List ℕ) → AreStepsOf kind d steps → bytes ≡ flat_map step_text steps ++ head_text EndHead ++ unread
-      → at + length unread ≡ length bytes → ReadingOf kind d bytes steps at
+      → at + length unread ≡ length bytes → ReadingIn kind d bytes steps at
   Bad : (front : List ℕ) (byte : ℕ) (unread : List ℕ) → AreStepsOf kind d steps → IsPartialHead kind d front
       → (IsHeadFront kind d (front ++ byte ∷ []) → ⊥)
-      → bytes ≡ flat_map step_text steps ++ front ++ byte ∷ unread → at + 1 + length unread ≡ length bytes → ReadingOf kind d bytes steps at
+      → bytes ≡ flat_map step_text steps ++ front ++ byte ∷ unread → at + 1 + length unread ≡ length bytes → ReadingIn kind d bytes steps at
   EndsInHead : (front : List ℕ) → AreStepsOf kind d steps → IsPartialHead kind d front → bytes ≡ flat_map step_text steps ++ front
-      → at ≡ length bytes → ReadingOf kind d bytes steps at
+      → at ≡ length bytes → ReadingIn kind d bytes steps at
   EndsInFeed : (before : List Step) (circuit size : ℕ) (piece : List ℕ) → AreStepsOf kind d before → IsHeadOf kind d (FeedHead circuit size)
       → length piece < size
       → steps ≡ before ++ Feed circuit piece ∷ [] → bytes ≡ flat_map step_text before ++ head_text (FeedHead circuit size) ++ piece
-      → at ≡ length bytes → ReadingOf kind d bytes steps at
+      → at ≡ length bytes → ReadingIn kind d bytes steps at
 
--- the capture of these steps stands at the front of the bytes
+-- The bytes that are read of a capture: the longest has so many.
+unfoldable pub readable : List ℕ → List ℕ
+readable bytes = take LONGEST_CAPTURE bytes
+
+-- What a capture is read as, and up to which place. One that goes on behind the longest is bad at the first byte behind that: as a
+-- capture that ends there too early.
+abbrev pub ReadingOf : CaptureKind → Directory → List ℕ → List Step → ℕ → Type 0
+ReadingOf kind d bytes steps at = ReadingIn kind d (readable bytes) steps at
+
+-- the capture of these steps stands at the front of the bytes, and is no longer than the longest
 pub record IsWholeOf (kind : CaptureKind) (d : Directory) (bytes : List ℕ) (steps : List Step) : Type 0 where
   pub are : AreStepsOf kind d steps
+  pub within : length (flat_map step_text steps ++ head_text EndHead) ≤ LONGEST_CAPTURE
   pub unread : List ℕ
   pub text : bytes ≡ flat_map step_text steps ++ head_text EndHead ++ unread
 
 -- a reading that doesn't come to the end
 abbrev pub IsEarly : {kind : CaptureKind} {d : Directory} {bytes : List ℕ} {steps : List Step} {at : ℕ}
-    → ReadingOf kind d bytes steps at → Type 0
+    → ReadingIn kind d bytes steps at → Type 0
 IsEarly (Whole unread are text place) = ⊥
 IsEarly _ = Unit {0}
 

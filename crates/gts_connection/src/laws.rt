@@ -1,9 +1,10 @@
 //! Laws over the definitions, each the contract of a function with an empty body.
-ghost use Rattle.std.specs.Prelude.{◌≡◌, ◌↔◌, ◌+◌, ◌≤◌, ◌++◌, [], ◌∷◌, ℕ, List, IsTrue, true, false, length};
+ghost use Rattle.std.specs.Prelude.{◌≡◌, ◌↔◌, ◌+◌, ◌-◌, ◌≤◌, ◌++◌, [], ◌∷◌, ℕ, List, IsTrue, true, false, length, take, min, flat_map};
 ghost use Rattle.std.specs.List.{list_any, list_all, AllByRecursion};
 ghost use Rattle.gts_connection.specs.Words.{Kind, Directory, State, Event, Heard, frame, IsFramed, IsFront, IsStreamFront, is_front, is_here};
-ghost use Rattle.gts_connection.specs.Words.{IsConnection, connection, events_in, events_added, is_lost, CaptureKind, Step, AreSteps, AreStepsOf, ReadingOf, entries, joined};
+ghost use Rattle.gts_connection.specs.Words.{IsConnection, connection, events_in, events_added, is_lost, CaptureKind, Step, AreSteps, AreStepsOf, EndHead, step_text, head_text, readable, ReadingOf, entries, joined};
 ghost use Rattle.gts_connection.specs.Words.{IsWholeOf, EndsEarlyOf, entries_from, compactions, compactions_from, Connections, connections_after, no_bytes, after_all};
+ghost use Rattle.gts_connection.specs.declared.limits.TheConstants.{LONGEST_CAPTURE};
 ghost use Rattle.gts_connection.specs.Words.{Decoding, ReadsOn, FrameStep, signs_in, signs_of_step, events_of_signs};
 
 /// A frame at the front of a connection is heard, and then what is behind it.
@@ -46,13 +47,32 @@ pub fn feeds_may_be_cut_anywhere()
 {}
 
 /// Any bytes are read as a capture of either kind, up to some place, and in one way: two digits tell up to 100 circuits
-/// apart.
+/// apart. Nothing is read behind the longest capture.
 pub fn a_capture_has_one_reading()
     ensures some { (kind : CaptureKind) (d : Directory) (bytes : List ℕ)
         → (steps : List Step) × (at : ℕ) × ReadingOf kind d bytes steps at }
     ensures one { (kind : CaptureKind) (d : Directory) (bytes : List ℕ) (steps others : List Step)
         (at place : ℕ) → length d.circuits ≤ 100 → ReadingOf kind d bytes steps at
         → ReadingOf kind d bytes others place → (steps ≡ others) × (at ≡ place) }
+    ensures within { (kind : CaptureKind) (d : Directory) (bytes : List ℕ) (steps : List Step)
+        (at : ℕ) → ReadingOf kind d bytes steps at → at ≤ LONGEST_CAPTURE }
+{}
+
+/// No byte behind the longest capture is read: of bytes that are no longer all are, and behind a front that is no longer so
+/// many of the others.
+pub fn a_capture_is_read_up_to_the_longest()
+    ensures all { (bytes : List ℕ) → length bytes ≤ LONGEST_CAPTURE → readable bytes ≡ bytes }
+    ensures behind { (front rest : List ℕ) → length front ≤ LONGEST_CAPTURE
+        → readable (front ++ rest) ≡ front ++ take (LONGEST_CAPTURE - length front) rest }
+    ensures length { (bytes : List ℕ)
+        → length (readable bytes) ≡ min (length bytes) LONGEST_CAPTURE }
+{}
+
+/// The capture that stands at the front of bytes is read, up to its end.
+pub fn a_whole_capture_is_read_to_its_end()
+    ensures { (kind : CaptureKind) (d : Directory) (bytes : List ℕ) (steps : List Step)
+        → IsWholeOf kind d bytes steps → ReadingOf kind d bytes steps
+        (length (flat_map step_text steps ++ head_text EndHead)) }
 {}
 
 /// Bytes that are bad, or end too early, have no capture at their front.

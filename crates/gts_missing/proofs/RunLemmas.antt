@@ -1,20 +1,20 @@
 -- Steps of a capture, one after another, and the numbers that they add.
-use Rattle.std.proofs.Common.{◌≡◌, ℕ, ◌+◌, ◌*◌, ◌-◌, ◌^◌, ◌<◌, ◌≤◌, List, [], ◌∷◌, ◌++◌, length, refl, sym, ap, subst, ◌∙◌, arith, append_assoc, length-append}
+use Rattle.std.proofs.Common.{◌≡◌, ℕ, ◌+◌, ◌-◌, ◌^◌, ◌≤◌, List, [], ◌∷◌, ◌++◌, length, refl, sym, ap, subst, ◌∙◌, arith, append_assoc, length-append}
 use Rattle.std.specs.List.{flat_map}
 use Rattle.std.proofs.lemmas.List.{append-nil}
-use Rattle.gts_alphabet.specs.Digits.{dec}
 use Rattle.gts_directory.specs.Directory.{Directory}
 use Rattle.gts_frame.specs.Decoder.{Decoding}
 use Rattle.gts_connection.specs.declared.kind.CaptureKind.TheVariants.{Journaled}
-use Rattle.gts_connection.specs.Capture.{Step, Feed, Head, FeedHead, TakeHead, ReopenHead, DrainHead, RestartHead, CompactHead, EndHead, head_text, head_of, bytes_of_step, step_text, IsHead, AreSteps, EndsEarly, Connections, no_bytes, after_step, connections_after}
+use Rattle.gts_connection.specs.Capture.{Step, Head, FeedHead, TakeHead, ReopenHead, DrainHead, RestartHead, CompactHead, EndHead, head_text, head_of, bytes_of_step, step_text, IsHead, AreSteps, Connections, no_bytes, after_step, connections_after}
 use Rattle.gts_connection.proofs.LawLemmas.{connections_go_on}
-use Rattle.gts_capture.specs.{IsHeadIn, bytes_announced, IsReadTo, IsBadAt, at_start, counted_to}
+use Rattle.gts_connection.specs.declared.limits.TheConstants.{LONGEST_CAPTURE}
+use Rattle.gts_capture.specs.{IsHeadIn, bytes_announced, IsReadTo, IsBadAt, at_start, readable_from}
 use Rattle.gts_capture.specs.Held.{Held}
-use Rattle.gts_capture.proofs.LawLemmas.{begins, one_step, at_bad, in_feed}
+use Rattle.gts_capture.proofs.LawLemmas.{begins, one_step, at_end, at_bad}
 use Rattle.gts_replay.specs.Going.{Decode}
-use Rattle.gts_replay.specs.Replay.{IfTold}
-use Rattle.gts_replay.specs.Ending.{IsStepOf, EndsBehind, Takes}
+use Rattle.gts_replay.specs.Ending.{IsStepOf, Takes}
 use Rattle.gts_replay.proofs.RunLemmas.{ReadsHead, head_here}
+use Rattle.gts_replay.proofs.EndLemmas.{cut_in, two_each}
 use Rattle.gts_gap.specs.Numbers.{Numbered}
 use Rattle.gts_gap.specs.Capture.{number_of_event, events_with, numbers_from, numbers}
 use Rattle.gts_gap.specs.Ring.{StandsAt}
@@ -26,7 +26,7 @@ pub record Runs (tells : Type 0) (d : Directory) (bytes : List ℕ) (steps : Lis
   pub circuits : held.circuits ≡ length d.circuits
   pub of_kind : held.kind ≡ Journaled
   pub are : AreSteps d steps
-  pub read : IfTold tells bytes (IsReadTo Journaled d bytes steps held (held.ahead ++ left))
+  pub read : tells → IsReadTo Journaled d bytes steps held (held.ahead ++ left)
   pub decoders : length ds ≡ length d.circuits
   pub decode : Decode ds (connections_after d (no_bytes d) steps)
   pub each : length rings ≡ length d.circuits
@@ -41,7 +41,7 @@ runs_none tells d bytes held ds rings is each new =
       circuits = ap (λ (x : Held). x.circuits) here;
       of_kind = ap (λ (x : Held). x.kind) here;
       are = tt;
-      read = λ t small. subst P (sym here) (begins Journaled d bytes (at_start (length d.circuits) Journaled) small refl);
+      read = λ t. subst P (sym here) (begins Journaled d bytes (at_start (length d.circuits) Journaled) refl);
       decoders = each ∙ new.circuits;
       decode = new.decode;
       each = new.circuits;
@@ -88,20 +88,19 @@ runs_more tells d bytes steps old mid new before left after ds ds_now rings ring
     let taken : Takes tells x mid new left after = does.taken in
     let size : length x ≡ bytes_announced head = omega (arith, taken.feed, does.whole, reads.feed) in
     let whole : head_of step ≡ head = step_whole head step does.of_head size in
-    let small : mid.at < 2 ^ 64 = omega (arith, reads.at) in
-    let place : new.at ≡ counted_to (mid.at + length x) = taken.at small in
+    let place : new.at ≡ mid.at + length x = taken.at in
     let valid : IsHeadIn old.circuits old.kind (head_of step) = subst (λ (k : Head). IsHeadIn old.circuits old.kind k) (sym whole) reads.valid in
     let long : length (step_text step) ≡ length (head_text head) + length x = length-append (head_text (head_of step)) x ∙ ap (λ (k : Head). length (head_text k) + length x) whole in
     record {
       circuits = taken.same.circuits ∙ reads.same.circuits ∙ runs.circuits;
       of_kind = taken.same.kind ∙ reads.same.kind ∙ runs.of_kind;
       are = are_more d steps step runs.are (head_here Journaled d old.circuits (head_of step) old.kind runs.circuits runs.of_kind valid);
-      read = λ t few.
+      read = λ t.
           let text : old.ahead ++ before ≡ step_text step ++ (new.ahead ++ after) =
           reads.told t ∙ ap (λ (xs : List ℕ). head_text head ++ xs) (taken.told t) ∙ sym (append_assoc (head_text head) x (new.ahead ++ after))
           ∙ ap (λ (k : Head). head_text k ++ x ++ (new.ahead ++ after)) (sym whole) in
-          one_step Journaled d bytes (old.ahead ++ before) (new.ahead ++ after) steps step old new (runs.read t few) valid text
-          record { circuits = taken.same.circuits ∙ reads.same.circuits; kind = taken.same.kind ∙ reads.same.kind } (omega (arith, place, reads.at, long));
+          one_step Journaled d bytes (old.ahead ++ before) (new.ahead ++ after) steps step old new (runs.read t) valid text
+          record { circuits = taken.same.circuits ∙ reads.same.circuits; kind = taken.same.kind ∙ reads.same.kind } (omega (arith, place, reads.at, long)) (taken.within reads.within);
       decoders = does.circuits ∙ runs.decoders;
       decode = subst (λ cs. Decode ds_now cs) (sym (connections_go_on d steps (step ∷ []))) (does.decode d bs (sym runs.decoders) runs.decode);
       each = same ∙ runs.each;
@@ -111,83 +110,32 @@ runs_more tells d bytes steps old mid new before left after ds ds_now rings ring
 -- ---- how it ends
 
 pub ends_done : (tells : Type 0) (d : Directory) (bytes : List ℕ) (steps : List Step) (old new : Held) (before after : List ℕ) (ds : List Decoding) (rings : Rings)
-    → Runs tells d bytes steps old before ds rings → (tells → old.ahead ++ before ≡ head_text EndHead ++ (new.ahead ++ after)) → IsRead tells d rings bytes
-ends_done tells d bytes steps old new before after ds rings runs told = record {
+    → Runs tells d bytes steps old before ds rings → (tells → old.ahead ++ before ≡ head_text EndHead ++ (new.ahead ++ after))
+    → old.at + length (head_text EndHead) ≤ LONGEST_CAPTURE → IsRead tells d rings bytes
+ends_done tells d bytes steps old new before after ds rings runs told within = record {
   steps = steps;
-  whole = λ t small. record {
-    are = runs.are;
-    unread = new.ahead ++ after;
-    text = (runs.read t small).text ∙ ap (λ (xs : List ℕ). flat_map step_text steps ++ xs) (told t) ∙ sym (append_assoc (flat_map step_text steps) (head_text EndHead) (new.ahead ++ after));
-  };
+  whole = λ t.
+      let R : List ℕ → Type 0 = λ xs. IsReadTo Journaled d bytes steps old xs in
+      at_end Journaled d bytes (new.ahead ++ after) steps old (subst R (told t) (runs.read t)) within;
   circuits = runs.each;
   stand = runs.stand;
 }
 
 pub ends_bad : (tells : Type 0) (d : Directory) (bytes : List ℕ) (steps : List Step) (old : Held) (before : List ℕ) (ds : List Decoding) (rings : Rings) (at : ℕ)
-    → Runs tells d bytes steps old before ds rings → (tells → IsBadAt old (old.ahead ++ before) at) → IsCutAt tells d bytes at
-ends_bad tells d bytes steps old before ds rings at runs bad = λ t small. (steps, at_bad Journaled d bytes (old.ahead ++ before) steps old at (runs.read t small) (bad t))
-
--- the bytes end in a step: it is a feed
-cut_in : (d : Directory) (bytes : List ℕ) (steps : List Step) (old mid : Held) (before left : List ℕ) (at : ℕ) (tells : Type 0) (head : Head) (step : Step) → tells
-    → IsReadTo Journaled d bytes steps old (old.ahead ++ before) → ReadsHead tells head old mid before left → IsHead d head → IsStepOf head step → EndsBehind tells (bytes_of_step step) at mid left
-    → EndsEarly d bytes (steps ++ step ∷ []) at
-cut_in d bytes steps old mid before left at tells (FeedHead c n) step t read reads valid of ends =
-    let x : List ℕ = of.0 in
-    let feed : step ≡ Feed c x = of.1 in
-    let same : bytes_of_step step ≡ x = ap bytes_of_step feed in
-    let all : old.ahead ++ before ≡ head_text (FeedHead c n) ++ x = reads.told t ∙ ap (λ (xs : List ℕ). head_text (FeedHead c n) ++ xs) (ends.all t ∙ same) in
-    let short : length x < n = let s = ends.short t in omega (arith, s, ap length same, reads.feed) in
-    let found : EndsEarly d bytes (steps ++ Feed c x ∷ []) (length bytes) = in_feed Journaled d bytes (old.ahead ++ before) x steps old c n read valid short all in
-    let small : mid.at < 2 ^ 64 = omega (arith, reads.at) in
-    let place = ends.place t small in
-    let here : length bytes ≡ at =
-    omega (
-      arith,
-      place,
-      ap length same,
-      reads.at,
-      read.place,
-      read.small,
-      ap length read.text,
-      length-append (flat_map step_text steps) (old.ahead ++ before),
-      ap length all,
-      length-append (head_text (FeedHead c n)) x,
-    ) in
-    subst (λ (k : ℕ). EndsEarly d bytes (steps ++ step ∷ []) k) here (subst (λ (s : Step). EndsEarly d bytes (steps ++ s ∷ []) (length bytes)) (sym feed) found)
-cut_in d bytes steps old mid before left at tells (TakeHead c) step t read reads valid of ends = absurd (let s = ends.short t in omega (arith, s, reads.feed))
-cut_in d bytes steps old mid before left at tells (ReopenHead c) step t read reads valid of ends = absurd (let s = ends.short t in omega (arith, s, reads.feed))
-cut_in d bytes steps old mid before left at tells (DrainHead c) step t read reads valid of ends = absurd (let s = ends.short t in omega (arith, s, reads.feed))
-cut_in d bytes steps old mid before left at tells RestartHead step t read reads valid of ends = absurd (let s = ends.short t in omega (arith, s, reads.feed))
-cut_in d bytes steps old mid before left at tells CompactHead step t read reads valid of ends = absurd (let s = ends.short t in omega (arith, s, reads.feed))
-cut_in d bytes steps old mid before left at tells EndHead step t read reads valid of ends = absurd (let s = ends.short t in omega (arith, s, reads.feed))
+    → Runs tells d bytes steps old before ds rings → (tells → IsBadAt old (readable_from old.at (old.ahead ++ before)) at) → IsCutAt tells d bytes at
+ends_bad tells d bytes steps old before ds rings at runs bad = λ t. (steps, at_bad Journaled d bytes (old.ahead ++ before) steps old at (runs.read t) (bad t))
 
 pub ends_in_step : (tells : Type 0) (d : Directory) (bytes : List ℕ) (steps : List Step) (old mid : Held) (before left : List ℕ) (ds : List Decoding) (rings : Rings) (head : Head) (at : ℕ)
     → Runs tells d bytes steps old before ds rings → ReadsHead tells head old mid before left → EndsInStep tells head at mid left → IsCutAt tells d bytes at
-ends_in_step tells d bytes steps old mid before left ds rings head at runs reads ends = λ t small. (
+ends_in_step tells d bytes steps old mid before left ds rings head at runs reads ends = λ t. (
   steps ++ ends.step ∷ [],
-  cut_in d bytes steps old mid before left at tells head ends.step t (runs.read t small) reads (head_here Journaled d old.circuits head old.kind runs.circuits runs.of_kind reads.valid) ends.of_head ends.ends,
+  cut_in Journaled d bytes steps old mid before left at tells head ends.step t (runs.read t) reads (head_here Journaled d old.circuits head old.kind runs.circuits runs.of_kind reads.valid) ends.of_head ends.ends,
 )
 
 -- ---- more steps than can be
 
-two_bytes : (h : Head) → 2 ≤ length (head_text h)
-unfolding dec
-two_bytes (FeedHead c n) = omega arith
-two_bytes (TakeHead c) = omega arith
-two_bytes (ReopenHead c) = omega arith
-two_bytes (DrainHead c) = omega arith
-two_bytes RestartHead = omega arith
-two_bytes CompactHead = omega arith
-two_bytes EndHead = omega arith
-
-two_each : (steps : List Step) → 2 * length steps ≤ length (flat_map step_text steps)
-two_each [] = omega arith
-two_each (s ∷ steps) =
-    let more = two_each steps in
-    omega (arith, more, two_bytes (head_of s), length-append (step_text s) (flat_map step_text steps), length-append (head_text (head_of s)) (bytes_of_step s))
-
 pub ends_never : (tells : Type 0) (d : Directory) (bytes : List ℕ) (steps : List Step) (held : Held) (left : List ℕ) (ds : List Decoding) (rings : Rings) (at : ℕ)
     → Runs tells d bytes steps held left ds rings → 2 ^ 64 - 1 ≤ length steps → IsCutAt tells d bytes at
-ends_never tells d bytes steps held left ds rings at runs many = λ t small.
-    let r = runs.read t small in
-    absurd (omega (arith, many, small, two_each steps, ap length r.text, length-append (flat_map step_text steps) (held.ahead ++ left)))
+ends_never tells d bytes steps held left ds rings at runs many = λ t.
+    let r = runs.read t in
+    absurd (omega (arith, many, two_each steps, r.place, r.within))

@@ -11,7 +11,6 @@ use Rattle.gts_capture.specs.declared.capture_fault.CaptureFault.{CaptureFault}
 use Rattle.gts_capture.specs.declared.capture_fault.CaptureFault.TheVariants.{Bad, SourceFault}
 use Rattle.gts_capture.specs.Held.{Held}
 use Rattle.gts_replay.specs.Going.{Decode}
-use Rattle.gts_replay.specs.Replay.{IfTold}
 use Rattle.gts_replay.specs.Ending.{Takes, EndsBehind, IsStepOf}
 use Rattle.gts_gap.specs.Numbers.{Numbered}
 use Rattle.gts_gap.specs.Capture.{number_of_event, events_with, numbers}
@@ -37,7 +36,8 @@ pub record IsFed (c : ℕ) (old : Decoding) (first : Rings) (bytes : List ℕ) (
   pub adds : (before : List ℕ) → old.held ≡ held_in before → Adds first now (numbers_of (events_added c before bytes))
 
 -- all bytes of a feed were taken, and came on a circuit
-pub record FeedsAll (tells : Type 0) (c : ℕ) (held held_now : Held) (left left_now : List ℕ) (decoder decoder_now : Decoding) (old new : Rings) : Type 0 where
+pub record FeedsAll (tells : Type 0) (c : ℕ) (held held_now : Held) (left left_now : List ℕ)
+    (decoder decoder_now : Decoding) (old new : Rings) : Type 0 where
   pub bytes : List ℕ
   pub taken : Takes tells bytes held held_now left left_now
   pub whole : held_now.feed ≡ 0
@@ -46,8 +46,10 @@ pub record FeedsAll (tells : Type 0) (c : ℕ) (held held_now : Held) (left left
 -- bytes of a feed came on a circuit: all; or they ended in it
 abbrev pub Feeds : (tells : Type 0) → ℕ → Result (Unit {0}) CaptureFault → (held held_now : Held) → (left left_now : List ℕ)
     → (decoder decoder_now : Decoding) → (old new : Rings) → Type 0
-Feeds tells c (Ok _) held held_now left left_now decoder decoder_now old new = FeedsAll tells c held held_now left left_now decoder decoder_now old new
-Feeds tells c (Err (Bad at)) held held_now left left_now decoder decoder_now old new = (bytes : List ℕ) × EndsBehind tells bytes at held left
+Feeds tells c (Ok _) held held_now left left_now decoder decoder_now old new =
+    FeedsAll tells c held held_now left left_now decoder decoder_now old new
+Feeds tells c (Err (Bad at)) held held_now left left_now decoder decoder_now old new =
+    (bytes : List ℕ) × EndsBehind tells bytes at held left
 Feeds tells c (Err SourceFault) held held_now left left_now decoder decoder_now old new = Unit {0}
 
 -- a step of this head was done to its end: its numbers were added, and the decoders have what came on their connections
@@ -58,7 +60,8 @@ pub record DoesAll (tells : Type 0) (head : Head) (held held_now : Held) (left l
   pub taken : Takes tells (bytes_of_step step) held held_now left left_now
   pub whole : held_now.feed ≡ 0
   pub adds : (bs : Connections) → Decode decoders bs → Adds old new (numbers_of (events_with bs step))
-  pub decode : (d : Directory) (bs : Connections) → length d.circuits ≡ length decoders → Decode decoders bs → Decode decoders_now (after_step d bs step)
+  pub decode : (d : Directory) (bs : Connections) → length d.circuits ≡ length decoders → Decode decoders bs
+      → Decode decoders_now (after_step d bs step)
   pub circuits : length decoders_now ≡ length decoders
 
 -- the bytes ended in a step of this head
@@ -69,7 +72,8 @@ pub record EndsInStep (tells : Type 0) (head : Head) (at : ℕ) (held : Held) (l
 
 abbrev pub DoesStep : (tells : Type 0) → Head → Result (Unit {0}) CaptureFault → (held held_now : Held) → (left left_now : List ℕ)
     → (decoders decoders_now : List Decoding) → (old new : Rings) → Type 0
-DoesStep tells head (Ok _) held held_now left left_now decoders decoders_now old new = DoesAll tells head held held_now left left_now decoders decoders_now old new
+DoesStep tells head (Ok _) held held_now left left_now decoders decoders_now old new =
+    DoesAll tells head held held_now left left_now decoders decoders_now old new
 DoesStep tells head (Err (Bad at)) held held_now left left_now decoders decoders_now old new = EndsInStep tells head at held left
 DoesStep tells head (Err SourceFault) held held_now left left_now decoders decoders_now old new = Unit {0}
 
@@ -86,13 +90,13 @@ StandFor d steps rings = (c : ℕ) → c < length d.circuits → StandsAt rings 
 -- The whole capture was read, and the table stands for its numbers.
 pub record IsRead (tells : Type 0) (d : Directory) (rings : Rings) (bytes : List ℕ) : Type 0 where
   pub steps : List Step
-  pub whole : IfTold tells bytes (IsWhole d bytes steps)
+  pub whole : tells → IsWhole d bytes steps
   pub circuits : length rings ≡ length d.circuits
   pub stand : StandFor d steps rings
 
 -- the bytes are no capture: bad at this place, or they end there
 abbrev pub IsCutAt : (tells : Type 0) → Directory → List ℕ → ℕ → Type 0
-IsCutAt tells d bytes at = IfTold tells bytes ((steps : List Step) × EndsEarly d bytes steps at)
+IsCutAt tells d bytes at = tells → (steps : List Step) × EndsEarly d bytes steps at
 
 -- how the steps of a capture were gone through
 abbrev pub Comes : (tells : Type 0) → Directory → Result (Unit {0}) CaptureFault → Rings → List ℕ → Type 0

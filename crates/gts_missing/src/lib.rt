@@ -13,6 +13,3 @@ pub use fault::{GapsEnd, TableFault};
 pub use moment::Moment;
 pub use reading::table_of;
 pub use reporting::gaps;
-
-#[cfg(test)]
-mod tests;

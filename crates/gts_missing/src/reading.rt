@@ -73,7 +73,7 @@ fn run<S: Source>(
             return Err(fault);
         }
     }
-    // No capture that is told has so many steps: their bytes could not be counted.
+    // No capture that is told has so many steps.
     Err(CaptureFault::Bad { at: u64::MAX })
 }
 

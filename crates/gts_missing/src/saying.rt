@@ -3,9 +3,7 @@ ghost use Rattle.std.specs.List.{AllByRecursion};
 ghost use Rattle.gts_alphabet.specs.Digits.{dec};
 ghost use Rattle.gts_traits.specs.{HasCause, CHANNELS, on};
 ghost use Rattle.gts_say.specs.Say.{Tells};
-ghost use Rattle.gts_gap.specs.{IsDigits};
-ghost use Rattle.gts_gap.specs.Ring.{HasDigits};
-ghost use Rattle.gts_gap.specs.Asking.{ask_frame, ask_heading};
+ghost use Rattle.gts_gap.specs.{IsDigits, HasDigits, ask_frame, ask_heading};
 ghost use Rattle.gts_missing.specs.Saying.{run_line, run_lines, front_text};
 
 use crate::Moment;

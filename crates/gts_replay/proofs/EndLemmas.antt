@@ -17,18 +17,19 @@ use Rattle.gts_record.specs.declared.fault.OpenFault.TheVariants as opening
 use Rattle.gts_connection.specs.Connection.{events_added}
 use Rattle.gts_connection.specs.declared.kind.CaptureKind.{CaptureKind}
 use Rattle.gts_connection.specs.declared.kind.CaptureKind.TheVariants.{Journaled}
-use Rattle.gts_connection.specs.Capture.{Step, Feed, Take, Reopen, Drain, Restart, Compact, Head, FeedHead, TakeHead, ReopenHead, DrainHead, RestartHead, CompactHead, EndHead, head_text, head_of, bytes_of_step, step_text, IsHeadOf, ReadingOf, EndsEarlyOf, Connections, no_bytes, with_bytes, entries_of_step, entries_from, connections_after, entries, count_at, compactions_from, compactions}
+use Rattle.gts_connection.specs.Capture.{Step, Feed, Take, Reopen, Drain, Restart, Compact, Head, FeedHead, TakeHead, ReopenHead, DrainHead, RestartHead, CompactHead, EndHead, head_text, head_of, bytes_of_step, step_text, IsHeadOf, readable, ReadingOf, EndsEarlyOf, Connections, no_bytes, with_bytes, entries_of_step, entries_from, connections_after, entries, count_at, compactions_from, compactions}
 use Rattle.gts_connection.proofs.LawLemmas.{reads, early_is_none, entries_go_on, compactions_go_on, compactions_between}
-use Rattle.gts_capture.specs.{IsHeadIn, bytes_announced, IsReadTo, IsTaken, IsSameCapture, IsBadAt, StopsInHead, counted_to}
+use Rattle.gts_connection.specs.declared.limits.TheConstants.{LONGEST_CAPTURE}
+use Rattle.gts_capture.specs.{IsHeadIn, bytes_announced, IsReadTo, IsTaken, IsSameCapture, IsBadAt, StopsInHead, IsInFeed, readable_from}
 use Rattle.gts_capture.specs.Held.{Held}
 use Rattle.gts_capture.specs.declared.capture_fault.CaptureFault.TheVariants.{Bad, SourceFault}
-use Rattle.gts_capture.proofs.LawLemmas.{one_step, at_bad, in_feed, head_goes_on, feed_goes_on, taken_head, taken_feed}
+use Rattle.gts_capture.proofs.LawLemmas.{one_step, at_end, at_bad, in_feed, head_goes_on, feed_goes_on, taken_head, taken_feed}
 use Rattle.gts_turns.specs.{Standing, IsCause, entry_of, outcome_at}
 use Rattle.gts_replay.specs.declared.end.ReplayEnd.TheVariants as end
 use Rattle.gts_replay.specs.declared.fault.StepFault.{StepFault}
 use Rattle.gts_replay.specs.declared.fault.StepFault.TheVariants as step
 use Rattle.gts_replay.specs.Going.{StandsFor, state_at, origin_behind, BreaksOff, BreaksAtRestart}
-use Rattle.gts_replay.specs.Replay.{IfTold, IsDone, IsCut, LosesSource, StopsAtFault, StopsAtRestart, BreaksAtCompaction, StopsAtCompaction, LacksMemory, Ends, IsLasting, HasDone, origin_at, entries_at, compactions_at}
+use Rattle.gts_replay.specs.Replay.{IsDone, IsCut, LosesSource, StopsAtFault, StopsAtRestart, BreaksAtCompaction, StopsAtCompaction, LacksMemory, Ends, IsLasting, HasDone, origin_at, entries_at, compactions_at}
 use Rattle.gts_replay.specs.Ending.{end_of, IsStepOf, DoesStep, EndsBehind, StopsBehind, TakesNoMore, origin_after}
 use Rattle.gts_replay.proofs.OriginLemmas.{AllBehind, origin_is, counts_within, counts_more, origin_more}
 use Rattle.gts_replay.proofs.FeedingLemmas.{done_twice}
@@ -125,10 +126,10 @@ memory_ends words station kind o h tells old new bytes left is = record {
 pub ends_unmade : {O W : Type 0} (words : Standing O W) (station : Type 0) (kind : CaptureKind) (o : O) (h : List Entry) (tells : Type 0) (now : W) (bytes left : List ℕ)
     → StandsFor words o h now → Ends words station kind o h tells end.NoMemory now now bytes left
 ends_unmade words station kind o h tells now bytes left start =
-    let r = reads kind (words.directory now) bytes in
+    let r = reads kind (words.directory now) (readable bytes) in
     memory_ends words station kind o h tells now now bytes left record {
       steps = r.0;
-      read = λ t small. (r.1, r.2);
+      read = λ t. (r.1, r.2);
       stands = inl record { same = refl; stands = start.stands };
     }
 
@@ -136,27 +137,26 @@ ends_unmade words station kind o h tells now bytes left start =
 
 pub ends_done : {O W : Type 0} (words : Standing O W) (kind : CaptureKind) (station tells : Type 0) (bytes : List ℕ) (first : W) (steps : List Step) (old new : Held) (before after left : List ℕ) (ds : List Decoding) (now : W)
     → Runs words kind tells bytes first steps old before ds now → (tells → old.ahead ++ before ≡ head_text EndHead ++ (new.ahead ++ after))
+    → old.at + length (head_text EndHead) ≤ LONGEST_CAPTURE
     → (o : O) (h : List Entry) → StandsFor words o h first → Ends words station kind o h tells end.Done first now bytes left
-ends_done words kind station tells bytes first steps old new before after left ds now runs told o h start =
+ends_done words kind station tells bytes first steps old new before after left ds now runs told within o h start =
     done_ends words station kind o h tells first now bytes left record {
       steps = steps;
       are = runs.are;
-      whole = λ t small. record {
-        are = runs.are;
-        unread = new.ahead ++ after;
-        text = (runs.read t small).text ∙ ap (λ (xs : List ℕ). flat_map step_text steps ++ xs) (told t) ∙ sym (append_assoc (flat_map step_text steps) (head_text EndHead) (new.ahead ++ after));
-      };
+      whole = λ t.
+          let R : List ℕ → Type 0 = λ xs. IsReadTo kind (words.directory first) bytes steps old xs in
+          at_end kind (words.directory first) bytes (new.ahead ++ after) steps old (subst R (told t) (runs.read t)) within;
       stands = runs.stands o h start;
     }
 
 pub ends_bad : {O W : Type 0} (words : Standing O W) (kind : CaptureKind) (station tells : Type 0) (bytes : List ℕ) (first : W) (steps : List Step) (old : Held) (before left : List ℕ) (ds : List Decoding) (now : W) (at : ℕ)
-    → length (words.directory first).circuits ≤ 100 → Runs words kind tells bytes first steps old before ds now → (tells → IsBadAt old (old.ahead ++ before) at)
+    → length (words.directory first).circuits ≤ 100 → Runs words kind tells bytes first steps old before ds now → (tells → IsBadAt old (readable_from old.at (old.ahead ++ before)) at)
     → (o : O) (h : List Entry) → StandsFor words o h first → Ends words station kind o h tells (end.Capture at) first now bytes left
 ends_bad words kind station tells bytes first steps old before left ds now at few runs bad o h start =
     let d : Directory = words.directory first in
-    let early : IfTold tells bytes (EndsEarlyOf kind d bytes steps at) = λ t small. at_bad kind d bytes (old.ahead ++ before) steps old at (runs.read t small) (bad t) in
+    let early : (tells → EndsEarlyOf kind d bytes steps at) = λ t. at_bad kind d bytes (old.ahead ++ before) steps old at (runs.read t) (bad t) in
     cut_ends words station kind o h tells at first now bytes left
-    record { steps = steps; early = early; none = λ t small others w. early_is_none kind d bytes steps others at few (early t small) w; stands = runs.stands o h start }
+    record { steps = steps; early = early; none = λ t others w. early_is_none kind d bytes steps others at few (early t) w; stands = runs.stands o h start }
 
 pub ends_source : {O W : Type 0} (words : Standing O W) (kind : CaptureKind) (station tells : Type 0) (bytes : List ℕ) (first : W) (steps : List Step) (old new : Held) (before after : List ℕ) (ds : List Decoding) (now : W)
     → Runs words kind tells bytes first steps old before ds now → IsSameCapture old new → (tells → StopsInHead old new before after)
@@ -164,7 +164,7 @@ pub ends_source : {O W : Type 0} (words : Standing O W) (kind : CaptureKind) (st
 ends_source words kind station tells bytes first steps old new before after ds now runs same stops o h start =
     source_ends words station kind o h tells first now bytes after record {
       steps = steps;
-      taken = λ t small. taken_head kind (words.directory first) bytes before after steps old new (runs.read t small) same (stops t);
+      taken = λ t. taken_head kind (words.directory first) bytes before after steps old new (runs.read t) same (stops t);
       stands = runs.stands o h start;
     }
 
@@ -180,7 +180,7 @@ two_bytes RestartHead = omega arith
 two_bytes CompactHead = omega arith
 two_bytes EndHead = omega arith
 
-two_each : (steps : List Step) → 2 * length steps ≤ length (flat_map step_text steps)
+pub two_each : (steps : List Step) → 2 * length steps ≤ length (flat_map step_text steps)
 two_each [] = omega arith
 two_each (s ∷ steps) =
     let more = two_each steps in
@@ -190,41 +190,33 @@ pub ends_never : {O W : Type 0} (words : Standing O W) (kind : CaptureKind) (sta
     → Runs words kind tells bytes first steps held left ds now → 2 ^ 64 - 1 ≤ length steps
     → (o : O) (h : List Entry) → StandsFor words o h first → Ends words station kind o h tells (end.Capture at) first now bytes after
 ends_never words kind station tells bytes first steps held left after ds now at runs many o h start =
-    let never : tells → length bytes < 2 ^ 64 → ⊥ = λ t small.
-    let r = runs.read t small in
-    omega (arith, many, small, two_each steps, ap length r.text, length-append (flat_map step_text steps) (held.ahead ++ left)) in
+    let never : tells → ⊥ = λ t.
+    let r = runs.read t in
+    omega (arith, many, two_each steps, r.place, r.within) in
     cut_ends words station kind o h tells at first now bytes after
-    record { steps = steps; early = λ t small. absurd (never t small); none = λ t small. absurd (never t small); stands = runs.stands o h start }
+    record { steps = steps; early = λ t. absurd (never t); none = λ t. absurd (never t); stands = runs.stands o h start }
 
 -- ---- in a step
 
 -- the bytes end in a step: it is a feed
-cut_in : (kind : CaptureKind) (d : Directory) (bytes : List ℕ) (steps : List Step) (old mid : Held) (before left : List ℕ) (at : ℕ) (tells : Type 0) (head : Head) (step : Step) → tells
+pub cut_in : (kind : CaptureKind) (d : Directory) (bytes : List ℕ) (steps : List Step) (old mid : Held) (before left : List ℕ) (at : ℕ) (tells : Type 0) (head : Head) (step : Step) → tells
     → IsReadTo kind d bytes steps old (old.ahead ++ before) → ReadsHead tells head old mid before left → IsHeadOf kind d head → IsStepOf head step → EndsBehind tells (bytes_of_step step) at mid left
     → EndsEarlyOf kind d bytes (steps ++ step ∷ []) at
 cut_in kind d bytes steps old mid before left at tells (FeedHead c n) step t read reads valid of ends =
     let x : List ℕ = of.0 in
     let feed : step ≡ Feed c x = of.1 in
     let same : bytes_of_step step ≡ x = ap bytes_of_step feed in
-    let all : old.ahead ++ before ≡ head_text (FeedHead c n) ++ x = reads.told t ∙ ap (λ (xs : List ℕ). head_text (FeedHead c n) ++ xs) (ends.all t ∙ same) in
+    let text : List ℕ = head_text (FeedHead c n) ++ x in
+    let all : old.ahead ++ before ≡ text ++ ends.rest =
+    reads.told t ∙ ap (λ (xs : List ℕ). head_text (FeedHead c n) ++ xs) (ends.told t ∙ ap (λ (xs : List ℕ). xs ++ ends.rest) same) ∙ sym (append_assoc (head_text (FeedHead c n)) x ends.rest) in
     let short : length x < n = let s = ends.short t in omega (arith, s, ap length same, reads.feed) in
-    let found : EndsEarlyOf kind d bytes (steps ++ Feed c x ∷ []) (length bytes) = in_feed kind d bytes (old.ahead ++ before) x steps old c n read valid short all in
-    let small : mid.at < 2 ^ 64 = omega (arith, reads.at) in
-    let place = ends.place t small in
-    let here : length bytes ≡ at =
-    omega (
-      arith,
-      place,
-      ap length same,
-      reads.at,
-      read.place,
-      read.small,
-      ap length read.text,
-      length-append (flat_map step_text steps) (old.ahead ++ before),
-      ap length all,
-      length-append (head_text (FeedHead c n)) x,
-    ) in
-    subst (λ (k : ℕ). EndsEarlyOf kind d bytes (steps ++ step ∷ []) k) here (subst (λ (s : Step). EndsEarlyOf kind d bytes (steps ++ s ∷ []) (length bytes)) (sym feed) found)
+    let here : old.at + length text ≡ mid.at + length (bytes_of_step step) = omega (arith, reads.at, ap length same, length-append (head_text (FeedHead c n)) x) in
+    let f : IsInFeed kind d bytes steps old c n x ends.rest =
+    record { read = subst (λ (xs : List ℕ). IsReadTo kind d bytes steps old xs) all read; head = valid; most = omega (arith, short); within = let w = ends.within reads.within in omega (arith, w, here) } in
+    let found = in_feed kind d bytes x ends.rest steps old c n f short (ap (λ (k : ℕ). readable_from k ends.rest) here ∙ ends.nothing t) in
+    let S : Step → Type 0 = λ s. EndsEarlyOf kind d bytes (steps ++ s ∷ []) at in
+    let K : ℕ → Type 0 = λ k. EndsEarlyOf kind d bytes (steps ++ Feed c x ∷ []) k in
+    subst S (sym feed) (subst K (here ∙ sym (ends.place t)) found)
 cut_in kind d bytes steps old mid before left at tells (TakeHead c) step t read reads valid of ends = absurd (let s = ends.short t in omega (arith, s, reads.feed))
 cut_in kind d bytes steps old mid before left at tells (ReopenHead c) step t read reads valid of ends = absurd (let s = ends.short t in omega (arith, s, reads.feed))
 cut_in kind d bytes steps old mid before left at tells (DrainHead c) step t read reads valid of ends = absurd (let s = ends.short t in omega (arith, s, reads.feed))
@@ -243,7 +235,10 @@ lost_in kind d bytes steps old mid before left after tells (FeedHead c n) step t
     let all : old.ahead ++ before ≡ head_text (FeedHead c n) ++ x ++ after =
     reads.told t ∙ ap (λ (xs : List ℕ). head_text (FeedHead c n) ++ xs) (stops.told t ∙ ap (λ (xs : List ℕ). xs ++ after) same) ∙ sym (append_assoc (head_text (FeedHead c n)) x after) in
     let short : length x < n = let s = stops.short t in omega (arith, s, ap length same, reads.feed) in
-    let found = taken_feed kind d bytes x after steps old c n (subst (λ (xs : List ℕ). IsReadTo kind d bytes steps old xs) all read) valid short in
+    let here : old.at + length (head_text (FeedHead c n) ++ x) ≡ mid.at + length (bytes_of_step step) = omega (arith, reads.at, ap length same, length-append (head_text (FeedHead c n)) x) in
+    let f : IsInFeed kind d bytes steps old c n x after =
+    record { read = subst (λ (xs : List ℕ). IsReadTo kind d bytes steps old xs) all read; head = valid; most = omega (arith, short); within = let w = stops.within reads.within in omega (arith, w, here) } in
+    let found = taken_feed kind d bytes x after steps old c n f short in
     subst (λ (s : Step). IsTaken kind d bytes (steps ++ s ∷ []) after) (sym feed) found
 lost_in kind d bytes steps old mid before left after tells (TakeHead c) step t read reads valid of stops = absurd (let s = stops.short t in omega (arith, s, reads.feed))
 lost_in kind d bytes steps old mid before left after tells (ReopenHead c) step t read reads valid of stops = absurd (let s = stops.short t in omega (arith, s, reads.feed))
@@ -262,7 +257,7 @@ from_between n all m (k ∷ ks) le each = (omega (arith, le, each.0.0), from_bet
 -- The steps of the capture, of which the entries of the steps so far and of the step in work are the first.
 record Follows (kind : CaptureKind) (d : Directory) (tells : Type 0) (bytes : List ℕ) (steps : List Step) (step : Step) : Type 0 where
   all : List Step
-  read : IfTold tells bytes ((at : ℕ) × ReadingOf kind d bytes all at)
+  read : tells → (at : ℕ) × ReadingOf kind d bytes all at
   behind : (s : State) → (more : List Entry) × (entries d s all ≡ entries d s (steps ++ step ∷ []) ++ more)
   next : Step
   rest : List Step
@@ -280,17 +275,17 @@ announced Restart = refl
 announced Compact = refl
 
 follows_bare : (kind : CaptureKind) (d : Directory) (tells : Type 0) (bytes : List ℕ) (steps : List Step) (step : Step) (old mid : Held) (before left : List ℕ) (head : Head)
-    → IfTold tells bytes (IsReadTo kind d bytes steps old (old.ahead ++ before)) → ReadsHead tells head old mid before left → head_of step ≡ head → bytes_announced head ≡ 0 → Follows kind d tells bytes steps step
+    → (tells → IsReadTo kind d bytes steps old (old.ahead ++ before)) → ReadsHead tells head old mid before left → head_of step ≡ head → bytes_announced head ≡ 0 → Follows kind d tells bytes steps step
 follows_bare kind d tells bytes steps step old mid before left head read reads whole none =
-    let on = head_goes_on kind d (mid.ahead ++ left) in
+    let on = head_goes_on kind d mid.at (mid.ahead ++ left) in
     let nothing : bytes_of_step step ≡ [] = nil_from_length (bytes_of_step step) (announced step ∙ ap bytes_announced whole ∙ none) in
     let text : step_text step ≡ head_text head = ap (λ (xs : List ℕ). head_text (head_of step) ++ xs) nothing ∙ append-nil (head_text (head_of step)) ∙ ap head_text whole in
     record {
       all = (steps ++ step ∷ []) ++ on.more;
-      read = λ t small.
+      read = λ t.
           on.read bytes (steps ++ step ∷ []) mid
-          (one_step kind d bytes (old.ahead ++ before) (mid.ahead ++ left) steps step old mid (read t small) (subst (λ (k : Head). IsHeadIn old.circuits old.kind k) (sym whole) reads.valid)
-          (reads.told t ∙ ap (λ (xs : List ℕ). xs ++ (mid.ahead ++ left)) (sym text)) reads.same (reads.at ∙ ap (λ (xs : List ℕ). counted_to (old.at + length xs)) (sym text)));
+          (one_step kind d bytes (old.ahead ++ before) (mid.ahead ++ left) steps step old mid (read t) (subst (λ (k : Head). IsHeadIn old.circuits old.kind k) (sym whole) reads.valid)
+          (reads.told t ∙ ap (λ (xs : List ℕ). xs ++ (mid.ahead ++ left)) (sym text)) reads.same (reads.at ∙ ap (λ (xs : List ℕ). old.at + length xs) (sym text)) reads.within) refl;
       behind = λ s. (entries_from d (after_all d s (entries d s (steps ++ step ∷ []))) (connections_after d (no_bytes d) (steps ++ step ∷ [])) on.more, entries_go_on d s (steps ++ step ∷ []) on.more);
       next = step;
       rest = on.more;
@@ -352,19 +347,26 @@ feed_counts d s n steps more c x y =
     )
 
 follows : (kind : CaptureKind) (d : Directory) (tells : Type 0) (bytes : List ℕ) (steps : List Step) (step : Step) (old mid : Held) (before left : List ℕ) (head : Head)
-    → IfTold tells bytes (IsReadTo kind d bytes steps old (old.ahead ++ before)) → ReadsHead tells head old mid before left → IsHeadOf kind d head → IsStepOf head step
+    → (tells → IsReadTo kind d bytes steps old (old.ahead ++ before)) → ReadsHead tells head old mid before left → IsHeadOf kind d head → IsStepOf head step
     → TakesNoMore tells (bytes_of_step step) mid left → Follows kind d tells bytes steps step
 follows kind d tells bytes steps step old mid before left (FeedHead c n) read reads valid of taken =
     let x : List ℕ = of.0 in
     let feed : step ≡ Feed c x = of.1 in
     let same : bytes_of_step step ≡ x = ap bytes_of_step feed in
-    let on = feed_goes_on kind d x taken.rest c n valid (omega (arith, taken.most, ap length same, reads.feed)) in
+    let text : List ℕ = head_text (FeedHead c n) ++ x in
+    let on = feed_goes_on kind d c n (old.at + length text) x taken.rest in
     let found : Follows kind d tells bytes steps (Feed c x) = record {
       all = steps ++ Feed c (x ++ on.rest) ∷ on.more;
-      read = λ t small.
+      read = λ t.
           let all : old.ahead ++ before ≡ head_text (FeedHead c n) ++ x ++ taken.rest =
           reads.told t ∙ ap (λ (xs : List ℕ). head_text (FeedHead c n) ++ xs) (taken.told t ∙ ap (λ (xs : List ℕ). xs ++ taken.rest) same) ∙ sym (append_assoc (head_text (FeedHead c n)) x taken.rest) in
-          on.read bytes steps old (subst (λ (xs : List ℕ). IsReadTo kind d bytes steps old xs) all (read t small));
+          let f : IsInFeed kind d bytes steps old c n x taken.rest = record {
+            read = subst (λ (xs : List ℕ). IsReadTo kind d bytes steps old xs) all (read t);
+            head = valid;
+            most = omega (arith, taken.most, ap length same, reads.feed);
+            within = let w = taken.within reads.within in omega (arith, w, reads.at, ap length same, length-append (head_text (FeedHead c n)) x);
+          } in
+          on.read bytes steps old f refl;
       behind = λ s. feed_behind d s steps on.more c x on.rest;
       next = Feed c (x ++ on.rest);
       rest = on.more;
@@ -559,17 +561,17 @@ ends_step {O} {W} words kind station tells bytes first steps old mid new before 
 
     go : (f : StepFault) → DoesStep words station tells head (Err f) mid new left after ds ds_now now later → Ends words station kind o h tells (end_of f) first later bytes after
     go (step.Capture (Bad at)) w =
-        let early : IfTold tells bytes (EndsEarlyOf kind d bytes (steps ++ w.step ∷ []) at) = λ t small. cut_in kind d bytes steps old mid before left at tells head w.step t (runs.read t small) reads valid w.of_head w.taken in
+        let early : (tells → EndsEarlyOf kind d bytes (steps ++ w.step ∷ []) at) = λ t. cut_in kind d bytes steps old mid before left at tells head w.step t (runs.read t) reads valid w.of_head w.taken in
         cut_ends words station kind o h tells at first later bytes after record {
           steps = steps ++ w.step ∷ [];
           early = early;
-          none = λ t small others k. early_is_none kind d bytes (steps ++ w.step ∷ []) others at few (early t small) k;
+          none = λ t others k. early_is_none kind d bytes (steps ++ w.step ∷ []) others at few (early t) k;
           stands = all_added w.step (w.went bs p (h ++ es) runs.decode on);
         }
     go (step.Capture SourceFault) w =
         source_ends words station kind o h tells first later bytes after record {
           steps = steps ++ w.step ∷ [];
-          taken = λ t small. lost_in kind d bytes steps old mid before left after tells head w.step t (runs.read t small) reads valid w.of_head w.taken;
+          taken = λ t. lost_in kind d bytes steps old mid before left after tells head w.step t (runs.read t) reads valid w.of_head w.taken;
           stands = all_added w.step (w.went bs p (h ++ es) runs.decode on);
         }
     go (step.Reopen opening.NoJournal) w = reopen_ends words station kind o h tells opening.NoJournal first later bytes after (unopened opening.NoJournal (λ e. cc) w)

@@ -1,5 +1,5 @@
 -- Steps of a capture, one after another.
-use Rattle.std.proofs.Common.{◌≡◌, ℕ, ◌+◌, ◌^◌, ◌<◌, List, [], ◌∷◌, ◌++◌, length, Ok, refl, sym, ap, subst, ◌∙◌, arith, append_assoc, length-append}
+use Rattle.std.proofs.Common.{◌≡◌, ℕ, ◌+◌, ◌≤◌, List, [], ◌∷◌, ◌++◌, length, Ok, refl, sym, ap, subst, ◌∙◌, arith, append_assoc, length-append}
 use Rattle.std.proofs.lemmas.List.{append-nil}
 use Rattle.gts_directory.specs.Directory.{Directory}
 use Rattle.gts_event.specs.State.{State}
@@ -10,12 +10,13 @@ use Rattle.gts_frame.specs.Decoder.{Decoding}
 use Rattle.gts_connection.specs.declared.kind.CaptureKind.{CaptureKind}
 use Rattle.gts_connection.specs.Capture.{Step, Head, FeedHead, TakeHead, ReopenHead, DrainHead, RestartHead, CompactHead, EndHead, head_text, head_of, bytes_of_step, step_text, IsHeadOf, AreStepsOf, Connections, no_bytes, entries_of_step, after_step, connections_after}
 use Rattle.gts_connection.proofs.LawLemmas.{entries_go_on, connections_go_on}
-use Rattle.gts_capture.specs.{IsHeadIn, bytes_announced, IsReadTo, IsSameCapture, at_start, counted_to}
+use Rattle.gts_connection.specs.declared.limits.TheConstants.{LONGEST_CAPTURE}
+use Rattle.gts_capture.specs.{IsHeadIn, bytes_announced, IsReadTo, IsSameCapture, at_start}
 use Rattle.gts_capture.specs.Held.{Held}
 use Rattle.gts_capture.proofs.LawLemmas.{begins, one_step}
 use Rattle.gts_turns.specs.{Standing}
 use Rattle.gts_replay.specs.Going.{IsStart, StandsFor, state_at, compacted_at, Decode}
-use Rattle.gts_replay.specs.Replay.{IfTold, HasDone, entries_at, compactions_at}
+use Rattle.gts_replay.specs.Replay.{HasDone, entries_at, compactions_at}
 use Rattle.gts_replay.specs.Ending.{IsStepOf, DoesStep, Takes, origin_after}
 use Rattle.gts_replay.proofs.OriginLemmas.{origin_more}
 
@@ -30,7 +31,7 @@ pub record Runs {O W : Type 0} (words : Standing O W) (kind : CaptureKind) (tell
   pub of_kind : held.kind ≡ kind
   pub taken : held.feed ≡ 0
   pub are : AreStepsOf kind (words.directory first) steps
-  pub read : IfTold tells bytes (IsReadTo kind (words.directory first) bytes steps held (held.ahead ++ left))
+  pub read : tells → IsReadTo kind (words.directory first) bytes steps held (held.ahead ++ left)
   pub decode : Decode ds (connections_after (words.directory first) (no_bytes (words.directory first)) steps)
   pub stands : (o : O) (h : List Entry) → StandsFor words o h first → HasDone words o h steps first now
   pub begins : (o : O) (h : List Entry) → words.begin (origin_done words first o h steps) ≡ words.begin o
@@ -40,7 +41,8 @@ pub record ReadsHead (tells : Type 0) (head : Head) (old new : Held) (before aft
   pub told : tells → old.ahead ++ before ≡ head_text head ++ (new.ahead ++ after)
   pub valid : IsHeadIn old.circuits old.kind head
   pub feed : new.feed ≡ bytes_announced head
-  pub at : new.at ≡ counted_to (old.at + length (head_text head))
+  pub at : new.at ≡ old.at + length (head_text head)
+  pub within : new.at ≤ LONGEST_CAPTURE
   pub same : IsSameCapture old new
 
 pub runs_none : {O W : Type 0} (words : Standing O W) (kind : CaptureKind) (tells : Type 0) (bytes : List ℕ) (first : W) (held : Held) (ds : List Decoding)
@@ -53,7 +55,7 @@ runs_none words kind tells bytes first held ds is decode =
       of_kind = ap (λ (x : Held). x.kind) is;
       taken = ap (λ (x : Held). x.feed) is;
       are = tt;
-      read = λ t small. subst P (sym is) (begins kind d bytes (at_start (length d.circuits) kind) small refl);
+      read = λ t. subst P (sym is) (begins kind d bytes (at_start (length d.circuits) kind) refl);
       decode = decode;
       stands = λ o h start. subst (λ (x : List Entry). words.stands o x first) (sym (append-nil h)) start.stands;
       begins = λ o h. refl;
@@ -128,8 +130,7 @@ runs_more words kind station tells bytes first steps old mid new before left aft
     let none : new.feed ≡ 0 = does.taken.1 in
     let size : length x ≡ bytes_announced head = omega (arith, taken.feed, none, reads.feed) in
     let whole : head_of step ≡ head = step_whole head step does.of_head size in
-    let small : mid.at < 2 ^ 64 = omega (arith, reads.at) in
-    let place : new.at ≡ counted_to (mid.at + length x) = taken.at small in
+    let place : new.at ≡ mid.at + length x = taken.at in
     let valid : IsHeadIn old.circuits old.kind (head_of step) = subst (λ (k : Head). IsHeadIn old.circuits old.kind k) (sym whole) reads.valid in
     let long : length (step_text step) ≡ length (head_text head) + length x = length-append (head_text (head_of step)) x ∙ ap (λ (k : Head). length (head_text k) + length x) whole in
     record {
@@ -137,12 +138,12 @@ runs_more words kind station tells bytes first steps old mid new before left aft
       of_kind = taken.same.kind ∙ reads.same.kind ∙ runs.of_kind;
       taken = none;
       are = are_more kind d steps step runs.are (head_here kind d old.circuits (head_of step) old.kind runs.circuits runs.of_kind valid);
-      read = λ t few.
+      read = λ t.
           let text : old.ahead ++ before ≡ step_text step ++ (new.ahead ++ after) =
           reads.told t ∙ ap (λ (xs : List ℕ). head_text head ++ xs) (taken.told t) ∙ sym (append_assoc (head_text head) x (new.ahead ++ after))
           ∙ ap (λ (k : Head). head_text k ++ x ++ (new.ahead ++ after)) (sym whole) in
-          one_step kind d bytes (old.ahead ++ before) (new.ahead ++ after) steps step old new (runs.read t few) valid text
-          record { circuits = taken.same.circuits ∙ reads.same.circuits; kind = taken.same.kind ∙ reads.same.kind } (omega (arith, place, reads.at, long));
+          one_step kind d bytes (old.ahead ++ before) (new.ahead ++ after) steps step old new (runs.read t) valid text
+          record { circuits = taken.same.circuits ∙ reads.same.circuits; kind = taken.same.kind ∙ reads.same.kind } (omega (arith, place, reads.at, long)) (taken.within reads.within);
       decode = subst (λ cs. Decode ds_now cs) (ap (λ (e : Directory). after_step e bs step) same ∙ sym (connections_go_on d steps (step ∷ []))) (does.decode bs runs.decode);
       stands = λ o h start.
           let on = stands_on words kind tells bytes first steps old before ds now runs same o h start in

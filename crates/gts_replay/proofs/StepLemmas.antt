@@ -1,5 +1,5 @@
 -- What a step took, and which entries it added.
-use Rattle.std.proofs.Common.{◌≡◌, ℕ, ◌+◌, ◌<◌, List, [], ◌++◌, length, get_or, set, map, Result, Ok, Err, refl, sym, ap, subst, ◌∙◌, arith, append_assoc, length-append}
+use Rattle.std.proofs.Common.{◌≡◌, ℕ, ◌+◌, ◌<◌, ◌≤◌, List, [], ◌++◌, length, get_or, set, map, Result, Ok, Err, refl, sym, ap, subst, ◌∙◌, arith, append_assoc, length-append}
 use Rattle.std.proofs.lemmas.List.{append-nil}
 use Rattle.gts_event.specs.declared.event.Event.TheVariants.{Taken}
 use Rattle.gts_event.specs.declared.event.Entry.{Entry}
@@ -11,7 +11,8 @@ use Rattle.gts_frame.specs.Decoder.{Decoding, fresh}
 use Rattle.gts_frame.specs.Signs.{held_in}
 use Rattle.gts_record.specs.declared.fault.OpenFault.{OpenFault}
 use Rattle.gts_connection.specs.Capture.{Feed, Take, Reopen, Drain, Restart, Compact, FeedHead, TakeHead, ReopenHead, DrainHead, RestartHead, CompactHead, Connections, no_bytes}
-use Rattle.gts_capture.specs.Held.{Held, IsSameCapture, EndsInFeed, StopsInFeed, counted_to}
+use Rattle.gts_connection.specs.declared.limits.TheConstants.{LONGEST_CAPTURE}
+use Rattle.gts_capture.specs.Held.{Held, IsSameCapture, EndsInFeed, StopsInFeed, readable_from}
 use Rattle.gts_turns.specs.{Standing, IsTurn, IsReopening, IsCompacting, entry_of, restart_of}
 use Rattle.gts_replay.specs.declared.fault.StepFault.{StepFault}
 use Rattle.gts_replay.specs.declared.fault.StepFault.TheVariants as step
@@ -26,25 +27,29 @@ same_capture held = record { circuits = refl; kind = refl }
 -- ---- a feed's bytes, piece by piece
 
 pub takes_none : (tells : Type 0) (held : Held) (left : List ℕ) → Takes tells [] held held left left
-takes_none tells held left = record { told = λ _. refl; feed = omega arith; at = λ small. omega (arith, small); same = same_capture held }
+takes_none tells held left = record { told = λ _. refl; feed = omega arith; at = omega arith; within = λ w. w; same = same_capture held }
 
 pub takes_more : (tells : Type 0) (bytes piece : List ℕ) (old now new : Held) (before left after : List ℕ) → Takes tells bytes old now before left
-    → (tells → now.ahead ++ left ≡ piece ++ (new.ahead ++ after)) → new.feed + length piece ≡ now.feed → new.at ≡ counted_to (now.at + length piece) → IsSameCapture now new
+    → (tells → now.ahead ++ left ≡ piece ++ (new.ahead ++ after)) → new.feed + length piece ≡ now.feed → new.at ≡ now.at + length piece → new.at ≤ LONGEST_CAPTURE → IsSameCapture now new
     → Takes tells (bytes ++ piece) old new before after
-takes_more tells bytes piece old now new before left after taken told feed place same = record {
+takes_more tells bytes piece old now new before left after taken told feed place inside same = record {
   told = λ t. taken.told t ∙ ap (λ (xs : List ℕ). bytes ++ xs) (told t) ∙ sym (append_assoc bytes piece (new.ahead ++ after));
   feed = omega (arith, feed, taken.feed, length-append bytes piece);
-  at = λ small. let first = taken.at small in omega (arith, place, first, length-append bytes piece);
+  at = omega (arith, place, taken.at, length-append bytes piece);
+  within = λ w. inside;
   same = record { circuits = same.circuits ∙ taken.same.circuits; kind = same.kind ∙ taken.same.kind };
 }
 
 -- the bytes end in the feed
-pub takes_end : (tells : Type 0) (bytes : List ℕ) (old now : Held) (before left : List ℕ) (at : ℕ) → Takes tells bytes old now before left → (tells → EndsInFeed now (now.ahead ++ left) at)
+pub takes_end : (tells : Type 0) (bytes : List ℕ) (old now : Held) (before left : List ℕ) (at : ℕ) → Takes tells bytes old now before left → (tells → EndsInFeed now (readable_from now.at (now.ahead ++ left)) at)
     → EndsBehind tells bytes at old before
 takes_end tells bytes old now before left at taken ends = record {
-  all = λ t. taken.told t ∙ ap (λ (xs : List ℕ). bytes ++ xs) (ends t).nothing ∙ append-nil bytes;
+  rest = now.ahead ++ left;
+  told = taken.told;
   short = λ t. let more = (ends t).announced in omega (arith, more, taken.feed);
-  place = λ t small. let place = (ends t).place in let first = taken.at small in omega (arith, place, first);
+  place = λ t. (ends t).place ∙ taken.at;
+  within = λ w. let inside = taken.within w in omega (arith, inside, taken.at);
+  nothing = λ t. ap (λ (n : ℕ). readable_from n (now.ahead ++ left)) (sym taken.at) ∙ (ends t).nothing;
 }
 
 -- the source failed in the feed
@@ -53,20 +58,23 @@ pub takes_stop : (tells : Type 0) (bytes : List ℕ) (old now new : Held) (befor
 takes_stop tells bytes old now new before left after taken stops some = record {
   told = λ t. taken.told t ∙ ap (λ (xs : List ℕ). bytes ++ (xs ++ left)) (stops t).empty ∙ ap (λ (xs : List ℕ). bytes ++ xs) (sym (stops t).kept);
   short = λ t. omega (arith, some, taken.feed);
+  within = λ w. let inside = taken.within w in omega (arith, inside, taken.at);
 }
 
 -- no more was taken than these bytes and a piece
 pub takes_at_most : (tells : Type 0) (bytes piece : List ℕ) (old now new : Held) (before left after : List ℕ) → Takes tells bytes old now before left
-    → (tells → now.ahead ++ left ≡ piece ++ (new.ahead ++ after)) → new.feed + length piece ≡ now.feed → TakesNoMore tells (bytes ++ piece) old before
-takes_at_most tells bytes piece old now new before left after taken told feed = record {
+    → (tells → now.ahead ++ left ≡ piece ++ (new.ahead ++ after)) → new.feed + length piece ≡ now.feed → new.at ≡ now.at + length piece → new.at ≤ LONGEST_CAPTURE
+    → TakesNoMore tells (bytes ++ piece) old before
+takes_at_most tells bytes piece old now new before left after taken told feed place inside = record {
   rest = new.ahead ++ after;
   told = λ t. taken.told t ∙ ap (λ (xs : List ℕ). bytes ++ xs) (told t) ∙ sym (append_assoc bytes piece (new.ahead ++ after));
   most = omega (arith, feed, taken.feed, length-append bytes piece);
+  within = λ w. omega (arith, place, inside, taken.at, length-append bytes piece);
 }
 
 -- nothing was taken
 nothing_taken : (tells : Type 0) (held : Held) (left : List ℕ) → TakesNoMore tells [] held left
-nothing_taken tells held left = record { rest = held.ahead ++ left; told = λ _. refl; most = omega arith }
+nothing_taken tells held left = record { rest = held.ahead ++ left; told = λ _. refl; most = omega arith; within = λ w. omega (arith, w) }
 
 -- ---- a step of each head
 

@@ -1,5 +1,5 @@
 -- How a step of a capture was done, or was not done to its end.
-use Rattle.std.specs.Prelude.{◌≡◌, ℕ, ◌+◌, ◌^◌, ◌<◌, ◌≤◌, List, ◌++◌, length, Result, Ok, Err, IsErrOf, OnOk}
+use Rattle.std.specs.Prelude.{◌≡◌, ℕ, ◌+◌, ◌<◌, ◌≤◌, List, [], ◌++◌, length, Result, Ok, Err, IsErrOf, OnOk}
 use Rattle.gts_traits.specs.Counts.{Rose}
 use Rattle.gts_event.specs.declared.event.Entry.{Entry}
 use Rattle.gts_event.specs.declared.fault.SwitchFault.{SwitchFault}
@@ -7,8 +7,9 @@ use Rattle.gts_event.specs.declared.fault.SwitchFault.TheVariants as switch
 use Rattle.gts_frame.specs.Decoder.{Decoding}
 use Rattle.gts_record.specs.declared.fault.OpenFault.TheVariants as opening
 use Rattle.gts_connection.specs.Capture.{Step, Feed, Restart, Compact, Head, FeedHead, head_of, bytes_of_step, entries_of_step, after_step, Connections}
+use Rattle.gts_connection.specs.declared.limits.TheConstants.{LONGEST_CAPTURE}
 use Rattle.gts_capture.specs.declared.capture_fault.CaptureFault.TheVariants.{Bad, SourceFault}
-use Rattle.gts_capture.specs.Held.{Held, IsSameCapture, counted_to}
+use Rattle.gts_capture.specs.Held.{Held, IsSameCapture, readable_from}
 use Rattle.gts_turns.specs.{Standing, IsCompactCause}
 use Rattle.gts_replay.specs.declared.end.ReplayEnd.{ReplayEnd}
 use Rattle.gts_replay.specs.declared.end.ReplayEnd.TheVariants as end
@@ -33,25 +34,31 @@ end_of (step.Switch fault) = end.Fault fault
 pub record Takes (tells : Type 0) (bytes : List ℕ) (old new : Held) (before after : List ℕ) : Type 0 where
   pub told : tells → old.ahead ++ before ≡ bytes ++ (new.ahead ++ after)
   pub feed : new.feed + length bytes ≡ old.feed
-  pub at : old.at < 2 ^ 64 → new.at ≡ counted_to (old.at + length bytes)
+  pub at : new.at ≡ old.at + length bytes
+  pub within : old.at ≤ LONGEST_CAPTURE → new.at ≤ LONGEST_CAPTURE
   pub same : IsSameCapture old new
 
--- the bytes of the source end in a feed behind these, at this place
+-- the bytes that are read of the source end in a feed behind these, at this place
 pub record EndsBehind (tells : Type 0) (bytes : List ℕ) (at : ℕ) (old : Held) (before : List ℕ) : Type 0 where
-  pub all : tells → old.ahead ++ before ≡ bytes
+  pub rest : List ℕ
+  pub told : tells → old.ahead ++ before ≡ bytes ++ rest
   pub short : tells → length bytes < old.feed
-  pub place : tells → old.at < 2 ^ 64 → at ≡ counted_to (old.at + length bytes)
+  pub place : tells → at ≡ old.at + length bytes
+  pub within : old.at ≤ LONGEST_CAPTURE → old.at + length bytes ≤ LONGEST_CAPTURE
+  pub nothing : tells → readable_from (old.at + length bytes) rest ≡ []
 
 -- the source failed in a feed behind these bytes
 pub record StopsBehind (tells : Type 0) (bytes : List ℕ) (old : Held) (before after : List ℕ) : Type 0 where
   pub told : tells → old.ahead ++ before ≡ bytes ++ after
   pub short : tells → length bytes < old.feed
+  pub within : old.at ≤ LONGEST_CAPTURE → old.at + length bytes ≤ LONGEST_CAPTURE
 
 -- no more than these bytes were taken of a feed
 pub record TakesNoMore (tells : Type 0) (bytes : List ℕ) (old : Held) (before : List ℕ) : Type 0 where
   pub rest : List ℕ
   pub told : tells → old.ahead ++ before ≡ bytes ++ rest
   pub most : length bytes ≤ old.feed
+  pub within : old.at ≤ LONGEST_CAPTURE → old.at + length bytes ≤ LONGEST_CAPTURE
 
 -- what a step takes behind its head, by its answer
 abbrev pub HasTaken : Type 0 → List ℕ → Result (Unit {0}) StepFault → Held → Held → List ℕ → List ℕ → Type 0
@@ -75,7 +82,8 @@ origin_after words o h Compact = words.compacts o h
 origin_after words o h _ = o
 
 -- The journal was to be compacted, and was not.
-pub record IsUncompacted {O W : Type 0} (words : Standing O W) (o : O) (h : List Entry) (step : Step) (fault : SwitchFault) (now : W) : Type 0 where
+pub record IsUncompacted {O W : Type 0} (words : Standing O W) (o : O) (h : List Entry) (step : Step)
+    (fault : SwitchFault) (now : W) : Type 0 where
   pub at_step : step ≡ Compact
   pub remains : Remains words o h fault now
   pub cause : IsCompactCause (words.is_full_compacted o h) h fault

@@ -47,7 +47,8 @@ origin_behind words o ks entries = compacted_at words o entries (done_by (length
 
 -- Of the entries that were to be added, those before one were, and of that what its fault adds. The fault has its cause. So the
 -- switch stands since the origin that it has behind them.
-pub record BreaksOff {O W : Type 0} (words : Standing O W) (at : List Entry → O) (h more : List Entry) (fault : SwitchFault) (now : W) : Type 0 where
+pub record BreaksOff {O W : Type 0} (words : Standing O W) (at : List Entry → O) (h more : List Entry)
+    (fault : SwitchFault) (now : W) : Type 0 where
   pub front : List Entry
   pub event : Event
   pub behind : List Entry

@@ -1,5 +1,5 @@
 -- What a run of a capture through a switch left: what of the capture was read, and which of its entries were added.
-use Rattle.std.specs.Prelude.{◌≡◌, ℕ, ◌^◌, ◌<◌, ◌≤◌, ◌⊎◌, List, ◌∷◌, ◌++◌, length}
+use Rattle.std.specs.Prelude.{◌≡◌, ℕ, ◌≤◌, ◌⊎◌, List, ◌∷◌, ◌++◌, length}
 use Rattle.gts_traits.specs.Counts.{Rose}
 use Rattle.gts_event.specs.declared.event.Entry.{Entry}
 use Rattle.gts_event.specs.declared.fault.Device.TheVariants.{Disk, Say}
@@ -16,10 +16,6 @@ use Rattle.gts_turns.specs.{Standing, IsCompactCause}
 use Rattle.gts_replay.specs.Going.{state_at, compacted_at, origin_behind, BreaksOff, BreaksAtRestart, Remains}
 use Rattle.gts_replay.specs.declared.end.ReplayEnd.{ReplayEnd}
 use Rattle.gts_replay.specs.declared.end.ReplayEnd.TheVariants as end
-
--- what holds of a capture's bytes where they are told, and are few enough to be counted
-abbrev pub IfTold : Type 0 → List ℕ → Type 0 → Type 0
-IfTold tells bytes P = tells → length bytes < 2 ^ 64 → P
 
 -- the entries of steps behind those for which the switch stands
 abbrev pub entries_at : {O W : Type 0} → Standing O W → W → O → List Entry → List Step → List Entry
@@ -44,27 +40,27 @@ pub record IsDone {O W : Type 0} (words : Standing O W) (kind : CaptureKind) (o 
     (tells : Type 0) (old new : W) (bytes : List ℕ) : Type 0 where
   pub steps : List Step
   pub are : AreStepsOf kind (words.directory old) steps
-  pub whole : IfTold tells bytes (IsWholeOf kind (words.directory old) bytes steps)
+  pub whole : tells → IsWholeOf kind (words.directory old) bytes steps
   pub stands : HasDone words o h steps old new
 
 -- The bytes are no capture: they are bad at this place, or end there. The entries of the steps before were added.
 pub record IsCut {O W : Type 0} (words : Standing O W) (kind : CaptureKind) (o : O) (h : List Entry)
     (tells : Type 0) (at : ℕ) (old new : W) (bytes : List ℕ) : Type 0 where
   pub steps : List Step
-  pub early : IfTold tells bytes (EndsEarlyOf kind (words.directory old) bytes steps at)
-  pub none : IfTold tells bytes (HasNoCapture words kind old bytes)
+  pub early : tells → EndsEarlyOf kind (words.directory old) bytes steps at
+  pub none : tells → HasNoCapture words kind old bytes
   pub stands : HasDone words o h steps old new
 
 -- The source failed. The entries of the steps that had been taken from it were added.
 pub record LosesSource {O W : Type 0} (words : Standing O W) (kind : CaptureKind) (o : O) (h : List Entry)
     (tells : Type 0) (old new : W) (bytes left : List ℕ) : Type 0 where
   pub steps : List Step
-  pub taken : IfTold tells bytes (IsTaken kind (words.directory old) bytes steps left)
+  pub taken : tells → IsTaken kind (words.directory old) bytes steps left
   pub stands : HasDone words o h steps old new
 
 -- these are the steps of the capture, whole or not
 abbrev pub AreRead : {O W : Type 0} → Standing O W → CaptureKind → W → Type 0 → List ℕ → List Step → Type 0
-AreRead words kind now tells bytes steps = IfTold tells bytes ((at : ℕ) × ReadingOf kind (words.directory now) bytes steps at)
+AreRead words kind now tells bytes steps = tells → (at : ℕ) × ReadingOf kind (words.directory now) bytes steps at
 
 -- a fault of a switch that may end a run: it is never given up, and want of memory is an end of its own
 abbrev pub IsLasting : SwitchFault → Type 0
@@ -140,8 +136,8 @@ pub record LacksMemory {O W : Type 0} (words : Standing O W) (station : Type 0) 
 
 -- How a run of a capture of this kind ended, by its answer: of a switch that stood for these entries since this origin, over a source with
 -- these bytes.
-pub record Ends {O W : Type 0} (words : Standing O W) (station : Type 0) (kind : CaptureKind) (o : O) (h : List Entry) (tells : Type 0) (result : ReplayEnd)
-    (old new : W) (bytes left : List ℕ) : Type 0 where
+pub record Ends {O W : Type 0} (words : Standing O W) (station : Type 0) (kind : CaptureKind) (o : O) (h : List Entry)
+    (tells : Type 0) (result : ReplayEnd) (old new : W) (bytes left : List ℕ) : Type 0 where
   pub done : result ≡ end.Done → IsDone words kind o h tells old new bytes
   pub capture : (at : ℕ) → result ≡ end.Capture at → IsCut words kind o h tells at old new bytes
   pub source_fault : result ≡ end.SourceFault → LosesSource words kind o h tells old new bytes left

@@ -91,7 +91,7 @@ fn run<W: Switch, S: Source>(
             return end_after(fault);
         }
     }
-    // No capture that is told has so many steps: their bytes could not be counted.
+    // No capture that is told has so many steps.
     ReplayEnd::Capture { at: u64::MAX }
 }
 

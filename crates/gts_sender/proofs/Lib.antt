@@ -1,3 +1,2 @@
 pub mod DrawLemmas
 pub mod LawLemmas
-pub mod TestLemmas

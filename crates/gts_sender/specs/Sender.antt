@@ -72,6 +72,12 @@ Sends c old new bytes Quiet = Sending c old new bytes × TookLast c new Nothing
 Sends c old new bytes (LineFault index) = Breaks c index old new bytes
 Sends c old new bytes (Fault fault) = Fails c fault old new bytes
 
+-- the line took all that it was given, whatever else ended its sender
+abbrev pub LineStood : SendEnd → Type 0
+LineStood Quiet = Unit {0}
+LineStood (LineFault index) = ⊥
+LineStood (Fault fault) = Unit {0}
+
 -- what one try to send does: a frame was sent, or there was nothing to send
 abbrev pub Tried : ℕ → Seen → Seen → List ℕ → Result Bool SendEnd → Type 0
 Tried c first new bytes (Ok true) = Sending c first new bytes

@@ -10,6 +10,3 @@ pub use end::SendEnd;
 pub use laws::a_take_sends_what_it_gave;
 pub use sending::{index_of, send};
 pub use writing::write_all;
-
-#[cfg(test)]
-mod tests;

@@ -1,6 +1,6 @@
-ghost use Rattle.std.specs.Prelude.{◌≡◌, ℕ, ◌<◌, ◌≤◌, List, ◌++◌, length, Err};
+ghost use Rattle.std.specs.Prelude.{◌≡◌, ℕ, ◌<◌, ◌≤◌, List, ◌++◌, length, Err, OnOk, IfErr};
 ghost use Rattle.gts_traits.specs.Counts.{Rose};
-ghost use Rattle.gts_sender.specs.Sender.{given_index, Sends, SendsMore};
+ghost use Rattle.gts_sender.specs.Sender.{given_index, Sends, SendsMore, LineStood};
 
 use crate::SendEnd;
 use crate::writing::write_all;
@@ -28,6 +28,7 @@ pub fn send<R: Wait, D: Desk, K: Sink, G: Gate>(
     ensures later { K.faults sink.old ≤ K.faults sink.new }
     ensures fault { (index : ℕ) → result ≡ SendEnd.LineFault index
         → Rose (K.faults sink.old) (K.faults sink.new) }
+    ensures sound { LineStood result → K.faults sink.new ≡ K.faults sink.old }
 {
     for _ in rt.forever() {
         let seen = bell.look();
@@ -61,6 +62,9 @@ fn send_one<D: Desk, K: Sink, G: Gate>(
     ensures later { K.faults sink.old ≤ K.faults sink.new }
     ensures fault { (index : ℕ) → result ≡ Err (SendEnd.LineFault index)
         → Rose (K.faults sink.old) (K.faults sink.new) }
+    ensures sound { OnOk result (K.faults sink.new ≡ K.faults sink.old) }
+    ensures stood { IfErr result (λ end. LineStood end
+        → K.faults sink.new ≡ K.faults sink.old) }
 {
     gate.at(Point::Take { c });
     let outcome = match desk.take(c, out) {

@@ -1,4 +1,4 @@
-ghost use Rattle.std.specs.Prelude.{◌≡◌, ◌≤◌, ◌++◌, ℕ, List, IsErr};
+ghost use Rattle.std.specs.Prelude.{◌≡◌, ◌≤◌, ◌++◌, ℕ, List, IsErr, OnOk};
 ghost use Rattle.gts_traits.specs.Counts.{Rose};
 ghost use Rattle.gts_sender.specs.Sender.{Wrote};
 
@@ -10,6 +10,7 @@ pub fn write_all<K: Sink>(sink: &mut K, piece: &[u8]) -> Result<(), Failed>
         × (K.tells → K.written sink.new ≡ K.written sink.old ++ bytes) }
     ensures later { K.faults sink.old ≤ K.faults sink.new }
     ensures failed { IsErr result → Rose (K.faults sink.old) (K.faults sink.new) }
+    ensures sound { OnOk result (K.faults sink.new ≡ K.faults sink.old) }
 {
     let mut rest = piece;
     while !rest.is_empty() {

@@ -29,7 +29,7 @@ use Rattle.gts_housed.specs.{Beginning, Stands}
 use Rattle.gts_receiver.specs.{events_over, Receives, AreOver, WentThroughAll}
 use Rattle.gts_receiver.specs.declared.end.ReceiveEnd.{ReceiveEnd}
 use Rattle.gts_receiver.specs.declared.end.ReceiveEnd.TheVariants.{Ended, LostSync, SourceFault, Fault}
-use Rattle.gts_sender.specs.{Sends, given_index}
+use Rattle.gts_sender.specs.{Sends, LineStood, given_index}
 use Rattle.gts_sender.specs.declared.end.SendEnd.{SendEnd}
 use Rattle.gts_sender.specs.declared.end.SendEnd.TheVariants.{Quiet, LineFault}
 use Rattle.gts_workers.specs.{fresh, receiver_name, sender_name}
@@ -65,16 +65,16 @@ pub record IsSame (before now : LinesSeen) (c : ℕ) : Type 0 where
   pub ports : now.ports c ≡ before.ports c
   pub bytes : now.bytes c ≡ before.bytes c
 
--- circuit c was opened and handed back, and nothing was read or written
+-- circuit c was opened and handed back, nothing was read or written, and nothing failed
 pub record IsHandedBack (d : Directory) (source_tells sink_tells : Type 0) (before now : LinesSeen) (c : ℕ) : Type 0 where
   pub closed : now.is_open c ≡ false
   pub ports : HasPorts d now c
   pub unread : source_tells → (left : List ℕ) × ((now.bytes c).parts ≡ record { given = []; left = left } ∷ [])
   pub taken : sink_tells → (now.bytes c).taken ≡ []
-  pub later : before.faults c ≤ now.faults c
+  pub sound : now.faults c ≡ before.faults c
 
--- Of so many circuits, circuit f failed to open, by which its count rose. Those before it were handed back, and those behind it
--- are as they were.
+-- Of so many circuits, circuit f failed to open, by which its count rose, and no other did. Those before it were handed back, and
+-- those behind it are as they were.
 pub record StopsAtOpening (d : Directory) (source_tells sink_tells : Type 0) (f : ℕ) (before now : LinesSeen) : Type 0 where
   pub within : f < length d.circuits
   pub ports : HasPorts d now f
@@ -202,6 +202,8 @@ pub record ServesCircuit (b : Beginning) (source_tells sink_tells : Type 0) (con
   pub took : sink_tells → TookFrames b c history sent (now.bytes c).taken
   pub source_failed : received ≡ SourceFault → Rose (before.faults c) (now.faults c)
   pub sink_failed : (index : ℕ) → sent ≡ LineFault index → Rose (before.faults c) (now.faults c)
+  -- where neither failed, its open did not either
+  pub sound : WentThroughAll received → LineStood sent → now.faults c ≡ before.faults c
   pub closed : now.is_open c ≡ false
 
 -- ---- the whole run
@@ -249,6 +251,8 @@ module _ {P : Type 0} (tells : Type 0) (calls : P → List Call) (disk say : P �
     -- synchronisation
     pub went_through : end ≡ Done → source_tells → (c : ℕ) → c < length ends
         → (length (now.bytes c).parts ≡ connections) × AreOver c (now.bytes c).parts
+    -- and only where no line failed
+    pub unfailed : end ≡ Done → (c : ℕ) → now.faults c ≡ before.faults c
 
   -- What came of a run, by the pass and the end. Without a pass nothing was read, written or said.
   abbrev pub IsServed : Option (Known Entry) → ServeEnd → Engine P → Type 0

@@ -4,7 +4,7 @@ use Rattle.gts_capture.proofs.ProgressLemmas.{begins, one_step}
 use Rattle.gts_capture.proofs.progress.a_capture_is_read_step_by_step.Goals as goal
 
 pub returns-clause-begins : goal.returns-clause-begins
-returns-clause-begins c = λ kind d bytes small. begins kind d bytes (at_start (length d.circuits) kind) small refl
+returns-clause-begins c = λ kind d bytes. begins kind d bytes (at_start (length d.circuits) kind) refl
 
 pub returns-clause-step : goal.returns-clause-step
-returns-clause-step c = λ kind d bytes before after steps step old new h p. one_step kind d bytes before after steps step old new h p.valid p.text p.same p.place
+returns-clause-step c = λ kind d bytes before after steps step old new h p. one_step kind d bytes before after steps step old new h p.valid p.text p.same p.place p.within

@@ -1,5 +1,3 @@
-use Rattle.std.proofs.Common.{◌++◌, refl}
-use Rattle.gts_connection.specs.Capture.{FeedHead, head_text}
 use Rattle.gts_capture.proofs.ProgressLemmas.{at_end, at_bad, in_feed}
 use Rattle.gts_capture.proofs.progress.the_steps_that_were_read_are_the_captures.Goals as goal
 
@@ -10,4 +8,4 @@ pub returns-clause-bad : goal.returns-clause-bad
 returns-clause-bad c = at_bad
 
 pub returns-clause-cut : goal.returns-clause-cut
-returns-clause-cut c = λ kind d bytes piece steps held c n h valid short. in_feed kind d bytes (head_text (FeedHead c n) ++ piece) piece steps held c n h valid short refl
+returns-clause-cut c = in_feed

@@ -1,8 +1,8 @@
 use Rattle.std.proofs.Common.{refl, [], ◌∷◌, arith}
 use Rattle.gts_alphabet.specs.Digits.{dec}
-use Rattle.gts_connection.specs.Capture.{Whole}
+use Rattle.gts_connection.specs.Capture.{readable, Whole}
 use Rattle.gts_connection.proofs.worked.a_capture_is_read_through_its_end.Goals as goal
 
 pub returns : goal.returns
-unfolding dec
+unfolding readable dec
 returns c = (refl, Whole (1 ∷ 2 ∷ []) ((omega arith, omega arith), (omega arith, tt)) refl refl)

@@ -1,9 +1,9 @@
 use Rattle.std.proofs.Common.{refl, arith}
 use Rattle.std.specs.Prelude.{codes}
 use Rattle.gts_alphabet.specs.Digits.{dec}
-use Rattle.gts_connection.specs.Capture.{FeedHead, EndsInHead}
+use Rattle.gts_connection.specs.Capture.{readable, FeedHead, EndsInHead}
 use Rattle.gts_connection.proofs.worked.a_capture_may_end_in_a_head.Goals as goal
 
 pub returns : goal.returns
-unfolding dec
+unfolding readable dec
 returns c = EndsInHead (codes "F 00 0000") (omega arith, tt) (FeedHead 0 0, 48, codes "0\n", (omega arith, omega arith), refl) refl refl

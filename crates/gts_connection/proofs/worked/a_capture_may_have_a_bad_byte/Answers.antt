@@ -2,7 +2,7 @@ use Rattle.std.proofs.Common.{◌≡◌, ℕ, List, ◌++◌, get_or, refl, ap, 
 use Rattle.std.specs.Prelude.{codes}
 use Rattle.gts_alphabet.specs.Digits.{dec}
 use Rattle.gts_event.specs.Worked.{two}
-use Rattle.gts_connection.specs.Capture.{Head, FeedHead, TakeHead, ReopenHead, DrainHead, RestartHead, CompactHead, EndHead, head_text, IsHead, Bad}
+use Rattle.gts_connection.specs.Capture.{readable, Head, FeedHead, TakeHead, ReopenHead, DrainHead, RestartHead, CompactHead, EndHead, head_text, IsHead, Bad}
 use Rattle.gts_connection.proofs.worked.a_capture_may_have_a_bad_byte.Goals as goal
 
 -- no head begins so
@@ -17,7 +17,7 @@ no_head CompactHead more here e = omega (arith, ap (λ (xs : List ℕ). get_or x
 no_head EndHead more here e = omega (arith, ap (λ (xs : List ℕ). get_or xs 0 0) e)
 
 pub returns : goal.returns
-unfolding dec
+unfolding readable dec
 returns c =
     Bad (codes "T 0") 50 (codes "\nE\n") (omega arith, tt) (TakeHead 0, 48, codes "\n", omega arith, refl)
     (λ h. no_head h.0 h.1 h.2 h.3) refl refl

@@ -1,5 +1,5 @@
 use Rattle.std.proofs.Common.{[], refl, arith}
-use Rattle.gts_connection.specs.Capture.{Whole}
+use Rattle.gts_connection.specs.Capture.{readable, Whole}
 use Rattle.std.specs.Fmt.{digits}
 use Rattle.gts_alphabet.specs.Digits.{dec}
 use Rattle.gts_heading.specs.Heading.{heading_text}
@@ -9,5 +9,5 @@ use Rattle.gts_request.specs.Request.{request_at}
 use Rattle.gts_connection.proofs.worked.a_compaction_comes_behind_so_many_entries.Goals as goal
 
 pub returns : goal.returns
-unfolding digits dec heading_text plain_heading_at bare_group_at message_group_at heading_at bare_heading_at number_at text_at body_at split_at request_at
+unfolding readable digits dec heading_text plain_heading_at bare_group_at message_group_at heading_at bare_heading_at number_at text_at body_at split_at request_at
 returns c = (refl, Whole [] (refl, (omega arith, (refl, tt))) refl refl)

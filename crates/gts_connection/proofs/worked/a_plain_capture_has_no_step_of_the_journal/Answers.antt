@@ -3,7 +3,7 @@ use Rattle.std.specs.Prelude.{codes}
 use Rattle.gts_alphabet.specs.Digits.{dec}
 use Rattle.gts_event.specs.Worked.{two}
 use Rattle.gts_connection.specs.declared.kind.CaptureKind.TheVariants.{Plain}
-use Rattle.gts_connection.specs.Capture.{Head, FeedHead, TakeHead, ReopenHead, DrainHead, RestartHead, CompactHead, EndHead, head_text, IsHeadOf, Bad}
+use Rattle.gts_connection.specs.Capture.{readable, Head, FeedHead, TakeHead, ReopenHead, DrainHead, RestartHead, CompactHead, EndHead, head_text, IsHeadOf, Bad}
 use Rattle.gts_connection.proofs.worked.a_plain_capture_has_no_step_of_the_journal.Goals as goal
 
 -- no head begins so
@@ -28,7 +28,7 @@ no_compaction CompactHead more here e = cc
 no_compaction EndHead more here e = omega (arith, ap (λ (xs : List ℕ). get_or xs 0 0) e)
 
 pub returns : goal.returns
-unfolding dec
+unfolding readable dec
 returns c = (
   Bad [] 82 (codes "\nE\n") (omega arith, tt) (EndHead, 69, 10 ∷ [], tt, refl) (λ h. no_restart h.0 h.1 h.2 h.3) refl refl,
   Bad [] 67 (codes "\nE\n") (omega arith, tt) (EndHead, 69, 10 ∷ [], tt, refl) (λ h. no_compaction h.0 h.1 h.2 h.3) refl refl,

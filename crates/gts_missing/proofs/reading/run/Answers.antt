@@ -1,9 +1,10 @@
-use Rattle.std.proofs.Common.{◌≡◌, ◌+◌, ◌++◌, ℕ, [], ◌∷◌, Result, Err, refl, ap, subst, ◌∙◌, arith, length-append}
+use Rattle.std.proofs.Common.{◌≡◌, ◌+◌, ◌++◌, ℕ, [], ◌∷◌, length, Result, Err, refl, ap, subst, ◌∙◌, arith, length-append}
 use Rattle.gts_capture.specs.{head_of, line_of}
 use Rattle.gts_capture.specs.Held.{Held}
 use Rattle.gts_capture.specs.declared.capture_fault.CaptureFault.{CaptureFault}
 use Rattle.gts_capture.specs.declared.capture_fault.CaptureFault.TheVariants.{Bad, SourceFault}
 use Rattle.gts_capture.specs.declared.head.Head.{Head}
+use Rattle.gts_capture.specs.declared.head.Head.TheVariants.{End}
 use Rattle.gts_replay.proofs.RunLemmas.{ReadsHead}
 use Rattle.gts_missing.specs.Counting.{Comes, DoesStep}
 use Rattle.gts_missing.proofs.RunLemmas.{runs_none, runs_more, ends_done, ends_bad, ends_in_step, ends_never}
@@ -26,6 +27,8 @@ returns-in-Ok-End-clause-comes g c = λ d new.
     let told : g.S.Source.tells → c.loop.steps.ahead ++ g.S.Source.left c.loop.capture ≡ line_of c.in-Ok-End.field-0 ++ (c.next.new.self.ahead ++ g.S.Source.left c.next.new.source) = c.in-Ok-End.ensures.told in
     ends_done g.S.Source.tells d (g.S.Source.left c.args.capture.now) done.0 c.loop.steps c.next.new.self (g.S.Source.left c.loop.capture) (g.S.Source.left c.next.new.source) c.loop.decoders c.loop.table done.2
     (λ t. told t ∙ ap (λ (head : Head). line_of head ++ (c.next.new.self.ahead ++ g.S.Source.left c.next.new.source)) c.in-Ok-End.field-0-is)
+    (let place : c.next.new.self.at ≡ c.loop.steps.at + length (line_of End) = c.in-Ok-End.ensures.at ∙ ap (λ (head : Head). c.loop.steps.at + length (line_of head)) c.in-Ok-End.field-0-is in
+    omega (arith, place, c.in-Ok-End.ensures.within))
 
 pub returns-in-Err-clause-comes : goal.returns-in-Err-clause-comes
 returns-in-Err-clause-comes g c = λ d new.
@@ -42,7 +45,7 @@ returns-in-Err-do_step-clause-comes g c = λ d new.
     let done = c.loop.invariant.done d new in
     let head = head_of c.in-Ok.head in
     let reads : ReadsHead g.S.Source.tells head c.loop.steps c.next.new.self (g.S.Source.left c.loop.capture) (g.S.Source.left c.next.new.source) =
-    record { told = c.in-Ok.ensures.told; valid = c.in-Ok.ensures.valid; feed = c.in-Ok.ensures.feed; at = c.in-Ok.ensures.at; same = c.next.ensures.same } in
+    record { told = c.in-Ok.ensures.told; valid = c.in-Ok.ensures.valid; feed = c.in-Ok.ensures.feed; at = c.in-Ok.ensures.at; within = c.in-Ok.ensures.within; same = c.next.ensures.same } in
     let D : CaptureFault → Type 0 = λ fault. DoesStep g.S.Source.tells head (Err fault) c.next.new.self c.do_step.new.steps (g.S.Source.left c.next.new.source) (g.S.Source.left c.do_step.new.capture)
     c.loop.decoders c.do_step.new.decoders c.loop.table c.do_step.new.table in
     let does : D c.in-Err-do_step.fault = subst (λ (r : Result (Unit {0}) CaptureFault). DoesStep g.S.Source.tells head r c.next.new.self c.do_step.new.steps (g.S.Source.left c.next.new.source) (g.S.Source.left c.do_step.new.capture)
@@ -59,7 +62,7 @@ pub loop-preserved : goal.loop-preserved
 loop-preserved g c =
     let head = head_of c.in-Ok.head in
     let reads : ReadsHead g.S.Source.tells head c.loop.steps c.next.new.self (g.S.Source.left c.loop.capture) (g.S.Source.left c.next.new.source) =
-    record { told = c.in-Ok.ensures.told; valid = c.in-Ok.ensures.valid; feed = c.in-Ok.ensures.feed; at = c.in-Ok.ensures.at; same = c.next.ensures.same } in
+    record { told = c.in-Ok.ensures.told; valid = c.in-Ok.ensures.valid; feed = c.in-Ok.ensures.feed; at = c.in-Ok.ensures.at; within = c.in-Ok.ensures.within; same = c.next.ensures.same } in
     let does = subst (λ (r : Result (Unit {0}) CaptureFault). DoesStep g.S.Source.tells head r c.next.new.self c.do_step.new.steps (g.S.Source.left c.next.new.source)
     (g.S.Source.left c.do_step.new.capture) c.loop.decoders c.do_step.new.decoders c.loop.table c.do_step.new.table) c.in_default.is c.do_step.ensures.does in
     let same = does.taken.same in

@@ -4,6 +4,7 @@ use Rattle.gts_capture.specs.{head_of, line_of}
 use Rattle.gts_capture.specs.declared.capture_fault.CaptureFault.{CaptureFault}
 use Rattle.gts_capture.specs.declared.capture_fault.CaptureFault.TheVariants.{Bad, SourceFault}
 use Rattle.gts_capture.specs.declared.head.Head.{Head}
+use Rattle.gts_capture.specs.declared.head.Head.TheVariants.{End}
 use Rattle.gts_replay.specs.declared.end.ReplayEnd.{ReplayEnd}
 use Rattle.gts_replay.specs.declared.fault.StepFault.{StepFault}
 use Rattle.gts_replay.specs.declared.fault.StepFault.TheVariants as step
@@ -20,7 +21,9 @@ returns-in-Ok-End-clause-ends g c = λ o h start.
     let told : g.S.Source.tells → c.loop.steps.ahead ++ g.S.Source.left c.loop.capture ≡ line_of c.in-Ok-End.field-0 ++ (c.next.new.self.ahead ++ g.S.Source.left c.next.new.source) = c.in-Ok-End.ensures.told in
     ends_done g.W.Switch.words c.args.steps.now.kind g.W.Switch.tells g.S.Source.tells (g.S.Source.left c.args.capture.now) c.args.switch.now done.0 c.loop.steps c.next.new.self (g.S.Source.left c.loop.capture)
     (g.S.Source.left c.next.new.source) (g.S.Source.left c.next.new.source) c.loop.decoders c.loop.switch done.2
-    (λ t. told t ∙ ap (λ (head : Head). line_of head ++ (c.next.new.self.ahead ++ g.S.Source.left c.next.new.source)) c.in-Ok-End.field-0-is) o h start
+    (λ t. told t ∙ ap (λ (head : Head). line_of head ++ (c.next.new.self.ahead ++ g.S.Source.left c.next.new.source)) c.in-Ok-End.field-0-is)
+    (let place : c.next.new.self.at ≡ c.loop.steps.at + length (line_of End) = c.in-Ok-End.ensures.at ∙ ap (λ (head : Head). c.loop.steps.at + length (line_of head)) c.in-Ok-End.field-0-is in
+    omega (arith, place, c.in-Ok-End.ensures.within)) o h start
 
 pub returns-in-Err-clause-ends : goal.returns-in-Err-clause-ends
 returns-in-Err-clause-ends g c = λ o h start.
@@ -43,7 +46,7 @@ returns-in-Err-do_step g c =
     let fault : StepFault = c.in-Err-do_step.fault in
     let head = head_of c.in-Ok.head in
     let reads : ReadsHead g.S.Source.tells head c.loop.steps c.next.new.self (g.S.Source.left c.loop.capture) (g.S.Source.left c.next.new.source) =
-    record { told = c.in-Ok.ensures.told; valid = c.in-Ok.ensures.valid; feed = c.in-Ok.ensures.feed; at = c.in-Ok.ensures.at; same = c.next.ensures.same } in
+    record { told = c.in-Ok.ensures.told; valid = c.in-Ok.ensures.valid; feed = c.in-Ok.ensures.feed; at = c.in-Ok.ensures.at; within = c.in-Ok.ensures.within; same = c.next.ensures.same } in
     let does = subst (λ (r : Result (Unit {0}) StepFault). DoesStep g.W.Switch.words g.W.Switch.tells g.S.Source.tells head r c.next.new.self c.do_step.new.steps (g.S.Source.left c.next.new.source)
     (g.S.Source.left c.do_step.new.capture) c.loop.decoders c.do_step.new.decoders c.loop.switch c.do_step.new.switch) c.in-Err-do_step.is c.do_step.ensures.does in
     let E : (o : g.W.Switch.Origin) → List Entry → ReplayEnd → Type 0 = λ o h end.
@@ -69,7 +72,7 @@ loop-preserved g c =
     let done = c.loop.invariant.done in
     let head = head_of c.in-Ok.head in
     let reads : ReadsHead g.S.Source.tells head c.loop.steps c.next.new.self (g.S.Source.left c.loop.capture) (g.S.Source.left c.next.new.source) =
-    record { told = c.in-Ok.ensures.told; valid = c.in-Ok.ensures.valid; feed = c.in-Ok.ensures.feed; at = c.in-Ok.ensures.at; same = c.next.ensures.same } in
+    record { told = c.in-Ok.ensures.told; valid = c.in-Ok.ensures.valid; feed = c.in-Ok.ensures.feed; at = c.in-Ok.ensures.at; within = c.in-Ok.ensures.within; same = c.next.ensures.same } in
     let does = subst (λ (r : Result (Unit {0}) StepFault). DoesStep g.W.Switch.words g.W.Switch.tells g.S.Source.tells head r c.next.new.self c.do_step.new.steps (g.S.Source.left c.next.new.source)
     (g.S.Source.left c.do_step.new.capture) c.loop.decoders c.do_step.new.decoders c.loop.switch c.do_step.new.switch) c.in_default.is c.do_step.ensures.does in
     record {

@@ -8,7 +8,7 @@ pub loop-init : goal.loop-init
 loop-init g c = record {
   directory = refl;
   sent = ([], sending_nothing c.args.c (g.D.Desk.seen c.args.desk.now), λ tells. sym (append-nil (g.K.Sink.written c.args.sink.now)));
-  later = search rules;
+  sound = refl;
   can = search rules;
 }
 
@@ -24,7 +24,7 @@ loop-preserved-in-Ok-true g c =
         subst P c.in-Ok-true.field-0-test (t.1 (g.D.Desk.seen c.args.desk.now) i.sent.0 i.sent.1),
         λ tells. t.2 tells ∙ ap (λ (l : List ℕ). l ++ t.0) (i.sent.2 tells) ∙ append_assoc (g.K.Sink.written c.args.sink.now) i.sent.0 t.0,
       );
-      later = search rules;
+      sound = c.in-Ok-true.ensures.sound ∙ i.sound;
       can = search rules;
     }
 
@@ -50,7 +50,7 @@ loop-preserved g c =
         (subst P c.in-Ok-false.field-0-test (t.1 (g.D.Desk.seen c.args.desk.now) i.sent.0 i.sent.1)).0,
         λ tells. t.2 tells ∙ ap (λ (l : List ℕ). l ++ t.0) (i.sent.2 tells) ∙ append_assoc (g.K.Sink.written c.args.sink.now) i.sent.0 t.0,
       );
-      later = search rules;
+      sound = c.in-Ok-false.ensures.sound ∙ i.sound;
       can = search rules;
     }
 

@@ -1,4 +1,4 @@
-use Rattle.std.proofs.Common.{◌≡◌, ℕ, ◌≤◌, ◌++◌, List}
+use Rattle.std.proofs.Common.{◌≡◌, ℕ, ◌++◌, List}
 use Rattle.gts_sender.specs.Sender.{Sending}
 use Rattle.gts_sender.proofs.sending.send.Given as goal
 
@@ -8,6 +8,6 @@ invariant-loop g l = record {
   directory : (g.D.Desk.seen l.desk).directory ≡ (g.D.Desk.seen l.fn.desk).directory;
   sent : (bytes : List ℕ) × Sending l.fn.c (g.D.Desk.seen l.fn.desk) (g.D.Desk.seen l.desk) bytes
       × (g.K.Sink.tells → g.K.Sink.written l.sink ≡ g.K.Sink.written l.fn.sink ++ bytes);
-  later : g.K.Sink.faults l.fn.sink ≤ g.K.Sink.faults l.sink;
+  sound : g.K.Sink.faults l.sink ≡ g.K.Sink.faults l.fn.sink;
   can : (goal.iterator-loop g).can_next l.iterator' × (goal.iterator-loop g).is_finite l.iterator';
 }

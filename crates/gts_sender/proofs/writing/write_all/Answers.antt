@@ -1,4 +1,4 @@
-use Rattle.std.proofs.Common.{rules, ◌≡◌, ℕ, ◌-◌, ◌++◌, List, length, take, drop, sym, ap, ◌∙◌, append_assoc, take-append-drop, arith, length-drop}
+use Rattle.std.proofs.Common.{◌≡◌, ℕ, ◌-◌, ◌++◌, List, length, take, drop, sym, ap, ◌∙◌, append_assoc, take-append-drop, arith, length-drop}
 use Rattle.std.proofs.lemmas.List.{take_all}
 use Rattle.gts_sender.proofs.writing.write_all.Goals as goal
 
@@ -15,5 +15,5 @@ loop-rest-preserved g c =
         i.written.1 ∙ ap (λ (l : List ℕ). i.written.0 ++ l) (cut n c.loop-rest.rest.now) ∙ sym (append_assoc i.written.0 (take n c.loop-rest.rest.now) _),
         λ tells. c.in_ok-count.ensures.bytes tells ∙ ap (λ (l : List ℕ). l ++ take n c.loop-rest.rest.now) (i.written.2 tells) ∙ append_assoc (g.K.Sink.written c.args.sink.now) i.written.0 (take n c.loop-rest.rest.now),
       );
-      later = search rules;
+      sound = c.in_ok-count.ensures.sound ∙ i.sound;
     }

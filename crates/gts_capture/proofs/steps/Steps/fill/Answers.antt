@@ -11,10 +11,11 @@ returns-clause-told g c = λ tells.
     let n : ℕ = c.in_ok-count.count in
     let moved : List ℕ = c.move_to_front.new.buffer in
     let into : List ℕ = c.read.new.into in
-    let now : List ℕ = put_mid a (65536 - a) moved into in
+    let most : ℕ = a + c.room-most.result - a in
+    let now : List ℕ = put_mid a most moved into in
     let left : List ℕ = g.S.Source.left c.read.new.self in
     let whole : a + n - 0 ≡ a + n = omega arith in
-    let part : take (a + n) now ≡ take a moved ++ take n into = filled a (65536 - a) n moved into (omega (arith, c.self.invariant.1, c.self.told, c.move_to_front.auto.buffer)) c.in_ok-count.ensures.count in
+    let part : take (a + n) now ≡ take a moved ++ take n into = filled a most n moved into (omega (arith, c.self.invariant.1, c.self.told, c.move_to_front.auto.buffer)) c.in_ok-count.ensures.count in
     let ahead : c.args.self.now.ahead ≡ take a (drop s.start s.buffer) = ap (λ (held : Held). held.ahead) (sym c.self.view_is) in
     ap (λ (m : ℕ). take m now ++ left) whole ∙ ap (λ (xs : List ℕ). xs ++ left) (part ∙ ap (λ (xs : List ℕ). xs ++ take n into) (c.move_to_front.ensures ∙ sym ahead))
     ∙ append_assoc c.args.self.now.ahead (take n into) left ∙ ap (λ (xs : List ℕ). c.args.self.now.ahead ++ xs) (sym (c.in_ok-count.ensures.bytes tells).0)
