@@ -21,7 +21,8 @@ abbrev pub words_by : {O T W : Type 0} → (W → Parts T) → Standing O T → 
 words_by parts words = record {
   directory = λ w. words.directory (parts w).switch;
   begin = words.begin;
-  stands = λ o h w. words.stands o h (parts w).switch × Counts (words.directory (parts w).switch) (state_at words (parts w).switch o h) h (parts w).counting;
+  stands = λ o h w. words.stands o h (parts w).switch
+      × Counts (words.directory (parts w).switch) (state_at words (parts w).switch o h) h (parts w).counting;
   is_full = words.is_full;
   compacts = words.compacts;
   left = λ o h w. words.left o h (parts w).switch;

@@ -62,7 +62,8 @@ CanNote c (Some bulletin) = IsTrue (has_row c.numbers.rows bulletin.key) × (bul
 -- what is noted of a message, where it will be accepted
 abbrev pub IsReady : ℕ → List ℕ → Option Recent → Directory → State → Type 0
 IsReady circuit message ready d s =
-    (kind : Kind) (position circuits : ℕ) → outcome d s (Heard circuit kind message) ≡ Accepted position circuits → ready ≡ Some (heard_of circuit message)
+    (kind : Kind) (position circuits : ℕ) → outcome d s (Heard circuit kind message) ≡ Accepted position circuits
+    → ready ≡ Some (heard_of circuit message)
 
 -- what was answered is the outcome
 abbrev pub IsTold : Result Outcome SwitchFault → Directory → State → Event → Type 0
@@ -126,8 +127,9 @@ AfterHeard ready _ old new = new ≡ old
 pub record IsDrawn (circuit : ℕ) (frame : List ℕ) (old new : Counting) : Type 0 where
   pub rest : KeepsRest old new
   pub sound : IsSound new.numbers
-  pub noted : (digits : ℕ) → slice_get old.digits.items circuit ≡ Some digits → circuit < length old.numbers.drawn.items → 28 + digits ≤ length frame
-      → IsTrue (has_row old.numbers.rows (key_of_frame digits frame)) → NotesDraw old.numbers new.numbers circuit (key_of_frame digits frame)
+  pub noted : (digits : ℕ) → slice_get old.digits.items circuit ≡ Some digits → circuit < length old.numbers.drawn.items
+      → 28 + digits ≤ length frame → IsTrue (has_row old.numbers.rows (key_of_frame digits frame))
+      → NotesDraw old.numbers new.numbers circuit (key_of_frame digits frame)
 
 -- what is noted of an answer to a take: a repetition is no draw
 abbrev pub AfterTaken : ℕ → List ℕ → Result Outcome SwitchFault → Counting → Counting → Type 0

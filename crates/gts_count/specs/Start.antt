@@ -85,7 +85,8 @@ pub record NotesAll (d : Directory) (accepted : ℕ) (bulletins : List Bulletin)
 pub record NotesDraws (keys : BTreeMap ℕ (List ℕ)) (circuits : List CircuitNeed) (old new : Numbers) : Type 0 where
   pub sound : IsSound new
   pub count : length new.drawn.items ≡ length old.drawn.items
-  pub noted : (k : ℕ) → k < length circuits → ring_at new k ≡ ring_with (ring_at old k) (map (key_by keys) (slice_index_or circuits k unused).kept)
+  pub noted : (k : ℕ) → k < length circuits
+      → ring_at new k ≡ ring_with (ring_at old k) (map (key_by keys) (slice_index_or circuits k unused).kept)
   pub rest : (k : ℕ) → length circuits ≤ k → ring_at new k ≡ ring_at old k
   pub recent : new.recent ≡ old.recent
   pub rows : (key : List ℕ) → has_row new.rows key ≡ has_row old.rows key

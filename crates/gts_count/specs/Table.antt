@@ -24,7 +24,8 @@ keys t = map (λ e. e.0) (fold with_key [] (map (λ r. r.key) t.recent ++ flat_m
 -- key TTAAii CCCC bulletins n bytes n draws n
 abbrev pub key_text : List ℕ → ℕ → ℕ → ℕ → List ℕ
 key_text key bulletins bytes draws =
-    codes "key " ++ key ++ codes " bulletins " ++ decimal bulletins ++ codes " bytes " ++ decimal bytes ++ codes " draws " ++ decimal draws ++ 10 ∷ []
+    codes "key " ++ key ++ codes " bulletins " ++ decimal bulletins ++ codes " bytes " ++ decimal bytes
+    ++ codes " draws " ++ decimal draws ++ 10 ∷ []
 
 -- the line of a key
 abbrev pub key_line : Tally → List ℕ → List ℕ

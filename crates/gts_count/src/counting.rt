@@ -1,19 +1,6 @@
 ghost use Rattle.std.specs.Prelude.{◌≡◌, true, None, IsTrue, ◌+◌, ◌<◌, ◌≤◌, ◌^◌, ℕ, List, Ok, OnOk, OnErr, IfOk, IfSome, Some, take, drop, length, Option as OptionOf};
-ghost use Rattle.gts_alphabet.specs.declared.limits.TheConstants.{LONGEST_BODY};
-ghost use Rattle.gts_heading.specs.Heading.{fields_of};
-ghost use Rattle.gts_frame.specs.declared.kind.Kind.{Kind};
-ghost use Rattle.gts_directory.specs.Directory.{Directory};
-ghost use Rattle.gts_event.specs.State.{State};
-ghost use Rattle.gts_event.specs.History as history;
-ghost use Rattle.gts_event.specs.declared.event.Entry.{Entry};
-ghost use Rattle.gts_count.specs.Numbers.{IsSound};
-ghost use Rattle.gts_count.specs.Rows as rows;
-ghost use Rattle.gts_count.specs.Going.{heard_of};
+ghost use Rattle.gts_count.specs.Words.{Directory, State, Entry, Kind, Heard, Accepted, IsAccepted, WasRead, fields_of, outcome, is_request, IsSound, heard_of};
 ghost use Rattle.gts_count.specs.Counting.{Counts, CanNote, IsReady, Prepares, KeepsRest, AfterAccepted, AfterHeard, AfterTaken, IsDrawn};
-ghost use Rattle.gts_event.specs.declared.event.Event.TheVariants.{Heard};
-ghost use Rattle.gts_event.specs.declared.outcome.Outcome.TheVariants.{Accepted};
-ghost use Rattle.gts_event.specs.Held.{WasRead};
-ghost use Rattle.gts_opening.specs.Room.{IsAccepted};
 
 use crate::rows::has_row;
 use crate::{Numbers, Recent};
@@ -47,7 +34,7 @@ pub fn key_in(bytes: &[u8], from: usize) -> [u8; 11]
 /// Whether a heading is that of a request for repetition to this centre.
 fn is_request(centre: &[u8; 4], heading: &Heading) -> bool
     ensures { (d : Directory) → centre.now ≡ d.centre
-        → result ≡ history.is_request d (fields_of heading.now) }
+        → result ≡ is_request d (fields_of heading.now) }
 {
     heading.tt == *b"BM" && heading.aa == *b"RR" && heading.cccc == *centre
 }
@@ -58,7 +45,7 @@ fn heard_in(centre: &[u8; 4], c: u32, message: &[u8]) -> Option<Recent>
     ensures read { IfSome result (λ bulletin. (d : Directory) → centre.now ≡ d.centre
         → WasRead d message.now) }
     ensures none { (d : Directory) (s : State) (kind : Kind) (p n : ℕ) → result ≡ None
-        → centre.now ≡ d.centre → history.outcome d s (Heard c kind message.now)
+        → centre.now ≡ d.centre → outcome d s (Heard c kind message.now)
         ≡ Accepted p n → ⊥ }
 {
     let Ok(parts) = Message::split(message) else {
@@ -86,7 +73,7 @@ pub fn ready(counting: &mut Counting, c: u32, message: &[u8]) -> Result<Option<R
         → IsReady c message.now ready d s) }
     ensures left { OnErr result ((d : Directory) (s : State) (h : List Entry) (kind : Kind)
         → Counts d s h counting.old
-        → IsAccepted (history.outcome d s (Heard c kind message.now))) }
+        → IsAccepted (outcome d s (Heard c kind message.now))) }
 {
     if !counting.current || c as usize >= counting.numbers.came.len() {
         return Ok(None);

@@ -1,15 +1,6 @@
 //! Laws of what is counted, each the contract of a function with an empty body.
 ghost use Rattle.std.specs.Prelude.{◌≡◌, ℕ, ◌≤◌, List, [], ◌∷◌, ◌++◌};
-ghost use Rattle.circular_buffer.specs.Buffer.{keep_last};
-ghost use Rattle.gts_frame.specs.declared.kind.Kind.{Kind};
-ghost use Rattle.gts_directory.specs.Directory.{Directory};
-ghost use Rattle.gts_event.specs.State.{State, empty};
-ghost use Rattle.gts_event.specs.History.{outcome, after};
-ghost use Rattle.gts_event.specs.Need.{need};
-ghost use Rattle.gts_event.specs.declared.event.Event.TheVariants.{Heard};
-ghost use Rattle.gts_event.specs.declared.outcome.Outcome.TheVariants.{Accepted};
-ghost use Rattle.gts_count.specs.Tally.{tally};
-ghost use Rattle.gts_count.specs.Going.{HasWindow, heard_of};
+ghost use Rattle.gts_count.specs.Words.{Directory, State, Kind, Heard, Accepted, keep_last, empty, outcome, after, need, tally, HasWindow, heard_of};
 
 /// An accepted message joins the bulletins that are counted, of which the last ones stay.
 pub fn an_accepted_message_joins_the_window()

@@ -2,16 +2,11 @@
 ghost use Rattle.std.specs.Prelude.{◌≡◌, ◌<◌, ◌≤◌, ◌++◌, [], ◌∷◌, List, IfOk, OnOk, IsSome, is_ok, length, map, replicate, IsTrue};
 ghost use Rattle.std.specs.Ordering.{nat_cmp};
 ghost use Rattle.std.specs.BTreeMap.{get};
-ghost use Rattle.gts_message.specs.Message.{body_at};
 ghost use Rattle.std.specs.List.{All};
-ghost use Rattle.circular_buffer.specs.Buffer.{buffer};
-ghost use Rattle.gts_event.specs.Items.{bulletin_of, circuit_need_of, need_of};
-ghost use Rattle.gts_event.specs.Need.{is_bulletin, is_sound};
+ghost use Rattle.gts_count.specs.Words.{body_at, buffer, bulletin_of, circuit_need_of, need_of, is_bulletin, is_sound, IsSound, IsRing, Entry};
 ghost use Rattle.gts_event.specs.State as states;
-ghost use Rattle.gts_count.specs.Numbers.{IsSound, IsRing};
 ghost use Rattle.gts_count.specs.Start.{Begins, HasRings, NotesStart, NotesAll, HasKeys, AreBodies, HasEachRow, NotesKept, NotesDraws, Starts};
 ghost use Rattle.gts_count.specs.Counting.{Counts, StandsAt};
-ghost use Rattle.gts_event.specs.declared.event.Entry.{Entry};
 
 use crate::counting::key_in;
 use crate::{Counting, Numbers, Recent};

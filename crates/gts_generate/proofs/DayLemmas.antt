@@ -1,5 +1,5 @@
 -- Pieces of a capture, one behind another.
-use Rattle.std.proofs.Common.{◌≡◌, ℕ, suc, zero, ◌+◌, ◌-◌, ◌*◌, ◌<◌, ◌≤◌, List, [], ◌∷◌, ◌++◌, length, take, drop, min, map, refl, sym, ◌∙◌, ap, append_assoc, arith}
+use Rattle.std.proofs.Common.{◌≡◌, ℕ, suc, zero, ◌+◌, ◌-◌, ◌*◌, ◌<◌, List, [], ◌∷◌, ◌++◌, length, take, drop, min, map, refl, sym, ◌∙◌, ap, append_assoc, arith}
 use Rattle.std.proofs.lemmas.List.{append-nil, take-append-drop, take_at, length-append, length-take, length-drop}
 use Rattle.std.proofs.lemmas.List.FromFn.{map-range_with_len_more}
 use Rattle.std.proofs.lemmas.Grind.{flat_map-append}
@@ -7,7 +7,7 @@ use Rattle.std.specs.Prelude.{codes, flat_map}
 use Rattle.std.specs.List.{range_with_len}
 use Rattle.gts_alphabet.specs.Digits.{dec}
 use Rattle.gts_connection.specs.Capture.{Step, Drain, EndHead, step_text, head_text}
-use Rattle.gts_generate.specs.Day.{steps_of, steps, capture, capture_from, turn, drains, ending}
+use Rattle.gts_generate.specs.Day.{steps_of, capture, capture_from, turn, drains, ending}
 use Rattle.gts_generate.specs.DayView.{pieces_from, pieces_left}
 
 -- one more circuit is drained

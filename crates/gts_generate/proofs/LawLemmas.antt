@@ -1,10 +1,10 @@
 -- The answers of the laws.
-use Rattle.std.proofs.Common.{◌≡◌, ℕ, ◌+◌, ◌-◌, ◌*◌, ◌/◌, ◌%◌, ◌<◌, ◌≤◌, Bool, true, false, List, [], ◌∷◌, ◌++◌, length, refl, sym, ap, ◌∙◌, arith}
-use Rattle.std.specs.Prelude.{◌==◌, if◌then◌else◌, flat_map}
-use Rattle.std.specs.List.{AllByRecursion, range_with_len}
-use Rattle.std.proofs.lemmas.List.{append-nil}
+use Rattle.std.proofs.Common.{◌≡◌, ℕ, ◌+◌, ◌*◌, ◌%◌, ◌≤◌, List, [], ◌∷◌, ◌++◌, length, refl, sym, ap, ◌∙◌, arith}
+use Rattle.std.specs.Prelude.{flat_map}
+use Rattle.std.specs.List.{range_with_len}
+use Rattle.std.proofs.lemmas.List.{append-nil, length-append}
+use Rattle.std.proofs.lemmas.List.FromFn.{length-range_with_len}
 use Rattle.gts_alphabet.specs.Digits.{dec}
-use Rattle.gts_heading.specs.Heading.{heading_text}
 use Rattle.gts_frame.specs.declared.kind.Kind.TheVariants.{An}
 use Rattle.gts_frame.specs.Frame.{frame}
 use Rattle.gts_directory.specs.Directory.{Directory}
@@ -13,41 +13,61 @@ use Rattle.gts_event.specs.History.{after_all}
 use Rattle.gts_event.specs.declared.event.Entry.{Entry}
 use Rattle.gts_connection.specs.declared.kind.CaptureKind.{CaptureKind}
 use Rattle.gts_connection.specs.declared.kind.CaptureKind.TheVariants.{Journaled, Plain}
-use Rattle.gts_connection.specs.Capture.{Step, Feed, Take, Reopen, Drain, Restart, Compact, EndHead, head_text, step_text, head_of, IsHeadOf, AreStepsOf, IsWhole, Connections, no_bytes, entries_of_step, after_step, count_at, compactions_from, compactions}
+use Rattle.gts_connection.specs.declared.limits.TheConstants.{LONGEST_CAPTURE}
+use Rattle.gts_connection.specs.Capture.{Step, Feed, Take, Reopen, Drain, Restart, Compact, FeedHead, head_text, step_text, head_of, IsHeadOf, AreStepsOf, IsWhole, Connections, no_bytes, entries_of_step, after_step, count_at, compactions_from, compactions}
 use Rattle.gts_generate.specs.Centre.{directory}
-use Rattle.gts_generate.specs.Day.{report, request, body, message, steps_of, drains, steps, capture}
-
--- the bodies of a report and of a request
-report-size : (i : ℕ) → length (report i) ≡ 39
-unfolding dec heading_text
-report-size i = refl
-
-request-size : (i : ℕ) → length (request i) ≡ 40
-unfolding dec heading_text
-request-size i = refl
-
-one-of : (asks again : Bool) (i j : ℕ) → length (if asks then request i else if again then report j else report i) ≤ 40
-one-of true again i j = omega (arith, request-size i)
-one-of false true i j = omega (arith, report-size j)
-one-of false false i j = omega (arith, report-size i)
-
-body-size : (i : ℕ) → length (body i) ≤ 40
-body-size i = one-of (i % 100 == 99) (i % 100 == 49) i (i - 1)
+use Rattle.gts_generate.specs.Day.{message, steps_of, drains, steps, capture, turn, ending}
+use Rattle.gts_generate.proofs.DayLemmas.{capture-pieces}
+use Rattle.gts_generate.proofs.FedLemmas.{day-body}
 
 -- a frame can stand in a feed
 pub frame-size : (i : ℕ) → length (frame An (message i)) ≤ 999999
 unfolding dec
-frame-size i = omega (arith, body-size i)
+frame-size i = omega (arith, (day-body i).short)
 
 -- the steps may stand in a capture of either kind
-are-steps : (kind : CaptureKind) (numbers : List ℕ) → AreStepsOf kind directory (flat_map steps_of numbers ++ drains)
+pub are-steps : (kind : CaptureKind) (numbers : List ℕ) → AreStepsOf kind directory (flat_map steps_of numbers ++ drains)
 are-steps kind [] =
     (omega arith, (omega arith, (omega arith, (omega arith, (omega arith, (omega arith, (omega arith, (omega arith, tt))))))))
 are-steps kind (i ∷ numbers) = ((omega arith, frame-size i), (omega arith, are-steps kind numbers))
 
-pub read-as-steps : (count : ℕ) → IsWhole directory (capture count) (steps count)
-read-as-steps count = record {
+-- ---- a capture is short
+
+-- a feed of a frame and a take
+three-sizes : (h f t : List ℕ) → length h ≡ 12 → length f ≤ 999999 → length t ≡ 5 → length ((h ++ f) ++ t) ≤ 1000016
+three-sizes h f t eh ef et = omega (arith, eh, ef, et, length-append (h ++ f) t, length-append h f)
+
+feed-size : (c n : ℕ) → length (head_text (FeedHead c n)) ≡ 12
+unfolding dec
+feed-size c n = refl
+
+take-size : (c : ℕ) → length (step_text (Take c) ++ []) ≡ 5
+unfolding dec
+take-size c = refl
+
+turn-size : (i : ℕ) → length (turn i) ≤ 1000016
+turn-size i =
+    let f : List ℕ = frame An (message i) in
+    three-sizes (head_text (FeedHead (i % 8) (length f))) f (step_text (Take ((3 * i) % 8)) ++ []) (feed-size (i % 8) (length f)) (frame-size i) (take-size ((3 * i) % 8))
+
+turns-size : (numbers : List ℕ) → length (flat_map turn numbers) ≤ 1000016 * length numbers
+turns-size [] = omega arith
+turns-size (i ∷ numbers) = omega (arith, turn-size i, turns-size numbers, length-append (turn i) (flat_map turn numbers))
+
+ending-size : length ending ≡ 42
+unfolding dec
+ending-size = refl
+
+capture-size : (count : ℕ) → count ≤ 100000 → length (capture count) ≤ LONGEST_CAPTURE
+capture-size count few =
+    let front : List ℕ = flat_map turn (range_with_len 0 count) in
+    let all : length (capture count) ≡ length (front ++ ending) = ap length (capture-pieces count) in
+    omega (arith, few, all, length-append front ending, ending-size, turns-size (range_with_len 0 count), length-range_with_len 0 count)
+
+pub read-as-steps : (count : ℕ) → count ≤ 100000 → IsWhole directory (capture count) (steps count)
+read-as-steps count few = record {
   are = are-steps Journaled (range_with_len 0 count);
+  within = capture-size count few;
   unread = [];
   text = sym (append-nil (capture count));
 }

@@ -1,14 +1,10 @@
 -- What a run of the day's capture comes to, from how it ended.
-use Rattle.std.proofs.Common.{◌≡◌, ℕ, ◌+◌, ◌*◌, ◌%◌, ◌^◌, ◌<◌, ◌≤◌, List, [], ◌∷◌, ◌++◌, length, map, sum, Option, Some, None, Result, Ok, Err, IsTrue, refl, sym, ap, subst, ◌∙◌, arith, length-append}
+use Rattle.std.proofs.Common.{◌≡◌, ℕ, ◌≤◌, List, [], ◌∷◌, ◌++◌, length, map, sum, Option, Some, None, Result, Ok, Err, IsTrue, refl, sym, ap, subst, ◌∙◌, arith}
 use Rattle.std.specs.Prelude.{replicate, if◌then◌else◌, nat_eq}
-use Rattle.std.specs.List.{AllByRecursion, slice_index_or, flat_map, range_with_len, starts_with}
-use Rattle.std.proofs.lemmas.List.FromFn.{length-range_with_len}
-use Rattle.gts_alphabet.specs.Digits.{dec}
+use Rattle.std.specs.List.{AllByRecursion, slice_index_or, flat_map, starts_with}
 use Rattle.gts_traits.specs.Calls.{Outside, Did, Syncs, said_by}
 use Rattle.gts_traits.specs.Disk.{Files, seen}
 use Rattle.gts_memory.specs.Objects.{StationInMemory}
-use Rattle.gts_frame.specs.declared.kind.Kind.TheVariants.{An}
-use Rattle.gts_frame.specs.Frame.{frame}
 use Rattle.gts_directory.specs.Directory as directories
 use Rattle.gts_event.specs.State.{State, EachRoutedOnce, empty}
 use Rattle.gts_event.specs.History.{after_all, restarted}
@@ -19,7 +15,7 @@ use Rattle.gts_event.specs.declared.plain.CircuitNeed as plain_circuits
 use Rattle.gts_event.specs.Drain.{EachOwedFew, all_done, takes_of_drain}
 use Rattle.gts_event.specs.declared.event.Event.{Event}
 use Rattle.gts_event.specs.declared.event.Entry.{Entry}
-use Rattle.gts_event.specs.declared.event.Entry.TheVariants.{Done, Unsaid, Doubt, Idle, Restarted}
+use Rattle.gts_event.specs.declared.event.Entry.TheVariants.{Done, Unsaid, Doubt, Restarted}
 use Rattle.gts_event.specs.declared.fault.Device.{Device}
 use Rattle.gts_event.specs.declared.fault.Device.TheVariants.{Disk, Say}
 use Rattle.gts_event.specs.declared.fault.SwitchFault.TheVariants as switch
@@ -29,10 +25,10 @@ use Rattle.gts_record.specs.declared.version.Version.TheVariants.{One, Two}
 use Rattle.gts_record.specs.Format.{journal_text, written}
 use Rattle.gts_connection.specs.Connection.{events_added}
 use Rattle.gts_connection.specs.declared.kind.CaptureKind.TheVariants.{Journaled}
-use Rattle.gts_connection.specs.Capture.{Step, Feed, Take, Reopen, Drain, Restart, Compact, Connections, entries, entries_from, entries_of_step, after_step, no_bytes, FeedHead, TakeHead, EndHead, head_text, step_text, Reading, Whole, IsWhole, compactions}
-use Rattle.gts_connection.proofs.LawLemmas.{reads_once}
+use Rattle.gts_connection.specs.Capture.{Step, Feed, Take, Reopen, Drain, Restart, Compact, Connections, entries, entries_from, entries_of_step, after_step, no_bytes, EndHead, head_text, step_text, readable, Reading, IsWhole, compactions}
+use Rattle.gts_connection.proofs.LawLemmas.{reads_once, whole_is_read}
 use Rattle.gts_opening.specs.Journal.{Opened, opens, files_open, file_opens, opened_of, selected}
-use Rattle.gts_opening.specs.Room.{HasDoubt, HasUnsaid, full, new_journal}
+use Rattle.gts_opening.specs.Room.{full, new_journal}
 use Rattle.gts_core.specs.Core.{Holds, Needs}
 use Rattle.gts_engine.specs.declared.mode.SayMode.{SayMode}
 use Rattle.gts_engine.specs.declared.mode.SayMode.TheVariants.{Station}
@@ -44,59 +40,19 @@ use Rattle.gts_replay.specs.declared.end.ReplayEnd.TheVariants as end
 use Rattle.gts_replay.specs.{IsStart, StandsFor, IsDone, IsCut, StopsAtFault, Ends, compacted_at, origin_behind}
 use Rattle.gts_engine.specs.Origin.{state_at, used_at}
 use Rattle.gts_generate.specs.Centre.{directory}
-use Rattle.gts_generate.specs.Day.{message, steps_of, steps, capture, capture_from, turn, drains, ending}
+use Rattle.gts_generate.specs.Day.{steps, capture}
 use Rattle.gts_generate.specs.Summary.{summary_lines, summary_text, draws_of}
 use Rattle.gts_generate.specs.History.{start, history, state_after, outside_of, draws_in, day_summary, IsFullOn}
 use Rattle.gts_generate.specs.Running.{calls_on, day_origin, BeginsDay, EndsDay}
-use Rattle.gts_generate.proofs.DayLemmas.{capture-pieces}
-use Rattle.gts_generate.proofs.LawLemmas.{frame-size, read-as-steps, never-compacts}
+use Rattle.gts_generate.proofs.LawLemmas.{read-as-steps, never-compacts}
 
 -- ---- the capture is read as its steps
 
--- a whole capture is a reading of its bytes
-whole-reading : (d : directories.Directory) (bytes : List ℕ) (ss : List Step) → IsWhole d bytes ss → (place : ℕ) × Reading d bytes ss place
-whole-reading d bytes ss h =
-    let texts : List ℕ = flat_map step_text ss in
-    let tail : List ℕ = head_text EndHead in
-    (length texts + length tail, Whole h.unread h.are h.text (omega (arith, ap (λ (x : List ℕ). length x) h.text, length-append (texts ++ tail) h.unread, length-append texts tail)))
-
--- and has no other
-one-reading : (count : ℕ) (ss : List Step) (at : ℕ) → Reading directory (capture count) ss at → ss ≡ steps count
-one-reading count ss at read =
-    let whole = whole-reading directory (capture count) (steps count) (read-as-steps count) in
-    (reads_once Journaled directory (capture count) ss (steps count) at whole.0 (omega arith) read whole.1).0
-
--- a feed of a frame and a take are short
-three-sizes : (h f t : List ℕ) → length h ≡ 12 → length f ≤ 999999 → length t ≡ 5 → length ((h ++ f) ++ t) ≤ 1000016
-three-sizes h f t eh ef et = omega (arith, eh, ef, et, length-append (h ++ f) t, length-append h f)
-
-feed-size : (c n : ℕ) → length (head_text (FeedHead c n)) ≡ 12
-unfolding dec
-feed-size c n = refl
-
-take-size : (c : ℕ) → length (step_text (Take c) ++ []) ≡ 5
-unfolding dec
-take-size c = refl
-
-turn-size : (i : ℕ) → length (turn i) ≤ 1000016
-turn-size i =
-    let f : List ℕ = frame An (message i) in
-    three-sizes (head_text (FeedHead (i % 8) (length f))) f (step_text (Take ((3 * i) % 8)) ++ []) (feed-size (i % 8) (length f)) (frame-size i) (take-size ((3 * i) % 8))
-
-turns-size : (numbers : List ℕ) → length (flat_map turn numbers) ≤ 1000016 * length numbers
-turns-size [] = omega arith
-turns-size (i ∷ numbers) = omega (arith, turn-size i, turns-size numbers, length-append (turn i) (flat_map turn numbers))
-
-ending-size : length ending ≡ 42
-unfolding dec
-ending-size = refl
-
--- so its bytes can be counted
-pub few-bytes : (count : ℕ) → count ≤ 100000 → length (capture count) < 2 ^ 64
-few-bytes count few =
-    let front : List ℕ = flat_map turn (range_with_len 0 count) in
-    let all : length (capture count) ≡ length (front ++ ending) = ap length (capture-pieces count) in
-    omega (arith, few, all, length-append front ending, ending-size, turns-size (range_with_len 0 count), length-range_with_len 0 count)
+-- it has no other reading
+one-reading : (count : ℕ) → count ≤ 100000 → (ss : List Step) (at : ℕ) → Reading directory (capture count) ss at → ss ≡ steps count
+one-reading count few ss at read =
+    let whole = whole_is_read Journaled directory (capture count) (steps count) (read-as-steps count few) in
+    (reads_once Journaled directory (readable (capture count)) ss (steps count) at (length (capture count)) (omega arith) read whole).0
 
 -- ---- each entry of the day is done
 
@@ -209,13 +165,13 @@ module _ (count : ℕ) (first last : Engine StationInMemory) (b : BeginsDay firs
   counts-are ss same = ap (λ (x : List Step). compactions first.directory start 0 x) same ∙ never-compacts first.directory start 0 count
 
   read-here : (ss : List Step) (at : ℕ) → Reading first.directory (capture count) ss at → ss ≡ steps count
-  read-here ss at read = one-reading count ss at (subst (λ (d : directories.Directory). Reading d (capture count) ss at) b.under read)
+  read-here ss at read = one-reading count few ss at (subst (λ (d : directories.Directory). Reading d (capture count) ss at) b.under read)
 
   pub day-done : IsDone (switch_words (Unit {0}) calls_on) Journaled o [] (Unit {0}) first last (capture count) → EndsDay count last
   day-done x =
-      let whole : IsWhole directory (capture count) x.steps = subst (λ (d : directories.Directory). IsWhole d (capture count) x.steps) b.under (x.whole tt (few-bytes count few)) in
-      let read = whole-reading directory (capture count) x.steps whole in
-      let same : x.steps ≡ steps count = one-reading count x.steps read.0 read.1 in
+      let whole : IsWhole directory (capture count) x.steps = subst (λ (d : directories.Directory). IsWhole d (capture count) x.steps) b.under (x.whole tt) in
+      let read = whole_is_read Journaled directory (capture count) x.steps whole in
+      let same : x.steps ≡ steps count = one-reading count few x.steps (length (flat_map step_text x.steps ++ head_text EndHead)) read in
       let keeps : Keeps (Unit {0}) Station (day_origin (calls_on first.station)) (history count) (shown calls_on last)
       = subst (λ (es : List Entry). Keeps (Unit {0}) Station (day_origin (calls_on first.station)) es (shown calls_on last)) (entries-are x.steps same)
       (subst (λ (ks : List ℕ). (switch_words (Unit {0}) calls_on).stands (compacted_at (switch_words (Unit {0}) calls_on) o (entries first.directory start x.steps) ks)
@@ -232,7 +188,7 @@ module _ (count : ℕ) (first last : Engine StationInMemory) (b : BeginsDay firs
   pub day-full : (used wanted limit : ℕ) → StopsAtFault (switch_words (Unit {0}) calls_on) Journaled o [] (Unit {0}) (switch.Full used wanted limit) first last (capture count)
       → IsFullOn count used wanted limit
   day-full used wanted limit x =
-      let read = x.read tt (few-bytes count few) in
+      let read = x.read tt in
       let same : x.steps ≡ steps count = read-here x.steps read.0 read.1 in
       record {
         front = x.breaks.front;
@@ -246,7 +202,7 @@ module _ (count : ℕ) (first last : Engine StationInMemory) (b : BeginsDay firs
 
   pub day-whole : (at : ℕ) → IsCut (switch_words (Unit {0}) calls_on) Journaled o [] (Unit {0}) at first last (capture count) → ⊥
   day-whole at x =
-      x.none tt (few-bytes count few) (steps count) (subst (λ (d : directories.Directory). IsWhole d (capture count) (steps count)) (sym b.under) (read-as-steps count))
+      x.none tt (steps count) (subst (λ (d : directories.Directory). IsWhole d (capture count) (steps count)) (sym b.under) (read-as-steps count few))
 
   stands-for : StandsFor (switch_words (Unit {0}) calls_on) o [] first
   stands-for = record { start = subst (λ (d : directories.Directory). IsStart d start) (sym b.under) b.begins; stands = b.stands }

@@ -1,16 +1,16 @@
 -- What was said on the circuits, out of the sayings of a station.
-use Rattle.std.proofs.Common.{◌≡◌, ℕ, suc, zero, ◌+◌, ◌<◌, ◌≤◌, Bool, true, false, List, [], ◌∷◌, ◌++◌, length, take, get_or, map, refl, sym, ◌∙◌, ap, append_assoc, arith}
-use Rattle.std.specs.Prelude.{filter, flat_map, if◌then◌else◌, ◌&&◌, nat_le, nat_lt, slice_get, Some}
+use Rattle.std.proofs.Common.{◌≡◌, ℕ, ◌+◌, ◌<◌, ◌≤◌, Bool, true, false, List, [], ◌∷◌, ◌++◌, length, take, get_or, refl, sym, ◌∙◌, ap, arith}
+use Rattle.std.specs.Prelude.{flat_map, if◌then◌else◌, ◌&&◌, nat_le, nat_lt, slice_get, Some}
 use Rattle.std.proofs.Math.Bool.{and-false}
 use Rattle.std.proofs.lemmas.Bool.{ltb-false, lt-leb}
-use Rattle.std.proofs.lemmas.List.{append-nil, map-append, take_more, take_all}
-use Rattle.std.proofs.lemmas.List.Elements.{filter-append}
+use Rattle.std.proofs.lemmas.List.{append-nil, take_more, take_all}
 use Rattle.std.proofs.lemmas.Grind.{flat_map-append}
 use Rattle.std.proofs.lemmas.Option.{slice_get_within, get_or_from_slice_get}
 use Rattle.gts_alphabet.specs.declared.limits.TheConstants.{CHANNELS}
-use Rattle.gts_traits.specs.Station.{Doing, Writes, Cuts, Syncs, Says, Call, Did, Broken, Outside, on, said_by}
+use Rattle.gts_traits.specs.Station.{Doing, Writes, Cuts, Syncs, Says, Call, Did, Broken, on, said_by}
 use Rattle.gts_memory.specs.Past.{Noted, calls_of, kept_call, fits, unchanged, saying_of, sayings}
 use Rattle.gts_generate.specs.Summary.{is_circuit, frames_said}
+use Rattle.gts_generate.proofs.FramesLemmas.{frames-append, frames-where}
 
 -- what of a saying was said on a circuit
 abbrev pub on_circuit : ℕ × List ℕ → List ℕ
@@ -18,26 +18,6 @@ on_circuit said = if is_circuit said.0 then said.1 else []
 
 abbrev pub on_circuits : List (ℕ × List ℕ) → List ℕ
 on_circuits sayings = flat_map on_circuit sayings
-
-frames-append : (xs ys : Outside) → frames_said (xs ++ ys) ≡ frames_said xs ++ frames_said ys
-frames-append xs ys =
-    let kept = λ (byte : ℕ × ℕ). is_circuit byte.0 in
-    ap (λ (o : Outside). map (λ byte. byte.1) o) (filter-append kept xs ys)
-    ∙ map-append (λ (byte : ℕ × ℕ). byte.1) (filter kept xs) (filter kept ys)
-
--- bytes on the channel of a circuit, and on another one
-frames-there : (channel : ℕ) (bytes : List ℕ) → is_circuit channel ≡ true → frames_said (on channel bytes) ≡ bytes
-frames-there channel [] here = refl
-frames-there channel (byte ∷ bytes) here = rw here (ap (λ (l : List ℕ). byte ∷ l) (frames-there channel bytes here))
-
-frames-elsewhere : (channel : ℕ) (bytes : List ℕ) → is_circuit channel ≡ false → frames_said (on channel bytes) ≡ []
-frames-elsewhere channel [] here = refl
-frames-elsewhere channel (byte ∷ bytes) here = rw here (frames-elsewhere channel bytes here)
-
-frames-where : (there : Bool) (channel : ℕ) (bytes : List ℕ) → is_circuit channel ≡ there
-    → frames_said (on channel bytes) ≡ (if there then bytes else [])
-frames-where true channel bytes here = frames-there channel bytes here
-frames-where false channel bytes here = frames-elsewhere channel bytes here
 
 frames-on : (channel : ℕ) (bytes : List ℕ) → frames_said (on channel bytes) ≡ on_circuit (channel, bytes)
 frames-on channel bytes = frames-where (is_circuit channel) channel bytes refl

@@ -4,4 +4,5 @@ pub mod Centre
 pub mod Summary
 pub mod Worked
 pub mod History
+pub mod Counts
 pub mod Running

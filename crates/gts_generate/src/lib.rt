@@ -14,7 +14,7 @@ mod worked;
 pub use day::{DayFault, day_summary};
 pub use directory::generated_directory;
 pub use generated::Generated;
-pub use laws::the_capture_is_read_as_its_steps;
+pub use laws::{the_capture_is_read_as_its_steps, the_summary_counts_what_happened};
 pub use summing::summary;
 pub use worked::{
     all_circuits_are_drained_at_the_end, limits_are_these_numbers, messages_are_spelled,
@@ -27,6 +27,3 @@ pub const MOST_MESSAGES: u32 = 100_000;
 
 /// The circuits of the day (profile).
 pub const CIRCUITS: u32 = 8;
-
-#[cfg(test)]
-mod tests;

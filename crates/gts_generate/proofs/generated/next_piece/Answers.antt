@@ -1,5 +1,4 @@
-use Rattle.std.proofs.Common.{arith}
-use Rattle.gts_generate.proofs.DayLemmas.{pieces-more, pieces-last, pieces-none}
+use Rattle.gts_generate.proofs.DayLemmas.{pieces-more}
 use Rattle.gts_generate.proofs.generated.next_piece.Goals as goal
 
 pub returns-then-next-count-clause-some : goal.returns-then-next-count-clause-some

@@ -1,0 +1,147 @@
+-- Bytes that a text doesn't have.
+use Rattle.std.proofs.Common.{◌≡◌, ℕ, zero, suc, ◌+◌, ◌/◌, ◌%◌, ◌<◌, ◌≤◌, Bool, true, false, cond, not, ◌&&◌, ◌||◌, ◌==◌, nat_le, nat_lt, List, [], ◌∷◌, ◌++◌, Option, Some, None, inl, inr, refl, ◌∙◌, arith}
+use Rattle.std.specs.Prelude.{decimal, count_by}
+use Rattle.std.specs.Fmt.{digits, digits_onto, digit_glyph}
+use Rattle.std.specs.Char.{is_ascii_uppercase}
+use Rattle.std.specs.List.{list_all}
+use Rattle.std.proofs.lemmas.Bool.{eqb-true, leb-true, ne_eqb, and_parts, and_from, or_cases}
+use Rattle.std.proofs.lemmas.List.Folds.{list_all-append}
+use Rattle.std.proofs.lemmas.List.Sums.{sum_by-cons}
+use Rattle.gts_alphabet.specs.Digits.{dec}
+use Rattle.gts_heading.specs.Letters.{are_capitals, is_group}
+use Rattle.gts_heading.specs.Heading.{HeadingFields, IsHeading, group_text, heading_text}
+
+-- a byte stands nowhere in a text
+abbrev pub lacks : ℕ → List ℕ → Bool
+lacks x bytes = list_all (λ byte. not (byte == x)) bytes
+
+pub lacks-append : (x : ℕ) (xs ys : List ℕ) → lacks x xs ≡ true → lacks x ys ≡ true → lacks x (xs ++ ys) ≡ true
+lacks-append x xs ys e f = list_all-append (λ byte. not (byte == x)) xs ys ∙ and_from (lacks x xs) (lacks x ys) e f
+
+other : (b x : ℕ) → (b ≡ x → ⊥) → not (b == x) ≡ true
+other b x differs = rw (ne_eqb b x differs) refl
+
+pub one_more : (x b : ℕ) (bytes : List ℕ) → (b ≡ x → ⊥) → lacks x bytes ≡ true → lacks x (b ∷ bytes) ≡ true
+one_more x b bytes differs e = and_from (not (b == x)) (lacks x bytes) (other b x differs) e
+
+-- digits are no byte below 48
+pub lacks-dec : (x w n : ℕ) → x < 48 → lacks x (dec w n) ≡ true
+unfolding dec
+lacks-dec x zero n low = refl
+lacks-dec x (suc w) n low =
+    lacks-append x (dec w (n / 10)) ((48 + n % 10) ∷ []) (lacks-dec x w (n / 10) low) (one_more x (48 + n % 10) [] (λ e. absurd (omega arith)) refl)
+
+-- nor those of a plain decimal
+glyph : (x d : ℕ) → x < 48 → digit_glyph false d ≡ x → ⊥
+glyph x d low e = go (nat_lt d 10) e
+  where
+    go : (b : Bool) → cond b (48 + d) (87 + d) ≡ x → ⊥
+    go true e' = absurd (omega arith)
+    go false e' = absurd (omega arith)
+
+lacks-onto : (x k n : ℕ) (acc : List ℕ) → x < 48 → lacks x acc ≡ true → lacks x (digits_onto k 10 false n acc) ≡ true
+lacks-onto x zero n acc low e = e
+lacks-onto x (suc k) n acc low e =
+    let first : lacks x (digit_glyph false (n % 10) ∷ acc) ≡ true = one_more x (digit_glyph false (n % 10)) acc (glyph x (n % 10) low) e in
+    either (n / 10 == 0) (digit_glyph false (n % 10) ∷ acc) (digits_onto k 10 false (n / 10) (digit_glyph false (n % 10) ∷ acc)) first (lacks-onto x k (n / 10) (digit_glyph false (n % 10) ∷ acc) low first)
+  where
+    either : (b : Bool) (xs ys : List ℕ) → lacks x xs ≡ true → lacks x ys ≡ true → lacks x (cond b xs ys) ≡ true
+    either true xs ys p q = p
+    either false xs ys p q = q
+
+pub lacks-decimal : (x n : ℕ) → x < 48 → lacks x (decimal n) ≡ true
+unfolding digits
+lacks-decimal x n low = lacks-onto x 64 n [] low refl
+
+-- capitals are no byte below 65
+capital : (x b : ℕ) → x < 65 → is_ascii_uppercase b ≡ true → b ≡ x → ⊥
+capital x b low up e =
+    let from : 65 ≤ b = leb-true 65 b (and_parts (nat_le 65 b) (nat_le b 90) up).0 in absurd (omega arith)
+
+pub lacks-capitals : (x : ℕ) (letters : List ℕ) → x < 65 → are_capitals letters ≡ true → lacks x letters ≡ true
+lacks-capitals x [] low up = refl
+lacks-capitals x (b ∷ letters) low up =
+    let both = and_parts (is_ascii_uppercase b) (are_capitals letters) up in
+    one_more x b letters (capital x b low both.0) (lacks-capitals x letters low both.1)
+
+-- nor are the letters of a group
+abbrev are_group : ℕ → ℕ → Bool
+are_group a b = ((a == 82) && (b == 82)) || ((a == 67) && (b == 67)) || ((a == 65) && (b == 65)) || ((a == 80) && is_ascii_uppercase b)
+
+equal-high : (n a b : ℕ) → 65 ≤ n → ((a == n) && (b == n)) ≡ true → (65 ≤ a) × (65 ≤ b)
+equal-high n a b low e =
+    let both = and_parts (a == n) (b == n) e in
+    let first : a ≡ n = eqb-true a n both.0 in
+    let second : b ≡ n = eqb-true b n both.1 in
+    (omega arith, omega arith)
+
+group-high : (a b : ℕ) → are_group a b ≡ true → (65 ≤ a) × (65 ≤ b)
+group-high a b e = elim (or_cases (((a == 82) && (b == 82)) || ((a == 67) && (b == 67)) || ((a == 65) && (b == 65))) ((a == 80) && is_ascii_uppercase b) e) [
+  | inl one ↦ elim (or_cases (((a == 82) && (b == 82)) || ((a == 67) && (b == 67))) ((a == 65) && (b == 65)) one) [
+    | inl two ↦ elim (or_cases ((a == 82) && (b == 82)) ((a == 67) && (b == 67)) two) [
+      | inl r ↦ equal-high 82 a b (omega arith) r
+      | inr c ↦ equal-high 67 a b (omega arith) c
+    ]
+    | inr aa ↦ equal-high 65 a b (omega arith) aa
+  ]
+  | inr p ↦
+      let both = and_parts (a == 80) (is_ascii_uppercase b) p in
+      let first : a ≡ 80 = eqb-true a 80 both.0 in
+      let second : 65 ≤ b = leb-true 65 b (and_parts (nat_le 65 b) (nat_le b 90) both.1).0 in
+      (omega arith, second)
+]
+
+lacks-group : (x : ℕ) (bbb : Option (List ℕ)) → x < 32 → is_group bbb ≡ true → lacks x (group_text bbb) ≡ true
+lacks-group x None low is = refl
+lacks-group x (Some []) low is = absurd (cc)
+lacks-group x (Some (a ∷ [])) low is = absurd (cc)
+lacks-group x (Some (a ∷ b ∷ [])) low is = absurd (cc)
+lacks-group x (Some (a ∷ b ∷ c ∷ [])) low is =
+    let both = and_parts (is_ascii_uppercase c) (are_group a b) is in
+    let high : (65 ≤ a) × (65 ≤ b) = group-high a b both.1 in
+    let last : lacks x (c ∷ []) ≡ true = one_more x c [] (capital x c (omega arith) both.0) refl in
+    let middle : lacks x (b ∷ c ∷ []) ≡ true = one_more x b (c ∷ []) (λ e. absurd (omega arith)) last in
+    one_more x 32 (a ∷ b ∷ c ∷ []) (λ e. absurd (omega arith)) (one_more x a (b ∷ c ∷ []) (λ e. absurd (omega arith)) middle)
+lacks-group x (Some (a ∷ b ∷ c ∷ e ∷ more)) low is = absurd (cc)
+
+-- the text of a heading whose letters lack it
+pub lacks-heading_text : (x : ℕ) (h : HeadingFields) → x < 32 → lacks x h.tt ≡ true → lacks x h.aa ≡ true → lacks x h.cccc ≡ true
+    → lacks x (group_text h.bbb) ≡ true → lacks x (heading_text h) ≡ true
+unfolding heading_text
+lacks-heading_text x h low tt_lacks aa_lacks cccc_lacks bbb_lacks =
+    let joined = λ (xs ys : List ℕ) (e : lacks x xs ≡ true) (f : lacks x ys ≡ true). lacks-append x xs ys e f in
+    let digit : x < 48 = omega arith in
+    let blank : lacks x (32 ∷ []) ≡ true = one_more x 32 [] (λ e. absurd (omega arith)) refl in
+    let t₁ : List ℕ = h.tt ++ h.aa in
+    let e₁ : lacks x t₁ ≡ true = joined h.tt h.aa tt_lacks aa_lacks in
+    let t₂ : List ℕ = t₁ ++ dec 2 h.ii ++ 32 ∷ [] in
+    let e₂ : lacks x t₂ ≡ true = joined (t₁ ++ dec 2 h.ii) (32 ∷ []) (joined t₁ (dec 2 h.ii) e₁ (lacks-dec x 2 h.ii digit)) blank in
+    let t₃ : List ℕ = t₂ ++ h.cccc ++ 32 ∷ [] in
+    let e₃ : lacks x t₃ ≡ true = joined (t₂ ++ h.cccc) (32 ∷ []) (joined t₂ h.cccc e₂ cccc_lacks) blank in
+    let t₄ : List ℕ = t₃ ++ dec 2 h.day in
+    let e₄ : lacks x t₄ ≡ true = joined t₃ (dec 2 h.day) e₃ (lacks-dec x 2 h.day digit) in
+    let t₅ : List ℕ = t₄ ++ dec 2 h.hour in
+    let e₅ : lacks x t₅ ≡ true = joined t₄ (dec 2 h.hour) e₄ (lacks-dec x 2 h.hour digit) in
+    let t₆ : List ℕ = t₅ ++ dec 2 h.minute in
+    let e₆ : lacks x t₆ ≡ true = joined t₅ (dec 2 h.minute) e₅ (lacks-dec x 2 h.minute digit) in
+    joined t₆ (group_text h.bbb) e₆ bbb_lacks
+
+-- a heading has no byte below 32
+pub lacks-heading : (x : ℕ) (h : HeadingFields) → x < 32 → IsHeading h → lacks x (heading_text h) ≡ true
+lacks-heading x h low is =
+    let under : x < 65 = omega arith in
+    lacks-heading_text x h low (lacks-capitals x h.tt under is.tt.1) (lacks-capitals x h.aa under is.aa.1)
+    (lacks-capitals x h.cccc under is.cccc.1) (lacks-group x h.bbb low is.bbb)
+
+-- a byte that a text lacks isn't counted in it
+passes_on : (b : Bool) (n : ℕ) → not b ≡ true → cond b 1 0 + n ≡ n
+passes_on true n e = absurd (cc)
+passes_on false n e = omega arith
+
+pub counts-none : (x : ℕ) (bytes : List ℕ) → lacks x bytes ≡ true → count_by (λ byte. byte == x) bytes ≡ 0
+counts-none x [] e = refl
+counts-none x (b ∷ bytes) e =
+    let both = and_parts (not (b == x)) (lacks x bytes) e in
+    sum_by-cons (λ (byte : ℕ). cond (byte == x) 1 0) b bytes
+    ∙ passes_on (b == x) (count_by (λ byte. byte == x) bytes) both.0
+    ∙ counts-none x bytes both.1

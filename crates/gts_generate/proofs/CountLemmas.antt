@@ -1,0 +1,238 @@
+-- What was accepted and drawn, event by event.
+use Rattle.std.proofs.Common.{◌≡◌, ℕ, ◌+◌, ◌<◌, ◌≤◌, Bool, true, false, cond, Option, Some, None, Result, Ok, Err, List, [], ◌∷◌, ◌++◌, length, get_or, map, inl, inr, refl, ap, arith}
+use Rattle.std.specs.Prelude.{count_by, sum, zip, is_none, nat_lt}
+use Rattle.std.specs.List.{sum_by, enumerate_from}
+use Rattle.std.proofs.lemmas.Bool.{cases_lt}
+use Rattle.std.proofs.lemmas.List.{set_past, get_or_past, length-append}
+use Rattle.std.proofs.lemmas.List.Sums.{sum_by-append, sum_by-cons, sum_by-set}
+use Rattle.std.proofs.Math.ListN.{set}
+use Rattle.gts_frame.specs.declared.kind.Kind.{Kind}
+use Rattle.gts_directory.specs.Directory.{Directory, Circuit, named}
+use Rattle.gts_heading.specs.declared.field.Field.{Field}
+use Rattle.gts_message.specs.Message.{MessageParts, split_at}
+use Rattle.gts_request.specs.Request.{Item, request_at}
+use Rattle.gts_request.specs.declared.fault.ReqField.{ReqField}
+use Rattle.gts_event.specs.declared.outcome.Refusal.TheVariants.{Message, Many}
+use Rattle.gts_event.specs.State.{State, Bulletin, duplicate, CircuitState, idle, on_circuit, draws, waiting, has}
+use Rattle.gts_event.specs.Need.{CircuitNeed, need, circuit_need, keeps_one, IsOrdered}
+use Rattle.gts_event.specs.History.{Choice, Repeats, Draws, Nothing_waits, choice, outcome, outcome_of, outcomes, after, after_heard, after_take, after_entry, after_all, with_routed, with_repeated, with_drawn, owed_last, answer, answer_to, verdict, is_request, found, places, items_of, most_owed, heading_of_message}
+use Rattle.gts_event.specs.declared.event.Event.{Event}
+use Rattle.gts_event.specs.declared.event.Event.TheVariants.{Heard, Lost, Taken}
+use Rattle.gts_event.specs.declared.event.Entry.{Entry}
+use Rattle.gts_event.specs.declared.event.Entry.TheVariants.{Done, Unsaid, Idle, Doubt, Restarted}
+use Rattle.gts_event.specs.declared.outcome.Outcome.{Outcome}
+use Rattle.gts_event.specs.declared.outcome.Outcome.TheVariants.{Accepted, Duplicate, Asked, Refused, LineLost, Resend, Draw, Nothing}
+use Rattle.gts_event.proofs.LawLemmas.{nothing_there, ordered-all}
+use Rattle.gts_generate.specs.History.{draws_in}
+use Rattle.gts_generate.specs.Counts.{is_accepted, is_draw}
+use Rattle.gts_generate.proofs.ReceiptLemmas.{take_outcome}
+
+-- ---- accepted
+
+accepted-heard : (d : Directory) (s : State) (c : ℕ) (kind : Kind) (message : List ℕ) (o : Outcome)
+    → (after_heard d s c kind message o).count ≡ s.count + count_by is_accepted (o ∷ [])
+accepted-heard d s c kind message (Accepted p n) = refl
+accepted-heard d s c kind message (Duplicate p) = omega arith
+accepted-heard d s c kind message (Asked f m) = omega arith
+accepted-heard d s c kind message (Refused r) = omega arith
+accepted-heard d s c kind message (LineLost f) = omega arith
+accepted-heard d s c kind message (Resend i) = omega arith
+accepted-heard d s c kind message (Draw i) = omega arith
+accepted-heard d s c kind message Nothing = omega arith
+
+accepted-take : (s : State) (c : ℕ) (ch : Choice) → (after_take s c ch).count ≡ s.count + count_by is_accepted (take_outcome ch ∷ [])
+accepted-take s c (Repeats i) = omega arith
+accepted-take s c (Draws i p) = omega arith
+accepted-take s c Nothing_waits = omega arith
+
+accepted-event : (d : Directory) (s : State) (event : Event) → (after d s event).count ≡ s.count + count_by is_accepted (outcome d s event ∷ [])
+accepted-event d s (Heard c kind message) = accepted-heard d s c kind message (outcome d s (Heard c kind message))
+accepted-event d s (Lost c field) = omega arith
+accepted-event d s (Taken c) = accepted-take s c (choice d s c)
+
+accepted-entry : (d : Directory) (s : State) (entry : Entry) → (after_entry d s entry).count ≡ s.count + count_by is_accepted (outcome_of d s entry)
+accepted-entry d s (Done event) = accepted-event d s event
+accepted-entry d s (Unsaid event) = accepted-event d s event
+accepted-entry d s (Idle event fault) = omega arith
+accepted-entry d s (Doubt event) = omega arith
+accepted-entry d s Restarted = omega arith
+
+pub accepted-counted : (d : Directory) (s : State) (entries : List Entry)
+    → (after_all d s entries).count ≡ s.count + count_by is_accepted (outcomes d s entries)
+accepted-counted d s [] = omega arith
+accepted-counted d s (entry ∷ entries) =
+    let next : State = after_entry d s entry in
+    omega (
+      arith,
+      accepted-counted d next entries,
+      accepted-entry d s entry,
+      sum_by-append (λ (o : Outcome). cond (is_accepted o) 1 0) (outcome_of d s entry) (outcomes d next entries),
+    )
+
+-- behind a state of which nothing was accepted
+pub accepted-from-nothing : (d : Directory) (s : State) (entries : List Entry) → s.count ≡ 0
+    → (after_all d s entries).count ≡ count_by is_accepted (outcomes d s entries)
+accepted-from-nothing d s entries none = omega (arith, accepted-counted d s entries)
+
+-- ---- drawn
+
+abbrev drawn_in : List CircuitState → ℕ
+drawn_in qs = sum_by draws qs
+
+-- what is routed or owed draws nothing
+drawn-map : (f : CircuitState → CircuitState) (qs : List CircuitState) → ((q : CircuitState) → draws (f q) ≡ draws q) → drawn_in (map f qs) ≡ drawn_in qs
+drawn-map f [] same = refl
+drawn-map f (q ∷ qs) same =
+    omega (arith, sum_by-cons draws (f q) (map f qs), sum_by-cons draws q qs, same q, drawn-map f qs same)
+
+routed-one : (b : Bool) (p : ℕ) (q : CircuitState) → draws (cond b (with_routed p q) q) ≡ draws q
+routed-one true p q = refl
+routed-one false p q = refl
+
+drawn-routed : (circuits : List ℕ) (p n : ℕ) (qs : List CircuitState)
+    → drawn_in (map (λ q. cond (has circuits q.0) (with_routed p q.1) q.1) (enumerate_from n qs)) ≡ drawn_in qs
+drawn-routed circuits p n [] = refl
+drawn-routed circuits p n (q ∷ qs) =
+    let rest : List CircuitState = map (λ (r : ℕ × CircuitState). cond (has circuits r.0) (with_routed p r.1) r.1) (enumerate_from (n + 1) qs) in
+    omega (
+      arith,
+      sum_by-cons draws (cond (has circuits n) (with_routed p q) q) rest,
+      sum_by-cons draws q qs,
+      routed-one (has circuits n) p q,
+      drawn-routed circuits p (n + 1) qs,
+    )
+
+-- a circuit that is set to so many more draws; beyond the last one nothing is set
+drawn-set : (qs : List CircuitState) (c more : ℕ) (q : CircuitState) → draws q ≡ draws (get_or qs c idle) + more → c < length qs
+    → drawn_in (set qs c q) ≡ drawn_in qs + more
+drawn-set qs c more q e within = omega (arith, sum_by-set draws qs c q idle within)
+
+drawn-kept : (qs : List CircuitState) (c : ℕ) (q : CircuitState) → draws q ≡ draws (get_or qs c idle) → drawn_in (set qs c q) ≡ drawn_in qs
+drawn-kept qs c q e = elim (cases_lt c (length qs)) [
+  | inl within ↦ omega (arith, sum_by-set draws qs c q idle within)
+  | inr beyond ↦ ap drawn_in (set_past qs c q beyond)
+]
+
+-- what is heard is no take
+abbrev pub IsHeard : Outcome → Type 0
+IsHeard (Resend index) = ⊥
+IsHeard (Draw index) = ⊥
+IsHeard Nothing = ⊥
+IsHeard _ = Unit {0}
+
+heard-answer : (owed : ℕ) (ps : List (Option ℕ)) → IsHeard (answer owed ps)
+heard-answer owed ps = go (nat_lt most_owed (owed + length (found ps)))
+  where
+    go : (b : Bool) → IsHeard (cond b (Refused Many) (Asked (length (found ps)) (count_by is_none ps)))
+    go true = tt
+    go false = tt
+
+heard-request : (d : Directory) (s : State) (c : ℕ) (r : Result (List Item) ReqField) → IsHeard (answer_to d s c r)
+heard-request d s c (Err field) = tt
+heard-request d s c (Ok items) = heard-answer (length (on_circuit s c).owed) (places d s c items)
+
+heard-new : (p n : ℕ) (b : Option Bulletin) → IsHeard (elim b [ Some b ↦ Duplicate b.position | None ↦ Accepted p n ])
+heard-new p n None = tt
+heard-new p n (Some b) = tt
+
+heard-verdict : (d : Directory) (s : State) (c : ℕ) (parts : MessageParts) → IsHeard (verdict d s c parts)
+heard-verdict d s c parts = go (is_request d parts.heading)
+  where
+    new : Outcome
+    new = elim (duplicate d s parts.heading parts.text) [ Some b ↦ Duplicate b.position | None ↦ Accepted s.count (length (named d c parts.heading)) ]
+
+    go : (b : Bool) → IsHeard (cond b (answer_to d s c (request_at parts.text)) new)
+    go true = heard-request d s c (request_at parts.text)
+    go false = heard-new s.count (length (named d c parts.heading)) (duplicate d s parts.heading parts.text)
+
+heard-read : (d : Directory) (s : State) (c : ℕ) (r : Result MessageParts Field)
+    → IsHeard (elim r [ Err field ↦ Refused (Message field) | Ok parts ↦ verdict d s c parts ])
+heard-read d s c (Err field) = tt
+heard-read d s c (Ok parts) = heard-verdict d s c parts
+
+drawn-heard : (d : Directory) (s : State) (c : ℕ) (kind : Kind) (message : List ℕ) (o : Outcome) → IsHeard o
+    → drawn_in (after_heard d s c kind message o).circuits ≡ drawn_in s.circuits + count_by is_draw (o ∷ [])
+drawn-heard d s c kind message (Accepted p n) is =
+    omega (arith, drawn-routed (named d c (heading_of_message message)) s.count 0 s.circuits)
+drawn-heard d s c kind message (Duplicate p) is = omega arith
+drawn-heard d s c kind message (Asked f m) is =
+    let q : CircuitState = on_circuit s c in
+    omega (arith, drawn-kept s.circuits c (record q { owed = q.owed ++ found (places d s c (items_of message)) }) refl)
+drawn-heard d s c kind message (Refused r) is = omega arith
+drawn-heard d s c kind message (LineLost f) is = omega arith
+drawn-heard d s c kind message (Resend i) is = absurd is
+drawn-heard d s c kind message (Draw i) is = absurd is
+drawn-heard d s c kind message Nothing is = absurd is
+
+-- nothing is given beyond the last circuit
+pub nothing-beyond : (d : Directory) (s : State) (c i p : ℕ) → length s.circuits ≤ c → choice d s c ≡ Draws i p → ⊥
+nothing-beyond d s c i p beyond e =
+    let none : on_circuit s c ≡ idle = get_or_past s.circuits c idle beyond in
+    let same : choice d s c ≡ Nothing_waits = nothing_there d s c (ap (λ (q : CircuitState). q.owed) none) (ap waiting none) in
+    cc
+
+drawn-take : (d : Directory) (s : State) (c : ℕ) (ch : Choice) → choice d s c ≡ ch
+    → drawn_in (after_take s c ch).circuits ≡ drawn_in s.circuits + count_by is_draw (take_outcome ch ∷ [])
+drawn-take d s c (Repeats i) e = omega (arith, drawn-kept s.circuits c (with_repeated (on_circuit s c)) refl)
+drawn-take d s c (Draws i p) e =
+    let q : CircuitState = on_circuit s c in
+    elim (cases_lt c (length s.circuits)) [
+      | inl within ↦ omega (arith, drawn-set s.circuits c 1 (with_drawn p q) (omega (arith, length-append q.taken (p ∷ []))) within)
+      | inr beyond ↦ absurd (nothing-beyond d s c i p beyond e)
+    ]
+drawn-take d s c Nothing_waits e = omega arith
+
+pub heard-event : (d : Directory) (s : State) (c : ℕ) (kind : Kind) (message : List ℕ) → IsHeard (outcome d s (Heard c kind message))
+heard-event d s c kind message = heard-read d s c (split_at message)
+
+drawn-event : (d : Directory) (s : State) (event : Event)
+    → drawn_in (after d s event).circuits ≡ drawn_in s.circuits + count_by is_draw (outcome d s event ∷ [])
+drawn-event d s (Heard c kind message) =
+    drawn-heard d s c kind message (outcome d s (Heard c kind message)) (heard-event d s c kind message)
+drawn-event d s (Lost c field) = omega arith
+drawn-event d s (Taken c) = drawn-take d s c (choice d s c) refl
+
+drawn-entry : (d : Directory) (s : State) (entry : Entry)
+    → drawn_in (after_entry d s entry).circuits ≡ drawn_in s.circuits + count_by is_draw (outcome_of d s entry)
+drawn-entry d s (Done event) = drawn-event d s event
+drawn-entry d s (Unsaid event) = drawn-event d s event
+drawn-entry d s (Idle event fault) = omega arith
+drawn-entry d s (Doubt event) = omega arith
+drawn-entry d s Restarted = omega (arith, drawn-map owed_last s.circuits (λ q. refl))
+
+drawn-all : (d : Directory) (s : State) (entries : List Entry)
+    → drawn_in (after_all d s entries).circuits ≡ drawn_in s.circuits + count_by is_draw (outcomes d s entries)
+drawn-all d s [] = omega arith
+drawn-all d s (entry ∷ entries) =
+    let next : State = after_entry d s entry in
+    omega (
+      arith,
+      drawn-all d next entries,
+      drawn-entry d s entry,
+      sum_by-append (λ (o : Outcome). cond (is_draw o) 1 0) (outcome_of d s entry) (outcomes d next entries),
+    )
+
+-- the need has the draws of each circuit
+needed : (rows : List Circuit) (qs : List CircuitState) → length qs ≡ length rows
+    → sum (map (λ circuit. circuit.draws) (map (λ row. circuit_need row.0.kept row.1) (zip rows qs))) ≡ drawn_in qs
+needed [] [] e = refl
+needed [] (q ∷ qs) e = absurd (omega arith)
+needed (row ∷ rows) [] e = absurd (omega arith)
+needed (row ∷ rows) (q ∷ qs) e =
+    let rest : List CircuitNeed = map (λ (r : Circuit × CircuitState). circuit_need r.0.kept r.1) (zip rows qs) in
+    omega (arith, sum_by-cons (λ (n : ℕ). n) (draws q) (map (λ (n : CircuitNeed). n.draws) rest), sum_by-cons draws q qs, needed rows qs (omega arith))
+
+pub drawn-counted : (d : Directory) (s : State) (entries : List Entry) → keeps_one d ≡ true → IsOrdered d s
+    → draws_in (need d (after_all d s entries)) ≡ draws_in (need d s) + count_by is_draw (outcomes d s entries)
+drawn-counted d s entries one ordered =
+    omega (
+      arith,
+      needed d.circuits s.circuits ordered.circuits,
+      needed d.circuits (after_all d s entries).circuits (ordered-all d s entries one ordered).circuits,
+      drawn-all d s entries,
+    )
+
+-- behind a state of which nothing was drawn
+pub drawn-from-nothing : (d : Directory) (s : State) (entries : List Entry) → keeps_one d ≡ true → IsOrdered d s → draws_in (need d s) ≡ 0
+    → draws_in (need d (after_all d s entries)) ≡ count_by is_draw (outcomes d s entries)
+drawn-from-nothing d s entries one ordered none = omega (arith, drawn-counted d s entries one ordered)

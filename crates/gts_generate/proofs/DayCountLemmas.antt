@@ -1,0 +1,39 @@
+-- The counts of a day.
+use Rattle.std.proofs.Common.{◌≡◌, ℕ, ◌+◌, ◌-◌, true, refl, arith}
+use Rattle.std.specs.List.{list_all, range_with_len}
+use Rattle.gts_event.specs.Need.{need, nothing, is_here, IsOrdered}
+use Rattle.gts_event.specs.Held.{IsHeld}
+use Rattle.gts_event.proofs.LawLemmas.{ordered-begun, nothing-sound, held-begun}
+use Rattle.gts_connection.specs.declared.kind.CaptureKind.TheVariants.{Plain}
+use Rattle.gts_connection.proofs.LawLemmas.{entries_here}
+use Rattle.gts_generate.specs.Centre.{directory}
+use Rattle.gts_generate.specs.Day.{steps}
+use Rattle.gts_generate.specs.History.{start, history, state_after, outside_of, draws_in}
+use Rattle.gts_generate.specs.Summary.{frames_in, frames_said}
+use Rattle.gts_generate.specs.Counts.{outcomes_on, is_accepted, is_draw, is_resend}
+use Rattle.gts_generate.proofs.CountLemmas.{accepted-from-nothing, drawn-from-nothing}
+use Rattle.gts_generate.proofs.EndLemmas.{frames-counted}
+use Rattle.gts_generate.proofs.FedLemmas.{day-ends}
+use Rattle.gts_generate.proofs.LawLemmas.{are-steps}
+
+ordered : IsOrdered directory start
+ordered = ordered-begun directory (nothing directory) (nothing-sound directory)
+
+held : IsHeld directory start
+held = held-begun directory (nothing directory) (nothing-sound directory)
+
+here : (count : ℕ) → list_all (is_here directory) (history count) ≡ true
+here count = entries_here Plain directory start (steps count) (are-steps Plain (range_with_len 0 count))
+
+pub accepted-on : (count : ℕ) → (need directory (state_after (history count))).accepted ≡ outcomes_on count is_accepted
+accepted-on count = accepted-from-nothing directory start (history count) refl
+
+pub draws-on : (count : ℕ) → draws_in (need directory (state_after (history count))) ≡ outcomes_on count is_draw
+draws-on count = drawn-from-nothing directory start (history count) refl ordered refl
+
+frames-on : (count : ℕ) → frames_in (frames_said (outside_of count)) ≡ outcomes_on count is_draw + outcomes_on count is_resend
+frames-on count =
+    frames-counted directory start (history count) refl (omega arith) (here count) (day-ends directory start count) held refl
+
+pub resends-on : (count : ℕ) → frames_in (frames_said (outside_of count)) - draws_in (need directory (state_after (history count))) ≡ outcomes_on count is_resend
+resends-on count = omega (arith, frames-on count, draws-on count)

@@ -1,0 +1,282 @@
+-- Each take that gives something says one frame, where each bulletin has one end.
+use Rattle.std.proofs.Common.{◌≡◌, ℕ, suc, zero, ◌+◌, ◌-◌, ◌<◌, ◌≤◌, Bool, true, false, cond, ◌&&◌, ◌==◌, nat_le, nat_lt, Option, Some, None, List, [], ◌∷◌, ◌++◌, length, get_or, map, inl, inr, refl, sym, ap, subst, ◌∙◌, arith}
+use Rattle.std.specs.Prelude.{count_by}
+use Rattle.std.specs.List.{list_all, find, zip}
+use Rattle.std.proofs.lemmas.Bool.{eqb-true, eq-eqb, le-leb, lt-ltb, ltb-true, and_parts, and_from}
+use Rattle.std.proofs.lemmas.List.{get_or-set_same, length-append, length-drop, length-map}
+use Rattle.std.proofs.lemmas.List.Folds.{list_all-append}
+use Rattle.std.proofs.lemmas.List.FromFn.{length-enumerate_from}
+use Rattle.std.proofs.lemmas.List.Sums.{sum_by-append}
+use Rattle.gts_alphabet.specs.Digits.{dec}
+use Rattle.gts_alphabet.specs.declared.characters.TheConstants.{ETX}
+use Rattle.gts_traits.specs.Station.{on}
+use Rattle.gts_heading.specs.Heading.{IsGap}
+use Rattle.gts_number.specs.Number.{number_in}
+use Rattle.gts_message.specs.Message.{IsMessage}
+use Rattle.gts_message.proofs.LawLemmas.{split_takes}
+use Rattle.gts_frame.specs.declared.kind.Kind.{Kind}
+use Rattle.gts_directory.specs.Directory.{Directory, Circuit}
+use Rattle.gts_alphabet.specs.Message.{message_of}
+use Rattle.gts_event.specs.State.{State, Bulletin, no_heading, CircuitState, idle, on_circuit, draws, drawn, last_of, next, bulletin_at}
+use Rattle.gts_event.specs.Need.{circuit_need, is_kept, owes_kept, keeps_one, is_here, IsOrdered}
+use Rattle.gts_event.specs.Held.{IsHeld, WasRead}
+use Rattle.gts_event.specs.Said.{HasLine, line, numbered_frame, spoken, spoken_of, said}
+use Rattle.gts_event.specs.History.{Choice, Repeats, Draws, Nothing_waits, choice, choice_of, kept_on, digits_on, outcome, outcome_of, outcomes, after, after_heard, after_take, after_entry, with_repeated, with_drawn, body_of, heading_of_message}
+use Rattle.gts_event.specs.Receipt.{receipt_text}
+use Rattle.gts_event.specs.declared.event.Event.{Event}
+use Rattle.gts_event.specs.declared.event.Event.TheVariants.{Heard, Lost, Taken}
+use Rattle.gts_event.specs.declared.event.Entry.{Entry}
+use Rattle.gts_event.specs.declared.event.Entry.TheVariants.{Done, Unsaid, Idle, Doubt, Restarted}
+use Rattle.gts_event.specs.declared.outcome.Outcome.{Outcome}
+use Rattle.gts_event.specs.declared.outcome.Outcome.TheVariants.{Accepted, Duplicate, Asked, Refused, LineLost, Resend, Draw, Nothing}
+use Rattle.gts_event.proofs.LawLemmas.{was_read, body-read, held-all, draw_index, kept-line}
+use Rattle.gts_generate.specs.Summary.{is_circuit, frames_said, frames_in}
+use Rattle.gts_generate.specs.Counts.{is_draw, is_resend}
+use Rattle.gts_generate.proofs.ByteLemmas.{lacks, lacks-append, lacks-dec}
+use Rattle.gts_generate.proofs.ReceiptLemmas.{take_outcome, said_take}
+use Rattle.gts_generate.proofs.CountLemmas.{IsHeard, heard-event}
+use Rattle.gts_generate.proofs.FramesLemmas.{frames-append, frames-where, ends-append, ends-message, ends-frame}
+
+-- a bulletin's body has one end
+abbrev pub one_end : Bulletin → Bool
+one_end b = frames_in b.body == 1
+
+-- each message that is heard has one
+abbrev pub hears_one_end : Event → Bool
+hears_one_end (Heard circuit kind message) = frames_in message == 1
+hears_one_end _ = true
+
+abbrev pub has_one_end : Entry → Bool
+has_one_end (Done event) = hears_one_end event
+has_one_end (Unsaid event) = hears_one_end event
+has_one_end _ = true
+
+-- ---- the bulletins
+
+no-gap : (gap : List ℕ) → IsGap gap → lacks ETX gap ≡ true
+no-gap gap (inl e) = ap (lacks ETX) e
+no-gap gap (inr e) = ap (lacks ETX) e
+
+-- what was read has the ends of its body
+ends-read : (d : Directory) (message : List ℕ) → WasRead d message → frames_in message ≡ frames_in (body_of message)
+ends-read d message was =
+    let is : IsMessage message was.parts = split_takes message was.parts was.read in
+    let gap : List ℕ = is.spelled.0 in
+    let number : List ℕ = dec was.parts.digits was.parts.number ++ gap in
+    let lacking : lacks ETX number ≡ true =
+    lacks-append ETX (dec was.parts.digits was.parts.number) gap (lacks-dec ETX was.parts.digits was.parts.number (omega arith)) (no-gap gap is.spelled.1) in
+    ap frames_in is.spelled.2 ∙ ends-message number was.parts.body lacking ∙ ap frames_in (sym (body-read d message was))
+
+-- one more is accepted, with one end
+joins : (bs : List Bulletin) (b : Bulletin) → list_all one_end bs ≡ true → frames_in b.body ≡ 1 → list_all one_end (bs ++ b ∷ []) ≡ true
+joins bs b all one =
+    list_all-append one_end bs (b ∷ [])
+    ∙ and_from (list_all one_end bs) (one_end b && true) all (and_from (one_end b) true (eq-eqb (frames_in b.body) 1 one) refl)
+
+ends-heard : (d : Directory) (s : State) (c : ℕ) (kind : Kind) (message : List ℕ) (o : Outcome) → outcome d s (Heard c kind message) ≡ o
+    → (frames_in message == 1) ≡ true → list_all one_end s.accepted ≡ true
+    → list_all one_end (after_heard d s c kind message o).accepted ≡ true
+ends-heard d s c kind message (Accepted p n) e one all =
+    let was : WasRead d message = was_read d s c kind message p n e in
+    joins s.accepted (record { position = s.count; from = c; kind = kind; body = body_of message }) all
+    (sym (ends-read d message was) ∙ eqb-true (frames_in message) 1 one)
+ends-heard d s c kind message (Duplicate p) e one all = all
+ends-heard d s c kind message (Asked f m) e one all = all
+ends-heard d s c kind message (Refused r) e one all = all
+ends-heard d s c kind message (LineLost f) e one all = all
+ends-heard d s c kind message (Resend i) e one all = all
+ends-heard d s c kind message (Draw i) e one all = all
+ends-heard d s c kind message Nothing e one all = all
+
+ends-take : (s : State) (c : ℕ) (ch : Choice) → list_all one_end s.accepted ≡ true → list_all one_end (after_take s c ch).accepted ≡ true
+ends-take s c (Repeats i) all = all
+ends-take s c (Draws i p) all = all
+ends-take s c Nothing_waits all = all
+
+ends-event : (d : Directory) (s : State) (event : Event) → hears_one_end event ≡ true → list_all one_end s.accepted ≡ true
+    → list_all one_end (after d s event).accepted ≡ true
+ends-event d s (Heard c kind message) one all = ends-heard d s c kind message (outcome d s (Heard c kind message)) refl one all
+ends-event d s (Lost c field) one all = all
+ends-event d s (Taken c) one all = ends-take s c (choice d s c) all
+
+ends-entry : (d : Directory) (s : State) (entry : Entry) → has_one_end entry ≡ true → list_all one_end s.accepted ≡ true
+    → list_all one_end (after_entry d s entry).accepted ≡ true
+ends-entry d s (Done event) one all = ends-event d s event one all
+ends-entry d s (Unsaid event) one all = ends-event d s event one all
+ends-entry d s (Idle event fault) one all = all
+ends-entry d s (Doubt event) one all = all
+ends-entry d s Restarted one all = all
+
+-- ---- the line of a draw
+
+abbrev of_bulletin : ℕ → ℕ → Option Bulletin → List ℕ
+of_bulletin digits index r = elim r as (λ _. List ℕ) [ None ↦ [] | Some b ↦ numbered_frame digits index b ]
+
+abbrev of_draw : Directory → State → ℕ → ℕ → Option (ℕ × ℕ) → List ℕ
+of_draw d s c index r = elim r as (λ _. List ℕ) [ None ↦ [] | Some draw ↦ of_bulletin (digits_on d c) index (bulletin_at s draw.1) ]
+
+found-passes : (test pass : Bulletin → Bool) (bs : List Bulletin) (b : Bulletin) → find test bs ≡ Some b → list_all pass bs ≡ true → pass b ≡ true
+found-passes test pass [] b e all = absurd (cc)
+found-passes test pass (x ∷ bs) b e all =
+    let both = and_parts (pass x) (list_all pass bs) all in
+    here (test x) x (find test bs) e both.0 (λ more. found-passes test pass bs b more both.1)
+  where
+    here : (t : Bool) (x : Bulletin) (rest : Option Bulletin) → cond t (Some x) rest ≡ Some b → pass x ≡ true → (rest ≡ Some b → pass b ≡ true) → pass b ≡ true
+    here true x rest e first more = let same : x ≡ b = cc in subst (λ (y : Bulletin). pass y ≡ true) same first
+    here false x rest e first more = more e
+
+ends-numbered : (digits index : ℕ) (b : Bulletin) → frames_in (numbered_frame digits index b) ≡ frames_in b.body
+ends-numbered digits index b =
+    let number : List ℕ = dec digits (number_in digits index) in
+    ends-frame b.kind (message_of number b.body) ∙ ends-message number b.body (lacks-dec ETX digits (number_in digits index) (omega arith))
+
+line-ends : (d : Directory) (s : State) (c i : ℕ) → HasLine s c i → list_all one_end s.accepted ≡ true → frames_in (line d s c i) ≡ 1
+line-ends d s c i there all =
+    let draw : ℕ × ℕ = there.0 in
+    let b : Bulletin = there.1 in
+    let is : line d s c i ≡ numbered_frame (digits_on d c) i b = ap (of_draw d s c i) there.2 ∙ ap (of_bulletin (digits_on d c) i) there.3 in
+    let one : one_end b ≡ true = found-passes (λ (x : Bulletin). x.position == draw.1) one_end s.accepted b there.3 all in
+    ap frames_in is ∙ ends-numbered (digits_on d c) i b ∙ eqb-true (frames_in b.body) 1 one
+
+-- ---- what is drawn or owed is kept
+
+abbrev owes_on : Circuit → CircuitState → Bool
+owes_on row q = owes_kept (circuit_need row.kept q)
+
+keeps-some : (rows : List Circuit) (c : ℕ) → list_all (λ row. nat_lt 0 row.kept) rows ≡ true → c < length rows
+    → 0 < get_or (map (λ row. row.kept) rows) c 0
+keeps-some [] c all within = absurd (omega arith)
+keeps-some (row ∷ rows) zero all within = ltb-true 0 row.kept (and_parts (nat_lt 0 row.kept) (list_all (λ r. nat_lt 0 r.kept) rows) all).0
+keeps-some (row ∷ rows) (suc c) all within =
+    keeps-some rows c (and_parts (nat_lt 0 row.kept) (list_all (λ r. nat_lt 0 r.kept) rows) all).1 (omega arith)
+
+owed-at : (rows : List Circuit) (qs : List CircuitState) (c : ℕ) → length qs ≡ length rows → c < length qs
+    → list_all owes_kept (map (λ row. circuit_need row.0.kept row.1) (zip rows qs)) ≡ true
+    → owes_kept (circuit_need (get_or (map (λ row. row.kept) rows) c 0) (get_or qs c idle)) ≡ true
+owed-at [] [] c same within all = absurd (omega arith)
+owed-at [] (q ∷ qs) c same within all = absurd (omega arith)
+owed-at (row ∷ rows) [] c same within all = absurd (omega arith)
+owed-at (row ∷ rows) (q ∷ qs) zero same within all =
+    (and_parts (owes_on row q) (list_all owes_kept (map (λ r. circuit_need r.0.kept r.1) (zip rows qs))) all).0
+owed-at (row ∷ rows) (q ∷ qs) (suc c) same within all =
+    owed-at rows qs c (omega arith) (omega arith)
+    (and_parts (owes_on row q) (list_all owes_kept (map (λ r. circuit_need r.0.kept r.1) (zip rows qs))) all).1
+
+-- the first that is owed is kept
+first-owed : (k i : ℕ) (q : CircuitState) (os : List ℕ) (r : Option ℕ) (n : ℕ) → list_all (is_kept (circuit_need k q)) os ≡ true
+    → choice_of os r n ≡ Repeats i → is_kept (circuit_need k q) i ≡ true
+first-owed k i q [] None n all e = absurd (cc)
+first-owed k i q [] (Some p) n all e = absurd (cc)
+first-owed k i q (o ∷ os) r n all e =
+    let same : o ≡ i = cc in
+    subst (λ (j : ℕ). is_kept (circuit_need k q) j ≡ true) same
+    (and_parts (is_kept (circuit_need k q) o) (list_all (is_kept (circuit_need k q)) os) all).0
+
+-- a new draw is kept where one is
+new-kept : (k p : ℕ) (q : CircuitState) → 0 < k → is_kept (circuit_need k (with_drawn p q)) (draws q) ≡ true
+new-kept k p q some =
+    let all : List (ℕ × ℕ) = drawn (with_drawn p q) in
+    let count : length all ≡ length q.taken + 1 = length-enumerate_from q.earlier (q.taken ++ p ∷ []) ∙ length-append q.taken (p ∷ []) in
+    let kept : List ℕ = map (λ (draw : ℕ × ℕ). draw.1) (last_of k all) in
+    let size : length kept ≡ length all - (length all - k) = length-map (last_of k all) (λ (draw : ℕ × ℕ). draw.1) ∙ length-drop (length all - k) all in
+    let more : draws (with_drawn p q) ≡ draws q + 1 = omega (arith, length-append q.taken (p ∷ [])) in
+    and_from (nat_le (draws (with_drawn p q)) (draws q + length kept)) (nat_lt (draws q) (draws (with_drawn p q)))
+    (le-leb (draws (with_drawn p q)) (draws q + length kept) (omega arith))
+    (lt-ltb (draws q) (draws (with_drawn p q)) (omega arith))
+
+-- ---- what a take says
+
+circuit-here : (c : ℕ) → c < 8 → is_circuit (c + 1) ≡ true
+circuit-here c low = and_from (nat_le 1 (c + 1)) (nat_le (c + 1) 8) (le-leb 1 (c + 1) (omega arith)) (le-leb (c + 1) 8 (omega arith))
+
+-- on a circuit of the directory the line of a kept draw is one frame
+one-frame : (d : Directory) (s : State) (c i : ℕ) → length d.circuits ≤ 8 → c < length d.circuits → IsHeld d s → list_all one_end s.accepted ≡ true
+    → is_kept (circuit_need (kept_on d c) (on_circuit s c)) i ≡ true → frames_in (frames_said (on (c + 1) (line d s c i))) ≡ 1
+one-frame d s c i few here held all kept =
+    ap frames_in (frames-where true (c + 1) (line d s c i) (circuit-here c (omega arith)))
+    ∙ line-ends d s c i (kept-line d s c i here held kept) all
+
+-- the index that was repeated or drawn is kept behind the take
+kept-behind : (d : Directory) (s : State) (c i : ℕ) (q : CircuitState) → is_kept (circuit_need (kept_on d c) q) i ≡ true → on_circuit s c ≡ q
+    → is_kept (circuit_need (kept_on d c) (on_circuit s c)) i ≡ true
+kept-behind d s c i q kept same = ap (λ (r : CircuitState). is_kept (circuit_need (kept_on d c) r) i) same ∙ kept
+
+frames-take : (d : Directory) (s : State) (c : ℕ) (ch : Choice) → choice d s c ≡ ch → keeps_one d ≡ true → length d.circuits ≤ 8 → c < length d.circuits
+    → IsOrdered d s → IsHeld d (after_take s c ch) → list_all one_end s.accepted ≡ true
+    → frames_in (frames_said (said_take d (after_take s c ch) c ch))
+    ≡ count_by is_draw (take_outcome ch ∷ []) + count_by is_resend (take_outcome ch ∷ [])
+frames-take d s c (Repeats i) e one few here ordered held all =
+    let q : CircuitState = on_circuit s c in
+    let within : c < length s.circuits = omega (arith, ordered.circuits) in
+    let same : on_circuit (after_take s c (Repeats i)) c ≡ with_repeated q = get_or-set_same s.circuits c (with_repeated q) idle within in
+    let owed : owes_kept (circuit_need (kept_on d c) q) ≡ true = owed-at d.circuits s.circuits c ordered.circuits within ordered.owed in
+    let kept : is_kept (circuit_need (kept_on d c) q) i ≡ true = first-owed (kept_on d c) i q q.owed (next d s q) (draws q) owed e in
+    one-frame d (after_take s c (Repeats i)) c i few here held all (kept-behind d (after_take s c (Repeats i)) c i (with_repeated q) kept same)
+frames-take d s c (Draws i p) e one few here ordered held all =
+    let q : CircuitState = on_circuit s c in
+    let within : c < length s.circuits = omega (arith, ordered.circuits) in
+    let same : on_circuit (after_take s c (Draws i p)) c ≡ with_drawn p q = get_or-set_same s.circuits c (with_drawn p q) idle within in
+    let some : 0 < kept_on d c = keeps-some d.circuits c one here in
+    let index : draws q ≡ i = draw_index d s c i p e in
+    let kept : is_kept (circuit_need (kept_on d c) (with_drawn p q)) i ≡ true =
+    subst (λ (j : ℕ). is_kept (circuit_need (kept_on d c) (with_drawn p q)) j ≡ true) index (new-kept (kept_on d c) p q some) in
+    one-frame d (after_take s c (Draws i p)) c i few here held all (kept-behind d (after_take s c (Draws i p)) c i (with_drawn p q) kept same)
+frames-take d s c Nothing_waits e one few here ordered held all = refl
+
+-- ---- of a history
+
+none-heard : (o : Outcome) → IsHeard o → 0 ≡ count_by is_draw (o ∷ []) + count_by is_resend (o ∷ [])
+none-heard (Accepted p n) is = refl
+none-heard (Duplicate p) is = refl
+none-heard (Asked f m) is = refl
+none-heard (Refused r) is = refl
+none-heard (LineLost f) is = refl
+none-heard (Resend i) is = absurd is
+none-heard (Draw i) is = absurd is
+none-heard Nothing is = absurd is
+
+frames-event : (d : Directory) (s : State) (event : Event) → keeps_one d ≡ true → length d.circuits ≤ 8 → is_here d (Done event) ≡ true
+    → hears_one_end event ≡ true → IsHeld d s → list_all one_end s.accepted ≡ true
+    → frames_in (frames_said (spoken d s event)) ≡ count_by is_draw (outcome d s event ∷ []) + count_by is_resend (outcome d s event ∷ [])
+frames-event d s (Heard c kind message) one few here end held all =
+    let o : Outcome = outcome d s (Heard c kind message) in
+    ap frames_in (frames-where false 0 (receipt_text c o (heading_of_message message)) refl)
+    ∙ none-heard o (heard-event d s c kind message)
+frames-event d s (Lost c field) one few here end held all =
+    ap frames_in (frames-where false 0 (receipt_text c (LineLost field) no_heading) refl)
+frames-event d s (Taken c) one few here end held all =
+    frames-take d s c (choice d s c) refl one few (ltb-true c (length d.circuits) here) held.ordered
+    (held-all d s (Done (Taken c) ∷ []) one (and_from (nat_lt c (length d.circuits)) true here refl) held) all
+
+frames-entry : (d : Directory) (s : State) (entry : Entry) → keeps_one d ≡ true → length d.circuits ≤ 8 → is_here d entry ≡ true
+    → has_one_end entry ≡ true → IsHeld d s → list_all one_end s.accepted ≡ true
+    → frames_in (frames_said (spoken_of d s entry)) ≡ count_by is_draw (outcome_of d s entry) + count_by is_resend (outcome_of d s entry)
+frames-entry d s (Done event) one few here end held all = frames-event d s event one few here end held all
+frames-entry d s (Unsaid event) one few here end held all = frames-event d s event one few here end held all
+frames-entry d s (Idle event fault) one few here end held all = refl
+frames-entry d s (Doubt event) one few here end held all = refl
+frames-entry d s Restarted one few here end held all = refl
+
+-- of a history in which each message has one end as many frames are said as were drawn and repeated
+pub frames-counted : (d : Directory) (s : State) (entries : List Entry) → keeps_one d ≡ true → length d.circuits ≤ 8
+    → list_all (is_here d) entries ≡ true → list_all has_one_end entries ≡ true → IsHeld d s → list_all one_end s.accepted ≡ true
+    → frames_in (frames_said (said d s entries)) ≡ count_by is_draw (outcomes d s entries) + count_by is_resend (outcomes d s entries)
+frames-counted d s [] one few here end held all = refl
+frames-counted d s (entry ∷ entries) one few here end held all =
+    let now = and_parts (is_here d entry) (list_all (is_here d) entries) here in
+    let ends = and_parts (has_one_end entry) (list_all has_one_end entries) end in
+    let behind : State = after_entry d s entry in
+    let held_behind : IsHeld d behind = held-all d s (entry ∷ []) one (and_from (is_here d entry) true now.0 refl) held in
+    let more : frames_in (frames_said (said d behind entries)) ≡ count_by is_draw (outcomes d behind entries) + count_by is_resend (outcomes d behind entries) =
+    frames-counted d behind entries one few now.1 ends.1 held_behind (ends-entry d s entry ends.0 all) in
+    let first : List ℕ = frames_said (spoken_of d s entry) in
+    let both : frames_in (frames_said (said d s (entry ∷ entries))) ≡ frames_in first + frames_in (frames_said (said d behind entries)) =
+    ap frames_in (frames-append (spoken_of d s entry) (said d behind entries)) ∙ ends-append first (frames_said (said d behind entries)) in
+    omega (
+      arith,
+      both,
+      more,
+      frames-entry d s entry one few now.0 ends.0 held all,
+      sum_by-append (λ (o : Outcome). cond (is_draw o) 1 0) (outcome_of d s entry) (outcomes d behind entries),
+      sum_by-append (λ (o : Outcome). cond (is_resend o) 1 0) (outcome_of d s entry) (outcomes d behind entries),
+    )

@@ -1,0 +1,69 @@
+-- What was said on the circuits, piece by piece, and the frames in it.
+use Rattle.std.proofs.Common.{◌≡◌, ℕ, ◌+◌, Bool, true, false, cond, ◌==◌, List, [], ◌∷◌, ◌++◌, map, refl, ap, ◌∙◌, arith}
+use Rattle.std.specs.Prelude.{filter, if◌then◌else◌, length}
+use Rattle.std.proofs.lemmas.List.{map-append}
+use Rattle.std.proofs.lemmas.List.Elements.{filter-append}
+use Rattle.std.proofs.lemmas.List.Sums.{sum_by-append}
+use Rattle.gts_alphabet.specs.Digits.{dec}
+use Rattle.gts_alphabet.specs.Message.{message_of}
+use Rattle.gts_alphabet.specs.declared.characters.TheConstants.{ETX, SOH, EOL}
+use Rattle.gts_traits.specs.Station.{Outside, on}
+use Rattle.gts_frame.specs.declared.kind.Kind.{Kind}
+use Rattle.gts_frame.specs.declared.kind.Kind.TheVariants.{An, Bi, Fx}
+use Rattle.gts_frame.specs.Frame.{frame, letters}
+use Rattle.gts_generate.specs.Summary.{is_circuit, frames_said, frames_in}
+use Rattle.gts_generate.proofs.ByteLemmas.{lacks, lacks-dec, counts-none}
+
+pub frames-append : (xs ys : Outside) → frames_said (xs ++ ys) ≡ frames_said xs ++ frames_said ys
+frames-append xs ys =
+    let kept = λ (byte : ℕ × ℕ). is_circuit byte.0 in
+    ap (λ (o : Outside). map (λ byte. byte.1) o) (filter-append kept xs ys)
+    ∙ map-append (λ (byte : ℕ × ℕ). byte.1) (filter kept xs) (filter kept ys)
+
+-- bytes on the channel of a circuit, and on another one
+frames-there : (channel : ℕ) (bytes : List ℕ) → is_circuit channel ≡ true → frames_said (on channel bytes) ≡ bytes
+frames-there channel [] here = refl
+frames-there channel (byte ∷ bytes) here = rw here (ap (λ (l : List ℕ). byte ∷ l) (frames-there channel bytes here))
+
+frames-elsewhere : (channel : ℕ) (bytes : List ℕ) → is_circuit channel ≡ false → frames_said (on channel bytes) ≡ []
+frames-elsewhere channel [] here = refl
+frames-elsewhere channel (byte ∷ bytes) here = rw here (frames-elsewhere channel bytes here)
+
+pub frames-where : (there : Bool) (channel : ℕ) (bytes : List ℕ) → is_circuit channel ≡ there
+    → frames_said (on channel bytes) ≡ (if there then bytes else [])
+frames-where true channel bytes here = frames-there channel bytes here
+frames-where false channel bytes here = frames-elsewhere channel bytes here
+
+-- ---- the ends of frames
+
+pub ends-append : (xs ys : List ℕ) → frames_in (xs ++ ys) ≡ frames_in xs + frames_in ys
+ends-append xs ys = sum_by-append (λ (byte : ℕ). cond (byte == ETX) 1 0) xs ys
+
+-- none in what lacks ETX
+pub no-end : (bytes : List ℕ) → lacks ETX bytes ≡ true → frames_in bytes ≡ 0
+no-end bytes e = counts-none ETX bytes e
+
+-- a message has the ends of its body, where its number has none
+pub ends-message : (number body : List ℕ) → lacks ETX number ≡ true → frames_in (message_of number body) ≡ frames_in body
+ends-message number body e =
+    let start : List ℕ = SOH ∷ [] ++ EOL in
+    let none : frames_in start ≡ 0 = refl in
+    let line_end : frames_in EOL ≡ 0 = refl in
+    omega (arith, ends-append (start ++ number ++ EOL) body, ends-append (start ++ number) EOL, ends-append start number, no-end number e)
+
+-- and a frame those of its message
+pub ends-frame : (kind : Kind) (message : List ℕ) → frames_in (frame kind message) ≡ frames_in message
+ends-frame kind message =
+    let size : List ℕ = dec 8 (length message) in
+    omega (
+      arith,
+      ends-append (size ++ letters kind) message,
+      ends-append size (letters kind),
+      no-end size (lacks-dec ETX 8 (length message) (omega arith)),
+      no-letter kind,
+    )
+  where
+    no-letter : (k : Kind) → frames_in (letters k) ≡ 0
+    no-letter An = refl
+    no-letter Bi = refl
+    no-letter Fx = refl

@@ -1,0 +1,198 @@
+-- Receipts are lines: each is counted where it begins with its word, and nowhere else.
+use Rattle.std.proofs.Common.{◌≡◌, ℕ, ◌+◌, Bool, true, false, cond, not, ◌==◌, List, [], ◌∷◌, ◌++◌, refl, sym, ap, subst, ◌∙◌, arith}
+use Rattle.std.specs.Prelude.{codes, count_by}
+use Rattle.std.proofs.lemmas.Bool.{and_parts}
+use Rattle.std.proofs.lemmas.List.Sums.{sum_by-append}
+use Rattle.gts_heading.specs.Heading.{HeadingFields, heading_text}
+use Rattle.gts_frame.specs.declared.kind.Kind.{Kind}
+use Rattle.gts_directory.specs.Directory.{Directory}
+use Rattle.gts_message.specs.Message.{IsMessage}
+use Rattle.gts_message.proofs.LawLemmas.{split_takes}
+use Rattle.gts_event.specs.State.{State}
+use Rattle.gts_traits.specs.Station.{Outside, on, channel_bytes}
+use Rattle.gts_traits.proofs.LawLemmas.{channel_bytes-append, channel_bytes-on, channel_bytes-on_other}
+use Rattle.gts_event.specs.History.{Choice, Repeats, Draws, Nothing_waits, choice, outcome, outcome_of, outcomes, after, after_entry, heading_of_message}
+use Rattle.gts_event.specs.Said.{line, spoken, spoken_of, said}
+use Rattle.gts_event.specs.State.{no_heading}
+use Rattle.gts_event.specs.declared.event.Event.{Event}
+use Rattle.gts_event.specs.declared.event.Event.TheVariants.{Heard, Lost, Taken}
+use Rattle.gts_event.specs.declared.event.Entry.{Entry}
+use Rattle.gts_event.specs.declared.event.Entry.TheVariants.{Done, Unsaid, Idle, Doubt, Restarted}
+use Rattle.gts_event.specs.Held.{WasRead}
+use Rattle.gts_event.proofs.LawLemmas.{was_read, heading_of_message-read}
+use Rattle.gts_event.specs.Receipt.{receipt_text, then_number, refusal_text, lost_text}
+use Rattle.gts_heading.specs.Heading.{IsHeading}
+use Rattle.gts_heading.specs.declared.field.Field.TheVariants as field
+use Rattle.gts_request.specs.declared.fault.ReqField.TheVariants as asked
+use Rattle.gts_frame.specs.declared.lost.LostField.{LostField}
+use Rattle.gts_frame.specs.declared.lost.LostField.TheVariants as lost
+use Rattle.gts_event.specs.declared.outcome.Refusal.{Refusal}
+use Rattle.gts_event.specs.declared.outcome.Refusal.TheVariants.{Message, Request, Many}
+use Rattle.gts_event.specs.declared.outcome.Outcome.{Outcome}
+use Rattle.gts_event.specs.declared.outcome.Outcome.TheVariants.{Accepted, Duplicate, Asked, Refused, LineLost, Resend, Draw, Nothing}
+use Rattle.gts_generate.specs.Summary.{lines_from, receipts_of}
+use Rattle.gts_generate.specs.Counts.{is_duplicate, is_granted}
+use Rattle.gts_generate.proofs.ByteLemmas.{lacks, lacks-append, lacks-decimal, lacks-heading}
+
+-- the rest of a line up to its LF
+passed : (b : Bool) (word bytes : List ℕ) → not b ≡ true → lines_from b word bytes ≡ lines_from false word bytes
+passed true word bytes e = absurd (cc)
+passed false word bytes e = refl
+
+rest-of-line : (word bytes rest : List ℕ) → lacks 10 bytes ≡ true → lines_from false word (bytes ++ 10 ∷ [] ++ rest) ≡ lines_from true word rest
+rest-of-line word [] rest e = omega arith
+rest-of-line word (b ∷ bytes) rest e =
+    let both = and_parts (not (b == 10)) (lacks 10 bytes) e in
+    let more : lines_from (b == 10) word (bytes ++ 10 ∷ [] ++ rest) ≡ lines_from false word (bytes ++ 10 ∷ [] ++ rest) =
+    passed (b == 10) word (bytes ++ 10 ∷ [] ++ rest) both.0 in
+    omega (arith, more, rest-of-line word bytes rest both.1)
+
+-- what a receipt has behind its word
+number : (n : ℕ) → lacks 10 (then_number n) ≡ true
+number n = lacks-decimal 10 n (omega arith)
+
+numbers : (n m : ℕ) → lacks 10 (then_number n ++ then_number m) ≡ true
+numbers n m = lacks-append 10 (then_number n) (then_number m) (number n) (number m)
+
+three : (n m k : ℕ) → lacks 10 (then_number n ++ then_number m ++ then_number k) ≡ true
+three n m k = lacks-append 10 (then_number n ++ then_number m) (then_number k) (numbers n m) (number k)
+
+refusal : (r : Refusal) → lacks 10 (32 ∷ refusal_text r) ≡ true
+refusal (Message field.StartLine) = refl
+refusal (Message _) = refl
+refusal (Request asked.Asker) = refl
+refusal (Request _) = refl
+refusal Many = refl
+
+loss : (field : LostField) → lacks 10 (32 ∷ lost_text field) ≡ true
+loss lost.Length = refl
+loss lost.Kind = refl
+loss lost.Soh = refl
+loss lost.Etx = refl
+
+-- an accepted bulletin's heading is one
+abbrev pub HasHeading : Outcome → HeadingFields → Type 0
+HasHeading (Accepted position circuits) h = IsHeading h
+HasHeading _ h = Unit {0}
+
+-- a receipt is one line: it is counted once where it begins with the word
+pub duplicate-lines : (c : ℕ) (o : Outcome) (h : HeadingFields) (rest : List ℕ) → HasHeading o h
+    → lines_from true (codes "DUP") (receipt_text c o h ++ rest) ≡ count_by is_duplicate (o ∷ []) + lines_from true (codes "DUP") rest
+duplicate-lines c (Accepted p n) h rest is =
+    let text : List ℕ = then_number c ++ then_number p ++ then_number n in
+    omega (arith, rest-of-line (codes "DUP") (text ++ 32 ∷ heading_text h) rest (lacks-append 10 text (32 ∷ heading_text h) (three c p n) (lacks-heading 10 h (omega arith) is)))
+duplicate-lines c (Duplicate p) h rest is = omega (arith, rest-of-line (codes "DUP") (then_number c ++ then_number p) rest (numbers c p))
+duplicate-lines c (Asked f m) h rest is = omega (arith, rest-of-line (codes "DUP") (then_number c ++ then_number f ++ then_number m) rest (three c f m))
+duplicate-lines c (Refused r) h rest is =
+    omega (arith, rest-of-line (codes "DUP") (then_number c ++ 32 ∷ refusal_text r) rest (lacks-append 10 (then_number c) (32 ∷ refusal_text r) (number c) (refusal r)))
+duplicate-lines c (LineLost f) h rest is =
+    omega (arith, rest-of-line (codes "DUP") (then_number c ++ 32 ∷ lost_text f) rest (lacks-append 10 (then_number c) (32 ∷ lost_text f) (number c) (loss f)))
+duplicate-lines c (Resend i) h rest is = omega arith
+duplicate-lines c (Draw i) h rest is = omega arith
+duplicate-lines c Nothing h rest is = omega arith
+
+pub granted-lines : (c : ℕ) (o : Outcome) (h : HeadingFields) (rest : List ℕ) → HasHeading o h
+    → lines_from true (codes "ASK") (receipt_text c o h ++ rest) ≡ count_by is_granted (o ∷ []) + lines_from true (codes "ASK") rest
+granted-lines c (Accepted p n) h rest is =
+    let text : List ℕ = then_number c ++ then_number p ++ then_number n in
+    omega (arith, rest-of-line (codes "ASK") (text ++ 32 ∷ heading_text h) rest (lacks-append 10 text (32 ∷ heading_text h) (three c p n) (lacks-heading 10 h (omega arith) is)))
+granted-lines c (Duplicate p) h rest is = omega (arith, rest-of-line (codes "ASK") (then_number c ++ then_number p) rest (numbers c p))
+granted-lines c (Asked f m) h rest is = omega (arith, rest-of-line (codes "ASK") (then_number c ++ then_number f ++ then_number m) rest (three c f m))
+granted-lines c (Refused r) h rest is =
+    omega (arith, rest-of-line (codes "ASK") (then_number c ++ 32 ∷ refusal_text r) rest (lacks-append 10 (then_number c) (32 ∷ refusal_text r) (number c) (refusal r)))
+granted-lines c (LineLost f) h rest is =
+    omega (arith, rest-of-line (codes "ASK") (then_number c ++ 32 ∷ lost_text f) rest (lacks-append 10 (then_number c) (32 ∷ lost_text f) (number c) (loss f)))
+granted-lines c (Resend i) h rest is = omega arith
+granted-lines c (Draw i) h rest is = omega arith
+granted-lines c Nothing h rest is = omega arith
+
+-- ---- of a history
+
+-- what was heard has a heading where it was accepted
+heard-heading : (d : Directory) (s : State) (c : ℕ) (kind : Kind) (message : List ℕ) (o : Outcome) → outcome d s (Heard c kind message) ≡ o
+    → HasHeading o (heading_of_message message)
+heard-heading d s c kind message (Accepted p n) e =
+    let was : WasRead d message = was_read d s c kind message p n e in
+    let is : IsMessage message was.parts = split_takes message was.parts was.read in
+    subst (λ (h : HeadingFields). IsHeading h) (sym (heading_of_message-read d message was)) is.body.heading_is
+heard-heading d s c kind message (Duplicate p) e = tt
+heard-heading d s c kind message (Asked f m) e = tt
+heard-heading d s c kind message (Refused r) e = tt
+heard-heading d s c kind message (LineLost f) e = tt
+heard-heading d s c kind message (Resend i) e = tt
+heard-heading d s c kind message (Draw i) e = tt
+heard-heading d s c kind message Nothing e = tt
+
+-- of one receipt, behind which more is said
+abbrev Counted : List ℕ → (Outcome → Bool) → Type 0
+Counted word kind = (c : ℕ) (o : Outcome) (h : HeadingFields) (rest : List ℕ) → HasHeading o h
+    → lines_from true word (receipt_text c o h ++ rest) ≡ count_by kind (o ∷ []) + lines_from true word rest
+
+abbrev pub take_outcome : Choice → Outcome
+take_outcome ch = elim ch as (λ _. Outcome) [ Repeats index ↦ Resend index | Draws index position ↦ Draw index | Nothing_waits ↦ Nothing ]
+
+abbrev pub said_take : Directory → State → ℕ → Choice → Outside
+said_take d t c ch =
+    elim ch as (λ _. Outside) [
+      | Repeats index ↦ on (c + 1) (line d t c index)
+      | Draws index position ↦ on (c + 1) (line d t c index)
+      | Nothing_waits ↦ []
+    ]
+
+-- a take has no receipt, and nothing is said of it on channel 0
+take-untold : (d : Directory) (t : State) (c : ℕ) (ch : Choice) → channel_bytes 0 (said_take d t c ch) ≡ receipt_text c (take_outcome ch) no_heading
+take-untold d t c (Repeats i) = channel_bytes-on_other 0 (c + 1) (line d t c i) (λ e. absurd (omega arith))
+take-untold d t c (Draws i p) = channel_bytes-on_other 0 (c + 1) (line d t c i) (λ e. absurd (omega arith))
+take-untold d t c Nothing_waits = refl
+
+take-heading : (ch : Choice) → HasHeading (take_outcome ch) no_heading
+take-heading (Repeats i) = tt
+take-heading (Draws i p) = tt
+take-heading Nothing_waits = tt
+
+event-lines : (word : List ℕ) (kind : Outcome → Bool) (counted : Counted word kind) (d : Directory) (s : State) (event : Event) (rest : List ℕ)
+    → lines_from true word (channel_bytes 0 (spoken d s event) ++ rest)
+    ≡ count_by kind (outcome d s event ∷ []) + lines_from true word rest
+event-lines word kind counted d s (Heard c k message) rest =
+    let o : Outcome = outcome d s (Heard c k message) in
+    let h : HeadingFields = heading_of_message message in
+    ap (λ (l : List ℕ). lines_from true word (l ++ rest)) (channel_bytes-on 0 (receipt_text c o h))
+    ∙ counted c o h rest (heard-heading d s c k message o refl)
+event-lines word kind counted d s (Lost c field) rest =
+    ap (λ (l : List ℕ). lines_from true word (l ++ rest)) (channel_bytes-on 0 (receipt_text c (LineLost field) no_heading))
+    ∙ counted c (LineLost field) no_heading rest tt
+event-lines word kind counted d s (Taken c) rest =
+    let ch : Choice = choice d s c in
+    ap (λ (l : List ℕ). lines_from true word (l ++ rest)) (take-untold d (after d s (Taken c)) c ch)
+    ∙ counted c (take_outcome ch) no_heading rest (take-heading ch)
+
+entry-lines : (word : List ℕ) (kind : Outcome → Bool) (counted : Counted word kind) (d : Directory) (s : State) (entry : Entry) (rest : List ℕ)
+    → lines_from true word (channel_bytes 0 (spoken_of d s entry) ++ rest)
+    ≡ count_by kind (outcome_of d s entry) + lines_from true word rest
+entry-lines word kind counted d s (Done event) rest = event-lines word kind counted d s event rest
+entry-lines word kind counted d s (Unsaid event) rest = event-lines word kind counted d s event rest
+entry-lines word kind counted d s (Idle event fault) rest = omega arith
+entry-lines word kind counted d s (Doubt event) rest = omega arith
+entry-lines word kind counted d s Restarted rest = omega arith
+
+history-lines : (word : List ℕ) (kind : Outcome → Bool) (counted : Counted word kind) (d : Directory) (s : State) (entries : List Entry)
+    → lines_from true word (channel_bytes 0 (said d s entries)) ≡ count_by kind (outcomes d s entries)
+history-lines word kind counted d s [] = refl
+history-lines word kind counted d s (entry ∷ entries) =
+    let next : State = after_entry d s entry in
+    let first : List ℕ = channel_bytes 0 (spoken_of d s entry) in
+    let both : channel_bytes 0 (said d s (entry ∷ entries)) ≡ first ++ channel_bytes 0 (said d next entries) =
+    channel_bytes-append 0 (spoken_of d s entry) (said d next entries) in
+    ap (λ (l : List ℕ). lines_from true word l) both
+    ∙ entry-lines word kind counted d s entry (channel_bytes 0 (said d next entries))
+    ∙ ap (λ (n : ℕ). count_by kind (outcome_of d s entry) + n) (history-lines word kind counted d next entries)
+    ∙ sym (sum_by-append (λ (o : Outcome). cond (kind o) 1 0) (outcome_of d s entry) (outcomes d next entries))
+
+-- of any history there are as many receipts of duplicates as duplicates, and as many of requests as were granted
+pub duplicates-counted : (d : Directory) (s : State) (entries : List Entry)
+    → receipts_of (codes "DUP") (said d s entries) ≡ count_by is_duplicate (outcomes d s entries)
+duplicates-counted d s entries = history-lines (codes "DUP") is_duplicate duplicate-lines d s entries
+
+pub granted-counted : (d : Directory) (s : State) (entries : List Entry)
+    → receipts_of (codes "ASK") (said d s entries) ≡ count_by is_granted (outcomes d s entries)
+granted-counted d s entries = history-lines (codes "ASK") is_granted granted-lines d s entries
