@@ -17,6 +17,8 @@ use Rattle.gts_journal.specs.{entry_at}
 use Rattle.gts_journal.proofs.LawLemmas.{reads_one, refuses_one, reads_end_there, reads_fault}
 use Rattle.gts_standby.specs.Feed.{feed_at}
 use Rattle.gts_standby.specs.Shipping.{Reaches}
+use Rattle.gts_standby.specs.Taking.{seals_at}
+use Rattle.gts_standby.specs.Comparing.{Leads}
 
 -- ---- what stands at a gate
 
@@ -213,3 +215,85 @@ record_stands v before file gate bytes r is =
           let more : length found.0 ≡ length text + length stands.0 = ap (λ (l : List ℕ). length l) stands.1 ∙ length-append text stands.0 in
           omega (arith, all, more, size, long, length-drop gate bytes));
     }
+
+-- ---- the seals of a journal's records
+
+abbrev seals_of_record : Version → ℕ → List ℕ → List ℕ → Option Record → List (List ℕ)
+seals_of_record v n before bytes o = elim o as (λ _. List (List ℕ)) [
+  | None ↦ []
+  | Some r ↦ seal v before (record_text r) ∷ seals_at v n (seal v before (record_text r)) (drop (record_size v r - 1) bytes)
+]
+
+seals_one : (v : Version) (n file gate : ℕ) (before bytes : List ℕ) (r : Record) → entry_at v before file gate bytes ≡ Ok (Some r)
+    → seals_at v (suc n) before bytes ≡ seal v before (record_text r) ∷ seals_at v n (seal v before (record_text r)) (drop (record_size v r) bytes)
+seals_one v n file gate before bytes r is =
+    let found = was_found v before file gate bytes r is in
+    ap (seals_at v (suc n) before) found.1
+    ∙ ap (seals_of_record v n before found.0) found.2
+    ∙ ap (λ (l : List ℕ). seal v before (record_text r) ∷ seals_at v n (seal v before (record_text r)) l)
+    (one_back (record_size v r) open_gate found.0 (omega arith) ∙ ap (λ (l : List ℕ). drop (record_size v r) l) (sym found.1))
+
+seals_none : (v : Version) (n file gate : ℕ) (before bytes : List ℕ) → entry_at v before file gate bytes ≡ Ok None → seals_at v n before bytes ≡ []
+seals_none v zero file gate before bytes is = refl
+seals_none v (suc n) file gate before [] is = refl
+seals_none v (suc n) file gate before (mark ∷ bytes) is = by_mark (mark == open_gate) is
+  where
+    by_mark : (b : Bool) → at_mark v before file gate bytes b ≡ Ok None
+        → elim b as (λ _. List (List ℕ)) [ false ↦ [] | true ↦ seals_of_record v n before bytes (sealed_at v before bytes) ] ≡ []
+    by_mark false is = refl
+    by_mark true is = by_found (sealed_at v before bytes) is
+      where
+        by_found : (o : Option Record) → at_found file gate o ≡ Ok None → seals_of_record v n before bytes o ≡ []
+        by_found None is = refl
+        by_found (Some q) is = absurd (let f : Some q ≡ None = cc is in cc f)
+
+-- behind the gate's record the seals of the others are left
+pub record LeadsOn (v : Version) (d : Directory) (file : ℕ) (before : List ℕ) (gate : ℕ) (bytes : List ℕ) (end : ℕ) (left : List (List ℕ)) (r : Record) : Type 0 where
+  pub rest : List (List ℕ)
+  pub is : left ≡ seal v before (record_text r) ∷ rest
+  pub leads : Leads v d file (seal v before (record_text r)) (gate + record_size v r) bytes end rest
+
+pub leads_on : (v : Version) (d : Directory) (file : ℕ) (before : List ℕ) (gate : ℕ) (bytes : List ℕ) (end : ℕ) (left : List (List ℕ)) (r : Record) → Leads v d file before gate bytes end left
+    → entry_at v before file gate (drop gate bytes) ≡ Ok (Some r) → LeadsOn v d file before gate bytes end left r
+leads_on v d file before gate bytes end left r it found =
+    let on = goes_on v d file before gate bytes end it.sent r it.reaches found in
+    let stands = record_stands v before file gate bytes r found in
+    let some : suc (it.n - 1) ≡ it.n = omega (arith, stands.there, it.enough) in
+    let far : drop (record_size v r) (drop gate bytes) ≡ drop (gate + record_size v r) bytes = drop-drop (record_size v r) gate bytes in
+    record {
+      rest = seals_at v (it.n - 1) (seal v before (record_text r)) (drop (record_size v r) (drop gate bytes));
+      is = it.left_is ∙ ap (λ (k : ℕ). seals_at v k before (drop gate bytes)) (sym some) ∙ seals_one v (it.n - 1) file gate before (drop gate bytes) r found;
+      leads = record {
+        sent = on.rest;
+        reaches = on.reaches;
+        n = it.n - 1;
+        enough = omega (arith, it.enough, some);
+        left_is = ap (seals_at v (it.n - 1) (seal v before (record_text r))) far;
+      };
+    }
+
+-- at the end no seal is left
+pub none_left : (v : Version) (d : Directory) (file : ℕ) (before : List ℕ) (gate : ℕ) (bytes : List ℕ) (end : ℕ) (left : List (List ℕ)) → Leads v d file before gate bytes end left → end ≤ gate → left ≡ []
+none_left v d file before gate bytes end left all high =
+    let it = all.reaches in
+    let x : State × ℕ × List ℕ = (it.then, end + 1, it.last) in
+    let some = some_step v d it.steps file before it.state gate (drop gate bytes) x it.opens in
+    let first = subst (λ (k : ℕ). records_at v d k file before it.state gate (drop gate bytes) ≡ Ok x) some.1 it.opens in
+    elim (at_entry v d some.0 file before it.state gate (drop gate bytes) x first) [
+      | IsEnd is same ↦ all.left_is ∙ seals_none v all.n file gate before (drop gate bytes) is
+      | IsRecord r is more ↦
+          absurd (let far = end_behind v d some.0 file (seal v before (record_text r)) (after d it.state (event_of_record r)) (gate + record_size v r) (drop (record_size v r) (drop gate bytes)) x more in omega (arith, far, high))
+    ]
+
+-- in front of the end a seal is left
+pub left_split : (v : Version) (d : Directory) (file : ℕ) (before : List ℕ) (gate : ℕ) (bytes : List ℕ) (end : ℕ) (left : List (List ℕ)) → Leads v d file before gate bytes end left → gate < end
+    → (own : List ℕ) × (rest : List (List ℕ)) × (left ≡ own ∷ rest)
+left_split v d file before gate bytes end left all low =
+    let it = all.reaches in
+    let x : State × ℕ × List ℕ = (it.then, end + 1, it.last) in
+    let some = some_step v d it.steps file before it.state gate (drop gate bytes) x it.opens in
+    let first = subst (λ (k : ℕ). records_at v d k file before it.state gate (drop gate bytes) ≡ Ok x) some.1 it.opens in
+    elim (at_entry v d some.0 file before it.state gate (drop gate bytes) x first) [
+      | IsEnd is same ↦ absurd (let far : end + 1 ≡ gate + 1 = ap (λ (y : State × ℕ × List ℕ). y.1) same in omega (arith, far, low))
+      | IsRecord r is more ↦ (let on = leads_on v d file before gate bytes end left r all is in (seal v before (record_text r), on.rest, on.is))
+    ]

@@ -145,7 +145,7 @@ checkpoint_first d calls j end n last gate first packed read place =
     ∙ ap (λ (l : List ℕ). sealed v before (checkpoint_text n) ++ feed_at v (length bytes) l (drop (compacted_bytes v n - 1) bytes)) (sym read.seal_is)
     ∙ ap (λ (k : ℕ). sealed v before (checkpoint_text n) ++ feed_at v (length bytes) last (drop k bytes)) at
 
-checkpoint_reaches : (d : Directory) (calls : List Call) (j : InHand) (end : ℕ) (n : Need) (last : List ℕ) (gate : ℕ) → IsAtFirst d calls j end → is_at_checkpoint j ≡ true
+pub checkpoint_reaches : (d : Directory) (calls : List Call) (j : InHand) (end : ℕ) (n : Need) (last : List ℕ) (gate : ℕ) → IsAtFirst d calls j end → is_at_checkpoint j ≡ true
     → HasRead j.version d (drop 41 (file_of calls j)) n last → gate + 1 ≡ compacted_bytes j.version n
     → Reaches j.version d j.file last gate (file_of calls j) end (feed_at j.version (length (file_of calls j)) last (drop gate (file_of calls j)))
 checkpoint_reaches d calls j end n last gate first packed read place =
@@ -194,10 +194,10 @@ broken_checkpoint d old new j end n last gate first packed read place says =
 -- ---- the opening
 
 -- a journal that was started on files that open stands at its first gate
-pub at_first : (d : Directory) (old mid new : List Call) (opened j : InHand) (s : State) (mark : List ℕ) → mid ≡ Did Syncs ∷ old → new ≡ Did Syncs ∷ mid → StandsFor d s mid opened → opened.version ≡ written
+pub at_start : (d : Directory) (mid new : List Call) (opened j : InHand) (s : State) (mark : List ℕ) → new ≡ Did Syncs ∷ mid → StandsFor d s mid opened → opened.version ≡ written
     → mark ≡ d.mark → j.gate ≡ 40 → j.version ≡ written → j.seal ≡ first_seal j.version mark → StandsOn new j → first_fault mark (seen mid) ≡ None → is_checkpoint (file_of new j) ≡ is_at_checkpoint j
     → IsAtFirst d new j opened.gate
-at_first d old mid new opened j s mark first second stands current ours gate version last on_it sound letter =
+at_start d mid new opened j s mark second stands current ours gate version last on_it sound letter =
     let place : selected (seen mid) ≡ j.file = ap (λ (calls : List Call). selected (seen calls)) (sym second) ∙ on_it.selected_is in
     let bytes : file_of new j ≡ selected_bytes (seen mid) = ap (λ (calls : List Call). seen calls j.file) second ∙ ap (seen mid) (sym place) in
     let opens_to : files_read written d (seen mid) ≡ Ok (s, opened.gate + 1, opened.seal) = ap (λ (v : Version). files_read v d (seen mid)) (sym current) ∙ stands.opens_to in
@@ -212,6 +212,12 @@ at_first d old mid new opened j s mark first second stands current ours gate ver
       opens = ap (λ (v : Version). file_opens v d j.file (file_of new j)) version ∙ ap (file_opens written d j.file) bytes
           ∙ ap (λ (k : ℕ). file_opens written d k (selected_bytes (seen mid))) (sym place) ∙ opens_to;
     }
+
+pub at_first : (d : Directory) (old mid new : List Call) (opened j : InHand) (s : State) (mark : List ℕ) → mid ≡ Did Syncs ∷ old → new ≡ Did Syncs ∷ mid → StandsFor d s mid opened → opened.version ≡ written
+    → mark ≡ d.mark → j.gate ≡ 40 → j.version ≡ written → j.seal ≡ first_seal j.version mark → StandsOn new j → first_fault mark (seen mid) ≡ None → is_checkpoint (file_of new j) ≡ is_at_checkpoint j
+    → IsAtFirst d new j opened.gate
+at_first d old mid new opened j s mark first second stands current ours gate version last on_it sound letter =
+    at_start d mid new opened j s mark second stands current ours gate version last on_it sound letter
 
 -- files that open have no fault in the header
 pub no_header_fault : (d : Directory) (mid : List Call) (opened : InHand) (s : State) (mark : List ℕ) (f : OpenFault) → StandsFor d s mid opened → opened.version ≡ written → mark ≡ d.mark

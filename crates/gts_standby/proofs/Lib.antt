@@ -2,3 +2,13 @@ pub mod SayLemmas
 pub mod FeedLemmas
 pub mod ShipLemmas
 pub mod FirstLemmas
+pub mod HeaderLemmas
+pub mod FedLemmas
+pub mod AddLemmas
+pub mod CompareLemmas
+pub mod ScanLemmas
+pub mod BeginLemmas
+pub mod PutLemmas
+pub mod TakeLemmas
+pub mod WholeLemmas
+pub mod NamedLemmas

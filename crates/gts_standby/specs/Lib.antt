@@ -1,4 +1,15 @@
 pub mod Feed
 pub mod Shipping
+pub mod Ahead
+pub mod Taking
+pub mod Following
+pub mod Reading
+pub mod Adding
+pub mod Comparing
+pub mod Beginning
+pub mod Whole
 pub use Rattle.gts_standby.specs.Feed.{feed}
 pub use Rattle.gts_standby.specs.Shipping.{IsShipFault, IsNamed, ShipsOnly, feed_of}
+pub use Rattle.gts_standby.specs.Taking.{End, Taken, taken}
+pub use Rattle.gts_standby.specs.Whole.{IsNamedEnd}
+pub use Rattle.gts_standby.specs.Following.{comes_to, own_seals, EndsAs, Answers, IsEnd, state_after, OpensWithin, EachOpens}

@@ -44,7 +44,8 @@ IsQuiet _ = Unit {0}
 
 -- From a gate of these bytes on, where this seal stands before it, the records come to a closed gate at this place; and this is what
 -- is left of the feed. As many steps are left as there are bytes, or more.
-pub record Reaches (v : Version) (d : Directory) (file : ℕ) (before : List ℕ) (gate : ℕ) (bytes : List ℕ) (end : ℕ) (left : List ℕ) : Type 0 where
+pub record Reaches (v : Version) (d : Directory) (file : ℕ) (before : List ℕ) (gate : ℕ) (bytes : List ℕ)
+    (end : ℕ) (left : List ℕ) : Type 0 where
   pub steps : ℕ
   pub enough : length bytes ≤ steps + gate
   pub state : State

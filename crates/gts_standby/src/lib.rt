@@ -1,13 +1,21 @@
 //! A standby station: the feed of a journal, which one station says and another one takes into its own journal.
 #![tactic(auto)]
 
+mod adding;
+mod ahead;
+mod beginning;
+mod comparing;
+mod end;
 mod fault;
+mod fed;
+mod following;
+mod header;
 mod piece;
 mod records;
+mod scanning;
 mod shipping;
 
+pub use end::FollowEnd;
 pub use fault::ShipFault;
+pub use following::follow;
 pub use shipping::ship;
-
-#[cfg(test)]
-mod tests;

@@ -1,0 +1,35 @@
+-- A fault of a device, and want of memory, are answered by their names.
+use Rattle.gts_record.specs.declared.fault.OpenFault.{OpenFault}
+use Rattle.gts_record.specs.declared.fault.OpenFault.TheVariants as opening
+use Rattle.gts_standby.specs.declared.end.FollowEnd.{FollowEnd}
+use Rattle.gts_standby.specs.declared.end.FollowEnd.TheVariants.{Done, Open, Feed, Diverged, SourceFault, DiskFault, NoMemory}
+use Rattle.gts_standby.specs.Following.{open_end}
+use Rattle.gts_standby.specs.Reading.{IsFedEnd}
+use Rattle.gts_standby.specs.Adding.{IsAddEnd}
+use Rattle.gts_standby.specs.Whole.{IsNamedEnd}
+
+pub named_open : (e : OpenFault) → IsNamedEnd (open_end e)
+named_open opening.DiskFault = tt
+named_open opening.NoMemory = tt
+named_open opening.NoJournal = tt
+named_open opening.OldVersion = tt
+named_open (opening.NotThis want found) = tt
+named_open (opening.Damaged file at) = tt
+
+pub named_fed : (answer : FollowEnd) → IsFedEnd answer → IsNamedEnd answer
+named_fed Done kind = tt
+named_fed (Open fault) kind = absurd kind
+named_fed (Feed at) kind = tt
+named_fed (Diverged index own fed) kind = tt
+named_fed SourceFault kind = tt
+named_fed DiskFault kind = tt
+named_fed NoMemory kind = tt
+
+pub named_added : (answer : FollowEnd) → IsAddEnd answer → IsNamedEnd answer
+named_added Done kind = tt
+named_added (Open fault) kind = absurd kind
+named_added (Feed at) kind = tt
+named_added (Diverged index own fed) kind = tt
+named_added SourceFault kind = tt
+named_added DiskFault kind = tt
+named_added NoMemory kind = tt

@@ -1,0 +1,178 @@
+-- What a feed comes to that begins with a checkpoint, by the bytes that were read of it.
+use Rattle.std.proofs.Common.{◌≡◌, ℕ, ◌+◌, ◌-◌, ◌*◌, ◌^◌, ◌<◌, ◌≤◌, Bool, true, false, ◌&&◌, cond, nat_eq, nat_le, nat_lt, List, ◌++◌, length, take, drop, Some, Result, Err, refl, sym, ap, subst, ◌∙◌, arith}
+use Rattle.std.specs.Prelude.{Option, None, IfSome, IfNone, IsErrOf}
+use Rattle.std.specs.List.{starts_with}
+use Rattle.std.specs.Cmp.Lexicographic.{same_text}
+use Rattle.std.proofs.lemmas.Bool.{and_parts, and_from, leb-true, eqb-true, eq-eqb}
+use Rattle.std.proofs.lemmas.List.{length-take, take-append-drop, take-append-le}
+use Rattle.gts_directory.specs.Directory.{Directory}
+use Rattle.gts_event.specs.Items.{need_of}
+use Rattle.gts_event.specs.Need.{Need, begun, is_sound}
+use Rattle.gts_event.specs.declared.plain.Need as plain
+use Rattle.gts_record.specs.declared.version.Version.{Version}
+use Rattle.gts_record.specs.Format.{held, seal, first_seal, seal_size, draw_size, is_sealed, written}
+use Rattle.gts_opening.specs.Journal.{checkpoint_text, compacted_bytes, need_in, admits_checkpoint, due}
+use Rattle.gts_opening.proofs.LawLemmas.{need_in-text, fits-sound}
+use Rattle.gts_checkpoint.specs.{IsCheckpoint}
+use Rattle.gts_checkpoint.specs.Reading.{BeginsWith}
+use Rattle.gts_checkpoint.proofs.ReadLemmas.{admitted, need_read}
+use Rattle.gts_journal.specs.{InHand}
+use Rattle.gts_standby.specs.declared.end.FollowEnd.{FollowEnd}
+use Rattle.gts_standby.specs.declared.end.FollowEnd.TheVariants.{Done, Open, Feed, Diverged, SourceFault, DiskFault, NoMemory}
+use Rattle.gts_standby.specs.Taking.{Taken, Breaks, stopped, Piece, Cut, Broken, Sealed, by_piece, Reached, Short, Bad, Behind, behind_checkpoint, checkpoint_piece, begin_with, add_all}
+use Rattle.gts_standby.specs.Following.{IsEnd}
+use Rattle.gts_standby.specs.Adding.{IsAddEnd}
+use Rattle.gts_standby.specs.Beginning.{IsPutEnd, begun_taken}
+
+-- ---- the ends of writing
+
+pub put_ends : (answer : FollowEnd) → IsPutEnd answer → IsEnd answer → ⊥
+put_ends Done kind end = kind
+put_ends (Feed at) kind end = kind
+put_ends (Open fault) kind end = kind
+put_ends (Diverged index own fed) kind end = kind
+put_ends SourceFault kind end = kind
+put_ends DiskFault kind end = end
+put_ends NoMemory kind end = end
+
+pub put_adds : (answer : FollowEnd) → IsPutEnd answer → IsAddEnd answer
+put_adds Done kind = absurd kind
+put_adds (Feed at) kind = absurd kind
+put_adds (Open fault) kind = absurd kind
+put_adds (Diverged index own fed) kind = absurd kind
+put_adds SourceFault kind = absurd kind
+put_adds DiskFault kind = tt
+put_adds NoMemory kind = tt
+
+pub put_no_source : {T : Type 0} (answer : FollowEnd) → IsPutEnd answer → (P : Type 0) → (let failed : Result T FollowEnd = Err answer in IsErrOf failed SourceFault) → P
+put_no_source Done kind P is = absurd kind
+put_no_source (Feed at) kind P is = absurd kind
+put_no_source (Open fault) kind P is = absurd kind
+put_no_source (Diverged index own fed) kind P is = absurd kind
+put_no_source SourceFault kind P is = absurd kind
+put_no_source DiskFault kind P is = absurd (cc is)
+put_no_source NoMemory kind P is = absurd (cc is)
+
+-- ---- what was decoded
+
+pub found_there : (d : Directory) (bytes : List ℕ) (o : Option plain.Need) (n : plain.Need) → IfSome o (λ (m : plain.Need). IsCheckpoint written d bytes (need_of m)) → o ≡ Some n → IsCheckpoint written d bytes (need_of n)
+found_there d bytes o n found is = subst (λ (p : Option plain.Need). IfSome p (λ (m : plain.Need). IsCheckpoint written d bytes (need_of m))) is found
+
+pub none_found : {X P : Type 0} (o : Option X) → IfNone o P → o ≡ None → P
+none_found {X} {P} o none is = subst (λ (p : Option X). IfNone p P) is none
+
+-- ---- the piece
+
+-- the seal stands behind so many bytes
+record StandsSealed (v : Version) (before fed : List ℕ) (size : ℕ) (text : ℕ) : Type 0 where
+  pub size_is : text + seal_size v ≡ size
+  pub stands : is_sealed v before (take text fed) fed ≡ true
+
+sealed_parts : (v : Version) (limit : ℕ) (before fed : List ℕ) (size : ℕ) (last : List ℕ) → checkpoint_piece v limit before fed ≡ Sealed size last → StandsSealed v before fed size (size - seal_size v)
+sealed_parts v limit before fed size last is = by_reached (behind_checkpoint limit fed) is
+  where
+    by_tests : (k : ℕ) (cut stands : Bool) → is_sealed v before (take k fed) fed ≡ stands → cond cut Cut (cond stands (Sealed (k + seal_size v) (seal v before (take k fed))) Broken) ≡ Sealed size last
+        → StandsSealed v before fed size (size - seal_size v)
+    by_tests k true stands s e = absurd (cc e)
+    by_tests k false false s e = absurd (cc e)
+    by_tests k false true s e =
+        let whole : k + seal_size v ≡ size = cc e in
+        let at : k ≡ size - seal_size v = omega (arith, whole) in
+        subst (λ (m : ℕ). StandsSealed v before fed size m) at (record { size_is = whole; stands = s })
+
+    by_reached : (r : Reached) → elim r as (λ _. Piece) [
+      | Short ↦ Cut
+      | Bad ↦ Broken
+      | Behind k ↦ cond (nat_lt (length fed) (k + seal_size v)) Cut (cond (is_sealed v before (take k fed) fed) (Sealed (k + seal_size v) (seal v before (take k fed))) Broken)
+    ] ≡ Sealed size last → StandsSealed v before fed size (size - seal_size v)
+    by_reached Short e = absurd (cc e)
+    by_reached Bad e = absurd (cc e)
+    by_reached (Behind k) e = by_tests k (nat_lt (length fed) (k + seal_size v)) (is_sealed v before (take k fed) fed) refl e
+
+-- it is that of the feed beside the journal
+pub piece_of : (d : Directory) (j : InHand) (v : Version) (limit : ℕ) (before fed : List ℕ) (piece : Piece) → v ≡ j.version → j.version ≡ written → limit ≡ d.limit → held j.version before ≡ j.seal
+    → checkpoint_piece v limit (held v before) fed ≡ piece → checkpoint_piece written d.limit j.seal fed ≡ piece
+piece_of d j v limit before fed piece version current most last is =
+    sym
+    (ap (λ (w : Version). checkpoint_piece w limit (held w before) fed) (version ∙ current)
+    ∙ ap (λ (l : ℕ). checkpoint_piece written l (held written before) fed) most
+    ∙ ap (λ (b : List ℕ). checkpoint_piece written d.limit b fed) (ap (λ (w : Version). held w before) (sym current) ∙ last))
+    ∙ is
+
+-- ---- what it comes to
+
+-- the feed is added behind the checkpoint
+abbrev pub behind_it : Directory → List ℕ → List ℕ → ℕ → ℕ → Need → Taken
+behind_it d fed last gate size n = record (add_all written d (length fed) last (begun n) gate (40 + size) (drop size fed)) { begins = Some n }
+
+module _ (d : Directory) (j : InHand) (fed bytes left : List ℕ) (size : ℕ) (last : List ℕ) (limit : d.limit < 256 ^ 4) (first : j.seal ≡ first_seal written d.mark) (read : fed ≡ bytes ++ left) (low : size ≤ length bytes)
+    (piece : checkpoint_piece written d.limit j.seal fed ≡ Sealed size last) where
+  -- the bytes before the seal
+  abbrev count : ℕ
+  count = size - seal_size written
+
+  parts : StandsSealed written j.seal fed size count
+  parts = sealed_parts written d.limit j.seal fed size last piece
+
+  front : take count fed ≡ take count bytes
+  front = ap (take count) read ∙ take-append-le count bytes left (omega (arith, low))
+
+  -- where a checkpoint was read
+  begins_so : (n : Need) → IsCheckpoint written d (take count bytes) n → begin_with written d j.seal size fed (need_in fed) ≡ behind_it d fed (seal written j.seal (checkpoint_text n)) (compacted_bytes written n - 1) size n
+  begins_so n cp =
+      let text : take count fed ≡ checkpoint_text n = front ∙ cp.text in
+      let begins : BeginsWith fed (checkpoint_text n) = (drop count fed, sym (take-append-drop count fed) ∙ ap (λ (l : List ℕ). l ++ drop count fed) text) in
+      let fits = fits-sound written d n cp.sound (omega (arith, limit, cp.room)) in
+      let is : need_in fed ≡ n = need_read fed n begins fits cp.free in
+      let stands : is_sealed written (first_seal written d.mark) (checkpoint_text n) fed ≡ true =
+      ap (λ (b : List ℕ). is_sealed written b (checkpoint_text n) fed) (sym first) ∙ ap (λ (l : List ℕ). is_sealed written j.seal l fed) (sym text) ∙ parts.stands in
+      let may : admits_checkpoint written d fed n ≡ true = admitted written d fed n begins stands cp.sound cp.room in
+      let long : length (checkpoint_text n) ≡ count = omega (arith, ap (λ (l : List ℕ). length l) cp.text, length-take count bytes, low) in
+      let whole : nat_eq (length (checkpoint_text n) + seal_size written) size ≡ true = eq-eqb (length (checkpoint_text n) + seal_size written) size (omega (arith, long, parts.size_is)) in
+      ap (begin_with written d j.seal size fed) is
+      ∙ ap (λ (b : Bool). cond b (behind_it d fed (seal written j.seal (checkpoint_text n)) (compacted_bytes written n - 1) size n) (stopped (Breaks 40))) (and_from _ _ may whole)
+
+  -- as the journal stands that begins with it
+  pub begun_so : (n : Need) (next : InHand) → IsCheckpoint written d (take count bytes) n → next.seal ≡ seal written (first_seal written d.mark) (checkpoint_text n) → next.gate + 1 ≡ compacted_bytes written n
+      → begin_with written d j.seal size fed (need_in fed) ≡ behind_it d fed next.seal next.gate size n
+  begun_so n next cp seal_is gate_is =
+      begins_so n cp
+      ∙ ap (λ (b : List ℕ). behind_it d fed b (compacted_bytes written n - 1) size n) (ap (λ (b : List ℕ). seal written b (checkpoint_text n)) first ∙ sym seal_is)
+      ∙ ap (λ (k : ℕ). behind_it d fed next.seal k size n) (let at : compacted_bytes written n - 1 ≡ next.gate = omega (arith, gate_is) in at)
+
+  pub begins_with : (n : Need) → IsCheckpoint written d (take count bytes) n → (begun_taken d j fed).begins ≡ Some n
+  begins_with n cp =
+      ap (λ (p : Piece). (by_piece 40 p (λ k b. begin_with written d j.seal k fed (need_in fed))).begins) piece ∙ ap (λ (t : Taken). t.begins) (begins_so n cp)
+
+  -- where none was
+  checkpoint_there : (n : Need) → need_in fed ≡ n → (admits_checkpoint written d fed n && nat_eq (length (checkpoint_text n) + seal_size written) size) ≡ true → IsCheckpoint written d (take count bytes) n
+  checkpoint_there n is e =
+      let text : List ℕ = checkpoint_text n in
+      let sealing : Bool = is_sealed written (first_seal written d.mark) text fed in
+      let both = and_parts (admits_checkpoint written d fed n) (nat_eq (length text + seal_size written) size) e in
+      let h1 = and_parts _ (nat_le (compacted_bytes written n + draw_size written * due (begun n)) d.limit) both.0 in
+      let h2 = and_parts (starts_with nat_eq fed text && sealing) (is_sound d n) h1.0 in
+      let h3 = and_parts (starts_with nat_eq fed text) sealing h2.0 in
+      let same : text ≡ take (length text) fed = same_text text (take (length text) fed) (sym h3.0) in
+      let whole : length text + seal_size written ≡ size = eqb-true (length text + seal_size written) size both.1 in
+      let at : count ≡ length text = omega (arith, whole) in
+      let begins : fed ≡ text ++ drop (length text) fed = sym (take-append-drop (length text) fed) ∙ ap (λ (l : List ℕ). l ++ drop (length text) fed) (sym same) in
+      let room = leb-true (compacted_bytes written n + draw_size written * due (begun n)) d.limit h1.1 in
+      let fits = fits-sound written d n h2.1 (omega (arith, limit, room)) in
+      record {
+        text = sym front ∙ ap (λ (k : ℕ). take k fed) at ∙ sym same;
+        sound = h2.1;
+        free = sym (need_in-text n (drop (length text) fed) fits) ∙ ap need_in (sym begins) ∙ is;
+        room = room;
+      }
+
+  pub none_begins : ((n : Need) → IsCheckpoint written d (take count bytes) n → ⊥) → begun_taken d j fed ≡ stopped (Breaks 40)
+  none_begins none =
+      let n : Need = need_in fed in
+      ap (λ (p : Piece). by_piece 40 p (λ k b. begin_with written d j.seal k fed n)) piece
+      ∙ refused (admits_checkpoint written d fed n && nat_eq (length (checkpoint_text n) + seal_size written) size) refl
+    where
+      refused : (b : Bool) → (admits_checkpoint written d fed (need_in fed) && nat_eq (length (checkpoint_text (need_in fed)) + seal_size written) size) ≡ b
+          → cond b (behind_it d fed (seal written j.seal (checkpoint_text (need_in fed))) (compacted_bytes written (need_in fed) - 1) size (need_in fed)) (stopped (Breaks 40)) ≡ stopped (Breaks 40)
+      refused false e = refl
+      refused true e = absurd (none (need_in fed) (checkpoint_there (need_in fed) refl e))

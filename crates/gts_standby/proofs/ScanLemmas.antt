@@ -1,0 +1,204 @@
+-- How long the checkpoint at the front of a feed is, by the bytes that were read ahead.
+use Rattle.std.proofs.Common.{◌≡◌, ◌⊎◌, ⊎_elim, ℕ, zero, suc, ◌+◌, ◌-◌, ◌<◌, ◌≤◌, Bool, true, false, cond, List, [], ◌∷◌, ◌++◌, length, take, drop, Result, Err, refl, sym, ap, subst, ◌∙◌, arith, length-append}
+use Rattle.std.specs.Prelude.{nat_lt, nat_eq}
+use Rattle.std.specs.List.{starts_with}
+use Rattle.std.specs.Cmp.Lexicographic.{pointwise}
+use Rattle.std.proofs.lemmas.Bool.Decides.{nat_tests}
+use Rattle.std.proofs.lemmas.List.{length-take}
+use Rattle.gts_record.specs.declared.version.Version.{Version}
+use Rattle.gts_record.specs.Format.{seal, seal_size, is_sealed}
+use Rattle.gts_record.proofs.LawLemmas.{length-seal}
+use Rattle.gts_standby.specs.declared.end.FollowEnd.{FollowEnd}
+use Rattle.gts_standby.specs.declared.end.FollowEnd.TheVariants.{Done, Open, Feed, Diverged, SourceFault, DiskFault, NoMemory}
+use Rattle.gts_standby.specs.Ahead.{InFeed}
+use Rattle.gts_standby.specs.Taking.{Taken, Ends, Breaks, Piece, Cut, Broken, Sealed, by_piece, Reached, Short, Bad, Behind, or_else, reach, and_then, behind_all, behind_checkpoint, checkpoint_piece}
+use Rattle.gts_standby.specs.Reading.{HasRead, IsReadEnd, IsFedEnd, Reaches, StopsAt, StopsAs}
+use Rattle.gts_standby.proofs.HeaderLemmas.{no_more}
+
+-- ---- bytes of a front
+
+drop_front : (k : ℕ) (xs ys : List ℕ) → k ≤ length xs → drop k (xs ++ ys) ≡ drop k xs ++ ys
+drop_front zero xs ys low = refl
+drop_front (suc k) [] ys low = absurd (omega (arith, low))
+drop_front (suc k) (x ∷ xs) ys low = drop_front k xs ys (omega (arith, low))
+
+take_front : (k : ℕ) (xs ys : List ℕ) → k ≤ length xs → take k (xs ++ ys) ≡ take k xs
+take_front zero xs ys low = refl
+take_front (suc k) [] ys low = absurd (omega (arith, low))
+take_front (suc k) (x ∷ xs) ys low = ap (λ (l : List ℕ). x ∷ l) (take_front k xs ys (omega (arith, low)))
+
+length_dropped : (k : ℕ) (xs : List ℕ) → k ≤ length xs → length (drop k xs) + k ≡ length xs
+length_dropped zero xs low = omega arith
+length_dropped (suc k) [] low = absurd (omega (arith, low))
+length_dropped (suc k) (x ∷ xs) low = omega (arith, length_dropped k xs (omega (arith, low)))
+
+filled_by : List ℕ → List ℕ → List ℕ
+filled_by text found = found ++ drop (length found) text
+
+-- the bytes at a place are those of the feed
+pub or_else_read : (text fed left : List ℕ) (ahead : InFeed) (at : ℕ) → HasRead fed ahead left → (ahead.is_all ≡ true) ⊎ (at + length text ≤ length ahead.bytes) → or_else text ahead.bytes at ≡ or_else text fed at
+or_else_read text fed left ahead at read enough = ⊎_elim
+    (λ (all : ahead.is_all ≡ true). ap (λ (l : List ℕ). or_else text l at) (sym (no_more fed left ahead read all)))
+    (λ (long : at + length text ≤ length ahead.bytes).
+    ap (λ (found : List ℕ). found ++ drop (length found) text)
+    (sym (take_front (length text) (drop at ahead.bytes) left (omega (arith, long, length_dropped at ahead.bytes (omega (arith, long)))))
+    ∙ ap (take (length text)) (sym (drop_front at ahead.bytes left (omega (arith, long))) ∙ sym (ap (drop at) read.is)))) enough
+
+-- ---- a place is reached
+
+by_tests : ℕ → Bool → Bool → Reached
+by_tests behind far short = cond far Bad (cond short Short (Behind behind))
+
+pub reach_bad : (limit : ℕ) (bytes : List ℕ) (at size : ℕ) → limit < at + size → reach limit bytes at size ≡ Bad
+reach_bad limit bytes at size far = ap (λ (b : Bool). cond b Bad (cond (nat_lt (length bytes) (at + size)) Short (Behind (at + size)))) (is_far limit (at + size) far)
+  where
+    is_far : (m n : ℕ) → m < n → nat_lt m n ≡ true
+    is_far m n lt = grind (arith, nat_tests)
+
+pub reach_short : (limit : ℕ) (bytes : List ℕ) (at size : ℕ) → at + size ≤ limit → length bytes < at + size → reach limit bytes at size ≡ Short
+reach_short limit bytes at size low few =
+    ap (λ (b : Bool). cond b Bad (cond (nat_lt (length bytes) (at + size)) Short (Behind (at + size)))) (not_far limit (at + size) low)
+    ∙ ap (λ (b : Bool). cond b Short (Behind (at + size))) (is_far (length bytes) (at + size) few)
+  where
+    is_far : (m n : ℕ) → m < n → nat_lt m n ≡ true
+    is_far m n lt = grind (arith, nat_tests)
+
+    not_far : (m n : ℕ) → n ≤ m → nat_lt m n ≡ false
+    not_far m n le = grind (arith, nat_tests)
+
+pub reach_on : (limit : ℕ) (bytes : List ℕ) (at size : ℕ) → at + size ≤ limit → at + size ≤ length bytes → reach limit bytes at size ≡ Behind (at + size)
+reach_on limit bytes at size low there =
+    ap (λ (b : Bool). cond b Bad (cond (nat_lt (length bytes) (at + size)) Short (Behind (at + size)))) (not_far limit (at + size) low)
+    ∙ ap (λ (b : Bool). cond b Short (Behind (at + size))) (not_far (length bytes) (at + size) there)
+  where
+    not_far : (m n : ℕ) → n ≤ m → nat_lt m n ≡ false
+    not_far m n le = grind (arith, nat_tests)
+
+-- an end by what was read is one whatever is found
+pub read_end : (answer : FollowEnd) → IsReadEnd answer → (reached : Reached) (fed : List ℕ) (ahead : InFeed) (left : List ℕ) → Reaches (Err answer) reached fed ahead left
+read_end Done kind reached fed ahead left = absurd kind
+read_end (Feed at) kind reached fed ahead left = absurd kind
+read_end (Open fault) kind reached fed ahead left = absurd kind
+read_end (Diverged index own other) kind reached fed ahead left = absurd kind
+read_end SourceFault kind reached fed ahead left = tt
+read_end DiskFault kind reached fed ahead left = absurd kind
+read_end NoMemory kind reached fed ahead left = tt
+
+-- an end before something else is the end of both
+pub end_first : (answer : FollowEnd) (reached : Reached) (next : ℕ → Reached) (fed : List ℕ) (ahead : InFeed) (left : List ℕ) → Reaches (Err answer) reached fed ahead left → Reaches (Err answer) (and_then reached next) fed ahead left
+end_first Done reached next fed ahead left is = (ap (λ (r : Reached). and_then r next) is.0, is.1)
+end_first (Feed at) reached next fed ahead left is = (ap (λ (r : Reached). and_then r next) is.0, is.1)
+end_first (Open fault) reached next fed ahead left is = is
+end_first (Diverged index own other) reached next fed ahead left is = is
+end_first SourceFault reached next fed ahead left is = is
+end_first DiskFault reached next fed ahead left is = is
+end_first NoMemory reached next fed ahead left is = is
+
+-- ---- one behind the other
+
+pub all_on : (one : ℕ → Reached) (left at behind : ℕ) → 1 ≤ left → one at ≡ Behind behind → behind_all one left at ≡ behind_all one (left - 1) behind
+all_on one left at behind some is =
+    ap (λ (k : ℕ). behind_all one k at) (let e : left ≡ suc (left - 1) = omega (arith, some) in e)
+    ∙ ap (λ (r : Reached). and_then r (behind_all one (left - 1))) is
+
+pub all_end : (answer : FollowEnd) (one : ℕ → Reached) (left at : ℕ) (fed : List ℕ) (ahead : InFeed) (unread : List ℕ) → 1 ≤ left → Reaches (Err answer) (one at) fed ahead unread
+    → Reaches (Err answer) (behind_all one left at) fed ahead unread
+all_end answer one left at fed ahead unread some is =
+    subst (λ (k : ℕ). Reaches (Err answer) (behind_all one k at) fed ahead unread) (let e : suc (left - 1) ≡ left = omega (arith, some) in e)
+    (end_first answer (one at) (behind_all one (left - 1)) fed ahead unread is)
+
+pub all_done : (one : ℕ → Reached) (left at : ℕ) → left ≡ 0 → behind_all one left at ≡ Behind at
+all_done one left at none = ap (λ (k : ℕ). behind_all one k at) none
+
+-- an equal place is reached as well
+pub reaches_same : (answer : Result ℕ FollowEnd) (one other : Reached) (fed : List ℕ) (ahead : InFeed) (unread : List ℕ) → other ≡ one → Reaches answer one fed ahead unread → Reaches answer other fed ahead unread
+reaches_same answer one other fed ahead unread same is = subst (λ (r : Reached). Reaches answer r fed ahead unread) (sym same) is
+
+-- ---- what was read is enough
+
+-- a place that was reached stands in the feed
+pub on_there : (limit at size behind : ℕ) (fed left : List ℕ) (ahead : InFeed) → HasRead fed ahead left → behind ≡ at + size → behind ≤ limit → behind ≤ length ahead.bytes → reach limit fed at size ≡ Behind behind
+on_there limit at size behind fed left ahead read is low there =
+    reach_on limit fed at size (omega (arith, is, low)) (omega (arith, is, there, ap (λ (l : List ℕ). length l) read.is, length-append ahead.bytes left))
+    ∙ ap Behind (sym is)
+
+-- one that wasn't is short
+pub short_there : (limit at size behind : ℕ) (fed left : List ℕ) (ahead : InFeed) → HasRead fed ahead left → (ahead.is_all ≡ true) ⊎ (behind ≤ length ahead.bytes) → behind ≡ at + size → behind ≤ limit
+    → length ahead.bytes < behind → (reach limit fed at size ≡ Short) × (left ≡ [])
+short_there limit at size behind fed left ahead read enough is low few = ⊎_elim
+    (λ (all : ahead.is_all ≡ true). (reach_short limit fed at size (omega (arith, is, low)) (omega (arith, is, few, ap (λ (l : List ℕ). length l) (no_more fed left ahead read all))), read.all all))
+    (λ (long : behind ≤ length ahead.bytes). absurd (omega (arith, long, few))) enough
+
+pub far_there : (limit at size behind : ℕ) (fed : List ℕ) → behind ≡ at + size → limit < behind → reach limit fed at size ≡ Bad
+far_there limit at size behind fed is far = reach_bad limit fed at size (omega (arith, is, far))
+
+-- ---- the checkpoint with its seal
+
+abbrev checkpoint_by : Version → List ℕ → List ℕ → Reached → Piece
+checkpoint_by v before bytes reached = elim reached as (λ _. Piece) [
+  | Short ↦ Cut
+  | Bad ↦ Broken
+  | Behind size ↦
+      cond (nat_lt (length bytes) (size + seal_size v)) Cut
+      (cond (is_sealed v before (take size bytes) bytes) (Sealed (size + seal_size v) (seal v before (take size bytes))) Broken)
+]
+
+-- it isn't reached
+pub scan_stops : (answer : FollowEnd) → IsFedEnd answer → (v : Version) (limit : ℕ) (before fed : List ℕ) (ahead : InFeed) (left : List ℕ) → Reaches (Err answer) (behind_checkpoint limit fed) fed ahead left
+    → (next : ℕ → List ℕ → Taken) → StopsAs answer (by_piece 40 (checkpoint_piece v limit before fed) next) left
+scan_stops Done kind v limit before fed ahead left is next = record { end = Ends; is = ap (λ (r : Reached). by_piece 40 (checkpoint_by v before fed r) next) is.0; ends = tt; all = is.1 }
+scan_stops (Feed at) kind v limit before fed ahead left is next = record { end = Breaks 40; is = ap (λ (r : Reached). by_piece 40 (checkpoint_by v before fed r) next) is.0; ends = is.1; all = tt }
+scan_stops (Open fault) kind v limit before fed ahead left is next = absurd kind
+scan_stops (Diverged index own other) kind v limit before fed ahead left is next = absurd kind
+scan_stops SourceFault kind v limit before fed ahead left is next = tt
+scan_stops DiskFault kind v limit before fed ahead left is next = tt
+scan_stops NoMemory kind v limit before fed ahead left is next = tt
+
+-- its seal is cut
+pub seal_cut : (v : Version) (limit size : ℕ) (before fed left : List ℕ) (ahead : InFeed) → behind_checkpoint limit fed ≡ Behind size → HasRead fed ahead left → (ahead.is_all ≡ true) ⊎ (size + seal_size v ≤ length ahead.bytes)
+    → length ahead.bytes < size + seal_size v → (next : ℕ → List ℕ → Taken) → StopsAt Done (by_piece 40 (checkpoint_piece v limit before fed) next) left
+seal_cut v limit size before fed left ahead reached read enough few next = ⊎_elim
+    (λ (all : ahead.is_all ≡ true).
+    let short : length fed < size + seal_size v = omega (arith, few, ap (λ (l : List ℕ). length l) (no_more fed left ahead read all)) in
+    record {
+      end = Ends;
+      is = ap (λ (r : Reached). by_piece 40 (checkpoint_by v before fed r) next) reached
+          ∙ ap (λ (b : Bool). by_piece 40 (cond b Cut (cond (is_sealed v before (take size fed) fed) (Sealed (size + seal_size v) (seal v before (take size fed))) Broken)) next) (is_low (length fed) (size + seal_size v) short);
+      ends = tt;
+      all = read.all all;
+    })
+    (λ (long : size + seal_size v ≤ length ahead.bytes). absurd (omega (arith, long, few))) enough
+  where
+    is_low : (m n : ℕ) → m < n → nat_lt m n ≡ true
+    is_low m n lt = grind (arith, nat_tests)
+
+-- what stands behind the text of a front is what stands behind that of the feed
+pub sealed_same : (v : Version) (size : ℕ) (before fed left : List ℕ) (ahead : InFeed) → HasRead fed ahead left → size + seal_size v ≤ length ahead.bytes
+    → is_sealed v before (take size fed) fed ≡ starts_with nat_eq (drop size ahead.bytes) (seal v before (take size ahead.bytes))
+sealed_same v size before fed left ahead read long =
+    let text : take size fed ≡ take size ahead.bytes = ap (take size) read.is ∙ take_front size ahead.bytes left (omega (arith, long)) in
+    let count : length (take size ahead.bytes) ≡ size = omega (arith, length-take size ahead.bytes, long) in
+    let last : List ℕ = seal v before (take size ahead.bytes) in
+    let rest : drop size fed ≡ drop size ahead.bytes ++ left = ap (drop size) read.is ∙ drop_front size ahead.bytes left (omega (arith, long)) in
+    ap (λ (l : List ℕ). starts_with nat_eq (drop (length l) fed) (seal v before l)) text
+    ∙ ap (λ (k : ℕ). starts_with nat_eq (drop k fed) last) count
+    ∙ ap (λ (l : List ℕ). starts_with nat_eq l last) rest
+    ∙ starts_front (drop size ahead.bytes) left last (omega (arith, length-seal v before (take size ahead.bytes), length_dropped size ahead.bytes (omega (arith, long)), long))
+  where
+    starts_front : (xs ys s : List ℕ) → length s ≤ length xs → starts_with nat_eq (xs ++ ys) s ≡ starts_with nat_eq xs s
+    starts_front xs ys s low = ap (λ (l : List ℕ). pointwise nat_eq s l) (take_front (length s) xs ys low)
+
+-- with another seal it is broken, with its own it is a piece
+pub sealed_piece : (v : Version) (limit size : ℕ) (before fed left : List ℕ) (ahead : InFeed) (b : Bool) → behind_checkpoint limit fed ≡ Behind size → HasRead fed ahead left → size + seal_size v ≤ length ahead.bytes
+    → starts_with nat_eq (drop size ahead.bytes) (seal v before (take size ahead.bytes)) ≡ b
+    → checkpoint_piece v limit before fed ≡ cond b (Sealed (size + seal_size v) (seal v before (take size ahead.bytes))) Broken
+sealed_piece v limit size before fed left ahead b reached read long is =
+    let text : take size fed ≡ take size ahead.bytes = ap (take size) read.is ∙ take_front size ahead.bytes left (omega (arith, long)) in
+    let whole : size + seal_size v ≤ length fed = omega (arith, long, ap (λ (l : List ℕ). length l) read.is, length-append ahead.bytes left) in
+    ap (checkpoint_by v before fed) reached
+    ∙ ap (λ (c : Bool). cond c Cut (cond (is_sealed v before (take size fed) fed) (Sealed (size + seal_size v) (seal v before (take size fed))) Broken)) (not_low (length fed) (size + seal_size v) whole)
+    ∙ ap (λ (c : Bool). cond c (Sealed (size + seal_size v) (seal v before (take size fed))) Broken) (sealed_same v size before fed left ahead read long ∙ is)
+    ∙ ap (λ (l : List ℕ). cond b (Sealed (size + seal_size v) (seal v before l)) Broken) text
+  where
+    not_low : (m n : ℕ) → n ≤ m → nat_lt m n ≡ false
+    not_low m n le = grind (arith, nat_tests)

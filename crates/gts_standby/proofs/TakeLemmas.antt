@@ -1,0 +1,535 @@
+-- A feed is taken into a journal that opens.
+use Rattle.std.proofs.Common.{◌≡◌, ◌⊎◌, inl, inr, ℕ, zero, suc, ◌+◌, ◌-◌, ◌<◌, ◌≤◌, Bool, true, false, cond, List, [], ◌∷◌, ◌++◌, length, drop, Option, Some, None, Result, Ok, Err, refl, sym, ap, subst, ◌∙◌, arith, length-drop}
+use Rattle.std.proofs.lemmas.Bool.{cases_lt}
+use Rattle.std.proofs.lemmas.List.{append-nil}
+use Rattle.gts_traits.specs.{Call, Did, Broken, Syncs, Files, Outside, seen, said_by, SaidSince, IsSynced, EachSince}
+use Rattle.gts_traits.proofs.LawLemmas.{weaker, joined, sync_syncs}
+use Rattle.gts_directory.specs.Directory.{Directory}
+use Rattle.gts_event.specs.State.{State, empty}
+use Rattle.gts_event.specs.History.{restarted}
+use Rattle.gts_event.specs.Need.{Need, need, begun}
+use Rattle.gts_record.specs.declared.version.Version.{Version}
+use Rattle.gts_record.specs.declared.fault.OpenFault.{OpenFault}
+use Rattle.gts_record.specs.declared.fault.OpenFault.TheVariants as opening
+use Rattle.gts_record.specs.declared.fault.OpenFault.TheVariants.{Damaged}
+use Rattle.gts_record.specs.Record.{Record}
+use Rattle.gts_record.specs.Format.{magic, seal, first_seal, written}
+use Rattle.gts_opening.specs.Journal.{Read, opened_of, selected, opens, files_read, file_opens, records_at, after_records, need_in, admits_checkpoint, checkpoint_text, compacted_bytes}
+use Rattle.gts_core.specs.Core.{Core}
+use Rattle.gts_journal.specs.{InHand, StandsOn, StandsFor, OnlySyncs, OpensTo, OpensAsBefore, entry_at, file_of, selected_bytes, header_fault, is_checkpoint}
+use Rattle.gts_journal.proofs.LawLemmas.{images_open, opening_opens, open_selected, opens_behind, faulty_header, reads_end_there, reads_fault}
+use Rattle.gts_recovery.specs.{IsOpened}
+use Rattle.gts_recovery.specs.Opened.{IsAnswer}
+use Rattle.gts_standby.specs.declared.end.FollowEnd.{FollowEnd}
+use Rattle.gts_standby.specs.declared.end.FollowEnd.TheVariants.{Done, Open, Feed, Diverged, SourceFault, DiskFault, NoMemory}
+use Rattle.gts_standby.specs.Ahead.{InFeed}
+use Rattle.gts_standby.specs.Feed.{feed_at}
+use Rattle.gts_standby.specs.Taking.{Taken, End, Ends, Breaks, Parts, Piece, Sealed, by_piece, checkpoint_piece, is_checkpoint_fed, seals_at, seals_behind, add_all, begin_with, compare_first, take_records, by_header, taken}
+use Rattle.gts_standby.specs.Following.{open_end, own_seals, comes_to, EndsAs, Answers, IsEnd, start_of, state_after, OpensWithin, AsBefore, WithFront, EachOpens}
+use Rattle.gts_standby.specs.Reading.{HasRead, unread, IsReadEnd, ReadsAll, StopsAt, StopsAs, TakesHeader}
+use Rattle.gts_standby.specs.Adding.{HoldsAt, HasAdded, IsAddEnd}
+use Rattle.gts_standby.specs.Whole.{HasTaken, IsTakenEnd}
+use Rattle.gts_standby.specs.Beginning.{OpensOneOf, HasBegun, EndsBegin, BeforeIt, WithinIt, begun_taken}
+use Rattle.gts_standby.specs.Comparing.{Leads, Compares}
+use Rattle.gts_standby.proofs.FeedLemmas.{leads_on, none_left, left_split}
+use Rattle.gts_standby.proofs.AddLemmas.{holds_of, opened_by, opened_now, begun_there}
+
+-- ---- at most a sync was tried
+
+pub opens_kept : (d : Directory) (s : State) (old new : List Call) → OnlySyncs old new → OpensTo d s (seen old) → OpensTo d s (seen new)
+opens_kept d s old new (inl is) there = ap (λ (l : List Call). opens d (seen l)) is ∙ there
+opens_kept d s old new (inr (inl same)) there = ap (λ (l : List Call). opens d (seen l)) same ∙ there
+opens_kept d s old new (inr (inr left)) there = ap (λ (l : List Call). opens d (seen l)) left.2 ∙ there
+
+pub said_kept : (old new : List Call) → OnlySyncs old new → said_by new ≡ said_by old
+said_kept old new (inl is) = ap said_by is
+said_kept old new (inr (inl same)) = ap said_by same
+said_kept old new (inr (inr left)) = ap said_by left.2
+
+synced_stands : (d : Directory) (s : State) (old : List Call) (j : InHand) → StandsFor d s old j → StandsFor d s (Did Syncs ∷ old) j
+synced_stands d s old j f = record {
+  limit = f.limit;
+  current = f.current;
+  stands = record {
+    selected_is = f.stands.selected_is;
+    selector_synced = sync_syncs old 2;
+    file_synced = sync_syncs old j.file;
+    ahead_is = f.stands.ahead_is;
+    all_is = f.stands.all_is;
+    end_is = f.stands.end_is;
+  };
+  ended = f.ended;
+  opens_to = f.opens_to;
+}
+
+broken_synced : (old : List Call) (left : List ℕ) (k : ℕ) → IsSynced old k → IsSynced (Broken Syncs left ∷ old) k
+broken_synced old left k synced = record { same = synced.same; untouched = λ p. synced.untouched p }
+
+broken_stands : (d : Directory) (s : State) (old : List Call) (j : InHand) (left : List ℕ) → StandsFor d s old j → StandsFor d s (Broken Syncs left ∷ old) j
+broken_stands d s old j left f = record {
+  limit = f.limit;
+  current = f.current;
+  stands = record {
+    selected_is = f.stands.selected_is;
+    selector_synced = broken_synced old left 2 f.stands.selector_synced;
+    file_synced = broken_synced old left j.file f.stands.file_synced;
+    ahead_is = f.stands.ahead_is;
+    all_is = f.stands.all_is;
+    end_is = f.stands.end_is;
+  };
+  ended = f.ended;
+  opens_to = f.opens_to;
+}
+
+stands_kept : (d : Directory) (s : State) (old new : List Call) (j : InHand) → OnlySyncs old new → StandsFor d s old j → StandsFor d s new j
+stands_kept d s old new j (inl is) f = subst (λ (l : List Call). StandsFor d s l j) (sym is) (synced_stands d s old j f)
+stands_kept d s old new j (inr (inl same)) f = subst (λ (l : List Call). StandsFor d s l j) (sym same) f
+stands_kept d s old new j (inr (inr left)) f = subst (λ (l : List Call). StandsFor d s l j) (sym left.2) (broken_stands d s old j left.0 f)
+
+pub holds_kept : (tells : Type 0) (d : Directory) (s : State) (old new : List Call) (core : Core) (j : InHand) → (tells → OnlySyncs old new) → HoldsAt tells d s old core j → HoldsAt tells d s new core j
+holds_kept tells d s old new core j syncs h = record { kept = h.kept; current = h.current; ended = h.ended; stands = λ tell. stands_kept d s old new j (syncs tell) (h.stands tell) }
+
+pub opened_kept : (tells : Type 0) (d : Directory) (old new : List Call) (core : Core) (j : InHand) → (tells → OnlySyncs old new) → IsOpened tells d old core j → IsOpened tells d new core j
+opened_kept tells d old new core j syncs o = opened_by tells d o.state new core j (holds_kept tells d o.state old new core j syncs (holds_of tells d old core j o))
+
+kept_moments : (d : Directory) (s : State) (taken : Taken) (old new : List Call) (j : InHand) → StandsFor d s old j → OnlySyncs old new → EachSince old new (OpensWithin d s taken)
+kept_moments d s taken old new j f syncs =
+    weaker (OpensAsBefore d s) (OpensWithin d s taken) old new (λ files outside same. AsBefore same.0 same.1)
+    (opening_opens d s old new (images_open d s old j f) (opened_now d s old j f) syncs)
+
+-- ---- the feed ends, and nothing is added
+
+no_open : (fault : OpenFault) (end : End) → EndsAs (Open fault) end → ⊥
+no_open fault Ends is = is
+no_open fault (Breaks at) is = is
+no_open fault (Parts index own fed) is = is
+
+module _ (d : Directory) (s : State) (old new : List Call) (j : InHand) (taken : Taken) (left : List ℕ) (f : StandsFor d s old j) (syncs : OnlySyncs old new) where
+  quiet : (answer : FollowEnd) → IsTakenEnd answer → (IsEnd answer → ⊥) → HasTaken answer d s taken old new left
+  quiet answer kind fault = record {
+    kind = kind;
+    added = record { ends = λ e. absurd (fault e); opened = λ e. absurd (fault e); moments = kept_moments d s taken old new j f syncs };
+  }
+
+  ended : (answer : FollowEnd) → IsTakenEnd answer → StopsAt answer taken left → HasTaken answer d s taken old new left
+  ended answer kind stops = record {
+    kind = kind;
+    added = record {
+      ends = λ _. (subst (λ (t : Taken). EndsAs answer t.end) (sym stops.is) stops.ends, stops.all);
+      opened = λ _. subst (λ (t : Taken). OpensTo d (state_after d s t) (seen new)) (sym stops.is) (opens_kept d s old new syncs (opened_now d s old j f));
+      moments = kept_moments d s taken old new j f syncs;
+    };
+  }
+
+  pub stops_taken : (answer : FollowEnd) → StopsAs answer taken left → HasTaken answer d s taken old new left
+  stops_taken Done stops = ended Done tt stops
+  stops_taken (Feed at) stops = ended (Feed at) tt stops
+  stops_taken (Diverged index own fed) stops = ended (Diverged index own fed) tt stops
+  stops_taken (Open fault) stops = absurd (no_open fault stops.end stops.ends)
+  stops_taken SourceFault stops = quiet SourceFault tt (λ e. e)
+  stops_taken DiskFault stops = quiet DiskFault tt (λ e. e)
+  stops_taken NoMemory stops = quiet NoMemory tt (λ e. e)
+
+  pub unread_taken : (answer : FollowEnd) → IsReadEnd answer → HasTaken answer d s taken old new left
+  unread_taken SourceFault kind = quiet SourceFault tt (λ e. e)
+  unread_taken NoMemory kind = quiet NoMemory tt (λ e. e)
+  unread_taken Done kind = absurd kind
+  unread_taken (Feed at) kind = absurd kind
+  unread_taken (Diverged index own fed) kind = absurd kind
+  unread_taken (Open fault) kind = absurd kind
+  unread_taken DiskFault kind = absurd kind
+
+pub taken_end : (answer : FollowEnd) → IsAddEnd answer → IsTakenEnd answer
+taken_end Done kind = tt
+taken_end (Feed at) kind = tt
+taken_end (Diverged index own fed) kind = absurd kind
+taken_end (Open fault) kind = absurd kind
+taken_end SourceFault kind = tt
+taken_end DiskFault kind = tt
+taken_end NoMemory kind = tt
+
+-- ---- a journal that begins with a checkpoint
+
+begun_moments : (d : Directory) (s : State) (old mid : List Call) (n : Need) (taken : Taken) → taken.begins ≡ Some n → EachSince old mid (OpensOneOf d s (begun n)) → EachSince old mid (OpensWithin d s taken)
+begun_moments d s old mid n taken begins each = weaker (OpensOneOf d s (begun n)) (OpensWithin d s taken) old mid one each
+  where
+    one : (files : Files) (outside : Outside) → OpensOneOf d s (begun n) files outside → OpensWithin d s taken files outside
+    one files outside (quiet, inl there) = AsBefore quiet there
+    one files outside (quiet, inr there) =
+        let P : Option Need → Type 0 = λ o. OpensTo d (after_records d (start_of s o) []) files in WithFront [] taken.records refl quiet (subst P (sym begins) there)
+
+abbrev beginning : Need → Taken → Taken
+beginning n more = record more { begins = Some n }
+
+begun_added : (answer : FollowEnd) (d : Directory) (s : State) (n : Need) (more : Taken) (old mid new : List Call) (left : List ℕ) → more.begins ≡ None → said_by mid ≡ said_by old
+    → EachSince old mid (OpensOneOf d s (begun n)) → HasAdded answer d (begun n) more mid new left → HasAdded answer d s (beginning n more) old new left
+begun_added answer d s n more old mid new left none silent each added = record {
+  ends = added.ends;
+  opened = λ e. (let P : Option Need → Type 0 = λ o. OpensTo d (after_records d (start_of (begun n) o) more.records) (seen new) in subst P none (added.opened e));
+  moments =
+      joined (OpensWithin d s (beginning n more)) (OpensWithin d (begun n) more) old mid new [] (begun_moments d s old mid n (beginning n more) refl each)
+      (silent ∙ sym (append-nil (said_by old))) added.moments later_so;
+}
+  where
+    later_so : (files : Files) (later : Outside) → OpensWithin d (begun n) more files later → OpensWithin d s (beginning n more) files ([] ++ later)
+    later_so files later (AsBefore quiet there) = WithFront [] more.records refl quiet there
+    later_so files later (WithFront front back is quiet there) =
+        let P : Option Need → Type 0 = λ o. OpensTo d (after_records d (start_of (begun n) o) front) files in WithFront front back is quiet (subst P none there)
+
+abbrev taken_first : Directory → State → InHand → List ℕ → Bool → Taken
+taken_first d s j fed b = cond b (begun_taken d j fed) (add_all written d (length fed) j.seal s j.gate 40 fed)
+
+-- no checkpoint stands at the front
+pub plain_taken : (answer : FollowEnd) (d : Directory) (s : State) (j : InHand) (fed : List ℕ) (old new : List Call) (left : List ℕ) → false ≡ is_checkpoint_fed fed → IsAddEnd answer
+    → HasAdded answer d s (add_all written d (length fed) j.seal s j.gate 40 fed) old new left → HasTaken answer d s (take_records written d s j.gate j.seal [] fed) old new left
+plain_taken answer d s j fed old new left is kind added = record {
+  kind = taken_end answer kind;
+  added = subst (λ (t : Taken). HasAdded answer d s t old new left) (ap (taken_first d s j fed) is) added;
+}
+
+-- the feed ends at its checkpoint
+pub ends_begun : (answer : FollowEnd) (d : Directory) (s : State) (j : InHand) (fed : List ℕ) (old new : List Call) (left : List ℕ) → true ≡ is_checkpoint_fed fed → StandsFor d s old j → IsAddEnd answer
+    → EndsBegin answer d s fed old j new left → HasTaken answer d s (take_records written d s j.gate j.seal [] fed) old new left
+ends_begun answer d s j fed old new left is f kind ends = subst (λ (t : Taken). HasTaken answer d s t old new left) (ap (taken_first d s j fed) is) (by_end ends)
+  where
+    by_end : EndsBegin answer d s fed old j new left → HasTaken answer d s (begun_taken d j fed) old new left
+    by_end (BeforeIt same stops) = stops_taken d s old new j (begun_taken d j fed) left f (inr (inl same)) answer stops
+    by_end (WithinIt n begins each fault) = record {
+      kind = taken_end answer kind;
+      added = record { ends = λ e. absurd (fault e); opened = λ e. absurd (fault e); moments = begun_moments d s old new n (begun_taken d j fed) begins each };
+    }
+
+abbrev by_found : Directory → InHand → List ℕ → Piece → Taken
+by_found d j fed piece = by_piece 40 piece (λ size other. begin_with written d j.seal size fed (need_in fed))
+
+-- the checkpoint was taken, and records are added behind it
+module _ (tells : Type 0) (tell : tells) (d : Directory) (s : State) (fed : List ℕ) (old mid : List Call) (j : InHand) (at : ℕ) (core : Core) (next : InHand) (ahead : InFeed) (left : List ℕ)
+    (b : HasBegun tells d s fed old j at mid core next ahead left) where
+  abbrev behind_it : ℕ → Taken
+  behind_it place = add_all written d (length fed) next.seal (begun b.n) next.gate place (drop b.size fed)
+
+  pub enough_left : length (drop b.size fed) ≤ length fed
+  enough_left = omega (arith, length-drop b.size fed)
+
+  none_begins : (behind_it at).begins ≡ None
+  none_begins = (begun_there tells tell d (begun b.n) mid core next at ahead left (drop b.size fed) (length fed) b.holds b.read enough_left).none
+
+  comes_behind : true ≡ is_checkpoint_fed fed → take_records written d s j.gate j.seal [] fed ≡ beginning b.n (behind_it at)
+  comes_behind is =
+      sym (ap (taken_first d s j fed) is) ∙ ap (by_found d j fed) b.piece ∙ b.begins
+      ∙ ap (λ (k : ℕ). beginning b.n (behind_it k)) (sym b.place)
+
+  pub begun_on : (answer : FollowEnd) (new : List Call) (left_next : List ℕ) → true ≡ is_checkpoint_fed fed → IsAddEnd answer → HasAdded answer d (begun b.n) (behind_it at) mid new left_next
+      → HasTaken answer d s (take_records written d s j.gate j.seal [] fed) old new left_next
+  begun_on answer new left_next is kind added =
+      let has = begun_added answer d s b.n (behind_it at) old mid new left_next none_begins b.silent b.moments added in
+      record { kind = taken_end answer kind; added = subst (λ (t : Taken). HasAdded answer d s t old new left_next) (sym (comes_behind is)) has }
+
+-- ---- whether a journal has records
+
+leads_from : (v : Version) (d : Directory) (file : ℕ) (before : List ℕ) (gate : ℕ) (bytes : List ℕ) (n : ℕ) (state then : State) (end : ℕ) (last : List ℕ) → length bytes ≤ n + gate
+    → records_at v d n file before state gate (drop gate bytes) ≡ Ok (then, end + 1, last) → Leads v d file before gate bytes end (seals_at v n before (drop gate bytes))
+leads_from v d file before gate bytes n state then end last enough reads = record {
+  sent = feed_at v n before (drop gate bytes);
+  reaches = record { steps = n; enough = enough; state = state; then = then; last = last; opens = reads; left_is = refl };
+  n = n;
+  enough = enough;
+  left_is = refl;
+}
+
+module _ (v : Version) (d : Directory) (file : ℕ) (before : List ℕ) (gate : ℕ) (bytes : List ℕ) (n : ℕ) (state then : State) (end : ℕ) (last : List ℕ) (enough : length bytes ≤ n + gate)
+    (reads : records_at v d n file before state gate (drop gate bytes) ≡ Ok (then, end + 1, last)) (low : end ≤ gate) where
+  abbrev here : State × ℕ × List ℕ
+  here = (then, end + 1, last)
+
+  no_seals : seals_at v n before (drop gate bytes) ≡ []
+  no_seals =
+      none_left v d file before gate bytes end (seals_at v n before (drop gate bytes)) (leads_from v d file before gate bytes n state then end last enough reads) low
+
+  no_record : (r : Record) → entry_at v before file gate (drop gate bytes) ≡ Ok (Some r) → ⊥
+  no_record r is =
+      let on = leads_on v d file before gate bytes end (seals_at v n before (drop gate bytes)) r (leads_from v d file before gate bytes n state then end last enough reads) is in
+      let e = sym no_seals ∙ on.is in
+      absurd (cc e)
+
+  by_entry : (k : ℕ) (e : Result (Option Record) OpenFault) → entry_at v before file gate (drop gate bytes) ≡ e → records_at v d (suc k) file before state gate (drop gate bytes) ≡ Ok here
+      → here ≡ (state, gate + 1, before)
+  by_entry k (Err fault) is opened =
+      absurd (let one : Read = Err fault in let e : one ≡ Ok here = sym (reads_fault v d k file before state gate (drop gate bytes) fault is) ∙ opened in cc e)
+  by_entry k (Ok None) is opened =
+      let e : Ok (state, gate + 1, before) ≡ Ok here = sym (reads_end_there v d k file before state gate (drop gate bytes) is) ∙ opened in cc e
+  by_entry k (Ok (Some r)) is opened = absurd (no_record r is)
+
+  by_steps : (k : ℕ) → records_at v d k file before state gate (drop gate bytes) ≡ Ok here → here ≡ (state, gate + 1, before)
+  by_steps zero opened = absurd (cc opened)
+  by_steps (suc k) opened = by_entry k (entry_at v before file gate (drop gate bytes)) refl opened
+
+  at_its_end : here ≡ (state, gate + 1, before)
+  at_its_end = by_steps n reads
+
+sound_header : (v : Version) (d : Directory) (file : ℕ) (bytes : List ℕ) (x : State × ℕ × List ℕ) → file_opens v d file bytes ≡ Ok x → header_fault v d.mark file bytes ≡ None
+sound_header v d file bytes x opened = by_fault (header_fault v d.mark file bytes) refl
+  where
+    by_fault : (o : Option OpenFault) → header_fault v d.mark file bytes ≡ o → header_fault v d.mark file bytes ≡ None
+    by_fault None is = is
+    by_fault (Some fault) is = absurd (let one : Read = Err fault in let e : one ≡ Ok x = sym (faulty_header v d file bytes fault is) ∙ opened in cc e)
+
+abbrev by_admission : Directory → ℕ → List ℕ → Need → Bool → Read
+by_admission d file bytes n b = elim b as (λ _. Read) [
+  | false ↦ Err (Damaged file 41)
+  | true ↦
+      records_at written d (length bytes) file (seal written (first_seal written d.mark) (checkpoint_text n)) (begun n) (compacted_bytes written n - 1)
+      (drop (compacted_bytes written n - 1) bytes)
+]
+
+module _ (d : Directory) (s : State) (calls : List Call) (j : InHand) (f : StandsFor d s calls j) where
+  abbrev its_bytes : List ℕ
+  its_bytes = file_of calls j
+
+  abbrev first : List ℕ
+  first = first_seal written d.mark
+
+  abbrev its_need : Need
+  its_need = need_in (drop 41 its_bytes)
+
+  abbrev its_end : State × ℕ × List ℕ
+  its_end = (s, j.gate + 1, j.seal)
+
+  opens_there : file_opens written d j.file its_bytes ≡ Ok its_end
+  opens_there = sym (open_selected written d (seen calls) j.file f.stands.selected_is) ∙ ap (λ (v : Version). files_read v d (seen calls)) (sym f.current) ∙ f.opens_to
+
+  header : header_fault written d.mark j.file its_bytes ≡ None
+  header = sound_header written d j.file its_bytes its_end opens_there
+
+  plain_reads : is_checkpoint its_bytes ≡ false → records_at written d (length its_bytes) j.file first (empty d) 40 (drop 40 its_bytes) ≡ Ok its_end
+  plain_reads plain = sym (opens_behind written d j.file its_bytes false header plain) ∙ opens_there
+
+  packed_gate : is_checkpoint its_bytes ≡ true → (b : Bool) → admits_checkpoint written d (drop 41 its_bytes) its_need ≡ b → 40 < j.gate
+  packed_gate packed false bad =
+      absurd
+      (let one : Read = Err (Damaged j.file 41) in
+      let e : one ≡ Ok its_end = sym (ap (by_admission d j.file its_bytes its_need) bad) ∙ sym (opens_behind written d j.file its_bytes true header packed) ∙ opens_there in cc e)
+  packed_gate packed true ok =
+      let reads : by_admission d j.file its_bytes its_need true ≡ Ok its_end =
+      sym (ap (by_admission d j.file its_bytes its_need) ok) ∙ sym (opens_behind written d j.file its_bytes true header packed) ∙ opens_there in
+      by_low (cases_lt (compacted_bytes written its_need - 1) j.gate) reads
+    where
+      by_low : (compacted_bytes written its_need - 1 < j.gate) ⊎ (j.gate ≤ compacted_bytes written its_need - 1) → by_admission d j.file its_bytes its_need true ≡ Ok its_end → 40 < j.gate
+      by_low (inl far) reads = omega (arith, far)
+      by_low (inr low) reads =
+          let e = at_its_end written d j.file (seal written first (checkpoint_text its_need)) (compacted_bytes written its_need - 1) its_bytes (length its_bytes) (begun its_need) s j.gate j.seal (omega arith) reads low in
+          let at : j.gate + 1 ≡ compacted_bytes written its_need - 1 + 1 = ap (λ (x : State × ℕ × List ℕ). x.1) e in
+          omega (arith, at)
+
+  -- none where the journal ends at its first gate
+  pub nothing_own : j.gate ≤ 40 → own_seals d its_bytes ≡ []
+  nothing_own low = by_letter (is_checkpoint its_bytes) refl
+    where
+      by_letter : (b : Bool) → is_checkpoint its_bytes ≡ b → own_seals d its_bytes ≡ []
+      by_letter false plain =
+          ap (seals_behind written first its_bytes) plain
+          ∙ no_seals written d j.file first 40 its_bytes (length its_bytes) (empty d) s j.gate j.seal (omega arith) (plain_reads plain) low
+      by_letter true packed = absurd (let far = packed_gate packed (admits_checkpoint written d (drop 41 its_bytes) its_need) refl in omega (arith, far, low))
+
+  -- and its seal is that of the header
+  pub first_there : j.gate ≤ 40 → j.seal ≡ first
+  first_there low = by_letter (is_checkpoint its_bytes) refl
+    where
+      by_letter : (b : Bool) → is_checkpoint its_bytes ≡ b → j.seal ≡ first
+      by_letter false plain =
+          ap (λ (x : State × ℕ × List ℕ). x.2) (at_its_end written d j.file first 40 its_bytes (length its_bytes) (empty d) s j.gate j.seal (omega arith) (plain_reads plain) low)
+      by_letter true packed = absurd (let far = packed_gate packed (admits_checkpoint written d (drop 41 its_bytes) its_need) refl in omega (arith, far, low))
+
+  -- some where it ends behind it
+  pub some_own : 40 < j.gate → (own : List ℕ) × (rest : List (List ℕ)) × (own_seals d its_bytes ≡ own ∷ rest)
+  some_own low = by_letter (is_checkpoint its_bytes) refl
+    where
+      by_letter : (b : Bool) → is_checkpoint its_bytes ≡ b → (own : List ℕ) × (rest : List (List ℕ)) × (own_seals d its_bytes ≡ own ∷ rest)
+      by_letter false plain =
+          let all = leads_from written d j.file first 40 its_bytes (length its_bytes) (empty d) s j.gate j.seal (omega arith) (plain_reads plain) in
+          let split = left_split written d j.file first 40 its_bytes j.gate (seals_at written (length its_bytes) first (drop 40 its_bytes)) all low in
+          (split.0, split.1, ap (seals_behind written first its_bytes) plain ∙ split.2)
+      by_letter true packed =
+          let own : List ℕ = seal written first (checkpoint_text its_need) in
+          (own, seals_at written (length its_bytes) own (drop (compacted_bytes written its_need - 1) its_bytes), ap (seals_behind written first its_bytes) packed)
+
+-- ---- a journal with records
+
+abbrev behind_all : Directory → State → ℕ → List ℕ → ℕ → List ℕ → Taken
+behind_all d s gate last at left = add_all written d (length left) last s gate at left
+
+compared_taken : (d : Directory) (s : State) (gate : ℕ) (last fed own : List ℕ) (all rest : List (List ℕ)) → all ≡ own ∷ rest
+    → take_records written d s gate last all fed ≡ compare_first written d.limit (behind_all d s gate last) all (first_seal written d.mark) fed
+compared_taken d s gate last fed own all rest is =
+    ap (λ (l : List (List ℕ)). take_records written d s gate last l fed) is
+    ∙ sym (ap (λ (l : List (List ℕ)). compare_first written d.limit (behind_all d s gate last) l (first_seal written d.mark) fed) is)
+
+abbrev compared_by : Directory → List Call → InHand → List ℕ → (ℕ → List ℕ → Taken) → Taken
+compared_by d calls j fed behind = compare_first written d.limit behind (own_seals d (file_of calls j)) (first_seal written d.mark) fed
+
+module _ (d : Directory) (s : State) (old mid : List Call) (j : InHand) (fed : List ℕ) (f : StandsFor d s old j) (syncs : OnlySyncs old mid) (low : 40 < j.gate) where
+  abbrev comes : Taken
+  comes = take_records written d s j.gate j.seal (own_seals d (file_of old j)) fed
+
+  comes_so : comes ≡ compared_by d old j fed (behind_all d s j.gate j.seal)
+  comes_so = let split = some_own d s old j f low in compared_taken d s j.gate j.seal fed split.0 (own_seals d (file_of old j)) split.1 split.2
+
+  pub ends_compared : (answer : FollowEnd) (left : List ℕ) → ((behind : ℕ → List ℕ → Taken) → StopsAs answer (compared_by d old j fed behind) left) → HasTaken answer d s comes old mid left
+  ends_compared answer left stops =
+      stops_taken d s old mid j comes left f syncs answer (subst (λ (t : Taken). StopsAs answer t left) (sym comes_so) (stops (behind_all d s j.gate j.seal)))
+
+  pub goes_compared : (answer : FollowEnd) (new : List Call) (at : ℕ) (on left : List ℕ) → ((behind : ℕ → List ℕ → Taken) → compared_by d old j fed behind ≡ behind at on) → IsAddEnd answer
+      → HasAdded answer d s (behind_all d s j.gate j.seal at on) mid new left → HasTaken answer d s comes old new left
+  goes_compared answer new at on left same kind added = record {
+    kind = taken_end answer kind;
+    added = subst (λ (t : Taken). HasAdded answer d s t old new left) (sym (comes_so ∙ same (behind_all d s j.gate j.seal))) (record {
+      ends = added.ends;
+      opened = added.opened;
+      moments =
+          joined (OpensWithin d s (behind_all d s j.gate j.seal at on)) (OpensWithin d s (behind_all d s j.gate j.seal at on)) old mid new []
+          (kept_moments d s (behind_all d s j.gate j.seal at on) old mid j f syncs)
+          (said_kept old mid syncs ∙ sym (append-nil (said_by old))) added.moments (λ files later is. is);
+    });
+  }
+
+-- without records
+pub first_taken : (answer : FollowEnd) (d : Directory) (s : State) (old new : List Call) (j : InHand) (fed left : List ℕ) → StandsFor d s old j → j.gate ≤ 40
+    → HasTaken answer d s (take_records written d s j.gate j.seal [] fed) old new left → HasTaken answer d s (take_records written d s j.gate j.seal (own_seals d (file_of old j)) fed) old new left
+first_taken answer d s old new j fed left f low has =
+    subst (λ (l : List (List ℕ)). HasTaken answer d s (take_records written d s j.gate j.seal l fed) old new left) (sym (nothing_own d s old j f low)) has
+
+-- ---- all of it
+
+-- nothing of a feed was read yet
+pub all_unread : (left : List ℕ) → HasRead left unread left
+all_unread left = record { is = refl; all = λ is. absurd (cc is) }
+
+-- what is answered where the journal doesn't open
+abbrev opened_need : Directory → Read → Result Need OpenFault
+opened_need d read = elim (opened_of read) as (λ _. Result Need OpenFault) [ Err fault ↦ Err fault | Ok x ↦ Ok (need d (restarted x.0)) ]
+
+abbrev come_by : Directory → Files → List ℕ → Read → Result Taken OpenFault
+come_by d files fed r = elim r as (λ _. Result Taken OpenFault) [
+  | Err fault ↦ Err fault
+  | Ok read ↦ Ok (taken written d read.0 (read.1 - 1) read.2 (own_seals d (selected_bytes files)) fed)
+]
+
+unopened : (d : Directory) (files : Files) (fed : List ℕ) (fault : OpenFault) → opens d files ≡ Err fault → comes_to d files fed ≡ Err fault
+unopened d files fed fault is = by_read (files_read written d files) is
+  where
+    by_read : (r : Read) → opened_need d r ≡ Err fault → come_by d files fed r ≡ Err fault
+    by_read (Err other) is = let e : other ≡ fault = cc is in ap (λ (g : OpenFault). Err g) e
+    by_read (Ok x) is = absurd (cc is)
+
+pub open_answers : (e : OpenFault) (d : Directory) (files : Files) (fed : List ℕ) → IsAnswer e (opens d files) → Answers (open_end e) (comes_to d files fed)
+open_answers opening.DiskFault d files fed is = tt
+open_answers opening.NoMemory d files fed is = tt
+open_answers opening.NoJournal d files fed is = unopened d files fed opening.NoJournal is
+open_answers opening.OldVersion d files fed is = unopened d files fed opening.OldVersion is
+open_answers (opening.NotThis want found) d files fed is = unopened d files fed (opening.NotThis want found) is
+open_answers (opening.Damaged file at) d files fed is = unopened d files fed (opening.Damaged file at) is
+
+pub open_no_end : (e : OpenFault) → IsEnd (open_end e) → ⊥
+open_no_end opening.DiskFault is = is
+open_no_end opening.NoMemory is = is
+open_no_end opening.NoJournal is = is
+open_no_end opening.OldVersion is = is
+open_no_end (opening.NotThis want found) is = is
+open_no_end (opening.Damaged file at) is = is
+
+pub open_not_done : (e : OpenFault) → open_end e ≡ Done → ⊥
+open_not_done opening.DiskFault is = absurd (cc is)
+open_not_done opening.NoMemory is = absurd (cc is)
+open_not_done opening.NoJournal is = absurd (cc is)
+open_not_done opening.OldVersion is = absurd (cc is)
+open_not_done (opening.NotThis want found) is = absurd (cc is)
+open_not_done (opening.Damaged file at) is = absurd (cc is)
+
+pub open_disk : (e : OpenFault) → open_end e ≡ DiskFault → e ≡ opening.DiskFault
+open_disk opening.DiskFault is = refl
+open_disk opening.NoMemory is = absurd (cc is)
+open_disk opening.NoJournal is = absurd (cc is)
+open_disk opening.OldVersion is = absurd (cc is)
+open_disk (opening.NotThis want found) is = absurd (cc is)
+open_disk (opening.Damaged file at) is = absurd (cc is)
+
+pub open_no_source : (e : OpenFault) → open_end e ≡ SourceFault → ⊥
+open_no_source opening.DiskFault is = absurd (cc is)
+open_no_source opening.NoMemory is = absurd (cc is)
+open_no_source opening.NoJournal is = absurd (cc is)
+open_no_source opening.OldVersion is = absurd (cc is)
+open_no_source (opening.NotThis want found) is = absurd (cc is)
+open_no_source (opening.Damaged file at) is = absurd (cc is)
+
+-- where it opens
+module _ (d : Directory) (old mid : List Call) (j : InHand) (s : State) (fed : List ℕ) (synced : mid ≡ Did Syncs ∷ old) (f : StandsFor d s mid j) where
+  abbrev behind_header : Taken
+  behind_header = take_records written d s j.gate j.seal (own_seals d (file_of mid j)) (drop 40 fed)
+
+  abbrev all_taken : Taken
+  all_taken = taken written d s j.gate j.seal (own_seals d (file_of mid j)) fed
+
+  reads_there : files_read written d (seen old) ≡ Ok (s, j.gate + 1, j.seal)
+  reads_there = sym (ap (λ (l : List Call). files_read written d (seen l)) synced) ∙ ap (λ (v : Version). files_read v d (seen mid)) (sym f.current) ∙ f.opens_to
+
+  selected_there : selected_bytes (seen old) ≡ file_of mid j
+  selected_there =
+      let place : selected (seen old) ≡ j.file = sym (ap (λ (l : List Call). selected (seen l)) synced) ∙ f.stands.selected_is in
+      ap (seen old) place ∙ sym (ap (λ (l : List Call). seen l j.file) synced)
+
+  comes_there : comes_to d (seen old) fed ≡ Ok all_taken
+  comes_there =
+      ap (come_by d (seen old) fed) reads_there
+      ∙ ap (λ (k : ℕ). Ok (taken written d s k j.seal (own_seals d (selected_bytes (seen old))) fed)) (let e : j.gate + 1 - 1 ≡ j.gate = omega arith in e)
+      ∙ ap (λ (l : List ℕ). Ok (taken written d s j.gate j.seal (own_seals d l) fed)) selected_there
+
+  -- the header was taken
+  pub behind_taken : (answer : FollowEnd) (mark : List ℕ) (new : List Call) (left : List ℕ) → mark ≡ d.mark → ((next : Taken) → by_header (magic written ++ mark) fed next ≡ next)
+      → HasTaken answer d s behind_header mid new left → HasTaken answer d s all_taken mid new left
+  behind_taken answer mark new left ours same has =
+      subst (λ (t : Taken). HasTaken answer d s t mid new left)
+      (sym (ap (λ (l : List ℕ). by_header (magic written ++ l) fed behind_header) (sym ours) ∙ same behind_header)) has
+
+  -- the feed ends there
+  pub header_taken : (answer : FollowEnd) (mark left : List ℕ) → mark ≡ d.mark → ((next : Taken) → StopsAs answer (by_header (magic written ++ mark) fed next) left)
+      → HasTaken answer d s all_taken mid mid left
+  header_taken answer mark left ours stops =
+      stops_taken d s mid mid j all_taken left f (inr (inl refl)) answer
+      (subst (λ (l : List ℕ). StopsAs answer (by_header (magic written ++ l) fed behind_header) left) ours (stops behind_header))
+
+  module _ (answer : FollowEnd) (new : List Call) (left : List ℕ) (has : HasTaken answer d s all_taken mid new left) where
+    by_answer : (a : FollowEnd) → IsTakenEnd a → (IsEnd a → EndsAs a all_taken.end × ReadsAll a left) → Answers a (Ok all_taken)
+    by_answer Done kind ends = (ends tt).0
+    by_answer (Feed at) kind ends = (ends tt).0
+    by_answer (Diverged index own other) kind ends = (ends tt).0
+    by_answer (Open fault) kind ends = absurd kind
+    by_answer SourceFault kind ends = tt
+    by_answer DiskFault kind ends = tt
+    by_answer NoMemory kind ends = tt
+
+    pub answers_there : Answers answer (comes_to d (seen old) fed)
+    answers_there = subst (Answers answer) (sym comes_there) (by_answer answer has.kind has.added.ends)
+
+    same_state : (t : State) (used : ℕ) (last : List ℕ) → files_read written d (seen old) ≡ Ok (t, used, last) → s ≡ t
+    same_state t used last reads =
+        let e : Ok (s, j.gate + 1, j.seal) ≡ Ok (t, used, last) = sym reads_there ∙ reads in
+        let x : (s, j.gate + 1, j.seal) ≡ (t, used, last) = cc e in ap (λ (y : State × ℕ × List ℕ). y.0) x
+
+    same_taken : (other : Taken) → comes_to d (seen old) fed ≡ Ok other → all_taken ≡ other
+    same_taken other comes = let e : Ok all_taken ≡ Ok other = sym comes_there ∙ comes in cc e
+
+    pub added_there : (t : State) (used : ℕ) (last : List ℕ) (other : Taken) → files_read written d (seen old) ≡ Ok (t, used, last) → comes_to d (seen old) fed ≡ Ok other → IsEnd answer
+        → opens d (seen new) ≡ Ok (need d (restarted (state_after d t other)))
+    added_there t used last other reads comes ends =
+        let by_state : OpensTo d (state_after d t all_taken) (seen new) = subst (λ (q : State). OpensTo d (state_after d q all_taken) (seen new)) (same_state t used last reads) (has.added.opened ends) in
+        subst (λ (x : Taken). OpensTo d (state_after d t x) (seen new)) (same_taken other comes) by_state
+
+    pub moments_there : (t : State) (used : ℕ) (last : List ℕ) (other : Taken) → files_read written d (seen old) ≡ Ok (t, used, last) → comes_to d (seen old) fed ≡ Ok other → EachOpens d t other old new
+    moments_there t used last other reads comes =
+        let by_state : EachSince mid new (OpensWithin d t all_taken) = subst (λ (q : State). EachSince mid new (OpensWithin d q all_taken)) (same_state t used last reads) has.added.moments in
+        let by_taken : EachSince mid new (OpensWithin d t other) = subst (λ (x : Taken). EachSince mid new (OpensWithin d t x)) (same_taken other comes) by_state in
+        inr (subst (λ (l : List Call). EachSince l new (OpensWithin d t other)) synced by_taken)
+
+-- a feed that was taken to its end leaves nothing
+pub done_stops : (answer : FollowEnd) (t : Taken) (left : List ℕ) → StopsAs answer t left → answer ≡ Done → left ≡ []
+done_stops answer t left stops is = (subst (λ (a : FollowEnd). StopsAs a t left) is stops).all

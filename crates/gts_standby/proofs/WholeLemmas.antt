@@ -1,0 +1,70 @@
+-- At the end of a feed its source has no more.
+use Rattle.std.proofs.Common.{◌≡◌, ℕ, true, List, [], ◌++◌, refl}
+use Rattle.gts_record.specs.declared.version.Version.{Version}
+use Rattle.gts_record.specs.declared.fault.OpenFault.{OpenFault}
+use Rattle.gts_record.specs.declared.fault.OpenFault.TheVariants as opening
+use Rattle.gts_standby.specs.declared.end.FollowEnd.{FollowEnd}
+use Rattle.gts_standby.specs.declared.end.FollowEnd.TheVariants.{Done, Open, Feed, Diverged, SourceFault, DiskFault, NoMemory}
+use Rattle.gts_standby.specs.Ahead.{InFeed}
+use Rattle.gts_standby.specs.Taking.{Taken}
+use Rattle.gts_standby.specs.Following.{open_end}
+use Rattle.gts_standby.specs.Reading.{HasRead, IsReadEnd, IsLookedEnd, IsUnsealed, ReadsAll, StopsAs}
+use Rattle.gts_standby.specs.Comparing.{IsOwnEnd}
+use Rattle.gts_standby.specs.Beginning.{IsPutEnd}
+use Rattle.gts_standby.specs.Whole.{IsWhole}
+
+pub whole_read : (ahead : InFeed) (left : List ℕ) → IsWhole ahead left → HasRead (ahead.bytes ++ left) ahead left
+whole_read ahead left whole = record { is = refl; all = whole }
+
+pub stops_all : (answer : FollowEnd) (t : Taken) (left : List ℕ) → StopsAs answer t left → ReadsAll answer left
+stops_all Done t left stops = stops.all
+stops_all (Open fault) t left stops = tt
+stops_all (Feed at) t left stops = tt
+stops_all (Diverged index own fed) t left stops = tt
+stops_all SourceFault t left stops = tt
+stops_all DiskFault t left stops = tt
+stops_all NoMemory t left stops = tt
+
+pub read_all : (answer : FollowEnd) (left : List ℕ) → IsReadEnd answer → ReadsAll answer left
+read_all Done left kind = absurd kind
+read_all (Open fault) left kind = tt
+read_all (Feed at) left kind = tt
+read_all (Diverged index own fed) left kind = tt
+read_all SourceFault left kind = tt
+read_all DiskFault left kind = tt
+read_all NoMemory left kind = tt
+
+pub own_all : (answer : FollowEnd) (left : List ℕ) → IsOwnEnd answer → ReadsAll answer left
+own_all Done left kind = absurd kind
+own_all (Open fault) left kind = tt
+own_all (Feed at) left kind = tt
+own_all (Diverged index own fed) left kind = tt
+own_all SourceFault left kind = tt
+own_all DiskFault left kind = tt
+own_all NoMemory left kind = tt
+
+pub put_all : (answer : FollowEnd) (left : List ℕ) → IsPutEnd answer → ReadsAll answer left
+put_all Done left kind = absurd kind
+put_all (Open fault) left kind = tt
+put_all (Feed at) left kind = tt
+put_all (Diverged index own fed) left kind = tt
+put_all SourceFault left kind = tt
+put_all DiskFault left kind = tt
+put_all NoMemory left kind = tt
+
+pub open_all : (e : OpenFault) (left : List ℕ) → ReadsAll (open_end e) left
+open_all opening.DiskFault left = tt
+open_all opening.NoMemory left = tt
+open_all opening.NoJournal left = tt
+open_all opening.OldVersion left = tt
+open_all (opening.NotThis want found) left = tt
+open_all (opening.Damaged file at) left = tt
+
+pub looked_all : (answer : FollowEnd) (v : Version) (ahead : InFeed) (at : ℕ) (left : List ℕ) → IsUnsealed answer v ahead at → IsWhole ahead left → ReadsAll answer left
+looked_all Done v ahead at left unsealed whole = whole unsealed.0
+looked_all (Open fault) v ahead at left unsealed whole = tt
+looked_all (Feed place) v ahead at left unsealed whole = tt
+looked_all (Diverged index own fed) v ahead at left unsealed whole = tt
+looked_all SourceFault v ahead at left unsealed whole = tt
+looked_all DiskFault v ahead at left unsealed whole = tt
+looked_all NoMemory v ahead at left unsealed whole = tt

@@ -1,0 +1,32 @@
+use Rattle.std.proofs.Common.{◌≡◌, ◌+◌, ◌-◌, ◌*◌, ◌^◌, ◌≤◌, ℕ, false, List}
+use Rattle.gts_directory.specs.Directory.{Directory}
+use Rattle.gts_journal.specs.{StandsOn}
+use Rattle.gts_standby.specs.Taking.{compare_all}
+use Rattle.gts_standby.specs.Reading.{HasRead}
+use Rattle.gts_standby.specs.Comparing.{IsAtSeals}
+use Rattle.gts_standby.specs.Whole.{IsWhole}
+use Rattle.gts_standby.proofs.CompareLemmas.{HasGoneFar}
+use Rattle.gts_standby.proofs.comparing.compare_rest.Given as goal
+
+-- so many records were compared
+abbrev pub invariant-record : goal.invariant-record
+invariant-record g l = record {
+  going : l.own.ended ≡ false;
+  version : l.own.version ≡ l.fn.own.version;
+  stands : g.P.Station.tells → StandsOn (g.P.Station.calls l.station) l.own;
+  place : l.at ≤ 2 ^ 32 + l.index * 2 ^ 20;
+  count : l.index ≤ l.own.gate + 1;
+  few : l.index ≤ l.end + 1;
+  gone : g.P.Station.tells → g.S.Source.tells → (d : Directory) (left : List (List ℕ)) (fed : List ℕ)
+      → IsAtSeals d (g.P.Station.calls l.fn.station) l.fn.own l.end left → HasRead fed l.fn.ahead (g.S.Source.left l.fn.source)
+      → HasGoneFar d l.fn.own.version (λ behind. compare_all l.fn.own.version behind left l.fn.own.seal 1 l.initial.at fed) l.end
+      (g.P.Station.calls l.station) l.own l.index l.at l.ahead (g.S.Source.left l.source);
+  whole : g.S.Source.tells → IsWhole l.fn.ahead (g.S.Source.left l.fn.source) → IsWhole l.ahead (g.S.Source.left l.source);
+  told : g.P.Station.tells → g.P.Station.calls l.station ≡ g.P.Station.calls l.fn.station;
+  later : g.P.Station.disk_faults l.fn.station ≤ g.P.Station.disk_faults l.station;
+  say : g.P.Station.say_faults l.station ≡ g.P.Station.say_faults l.fn.station;
+  source_later : g.S.Source.faults l.fn.source ≤ g.S.Source.faults l.source;
+}
+
+abbrev pub decreases-record : goal.decreases-record
+decreases-record g l = l.end - l.own.gate

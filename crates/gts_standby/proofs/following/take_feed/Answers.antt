@@ -1,0 +1,97 @@
+use Rattle.std.proofs.Common.{◌≡◌, ℕ, List, drop, refl, sym, subst, arith}
+use Rattle.gts_standby.specs.Ahead.{InFeed}
+use Rattle.gts_standby.specs.Taking.{Ends, stopped}
+use Rattle.gts_standby.specs.Reading.{HasRead, ReadsAll}
+use Rattle.gts_standby.proofs.AddLemmas.{holds_of}
+use Rattle.gts_standby.proofs.TakeLemmas.{all_unread, behind_taken, header_taken, answers_there, added_there, moments_there, done_stops}
+use Rattle.gts_standby.specs.declared.end.FollowEnd.{FollowEnd}
+use Rattle.gts_standby.proofs.NamedLemmas.{named_open, named_fed}
+use Rattle.gts_standby.specs.Whole.{IsNamedEnd}
+use Rattle.gts_standby.proofs.following.take_feed.Goals as goal
+
+pub returns-in-Ok-take_header-clause-answer : goal.returns-in-Ok-take_header-clause-answer
+returns-in-Ok-take_header-clause-answer g c = λ tells told.
+    let d = c.args.directory.now in
+    let o = c.in-Ok.ensures.opened in
+    let j = c.in-Ok.opened.1 in
+    let fed = g.S.Source.left c.args.source.now in
+    let read : HasRead fed c.new-ahead.result fed = subst (λ (a : InFeed). HasRead fed a fed) (sym c.new-ahead.ensures) (all_unread fed) in
+    let synced = c.in-Ok.ensures.synced tells in
+    let f = o.stands tells in
+    let header = c.in-Ok-take_header.ensures.taken told fed read in
+    let has = c.take_records.ensures.taken tells told o.state (drop 40 fed) (holds_of _ d _ _ j o) header.1 in
+    let whole = behind_taken d _ _ j o.state fed synced f c.take_records.result c.mark.result _ _ c.mark.ensures header.0 has in
+    answers_there d _ _ j o.state fed synced f c.take_records.result _ _ whole
+
+pub returns-in-Ok-take_header-clause-added : goal.returns-in-Ok-take_header-clause-added
+returns-in-Ok-take_header-clause-added g c = λ tells told s used last taken reads comes ends.
+    let d = c.args.directory.now in
+    let o = c.in-Ok.ensures.opened in
+    let j = c.in-Ok.opened.1 in
+    let fed = g.S.Source.left c.args.source.now in
+    let read : HasRead fed c.new-ahead.result fed = subst (λ (a : InFeed). HasRead fed a fed) (sym c.new-ahead.ensures) (all_unread fed) in
+    let synced = c.in-Ok.ensures.synced tells in
+    let f = o.stands tells in
+    let header = c.in-Ok-take_header.ensures.taken told fed read in
+    let has = c.take_records.ensures.taken tells told o.state (drop 40 fed) (holds_of _ d _ _ j o) header.1 in
+    let whole = behind_taken d _ _ j o.state fed synced f c.take_records.result c.mark.result _ _ c.mark.ensures header.0 has in
+    added_there d _ _ j o.state fed synced f c.take_records.result _ _ whole s used last taken reads comes ends
+
+pub returns-in-Ok-take_header-clause-moments : goal.returns-in-Ok-take_header-clause-moments
+returns-in-Ok-take_header-clause-moments g c = λ tells told s used last taken reads comes.
+    let d = c.args.directory.now in
+    let o = c.in-Ok.ensures.opened in
+    let j = c.in-Ok.opened.1 in
+    let fed = g.S.Source.left c.args.source.now in
+    let read : HasRead fed c.new-ahead.result fed = subst (λ (a : InFeed). HasRead fed a fed) (sym c.new-ahead.ensures) (all_unread fed) in
+    let synced = c.in-Ok.ensures.synced tells in
+    let f = o.stands tells in
+    let header = c.in-Ok-take_header.ensures.taken told fed read in
+    let has = c.take_records.ensures.taken tells told o.state (drop 40 fed) (holds_of _ d _ _ j o) header.1 in
+    let whole = behind_taken d _ _ j o.state fed synced f c.take_records.result c.mark.result _ _ c.mark.ensures header.0 has in
+    moments_there d _ _ j o.state fed synced f c.take_records.result _ _ whole s used last taken reads comes
+
+pub returns-in-Err-take_header-clause-answer : goal.returns-in-Err-take_header-clause-answer
+returns-in-Err-take_header-clause-answer g c = λ tells told.
+    let d = c.args.directory.now in
+    let o = c.in-Ok.ensures.opened in
+    let j = c.in-Ok.opened.1 in
+    let fed = g.S.Source.left c.args.source.now in
+    let read : HasRead fed c.new-ahead.result fed = subst (λ (a : InFeed). HasRead fed a fed) (sym c.new-ahead.ensures) (all_unread fed) in
+    let synced = c.in-Ok.ensures.synced tells in
+    let f = o.stands tells in
+    let header = c.in-Err-take_header.ensures.taken told fed read in
+    let whole = header_taken d _ _ j o.state fed synced f c.in-Err-take_header.end c.mark.result _ c.mark.ensures header in
+    answers_there d _ _ j o.state fed synced f c.in-Err-take_header.end _ _ whole
+
+pub returns-in-Err-take_header-clause-added : goal.returns-in-Err-take_header-clause-added
+returns-in-Err-take_header-clause-added g c = λ tells told s used last taken reads comes ends.
+    let d = c.args.directory.now in
+    let o = c.in-Ok.ensures.opened in
+    let j = c.in-Ok.opened.1 in
+    let fed = g.S.Source.left c.args.source.now in
+    let read : HasRead fed c.new-ahead.result fed = subst (λ (a : InFeed). HasRead fed a fed) (sym c.new-ahead.ensures) (all_unread fed) in
+    let synced = c.in-Ok.ensures.synced tells in
+    let f = o.stands tells in
+    let header = c.in-Err-take_header.ensures.taken told fed read in
+    let whole = header_taken d _ _ j o.state fed synced f c.in-Err-take_header.end c.mark.result _ c.mark.ensures header in
+    added_there d _ _ j o.state fed synced f c.in-Err-take_header.end _ _ whole s used last taken reads comes ends
+
+pub returns-in-Err-take_header-clause-done : goal.returns-in-Err-take_header-clause-done
+returns-in-Err-take_header-clause-done g c = λ told is.
+    let fed = g.S.Source.left c.args.source.now in
+    let read : HasRead fed c.new-ahead.result fed = subst (λ (a : InFeed). HasRead fed a fed) (sym c.new-ahead.ensures) (all_unread fed) in
+    done_stops c.in-Err-take_header.end _ _ (c.in-Err-take_header.ensures.taken told fed read (stopped Ends)) is
+
+pub returns-in-Ok-take_header-clause-done : goal.returns-in-Ok-take_header-clause-done
+returns-in-Ok-take_header-clause-done g c = λ told is.
+    let fed = g.S.Source.left c.args.source.now in
+    let read : HasRead fed c.new-ahead.result fed = subst (λ (a : InFeed). HasRead fed a fed) (sym c.new-ahead.ensures) (all_unread fed) in
+    let header = c.in-Ok-take_header.ensures.taken told fed read in
+    subst (λ (e : FollowEnd). ReadsAll e (g.S.Source.left c.take_records.new.source)) is (c.take_records.ensures.whole told header.1.all)
+
+pub returns-in-Err-clause-named : goal.returns-in-Err-clause-named
+returns-in-Err-clause-named g c = subst IsNamedEnd (sym c.from.ensures) (named_open c.in-Err.fault)
+
+pub returns-in-Err-take_header-clause-named : goal.returns-in-Err-take_header-clause-named
+returns-in-Err-take_header-clause-named g c = named_fed c.in-Err-take_header.end c.in-Err-take_header.ensures.kind

@@ -1,0 +1,56 @@
+use Rattle.std.proofs.Common.{rules, ◌≡◌, ◌≤◌, ◌<◌, ◌-◌, ℕ, List, length, sym, arith}
+use Rattle.gts_standby.proofs.AddLemmas.{gate_so}
+use Rattle.gts_standby.proofs.TakeLemmas.{opened_kept, holds_kept, first_there, first_taken, ends_compared, goes_compared}
+use Rattle.gts_standby.proofs.NamedLemmas.{named_added}
+use Rattle.gts_standby.proofs.following.take_records.Goals as goal
+
+pub returns-then-end-clause-taken : goal.returns-then-end-clause-taken
+returns-then-end-clause-taken g c = λ tells told s fed h read.
+    let d = c.args.directory.now in
+    let j = c.args.journal in
+    let f = h.stands tells in
+    let gate = gate_so c.used-end.result j c.used-end.ensures h.ended in
+    let here : c.used-end.result - 1 ≤ 40 = search rules in
+    let low : j.gate ≤ 40 = omega (arith, gate, here) in
+    first_taken c.take_first.result d s _ _ j fed _ f low (c.take_first.ensures.taken tells told s fed h (first_there d s _ j f low) read)
+
+pub add_all-requires-clause-opened : goal.add_all-requires-clause-opened
+add_all-requires-clause-opened g c = opened_kept _ c.args.directory.now _ _ c.args.core c.args.journal (λ tell. c.compare.ensures.told tell) c.requires
+
+pub returns-in-Ok-clause-taken : goal.returns-in-Ok-clause-taken
+returns-in-Ok-clause-taken g c = λ tells told s fed h read.
+    let d = c.args.directory.now in
+    let j = c.args.journal in
+    let f = h.stands tells in
+    let gate = gate_so c.used-end.result j c.used-end.ensures h.ended in
+    let here : 40 < c.used-end.result - 1 = search rules in
+    let low : 40 < j.gate = omega (arith, gate, here) in
+    let compared = c.in-Ok.ensures.compared tells told s j fed f (sym gate) read in
+    let holds = holds_kept _ d s _ _ c.args.core j (λ tell. c.compare.ensures.told tell) h in
+    goes_compared d s _ _ j fed f (c.compare.ensures.told tells) low c.add_all.result _ c.in-Ok.at compared.0 _ compared.1 c.add_all.ensures.kind
+    (c.add_all.ensures.added tells told s compared.0 (length compared.0) holds compared.2 (omega arith))
+
+pub returns-in-Err-clause-taken : goal.returns-in-Err-clause-taken
+returns-in-Err-clause-taken g c = λ tells told s fed h read.
+    let d = c.args.directory.now in
+    let j = c.args.journal in
+    let f = h.stands tells in
+    let gate = gate_so c.used-end.result j c.used-end.ensures h.ended in
+    let here : 40 < c.used-end.result - 1 = search rules in
+    let low : 40 < j.gate = omega (arith, gate, here) in
+    ends_compared d s _ _ j fed f (c.compare.ensures.told tells) low c.in-Err.end _ (c.in-Err.ensures.compared tells told s j fed f (sym gate) read)
+
+pub returns-then-end-clause-whole : goal.returns-then-end-clause-whole
+returns-then-end-clause-whole g c = λ told w. c.take_first.ensures.whole told w
+
+pub returns-in-Ok-clause-whole : goal.returns-in-Ok-clause-whole
+returns-in-Ok-clause-whole g c = λ told w. c.add_all.ensures.whole told (c.in-Ok.ensures.whole told w)
+
+pub returns-in-Err-clause-whole : goal.returns-in-Err-clause-whole
+returns-in-Err-clause-whole g c = λ told w. c.in-Err.ensures.whole told w
+
+pub returns-then-end-clause-named : goal.returns-then-end-clause-named
+returns-then-end-clause-named g c = named_added c.take_first.result c.take_first.ensures.kind
+
+pub returns-in-Ok-clause-named : goal.returns-in-Ok-clause-named
+returns-in-Ok-clause-named g c = named_added c.add_all.result c.add_all.ensures.kind

@@ -1,0 +1,77 @@
+-- What is said of a feed that is taken into a journal.
+use Rattle.std.specs.Prelude.{◌≡◌, ◌⊎◌, ℕ, ◌-◌, List, [], ◌∷◌, ◌++◌, Option, Some, None, Result, Ok, Err}
+use Rattle.gts_traits.specs.{Call, Did, Syncs, Files, Outside, EachSince}
+use Rattle.gts_directory.specs.Directory.{Directory}
+use Rattle.gts_event.specs.State.{State}
+use Rattle.gts_event.specs.Need.{Need, begun}
+use Rattle.gts_record.specs.declared.fault.OpenFault.{OpenFault}
+use Rattle.gts_record.specs.declared.fault.OpenFault.TheVariants as opening
+use Rattle.gts_record.specs.Record.{Record}
+use Rattle.gts_record.specs.Format.{held, first_seal, written}
+use Rattle.gts_opening.specs.Journal.{after_records, files_read}
+use Rattle.gts_journal.specs.{OnlySyncs, OpensTo, selected_bytes, is_checkpoint}
+use Rattle.gts_standby.specs.declared.end.FollowEnd.{FollowEnd}
+use Rattle.gts_standby.specs.declared.end.FollowEnd.TheVariants.{Done, Open, Feed, Diverged, SourceFault, DiskFault, NoMemory}
+use Rattle.gts_standby.specs.Taking.{End, Ends, Breaks, Parts, Taken, seals_behind, taken}
+
+-- a fault of the journal's opening, as a feed is answered with it
+abbrev pub open_end : OpenFault → FollowEnd
+open_end opening.DiskFault = DiskFault
+open_end opening.NoMemory = NoMemory
+open_end fault = Open fault
+
+-- the seals of the records of a file, in order
+abbrev pub own_seals : Directory → List ℕ → List (List ℕ)
+own_seals d bytes = seals_behind written (first_seal written d.mark) bytes (is_checkpoint bytes)
+
+-- what a feed comes to where the files open, or the fault to which they open
+abbrev pub comes_to : Directory → Files → List ℕ → Result Taken OpenFault
+comes_to d files fed = elim (files_read written d files) [
+  | Err fault ↦ Err fault
+  | Ok read ↦ Ok (taken written d read.0 (read.1 - 1) read.2 (own_seals d (selected_bytes files)) fed)
+]
+
+-- A feed is answered with this end. A fault of a device, and want of memory, aren't of the feed.
+abbrev pub EndsAs : FollowEnd → End → Type 0
+EndsAs Done Ends = Unit {0}
+EndsAs (Feed at) (Breaks place) = at ≡ place
+EndsAs (Diverged index own fed) (Parts number its other) = (index ≡ number) × (held written own ≡ its) × (held written fed ≡ other)
+EndsAs SourceFault end = Unit {0}
+EndsAs DiskFault end = Unit {0}
+EndsAs NoMemory end = Unit {0}
+EndsAs answer end = ⊥
+
+-- It is answered with the end of what it comes to, or with the fault to which the files open.
+abbrev pub Answers : FollowEnd → Result Taken OpenFault → Type 0
+Answers (Open fault) come = come ≡ Err fault
+Answers SourceFault come = Unit {0}
+Answers DiskFault come = Unit {0}
+Answers NoMemory come = Unit {0}
+Answers answer (Ok taken) = EndsAs answer taken.end
+Answers answer (Err fault) = ⊥
+
+-- an answer that tells the end of a feed
+abbrev pub IsEnd : FollowEnd → Type 0
+IsEnd Done = Unit {0}
+IsEnd (Feed at) = Unit {0}
+IsEnd (Diverged index own fed) = Unit {0}
+IsEnd answer = ⊥
+
+-- the state with which a journal goes on: its own one, or that of the checkpoint with which it begins
+abbrev pub start_of : State → Option Need → State
+start_of s None = s
+start_of s (Some n) = begun n
+
+-- the state of a journal in which all is that is added
+abbrev pub state_after : Directory → State → Taken → State
+state_after d s taken = after_records d (start_of s taken.begins) taken.records
+
+-- Nothing is said. The files open to the state from before, or to that with a first part of what is added, and no more.
+pub data OpensWithin (d : Directory) (s : State) (taken : Taken) (files : Files) (outside : Outside) : Type 0 where
+  AsBefore : outside ≡ [] → OpensTo d s files → OpensWithin d s taken files outside
+  WithFront : (front back : List Record) → taken.records ≡ front ++ back → outside ≡ []
+      → OpensTo d (after_records d (start_of s taken.begins) front) files → OpensWithin d s taken files outside
+
+-- From the sync of the opening on each moment leaves so much; or no more than that sync was tried.
+abbrev pub EachOpens : Directory → State → Taken → List Call → List Call → Type 0
+EachOpens d s taken old new = OnlySyncs old new ⊎ EachSince (Did Syncs ∷ old) new (OpensWithin d s taken)

@@ -1,0 +1,92 @@
+-- How a feed is read, and the ends of what is read of it.
+use Rattle.std.specs.Prelude.{◌≡◌, ℕ, true, false, List, [], ◌++◌, drop, replicate, codes, nat_eq, Option, Some, None, Result, Ok, Err}
+use Rattle.std.specs.List.{starts_with}
+use Rattle.gts_record.specs.declared.version.Version.{Version}
+use Rattle.gts_record.specs.Format.{held}
+use Rattle.gts_standby.specs.declared.end.FollowEnd.{FollowEnd}
+use Rattle.gts_standby.specs.declared.end.FollowEnd.TheVariants.{Done, Feed, SourceFault, DiskFault, NoMemory}
+use Rattle.gts_standby.specs.Ahead.{InFeed}
+use Rattle.gts_standby.specs.Taking.{End, Taken, stopped, by_header, Piece, Sealed, by_piece, Reached, Short, Bad, Behind, may_be_cut, number_at}
+use Rattle.gts_standby.specs.Following.{EndsAs}
+
+-- what was read ahead and what the source has left are what is left of a feed
+pub record HasRead (fed : List ℕ) (ahead : InFeed) (left : List ℕ) : Type 0 where
+  pub is : fed ≡ ahead.bytes ++ left
+  pub all : ahead.is_all ≡ true → left ≡ []
+
+-- nothing was read yet
+abbrev pub unread : InFeed
+unread = record { bytes = []; is_all = false }
+
+-- what may be answered where bytes of a feed are read
+abbrev pub IsReadEnd : FollowEnd → Type 0
+IsReadEnd SourceFault = Unit {0}
+IsReadEnd NoMemory = Unit {0}
+IsReadEnd end = ⊥
+
+-- what may be answered where a feed is looked at alone
+abbrev pub IsFedEnd : FollowEnd → Type 0
+IsFedEnd Done = Unit {0}
+IsFedEnd (Feed at) = Unit {0}
+IsFedEnd SourceFault = Unit {0}
+IsFedEnd NoMemory = Unit {0}
+IsFedEnd end = ⊥
+
+-- what may be answered by the bytes that were read
+abbrev pub IsLookedEnd : FollowEnd → Type 0
+IsLookedEnd Done = Unit {0}
+IsLookedEnd (Feed at) = Unit {0}
+IsLookedEnd NoMemory = Unit {0}
+IsLookedEnd end = ⊥
+
+-- what may be answered where a feed is compared with a journal
+abbrev pub IsCompareEnd : FollowEnd → Type 0
+IsCompareEnd end = Unit {0}
+
+-- at its end the source has nothing left
+abbrev pub ReadsAll : FollowEnd → List ℕ → Type 0
+ReadsAll Done left = left ≡ []
+ReadsAll end left = Unit {0}
+
+-- nothing is added, and the feed is answered with its end
+pub record StopsAt (answer : FollowEnd) (taken : Taken) (left : List ℕ) : Type 0 where
+  pub end : End
+  pub is : taken ≡ stopped end
+  pub ends : EndsAs answer end
+  pub all : ReadsAll answer left
+
+-- the same, unless a device failed or there was no memory
+abbrev pub StopsAs : FollowEnd → Taken → List ℕ → Type 0
+StopsAs SourceFault taken left = Unit {0}
+StopsAs DiskFault taken left = Unit {0}
+StopsAs NoMemory taken left = Unit {0}
+StopsAs answer taken left = StopsAt answer taken left
+
+-- the header was taken, or the feed ends there
+abbrev pub TakesHeader : Result (Unit {0}) FollowEnd → List ℕ → List ℕ → InFeed → List ℕ → Type 0
+TakesHeader (Ok _) header fed ahead left = ((next : Taken) → by_header header fed next ≡ next) × HasRead (drop 40 fed) ahead left
+TakesHeader (Err end) header fed ahead left = (next : Taken) → StopsAs end (by_header header fed next) left
+
+-- A piece of so many bytes with this seal was found at the front, and is there whole; or the feed ends there.
+abbrev pub FindsPiece : Result (ℕ × List ℕ) FollowEnd → Version → ℕ → Piece → List ℕ → InFeed → List ℕ → Type 0
+FindsPiece (Ok found) v at piece fed ahead left = (piece ≡ Sealed found.0 (held v found.1)) × HasRead fed ahead left
+FindsPiece (Err end) v at piece fed ahead left = (next : ℕ → List ℕ → Taken) → StopsAs end (by_piece at piece next) left
+
+-- a place in a checkpoint was reached
+abbrev pub Reaches : Result ℕ FollowEnd → Reached → List ℕ → InFeed → List ℕ → Type 0
+Reaches (Ok at) reached fed ahead left = (reached ≡ Behind at) × HasRead fed ahead left
+Reaches (Err Done) reached fed ahead left = (reached ≡ Short) × (left ≡ [])
+Reaches (Err (Feed at)) reached fed ahead left = (reached ≡ Bad) × (at ≡ 40)
+Reaches (Err end) reached fed ahead left = IsReadEnd end
+
+-- how a feed ends where no record stands with its seal at the front of what was read ahead
+abbrev pub IsUnsealed : FollowEnd → Version → InFeed → ℕ → Type 0
+IsUnsealed Done v ahead at = (ahead.is_all ≡ true) × (may_be_cut v ahead.bytes ≡ true)
+IsUnsealed (Feed place) v ahead at = (place ≡ at) × (ahead.is_all ≡ true → may_be_cut v ahead.bytes ≡ false)
+IsUnsealed end v ahead at = Unit {0}
+
+-- how many circuits and bulletins a checkpoint has by its first bytes, or that none begins so
+abbrev pub FindsFront : Option (ℕ × ℕ) → List ℕ → Type 0
+FindsFront None front = starts_with nat_eq front (codes "C" ++ replicate 3 0) ≡ false
+FindsFront (Some found) front =
+    (starts_with nat_eq front (codes "C" ++ replicate 3 0) ≡ true) × (found.0 ≡ number_at front 4) × (found.1 ≡ number_at front 16)

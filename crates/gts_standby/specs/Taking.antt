@@ -1,0 +1,257 @@
+-- What a feed comes to where it is taken into a journal (profile): the records that are added, and how it ends.
+use Rattle.std.specs.Prelude.{ℕ, zero, suc, ◌+◌, ◌-◌, ◌*◌, Bool, true, false, ◌&&◌, ◌==◌, nat_eq, nat_lt, nat_le, is_some, if◌then◌else◌, List, [], ◌∷◌, ◌++◌, length, take, drop, replicate, codes, Option, Some, None}
+use Rattle.std.specs.List.{starts_with, slice_index_or}
+use Rattle.std.specs.Cmp.Lexicographic.{pointwise}
+use Rattle.gts_alphabet.specs.declared.limits.TheConstants.{LONGEST_BODY}
+use Rattle.gts_directory.specs.Directory.{Directory}
+use Rattle.gts_event.specs.State.{State}
+use Rattle.gts_event.specs.History.{after}
+use Rattle.gts_event.specs.Need.{Need, begun}
+use Rattle.gts_record.specs.declared.version.Version.{Version}
+use Rattle.gts_record.specs.Record.{Record, record_text, record_at, number_in, kind_of, open_gate}
+use Rattle.gts_record.specs.Format.{magic, seal, seal_size, is_sealed, sealed_at, first_seal, record_size}
+use Rattle.gts_opening.specs.Journal.{agreeing, checkpoint_text, compacted_bytes, need_in, event_of_record, record_behind, admits_checkpoint}
+
+-- How a feed ends: it is taken to its end; or it is bad at a place; or it has another record with a number, where these two seals
+-- stand, the journal's and the feed's.
+pub data End : Type 0 where
+  Ends : End
+  Breaks : (at : ℕ) → End
+  Parts : (index : ℕ) → (own fed : List ℕ) → End
+
+-- a checkpoint with which the journal begins, or none; the records that are added; and the end
+pub record Taken : Type 0 where
+  pub begins : Option Need
+  pub records : List Record
+  pub end : End
+
+-- nothing is added
+abbrev pub stopped : End → Taken
+stopped end = record { begins = None; records = []; end = end }
+
+-- one record more is added before others
+abbrev pub adding : Record → Taken → Taken
+adding r taken = record taken { records = r ∷ taken.records }
+
+-- ---- what stands at the front of a feed
+
+-- A record that is cut, or whose seal is; bytes that no record has there, or with which another seal stands; or a record, of so many
+-- bytes with its seal, and that.
+pub data Piece : Type 0 where
+  Cut : Piece
+  Broken : Piece
+  Sealed : (size : ℕ) → (seal : List ℕ) → Piece
+
+-- what a record may have behind its first bytes, where its body is empty: the rest of an accepted bulletin, or of a draw
+abbrev pub rest_of : List ℕ → List ℕ
+rest_of bytes =
+    drop (length bytes)
+    (if starts_with nat_eq bytes (codes "D") then codes "D" ++ replicate 22 0 else codes "A" ++ 0 ∷ codes "A" ++ replicate 13 0)
+
+-- bytes that are no whole record may be the front of one, whatever stands before them
+abbrev pub may_begin : List ℕ → Bool
+may_begin [] = true
+may_begin (byte ∷ bytes) = is_some (record_at ((byte ∷ bytes) ++ rest_of (byte ∷ bytes) ++ replicate LONGEST_BODY 0))
+
+-- bytes, behind which there are none, are a record that was cut, or one whose seal was
+abbrev pub may_be_cut : Version → List ℕ → Bool
+may_be_cut v bytes =
+    elim (record_at bytes) [ None ↦ may_begin bytes | Some r ↦ nat_lt (length bytes) (length (record_text r) + seal_size v) ]
+
+-- the piece at the front, where no record stands there with its seal
+abbrev pub unsealed : Version → List ℕ → Piece
+unsealed v bytes = if may_be_cut v bytes then Cut else Broken
+
+-- the record at the front, where this seal stands before it
+abbrev pub record_piece : Version → List ℕ → List ℕ → Piece
+record_piece v before bytes =
+    elim (sealed_at v before bytes) [ None ↦ unsealed v bytes | Some r ↦ Sealed (record_size v r - 1) (seal v before (record_text r)) ]
+
+-- ---- how long a checkpoint is
+
+-- it is cut, or it has bytes that no checkpoint has there, or so many bytes stand there
+pub data Reached : Type 0 where
+  Short : Reached
+  Bad : Reached
+  Behind : (at : ℕ) → Reached
+
+-- so many bytes of a text from a place on, as far as they are there; behind them those of another one
+abbrev pub or_else : List ℕ → List ℕ → ℕ → List ℕ
+or_else text bytes at = let found : List ℕ = take (length text) (drop at bytes) in found ++ drop (length found) text
+
+-- the number in four bytes
+abbrev pub number_at : List ℕ → ℕ → ℕ
+number_at bytes at = number_in (take 4 (drop at bytes))
+
+-- behind so many bytes more, in a checkpoint no longer than a limit
+abbrev pub reach : ℕ → List ℕ → ℕ → ℕ → Reached
+reach limit bytes at size =
+    if nat_lt limit (at + size) then Bad else if nat_lt (length bytes) (at + size) then Short else Behind (at + size)
+
+-- behind something of which the size is found by its first bytes, or which can't stand there
+abbrev pub reach_found : ℕ → List ℕ → ℕ → Option ℕ → Reached
+reach_found limit bytes at None = Bad
+reach_found limit bytes at (Some size) = reach limit bytes at size
+
+-- what a bulletin may begin with: zeros, and a letter that stands for a type
+abbrev pub least_bulletin : List ℕ
+least_bulletin = replicate 9 0 ++ codes "A" ++ replicate 6 0
+
+-- the size of a bulletin that begins so
+abbrev pub bulletin_size : List ℕ → Option ℕ
+bulletin_size head =
+    if is_some (kind_of (slice_index_or head 9 0)) && (slice_index_or head 10 0 == 0) && (slice_index_or head 11 0 == 0)
+    && nat_le (number_at head 12) LONGEST_BODY
+    then Some (16 + number_at head 12) else None
+
+abbrev pub behind_bulletin : ℕ → List ℕ → ℕ → Reached
+behind_bulletin limit bytes at = reach_found limit bytes at (bulletin_size (or_else least_bulletin bytes at))
+
+-- the size of what is needed of a circuit that begins so
+abbrev pub circuit_size : List ℕ → ℕ
+circuit_size head = 16 + 8 * (number_at head 8 + number_at head 12)
+
+abbrev pub behind_circuit : ℕ → List ℕ → ℕ → Reached
+behind_circuit limit bytes at = reach limit bytes at (circuit_size (or_else (replicate 16 0) bytes at))
+
+-- behind one, and what is reached from there
+abbrev pub and_then : Reached → (ℕ → Reached) → Reached
+and_then Short next = Short
+and_then Bad next = Bad
+and_then (Behind at) next = next at
+
+-- behind so many of them
+abbrev pub behind_all : (ℕ → Reached) → ℕ → ℕ → Reached
+behind_all one zero at = Behind at
+behind_all one (suc n) at = and_then (one at) (behind_all one n)
+
+-- what a checkpoint may begin with
+abbrev pub least_front : List ℕ
+least_front = codes "C" ++ replicate 19 0
+
+-- behind so many bulletins and circuits of a checkpoint
+abbrev pub behind_counted : ℕ → List ℕ → ℕ → ℕ → Reached
+behind_counted limit bytes bulletins circuits =
+    and_then (reach limit bytes 0 20) (λ at.
+    and_then (behind_all (behind_bulletin limit bytes) bulletins at) (λ behind. behind_all (behind_circuit limit bytes) circuits behind))
+
+-- behind those of a checkpoint that begins so
+abbrev pub behind_lists : ℕ → List ℕ → List ℕ → Reached
+behind_lists limit bytes front =
+    if starts_with nat_eq front (codes "C" ++ replicate 3 0)
+    then behind_counted limit bytes (number_at front 16) (number_at front 4) else Bad
+
+-- behind the checkpoint at the front
+abbrev pub behind_checkpoint : ℕ → List ℕ → Reached
+behind_checkpoint limit bytes = behind_lists limit bytes (or_else least_front bytes 0)
+
+-- the checkpoint at the front, where this seal stands before it
+abbrev pub checkpoint_piece : Version → ℕ → List ℕ → List ℕ → Piece
+checkpoint_piece v limit before bytes = elim (behind_checkpoint limit bytes) [
+  | Short ↦ Cut
+  | Bad ↦ Broken
+  | Behind size ↦
+      if nat_lt (length bytes) (size + seal_size v) then Cut
+      else if is_sealed v before (take size bytes) bytes then Sealed (size + seal_size v) (seal v before (take size bytes)) else Broken
+]
+
+-- a checkpoint may stand first, by its first byte
+abbrev pub is_checkpoint_fed : List ℕ → Bool
+is_checkpoint_fed bytes = starts_with nat_eq bytes (codes "C")
+
+-- the first record of a feed
+abbrev pub first_piece : Version → ℕ → List ℕ → List ℕ → Piece
+first_piece v limit before bytes = if is_checkpoint_fed bytes then checkpoint_piece v limit before bytes else record_piece v before bytes
+
+-- ---- the seals of a journal
+
+-- the seals of the records behind open gates from this gate on, where this seal stands before them. `n` is at least the number of
+-- bytes left.
+abbrev pub seals_at : Version → ℕ → List ℕ → List ℕ → List (List ℕ)
+seals_at v (suc n) before (mark ∷ bytes) =
+    elim (mark == open_gate) [
+      | false ↦ []
+      | true ↦ elim (sealed_at v before bytes) [
+        | None ↦ []
+        | Some r ↦ seal v before (record_text r) ∷ seals_at v n (seal v before (record_text r)) (drop (record_size v r - 1) bytes)
+      ]
+    ]
+seals_at v _ before _ = []
+
+-- the seal of the checkpoint of this need, and those of the records behind it
+abbrev pub checkpoint_seals : Version → List ℕ → List ℕ → Need → List (List ℕ)
+checkpoint_seals v before bytes n =
+    let first : List ℕ = seal v before (checkpoint_text n) in first ∷ seals_at v (length bytes) first (drop (compacted_bytes v n - 1) bytes)
+
+-- behind the header, by whether a checkpoint stands there
+abbrev pub seals_behind : Version → List ℕ → List ℕ → Bool → List (List ℕ)
+seals_behind v before bytes false = seals_at v (length bytes) before (drop 40 bytes)
+seals_behind v before bytes true = checkpoint_seals v before bytes (need_in (drop 41 bytes))
+
+-- ---- what becomes of a feed
+
+-- by what stands first: it ends there, or goes on
+abbrev pub by_piece : ℕ → Piece → (ℕ → List ℕ → Taken) → Taken
+by_piece at Cut next = stopped Ends
+by_piece at Broken next = stopped (Breaks at)
+by_piece at (Sealed size fed) next = next size fed
+
+-- a journal's seal and the feed's are compared
+abbrev pub compared : ℕ → List ℕ → List ℕ → Taken → Taken
+compared index own fed next = if pointwise nat_eq own fed then next else stopped (Parts index own fed)
+
+-- Records of a journal with these seals are compared with those of the feed from this place on, where this seal stands before them;
+-- and then the feed goes on.
+abbrev pub compare_all : Version → (ℕ → List ℕ → Taken) → List (List ℕ) → List ℕ → ℕ → ℕ → List ℕ → Taken
+compare_all v behind [] before index at bytes = behind at bytes
+compare_all v behind (own ∷ more) before index at bytes =
+    by_piece at (record_piece v before bytes) (λ size fed.
+    compared index own fed (compare_all v behind more own (index + 1) (at + size) (drop size bytes)))
+
+-- the first of them may be a checkpoint
+abbrev pub compare_first : Version → ℕ → (ℕ → List ℕ → Taken) → List (List ℕ) → List ℕ → List ℕ → Taken
+compare_first v limit behind [] before bytes = behind 40 bytes
+compare_first v limit behind (own ∷ more) before bytes =
+    by_piece 40 (first_piece v limit before bytes) (λ size fed.
+    compared 0 own fed (compare_all v behind more own 1 (40 + size) (drop size bytes)))
+
+-- Records of the feed from this place on are added to a journal with this state, gate and last seal. `n` is at least the number of
+-- bytes left.
+abbrev pub add_all : Version → Directory → ℕ → List ℕ → State → ℕ → ℕ → List ℕ → Taken
+add_all v d zero before s gate at bytes = stopped Ends
+add_all v d (suc n) before s gate at bytes = elim (record_behind v d before s gate bytes) [
+  | None ↦ if may_be_cut v bytes then stopped Ends else stopped (Breaks at)
+  | Some r ↦
+      adding r
+      (add_all v d n (seal v before (record_text r)) (after d s (event_of_record r)) (gate + record_size v r) (at + (record_size v r - 1))
+      (drop (record_size v r - 1) bytes))
+]
+
+-- a journal that is empty begins with the checkpoint of this need, if that may be its first record, and then records are added
+abbrev pub begin_with : Version → Directory → List ℕ → ℕ → List ℕ → Need → Taken
+begin_with v d before size bytes n =
+    if admits_checkpoint v d bytes n && nat_eq (length (checkpoint_text n) + seal_size v) size
+    then record
+    (add_all v d (length bytes) (seal v before (checkpoint_text n)) (begun n) (compacted_bytes v n - 1) (40 + size) (drop size bytes)) {
+      begins = Some n;
+    }
+    else stopped (Breaks 40)
+
+-- the records of the feed behind its header, where the journal has this state, its end and the seals of its records
+abbrev pub take_records : Version → Directory → State → ℕ → List ℕ → List (List ℕ) → List ℕ → Taken
+take_records v d s gate last [] bytes =
+    if is_checkpoint_fed bytes
+    then by_piece 40 (checkpoint_piece v d.limit last bytes) (λ size fed. begin_with v d last size bytes (need_in bytes))
+    else add_all v d (length bytes) last s gate 40 bytes
+take_records v d s gate last (own ∷ more) bytes =
+    compare_first v d.limit (λ at left. add_all v d (length left) last s gate at left) (own ∷ more) (first_seal v d.mark) bytes
+
+-- the header of the feed is that of the journal; one that isn't whole is dropped
+abbrev pub by_header : List ℕ → List ℕ → Taken → Taken
+by_header header fed next =
+    let same : ℕ = agreeing header fed in
+    if same == 40 then next else if nat_le (length fed) same then stopped Ends else stopped (Breaks same)
+
+-- what a feed comes to
+abbrev pub taken : Version → Directory → State → ℕ → List ℕ → List (List ℕ) → List ℕ → Taken
+taken v d s gate last own fed = by_header (magic v ++ d.mark) fed (take_records v d s gate last own (drop 40 fed))

@@ -1,0 +1,339 @@
+//! The records that a journal has are compared with those of a feed.
+ghost use Rattle.std.specs.Prelude.{◌≡◌, ◌≤◌, ◌<◌, ◌+◌, ◌*◌, ◌^◌, ℕ, false, List, nat_eq, length, IfOk, IfErr, OnOk, IsErrOf};
+ghost use Rattle.std.specs.Cmp.Lexicographic.{pointwise};
+ghost use Rattle.gts_traits.specs.{Rose};
+ghost use Rattle.gts_directory.specs.Directory.{Directory as DirectoryOf};
+ghost use Rattle.gts_event.specs.State.{State};
+ghost use Rattle.gts_record.specs.Format.{held, first_seal, written};
+ghost use Rattle.gts_journal.specs.{StandsOn, StandsFor, InHand, OnlySyncs, file_of};
+ghost use Rattle.gts_standby.specs.Shipping.{IsAtFirst};
+ghost use Rattle.gts_standby.specs.Taking.{first_piece, compare_all, compare_first as feed_compared};
+ghost use Rattle.gts_standby.specs.Following.{own_seals};
+ghost use Rattle.gts_standby.specs.Reading.{HasRead, FindsPiece, IsFedEnd, IsCompareEnd};
+ghost use Rattle.gts_standby.specs.Comparing.{IsAtSeals, OwnGoesOn, IsOwnEnd, ComparesFirst, ComparesOne, Compares, seals_here};
+ghost use Rattle.gts_standby.specs.Whole.{IsNamedEnd, IsWhole, StaysWhole};
+
+use crate::FollowEnd;
+use crate::ahead::Ahead;
+use crate::fed::fed_record;
+use crate::header::HEADER;
+use crate::scanning::{fed_checkpoint, is_at_checkpoint};
+use gts_checkpoint::read;
+use gts_directory::Directory;
+use gts_journal::{Journal, OpenFault, Version};
+use gts_traits::{Source, Station};
+use std::alloc::Global;
+
+/// Whether two seals are the same.
+fn is_same(version: Version, own: &[u8; 32], fed: &[u8; 32]) -> bool
+    ensures { result ≡ pointwise nat_eq (held version own.now) (held version fed.now) }
+{
+    let count = version.seal_size();
+    own[..count] == fed[..count]
+}
+
+/// Goes on behind the first record of a journal.
+fn own_first<P: Station>(
+    alloc: Global,
+    station: &mut P,
+    directory: &Directory,
+    own: &mut Journal,
+) -> Result<(), FollowEnd>
+    requires going { own.old.ended ≡ false }
+    requires begins { own.old.gate ≡ 40 }
+    requires stands { P.tells → StandsOn (P.calls station.old) own.old }
+    ensures on { P.tells → (end : ℕ) → IsAtFirst directory.now (P.calls station.old) own.old end
+        → 40 < end → OwnGoesOn result directory.now (P.calls station.new) own.new end
+        (seals_here directory.now (P.calls station.old) own.old) }
+    ensures going { OnOk result (own.new.ended ≡ false) }
+    ensures stands { P.tells → OnOk result (StandsOn (P.calls station.new) own.new) }
+    ensures rises { OnOk result (own.old.gate < own.new.gate) }
+    ensures version { OnOk result (own.new.version ≡ own.old.version) }
+    ensures kind { IfErr result IsOwnEnd }
+    ensures told { P.tells → P.calls station.new ≡ P.calls station.old }
+    ensures disk_fault { IsErrOf result FollowEnd.DiskFault
+        → Rose (P.disk_faults station.old) (P.disk_faults station.new) }
+    ensures later { P.disk_faults station.old ≤ P.disk_faults station.new }
+    ensures say { P.say_faults station.new ≡ P.say_faults station.old }
+    ensures named { IfErr result IsNamedEnd }
+{
+    if !own.at_checkpoint() {
+        return own_next(station, own);
+    }
+    // A limit is low enough for the place of the gate.
+    let _ = directory.limit();
+    let file = own.file();
+    match read(alloc, station, own.version(), file, directory) {
+        Ok(found) => {
+            own.pass(found.1, found.2);
+            Ok(())
+        }
+        Err(fault) => Err(FollowEnd::from(fault)),
+    }
+}
+
+/// Goes on behind the next record of a journal.
+fn own_next<P: Station>(station: &mut P, own: &mut Journal) -> Result<(), FollowEnd>
+    requires going { own.old.ended ≡ false }
+    requires room { own.old.gate < 2 ^ 40 }
+    requires stands { P.tells → StandsOn (P.calls station.old) own.old }
+    ensures on { P.tells → (d : DirectoryOf) (end : ℕ) (left : List (List ℕ))
+        → IsAtSeals d (P.calls station.old) own.old end left → own.old.gate < end
+        → OwnGoesOn result d (P.calls station.new) own.new end left }
+    ensures going { OnOk result (own.new.ended ≡ false) }
+    ensures stands { P.tells → OnOk result (StandsOn (P.calls station.new) own.new) }
+    ensures rises { OnOk result (own.old.gate < own.new.gate) }
+    ensures version { OnOk result (own.new.version ≡ own.old.version) }
+    ensures kind { IfErr result IsOwnEnd }
+    ensures told { P.tells → P.calls station.new ≡ P.calls station.old }
+    ensures disk_fault { IsErrOf result FollowEnd.DiskFault
+        → Rose (P.disk_faults station.old) (P.disk_faults station.new) }
+    ensures later { P.disk_faults station.old ≤ P.disk_faults station.new }
+    ensures say { P.say_faults station.new ≡ P.say_faults station.old }
+    ensures named { IfErr result IsNamedEnd }
+{
+    let file = own.file();
+    let gate = own.used();
+    match own.next(station) {
+        Ok(Some(_)) => Ok(()),
+        Ok(None) => Err(FollowEnd::Open(OpenFault::Damaged { file, at: gate })),
+        Err(fault) => Err(FollowEnd::from(fault)),
+    }
+}
+
+/// The first record of a feed: its size with its seal, and that.
+fn fed_first<S: Source>(
+    alloc: Global,
+    source: &mut S,
+    ahead: &mut Ahead,
+    limit: u64,
+    version: Version,
+    before: &[u8; 32],
+) -> Result<(usize, [u8; 32]), FollowEnd>
+    requires { limit ≤ 2 ^ 30 }
+    ensures piece { S.tells → (fed : List ℕ) → HasRead fed ahead.old (S.left source.old)
+        → FindsPiece result version 40 (first_piece version limit (held version before.now) fed)
+        fed ahead.new (S.left source.new) }
+    ensures there { IfOk result (λ found. found.0 ≤ length ahead.new.bytes) }
+    ensures size { IfOk result (λ found. found.0 ≤ 2 ^ 31) }
+    ensures kind { IfErr result IsFedEnd }
+    ensures source_fault { IsErrOf result FollowEnd.SourceFault
+        → Rose (S.faults source.old) (S.faults source.new) }
+    ensures source_later { S.faults source.old ≤ S.faults source.new }
+{
+    match is_at_checkpoint(source, ahead) {
+        Ok(true) => fed_checkpoint(source, ahead, limit, version, before),
+        Ok(false) => fed_record(alloc, source, ahead, version, before, HEADER as u64),
+        Err(end) => Err(end),
+    }
+}
+
+/// Compares the first record of a feed with the journal's, and answers its size.
+fn compare_first<P: Station, S: Source>(
+    alloc: Global,
+    station: &mut P,
+    directory: &Directory,
+    own: &mut Journal,
+    source: &mut S,
+    ahead: &mut Ahead,
+) -> Result<usize, FollowEnd>
+    requires current { own.old.version ≡ written }
+    requires going { own.old.ended ≡ false }
+    requires begins { own.old.gate ≡ 40 }
+    requires stands { P.tells → StandsOn (P.calls station.old) own.old }
+    ensures compared { P.tells → S.tells → (end : ℕ) (fed : List ℕ)
+        → IsAtFirst directory.now (P.calls station.old) own.old end → 40 < end
+        → HasRead fed ahead.old (S.left source.old)
+        → ComparesFirst result directory.now (P.calls station.old) own.old fed
+        (P.calls station.new) own.new end ahead.new (S.left source.new) }
+    ensures size { IfOk result (λ size. size ≤ 2 ^ 31) }
+    ensures going { OnOk result (own.new.ended ≡ false) }
+    ensures stands { P.tells → OnOk result (StandsOn (P.calls station.new) own.new) }
+    ensures rises { OnOk result (own.old.gate < own.new.gate) }
+    ensures version { OnOk result (own.new.version ≡ own.old.version) }
+    ensures kind { IfErr result IsCompareEnd }
+    ensures told { P.tells → P.calls station.new ≡ P.calls station.old }
+    ensures disk_fault { IsErrOf result FollowEnd.DiskFault
+        → Rose (P.disk_faults station.old) (P.disk_faults station.new) }
+    ensures later { P.disk_faults station.old ≤ P.disk_faults station.new }
+    ensures say { P.say_faults station.new ≡ P.say_faults station.old }
+    ensures source_fault { IsErrOf result FollowEnd.SourceFault
+        → Rose (S.faults source.old) (S.faults source.new) }
+    ensures source_later { S.faults source.old ≤ S.faults source.new }
+    ensures whole { S.tells → IsWhole ahead.old (S.left source.old)
+        → StaysWhole result ahead.new (S.left source.new) }
+    ensures named { IfErr result IsNamedEnd }
+{
+    let version = own.version();
+    let before = own.seal();
+    let limit = directory.limit();
+    let (size, fed) = match fed_first(alloc, source, ahead, limit, version, &before) {
+        Ok(found) => found,
+        Err(end) => return Err(end),
+    };
+    match own_first(alloc, station, directory, own) {
+        Ok(()) => {}
+        Err(end) => return Err(end),
+    }
+    let seal = own.seal();
+    if !is_same(version, &seal, &fed) {
+        return Err(FollowEnd::Diverged {
+            index: 0,
+            own: seal,
+            fed,
+        });
+    }
+    ahead.pass(size);
+    Ok(size)
+}
+
+/// Compares a further record of a feed with the journal's, and answers its size.
+fn compare_next<P: Station, S: Source>(
+    alloc: Global,
+    station: &mut P,
+    own: &mut Journal,
+    source: &mut S,
+    ahead: &mut Ahead,
+    index: u64,
+    at: u64,
+) -> Result<usize, FollowEnd>
+    requires current { own.old.version ≡ written }
+    requires going { own.old.ended ≡ false }
+    requires room { own.old.gate < 2 ^ 40 }
+    requires stands { P.tells → StandsOn (P.calls station.old) own.old }
+    ensures compared { P.tells → S.tells → (d : DirectoryOf) (end : ℕ) (left : List (List ℕ))
+        (fed : List ℕ) → IsAtSeals d (P.calls station.old) own.old end left → own.old.gate < end
+        → HasRead fed ahead.old (S.left source.old) → ComparesOne result d left own.old.version
+        own.old.seal index at fed (P.calls station.new) own.new end ahead.new (S.left source.new) }
+    ensures size { IfOk result (λ size. size ≤ 2 ^ 20) }
+    ensures going { OnOk result (own.new.ended ≡ false) }
+    ensures stands { P.tells → OnOk result (StandsOn (P.calls station.new) own.new) }
+    ensures rises { OnOk result (own.old.gate < own.new.gate) }
+    ensures version { OnOk result (own.new.version ≡ own.old.version) }
+    ensures kind { IfErr result IsCompareEnd }
+    ensures told { P.tells → P.calls station.new ≡ P.calls station.old }
+    ensures disk_fault { IsErrOf result FollowEnd.DiskFault
+        → Rose (P.disk_faults station.old) (P.disk_faults station.new) }
+    ensures later { P.disk_faults station.old ≤ P.disk_faults station.new }
+    ensures say { P.say_faults station.new ≡ P.say_faults station.old }
+    ensures source_fault { IsErrOf result FollowEnd.SourceFault
+        → Rose (S.faults source.old) (S.faults source.new) }
+    ensures source_later { S.faults source.old ≤ S.faults source.new }
+    ensures whole { S.tells → IsWhole ahead.old (S.left source.old)
+        → StaysWhole result ahead.new (S.left source.new) }
+    ensures named { IfErr result IsNamedEnd }
+{
+    let version = own.version();
+    let before = own.seal();
+    let (size, fed) = match fed_record(alloc, source, ahead, version, &before, at) {
+        Ok(found) => found,
+        Err(end) => return Err(end),
+    };
+    match own_next(station, own) {
+        Ok(()) => {}
+        Err(end) => return Err(end),
+    }
+    let seal = own.seal();
+    if !is_same(version, &seal, &fed) {
+        return Err(FollowEnd::Diverged {
+            index,
+            own: seal,
+            fed,
+        });
+    }
+    ahead.pass(size);
+    Ok(size)
+}
+
+/// Compares the further records of a journal, up to the gate at a place, with those of a feed from a place on, and answers the
+/// place in the feed behind them.
+fn compare_rest<P: Station, S: Source>(
+    alloc: Global,
+    station: &mut P,
+    own: &mut Journal,
+    end: u64,
+    source: &mut S,
+    ahead: &mut Ahead,
+    at: u64,
+) -> Result<u64, FollowEnd>
+    requires current { own.old.version ≡ written }
+    requires going { own.old.ended ≡ false }
+    requires room { end ≤ 2 ^ 30 }
+    requires place { at ≤ 2 ^ 32 }
+    requires stands { P.tells → StandsOn (P.calls station.old) own.old }
+    ensures compared { P.tells → S.tells → (d : DirectoryOf) (left : List (List ℕ)) (fed : List ℕ)
+        → IsAtSeals d (P.calls station.old) own.old end left
+        → HasRead fed ahead.old (S.left source.old) → Compares result (λ behind. compare_all
+        own.old.version behind left own.old.seal 1 at fed) ahead.new (S.left source.new) }
+    ensures told { P.tells → P.calls station.new ≡ P.calls station.old }
+    ensures place { IfOk result (λ at. at ≤ 2 ^ 62) }
+    ensures kind { IfErr result IsCompareEnd }
+    ensures disk_fault { IsErrOf result FollowEnd.DiskFault
+        → Rose (P.disk_faults station.old) (P.disk_faults station.new) }
+    ensures later { P.disk_faults station.old ≤ P.disk_faults station.new }
+    ensures say { P.say_faults station.new ≡ P.say_faults station.old }
+    ensures source_fault { IsErrOf result FollowEnd.SourceFault
+        → Rose (S.faults source.old) (S.faults source.new) }
+    ensures source_later { S.faults source.old ≤ S.faults source.new }
+    ensures whole { S.tells → IsWhole ahead.old (S.left source.old)
+        → StaysWhole result ahead.new (S.left source.new) }
+    ensures named { IfErr result IsNamedEnd }
+{
+    let mut index = 1;
+    let mut at = at;
+    'record: while own.used() < end {
+        match compare_next(alloc, station, own, source, ahead, index, at) {
+            Ok(size) => at += size as u64,
+            Err(end) => return Err(end),
+        }
+        index += 1;
+    }
+    Ok(at)
+}
+
+/// Compares all records of a journal, which come to a gate at a place, with those of a feed, and answers the place in the feed
+/// behind them.
+pub(crate) fn compare<P: Station, S: Source>(
+    alloc: Global,
+    station: &mut P,
+    directory: &Directory,
+    end: u64,
+    source: &mut S,
+    ahead: &mut Ahead,
+) -> Result<u64, FollowEnd>
+    requires some { 40 < end }
+    requires room { end ≤ 2 ^ 30 }
+    ensures compared { P.tells → S.tells → (s : State) (j : InHand) (fed : List ℕ)
+        → StandsFor directory.now s (P.calls station.old) j → j.gate ≡ end
+        → HasRead fed ahead.old (S.left source.old) → Compares result (λ behind. feed_compared
+        written directory.now.limit behind (own_seals directory.now
+        (file_of (P.calls station.old) j)) (first_seal written directory.now.mark) fed)
+        ahead.new (S.left source.new) }
+    ensures told { P.tells → OnlySyncs (P.calls station.old) (P.calls station.new) }
+    ensures place { IfOk result (λ at. at ≤ 2 ^ 62) }
+    ensures kind { IfErr result IsCompareEnd }
+    ensures disk_fault { IsErrOf result FollowEnd.DiskFault
+        → Rose (P.disk_faults station.old) (P.disk_faults station.new) }
+    ensures later { P.disk_faults station.old ≤ P.disk_faults station.new }
+    ensures say { P.say_faults station.new ≡ P.say_faults station.old }
+    ensures source_fault { IsErrOf result FollowEnd.SourceFault
+        → Rose (S.faults source.old) (S.faults source.new) }
+    ensures source_later { S.faults source.old ≤ S.faults source.new }
+    ensures whole { S.tells → IsWhole ahead.old (S.left source.old)
+        → StaysWhole result ahead.new (S.left source.new) }
+    ensures named { IfErr result IsNamedEnd }
+{
+    // A limit is low enough for what a checkpoint takes.
+    let _ = directory.limit();
+    let mut own = match Journal::start(alloc, station, directory.mark()) {
+        Ok(own) => own,
+        Err(fault) => return Err(FollowEnd::from(fault)),
+    };
+    match compare_first(alloc, station, directory, &mut own, source, ahead) {
+        Ok(size) => {
+            let at = HEADER as u64 + size as u64;
+            compare_rest(alloc, station, &mut own, end, source, ahead, at)
+        }
+        Err(end) => Err(end),
+    }
+}

@@ -1,0 +1,208 @@
+ghost use Rattle.std.specs.Prelude.{◌≡◌, ◌≤◌, ℕ, List, [], Ok};
+ghost use Rattle.gts_traits.specs.{Rose, seen, said_by};
+ghost use Rattle.gts_opening.specs.Journal.{opens, files_read};
+ghost use Rattle.gts_event.specs.State.{State};
+ghost use Rattle.gts_event.specs.History.{restarted};
+ghost use Rattle.gts_event.specs.Need.{need};
+ghost use Rattle.gts_record.specs.Format.{written, first_seal};
+ghost use Rattle.gts_journal.specs.{file_of};
+ghost use Rattle.gts_recovery.specs.{IsOpened};
+ghost use Rattle.gts_standby.specs.Taking as feeds;
+ghost use Rattle.gts_standby.specs.Taking.{Taken};
+ghost use Rattle.gts_standby.specs.Following.{comes_to, own_seals, Answers, IsEnd, state_after, EachOpens};
+ghost use Rattle.gts_standby.specs.Reading.{HasRead, ReadsAll};
+ghost use Rattle.gts_standby.specs.Adding.{HoldsAt, IsAddEnd};
+ghost use Rattle.gts_standby.specs.Whole.{HasTaken, IsNamedEnd, IsWhole};
+
+use crate::FollowEnd;
+use crate::adding::add_all;
+use crate::ahead::Ahead;
+use crate::beginning::begin;
+use crate::comparing::compare;
+use crate::header::{HEADER, take_header};
+use crate::scanning::is_at_checkpoint;
+use gts_core::Core;
+use gts_directory::Directory;
+use gts_journal::Journal;
+use gts_recovery::open_core;
+use gts_traits::{Source, Station};
+use std::alloc::Global;
+
+/// Takes the records of a feed into a journal that has none.
+fn take_first<P: Station, S: Source>(
+    alloc: Global,
+    station: &mut P,
+    directory: &Directory,
+    core: Core,
+    journal: Journal,
+    source: &mut S,
+    ahead: &mut Ahead,
+) -> FollowEnd
+    requires { IsOpened P.tells directory.now (P.calls station.old) core journal }
+    ensures taken { P.tells → S.tells → (s : State) (fed : List ℕ)
+        → HoldsAt P.tells directory.now s (P.calls station.old) core journal
+        → journal.seal ≡ first_seal written directory.now.mark
+        → HasRead fed ahead.old (S.left source.old) → HasTaken result directory.now s
+        (feeds.take_records written directory.now s journal.gate journal.seal [] fed)
+        (P.calls station.old) (P.calls station.new) (S.left source.new) }
+    ensures kind { IsAddEnd result }
+    ensures silent { P.tells → said_by (P.calls station.new) ≡ said_by (P.calls station.old) }
+    ensures source_fault { result ≡ FollowEnd.SourceFault
+        → Rose (S.faults source.old) (S.faults source.new) }
+    ensures disk_fault { result ≡ FollowEnd.DiskFault
+        → Rose (P.disk_faults station.old) (P.disk_faults station.new) }
+    ensures later { P.disk_faults station.old ≤ P.disk_faults station.new }
+    ensures source_later { S.faults source.old ≤ S.faults source.new }
+    ensures say { P.say_faults station.new ≡ P.say_faults station.old }
+    ensures whole { S.tells → IsWhole ahead.old (S.left source.old)
+        → ReadsAll result (S.left source.new) }
+{
+    let mut journal = journal;
+    match is_at_checkpoint(source, ahead) {
+        Ok(true) => {}
+        Ok(false) => {
+            let at = HEADER as u64;
+            return add_all(alloc, station, directory, core, journal, source, ahead, at);
+        }
+        Err(end) => return end,
+    }
+    match begin(
+        alloc,
+        station,
+        directory,
+        &core,
+        &mut journal,
+        source,
+        ahead,
+    ) {
+        Ok((core, at)) => add_all(alloc, station, directory, core, journal, source, ahead, at),
+        Err(end) => end,
+    }
+}
+
+/// Takes the records of a feed into a journal at its end.
+fn take_records<P: Station, S: Source>(
+    alloc: Global,
+    station: &mut P,
+    directory: &Directory,
+    core: Core,
+    journal: Journal,
+    source: &mut S,
+    ahead: &mut Ahead,
+) -> FollowEnd
+    requires { IsOpened P.tells directory.now (P.calls station.old) core journal }
+    ensures taken { P.tells → S.tells → (s : State) (fed : List ℕ)
+        → HoldsAt P.tells directory.now s (P.calls station.old) core journal
+        → HasRead fed ahead.old (S.left source.old) → HasTaken result directory.now s
+        (feeds.take_records written directory.now s journal.gate journal.seal
+        (own_seals directory.now (file_of (P.calls station.old) journal)) fed)
+        (P.calls station.old) (P.calls station.new) (S.left source.new) }
+    ensures silent { P.tells → said_by (P.calls station.new) ≡ said_by (P.calls station.old) }
+    ensures source_fault { result ≡ FollowEnd.SourceFault
+        → Rose (S.faults source.old) (S.faults source.new) }
+    ensures disk_fault { result ≡ FollowEnd.DiskFault
+        → Rose (P.disk_faults station.old) (P.disk_faults station.new) }
+    ensures later { P.disk_faults station.old ≤ P.disk_faults station.new }
+    ensures source_later { S.faults source.old ≤ S.faults source.new }
+    ensures say { P.say_faults station.new ≡ P.say_faults station.old }
+    ensures whole { S.tells → IsWhole ahead.old (S.left source.old)
+        → ReadsAll result (S.left source.new) }
+    ensures named { IsNamedEnd result }
+{
+    // A limit is low enough for the places of gates.
+    let _ = directory.limit();
+    let end = journal.used() - 1;
+    if end <= HEADER as u64 {
+        return take_first(alloc, station, directory, core, journal, source, ahead);
+    }
+    match compare(alloc, station, directory, end, source, ahead) {
+        Ok(at) => add_all(alloc, station, directory, core, journal, source, ahead, at),
+        Err(end) => end,
+    }
+}
+
+/// Takes a feed into the journal, on a station that is lent.
+fn take_feed<P: Station, S: Source>(
+    alloc: Global,
+    station: &mut P,
+    directory: &Directory,
+    source: &mut S,
+) -> FollowEnd
+    ensures answer { P.tells → S.tells → Answers result
+        (comes_to directory.now (seen (P.calls station.old)) (S.left source.old)) }
+    ensures added { P.tells → S.tells → (s : State) (used : ℕ) (last : List ℕ) (taken : Taken)
+        → files_read written directory.now (seen (P.calls station.old)) ≡ Ok (s, used, last)
+        → comes_to directory.now (seen (P.calls station.old)) (S.left source.old) ≡ Ok taken
+        → IsEnd result → opens directory.now (seen (P.calls station.new))
+        ≡ Ok (need directory.now (restarted (state_after directory.now s taken))) }
+    ensures moments { P.tells → S.tells → (s : State) (used : ℕ) (last : List ℕ) (taken : Taken)
+        → files_read written directory.now (seen (P.calls station.old)) ≡ Ok (s, used, last)
+        → comes_to directory.now (seen (P.calls station.old)) (S.left source.old) ≡ Ok taken
+        → EachOpens directory.now s taken (P.calls station.old) (P.calls station.new) }
+    ensures done { S.tells → result ≡ FollowEnd.Done → S.left source.new ≡ [] }
+    ensures silent { P.tells → said_by (P.calls station.new) ≡ said_by (P.calls station.old) }
+    ensures source_fault { result ≡ FollowEnd.SourceFault
+        → Rose (S.faults source.old) (S.faults source.new) }
+    ensures disk_fault { result ≡ FollowEnd.DiskFault
+        → Rose (P.disk_faults station.old) (P.disk_faults station.new) }
+    ensures later { P.disk_faults station.old ≤ P.disk_faults station.new }
+    ensures source_later { S.faults source.old ≤ S.faults source.new }
+    ensures say { P.say_faults station.new ≡ P.say_faults station.old }
+    ensures named { IsNamedEnd result }
+{
+    let (core, journal) = match open_core(alloc, station, directory) {
+        Ok(opened) => opened,
+        Err(fault) => return FollowEnd::from(fault),
+    };
+    let mut ahead = Ahead::new(alloc);
+    match take_header(source, &mut ahead, directory.mark()) {
+        Ok(()) => take_records(alloc, station, directory, core, journal, source, &mut ahead),
+        Err(end) => end,
+    }
+}
+
+/// Takes a feed, which is read to its end, into the journal, which is opened first. The records that the journal has are compared
+/// with those of the feed by their seals, in order; what it doesn't have is checked by the rules of the journal, in the state so far,
+/// and appended. A checkpoint can only be the first record of a journal that has none. The feed may end anywhere: what isn't a
+/// whole record with its seal there is dropped.
+pub fn follow<P: Station, S: Source>(
+    alloc: Global,
+    station: P,
+    directory: &Directory,
+    source: &mut S,
+) -> (P, FollowEnd)
+    // What is answered is what the feed comes to beside the journal, or the fault to which its files open.
+    ensures answer { P.tells → S.tells → Answers result.1
+        (comes_to directory.now (seen (P.calls station)) (S.left source.old)) }
+
+    // At each end of the feed the journal has all that the feed adds.
+    ensures added { P.tells → S.tells → (s : State) (used : ℕ) (last : List ℕ) (taken : Taken)
+        → files_read written directory.now (seen (P.calls station)) ≡ Ok (s, used, last)
+        → comes_to directory.now (seen (P.calls station)) (S.left source.old) ≡ Ok taken
+        → IsEnd result.1 → opens directory.now (seen (P.calls result.0))
+        ≡ Ok (need directory.now (restarted (state_after directory.now s taken))) }
+
+    // A crash at any moment since the sync of the opening leaves a journal that has what it had, and a first part of that.
+    ensures moments { P.tells → S.tells → (s : State) (used : ℕ) (last : List ℕ) (taken : Taken)
+        → files_read written directory.now (seen (P.calls station)) ≡ Ok (s, used, last)
+        → comes_to directory.now (seen (P.calls station)) (S.left source.old) ≡ Ok taken
+        → EachOpens directory.now s taken (P.calls station) (P.calls result.0) }
+
+    // The feed was read to its end.
+    ensures done { S.tells → result.1 ≡ FollowEnd.Done → S.left source.new ≡ [] }
+    ensures silent { P.tells → said_by (P.calls result.0) ≡ said_by (P.calls station) }
+    ensures source_fault { result.1 ≡ FollowEnd.SourceFault
+        → Rose (S.faults source.old) (S.faults source.new) }
+    ensures disk_fault { result.1 ≡ FollowEnd.DiskFault
+        → Rose (P.disk_faults station) (P.disk_faults result.0) }
+    ensures later { P.disk_faults station ≤ P.disk_faults result.0 }
+    ensures source_later { S.faults source.old ≤ S.faults source.new }
+    ensures say { P.say_faults result.0 ≡ P.say_faults station }
+
+    // A fault of the disk, and want of memory, have names of their own.
+    ensures named { IsNamedEnd result.1 }
+{
+    let mut station = station;
+    let end = take_feed(alloc, &mut station, directory, source);
+    (station, end)
+}
