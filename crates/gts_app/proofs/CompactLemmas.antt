@@ -17,6 +17,7 @@ use Rattle.gts_record.specs.declared.fault.OpenFault.{OpenFault}
 use Rattle.gts_record.specs.declared.fault.OpenFault.TheVariants as opening
 use Rattle.gts_journal.specs.{OpensAsBefore}
 use Rattle.gts_checkpoint.specs.{checkpoint_file}
+use Rattle.gts_connection.specs.declared.kind.CaptureKind.TheVariants.{Journaled}
 use Rattle.gts_opening.specs.Journal.{opens, selected}
 use Rattle.gts_opening.specs.Room.{compacted_size, full_compacted}
 use Rattle.gts_turns.specs.{HasTurnCause}
@@ -89,7 +90,7 @@ not_compacted source w status od nd old new result is h =
               ]
             ]
           ];
-      answered = (refused source source w status od nd od old new result is h).refused;
+      answered = (refused Journaled source source w status od nd od old new result is h).refused;
       taken = h.taken;
       counts = (h.later, r.later, omega (arith, r.say));
     }

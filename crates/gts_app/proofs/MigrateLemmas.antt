@@ -26,7 +26,7 @@ use Rattle.gts_migrate.specs.Migrating.{OpensEither, IsMigrated, GivesRoomFor, A
 use Rattle.gts_migrate.specs.declared.migrating.MigrateFault.{MigrateFault}
 use Rattle.gts_migrate.specs.declared.migrating.MigrateFault.TheVariants as fault
 use Rattle.gts_app.specs.declared.status.Status.{Status}
-use Rattle.gts_app.specs.declared.status.Status.TheVariants.{Done, Words, Directory, OldDirectory, Changed, Capture, NoJournal, OldVersion, NotThis, Damaged, Exists, Accum, DiskFault, SourceFault, SayFault, Full, LineFault, LongSession, Spent, NoMemory}
+use Rattle.gts_app.specs.declared.status.Status.TheVariants.{Done, Words, Directory, OldDirectory, Changed, Capture, NoJournal, OldVersion, NotThis, Damaged, Exists, Accum, Feed, Diverged, DiskFault, SourceFault, SayFault, Full, LineFault, LongSession, Spent, NoMemory}
 use Rattle.gts_app.specs.Ending.{refusal}
 use Rattle.gts_app.specs.Reading.{IsOldReadEnd, ReadsDirectory, ReadsOldDirectory}
 use Rattle.gts_app.specs.Replay.{world}
@@ -57,6 +57,8 @@ old_ended (NotThis _ _) h = absurd h
 old_ended (Damaged _ _) h = absurd h
 old_ended (Exists _) h = absurd h
 old_ended (Accum _) h = absurd h
+old_ended (Feed _) h = absurd h
+old_ended (Diverged _ _ _) h = absurd h
 old_ended DiskFault h = absurd h
 old_ended SayFault h = absurd h
 old_ended (Full _ _ _) h = absurd h

@@ -15,7 +15,7 @@ use Rattle.gts_missing.specs.declared.moment.Moment.{Moment}
 use Rattle.gts_missing.specs.declared.fault.GapsEnd.{GapsEnd}
 use Rattle.gts_missing.specs.declared.fault.GapsEnd.TheVariants as gaps
 use Rattle.gts_app.specs.declared.status.Status.{Status}
-use Rattle.gts_app.specs.declared.status.Status.TheVariants.{Done, Words, Directory, OldDirectory, Changed, Capture, NoJournal, OldVersion, NotThis, Damaged, Exists, Accum, DiskFault, SourceFault, SayFault, Full, LineFault, LongSession, Spent, NoMemory}
+use Rattle.gts_app.specs.declared.status.Status.TheVariants.{Done, Words, Directory, OldDirectory, Changed, Capture, NoJournal, OldVersion, NotThis, Damaged, Exists, Accum, Feed, Diverged, DiskFault, SourceFault, SayFault, Full, LineFault, LongSession, Spent, NoMemory}
 use Rattle.gts_app.specs.Reading.{IsReadEnd, ReadsDirectory}
 use Rattle.gts_app.specs.Replay.{world}
 use Rattle.gts_app.specs.Pack.{status_packed, PackedAs, KeepsFiles, PacksStream}
@@ -42,6 +42,8 @@ ended (NotThis _ _) e = absurd e
 ended (Damaged _ _) e = absurd e
 ended (Exists _) e = absurd e
 ended (Accum _) e = absurd e
+ended (Feed _) e = absurd e
+ended (Diverged _ _ _) e = absurd e
 ended DiskFault e = absurd e
 ended SayFault e = absurd e
 ended (Full _ _ _) e = absurd e

@@ -13,6 +13,7 @@ use Rattle.gts_record.specs.declared.fault.OpenFault.TheVariants as opening
 use Rattle.gts_engine.specs.Engine.{Engine}
 use Rattle.gts_engine.specs.Keeping.{OpensWith, origin_of}
 use Rattle.gts_engine.specs.Switching.{switch_words}
+use Rattle.gts_connection.specs.declared.kind.CaptureKind.TheVariants.{Journaled}
 use Rattle.gts_replay.specs.declared.end.ReplayEnd.{ReplayEnd}
 use Rattle.gts_replay.specs.declared.end.ReplayEnd.TheVariants as end
 use Rattle.gts_replay.specs.{HasReplayCause}
@@ -22,15 +23,15 @@ use Rattle.gts_unpack.specs.declared.end.UnpackEnd.{UnpackEnd}
 use Rattle.gts_unpack.specs.declared.end.UnpackEnd.TheVariants.{Bad, Ended}
 use Rattle.gts_unpack.specs.{IsEndOf, IsEndAt, Unpacks as Runs, HasUnpackCause}
 use Rattle.gts_app.specs.declared.status.Status.{Status}
-use Rattle.gts_app.specs.declared.status.Status.TheVariants.{Done, Words, Directory, OldDirectory, Changed, Capture, NoJournal, OldVersion, NotThis, Damaged, Exists, Accum, DiskFault, SourceFault, SayFault, Full, LineFault, LongSession, Spent, NoMemory}
+use Rattle.gts_app.specs.declared.status.Status.TheVariants.{Done, Words, Directory, OldDirectory, Changed, Capture, NoJournal, OldVersion, NotThis, Damaged, Exists, Accum, Feed, Diverged, DiskFault, SourceFault, SayFault, Full, LineFault, LongSession, Spent, NoMemory}
 use Rattle.gts_app.specs.Laws.{KeepsLaws}
 use Rattle.gts_app.specs.Ending.{status_of}
 use Rattle.gts_app.specs.Opening.{IsRefusal, Opens}
 use Rattle.gts_app.specs.Reading.{IsReadEnd, ReadsDirectory}
-use Rattle.gts_app.specs.Replay.{world, Replays}
+use Rattle.gts_app.specs.Replay.{world}
 use Rattle.gts_app.specs.Unpack.{status_unpacked, unpacked, capture_words, HasNoCircuit, IsStatusOf, Unpacks}
 use Rattle.gts_app.proofs.OpeningLemmas.{no_directory}
-use Rattle.gts_app.proofs.RefusalLemmas.{refused, same_directory, no_fault}
+use Rattle.gts_app.proofs.RefusalLemmas.{refused, out_of_memory, same_directory, no_fault}
 use Rattle.gts_app.proofs.ReplayLemmas.{replays}
 
 -- ---- a status by that of the capture's replay
@@ -64,6 +65,8 @@ abbrev IsOther : Status → ReplayEnd → Type 0
 IsOther Done r = r ≡ end.Done
 IsOther Words r = ⊥
 IsOther (Accum at) r = ⊥
+IsOther (Feed at) r = ⊥
+IsOther (Diverged index own fed) r = ⊥
 IsOther _ r = Unit {0}
 
 is-other : (r : ReplayEnd) → IsOther (status_of r) r
@@ -147,7 +150,8 @@ unpacks source w c result od nd oc nc old first last opens laws run narrow here 
         replayed = status_of run.replayed;
         is = status-is run.replayed result run.is;
         left = run.left;
-        replays = replays source (capture_words source) w run.replayed od nd (unpacked (captured (source.left oc) c) oc) (unpacked run.left nc) old first last opens laws run.ends narrow
+        replays = replays source (capture_words source) w run.replayed od nd (unpacked (captured (source.left oc) c) oc) (unpacked run.left nc) old first last opens laws
+            (λ told n stands. run.ends (record { told = told; origin = origin_of w.calls first n }) [] stands) narrow
             (replayed-cause run.replayed result _ _ _ _ (source.faults oc) (source.faults nc) run.is cause) files;
       };
       accum = λ at is tells told. let P : UnpackEnd → Type 0 = λ e. IsEndAt (badplace (source.left oc)) e in subst P (bad-is result at is) (place tells told);
@@ -172,6 +176,8 @@ refusal-is (NotThis want found) ends = refl
 refusal-is (Damaged file at) ends = refl
 refusal-is (Exists size) ends = refl
 refusal-is (Accum at) ends = refl
+refusal-is (Feed at) ends = refl
+refusal-is (Diverged index own fed) ends = refl
 refusal-is DiskFault ends = refl
 refusal-is SourceFault ends = refl
 refusal-is SayFault ends = refl
@@ -195,7 +201,7 @@ unbegun source w c status od nd oc old new result is h circuit =
         replayed = status;
         is = refusal-is status ends;
         left = captured (source.left oc) c;
-        replays = refused source (capture_words source) w status od nd file old new result is h;
+        replays = refused Journaled source (capture_words source) w status od nd file old new result is h;
       };
       accum = λ at e. absurd (subst IsRefusal e ends);
       done = λ e. absurd (subst IsRefusal e ends);
@@ -227,6 +233,8 @@ unaccepted source w c status od nd oc old h =
     go (Damaged file at) is ends tells none kept = absurd ends
     go (Exists size) is ends tells none kept = absurd ends
     go (Accum at) is ends tells none kept = absurd ends
+    go (Feed at) is ends tells none kept = absurd ends
+    go (Diverged index own fed) is ends tells none kept = absurd ends
     go DiskFault is ends tells none kept = absurd ends
     go SayFault is ends tells none kept = absurd ends
     go (Full used need limit) is ends tells none kept = absurd ends
@@ -257,34 +265,6 @@ no-circuit source w c d od nd oc old h over = record {
 
 -- ---- there was no memory to read the words
 
-unread-replay : {S C P : Type 0} (source : SourceWords S) (captures : SourceWords C) (w : StationWords P) (od : S) (oc : C) (old : P)
-    → Replays source captures w NoMemory (world od oc old) (world od oc old)
-unread-replay source captures w od oc old = record {
-  done = λ is. absurd (cc);
-  words = λ is. cc;
-  exists = λ size is. cc;
-  accum = λ at is. cc;
-  line_fault = λ n is. cc;
-  long_session = λ n is. cc;
-  spent = λ n is. cc;
-  directory = λ fault is. absurd (cc);
-  no_journal = λ is. absurd (cc);
-  old_version = λ is. absurd (cc);
-  not_this = λ want found is. absurd (cc);
-  damaged = λ file at is. absurd (cc);
-  capture = λ at is. absurd (cc);
-  source_fault = λ is. absurd (cc);
-  say_fault = λ is. absurd (cc);
-  disk_fault = λ is. absurd (cc);
-  full = λ used need limit is. absurd (cc);
-  no_memory = λ is. inl (record { capture = refl; only_syncs = λ told. inr (inl refl); no_say = refl });
-  complete = λ tells given told few d n steps read opened whole room kept_directory kept_capture kept_say kept_disk. inr refl;
-  refused = λ tells told d fault read opened kept_directory kept_disk. inr refl;
-  directory_taken = λ tells. ([], refl, omega arith);
-  source_counts = (omega arith, omega arith);
-  station_counts = (omega arith, omega arith);
-}
-
 pub unread : {S P : Type 0} (source : SourceWords S) (w : StationWords P) (c : ℕ) (od oc : S) (old : P)
     → Unpacks source w c NoMemory (world od oc old) (world od oc old)
 unread source w c od oc old =
@@ -295,7 +275,8 @@ unread source w c od oc old =
         replayed = NoMemory;
         is = refl;
         left = captured (source.left oc) c;
-        replays = unread-replay source (capture_words source) w od file old;
+        replays = out_of_memory Journaled source (capture_words source) w od od file old old (λ told. inr (inl refl)) refl (omega arith)
+            (λ tells. ([], refl, omega arith)) (omega arith);
       };
       accum = λ at is. absurd (cc);
       done = λ is. absurd (cc);

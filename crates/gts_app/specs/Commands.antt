@@ -1,12 +1,13 @@
 -- The words that name a command which is built, and what each command comes to.
 use Rattle.std.specs.Prelude.{◌≡◌, ℕ, List, Option, Some}
 use Rattle.gts_words.specs.declared.command.Command.{Command}
-use Rattle.gts_words.specs.declared.command.Command.TheVariants.{Init, Replay, Serve, Show, Compact, Generate, Migrate, Unpack, Pack, Gaps, Ship}
+use Rattle.gts_words.specs.declared.command.Command.TheVariants.{Init, Replay, Serve, Show, Compact, Generate, Migrate, Unpack, Pack, Gaps, Ship, Follow, Count}
 use Rattle.gts_words.specs.{command_of}
 pub use Rattle.gts_app.specs.Generate.{Generates}
 pub use Rattle.gts_app.specs.Init.{Inits}
 pub use Rattle.gts_app.specs.Replay.{Replays, world, IsNoCapture}
 pub use Rattle.gts_app.specs.Serve.{Serves}
+use Rattle.gts_app.specs.Count.{CountsTraffic}
 use Rattle.gts_app.specs.Show.{Shows}
 use Rattle.gts_app.specs.Pack.{PacksStream}
 use Rattle.gts_app.specs.Ship.{ShipsFeed}
@@ -14,6 +15,7 @@ use Rattle.gts_app.specs.Gaps.{NamesGaps}
 use Rattle.gts_app.specs.Unpack.{Unpacks}
 use Rattle.gts_app.specs.Compact.{Compacts}
 use Rattle.gts_app.specs.Migrate.{Migrates}
+use Rattle.gts_app.specs.Follow.{FollowsFeed}
 use Rattle.gts_app.specs.Replay.{World}
 use Rattle.gts_app.specs.declared.status.Status.{Status}
 use Rattle.gts_traits.specs.declared.source.Source.{Ghosts as SourceWords}
@@ -33,6 +35,8 @@ IsBuilt (Unpack c) = Unit {0}
 IsBuilt Pack = Unit {0}
 IsBuilt (Gaps day hour minute) = Unit {0}
 IsBuilt Ship = Unit {0}
+IsBuilt Follow = Unit {0}
+IsBuilt Count = Unit {0}
 
 -- the words name a command that is built
 abbrev pub IsCommand : List (List ℕ) → Type 0
@@ -51,15 +55,17 @@ IsSettled words = (command : Command) × (command_of words ≡ Some command) × 
 abbrev pub moment_at : (day hour minute : ℕ) → Moment
 moment_at day hour minute = record { day = day; hour = hour; minute = minute }
 
--- what comes of the commands that read something else than a capture through a switch: a file, a stream, an old directory, or a
--- capture alone
+-- what comes of the other commands that read something beside the directory: a file, a stream, an old directory, a feed, a capture
+-- alone, or one through a switch that counts
 abbrev pub ReadsApart : {S P : Type 0} → SourceWords S → StationWords P → Option Command → Status → (old new : World S S P) → Type 0
 ReadsApart source station command status old new =
     ((c : ℕ) → command ≡ Some (Unpack c) → Unpacks source station c status old new)
     × (command ≡ Some Pack → PacksStream source station status old new)
     × (command ≡ Some Migrate → Migrates source station status old new)
+    × (command ≡ Some Follow → FollowsFeed source station status old new)
     × ((day hour minute : ℕ) → command ≡ Some (Gaps day hour minute)
     → NamesGaps source station (moment_at day hour minute) status old new)
+    × (command ≡ Some Count → CountsTraffic source station status old new)
 
 -- what comes of the commands that open the journal, and read no capture
 abbrev pub OpensJournal : {S P : Type 0} → SourceWords S → StationWords P → Option Command → Status → (old new : World S S P) → Type 0

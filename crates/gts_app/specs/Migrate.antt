@@ -92,7 +92,8 @@ MigratedAs source station NoMemory w v = Unit {0}
 MigratedAs source station _ w v = ⊥
 
 -- at most a sync was tried; or since a sync that was done each moment opens under the old directory or, wider, under the new one
-abbrev pub LeavesJournal : {S P : Type 0} → StationWords P → World S S P → World S S P → directories.Directory → directories.Directory → Need → Type 0
+abbrev pub LeavesJournal : {S P : Type 0} → StationWords P → World S S P → World S S P
+    → directories.Directory → directories.Directory → Need → Type 0
 LeavesJournal station w v new old n =
     OnlySyncs (station.calls w.station) (station.calls v.station)
     ⊎ EachSince (Did Syncs ∷ station.calls w.station) (station.calls v.station) (OpensEither old new n)

@@ -6,6 +6,7 @@ use Rattle.gts_traits.specs.Counts.{Rose}
 use Rattle.gts_directory.specs.Directory as directories
 use Rattle.gts_dirfile.specs.declared.limits.TheConstants.{LONGEST_DIRECTORY}
 use Rattle.gts_dirfile.specs.{directory_of_bytes}
+use Rattle.gts_connection.specs.declared.kind.CaptureKind.TheVariants.{Journaled}
 use Rattle.gts_accum.specs.File.{badplace}
 use Rattle.gts_accum.specs.Capture.{captured}
 use Rattle.gts_unpack.specs.declared.end.UnpackEnd.{UnpackEnd}
@@ -50,7 +51,7 @@ pub record ReplaysFile {S P : Type 0} (source : SourceWords S) (station : Statio
   pub replayed : Status
   pub is : IsStatusOf replayed status
   pub left : List ℕ
-  pub replays : Replays source (capture_words source) station replayed
+  pub replays : Replays Journaled source (capture_words source) station replayed
       (world old.directory (unpacked (captured (source.left old.capture) c) old.capture) old.station)
       (world new.directory (unpacked left new.capture) new.station)
 

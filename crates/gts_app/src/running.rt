@@ -1,10 +1,12 @@
-ghost use Rattle.std.specs.Prelude.{◌≡◌, ◌⊎◌, ◌<◌, ◌^◌, ℕ, Some, length};
+ghost use Rattle.std.specs.Prelude.{◌≡◌, ◌⊎◌, ℕ, Some};
 ghost use Rattle.gts_words.specs.{command_of};
 ghost use Rattle.gts_serve.specs.{seen_lines as seen};
 ghost use Rattle.gts_app.specs.Commands.{IsCommand, IsSettled, Inits, Replays, world, IsNoCapture, Serves, Generates, OpensJournal, ReadsApart};
 
 use crate::Status;
 use crate::commands::compact::compact;
+use crate::commands::count::count;
+use crate::commands::follow::follow;
 use crate::commands::gaps::gaps;
 use crate::commands::generate::generate;
 use crate::commands::init::init;
@@ -15,6 +17,7 @@ use crate::commands::serve::serve;
 use crate::commands::ship::ship;
 use crate::commands::show::show;
 use crate::commands::unpack::unpack;
+use gts_connection::CaptureKind;
 use gts_missing::Moment;
 use gts_traits::{Gate, Lines, Source, Station, WordList};
 use gts_words::{Command, WordsFault, a_count_is_within_its_limits, read_words};
@@ -22,8 +25,18 @@ use std::alloc::Global;
 use std::sync::Wait;
 use std::thread::Threads;
 
+/// How a command ended and the station that it handed back, and beside them the capture.
+fn beside<P, S>(ended: (Status, P), capture: S) -> (Status, P, S)
+    ensures status { result.0 ≡ ended.0 }
+    ensures station { result.1 ≡ ended.1 }
+    ensures capture { result.2 ≡ capture }
+{
+    let (status, station) = ended;
+    (status, station, capture)
+}
+
 /// Runs the command that the words name: `init`, `replay`, `serve`, `show`, `compact`, `generate`, `migrate`, `unpack`, `pack`,
-/// `gaps` or `ship`. The station and the capture are handed back.
+/// `gaps`, `ship`, `follow` or `count`. The station and the capture are handed back.
 pub fn run<R, S, P, L, G>(
     rt: &R,
     alloc: Global,
@@ -53,7 +66,7 @@ where
     ensures init { command_of words.now ≡ Some Command.Init → (result.2 ≡ capture)
         × Inits S.Source P.Station result.0 directory.old station directory.new result.1 }
     ensures replay { command_of words.now ≡ Some Command.Replay
-        → Replays S.Source S.Source P.Station result.0
+        → Replays CaptureKind.Journaled S.Source S.Source P.Station result.0
         (world directory.old capture station) (world directory.new result.2 result.1) }
     ensures journal { OpensJournal S.Source P.Station (command_of words.now) result.0
         (world directory.old capture station) (world directory.new result.2 result.1) }
@@ -69,7 +82,7 @@ where
 
     // Bytes that are no capture of the directory are not done.
     ensures no_capture { command_of words.now ≡ Some Command.Replay → S.tells → P.tells
-        → length (S.left capture) < 2 ^ 64 → IsNoCapture (S.left directory.old) (S.left capture)
+        → IsNoCapture (S.left directory.old) (S.left capture)
         → result.0 ≡ Status.Done → ⊥ }
 
     // No other command changes the lines.
@@ -83,34 +96,16 @@ where
         Err(WordsFault::NoMemory) => return (Status::NoMemory, station, capture),
     };
     match command {
-        Command::Init => {
-            let status = init(alloc, directory, &mut station);
-            (status, station, capture)
-        }
-        Command::Replay => {
-            let (status, station) = replay(alloc, directory, &mut capture, station);
-            (status, station, capture)
-        }
-        Command::Show => {
-            let (status, station) = show(alloc, directory, station);
-            (status, station, capture)
-        }
-        Command::Compact => {
-            let (status, station) = compact(alloc, directory, station);
-            (status, station, capture)
-        }
+        Command::Init => (init(alloc, directory, &mut station), station, capture),
+        Command::Replay => beside(replay(alloc, directory, &mut capture, station), capture),
+        Command::Show => beside(show(alloc, directory, station), capture),
+        Command::Compact => beside(compact(alloc, directory, station), capture),
         Command::Serve { connections } => {
-            let (status, station) = serve(rt, alloc, directory, station, lines, connections, gate);
-            (status, station, capture)
+            let served = serve(rt, alloc, directory, station, lines, connections, gate);
+            beside(served, capture)
         }
-        Command::Generate { count } => {
-            let status = generate(alloc, count, &mut station);
-            (status, station, capture)
-        }
-        Command::Migrate => {
-            let (status, station) = migrate(alloc, directory, &mut capture, station);
-            (status, station, capture)
-        }
+        Command::Generate { count } => (generate(alloc, count, &mut station), station, capture),
+        Command::Migrate => beside(migrate(alloc, directory, &mut capture, station), capture),
         Command::Pack => {
             let status = pack(alloc, directory, &mut capture, &mut station);
             (status, station, capture)
@@ -121,9 +116,8 @@ where
             (status, station, capture)
         }
         Command::Unpack { c } => unpack(alloc, c, directory, capture, station),
-        Command::Ship => {
-            let status = ship(alloc, directory, &mut station);
-            (status, station, capture)
-        }
+        Command::Ship => (ship(alloc, directory, &mut station), station, capture),
+        Command::Follow => beside(follow(alloc, directory, &mut capture, station), capture),
+        Command::Count => beside(count(alloc, directory, &mut capture, station), capture),
     }
 }

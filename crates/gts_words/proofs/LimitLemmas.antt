@@ -7,7 +7,7 @@ use Rattle.std.specs.Str.Parse.{digits_value}
 use Rattle.std.proofs.lemmas.Bool.{leb-true, and_parts}
 use Rattle.gts_words.specs.declared.count.TheConstants.{MOST_GENERATED, LONGEST_COUNT, MOST_CONNECTIONS, LONGEST_CONNECTIONS}
 use Rattle.gts_words.specs.declared.command.Command.{Command}
-use Rattle.gts_words.specs.declared.command.Command.TheVariants.{Init, Replay, Serve, Show, Compact, Generate, Migrate, Unpack, Pack, Gaps, Ship}
+use Rattle.gts_words.specs.declared.command.Command.TheVariants.{Init, Replay, Serve, Show, Compact, Generate, Migrate, Unpack, Pack, Gaps, Ship, Follow, Count}
 use Rattle.gts_words.specs.Commands.{same, alone, is_count, count_in, number_in, circuit_in, is_moment, gaps_of, moment_in, command_of}
 
 -- a command has no count, or one within the limits
@@ -34,7 +34,9 @@ alone_within name =
     (either (same name (codes "compact")) (Some Compact) _ tt
     (either (same name (codes "migrate")) (Some Migrate) _ tt
     (either (same name (codes "pack")) (Some Pack) _ tt
-    (either (same name (codes "ship")) (Some Ship) None tt tt)))))))
+    (either (same name (codes "ship")) (Some Ship) _ tt
+    (either (same name (codes "follow")) (Some Follow) _ tt
+    (either (same name (codes "count")) (Some Count) None tt tt)))))))))
 
 -- a word that spells a count
 spelled : (longest top : ℕ) (w : List ℕ) → is_count longest top w ≡ true → (1 ≤ digits_value 10 w) × (digits_value 10 w ≤ top)

@@ -6,7 +6,7 @@ use Rattle.std.specs.List.{list_all}
 use Rattle.std.specs.Str.Parse.{digits_value}
 use Rattle.gts_words.specs.declared.count.TheConstants.{MOST_GENERATED, LONGEST_COUNT, MOST_CONNECTIONS, LONGEST_CONNECTIONS}
 use Rattle.gts_words.specs.declared.command.Command.{Command}
-use Rattle.gts_words.specs.declared.command.Command.TheVariants.{Init, Replay, Serve, Show, Compact, Generate, Migrate, Unpack, Pack, Gaps, Ship}
+use Rattle.gts_words.specs.declared.command.Command.TheVariants.{Init, Replay, Serve, Show, Compact, Generate, Migrate, Unpack, Pack, Gaps, Ship, Follow, Count}
 use Rattle.gts_words.specs.declared.command.WordsFault.{WordsFault}
 use Rattle.gts_words.specs.declared.command.WordsFault.TheVariants as fault
 
@@ -30,7 +30,9 @@ alone name =
     else (if same name (codes "migrate") then Some Migrate
     else (if same name (codes "pack") then Some Pack
     else (if same name (codes "ship") then Some Ship
-    else None)))))))
+    else (if same name (codes "follow") then Some Follow
+    else (if same name (codes "count") then Some Count
+    else None)))))))))
 
 -- a count is spelled by one to so many digits, and its value is 1 to this one
 abbrev pub is_count : (longest most : ℕ) → List ℕ → Bool

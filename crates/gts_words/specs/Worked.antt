@@ -1,6 +1,6 @@
 -- Worked rows: lists of words, and what they are.
 use Rattle.std.specs.Prelude.{◌≡◌, [], ◌∷◌, None, Some, codes}
-use Rattle.gts_words.specs.declared.command.Command.TheVariants.{Init, Replay, Serve, Show, Compact, Generate, Migrate, Unpack, Pack, Gaps, Ship}
+use Rattle.gts_words.specs.declared.command.Command.TheVariants.{Init, Replay, Serve, Show, Compact, Generate, Migrate, Unpack, Pack, Gaps, Ship, Follow, Count}
 use Rattle.gts_words.specs.Commands.{command_of}
 
 -- Each command of one word.
@@ -13,6 +13,8 @@ OneWord = (command_of (codes "init" ∷ []) ≡ Some Init)
     × (command_of (codes "migrate" ∷ []) ≡ Some Migrate)
     × (command_of (codes "pack" ∷ []) ≡ Some Pack)
     × (command_of (codes "ship" ∷ []) ≡ Some Ship)
+    × (command_of (codes "follow" ∷ []) ≡ Some Follow)
+    × (command_of (codes "count" ∷ []) ≡ Some Count)
 
 -- A count has one to six digits and a value from 1 to 100,000.
 abbrev pub Counts : Type 0
@@ -57,6 +59,7 @@ NoCommands = (command_of [] ≡ None)
     × (command_of (codes "replay" ∷ codes "replay" ∷ []) ≡ None)
     × (command_of (codes "show" ∷ codes "1" ∷ []) ≡ None)
     × (command_of (codes "migrate" ∷ codes "1" ∷ []) ≡ None)
+    × (command_of (codes "count" ∷ codes "1" ∷ []) ≡ None)
     × (command_of (codes "generate" ∷ []) ≡ None)
     × (command_of (codes "generate" ∷ codes "5" ∷ codes "5" ∷ []) ≡ None)
     × (command_of (codes "Show" ∷ []) ≡ None)

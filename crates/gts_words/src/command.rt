@@ -28,6 +28,10 @@ pub enum Command {
     Gaps { day: u32, hour: u32, minute: u32 },
     /// To say the feed of the journal, for a standby station.
     Ship,
+    /// To take a feed into the journal.
+    Follow,
+    /// To work through a capture, and to say a table of the traffic behind it.
+    Count,
 }
 
 /// Why words are no command.

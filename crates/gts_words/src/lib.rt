@@ -19,6 +19,3 @@ pub use worked::{
     circuits_and_times_of_digits, commands_of_one_word, connections_of_one_to_four_digits,
     counts_of_one_to_six_digits, other_lists_are_no_command,
 };
-
-#[cfg(test)]
-mod tests;

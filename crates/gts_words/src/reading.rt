@@ -65,6 +65,10 @@ fn alone(name: &str) -> Option<Command>
         Some(Command::Pack)
     } else if name == "ship" {
         Some(Command::Ship)
+    } else if name == "follow" {
+        Some(Command::Follow)
+    } else if name == "count" {
+        Some(Command::Count)
     } else {
         None
     }

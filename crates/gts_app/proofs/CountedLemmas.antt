@@ -1,0 +1,91 @@
+-- What a run of a capture through a switch that counts left, of the switch itself.
+use Rattle.std.proofs.Common.{ℕ, List, ◌++◌, inl, inr, ap}
+use Rattle.gts_event.specs.declared.event.Entry.{Entry}
+use Rattle.gts_event.specs.declared.fault.SwitchFault.{SwitchFault}
+use Rattle.gts_event.specs.declared.fault.SwitchFault.TheVariants.{DiskFault, SayFault, Full, Stopped, Spent, NoMemory}
+use Rattle.gts_record.specs.declared.fault.OpenFault.{OpenFault}
+use Rattle.gts_connection.specs.declared.kind.CaptureKind.{CaptureKind}
+use Rattle.gts_connection.specs.Capture.{Step}
+use Rattle.gts_turns.specs.{Standing}
+use Rattle.gts_count.specs.declared.parts.Parts.{Parts}
+use Rattle.gts_count.specs.Counted.{words_by}
+use Rattle.gts_replay.specs.declared.end.ReplayEnd.{ReplayEnd}
+use Rattle.gts_replay.specs.{BreaksOff, BreaksAtRestart, BreaksAtCompaction, Remains, IsUnbegun, Ends, origin_at, entries_at, compactions_at, compacted_at}
+
+module _ {O T W : Type 0} (parts : W → Parts T) (words : Standing O T) (station : Type 0) (kind : CaptureKind) (o : O) (h : List Entry) (tells : Type 0) (old new : W) where
+  remains : (at : O) (all : List Entry) (fault : SwitchFault) → Remains (words_by parts words) at all fault new → Remains words at all fault (parts new).switch
+  remains at all DiskFault left = left
+  remains at all SayFault stands = stands.0
+  remains at all (Full used need limit) stands = stands.0
+  remains at all (Stopped by) stands = stands.0
+  remains at all Spent stands = stands.0
+  remains at all NoMemory stands = stands.0
+
+  breaks_off : (steps : List Step) (fault : SwitchFault)
+      → BreaksOff (words_by parts words) (origin_at (words_by parts words) o h steps old) h (entries_at (words_by parts words) old o h steps) fault new
+      → BreaksOff words (origin_at words o h steps (parts old).switch) h (entries_at words (parts old).switch o h steps) fault (parts new).switch
+  breaks_off steps fault b = record { front = b.front; event = b.event; behind = b.behind; parts = b.parts; stands = b.stands.0; cause = b.cause }
+
+  breaks_restart : (steps : List Step) (fault : OpenFault)
+      → BreaksAtRestart (words_by parts words) station (origin_at (words_by parts words) o h steps old) h (entries_at (words_by parts words) old o h steps) fault new
+      → BreaksAtRestart words station (origin_at words o h steps (parts old).switch) h (entries_at words (parts old).switch o h steps) fault (parts new).switch
+  breaks_restart steps fault b = record { front = b.front; behind = b.behind; parts = b.parts; stands = b.stands.0; fault_is = b.fault_is }
+
+  breaks_compaction : (steps : List Step) (fault : SwitchFault) → BreaksAtCompaction (words_by parts words) o h steps fault old new
+      → BreaksAtCompaction words o h steps fault (parts old).switch (parts new).switch
+  breaks_compaction steps fault b = record {
+    before = b.before;
+    rest = b.rest;
+    parts = b.parts;
+    remains = remains (compacted_at words o (h ++ entries_at words (parts old).switch o h b.before) (compactions_at words (parts old).switch o h b.before))
+        (h ++ entries_at words (parts old).switch o h b.before) fault b.remains;
+    cause = b.cause;
+  }
+
+  unbegun : IsUnbegun (words_by parts words) o h old new → IsUnbegun words o h (parts old).switch (parts new).switch
+  unbegun b = record { same = ap (λ (w : W). (parts w).switch) b.same; stands = b.stands.0 }
+
+  -- it ended so for the switch as well
+  pub ends_below : (result : ReplayEnd) (bytes left : List ℕ) → Ends (words_by parts words) station kind o h tells result old new bytes left
+      → Ends words station kind o h tells result (parts old).switch (parts new).switch bytes left
+  ends_below result bytes left e = record {
+    done = λ is. let x = e.done is in record { steps = x.steps; are = x.are; whole = x.whole; stands = x.stands.0 };
+    capture = λ at is. let x = e.capture at is in record { steps = x.steps; early = x.early; none = x.none; stands = x.stands.0 };
+    source_fault = λ is. let x = e.source_fault is in record { steps = x.steps; taken = x.taken; stands = x.stands.0 };
+    reopen = λ fault is. let x = e.reopen fault is in record {
+      steps = x.steps;
+      read = x.read;
+      breaks = breaks_restart x.steps fault x.breaks;
+      of_kind = x.of_kind;
+      memory = x.memory;
+    };
+    compaction = λ fault is. let x = e.compaction fault is in record {
+      steps = x.steps;
+      read = x.read;
+      breaks = breaks_compaction x.steps fault x.breaks;
+      of_kind = x.of_kind;
+      lasting = x.lasting;
+      earlier = x.earlier;
+    };
+    fault = λ fault is. let x = e.fault fault is in record {
+      steps = x.steps;
+      read = x.read;
+      breaks = breaks_off x.steps fault x.breaks;
+      lasting = x.lasting;
+      earlier = x.earlier;
+    };
+    no_memory = λ is. let x = e.no_memory is in record {
+      steps = x.steps;
+      read = x.read;
+      stands = elim x.stands [
+        | inl b ↦ inl (unbegun b)
+        | inr some ↦ inr (elim some [
+          | inl b ↦ inl (breaks_restart x.steps _ b)
+          | inr more ↦ inr (elim more [
+            | inl b ↦ inl (breaks_compaction x.steps NoMemory b)
+            | inr b ↦ inr (breaks_off x.steps NoMemory b)
+          ])
+        ])
+      ];
+    };
+  }

@@ -1,0 +1,231 @@
+-- What `follow` comes to, from the directory and what was made of the feed.
+use Rattle.std.proofs.Common.{◌≡◌, ◌⊎◌, ◌≤◌, ℕ, ◌-◌, List, [], Result, Ok, Err, inl, inr, refl, sym, ap, subst, ◌∙◌, arith}
+use Rattle.gts_traits.specs.declared.source.Source.{Ghosts as SourceWords}
+use Rattle.gts_traits.specs.declared.station.Station.{Ghosts as StationWords}
+use Rattle.gts_traits.specs.Counts.{Rose}
+use Rattle.gts_traits.specs.{Files, seen, said_by}
+use Rattle.gts_directory.specs.Directory as directories
+use Rattle.gts_dirfile.specs.{directory_of_bytes}
+use Rattle.gts_event.specs.State.{State}
+use Rattle.gts_event.specs.History.{restarted}
+use Rattle.gts_event.specs.Need.{Need, need}
+use Rattle.gts_record.specs.declared.fault.OpenFault.{OpenFault}
+use Rattle.gts_record.specs.declared.fault.OpenFault.TheVariants as opening
+use Rattle.gts_record.specs.Format.{written}
+use Rattle.gts_journal.specs.{selected_bytes}
+use Rattle.gts_opening.specs.Journal.{Read, opened_of, opens, files_read}
+use Rattle.gts_standby.specs.declared.end.FollowEnd.{FollowEnd}
+use Rattle.gts_standby.specs.declared.end.FollowEnd.TheVariants as follow
+use Rattle.gts_standby.specs.{Taken, taken, comes_to, own_seals, EndsAs, Answers, IsEnd, IsNamedEnd, state_after, EachOpens}
+use Rattle.gts_app.specs.declared.status.Status.{Status}
+use Rattle.gts_app.specs.declared.status.Status.TheVariants.{NoMemory}
+use Rattle.gts_app.specs.Opening.{IsOfFiles}
+use Rattle.gts_app.specs.Reading.{ReadsDirectory}
+use Rattle.gts_app.specs.Replay.{world}
+use Rattle.gts_app.specs.Follow.{status_followed, TakesFeed, TakenAs, RefusedBy, FollowedAs, ComesTo, FollowsFeed}
+use Rattle.gts_app.proofs.RefusalLemmas.{same_directory, no_fault}
+use Rattle.gts_app.proofs.StreamLemmas.{Ended, ended}
+
+-- ---- there is no directory
+
+pub unfollowed : {S P : Type 0} (source : SourceWords S) (station : StationWords P) (status : Status) (od nd oc : S) (at : P)
+    → ReadsDirectory source (Err status) od nd → FollowsFeed source station status (world od oc at) (world nd oc at)
+unfollowed source station status od nd oc at h = record {
+  means = go (ended status (h.ends status refl));
+  moments = λ tells told d s taken comes. inl (inr (inl refl));
+  complete = λ tells told d s taken comes calm_directory calm_feed calm_disk. ends_so d comes.2 tells calm_directory (ended status (h.ends status refl));
+  silent = λ told. refl;
+  directory_taken = h.taken;
+  source_counts = (h.cause.later, omega arith);
+  station_counts = (refl, omega arith);
+}
+  where
+    go : Ended status → FollowedAs source station status (world od oc at) (world nd oc at)
+    go (inl e) = subst (λ (s : Status). FollowedAs source station s (world od oc at) (world nd oc at)) (sym e.1)
+        ((refl, refl), λ tells. h.fault tells e.0 (ap (λ (s : Status). Err s) e.1))
+    go (inr (inl e)) = subst (λ (s : Status). FollowedAs source station s (world od oc at) (world nd oc at)) (sym e)
+        (inl ((refl, refl), h.cause.failed (ap (λ (s : Status). Err s) e)))
+    go (inr (inr e)) = subst (λ (s : Status). FollowedAs source station s (world od oc at) (world nd oc at)) (sym e) tt
+
+    ends_so : {X : Type 0} (d : directories.Directory) → directory_of_bytes (source.left od) ≡ Ok d → source.tells → (Rose (source.faults od) (source.faults nd) → ⊥)
+        → Ended status → X ⊎ (status ≡ NoMemory)
+    ends_so d read tells calm (inl e) = absurd (no_fault d e.0 (directory_of_bytes (source.left od)) read (h.fault tells e.0 (ap (λ (s : Status). Err s) e.1)))
+    ends_so d read tells calm (inr (inl e)) = absurd (calm (h.cause.failed (ap (λ (s : Status). Err s) e)))
+    ends_so d read tells calm (inr (inr e)) = inr e
+
+-- ---- there is one
+
+-- an end of the feed is that of what it comes to
+ends_of : (answer : FollowEnd) → IsEnd answer → (t : Taken) → Answers answer (Ok t) → EndsAs answer t.end
+ends_of follow.Done is t answers = answers
+ends_of (follow.Feed at) is t answers = answers
+ends_of (follow.Diverged index own fed) is t answers = answers
+ends_of (follow.Open fault) is t answers = absurd is
+ends_of follow.SourceFault is t answers = absurd is
+ends_of follow.DiskFault is t answers = absurd is
+ends_of follow.NoMemory is t answers = absurd is
+
+-- and comes only where the files open
+none_of : (answer : FollowEnd) → IsEnd answer → (fault : OpenFault) → Answers answer (Err fault) → ⊥
+none_of follow.Done is fault answers = answers
+none_of (follow.Feed at) is fault answers = answers
+none_of (follow.Diverged index own fed) is fault answers = answers
+none_of (follow.Open other) is fault answers = is
+none_of follow.SourceFault is fault answers = is
+none_of follow.DiskFault is fault answers = is
+none_of follow.NoMemory is fault answers = is
+
+module _ (d : directories.Directory) (files : Files) (fed : List ℕ) where
+  -- what it comes to, by what the files open to
+  abbrev come_of : Read → Result Taken OpenFault
+  come_of r = elim r as (λ _. Result Taken OpenFault) [
+    | Err fault ↦ Err fault
+    | Ok read ↦ Ok (taken written d read.0 (read.1 - 1) read.2 (own_seals d (selected_bytes files)) fed)
+  ]
+
+  abbrev need_of_read : Read → Result Need OpenFault
+  need_of_read r = elim (opened_of r) as (λ _. Result Need OpenFault) [ Err f ↦ Err f | Ok opened ↦ Ok (need d (restarted opened.0)) ]
+
+  unopened : (fault : OpenFault) → comes_to d files fed ≡ Err fault → opens d files ≡ Err fault
+  unopened fault is = ap need_of_read (go (files_read written d files) refl)
+    where
+      go : (r : Read) → files_read written d files ≡ r → files_read written d files ≡ Err fault
+      go (Err other) e =
+          let both : ◌≡◌ {A = Result Taken OpenFault} (Err other) (Err fault) = sym (ap come_of e) ∙ is in
+          let same : other ≡ fault = cc in
+          e ∙ ap (λ (f : OpenFault). Err f) same
+      go (Ok read) e = let both : come_of (Ok read) ≡ Err fault = sym (ap come_of e) ∙ is in absurd (cc)
+
+  opened_so : (t : Taken) → comes_to d files fed ≡ Ok t → (s : State) × (used : ℕ) × (last : List ℕ) × (files_read written d files ≡ Ok (s, used, last))
+  opened_so t is = go (files_read written d files) refl
+    where
+      go : (r : Read) → files_read written d files ≡ r → (s : State) × (used : ℕ) × (last : List ℕ) × (files_read written d files ≡ Ok (s, used, last))
+      go (Err fault) e = let both : ◌≡◌ {A = Result Taken OpenFault} (Err fault) (Ok t) = sym (ap come_of e) ∙ is in absurd (cc)
+      go (Ok read) e = (read.0, read.1, read.2, e)
+
+module _ {S P : Type 0} (source : SourceWords S) (station : StationWords P) (d : directories.Directory) (answer : FollowEnd) (od nd oc nc : S) (old new : P)
+    (h : ReadsDirectory source (Ok d) od nd)
+    (answers : station.tells → source.tells → Answers answer (comes_to d (seen (station.calls old)) (source.left oc)))
+    (added : station.tells → source.tells → (s : State) (used : ℕ) (last : List ℕ) (t : Taken) → files_read written d (seen (station.calls old)) ≡ Ok (s, used, last)
+    → comes_to d (seen (station.calls old)) (source.left oc) ≡ Ok t → IsEnd answer
+    → opens d (seen (station.calls new)) ≡ Ok (need d (restarted (state_after d s t))))
+    (moments : station.tells → source.tells → (s : State) (used : ℕ) (last : List ℕ) (t : Taken) → files_read written d (seen (station.calls old)) ≡ Ok (s, used, last)
+    → comes_to d (seen (station.calls old)) (source.left oc) ≡ Ok t → EachOpens d s t (station.calls old) (station.calls new))
+    (done : source.tells → answer ≡ follow.Done → source.left nc ≡ [])
+    (named : (fault : OpenFault) → answer ≡ follow.Open fault → IsOfFiles fault)
+    (silent : station.tells → said_by (station.calls new) ≡ said_by (station.calls old))
+    (source_fault : answer ≡ follow.SourceFault → Rose (source.faults oc) (source.faults nc))
+    (disk_fault : answer ≡ follow.DiskFault → Rose (station.disk_faults old) (station.disk_faults new))
+    (later : station.disk_faults old ≤ station.disk_faults new) (source_later : source.faults oc ≤ source.faults nc)
+    (say : station.say_faults new ≡ station.say_faults old) where
+  read : source.tells → directory_of_bytes (source.left od) ≡ Ok d
+  read tells = h.read tells d refl
+
+  takes : IsEnd answer → TakenAs answer source station (world od oc old) (world nd nc new)
+  takes is = λ tells told. (d, read tells, go tells told (comes_to d (seen (station.calls old)) (source.left oc)) refl)
+    where
+      go : source.tells → station.tells → (r : Result Taken OpenFault) → comes_to d (seen (station.calls old)) (source.left oc) ≡ r
+          → TakesFeed d (station.calls old) (station.calls new) (source.left oc) answer
+      go tells told (Err fault) e = absurd (none_of answer is fault (subst (Answers answer) e (answers told tells)))
+      go tells told (Ok t) e =
+          let x = opened_so d (seen (station.calls old)) (source.left oc) t e in
+          record {
+            state = x.0;
+            used = x.1;
+            last = x.2;
+            read = x.3;
+            taken = t;
+            comes = e;
+            ends = ends_of answer is t (subst (Answers answer) e (answers told tells));
+            opened = added told tells x.0 x.1 x.2 t x.3 e is;
+          }
+
+  refused_by : (fault : OpenFault) → answer ≡ follow.Open fault → RefusedBy fault source station (world od oc old) (world nd nc new)
+  refused_by fault e = λ tells told.
+      let come : Result Taken OpenFault = comes_to d (seen (station.calls old)) (source.left oc) in
+      (d, read tells, unopened d (seen (station.calls old)) (source.left oc) fault (subst (λ (a : FollowEnd). Answers a come) e (answers told tells)))
+
+  means : (a : FollowEnd) → answer ≡ a → FollowedAs source station (status_followed a) (world od oc old) (world nd nc new)
+  means follow.Done e = (
+    subst (λ (a : FollowEnd). TakenAs a source station (world od oc old) (world nd nc new)) e (takes (subst IsEnd (sym e) tt)),
+    λ tells. done tells e,
+  )
+  means (follow.Feed at) e = subst (λ (a : FollowEnd). TakenAs a source station (world od oc old) (world nd nc new)) e (takes (subst IsEnd (sym e) tt))
+  means (follow.Diverged index own fed) e =
+      subst (λ (a : FollowEnd). TakenAs a source station (world od oc old) (world nd nc new)) e (takes (subst IsEnd (sym e) tt))
+  means (follow.Open opening.NoJournal) e = refused_by opening.NoJournal e
+  means (follow.Open opening.OldVersion) e = refused_by opening.OldVersion e
+  means (follow.Open (opening.NotThis want found)) e = refused_by (opening.NotThis want found) e
+  means (follow.Open (opening.Damaged file at)) e = refused_by (opening.Damaged file at) e
+  means (follow.Open opening.DiskFault) e = absurd (named opening.DiskFault e)
+  means (follow.Open opening.NoMemory) e = absurd (named opening.NoMemory e)
+  means follow.SourceFault e = inr (source_fault e)
+  means follow.DiskFault e = disk_fault e
+  means follow.NoMemory e = tt
+
+  -- the directory that was read is this one
+  under : (X : directories.Directory → Type 0) → source.tells → (e : directories.Directory) → directory_of_bytes (source.left od) ≡ Ok e → X e → X d
+  under X tells e is holds = subst X (same_directory e d (directory_of_bytes (source.left od)) is (read tells)) holds
+
+  each_moment : source.tells → station.tells → (e : directories.Directory) (s : State) (t : Taken) → ComesTo source station (world od oc old) e s t
+      → EachOpens e s t (station.calls old) (station.calls new)
+  each_moment tells told e s t comes =
+      let same : d ≡ e = same_directory d e (directory_of_bytes (source.left od)) (read tells) comes.2 in
+      let F : directories.Directory → Type 0 = λ x. files_read written x (seen (station.calls old)) ≡ Ok (s, comes.0, comes.1) in
+      let C : directories.Directory → Type 0 = λ x. comes_to x (seen (station.calls old)) (source.left oc) ≡ Ok t in
+      subst (λ (x : directories.Directory). EachOpens x s t (station.calls old) (station.calls new)) same
+      (moments told tells s comes.0 comes.1 t (subst F (sym same) comes.3) (subst C (sym same) comes.4))
+
+  ended_so : source.tells → station.tells → (e : directories.Directory) (s : State) (t : Taken) → ComesTo source station (world od oc old) e s t
+      → (Rose (source.faults oc) (source.faults nc) → ⊥) → (Rose (station.disk_faults old) (station.disk_faults new) → ⊥)
+      → ((a : FollowEnd) × IsEnd a × (status_followed answer ≡ status_followed a) × EndsAs a t.end) ⊎ (status_followed answer ≡ NoMemory)
+  ended_so tells told e s t comes calm_feed calm_disk = go answer refl
+    where
+      at : comes_to d (seen (station.calls old)) (source.left oc) ≡ Ok t
+      at = under (λ (x : directories.Directory). comes_to x (seen (station.calls old)) (source.left oc) ≡ Ok t) tells e comes.2 comes.4
+
+      so : (a : FollowEnd) → answer ≡ a → Answers a (Ok t)
+      so a is = subst (λ (x : FollowEnd). Answers x (Ok t)) is (subst (Answers answer) at (answers told tells))
+
+      go : (a : FollowEnd) → answer ≡ a → ((a : FollowEnd) × IsEnd a × (status_followed answer ≡ status_followed a) × EndsAs a t.end) ⊎ (status_followed answer ≡ NoMemory)
+      go follow.Done is = inl (follow.Done, tt, ap status_followed is, so follow.Done is)
+      go (follow.Feed at) is = inl (follow.Feed at, tt, ap status_followed is, so (follow.Feed at) is)
+      go (follow.Diverged index own fed) is = inl (follow.Diverged index own fed, tt, ap status_followed is, so (follow.Diverged index own fed) is)
+      go (follow.Open fault) is = let none : ◌≡◌ {A = Result Taken OpenFault} (Ok t) (Err fault) = so (follow.Open fault) is in absurd (cc)
+      go follow.SourceFault is = absurd (calm_feed (source_fault is))
+      go follow.DiskFault is = absurd (calm_disk (disk_fault is))
+      go follow.NoMemory is = inr (ap status_followed is)
+
+  pub followed : FollowsFeed source station (status_followed answer) (world od oc old) (world nd nc new)
+  followed = record {
+    means = means answer refl;
+    moments = each_moment;
+    complete = λ tells told e s t comes calm_directory. ended_so tells told e s t comes;
+    silent = silent;
+    directory_taken = h.taken;
+    source_counts = (h.cause.later, source_later);
+    station_counts = (say, later);
+  }
+
+-- ---- there was no memory to read the words
+
+pub unread : {S P : Type 0} (source : SourceWords S) (station : StationWords P) (od oc : S) (at : P)
+    → FollowsFeed source station NoMemory (world od oc at) (world od oc at)
+unread source station od oc at = record {
+  means = tt;
+  moments = λ tells told d s t comes. inl (inr (inl refl));
+  complete = λ tells told d s t comes calm_directory calm_feed calm_disk. inr refl;
+  silent = λ told. refl;
+  directory_taken = λ tells. ([], refl, omega arith);
+  source_counts = (omega arith, omega arith);
+  station_counts = (refl, omega arith);
+}
+
+-- the fault of an opening that has no name of its own is one of the files
+pub named_fault : (answer : FollowEnd) → IsNamedEnd answer → (fault : OpenFault) → answer ≡ follow.Open fault → IsOfFiles fault
+named_fault answer named opening.NoJournal is = tt
+named_fault answer named opening.OldVersion is = tt
+named_fault answer named (opening.NotThis want found) is = tt
+named_fault answer named (opening.Damaged file at) is = tt
+named_fault answer named opening.DiskFault is = subst IsNamedEnd is named
+named_fault answer named opening.NoMemory is = subst IsNamedEnd is named

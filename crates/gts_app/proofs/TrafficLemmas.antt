@@ -1,0 +1,233 @@
+-- What `count` comes to, from the opening, the run of the capture and the saying of the table.
+use Rattle.std.proofs.Common.{◌≡◌, ℕ, ◌≤◌, List, [], ◌∷◌, length, Result, Ok, Err, None, IsTrue, inl, inr, refl, sym, ap, subst, ◌∙◌, arith}
+use Rattle.gts_traits.specs.declared.source.Source.{Ghosts as SourceWords}
+use Rattle.gts_traits.specs.declared.station.Station.{Ghosts as StationWords}
+use Rattle.gts_traits.specs.Counts.{Rose}
+use Rattle.gts_traits.specs.Station.{Call, Did, Says, Breaks, seen, Files}
+use Rattle.gts_directory.specs.Directory as directories
+use Rattle.gts_event.specs.History.{after_all}
+use Rattle.gts_event.specs.Need.{Need, need, begun, is_sound, keeps_one}
+use Rattle.gts_event.specs.declared.event.Entry.{Entry}
+use Rattle.gts_connection.specs.declared.kind.CaptureKind.TheVariants.{Plain}
+use Rattle.gts_engine.specs.Engine.{Engine}
+use Rattle.gts_engine.specs.Origin.{Origin, used_at}
+use Rattle.gts_engine.specs.Keeping.{OpensWith, origin_of}
+use Rattle.gts_engine.specs.Switching.{Told, switch_words}
+use Rattle.gts_count.specs.{table}
+use Rattle.gts_count.specs.declared.parts.Parts.{Parts}
+use Rattle.gts_count.specs.Counted.{words_by, ShowsTable}
+use Rattle.gts_replay.specs.declared.end.ReplayEnd.{ReplayEnd}
+use Rattle.gts_replay.specs.declared.end.ReplayEnd.TheVariants as end
+use Rattle.gts_replay.specs.{StandsFor, Ends, HasReplayCause, compacted_at}
+use Rattle.gts_app.specs.declared.status.Status.{Status}
+use Rattle.gts_app.specs.declared.status.Status.TheVariants.{Done, SayFault, NoMemory}
+use Rattle.gts_app.specs.Laws.{KeepsLaws}
+use Rattle.gts_app.specs.Ending.{status_of}
+use Rattle.gts_app.specs.Opening.{IsRefusal, Opens}
+use Rattle.gts_app.specs.Replay.{World, world, Replays, history, counted}
+use Rattle.gts_app.specs.Count.{CountsEngine, EndsWithoutTable, table_behind, Behind, SaysTable, CountsTraffic}
+use Rattle.gts_app.proofs.CompactedLemmas.{compacted_is, counts, counts_within}
+use Rattle.gts_app.proofs.CountedLemmas.{ends_below}
+use Rattle.gts_app.proofs.EndLemmas.{history_done, none_unsaid}
+use Rattle.gts_app.proofs.RefusalLemmas.{refused, out_of_memory}
+use Rattle.gts_app.proofs.ReplayLemmas.{Run, replays, steps_went, uses, was_done}
+use Rattle.gts_app.proofs.ShowLemmas.{goes_on}
+
+-- ---- no table comes behind it
+
+-- an end of the run that isn't that it was done is the command's
+as_run : {S P : Type 0} (source : SourceWords S) (w : StationWords P) (status : Status) (old : World S S P) (nd nc : S) (new : P) → (status ≡ Done → ⊥)
+    → Replays Plain source source w status old (world nd nc new) → CountsTraffic source w status old (world nd nc new)
+as_run source w status old nd nc new other r = record {
+  replayed = status;
+  before = new;
+  replays = r;
+  table = λ is. absurd (other is);
+  ended = λ others. (refl, refl);
+  done = λ is. absurd (other is);
+  complete = λ tells told. r.complete tells tells told;
+  station_counts = r.station_counts;
+}
+
+-- the directory was not accepted, or the journal not opened
+pub not_counted : {S P : Type 0} (source : SourceWords S) (w : StationWords P) (status : Status) (od nd oc : S) (old new : P)
+    (result : Result (Engine P) (Status × P)) → result ≡ Err (status, new)
+    → Opens source w result od nd old → CountsTraffic source w status (world od oc old) (world nd oc new)
+not_counted source w status od nd oc old new result is h =
+    as_run source w status (world od oc old) nd oc new (λ done. subst IsRefusal done (h.refused status new is).ends)
+    (refused Plain source source w status od nd oc old new result is h)
+
+-- there was no memory to read the words
+pub unread : {S P : Type 0} (source : SourceWords S) (w : StationWords P) (od oc : S) (old : P)
+    → CountsTraffic source w NoMemory (world od oc old) (world od oc old)
+unread source w od oc old =
+    as_run source w NoMemory (world od oc old) od oc old (λ done. cc)
+    (out_of_memory Plain source source w od od oc old old (λ told. inr (inl refl)) refl (omega arith) (λ tells. ([], refl, omega arith)) (omega arith))
+
+-- there was none for the numbers
+pub without_numbers : {S P : Type 0} (source : SourceWords S) (w : StationWords P) (od nd oc : S) (old : P) (e : Engine P) (result : Result (Engine P) (Status × P))
+    → result ≡ Ok e → Opens source w result od nd old → (at : P) → at ≡ e.station → CountsTraffic source w NoMemory (world od oc old) (world nd oc at)
+without_numbers {S} {P} source w od nd oc old e result is h at same =
+    subst (λ (p : P). CountsTraffic source w NoMemory (world od oc old) (world nd oc p)) (sym same)
+    (as_run source w NoMemory (world od oc old) nd oc e.station (λ done. cc)
+    (out_of_memory Plain source source w od nd oc old e.station (λ told. inl (h.opened e is told).2.0.synced) (h.kept e is).1 (h.kept e is).0 h.taken h.later))
+
+-- ---- a capture was run through the switch that counts
+
+-- what an engine that goes on leaves opens with the bytes that it counts
+abbrev pub Leaves : {P : Type 0} → StationWords P → Engine P → Type 0
+Leaves w e = w.tells → e.stopped ≡ None → OpensWith e.directory (seen (w.calls e.station)) e.used
+
+module _ {S P W : Type 0} (parts : W → Parts (Engine P)) (source : SourceWords S) (w : StationWords P) (e : ReplayEnd) (od nd oc nc : S) (old : P) (first last : W)
+    (opens : Opens source w (Ok (parts first).switch) od nd old)
+    (counts_engine : CountsEngine (parts first))
+    (laws : (n : Need) (es : List Entry) → IsTrue (keeps_one (parts first).switch.directory) → IsTrue (is_sound (parts first).switch.directory n)
+    → KeepsLaws (parts first).switch.directory n es)
+    (ends : (o : Told w.tells) (h : List Entry) → StandsFor (words_by parts (switch_words w.tells w.calls)) o h first
+    → Ends (words_by parts (switch_words w.tells w.calls)) w.tells Plain o h source.tells e first last (source.left oc) (source.left nc))
+    (narrow : length (parts first).switch.directory.circuits ≤ 100)
+    (cause : HasReplayCause e (w.disk_faults (parts first).switch.station) (w.disk_faults (parts last).switch.station)
+    (w.say_faults (parts first).switch.station) (w.say_faults (parts last).switch.station) (source.faults oc) (source.faults nc))
+    (files : Leaves w (parts last).switch) where
+  abbrev engine : Engine P
+  engine = (parts first).switch
+
+  abbrev behind : Engine P
+  behind = (parts last).switch
+
+  abbrev origin : w.tells → Need → Told w.tells
+  origin told n = record { told = told; origin = origin_of w.calls engine n }
+
+  -- its numbers are those of the need with which the history begins
+  begins : (told : w.tells) (n : Need) → StandsFor (switch_words w.tells w.calls) (origin told n) [] engine
+      → StandsFor (words_by parts (switch_words w.tells w.calls)) (origin told n) [] first
+  begins told n s = record {
+    start = s.start;
+    stands = (s.stands, counts_engine (begun n) [] (s.stands.core (goes_on engine.stopped s.stands.failed)) s.start.ordered);
+  }
+
+  below : (told : w.tells) (n : Need) → StandsFor (switch_words w.tells w.calls) (origin told n) [] engine
+      → Ends (switch_words w.tells w.calls) w.tells Plain (origin told n) [] source.tells e engine behind (source.left oc) (source.left nc)
+  below told n s =
+      ends_below parts (switch_words w.tells w.calls) w.tells Plain (origin told n) [] source.tells first last e (source.left oc) (source.left nc)
+      (ends (origin told n) [] (begins told n s))
+
+  run : Replays Plain source source w (status_of e) (world od oc old) (world nd nc behind.station)
+  run = replays source source w e od nd oc nc old engine behind opens laws below narrow cause files
+
+  -- ---- it was not done
+
+  pub ended : (status : Status) → EndsWithoutTable e status → (at : P) → at ≡ behind.station
+      → CountsTraffic source w status (world od oc old) (world nd nc at)
+  ended status without at same = subst (λ (p : P). CountsTraffic source w status (world od oc old) (world nd nc p)) (sym same) (elim without [
+    | inl none ↦ record {
+      replayed = status_of e;
+      before = behind.station;
+      replays = run;
+      table = λ is. subst (λ (s : Status). SaysTable source w s behind.station (world od oc old) (world nd nc behind.station)) (sym none.1) refl;
+      ended = λ other. absurd (other (ap status_of none.0));
+      done = λ is. let both : NoMemory ≡ Done = sym none.1 ∙ is in absurd (cc);
+      complete = λ tells told d n steps read opened whole room kept_directory kept_capture kept_say kept_disk. inr none.1;
+      station_counts = run.station_counts;
+    }
+    | inr other ↦
+        subst (λ (s : Status). CountsTraffic source w s (world od oc old) (world nd nc behind.station)) (sym other.1)
+        (as_run source w (status_of e) (world od oc old) nd nc behind.station (λ done. other.0 (was_done e done)) run)
+  ])
+
+  -- ---- it was done
+
+  module _ (is : e ≡ end.Done) (text : List ℕ) (shows : ShowsTable (switch_words w.tells w.calls) (parts last) text) where
+    -- the text is the table of the need where the history ends
+    is_table : (told : w.tells) (n : Need) (s : StandsFor (switch_words w.tells w.calls) (origin told n) [] engine)
+        → let o : Origin = origin_of w.calls engine n in
+        text ≡ table_behind o (history o ((ends (origin told n) [] (begins told n s)).done is).steps)
+    is_table told n s =
+        let o : Origin = origin_of w.calls engine n in
+        let x = (ends (origin told n) [] (begins told n s)).done is in
+        let all : List Entry = history o x.steps in
+        let at : Told w.tells = compacted_at (switch_words w.tells w.calls) (origin told n) all (counts o x.steps) in
+        let T : directories.Directory → Need → Type 0 = λ d m. text ≡ table d (need d (after_all d (begun m) all)) in
+        let here : T behind.directory at.origin.start = shows at all x.stands (none_unsaid all (history_done o x.steps)) in
+        subst (λ (t : Told w.tells). T t.origin.directory t.origin.start)
+        (compacted_is w.tells w.calls (origin told n) all (counts o x.steps) (counts_within o x.steps))
+        (subst (λ (d : directories.Directory). T d at.origin.start) x.stands.0.directory here)
+
+    tabled : (new : P) → (w.tells → seen (w.calls new) ≡ seen (w.calls behind.station)) → (OfTable : List ℕ → Type 0) → (w.tells → OfTable text)
+        → Behind source w behind.station (world od oc old) (world nd nc new) OfTable
+    tabled new same OfTable of = λ tells given told.
+        let x = opens.opened engine refl told in
+        let n : Need = x.0 in
+        let o : Origin = origin_of w.calls engine n in
+        let done = (ends (origin told n) [] (begins told n x.2.1)).done is in
+        let r : Run Plain source source w e od oc nc old engine behind = record {
+          n = n;
+          told = told;
+          read = x.1;
+          origin = x.2.0;
+          ends = below told n x.2.1;
+          laws = λ es. laws n es x.2.1.start.keeps x.2.0.sound;
+        } in
+        let now : OpensWith o.directory (seen (w.calls behind.station)) (used_at (counted o done.steps) (history o done.steps)) =
+        uses source source w e od oc nc old engine behind r done.steps done.stands.0 (files told) in (
+          o,
+          x.1 tells,
+          x.2.0,
+          (
+            done.steps,
+            done.whole given,
+            steps_went source source w e od oc nc old engine behind r done.steps done.stands.0,
+            subst (λ (fs : Files). OpensWith o.directory fs (used_at (counted o done.steps) (history o done.steps))) (sym (same told)) now,
+            subst OfTable (is_table told n x.2.1) (of told),
+          ),
+        )
+
+    pub counted_so : (at new : P) → at ≡ behind.station → (w.tells → w.calls new ≡ Did (Says 0 text) ∷ w.calls at) → w.say_faults at ≤ w.say_faults new
+        → w.disk_faults new ≡ w.disk_faults at → CountsTraffic source w Done (world od oc old) (world nd nc new)
+    counted_so at new same said later disk =
+        let now : w.tells → w.calls new ≡ Did (Says 0 text) ∷ w.calls behind.station
+        = λ told. said told ∙ ap (λ (p : P). Did (Says 0 text) ∷ w.calls p) same in
+        let table = tabled new (λ told. ap seen (now told)) (λ (t : List ℕ). w.calls new ≡ Did (Says 0 t) ∷ w.calls behind.station) now in
+        record {
+          replayed = status_of e;
+          before = behind.station;
+          replays = run;
+          table = λ _. table;
+          ended = λ other. absurd (other (ap status_of is));
+          done = λ _. table;
+          complete = λ tells told d n steps read opened whole room kept_directory kept_capture kept_say kept_disk. inl refl;
+          station_counts = (
+            omega (arith, run.station_counts.0, later, ap (λ (p : P). w.say_faults p) same),
+            omega (arith, run.station_counts.1, disk, ap (λ (p : P). w.disk_faults p) same),
+          );
+        }
+
+    -- what a say that broke leaves of the files
+    as_seen : (calls now : List Call) → Breaks (Says 0 text) calls now → seen now ≡ seen calls
+    as_seen calls now (inl unchanged) = ap seen unchanged
+    as_seen calls now (inr broke) = ap seen broke.2
+
+    pub not_told : (at new : P) → at ≡ behind.station → (w.tells → Breaks (Says 0 text) (w.calls at) (w.calls new)) → Rose (w.say_faults at) (w.say_faults new)
+        → w.say_faults at ≤ w.say_faults new → w.disk_faults new ≡ w.disk_faults at → CountsTraffic source w SayFault (world od oc old) (world nd nc new)
+    not_told at new same broke rose later disk =
+        let now : w.tells → Breaks (Says 0 text) (w.calls behind.station) (w.calls new)
+        = λ told. subst (λ (p : P). Breaks (Says 0 text) (w.calls p) (w.calls new)) same (broke told) in
+        let rose_here : Rose (w.say_faults behind.station) (w.say_faults new) = subst (λ (p : P). Rose (w.say_faults p) (w.say_faults new)) same rose in
+        record {
+          replayed = status_of e;
+          before = behind.station;
+          replays = run;
+          table = λ _. (
+            rose_here,
+            tabled new (λ told. as_seen (w.calls behind.station) (w.calls new) (now told))
+                (λ (t : List ℕ). Breaks (Says 0 t) (w.calls behind.station) (w.calls new)) now,
+          );
+          ended = λ other. absurd (other (ap status_of is));
+          done = λ of. absurd (cc);
+          complete = λ tells told d n steps read opened whole room kept_directory kept_capture kept_say kept_disk.
+              absurd (kept_say (omega (arith, rose_here, run.station_counts.0)));
+          station_counts = (
+            omega (arith, run.station_counts.0, later, ap (λ (p : P). w.say_faults p) same),
+            omega (arith, run.station_counts.1, disk, ap (λ (p : P). w.disk_faults p) same),
+          );
+        }

@@ -1,0 +1,24 @@
+use Rattle.std.proofs.Common.{sym, subst}
+use Rattle.gts_app.specs.declared.status.Status.{Status}
+use Rattle.gts_app.specs.Follow.{FollowsFeed}
+use Rattle.gts_app.specs.Reading.{ReadsDirectory}
+use Rattle.gts_app.specs.Replay.{world}
+use Rattle.gts_app.proofs.FollowLemmas.{unfollowed, followed, named_fault}
+use Rattle.gts_app.proofs.commands.follow.follow.Goals as goal
+
+pub returns-in-Err : goal.returns-in-Err
+returns-in-Err g c =
+    unfollowed g.S.Source g.P.Station c.in-Err.status c.args.directory.now c.directory_of.new.source c.args.feed.now c.args.station
+    (subst (λ r. ReadsDirectory g.S.Source r c.args.directory.now c.directory_of.new.source) c.in-Err.is c.directory_of.ensures)
+
+pub returns : goal.returns
+returns g c =
+    let od = c.args.directory.now in
+    let nd = c.directory_of.new.source in
+    let read = subst (λ r. ReadsDirectory g.S.Source r od nd) c.in-Ok.is c.directory_of.ensures in
+    let station = c.follow-station.result.0 in
+    let answer = c.follow-station.result.1 in
+    let e = c.follow-station.ensures in
+    subst (λ (s : Status). FollowsFeed g.S.Source g.P.Station s (world od c.args.feed.now c.args.station) (world nd c.follow-station.new.source station)) (sym c.status_of.ensures)
+    (followed g.S.Source g.P.Station c.in-Ok.accepted answer od nd c.args.feed.now c.follow-station.new.source c.args.station station read
+    e.answer e.added e.moments e.done (named_fault answer e.named) e.silent e.source_fault e.disk_fault e.later e.source_later e.say)

@@ -1,0 +1,109 @@
+-- What each end of the command `follow` means for what it works on.
+use Rattle.std.specs.Prelude.{◌≡◌, ◌⊎◌, ℕ, ◌+◌, ◌≤◌, List, [], ◌++◌, length, Ok, Err}
+use Rattle.gts_traits.specs.declared.source.Source.{Ghosts as SourceWords}
+use Rattle.gts_traits.specs.declared.station.Station.{Ghosts as StationWords}
+use Rattle.gts_traits.specs.Counts.{Rose}
+use Rattle.gts_traits.specs.{Call, seen, said_by}
+use Rattle.gts_directory.specs.Directory as directories
+use Rattle.gts_dirfile.specs.declared.limits.TheConstants.{LONGEST_DIRECTORY}
+use Rattle.gts_dirfile.specs.{directory_of_bytes}
+use Rattle.gts_event.specs.State.{State}
+use Rattle.gts_event.specs.History.{restarted}
+use Rattle.gts_event.specs.Need.{need}
+use Rattle.gts_record.specs.declared.fault.OpenFault.{OpenFault}
+use Rattle.gts_record.specs.declared.fault.OpenFault.TheVariants as opening
+use Rattle.gts_record.specs.Format.{written}
+use Rattle.gts_opening.specs.Journal.{opens, files_read}
+use Rattle.gts_standby.specs.declared.end.FollowEnd.{FollowEnd}
+use Rattle.gts_standby.specs.declared.end.FollowEnd.TheVariants as follow
+use Rattle.gts_standby.specs.{Taken, comes_to, EndsAs, IsEnd, state_after, EachOpens}
+use Rattle.gts_app.specs.declared.status.Status.{Status}
+use Rattle.gts_app.specs.declared.status.Status.TheVariants.{Done, Directory, NoJournal, OldVersion, NotThis, Damaged, Feed, Diverged, DiskFault, SourceFault, NoMemory}
+use Rattle.gts_app.specs.Ending.{refusal}
+use Rattle.gts_app.specs.Replay.{World}
+use Rattle.gts_app.specs.Pack.{IsUnbegun, IsTurnedAway}
+
+-- an end keeps its name
+abbrev pub status_followed : FollowEnd → Status
+status_followed follow.Done = Done
+status_followed (follow.Open fault) = refusal fault
+status_followed (follow.Feed at) = Feed at
+status_followed (follow.Diverged index own fed) = Diverged index own fed
+status_followed follow.SourceFault = SourceFault
+status_followed follow.DiskFault = DiskFault
+status_followed follow.NoMemory = NoMemory
+
+-- where source and station tell, a directory is read, and this holds of it
+abbrev pub Under : {S P : Type 0} → SourceWords S → StationWords P → World S S P → (directories.Directory → Type 0) → Type 0
+Under source station old OfIt =
+    source.tells → station.tells → (d : directories.Directory) × (directory_of_bytes (source.left old.directory) ≡ Ok d) × OfIt d
+
+-- The files opened, and the bytes of the feed came to this beside them, with an end as it is answered. The journal has all that
+-- they add.
+pub record TakesFeed (d : directories.Directory) (old new : List Call) (fed : List ℕ) (answer : FollowEnd) : Type 0 where
+  pub state : State
+  pub used : ℕ
+  pub last : List ℕ
+  pub read : files_read written d (seen old) ≡ Ok (state, used, last)
+  pub taken : Taken
+  pub comes : comes_to d (seen old) fed ≡ Ok taken
+  pub ends : EndsAs answer taken.end
+  pub opened : opens d (seen new) ≡ Ok (need d (restarted (state_after d state taken)))
+
+-- the feed was taken into the journal of the directory, and this was answered
+abbrev pub TakenAs : {S P : Type 0} → FollowEnd → SourceWords S → StationWords P → (old new : World S S P) → Type 0
+TakenAs answer source station old new =
+    Under source station old (λ d. TakesFeed d (station.calls old.station) (station.calls new.station) (source.left old.capture) answer)
+
+-- the files open to this fault
+abbrev pub RefusedBy : {S P : Type 0} → OpenFault → SourceWords S → StationWords P → (old new : World S S P) → Type 0
+RefusedBy fault source station old new = Under source station old (λ d. opens d (seen (station.calls old.station)) ≡ Err fault)
+
+-- For each status, what it means: the feed was taken to its end; or up to where it is bad, or of another history; or why it was not.
+abbrev pub FollowedAs : {S P : Type 0} → SourceWords S → StationWords P → Status → (old new : World S S P) → Type 0
+FollowedAs source station Done old new = TakenAs follow.Done source station old new × (source.tells → source.left new.capture ≡ [])
+FollowedAs source station (Feed at) old new = TakenAs (follow.Feed at) source station old new
+FollowedAs source station (Diverged index own fed) old new = TakenAs (follow.Diverged index own fed) source station old new
+FollowedAs source station (Directory fault) old new = IsTurnedAway source fault old new
+FollowedAs source station NoJournal old new = RefusedBy opening.NoJournal source station old new
+FollowedAs source station OldVersion old new = RefusedBy opening.OldVersion source station old new
+FollowedAs source station (NotThis want found) old new = RefusedBy (opening.NotThis want found) source station old new
+FollowedAs source station (Damaged file at) old new = RefusedBy (opening.Damaged file at) source station old new
+FollowedAs source station DiskFault old new = Rose (station.disk_faults old.station) (station.disk_faults new.station)
+FollowedAs source station SourceFault old new =
+    (IsUnbegun old new × Rose (source.faults old.directory) (source.faults new.directory))
+    ⊎ Rose (source.faults old.capture) (source.faults new.capture)
+FollowedAs source station NoMemory old new = Unit {0}
+FollowedAs source station _ old new = ⊥
+
+-- where a directory is read, the files open and the feed comes to this beside them
+abbrev pub ComesTo : {S P : Type 0} → SourceWords S → StationWords P → World S S P → directories.Directory → State → Taken → Type 0
+ComesTo source station old d s taken =
+    (used : ℕ) × (last : List ℕ) × (directory_of_bytes (source.left old.directory) ≡ Ok d)
+    × (files_read written d (seen (station.calls old.station)) ≡ Ok (s, used, last))
+    × (comes_to d (seen (station.calls old.station)) (source.left old.capture) ≡ Ok taken)
+
+-- what its end means, and what holds of every run
+pub record FollowsFeed {S P : Type 0} (source : SourceWords S) (station : StationWords P) (status : Status)
+    (old new : World S S P) : Type 0 where
+  pub means : FollowedAs source station status old new
+  -- a crash at any moment leaves what the journal had, and a first part of what the feed adds
+  pub moments : source.tells → station.tells → (d : directories.Directory) (s : State) (taken : Taken)
+      → ComesTo source station old d s taken
+      → EachOpens d s taken (station.calls old.station) (station.calls new.station)
+  -- over devices that don't fail, a feed ends as it comes to, but for memory
+  pub complete : source.tells → station.tells → (d : directories.Directory) (s : State) (taken : Taken)
+      → ComesTo source station old d s taken
+      → (Rose (source.faults old.directory) (source.faults new.directory) → ⊥)
+      → (Rose (source.faults old.capture) (source.faults new.capture) → ⊥)
+      → (Rose (station.disk_faults old.station) (station.disk_faults new.station) → ⊥)
+      → ((answer : FollowEnd) × IsEnd answer × (status ≡ status_followed answer) × EndsAs answer taken.end) ⊎ (status ≡ NoMemory)
+  -- nothing is said
+  pub silent : station.tells → said_by (station.calls new.station) ≡ said_by (station.calls old.station)
+  -- what is read of the directory, and that no count falls
+  pub directory_taken : source.tells → (taken : List ℕ) × (source.left old.directory ≡ taken ++ source.left new.directory)
+      × (length taken ≤ LONGEST_DIRECTORY + 1)
+  pub source_counts : (source.faults old.directory ≤ source.faults new.directory)
+      × (source.faults old.capture ≤ source.faults new.capture)
+  pub station_counts : (station.say_faults new.station ≡ station.say_faults old.station)
+      × (station.disk_faults old.station ≤ station.disk_faults new.station)

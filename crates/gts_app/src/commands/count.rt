@@ -1,0 +1,100 @@
+ghost use Rattle.std.specs.Prelude.{◌≡◌, IfOk, IfErr, IsTrue};
+ghost use Rattle.gts_event.specs.Need.{Need as NeedOf, is_sound};
+ghost use Rattle.gts_core.specs.Core.{Needs};
+ghost use Rattle.gts_count.specs.Counted.{ShowsTable};
+ghost use Rattle.gts_app.specs.Count.{CountsEngine, CountsTraffic, EndsWithoutTable};
+ghost use Rattle.gts_app.specs.Replay.{world};
+
+use crate::Status;
+use crate::commands::replay::status_of;
+use crate::commands::show::OPERATOR;
+use crate::laws::a_history_keeps_its_laws;
+use crate::opening::open_engine;
+use gts_connection::CaptureKind;
+use gts_count::{Counted, counting_of};
+use gts_engine::Engine;
+use gts_event::a_start_is_its_own_need;
+use gts_replay::ReplayEnd;
+use gts_traits::{Failed, NoMemory, Source, Station};
+use gts_turns::Switch;
+use std::alloc::Global;
+
+/// An engine that was just opened, with what is counted of its need beside it. Want of memory hands the engine back.
+fn count_beside<P: Station>(
+    alloc: Global,
+    engine: Engine<P>,
+) -> Result<Counted<Engine<P>>, Engine<P>>
+    requires { (n : NeedOf) → Needs engine.core n → IsTrue (is_sound engine.directory n) }
+    ensures switch { IfOk result (λ c. c.parts.switch ≡ engine) }
+    ensures counts { IfOk result (λ c. CountsEngine c.parts) }
+    ensures err { IfErr result (λ e. e ≡ engine) }
+{
+    let Ok(need) = engine.need(alloc) else {
+        return Err(engine);
+    };
+    match counting_of(alloc, engine.directory(), &need) {
+        Ok(counting) => Ok(Counted::beside(engine, counting)),
+        Err(NoMemory) => Err(engine),
+    }
+}
+
+/// The table behind a capture whose run ended so: where it was done. Else the status that the command has.
+fn table_behind<T: Switch>(
+    alloc: Global,
+    end: ReplayEnd,
+    counted: &Counted<T>,
+) -> Result<Vec<u8>, Status>
+    ensures table { IfOk result (λ text. (end ≡ ReplayEnd.Done)
+        × ShowsTable T.words counted.now.parts text.items) }
+    ensures none { IfErr result (EndsWithoutTable end) }
+{
+    if end != ReplayEnd::Done {
+        return Err(status_of(end));
+    }
+    match counted.text(alloc) {
+        Ok(text) => Ok(text),
+        Err(NoMemory) => Err(Status::NoMemory),
+    }
+}
+
+/// Does what `replay` does with a capture that has no `R` and no `C`, and once it is done says a table of the traffic behind it on
+/// channel 0. The station is handed back.
+pub fn count<S: Source, P: Station>(
+    alloc: Global,
+    directory: &mut S,
+    capture: &mut S,
+    station: P,
+) -> (Status, P)
+    ensures { CountsTraffic S.Source P.Station result.0
+        (world directory.old capture.old station) (world directory.new capture.new result.1) }
+{
+    // The laws that hold of all that a history comes to; and what the engine's core holds is what the files open to.
+    a_history_keeps_its_laws();
+    a_start_is_its_own_need();
+    let engine = match open_engine(alloc, directory, station) {
+        Ok(engine) => engine,
+        Err(refused) => return refused,
+    };
+    // A directory has few circuits, so a capture has one reading.
+    let _few = Switch::circuits(&engine);
+    let mut counted = match count_beside(alloc, engine) {
+        Ok(counted) => counted,
+        Err(engine) => {
+            let (station, _directory) = engine.into_parts();
+            return (Status::NoMemory, station);
+        }
+    };
+    let end = gts_replay::replay(alloc, &mut counted, capture, CaptureKind::Plain);
+    let table = table_behind(alloc, end, &counted);
+    let engine = counted.into_inner();
+    // The files open with as many bytes in use as the engine counts.
+    let _used = engine.used();
+    let (mut station, _directory) = engine.into_parts();
+    match table {
+        Err(status) => (status, station),
+        Ok(table) => match station.say(OPERATOR, table.as_slice()) {
+            Err(Failed) => (Status::SayFault, station),
+            Ok(()) => (Status::Done, station),
+        },
+    }
+}

@@ -1,0 +1,45 @@
+ghost use Rattle.std.specs.Prelude.{◌≡◌};
+ghost use Rattle.gts_app.specs.Follow as following;
+ghost use Rattle.gts_app.specs.Follow.{FollowsFeed};
+ghost use Rattle.gts_app.specs.Replay.{world};
+
+use crate::Status;
+use crate::directory::directory_of;
+use crate::opening::refusal;
+use gts_standby::FollowEnd;
+use gts_traits::{Source, Station};
+use std::alloc::Global;
+
+/// The status of how a feed was taken.
+fn status_of(end: FollowEnd) -> Status
+    ensures { result ≡ following.status_followed end }
+{
+    match end {
+        FollowEnd::Done => Status::Done,
+        FollowEnd::Open(fault) => refusal(fault),
+        FollowEnd::Feed { at } => Status::Feed { at },
+        FollowEnd::Diverged { index, own, fed } => Status::Diverged { index, own, fed },
+        FollowEnd::SourceFault => Status::SourceFault,
+        FollowEnd::DiskFault => Status::DiskFault,
+        FollowEnd::NoMemory => Status::NoMemory,
+    }
+}
+
+/// Reads the directory, opens the journal, and takes the feed of another station's journal into it: what both have is compared, and
+/// what the own one doesn't have is checked and appended. Nothing is said. The station is handed back.
+pub fn follow<S: Source, P: Station>(
+    alloc: Global,
+    directory: &mut S,
+    feed: &mut S,
+    station: P,
+) -> (Status, P)
+    ensures { FollowsFeed S.Source P.Station result.0
+        (world directory.old feed.old station) (world directory.new feed.new result.1) }
+{
+    let accepted = match directory_of(alloc, directory) {
+        Ok(accepted) => accepted,
+        Err(status) => return (status, station),
+    };
+    let (station, end) = gts_standby::follow(alloc, station, &accepted, feed);
+    (status_of(end), station)
+}
