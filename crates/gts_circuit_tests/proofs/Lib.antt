@@ -1,0 +1,2 @@
+pub mod ShortDeskLemmas
+pub mod OwedDeskLemmas

@@ -1,0 +1,2 @@
+pub mod ShortDesk
+pub mod OwedDesk

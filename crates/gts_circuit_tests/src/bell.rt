@@ -1,0 +1,77 @@
+use gts_bell::{Bell, Look};
+use std::sync::Wait;
+use std::test::Fail;
+use std::thread;
+
+#[test]
+fn a_look_counts_rings_and_shows_that_the_bell_is_closed(rt: HostRuntime) -> Result<(), Fail> {
+    let bell = Bell::new();
+    assert_eq!(rt;
+        bell.look(),
+        Look {
+            closing: false,
+            rings: 0
+        }
+    );
+    bell.ring();
+    bell.ring();
+    assert_eq!(rt;
+        bell.look(),
+        Look {
+            closing: false,
+            rings: 2
+        }
+    );
+    bell.close();
+    bell.close();
+    assert_eq!(rt;
+        bell.look(),
+        Look {
+            closing: true,
+            rings: 2
+        }
+    );
+    bell.ring();
+    assert_eq!(rt;
+        bell.look(),
+        Look {
+            closing: true,
+            rings: 3
+        }
+    );
+    Ok(())
+}
+
+// Waits until the bell is closed.
+fn wait_for_the_end<R: Wait>(rt: &R, bell: &Bell) -> u64 {
+    for _ in rt.forever() {
+        let seen = bell.look();
+        if seen.closing {
+            return seen.rings;
+        }
+        bell.wait(rt, seen);
+    }
+    unreachable!()
+}
+
+// Rings a hundred times, and closes the bell.
+fn ring_to_the_end(bell: &Bell) {
+    for _ in 0..100 {
+        bell.ring();
+    }
+    bell.close();
+}
+
+#[test]
+fn who_waits_at_a_bell_goes_on_once_another_thread_closes_it(rt: HostRuntime) -> Result<(), Fail> {
+    let bell = Bell::new();
+    let shared = &bell;
+    let runtime = &rt;
+    let (rings, ()) = thread::join(
+        &rt,
+        || wait_for_the_end(runtime, shared),
+        || ring_to_the_end(shared),
+    );
+    assert_eq!(rt; rings, 100);
+    Ok(())
+}

@@ -1,0 +1,112 @@
+use gts_bell::Bell;
+use gts_desk::Desk;
+use gts_event::{Outcome, SwitchFault};
+use gts_frame::{FrameBuf, Kind, LostField, write_frame};
+use gts_memory::MemSink;
+use gts_sender::{SendEnd, send};
+use gts_traits::{Failed, FreeGate, Sink};
+use std::sync::Wait;
+use std::test::Fail;
+
+const FRAME: &[u8] = b"00000011AN\x01\r\r\n001\r\r\n\x03";
+
+/// A desk whose only circuit is owed its last draw, and that has no turn left for messages.
+#[derive(Drop)]
+struct OwedDesk {
+    takes: u64,
+}
+
+impl Desk for OwedDesk {
+    ghost use Rattle.gts_circuit_tests.specs.OwedDesk.{seen_by};
+
+    ghost seen = { λ d. seen_by d.takes };
+
+    #[tactic(auto, using(crate::proofs::OwedDeskLemmas::spent))]
+    fn hear(&mut self, _c: u32, _kind: Kind, _message: &[u8]) -> Result<Outcome, SwitchFault> {
+        Err(SwitchFault::Spent)
+    }
+
+    #[tactic(auto, using(crate::proofs::OwedDeskLemmas::spent))]
+    fn lost(&mut self, _c: u32, _field: LostField) -> Result<Outcome, SwitchFault> {
+        Err(SwitchFault::Spent)
+    }
+
+    fn take(&mut self, c: u32, out: &mut FrameBuf) -> Result<Outcome, SwitchFault> {
+        if c != 0 || self.takes == u64::MAX {
+            return Err(SwitchFault::Spent);
+        }
+        if self.takes > 0 {
+            self.takes += 1;
+            return Ok(Outcome::Nothing);
+        }
+        self.takes = 1;
+        write_frame(Kind::An, 1, &[3], out);
+        Ok(Outcome::Resend { index: 0 })
+    }
+}
+
+/// A sink that takes five bytes at once, and fails from its third call on. It tells nothing to contracts.
+#[derive(Drop)]
+struct NarrowSink {
+    bytes: Vec<u8>,
+    calls: u64,
+    faults: u64,
+}
+
+impl Sink for NarrowSink {
+    ghost tells = { ⊥ };
+
+    ghost written = { λ s. s.bytes.items };
+
+    ghost faults = { λ s. s.faults };
+
+    fn write(&mut self, piece: &[u8]) -> Result<usize, Failed> {
+        let count = piece.len().min(5);
+        self.calls = self.calls.saturating_add(1);
+        if self.calls > 2 || self.bytes.extend_from_slice(&piece[..count]).is_err() {
+            self.faults = self.faults.saturating_add(1);
+            return Err(Failed);
+        }
+        Ok(count)
+    }
+}
+
+/// How a sender ends that sends what is owed to this sink.
+fn end_of<R: AllocGlobal + Wait, K: Sink>(rt: &R, sink: &mut K) -> Result<SendEnd, Fail> {
+    let mut desk = OwedDesk { takes: 0 };
+    let mut out = FrameBuf::new(rt.alloc())?;
+    let bell = Bell::new();
+    bell.close();
+    Ok(send(rt, &mut desk, 0, sink, &mut out, &bell, &FreeGate))
+}
+
+#[test]
+fn what_is_owed_is_sent_once(rt: HostRuntime) -> Result<(), Fail> {
+    let mut sink = MemSink::new(rt.alloc(), &[])?;
+    let end = end_of(&rt, &mut sink)?;
+    assert_eq!(rt; end, SendEnd::Quiet);
+    assert_eq!(rt; sink.bytes(), FRAME);
+    Ok(())
+}
+
+#[test]
+fn a_line_that_fails_ends_its_sender(rt: HostRuntime) -> Result<(), Fail> {
+    let mut sink = MemSink::new(rt.alloc(), &[0])?;
+    let end = end_of(&rt, &mut sink)?;
+    assert_eq!(rt; end, SendEnd::LineFault { index: 0 });
+    assert_eq!(rt; sink.bytes().len(), 0);
+    Ok(())
+}
+
+#[test]
+fn a_frame_that_was_begun_is_not_begun_again(rt: HostRuntime) -> Result<(), Fail> {
+    let mut sink = NarrowSink {
+        bytes: Vec::new(rt.alloc()),
+        calls: 0,
+        faults: 0,
+    };
+    let end = end_of(&rt, &mut sink)?;
+    assert_eq!(rt; end, SendEnd::LineFault { index: 0 });
+    assert_eq!(rt; sink.bytes.as_slice(), &FRAME[..10]);
+    Ok(())
+}

@@ -1,0 +1,153 @@
+//! A run of two circuits over lines in memory.
+ghost use Rattle.std.specs.Prelude.{[]};
+ghost use Rattle.gts_housed.specs.{Stands};
+
+use gts_circuits::an_opened_engine_stands_for_no_entry;
+use gts_directory::{CircuitRow, DirRows, Directory, RuleRow};
+use gts_engine::{Engine, an_opened_engine_begins_with_what_the_files_open_to};
+use gts_housed::Began;
+use gts_journal::Journal;
+use gts_memory::{MemLines, MemStation};
+use gts_sender::SendEnd;
+use gts_serve::{ServeEnd, Served, serve};
+use gts_traits::{FreeGate, Station};
+use std::alloc::Global;
+use std::marker::Brand;
+use std::sync::Wait;
+use std::test::Fail;
+use std::thread::Threads;
+
+/// A frame, in which the digits at 16 and 24 are to be set.
+const FRAME: [u8; 49] = *b"00000039AN\x01\r\r\n000\r\r\nSMVG01 TVSV 280000\r\r\nNIL=\r\r\n\x03";
+
+/// A directory of two circuits, each of which gets what comes in on the other.
+fn two_circuits(alloc: Global) -> Result<Directory, Fail> {
+    let mut rows = DirRows::new(alloc, *b"TVSV", 1000, 1 << 30, [7; 32]);
+    for (name, peer, input) in [
+        (*b"A       ", *b"AAAA", 4001),
+        (*b"B       ", *b"BBBB", 4003),
+    ] {
+        rows.add_circuit(CircuitRow {
+            name,
+            peer,
+            kept: 20,
+            digits: 3,
+            input,
+            output: input + 1,
+        })?;
+    }
+    rows.add_rule(RuleRow {
+        heading: *b"****** ****",
+        to: 3,
+    })?;
+    Ok(Directory::check(rows)?)
+}
+
+/// The frame of a number of the bulletin of a circuit. Both are below 10.
+fn frame_of(number: u8, circuit: u8) -> [u8; 49] {
+    let mut frame = FRAME;
+    frame[16] = b'0'.wrapping_add(number);
+    frame[24] = b'0'.wrapping_add(circuit);
+    frame
+}
+
+/// Serves the circuits of an engine, from a beginning that its caller picks.
+fn run<R, P, B>(
+    rt: &R,
+    alloc: Global,
+    engine: Engine<P>,
+    lines: &mut MemLines,
+) -> (P, ServeEnd, bool)
+where
+    R: Threads + Wait + Sync,
+    P: Station + Send + Drop,
+    B: Began + Send,
+    requires stands { Stands P.tells P.calls P.disk_faults P.say_faults B.beginning [] engine }
+    requires tells { P.tells }
+{
+    let served: Served<P, B> = serve(rt, alloc, engine, lines, 1, &FreeGate);
+    let Served { engine, end, pass } = served;
+    let (station, _) = engine.into_parts();
+    (station, end, pass.is_some())
+}
+
+/// Opens the journal of a station that tells, and serves its circuits.
+fn open_and_run<R, P>(
+    rt: &R,
+    alloc: Global,
+    station: P,
+    directory: Directory,
+    lines: &mut MemLines,
+) -> Option<(P, ServeEnd, bool)>
+where
+    R: Threads + Wait + Sync,
+    P: Station + Send + Drop,
+    requires { P.tells }
+{
+    // What its history begins with.
+    an_opened_engine_begins_with_what_the_files_open_to::<P>();
+    an_opened_engine_stands_for_no_entry::<P>();
+    match Engine::open(alloc, station, directory) {
+        Ok(engine) => Some(run::<R, P, Brand>(rt, alloc, engine, lines)),
+        Err(_) => None,
+    }
+}
+
+/// Lines over which the neighbour on each circuit sends one bulletin. The calls with the listed numbers are to fail: of `open`,
+/// and on the sink of circuit 1.
+fn fed(alloc: Global, opens: &[u64], writes: &[u64]) -> Result<MemLines, Fail> {
+    let mut lines = MemLines::new(alloc, opens)?;
+    for circuit in 0..2u8 {
+        lines.feed(u32::from(circuit), frame_of(0, circuit).as_slice())?;
+    }
+    lines.sink_fails(1, writes)?;
+    Ok(lines)
+}
+
+/// A run over a new journal and these lines: what was said, how it ended, and whether there is a pass.
+fn ran<R: Threads + Wait + Sync>(
+    rt: &R,
+    alloc: Global,
+    lines: &mut MemLines,
+) -> Result<(MemStation, ServeEnd, bool), Fail> {
+    let directory = two_circuits(alloc)?;
+    let mut station = MemStation::new(alloc, &[])?;
+    Journal::init(&mut station, directory.mark()).map_err(|_| "init")?;
+    Ok(open_and_run(rt, alloc, station, directory, lines).ok_or("open")?)
+}
+
+#[test]
+fn each_circuit_gets_the_bulletin_of_the_other(rt: HostRuntime) -> Result<(), Fail> {
+    let mut lines = fed(rt.alloc(), &[], &[])?;
+    let (_, end, has_pass) = ran(&rt, rt.alloc(), &mut lines)?;
+    assert_eq!(rt; end, ServeEnd::Done);
+    assert!(rt; has_pass);
+    assert_eq!(rt; lines.sent(0), frame_of(1, 1).as_slice());
+    assert_eq!(rt; lines.sent(1), frame_of(1, 0).as_slice());
+    Ok(())
+}
+
+#[test]
+fn a_sink_that_fails_is_the_end_and_the_other_circuit_is_served(
+    rt: HostRuntime,
+) -> Result<(), Fail> {
+    let mut lines = fed(rt.alloc(), &[], &[0])?;
+    let (_, end, _) = ran(&rt, rt.alloc(), &mut lines)?;
+    let fault = SendEnd::LineFault { index: 0 };
+    assert_eq!(rt; end, ServeEnd::Sender { c: 1, end: fault });
+    assert_eq!(rt; lines.sent(0), frame_of(1, 1).as_slice());
+    assert_eq!(rt; lines.sent(1), b"".as_slice());
+    Ok(())
+}
+
+#[test]
+fn a_first_line_that_fails_to_open_is_the_end_before_anything_is_done(
+    rt: HostRuntime,
+) -> Result<(), Fail> {
+    let mut lines = fed(rt.alloc(), &[0], &[])?;
+    let (station, end, has_pass) = ran(&rt, rt.alloc(), &mut lines)?;
+    assert_eq!(rt; end, ServeEnd::NotOpened { c: 0 });
+    assert!(rt; !has_pass);
+    assert_eq!(rt; station.said(0), b"".as_slice());
+    Ok(())
+}

@@ -1,0 +1,103 @@
+use gts_directory::{Change, CircuitRow, DirRows, Directory, LevelRow, Part, RuleRow};
+use gts_heading::Heading;
+use std::alloc::Global;
+use std::test::Fail;
+
+/// The row of a circuit to a centre.
+fn circuit(name: u8, peer: [u8; 4], digits: u32) -> CircuitRow {
+    let mut padded = [b' '; 8];
+    padded[0] = name;
+    CircuitRow {
+        name: padded,
+        peer,
+        kept: 20,
+        digits,
+        input: 4001,
+        output: 4002,
+    }
+}
+
+/// Circuits A and B to different centres and C to that of A; `SM` goes to A and B, the number 01 to B and C.
+fn three_circuits(alloc: Global) -> Result<DirRows, Fail> {
+    let mut rows = DirRows::new(alloc, *b"TVSV", 1000, 1 << 30, [7; 32]);
+    rows.add_circuit(circuit(b'A', *b"AAAA", 3))?;
+    rows.add_circuit(circuit(b'B', *b"BBBB", 5))?;
+    rows.add_circuit(circuit(b'C', *b"AAAA", 3))?;
+    rows.add_rule(RuleRow {
+        heading: *b"SM**** ****",
+        to: 0b011,
+    })?;
+    rows.add_rule(RuleRow {
+        heading: *b"****01 ****",
+        to: 0b110,
+    })?;
+    rows.add_level(LevelRow {
+        tt: *b"W*",
+        level: 1,
+    })?;
+    Ok(rows)
+}
+
+/// The circuits that a bulletin from a circuit goes to, and its level.
+fn routed(directory: &Directory, from: u32, text: &[u8]) -> Option<(u64, u8)> {
+    match Heading::read_bare(text) {
+        Ok((heading, _)) if from < directory.circuits() => {
+            Some((directory.names(from, &heading), directory.level(&heading)))
+        }
+        _ => None,
+    }
+}
+
+/// Circuits, texts, the circuits that are named, and levels.
+const ROUTES: [(u32, &[u8], u64, u8); 3] = [
+    (0, b"SMVG01 TVSV 280000", 0b010, 3),
+    (1, b"SMVG01 TVSV 280000", 0b101, 3),
+    (1, b"WWVG02 TVSV 280000", 0, 1),
+];
+
+#[test]
+fn rules_name_circuits_and_level_rows_give_levels(rt: HostRuntime) -> Result<(), Fail> {
+    let directory = Directory::check(three_circuits(rt.alloc())?)?;
+    for (from, text, named, level) in ROUTES {
+        assert_eq!(rt; routed(&directory, from, text), Some((named, level)));
+    }
+    Ok(())
+}
+
+#[test]
+fn a_directory_gives_its_rows(rt: HostRuntime) -> Result<(), Fail> {
+    let directory = Directory::check(three_circuits(rt.alloc())?)?;
+    assert_eq!(rt; directory.circuits(), 3);
+    assert!(rt; *directory.circuit(1) == circuit(b'B', *b"BBBB", 5));
+    assert_eq!(rt; directory.centre(), *b"TVSV");
+    assert_eq!(rt; directory.window(), 1000);
+    assert_eq!(rt; directory.limit(), 1 << 30);
+    assert_eq!(rt; directory.mark(), [7; 32]);
+    Ok(())
+}
+
+/// The same with a circuit more, and a rule for it.
+fn extended(alloc: Global) -> Result<DirRows, Fail> {
+    let mut rows = three_circuits(alloc)?;
+    rows.add_circuit(circuit(b'D', *b"DDDD", 3))?;
+    rows.add_rule(RuleRow {
+        heading: *b"****** ****",
+        to: 0b1000,
+    })?;
+    Ok(rows)
+}
+
+#[test]
+fn a_directory_extends_what_it_goes_on_from(rt: HostRuntime) -> Result<(), Fail> {
+    let old = Directory::check(three_circuits(rt.alloc())?)?;
+    let new = Directory::check(extended(rt.alloc())?)?;
+    assert_eq!(rt; new.extends(&old), Ok(()));
+    let change = Change {
+        part: Part::Circuit,
+        row: 3,
+    };
+    assert_eq!(rt; old.extends(&new), Err(change));
+    let said = change.to_string(rt.alloc())?;
+    assert_eq!(rt; said.as_str(), "changed in circuit row 3");
+    Ok(())
+}

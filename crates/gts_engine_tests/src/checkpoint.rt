@@ -1,0 +1,157 @@
+ghost use Rattle.std.specs.Prelude.{IfOk};
+ghost use Rattle.gts_event.specs.Items as items;
+ghost use Rattle.gts_checkpoint.specs.Writing.{FitBytes};
+
+use crate::directory::{MARK, two_circuits};
+use gts_checkpoint::{decode, read, size, write};
+use gts_directory::Directory;
+use gts_event::{Bulletin, Bulletins, Bytes, CircuitNeed, CircuitNeeds, Need, Places};
+use gts_frame::Kind;
+use gts_memory::MemStation;
+use gts_record::{OpenFault, Version};
+use gts_traits::Station;
+use std::alloc::Global;
+use std::process::Abort;
+use std::test::Fail;
+
+const HEADING: &[u8] = b"SMVG01 TVSV 280000\r\r\n";
+
+const END: &[u8] = b"=\r\r\n\x03";
+
+/// What is needed of a circuit that drew the first bulletin, or nothing.
+fn circuit(alloc: Global, drawn: bool) -> Result<CircuitNeed, Fail> {
+    let mut kept = Places::new();
+    if drawn {
+        kept.push(alloc, 0)?;
+    }
+    Ok(CircuitNeed {
+        draws: u64::from(drawn),
+        waiting: Places::new(),
+        kept,
+        owed: Places::new(),
+    })
+}
+
+/// The body of a bulletin with so many letters in its text.
+fn body(alloc: Global, letters: u32) -> Result<Bytes, Fail> {
+    let mut body = Bytes::new();
+    for byte in HEADING {
+        body.push(alloc, *byte)?;
+    }
+    for _ in 0..letters {
+        body.push(alloc, b'A')?;
+    }
+    for byte in END {
+        body.push(alloc, *byte)?;
+    }
+    Ok(body)
+}
+
+/// The need after one bulletin on circuit 0, with so many letters in its text, and its draw on circuit 1.
+fn one_draw(alloc: Global, letters: u32) -> Result<Need, Fail>
+    ensures { IfOk result (λ need. FitBytes (items.need_of need)) }
+{
+    let mut bulletins = Bulletins::new();
+    bulletins.push(
+        alloc,
+        Bulletin {
+            position: 0,
+            from: 0,
+            kind: Kind::An,
+            body: body(alloc, letters)?,
+        },
+    )?;
+    let mut circuits = CircuitNeeds::new();
+    circuits.push(alloc, circuit(alloc, false)?)?;
+    circuits.push(alloc, circuit(alloc, true)?)?;
+    Ok(Need {
+        accepted: 1,
+        bulletins,
+        circuits,
+    })
+}
+
+/// A disk whose second file holds the checkpoint of a need.
+fn written(rt: &impl Abort, alloc: Global, need: &Need) -> Result<MemStation, Fail>
+    requires { FitBytes (items.need_of need.now) }
+{
+    let behind = Version::written().seal_size() as u64;
+    assert!(rt; size(need) < 10_000 - behind);
+    let mut station = MemStation::new(alloc, &[])?;
+    write(alloc, &mut station, 1, MARK, need)?;
+    Ok(station)
+}
+
+/// Writes a byte over the one that stands in the second file at a place.
+fn put(rt: &impl Abort, station: &mut MemStation, place: u64, byte: u8) -> Result<(), Fail> {
+    let size = station.size(1)?;
+    assert!(rt; place < size && size < 10_000);
+    station.write_at(1, place, &[byte])?;
+    Ok(())
+}
+
+#[test]
+fn a_checkpoint_is_read_as_it_was_written(rt: HostRuntime) -> Result<(), Fail> {
+    let alloc = rt.alloc();
+    let directory = two_circuits(alloc)?;
+    let need = one_draw(alloc, 3)?;
+    assert_eq!(rt; size(&need), 105);
+    let mut station = written(&rt, alloc, &need)?;
+    assert_eq!(rt; station.size(1)?, 179);
+    let (found, gate, _) = read(alloc, &mut station, Version::written(), 1, &directory)?;
+    assert_eq!(rt; gate, 178);
+    assert_eq!(rt; found.accepted, 1);
+    assert_eq!(rt; found.bulletins.len(), 1);
+    assert_eq!(rt; found.circuits.len(), 2);
+    Ok(())
+}
+
+/// How many letters a text has, and a place of the file that is damaged: the letter, the zeros, the circuits, the number
+/// accepted, the bulletins, the first position, both ends of the seal, and a letter that the seal's second piece has.
+const DAMAGED: [(u32, u64); 9] = [
+    (3, 41),
+    (3, 42),
+    (3, 48),
+    (3, 56),
+    (3, 60),
+    (3, 68),
+    (3, 146),
+    (3, 177),
+    (5000, 5000),
+];
+
+#[test]
+fn a_damaged_byte_is_damage(rt: HostRuntime) -> Result<(), Fail> {
+    let alloc = rt.alloc();
+    let directory = two_circuits(alloc)?;
+    let damage = OpenFault::Damaged { file: 1, at: 41 };
+    for (letters, place) in DAMAGED {
+        let need = one_draw(alloc, letters)?;
+        let mut station = written(&rt, alloc, &need)?;
+        put(&rt, &mut station, place, 7)?;
+        let read = read(alloc, &mut station, Version::written(), 1, &directory);
+        assert!(rt; read.err() == Some(damage), "{letters} {place}");
+    }
+    Ok(())
+}
+
+/// Whether the bytes from the first record of file 1 up to a place are decoded.
+fn is_decoded(
+    alloc: Global,
+    station: &MemStation,
+    directory: &Directory,
+    end: usize,
+) -> Result<bool, Fail> {
+    let bytes = station.file(1).get(41..end).unwrap_or(&[]);
+    Ok(decode(alloc, bytes, directory)?.is_some())
+}
+
+#[test]
+fn a_checkpoint_that_stands_in_no_file_is_decoded(rt: HostRuntime) -> Result<(), Fail> {
+    let alloc = rt.alloc();
+    let directory = two_circuits(alloc)?;
+    let station = written(&rt, alloc, &one_draw(alloc, 3)?)?;
+    assert!(rt; is_decoded(alloc, &station, &directory, 146)?);
+    assert!(rt; !is_decoded(alloc, &station, &directory, 145)?);
+    Ok(())
+}

@@ -1,0 +1,28 @@
+use gts_directory::{CircuitRow, DirRows, Directory, RuleRow};
+use std::alloc::Global;
+use std::test::Fail;
+
+pub const MARK: [u8; 32] = *b"the mark of this small directory";
+
+/// A directory of two circuits, each of which gets what comes in on the other.
+pub fn two_circuits(alloc: Global) -> Result<Directory, Fail> {
+    let mut rows = DirRows::new(alloc, *b"TVSV", 1000, 1 << 30, MARK);
+    for (name, peer, input) in [
+        (*b"A       ", *b"AAAA", 4001),
+        (*b"B       ", *b"BBBB", 4003),
+    ] {
+        rows.add_circuit(CircuitRow {
+            name,
+            peer,
+            kept: 20,
+            digits: 3,
+            input,
+            output: input + 1,
+        })?;
+    }
+    rows.add_rule(RuleRow {
+        heading: *b"****** ****",
+        to: 3,
+    })?;
+    Ok(Directory::check(rows)?)
+}

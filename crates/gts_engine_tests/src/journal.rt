@@ -1,0 +1,174 @@
+ghost use Rattle.std.specs.Prelude.{◌≡◌, ◌≤◌, ◌^◌, true, length, IfOk};
+ghost use Rattle.gts_journal.specs.{StandsOn};
+
+use gts_frame::Kind;
+use gts_journal::{InitFault, Journal, OpenFault, Record, Version};
+use gts_memory::{MemStation, Touched};
+use gts_traits::Station;
+use std::alloc::Global;
+use std::test::Fail;
+
+const MARK: [u8; 32] = [7; 32];
+
+const BODY: &[u8] = b"SMVG01 TVSV 280000\r\r\nNIL=\r\r\n\x03";
+
+/// The journal of the two records, as another program wrote it.
+const SEALED: &[u8] =
+    b"GTSJ0002\x07\x07\x07\x07\x07\x07\x07\x07\x07\x07\x07\x07\x07\x07\x07\x07\x07\x07\x07\x07\x07\x07\
+\x07\x07\x07\x07\x07\x07\x07\x07\x07\x07OA\0A\0\0\0\0\0\0\0\0\0\0\0\0\x1dSMVG01 TVSV 280000\r\r\
+\nNIL=\r\r\n\x03h\xa0\xd4\xa7,\xf9b\x0e\xb3\x88\x01\x8dH\x891x\x8d?\xf6\xe6Vb\x19\xf5\xd7qd&\xaf\
+\xb9\xcf\xc7OD\x01\0\0\0\0\0\0\0\0\0\0\0\0\0\0\0\0\0\0\0\0\0\x05\xbaDD-\xb1\xcc\x14t\x1bMG\xcc\
+\xd7\nF2\xd7\x94sG8X\xc3\xfdZC\x95\xa5\xcd$\x03C";
+
+/// The same records in version 1.
+const UNSEALED: &[u8] =
+    b"GTSJ0001\x07\x07\x07\x07\x07\x07\x07\x07\x07\x07\x07\x07\x07\x07\x07\x07\x07\x07\x07\x07\x07\x07\
+\x07\x07\x07\x07\x07\x07\x07\x07\x07\x07OA\0A\0\0\0\0\0\0\0\0\0\0\0\0\x1dSMVG01 TVSV 280000\r\r\
+\nNIL=\r\r\n\x03OD\x01\0\0\0\0\0\0\0\0\0\0\0\0\0\0\0\0\0\0\0\0\0C";
+
+/// A journal at its end, and how many records were read of it.
+fn read_to_end<P: Station>(alloc: Global, station: &mut P) -> Result<(Journal, u64), OpenFault>
+    ensures end { IfOk result (λ x. x.0.ended ≡ true) }
+    ensures stands { P.tells → IfOk result (λ x. StandsOn (P.calls station.new) x.0) }
+{
+    let mut journal = match Journal::start(alloc, station, MARK) {
+        Ok(journal) => journal,
+        Err(fault) => return Err(fault),
+    };
+    let mut count: u64 = 0;
+    while journal.used() < 1 << 40 {
+        match journal.next(station) {
+            Ok(Some(_)) => count = count.saturating_add(1),
+            Ok(None) => return Ok((journal, count)),
+            Err(fault) => return Err(fault),
+        }
+    }
+    Err(OpenFault::Damaged {
+        file: journal.file(),
+        at: journal.used(),
+    })
+}
+
+/// Makes a journal, adds an accepted bulletin and its draw, and answers `used` before, between and behind them.
+fn two_records<P: Station>(alloc: Global, station: &mut P) -> Option<[u64; 3]> {
+    if Journal::init(station, MARK).is_err() {
+        return None;
+    }
+    let Ok((mut journal, _)) = read_to_end(alloc, station) else {
+        return None;
+    };
+    let before = journal.used();
+    if before != 41 {
+        return None;
+    }
+    let accept = Record::Accept {
+        from: 0,
+        kind: Kind::An,
+        position: 0,
+        body: BODY,
+    };
+    if journal.append(station, &accept).is_err() {
+        return None;
+    }
+    let between = journal.used();
+    let draw = Record::Draw {
+        circuit: 1,
+        position: 0,
+        index: 0,
+    };
+    if journal.append(station, &draw).is_err() {
+        return None;
+    }
+    Some([before, between, journal.used()])
+}
+
+/// Why the journal can't be opened.
+fn fault_of<P: Station>(alloc: Global, station: &mut P) -> Option<OpenFault> {
+    read_to_end(alloc, station).err()
+}
+
+/// The size of a journal that is there already.
+fn size_that_exists<P: Station>(station: &mut P) -> Option<u64> {
+    match Journal::init(station, MARK) {
+        Err(InitFault::Exists { size }) => Some(size),
+        _ => None,
+    }
+}
+
+/// How many records are read.
+fn read<P: Station>(alloc: Global, station: &mut P) -> Result<u64, OpenFault> {
+    match read_to_end(alloc, station) {
+        Ok((_, count)) => Ok(count),
+        Err(fault) => Err(fault),
+    }
+}
+
+#[test]
+fn a_journal_of_two_records_has_these_bytes(rt: HostRuntime) -> Result<(), Fail> {
+    let alloc = rt.alloc();
+    let mut station = MemStation::new(alloc, &[])?;
+    assert!(rt; fault_of(alloc, &mut station) == Some(OpenFault::NoJournal));
+    assert_eq!(rt; two_records(alloc, &mut station), Some([41, 119, 175]));
+    assert_eq!(rt; station.file(0), SEALED);
+    assert!(rt; read(alloc, &mut station) == Ok(2));
+    assert_eq!(rt; size_that_exists(&mut station), Some(175));
+    Ok(())
+}
+
+#[test]
+fn a_call_that_fails_ends_what_is_done(rt: HostRuntime) -> Result<(), Fail> {
+    let alloc = rt.alloc();
+    // Eight calls make the journal, four open it, and four are made for each record.
+    for call in 0..20 {
+        let mut station = MemStation::new(alloc, &[call])?;
+        assert_eq!(rt; two_records(alloc, &mut station), None);
+        assert_eq!(rt; station.calls(), call + 1);
+    }
+    Ok(())
+}
+
+#[test]
+fn a_crash_in_an_append_leaves_the_records_before_or_one_more(rt: HostRuntime) -> Result<(), Fail> {
+    let alloc = rt.alloc();
+    let mut station = MemStation::new(alloc, &[])?;
+    assert_eq!(rt; two_records(alloc, &mut station), Some([41, 119, 175]));
+    let choices = [
+        Touched::Old,
+        Touched::New,
+        Touched::Fill(0),
+        Touched::Fill(0x4f),
+        Touched::Fill(0xff),
+    ];
+    // The calls before these make the journal and open it; each append has four.
+    for call in 12..20 {
+        let before = (call - 12) / 4;
+        for choice in choices {
+            assert!(rt; call < station.calls());
+            let mut crashed = station.crashed(call, choice)?;
+            let found = read(alloc, &mut crashed);
+            assert!(rt; found == Ok(before) || found == Ok(before + 1), "{call}");
+        }
+    }
+    Ok(())
+}
+
+/// A station with these bytes as its journal.
+fn station_of(alloc: Global, file: &[u8]) -> Result<MemStation, Fail>
+    requires { length file.now ≤ 2 ^ 20 }
+{
+    let mut station = MemStation::new(alloc, &[])?;
+    station.write_at(0, 0, file)?;
+    Ok(station)
+}
+
+#[test]
+fn a_journal_of_an_older_version_is_told_or_taken(rt: HostRuntime) -> Result<(), Fail> {
+    let alloc = rt.alloc();
+    let mut station = station_of(alloc, UNSEALED)?;
+    assert!(rt; fault_of(alloc, &mut station) == Some(OpenFault::OldVersion));
+    match Journal::start_any(alloc, &mut station, MARK) {
+        Ok(journal) => assert!(rt; journal.version() == Version::One),
+        Err(_) => assert!(rt; false),
+    }
+    Ok(())
+}

@@ -1,0 +1,13 @@
+//! Tests of the journal, its checkpoints, its recovery and the engine.
+#![tactic(auto)]
+
+#[cfg(test)]
+mod checkpoint;
+#[cfg(test)]
+mod directory;
+#[cfg(test)]
+mod engine;
+#[cfg(test)]
+mod journal;
+#[cfg(test)]
+mod recovery;

@@ -1,0 +1,82 @@
+ghost use Rattle.std.specs.Prelude.{◌≤◌, ◌^◌, length};
+
+use crate::directory::two_circuits;
+use gts_directory::Directory;
+use gts_memory::MemStation;
+use gts_recovery::{OpenFault, open_core};
+use gts_traits::Station;
+use std::alloc::Global;
+use std::test::Fail;
+
+/// A journal with no record.
+const EMPTY: &[u8] = b"GTSJ0002the mark of this small directoryC";
+
+/// A journal with an accepted bulletin, and its draw on circuit 1.
+const BOTH: &[u8] =
+    b"GTSJ0002the mark of this small directoryOA\0A\0\0\0\0\0\0\0\0\0\0\0\0\x1dSMVG01 TVSV 280000\r\r\
+\nNIL=\r\r\n\x03R\xb1\xd8\xad\xe4\x7f\xb4\xb4\xb9\xedZ\x10n=(\xb6\xd8\x7fp\xa5Il\xa1\xeawNy]\xaf\
+\xa1\x02\xf2OD\x01\0\0\0\0\0\0\0\0\0\0\0\0\0\0\0\0\0\0\0\0\0T\xe3\xb2\xd7\xba\x9a0{\xbf\xaf\xf9{\
+\xb7\x05[\x13\xcdp\xe3`C\xee\xdb\xceO\x1b\xda{\x90x~\x1dC";
+
+/// The same with a draw of another index.
+const WRONG_INDEX: &[u8] =
+    b"GTSJ0002the mark of this small directoryOA\0A\0\0\0\0\0\0\0\0\0\0\0\0\x1dSMVG01 TVSV 280000\r\r\
+\nNIL=\r\r\n\x03R\xb1\xd8\xad\xe4\x7f\xb4\xb4\xb9\xedZ\x10n=(\xb6\xd8\x7fp\xa5Il\xa1\xeawNy]\xaf\
+\xa1\x02\xf2OD\x01\0\0\0\0\0\0\0\0\0\0\0\0\0\0\0\0\0\0\0\0\x01\x8e\x10\x84\xc0\xe1g\xb7\xe4'\xf5\
+\xe2\xc5*\x0c\x19\xbd>\x11\xfb\xffT\x93f@@\x85\xa2\x86\x81Gi\xbaC";
+
+/// A bulletin that isn't the next.
+const WRONG_POSITION: &[u8] =
+    b"GTSJ0002the mark of this small directoryOA\0A\0\0\0\0\0\0\0\0\x01\0\0\0\x1dSMVG01 TVSV 280000\r\
+\r\nNIL=\r\r\n\x03\x0f?\x16\xc2E\xd5\xdb\xb7U\x9706\xd3(\xdb<\xa9\xce\xd7\xe1\xbb\xa0\xcaoc\xea\
+\xcbV\x01\xb8\xc0\x12C";
+
+/// A journal that begins with a checkpoint.
+const CHECKPOINT: &[u8] = b"GTSJ0002the mark of this small directoryOC\0\0\0\0\0\0\x02";
+
+/// Opens a journal of these bytes, and answers `used` and how many bulletins were accepted.
+fn opened<P: Station>(
+    alloc: Global,
+    station: &mut P,
+    directory: &Directory,
+    file: &[u8],
+) -> Result<(u64, u64), OpenFault>
+    requires { length file.now ≤ 2 ^ 20 }
+{
+    station.write_at(0, 0, file)?;
+    match open_core(alloc, station, directory) {
+        Ok((core, journal)) => Ok((journal.used(), core.accepted())),
+        Err(fault) => Err(fault),
+    }
+}
+
+#[test]
+fn a_journal_is_opened_to_what_its_records_lead_to(rt: HostRuntime) -> Result<(), Fail> {
+    let alloc = rt.alloc();
+    let directory = two_circuits(alloc)?;
+    let mut station = MemStation::new(alloc, &[])?;
+    assert!(rt; opened(alloc, &mut station, &directory, EMPTY) == Ok((41, 0)));
+    let mut station = MemStation::new(alloc, &[])?;
+    assert!(rt; opened(alloc, &mut station, &directory, BOTH) == Ok((175, 1)));
+    Ok(())
+}
+
+#[test]
+fn a_record_that_breaks_a_rule_is_damage(rt: HostRuntime) -> Result<(), Fail> {
+    let alloc = rt.alloc();
+    let directory = two_circuits(alloc)?;
+    let files = [
+        (WRONG_INDEX, 119),
+        (WRONG_POSITION, 41),
+        (CHECKPOINT, 41),
+        (&BOTH[..118], 118),
+    ];
+    for (file, at) in files {
+        let mut station = MemStation::new(alloc, &[])?;
+        let fault = OpenFault::Damaged { file: 0, at };
+        assert!(rt; opened(alloc, &mut station, &directory, file) == Err(fault));
+    }
+    let mut station = MemStation::new(alloc, &[])?;
+    assert!(rt; opened(alloc, &mut station, &directory, b"") == Err(OpenFault::NoJournal));
+    Ok(())
+}

@@ -1,0 +1,166 @@
+ghost use Rattle.std.specs.Prelude.{◌≡◌, []};
+
+use gts_memory::{MemLines, MemSink, MemSource, MemStation, Touched};
+use gts_traits::{
+    Failed, FreeGate, Gate, Line, Lines, Point, Sink, Source, Station, cut_synced, write_synced,
+};
+use std::test::Fail;
+
+#[test]
+fn a_source_gives_its_bytes_in_order(rt: HostRuntime) -> Result<(), Fail> {
+    let mut source = MemSource::new(rt.alloc(), b"hello", &[1])?;
+    let mut into = [0; 3];
+    assert_eq!(rt; source.read(&mut into), Ok(3));
+    assert_eq!(rt; into, [104, 101, 108]);
+    assert_eq!(rt; source.read(&mut into), Err(Failed));
+    assert_eq!(rt; source.read(&mut into), Ok(2));
+    assert_eq!(rt; into, [108, 111, 108]);
+    assert_eq!(rt; source.read(&mut into), Ok(0));
+    Ok(())
+}
+
+/// How many bytes a read of the next connection gives.
+fn read_next(source: &mut MemSource) -> Result<usize, Failed> {
+    source.again()?;
+    source.read(&mut [0; 2])
+}
+
+#[test]
+fn a_source_begins_its_connections_one_after_another(rt: HostRuntime) -> Result<(), Fail> {
+    let mut source = MemSource::new(rt.alloc(), b"abc", &[])?;
+    source.add(b"d")?;
+    assert_eq!(rt; read_next(&mut source), Ok(1));
+    assert_eq!(rt; read_next(&mut source), Ok(0));
+    Ok(())
+}
+
+#[test]
+fn a_sink_keeps_what_is_written(rt: HostRuntime) -> Result<(), Fail> {
+    let mut sink = MemSink::new(rt.alloc(), &[1])?;
+    assert_eq!(rt; sink.write(b"ab"), Ok(2));
+    assert_eq!(rt; sink.write(b"lost"), Err(Failed));
+    assert_eq!(rt; sink.write(b"c"), Ok(1));
+    assert_eq!(rt; sink.bytes(), b"abc".as_slice());
+    assert_eq!(rt; sink.starved(), 0);
+    Ok(())
+}
+
+#[test]
+fn a_station_keeps_each_channel_apart(rt: HostRuntime) -> Result<(), Fail> {
+    let mut station = MemStation::new(rt.alloc(), &[1])?;
+    assert_eq!(rt; station.say(0, b"started"), Ok(()));
+    assert_eq!(rt; station.say(64, b"lost"), Err(Failed));
+    assert_eq!(rt; station.say(64, b"ab"), Ok(()));
+    assert_eq!(rt; station.say(64, b"c"), Ok(()));
+    assert_eq!(rt; station.said(0), b"started".as_slice());
+    assert_eq!(rt; station.said(64), b"abc".as_slice());
+    assert_eq!(rt; station.said(1), b"".as_slice());
+    assert!(rt; station.saying(1) == Some((64, b"ab".as_slice())));
+    assert!(rt; station.saying(3).is_none());
+    assert_eq!(rt; station.calls(), 4);
+    assert_eq!(rt; station.starved(), 0);
+    Ok(())
+}
+
+/// Writes, writes over and past that, and cuts.
+fn keep<S: Station>(station: &mut S, into: &mut [u8]) -> Result<usize, Failed>
+    requires { S.tells → S.calls station.old ≡ [] }
+{
+    write_synced(station, 1, 0, b"abc")?;
+    station.write_at(1, 1, b"xyz")?;
+    cut_synced(station, 1, 3)?;
+    station.read(1, 1, into)
+}
+
+#[test]
+fn a_station_keeps_its_files(rt: HostRuntime) -> Result<(), Fail> {
+    let mut station = MemStation::new(rt.alloc(), &[])?;
+    let mut into = [0; 4];
+    assert_eq!(rt; keep(&mut station, &mut into), Ok(2));
+    assert_eq!(rt; into, [120, 121, 0, 0]);
+    assert_eq!(rt; station.size(1), Ok(3));
+    assert_eq!(rt; station.file(1), b"axy".as_slice());
+    assert_eq!(rt; station.file(0), b"".as_slice());
+    assert_eq!(rt; station.calls(), 7);
+    Ok(())
+}
+
+/// Opens a circuit, reads from its line and from the next connection, writes, and hands the line back.
+fn visit<L: Lines>(lines: &mut L, into: &mut [u8]) -> Result<usize, Failed> {
+    let (mut input, mut output) = lines.open(5, 4001, 4002)?;
+    let first = input.read(into);
+    let second = input.again().and(input.read(into));
+    let written = output.write(b"frame");
+    lines.close(5, input, output);
+    Ok(first?.max(second?).max(written?))
+}
+
+#[test]
+fn a_circuit_is_opened_and_closed(rt: HostRuntime) -> Result<(), Fail> {
+    let mut lines = MemLines::new(rt.alloc(), &[1])?;
+    lines.feed(5, b"in")?;
+    lines.add(5, b"then")?;
+    lines.sink_fails(5, &[1])?;
+    let mut into = [0; 4];
+    assert_eq!(rt; visit(&mut lines, &mut into), Ok(5));
+    assert_eq!(rt; into, *b"then");
+    assert_eq!(rt; lines.sent(5), b"frame".as_slice());
+    assert_eq!(rt; visit(&mut lines, &mut into), Err(Failed));
+    Ok(())
+}
+
+fn pass_on<I: Source, O: Sink, G: Gate>(
+    input: &mut I,
+    output: &mut O,
+    gate: &G,
+) -> Result<usize, Failed> {
+    let mut piece = [0; 4];
+    let count = input.read(&mut piece)?;
+    gate.at(Point::Sent { c: 3 });
+    output.write(&piece[..count])
+}
+
+#[test]
+fn each_object_is_used_by_its_trait(rt: HostRuntime) -> Result<(), Fail> {
+    let mut source = MemSource::new(rt.alloc(), b"frames", &[])?;
+    let mut sink = MemSink::new(rt.alloc(), &[])?;
+    assert_eq!(rt; pass_on(&mut source, &mut sink, &FreeGate), Ok(4));
+    assert_eq!(rt; pass_on(&mut source, &mut sink, &FreeGate), Ok(2));
+    assert_eq!(rt; sink.bytes(), b"frames".as_slice());
+    Ok(())
+}
+
+/// Says, writes and syncs, writes over that, and says again.
+fn write_over<S: Station>(station: &mut S) -> Result<(), Failed>
+    requires { S.tells → S.calls station.old ≡ [] }
+{
+    station.say(0, b"one")?;
+    write_synced(station, 0, 0, b"abc")?;
+    station.write_at(0, 1, b"xyz")?;
+    station.say(0, b"two")
+}
+
+#[test]
+fn a_crash_leaves_the_synced_bytes_or_others_where_a_write_was(
+    rt: HostRuntime,
+) -> Result<(), Fail> {
+    let mut station = MemStation::new(rt.alloc(), &[])?;
+    assert_eq!(rt; write_over(&mut station), Ok(()));
+    let cases = [
+        (1, Touched::Old, b"".as_slice()),
+        (1, Touched::New, b"abc".as_slice()),
+        (2, Touched::Fill(48), b"000".as_slice()),
+        (3, Touched::Old, b"abc".as_slice()),
+        (3, Touched::New, b"axyz".as_slice()),
+        (3, Touched::Fill(48), b"a000".as_slice()),
+        (4, Touched::New, b"axyz".as_slice()),
+    ];
+    for (call, choice, file) in cases {
+        assert!(rt; call < station.calls());
+        let crashed = station.crashed(call, choice)?;
+        assert_eq!(rt; crashed.file(0), file, "{call}");
+        assert_eq!(rt; crashed.said(0), b"one".as_slice());
+        assert_eq!(rt; crashed.calls(), 0);
+    }
+    Ok(())
+}

@@ -1,0 +1,46 @@
+use gts_capture::{CaptureFault, Head, Steps};
+use gts_connection::CaptureKind;
+use gts_memory::MemSource;
+use gts_traits::NoMemory;
+use std::alloc::Global;
+use std::test::Fail;
+
+/// The first head of a capture for two circuits.
+fn first_head(
+    alloc: Global,
+    kind: CaptureKind,
+    bytes: &[u8],
+    failing: &[u64],
+) -> Result<Result<Head, CaptureFault>, NoMemory> {
+    let mut source = MemSource::new(alloc, bytes, failing)?;
+    Ok(Steps::new(2, kind).next(&mut source))
+}
+
+#[test]
+fn a_step_of_the_journal_stands_in_no_plain_capture(rt: HostRuntime) -> Result<(), Fail> {
+    let alloc = rt.alloc();
+    let bad = Err(CaptureFault::Bad { at: 0 });
+    let head = first_head(alloc, CaptureKind::Journaled, b"C\n", &[])?;
+    assert_eq!(rt; head, Ok(Head::Compact));
+    assert_eq!(rt; first_head(alloc, CaptureKind::Plain, b"C\n", &[])?, bad);
+    Ok(())
+}
+
+#[test]
+fn a_failed_read_is_the_sources_fault(rt: HostRuntime) -> Result<(), Fail> {
+    let head = first_head(rt.alloc(), CaptureKind::Journaled, b"E\n", &[0])?;
+    assert_eq!(rt; head, Err(CaptureFault::SourceFault));
+    Ok(())
+}
+
+#[test]
+fn the_bytes_of_a_feed_come_before_the_next_head(rt: HostRuntime) -> Result<(), Fail> {
+    let mut source = MemSource::new(rt.alloc(), b"F 00 000003\nabcE\n", &[])?;
+    let mut steps = Steps::new(1, CaptureKind::Journaled);
+    let mut into = [0; 4];
+    assert_eq!(rt; steps.next(&mut source)?, Head::Feed { c: 0, length: 3 });
+    assert_eq!(rt; steps.bytes(&mut source, &mut into)?, 3);
+    assert_eq!(rt; into, *b"abc\0");
+    assert_eq!(rt; steps.next(&mut source)?, Head::End);
+    Ok(())
+}

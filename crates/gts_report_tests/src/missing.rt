@@ -1,0 +1,43 @@
+use gts_dirfile::read_directory;
+use gts_memory::{MemSource, MemStation};
+use gts_missing::{GapsEnd, Moment, gaps};
+use std::alloc::Global;
+use std::test::Fail;
+
+const DIRECTORY: &[u8] = b"centre = \"TVSV\"\n[[circuit]]\nname = \"A\"\npeer = \"AAAA\"\n";
+
+/// The numbers 001, 002, 005 and 003 on circuit 0.
+const CAPTURE: &[u8] =
+    b"F 00 000049\n00000039AN\x01\r\r\n001\r\r\nSMVG01 TVSV 280000\r\r\nNIL=\r\r\n\x03\
+F 00 000049\n00000039AN\x01\r\r\n002\r\r\nSMVG01 TVSV 280000\r\r\nNIL=\r\r\n\x03\
+F 00 000049\n00000039AN\x01\r\r\n005\r\r\nSMVG01 TVSV 280000\r\r\nNIL=\r\r\n\x03\
+O 00\nF 00 000049\n00000039AN\x01\r\r\n003\r\r\nSMVG01 TVSV 280000\r\r\nNIL=\r\r\n\x03E\n";
+
+/// The request for what is missing.
+const REQUEST: &[u8] =
+    b"00000050AN\x01\r\r\n000\r\r\nBMRR01 AAAA 281030\r\r\nTVSV\r\r\nSQN 004=\r\r\n\x03";
+
+/// How a run of a capture ends, and what is said.
+fn named(alloc: Global, capture: &[u8], calls: &[u64]) -> Result<(GapsEnd, MemStation), Fail> {
+    let directory = read_directory(alloc, DIRECTORY).map_err(|_| Fail::from("a directory"))?;
+    let moment = Moment {
+        day: 28,
+        hour: 10,
+        minute: 30,
+    };
+    let mut capture = MemSource::new(alloc, capture, &[])?;
+    let mut station = MemStation::new(alloc, calls)?;
+    let end = gaps(alloc, &directory, moment, &mut capture, &mut station);
+    Ok((end, station))
+}
+
+#[test]
+fn what_is_missing_is_said_and_asked_for(rt: HostRuntime) -> Result<(), Fail> {
+    let (end, station) = named(rt.alloc(), CAPTURE, &[])?;
+    assert_eq!(rt; end, GapsEnd::Done);
+    assert_eq!(rt; station.said(0), b"gap 00 004\nend\n".as_slice());
+    assert_eq!(rt; station.said(1), REQUEST);
+    let (end, _) = named(rt.alloc(), CAPTURE, &[1])?;
+    assert_eq!(rt; end, GapsEnd::SayFault);
+    Ok(())
+}
