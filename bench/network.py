@@ -313,7 +313,7 @@ class Centre:
     def read_journal(self):
         """Takes down what the journal has. What it had before stays as it was."""
         for known, found in zip((self.accepted, self.drawn), accepted_and_drawn(self.folder)):
-            other = [key for key, value in found.items() if known.setdefault(key, value) != value]
+            other = [key for key, value in found.items() if known.setdefault(key, value) != value][:3]
             self.wants('what the journal said before, and another thing now', other, [])
 
 
