@@ -9,17 +9,9 @@ ghost use Rattle.gts_checkpoint.specs.Sound.{AreBulletins, AreNamed, positions, 
 use crate::ascending::place_of;
 use gts_alphabet::{LONGEST_BODY, NoMemory};
 use gts_directory::Directory;
-use gts_event::{Bulletin, Need};
-use gts_heading::Heading;
+use gts_event::{Bulletin, Need, is_request};
 use gts_message::Body;
 use std::alloc::Global;
-
-/// The heading of a request for repetition to the own centre (profile, after the Manual's designators).
-fn is_request(directory: &Directory, heading: &Heading) -> bool
-    ensures { result ≡ words.is_request directory.now (fields_of heading.now) }
-{
-    heading.tt == *b"BM" && heading.aa == *b"RR" && heading.cccc == directory.centre()
-}
 
 /// Whether these are the bytes of a message that is no request.
 fn is_body(directory: &Directory, body: &[u8]) -> bool
