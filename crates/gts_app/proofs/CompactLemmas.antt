@@ -20,7 +20,7 @@ use Rattle.gts_checkpoint.specs.{checkpoint_file}
 use Rattle.gts_connection.specs.declared.kind.CaptureKind.TheVariants.{Journaled}
 use Rattle.gts_opening.specs.Journal.{opens, selected}
 use Rattle.gts_opening.specs.Room.{compacted_size, full_compacted}
-use Rattle.gts_turns.specs.{HasTurnCause}
+use Rattle.gts_calls.specs.{HasTurnCause}
 use Rattle.gts_core.specs.Core.{Holds}
 use Rattle.gts_engine.specs.declared.mode.SayMode.TheVariants as mode
 use Rattle.gts_engine.specs.Engine.{Engine, shown}

@@ -6,7 +6,7 @@ use Rattle.gts_event.specs.declared.fault.SwitchFault.TheVariants.{DiskFault, Sa
 use Rattle.gts_record.specs.declared.fault.OpenFault.{OpenFault}
 use Rattle.gts_connection.specs.declared.kind.CaptureKind.{CaptureKind}
 use Rattle.gts_connection.specs.Capture.{Step}
-use Rattle.gts_turns.specs.{Standing}
+use Rattle.gts_calls.specs.{Standing}
 use Rattle.gts_count.specs.declared.parts.Parts.{Parts}
 use Rattle.gts_count.specs.Counted.{words_by}
 use Rattle.gts_replay.specs.declared.end.ReplayEnd.{ReplayEnd}

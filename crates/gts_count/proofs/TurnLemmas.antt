@@ -14,7 +14,7 @@ use Rattle.gts_event.specs.declared.fault.SwitchFault.TheVariants.{NoMemory}
 use Rattle.gts_event.proofs.LawLemmas.{after_all-append}
 use Rattle.gts_record.specs.declared.fault.OpenFault.{OpenFault}
 use Rattle.gts_opening.specs.Room.{IsAccepted}
-use Rattle.gts_turns.specs.Turns.{Standing, IsTurn, IsReopening, IsCompacting, MayLeave, IsCause, entry_of, restart_of, outcome_at}
+use Rattle.gts_calls.specs.Calls.{Standing, IsTurn, IsReopening, IsCompacting, MayLeave, IsCause, entry_of, restart_of, outcome_at}
 use Rattle.gts_count.specs.declared.parts.Parts.{Parts}
 use Rattle.gts_count.specs.declared.counting.Counting.{Counting}
 use Rattle.gts_event.specs.Need.{need}

@@ -6,7 +6,7 @@ use Rattle.gts_event.specs.History.{after_all}
 use Rattle.gts_event.specs.Need.{need}
 use Rattle.gts_event.specs.declared.event.Entry.{Entry}
 use Rattle.gts_opening.specs.Room.{HasUnsaid}
-use Rattle.gts_turns.specs.Turns.{Standing}
+use Rattle.gts_calls.specs.Calls.{Standing}
 use Rattle.gts_count.specs.declared.parts.Parts.{Parts}
 use Rattle.gts_count.specs.Table.{table}
 use Rattle.gts_count.specs.Counting.{Counts}

@@ -6,11 +6,11 @@ use crate::steps::{compact, hear, leave, lose, restart, take};
 use crate::text::table;
 use crate::{Counting, Parts};
 use gts_alphabet::NoMemory;
+use gts_calls::Switch;
 use gts_directory::Directory;
 use gts_event::{Need, Outcome, SwitchFault};
 use gts_frame::{FrameBuf, Kind, LostField};
 use gts_record::OpenFault;
-use gts_turns::Switch;
 use std::alloc::Global;
 
 /// A switch whose outcomes are counted. Each call is passed on, and its outcome noted; the numbers afterwards are those of the

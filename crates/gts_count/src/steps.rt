@@ -2,17 +2,17 @@
 ghost use Rattle.std.specs.Prelude.{◌≡◌, ◌<◌, ◌≤◌, length};
 ghost use Rattle.gts_alphabet.specs.declared.limits.TheConstants.{LONGEST_MESSAGE};
 ghost use Rattle.gts_event.specs.declared.event.Event.TheVariants.{Heard, Lost, Taken};
-ghost use Rattle.gts_turns.specs.Turns.{IsTurn, IsReopening, IsCompacting, LeavesFrame, MayLeave, HasTurnCause, HasReopenCause};
+ghost use Rattle.gts_calls.specs.Calls.{IsTurn, IsReopening, IsCompacting, LeavesFrame, MayLeave, HasTurnCause, HasReopenCause};
 ghost use Rattle.gts_count.specs.Numbers.{IsSound};
 ghost use Rattle.gts_count.specs.Counted.{counted_words};
 
 use crate::Parts;
 use crate::counting::{note_heard, note_taken, ready};
 use gts_alphabet::NoMemory;
+use gts_calls::Switch;
 use gts_event::{Outcome, SwitchFault};
 use gts_frame::{FrameBuf, Kind, LostField};
 use gts_record::OpenFault;
-use gts_turns::Switch;
 use std::alloc::Global;
 
 /// A message came whole. The growth that its numbers want is taken first: where there is no memory for it, the switch isn't

@@ -21,7 +21,7 @@ use Rattle.gts_event.specs.declared.fault.SwitchFault.{SwitchFault}
 use Rattle.gts_event.specs.declared.fault.SwitchFault.TheVariants.{DiskFault, SayFault, Full, Stopped, Spent, NoMemory}
 use Rattle.gts_opening.specs.Room.{HasDoubt, HasUnsaid, IsAccepted}
 use Rattle.gts_core.specs.Core.{Says}
-use Rattle.gts_turns.specs.{IsTurn, HasTurnCause, entry_of}
+use Rattle.gts_calls.specs.{IsTurn, HasTurnCause, entry_of}
 use Rattle.gts_engine.specs.declared.mode.SayMode.TheVariants.{Caller}
 use Rattle.gts_engine.specs.Engine.{Engine, shown}
 use Rattle.gts_engine.specs.Origin.{state_at}

@@ -14,7 +14,7 @@ use Rattle.gts_event.specs.declared.outcome.Outcome.{Outcome}
 use Rattle.gts_event.specs.declared.outcome.Outcome.TheVariants.{Resend, Draw, Nothing}
 use Rattle.gts_event.specs.declared.fault.SwitchFault.{SwitchFault}
 use Rattle.gts_event.proofs.LawLemmas.{after_all-append, ordered-all, routed_once-all, owed_few-all, one_less, nothing_left}
-use Rattle.gts_turns.specs.{Standing, IsTurn, entry_of}
+use Rattle.gts_calls.specs.{Standing, IsTurn, entry_of}
 use Rattle.gts_replay.specs.Going.{IsStart, StandsFor, state_at, BreaksOff}
 use Rattle.gts_replay.proofs.GoingLemmas.{cause_at}
 

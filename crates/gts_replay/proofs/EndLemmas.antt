@@ -24,7 +24,7 @@ use Rattle.gts_capture.specs.{IsHeadIn, bytes_announced, IsReadTo, IsTaken, IsSa
 use Rattle.gts_capture.specs.Held.{Held}
 use Rattle.gts_capture.specs.declared.capture_fault.CaptureFault.TheVariants.{Bad, SourceFault}
 use Rattle.gts_capture.proofs.LawLemmas.{one_step, at_end, at_bad, in_feed, head_goes_on, feed_goes_on, taken_head, taken_feed}
-use Rattle.gts_turns.specs.{Standing, IsCause, entry_of, outcome_at}
+use Rattle.gts_calls.specs.{Standing, IsCause, entry_of, outcome_at}
 use Rattle.gts_replay.specs.declared.end.ReplayEnd.TheVariants as end
 use Rattle.gts_replay.specs.declared.fault.StepFault.{StepFault}
 use Rattle.gts_replay.specs.declared.fault.StepFault.TheVariants as step

@@ -14,7 +14,7 @@ use Rattle.gts_frame.specs.declared.step.Step.{Step}
 use Rattle.gts_connection.specs.Connection.{events_added}
 use Rattle.gts_connection.specs.Steps.{events_of_signs}
 use Rattle.gts_connection.proofs.LawLemmas.{added-twice, added-signs}
-use Rattle.gts_turns.specs.{Standing}
+use Rattle.gts_calls.specs.{Standing}
 use Rattle.gts_replay.specs.Going.{BreaksOff, Goes, IsFed}
 use Rattle.gts_replay.proofs.GoingLemmas.{then_goes, breaks_before, goes_same}
 

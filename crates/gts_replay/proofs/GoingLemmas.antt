@@ -10,7 +10,7 @@ use Rattle.gts_event.specs.declared.event.Entry.{Entry}
 use Rattle.gts_event.specs.declared.event.Entry.TheVariants.{Done}
 use Rattle.gts_event.specs.declared.outcome.Outcome.{Outcome}
 use Rattle.gts_event.specs.declared.fault.SwitchFault.{SwitchFault}
-use Rattle.gts_turns.specs.{Standing, IsTurn, IsCause, entry_of, outcome_at}
+use Rattle.gts_calls.specs.{Standing, IsTurn, IsCause, entry_of, outcome_at}
 use Rattle.gts_replay.specs.Going.{BreaksOff, Goes}
 
 -- nothing was to be added

@@ -11,7 +11,7 @@ use Rattle.gts_event.specs.declared.event.Entry.{Entry}
 use Rattle.gts_opening.specs.Room.{done_by}
 use Rattle.gts_connection.specs.Capture.{Step, Feed, Take, Reopen, Drain, Restart, Compact, no_bytes, count_at}
 use Rattle.gts_connection.proofs.LawLemmas.{compactions_go_on, compactions_between}
-use Rattle.gts_turns.specs.{Standing}
+use Rattle.gts_calls.specs.{Standing}
 use Rattle.gts_replay.specs.Going.{state_at, compacted_at, origin_behind}
 use Rattle.gts_replay.specs.Replay.{entries_at, compactions_at}
 use Rattle.gts_replay.specs.Ending.{origin_after}

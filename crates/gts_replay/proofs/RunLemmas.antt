@@ -14,7 +14,7 @@ use Rattle.gts_connection.specs.declared.limits.TheConstants.{LONGEST_CAPTURE}
 use Rattle.gts_capture.specs.{IsHeadIn, bytes_announced, IsReadTo, IsSameCapture, at_start}
 use Rattle.gts_capture.specs.Held.{Held}
 use Rattle.gts_capture.proofs.LawLemmas.{begins, one_step}
-use Rattle.gts_turns.specs.{Standing}
+use Rattle.gts_calls.specs.{Standing}
 use Rattle.gts_replay.specs.Going.{IsStart, StandsFor, state_at, compacted_at, Decode}
 use Rattle.gts_replay.specs.Replay.{HasDone, entries_at, compactions_at}
 use Rattle.gts_replay.specs.Ending.{IsStepOf, DoesStep, Takes, origin_after}

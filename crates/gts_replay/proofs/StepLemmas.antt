@@ -13,7 +13,7 @@ use Rattle.gts_record.specs.declared.fault.OpenFault.{OpenFault}
 use Rattle.gts_connection.specs.Capture.{Feed, Take, Reopen, Drain, Restart, Compact, FeedHead, TakeHead, ReopenHead, DrainHead, RestartHead, CompactHead, Connections, no_bytes}
 use Rattle.gts_connection.specs.declared.limits.TheConstants.{LONGEST_CAPTURE}
 use Rattle.gts_capture.specs.Held.{Held, IsSameCapture, EndsInFeed, StopsInFeed, readable_from}
-use Rattle.gts_turns.specs.{Standing, IsTurn, IsReopening, IsCompacting, entry_of, restart_of}
+use Rattle.gts_calls.specs.{Standing, IsTurn, IsReopening, IsCompacting, entry_of, restart_of}
 use Rattle.gts_replay.specs.declared.fault.StepFault.{StepFault}
 use Rattle.gts_replay.specs.declared.fault.StepFault.TheVariants as step
 use Rattle.gts_replay.specs.Going.{StandsFor, state_at, BreaksOff, Remains, Decode}

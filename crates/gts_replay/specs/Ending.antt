@@ -10,7 +10,7 @@ use Rattle.gts_connection.specs.Capture.{Step, Feed, Restart, Compact, Head, Fee
 use Rattle.gts_connection.specs.declared.limits.TheConstants.{LONGEST_CAPTURE}
 use Rattle.gts_capture.specs.declared.capture_fault.CaptureFault.TheVariants.{Bad, SourceFault}
 use Rattle.gts_capture.specs.Held.{Held, IsSameCapture, readable_from}
-use Rattle.gts_turns.specs.{Standing, IsCompactCause}
+use Rattle.gts_calls.specs.{Standing, IsCompactCause}
 use Rattle.gts_replay.specs.declared.end.ReplayEnd.{ReplayEnd}
 use Rattle.gts_replay.specs.declared.end.ReplayEnd.TheVariants as end
 use Rattle.gts_replay.specs.declared.fault.StepFault.{StepFault}

@@ -16,7 +16,7 @@ use Rattle.gts_record.specs.declared.fault.OpenFault.{OpenFault}
 use Rattle.gts_opening.specs.Room.{done_by}
 use Rattle.gts_connection.specs.Capture.{Connections}
 use Rattle.gts_connection.specs.Connection.{events_added}
-use Rattle.gts_turns.specs.{Standing, IsCause, IsReopenFault, entry_of, outcome_at}
+use Rattle.gts_calls.specs.{Standing, IsCause, IsReopenFault, entry_of, outcome_at}
 use Rattle.std.specs.Prelude.{IsTrue}
 
 -- A state from which a drain ends: each circuit keeps a draw, and what each state of a history keeps is there; no position

@@ -12,7 +12,7 @@ use Rattle.gts_connection.specs.declared.kind.CaptureKind.TheVariants.{Journaled
 use Rattle.gts_connection.specs.Capture.{Step, Compact, AreStepsOf, ReadingOf, IsWholeOf, EndsEarlyOf, entries, compactions}
 use Rattle.gts_opening.specs.Room.{HasDoubt, HasUnsaid}
 use Rattle.gts_capture.specs.{IsTaken}
-use Rattle.gts_turns.specs.{Standing, IsCompactCause}
+use Rattle.gts_calls.specs.{Standing, IsCompactCause}
 use Rattle.gts_replay.specs.Going.{state_at, compacted_at, origin_behind, BreaksOff, BreaksAtRestart, Remains}
 use Rattle.gts_replay.specs.declared.end.ReplayEnd.{ReplayEnd}
 use Rattle.gts_replay.specs.declared.end.ReplayEnd.TheVariants as end

@@ -1,12 +1,12 @@
 ghost use Rattle.std.specs.Prelude.{◌≡◌, ◌<◌, ◌^◌, ◌↔◌, ℕ, List, length, IsTrue};
 ghost use Rattle.gts_event.specs.declared.event.Entry.{Entry};
 ghost use Rattle.gts_event.specs.Drain.{all_done, takes_of_drain};
-ghost use Rattle.gts_turns.specs.{HasTurnCause};
+ghost use Rattle.gts_calls.specs.{HasTurnCause};
 ghost use Rattle.gts_replay.specs.Going.{Goes, StandsFor, state_at};
 
+use gts_calls::Switch;
 use gts_event::{Outcome, SwitchFault};
 use gts_frame::FrameBuf;
-use gts_turns::Switch;
 
 /// Takes on a circuit, up to and with the first that gives nothing. No circuit has more to give than is counted here.
 pub(crate) fn drain<W: Switch>(

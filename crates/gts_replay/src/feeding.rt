@@ -4,15 +4,15 @@ ghost use Rattle.gts_event.specs.Drain.{all_done};
 ghost use Rattle.gts_frame.specs.Signs.{held_in};
 ghost use Rattle.gts_frame.specs.Decoder.{signs_of_step, HasMessage};
 ghost use Rattle.gts_connection.specs.Words.{events_added, events_of_signs};
-ghost use Rattle.gts_turns.specs.{HasTurnCause};
+ghost use Rattle.gts_calls.specs.{HasTurnCause};
 ghost use Rattle.gts_replay.specs.Words.{Goes, Feeds, HasRunCause};
 
 use crate::fault::StepFault;
+use gts_calls::Switch;
 use gts_capture::Steps;
 use gts_event::SwitchFault;
 use gts_frame::{Decoder, Step};
 use gts_traits::Source;
-use gts_turns::Switch;
 use std::alloc::Global;
 
 /// A feed: its bytes come on a circuit, piece by piece, until all came that its head announced. A piece is as long as

@@ -11,11 +11,11 @@ use crate::draining::drain;
 use crate::end::{ReplayEnd, end_after};
 use crate::fault::StepFault;
 use crate::feeding::feed;
+use gts_calls::Switch;
 use gts_capture::{Head, Steps};
 use gts_connection::CaptureKind;
 use gts_frame::{Decoder, FrameBuf};
 use gts_traits::Source;
-use gts_turns::Switch;
 use std::alloc::Global;
 
 /// How many bytes of a feed are taken at once.

@@ -10,13 +10,13 @@ use crate::commands::replay::status_of;
 use crate::commands::show::OPERATOR;
 use crate::laws::a_history_keeps_its_laws;
 use crate::opening::open_engine;
+use gts_calls::Switch;
 use gts_connection::CaptureKind;
 use gts_count::{Counted, counting_of};
 use gts_engine::Engine;
 use gts_event::a_start_is_its_own_need;
 use gts_replay::ReplayEnd;
 use gts_traits::{Failed, NoMemory, Source, Station};
-use gts_turns::Switch;
 use std::alloc::Global;
 
 /// An engine that was just opened, with what is counted of its need beside it. Want of memory hands the engine back.

@@ -3,7 +3,7 @@ use Rattle.gts_traits.specs.Calls.{on}
 use Rattle.gts_event.specs.declared.event.Event.TheVariants.{Taken}
 use Rattle.gts_event.specs.declared.fault.SwitchFault.{SwitchFault}
 use Rattle.gts_event.specs.declared.fault.SwitchFault.TheVariants.{Stopped}
-use Rattle.gts_turns.specs.Turns.{IsTurn}
+use Rattle.gts_calls.specs.Calls.{IsTurn}
 use Rattle.gts_engine.specs.declared.mode.SayMode.{SayMode}
 use Rattle.gts_engine.specs.declared.mode.SayMode.TheVariants.{Station, Caller}
 use Rattle.gts_engine.specs.Engine.{Engine, engine_of}
