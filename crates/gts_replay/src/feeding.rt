@@ -3,9 +3,9 @@ ghost use Rattle.gts_event.specs.declared.event.Entry.{Entry};
 ghost use Rattle.gts_event.specs.Drain.{all_done};
 ghost use Rattle.gts_frame.specs.Signs.{held_in};
 ghost use Rattle.gts_frame.specs.Decoder.{signs_of_step, HasMessage};
-ghost use Rattle.gts_connection.specs.Words.{events_added, events_of_signs};
+ghost use Rattle.gts_connection.specs.Cited.{events_added, events_of_signs};
 ghost use Rattle.gts_calls.specs.{HasTurnCause};
-ghost use Rattle.gts_replay.specs.Words.{Goes, Feeds, HasRunCause};
+ghost use Rattle.gts_replay.specs.Cited.{Goes, Feeds, HasRunCause};
 
 use crate::fault::StepFault;
 use gts_calls::Switch;
