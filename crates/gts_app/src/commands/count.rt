@@ -45,7 +45,7 @@ fn table_behind<T: Switch>(
     counted: &Counted<T>,
 ) -> Result<Vec<u8>, Status>
     ensures table { IfOk result (λ text. (end ≡ ReplayEnd.Done)
-        × ShowsTable T.words counted.now.parts text.items) }
+        × ShowsTable T.meanings counted.now.parts text.items) }
     ensures none { IfErr result (EndsWithoutTable end) }
 {
     if end != ReplayEnd::Done {

@@ -7,7 +7,7 @@ use Rattle.gts_calls.specs.Calls.{IsTurn}
 use Rattle.gts_engine.specs.declared.mode.SayMode.{SayMode}
 use Rattle.gts_engine.specs.declared.mode.SayMode.TheVariants.{Station, Caller}
 use Rattle.gts_engine.specs.Engine.{Engine, engine_of}
-use Rattle.gts_engine.specs.Keeping.{words_of}
+use Rattle.gts_engine.specs.Keeping.{meanings_of}
 use Rattle.gts_engine.proofs.AnswerLemmas.{stopped_turn, doubt_turn}
 use Rattle.gts_engine.proofs.TakingLemmas.{by_station_mode, caller_silent, nothing_silent}
 use Rattle.gts_engine.proofs.StepLemmas.{not_said, said_well, said_badly, say_sound, stopped_by, not_stopped, part_directory, part_core, part_journal}
@@ -16,14 +16,14 @@ use Rattle.gts_engine.proofs.engine.Engine.take.Goals as goal
 pub returns-in-Some-clause-turn : goal.returns-in-Some-clause-turn
 returns-in-Some-clause-turn g c =
     let old = c.self.inside.parts in
-    let T : Engine g.row.P.Denot → Type 0 = λ e. IsTurn (words_of g.P.Station.tells g.P.Station.calls c.args.mode) (Taken c.args.c) (Err (Stopped c.in-Some.by)) e (engine_of old) in
+    let T : Engine g.row.P.Denot → Type 0 = λ e. IsTurn (meanings_of g.P.Station.tells g.P.Station.calls c.args.mode) (Taken c.args.c) (Err (Stopped c.in-Some.by)) e (engine_of old) in
     subst T c.self.view_is (stopped_turn g.P.Station.tells g.P.Station.calls c.args.mode (Taken c.args.c) c.in-Some.by (engine_of old) c.in-Some.is)
 
 pub returns-in-Err-clause-turn : goal.returns-in-Err-clause-turn
 returns-in-Err-clause-turn g c =
     let event = Taken c.args.c in
-    let F : SwitchFault → Type 0 = λ f. IsTurn (words_of g.P.Station.tells g.P.Station.calls c.args.mode) event (Err f) (engine_of c.self.inside.parts) (engine_of c.enter_take.new.parts) in
-    let T : Engine g.row.P.Denot → Type 0 = λ e. IsTurn (words_of g.P.Station.tells g.P.Station.calls c.args.mode) event (Err c.in-Err.fault) e (engine_of c.enter_take.new.parts) in
+    let F : SwitchFault → Type 0 = λ f. IsTurn (meanings_of g.P.Station.tells g.P.Station.calls c.args.mode) event (Err f) (engine_of c.self.inside.parts) (engine_of c.enter_take.new.parts) in
+    let T : Engine g.row.P.Denot → Type 0 = λ e. IsTurn (meanings_of g.P.Station.tells g.P.Station.calls c.args.mode) event (Err c.in-Err.fault) e (engine_of c.enter_take.new.parts) in
     subst T c.self.view_is
     (subst F (sym c.in-Err.ensures.entered.fault.0)
     (doubt_turn g.P.Station.tells g.P.Station.calls c.args.mode event (engine_of c.self.inside.parts) (engine_of c.enter_take.new.parts) c.in_default.is c.in-Err.ensures.entered.doubt))
@@ -34,8 +34,8 @@ returns-in-Caller-clause-turn g c =
     let mid = c.enter_take.new.parts in
     let event = Taken c.args.c in
     let enters = c.in-Ok.ensures.entered.entered in
-    let M : SayMode → Type 0 = λ m. IsTurn (words_of g.P.Station.tells g.P.Station.calls m) event (Ok c.in-Ok.outcome) (engine_of old) (engine_of mid) in
-    let T : Engine g.row.P.Denot → Type 0 = λ e. IsTurn (words_of g.P.Station.tells g.P.Station.calls c.args.mode) event (Ok c.in-Ok.outcome) e (engine_of mid) in
+    let M : SayMode → Type 0 = λ m. IsTurn (meanings_of g.P.Station.tells g.P.Station.calls m) event (Ok c.in-Ok.outcome) (engine_of old) (engine_of mid) in
+    let T : Engine g.row.P.Denot → Type 0 = λ e. IsTurn (meanings_of g.P.Station.tells g.P.Station.calls c.args.mode) event (Ok c.in-Ok.outcome) e (engine_of mid) in
     subst T c.self.view_is
     (subst M (sym c.in-Caller.is)
     (not_said g.P.Station.tells g.P.Station.calls event old c.in_default.is (c.self.invariant c.in_default.is) (engine_of mid) mid.journal c.in-Ok.outcome enters (c.in-Ok.ensures.entered.sound enters.stopped)
@@ -47,7 +47,7 @@ returns-in-Nothing-clause-turn g c =
     let mid = c.enter_take.new.parts in
     let event = Taken c.args.c in
     let enters = c.in-Ok.ensures.entered.entered in
-    let T : Engine g.row.P.Denot → Type 0 = λ e. IsTurn (words_of g.P.Station.tells g.P.Station.calls c.args.mode) event (Ok c.in-Ok.outcome) e (engine_of mid) in
+    let T : Engine g.row.P.Denot → Type 0 = λ e. IsTurn (meanings_of g.P.Station.tells g.P.Station.calls c.args.mode) event (Ok c.in-Ok.outcome) e (engine_of mid) in
     subst T c.self.view_is
     (not_said g.P.Station.tells g.P.Station.calls event old c.in_default.is (c.self.invariant c.in_default.is) (engine_of mid) mid.journal c.in-Ok.outcome enters (c.in-Ok.ensures.entered.sound enters.stopped)
     c.args.mode (λ s h. nothing_silent c.args.mode old.directory s c.args.c (sym c.in-Nothing.is ∙ enters.step.outcome s h)))
@@ -59,8 +59,8 @@ returns-clause-turn g c =
     let event = Taken c.args.c in
     let enters = c.in-Ok.ensures.entered.entered in
     let rest = c.tell.ensures.rest in
-    let M : SayMode → Type 0 = λ m. IsTurn (words_of g.P.Station.tells g.P.Station.calls m) event (Ok c.in-Ok.outcome) (engine_of old) (engine_of c.tell.new.parts) in
-    let T : Engine g.row.P.Denot → Type 0 = λ e. IsTurn (words_of g.P.Station.tells g.P.Station.calls c.args.mode) event (Ok c.in-Ok.outcome) e (engine_of c.tell.new.parts) in
+    let M : SayMode → Type 0 = λ m. IsTurn (meanings_of g.P.Station.tells g.P.Station.calls m) event (Ok c.in-Ok.outcome) (engine_of old) (engine_of c.tell.new.parts) in
+    let T : Engine g.row.P.Denot → Type 0 = λ e. IsTurn (meanings_of g.P.Station.tells g.P.Station.calls c.args.mode) event (Ok c.in-Ok.outcome) e (engine_of c.tell.new.parts) in
     subst T c.self.view_is
     (by_station_mode M c.args.mode c.in_default-mode.not-Caller
     (said_well g.P.Station.tells g.P.Station.calls event old c.in_default.is (c.self.invariant c.in_default.is) (engine_of mid) mid.journal c.in-Ok.outcome enters (c.in-Ok.ensures.entered.sound enters.stopped)
@@ -84,8 +84,8 @@ returns-in-Err-tell-clause-turn g c =
     let event = Taken c.args.c in
     let enters = c.in-Ok.ensures.entered.entered in
     let rest = c.tell.ensures.rest in
-    let M : SayMode → Type 0 = λ m. IsTurn (words_of g.P.Station.tells g.P.Station.calls m) event (Err c.in-Err-tell.fault) (engine_of old) (engine_of c.tell.new.parts) in
-    let T : Engine g.row.P.Denot → Type 0 = λ e. IsTurn (words_of g.P.Station.tells g.P.Station.calls c.args.mode) event (Err c.in-Err-tell.fault) e (engine_of c.tell.new.parts) in
+    let M : SayMode → Type 0 = λ m. IsTurn (meanings_of g.P.Station.tells g.P.Station.calls m) event (Err c.in-Err-tell.fault) (engine_of old) (engine_of c.tell.new.parts) in
+    let T : Engine g.row.P.Denot → Type 0 = λ e. IsTurn (meanings_of g.P.Station.tells g.P.Station.calls c.args.mode) event (Err c.in-Err-tell.fault) e (engine_of c.tell.new.parts) in
     subst T c.self.view_is
     (by_station_mode M c.args.mode c.in_default-mode.not-Caller
     (said_badly g.P.Station.tells g.P.Station.calls event old c.in_default.is (c.self.invariant c.in_default.is) (engine_of mid) mid.journal c.in-Ok.outcome enters (c.in-Ok.ensures.entered.sound enters.stopped)
