@@ -21,7 +21,7 @@ pub fn check_room<P: Station>(parts: &Parts<P>, size: u64) -> Result<(), SwitchF
     ensures kind { IfErr result IsRoomFault }
 {
     a_core_has_the_waiting_draws_of_its_state();
-    match check_checkpoint(&parts.directory, size, parts.core.owed()) {
+    match check_checkpoint(&parts.directory, size, parts.core.waiting()) {
         Ok(()) => Ok(()),
         Err(full) => Err(SwitchFault::Full {
             used: full.used,
