@@ -90,7 +90,7 @@ not_compacted source w status od nd old new result is h =
               ]
             ]
           ];
-      answered = (refused Journaled source source w status od nd od old new result is h).refused;
+      answered = (refused Journaled source source w status od nd od old new result is h).answered;
       taken = h.taken;
       counts = (h.later, r.later, omega (arith, r.say));
     }
