@@ -58,38 +58,38 @@ returns-clause-turn g c =
     let mid = c.enter_take.new.parts in
     let event = Taken c.args.c in
     let enters = c.in-Ok.ensures.entered.entered in
-    let rest = c.tell.ensures.rest in
-    let M : SayMode → Type 0 = λ m. IsTurn (meanings_of g.P.Station.tells g.P.Station.calls m) event (Ok c.in-Ok.outcome) (engine_of old) (engine_of c.tell.new.parts) in
-    let T : Engine g.row.P.Denot → Type 0 = λ e. IsTurn (meanings_of g.P.Station.tells g.P.Station.calls c.args.mode) event (Ok c.in-Ok.outcome) e (engine_of c.tell.new.parts) in
+    let rest = c.say_on.ensures.rest in
+    let M : SayMode → Type 0 = λ m. IsTurn (meanings_of g.P.Station.tells g.P.Station.calls m) event (Ok c.in-Ok.outcome) (engine_of old) (engine_of c.say_on.new.parts) in
+    let T : Engine g.row.P.Denot → Type 0 = λ e. IsTurn (meanings_of g.P.Station.tells g.P.Station.calls c.args.mode) event (Ok c.in-Ok.outcome) e (engine_of c.say_on.new.parts) in
     subst T c.self.view_is
     (by_station_mode M c.args.mode c.in_default-mode.not-Caller
     (said_well g.P.Station.tells g.P.Station.calls event old c.in_default.is (c.self.invariant c.in_default.is) (engine_of mid) mid.journal c.in-Ok.outcome enters (c.in-Ok.ensures.entered.sound enters.stopped)
-    (c.args.c + 1) c.bytes.result.now c.tell.new.parts (ap part_directory rest) (ap part_core rest) (ap part_journal rest) c.tell.result c.tell.ensures.told refl Station
-    (λ s h. c.in-Ok.ensures.frame c.in_default-outcome.not-Nothing old.directory s h ∙ ap (on (c.args.c + 1)) (sym c.bytes.ensures)) c.in_default-tell.field-0 c.in_default-tell.is
-    (not_stopped mid.stopped c.tell.new.parts.stopped c.tell.result c.in_default-tell.field-0 c.tell.ensures.stops c.in_default-tell.is)))
+    (c.args.c + 1) c.bytes.result.now c.say_on.new.parts (ap part_directory rest) (ap part_core rest) (ap part_journal rest) c.say_on.result c.say_on.ensures.told refl Station
+    (λ s h. c.in-Ok.ensures.frame c.in_default-outcome.not-Nothing old.directory s h ∙ ap (on (c.args.c + 1)) (sym c.bytes.ensures)) c.in_default-say_on.field-0 c.in_default-say_on.is
+    (not_stopped mid.stopped c.say_on.new.parts.stopped c.say_on.result c.in_default-say_on.field-0 c.say_on.ensures.stops c.in_default-say_on.is)))
 
 pub invariant_of-self-2 : goal.invariant_of-self-2
 invariant_of-self-2 g c =
     let old = c.self.inside.parts in
     let mid = c.enter_take.new.parts in
     let enters = c.in-Ok.ensures.entered.entered in
-    let rest = c.tell.ensures.rest in
+    let rest = c.say_on.ensures.rest in
     say_sound g.P.Station.tells g.P.Station.calls (Taken c.args.c) old c.in_default.is (c.self.invariant c.in_default.is) (engine_of mid) mid.journal c.in-Ok.outcome enters (c.in-Ok.ensures.entered.sound enters.stopped)
-    (c.args.c + 1) c.bytes.result.now c.tell.new.parts (ap part_directory rest) (ap part_core rest) (ap part_journal rest) c.tell.result c.tell.ensures.told
+    (c.args.c + 1) c.bytes.result.now c.say_on.new.parts (ap part_directory rest) (ap part_core rest) (ap part_journal rest) c.say_on.result c.say_on.ensures.told
 
-pub returns-in-Err-tell-clause-turn : goal.returns-in-Err-tell-clause-turn
-returns-in-Err-tell-clause-turn g c =
+pub returns-in-Err-say_on-clause-turn : goal.returns-in-Err-say_on-clause-turn
+returns-in-Err-say_on-clause-turn g c =
     let old = c.self.inside.parts in
     let mid = c.enter_take.new.parts in
     let event = Taken c.args.c in
     let enters = c.in-Ok.ensures.entered.entered in
-    let rest = c.tell.ensures.rest in
-    let M : SayMode → Type 0 = λ m. IsTurn (meanings_of g.P.Station.tells g.P.Station.calls m) event (Err c.in-Err-tell.fault) (engine_of old) (engine_of c.tell.new.parts) in
-    let T : Engine g.row.P.Denot → Type 0 = λ e. IsTurn (meanings_of g.P.Station.tells g.P.Station.calls c.args.mode) event (Err c.in-Err-tell.fault) e (engine_of c.tell.new.parts) in
+    let rest = c.say_on.ensures.rest in
+    let M : SayMode → Type 0 = λ m. IsTurn (meanings_of g.P.Station.tells g.P.Station.calls m) event (Err c.in-Err-say_on.fault) (engine_of old) (engine_of c.say_on.new.parts) in
+    let T : Engine g.row.P.Denot → Type 0 = λ e. IsTurn (meanings_of g.P.Station.tells g.P.Station.calls c.args.mode) event (Err c.in-Err-say_on.fault) e (engine_of c.say_on.new.parts) in
     subst T c.self.view_is
     (by_station_mode M c.args.mode c.in_default-mode.not-Caller
     (said_badly g.P.Station.tells g.P.Station.calls event old c.in_default.is (c.self.invariant c.in_default.is) (engine_of mid) mid.journal c.in-Ok.outcome enters (c.in-Ok.ensures.entered.sound enters.stopped)
-    (c.args.c + 1) c.bytes.result.now c.tell.new.parts (ap part_directory rest) (ap part_core rest) (ap part_journal rest) c.tell.result c.tell.ensures.told refl Station
+    (c.args.c + 1) c.bytes.result.now c.say_on.new.parts (ap part_directory rest) (ap part_core rest) (ap part_journal rest) c.say_on.result c.say_on.ensures.told refl Station
     (λ s h. c.in-Ok.ensures.frame c.in_default-outcome.not-Nothing old.directory s h ∙ ap (on (c.args.c + 1)) (sym c.bytes.ensures))
-    (stopped_by mid.stopped c.tell.new.parts.stopped c.tell.result c.in-Err-tell.fault c.tell.ensures.stops c.in-Err-tell.is c.in-Err-tell.ensures.fault.0)
-    c.in-Err-tell.fault c.in-Err-tell.ensures.fault.0))
+    (stopped_by mid.stopped c.say_on.new.parts.stopped c.say_on.result c.in-Err-say_on.fault c.say_on.ensures.stops c.in-Err-say_on.is c.in-Err-say_on.ensures.fault.0)
+    c.in-Err-say_on.fault c.in-Err-say_on.ensures.fault.0))
