@@ -10,8 +10,8 @@ use Rattle.gts_event.specs.State.{State, EachRoutedOnce, empty}
 use Rattle.gts_event.specs.History.{after_all, restarted}
 use Rattle.gts_event.specs.Need.{Need, IsOrdered, need, nothing, begun, is_sound}
 use Rattle.gts_event.specs.Items.{need_of, circuit_need_of}
-use Rattle.gts_event.specs.declared.plain.Need as plain
-use Rattle.gts_event.specs.declared.plain.CircuitNeed as plain_circuits
+use Rattle.gts_event.specs.declared.values.Need as values
+use Rattle.gts_event.specs.declared.values.CircuitNeed as value_circuits
 use Rattle.gts_event.specs.Drain.{EachOwedFew, all_done, takes_of_drain}
 use Rattle.gts_event.specs.declared.event.Event.{Event}
 use Rattle.gts_event.specs.declared.event.Entry.{Entry}
@@ -224,15 +224,15 @@ module _ (count : ℕ) (first last : Engine StationInMemory) (b : BeginsDay firs
 
 -- ---- what is summed up of it
 
-pub draws-are : (n : plain.Need) → draws_of n ≡ draws_in (need_of n)
+pub draws-are : (n : values.Need) → draws_of n ≡ draws_in (need_of n)
 draws-are n = ap sum (same n.circuits)
   where
-    same : (cs : List plain_circuits.CircuitNeed) → map (λ c. c.draws) cs ≡ map (λ c. c.draws) (map circuit_need_of cs)
+    same : (cs : List value_circuits.CircuitNeed) → map (λ c. c.draws) cs ≡ map (λ c. c.draws) (map circuit_need_of cs)
     same [] = refl
     same (c ∷ cs) = ap (λ (l : List ℕ). c.draws ∷ l) (same cs)
 
 -- the summary is that of the day's history
-pub summed : (count : ℕ) (e : Engine StationInMemory) (station : StationInMemory) (n : plain.Need) (used : ℕ) → EndsDay count e
+pub summed : (count : ℕ) (e : Engine StationInMemory) (station : StationInMemory) (n : values.Need) (used : ℕ) → EndsDay count e
     → Needs e.core (need_of n) → used ≡ e.used → station ≡ e.station → summary_text count (said_by (calls_on station)) n used ≡ day_summary count
 summed count e station n used ends needs used_is station_is =
     let behind : Need = need directory (state_after (history count)) in
