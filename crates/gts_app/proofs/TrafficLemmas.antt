@@ -8,7 +8,7 @@ use Rattle.gts_directory.specs.Directory as directories
 use Rattle.gts_event.specs.History.{after_all}
 use Rattle.gts_event.specs.Need.{Need, need, begun, is_sound, keeps_one}
 use Rattle.gts_event.specs.declared.event.Entry.{Entry}
-use Rattle.gts_connection.specs.declared.kind.CaptureKind.TheVariants.{Plain}
+use Rattle.gts_connection.specs.declared.kind.CaptureKind.TheVariants.{Traffic}
 use Rattle.gts_engine.specs.Engine.{Engine}
 use Rattle.gts_engine.specs.Origin.{Origin, used_at}
 use Rattle.gts_engine.specs.Keeping.{OpensWith, origin_of}
@@ -37,7 +37,7 @@ use Rattle.gts_app.proofs.ShowLemmas.{goes_on}
 
 -- an end of the run that isn't that it was done is the command's
 as_run : {S P : Type 0} (source : SourceMeanings S) (w : StationMeanings P) (status : Status) (old : World S S P) (nd nc : S) (new : P) → (status ≡ Done → ⊥)
-    → Replays Plain source source w status old (world nd nc new) → CountsTraffic source w status old (world nd nc new)
+    → Replays Traffic source source w status old (world nd nc new) → CountsTraffic source w status old (world nd nc new)
 as_run source w status old nd nc new other r = record {
   replayed = status;
   before = new;
@@ -55,14 +55,14 @@ pub not_counted : {S P : Type 0} (source : SourceMeanings S) (w : StationMeaning
     → Opens source w result od nd old → CountsTraffic source w status (world od oc old) (world nd oc new)
 not_counted source w status od nd oc old new result is h =
     as_run source w status (world od oc old) nd oc new (λ done. subst IsRefusal done (h.refused status new is).ends)
-    (refused Plain source source w status od nd oc old new result is h)
+    (refused Traffic source source w status od nd oc old new result is h)
 
 -- there was no memory to read the words
 pub unread : {S P : Type 0} (source : SourceMeanings S) (w : StationMeanings P) (od oc : S) (old : P)
     → CountsTraffic source w NoMemory (world od oc old) (world od oc old)
 unread source w od oc old =
     as_run source w NoMemory (world od oc old) od oc old (λ done. cc)
-    (out_of_memory Plain source source w od od oc old old (λ told. inr (inl refl)) refl (omega arith) (λ tells. ([], refl, omega arith)) (omega arith))
+    (out_of_memory Traffic source source w od od oc old old (λ told. inr (inl refl)) refl (omega arith) (λ tells. ([], refl, omega arith)) (omega arith))
 
 -- there was none for the numbers
 pub without_numbers : {S P : Type 0} (source : SourceMeanings S) (w : StationMeanings P) (od nd oc : S) (old : P) (e : Engine P) (result : Result (Engine P) (Status × P))
@@ -70,7 +70,7 @@ pub without_numbers : {S P : Type 0} (source : SourceMeanings S) (w : StationMea
 without_numbers {S} {P} source w od nd oc old e result is h at same =
     subst (λ (p : P). CountsTraffic source w NoMemory (world od oc old) (world nd oc p)) (sym same)
     (as_run source w NoMemory (world od oc old) nd oc e.station (λ done. cc)
-    (out_of_memory Plain source source w od nd oc old e.station (λ told. inl (h.opened e is told).2.0.synced) (h.kept e is).1 (h.kept e is).0 h.taken h.later))
+    (out_of_memory Traffic source source w od nd oc old e.station (λ told. inl (h.opened e is told).2.0.synced) (h.kept e is).1 (h.kept e is).0 h.taken h.later))
 
 -- ---- a capture was run through the switch that counts
 
@@ -84,7 +84,7 @@ module _ {S P W : Type 0} (parts : W → Parts (Engine P)) (source : SourceMeani
     (laws : (n : Need) (es : List Entry) → IsTrue (keeps_one (parts first).switch.directory) → IsTrue (is_sound (parts first).switch.directory n)
     → KeepsLaws (parts first).switch.directory n es)
     (ends : (o : Told w.tells) (h : List Entry) → StandsFor (meanings_by parts (switch_meanings w.tells w.calls)) o h first
-    → Ends (meanings_by parts (switch_meanings w.tells w.calls)) w.tells Plain o h source.tells e first last (source.left oc) (source.left nc))
+    → Ends (meanings_by parts (switch_meanings w.tells w.calls)) w.tells Traffic o h source.tells e first last (source.left oc) (source.left nc))
     (narrow : length (parts first).switch.directory.circuits ≤ 100)
     (cause : HasReplayCause e (w.disk_faults (parts first).switch.station) (w.disk_faults (parts last).switch.station)
     (w.say_faults (parts first).switch.station) (w.say_faults (parts last).switch.station) (source.faults oc) (source.faults nc))
@@ -107,12 +107,12 @@ module _ {S P W : Type 0} (parts : W → Parts (Engine P)) (source : SourceMeani
   }
 
   below : (told : w.tells) (n : Need) → StandsFor (switch_meanings w.tells w.calls) (origin told n) [] engine
-      → Ends (switch_meanings w.tells w.calls) w.tells Plain (origin told n) [] source.tells e engine behind (source.left oc) (source.left nc)
+      → Ends (switch_meanings w.tells w.calls) w.tells Traffic (origin told n) [] source.tells e engine behind (source.left oc) (source.left nc)
   below told n s =
-      ends_below parts (switch_meanings w.tells w.calls) w.tells Plain (origin told n) [] source.tells first last e (source.left oc) (source.left nc)
+      ends_below parts (switch_meanings w.tells w.calls) w.tells Traffic (origin told n) [] source.tells first last e (source.left oc) (source.left nc)
       (ends (origin told n) [] (begins told n s))
 
-  run : Replays Plain source source w (status_of e) (world od oc old) (world nd nc behind.station)
+  run : Replays Traffic source source w (status_of e) (world od oc old) (world nd nc behind.station)
   run = replays source source w e od nd oc nc old engine behind opens laws below narrow cause files
 
   -- ---- it was not done
@@ -160,7 +160,7 @@ module _ {S P W : Type 0} (parts : W → Parts (Engine P)) (source : SourceMeani
         let n : Need = x.0 in
         let o : Origin = origin_of w.calls engine n in
         let done = (ends (origin told n) [] (begins told n x.2.1)).done is in
-        let r : Run Plain source source w e od oc nc old engine behind = record {
+        let r : Run Traffic source source w e od oc nc old engine behind = record {
           n = n;
           told = told;
           read = x.1;

@@ -84,7 +84,7 @@ pub fn count<S: Source, P: Station>(
             return (Status::NoMemory, station);
         }
     };
-    let end = gts_replay::replay(alloc, &mut counted, capture, CaptureKind::Plain);
+    let end = gts_replay::replay(alloc, &mut counted, capture, CaptureKind::Traffic);
     let table = table_behind(alloc, end, &counted);
     let engine = counted.into_inner();
     // The files open with as many bytes in use as the engine counts.
