@@ -6,6 +6,8 @@ mod memory;
 #[cfg(test)]
 mod peer;
 #[cfg(test)]
+mod ports;
+#[cfg(test)]
 mod real;
 #[cfg(test)]
 mod tcp;

@@ -1,24 +1,12 @@
+use crate::ports::{TRIES, free_ports};
 use gts_memory::MemSink;
 use gts_peer::talk;
-use gts_tcp::{TcpLines, listen};
+use gts_tcp::TcpLines;
 use gts_traits::{Failed, Lines, Sink, Source};
 use std::net::{Net, TcpListener, TcpStream};
 use std::test::Fail;
+use std::thread;
 use std::time::Clock;
-use std::{io, thread};
-
-/// More tries than a thread needs to begin.
-const TRIES: u32 = 100_000;
-
-// Two ports on which nobody listens.
-fn free_ports<R>(rt: &R) -> io::Result<(u16, u16)>
-where
-    R: Net<Listener = TcpListener, Stream = TcpStream>,
-{
-    let one = listen(rt, 0)?;
-    let other = listen(rt, 0)?;
-    Ok((one.local_addr()?.port(), other.local_addr()?.port()))
-}
 
 // A switch of one circuit that writes what it reads.
 fn echo<R>(rt: &R, input: u16, output: u16) -> Result<(), Failed>

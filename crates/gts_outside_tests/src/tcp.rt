@@ -1,3 +1,4 @@
+use crate::ports::{TRIES, free_ports};
 use gts_tcp::{TcpLines, dial, listen};
 use gts_traits::{Failed, Line, Lines, Sink, Source};
 use std::io::{Read, Write};
@@ -5,19 +6,6 @@ use std::net::{Net, Shutdown, TcpListener, TcpStream};
 use std::test::Fail;
 use std::time::Clock;
 use std::{io, thread};
-
-/// More tries than a thread needs to begin.
-const TRIES: u32 = 100_000;
-
-// Two ports on which nobody listens.
-fn free_ports<R>(rt: &R) -> io::Result<(u16, u16)>
-where
-    R: Net<Listener = TcpListener, Stream = TcpStream>,
-{
-    let one = listen(rt, 0)?;
-    let other = listen(rt, 0)?;
-    Ok((one.local_addr()?.port(), other.local_addr()?.port()))
-}
 
 // The neighbour: it sends three bytes, ends its stream, sends one more on a second connection, and reads to the end.
 fn neighbour<R>(rt: &R, input: u16, listener: &TcpListener) -> io::Result<([u8; 4], usize)>
