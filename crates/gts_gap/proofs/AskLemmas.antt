@@ -21,7 +21,7 @@ use Rattle.gts_request.specs.declared.line.Line.TheVariants.{Sqn}
 use Rattle.gts_request.specs.Request.{Item, Numbers, ◌>>=◌, run_at, count_at, number_at, numbers_at, items_at, behind_asker, bytes_from, request_at}
 use Rattle.gts_gap.specs.Numbers.{IsDigits}
 use Rattle.gts_gap.specs.Gaps.{Run, numbers_of}
-use Rattle.gts_gap.specs.Asking.{item_text, items_text, ask_text}
+use Rattle.gts_gap.specs.Asking.{item_text, items_text, ask_text, items_of}
 use Rattle.gts_gap.specs.Text.{more_text, front_text, text_of}
 use Rattle.gts_gap.proofs.ListLemmas.{and_true}
 
@@ -40,10 +40,6 @@ count_of k = if (k == 3) || (k == 5) then Ok k else Err Number
 
 abbrev just : ℕ → Result ℕ ReqField
 just k = Ok k
-
--- the items that runs are
-abbrev pub items_of : ℕ → List Run → List Item
-items_of w rs = map (λ run. Numbers w run.first run.last) rs
 
 abbrev found : List ℕ → List ℕ → Result (List ℕ × List ℕ) Field
 found front back = Ok (front, back)

@@ -1,12 +1,12 @@
 //! Laws over the definitions, each the contract of a function with an empty body.
 
-ghost use Rattle.std.specs.Prelude.{◌≡◌, ℕ, ◌<◌, ◌≤◌, ◌^◌, ◌%◌, List, [], map, length, IsTrue, Ok};
+ghost use Rattle.std.specs.Prelude.{◌≡◌, ℕ, ◌<◌, ◌≤◌, ◌^◌, ◌%◌, List, [], length, IsTrue, Ok};
 ghost use Rattle.gts_heading.specs.Letters.{are_capitals};
-ghost use Rattle.gts_request.specs.Request.{Numbers, request_at};
+ghost use Rattle.gts_request.specs.Request.{request_at};
 ghost use Rattle.gts_gap.specs.Numbers.{Numbered, IsDigits, IsValue, cycle, value_of, last_run};
 ghost use Rattle.gts_gap.specs.Gaps.{gaps};
 ghost use Rattle.gts_gap.specs.Asking.{ask_text};
-ghost use Rattle.gts_gap.specs.Ring.{digits_of, runs_given};
+ghost use Rattle.gts_gap.specs.Ring.{digits_of, runs_given, items_asked};
 ghost use Rattle.gts_gap.specs.Text.{text_of};
 
 /// A later number has one value, which is the one that is computed.
@@ -27,6 +27,5 @@ pub fn the_gaps_are_asked_for_in_one_line()
 pub fn what_is_asked_for_is_read()
     ensures { (own : List ℕ) (ns : List Numbered) → length own ≡ 4 → IsTrue (are_capitals own)
         → IsDigits (digits_of ns) → (gaps ns ≡ [] → ⊥)
-        → request_at (text_of own (digits_of ns) (runs_given ns))
-        ≡ Ok (map (λ run. Numbers (digits_of ns) run.first run.last) (gaps ns)) }
+        → request_at (text_of own (digits_of ns) (runs_given ns)) ≡ Ok (items_asked ns) }
 {}

@@ -1,5 +1,6 @@
 -- A journal is taken over: it goes on under a directory that extends its own.
-use Rattle.std.specs.Prelude.{◌≡◌, ◌≢◌, ◌⊎◌, ◌+◌, ◌*◌, ◌^◌, ◌<◌, ◌≤◌, List, [], length, None, Result, Ok, Err, IsTrue}
+use Rattle.std.specs.Prelude.{◌≡◌, ◌≢◌, ◌⊎◌, ◌+◌, ◌*◌, ◌^◌, ◌<◌, ◌≤◌, List, [], ◌∷◌, length, None, Result, Ok, Err, IsTrue}
+use Rattle.gts_traits.specs.{Did, Syncs, EachSince}
 use Rattle.gts_traits.specs.Calls.{Call, Outside}
 use Rattle.gts_traits.specs.Disk.{Files, IsImage, seen}
 use Rattle.gts_directory.specs.Directory.{Directory}
@@ -33,6 +34,16 @@ use Rattle.gts_migrate.specs.declared.migrating.MigrateFault.TheVariants.{Open, 
 abbrev pub OpensEither : Directory → Directory → Need → Files → Outside → Type 0
 OpensEither old new n files outside =
     (outside ≡ []) × ((opens_any old files ≡ Ok n) ⊎ (opens new files ≡ Ok (wider (length new.circuits) n)))
+
+-- Nothing is said; and the files open to the need of this state, opened again.
+abbrev pub OpensEitherAt : Directory → Directory → State → Files → Outside → Type 0
+OpensEitherAt old new s = OpensEither old new (need old (restarted s))
+
+-- Where the files opened under the old directory to this need, a crash at any moment since the sync of the opening leaves files
+-- that open so, or wider.
+abbrev pub StaysEither : Directory → Directory → Need → (before after : List Call) → Type 0
+StaysEither old new n before after =
+    opens_any old (seen before) ≡ Ok n → EachSince (Did Syncs ∷ before) after (OpensEither old new n)
 
 -- The other file is selected. It is the checkpoint of the wider need alone, under the mark of the new directory; and whatever a
 -- crash leaves opens under that to what the old files opened to, opened again, and wider.

@@ -1,10 +1,10 @@
-ghost use Rattle.std.specs.Prelude.{◌≡◌, ◌-◌, ◌^◌, ◌≤◌, ◌∷◌, ℕ, min, length, Ok, IfOk, IfErr, OnOk, IsErrOf};
-ghost use Rattle.gts_traits.specs.{Did, Syncs, seen, said_by, Rose, EachSince};
+ghost use Rattle.std.specs.Prelude.{◌≡◌, ◌-◌, ◌^◌, ◌≤◌, ℕ, min, length, Ok, IfOk, IfErr, OnOk, IsErrOf};
+ghost use Rattle.gts_traits.specs.{seen, said_by, Rose, EachSince};
 ghost use Rattle.gts_core.specs.Core.{Holds};
 ghost use Rattle.gts_journal.specs.{StandsOn, OnlySyncs};
 ghost use Rattle.gts_engine.specs.Compacting.{IsSizeAt};
-ghost use Rattle.gts_migrate.specs.Migrating.{DirectoryOf, Extends, State, NeedOf, circuit_need_of, need_of, unused_of, need_at, restarted, wider, widened, checkpoint_text};
-ghost use Rattle.gts_migrate.specs.Migrating.{opens_any, files_open_any, OpensEither, IsMigrated, GivesRoomFor, AnswersOpening, WasOpened, LeavesFiles, IsDiskFaultOf};
+ghost use Rattle.gts_migrate.specs.Migrating.{DirectoryOf, Extends, State, NeedOf, circuit_need_of, need_of, unused_of, wider, widened, checkpoint_text};
+ghost use Rattle.gts_migrate.specs.Migrating.{opens_any, files_open_any, OpensEitherAt, StaysEither, IsMigrated, GivesRoomFor, AnswersOpening, WasOpened, LeavesFiles, IsDiskFaultOf};
 ghost use Rattle.gts_migrate.specs.Migrating.{IsRoomFaultOf, IsWriteFaultOf, HasFewDue, IsWide, CanMigrate, FitsFor};
 
 use gts_checkpoint::{WriteFault, size, write};
@@ -126,8 +126,7 @@ fn rewrite<P: Station>(
     requires stands { P.tells → StandsOn (P.calls station.old) journal }
     ensures moments { P.tells → (old : DirectoryOf) (s : State)
         → CanMigrate old new.now s (need_of need.now) (P.calls station.old) journal
-        → EachSince (P.calls station.old) (P.calls station.new)
-        (OpensEither old new.now (need_at old (restarted s))) }
+        → EachSince (P.calls station.old) (P.calls station.new) (OpensEitherAt old new.now s) }
     ensures written { P.tells → OnOk result ((old : DirectoryOf) (s : State)
         → CanMigrate old new.now s (need_of need.now) (P.calls station.old) journal
         → IsMigrated old new.now s (P.calls station.old) (P.calls station.new)) }
@@ -163,9 +162,7 @@ fn take_over<P: Station>(
 ) -> Result<(), MigrateFault>
     requires { Extends new.now old.now }
     ensures moments { P.tells → (n : NeedOf) → WasOpened result
-        → opens_any old.now (seen (P.calls station.old)) ≡ Ok n
-        → EachSince (Did Syncs ∷ P.calls station.old) (P.calls station.new)
-        (OpensEither old.now new.now n) }
+        → StaysEither old.now new.now n (P.calls station.old) (P.calls station.new) }
     ensures migrated { P.tells → (s : State) (used : ℕ)
         → files_open_any old.now (seen (P.calls station.old)) ≡ Ok (s, used)
         → OnOk result (IsMigrated old.now new.now s (P.calls station.old) (P.calls station.new)) }
@@ -209,9 +206,7 @@ pub fn migrate<P: Station>(
     // A crash at any moment since the sync of the opening leaves files that open under the old directory to what they opened to,
     // or under the new one to that and the further circuits.
     ensures moments { P.tells → (n : NeedOf) → WasOpened result.1
-        → opens_any old.now (seen (P.calls station)) ≡ Ok n
-        → EachSince (Did Syncs ∷ P.calls station) (P.calls result.0)
-        (OpensEither old.now new n) }
+        → StaysEither old.now new n (P.calls station) (P.calls result.0) }
     ensures migrated { P.tells → (s : State) (used : ℕ)
         → files_open_any old.now (seen (P.calls station)) ≡ Ok (s, used)
         → OnOk result.1 (IsMigrated old.now new s (P.calls station) (P.calls result.0)) }

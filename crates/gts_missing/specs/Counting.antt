@@ -83,9 +83,13 @@ pub record IsNew (d : Directory) (rings : Rings) (decoders : List Decoding) : Ty
   pub empty : (c : ℕ) → c < length d.circuits → StandsAt rings c []
   pub decode : Decode decoders (no_bytes d)
 
+-- on each circuit of the directory the ring stands for the numbers that came there
+abbrev pub AllStand : Directory → Rings → (ℕ → List Numbered) → Type 0
+AllStand d rings came = (c : ℕ) → c < length d.circuits → StandsAt rings c (came c)
+
 -- the table stands for the numbers of these steps on each circuit
 abbrev pub StandFor : Directory → List Step → Rings → Type 0
-StandFor d steps rings = (c : ℕ) → c < length d.circuits → StandsAt rings c (numbers d c steps)
+StandFor d steps rings = AllStand d rings (λ c. numbers d c steps)
 
 -- The whole capture was read, and the table stands for its numbers.
 pub record IsRead (tells : Type 0) (d : Directory) (rings : Rings) (bytes : List ℕ) : Type 0 where

@@ -3,6 +3,7 @@ ghost use Rattle.gts_traits.specs.{HasCause};
 ghost use Rattle.gts_say.specs.Say.{Tells};
 ghost use Rattle.gts_gap.specs.{Numbered};
 ghost use Rattle.gts_gap.specs.Ring.{StandsAt};
+ghost use Rattle.gts_missing.specs.Counting.{AllStand};
 ghost use Rattle.gts_missing.specs.Saying.{said_of, report};
 ghost use Rattle.gts_missing.specs.Ending.{Names, HasGapsCause};
 
@@ -57,9 +58,8 @@ fn say_report<P: Station>(
     station: &mut P,
 ) -> Result<(), Failed>
     requires { length table.now ≡ length directory.now.circuits }
-    ensures told { P.tells → (numbers : ℕ → List Numbered)
-        → ((c : ℕ) → c < length directory.now.circuits → StandsAt table.now c (numbers c))
-        → Tells result (report directory.now moment numbers)
+    ensures told { P.tells → (came : ℕ → List Numbered)
+        → AllStand directory.now table.now came → Tells result (report directory.now moment came)
         (P.calls station.old) (P.calls station.new) }
     ensures cause { HasCause result (P.say_faults station.old) (P.say_faults station.new) }
     ensures disk { P.disk_faults station.new ≡ P.disk_faults station.old }
