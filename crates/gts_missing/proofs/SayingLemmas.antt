@@ -1,6 +1,8 @@
 -- What is said of missing numbers, piece by piece.
 use Rattle.std.proofs.Common.{◌≡◌, ℕ, zero, suc, ◌+◌, ◌<◌, List, [], ◌∷◌, ◌++◌, length, map, get_or, Some, Result, Ok, Err, inl, inr, refl, sym, ap, subst, ◌∙◌, arith, append_assoc}
 use Rattle.std.specs.Prelude.{codes, slice_get}
+use Rattle.std.specs.Prelude.{IsErrAnd}
+use Rattle.std.proofs.lemmas.Result.{err_from_is_err_and}
 use Rattle.std.proofs.lemmas.Bool.{cases_lt}
 use Rattle.std.proofs.lemmas.List.{append-nil, length-append}
 use Rattle.gts_alphabet.specs.Digits.{dec}
@@ -12,6 +14,7 @@ use Rattle.gts_message.specs.Message.{message_end}
 use Rattle.gts_frame.specs.declared.kind.Kind.TheVariants.{An}
 use Rattle.gts_frame.specs.Frame.{frame}
 use Rattle.gts_traits.specs.{Call, Outside, on}
+use Rattle.gts_traits.specs.declared.failed.Failed.{Failed}
 use Rattle.gts_traits.proofs.OutsideLemmas.{on-append}
 use Rattle.gts_say.specs.Say.{SaysOnly, SaysFront, Tells}
 use Rattle.gts_say.proofs.SayLemmas.{said_more, front_behind, front_more}
@@ -141,3 +144,7 @@ said_split d moment numbers k count within = go count within
           let same : suc n ≡ k + 1 = omega (arith, lt, over) in
           ([], ap (said_from d moment numbers 0) same ∙ first ∙ sym (append-nil (said_from d moment numbers 0 k ++ said_of d moment k (numbers k))))
     ]
+
+-- what a failure that is passed on tells
+pub front_told : (r : Result (Unit {0}) Failed) (f : Failed) (o : Outside) (a b : List Call) → IsErrAnd r (λ e. e ≡ f) → SaysFront a b o → Tells r o a b
+front_told r f o a b failed said = let x = err_from_is_err_and r failed in subst (λ (y : Result (Unit {0}) Failed). Tells y o a b) (sym x.1) said

@@ -34,9 +34,7 @@ fn say_circuit<P: Station>(
 {
     // A directory has few circuits.
     let _few = directory.circuits();
-    if let Err(Failed) = say_runs(c, table.runs(c), station) {
-        return Err(Failed);
-    }
+    say_runs(c, table.runs(c), station)?;
     if !table.ask(c, directory.centre(), text) {
         return Ok(());
     }
@@ -65,9 +63,7 @@ fn say_report<P: Station>(
     ensures disk { P.disk_faults station.new ≡ P.disk_faults station.old }
 {
     for c in 0..directory.circuits() {
-        if let Err(Failed) = say_circuit(table, c, directory, moment, text, station) {
-            return Err(Failed);
-        }
+        say_circuit(table, c, directory, moment, text, station)?;
     }
     say(station, OPERATOR, b"end\n")
 }

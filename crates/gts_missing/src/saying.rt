@@ -65,9 +65,7 @@ pub(crate) fn say_runs<P: Station>(c: u32, runs: Runs<'_>, station: &mut P) -> R
     let mut runs = runs;
     while let Some((first, last, digits)) = runs.next() {
         let line = line_of(c, first, last, digits);
-        if let Err(Failed) = say(station, OPERATOR, line.bytes()) {
-            return Err(Failed);
-        }
+        say(station, OPERATOR, line.bytes())?;
     }
     Ok(())
 }
@@ -110,11 +108,7 @@ pub(crate) fn say_request<P: Station>(
     ensures disk { P.disk_faults station.new ≡ P.disk_faults station.old }
 {
     let front = front_of(peer, moment, AROUND_TEXT + text.len() as u32);
-    if let Err(Failed) = say(station, channel, front.bytes()) {
-        return Err(Failed);
-    }
-    if let Err(Failed) = say(station, channel, text) {
-        return Err(Failed);
-    }
+    say(station, channel, front.bytes())?;
+    say(station, channel, text)?;
     say(station, channel, &END)
 }

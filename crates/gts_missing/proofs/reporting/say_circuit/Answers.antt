@@ -10,20 +10,21 @@ use Rattle.gts_gap.specs.Gaps.{gaps}
 use Rattle.gts_gap.specs.Ring.{digits_of, runs_given}
 use Rattle.gts_gap.specs.Asking.{ask_frame, ask_heading, gap_lines}
 use Rattle.gts_gap.specs.Text.{text_of}
-use Rattle.gts_missing.specs.Saying.{run_lines, asked}
-use Rattle.gts_missing.proofs.SayingLemmas.{lines_given, asked_none, asked_some, peer_is, tells_behind}
+use Rattle.gts_missing.specs.Saying.{run_lines, asked, said_of}
+use Rattle.gts_missing.proofs.SayingLemmas.{lines_given, asked_none, asked_some, peer_is, tells_behind, front_told}
 use Rattle.gts_missing.proofs.reporting.say_circuit.Goals as goal
 
-pub returns-in-Err-clause-told : goal.returns-in-Err-clause-told
-returns-in-Err-clause-told g c = λ t ns stands.
+pub returns-in_err-say_runs-clause-told : goal.returns-in_err-say_runs-clause-told
+returns-in_err-say_runs-clause-told g c = λ t ns stands.
     let a = g.P.Station.calls c.args.station.now in
     let b = g.P.Station.calls c.say_runs.new.station in
     let w : ℕ = digits_of ns in
     let lines : run_lines c.args.c c.runs.result ≡ gap_lines c.args.c w (gaps ns) = ap (run_lines c.args.c) (c.runs.ensures.runs ns stands) ∙ lines_given c.args.c w (gaps ns) in
     let T : List ℕ → Result (Unit {0}) Failed → Type 0 = λ piece r. Tells r (on 0 piece) a b in
     let said : SaysFront a b (on 0 (gap_lines c.args.c w (gaps ns))) =
-    subst (λ (piece : List ℕ). T piece (Err c.in-Err.field-0)) lines (subst (T (run_lines c.args.c c.runs.result)) c.in-Err.is (c.say_runs.ensures.told t)) in
-    front_more a b (on 0 (gap_lines c.args.c w (gaps ns))) (asked c.args.directory.now c.args.moment c.args.c w (gaps ns)) said
+    subst (λ (piece : List ℕ). T piece (Err c.in_err-say_runs.field-0.0)) lines (subst (T (run_lines c.args.c c.runs.result)) c.in_err-say_runs.was (c.say_runs.ensures.told t)) in
+    front_told c.from_residual.result c.in_err-say_runs.field-0.0 (said_of c.args.directory.now c.args.moment c.args.c ns) a b c.from_residual.ensures.1
+    (front_more a b (on 0 (gap_lines c.args.c w (gaps ns))) (asked c.args.directory.now c.args.moment c.args.c w (gaps ns)) said)
 
 pub returns-then-not-ask-clause-told : goal.returns-then-not-ask-clause-told
 returns-then-not-ask-clause-told g c = λ t ns stands.
@@ -33,7 +34,7 @@ returns-then-not-ask-clause-told g c = λ t ns stands.
     let lines : run_lines c.args.c c.runs.result ≡ gap_lines c.args.c w (gaps ns) = ap (run_lines c.args.c) (c.runs.ensures.runs ns stands) ∙ lines_given c.args.c w (gaps ns) in
     let T : List ℕ → Result (Unit {0}) Failed → Type 0 = λ piece r. Tells r (on 0 piece) a b in
     let said : SaysOnly a b (on 0 (gap_lines c.args.c w (gaps ns))) =
-    subst (λ (piece : List ℕ). T piece (Ok c.in_default.field-0)) lines (subst (T (run_lines c.args.c c.runs.result)) c.in_default.is (c.say_runs.ensures.told t)) in
+    subst (λ (piece : List ℕ). T piece (Ok tt)) lines (subst (T (run_lines c.args.c c.runs.result)) c.in_ok-say_runs.was (c.say_runs.ensures.told t)) in
     let none : asked c.args.directory.now c.args.moment c.args.c w (gaps ns) ≡ [] =
     asked_none c.args.directory.now c.args.moment c.args.c w (gaps ns) (λ some. let ask = (c.ask.ensures.some ns stands).1 some in let test = c.if-not-ask.true in cc) in
     subst (λ (o : Outside). SaysOnly a b o) (sym (ap (λ (o : Outside). on 0 (gap_lines c.args.c w (gaps ns)) ++ o) none ∙ append-nil (on 0 (gap_lines c.args.c w (gaps ns))))) said
@@ -48,7 +49,7 @@ returns-clause-told g c = λ t ns stands.
     let lines : run_lines c.args.c c.runs.result ≡ gap_lines c.args.c w (gaps ns) = ap (run_lines c.args.c) (c.runs.ensures.runs ns stands) ∙ lines_given c.args.c w (gaps ns) in
     let T : List ℕ → Result (Unit {0}) Failed → Type 0 = λ piece r. Tells r (on 0 piece) a b in
     let said : SaysOnly a b (on 0 (gap_lines c.args.c w (gaps ns))) =
-    subst (λ (piece : List ℕ). T piece (Ok c.in_default.field-0)) lines (subst (T (run_lines c.args.c c.runs.result)) c.in_default.is (c.say_runs.ensures.told t)) in
+    subst (λ (piece : List ℕ). T piece (Ok tt)) lines (subst (T (run_lines c.args.c c.runs.result)) c.in_ok-say_runs.was (c.say_runs.ensures.told t)) in
     let some = (c.ask.ensures.some ns stands).0 c.if-not-ask.false in
     let all = asked_some d c.args.moment c.args.c w (gaps ns) some in
     let peer : peer_of d c.args.c ≡ c.circuit.result.now.peer = peer_is d.circuits c.args.c (circuit_of_row c.circuit.result.now) c.circuit.ensures.row in

@@ -5,11 +5,11 @@ use Rattle.gts_traits.specs.{on}
 use Rattle.gts_traits.specs.declared.failed.Failed.{Failed}
 use Rattle.gts_say.specs.Say.{Tells, SaysOnly, SaysFront}
 use Rattle.gts_missing.specs.Saying.{run_line, run_lines}
-use Rattle.gts_missing.proofs.SayingLemmas.{tells_on, front_on}
+use Rattle.gts_missing.proofs.SayingLemmas.{tells_on, front_on, front_told}
 use Rattle.gts_missing.proofs.saying.say_runs.Goals as goal
 
-pub returns-in-Err-clause-told : goal.returns-in-Err-clause-told
-returns-in-Err-clause-told g c = λ t.
+pub returns-in_err-say-clause-told : goal.returns-in_err-say-clause-told
+returns-in_err-say-clause-told g c = λ t.
     let x = c.loop-first.invariant.said t in
     let line : List ℕ = run_line c.args.c (c.in-Some.first, c.in-Some.last, c.in-Some.digits) in
     let rest : List ℕ = run_lines c.args.c c.next.new.self in
@@ -17,11 +17,12 @@ returns-in-Err-clause-told g c = λ t.
     let b = g.P.Station.calls c.loop-first.station in
     let d = g.P.Station.calls c.say.new.station in
     let T : List ℕ → Result (Unit {0}) Failed → Type 0 = λ piece r. Tells r (on 0 piece) b d in
-    let said : Tells {T = Unit {0}} (Err c.in-Err.field-0) (on 0 line) b d =
-    subst (λ (piece : List ℕ). T piece (Err c.in-Err.field-0)) (c.bytes.ensures ∙ c.line_of-line.ensures) (subst (T c.bytes.result.now) c.in-Err.is (c.say.ensures.told t)) in
-    let front : SaysFront a d (on 0 (x.0 ++ line)) = tells_on {T = Unit {0}} (Err c.in-Err.field-0) a b d 0 x.0 line x.2 said in
+    let said : Tells {T = Unit {0}} (Err c.in_err-say.field-0.0) (on 0 line) b d =
+    subst (λ (piece : List ℕ). T piece (Err c.in_err-say.field-0.0)) (c.bytes.ensures ∙ c.line_of-line.ensures) (subst (T c.bytes.result.now) c.in_err-say.was (c.say.ensures.told t)) in
+    let front : SaysFront a d (on 0 (x.0 ++ line)) = tells_on {T = Unit {0}} (Err c.in_err-say.field-0.0) a b d 0 x.0 line x.2 said in
     let all : run_lines c.args.c c.args.runs ≡ (x.0 ++ line) ++ rest = x.1 ∙ ap (λ (rs : List (ℕ × ℕ × ℕ)). x.0 ++ run_lines c.args.c rs) c.in-Some.ensures.steps ∙ sym (append_assoc x.0 line rest) in
-    subst (λ (l : List ℕ). SaysFront a d (on 0 l)) (sym all) (front_on a d 0 (x.0 ++ line) rest front)
+    front_told c.from_residual.result c.in_err-say.field-0.0 (on 0 (run_lines c.args.c c.args.runs)) a d c.from_residual.ensures.1
+    (subst (λ (l : List ℕ). SaysFront a d (on 0 l)) (sym all) (front_on a d 0 (x.0 ++ line) rest front))
 
 pub loop-first-preserved : goal.loop-first-preserved
 loop-first-preserved g c =
@@ -40,7 +41,7 @@ loop-first-preserved g c =
       said = λ t.
           let x = c.loop-first.invariant.said t in
           let said : SaysOnly b d (on 0 line) =
-          subst (λ (piece : List ℕ). T piece (Ok c.in_default-say.field-0)) (c.bytes.ensures ∙ c.line_of-line.ensures) (subst (T c.bytes.result.now) c.in_default-say.is (c.say.ensures.told t)) in (
+          subst (λ (piece : List ℕ). T piece (Ok tt)) (c.bytes.ensures ∙ c.line_of-line.ensures) (subst (T c.bytes.result.now) c.in_ok-say.was (c.say.ensures.told t)) in (
             x.0 ++ line,
             x.1 ∙ ap (λ (rs : List (ℕ × ℕ × ℕ)). x.0 ++ run_lines c.args.c rs) c.in-Some.ensures.steps ∙ sym (append_assoc x.0 line rest),
             tells_on {T = Unit {0}} {E = Failed} (Ok tt) a b d 0 x.0 line x.2 said,
