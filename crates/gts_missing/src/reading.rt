@@ -69,9 +69,7 @@ fn run<S: Source>(
             Ok(head) => head,
             Err(fault) => return Err(fault),
         };
-        if let Err(fault) = do_step(table, decoders, steps, capture, head) {
-            return Err(fault);
-        }
+        do_step(table, decoders, steps, capture, head)?;
     }
     // No capture that is told has so many steps.
     Err(CaptureFault::Bad { at: u64::MAX })

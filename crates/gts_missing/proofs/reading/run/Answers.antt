@@ -1,4 +1,6 @@
-use Rattle.std.proofs.Common.{◌≡◌, ◌+◌, ◌++◌, ℕ, [], ◌∷◌, length, Result, Err, refl, ap, subst, ◌∙◌, arith, length-append}
+use Rattle.std.proofs.Common.{◌≡◌, ◌+◌, ◌++◌, ℕ, [], ◌∷◌, length, Result, Err, refl, sym, ap, subst, ◌∙◌, arith, length-append}
+use Rattle.std.specs.Prelude.{IsErrAnd}
+use Rattle.std.proofs.lemmas.Result.{err_from_is_err_and}
 use Rattle.gts_capture.specs.{head_of, line_of}
 use Rattle.gts_capture.specs.Held.{Held}
 use Rattle.gts_capture.specs.declared.capture_fault.CaptureFault.{CaptureFault}
@@ -9,6 +11,10 @@ use Rattle.gts_replay.proofs.RunLemmas.{ReadsHead}
 use Rattle.gts_missing.specs.Counting.{Comes, DoesStep}
 use Rattle.gts_missing.proofs.RunLemmas.{runs_none, runs_more, ends_done, ends_bad, ends_in_step, ends_never}
 use Rattle.gts_missing.proofs.reading.run.Goals as goal
+
+-- what `?` returns
+returned : (r : Result (Unit {0}) CaptureFault) (fault : CaptureFault) → IsErrAnd r (λ e. e ≡ fault) → r ≡ Err fault
+returned r fault h = let x = err_from_is_err_and r h in x.1 ∙ ap (λ (e : CaptureFault). Err e) x.2
 
 pub loop-init : goal.loop-init
 loop-init g c = record {
@@ -40,23 +46,24 @@ returns-in-Err-clause-comes g c = λ d new.
     ] in
     go c.in-Err.fault c.in-Err.is
 
-pub returns-in-Err-do_step-clause-comes : goal.returns-in-Err-do_step-clause-comes
-returns-in-Err-do_step-clause-comes g c = λ d new.
+pub returns-in_err-do_step-clause-comes : goal.returns-in_err-do_step-clause-comes
+returns-in_err-do_step-clause-comes g c = λ d new.
     let done = c.loop.invariant.done d new in
     let head = head_of c.in-Ok.head in
     let reads : ReadsHead g.S.Source.tells head c.loop.steps c.next.new.self (g.S.Source.left c.loop.capture) (g.S.Source.left c.next.new.source) =
     record { told = c.in-Ok.ensures.told; valid = c.in-Ok.ensures.valid; feed = c.in-Ok.ensures.feed; at = c.in-Ok.ensures.at; within = c.in-Ok.ensures.within; same = c.next.ensures.same } in
     let D : CaptureFault → Type 0 = λ fault. DoesStep g.S.Source.tells head (Err fault) c.next.new.self c.do_step.new.steps (g.S.Source.left c.next.new.source) (g.S.Source.left c.do_step.new.capture)
     c.loop.decoders c.do_step.new.decoders c.loop.table c.do_step.new.table in
-    let does : D c.in-Err-do_step.fault = subst (λ (r : Result (Unit {0}) CaptureFault). DoesStep g.S.Source.tells head r c.next.new.self c.do_step.new.steps (g.S.Source.left c.next.new.source) (g.S.Source.left c.do_step.new.capture)
-    c.loop.decoders c.do_step.new.decoders c.loop.table c.do_step.new.table) c.in-Err-do_step.is c.do_step.ensures.does in
+    let does : D c.in_err-do_step.field-0.0 = subst (λ (r : Result (Unit {0}) CaptureFault). DoesStep g.S.Source.tells head r c.next.new.self c.do_step.new.steps (g.S.Source.left c.next.new.source) (g.S.Source.left c.do_step.new.capture)
+    c.loop.decoders c.do_step.new.decoders c.loop.table c.do_step.new.table) c.in_err-do_step.was c.do_step.ensures.does in
     let C : CaptureFault → Type 0 = λ fault. Comes g.S.Source.tells d (Err fault) c.do_step.new.table (g.S.Source.left c.args.capture.now) in
     let go : (fault : CaptureFault) → D fault → C fault = elim [
       | Bad at ↦ λ ends. ends_in_step g.S.Source.tells d (g.S.Source.left c.args.capture.now) done.0 c.loop.steps c.next.new.self (g.S.Source.left c.loop.capture) (g.S.Source.left c.next.new.source)
           c.loop.decoders c.loop.table head at done.2 reads ends
       | SourceFault ↦ λ ends. tt
     ] in
-    go c.in-Err-do_step.fault does
+    subst (λ (r : Result (Unit {0}) CaptureFault). Comes g.S.Source.tells d r c.do_step.new.table (g.S.Source.left c.args.capture.now))
+    (sym (returned c.from_residual.result c.in_err-do_step.field-0.0 c.from_residual.ensures.1)) (go c.in_err-do_step.field-0.0 does)
 
 pub loop-preserved : goal.loop-preserved
 loop-preserved g c =
@@ -64,7 +71,7 @@ loop-preserved g c =
     let reads : ReadsHead g.S.Source.tells head c.loop.steps c.next.new.self (g.S.Source.left c.loop.capture) (g.S.Source.left c.next.new.source) =
     record { told = c.in-Ok.ensures.told; valid = c.in-Ok.ensures.valid; feed = c.in-Ok.ensures.feed; at = c.in-Ok.ensures.at; within = c.in-Ok.ensures.within; same = c.next.ensures.same } in
     let does = subst (λ (r : Result (Unit {0}) CaptureFault). DoesStep g.S.Source.tells head r c.next.new.self c.do_step.new.steps (g.S.Source.left c.next.new.source)
-    (g.S.Source.left c.do_step.new.capture) c.loop.decoders c.do_step.new.decoders c.loop.table c.do_step.new.table) c.in_default.is c.do_step.ensures.does in
+    (g.S.Source.left c.do_step.new.capture) c.loop.decoders c.do_step.new.decoders c.loop.table c.do_step.new.table) c.in_ok-do_step.was c.do_step.ensures.does in
     let same = does.taken.same in
     record {
       done = λ d new.
