@@ -3,8 +3,9 @@ ghost use Rattle.std.specs.Prelude.{[]};
 ghost use Rattle.gts_housed.specs.{Stands};
 
 use gts_circuits::an_opened_engine_stands_for_no_entry;
-use gts_directory::{CircuitRow, DirRows, Directory, RuleRow};
+use gts_directory::Directory;
 use gts_engine::{Engine, an_opened_engine_begins_with_what_the_files_open_to};
+use gts_fixtures::two_circuits;
 use gts_housed::Began;
 use gts_journal::Journal;
 use gts_memory::{MemLines, MemStation};
@@ -19,29 +20,6 @@ use std::thread::Threads;
 
 /// A frame, in which the digits at 16 and 24 are to be set.
 const FRAME: [u8; 49] = *b"00000039AN\x01\r\r\n000\r\r\nSMVG01 TVSV 280000\r\r\nNIL=\r\r\n\x03";
-
-/// A directory of two circuits, each of which gets what comes in on the other.
-fn two_circuits(alloc: Global) -> Result<Directory, Fail> {
-    let mut rows = DirRows::new(alloc, *b"TVSV", 1000, 1 << 30, [7; 32]);
-    for (name, peer, input) in [
-        (*b"A       ", *b"AAAA", 4001),
-        (*b"B       ", *b"BBBB", 4003),
-    ] {
-        rows.add_circuit(CircuitRow {
-            name,
-            peer,
-            kept: 20,
-            digits: 3,
-            input,
-            output: input + 1,
-        })?;
-    }
-    rows.add_rule(RuleRow {
-        heading: *b"****** ****",
-        to: 3,
-    })?;
-    Ok(Directory::check(rows)?)
-}
 
 /// The frame of a number of the bulletin of a circuit. Both are below 10.
 fn frame_of(number: u8, circuit: u8) -> [u8; 49] {

@@ -2,10 +2,10 @@ ghost use Rattle.std.specs.Prelude.{IfOk};
 ghost use Rattle.gts_event.specs.Items as items;
 ghost use Rattle.gts_checkpoint.specs.Writing.{FitBytes};
 
-use crate::directory::{MARK, two_circuits};
 use gts_checkpoint::{decode, read, size, write};
 use gts_directory::Directory;
 use gts_event::{Bulletin, Bulletins, Bytes, CircuitNeed, CircuitNeeds, Need, Places};
+use gts_fixtures::{MARK, two_circuits};
 use gts_frame::Kind;
 use gts_memory::MemStation;
 use gts_record::{OpenFault, Version};

@@ -4,8 +4,6 @@
 #[cfg(test)]
 mod checkpoint;
 #[cfg(test)]
-mod directory;
-#[cfg(test)]
 mod engine;
 #[cfg(test)]
 mod journal;

@@ -1,7 +1,7 @@
 ghost use Rattle.std.specs.Prelude.{◌≤◌, ◌^◌, length};
 
-use crate::directory::two_circuits;
 use gts_directory::Directory;
+use gts_fixtures::two_circuits;
 use gts_memory::MemStation;
 use gts_recovery::{OpenFault, open_core};
 use gts_traits::Station;

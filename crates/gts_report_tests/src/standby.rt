@@ -1,4 +1,5 @@
-use gts_directory::{CircuitRow, DirRows, Directory, RuleRow};
+use gts_directory::Directory;
+use gts_fixtures::two_circuits;
 use gts_memory::{MemSource, MemStation};
 use gts_standby::{FollowEnd, follow, ship};
 use gts_traits::Station;
@@ -11,30 +12,6 @@ const BOTH: &[u8] =
 \nNIL=\r\r\n\x03R\xb1\xd8\xad\xe4\x7f\xb4\xb4\xb9\xedZ\x10n=(\xb6\xd8\x7fp\xa5Il\xa1\xeawNy]\xaf\
 \xa1\x02\xf2OD\x01\0\0\0\0\0\0\0\0\0\0\0\0\0\0\0\0\0\0\0\0\0T\xe3\xb2\xd7\xba\x9a0{\xbf\xaf\xf9{\
 \xb7\x05[\x13\xcdp\xe3`C\xee\xdb\xceO\x1b\xda{\x90x~\x1dC";
-
-/// A directory of two circuits, each of which gets what comes in on the other.
-fn two_circuits(alloc: Global) -> Result<Directory, Fail> {
-    let mark = *b"the mark of this small directory";
-    let mut rows = DirRows::new(alloc, *b"TVSV", 1000, 1 << 30, mark);
-    for (name, peer, input) in [
-        (*b"A       ", *b"AAAA", 4001),
-        (*b"B       ", *b"BBBB", 4003),
-    ] {
-        rows.add_circuit(CircuitRow {
-            name,
-            peer,
-            kept: 20,
-            digits: 3,
-            input,
-            output: input + 1,
-        })?;
-    }
-    rows.add_rule(RuleRow {
-        heading: *b"****** ****",
-        to: 3,
-    })?;
-    Ok(Directory::check(rows)?)
-}
 
 #[test]
 fn the_header_and_each_record_with_its_seal_are_shipped(rt: HostRuntime) -> Result<(), Fail> {

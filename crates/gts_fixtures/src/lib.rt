@@ -1,7 +1,11 @@
+//! What the tests of several layers begin with: a small directory.
+#![tactic(auto)]
+
 use gts_directory::{CircuitRow, DirRows, Directory, RuleRow};
 use std::alloc::Global;
 use std::test::Fail;
 
+/// The mark of the directory of two circuits.
 pub const MARK: [u8; 32] = *b"the mark of this small directory";
 
 /// A directory of two circuits, each of which gets what comes in on the other.
