@@ -8,6 +8,7 @@ use Rattle.gts_traits.specs.Counts.{Rose}
 use Rattle.gts_traits.specs.Connections.{Part}
 use Rattle.gts_traits.specs.Lines.{Ports, CircuitBytes}
 use Rattle.gts_traits.specs.Station.{IsFront}
+use Rattle.gts_traits.specs.declared.lines.Lines.{Ghosts as LinesMeanings}
 use Rattle.gts_directory.specs.Directory.{Directory, Circuit}
 use Rattle.gts_event.specs.Need.{begun}
 use Rattle.gts_event.specs.History.{outcome, after}
@@ -49,6 +50,10 @@ pub record LinesSeen : Type 0 where
 abbrev pub seen_lines : {L : Type 0} → (L → ℕ → Bool) → (L → ℕ → ℕ) → (L → ℕ → Ports) → (L → ℕ → CircuitBytes) → L → LinesSeen
 seen_lines is_open faults ports bytes lines =
     record { is_open = is_open lines; faults = faults lines; ports = ports lines; bytes = bytes lines }
+
+-- the same by what the type of the lines means
+abbrev pub lines_seen : {L In Out : Type 0} → LinesMeanings L In Out → L → LinesSeen
+lines_seen m lines = seen_lines m.is_open m.faults m.ports m.bytes lines
 
 -- the ports of a circuit in the directory
 abbrev pub ports_of : Circuit → Ports
