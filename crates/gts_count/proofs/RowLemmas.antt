@@ -41,11 +41,18 @@ turned key k = nat_list_eq_equiv.symm key k
 there_too : (m : Rows) (key k : List ℕ) → is_some (get (pointwise nat_eq) m key) ≡ true → pointwise nat_eq key k ≡ true → is_some (get (pointwise nat_eq) m k) ≡ true
 there_too m key k has same = subst (λ (x : List ℕ). is_some (get (pointwise nat_eq) m x) ≡ true) (same_numbers key k same) has
 
-pub changes : (m n : Rows) (key : List ℕ) (row : Row) → ((q : List ℕ) → get (pointwise nat_eq) n q ≡ cond (pointwise nat_eq key q) (Some row) (get (pointwise nat_eq) m q)) → is_some (get (pointwise nat_eq) m key) ≡ true → ChangesRow m n key row
+changes : (m n : Rows) (key : List ℕ) (row : Row) → ((q : List ℕ) → get (pointwise nat_eq) n q ≡ cond (pointwise nat_eq key q) (Some row) (get (pointwise nat_eq) m q)) → is_some (get (pointwise nat_eq) m key) ≡ true → ChangesRow m n key row
 changes m n key row updates has = record {
   numbers = λ k. ap row_in (updates k) ∙ row_in-cond (pointwise nat_eq key k) row (get (pointwise nat_eq) m k) ∙ ap (λ b. cond b row (row_at m k)) (turned key k);
   keeps = λ k. ap is_some (updates k) ∙ is_some-cond (pointwise nat_eq key k) row (get (pointwise nat_eq) m k) (there_too m key k has);
 }
+
+-- the row that was found is changed
+pub changed : (m n : Rows) (key : List ℕ) (change : Row → Row) (was now : Row) → get (pointwise nat_eq) m key ≡ Some was → now ≡ change was
+    → ((q : List ℕ) → get (pointwise nat_eq) n q ≡ cond (pointwise nat_eq key q) (Some now) (get (pointwise nat_eq) m q)) → ChangesRow m n key (change (row_at m key))
+changed m n key change was now found is updates =
+    let wanted : now ≡ change (row_at m key) = is ∙ sym (ap (λ (o : Option Row). change (row_in o)) found) in
+    subst (λ (row : Row). ChangesRow m n key row) wanted (changes m n key now updates (ap is_some found))
 
 there_still : (b : Bool) (o : Option Row) → is_some o ≡ true → is_some (cond b (Some no_row) o) ≡ true
 there_still true o there = refl
