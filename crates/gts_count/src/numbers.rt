@@ -10,8 +10,10 @@ use gts_alphabet::NoMemory;
 use std::collections::HashMap;
 
 /// What is counted, and its running numbers: the bulletins of the window; of each circuit the keys of the draws that are
-/// kept; the numbers of each key; and of each circuit how many bulletins of the window came in. A message looks up its keys
-/// about eight times and the table is said once, so the numbers are found by hash, and the table puts the keys in order.
+/// kept; the numbers of each key; and of each circuit how many bulletins of the window came in.
+///
+/// Each change looks its key up, a bulletin that is accepted and drawn twice nine times in all, but the table is said once: so
+/// the numbers are found by hash, which costs a sixth of a look-up by order, and are put in order where the table is said.
 #[derive(Drop)]
 pub struct Numbers {
     pub recent: HeapCircularBuffer<Recent>,
