@@ -59,11 +59,13 @@ fn feed_of_both(alloc: Global) -> Result<Vec<u8>, Fail> {
     Ok(feed)
 }
 
-/// A station with a journal that has the first bytes of that one, and a closed gate behind them.
-fn station_of(alloc: Global, front: &[u8], failing: &[u64]) -> Result<MemStation, Fail> {
-    let mut station = MemStation::new(alloc, failing)?;
-    station.write_at(0, 0, front)?;
-    station.write_at(0, front.len() as u64, b"C")?;
+/// A journal that has nothing: the header of that one, and a closed gate.
+const EMPTY: &[u8] = b"GTSJ0002the mark of this small directoryC";
+
+/// A standby whose journal has nothing.
+fn standby(alloc: Global) -> Result<MemStation, Fail> {
+    let mut station = MemStation::new(alloc, &[])?;
+    station.write_at(0, 0, EMPTY)?;
     Ok(station)
 }
 
@@ -83,8 +85,7 @@ fn a_feed_is_taken_into_an_empty_journal(rt: HostRuntime) -> Result<(), Fail> {
     let alloc = rt.alloc();
     let directory = two_circuits(alloc)?;
     let feed = feed_of_both(alloc)?;
-    let station = station_of(alloc, &BOTH[..40], &[])?;
-    let (station, end) = followed(alloc, station, &directory, feed.as_slice())?;
+    let (station, end) = followed(alloc, standby(alloc)?, &directory, feed.as_slice())?;
     assert!(rt; end == FollowEnd::Done, "{end:?}");
     assert!(rt; station.file(0) == BOTH);
     let (station, end) = followed(alloc, station, &directory, feed.as_slice())?;
