@@ -16,8 +16,8 @@ use Rattle.gts_count.specs.declared.recent.Recent.{Recent}
 use Rattle.gts_count.specs.declared.rows.Row.{Row}
 use Rattle.gts_count.specs.Tally.{Tally, is_of, once, bulletins, bytes, draws, draws_among}
 use Rattle.gts_count.specs.Table.{bytes_below, with_key, keys, key_line, key_text}
-use Rattle.gts_count.specs.Rows.{Rows, row_in, counted, IsCount}
-use Rattle.gts_count.specs.Text.{is_counted, entry_text, key_lines}
+use Rattle.gts_count.specs.Rows.{row_in, counted}
+use Rattle.gts_count.specs.Text.{SortedRows, is_counted, entry_text, key_lines}
 use Rattle.gts_count.proofs.RowLemmas.{same_numbers, same_test}
 use Rattle.gts_count.proofs.OrderedLemmas.{Up, one_list}
 
@@ -274,8 +274,12 @@ each_found (e ∷ es) up = (
   found_later e es es up.0 (each_found es up.1),
 )
 
+-- each key has the numbers that are counted, in rows that are in order
+abbrev pub IsCountInOrder : Tally → SortedRows → Type 0
+IsCountInOrder t rows = (key : List ℕ) → row_in (lookup (is_at (bytes_below key)) rows.entries) ≡ counted t key
+
 -- their lines
-lines_of : (t : Tally) (rows : Rows) (es : Entries Row) → IsCount t rows → AllByRecursion (Found rows.entries) es → flat_map entry_text es ≡ flat_map (key_line t) (keys_in (filter (λ e. is_counted e.1) es))
+lines_of : (t : Tally) (rows : SortedRows) (es : Entries Row) → IsCountInOrder t rows → AllByRecursion (Found rows.entries) es → flat_map entry_text es ≡ flat_map (key_line t) (keys_in (filter (λ e. is_counted e.1) es))
 lines_of t rows [] counts all = refl
 lines_of t rows (e ∷ es) counts all = go (is_counted e.1) (lines_of t rows es counts all.1)
   where
@@ -289,7 +293,7 @@ lines_of t rows (e ∷ es) counts all = go (is_counted e.1) (lines_of t rows es 
     go false rest = rest
 
 -- the lines of the rows are those of the keys that are counted
-pub lines_are : (t : Tally) (rows : Rows) → IsCount t rows → Up Under (keys_in rows.entries) → key_lines rows ≡ flat_map (key_line t) (keys t)
+pub lines_are : (t : Tally) (rows : SortedRows) → IsCountInOrder t rows → Up Under (keys_in rows.entries) → key_lines rows ≡ flat_map (key_line t) (keys t)
 lines_are t rows counts up =
     lines_of t rows rows.entries counts (each_found rows.entries up)
     ∙ ap (flat_map (key_line t))

@@ -11,6 +11,7 @@ mod CountingLemmas
 mod TakingLemmas
 mod TurnLemmas
 mod KeysLemmas
+mod SortedLemmas
 mod LineLemmas
 mod StartLemmas
 mod StartingLemmas

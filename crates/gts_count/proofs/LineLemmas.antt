@@ -10,7 +10,8 @@ use Rattle.gts_count.specs.declared.numbers.Numbers.{Numbers}
 use Rattle.gts_count.specs.Tally.{Tally, came}
 use Rattle.gts_count.specs.Table.{bytes_below, keys, key_line, circuit_text, circuit_lines, table_of}
 use Rattle.gts_count.specs.Numbers.{IsSound, tally_of}
-use Rattle.gts_count.specs.Text.{numbers_lines, numbers_text}
+use Rattle.gts_count.specs.Rows.{row_in}
+use Rattle.gts_count.specs.Text.{SortedRows, AreInOrder, numbers_lines, numbers_text}
 use Rattle.gts_count.proofs.OrderedLemmas.{Up}
 use Rattle.gts_count.proofs.KeysLemmas.{lines_are}
 
@@ -75,9 +76,9 @@ circuits_are t (n ∷ came_in) (ring ∷ rings) c size counts =
     (circuits_are t came_in rings (c + 1) (omega (arith, size)) (λ i inside. let at : c + suc i ≡ c + 1 + i = omega arith in counts (suc i) (omega (arith, inside)) ∙ ap (came t) at))
 
 -- the table is written from the numbers
-pub text_is : (n : Numbers) → IsSound n → Up (λ a b. bytes_below a b ≡ Less) (map (λ e. e.0) n.rows.entries) → numbers_text n ≡ table_of (tally_of n)
-text_is n sound up =
+pub text_is : (n : Numbers) (rows : SortedRows) → IsSound n → AreInOrder n.rows rows → Up (λ a b. bytes_below a b ≡ Less) (map (λ e. e.0) rows.entries) → numbers_text rows n ≡ table_of (tally_of n)
+text_is n rows sound same up =
     let t : Tally = tally_of n in
-    ap (λ (l : List ℕ). l ++ numbers_lines 0 n.came.items n.drawn.items ++ codes "end" ++ 10 ∷ []) (lines_are t n.rows sound.rows up)
+    ap (λ (l : List ℕ). l ++ numbers_lines 0 n.came.items n.drawn.items ++ codes "end" ++ 10 ∷ []) (lines_are t rows (λ key. ap row_in (same key) ∙ sound.rows key) up)
     ∙ ap (λ (l : List ℕ). flat_map (key_line t) (keys t) ++ l ++ codes "end" ++ 10 ∷ [])
     (circuits_are t n.came.items n.drawn.items 0 sound.circuits.0 (λ i inside. let at : i ≡ 0 + i = omega arith in sound.came i inside ∙ ap (came t) at))

@@ -2,7 +2,7 @@
 use Rattle.std.proofs.Common.{◌≡◌, ℕ, Bool, true, false, cond, ◌&&◌, nat_eq, List, [], ◌∷◌, Option, Some, None, is_some, refl, sym, ap, subst, ◌∙◌}
 use Rattle.std.specs.Ordering.{is_eq}
 use Rattle.std.specs.Cmp.Lexicographic.{pointwise}
-use Rattle.std.specs.BTreeMap.{get}
+use Rattle.std.specs.HashMap.{get}
 use Rattle.std.proofs.lemmas.Bool.{true≢false, eqb-true}
 use Rattle.std.proofs.lemmas.Cmp.{nat_list_eq_equiv}
 use Rattle.std.proofs.lemmas.Map.Text.{is_eq-slice_cmp}
@@ -33,17 +33,26 @@ pub is_some-cond : (b : Bool) (row : Row) (o : Option Row) → (b ≡ true → i
 is_some-cond true row o there = sym (there refl)
 is_some-cond false row o there = refl
 
--- the row that is there keeps its key
-pub there_too : (m : Rows) (key k : List ℕ) → is_some (get bytes_below m key) ≡ true → is_eq (bytes_below key k) ≡ true → is_some (get bytes_below m k) ≡ true
-there_too m key k has same =
-    let equal : key ≡ k = sym (same_numbers k key (sym (same_test key k) ∙ same)) in
-    subst (λ (x : List ℕ). is_some (get bytes_below m x) ≡ true) equal has
+-- the same test, the other way
+turned : (key k : List ℕ) → pointwise nat_eq key k ≡ pointwise nat_eq k key
+turned key k = nat_list_eq_equiv.symm key k
 
-pub changes : (m n : Rows) (key : List ℕ) (row : Row) → ((q : List ℕ) → get bytes_below n q ≡ cond (is_eq (bytes_below key q)) (Some row) (get bytes_below m q)) → is_some (get bytes_below m key) ≡ true → ChangesRow m n key row
+-- the row that is there keeps its key
+there_too : (m : Rows) (key k : List ℕ) → is_some (get (pointwise nat_eq) m key) ≡ true → pointwise nat_eq key k ≡ true → is_some (get (pointwise nat_eq) m k) ≡ true
+there_too m key k has same = subst (λ (x : List ℕ). is_some (get (pointwise nat_eq) m x) ≡ true) (same_numbers key k same) has
+
+changes : (m n : Rows) (key : List ℕ) (row : Row) → ((q : List ℕ) → get (pointwise nat_eq) n q ≡ cond (pointwise nat_eq key q) (Some row) (get (pointwise nat_eq) m q)) → is_some (get (pointwise nat_eq) m key) ≡ true → ChangesRow m n key row
 changes m n key row updates has = record {
-  numbers = λ k. ap row_in (updates k) ∙ row_in-cond (is_eq (bytes_below key k)) row (get bytes_below m k) ∙ ap (λ b. cond b row (row_at m k)) (same_test key k);
-  keeps = λ k. ap is_some (updates k) ∙ is_some-cond (is_eq (bytes_below key k)) row (get bytes_below m k) (there_too m key k has);
+  numbers = λ k. ap row_in (updates k) ∙ row_in-cond (pointwise nat_eq key k) row (get (pointwise nat_eq) m k) ∙ ap (λ b. cond b row (row_at m k)) (turned key k);
+  keeps = λ k. ap is_some (updates k) ∙ is_some-cond (pointwise nat_eq key k) row (get (pointwise nat_eq) m k) (there_too m key k has);
 }
+
+-- the row that was found is changed
+pub changed : (m n : Rows) (key : List ℕ) (change : Row → Row) (was now : Row) → get (pointwise nat_eq) m key ≡ Some was → now ≡ change was
+    → ((q : List ℕ) → get (pointwise nat_eq) n q ≡ cond (pointwise nat_eq key q) (Some now) (get (pointwise nat_eq) m q)) → ChangesRow m n key (change (row_at m key))
+changed m n key change was now found is updates =
+    let wanted : now ≡ change (row_at m key) = is ∙ sym (ap (λ (o : Option Row). change (row_in o)) found) in
+    subst (λ (row : Row). ChangesRow m n key row) wanted (changes m n key now updates (ap is_some found))
 
 there_still : (b : Bool) (o : Option Row) → is_some o ≡ true → is_some (cond b (Some no_row) o) ≡ true
 there_still true o there = refl
@@ -53,12 +62,12 @@ none_in : (o : Option Row) → is_some o ≡ false → row_in o ≡ no_row
 none_in None is = refl
 none_in (Some row) is = absurd (true≢false is)
 
-pub adds : (m n : Rows) (key : List ℕ) → ((q : List ℕ) → get bytes_below n q ≡ cond (is_eq (bytes_below key q)) (Some no_row) (get bytes_below m q)) → is_some (get bytes_below m key) ≡ false → AddsRow m n
+pub adds : (m n : Rows) (key : List ℕ) → ((q : List ℕ) → get (pointwise nat_eq) n q ≡ cond (pointwise nat_eq key q) (Some no_row) (get (pointwise nat_eq) m q)) → is_some (get (pointwise nat_eq) m key) ≡ false → AddsRow m n
 adds m n key updates none = record {
-  numbers = λ k. ap row_in (updates k) ∙ row_in-cond (is_eq (bytes_below key k)) no_row (get bytes_below m k) ∙ zero k (is_eq (bytes_below key k)) refl;
-  keeps = λ k there. ap is_some (updates k) ∙ there_still (is_eq (bytes_below key k)) (get bytes_below m k) there;
+  numbers = λ k. ap row_in (updates k) ∙ row_in-cond (pointwise nat_eq key k) no_row (get (pointwise nat_eq) m k) ∙ zero k (pointwise nat_eq key k) refl;
+  keeps = λ k there. ap is_some (updates k) ∙ there_still (pointwise nat_eq key k) (get (pointwise nat_eq) m k) there;
 }
   where
-    zero : (k : List ℕ) (b : Bool) → is_eq (bytes_below key k) ≡ b → cond b no_row (row_at m k) ≡ row_at m k
-    zero k true same = sym (ap (λ (x : List ℕ). row_at m x) (same_numbers k key (sym (same_test key k) ∙ same)) ∙ none_in (get bytes_below m key) none)
+    zero : (k : List ℕ) (b : Bool) → pointwise nat_eq key k ≡ b → cond b no_row (row_at m k) ≡ row_at m k
+    zero k true same = sym (ap (λ (x : List ℕ). row_at m x) (sym (same_numbers key k same)) ∙ none_in (get (pointwise nat_eq) m key) none)
     zero k false same = refl

@@ -2,7 +2,7 @@
 use Rattle.std.proofs.Common.{◌≡◌, ℕ, zero, suc, ◌+◌, ◌-◌, ◌*◌, ◌<◌, ◌≤◌, ◌^◌, Bool, true, false, cond, nat_eq, IsTrue, List, [], ◌∷◌, ◌++◌, length, map, drop, set, get_or, sum_by, slice_get, Option, Some, None, is_some, refl, sym, ap, ◌∙◌, arith}
 use Rattle.std.specs.List.{All}
 use Rattle.std.specs.Cmp.Lexicographic.{pointwise}
-use Rattle.std.specs.BTreeMap.{get}
+use Rattle.std.specs.HashMap.{get}
 use Rattle.std.specs.Vec.{with_item}
 use Rattle.std.proofs.lemmas.Bool.{true≢false, eqb-true, eqb-false, eq-eqb}
 use Rattle.std.proofs.lemmas.Cmp.{nat_list_eq_equiv}
@@ -15,7 +15,6 @@ use Rattle.gts_count.specs.declared.recent.Recent.{Recent}
 use Rattle.gts_count.specs.declared.numbers.Numbers.{Numbers}
 use Rattle.gts_count.specs.declared.rows.Row.{Row}
 use Rattle.gts_count.specs.Tally.{is_of, once, came, draws_among}
-use Rattle.gts_count.specs.Table.{bytes_below}
 use Rattle.gts_count.specs.Rows.{Rows, row_in, row_at, has_row, counted, IsCount}
 use Rattle.gts_count.specs.Numbers.{HasCame, IsSmall, IsRing, IsSound, no_ring, without_oldest, with_newest, kept_with}
 use Rattle.gts_count.proofs.CountLemmas.{tallied, one, size, among, sum_by-more}
@@ -31,7 +30,7 @@ has_of None few = absurd (omega arith)
 has_of (Some row) few = refl
 
 pub has_from : (rows : Rows) (key : List ℕ) → 1 ≤ (row_at rows key).bulletins → IsTrue (has_row rows key)
-has_from rows key few = has_of (get bytes_below rows key) few
+has_from rows key few = has_of (get (pointwise nat_eq) rows key) few
 
 -- a bulletin has its own key
 own : (y : Recent) → is_of y.key y ≡ true
@@ -125,7 +124,7 @@ draw_of None few = absurd (omega arith)
 draw_of (Some row) few = refl
 
 pub has_draw : (rows : Rows) (key : List ℕ) → 1 ≤ (row_at rows key).draws → IsTrue (has_row rows key)
-has_draw rows key few = draw_of (get bytes_below rows key) few
+has_draw rows key few = draw_of (get (pointwise nat_eq) rows key) few
 
 -- the numbers of the key of the oldest draw of a circuit
 pub oldest_counted : (k : List ℕ) (rest : List (List ℕ)) (recent : List Recent) (drawn : List (List (List ℕ))) (c : ℕ) (m : Rows) → c < length drawn → get_or drawn c [] ≡ k ∷ rest → IsCount (tallied recent drawn) m → 1 ≤ (row_at m k).draws

@@ -1,9 +1,9 @@
 -- The numbers of a start: nothing, and what is noted.
-use Rattle.std.proofs.Common.{◌≡◌, ℕ, zero, suc, ◌+◌, ◌-◌, ◌<◌, ◌≤◌, ◌^◌, Bool, true, false, cond, List, [], ◌∷◌, ◌++◌, length, get_or, take, drop, map, replicate, sum_by, slice_get, Some, refl, sym, ap, subst, ◌∙◌, arith}
+use Rattle.std.proofs.Common.{◌≡◌, ℕ, zero, suc, ◌+◌, ◌-◌, ◌<◌, ◌≤◌, ◌^◌, Bool, true, false, cond, nat_eq, List, [], ◌∷◌, ◌++◌, length, get_or, take, drop, map, replicate, sum_by, slice_get, Some, refl, sym, ap, subst, ◌∙◌, arith}
 use Rattle.std.specs.Prelude.{IsTrue}
 use Rattle.std.specs.List.{All}
 use Rattle.std.specs.Map.{lookup}
-use Rattle.std.specs.BTreeMap.{is_at}
+use Rattle.std.specs.Cmp.Lexicographic.{pointwise}
 use Rattle.std.proofs.Math.Seq.{take-suc}
 use Rattle.std.proofs.lemmas.List.{append-nil, length-map, length-replicate, map-append}
 use Rattle.std.proofs.lemmas.List.Sums.{sum_by-cons}
@@ -18,7 +18,6 @@ use Rattle.gts_count.specs.declared.recent.Recent.{Recent}
 use Rattle.gts_count.specs.declared.rows.Row.{Row}
 use Rattle.gts_count.specs.declared.numbers.Numbers.{Numbers}
 use Rattle.gts_count.specs.Tally.{came, draws_among, key_of, recent_of, recent_in}
-use Rattle.gts_count.specs.Table.{bytes_below}
 use Rattle.gts_count.specs.Rows.{row_in, has_row, no_row, counted}
 use Rattle.gts_count.specs.Numbers.{IsSound, IsRing, IsSmall, tally_of}
 use Rattle.gts_count.specs.Counting.{Notes, Prepares}
@@ -73,7 +72,7 @@ pub begins : (d : Directory) (n : Numbers) → n.recent ≡ buffer [] d.window �
 begins d n recent drawn rows came_in kept wide narrow few = record {
   rings = record {
     sound = record {
-      rows = λ key. ap (λ (es : List (List ℕ × Row)). row_in (lookup (is_at (bytes_below key)) es)) rows ∙ sym (zeros key);
+      rows = λ key. ap (λ (es : List (List ℕ × Row)). row_in (lookup (pointwise nat_eq key) es)) rows ∙ sym (zeros key);
       came = λ c inside. ap (λ (xs : List ℕ). get_or xs c 0) came_in ∙ nothing_at c (length d.circuits) ∙ sym (ap (λ (rs : List Recent). came (record { recent = rs; drawn = map (λ (q : Buffer (List ℕ)). q.items) n.drawn.items }) c) none);
       small = subst (λ (rs : List Recent). All (IsSmall (length n.came.items)) rs) (sym none) (λ k d inside. absurd (omega (arith, inside)));
       window = (omega (arith, ap length none), omega (arith, wide, room), omega (arith, narrow, room));

@@ -1,15 +1,16 @@
 -- The running numbers: a row for each key.
 use Rattle.std.specs.Prelude.{◌≡◌, ℕ, ◌+◌, ◌-◌, Bool, nat_eq, IsTrue, List, Option, Some, None, is_some, if◌then◌else◌}
 use Rattle.std.specs.Cmp.Lexicographic.{pointwise}
-use Rattle.std.specs.BTreeMap.{BTreeMap, get}
+use Rattle.std.specs.HashMap.{HashMap, get}
+use Rattle.std.specs.declared.hash.FoldHasher.{FoldHasher}
+use Rattle.std.specs.declared.hash.BuildHasherDefault.{BuildHasherDefault}
 use Rattle.gts_count.specs.declared.recent.Recent.{Recent}
 use Rattle.gts_count.specs.declared.rows.Row.{Row}
 use Rattle.gts_count.specs.Tally.{Tally, bulletins, bytes, draws}
-use Rattle.gts_count.specs.Table.{bytes_below}
 
 -- from a key to its numbers
 abbrev pub Rows : Type 0
-Rows = BTreeMap (List ℕ) Row
+Rows = HashMap (List ℕ) Row (BuildHasherDefault FoldHasher)
 
 -- no numbers
 abbrev pub no_row : Row
@@ -22,11 +23,11 @@ row_in (Some row) = row
 
 -- the numbers of a key
 abbrev pub row_at : Rows → List ℕ → Row
-row_at rows key = row_in (get bytes_below rows key)
+row_at rows key = row_in (get (pointwise nat_eq) rows key)
 
 -- a key has a row
 abbrev pub has_row : Rows → List ℕ → Bool
-has_row rows key = is_some (get bytes_below rows key)
+has_row rows key = is_some (get (pointwise nat_eq) rows key)
 
 -- one key has these numbers, and each other one those that it had; the same keys have rows
 pub record ChangesRow (old new : Rows) (key : List ℕ) (row : Row) : Type 0 where

@@ -20,7 +20,7 @@ pub use laws::an_accepted_message_joins_the_window;
 pub use numbers::Numbers;
 pub use parts::Parts;
 pub use recent::Recent;
-pub use rows::{Row, add_row, has_row, join, join_draw, leave, leave_draw, row_of, set_row};
+pub use rows::{Row, add_row, has_row, join, join_draw, leave, leave_draw};
 pub use start::counting_of;
 pub use text::table;
 pub use worked::{

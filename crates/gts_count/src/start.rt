@@ -15,7 +15,7 @@ use gts_alphabet::NoMemory;
 use gts_directory::Directory;
 use gts_event::{Bulletin, CircuitNeed, Need};
 use std::alloc::Global;
-use std::collections::BTreeMap;
+use std::collections::{BTreeMap, HashMap};
 
 /// The digits of the numbers of each circuit.
 pub fn digits_of(alloc: Global, directory: &Directory) -> Result<Vec<u32>, NoMemory>
@@ -66,7 +66,7 @@ fn nothing(alloc: Global, directory: &Directory) -> Result<Numbers, NoMemory>
     Ok(Numbers {
         recent: HeapCircularBuffer::with_capacity(alloc, window as usize)?,
         drawn: no_draws(alloc, directory)?,
-        rows: BTreeMap::new(alloc),
+        rows: HashMap::new(alloc),
         came: none_came(alloc, circuits)?,
     })
 }

@@ -9,7 +9,7 @@ use crate::{Numbers, Row};
 use gts_alphabet::{NoMemory, digits_of};
 use itoa::Buffer;
 use std::alloc::Global;
-use std::collections::BTreeMap;
+use std::collections::{BTreeMap, HashMap};
 
 /// Adds bytes at the end of a text.
 fn add(text: &mut Vec<u8>, bytes: &[u8]) -> Result<(), NoMemory>
@@ -52,6 +52,20 @@ fn key_line(alloc: Global, key: &[u8; 11], row: &Row) -> Result<Vec<u8>, NoMemor
     add_number(&mut line, row.draws)?;
     add(&mut line, b"\n")?;
     Ok(line)
+}
+
+/// The rows in the order of their keys.
+fn in_order(
+    alloc: Global,
+    rows: &HashMap<[u8; 11], Row>,
+) -> Result<BTreeMap<[u8; 11], Row>, NoMemory>
+    ensures { IfOk result (texts.AreInOrder rows.now) }
+{
+    let mut sorted = BTreeMap::new(alloc);
+    for (key, row) in rows.iter() {
+        sorted.insert(*key, *row)?;
+    }
+    Ok(sorted)
 }
 
 /// The lines of all keys, in their order.
@@ -97,12 +111,16 @@ fn circuit_lines(alloc: Global, numbers: &Numbers) -> Result<Vec<u8>, NoMemory>
     Ok(lines)
 }
 
-/// The whole table, from the numbers alone.
-fn text_of(alloc: Global, numbers: &Numbers) -> Result<Vec<u8>, NoMemory>
+/// The whole table, from the numbers alone, of which these are the rows in order.
+fn text_of(
+    alloc: Global,
+    rows: &BTreeMap<[u8; 11], Row>,
+    numbers: &Numbers,
+) -> Result<Vec<u8>, NoMemory>
     requires { IsSound numbers.now }
-    ensures { IfOk result (λ text. text.items ≡ texts.numbers_text numbers.now) }
+    ensures { IfOk result (λ text. text.items ≡ texts.numbers_text rows.now numbers.now) }
 {
-    let mut text = key_lines(alloc, &numbers.rows)?;
+    let mut text = key_lines(alloc, rows)?;
     let circuits = circuit_lines(alloc, numbers)?;
     add(&mut text, &circuits)?;
     add(&mut text, b"end")?;
@@ -115,7 +133,8 @@ pub fn table(alloc: Global, numbers: &Numbers) -> Result<Vec<u8>, NoMemory>
     requires { IsSound numbers.now }
     ensures { IfOk result (λ text. text.items ≡ tables.table_of (tally_of numbers.now)) }
 {
+    let rows = in_order(alloc, &numbers.rows)?;
     // The keys ascend.
-    let _keys = numbers.rows.len();
-    text_of(alloc, numbers)
+    let _keys = rows.len();
+    text_of(alloc, &rows, numbers)
 }

@@ -1,9 +1,11 @@
-use Rattle.std.proofs.Common.{List, map, sym, subst, arith}
+use Rattle.std.proofs.Common.{◌≡◌, ℕ, List, length, map, sym, ap, subst, arith}
 use Rattle.std.specs.Prelude.{IsTrue, IsSome}
 use Rattle.std.specs.List.{All}
 use Rattle.std.specs.Ordering.{nat_cmp}
 use Rattle.std.specs.BTreeMap.{get}
 use Rattle.std.proofs.lemmas.List.{length-map, get_or-map}
+use Rattle.circular_buffer.specs.Buffer.{Buffer}
+use Rattle.gts_directory.specs.Directory.{Circuit}
 use Rattle.gts_event.specs.declared.values.Bulletin as values
 use Rattle.gts_event.specs.declared.values.CircuitNeed as needs
 use Rattle.gts_event.specs.Items.{bulletin_of, circuit_need_of, need_of}
@@ -23,6 +25,26 @@ note_bulletins-requires-clause-bulletins c =
 pub keys_of-requires : goal.keys_of-requires
 keys_of-requires c =
     subst (λ (xs : List values.Bulletin). AreBodies (map bulletin_of xs)) (sym c.as_slice-bulletins.ensures) (bodies_of c.args.directory.now (need_of c.args.need.now) c.requires)
+
+pub note_draws-requires-clause-circuits : goal.note_draws-requires-clause-circuits
+note_draws-requires-clause-circuits c =
+    let d = c.args.directory.now in
+    let n : Need = need_of c.args.need.now in
+    let cs : List needs.CircuitNeed = c.args.need.now.circuits in
+    let rings : List (Buffer (List ℕ)) = c.in_ok-numbers.numbers.drawn.items in
+    let capacities : map (λ (q : Buffer (List ℕ)). q.capacity) rings ≡ map (λ (row : Circuit). row.kept) d.circuits = c.in_ok-numbers.ensures.rings.kept in
+    let kept : length c.note_bulletins.new.numbers.drawn.items ≡ length rings = ap (λ drawn. length drawn.items) c.in_ok-note_bulletins.ensures.drawn in
+    let here : length c.as_slice-circuits.result.now ≡ length cs = ap length c.as_slice-circuits.ensures in
+    omega (
+      arith,
+      here,
+      kept,
+      length-map cs circuit_need_of,
+      (sound-parts d n c.requires).same,
+      ap length capacities,
+      length-map rings (λ (q : Buffer (List ℕ)). q.capacity),
+      length-map d.circuits (λ (row : Circuit). row.kept),
+    )
 
 pub note_draws-requires-clause-rows : goal.note_draws-requires-clause-rows
 note_draws-requires-clause-rows c =

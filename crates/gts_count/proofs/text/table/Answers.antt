@@ -8,4 +8,4 @@ use Rattle.gts_count.proofs.text.table.Goals as goal
 pub returns : goal.returns
 returns c =
     subst (λ (bytes : List ℕ). IfOk c.text_of.result (λ text. text.items ≡ bytes))
-    (text_is c.args.numbers.now c.requires (ordered_up (keys c.args.numbers.now.rows) c.len-keys.ensures.ordered)) c.text_of.ensures
+    (text_is c.args.numbers.now c.in_ok-rows.rows c.requires c.in_ok-rows.ensures (ordered_up (keys c.in_ok-rows.rows) c.len-keys.ensures.ordered)) c.text_of.ensures
