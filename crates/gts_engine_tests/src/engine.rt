@@ -35,36 +35,73 @@ fn engine(
     }
 }
 
+/// An engine over a new journal in memory, none of whose calls fails.
+fn sound_engine(alloc: Global) -> Result<Engine<MemStation>, Fail> {
+    match engine(alloc, two_circuits(alloc)?, &[])? {
+        Ok(engine) => Ok(engine),
+        Err(_) => Err(Fail::from("an engine")),
+    }
+}
+
+/// What comes of the message on circuit 0.
+fn heard(alloc: Global, engine: &mut Engine<MemStation>) -> Option<Outcome> {
+    if engine.directory().circuits() == 0 {
+        return None;
+    }
+    Engine::hear(engine, alloc, 0, Kind::An, MESSAGE).ok()
+}
+
+/// What circuit 1 is given.
+fn taken(engine: &mut Engine<MemStation>, out: &mut FrameBuf, mode: SayMode) -> Option<Outcome> {
+    if engine.directory().circuits() < 2 {
+        return None;
+    }
+    Engine::take(engine, 1, out, mode).ok()
+}
+
+/// What comes of the message: the first bulletin of all, for circuit 0.
+const ACCEPTED: Option<Outcome> = Some(Outcome::Accepted {
+    position: 0,
+    circuits: 1,
+});
+
+/// The first draw, and that draw once more.
+const DRAWN: Option<Outcome> = Some(Outcome::Draw { index: 0 });
+
+const REPEATED: Option<Outcome> = Some(Outcome::Resend { index: 0 });
+
 #[test]
-fn a_bulletin_goes_to_the_other_circuit_and_is_repeated_after_an_opening(
-    rt: HostRuntime,
-) -> Result<(), Fail> {
+fn a_bulletin_goes_to_the_other_circuit(rt: HostRuntime) -> Result<(), Fail> {
     let alloc = rt.alloc();
     let mut out = FrameBuf::new(alloc)?;
-    let directory = two_circuits(alloc)?;
-    assert!(rt; 1 < directory.circuits());
-    let made = engine(alloc, directory, &[])?;
-    assert!(rt; made.is_ok());
-    if let Ok(mut engine) = made {
-        let accepted = Outcome::Accepted {
-            position: 0,
-            circuits: 1,
-        };
-        assert!(rt; Engine::hear(&mut engine, alloc, 0, Kind::An, MESSAGE) == Ok(accepted));
-        assert!(rt; 1 < engine.directory().circuits());
-        let drawn = Engine::take(&mut engine, 1, &mut out, SayMode::Station);
-        assert!(rt; drawn == Ok(Outcome::Draw { index: 0 }));
-        assert_eq!(rt; engine.used(), 175);
-        assert!(rt; engine.restart(alloc).is_ok());
-        assert!(rt; 1 < engine.directory().circuits());
-        let repeated = Engine::take(&mut engine, 1, &mut out, SayMode::Caller);
-        assert!(rt; repeated == Ok(Outcome::Resend { index: 0 }));
-        assert_eq!(rt; out.bytes(), FRAME);
-        let (station, _directory) = engine.into_parts();
-        assert_eq!(rt; station.said(0), RECEIPT);
-        assert_eq!(rt; station.said(2), FRAME);
-        assert_eq!(rt; station.file(0).len(), 175);
+    let mut engine = sound_engine(alloc)?;
+    assert!(rt; heard(alloc, &mut engine) == ACCEPTED);
+    assert!(rt; taken(&mut engine, &mut out, SayMode::Station) == DRAWN);
+    assert_eq!(rt; engine.used(), 175);
+    let (station, _directory) = engine.into_parts();
+    assert_eq!(rt; station.said(0), RECEIPT);
+    assert_eq!(rt; station.said(2), FRAME);
+    Ok(())
+}
+
+/// An engine with the bulletin and its draw, opened once more.
+fn restarted(alloc: Global, out: &mut FrameBuf) -> Result<Engine<MemStation>, Fail> {
+    let mut engine = sound_engine(alloc)?;
+    let _ = heard(alloc, &mut engine);
+    let _ = taken(&mut engine, out, SayMode::Station);
+    match engine.restart(alloc) {
+        Ok(()) => Ok(engine),
+        Err(_) => Err(Fail::from("an engine that opens again")),
     }
+}
+
+#[test]
+fn the_last_draw_is_repeated_after_an_opening(rt: HostRuntime) -> Result<(), Fail> {
+    let alloc = rt.alloc();
+    let mut out = FrameBuf::new(alloc)?;
+    let mut engine = restarted(alloc, &mut out)?;
+    assert!(rt; taken(&mut engine, &mut out, SayMode::Caller) == REPEATED);
+    assert_eq!(rt; out.bytes(), FRAME);
     Ok(())
 }
 
@@ -97,49 +134,58 @@ fn a_device_that_fails_stops_the_engine(rt: HostRuntime) -> Result<(), Fail> {
     Ok(())
 }
 
-/// Opens a journal, and answers how many of its bytes are in use and what the second circuit is given first.
-fn opened_again(
+/// An engine with the bulletin and its draw, whose journal was compacted twice, and how many bytes were in use each time.
+fn compacted(
+    alloc: Global,
+    out: &mut FrameBuf,
+) -> Result<(Engine<MemStation>, Option<[u64; 2]>), Fail> {
+    let mut engine = sound_engine(alloc)?;
+    let _ = heard(alloc, &mut engine);
+    let _ = taken(&mut engine, out, SayMode::Station);
+    if engine.compact(alloc).is_err() {
+        return Ok((engine, None));
+    }
+    let once = engine.used();
+    if engine.compact(alloc).is_err() {
+        return Ok((engine, None));
+    }
+    let twice = engine.used();
+    Ok((engine, Some([once, twice])))
+}
+
+#[test]
+fn a_compacted_journal_has_the_same_size_each_time(rt: HostRuntime) -> Result<(), Fail> {
+    let alloc = rt.alloc();
+    let mut out = FrameBuf::new(alloc)?;
+    let (engine, used) = compacted(alloc, &mut out)?;
+    assert!(rt; used == Some([179, 179]));
+    let (station, _directory) = engine.into_parts();
+    assert_eq!(rt; station.file(0).len(), 179);
+    assert_eq!(rt; station.file(1).len(), 179);
+    assert_eq!(rt; station.file(2), [0u8].as_slice());
+    Ok(())
+}
+
+/// What circuit 1 is given by an engine that opens these files.
+fn taken_again(
     alloc: Global,
     station: MemStation,
     directory: Directory,
     out: &mut FrameBuf,
-) -> Option<(u64, Outcome)> {
-    let Ok(mut engine) = Engine::open(alloc, station, directory) else {
-        return None;
-    };
-    let used = engine.used();
-    if engine.directory().circuits() < 2 {
-        return None;
-    }
-    match Engine::take(&mut engine, 1, out, SayMode::Caller) {
-        Ok(outcome) => Some((used, outcome)),
+) -> Option<Outcome> {
+    match Engine::open(alloc, station, directory) {
+        Ok(mut engine) => taken(&mut engine, out, SayMode::Caller),
         Err(_) => None,
     }
 }
 
 #[test]
-fn a_compacted_journal_goes_on_and_is_opened_again(rt: HostRuntime) -> Result<(), Fail> {
+fn a_compacted_journal_is_opened_again(rt: HostRuntime) -> Result<(), Fail> {
     let alloc = rt.alloc();
     let mut out = FrameBuf::new(alloc)?;
-    let directory = two_circuits(alloc)?;
-    assert!(rt; 1 < directory.circuits());
-    let made = engine(alloc, directory, &[])?;
-    assert!(rt; made.is_ok());
-    if let Ok(mut engine) = made {
-        assert!(rt; Engine::hear(&mut engine, alloc, 0, Kind::An, MESSAGE).is_ok());
-        assert!(rt; 1 < engine.directory().circuits());
-        assert!(rt; Engine::take(&mut engine, 1, &mut out, SayMode::Station).is_ok());
-        assert!(rt; engine.compact(alloc) == Ok(()));
-        assert_eq!(rt; engine.used(), 179);
-        assert!(rt; engine.compact(alloc) == Ok(()));
-        assert_eq!(rt; engine.used(), 179);
-        let (station, directory) = engine.into_parts();
-        assert_eq!(rt; station.file(0).len(), 179);
-        assert_eq!(rt; station.file(1).len(), 179);
-        assert_eq!(rt; station.file(2), [0u8].as_slice());
-        let repeated = Some((179, Outcome::Resend { index: 0 }));
-        assert!(rt; opened_again(alloc, station, directory, &mut out) == repeated);
-        assert_eq!(rt; out.bytes(), FRAME);
-    }
+    let (engine, _used) = compacted(alloc, &mut out)?;
+    let (station, directory) = engine.into_parts();
+    assert!(rt; taken_again(alloc, station, directory, &mut out) == REPEATED);
+    assert_eq!(rt; out.bytes(), FRAME);
     Ok(())
 }

@@ -2,7 +2,8 @@ ghost use Rattle.std.specs.Prelude.{◌≡◌, []};
 
 use gts_memory::{MemLines, MemSink, MemSource, MemStation, Touched};
 use gts_traits::{
-    Failed, FreeGate, Gate, Line, Lines, Point, Sink, Source, Station, cut_synced, write_synced,
+    Failed, FreeGate, Gate, Line, Lines, NoMemory, Point, Sink, Source, Station, cut_synced,
+    write_synced,
 };
 use std::test::Fail;
 
@@ -45,19 +46,34 @@ fn a_sink_keeps_what_is_written(rt: HostRuntime) -> Result<(), Fail> {
     Ok(())
 }
 
+/// Says pieces on two channels.
+fn say_pieces(station: &mut MemStation) -> [Result<(), Failed>; 4] {
+    [
+        station.say(0, b"started"),
+        station.say(64, b"lost"),
+        station.say(64, b"ab"),
+        station.say(64, b"c"),
+    ]
+}
+
 #[test]
 fn a_station_keeps_each_channel_apart(rt: HostRuntime) -> Result<(), Fail> {
     let mut station = MemStation::new(rt.alloc(), &[1])?;
-    assert_eq!(rt; station.say(0, b"started"), Ok(()));
-    assert_eq!(rt; station.say(64, b"lost"), Err(Failed));
-    assert_eq!(rt; station.say(64, b"ab"), Ok(()));
-    assert_eq!(rt; station.say(64, b"c"), Ok(()));
+    let answers = say_pieces(&mut station);
+    assert!(rt; answers == [Ok(()), Err(Failed), Ok(()), Ok(())]);
     assert_eq!(rt; station.said(0), b"started".as_slice());
     assert_eq!(rt; station.said(64), b"abc".as_slice());
     assert_eq!(rt; station.said(1), b"".as_slice());
+    assert_eq!(rt; station.calls(), 4);
+    Ok(())
+}
+
+#[test]
+fn a_station_tells_what_each_call_says(rt: HostRuntime) -> Result<(), Fail> {
+    let mut station = MemStation::new(rt.alloc(), &[1])?;
+    let _ = say_pieces(&mut station);
     assert!(rt; station.saying(1) == Some((64, b"ab".as_slice())));
     assert!(rt; station.saying(3).is_none());
-    assert_eq!(rt; station.calls(), 4);
     assert_eq!(rt; station.starved(), 0);
     Ok(())
 }
@@ -140,27 +156,40 @@ fn write_over<S: Station>(station: &mut S) -> Result<(), Failed>
     station.say(0, b"two")
 }
 
+/// Whether a crash in a call, with a choice for what was touched, leaves these bytes in the first file, and all that was said
+/// before.
+fn is_left(
+    station: &MemStation,
+    call: u64,
+    choice: Touched,
+    file: &[u8],
+) -> Result<bool, NoMemory> {
+    if call >= station.calls() {
+        return Ok(false);
+    }
+    let crashed = station.crashed(call, choice)?;
+    Ok(crashed.file(0) == file && crashed.said(0) == b"one".as_slice() && crashed.calls() == 0)
+}
+
+/// A call in which the machine stops, a choice for what was touched, and what the first file has then.
+const LEFT: [(u64, Touched, &[u8]); 7] = [
+    (1, Touched::Old, b""),
+    (1, Touched::New, b"abc"),
+    (2, Touched::Fill(48), b"000"),
+    (3, Touched::Old, b"abc"),
+    (3, Touched::New, b"axyz"),
+    (3, Touched::Fill(48), b"a000"),
+    (4, Touched::New, b"axyz"),
+];
+
 #[test]
 fn a_crash_leaves_the_synced_bytes_or_others_where_a_write_was(
     rt: HostRuntime,
 ) -> Result<(), Fail> {
     let mut station = MemStation::new(rt.alloc(), &[])?;
     assert_eq!(rt; write_over(&mut station), Ok(()));
-    let cases = [
-        (1, Touched::Old, b"".as_slice()),
-        (1, Touched::New, b"abc".as_slice()),
-        (2, Touched::Fill(48), b"000".as_slice()),
-        (3, Touched::Old, b"abc".as_slice()),
-        (3, Touched::New, b"axyz".as_slice()),
-        (3, Touched::Fill(48), b"a000".as_slice()),
-        (4, Touched::New, b"axyz".as_slice()),
-    ];
-    for (call, choice, file) in cases {
-        assert!(rt; call < station.calls());
-        let crashed = station.crashed(call, choice)?;
-        assert_eq!(rt; crashed.file(0), file, "{call}");
-        assert_eq!(rt; crashed.said(0), b"one".as_slice());
-        assert_eq!(rt; crashed.calls(), 0);
+    for (call, choice, file) in LEFT {
+        assert!(rt; is_left(&station, call, choice, file)?, "{call}");
     }
     Ok(())
 }

@@ -13,52 +13,74 @@ fn remove_journal(rt: &HostRuntime) -> Result<(), Fail> {
     Ok(())
 }
 
+/// Makes the second journal file by a station, and answers what another one reads of it meanwhile, and how its cut ends.
+fn written_and_read(
+    rt: &HostRuntime,
+    into: &mut [u8; 4],
+) -> Result<(usize, Result<(), Failed>), Failed> {
+    let mut first = FileStation::new(rt);
+    first.sync()?;
+    first.write_at(1, 0, b"abcdef")?;
+    first.cut(1, 5)?;
+    first.write_at(1, 1, b"xy")?;
+    first.sync()?;
+    // While the first one is there, another only reads.
+    let mut second = FileStation::new(rt);
+    let count = second.read(1, 1, into)?;
+    Ok((count, second.cut(1, 0)))
+}
+
+/// What the first two journal files hold.
+fn are_files(rt: &HostRuntime, one: &str, other: &str) -> Result<bool, Fail> {
+    Ok(
+        fs::read_to_string(rt, "journal.0")?.as_str() == one
+            && fs::read_to_string(rt, "journal.1")?.as_str() == other,
+    )
+}
+
 #[test]
 fn one_station_at_a_time_changes_the_journal(rt: HostRuntime) -> Result<(), Fail> {
     let mut into = [0u8; 4];
     let mut early = FileStation::new(&rt);
     assert_eq!(rt; early.size(0), Ok(0));
-    assert_eq!(rt; early.read(2, 0, &mut into), Ok(0));
-    {
-        let mut first = FileStation::new(&rt);
-        assert_eq!(rt; first.sync(), Ok(()));
-        assert_eq!(rt; first.write_at(1, 0, b"abcdef"), Ok(()));
-        assert_eq!(rt; first.cut(1, 5), Ok(()));
-        assert_eq!(rt; first.write_at(1, 1, b"xy"), Ok(()));
-        assert_eq!(rt; first.sync(), Ok(()));
-        assert_eq!(rt; first.size(1), Ok(5));
-        // While the first one is there, another only reads.
-        let mut second = FileStation::new(&rt);
-        assert_eq!(rt; second.read(1, 1, &mut into), Ok(4));
-        assert_eq!(rt; into, *b"xyde");
-        assert_eq!(rt; second.cut(1, 0), Err(Failed));
-    }
+    let read = written_and_read(&rt, &mut into);
+    assert!(rt; read == Ok((4, Err(Failed))));
+    assert_eq!(rt; into, *b"xyde");
     // Since the early one looked, the journal was made, and its view is old.
     assert_eq!(rt; early.write_at(0, 0, b"old"), Err(Failed));
     let mut third = FileStation::new(&rt);
     assert_eq!(rt; third.write_at(0, 0, b"new"), Ok(()));
-    assert_eq!(rt; fs::read_to_string(&rt, "journal.0")?.as_str(), "new");
-    assert_eq!(rt; fs::read_to_string(&rt, "journal.1")?.as_str(), "axyde");
+    assert!(rt; are_files(&rt, "new", "axyde")?);
     remove_journal(&rt)
+}
+
+/// Writes the first journal file by a station, and answers what one that only reads sees of it, and how big it finds it once
+/// more was written.
+fn written_and_seen(
+    rt: &HostRuntime,
+    reader: &mut FileStation<'_, HostRuntime>,
+) -> Result<([u8; 2], u64), Failed> {
+    let mut into = [0u8; 2];
+    let mut writer = FileStation::new(rt);
+    writer.write_at(0, 0, b"abcd")?;
+    reader.sync()?;
+    reader.read(0, 2, &mut into)?;
+    writer.write_at(0, 4, b"ef")?;
+    Ok((into, reader.size(0)?))
 }
 
 #[test]
 fn a_reader_and_a_writer_stand_side_by_side(rt: HostRuntime) -> Result<(), Fail> {
-    let mut into = [0u8; 4];
     let mut reader = FileStation::for_reading(&rt);
     // No file is there yet, and the reader makes none.
     assert_eq!(rt; reader.size(0), Ok(0));
     assert_eq!(rt; reader.write_at(0, 0, b"x"), Err(Failed));
     // What it looks at is free for one that writes, and it sees what was written since.
-    let mut writer = FileStation::new(&rt);
-    assert_eq!(rt; writer.write_at(0, 0, b"abcd"), Ok(()));
-    assert_eq!(rt; reader.sync(), Ok(()));
-    assert_eq!(rt; reader.read(0, 2, &mut into), Ok(2));
-    assert_eq!(rt; &into[..2], b"cd".as_slice());
-    assert_eq!(rt; writer.write_at(0, 4, b"ef"), Ok(()));
-    assert_eq!(rt; reader.size(0), Ok(6));
+    let seen = written_and_seen(&rt, &mut reader);
+    assert!(rt; seen == Ok((*b"cd", 6)));
     assert_eq!(rt; reader.cut(0, 1), Err(Failed));
     assert_eq!(rt; reader.write_at(1, 0, b"x"), Err(Failed));
+    let mut writer = FileStation::new(&rt);
     assert_eq!(rt; writer.size(0), Ok(6));
     assert_eq!(rt; writer.size(1), Ok(0));
     remove_journal(&rt)
