@@ -3,6 +3,16 @@ use gts_traits::{Failed, Source, Station};
 use std::fs;
 use std::test::Fail;
 
+/// Removes the journal files that a test made: the tests run in one folder, and each begins without them.
+fn remove_journal(rt: &HostRuntime) -> Result<(), Fail> {
+    for name in ["journal.0", "journal.1", "journal.2"] {
+        if fs::exists(rt, name)? {
+            fs::remove_file(rt, name)?;
+        }
+    }
+    Ok(())
+}
+
 #[test]
 fn one_station_at_a_time_changes_the_journal(rt: HostRuntime) -> Result<(), Fail> {
     let mut into = [0u8; 4];
@@ -29,7 +39,7 @@ fn one_station_at_a_time_changes_the_journal(rt: HostRuntime) -> Result<(), Fail
     assert_eq!(rt; third.write_at(0, 0, b"new"), Ok(()));
     assert_eq!(rt; fs::read_to_string(&rt, "journal.0")?.as_str(), "new");
     assert_eq!(rt; fs::read_to_string(&rt, "journal.1")?.as_str(), "axyde");
-    Ok(())
+    remove_journal(&rt)
 }
 
 #[test]
@@ -51,7 +61,7 @@ fn a_reader_and_a_writer_stand_side_by_side(rt: HostRuntime) -> Result<(), Fail>
     assert_eq!(rt; reader.write_at(1, 0, b"x"), Err(Failed));
     assert_eq!(rt; writer.size(0), Ok(6));
     assert_eq!(rt; writer.size(1), Ok(0));
-    Ok(())
+    remove_journal(&rt)
 }
 
 #[test]

@@ -13,6 +13,9 @@ const BOTH: &[u8] =
 \xa1\x02\xf2OD\x01\0\0\0\0\0\0\0\0\0\0\0\0\0\0\0\0\0\0\0\0\0T\xe3\xb2\xd7\xba\x9a0{\xbf\xaf\xf9{\
 \xb7\x05[\x13\xcdp\xe3`C\xee\xdb\xceO\x1b\xda{\x90x~\x1dC";
 
+/// A journal that has nothing: the header of that one, and a closed gate.
+const EMPTY: &[u8] = b"GTSJ0002the mark of this small directoryC";
+
 /// A journal with another bulletin.
 const OTHER: &[u8] =
     b"GTSJ0002the mark of this small directoryOA\0A\0\0\0\0\0\0\0\0\0\0\0\0\x1dSMVG01 TVSV 280000\r\r\
@@ -82,11 +85,13 @@ fn feed_of_both(alloc: Global) -> Result<Vec<u8>, Fail> {
     Ok(feed)
 }
 
-/// A station with a journal that has the first bytes of that one, and a closed gate behind them. It is synced.
-fn station_of(alloc: Global, front: &[u8]) -> Result<MemStation, Fail> {
+/// A standby whose journal has these bytes.
+fn standby(alloc: Global, journal: &[u8]) -> Result<MemStation, Fail> {
+    if journal.len() > 1000 {
+        return Err(Fail::from("too long"));
+    }
     let mut station = MemStation::new(alloc, &[])?;
-    station.write_at(0, 0, front)?;
-    station.write_at(0, front.len() as u64, b"C")?;
+    station.write_at(0, 0, journal)?;
     station.sync()?;
     Ok(station)
 }
@@ -107,7 +112,7 @@ fn a_feed_is_taken_into_an_empty_journal(rt: HostRuntime) -> Result<(), Fail> {
     let alloc = rt.alloc();
     let directory = two_circuits(alloc)?;
     let feed = feed_of_both(alloc)?;
-    let station = station_of(alloc, &BOTH[..40])?;
+    let station = standby(alloc, EMPTY)?;
     let (station, end) = followed(alloc, station, &directory, feed.as_slice())?;
     assert!(rt; end == FollowEnd::Done, "{end:?}");
     assert!(rt; station.file(0) == BOTH);
@@ -122,7 +127,7 @@ fn the_seals_of_records_that_differ_are_told(rt: HostRuntime) -> Result<(), Fail
     let alloc = rt.alloc();
     let directory = two_circuits(alloc)?;
     let feed = feed_of_both(alloc)?;
-    let station = station_of(alloc, &OTHER[..118])?;
+    let station = standby(alloc, OTHER)?;
     let (station, end) = followed(alloc, station, &directory, feed.as_slice())?;
     let FollowEnd::Diverged { index, own, fed } = end else {
         return Err(Fail::from("no other record was found"));
@@ -134,57 +139,53 @@ fn the_seals_of_records_that_differ_are_told(rt: HostRuntime) -> Result<(), Fail
     Ok(())
 }
 
-/// How many calls a station has had before a feed is followed.
-const OPENED: u64 = 3;
+/// How many calls a standby has had before a feed is followed.
+const OPENED: u64 = 2;
 
-/// A feed, and the file in which its journal comes to stand, with its bytes.
+/// A feed, and the files of a standby that has taken it.
 #[derive(Clone, Copy)]
 struct Fed<'a> {
     feed: &'a [u8],
-    file: u32,
-    journal: &'a [u8],
+    first: &'a [u8],
+    second: &'a [u8],
 }
 
-/// Whether a station that follows the feed has that journal then.
+/// Whether a standby that follows the feed has those files then.
 fn is_taken(
     alloc: Global,
     directory: &Directory,
     fed: Fed<'_>,
-    left: MemStation,
+    standby: MemStation,
 ) -> Result<bool, Fail> {
-    let (station, end) = followed(alloc, left, directory, fed.feed)?;
-    Ok(end == FollowEnd::Done && station.file(fed.file) == fed.journal)
+    let (standby, end) = followed(alloc, standby, directory, fed.feed)?;
+    Ok(end == FollowEnd::Done && standby.file(0) == fed.first && standby.file(1) == fed.second)
 }
 
-/// A station that a stop in this call left follows the feed once more, whatever the stop left.
+/// A standby that a stop in this call left follows the feed once more, whatever the stop left.
 fn is_taken_after<R: AllocGlobal + Abort>(
     rt: &R,
     directory: &Directory,
     fed: Fed<'_>,
-    station: &MemStation,
+    standby: &MemStation,
     call: u64,
 ) -> Result<(), Fail> {
+    if call >= standby.calls() {
+        return Err(Fail::from("no such call"));
+    }
     for choice in CHOICES {
-        let left = station.crashed(call, choice)?;
-        assert!(rt;
-            is_taken(rt.alloc(), directory, fed, left)?,
-            "call {call}, {choice:?}"
-        );
+        let left = standby.crashed(call, choice)?;
+        assert!(rt; is_taken(rt.alloc(), directory, fed, left)?, "call {call}");
     }
     Ok(())
 }
 
-/// It does so after a stop in each call of one that followed it.
-fn is_taken_whenever_the_machine_stops<R: AllocGlobal + Abort>(
-    rt: &R,
-    front: &[u8],
-    fed: Fed<'_>,
-) -> Result<(), Fail> {
+/// So does one that a stop left in any call in which it followed the feed.
+fn is_taken_after_each<R: AllocGlobal + Abort>(rt: &R, fed: Fed<'_>) -> Result<(), Fail> {
     let directory = two_circuits(rt.alloc())?;
-    let station = station_of(rt.alloc(), front)?;
-    let (station, _) = followed(rt.alloc(), station, &directory, fed.feed)?;
-    for call in OPENED..station.calls() {
-        is_taken_after(rt, &directory, fed, &station, call)?;
+    let begun = standby(rt.alloc(), EMPTY)?;
+    let (standby, _) = followed(rt.alloc(), begun, &directory, fed.feed)?;
+    for call in OPENED..standby.calls() {
+        is_taken_after(rt, &directory, fed, &standby, call)?;
     }
     Ok(())
 }
@@ -194,20 +195,20 @@ fn a_feed_is_taken_whenever_the_machine_stops(rt: HostRuntime) -> Result<(), Fai
     let feed = feed_of_both(rt.alloc())?;
     let fed = Fed {
         feed: feed.as_slice(),
-        file: 0,
-        journal: BOTH,
+        first: BOTH,
+        second: b"",
     };
-    is_taken_whenever_the_machine_stops(&rt, &BOTH[..40], fed)?;
-    is_taken_whenever_the_machine_stops(&rt, &BOTH[..118], fed)
+    is_taken_after_each(&rt, fed)
 }
 
 #[test]
 fn a_checkpoint_is_taken_whenever_the_machine_stops(rt: HostRuntime) -> Result<(), Fail> {
-    let feed = [&COMPACTED[..40], &COMPACTED[41..178]].concat(rt.alloc())?;
+    let mut feed = Vec::from_slice(rt.alloc(), &COMPACTED[..40])?;
+    feed.extend_from_slice(&COMPACTED[41..178])?;
     let fed = Fed {
         feed: feed.as_slice(),
-        file: 1,
-        journal: COMPACTED,
+        first: EMPTY,
+        second: COMPACTED,
     };
-    is_taken_whenever_the_machine_stops(&rt, &COMPACTED[..40], fed)
+    is_taken_after_each(&rt, fed)
 }
