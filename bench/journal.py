@@ -9,7 +9,7 @@ OPEN, CLOSED = 0x4F, 0x43
 HEADER = 40
 # How many bytes a seal has, and how many a draw takes with its seal and its gate.
 SEAL = 32
-DRAW = 56
+DRAW_BYTES = 56
 LONGEST_BODY = 499_988
 KINDS = {b'A': b'AN', b'B': b'BI', b'F': b'FX'}
 BODY = re.compile(rb'([A-Z]{4}[0-9]{2} [A-Z]{4} (?:0[1-9]|[12][0-9]|3[01])(?:[01][0-9]|2[0-3])[0-5][0-9])'
@@ -252,7 +252,7 @@ def admit_draw(state, record):
 def admit(state, record, gate):
     """Takes a whole record behind the gate at a place into the state; `Bad` where it may not stand there."""
     (admit_accept if record[:1] == b'A' else admit_draw)(state, record)
-    if gate + 2 + len(record) + SEAL + DRAW * state.due() > state.directory.limit:
+    if gate + 2 + len(record) + SEAL + DRAW_BYTES * state.due() > state.directory.limit:
         raise Bad
 
 
@@ -312,7 +312,7 @@ def state_of_checkpoint(directory, record):
     listed = {position for lists in (state.waiting, state.drawn) for positions in lists for position in positions}
     if set(state.bulletins) != recent | listed:
         raise Bad
-    if HEADER + 2 + len(record) + SEAL + DRAW * state.due() > directory.limit:
+    if HEADER + 2 + len(record) + SEAL + DRAW_BYTES * state.due() > directory.limit:
         raise Bad
     return state
 

@@ -1,8 +1,8 @@
 -- What `compact` comes to, from the opening and the engine's compaction.
 use Rattle.std.proofs.Common.{◌≡◌, ◌≤◌, ℕ, List, [], ◌∷◌, ◌++◌, Result, Ok, Err, IfErr, OnOk, Option, Some, None, IsTrue, inl, inr, refl, sym, ap, subst, ◌∙◌, arith}
 use Rattle.std.proofs.lemmas.List.{append-nil}
-use Rattle.gts_traits.specs.declared.source.Source.{Ghosts as SourceWords}
-use Rattle.gts_traits.specs.declared.station.Station.{Ghosts as StationWords}
+use Rattle.gts_traits.specs.declared.source.Source.{Ghosts as SourceMeanings}
+use Rattle.gts_traits.specs.declared.station.Station.{Ghosts as StationMeanings}
 use Rattle.gts_traits.specs.Counts.{Rose}
 use Rattle.gts_traits.specs.Moments.{EachSince}
 use Rattle.gts_traits.specs.Station.{Call, Did, Syncs, seen, said_by}
@@ -20,7 +20,7 @@ use Rattle.gts_checkpoint.specs.{checkpoint_file}
 use Rattle.gts_connection.specs.declared.kind.CaptureKind.TheVariants.{Journaled}
 use Rattle.gts_opening.specs.Journal.{opens, selected}
 use Rattle.gts_opening.specs.Room.{compacted_size, full_compacted}
-use Rattle.gts_turns.specs.{HasTurnCause}
+use Rattle.gts_calls.specs.{HasTurnCause}
 use Rattle.gts_core.specs.Core.{Holds}
 use Rattle.gts_engine.specs.declared.mode.SayMode.TheVariants as mode
 use Rattle.gts_engine.specs.Engine.{Engine, shown}
@@ -60,7 +60,7 @@ end_of_refusal status ends = elim (refusals status ends) [
     of_files opening.DiskFault is = absurd is
     of_files opening.NoMemory is = absurd is
 
-pub not_compacted : {S P : Type 0} (source : SourceWords S) (w : StationWords P) (status : Status) (od nd : S) (old new : P)
+pub not_compacted : {S P : Type 0} (source : SourceMeanings S) (w : StationMeanings P) (status : Status) (od nd : S) (old new : P)
     (result : Result (Engine P) (Status × P)) → result ≡ Err (status, new)
     → Opens source w result od nd old → Compacts source w status od old nd new
 not_compacted source w status od nd old new result is h =
@@ -90,14 +90,14 @@ not_compacted source w status od nd old new result is h =
               ]
             ]
           ];
-      answered = (refused Journaled source source w status od nd od old new result is h).refused;
+      answered = (refused Journaled source source w status od nd od old new result is h).answered;
       taken = h.taken;
       counts = (h.later, r.later, omega (arith, r.say));
     }
 
 -- ---- the engine was opened
 
-module _ {S P : Type 0} (source : SourceWords S) (w : StationWords P) (od nd : S) (old : P) (e : Engine P) (result : Result (Engine P) (Status × P))
+module _ {S P : Type 0} (source : SourceMeanings S) (w : StationMeanings P) (od nd : S) (old : P) (e : Engine P) (result : Result (Engine P) (Status × P))
     (is : result ≡ Ok e) (h : Opens source w result od nd old)
     (starts : (d : directories.Directory) (n : Need) → IsTrue (is_sound d n) → need d (begun n) ≡ n) where
   -- what is known of it where its station tells

@@ -10,7 +10,7 @@ use Rattle.gts_opening.specs.Room.{done_by}
 use Rattle.gts_connection.specs.Capture.{Step, no_bytes, compactions}
 use Rattle.gts_connection.proofs.LawLemmas.{compactions_between}
 use Rattle.gts_engine.specs.Origin.{Origin}
-use Rattle.gts_engine.specs.Switching.{Told, switch_words}
+use Rattle.gts_engine.specs.Switching.{Told, switch_meanings}
 use Rattle.gts_replay.specs.{compacted_at, origin_behind}
 use Rattle.gts_app.specs.Replay.{history}
 
@@ -30,15 +30,15 @@ abbrev pub with_more : {tells : Type 0} → Told tells → List ℕ → Told tel
 with_more t ks = record t { origin = record t.origin { compactions = t.origin.compactions ++ ks } }
 
 module _ {P : Type 0} (tells : Type 0) (calls : P → List Call) where
-  pub compacted_is : (t : Told tells) (h : List Entry) (ks : List ℕ) → AllWithin (length h) ks → compacted_at (switch_words tells calls) t h ks ≡ with_more t ks
+  pub compacted_is : (t : Told tells) (h : List Entry) (ks : List ℕ) → AllWithin (length h) ks → compacted_at (switch_meanings tells calls) t h ks ≡ with_more t ks
   compacted_is t h [] each = ap (λ (cs : List ℕ). record t { origin = record t.origin { compactions = cs } }) (sym (append-nil t.origin.compactions))
   compacted_is t h (k ∷ ks) each =
-      compacted_is ((switch_words tells calls).compacts t (take k h)) h ks each.1
+      compacted_is ((switch_meanings tells calls).compacts t (take k h)) h ks each.1
       ∙ ap (λ (cs : List ℕ). record t { origin = record t.origin { compactions = cs } })
       (ap (λ (n : ℕ). (t.origin.compactions ++ n ∷ []) ++ ks) (length-take-le k h each.0) ∙ append_assoc t.origin.compactions (k ∷ []) ks)
 
   -- behind entries, those compactions count that were done by then
-  pub behind_is : (t : Told tells) (h : List Entry) (ks : List ℕ) → origin_behind (switch_words tells calls) t ks h ≡ with_more t (done_by (length h) ks)
+  pub behind_is : (t : Told tells) (h : List Entry) (ks : List ℕ) → origin_behind (switch_meanings tells calls) t ks h ≡ with_more t (done_by (length h) ks)
   behind_is t h ks = compacted_is t h (done_by (length h) ks) (done_within (length h) ks)
 
 -- how many entries there were at each compaction of a capture's steps

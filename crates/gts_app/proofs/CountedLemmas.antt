@@ -6,14 +6,14 @@ use Rattle.gts_event.specs.declared.fault.SwitchFault.TheVariants.{DiskFault, Sa
 use Rattle.gts_record.specs.declared.fault.OpenFault.{OpenFault}
 use Rattle.gts_connection.specs.declared.kind.CaptureKind.{CaptureKind}
 use Rattle.gts_connection.specs.Capture.{Step}
-use Rattle.gts_turns.specs.{Standing}
+use Rattle.gts_calls.specs.{Standing}
 use Rattle.gts_count.specs.declared.parts.Parts.{Parts}
-use Rattle.gts_count.specs.Counted.{words_by}
+use Rattle.gts_count.specs.Counted.{meanings_by}
 use Rattle.gts_replay.specs.declared.end.ReplayEnd.{ReplayEnd}
 use Rattle.gts_replay.specs.{BreaksOff, BreaksAtRestart, BreaksAtCompaction, Remains, IsUnbegun, Ends, origin_at, entries_at, compactions_at, compacted_at}
 
-module _ {O T W : Type 0} (parts : W → Parts T) (words : Standing O T) (station : Type 0) (kind : CaptureKind) (o : O) (h : List Entry) (tells : Type 0) (old new : W) where
-  remains : (at : O) (all : List Entry) (fault : SwitchFault) → Remains (words_by parts words) at all fault new → Remains words at all fault (parts new).switch
+module _ {O T W : Type 0} (parts : W → Parts T) (meanings : Standing O T) (station : Type 0) (kind : CaptureKind) (o : O) (h : List Entry) (tells : Type 0) (old new : W) where
+  remains : (at : O) (all : List Entry) (fault : SwitchFault) → Remains (meanings_by parts meanings) at all fault new → Remains meanings at all fault (parts new).switch
   remains at all DiskFault left = left
   remains at all SayFault stands = stands.0
   remains at all (Full used need limit) stands = stands.0
@@ -22,32 +22,32 @@ module _ {O T W : Type 0} (parts : W → Parts T) (words : Standing O T) (statio
   remains at all NoMemory stands = stands.0
 
   breaks_off : (steps : List Step) (fault : SwitchFault)
-      → BreaksOff (words_by parts words) (origin_at (words_by parts words) o h steps old) h (entries_at (words_by parts words) old o h steps) fault new
-      → BreaksOff words (origin_at words o h steps (parts old).switch) h (entries_at words (parts old).switch o h steps) fault (parts new).switch
+      → BreaksOff (meanings_by parts meanings) (origin_at (meanings_by parts meanings) o h steps old) h (entries_at (meanings_by parts meanings) old o h steps) fault new
+      → BreaksOff meanings (origin_at meanings o h steps (parts old).switch) h (entries_at meanings (parts old).switch o h steps) fault (parts new).switch
   breaks_off steps fault b = record { front = b.front; event = b.event; behind = b.behind; parts = b.parts; stands = b.stands.0; cause = b.cause }
 
   breaks_restart : (steps : List Step) (fault : OpenFault)
-      → BreaksAtRestart (words_by parts words) station (origin_at (words_by parts words) o h steps old) h (entries_at (words_by parts words) old o h steps) fault new
-      → BreaksAtRestart words station (origin_at words o h steps (parts old).switch) h (entries_at words (parts old).switch o h steps) fault (parts new).switch
+      → BreaksAtRestart (meanings_by parts meanings) station (origin_at (meanings_by parts meanings) o h steps old) h (entries_at (meanings_by parts meanings) old o h steps) fault new
+      → BreaksAtRestart meanings station (origin_at meanings o h steps (parts old).switch) h (entries_at meanings (parts old).switch o h steps) fault (parts new).switch
   breaks_restart steps fault b = record { front = b.front; behind = b.behind; parts = b.parts; stands = b.stands.0; fault_is = b.fault_is }
 
-  breaks_compaction : (steps : List Step) (fault : SwitchFault) → BreaksAtCompaction (words_by parts words) o h steps fault old new
-      → BreaksAtCompaction words o h steps fault (parts old).switch (parts new).switch
+  breaks_compaction : (steps : List Step) (fault : SwitchFault) → BreaksAtCompaction (meanings_by parts meanings) o h steps fault old new
+      → BreaksAtCompaction meanings o h steps fault (parts old).switch (parts new).switch
   breaks_compaction steps fault b = record {
     before = b.before;
     rest = b.rest;
     parts = b.parts;
-    remains = remains (compacted_at words o (h ++ entries_at words (parts old).switch o h b.before) (compactions_at words (parts old).switch o h b.before))
-        (h ++ entries_at words (parts old).switch o h b.before) fault b.remains;
+    remains = remains (compacted_at meanings o (h ++ entries_at meanings (parts old).switch o h b.before) (compactions_at meanings (parts old).switch o h b.before))
+        (h ++ entries_at meanings (parts old).switch o h b.before) fault b.remains;
     cause = b.cause;
   }
 
-  unbegun : IsUnbegun (words_by parts words) o h old new → IsUnbegun words o h (parts old).switch (parts new).switch
+  unbegun : IsUnbegun (meanings_by parts meanings) o h old new → IsUnbegun meanings o h (parts old).switch (parts new).switch
   unbegun b = record { same = ap (λ (w : W). (parts w).switch) b.same; stands = b.stands.0 }
 
   -- it ended so for the switch as well
-  pub ends_below : (result : ReplayEnd) (bytes left : List ℕ) → Ends (words_by parts words) station kind o h tells result old new bytes left
-      → Ends words station kind o h tells result (parts old).switch (parts new).switch bytes left
+  pub ends_below : (result : ReplayEnd) (bytes left : List ℕ) → Ends (meanings_by parts meanings) station kind o h tells result old new bytes left
+      → Ends meanings station kind o h tells result (parts old).switch (parts new).switch bytes left
   ends_below result bytes left e = record {
     done = λ is. let x = e.done is in record { steps = x.steps; are = x.are; whole = x.whole; stands = x.stands.0 };
     capture = λ at is. let x = e.capture at is in record { steps = x.steps; early = x.early; none = x.none; stands = x.stands.0 };

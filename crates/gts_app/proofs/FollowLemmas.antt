@@ -1,7 +1,7 @@
 -- What `follow` comes to, from the directory and what was made of the feed.
 use Rattle.std.proofs.Common.{◌≡◌, ◌⊎◌, ◌≤◌, ℕ, ◌-◌, List, [], Result, Ok, Err, inl, inr, refl, sym, ap, subst, ◌∙◌, arith}
-use Rattle.gts_traits.specs.declared.source.Source.{Ghosts as SourceWords}
-use Rattle.gts_traits.specs.declared.station.Station.{Ghosts as StationWords}
+use Rattle.gts_traits.specs.declared.source.Source.{Ghosts as SourceMeanings}
+use Rattle.gts_traits.specs.declared.station.Station.{Ghosts as StationMeanings}
 use Rattle.gts_traits.specs.Counts.{Rose}
 use Rattle.gts_traits.specs.{Files, seen, said_by}
 use Rattle.gts_directory.specs.Directory as directories
@@ -28,7 +28,7 @@ use Rattle.gts_app.proofs.StreamLemmas.{Ended, ended}
 
 -- ---- there is no directory
 
-pub unfollowed : {S P : Type 0} (source : SourceWords S) (station : StationWords P) (status : Status) (od nd oc : S) (at : P)
+pub unfollowed : {S P : Type 0} (source : SourceMeanings S) (station : StationMeanings P) (status : Status) (od nd oc : S) (at : P)
     → ReadsDirectory source (Err status) od nd → FollowsFeed source station status (world od oc at) (world nd oc at)
 unfollowed source station status od nd oc at h = record {
   means = go (ended status (h.ends status refl));
@@ -103,7 +103,7 @@ module _ (d : directories.Directory) (files : Files) (fed : List ℕ) where
       go (Err fault) e = let both : ◌≡◌ {A = Result Taken OpenFault} (Err fault) (Ok t) = sym (ap come_of e) ∙ is in absurd (cc)
       go (Ok read) e = (read.0, read.1, read.2, e)
 
-module _ {S P : Type 0} (source : SourceWords S) (station : StationWords P) (d : directories.Directory) (answer : FollowEnd) (od nd oc nc : S) (old new : P)
+module _ {S P : Type 0} (source : SourceMeanings S) (station : StationMeanings P) (d : directories.Directory) (answer : FollowEnd) (od nd oc nc : S) (old new : P)
     (h : ReadsDirectory source (Ok d) od nd)
     (answers : station.tells → source.tells → Answers answer (comes_to d (seen (station.calls old)) (source.left oc)))
     (added : station.tells → source.tells → (s : State) (used : ℕ) (last : List ℕ) (t : Taken) → files_read written d (seen (station.calls old)) ≡ Ok (s, used, last)
@@ -209,7 +209,7 @@ module _ {S P : Type 0} (source : SourceWords S) (station : StationWords P) (d :
 
 -- ---- there was no memory to read the words
 
-pub unread : {S P : Type 0} (source : SourceWords S) (station : StationWords P) (od oc : S) (at : P)
+pub unread : {S P : Type 0} (source : SourceMeanings S) (station : StationMeanings P) (od oc : S) (at : P)
     → FollowsFeed source station NoMemory (world od oc at) (world od oc at)
 unread source station od oc at = record {
   means = tt;

@@ -1,8 +1,8 @@
 -- What `migrate` comes to: where a directory is refused, where a row doesn't stay, and behind the opening of the journal.
 use Rattle.std.specs.Prelude.{OnOk}
 use Rattle.std.proofs.Common.{◌≡◌, ◌≤◌, ◌⊎◌, ℕ, List, [], ◌∷◌, length, Option, None, Some, Result, Ok, Err, inl, inr, refl, sym, ap, subst, ◌∙◌, arith}
-use Rattle.gts_traits.specs.declared.source.Source.{Ghosts as SourceWords}
-use Rattle.gts_traits.specs.declared.station.Station.{Ghosts as StationWords}
+use Rattle.gts_traits.specs.declared.source.Source.{Ghosts as SourceMeanings}
+use Rattle.gts_traits.specs.declared.station.Station.{Ghosts as StationMeanings}
 use Rattle.gts_traits.specs.Counts.{Rose}
 use Rattle.gts_traits.specs.Station.{Call, Did, Syncs, Files, seen, said_by}
 use Rattle.gts_traits.specs.Moments.{EachSince}
@@ -35,7 +35,7 @@ use Rattle.gts_app.proofs.RefusalLemmas.{same_directory, no_fault}
 use Rattle.gts_app.proofs.StreamLemmas.{Ended, ended}
 
 -- nothing of a source was read
-none_taken : {S : Type 0} (source : SourceWords S) (at : S) → ReadsFew source at at
+none_taken : {S : Type 0} (source : SourceMeanings S) (at : S) → ReadsFew source at at
 none_taken source at tells = ([], refl, omega arith)
 
 -- the ends that reading the old directory has
@@ -68,7 +68,7 @@ old_ended (Spent _) h = absurd h
 
 -- ---- the directory was not read
 
-pub new_unread : {S P : Type 0} (source : SourceWords S) (station : StationWords P) (status : Status) (od nd oc : S) (at : P)
+pub new_unread : {S P : Type 0} (source : SourceMeanings S) (station : StationMeanings P) (status : Status) (od nd oc : S) (at : P)
     → ReadsDirectory source (Err status) od nd → Migrates source station status (world od oc at) (world nd oc at)
 new_unread {S} {P} source station status od nd oc at h =
     let end : Ended status = ended status (h.ends status refl) in
@@ -101,7 +101,7 @@ new_unread {S} {P} source station status od nd oc at h =
 
 -- ---- the old directory was not read
 
-pub old_unread : {S P : Type 0} (source : SourceWords S) (station : StationWords P) (status : Status) (d : directories.Directory) (od nd oc nc : S) (at : P)
+pub old_unread : {S P : Type 0} (source : SourceMeanings S) (station : StationMeanings P) (status : Status) (d : directories.Directory) (od nd oc nc : S) (at : P)
     → ReadsDirectory source (Ok d) od nd → ReadsOldDirectory source (Err status) oc nc → Migrates source station status (world od oc at) (world nd nc at)
 old_unread {S} {P} source station status d od nd oc nc at first h =
     let end : OldEnded status = old_ended status (h.ends status refl) in
@@ -147,7 +147,7 @@ old_unread {S} {P} source station status d od nd oc nc at first h =
 one_change : (a b : Change) (r : Option Change) → r ≡ Some a → r ≡ Some b → a ≡ b
 one_change a b r one other = cc
 
-module _ {S P : Type 0} (source : SourceWords S) (station : StationWords P) (d o : directories.Directory) (od nd oc nc : S) (first : ReadsDirectory source (Ok d) od nd) (second : ReadsOldDirectory source (Ok o) oc nc) where
+module _ {S P : Type 0} (source : SourceMeanings S) (station : StationMeanings P) (d o : directories.Directory) (od nd oc nc : S) (first : ReadsDirectory source (Ok d) od nd) (second : ReadsOldDirectory source (Ok o) oc nc) where
   both : source.tells → (directory_of_bytes (source.left od) ≡ Ok d) × (directory_of_bytes (source.left oc) ≡ Ok o)
   both tells = (first.read tells d refl, second.read tells o refl)
 
@@ -228,7 +228,7 @@ pub record Known (tells : Type 0) (d o : directories.Directory) (r : Result (Uni
   pub told : tells → LeavesFiles r → OnlySyncs before after
   pub disk : IsDiskFaultOf r → Rose disk_before disk_after
 
-module _ {S P : Type 0} (source : SourceWords S) (station : StationWords P) (d o : directories.Directory) (od nd oc nc : S) (first : ReadsDirectory source (Ok d) od nd) (second : ReadsOldDirectory source (Ok o) oc nc)
+module _ {S P : Type 0} (source : SourceMeanings S) (station : StationMeanings P) (d o : directories.Directory) (od nd oc nc : S) (first : ReadsDirectory source (Ok d) od nd) (second : ReadsOldDirectory source (Ok o) oc nc)
     (extends : Extends d o) (stays : (c : Change) → first_change d o ≡ Some c → ⊥) (old new : P) where
   abbrev Ends : Result (Unit {0}) MigrateFault → Type 0
   Ends r = Known station.tells d o r (station.calls old) (station.calls new) (station.disk_faults old) (station.disk_faults new)

@@ -1,8 +1,8 @@
 -- What `ship` comes to, from the directory and the feed.
 use Rattle.std.proofs.Common.{◌≡◌, ◌≤◌, ℕ, Result, Ok, Err, inl, inr, refl, sym, ap, subst, arith}
 use Rattle.std.specs.Prelude.{IfErr, OnOk, IsErrOf}
-use Rattle.gts_traits.specs.declared.source.Source.{Ghosts as SourceWords}
-use Rattle.gts_traits.specs.declared.station.Station.{Ghosts as StationWords}
+use Rattle.gts_traits.specs.declared.source.Source.{Ghosts as SourceMeanings}
+use Rattle.gts_traits.specs.declared.station.Station.{Ghosts as StationMeanings}
 use Rattle.gts_traits.specs.Counts.{Rose}
 use Rattle.gts_traits.specs.{seen}
 use Rattle.gts_directory.specs.Directory as directories
@@ -17,7 +17,7 @@ use Rattle.gts_app.specs.Ship.{status_shipped, ShippedAs, ShipsFeed}
 use Rattle.gts_app.proofs.StreamLemmas.{Ended, ended}
 
 -- there is no directory
-pub ship_unread : {S P : Type 0} (source : SourceWords S) (station : StationWords P) (status : Status) (od nd : S) (at : P)
+pub ship_unread : {S P : Type 0} (source : SourceMeanings S) (station : StationMeanings P) (status : Status) (od nd : S) (at : P)
     → ReadsDirectory source (Err status) od nd → ShipsFeed source station status od at nd at
 ship_unread source station status od nd at h = record {
   means = go (ended status (h.ends status refl));
@@ -32,7 +32,7 @@ ship_unread source station status od nd at h = record {
     go (inr (inr e)) = subst (λ (s : Status). ShippedAs source station s od at nd at) (sym e) (inl refl)
 
 -- there is one
-pub ship_ends : {S P : Type 0} (source : SourceWords S) (station : StationWords P) (d : directories.Directory) (result : Result (Unit {0}) ShipFault) (od nd : S) (old new : P)
+pub ship_ends : {S P : Type 0} (source : SourceMeanings S) (station : StationMeanings P) (d : directories.Directory) (result : Result (Unit {0}) ShipFault) (od nd : S) (old new : P)
     → ReadsDirectory source (Ok d) od nd
     → (station.tells → OnOk result (ShipsOnly d (station.calls old) (station.calls new)))
     → (station.tells → IfErr result (λ e. IsShipFault e d (station.calls old) (station.calls new)))

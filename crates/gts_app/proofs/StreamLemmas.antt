@@ -1,8 +1,8 @@
 -- What the commands come to that read a stream or a capture and use no journal.
 use Rattle.std.proofs.Common.{◌≡◌, ℕ, Ok, Err, inl, inr, refl, sym, ap, subst, arith}
 use Rattle.std.specs.Prelude.{◌⊎◌}
-use Rattle.gts_traits.specs.declared.source.Source.{Ghosts as SourceWords}
-use Rattle.gts_traits.specs.declared.station.Station.{Ghosts as StationWords}
+use Rattle.gts_traits.specs.declared.source.Source.{Ghosts as SourceMeanings}
+use Rattle.gts_traits.specs.declared.station.Station.{Ghosts as StationMeanings}
 use Rattle.gts_traits.specs.{seen}
 use Rattle.gts_directory.specs.Directory as directories
 use Rattle.gts_directory.specs.declared.fault.DirFault.{DirFault}
@@ -51,7 +51,7 @@ ended (LineFault _) e = absurd e
 ended (LongSession _) e = absurd e
 ended (Spent _) e = absurd e
 
-unread_keeps : {S P : Type 0} (source : SourceWords S) (station : StationWords P) (status : Status) (od nd oc : S) (at : P)
+unread_keeps : {S P : Type 0} (source : SourceMeanings S) (station : StationMeanings P) (status : Status) (od nd oc : S) (at : P)
     → ReadsDirectory source (Err status) od nd → KeepsFiles source station (world od oc at) (world nd oc at)
 unread_keeps source station status od nd oc at h = record {
   taken = h.taken;
@@ -60,7 +60,7 @@ unread_keeps source station status od nd oc at h = record {
   files = λ tells k. refl;
 }
 
-pub pack_unread : {S P : Type 0} (source : SourceWords S) (station : StationWords P) (status : Status) (od nd oc : S) (at : P)
+pub pack_unread : {S P : Type 0} (source : SourceMeanings S) (station : StationMeanings P) (status : Status) (od nd oc : S) (at : P)
     → ReadsDirectory source (Err status) od nd → PacksStream source station status (world od oc at) (world nd oc at)
 pack_unread source station status od nd oc at h = record {
   means = go (ended status (h.ends status refl));
@@ -76,7 +76,7 @@ pack_unread source station status od nd oc at h = record {
         (inl ((refl, refl), h.cause.failed (ap (λ (s : Status). Err s) e)))
     go (inr (inr e)) = subst (λ (s : Status). PackedAs source station s (world od oc at) (world nd oc at)) (sym e) (refl, refl)
 
-pub gaps_unread : {S P : Type 0} (source : SourceWords S) (station : StationWords P) (moment : Moment) (status : Status) (od nd oc : S) (at : P)
+pub gaps_unread : {S P : Type 0} (source : SourceMeanings S) (station : StationMeanings P) (moment : Moment) (status : Status) (od nd oc : S) (at : P)
     → ReadsDirectory source (Err status) od nd → NamesGaps source station moment status (world od oc at) (world nd oc at)
 gaps_unread source station moment status od nd oc at h = record {
   means = go (ended status (h.ends status refl));
@@ -94,7 +94,7 @@ gaps_unread source station moment status od nd oc at h = record {
 
 -- ---- where there is one
 
-pub pack_ends : {S P : Type 0} (source : SourceWords S) (station : StationWords P) (d : directories.Directory) (end : PackEnd) (od nd oc nc : S) (old new : P)
+pub pack_ends : {S P : Type 0} (source : SourceMeanings S) (station : StationMeanings P) (d : directories.Directory) (end : PackEnd) (od nd oc nc : S) (old new : P)
     → ReadsDirectory source (Ok d) od nd
     → (source.tells → Packs station.tells end (source.left oc) (source.left nc) (station.calls old) (station.calls new))
     → (end ≡ packs.NoMemory → (nc ≡ oc) × (new ≡ old)) → (station.tells → SameFiles (station.calls old) (station.calls new))
@@ -123,7 +123,7 @@ pack_ends source station d end od nd oc nc old new h is unmade files read say di
     go packs.SayFault is unmade read say = (say.failed refl, is)
     go packs.NoMemory is unmade read say = unmade refl
 
-pub gaps_ends : {S P : Type 0} (source : SourceWords S) (station : StationWords P) (moment : Moment) (d : directories.Directory) (end : GapsEnd) (od nd oc nc : S) (old new : P)
+pub gaps_ends : {S P : Type 0} (source : SourceMeanings S) (station : StationMeanings P) (moment : Moment) (d : directories.Directory) (end : GapsEnd) (od nd oc nc : S) (old new : P)
     → ReadsDirectory source (Ok d) od nd
     → Names source.tells station.tells d moment end (source.left oc) old new (station.calls old) (station.calls new)
     → HasGapsCause end (source.faults oc) (source.faults nc) (station.say_faults old) (station.say_faults new)

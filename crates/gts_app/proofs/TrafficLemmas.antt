@@ -1,21 +1,21 @@
 -- What `count` comes to, from the opening, the run of the capture and the saying of the table.
 use Rattle.std.proofs.Common.{◌≡◌, ℕ, ◌≤◌, List, [], ◌∷◌, length, Result, Ok, Err, None, IsTrue, inl, inr, refl, sym, ap, subst, ◌∙◌, arith}
-use Rattle.gts_traits.specs.declared.source.Source.{Ghosts as SourceWords}
-use Rattle.gts_traits.specs.declared.station.Station.{Ghosts as StationWords}
+use Rattle.gts_traits.specs.declared.source.Source.{Ghosts as SourceMeanings}
+use Rattle.gts_traits.specs.declared.station.Station.{Ghosts as StationMeanings}
 use Rattle.gts_traits.specs.Counts.{Rose}
 use Rattle.gts_traits.specs.Station.{Call, Did, Says, Breaks, seen, Files}
 use Rattle.gts_directory.specs.Directory as directories
 use Rattle.gts_event.specs.History.{after_all}
 use Rattle.gts_event.specs.Need.{Need, need, begun, is_sound, keeps_one}
 use Rattle.gts_event.specs.declared.event.Entry.{Entry}
-use Rattle.gts_connection.specs.declared.kind.CaptureKind.TheVariants.{Plain}
+use Rattle.gts_connection.specs.declared.kind.CaptureKind.TheVariants.{Traffic}
 use Rattle.gts_engine.specs.Engine.{Engine}
 use Rattle.gts_engine.specs.Origin.{Origin, used_at}
 use Rattle.gts_engine.specs.Keeping.{OpensWith, origin_of}
-use Rattle.gts_engine.specs.Switching.{Told, switch_words}
+use Rattle.gts_engine.specs.Switching.{Told, switch_meanings}
 use Rattle.gts_count.specs.{table}
 use Rattle.gts_count.specs.declared.parts.Parts.{Parts}
-use Rattle.gts_count.specs.Counted.{words_by, ShowsTable}
+use Rattle.gts_count.specs.Counted.{meanings_by, ShowsTable}
 use Rattle.gts_replay.specs.declared.end.ReplayEnd.{ReplayEnd}
 use Rattle.gts_replay.specs.declared.end.ReplayEnd.TheVariants as end
 use Rattle.gts_replay.specs.{StandsFor, Ends, HasReplayCause, compacted_at}
@@ -36,8 +36,8 @@ use Rattle.gts_app.proofs.ShowLemmas.{goes_on}
 -- ---- no table comes behind it
 
 -- an end of the run that isn't that it was done is the command's
-as_run : {S P : Type 0} (source : SourceWords S) (w : StationWords P) (status : Status) (old : World S S P) (nd nc : S) (new : P) → (status ≡ Done → ⊥)
-    → Replays Plain source source w status old (world nd nc new) → CountsTraffic source w status old (world nd nc new)
+as_run : {S P : Type 0} (source : SourceMeanings S) (w : StationMeanings P) (status : Status) (old : World S S P) (nd nc : S) (new : P) → (status ≡ Done → ⊥)
+    → Replays Traffic source source w status old (world nd nc new) → CountsTraffic source w status old (world nd nc new)
 as_run source w status old nd nc new other r = record {
   replayed = status;
   before = new;
@@ -50,41 +50,41 @@ as_run source w status old nd nc new other r = record {
 }
 
 -- the directory was not accepted, or the journal not opened
-pub not_counted : {S P : Type 0} (source : SourceWords S) (w : StationWords P) (status : Status) (od nd oc : S) (old new : P)
+pub not_counted : {S P : Type 0} (source : SourceMeanings S) (w : StationMeanings P) (status : Status) (od nd oc : S) (old new : P)
     (result : Result (Engine P) (Status × P)) → result ≡ Err (status, new)
     → Opens source w result od nd old → CountsTraffic source w status (world od oc old) (world nd oc new)
 not_counted source w status od nd oc old new result is h =
     as_run source w status (world od oc old) nd oc new (λ done. subst IsRefusal done (h.refused status new is).ends)
-    (refused Plain source source w status od nd oc old new result is h)
+    (refused Traffic source source w status od nd oc old new result is h)
 
 -- there was no memory to read the words
-pub unread : {S P : Type 0} (source : SourceWords S) (w : StationWords P) (od oc : S) (old : P)
+pub unread : {S P : Type 0} (source : SourceMeanings S) (w : StationMeanings P) (od oc : S) (old : P)
     → CountsTraffic source w NoMemory (world od oc old) (world od oc old)
 unread source w od oc old =
     as_run source w NoMemory (world od oc old) od oc old (λ done. cc)
-    (out_of_memory Plain source source w od od oc old old (λ told. inr (inl refl)) refl (omega arith) (λ tells. ([], refl, omega arith)) (omega arith))
+    (out_of_memory Traffic source source w od od oc old old (λ told. inr (inl refl)) refl (omega arith) (λ tells. ([], refl, omega arith)) (omega arith))
 
 -- there was none for the numbers
-pub without_numbers : {S P : Type 0} (source : SourceWords S) (w : StationWords P) (od nd oc : S) (old : P) (e : Engine P) (result : Result (Engine P) (Status × P))
+pub without_numbers : {S P : Type 0} (source : SourceMeanings S) (w : StationMeanings P) (od nd oc : S) (old : P) (e : Engine P) (result : Result (Engine P) (Status × P))
     → result ≡ Ok e → Opens source w result od nd old → (at : P) → at ≡ e.station → CountsTraffic source w NoMemory (world od oc old) (world nd oc at)
 without_numbers {S} {P} source w od nd oc old e result is h at same =
     subst (λ (p : P). CountsTraffic source w NoMemory (world od oc old) (world nd oc p)) (sym same)
     (as_run source w NoMemory (world od oc old) nd oc e.station (λ done. cc)
-    (out_of_memory Plain source source w od nd oc old e.station (λ told. inl (h.opened e is told).2.0.synced) (h.kept e is).1 (h.kept e is).0 h.taken h.later))
+    (out_of_memory Traffic source source w od nd oc old e.station (λ told. inl (h.opened e is told).2.0.synced) (h.kept e is).1 (h.kept e is).0 h.taken h.later))
 
 -- ---- a capture was run through the switch that counts
 
 -- what an engine that goes on leaves opens with the bytes that it counts
-abbrev pub Leaves : {P : Type 0} → StationWords P → Engine P → Type 0
+abbrev pub Leaves : {P : Type 0} → StationMeanings P → Engine P → Type 0
 Leaves w e = w.tells → e.stopped ≡ None → OpensWith e.directory (seen (w.calls e.station)) e.used
 
-module _ {S P W : Type 0} (parts : W → Parts (Engine P)) (source : SourceWords S) (w : StationWords P) (e : ReplayEnd) (od nd oc nc : S) (old : P) (first last : W)
+module _ {S P W : Type 0} (parts : W → Parts (Engine P)) (source : SourceMeanings S) (w : StationMeanings P) (e : ReplayEnd) (od nd oc nc : S) (old : P) (first last : W)
     (opens : Opens source w (Ok (parts first).switch) od nd old)
     (counts_engine : CountsEngine (parts first))
     (laws : (n : Need) (es : List Entry) → IsTrue (keeps_one (parts first).switch.directory) → IsTrue (is_sound (parts first).switch.directory n)
     → KeepsLaws (parts first).switch.directory n es)
-    (ends : (o : Told w.tells) (h : List Entry) → StandsFor (words_by parts (switch_words w.tells w.calls)) o h first
-    → Ends (words_by parts (switch_words w.tells w.calls)) w.tells Plain o h source.tells e first last (source.left oc) (source.left nc))
+    (ends : (o : Told w.tells) (h : List Entry) → StandsFor (meanings_by parts (switch_meanings w.tells w.calls)) o h first
+    → Ends (meanings_by parts (switch_meanings w.tells w.calls)) w.tells Traffic o h source.tells e first last (source.left oc) (source.left nc))
     (narrow : length (parts first).switch.directory.circuits ≤ 100)
     (cause : HasReplayCause e (w.disk_faults (parts first).switch.station) (w.disk_faults (parts last).switch.station)
     (w.say_faults (parts first).switch.station) (w.say_faults (parts last).switch.station) (source.faults oc) (source.faults nc))
@@ -99,20 +99,20 @@ module _ {S P W : Type 0} (parts : W → Parts (Engine P)) (source : SourceWords
   origin told n = record { told = told; origin = origin_of w.calls engine n }
 
   -- its numbers are those of the need with which the history begins
-  begins : (told : w.tells) (n : Need) → StandsFor (switch_words w.tells w.calls) (origin told n) [] engine
-      → StandsFor (words_by parts (switch_words w.tells w.calls)) (origin told n) [] first
+  begins : (told : w.tells) (n : Need) → StandsFor (switch_meanings w.tells w.calls) (origin told n) [] engine
+      → StandsFor (meanings_by parts (switch_meanings w.tells w.calls)) (origin told n) [] first
   begins told n s = record {
     start = s.start;
     stands = (s.stands, counts_engine (begun n) [] (s.stands.core (goes_on engine.stopped s.stands.failed)) s.start.ordered);
   }
 
-  below : (told : w.tells) (n : Need) → StandsFor (switch_words w.tells w.calls) (origin told n) [] engine
-      → Ends (switch_words w.tells w.calls) w.tells Plain (origin told n) [] source.tells e engine behind (source.left oc) (source.left nc)
+  below : (told : w.tells) (n : Need) → StandsFor (switch_meanings w.tells w.calls) (origin told n) [] engine
+      → Ends (switch_meanings w.tells w.calls) w.tells Traffic (origin told n) [] source.tells e engine behind (source.left oc) (source.left nc)
   below told n s =
-      ends_below parts (switch_words w.tells w.calls) w.tells Plain (origin told n) [] source.tells first last e (source.left oc) (source.left nc)
+      ends_below parts (switch_meanings w.tells w.calls) w.tells Traffic (origin told n) [] source.tells first last e (source.left oc) (source.left nc)
       (ends (origin told n) [] (begins told n s))
 
-  run : Replays Plain source source w (status_of e) (world od oc old) (world nd nc behind.station)
+  run : Replays Traffic source source w (status_of e) (world od oc old) (world nd nc behind.station)
   run = replays source source w e od nd oc nc old engine behind opens laws below narrow cause files
 
   -- ---- it was not done
@@ -137,16 +137,16 @@ module _ {S P W : Type 0} (parts : W → Parts (Engine P)) (source : SourceWords
 
   -- ---- it was done
 
-  module _ (is : e ≡ end.Done) (text : List ℕ) (shows : ShowsTable (switch_words w.tells w.calls) (parts last) text) where
+  module _ (is : e ≡ end.Done) (text : List ℕ) (shows : ShowsTable (switch_meanings w.tells w.calls) (parts last) text) where
     -- the text is the table of the need where the history ends
-    is_table : (told : w.tells) (n : Need) (s : StandsFor (switch_words w.tells w.calls) (origin told n) [] engine)
+    is_table : (told : w.tells) (n : Need) (s : StandsFor (switch_meanings w.tells w.calls) (origin told n) [] engine)
         → let o : Origin = origin_of w.calls engine n in
         text ≡ table_behind o (history o ((ends (origin told n) [] (begins told n s)).done is).steps)
     is_table told n s =
         let o : Origin = origin_of w.calls engine n in
         let x = (ends (origin told n) [] (begins told n s)).done is in
         let all : List Entry = history o x.steps in
-        let at : Told w.tells = compacted_at (switch_words w.tells w.calls) (origin told n) all (counts o x.steps) in
+        let at : Told w.tells = compacted_at (switch_meanings w.tells w.calls) (origin told n) all (counts o x.steps) in
         let T : directories.Directory → Need → Type 0 = λ d m. text ≡ table d (need d (after_all d (begun m) all)) in
         let here : T behind.directory at.origin.start = shows at all x.stands (none_unsaid all (history_done o x.steps)) in
         subst (λ (t : Told w.tells). T t.origin.directory t.origin.start)
@@ -160,7 +160,7 @@ module _ {S P W : Type 0} (parts : W → Parts (Engine P)) (source : SourceWords
         let n : Need = x.0 in
         let o : Origin = origin_of w.calls engine n in
         let done = (ends (origin told n) [] (begins told n x.2.1)).done is in
-        let r : Run Plain source source w e od oc nc old engine behind = record {
+        let r : Run Traffic source source w e od oc nc old engine behind = record {
           n = n;
           told = told;
           read = x.1;

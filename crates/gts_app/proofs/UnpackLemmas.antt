@@ -1,7 +1,7 @@
 -- What each end of a file's run means for the command.
 use Rattle.std.proofs.Common.{◌≡◌, ◌⊎◌, ℕ, ◌<◌, ◌≤◌, List, [], length, Result, Ok, Err, None, IsTrue, inl, inr, refl, ap, subst, arith}
-use Rattle.gts_traits.specs.declared.source.Source.{Ghosts as SourceWords}
-use Rattle.gts_traits.specs.declared.station.Station.{Ghosts as StationWords}
+use Rattle.gts_traits.specs.declared.source.Source.{Ghosts as SourceMeanings}
+use Rattle.gts_traits.specs.declared.station.Station.{Ghosts as StationMeanings}
 use Rattle.gts_traits.specs.Counts.{Rose}
 use Rattle.gts_traits.specs.Station.{seen}
 use Rattle.gts_directory.specs.Directory as directories
@@ -12,7 +12,7 @@ use Rattle.gts_event.specs.declared.fault.SwitchFault.TheVariants as switch
 use Rattle.gts_record.specs.declared.fault.OpenFault.TheVariants as opening
 use Rattle.gts_engine.specs.Engine.{Engine}
 use Rattle.gts_engine.specs.Keeping.{OpensWith, origin_of}
-use Rattle.gts_engine.specs.Switching.{switch_words}
+use Rattle.gts_engine.specs.Switching.{switch_meanings}
 use Rattle.gts_connection.specs.declared.kind.CaptureKind.TheVariants.{Journaled}
 use Rattle.gts_replay.specs.declared.end.ReplayEnd.{ReplayEnd}
 use Rattle.gts_replay.specs.declared.end.ReplayEnd.TheVariants as end
@@ -29,7 +29,7 @@ use Rattle.gts_app.specs.Ending.{status_of}
 use Rattle.gts_app.specs.Opening.{IsRefusal, Opens}
 use Rattle.gts_app.specs.Reading.{IsReadEnd, ReadsDirectory}
 use Rattle.gts_app.specs.Replay.{world}
-use Rattle.gts_app.specs.Unpack.{status_unpacked, unpacked, capture_words, HasNoCircuit, IsStatusOf, Unpacks}
+use Rattle.gts_app.specs.Unpack.{status_unpacked, unpacked, capture_meanings, HasNoCircuit, IsStatusOf, Unpacks}
 use Rattle.gts_app.proofs.OpeningLemmas.{no_directory}
 use Rattle.gts_app.proofs.RefusalLemmas.{refused, out_of_memory, same_directory, no_fault}
 use Rattle.gts_app.proofs.ReplayLemmas.{replays}
@@ -133,10 +133,10 @@ present d bytes c here read none =
 
 -- ---- the run of a file
 
-pub unpacks : {S P : Type 0} (source : SourceWords S) (w : StationWords P) (c : ℕ) (result : UnpackEnd) (od nd oc nc : S) (old : P) (first last : Engine P)
+pub unpacks : {S P : Type 0} (source : SourceMeanings S) (w : StationMeanings P) (c : ℕ) (result : UnpackEnd) (od nd oc nc : S) (old : P) (first last : Engine P)
     → Opens source w (Ok first) od nd old
     → ((n : Need) (es : List Entry) → IsTrue (keeps_one first.directory) → IsTrue (is_sound first.directory n) → KeepsLaws first.directory n es)
-    → Runs (switch_words w.tells w.calls) w.tells source.tells result first last (source.left oc) c
+    → Runs (switch_meanings w.tells w.calls) w.tells source.tells result first last (source.left oc) c
     → length first.directory.circuits ≤ 100 → c < length first.directory.circuits → (source.tells → directory_of_bytes (source.left od) ≡ Ok first.directory)
     → HasUnpackCause result (w.disk_faults first.station) (w.disk_faults last.station) (w.say_faults first.station) (w.say_faults last.station) (source.faults oc) (source.faults nc)
     → (w.tells → last.stopped ≡ None → OpensWith last.directory (seen (w.calls last.station)) last.used)
@@ -150,7 +150,7 @@ unpacks source w c result od nd oc nc old first last opens laws run narrow here 
         replayed = status_of run.replayed;
         is = status-is run.replayed result run.is;
         left = run.left;
-        replays = replays source (capture_words source) w run.replayed od nd (unpacked (captured (source.left oc) c) oc) (unpacked run.left nc) old first last opens laws
+        replays = replays source (capture_meanings source) w run.replayed od nd (unpacked (captured (source.left oc) c) oc) (unpacked run.left nc) old first last opens laws
             (λ told n stands. run.ends (record { told = told; origin = origin_of w.calls first n }) [] stands) narrow
             (replayed-cause run.replayed result _ _ _ _ (source.faults oc) (source.faults nc) run.is cause) files;
       };
@@ -188,7 +188,7 @@ refusal-is (Spent c) ends = refl
 refusal-is NoMemory ends = refl
 
 -- the directory was not accepted, or the journal not opened
-pub unbegun : {S P : Type 0} (source : SourceWords S) (w : StationWords P) (c : ℕ) (status : Status) (od nd oc : S) (old new : P)
+pub unbegun : {S P : Type 0} (source : SourceMeanings S) (w : StationMeanings P) (c : ℕ) (status : Status) (od nd oc : S) (old new : P)
     (result : Result (Engine P) (Status × P)) → result ≡ Err (status, new) → Opens source w result od nd old
     → (source.tells → HasNoCircuit (source.left od) c → (Rose (source.faults od) (source.faults nd) → ⊥) → (status ≡ Words) ⊎ (status ≡ NoMemory))
     → Unpacks source w c status (world od oc old) (world nd oc new)
@@ -201,7 +201,7 @@ unbegun source w c status od nd oc old new result is h circuit =
         replayed = status;
         is = refusal-is status ends;
         left = captured (source.left oc) c;
-        replays = refused Journaled source (capture_words source) w status od nd file old new result is h;
+        replays = refused Journaled source (capture_meanings source) w status od nd file old new result is h;
       };
       accum = λ at e. absurd (subst IsRefusal e ends);
       done = λ e. absurd (subst IsRefusal e ends);
@@ -211,7 +211,7 @@ unbegun source w c status od nd oc old new result is h circuit =
     }
 
 -- the directory was not accepted
-pub unaccepted : {S P : Type 0} (source : SourceWords S) (w : StationWords P) (c : ℕ) (status : Status) (od nd oc : S) (old : P)
+pub unaccepted : {S P : Type 0} (source : SourceMeanings S) (w : StationMeanings P) (c : ℕ) (status : Status) (od nd oc : S) (old : P)
     → ReadsDirectory source (Err status) od nd → Unpacks source w c status (world od oc old) (world nd oc old)
 unaccepted source w c status od nd oc old h =
     unbegun source w c status od nd oc old old (Err (status, old)) refl (no_directory source w status od nd old h)
@@ -243,7 +243,7 @@ unaccepted source w c status od nd oc old h =
     go (Spent n) is ends tells none kept = absurd ends
 
 -- the journal was not opened, under a directory that has the circuit
-pub unopened : {S P : Type 0} (source : SourceWords S) (w : StationWords P) (c : ℕ) (status : Status) (d : directories.Directory) (od nd oc : S) (old new : P)
+pub unopened : {S P : Type 0} (source : SourceMeanings S) (w : StationMeanings P) (c : ℕ) (status : Status) (d : directories.Directory) (od nd oc : S) (old new : P)
     (result : Result (Engine P) (Status × P)) → result ≡ Err (status, new) → Opens source w result od nd old
     → c < length d.circuits → (source.tells → directory_of_bytes (source.left od) ≡ Ok d)
     → Unpacks source w c status (world od oc old) (world nd oc new)
@@ -251,7 +251,7 @@ unopened source w c status d od nd oc old new result is h here read =
     unbegun source w c status od nd oc old new result is h (λ tells none kept. absurd (present d (source.left od) c here (read tells) none))
 
 -- the directory has no such circuit
-pub no-circuit : {S P : Type 0} (source : SourceWords S) (w : StationWords P) (c : ℕ) (d : directories.Directory) (od nd oc : S) (old : P)
+pub no-circuit : {S P : Type 0} (source : SourceMeanings S) (w : StationMeanings P) (c : ℕ) (d : directories.Directory) (od nd oc : S) (old : P)
     → ReadsDirectory source (Ok d) od nd → length d.circuits ≤ c → Unpacks source w c Words (world od oc old) (world nd oc old)
 no-circuit source w c d od nd oc old h over = record {
   words = λ is. (refl, refl, λ tells. (d, h.read tells d refl, over));
@@ -265,7 +265,7 @@ no-circuit source w c d od nd oc old h over = record {
 
 -- ---- there was no memory to read the words
 
-pub unread : {S P : Type 0} (source : SourceWords S) (w : StationWords P) (c : ℕ) (od oc : S) (old : P)
+pub unread : {S P : Type 0} (source : SourceMeanings S) (w : StationMeanings P) (c : ℕ) (od oc : S) (old : P)
     → Unpacks source w c NoMemory (world od oc old) (world od oc old)
 unread source w c od oc old =
     let file = unpacked (captured (source.left oc) c) oc in
@@ -275,7 +275,7 @@ unread source w c od oc old =
         replayed = NoMemory;
         is = refl;
         left = captured (source.left oc) c;
-        replays = out_of_memory Journaled source (capture_words source) w od od file old old (λ told. inr (inl refl)) refl (omega arith)
+        replays = out_of_memory Journaled source (capture_meanings source) w od od file old old (λ told. inr (inl refl)) refl (omega arith)
             (λ tells. ([], refl, omega arith)) (omega arith);
       };
       accum = λ at is. absurd (cc);

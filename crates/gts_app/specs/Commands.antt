@@ -18,8 +18,8 @@ use Rattle.gts_app.specs.Migrate.{Migrates}
 use Rattle.gts_app.specs.Follow.{FollowsFeed}
 use Rattle.gts_app.specs.Replay.{World}
 use Rattle.gts_app.specs.declared.status.Status.{Status}
-use Rattle.gts_traits.specs.declared.source.Source.{Ghosts as SourceWords}
-use Rattle.gts_traits.specs.declared.station.Station.{Ghosts as StationWords}
+use Rattle.gts_traits.specs.declared.source.Source.{Ghosts as SourceMeanings}
+use Rattle.gts_traits.specs.declared.station.Station.{Ghosts as StationMeanings}
 use Rattle.gts_missing.specs.declared.moment.Moment.{Moment}
 
 -- which commands are built
@@ -57,7 +57,7 @@ moment_at day hour minute = record { day = day; hour = hour; minute = minute }
 
 -- what comes of the other commands that read something beside the directory: a file, a stream, an old directory, a feed, a capture
 -- alone, or one through a switch that counts
-abbrev pub ReadsApart : {S P : Type 0} → SourceWords S → StationWords P → Option Command → Status → (old new : World S S P) → Type 0
+abbrev pub ReadsApart : {S P : Type 0} → SourceMeanings S → StationMeanings P → Option Command → Status → (old new : World S S P) → Type 0
 ReadsApart source station command status old new =
     ((c : ℕ) → command ≡ Some (Unpack c) → Unpacks source station c status old new)
     × (command ≡ Some Pack → PacksStream source station status old new)
@@ -68,7 +68,7 @@ ReadsApart source station command status old new =
     × (command ≡ Some Count → CountsTraffic source station status old new)
 
 -- what comes of the commands that open the journal, and read no capture
-abbrev pub OpensJournal : {S P : Type 0} → SourceWords S → StationWords P → Option Command → Status → (old new : World S S P) → Type 0
+abbrev pub OpensJournal : {S P : Type 0} → SourceMeanings S → StationMeanings P → Option Command → Status → (old new : World S S P) → Type 0
 OpensJournal source station command status old new =
     (command ≡ Some Show → (new.capture ≡ old.capture)
     × Shows source station status old.directory old.station new.directory new.station)

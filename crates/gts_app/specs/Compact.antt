@@ -1,7 +1,7 @@
 -- What each end of the command `compact` means for what it works on.
 use Rattle.std.specs.Prelude.{◌≡◌, ◌≢◌, ◌⊎◌, ℕ, ◌+◌, ◌≤◌, List, ◌∷◌, ◌++◌, length, None, Ok, Err}
-use Rattle.gts_traits.specs.declared.source.Source.{Ghosts as SourceWords}
-use Rattle.gts_traits.specs.declared.station.Station.{Ghosts as StationWords}
+use Rattle.gts_traits.specs.declared.source.Source.{Ghosts as SourceMeanings}
+use Rattle.gts_traits.specs.declared.station.Station.{Ghosts as StationMeanings}
 use Rattle.gts_traits.specs.Counts.{Rose}
 use Rattle.gts_traits.specs.Moments.{EachSince}
 use Rattle.gts_traits.specs.Station.{Call, Did, Syncs, seen, said_by}
@@ -22,7 +22,7 @@ use Rattle.gts_app.specs.Ending.{refusal}
 use Rattle.gts_app.specs.Opening.{IsRefusal, Refuses}
 
 -- where source and station tell, the directory is read under which the files open to a need, and this holds of both
-abbrev pub Over : {S P : Type 0} → SourceWords S → StationWords P → S → P → (directories.Directory → Need → Type 0) → Type 0
+abbrev pub Over : {S P : Type 0} → SourceMeanings S → StationMeanings P → S → P → (directories.Directory → Need → Type 0) → Type 0
 Over source station directory old OfIt =
     source.tells → station.tells → (d : directories.Directory) × (n : Need) × (directory_of_bytes (source.left directory) ≡ Ok d)
     × (opens d (seen (station.calls old)) ≡ Ok n) × OfIt d n
@@ -53,7 +53,7 @@ IsCompactEnd (Full used need limit) = Unit {0}
 IsCompactEnd status = IsRefusal status
 
 -- For each status, what it means for the directory's source and the station before and after, and what holds of every run.
-pub record Compacts {S P : Type 0} (source : SourceWords S) (station : StationWords P) (status : Status)
+pub record Compacts {S P : Type 0} (source : SourceMeanings S) (station : StationMeanings P) (status : Status)
     (old_directory : S) (old : P) (new_directory : S) (new : P) : Type 0 where
   -- the journal is compacted
   pub done : status ≡ Done → Over source station old_directory old

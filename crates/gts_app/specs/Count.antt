@@ -1,7 +1,7 @@
 -- What each end of the command `count` means for what it works on.
 use Rattle.std.specs.Prelude.{◌≡◌, ◌⊎◌, ℕ, ◌≤◌, List, ◌∷◌, Ok, None}
-use Rattle.gts_traits.specs.declared.source.Source.{Ghosts as SourceWords}
-use Rattle.gts_traits.specs.declared.station.Station.{Ghosts as StationWords}
+use Rattle.gts_traits.specs.declared.source.Source.{Ghosts as SourceMeanings}
+use Rattle.gts_traits.specs.declared.station.Station.{Ghosts as StationMeanings}
 use Rattle.gts_traits.specs.Counts.{Rose}
 use Rattle.gts_traits.specs.Station.{Did, Says, Breaks, seen}
 use Rattle.gts_directory.specs.Directory as directories
@@ -9,7 +9,7 @@ use Rattle.gts_dirfile.specs.{directory_of_bytes}
 use Rattle.gts_event.specs.State.{State}
 use Rattle.gts_event.specs.Need.{Need, need, IsOrdered}
 use Rattle.gts_event.specs.declared.event.Entry.{Entry}
-use Rattle.gts_connection.specs.declared.kind.CaptureKind.TheVariants.{Plain}
+use Rattle.gts_connection.specs.declared.kind.CaptureKind.TheVariants.{Traffic}
 use Rattle.gts_connection.specs.Capture.{Step, IsWholeOf}
 use Rattle.gts_opening.specs.Journal.{opens}
 use Rattle.gts_core.specs.Core.{Holds}
@@ -42,15 +42,15 @@ table_behind o entries = table o.directory (need o.directory (state_at o entries
 
 -- Where source and station tell: the capture was read through its end, and its history was done when the station was so; the files
 -- open to it now; and this holds of the table of the need that it comes to.
-abbrev pub Behind : {S P : Type 0} → SourceWords S → StationWords P → P → (old new : World S S P) → (List ℕ → Type 0) → Type 0
+abbrev pub Behind : {S P : Type 0} → SourceMeanings S → StationMeanings P → P → (old new : World S S P) → (List ℕ → Type 0) → Type 0
 Behind source station before old new OfTable =
-    Under source source station old (λ o. (steps : List Step) × IsWholeOf Plain o.directory (source.left old.capture) steps
+    Under source source station old (λ o. (steps : List Step) × IsWholeOf Traffic o.directory (source.left old.capture) steps
     × Does (counted o steps) (history o steps) None (station.calls before)
     × OpensWith o.directory (seen (station.calls new.station)) (used_at (counted o steps) (history o steps))
     × OfTable (table_behind o (history o steps)))
 
 -- What comes behind a capture that was done: the table is said on channel 0, or saying it failed, or there was no memory for it.
-abbrev pub SaysTable : {S P : Type 0} → SourceWords S → StationWords P → Status → P → (old new : World S S P) → Type 0
+abbrev pub SaysTable : {S P : Type 0} → SourceMeanings S → StationMeanings P → Status → P → (old new : World S S P) → Type 0
 SaysTable source station Done before old new =
     Behind source station before old new (λ table. station.calls new.station ≡ Did (Says 0 table) ∷ station.calls before)
 SaysTable source station SayFault before old new =
@@ -60,12 +60,12 @@ SaysTable source station NoMemory before old new = new.station ≡ before
 SaysTable source station _ before old new = ⊥
 
 -- For each status, what it means for the world before and after, and what holds of every run.
-pub record CountsTraffic {S P : Type 0} (source : SourceWords S) (station : StationWords P) (status : Status)
+pub record CountsTraffic {S P : Type 0} (source : SourceMeanings S) (station : StationMeanings P) (status : Status)
     (old new : World S S P) : Type 0 where
   -- the capture, which has no `R` and no `C`, was run as `replay` runs one: this is how that ended, and the station then
   pub replayed : Status
   pub before : P
-  pub replays : Replays Plain source source station replayed old (world new.directory new.capture before)
+  pub replays : Replays Traffic source source station replayed old (world new.directory new.capture before)
   -- where it was done, the table comes behind it, after all else; any other end is that of the run
   pub table : replayed ≡ Done → SaysTable source station status before old new
   pub ended : (replayed ≡ Done → ⊥) → (status ≡ replayed) × (new.station ≡ before)
@@ -76,7 +76,7 @@ pub record CountsTraffic {S P : Type 0} (source : SourceWords S) (station : Stat
   pub complete : source.tells → station.tells
       → (d : directories.Directory) (n : Need) (steps : List Step)
       → directory_of_bytes (source.left old.directory) ≡ Ok d → opens d (seen (station.calls old.station)) ≡ Ok n
-      → IsWholeOf Plain d (source.left old.capture) steps → HasRoom d (seen (station.calls old.station)) steps
+      → IsWholeOf Traffic d (source.left old.capture) steps → HasRoom d (seen (station.calls old.station)) steps
       → (Rose (source.faults old.directory) (source.faults new.directory) → ⊥)
       → (Rose (source.faults old.capture) (source.faults new.capture) → ⊥)
       → (Rose (station.say_faults old.station) (station.say_faults new.station) → ⊥)

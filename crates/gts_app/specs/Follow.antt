@@ -1,7 +1,7 @@
 -- What each end of the command `follow` means for what it works on.
 use Rattle.std.specs.Prelude.{◌≡◌, ◌⊎◌, ℕ, ◌+◌, ◌≤◌, List, [], ◌++◌, length, Ok, Err}
-use Rattle.gts_traits.specs.declared.source.Source.{Ghosts as SourceWords}
-use Rattle.gts_traits.specs.declared.station.Station.{Ghosts as StationWords}
+use Rattle.gts_traits.specs.declared.source.Source.{Ghosts as SourceMeanings}
+use Rattle.gts_traits.specs.declared.station.Station.{Ghosts as StationMeanings}
 use Rattle.gts_traits.specs.Counts.{Rose}
 use Rattle.gts_traits.specs.{Call, seen, said_by}
 use Rattle.gts_directory.specs.Directory as directories
@@ -34,7 +34,7 @@ status_followed follow.DiskFault = DiskFault
 status_followed follow.NoMemory = NoMemory
 
 -- where source and station tell, a directory is read, and this holds of it
-abbrev pub Under : {S P : Type 0} → SourceWords S → StationWords P → World S S P → (directories.Directory → Type 0) → Type 0
+abbrev pub Under : {S P : Type 0} → SourceMeanings S → StationMeanings P → World S S P → (directories.Directory → Type 0) → Type 0
 Under source station old OfIt =
     source.tells → station.tells → (d : directories.Directory) × (directory_of_bytes (source.left old.directory) ≡ Ok d) × OfIt d
 
@@ -51,16 +51,16 @@ pub record TakesFeed (d : directories.Directory) (old new : List Call) (fed : Li
   pub opened : opens d (seen new) ≡ Ok (need d (restarted (state_after d state taken)))
 
 -- the feed was taken into the journal of the directory, and this was answered
-abbrev pub TakenAs : {S P : Type 0} → FollowEnd → SourceWords S → StationWords P → (old new : World S S P) → Type 0
+abbrev pub TakenAs : {S P : Type 0} → FollowEnd → SourceMeanings S → StationMeanings P → (old new : World S S P) → Type 0
 TakenAs answer source station old new =
     Under source station old (λ d. TakesFeed d (station.calls old.station) (station.calls new.station) (source.left old.capture) answer)
 
 -- the files open to this fault
-abbrev pub RefusedBy : {S P : Type 0} → OpenFault → SourceWords S → StationWords P → (old new : World S S P) → Type 0
+abbrev pub RefusedBy : {S P : Type 0} → OpenFault → SourceMeanings S → StationMeanings P → (old new : World S S P) → Type 0
 RefusedBy fault source station old new = Under source station old (λ d. opens d (seen (station.calls old.station)) ≡ Err fault)
 
 -- For each status, what it means: the feed was taken to its end; or up to where it is bad, or of another history; or why it was not.
-abbrev pub FollowedAs : {S P : Type 0} → SourceWords S → StationWords P → Status → (old new : World S S P) → Type 0
+abbrev pub FollowedAs : {S P : Type 0} → SourceMeanings S → StationMeanings P → Status → (old new : World S S P) → Type 0
 FollowedAs source station Done old new = TakenAs follow.Done source station old new × (source.tells → source.left new.capture ≡ [])
 FollowedAs source station (Feed at) old new = TakenAs (follow.Feed at) source station old new
 FollowedAs source station (Diverged index own fed) old new = TakenAs (follow.Diverged index own fed) source station old new
@@ -77,14 +77,14 @@ FollowedAs source station NoMemory old new = Unit {0}
 FollowedAs source station _ old new = ⊥
 
 -- where a directory is read, the files open and the feed comes to this beside them
-abbrev pub ComesTo : {S P : Type 0} → SourceWords S → StationWords P → World S S P → directories.Directory → State → Taken → Type 0
+abbrev pub ComesTo : {S P : Type 0} → SourceMeanings S → StationMeanings P → World S S P → directories.Directory → State → Taken → Type 0
 ComesTo source station old d s taken =
     (used : ℕ) × (last : List ℕ) × (directory_of_bytes (source.left old.directory) ≡ Ok d)
     × (files_read written d (seen (station.calls old.station)) ≡ Ok (s, used, last))
     × (comes_to d (seen (station.calls old.station)) (source.left old.capture) ≡ Ok taken)
 
 -- what its end means, and what holds of every run
-pub record FollowsFeed {S P : Type 0} (source : SourceWords S) (station : StationWords P) (status : Status)
+pub record FollowsFeed {S P : Type 0} (source : SourceMeanings S) (station : StationMeanings P) (status : Status)
     (old new : World S S P) : Type 0 where
   pub means : FollowedAs source station status old new
   -- a crash at any moment leaves what the journal had, and a first part of what the feed adds

@@ -1,7 +1,7 @@
 -- What each end of the command `gaps` means for what it works on.
 use Rattle.std.specs.Prelude.{◌≡◌, ◌⊎◌, Ok}
-use Rattle.gts_traits.specs.declared.source.Source.{Ghosts as SourceWords}
-use Rattle.gts_traits.specs.declared.station.Station.{Ghosts as StationWords}
+use Rattle.gts_traits.specs.declared.source.Source.{Ghosts as SourceMeanings}
+use Rattle.gts_traits.specs.declared.station.Station.{Ghosts as StationMeanings}
 use Rattle.gts_traits.specs.Counts.{Rose}
 use Rattle.gts_say.specs.Say.{SaysOnly, SaysFront}
 use Rattle.gts_directory.specs.Directory as directories
@@ -23,13 +23,13 @@ status_named end.SayFault = SayFault
 status_named end.NoMemory = NoMemory
 
 -- the directory's bytes, where the source tells, are a directory of which this holds
-pub record Under {S P : Type 0} (source : SourceWords S) (old : World S S P) (OfIt : directories.Directory → Type 0) : Type 0 where
+pub record Under {S P : Type 0} (source : SourceMeanings S) (old : World S S P) (OfIt : directories.Directory → Type 0) : Type 0 where
   pub directory : directories.Directory
   pub read : source.tells → directory_of_bytes (source.left old.directory) ≡ Ok directory
   pub holds : OfIt directory
 
 -- For each status, what it means: the report of what is missing in the whole capture was said, or a front of it, or nothing was.
-abbrev pub NamedAs : {S P : Type 0} → SourceWords S → StationWords P → Moment → Status → World S S P → World S S P → Type 0
+abbrev pub NamedAs : {S P : Type 0} → SourceMeanings S → StationMeanings P → Moment → Status → World S S P → World S S P → Type 0
 NamedAs source station moment Done old new =
     Under source old (λ d. Reads source.tells d (source.left old.capture)
     (λ steps. station.tells → SaysOnly (station.calls old.station) (station.calls new.station) (report_of d moment steps)))
@@ -47,7 +47,7 @@ NamedAs source station moment NoMemory old new = new.station ≡ old.station
 NamedAs source station moment _ old new = ⊥
 
 -- what its end means, and what holds of every run
-pub record NamesGaps {S P : Type 0} (source : SourceWords S) (station : StationWords P) (moment : Moment) (status : Status)
+pub record NamesGaps {S P : Type 0} (source : SourceMeanings S) (station : StationMeanings P) (moment : Moment) (status : Status)
     (old new : World S S P) : Type 0 where
   pub means : NamedAs source station moment status old new
   pub keeps : KeepsFiles source station old new

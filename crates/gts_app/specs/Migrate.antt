@@ -1,8 +1,8 @@
 -- What each end of the command `migrate` means for what it works on: the directory, the old directory in the place of a capture,
 -- and the station.
 use Rattle.std.specs.Prelude.{◌≡◌, ◌⊎◌, ℕ, ◌+◌, ◌≤◌, List, ◌∷◌, ◌++◌, length, None, Some, Result, Ok, Err}
-use Rattle.gts_traits.specs.declared.source.Source.{Ghosts as SourceWords}
-use Rattle.gts_traits.specs.declared.station.Station.{Ghosts as StationWords}
+use Rattle.gts_traits.specs.declared.source.Source.{Ghosts as SourceMeanings}
+use Rattle.gts_traits.specs.declared.station.Station.{Ghosts as StationMeanings}
 use Rattle.gts_traits.specs.Counts.{Rose}
 use Rattle.gts_traits.specs.{Did, Syncs, seen, said_by, EachSince}
 use Rattle.gts_directory.specs.Directory as directories
@@ -39,11 +39,11 @@ status_migrated (Err fault.DiskFault) = DiskFault
 status_migrated (Err fault.NoMemory) = NoMemory
 
 -- the bytes of the two sources are these directories, the new one and the old one
-abbrev pub AreRead : {S P : Type 0} → SourceWords S → World S S P → directories.Directory → directories.Directory → Type 0
+abbrev pub AreRead : {S P : Type 0} → SourceMeanings S → World S S P → directories.Directory → directories.Directory → Type 0
 AreRead source w new old = (directory_of_bytes (source.left w.directory) ≡ Ok new) × (directory_of_bytes (source.left w.capture) ≡ Ok old)
 
 -- two directories, which are those of the sources where these tell, of which this holds
-pub record UnderBoth {S P : Type 0} (source : SourceWords S) (w : World S S P)
+pub record UnderBoth {S P : Type 0} (source : SourceMeanings S) (w : World S S P)
     (OfThem : directories.Directory → directories.Directory → Type 0) : Type 0 where
   pub new : directories.Directory
   pub old : directories.Directory
@@ -51,25 +51,25 @@ pub record UnderBoth {S P : Type 0} (source : SourceWords S) (w : World S S P)
   pub holds : OfThem new old
 
 -- The new directory extends the old one, and where the station tells, the files open to a state under that, of which this holds.
-pub record OpensUnder {S P : Type 0} (station : StationWords P) (w : World S S P) (new old : directories.Directory)
+pub record OpensUnder {S P : Type 0} (station : StationMeanings P) (w : World S S P) (new old : directories.Directory)
     (OfIt : State → Type 0) : Type 0 where
   pub extends : Extends new old
   pub opened : station.tells → (s : State) × (used : ℕ) × (files_open_any old (seen (station.calls w.station)) ≡ Ok (s, used)) × OfIt s
 
 -- under the old directory, which the new one extends, the files open to this fault
-abbrev pub IsRefusedBy : {S P : Type 0} → SourceWords S → StationWords P → World S S P → OpenFault → Type 0
+abbrev pub IsRefusedBy : {S P : Type 0} → SourceMeanings S → StationMeanings P → World S S P → OpenFault → Type 0
 IsRefusedBy source station w e =
     UnderBoth source w (λ new old. Extends new old × (station.tells → opens_any old (seen (station.calls w.station)) ≡ Err e))
 
 -- the station was not touched, and the old directory's bytes have this fault
-abbrev pub IsOldRefused : {S P : Type 0} → SourceWords S → World S S P → World S S P → DirFault → Type 0
+abbrev pub IsOldRefused : {S P : Type 0} → SourceMeanings S → World S S P → World S S P → DirFault → Type 0
 IsOldRefused source w v e =
     (v.station ≡ w.station)
     × (source.tells → (d : directories.Directory) × (directory_of_bytes (source.left w.directory) ≡ Ok d)
     × (directory_of_bytes (source.left w.capture) ≡ Err e))
 
 -- For each status, what it means: the journal was taken over; or what refused it.
-abbrev pub MigratedAs : {S P : Type 0} → SourceWords S → StationWords P → Status → World S S P → World S S P → Type 0
+abbrev pub MigratedAs : {S P : Type 0} → SourceMeanings S → StationMeanings P → Status → World S S P → World S S P → Type 0
 MigratedAs source station Done w v =
     UnderBoth source w (λ new old. OpensUnder station w new old
     (λ s. IsMigrated old new s (station.calls w.station) (station.calls v.station)))
@@ -92,24 +92,24 @@ MigratedAs source station NoMemory w v = Unit {0}
 MigratedAs source station _ w v = ⊥
 
 -- at most a sync was tried; or since a sync that was done each moment opens under the old directory or, wider, under the new one
-abbrev pub LeavesJournal : {S P : Type 0} → StationWords P → World S S P → World S S P
+abbrev pub LeavesJournal : {S P : Type 0} → StationMeanings P → World S S P → World S S P
     → directories.Directory → directories.Directory → Need → Type 0
 LeavesJournal station w v new old n =
     OnlySyncs (station.calls w.station) (station.calls v.station)
     ⊎ EachSince (Did Syncs ∷ station.calls w.station) (station.calls v.station) (OpensEither old new n)
 
 -- no read failed
-abbrev pub IsCalm : {S P : Type 0} → SourceWords S → World S S P → World S S P → Type 0
+abbrev pub IsCalm : {S P : Type 0} → SourceMeanings S → World S S P → World S S P → Type 0
 IsCalm source w v =
     (Rose (source.faults w.directory) (source.faults v.directory) → ⊥) × (Rose (source.faults w.capture) (source.faults v.capture) → ⊥)
 
 -- so much of a source was read at most
-abbrev pub ReadsFew : {S : Type 0} → SourceWords S → S → S → Type 0
+abbrev pub ReadsFew : {S : Type 0} → SourceMeanings S → S → S → Type 0
 ReadsFew source old new =
     source.tells → (taken : List ℕ) × (source.left old ≡ taken ++ source.left new) × (length taken ≤ LONGEST_DIRECTORY + 1)
 
 -- What its end means, and what holds of every run.
-pub record Migrates {S P : Type 0} (source : SourceWords S) (station : StationWords P) (status : Status)
+pub record Migrates {S P : Type 0} (source : SourceMeanings S) (station : StationMeanings P) (status : Status)
     (w v : World S S P) : Type 0 where
   pub means : MigratedAs source station status w v
   -- a crash at any moment since the sync of the opening leaves a journal under one of the directories

@@ -1,7 +1,7 @@
 -- What each end of the command `pack` means for what it works on.
 use Rattle.std.specs.Prelude.{◌≡◌, ◌⊎◌, ℕ, ◌+◌, ◌≤◌, List, ◌++◌, length, Ok, Err, None}
-use Rattle.gts_traits.specs.declared.source.Source.{Ghosts as SourceWords}
-use Rattle.gts_traits.specs.declared.station.Station.{Ghosts as StationWords}
+use Rattle.gts_traits.specs.declared.source.Source.{Ghosts as SourceMeanings}
+use Rattle.gts_traits.specs.declared.station.Station.{Ghosts as StationMeanings}
 use Rattle.gts_traits.specs.Counts.{Rose}
 use Rattle.gts_traits.specs.{on, seen}
 use Rattle.gts_say.specs.Say.{SaysOnly, SaysFront}
@@ -25,7 +25,7 @@ status_packed end.SayFault = SayFault
 status_packed end.NoMemory = NoMemory
 
 -- where the source tells, the directory's bytes are a directory
-abbrev pub IsAccepted : {S P : Type 0} → SourceWords S → World S S P → Type 0
+abbrev pub IsAccepted : {S P : Type 0} → SourceMeanings S → World S S P → Type 0
 IsAccepted source old = source.tells → (d : directories.Directory) × (directory_of_bytes (source.left old.directory) ≡ Ok d)
 
 -- nothing was read of what stands beside the directory, and nothing was done with the station
@@ -33,11 +33,11 @@ abbrev pub IsUnbegun : {S P : Type 0} → World S S P → World S S P → Type 0
 IsUnbegun old new = (new.capture ≡ old.capture) × (new.station ≡ old.station)
 
 -- the directory has this fault, and nothing else was read, and nothing said
-abbrev pub IsTurnedAway : {S P : Type 0} → SourceWords S → DirFault → World S S P → World S S P → Type 0
+abbrev pub IsTurnedAway : {S P : Type 0} → SourceMeanings S → DirFault → World S S P → World S S P → Type 0
 IsTurnedAway source fault old new = IsUnbegun old new × (source.tells → directory_of_bytes (source.left old.directory) ≡ Err fault)
 
 -- For each status, what it means: the file of the stream's messages was said on channel 0, with its end where the stream isn't bad.
-abbrev pub PackedAs : {S P : Type 0} → SourceWords S → StationWords P → Status → World S S P → World S S P → Type 0
+abbrev pub PackedAs : {S P : Type 0} → SourceMeanings S → StationMeanings P → Status → World S S P → World S S P → Type 0
 PackedAs source station Done old new =
     IsAccepted source old
     × (source.tells → (bad_in_stream (source.left old.capture) ≡ None)
@@ -59,7 +59,7 @@ PackedAs source station NoMemory old new = IsUnbegun old new
 PackedAs source station _ old new = ⊥
 
 -- Of the source of the directory no more is read than it may have and a byte, no count falls, and the files stay.
-pub record KeepsFiles {S P : Type 0} (source : SourceWords S) (station : StationWords P) (old new : World S S P) : Type 0 where
+pub record KeepsFiles {S P : Type 0} (source : SourceMeanings S) (station : StationMeanings P) (old new : World S S P) : Type 0 where
   pub taken : source.tells → (taken : List ℕ) × (source.left old.directory ≡ taken ++ source.left new.directory)
       × (length taken ≤ LONGEST_DIRECTORY + 1)
   pub source_counts : (source.faults old.directory ≤ source.faults new.directory)
@@ -69,7 +69,7 @@ pub record KeepsFiles {S P : Type 0} (source : SourceWords S) (station : Station
   pub files : station.tells → (k : ℕ) → seen (station.calls new.station) k ≡ seen (station.calls old.station) k
 
 -- what its end means, and what holds of every run
-pub record PacksStream {S P : Type 0} (source : SourceWords S) (station : StationWords P) (status : Status)
+pub record PacksStream {S P : Type 0} (source : SourceMeanings S) (station : StationMeanings P) (status : Status)
     (old new : World S S P) : Type 0 where
   pub means : PackedAs source station status old new
   pub keeps : KeepsFiles source station old new

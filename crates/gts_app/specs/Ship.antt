@@ -1,7 +1,7 @@
 -- What each end of the command `ship` means for what it works on.
 use Rattle.std.specs.Prelude.{◌≡◌, ◌⊎◌, ℕ, ◌+◌, ◌≤◌, List, ◌++◌, length, Result, Ok, Err}
-use Rattle.gts_traits.specs.declared.source.Source.{Ghosts as SourceWords}
-use Rattle.gts_traits.specs.declared.station.Station.{Ghosts as StationWords}
+use Rattle.gts_traits.specs.declared.source.Source.{Ghosts as SourceMeanings}
+use Rattle.gts_traits.specs.declared.station.Station.{Ghosts as StationMeanings}
 use Rattle.gts_traits.specs.Counts.{Rose}
 use Rattle.gts_traits.specs.{on, seen}
 use Rattle.gts_say.specs.Say.{SaysFront}
@@ -26,22 +26,22 @@ status_shipped (Err ship.SayFault) = SayFault
 status_shipped (Err ship.NoMemory) = NoMemory
 
 -- where source and station tell, a directory is read, and this holds of it
-abbrev pub Under : {S P : Type 0} → SourceWords S → StationWords P → S → (directories.Directory → Type 0) → Type 0
+abbrev pub Under : {S P : Type 0} → SourceMeanings S → StationMeanings P → S → (directories.Directory → Type 0) → Type 0
 Under source station directory OfIt =
     source.tells → station.tells → (d : directories.Directory) × (directory_of_bytes (source.left directory) ≡ Ok d) × OfIt d
 
 -- a front of the feed was said, and nothing else
-abbrev pub SaysSome : {S P : Type 0} → SourceWords S → StationWords P → S → (old new : P) → Type 0
+abbrev pub SaysSome : {S P : Type 0} → SourceMeanings S → StationMeanings P → S → (old new : P) → Type 0
 SaysSome source station directory old new =
     Under source station directory (λ d. SaysFront (station.calls old) (station.calls new) (on 0 (feed_of d (station.calls old))))
 
 -- the files open to this fault, and nothing was said
-abbrev pub RefusedBy : {S P : Type 0} → OpenFault → SourceWords S → StationWords P → S → (old new : P) → Type 0
+abbrev pub RefusedBy : {S P : Type 0} → OpenFault → SourceMeanings S → StationMeanings P → S → (old new : P) → Type 0
 RefusedBy fault source station directory old new =
     Under source station directory (λ d. IsShipFault (ship.Open fault) d (station.calls old) (station.calls new))
 
 -- For each status, what it means: the journal opens, and its feed was said on channel 0; or why it was not, or not all of it.
-abbrev pub ShippedAs : {S P : Type 0} → SourceWords S → StationWords P → Status → S → P → S → P → Type 0
+abbrev pub ShippedAs : {S P : Type 0} → SourceMeanings S → StationMeanings P → Status → S → P → S → P → Type 0
 ShippedAs source station Done od old nd new = Under source station od (λ d. ShipsOnly d (station.calls old) (station.calls new))
 ShippedAs source station (Directory fault) od old nd new = (new ≡ old) × (source.tells → directory_of_bytes (source.left od) ≡ Err fault)
 ShippedAs source station NoJournal od old nd new = RefusedBy opening.NoJournal source station od old new
@@ -57,7 +57,7 @@ ShippedAs source station NoMemory od old nd new = (new ≡ old) ⊎ SaysSome sou
 ShippedAs source station _ od old nd new = ⊥
 
 -- what its end means, and what holds of every run
-pub record ShipsFeed {S P : Type 0} (source : SourceWords S) (station : StationWords P) (status : Status)
+pub record ShipsFeed {S P : Type 0} (source : SourceMeanings S) (station : StationMeanings P) (status : Status)
     (old_directory : S) (old : P) (new_directory : S) (new : P) : Type 0 where
   pub means : ShippedAs source station status old_directory old new_directory new
   -- what reads of the files give stays

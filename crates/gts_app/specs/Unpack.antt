@@ -1,7 +1,7 @@
 -- What each end of the command `unpack` means for what it works on.
 use Rattle.std.specs.Prelude.{◌≡◌, ◌⊎◌, ℕ, ◌+◌, ◌≤◌, List, ◌++◌, length, Some, None, Ok}
-use Rattle.gts_traits.specs.declared.source.Source.{Ghosts as SourceWords}
-use Rattle.gts_traits.specs.declared.station.Station.{Ghosts as StationWords}
+use Rattle.gts_traits.specs.declared.source.Source.{Ghosts as SourceMeanings}
+use Rattle.gts_traits.specs.declared.station.Station.{Ghosts as StationMeanings}
 use Rattle.gts_traits.specs.Counts.{Rose}
 use Rattle.gts_directory.specs.Directory as directories
 use Rattle.gts_dirfile.specs.declared.limits.TheConstants.{LONGEST_DIRECTORY}
@@ -28,8 +28,8 @@ pub record Unpacked (S : Type 0) : Type 0 where
 abbrev pub unpacked : {S : Type 0} → List ℕ → S → Unpacked S
 unpacked left file = record { left = left; file = file }
 
-abbrev pub capture_words : {S : Type 0} → SourceWords S → SourceWords (Unpacked S)
-capture_words source = record {
+abbrev pub capture_meanings : {S : Type 0} → SourceMeanings S → SourceMeanings (Unpacked S)
+capture_meanings source = record {
   tells = source.tells;
   left = λ u. u.left;
   begun = λ u. source.begun u.file;
@@ -46,17 +46,17 @@ IsStatusOf (Capture at) status = (place : ℕ) × (status ≡ Accum place)
 IsStatusOf replayed status = status ≡ replayed
 
 -- the command did what `replay` does with the capture that the file stands for
-pub record ReplaysFile {S P : Type 0} (source : SourceWords S) (station : StationWords P) (c : ℕ) (status : Status)
+pub record ReplaysFile {S P : Type 0} (source : SourceMeanings S) (station : StationMeanings P) (c : ℕ) (status : Status)
     (old new : World S S P) : Type 0 where
   pub replayed : Status
   pub is : IsStatusOf replayed status
   pub left : List ℕ
-  pub replays : Replays Journaled source (capture_words source) station replayed
+  pub replays : Replays Journaled source (capture_meanings source) station replayed
       (world old.directory (unpacked (captured (source.left old.capture) c) old.capture) old.station)
       (world new.directory (unpacked left new.capture) new.station)
 
 -- For each status, what it means for the world before and after, and what holds of every run.
-pub record Unpacks {S P : Type 0} (source : SourceWords S) (station : StationWords P) (c : ℕ) (status : Status)
+pub record Unpacks {S P : Type 0} (source : SourceMeanings S) (station : StationMeanings P) (c : ℕ) (status : Status)
     (old new : World S S P) : Type 0 where
   -- the directory has no such circuit; nothing was read of the file, and nothing done with the station
   pub words : status ≡ Words → (new.capture ≡ old.capture) × (new.station ≡ old.station)

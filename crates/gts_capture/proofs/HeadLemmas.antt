@@ -5,7 +5,7 @@ use Rattle.std.proofs.lemmas.Bool.{false≢true, eqb-true, lt-ltb}
 use borrow.Author.Tests.{ltb-true}
 use Rattle.gts_alphabet.specs.Digits.{dec}
 use Rattle.gts_connection.specs.declared.kind.CaptureKind.{CaptureKind}
-use Rattle.gts_connection.specs.declared.kind.CaptureKind.TheVariants.{Journaled, Plain}
+use Rattle.gts_connection.specs.declared.kind.CaptureKind.TheVariants.{Journaled, Traffic}
 use Rattle.gts_connection.specs.Capture.{head_text}
 use Rattle.gts_connection.specs.Capture as capture
 use Rattle.gts_capture.specs.declared.head.Head.{Head}
@@ -140,8 +140,8 @@ some_circuits false false e = absurd (false≢true e)
 
 journaled : (some : Bool) (kind : CaptureKind) → letter_test some (has_journal kind) false true false ≡ true → kind ≡ Journaled
 journaled some Journaled e = refl
-journaled true Plain e = absurd (false≢true e)
-journaled false Plain e = absurd (false≢true e)
+journaled true Traffic e = absurd (false≢true e)
+journaled false Traffic e = absurd (false≢true e)
 
 no_letter : (some journal : Bool) → letter_test some journal false false false ≡ true → ⊥
 no_letter true true e = false≢true e
@@ -156,7 +156,7 @@ circuit_letter false journal e = absurd (false≢true e)
 journal_letter : (some : Bool) (kind : CaptureKind) → kind ≡ Journaled → letter_test some (has_journal kind) false true false ≡ true
 journal_letter true Journaled e = refl
 journal_letter false Journaled e = refl
-journal_letter some Plain e = absurd (cc)
+journal_letter some Traffic e = absurd (cc)
 
 end_letter : (some journal : Bool) → letter_test some journal false false true ≡ true
 end_letter true true = refl

@@ -1,7 +1,7 @@
 -- The heads of a capture's steps as they are read (profile).
 use Rattle.std.specs.Prelude.{ℕ, Bool, true, false, List}
 use Rattle.gts_connection.specs.declared.kind.CaptureKind.{CaptureKind}
-use Rattle.gts_connection.specs.declared.kind.CaptureKind.TheVariants.{Journaled, Plain}
+use Rattle.gts_connection.specs.declared.kind.CaptureKind.TheVariants.{Journaled, Traffic}
 use Rattle.gts_connection.specs.Capture.{Head, FeedHead, TakeHead, ReopenHead, DrainHead, RestartHead, CompactHead, EndHead, head_text}
 pub use Rattle.gts_connection.specs.Capture.{IsHeadIn, IsPartIn, IsFrontIn}
 use Rattle.gts_capture.specs.declared.head.Head as program
@@ -24,7 +24,7 @@ line_of head = head_text (head_of head)
 -- a capture of this kind may have steps of the journal
 abbrev pub has_journal : CaptureKind → Bool
 has_journal Journaled = true
-has_journal Plain = false
+has_journal Traffic = false
 
 -- the bytes announced by a head
 abbrev pub bytes_announced : Head → ℕ

@@ -41,9 +41,9 @@ pub fn what_was_read_is_the_captures_beginning()
 
 /// Where the source failed, the bytes that were taken from it are read as the steps so far, the feed in work among them.
 pub fn what_was_taken_is_read()
-    ensures head { (kind : CaptureKind) (d : Directory) (bytes before after : List ℕ)
-        (steps : List Step) (old new : Held) → IsReadTo kind d bytes steps old (old.ahead ++ before)
-        → IsSameCapture old new → StopsInHead old new before after → IsTaken kind d bytes steps after }
+    ensures head { (kind : CaptureKind) (d : Directory) (bytes x left : List ℕ)
+        (steps : List Step) (old new : Held) → IsReadTo kind d bytes steps old (old.ahead ++ x)
+        → IsSameCapture old new → StopsInHead old new x left → IsTaken kind d bytes steps left }
     ensures feed { (kind : CaptureKind) (d : Directory) (bytes x left : List ℕ) (steps : List Step)
         (held : Held) (c n : ℕ) → IsInFeed kind d bytes steps held c n x left → length x < n
         → IsTaken kind d bytes (steps ++ Feed c x ∷ []) left }

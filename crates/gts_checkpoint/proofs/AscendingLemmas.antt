@@ -4,7 +4,7 @@ use Rattle.std.specs.Result.{MatchResult}
 use Rattle.std.proofs.lemmas.Bool.{and_parts, and_from, false_from_ne_true, ltb-true, lt-ltb, eq-eqb, ne_eqb, cases_lt}
 use Rattle.gts_event.specs.State.{has}
 use Rattle.gts_event.specs.Need.{ascends}
-use Rattle.gts_event.specs.declared.plain.Bulletin.{Bulletin}
+use Rattle.gts_event.specs.declared.values.Bulletin.{Bulletin}
 use Rattle.gts_checkpoint.specs.Sound.{positions}
 
 pub rises : (xs : List ℕ) (i j : ℕ) → ascends xs ≡ true → i < j → j < length xs → get_or xs i 0 < get_or xs j 0

@@ -6,7 +6,7 @@ use Rattle.gts_directory.specs.Directory.{Directory}
 use Rattle.gts_event.specs.Need as needs
 use Rattle.gts_event.specs.Need.{is_sound}
 use Rattle.gts_event.specs.Items.{need_of}
-use Rattle.gts_event.specs.declared.plain.Need.{Need}
+use Rattle.gts_event.specs.declared.values.Need.{Need}
 use Rattle.gts_event.proofs.LawLemmas.{sound-parts}
 use Rattle.gts_record.specs.declared.version.Version.{Version}
 use Rattle.gts_record.specs.Format.{seal_size, draw_size}

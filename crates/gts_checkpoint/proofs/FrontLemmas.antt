@@ -5,15 +5,15 @@ use Rattle.std.proofs.lemmas.List.{length-map}
 use Rattle.gts_event.specs.State.{Bulletin}
 use Rattle.gts_event.specs.Need as needs
 use Rattle.gts_event.specs.Items.{bulletin_of, circuit_need_of, need_of}
-use Rattle.gts_event.specs.declared.plain.Bulletin as plain
-use Rattle.gts_event.specs.declared.plain.CircuitNeed as plain_circuit
-use Rattle.gts_event.specs.declared.plain.Need.{Need}
+use Rattle.gts_event.specs.declared.values.Bulletin as values
+use Rattle.gts_event.specs.declared.values.CircuitNeed as value_circuit
+use Rattle.gts_event.specs.declared.values.Need.{Need}
 use Rattle.gts_record.specs.Record.{bytes_of, number_in}
 use Rattle.gts_record.proofs.LawLemmas.{number_in-bytes_of}
 use Rattle.gts_opening.specs.Journal.{bulletin_text, circuit_text, checkpoint_text, compacted_bytes, unowed, unowed_circuit, FitsBulletin, FitsCircuit, FitsNeed}
 use Rattle.gts_checkpoint.specs.Writing.{head_text, written_bulletin, written_circuit}
-use Rattle.gts_checkpoint.specs.Reading.{BeginsWith, FitBodies, FitsPlain, FitsPlainCircuit}
-use Rattle.gts_checkpoint.proofs.PieceLemmas.{cancel_front, same_bulletin, fits_plain}
+use Rattle.gts_checkpoint.specs.Reading.{BeginsWith, FitBodies, FitsValue, FitsValueCircuit}
+use Rattle.gts_checkpoint.proofs.PieceLemmas.{cancel_front, same_bulletin, fits_value}
 use Rattle.gts_checkpoint.proofs.NeedLemmas.{need_text, need_size}
 
 take_whole : (n : ℕ) (xs : List ℕ) → length xs ≡ n → take n xs ≡ xs
@@ -91,7 +91,7 @@ no_bulletins bytes head circuits accepted bulletins m stands is low high none fi
     none m.bulletins (sym s.bulletins_are) bodies (flat_map circuit_text m.circuits ++ begins.0, s.behind_it)
 
 -- bulletins that stand at one front, as many, have one text
-same_bulletins : (xs : List plain.Bulletin) (ys : List Bulletin) (rest more : List ℕ) → length xs ≡ length ys → AllByRecursion FitsPlain xs → FitBodies ys
+same_bulletins : (xs : List values.Bulletin) (ys : List Bulletin) (rest more : List ℕ) → length xs ≡ length ys → AllByRecursion FitsValue xs → FitBodies ys
     → flat_map written_bulletin xs ++ rest ≡ flat_map bulletin_text ys ++ more → rest ≡ more
 same_bulletins [] [] rest more long good fit same = same
 same_bulletins [] (y ∷ ys) rest more long good fit same = absurd (omega arith)
@@ -104,8 +104,8 @@ same_bulletins (x ∷ xs) (y ∷ ys) rest more long good fit same =
     (cancel_front (written_bulletin x) (bulletin_text y) (flat_map written_bulletin xs ++ rest) (flat_map bulletin_text ys ++ more) (ap (λ (l : List ℕ). length l) one) split).1
 
 -- without circuits behind the bulletins there is none
-pub no_circuits : (bytes head : List ℕ) (circuits accepted : ℕ) (xs : List plain.Bulletin) (m : needs.Need) → (stands : BeginsWith bytes head) → head ≡ head_text circuits accepted (length xs) → circuits < 2 ^ 32 → length xs < 2 ^ 32
-    → (second : BeginsWith stands.0 (flat_map written_bulletin xs)) → AllByRecursion FitsPlain xs
+pub no_circuits : (bytes head : List ℕ) (circuits accepted : ℕ) (xs : List values.Bulletin) (m : needs.Need) → (stands : BeginsWith bytes head) → head ≡ head_text circuits accepted (length xs) → circuits < 2 ^ 32 → length xs < 2 ^ 32
+    → (second : BeginsWith stands.0 (flat_map written_bulletin xs)) → AllByRecursion FitsValue xs
     → ((cs : List needs.CircuitNeed) → length cs ≡ circuits → AllByRecursion FitsCircuit cs → BeginsWith second.0 (flat_map circuit_text cs) → ⊥) → FitsNeed m → FitBodies m.bulletins → BeginsWith bytes (checkpoint_text m) → ⊥
 no_circuits bytes head circuits accepted xs m stands is low high second good none fits bodies begins =
     let s = same_front bytes head stands.0 circuits accepted (length xs) m stands.1 is low high fits begins in
@@ -115,15 +115,15 @@ no_circuits bytes head circuits accepted xs m stands is low high second good non
 
 -- ---- what was found
 
-all_fit : (xs : List plain.Bulletin) → AllByRecursion FitsPlain xs → AllByRecursion FitsBulletin (map bulletin_of xs)
+all_fit : (xs : List values.Bulletin) → AllByRecursion FitsValue xs → AllByRecursion FitsBulletin (map bulletin_of xs)
 all_fit [] good = tt
 all_fit (x ∷ xs) good = ((omega (arith, good.0.0), omega (arith, good.0.1)), all_fit xs good.1)
 
-all_circuits_fit : (cs : List plain_circuit.CircuitNeed) → AllByRecursion FitsPlainCircuit cs → AllByRecursion FitsCircuit (map circuit_need_of cs)
+all_circuits_fit : (cs : List value_circuit.CircuitNeed) → AllByRecursion FitsValueCircuit cs → AllByRecursion FitsCircuit (map circuit_need_of cs)
 all_circuits_fit [] good = tt
-all_circuits_fit (c ∷ cs) good = (fits_plain c good.0, all_circuits_fit cs good.1)
+all_circuits_fit (c ∷ cs) good = (fits_value c good.0, all_circuits_fit cs good.1)
 
-pub need_fits : (n : Need) → n.accepted < 2 ^ 64 → length n.bulletins < 2 ^ 32 → length n.circuits ≤ 64 → AllByRecursion FitsPlain n.bulletins → AllByRecursion FitsPlainCircuit n.circuits → FitsNeed (need_of n)
+pub need_fits : (n : Need) → n.accepted < 2 ^ 64 → length n.bulletins < 2 ^ 32 → length n.circuits ≤ 64 → AllByRecursion FitsValue n.bulletins → AllByRecursion FitsValueCircuit n.circuits → FitsNeed (need_of n)
 need_fits n low few_bulletins few_circuits bulletins circuits = record {
   accepted = omega (arith, low);
   few_bulletins = omega (arith, few_bulletins, length-map n.bulletins bulletin_of);
@@ -132,13 +132,13 @@ need_fits n low few_bulletins few_circuits bulletins circuits = record {
   circuits = all_circuits_fit n.circuits circuits;
 }
 
-unowed_all : (cs : List plain_circuit.CircuitNeed) → AllByRecursion FitsPlainCircuit cs → map unowed_circuit (map circuit_need_of cs) ≡ map circuit_need_of cs
+unowed_all : (cs : List value_circuit.CircuitNeed) → AllByRecursion FitsValueCircuit cs → map unowed_circuit (map circuit_need_of cs) ≡ map circuit_need_of cs
 unowed_all [] good = refl
 unowed_all (c ∷ cs) good =
     ap (λ (o : List ℕ). (let q : needs.CircuitNeed = record { draws = c.draws; waiting = c.waiting; kept = c.kept; owed = o } in q) ∷ map unowed_circuit (map circuit_need_of cs)) (sym good.0.5)
     ∙ ap (λ (l : List needs.CircuitNeed). circuit_need_of c ∷ l) (unowed_all cs good.1)
 
-pub need_unowed : (n : Need) → AllByRecursion FitsPlainCircuit n.circuits → unowed (need_of n) ≡ need_of n
+pub need_unowed : (n : Need) → AllByRecursion FitsValueCircuit n.circuits → unowed (need_of n) ≡ need_of n
 need_unowed n good = ap (λ (cs : List needs.CircuitNeed). let m : needs.Need = record { accepted = n.accepted; bulletins = map bulletin_of n.bulletins; circuits = cs } in m) (unowed_all n.circuits good)
 
 pub need_stands : (bytes head : List ℕ) (n : Need) → (stands : BeginsWith bytes head) → head ≡ head_text (length n.circuits) n.accepted (length n.bulletins)

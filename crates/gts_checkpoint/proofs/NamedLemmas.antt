@@ -17,7 +17,7 @@ use Rattle.gts_event.specs.State.{Bulletin, has, heading_of}
 use Rattle.gts_event.specs.History.{is_request}
 use Rattle.gts_event.specs.Need.{ascends, is_bulletin, is_for, positions_of}
 use Rattle.gts_event.specs.Items.{bulletin_of}
-use Rattle.gts_event.specs.declared.plain.Bulletin as plain
+use Rattle.gts_event.specs.declared.values.Bulletin as values
 use Rattle.gts_checkpoint.specs.Sound.{positions, mask_at, is_marked}
 use Rattle.gts_checkpoint.proofs.AscendingLemmas.{rises, has-not}
 
@@ -74,11 +74,11 @@ has-found xs n None h k = k
 
 -- ---- bulletins
 
-pub bulletin-at : (d : Directory) (a : ℕ) (bs : List plain.Bulletin) (i : ℕ) (b : plain.Bulletin) → list_all (is_bulletin d a) (map bulletin_of bs) ≡ true
+pub bulletin-at : (d : Directory) (a : ℕ) (bs : List values.Bulletin) (i : ℕ) (b : values.Bulletin) → list_all (is_bulletin d a) (map bulletin_of bs) ≡ true
     → i < length (positions bs) → b ≡ get_or bs i b → is_bulletin d a (bulletin_of b) ≡ true
 bulletin-at d a [] i b h l is = absurd (omega arith)
 bulletin-at d a (x ∷ bs) zero b h l is =
-    ap (λ (y : plain.Bulletin). is_bulletin d a (bulletin_of y)) is ∙ (and_parts (is_bulletin d a (bulletin_of x)) (list_all (is_bulletin d a) (map bulletin_of bs)) h).0
+    ap (λ (y : values.Bulletin). is_bulletin d a (bulletin_of y)) is ∙ (and_parts (is_bulletin d a (bulletin_of x)) (list_all (is_bulletin d a) (map bulletin_of bs)) h).0
 bulletin-at d a (x ∷ bs) (suc i) b h l is =
     bulletin-at d a bs i b (and_parts (is_bulletin d a (bulletin_of x)) (list_all (is_bulletin d a) (map bulletin_of bs)) h).1 (omega arith) is
 

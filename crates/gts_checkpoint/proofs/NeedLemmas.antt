@@ -7,9 +7,9 @@ use Rattle.std.proofs.lemmas.Bool.{eq-eqb}
 use Rattle.gts_traits.specs.Station.{Cuts, Syncs, Writes, Call, Did, overwritten, seen, IsSynced, Tries}
 use Rattle.gts_event.specs.Need as needs
 use Rattle.gts_event.specs.Items.{bulletin_of, circuit_need_of, need_of}
-use Rattle.gts_event.specs.declared.plain.Bulletin.{Bulletin}
-use Rattle.gts_event.specs.declared.plain.CircuitNeed.{CircuitNeed}
-use Rattle.gts_event.specs.declared.plain.Need.{Need}
+use Rattle.gts_event.specs.declared.values.Bulletin.{Bulletin}
+use Rattle.gts_event.specs.declared.values.CircuitNeed.{CircuitNeed}
+use Rattle.gts_event.specs.declared.values.Need.{Need}
 use Rattle.gts_record.specs.Record.{open_gate, closed_gate, bytes_of}
 use Rattle.gts_record.specs.Format.{magic, sealed, first_seal, file_text, written}
 use Rattle.gts_opening.specs.Journal.{bulletin_text, circuit_text, checkpoint_text, compacted_bytes}

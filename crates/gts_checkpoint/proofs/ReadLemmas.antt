@@ -12,8 +12,8 @@ use Rattle.gts_event.specs.State.{Bulletin, CircuitState, waiting}
 use Rattle.gts_event.specs.Need as needs
 use Rattle.gts_event.specs.Need.{circuit_need, begun, begun_circuit, is_bulletin, is_sound}
 use Rattle.gts_event.specs.Items.{circuit_need_of, need_of}
-use Rattle.gts_event.specs.declared.plain.CircuitNeed as plain_circuit
-use Rattle.gts_event.specs.declared.plain.Need.{Need}
+use Rattle.gts_event.specs.declared.values.CircuitNeed as value_circuit
+use Rattle.gts_event.specs.declared.values.Need.{Need}
 use Rattle.gts_event.proofs.LawLemmas.{need-begun, sound-parts, bulletin_bounds}
 use Rattle.gts_record.proofs.LawLemmas.{starts_with-append}
 use Rattle.gts_opening.specs.Journal.{checkpoint_text, compacted_bytes, need_in, admits_checkpoint, due, unowed, FitsNeed}
@@ -27,7 +27,7 @@ use Rattle.gts_checkpoint.specs.Reading.{bytes_from, BeginsWith, FitBodies, HasR
 
 -- ---- what waits on circuits of which this is needed
 
-waits : (a : ℕ) (rows : List Circuit) (qs : List CircuitState) (cs : List plain_circuit.CircuitNeed) → length qs ≡ length rows
+waits : (a : ℕ) (rows : List Circuit) (qs : List CircuitState) (cs : List value_circuit.CircuitNeed) → length qs ≡ length rows
     → map (λ row. circuit_need row.0.kept row.1) (zip rows qs) ≡ map circuit_need_of cs
     → fold (λ (m : ℕ) (q : CircuitState). m + length (waiting q)) a qs ≡ a + length (flat_map waiting_of cs)
 waits a [] [] [] few e = omega arith
@@ -164,11 +164,11 @@ stands_there bytes count found n at is finds fits free = record {
 place_is : (found : Option (Need × ℕ)) (n : Need) (at : ℕ) → found ≡ Some (n, at) → IfSome found (λ f. f.1 ≡ 41 + length (checkpoint_text (need_of f.0))) → at ≡ 41 + length (checkpoint_text (need_of n))
 place_is found n at is place = let F : Option (Need × ℕ) → Type 0 = λ o. IfSome o (λ f. f.1 ≡ 41 + length (checkpoint_text (need_of f.0))) in subst F is place
 
-pub counts_there : (d : Directory) (found : Option (Need × ℕ)) (n : Need) (at w limit : ℕ) (circuits : List plain_circuit.CircuitNeed) → found ≡ Some (n, at)
+pub counts_there : (d : Directory) (found : Option (Need × ℕ)) (n : Need) (at w limit : ℕ) (circuits : List value_circuit.CircuitNeed) → found ≡ Some (n, at)
     → IfSome found (λ f. f.1 ≡ 41 + length (checkpoint_text (need_of f.0))) → w ≡ min (length (flat_map waiting_of circuits)) (2 ^ 64 - 1) → circuits ≡ n.circuits → limit ≡ d.limit → limit ≤ 2 ^ 30
     → Counted d n at w limit
 counts_there d found n at w limit circuits is place w_is same limit_is low = record {
-  waits = w_is ∙ ap (λ (l : List plain_circuit.CircuitNeed). min (length (flat_map waiting_of l)) (2 ^ 64 - 1)) same;
+  waits = w_is ∙ ap (λ (l : List value_circuit.CircuitNeed). min (length (flat_map waiting_of l)) (2 ^ 64 - 1)) same;
   place = place_is found n at is place;
   limit_is = limit_is;
   low = low;

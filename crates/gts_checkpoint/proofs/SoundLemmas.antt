@@ -14,8 +14,8 @@ use Rattle.gts_event.specs.State.{has, is_recent}
 use Rattle.gts_event.specs.Need.{Need, CircuitNeed, ascends, is_distinct, is_needed, is_for, is_kept, has_counts, is_circuit_sound}
 use Rattle.gts_event.specs.History.{most_owed}
 use Rattle.gts_event.specs.Items.{circuit_need_of, need_of}
-use Rattle.gts_event.specs.declared.plain.CircuitNeed as plain
-use Rattle.gts_event.specs.declared.plain.Need as plain_need
+use Rattle.gts_event.specs.declared.values.CircuitNeed as values
+use Rattle.gts_event.specs.declared.values.Need as value_need
 use Rattle.gts_checkpoint.specs.Sound.{has_positions, is_held, are_circuits_sound}
 use Rattle.gts_checkpoint.proofs.AscendingLemmas.{rises, ascends-from}
 
@@ -195,8 +195,8 @@ kept-is draws kept first index e =
 
 -- ---- each circuit beside its row
 
-pub rows-all : (f : ℕ × (Circuit × CircuitNeed) → Bool) (m : ℕ) (rows : List Circuit) (qs : List plain.CircuitNeed)
-    → ((k n : ℕ) (row : Circuit) (q : plain.CircuitNeed) → n ≡ m + k → slice_get rows k ≡ Some row → slice_get qs k ≡ Some q → f (n, (row, circuit_need_of q)) ≡ true)
+pub rows-all : (f : ℕ × (Circuit × CircuitNeed) → Bool) (m : ℕ) (rows : List Circuit) (qs : List values.CircuitNeed)
+    → ((k n : ℕ) (row : Circuit) (q : values.CircuitNeed) → n ≡ m + k → slice_get rows k ≡ Some row → slice_get qs k ≡ Some q → f (n, (row, circuit_need_of q)) ≡ true)
     → list_all f (enumerate_from m (zip rows (map circuit_need_of qs))) ≡ true
 rows-all f m [] qs h = refl
 rows-all f m (row ∷ rows) [] h = refl
@@ -205,8 +205,8 @@ rows-all f m (row ∷ rows) (q ∷ qs) h =
     (h zero m row q (omega arith) refl refl)
     (rows-all f (m + 1) rows qs (λ k n row' q' e a b. h (suc k) n row' q' (omega arith) a b))
 
-pub rows-not : (f : ℕ × (Circuit × CircuitNeed) → Bool) (m : ℕ) (rows : List Circuit) (qs : List plain.CircuitNeed)
-    → (k n : ℕ) (row : Circuit) (q : plain.CircuitNeed) → n ≡ m + k → slice_get rows k ≡ Some row → slice_get qs k ≡ Some q → f (n, (row, circuit_need_of q)) ≡ false
+pub rows-not : (f : ℕ × (Circuit × CircuitNeed) → Bool) (m : ℕ) (rows : List Circuit) (qs : List values.CircuitNeed)
+    → (k n : ℕ) (row : Circuit) (q : values.CircuitNeed) → n ≡ m + k → slice_get rows k ≡ Some row → slice_get qs k ≡ Some q → f (n, (row, circuit_need_of q)) ≡ false
     → list_all f (enumerate_from m (zip rows (map circuit_need_of qs))) ≡ false
 rows-not f m [] qs k n row q e a b h = absurd (cc)
 rows-not f m (x ∷ rows) [] k n row q e a b h = absurd (cc)
@@ -221,7 +221,7 @@ get-below [] k x e = absurd (cc)
 get-below (y ∷ xs) zero x e = omega arith
 get-below (y ∷ xs) (suc k) x e = let more = get-below xs k x e in omega arith
 
-pub circuits-fail : (d : Directory) (m : plain_need.Need) (k : ℕ) (q : plain.CircuitNeed) → k < length d.circuits → k < length m.circuits → q ≡ get_or m.circuits k q
+pub circuits-fail : (d : Directory) (m : value_need.Need) (k : ℕ) (q : values.CircuitNeed) → k < length d.circuits → k < length m.circuits → q ≡ get_or m.circuits k q
     → ((row : Circuit) → slice_get d.circuits k ≡ Some row → is_circuit_sound d (need_of m) k row.kept (circuit_need_of q) ≡ false)
     → are_circuits_sound d (need_of m) ≡ false
 circuits-fail d m k q l lq is h = go (slice_get_cases d.circuits k).1
@@ -234,10 +234,10 @@ circuits-fail d m k q l lq is h = go (slice_get_cases d.circuits k).1
     go (inr n) = absurd (omega (arith, n.0))
 
 -- one circuit more was looked at
-pub circuits-more : (f : ℕ → Circuit → plain.CircuitNeed → Bool) (rows : List Circuit) (qs : List plain.CircuitNeed) (c : ℕ) (here : plain.CircuitNeed)
-    → ((k : ℕ) (row : Circuit) (q : plain.CircuitNeed) → k < c → slice_get rows k ≡ Some row → slice_get qs k ≡ Some q → f k row q ≡ true)
+pub circuits-more : (f : ℕ → Circuit → values.CircuitNeed → Bool) (rows : List Circuit) (qs : List values.CircuitNeed) (c : ℕ) (here : values.CircuitNeed)
+    → ((k : ℕ) (row : Circuit) (q : values.CircuitNeed) → k < c → slice_get rows k ≡ Some row → slice_get qs k ≡ Some q → f k row q ≡ true)
     → slice_get qs c ≡ Some here → ((row : Circuit) → slice_get rows c ≡ Some row → f c row here ≡ true)
-    → (k : ℕ) (row : Circuit) (q : plain.CircuitNeed) → k < c + 1 → slice_get rows k ≡ Some row → slice_get qs k ≡ Some q → f k row q ≡ true
+    → (k : ℕ) (row : Circuit) (q : values.CircuitNeed) → k < c + 1 → slice_get rows k ≡ Some row → slice_get qs k ≡ Some q → f k row q ≡ true
 circuits-more f rows qs c here before is h k row q l a b = go (cases_lt k c)
   where
     go : (k < c) ⊎ (c ≤ k) → f k row q ≡ true

@@ -8,9 +8,9 @@ use Rattle.gts_directory.specs.Directory.{Directory}
 use Rattle.gts_event.specs.State.{Bulletin}
 use Rattle.gts_event.specs.Need.{Need, CircuitNeed, begun, is_sound}
 use Rattle.gts_event.specs.Items.{bulletin_of, circuit_need_of, need_of}
-use Rattle.gts_event.specs.declared.plain.Bulletin as plain
-use Rattle.gts_event.specs.declared.plain.CircuitNeed as plain_circuit
-use Rattle.gts_event.specs.declared.plain.Need as plain_need
+use Rattle.gts_event.specs.declared.values.Bulletin as values
+use Rattle.gts_event.specs.declared.values.CircuitNeed as value_circuit
+use Rattle.gts_event.specs.declared.values.Need as value_need
 use Rattle.gts_record.specs.declared.version.Version.{Version}
 use Rattle.gts_record.specs.Record.{bytes_of}
 use Rattle.gts_record.specs.Format.{seal, first_seal, draw_size, is_sealed}
@@ -48,12 +48,12 @@ FindsNumbers bytes count (Some found) = BeginsWith bytes (flat_map (bytes_of 8) 
 FindsNumbers bytes count None = length bytes < 8 * count
 
 -- a bulletin stands there, or none whose body isn't too long
-abbrev pub FindsBulletin : List ℕ → Option plain.Bulletin → Type 0
+abbrev pub FindsBulletin : List ℕ → Option values.Bulletin → Type 0
 FindsBulletin bytes (Some b) = BeginsWith bytes (bulletin_text (bulletin_of b))
 FindsBulletin bytes None = (b : Bulletin) → length b.body ≤ LONGEST_BODY → BeginsWith bytes (bulletin_text b) → ⊥
 
 -- what is needed of a circuit stands there, or nothing that fits its bytes
-abbrev pub FindsCircuit : List ℕ → Option plain_circuit.CircuitNeed → Type 0
+abbrev pub FindsCircuit : List ℕ → Option value_circuit.CircuitNeed → Type 0
 FindsCircuit bytes (Some c) = BeginsWith bytes (circuit_text (circuit_need_of c))
 FindsCircuit bytes None = (c : CircuitNeed) → FitsCircuit c → BeginsWith bytes (circuit_text c) → ⊥
 
@@ -62,12 +62,12 @@ abbrev pub FitBodies : List Bulletin → Type 0
 FitBodies bs = AllByRecursion (λ b. (b.position < 256 ^ 8) × (length b.body ≤ LONGEST_BODY)) bs
 
 -- so many bulletins stand there, or none so many with bodies that aren't too long
-abbrev pub FindsBulletins : List ℕ → ℕ → Option (List plain.Bulletin) → Type 0
+abbrev pub FindsBulletins : List ℕ → ℕ → Option (List values.Bulletin) → Type 0
 FindsBulletins bytes count (Some found) = BeginsWith bytes (flat_map (λ b. bulletin_text (bulletin_of b)) found) × (length found ≡ count)
 FindsBulletins bytes count None = (bs : List Bulletin) → length bs ≡ count → FitBodies bs → BeginsWith bytes (flat_map bulletin_text bs) → ⊥
 
 -- so many circuits stand there, or none so many that fit their bytes
-abbrev pub FindsCircuits : List ℕ → ℕ → Option (List plain_circuit.CircuitNeed) → Type 0
+abbrev pub FindsCircuits : List ℕ → ℕ → Option (List value_circuit.CircuitNeed) → Type 0
 FindsCircuits bytes count (Some found) = BeginsWith bytes (flat_map (λ c. circuit_text (circuit_need_of c)) found) × (length found ≡ count)
 FindsCircuits bytes count None =
     (cs : List CircuitNeed) → length cs ≡ count → AllByRecursion FitsCircuit cs → BeginsWith bytes (flat_map circuit_text cs) → ⊥
@@ -77,7 +77,7 @@ abbrev pub IsNoFront : List ℕ → Type 0
 IsNoFront bytes = (circuits accepted bulletins : ℕ) → bytes ≡ head_text circuits accepted bulletins → ⊥
 
 -- A checkpoint stands there, whatever its numbers mean; or none for so many circuits with bodies that aren't too long.
-abbrev pub FindsText : List ℕ → ℕ → Option plain_need.Need → Type 0
+abbrev pub FindsText : List ℕ → ℕ → Option value_need.Need → Type 0
 FindsText bytes count (Some n) = BeginsWith bytes (checkpoint_text (need_of n))
 FindsText bytes count None =
     (m : Need) → FitsNeed m → length m.circuits ≡ count → FitBodies m.bulletins → BeginsWith bytes (checkpoint_text m) → ⊥
@@ -88,15 +88,15 @@ first_of None = None
 first_of (Some x) = Some x.0
 
 -- the numbers of what was read fit their bytes, and nothing is owed
-abbrev pub FitsPlain : plain.Bulletin → Type 0
-FitsPlain b = (b.position < 2 ^ 64) × (length b.body ≤ LONGEST_BODY)
+abbrev pub FitsValue : values.Bulletin → Type 0
+FitsValue b = (b.position < 2 ^ 64) × (length b.body ≤ LONGEST_BODY)
 
 -- each place fits its bytes
 abbrev pub ArePlaces : List ℕ → Type 0
 ArePlaces ps = AllByRecursion (λ p. p < 256 ^ 8) ps
 
-abbrev pub FitsPlainCircuit : plain_circuit.CircuitNeed → Type 0
-FitsPlainCircuit c =
+abbrev pub FitsValueCircuit : value_circuit.CircuitNeed → Type 0
+FitsValueCircuit c =
     (c.draws < 2 ^ 64) × (length c.waiting < 2 ^ 32) × (length c.kept < 2 ^ 32) × ArePlaces c.waiting × ArePlaces c.kept × (c.owed ≡ [])
 
 -- why bytes can't be read, whatever they are
@@ -106,7 +106,7 @@ IsReadFault NoMemory = Unit {0}
 IsReadFault _ = ⊥
 
 -- what waits on a circuit
-abbrev pub waiting_of : plain_circuit.CircuitNeed → List ℕ
+abbrev pub waiting_of : value_circuit.CircuitNeed → List ℕ
 waiting_of c = c.waiting
 
 -- ---- the whole

@@ -13,10 +13,10 @@ pub use Rattle.gts_event.specs.History.{is_request, most_owed}
 use Rattle.gts_event.specs.Need.{Need, CircuitNeed, is_distinct, positions_of}
 pub use Rattle.gts_event.specs.Need.{ascends, recent_positions, is_bulletin, is_needed, is_kept, has_counts, is_circuit_sound, is_sound}
 pub use Rattle.gts_event.specs.Items.{bulletin_of, circuit_need_of, need_of}
-use Rattle.gts_event.specs.declared.plain.Bulletin as plain
+use Rattle.gts_event.specs.declared.values.Bulletin as values
 
 -- the positions of bulletins
-abbrev pub positions : List plain.Bulletin → List ℕ
+abbrev pub positions : List values.Bulletin → List ℕ
 positions bulletins = positions_of (map bulletin_of bulletins)
 
 -- a position waits on a circuit, or is kept there

@@ -5,8 +5,8 @@ use Rattle.gts_traits.specs.Station.{Call, seen, IsSynced}
 use Rattle.gts_frame.specs.declared.kind.Kind.{Kind}
 use Rattle.gts_frame.specs.Frame.{letters}
 use Rattle.gts_event.specs.State.{Bulletin}
-use Rattle.gts_event.specs.declared.plain.Bulletin as plain
-use Rattle.gts_event.specs.declared.plain.CircuitNeed as plain_circuit
+use Rattle.gts_event.specs.declared.values.Bulletin as values
+use Rattle.gts_event.specs.declared.values.CircuitNeed as value_circuit
 use Rattle.gts_event.specs.Items.{bulletin_of, circuit_need_of}
 use Rattle.gts_event.specs.Need.{Need}
 use Rattle.gts_record.specs.Record.{open_gate}
@@ -65,15 +65,15 @@ abbrev pub circuit_head : ℕ → ℕ → ℕ → List ℕ
 circuit_head draws waiting kept = bytes_of 8 draws ++ bytes_of 4 waiting ++ bytes_of 4 kept
 
 -- a bulletin, and what is needed of a circuit, as they are written
-abbrev pub written_bulletin : plain.Bulletin → List ℕ
+abbrev pub written_bulletin : values.Bulletin → List ℕ
 written_bulletin b = bulletin_text (bulletin_of b)
 
-abbrev pub written_circuit : plain_circuit.CircuitNeed → List ℕ
+abbrev pub written_circuit : value_circuit.CircuitNeed → List ℕ
 written_circuit c = circuit_text (circuit_need_of c)
 
 -- their numbers fit the bytes that they have
-abbrev pub CanPutBulletin : plain.Bulletin → Type 0
+abbrev pub CanPutBulletin : values.Bulletin → Type 0
 CanPutBulletin b = (b.from < 256) × (length b.body < 2 ^ 32)
 
-abbrev pub CanPutCircuit : plain_circuit.CircuitNeed → Type 0
+abbrev pub CanPutCircuit : value_circuit.CircuitNeed → Type 0
 CanPutCircuit c = (length c.waiting < 2 ^ 32) × (length c.kept < 2 ^ 32)

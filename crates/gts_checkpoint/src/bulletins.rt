@@ -3,28 +3,20 @@
 ghost use Rattle.std.specs.Prelude.{◌≡◌, ◌<◌, ◌&&◌, ◌==◌, map, length, not, is_ok, true, IfOk};
 ghost use Rattle.std.specs.Int.{bit_at};
 ghost use Rattle.std.specs.List.{list_all};
-ghost use Rattle.gts_checkpoint.specs.Sound as words;
+ghost use Rattle.gts_checkpoint.specs.Sound as definitions;
 ghost use Rattle.gts_checkpoint.specs.Sound.{AreBulletins, AreNamed, positions, mask_at, fields_of, body_at, has, heading_of, ascends, recent_positions, bulletin_of, need_of};
 
 use crate::ascending::place_of;
 use gts_alphabet::{LONGEST_BODY, NoMemory};
 use gts_directory::Directory;
-use gts_event::{Bulletin, Need};
-use gts_heading::Heading;
+use gts_event::{Bulletin, Need, is_request};
 use gts_message::Body;
 use std::alloc::Global;
-
-/// The heading of a request for repetition to the own centre (profile, after the Manual's designators).
-fn is_request(directory: &Directory, heading: &Heading) -> bool
-    ensures { result ≡ words.is_request directory.now (fields_of heading.now) }
-{
-    heading.tt == *b"BM" && heading.aa == *b"RR" && heading.cccc == directory.centre()
-}
 
 /// Whether these are the bytes of a message that is no request.
 fn is_body(directory: &Directory, body: &[u8]) -> bool
     ensures { result ≡ (is_ok (body_at body.now)
-        && not (words.is_request directory.now (heading_of body.now))) }
+        && not (definitions.is_request directory.now (heading_of body.now))) }
 {
     match Body::split(body) {
         Ok((heading, _)) => !is_request(directory, &heading),
@@ -35,7 +27,7 @@ fn is_body(directory: &Directory, body: &[u8]) -> bool
 /// Whether a bulletin came in on a circuit of the directory, has a position below the number accepted, and the body of a
 /// message that is no request.
 fn is_bulletin(directory: &Directory, accepted: u64, bulletin: &Bulletin) -> bool
-    ensures { result ≡ words.is_bulletin directory.now accepted (bulletin_of bulletin.now) }
+    ensures { result ≡ definitions.is_bulletin directory.now accepted (bulletin_of bulletin.now) }
 {
     let body = bulletin.body.as_slice();
     bulletin.from < directory.circuits()
@@ -46,7 +38,7 @@ fn is_bulletin(directory: &Directory, accepted: u64, bulletin: &Bulletin) -> boo
 
 /// Whether each of these is a bulletin that was accepted.
 pub(crate) fn are_bulletins(directory: &Directory, accepted: u64, bulletins: &[Bulletin]) -> bool
-    ensures { result ≡ list_all (words.is_bulletin directory.now accepted)
+    ensures { result ≡ list_all (definitions.is_bulletin directory.now accepted)
         (map bulletin_of bulletins.now) }
 {
     bulletins
@@ -104,7 +96,7 @@ pub(crate) fn masks(alloc: Global, directory: &Directory, need: &Need) -> Result
 fn is_marked(bulletins: &[Bulletin], masks: &[u64], circuit: u32, position: u64) -> bool
     requires order { ascends (positions bulletins.now) ≡ true }
     requires each { length masks.now ≡ length bulletins.now }
-    ensures { result ≡ words.is_marked (positions bulletins.now) masks.now circuit position }
+    ensures { result ≡ definitions.is_marked (positions bulletins.now) masks.now circuit position }
 {
     match place_of(bulletins, position) {
         Some(place) => has_bit(masks[place], circuit),
@@ -122,7 +114,7 @@ pub(crate) fn are_marked(
     requires order { ascends (positions bulletins.now) ≡ true }
     requires each { length masks.now ≡ length bulletins.now }
     ensures { result
-        ≡ list_all (words.is_marked (positions bulletins.now) masks.now circuit) numbers.now }
+        ≡ list_all (definitions.is_marked (positions bulletins.now) masks.now circuit) numbers.now }
 {
     for number in numbers {
         if !is_marked(bulletins, masks, circuit, *number) {

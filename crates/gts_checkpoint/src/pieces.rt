@@ -4,7 +4,7 @@ ghost use Rattle.gts_alphabet.specs.declared.limits.TheConstants.{LONGEST_BODY a
 ghost use Rattle.gts_traits.specs.{HasCause, Rose};
 ghost use Rattle.gts_record.specs.Record.{kind_of};
 ghost use Rattle.gts_checkpoint.specs.Writing.{bulletin_head, circuit_head};
-ghost use Rattle.gts_checkpoint.specs.Reading.{bytes_from, BeginsWith, IsNoHead, FindsBytes, FindsNumbers, FindsBulletin, FindsCircuit, ArePlaces, FitsPlainCircuit, IsReadFault};
+ghost use Rattle.gts_checkpoint.specs.Reading.{bytes_from, BeginsWith, IsNoHead, FindsBytes, FindsNumbers, FindsBulletin, FindsCircuit, ArePlaces, FitsValueCircuit, IsReadFault};
 
 use crate::numbers::{number_in_eight, number_in_four};
 use gts_alphabet::LONGEST_BODY;
@@ -221,7 +221,7 @@ pub(crate) fn circuit_at<P: Station>(
     requires place { at < 2 ^ 61 }
     ensures found { P.tells → IfOk result
         (FindsCircuit (bytes_from (P.calls station.old) file at)) }
-    ensures fits { IfOk result (λ found. IfSome found FitsPlainCircuit) }
+    ensures fits { IfOk result (λ found. IfSome found FitsValueCircuit) }
     ensures told { P.tells → P.calls station.new ≡ P.calls station.old }
     ensures kind { IfErr result IsReadFault }
     ensures disk_fault { IsErrOf result OpenFault.DiskFault

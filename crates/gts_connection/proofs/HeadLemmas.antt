@@ -8,7 +8,7 @@ use Rattle.gts_alphabet.specs.Digits.{dec}
 use Rattle.gts_alphabet.proofs.LawLemmas.{digits_value-dec}
 use Rattle.gts_directory.specs.Directory.{Directory}
 use Rattle.gts_connection.specs.declared.kind.CaptureKind.{CaptureKind}
-use Rattle.gts_connection.specs.declared.kind.CaptureKind.TheVariants.{Journaled, Plain}
+use Rattle.gts_connection.specs.declared.kind.CaptureKind.TheVariants.{Journaled, Traffic}
 use Rattle.gts_connection.specs.Capture.{Head, FeedHead, TakeHead, ReopenHead, DrainHead, RestartHead, CompactHead, EndHead, head_text, IsHeadOf, IsHeadFront}
 use Rattle.gts_connection.proofs.ListLemmas.{starts_with-append, starts_is}
 
@@ -48,7 +48,7 @@ same_size n m h k f = sym (digits_value-dec 6 n (omega arith)) ∙ f ∙ digits_
 -- a kind is the one with a journal, or it isn't
 journaled_or_not : (kind : CaptureKind) → (kind ≡ Journaled) ⊎ (kind ≡ Journaled → ⊥)
 journaled_or_not Journaled = inl refl
-journaled_or_not Plain = inr (λ e. cc)
+journaled_or_not Traffic = inr (λ e. cc)
 
 -- ---- whether some head has a property that is computed
 

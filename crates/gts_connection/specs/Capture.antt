@@ -44,7 +44,7 @@ head_text RestartHead = codes "R\n"
 head_text CompactHead = codes "C\n"
 head_text EndHead = codes "E\n"
 
--- In a capture of so many circuits a head names one of them, and at most 999,999 bytes; a plain one has no `R` and no `C`.
+-- In a capture of so many circuits a head names one of them, and at most 999,999 bytes; one of traffic has no `R` and no `C`.
 abbrev pub IsHeadIn : (circuits : ℕ) → CaptureKind → Head → Type 0
 IsHeadIn circuits kind (FeedHead circuit size) = (circuit < circuits) × (size ≤ 999999)
 IsHeadIn circuits kind (TakeHead circuit) = circuit < circuits

@@ -9,7 +9,7 @@ use Rattle.gts_event.specs.declared.event.Event.TheVariants.{Heard, Lost}
 use Rattle.gts_event.specs.declared.event.Entry.{Entry}
 use Rattle.gts_event.specs.declared.event.Entry.TheVariants.{Restarted}
 use Rattle.gts_event.specs.Worked.{two, report, message_text, frame_of, first, second, take_on, channel}
-use Rattle.gts_connection.specs.declared.kind.CaptureKind.TheVariants.{Plain}
+use Rattle.gts_connection.specs.declared.kind.CaptureKind.TheVariants.{Traffic}
 use Rattle.gts_connection.specs.Connection.{connection}
 use Rattle.gts_connection.specs.Capture.{Step, Feed, Take, Reopen, Drain, Restart, Compact, EndHead, head_text, step_text, entries, compactions, Reading, ReadingOf}
 
@@ -91,10 +91,10 @@ CountedCompactions =
     (compactions two (empty two) 0 (Feed 0 frame_1 ∷ Compact ∷ Take 1 ∷ Restart ∷ Compact ∷ Compact ∷ []) ≡ 1 ∷ 3 ∷ 3 ∷ [])
     × Reading two (codes "C\nT 01\nC\nE\n") (Compact ∷ Take 1 ∷ Compact ∷ []) 11
 
--- In a plain capture the head of a restart or of a compaction is bad at its first byte.
-abbrev pub PlainHeads : Type 0
-PlainHeads =
-    ReadingOf Plain two (codes "T 01\nR\nE\n") (Take 1 ∷ []) 5 × ReadingOf Plain two (codes "T 01\nC\nE\n") (Take 1 ∷ []) 5
+-- In a capture of traffic the head of a restart or of a compaction is bad at its first byte.
+abbrev pub TrafficHeads : Type 0
+TrafficHeads =
+    ReadingOf Traffic two (codes "T 01\nR\nE\n") (Take 1 ∷ []) 5 × ReadingOf Traffic two (codes "T 01\nC\nE\n") (Take 1 ∷ []) 5
 
 -- one bulletin and one draw
 abbrev pub steps_of_one_draw : List Step

@@ -3,6 +3,6 @@
 pub enum CaptureKind {
     /// Its switch keeps a journal: `R` opens that again, and `C` compacts it.
     Journaled,
-    /// It is about circuits alone: `R` and `C` begin no head.
-    Plain,
+    /// It is about the traffic of circuits alone: `R` and `C` begin no head.
+    Traffic,
 }

@@ -1,6 +1,6 @@
 //! Worked rows over literal bytes, each the contract of a function with an empty body.
 ghost use Rattle.gts_connection.specs.Worked.{ByteByByte, KeepAliveBetween, LossAndReopen, Losses, FramesBeforeLoss, DrainTakes, RestartedConnections, CountedCompactions, WholeCapture};
-ghost use Rattle.gts_connection.specs.Worked.{CutInFeed, CutInHead, BadByte, PlainHeads};
+ghost use Rattle.gts_connection.specs.Worked.{CutInFeed, CutInHead, BadByte, TrafficHeads};
 
 /// A frame in pieces of one byte is heard as in one piece.
 pub fn a_frame_may_come_byte_by_byte()
@@ -63,6 +63,6 @@ pub fn a_capture_may_have_a_bad_byte()
 {}
 
 /// A capture that is about circuits alone is read up to a step of the journal.
-pub fn a_plain_capture_has_no_step_of_the_journal()
-    ensures { PlainHeads }
+pub fn a_capture_of_traffic_has_no_step_of_the_journal()
+    ensures { TrafficHeads }
 {}

@@ -1,5 +1,5 @@
 ghost use Rattle.std.specs.Prelude.{◌≡◌, ◌≤◌, Ok, count_ones};
-ghost use Rattle.gts_core.specs.Words.{split_at, parts_of, fields_of, digest_of};
+ghost use Rattle.gts_core.specs.Cited.{split_at, parts_of, fields_of, digest_of};
 ghost use Rattle.gts_core.specs.Duplicates.{IsDigestOf};
 
 use gts_message::Parts;

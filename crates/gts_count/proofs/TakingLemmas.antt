@@ -20,7 +20,7 @@ use Rattle.gts_frame.specs.declared.lost.LostField.{LostField}
 use Rattle.gts_event.proofs.LawLemmas.{outcome-same, spoken-same, bulletin-parts}
 use Rattle.gts_traits.specs.Station.{on}
 use Rattle.gts_record.specs.declared.fault.OpenFault.{OpenFault}
-use Rattle.gts_turns.specs.Turns.{restart_of}
+use Rattle.gts_calls.specs.Calls.{restart_of}
 use Rattle.gts_count.specs.declared.counting.Counting.{Counting}
 use Rattle.gts_count.specs.Tally.{key_of}
 use Rattle.gts_count.specs.Rows.{has_row}

@@ -6,35 +6,35 @@ use Rattle.gts_event.specs.History.{after_all}
 use Rattle.gts_event.specs.Need.{need}
 use Rattle.gts_event.specs.declared.event.Entry.{Entry}
 use Rattle.gts_opening.specs.Room.{HasUnsaid}
-use Rattle.gts_turns.specs.Turns.{Standing}
+use Rattle.gts_calls.specs.Calls.{Standing}
 use Rattle.gts_count.specs.declared.parts.Parts.{Parts}
 use Rattle.gts_count.specs.Table.{table}
 use Rattle.gts_count.specs.Counting.{Counts}
 
 -- the state for which a switch stands
 abbrev pub state_at : {O W : Type 0} → Standing O W → W → O → List Entry → State
-state_at words now o h = after_all (words.directory now) (words.begin o) h
+state_at meanings now o h = after_all (meanings.directory now) (meanings.begin o) h
 
 -- What stands for what its parts do: for what the switch stands for; and the numbers are those of the need there, counted from
 -- scratch, until saying failed.
-abbrev pub words_by : {O T W : Type 0} → (W → Parts T) → Standing O T → Standing O W
-words_by parts words = record {
-  directory = λ w. words.directory (parts w).switch;
-  begin = words.begin;
-  stands = λ o h w. words.stands o h (parts w).switch
-      × Counts (words.directory (parts w).switch) (state_at words (parts w).switch o h) h (parts w).counting;
-  is_full = words.is_full;
-  compacts = words.compacts;
-  left = λ o h w. words.left o h (parts w).switch;
-  is_full_compacted = words.is_full_compacted;
+abbrev pub meanings_by : {O T W : Type 0} → (W → Parts T) → Standing O T → Standing O W
+meanings_by parts meanings = record {
+  directory = λ w. meanings.directory (parts w).switch;
+  begin = meanings.begin;
+  stands = λ o h w. meanings.stands o h (parts w).switch
+      × Counts (meanings.directory (parts w).switch) (state_at meanings (parts w).switch o h) h (parts w).counting;
+  is_full = meanings.is_full;
+  compacts = meanings.compacts;
+  left = λ o h w. meanings.left o h (parts w).switch;
+  is_full_compacted = meanings.is_full_compacted;
 }
 
 -- of the parts themselves
-abbrev pub counted_words : {O T : Type 0} → Standing O T → Standing O (Parts T)
-counted_words words = words_by (λ parts. parts) words
+abbrev pub counted_meanings : {O T : Type 0} → Standing O T → Standing O (Parts T)
+counted_meanings meanings = meanings_by (λ parts. parts) meanings
 
 -- it is the table of the need where the switch stands, unless saying failed before
 abbrev pub ShowsTable : {O T : Type 0} → Standing O T → Parts T → List ℕ → Type 0
-ShowsTable {O} words parts text =
-    (o : O) (h : List Entry) → (counted_words words).stands o h parts → (HasUnsaid h → ⊥)
-    → let d : Directory = words.directory parts.switch in text ≡ table d (need d (state_at words parts.switch o h))
+ShowsTable {O} meanings parts text =
+    (o : O) (h : List Entry) → (counted_meanings meanings).stands o h parts → (HasUnsaid h → ⊥)
+    → let d : Directory = meanings.directory parts.switch in text ≡ table d (need d (state_at meanings parts.switch o h))

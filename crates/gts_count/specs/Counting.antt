@@ -16,7 +16,7 @@ use Rattle.gts_event.specs.declared.outcome.Outcome.TheVariants.{Accepted, Draw}
 use Rattle.gts_event.specs.declared.fault.SwitchFault.{SwitchFault}
 use Rattle.gts_event.specs.declared.fault.SwitchFault.TheVariants.{SayFault}
 use Rattle.gts_opening.specs.Room.{HasUnsaid}
-use Rattle.gts_turns.specs.Turns.{entry_of}
+use Rattle.gts_calls.specs.Calls.{entry_of}
 use Rattle.gts_count.specs.declared.recent.Recent.{Recent}
 use Rattle.gts_count.specs.declared.numbers.Numbers.{Numbers}
 use Rattle.gts_count.specs.declared.counting.Counting.{Counting}

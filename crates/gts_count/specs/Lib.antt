@@ -8,6 +8,6 @@ pub mod Counting
 pub mod Counted
 pub mod Text
 pub mod Start
-pub mod Words
+pub mod Cited
 pub mod Worked
 pub use Rattle.gts_count.specs.Table.{table}

@@ -6,11 +6,11 @@ use crate::steps::{compact, hear, leave, lose, restart, take};
 use crate::text::table;
 use crate::{Counting, Parts};
 use gts_alphabet::NoMemory;
+use gts_calls::Switch;
 use gts_directory::Directory;
 use gts_event::{Need, Outcome, SwitchFault};
 use gts_frame::{FrameBuf, Kind, LostField};
 use gts_record::OpenFault;
-use gts_turns::Switch;
 use std::alloc::Global;
 
 /// A switch whose outcomes are counted. Each call is passed on, and its outcome noted; the numbers afterwards are those of the
@@ -22,11 +22,11 @@ pub struct Counted<T> {
 }
 
 impl<T: Switch> Switch for Counted<T> {
-    ghost use Rattle.gts_count.specs.Counted.{words_by};
+    ghost use Rattle.gts_count.specs.Counted.{meanings_by};
 
     ghost Origin = { T.Origin };
 
-    ghost words = { words_by (λ c. c.parts) T.words };
+    ghost meanings = { meanings_by (λ c. c.parts) T.meanings };
 
     ghost tells = { T.tells };
 
@@ -75,7 +75,7 @@ impl<T: Switch> Counted<T> {
     ghost use Rattle.gts_event.specs.Need.{is_sound};
     ghost use Rattle.gts_event.specs.Items.{need_of};
     ghost use Rattle.gts_count.specs.Counting.{StandsAt};
-    ghost use Rattle.gts_count.specs.Counted.{ShowsTable, counted_words, state_at};
+    ghost use Rattle.gts_count.specs.Counted.{ShowsTable, counted_meanings, state_at};
 
     /// A switch whose numbers begin with those of a need: with a row for each of its bulletins. A refusal hands the switch back.
     pub fn new(
@@ -84,15 +84,15 @@ impl<T: Switch> Counted<T> {
         directory: &Directory,
         need: &Need,
     ) -> Result<Counted<T>, (T, NoMemory)>
-        requires directory { T.words.directory switch ≡ directory.now }
+        requires directory { T.meanings.directory switch ≡ directory.now }
         requires sound { IsTrue (is_sound directory.now (need_of need.now)) }
         ensures switch { IfOk result (λ c. c.parts.switch ≡ switch) }
 
         // It stands for what the switch stands for, where that has this need.
         ensures stands { IfOk result (λ c. (o : T.Origin) (h : List Entry)
-            → T.words.stands o h switch
-            → StandsAt directory.now (state_at T.words switch o h) (need_of need.now)
-            → (counted_words T.words).stands o h c.parts) }
+            → T.meanings.stands o h switch
+            → StandsAt directory.now (state_at T.meanings switch o h) (need_of need.now)
+            → (counted_meanings T.meanings).stands o h c.parts) }
         ensures err { IfErr result (λ e. e.0 ≡ switch) }
     {
         match counting_of(alloc, directory, need) {
@@ -106,7 +106,7 @@ impl<T: Switch> Counted<T> {
     /// The table of the need of the history: the numbers of each key of which not all are 0, of each circuit, and the end. Once
     /// saying failed, the text says nothing of that.
     pub fn text(&self, alloc: Global) -> Result<Vec<u8>, NoMemory>
-        ensures { IfOk result (λ text. ShowsTable T.words self.now.parts text.items) }
+        ensures { IfOk result (λ text. ShowsTable T.meanings self.now.parts text.items) }
     {
         table(alloc, &self.parts.counting.numbers)
     }

@@ -1,6 +1,6 @@
 //! Laws of what is counted, each the contract of a function with an empty body.
 ghost use Rattle.std.specs.Prelude.{◌≡◌, ℕ, ◌≤◌, List, [], ◌∷◌, ◌++◌};
-ghost use Rattle.gts_count.specs.Words.{Directory, State, Kind, Heard, Accepted, keep_last, empty, outcome, after, need, tally, HasWindow, heard_of};
+ghost use Rattle.gts_count.specs.Cited.{Directory, State, Kind, Heard, Accepted, keep_last, empty, outcome, after, need, tally, HasWindow, heard_of};
 
 /// An accepted message joins the bulletins that are counted, of which the last ones stay.
 pub fn an_accepted_message_joins_the_window()

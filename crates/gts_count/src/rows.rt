@@ -1,5 +1,5 @@
 ghost use Rattle.std.specs.Prelude.{◌≡◌, ◌+◌, ◌<◌, ◌≤◌, ◌^◌, OnOk, OnErr, IsTrue, false};
-ghost use Rattle.gts_count.specs.Rows as words;
+ghost use Rattle.gts_count.specs.Rows as definitions;
 ghost use Rattle.gts_count.specs.Rows.{row_at, ChangesRow, AddsRow, with_bulletin, without_bulletin, with_draw, without_draw};
 
 use crate::Recent;
@@ -33,14 +33,14 @@ pub fn row_of(rows: &BTreeMap<[u8; 11], Row>, key: &[u8; 11]) -> Row
 
 /// Whether a key has a row.
 pub fn has_row(rows: &BTreeMap<[u8; 11], Row>, key: &[u8; 11]) -> bool
-    ensures { result ≡ words.has_row rows.now key.now }
+    ensures { result ≡ definitions.has_row rows.now key.now }
 {
     rows.contains_key(key)
 }
 
 /// Sets the numbers of a key that has a row. Takes no memory.
 pub fn set_row(rows: &mut BTreeMap<[u8; 11], Row>, key: &[u8; 11], row: Row)
-    requires { IsTrue (words.has_row rows.old key.now) }
+    requires { IsTrue (definitions.has_row rows.old key.now) }
     ensures { ChangesRow rows.old rows.new key.now row }
 {
     if let Some(place) = rows.get_mut(key) {
@@ -50,8 +50,8 @@ pub fn set_row(rows: &mut BTreeMap<[u8; 11], Row>, key: &[u8; 11], row: Row)
 
 /// Makes a row for a key, with zeros, unless it has one. A refusal changes nothing.
 pub fn add_row(rows: &mut BTreeMap<[u8; 11], Row>, key: [u8; 11]) -> Result<(), NoMemory>
-    ensures has { OnOk result (IsTrue (words.has_row rows.new key)) }
-    ensures none { OnErr result (words.has_row rows.old key ≡ false) }
+    ensures has { OnOk result (IsTrue (definitions.has_row rows.new key)) }
+    ensures none { OnErr result (definitions.has_row rows.old key ≡ false) }
     ensures same { AddsRow rows.old rows.new }
 {
     if rows.contains_key(&key) {
@@ -68,7 +68,7 @@ pub fn add_row(rows: &mut BTreeMap<[u8; 11], Row>, key: [u8; 11]) -> Result<(), 
 
 /// A bulletin joins the numbers of its key.
 pub fn join(rows: &mut BTreeMap<[u8; 11], Row>, bulletin: Recent)
-    requires row { IsTrue (words.has_row rows.old bulletin.key) }
+    requires row { IsTrue (definitions.has_row rows.old bulletin.key) }
     requires few { (row_at rows.old bulletin.key).bulletins + 1 < 2 ^ 64 }
     requires short { (row_at rows.old bulletin.key).bytes + bulletin.bytes < 2 ^ 64 }
     ensures { ChangesRow rows.old rows.new bulletin.key
@@ -85,7 +85,7 @@ pub fn join(rows: &mut BTreeMap<[u8; 11], Row>, bulletin: Recent)
 
 /// A bulletin leaves the numbers of its key.
 pub fn leave(rows: &mut BTreeMap<[u8; 11], Row>, bulletin: Recent)
-    requires row { IsTrue (words.has_row rows.old bulletin.key) }
+    requires row { IsTrue (definitions.has_row rows.old bulletin.key) }
     requires counted { 1 ≤ (row_at rows.old bulletin.key).bulletins }
     requires sized { bulletin.bytes ≤ (row_at rows.old bulletin.key).bytes }
     ensures { ChangesRow rows.old rows.new bulletin.key
@@ -102,7 +102,7 @@ pub fn leave(rows: &mut BTreeMap<[u8; 11], Row>, bulletin: Recent)
 
 /// A draw joins the numbers of its key.
 pub fn join_draw(rows: &mut BTreeMap<[u8; 11], Row>, key: [u8; 11])
-    requires row { IsTrue (words.has_row rows.old key) }
+    requires row { IsTrue (definitions.has_row rows.old key) }
     requires few { (row_at rows.old key).draws + 1 < 2 ^ 64 }
     ensures { ChangesRow rows.old rows.new key (with_draw (row_at rows.old key)) }
 {
@@ -117,7 +117,7 @@ pub fn join_draw(rows: &mut BTreeMap<[u8; 11], Row>, key: [u8; 11])
 
 /// A draw leaves the numbers of its key.
 pub fn leave_draw(rows: &mut BTreeMap<[u8; 11], Row>, key: [u8; 11])
-    requires row { IsTrue (words.has_row rows.old key) }
+    requires row { IsTrue (definitions.has_row rows.old key) }
     requires counted { 1 ≤ (row_at rows.old key).draws }
     ensures { ChangesRow rows.old rows.new key (without_draw (row_at rows.old key)) }
 {

@@ -3,7 +3,7 @@ ghost use Rattle.std.specs.Prelude.{◌≡◌, ◌<◌, ◌≤◌, ◌++◌, [],
 ghost use Rattle.std.specs.Ordering.{nat_cmp};
 ghost use Rattle.std.specs.BTreeMap.{get};
 ghost use Rattle.std.specs.List.{All};
-ghost use Rattle.gts_count.specs.Words.{body_at, buffer, bulletin_of, circuit_need_of, need_of, is_bulletin, is_sound, IsSound, IsRing, Entry};
+ghost use Rattle.gts_count.specs.Cited.{body_at, buffer, bulletin_of, circuit_need_of, need_of, is_bulletin, is_sound, IsSound, IsRing, Entry};
 ghost use Rattle.gts_event.specs.State as states;
 ghost use Rattle.gts_count.specs.Start.{Begins, HasRings, NotesStart, NotesAll, HasKeys, AreBodies, HasEachRow, NotesKept, NotesDraws, Starts};
 ghost use Rattle.gts_count.specs.Counting.{Counts, StandsAt};

@@ -2,17 +2,17 @@
 ghost use Rattle.std.specs.Prelude.{◌≡◌, ◌<◌, ◌≤◌, length};
 ghost use Rattle.gts_alphabet.specs.declared.limits.TheConstants.{LONGEST_MESSAGE};
 ghost use Rattle.gts_event.specs.declared.event.Event.TheVariants.{Heard, Lost, Taken};
-ghost use Rattle.gts_turns.specs.Turns.{IsTurn, IsReopening, IsCompacting, LeavesFrame, MayLeave, HasTurnCause, HasReopenCause};
+ghost use Rattle.gts_calls.specs.Calls.{IsTurn, IsReopening, IsCompacting, LeavesFrame, MayLeave, HasTurnCause, HasReopenCause};
 ghost use Rattle.gts_count.specs.Numbers.{IsSound};
-ghost use Rattle.gts_count.specs.Counted.{counted_words};
+ghost use Rattle.gts_count.specs.Counted.{counted_meanings};
 
 use crate::Parts;
 use crate::counting::{note_heard, note_taken, ready};
 use gts_alphabet::NoMemory;
+use gts_calls::Switch;
 use gts_event::{Outcome, SwitchFault};
 use gts_frame::{FrameBuf, Kind, LostField};
 use gts_record::OpenFault;
-use gts_turns::Switch;
 use std::alloc::Global;
 
 /// A message came whole. The growth that its numbers want is taken first: where there is no memory for it, the switch isn't
@@ -24,10 +24,10 @@ pub fn hear<T: Switch>(
     kind: Kind,
     message: &[u8],
 ) -> Result<Outcome, SwitchFault>
-    requires circuit { c < length (T.words.directory parts.old.switch).circuits }
+    requires circuit { c < length (T.meanings.directory parts.old.switch).circuits }
     requires short { length message.now ≤ LONGEST_MESSAGE }
     requires sound { IsSound parts.old.counting.numbers }
-    ensures turn { IsTurn (counted_words T.words) (Heard c kind message.now) result
+    ensures turn { IsTurn (counted_meanings T.meanings) (Heard c kind message.now) result
         parts.old parts.new }
     ensures sound { IsSound parts.new.counting.numbers }
     ensures cause { HasTurnCause result
@@ -53,9 +53,9 @@ pub fn lose<T: Switch>(
     c: u32,
     field: LostField,
 ) -> Result<Outcome, SwitchFault>
-    requires circuit { c < length (T.words.directory parts.old.switch).circuits }
+    requires circuit { c < length (T.meanings.directory parts.old.switch).circuits }
     requires sound { IsSound parts.old.counting.numbers }
-    ensures turn { IsTurn (counted_words T.words) (Lost c field) result parts.old parts.new }
+    ensures turn { IsTurn (counted_meanings T.meanings) (Lost c field) result parts.old parts.new }
     ensures sound { IsSound parts.new.counting.numbers }
     ensures cause { HasTurnCause result
         (T.disk_faults parts.old.switch) (T.disk_faults parts.new.switch)
@@ -72,10 +72,10 @@ pub fn take<T: Switch>(
     c: u32,
     out: &mut FrameBuf,
 ) -> Result<Outcome, SwitchFault>
-    requires circuit { c < length (T.words.directory parts.old.switch).circuits }
+    requires circuit { c < length (T.meanings.directory parts.old.switch).circuits }
     requires sound { IsSound parts.old.counting.numbers }
-    ensures turn { IsTurn (counted_words T.words) (Taken c) result parts.old parts.new }
-    ensures frame { LeavesFrame (counted_words T.words) c result parts.old out.new }
+    ensures turn { IsTurn (counted_meanings T.meanings) (Taken c) result parts.old parts.new }
+    ensures frame { LeavesFrame (counted_meanings T.meanings) c result parts.old out.new }
     ensures sound { IsSound parts.new.counting.numbers }
     ensures cause { HasTurnCause result
         (T.disk_faults parts.old.switch) (T.disk_faults parts.new.switch)
@@ -88,14 +88,15 @@ pub fn take<T: Switch>(
 
 /// A message may be left for want of memory: it changes no numbers. Does nothing.
 pub fn leave<T: Switch>(parts: &Parts<T>)
-    ensures { MayLeave (counted_words T.words) parts.now }
+    ensures { MayLeave (counted_meanings T.meanings) parts.now }
 {
     parts.switch.leave();
 }
 
 /// Opens the journal again, which changes no numbers.
 pub fn restart<T: Switch>(parts: &mut Parts<T>, alloc: Global) -> Result<(), OpenFault>
-    ensures reopening { IsReopening (counted_words T.words) T.tells result parts.old parts.new }
+    ensures reopening { IsReopening (counted_meanings T.meanings) T.tells result
+        parts.old parts.new }
     ensures counting { parts.new.counting ≡ parts.old.counting }
     ensures cause { HasReopenCause result
         (T.disk_faults parts.old.switch) (T.disk_faults parts.new.switch)
@@ -106,7 +107,7 @@ pub fn restart<T: Switch>(parts: &mut Parts<T>, alloc: Global) -> Result<(), Ope
 
 /// Compacts the journal, which changes no numbers.
 pub fn compact<T: Switch>(parts: &mut Parts<T>, alloc: Global) -> Result<(), SwitchFault>
-    ensures compacting { IsCompacting (counted_words T.words) result parts.old parts.new }
+    ensures compacting { IsCompacting (counted_meanings T.meanings) result parts.old parts.new }
     ensures counting { parts.new.counting ≡ parts.old.counting }
     ensures cause { HasTurnCause result
         (T.disk_faults parts.old.switch) (T.disk_faults parts.new.switch)

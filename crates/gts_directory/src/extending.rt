@@ -27,7 +27,8 @@ pub struct Change {
 pub(crate) fn first_change(new: &DirRows, old: &DirRows) -> Option<Change>
     requires new { first_fault new.now ≡ None }
     requires old { first_fault old.now ≡ None }
-    ensures { result ≡ extends.first_change (directory_of_rows new.now) (directory_of_rows old.now) }
+    ensures { result ≡ extends.first_change (directory_of_rows new.now)
+        (directory_of_rows old.now) }
 {
     if !top_stays(old, new) {
         return Some(Change {

@@ -14,7 +14,7 @@ use Rattle.gts_journal.specs.Law.{OpensAsBefore}
 use Rattle.gts_opening.specs.Journal.{selected, checkpoint_text}
 use Rattle.gts_opening.specs.Room.{compacted_size, full_compacted}
 use Rattle.gts_checkpoint.specs.{checkpoint_file}
-use Rattle.gts_turns.specs.Turns.{HasTurnCause}
+use Rattle.gts_calls.specs.Calls.{HasTurnCause}
 use Rattle.gts_engine.specs.declared.room.CheckpointFull.{CheckpointFull}
 use Rattle.gts_engine.specs.declared.mode.SayMode.{SayMode}
 use Rattle.gts_engine.specs.declared.parts.Parts.{Parts}

@@ -1,7 +1,7 @@
 ghost use Rattle.std.specs.Prelude.{◌≡◌, ◌≢◌, ◌-◌, ◌^◌, ◌<◌, ◌≤◌, ℕ, min, length, None, IfOk, IfErr, OnOk, IsErrOf};
-ghost use Rattle.gts_engine.specs.Words.{Rose, State, Holds, Needs, need_of, IsSound, stopped_after, seen, said_by, EachSince};
-ghost use Rattle.gts_engine.specs.Words.{StandsOn, IsClosedAt, LeavesBoth, selecting, held, written, checkpoint_text, compacted_bytes, full_compacted};
-ghost use Rattle.gts_engine.specs.Words.{need_seal, FitBytes, HasWritten, WorksBeside};
+ghost use Rattle.gts_engine.specs.Cited.{Rose, State, Holds, Needs, need_of, IsSound, stopped_after, seen, said_by, EachSince};
+ghost use Rattle.gts_engine.specs.Cited.{StandsOn, IsClosedAt, LeavesBoth, selecting, held, written, checkpoint_text, compacted_bytes, full_compacted};
+ghost use Rattle.gts_engine.specs.Cited.{need_seal, FitBytes, HasWritten, WorksBeside};
 ghost use Rattle.gts_engine.specs.Compacting.{Rewrites, GivesRoom, IsBehind, IsSizeAt, IsWriteFault, IsRoomFault};
 
 use crate::parts::Parts;
@@ -21,7 +21,7 @@ pub fn check_room<P: Station>(parts: &Parts<P>, size: u64) -> Result<(), SwitchF
     ensures kind { IfErr result IsRoomFault }
 {
     a_core_has_the_waiting_draws_of_its_state();
-    match check_checkpoint(&parts.directory, size, parts.core.owed()) {
+    match check_checkpoint(&parts.directory, size, parts.core.waiting()) {
         Ok(()) => Ok(()),
         Err(full) => Err(SwitchFault::Full {
             used: full.used,

@@ -1,5 +1,5 @@
 ghost use Rattle.std.specs.Prelude.{◌≡◌, ◌+◌, ◌^◌, ◌<◌};
-ghost use Rattle.gts_engine.specs.Words.{State, due, seal_size, written};
+ghost use Rattle.gts_engine.specs.Cited.{State, due, seal_size, written};
 ghost use Rattle.gts_engine.specs.Compacting.{IsSizeAt, GivesCheckpoint};
 
 use gts_directory::Directory;

@@ -1,13 +1,13 @@
 ghost use Rattle.std.specs.Prelude.{◌≡◌, IfOk};
 
 use crate::directory::two_circuits;
+use gts_calls::Switch;
 use gts_directory::Directory;
 use gts_engine::{Engine, SayMode};
 use gts_event::{Device, Outcome};
 use gts_frame::{FrameBuf, Kind, LostField};
 use gts_journal::Journal;
 use gts_memory::MemStation;
-use gts_turns::Switch;
 use std::alloc::Global;
 use std::test::Fail;
 

@@ -4,7 +4,7 @@ use Rattle.std.specs.List.{list_all, range_with_len}
 use Rattle.gts_event.specs.Need.{need, nothing, is_here, IsOrdered}
 use Rattle.gts_event.specs.Held.{IsHeld}
 use Rattle.gts_event.proofs.LawLemmas.{ordered-begun, nothing-sound, held-begun}
-use Rattle.gts_connection.specs.declared.kind.CaptureKind.TheVariants.{Plain}
+use Rattle.gts_connection.specs.declared.kind.CaptureKind.TheVariants.{Traffic}
 use Rattle.gts_connection.proofs.LawLemmas.{entries_here}
 use Rattle.gts_generate.specs.Centre.{directory}
 use Rattle.gts_generate.specs.Day.{steps}
@@ -23,7 +23,7 @@ held : IsHeld directory start
 held = held-begun directory (nothing directory) (nothing-sound directory)
 
 here : (count : ℕ) → list_all (is_here directory) (history count) ≡ true
-here count = entries_here Plain directory start (steps count) (are-steps Plain (range_with_len 0 count))
+here count = entries_here Traffic directory start (steps count) (are-steps Traffic (range_with_len 0 count))
 
 pub accepted-on : (count : ℕ) → (need directory (state_after (history count))).accepted ≡ outcomes_on count is_accepted
 accepted-on count = accepted-from-nothing directory start (history count) refl

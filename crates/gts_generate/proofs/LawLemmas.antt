@@ -12,7 +12,7 @@ use Rattle.gts_event.specs.State.{State}
 use Rattle.gts_event.specs.History.{after_all}
 use Rattle.gts_event.specs.declared.event.Entry.{Entry}
 use Rattle.gts_connection.specs.declared.kind.CaptureKind.{CaptureKind}
-use Rattle.gts_connection.specs.declared.kind.CaptureKind.TheVariants.{Journaled, Plain}
+use Rattle.gts_connection.specs.declared.kind.CaptureKind.TheVariants.{Journaled, Traffic}
 use Rattle.gts_connection.specs.declared.limits.TheConstants.{LONGEST_CAPTURE}
 use Rattle.gts_connection.specs.Capture.{Step, Feed, Take, Reopen, Drain, Restart, Compact, FeedHead, head_text, step_text, head_of, IsHeadOf, AreStepsOf, IsWhole, Connections, no_bytes, entries_of_step, after_step, count_at, compactions_from, compactions}
 use Rattle.gts_generate.specs.Centre.{directory}
@@ -74,7 +74,7 @@ read-as-steps count few = record {
 
 -- ---- none of them compacts the journal
 
-no-count : (n : ℕ) (step : Step) → IsHeadOf Plain directory (head_of step) → count_at n step ≡ []
+no-count : (n : ℕ) (step : Step) → IsHeadOf Traffic directory (head_of step) → count_at n step ≡ []
 no-count n (Feed c bytes) valid = refl
 no-count n (Take c) valid = refl
 no-count n (Reopen c) valid = refl
@@ -82,12 +82,12 @@ no-count n (Drain c) valid = refl
 no-count n Restart valid = refl
 no-count n Compact valid = absurd (cc)
 
-plain-counts : (d : Directory) (s : State) (bs : Connections) (n : ℕ) (steps : List Step) → AreStepsOf Plain directory steps → compactions_from d s bs n steps ≡ []
-plain-counts d s bs n [] are = refl
-plain-counts d s bs n (step ∷ steps) are =
+traffic-counts : (d : Directory) (s : State) (bs : Connections) (n : ℕ) (steps : List Step) → AreStepsOf Traffic directory steps → compactions_from d s bs n steps ≡ []
+traffic-counts d s bs n [] are = refl
+traffic-counts d s bs n (step ∷ steps) are =
     let added : List Entry = entries_of_step s bs step in
     ap (λ (ks : List ℕ). ks ++ compactions_from d (after_all d s added) (after_step d bs step) (n + length added) steps) (no-count n step are.0)
-    ∙ plain-counts d (after_all d s added) (after_step d bs step) (n + length added) steps are.1
+    ∙ traffic-counts d (after_all d s added) (after_step d bs step) (n + length added) steps are.1
 
 pub never-compacts : (d : Directory) (s : State) (n count : ℕ) → compactions d s n (steps count) ≡ []
-never-compacts d s n count = plain-counts d s (no_bytes d) n (steps count) (are-steps Plain (range_with_len 0 count))
+never-compacts d s n count = traffic-counts d s (no_bytes d) n (steps count) (are-steps Traffic (range_with_len 0 count))

@@ -10,8 +10,8 @@ use Rattle.gts_event.specs.State.{State, EachRoutedOnce, empty}
 use Rattle.gts_event.specs.History.{after_all, restarted}
 use Rattle.gts_event.specs.Need.{Need, IsOrdered, need, nothing, begun, is_sound}
 use Rattle.gts_event.specs.Items.{need_of, circuit_need_of}
-use Rattle.gts_event.specs.declared.plain.Need as plain
-use Rattle.gts_event.specs.declared.plain.CircuitNeed as plain_circuits
+use Rattle.gts_event.specs.declared.values.Need as values
+use Rattle.gts_event.specs.declared.values.CircuitNeed as value_circuits
 use Rattle.gts_event.specs.Drain.{EachOwedFew, all_done, takes_of_drain}
 use Rattle.gts_event.specs.declared.event.Event.{Event}
 use Rattle.gts_event.specs.declared.event.Entry.{Entry}
@@ -34,7 +34,7 @@ use Rattle.gts_engine.specs.declared.mode.SayMode.{SayMode}
 use Rattle.gts_engine.specs.declared.mode.SayMode.TheVariants.{Station}
 use Rattle.gts_engine.specs.Engine.{Engine, shown}
 use Rattle.gts_engine.specs.Keeping.{Keeps, HasFailed, HasRead, HasSaid, origin_of}
-use Rattle.gts_engine.specs.Switching.{Told, switch_words}
+use Rattle.gts_engine.specs.Switching.{Told, switch_meanings}
 use Rattle.gts_replay.specs.declared.end.ReplayEnd.{ReplayEnd}
 use Rattle.gts_replay.specs.declared.end.ReplayEnd.TheVariants as end
 use Rattle.gts_replay.specs.{IsStart, StandsFor, IsDone, IsCut, StopsAtFault, Ends, compacted_at, origin_behind}
@@ -167,14 +167,14 @@ module _ (count : ℕ) (first last : Engine StationInMemory) (b : BeginsDay firs
   read-here : (ss : List Step) (at : ℕ) → Reading first.directory (capture count) ss at → ss ≡ steps count
   read-here ss at read = one-reading count few ss at (subst (λ (d : directories.Directory). Reading d (capture count) ss at) b.under read)
 
-  pub day-done : IsDone (switch_words (Unit {0}) calls_on) Journaled o [] (Unit {0}) first last (capture count) → EndsDay count last
+  pub day-done : IsDone (switch_meanings (Unit {0}) calls_on) Journaled o [] (Unit {0}) first last (capture count) → EndsDay count last
   day-done x =
       let whole : IsWhole directory (capture count) x.steps = subst (λ (d : directories.Directory). IsWhole d (capture count) x.steps) b.under (x.whole tt) in
       let read = whole_is_read Journaled directory (capture count) x.steps whole in
       let same : x.steps ≡ steps count = one-reading count few x.steps (length (flat_map step_text x.steps ++ head_text EndHead)) read in
       let keeps : Keeps (Unit {0}) Station (day_origin (calls_on first.station)) (history count) (shown calls_on last)
       = subst (λ (es : List Entry). Keeps (Unit {0}) Station (day_origin (calls_on first.station)) es (shown calls_on last)) (entries-are x.steps same)
-      (subst (λ (ks : List ℕ). (switch_words (Unit {0}) calls_on).stands (compacted_at (switch_words (Unit {0}) calls_on) o (entries first.directory start x.steps) ks)
+      (subst (λ (ks : List ℕ). (switch_meanings (Unit {0}) calls_on).stands (compacted_at (switch_meanings (Unit {0}) calls_on) o (entries first.directory start x.steps) ks)
       (entries first.directory start x.steps) last) (counts-are x.steps same) x.stands) in
       let going : last.stopped ≡ None = goes-on last.stopped (history count) (steps-done directory start (no_bytes directory) (steps count)) keeps.failed in
       let said = subst (λ (stopped : Option Device). HasSaid Station (day_origin (calls_on first.station)) (history count) stopped (calls_on last.station)) going (keeps.leaves tt).said in
@@ -185,7 +185,7 @@ module _ (count : ℕ) (first last : Engine StationInMemory) (b : BeginsDay firs
         said = said ∙ ap (λ (l : Outside). l ++ outside_of count) b.silent;
       }
 
-  pub day-full : (used wanted limit : ℕ) → StopsAtFault (switch_words (Unit {0}) calls_on) Journaled o [] (Unit {0}) (switch.Full used wanted limit) first last (capture count)
+  pub day-full : (used wanted limit : ℕ) → StopsAtFault (switch_meanings (Unit {0}) calls_on) Journaled o [] (Unit {0}) (switch.Full used wanted limit) first last (capture count)
       → IsFullOn count used wanted limit
   day-full used wanted limit x =
       let read = x.read tt in
@@ -195,23 +195,23 @@ module _ (count : ℕ) (first last : Engine StationInMemory) (b : BeginsDay firs
         event = x.breaks.event;
         back = x.breaks.behind;
         parts = sym (entries-are x.steps same) ∙ x.breaks.parts;
-        full = subst (λ (ks : List ℕ). let p = origin_behind (switch_words (Unit {0}) calls_on) o ks x.breaks.front in
+        full = subst (λ (ks : List ℕ). let p = origin_behind (switch_meanings (Unit {0}) calls_on) o ks x.breaks.front in
             full p.origin.directory (state_at p.origin x.breaks.front) (used_at p.origin x.breaks.front) x.breaks.event ≡ Some (switch.Full used wanted limit))
             (counts-are x.steps same) x.breaks.cause;
       }
 
-  pub day-whole : (at : ℕ) → IsCut (switch_words (Unit {0}) calls_on) Journaled o [] (Unit {0}) at first last (capture count) → ⊥
+  pub day-whole : (at : ℕ) → IsCut (switch_meanings (Unit {0}) calls_on) Journaled o [] (Unit {0}) at first last (capture count) → ⊥
   day-whole at x =
       x.none tt (steps count) (subst (λ (d : directories.Directory). IsWhole d (capture count) (steps count)) (sym b.under) (read-as-steps count few))
 
-  stands-for : StandsFor (switch_words (Unit {0}) calls_on) o [] first
+  stands-for : StandsFor (switch_meanings (Unit {0}) calls_on) o [] first
   stands-for = record { start = subst (λ (d : directories.Directory). IsStart d start) (sym b.under) b.begins; stands = b.stands }
 
   module _ (e : ReplayEnd) (bytes left : List ℕ) (is : bytes ≡ capture count)
-      (ends : (t : Told (Unit {0})) (h : List Entry) → StandsFor (switch_words (Unit {0}) calls_on) t h first
-      → Ends (switch_words (Unit {0}) calls_on) (Unit {0}) Journaled t h (Unit {0}) e first last bytes left) where
-    all : Ends (switch_words (Unit {0}) calls_on) (Unit {0}) Journaled o [] (Unit {0}) e first last (capture count) left
-    all = subst (λ (bs : List ℕ). Ends (switch_words (Unit {0}) calls_on) (Unit {0}) Journaled o [] (Unit {0}) e first last bs left) is (ends o [] stands-for)
+      (ends : (t : Told (Unit {0})) (h : List Entry) → StandsFor (switch_meanings (Unit {0}) calls_on) t h first
+      → Ends (switch_meanings (Unit {0}) calls_on) (Unit {0}) Journaled t h (Unit {0}) e first last bytes left) where
+    all : Ends (switch_meanings (Unit {0}) calls_on) (Unit {0}) Journaled o [] (Unit {0}) e first last (capture count) left
+    all = subst (λ (bs : List ℕ). Ends (switch_meanings (Unit {0}) calls_on) (Unit {0}) Journaled o [] (Unit {0}) e first last bs left) is (ends o [] stands-for)
 
     pub run-done : e ≡ end.Done → EndsDay count last
     run-done at_end = day-done (all.done at_end)
@@ -224,15 +224,15 @@ module _ (count : ℕ) (first last : Engine StationInMemory) (b : BeginsDay firs
 
 -- ---- what is summed up of it
 
-pub draws-are : (n : plain.Need) → draws_of n ≡ draws_in (need_of n)
+pub draws-are : (n : values.Need) → draws_of n ≡ draws_in (need_of n)
 draws-are n = ap sum (same n.circuits)
   where
-    same : (cs : List plain_circuits.CircuitNeed) → map (λ c. c.draws) cs ≡ map (λ c. c.draws) (map circuit_need_of cs)
+    same : (cs : List value_circuits.CircuitNeed) → map (λ c. c.draws) cs ≡ map (λ c. c.draws) (map circuit_need_of cs)
     same [] = refl
     same (c ∷ cs) = ap (λ (l : List ℕ). c.draws ∷ l) (same cs)
 
 -- the summary is that of the day's history
-pub summed : (count : ℕ) (e : Engine StationInMemory) (station : StationInMemory) (n : plain.Need) (used : ℕ) → EndsDay count e
+pub summed : (count : ℕ) (e : Engine StationInMemory) (station : StationInMemory) (n : values.Need) (used : ℕ) → EndsDay count e
     → Needs e.core (need_of n) → used ≡ e.used → station ≡ e.station → summary_text count (said_by (calls_on station)) n used ≡ day_summary count
 summed count e station n used ends needs used_is station_is =
     let behind : Need = need directory (state_after (history count)) in

@@ -5,7 +5,7 @@ use Rattle.hex.specs.Hex.{encode_lower}
 use Rattle.sha2.specs.Sha256.{sha256}
 use Rattle.gts_alphabet.specs.declared.characters.TheConstants.{ETX}
 use Rattle.gts_traits.specs.Calls.{Outside, channel_bytes}
-use Rattle.gts_event.specs.declared.plain.Need.{Need}
+use Rattle.gts_event.specs.declared.values.Need.{Need}
 use Rattle.gts_event.specs.Receipt.{then_number}
 
 -- the channels of the eight circuits

@@ -5,7 +5,7 @@ ghost use Rattle.gts_generate.specs.DayView.{pieces_left, bytes_left, IsSound};
 
 use crate::MOST_MESSAGES;
 use crate::message::{ending, turn};
-use crate::piece::Piece;
+use gts_say::Piece;
 use gts_traits::{Failed, Source};
 use std::marker::Model;
 

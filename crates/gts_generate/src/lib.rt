@@ -6,7 +6,6 @@ mod directory;
 mod generated;
 mod laws;
 mod message;
-mod piece;
 mod said;
 mod summing;
 mod worked;

@@ -4,19 +4,19 @@ ghost use Rattle.gts_message.specs.Message.{message_end};
 ghost use Rattle.gts_frame.specs.Frame as frames;
 ghost use Rattle.gts_generate.specs.Day as day;
 
-use crate::piece::{LONGEST_PIECE, Piece};
 use crate::{CIRCUITS, MOST_MESSAGES};
 use gts_alphabet::{EOL, ETX, FRAME_HEAD, SOH, digits_of};
 use gts_frame::Kind;
+use gts_say::{LONGEST_PIECE, Piece};
 
 /// The bytes of a heading without a group.
 const HEADING: usize = 18;
 
 /// The most bytes of a body of the day.
-const LONGEST_BODY: usize = 40;
+const LONGEST_DAY_BODY: usize = 40;
 
 /// The most bytes of a message of the day.
-const LONGEST_MESSAGE: usize = 50;
+const LONGEST_DAY_MESSAGE: usize = 50;
 
 /// Writes the heading of message `i`.
 fn add_heading(piece: &mut Piece, i: u32, tt: [u8; 2], aa: [u8; 2], ii: u32)
@@ -44,9 +44,9 @@ fn add_end(piece: &mut Piece)
 
 /// Writes the body of report `i`.
 fn add_report(piece: &mut Piece, i: u32)
-    requires { length piece.old + LONGEST_BODY ≤ LONGEST_PIECE }
+    requires { length piece.old + LONGEST_DAY_BODY ≤ LONGEST_PIECE }
     ensures text { piece.new ≡ piece.old ++ day.report i }
-    ensures short { length piece.new ≤ length piece.old + LONGEST_BODY }
+    ensures short { length piece.new ≤ length piece.old + LONGEST_DAY_BODY }
 {
     let letter = b'A' + (i % 26) as u8;
     add_heading(piece, i, [b'S', letter], *b"VG", i % 60);
@@ -59,9 +59,9 @@ fn add_report(piece: &mut Piece, i: u32)
 
 /// Writes the body of the request that is message `i`.
 fn add_request(piece: &mut Piece, i: u32)
-    requires { length piece.old + LONGEST_BODY ≤ LONGEST_PIECE }
+    requires { length piece.old + LONGEST_DAY_BODY ≤ LONGEST_PIECE }
     ensures text { piece.new ≡ piece.old ++ day.request i }
-    ensures short { length piece.new ≤ length piece.old + LONGEST_BODY }
+    ensures short { length piece.new ≤ length piece.old + LONGEST_DAY_BODY }
 {
     add_heading(piece, i, *b"BM", *b"RR", 1);
     piece.append(&EOL);
@@ -73,9 +73,9 @@ fn add_request(piece: &mut Piece, i: u32)
 
 /// Writes the body of message `i`.
 fn add_body(piece: &mut Piece, i: u32)
-    requires { length piece.old + LONGEST_BODY ≤ LONGEST_PIECE }
+    requires { length piece.old + LONGEST_DAY_BODY ≤ LONGEST_PIECE }
     ensures text { piece.new ≡ piece.old ++ day.body i }
-    ensures short { length piece.new ≤ length piece.old + LONGEST_BODY }
+    ensures short { length piece.new ≤ length piece.old + LONGEST_DAY_BODY }
 {
     match i % 100 {
         99 => add_request(piece, i),
@@ -87,7 +87,7 @@ fn add_body(piece: &mut Piece, i: u32)
 /// Message `i`.
 fn message(i: u32) -> Piece
     ensures text { result ≡ day.message i }
-    ensures short { length result ≤ LONGEST_MESSAGE }
+    ensures short { length result ≤ LONGEST_DAY_MESSAGE }
 {
     let mut piece = Piece::new();
     piece.append(&[SOH]);
@@ -101,7 +101,7 @@ fn message(i: u32) -> Piece
 /// The frame of message `i`.
 fn frame(i: u32) -> Piece
     ensures text { result ≡ frames.frame Kind.An (day.message i) }
-    ensures short { length result ≤ LONGEST_MESSAGE + FRAME_HEAD }
+    ensures short { length result ≤ LONGEST_DAY_MESSAGE + FRAME_HEAD }
 {
     let message = message(i);
     let mut piece = Piece::new();

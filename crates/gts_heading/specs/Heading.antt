@@ -1,5 +1,6 @@
 -- The abbreviated heading, and how it is spelled (the Manual's message format).
-use Rattle.std.specs.Prelude.{◌≡◌, ◌⊎◌, ℕ, ◌<◌, ◌≤◌, List, [], ◌∷◌, ◌++◌, length, Option, Some, None, IsTrue}
+use Rattle.std.specs.Prelude.{◌≡◌, ◌⊎◌, ℕ, ◌<◌, ◌≤◌, Bool, nat_eq, List, [], ◌∷◌, ◌++◌, length, Option, Some, None, IsTrue}
+use Rattle.std.specs.Cmp.Lexicographic.{pointwise}
 use Rattle.gts_alphabet.specs.Digits.{dec}
 use Rattle.gts_alphabet.specs.declared.characters.TheConstants.{EOL}
 use Rattle.gts_heading.specs.Letters.{are_capitals, is_group}
@@ -36,6 +37,10 @@ group_text (Some letters) = 32 ∷ letters
 unfoldable pub heading_text : HeadingFields → List ℕ
 heading_text h =
     h.tt ++ h.aa ++ dec 2 h.ii ++ 32 ∷ [] ++ h.cccc ++ 32 ∷ [] ++ dec 2 h.day ++ dec 2 h.hour ++ dec 2 h.minute ++ group_text h.bbb
+
+-- equal in all fields, the BBB group included
+abbrev pub is_same_heading : HeadingFields → HeadingFields → Bool
+is_same_heading a b = pointwise nat_eq (heading_text a) (heading_text b)
 
 -- one meaningless blank, or none (profile)
 abbrev pub IsGap : List ℕ → Type 0

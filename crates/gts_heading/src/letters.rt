@@ -14,7 +14,7 @@ pub fn is_bbb(three: [u8; 3]) -> bool
 }
 
 /// Whether all of these are capitals.
-pub(crate) fn are_capitals(bytes: &[u8]) -> bool
+pub fn are_capitals(bytes: &[u8]) -> bool
     ensures { result ≡ letters.are_capitals bytes.now }
 {
     bytes.iter().all(|byte| byte.is_ascii_uppercase())

@@ -16,5 +16,5 @@ pub use laws::{
     gaps_are_passed_over, headings_are_known_by_their_texts, read_heading_is_spelled,
     spelled_heading_is_read, words_are_passed_over,
 };
-pub use letters::is_bbb;
+pub use letters::{are_capitals, is_bbb};
 pub use worked::{worked_headings, worked_refusals};

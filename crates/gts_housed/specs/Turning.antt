@@ -1,6 +1,6 @@
 -- What a pass has seen, as a desk.
 use Rattle.std.specs.Prelude.{◌≡◌, ℕ, false, List, Result}
-use Rattle.gts_traits.specs.declared.station.Station.{Ghosts as StationWords}
+use Rattle.gts_traits.specs.declared.station.Station.{Ghosts as StationMeanings}
 use Rattle.gts_traits.specs.Calls.{Call}
 use Rattle.gts_lock.specs.{entries, entries_under, Known, StartsWith, after_seeing, after_adding}
 use Rattle.gts_event.specs.State.{State}
@@ -43,7 +43,7 @@ pub record IsTurn {P : Type 0} (tells : Type 0) (calls : P → List Call) (disk 
   pub is : q ≡ after_adding (after_seeing p history) (entry_by event result)
 
 -- that of a take on c, which leaves its frame in out, in the words of a station
-abbrev pub TakesTurn : {P : Type 0} → StationWords P → Beginning → ℕ → List ℕ → Result Outcome SwitchFault → (p q : Known Entry) → Type 0
+abbrev pub TakesTurn : {P : Type 0} → StationMeanings P → Beginning → ℕ → List ℕ → Result Outcome SwitchFault → (p q : Known Entry) → Type 0
 TakesTurn station b c out result p q =
     IsTurn station.tells station.calls station.disk_faults station.say_faults b (Taken c) (LeavesFrame b.origin.directory c out) result p q
 

@@ -15,8 +15,8 @@ use Rattle.gts_directory.specs.Extending.{Extends}
 use Rattle.gts_event.specs.State.{State, CircuitState, idle, waiting}
 use Rattle.gts_event.specs.History.{restarted, owed_last}
 use Rattle.gts_event.specs.Items.{circuit_need_of, need_of}
-use Rattle.gts_event.specs.declared.plain.CircuitNeed as plain_circuit
-use Rattle.gts_event.specs.declared.plain.Need as plain
+use Rattle.gts_event.specs.declared.values.CircuitNeed as value_circuit
+use Rattle.gts_event.specs.declared.values.Need as values
 use Rattle.gts_event.specs.Need.{Need, CircuitNeed, unused, IsOrdered, need, begun, begun_circuit, is_sound, keeps_one}
 use Rattle.gts_recovery.specs.Wider.{wider, widened}
 use Rattle.gts_event.specs.declared.event.Entry.TheVariants.{Restarted}
@@ -97,7 +97,7 @@ one_behind (suc k) =
     let next : suc (k + 1) ≡ suc k + 1 = omega arith in
     ap (λ (cs : List CircuitNeed). unused ∷ cs) (one_behind k) ∙ ap (λ (m : ℕ). replicate m unused) next
 
-pub one_more : (start : Need) (k : ℕ) (old new : plain.Need) (c : plain_circuit.CircuitNeed) → HasMore start k (need_of old) → circuit_need_of c ≡ unused
+pub one_more : (start : Need) (k : ℕ) (old new : values.Need) (c : value_circuit.CircuitNeed) → HasMore start k (need_of old) → circuit_need_of c ≡ unused
     → new ≡ record old { circuits = old.circuits ++ c ∷ [] } → HasMore start (k + 1) (need_of new)
 one_more start k old new c more is pushed =
     let grown : map circuit_need_of (old.circuits ++ c ∷ []) ≡ map circuit_need_of old.circuits ++ unused ∷ [] =

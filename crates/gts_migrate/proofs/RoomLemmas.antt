@@ -4,7 +4,7 @@ use Rattle.std.specs.List.{sum_by}
 use Rattle.std.proofs.lemmas.List.Sums.{sum_by-cons}
 use Rattle.std.proofs.Math.Nat.{add-mul}
 use Rattle.gts_event.specs.State.{CircuitState, waiting}
-use Rattle.gts_core.specs.Owed.{all_waiting}
+use Rattle.gts_core.specs.Waiting.{all_waiting}
 
 -- as many bytes as draws, or more
 pub times_some : (k n : ℕ) → n ≤ (24 + k) * n

@@ -71,7 +71,7 @@ fn check_room(core: &Core, old: &Directory, new: &Directory, size: u64) -> Resul
 {
     let _ = old;
     a_core_has_the_waiting_draws_of_its_state();
-    match check_checkpoint(new, size, core.owed()) {
+    match check_checkpoint(new, size, core.waiting()) {
         Ok(()) => Ok(()),
         Err(full) => Err(MigrateFault::Full {
             used: full.used,

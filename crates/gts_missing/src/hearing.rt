@@ -1,5 +1,5 @@
 ghost use Rattle.std.specs.Prelude.{◌≡◌, ◌<◌, ◌++◌, ◌∷◌, [], ℕ, List, length};
-ghost use Rattle.gts_connection.specs.Words.{Kind, Heard, events_added, events_of_signs, signs_of_step};
+ghost use Rattle.gts_connection.specs.Cited.{Kind, Heard, events_added, events_of_signs, signs_of_step};
 ghost use Rattle.gts_frame.specs.Decoder.{HasMessage};
 ghost use Rattle.gts_frame.specs.Signs.{held_in};
 ghost use Rattle.gts_capture.specs.{HasSourceCause};

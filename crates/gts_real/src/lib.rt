@@ -3,7 +3,6 @@
 //! failure is counted.
 #![tactic(auto)]
 
-mod counting;
 mod disk;
 mod lock;
 mod outputs;

@@ -1,7 +1,6 @@
 ghost use Rattle.std.specs.Prelude.{◌≡◌, ◌≤◌, [], length, IfOk};
 
-use crate::counting::counted;
-use gts_traits::{Failed, Source};
+use gts_traits::{Failed, Source, counted};
 use std::fs::File;
 use std::io;
 use std::io::Read;

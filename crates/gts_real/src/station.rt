@@ -2,10 +2,9 @@ ghost use Rattle.std.specs.Prelude.{◌≡◌, ◌+◌, ◌^◌, ◌≤◌, ◌<
 ghost use Rattle.gts_traits.specs.{CHANNELS, HasCause};
 ghost use Rattle.gts_real.specs.{FailsWhere};
 
-use crate::counting::counted;
 use crate::disk::Disk;
 use crate::outputs::Outputs;
-use gts_traits::{Failed, Station};
+use gts_traits::{Failed, Station, counted};
 use std::fs::File;
 use std::marker::Model;
 use std::rt::Files;

@@ -4,7 +4,7 @@ ghost use Rattle.std.specs.Prelude.{◌≡◌, ℕ, length, IsTrue};
 ghost use Rattle.gts_directory.specs.Extending.{Extends};
 ghost use Rattle.gts_event.specs.State.{State};
 ghost use Rattle.gts_event.specs.History.{restarted};
-ghost use Rattle.gts_event.specs.Words.{Directory, Need, IsOrdered, need, is_sound};
+ghost use Rattle.gts_event.specs.Cited.{Directory, Need, IsOrdered, need, is_sound};
 ghost use Rattle.gts_recovery.specs.Wider.{wider, widened};
 
 /// Under a directory that extends its own, a state goes on: with the further circuits, on which nothing waits and nothing was

@@ -14,7 +14,7 @@ use Rattle.gts_event.specs.declared.outcome.Outcome.{Outcome}
 use Rattle.gts_event.specs.declared.outcome.Outcome.TheVariants.{Resend, Draw, Nothing}
 use Rattle.gts_event.specs.declared.fault.SwitchFault.{SwitchFault}
 use Rattle.gts_event.proofs.LawLemmas.{after_all-append, ordered-all, routed_once-all, owed_few-all, one_less, nothing_left}
-use Rattle.gts_turns.specs.{Standing, IsTurn, entry_of}
+use Rattle.gts_calls.specs.{Standing, IsTurn, entry_of}
 use Rattle.gts_replay.specs.Going.{IsStart, StandsFor, state_at, BreaksOff}
 use Rattle.gts_replay.proofs.GoingLemmas.{cause_at}
 
@@ -103,64 +103,64 @@ nothing_chosen Nothing_waits e = refl
 -- ---- takes, one after another
 
 -- So many takes gave something. What is left to give is less by as many; and what is owed less and what was drawn are as many.
-pub record Drained {O W : Type 0} (words : Standing O W) (first : W) (o : O) (h : List Entry) (c i : ℕ) (now : W) : Type 0 where
-  pub stands : words.stands o (h ++ takes c i) now
-  pub left : left_to_give (on_circuit (state_at words first o (h ++ takes c i)) c) + i ≡ left_to_give (on_circuit (state_at words first o h) c)
-  pub counted : i + length (on_circuit (state_at words first o (h ++ takes c i)) c).owed + draws (on_circuit (state_at words first o h) c)
-      ≡ length (on_circuit (state_at words first o h) c).owed + draws (on_circuit (state_at words first o (h ++ takes c i)) c)
-  pub few : (draws (on_circuit (state_at words first o (h ++ takes c i)) c) ≡ draws (on_circuit (state_at words first o h) c))
-      ⊎ (draws (on_circuit (state_at words first o (h ++ takes c i)) c) ≤ 2 ^ 64)
+pub record Drained {O W : Type 0} (meanings : Standing O W) (first : W) (o : O) (h : List Entry) (c i : ℕ) (now : W) : Type 0 where
+  pub stands : meanings.stands o (h ++ takes c i) now
+  pub left : left_to_give (on_circuit (state_at meanings first o (h ++ takes c i)) c) + i ≡ left_to_give (on_circuit (state_at meanings first o h) c)
+  pub counted : i + length (on_circuit (state_at meanings first o (h ++ takes c i)) c).owed + draws (on_circuit (state_at meanings first o h) c)
+      ≡ length (on_circuit (state_at meanings first o h) c).owed + draws (on_circuit (state_at meanings first o (h ++ takes c i)) c)
+  pub few : (draws (on_circuit (state_at meanings first o (h ++ takes c i)) c) ≡ draws (on_circuit (state_at meanings first o h) c))
+      ⊎ (draws (on_circuit (state_at meanings first o (h ++ takes c i)) c) ≤ 2 ^ 64)
 
-pub drained_none : {O W : Type 0} (words : Standing O W) (first : W) (o : O) (h : List Entry) (c : ℕ) → StandsFor words o h first → Drained words first o h c 0 first
-drained_none words first o h c start =
+pub drained_none : {O W : Type 0} (meanings : Standing O W) (first : W) (o : O) (h : List Entry) (c : ℕ) → StandsFor meanings o h first → Drained meanings first o h c 0 first
+drained_none meanings first o h c start =
     let same : h ++ [] ≡ h = append-nil h in
-    let q : List Entry → CircuitState = λ x. on_circuit (state_at words first o x) c in
+    let q : List Entry → CircuitState = λ x. on_circuit (state_at meanings first o x) c in
     let left : left_to_give (q (h ++ [])) ≡ left_to_give (q h) = ap (λ (x : List Entry). left_to_give (q x)) same in
     let owed : length (q (h ++ [])).owed ≡ length (q h).owed = ap (λ (x : List Entry). length (q x).owed) same in
     let drawn : draws (q (h ++ [])) ≡ draws (q h) = ap (λ (x : List Entry). draws (q x)) same in
     record {
-      stands = subst (λ (x : List Entry). words.stands o x first) (sym same) start.stands;
+      stands = subst (λ (x : List Entry). meanings.stands o x first) (sym same) start.stands;
       left = omega (arith, left);
       counted = omega (arith, owed, drawn);
       few = inl drawn;
     }
 
 -- the answer of a take in the state behind these entries
-answer_at : {O W : Type 0} (words : Standing O W) (first now later : W) (o : O) (h : List Entry) (event : Event) (result : Result Outcome SwitchFault) (answer : Outcome)
-    → words.directory now ≡ words.directory first → IsTurn words event result now later → result ≡ Ok answer → words.stands o h now
-    → answer ≡ outcome (words.directory first) (state_at words first o h) event
-answer_at words first now later o h event result answer same turn is stands =
-    turn.outcome o h stands answer is ∙ ap (λ (d : Directory). outcome d (after_all d (words.begin o) h) event) same
+answer_at : {O W : Type 0} (meanings : Standing O W) (first now later : W) (o : O) (h : List Entry) (event : Event) (result : Result Outcome SwitchFault) (answer : Outcome)
+    → meanings.directory now ≡ meanings.directory first → IsTurn meanings event result now later → result ≡ Ok answer → meanings.stands o h now
+    → answer ≡ outcome (meanings.directory first) (state_at meanings first o h) event
+answer_at meanings first now later o h event result answer same turn is stands =
+    turn.outcome o h stands answer is ∙ ap (λ (d : Directory). outcome d (after_all d (meanings.begin o) h) event) same
 
 -- the switch stands for one take more
-one_more : {O W : Type 0} (words : Standing O W) (now later : W) (o : O) (h : List Entry) (c i : ℕ) (result : Result Outcome SwitchFault) (answer : Outcome)
-    → IsTurn words (Taken c) result now later → result ≡ Ok answer → words.stands o (h ++ takes c i) now → words.stands o (h ++ takes c (i + 1)) later
-one_more words now later o h c i result answer turn is stands =
-    subst (λ (x : List Entry). words.stands o x later)
+one_more : {O W : Type 0} (meanings : Standing O W) (now later : W) (o : O) (h : List Entry) (c i : ℕ) (result : Result Outcome SwitchFault) (answer : Outcome)
+    → IsTurn meanings (Taken c) result now later → result ≡ Ok answer → meanings.stands o (h ++ takes c i) now → meanings.stands o (h ++ takes c (i + 1)) later
+one_more meanings now later o h c i result answer turn is stands =
+    subst (λ (x : List Entry). meanings.stands o x later)
     (ap (λ (r : Result Outcome SwitchFault). (h ++ takes c i) ++ entry_of (Taken c) r) is ∙ append_assoc h (takes c i) (Done (Taken c) ∷ []) ∙ ap (λ (x : List Entry). h ++ x) (sym (takes-suc c i)))
     (turn.adds o (h ++ takes c i) stands)
 
-pub drained_more : {O W : Type 0} (words : Standing O W) (first now later : W) (o : O) (h : List Entry) (c i : ℕ) (result : Result Outcome SwitchFault) (answer : Outcome)
-    → StandsFor words o h first → c < length (words.directory first).circuits → words.directory now ≡ words.directory first → Drained words first o h c i now
-    → IsTurn words (Taken c) result now later → result ≡ Ok answer → (answer ≡ Nothing → ⊥) → Few answer → Drained words first o h c (i + 1) later
-drained_more words first now later o h c i result answer start within same drained turn is some few =
-    let d : Directory = words.directory first in
+pub drained_more : {O W : Type 0} (meanings : Standing O W) (first now later : W) (o : O) (h : List Entry) (c i : ℕ) (result : Result Outcome SwitchFault) (answer : Outcome)
+    → StandsFor meanings o h first → c < length (meanings.directory first).circuits → meanings.directory now ≡ meanings.directory first → Drained meanings first o h c i now
+    → IsTurn meanings (Taken c) result now later → result ≡ Ok answer → (answer ≡ Nothing → ⊥) → Few answer → Drained meanings first o h c (i + 1) later
+drained_more meanings first now later o h c i result answer start within same drained turn is some few =
+    let d : Directory = meanings.directory first in
     let before : List Entry = h ++ takes c i in
-    let s : State = state_at words first o before in
-    let begun : IsStart d s = start_on d (words.begin o) before start.start in
-    let answered : answer ≡ outcome d s (Taken c) = answer_at words first now later o before (Taken c) result answer same turn is drained.stands in
+    let s : State = state_at meanings first o before in
+    let begun : IsStart d s = start_on d (meanings.begin o) before start.start in
+    let answered : answer ≡ outcome d s (Taken c) = answer_at meanings first now later o before (Taken c) result answer same turn is drained.stands in
     let gives : choice d s c ≡ Nothing_waits → ⊥ = λ (e : choice d s c ≡ Nothing_waits). some (answered ∙ ap outcome_of_choice e) in
     let all : h ++ takes c (i + 1) ≡ before ++ Done (Taken c) ∷ [] = ap (λ (x : List Entry). h ++ x) (takes-suc c i) ∙ sym (append_assoc h (takes c i) (Done (Taken c) ∷ [])) in
-    let next_state : state_at words first o (h ++ takes c (i + 1)) ≡ after d s (Taken c) =
-    ap (λ (x : List Entry). state_at words first o x) all ∙ after_all-append d (words.begin o) before (Done (Taken c) ∷ []) in
+    let next_state : state_at meanings first o (h ++ takes c (i + 1)) ≡ after d s (Taken c) =
+    ap (λ (x : List Entry). state_at meanings first o x) all ∙ after_all-append d (meanings.begin o) before (Done (Taken c) ∷ []) in
     let one = one_taken d s c (omega (arith, begun.ordered.circuits, within)) (subst Few answered few) gives in
     let less = one_less d s c (once_on s.circuits c begun.once) gives in
     let q : State → CircuitState = λ t. on_circuit t c in
-    let left : left_to_give (q (state_at words first o (h ++ takes c (i + 1)))) ≡ left_to_give (q (after d s (Taken c))) = ap (λ (t : State). left_to_give (q t)) next_state in
-    let owed : length (q (state_at words first o (h ++ takes c (i + 1)))).owed ≡ length (q (after d s (Taken c))).owed = ap (λ (t : State). length (q t).owed) next_state in
-    let drawn : draws (q (state_at words first o (h ++ takes c (i + 1)))) ≡ draws (q (after d s (Taken c))) = ap (λ (t : State). draws (q t)) next_state in
+    let left : left_to_give (q (state_at meanings first o (h ++ takes c (i + 1)))) ≡ left_to_give (q (after d s (Taken c))) = ap (λ (t : State). left_to_give (q t)) next_state in
+    let owed : length (q (state_at meanings first o (h ++ takes c (i + 1)))).owed ≡ length (q (after d s (Taken c))).owed = ap (λ (t : State). length (q t).owed) next_state in
+    let drawn : draws (q (state_at meanings first o (h ++ takes c (i + 1)))) ≡ draws (q (after d s (Taken c))) = ap (λ (t : State). draws (q t)) next_state in
     record {
-      stands = one_more words now later o h c i result answer turn is drained.stands;
+      stands = one_more meanings now later o h c i result answer turn is drained.stands;
       left = omega (arith, left, less, drained.left);
       counted = omega (arith, owed, drawn, one.0, drained.counted);
       few = fits drawn one.1 drained.few;
@@ -172,40 +172,40 @@ drained_more words first now later o h c i result answer start within same drain
     fits e (inr f) g = inr (omega (arith, e, f))
 
 -- the take that gives nothing is the last
-pub drained_all : {O W : Type 0} (words : Standing O W) (first now later : W) (o : O) (h : List Entry) (c i : ℕ) (result : Result Outcome SwitchFault)
-    → StandsFor words o h first → words.directory now ≡ words.directory first → Drained words first o h c i now → IsTurn words (Taken c) result now later → result ≡ Ok Nothing
-    → words.stands o (h ++ all_done (takes_of_drain (state_at words first o h) c)) later
-drained_all words first now later o h c i result start same drained turn is =
-    let d : Directory = words.directory first in
+pub drained_all : {O W : Type 0} (meanings : Standing O W) (first now later : W) (o : O) (h : List Entry) (c i : ℕ) (result : Result Outcome SwitchFault)
+    → StandsFor meanings o h first → meanings.directory now ≡ meanings.directory first → Drained meanings first o h c i now → IsTurn meanings (Taken c) result now later → result ≡ Ok Nothing
+    → meanings.stands o (h ++ all_done (takes_of_drain (state_at meanings first o h) c)) later
+drained_all meanings first now later o h c i result start same drained turn is =
+    let d : Directory = meanings.directory first in
     let before : List Entry = h ++ takes c i in
-    let s : State = state_at words first o before in
-    let none : choice d s c ≡ Nothing_waits = nothing_chosen (choice d s c) (answer_at words first now later o before (Taken c) result Nothing same turn is drained.stands) in
+    let s : State = state_at meanings first o before in
+    let none : choice d s c ≡ Nothing_waits = nothing_chosen (choice d s c) (answer_at meanings first now later o before (Taken c) result Nothing same turn is drained.stands) in
     let both = nothing_left d s c none in
     let nothing : left_to_give (on_circuit s c) ≡ 0 = omega (arith, ap length both.0, ap length both.1) in
-    let count : i + 1 ≡ left_to_give (on_circuit (state_at words first o h) c) + 1 = omega (arith, nothing, drained.left) in
-    subst (λ (k : ℕ). words.stands o (h ++ takes c k) later) count (one_more words now later o h c i result Nothing turn is drained.stands)
+    let count : i + 1 ≡ left_to_give (on_circuit (state_at meanings first o h) c) + 1 = omega (arith, nothing, drained.left) in
+    subst (λ (k : ℕ). meanings.stands o (h ++ takes c k) later) count (one_more meanings now later o h c i result Nothing turn is drained.stands)
 
 -- a take was answered with a fault
-pub drained_breaks : {O W : Type 0} (words : Standing O W) (first now later : W) (o : O) (h : List Entry) (c i : ℕ) (result : Result Outcome SwitchFault) (fault : SwitchFault)
-    → Drained words first o h c i now → IsTurn words (Taken c) result now later → result ≡ Err fault
-    → BreaksOff words (λ _. o) h (all_done (takes_of_drain (state_at words first o h) c)) fault later
-drained_breaks words first now later o h c i result fault drained turn is =
+pub drained_breaks : {O W : Type 0} (meanings : Standing O W) (first now later : W) (o : O) (h : List Entry) (c i : ℕ) (result : Result Outcome SwitchFault) (fault : SwitchFault)
+    → Drained meanings first o h c i now → IsTurn meanings (Taken c) result now later → result ≡ Err fault
+    → BreaksOff meanings (λ _. o) h (all_done (takes_of_drain (state_at meanings first o h) c)) fault later
+drained_breaks meanings first now later o h c i result fault drained turn is =
     let before : List Entry = h ++ takes c i in
-    let k : ℕ = left_to_give (on_circuit (state_at words first o before) c) in
-    let count : left_to_give (on_circuit (state_at words first o h) c) + 1 ≡ i + suc k = omega (arith, drained.left) in
+    let k : ℕ = left_to_give (on_circuit (state_at meanings first o before) c) in
+    let count : left_to_give (on_circuit (state_at meanings first o h) c) + 1 ≡ i + suc k = omega (arith, drained.left) in
     record {
       front = takes c i;
       event = Taken c;
       behind = takes c k;
       parts = ap (takes c) count ∙ takes-split c i (suc k);
-      stands = subst (λ (r : Result Outcome SwitchFault). words.stands o (before ++ entry_of (Taken c) r) later) is (turn.adds o before drained.stands);
-      cause = cause_at words o before (Taken c) fault now later turn.directory (turn.caused o before drained.stands fault is);
+      stands = subst (λ (r : Result Outcome SwitchFault). meanings.stands o (before ++ entry_of (Taken c) r) later) is (turn.adds o before drained.stands);
+      cause = cause_at meanings o before (Taken c) fault now later turn.directory (turn.caused o before drained.stands fault is);
     }
 
 -- no circuit has so much to give
-pub drained_few : {O W : Type 0} (words : Standing O W) (first now : W) (o : O) (h : List Entry) (c i : ℕ) → StandsFor words o h first → Drained words first o h c i now → i < 2 ^ 128 - 1
-drained_few words first now o h c i start drained =
-    let owed : length (on_circuit (state_at words first o h) c).owed ≤ 4096 = few_on (state_at words first o h).circuits c (start_on (words.directory first) (words.begin o) h start.start).few in
+pub drained_few : {O W : Type 0} (meanings : Standing O W) (first now : W) (o : O) (h : List Entry) (c i : ℕ) → StandsFor meanings o h first → Drained meanings first o h c i now → i < 2 ^ 128 - 1
+drained_few meanings first now o h c i start drained =
+    let owed : length (on_circuit (state_at meanings first o h) c).owed ≤ 4096 = few_on (state_at meanings first o h).circuits c (start_on (meanings.directory first) (meanings.begin o) h start.start).few in
     elim drained.few as (λ _. i < 2 ^ 128 - 1) [
       | inl same ↦ omega (arith, same, owed, drained.counted)
       | inr small ↦ omega (arith, small, owed, drained.counted)

@@ -24,7 +24,7 @@ use Rattle.gts_capture.specs.{IsHeadIn, bytes_announced, IsReadTo, IsTaken, IsSa
 use Rattle.gts_capture.specs.Held.{Held}
 use Rattle.gts_capture.specs.declared.capture_fault.CaptureFault.TheVariants.{Bad, SourceFault}
 use Rattle.gts_capture.proofs.LawLemmas.{one_step, at_end, at_bad, in_feed, head_goes_on, feed_goes_on, taken_head, taken_feed}
-use Rattle.gts_turns.specs.{Standing, IsCause, entry_of, outcome_at}
+use Rattle.gts_calls.specs.{Standing, IsCause, entry_of, outcome_at}
 use Rattle.gts_replay.specs.declared.end.ReplayEnd.TheVariants as end
 use Rattle.gts_replay.specs.declared.fault.StepFault.{StepFault}
 use Rattle.gts_replay.specs.declared.fault.StepFault.TheVariants as step
@@ -38,9 +38,9 @@ use Rattle.gts_replay.proofs.RunLemmas.{Runs, ReadsHead, head_here, stands_on, a
 
 -- ---- one end each
 
-done_ends : {O W : Type 0} (words : Standing O W) (station : Type 0) (kind : CaptureKind) (o : O) (h : List Entry) (tells : Type 0) (old new : W) (bytes left : List ℕ)
-    → IsDone words kind o h tells old new bytes → Ends words station kind o h tells end.Done old new bytes left
-done_ends words station kind o h tells old new bytes left is = record {
+done_ends : {O W : Type 0} (meanings : Standing O W) (station : Type 0) (kind : CaptureKind) (o : O) (h : List Entry) (tells : Type 0) (old new : W) (bytes left : List ℕ)
+    → IsDone meanings kind o h tells old new bytes → Ends meanings station kind o h tells end.Done old new bytes left
+done_ends meanings station kind o h tells old new bytes left is = record {
   done = λ e. is;
   capture = λ at e. absurd (cc);
   source_fault = λ e. absurd (cc);
@@ -50,11 +50,11 @@ done_ends words station kind o h tells old new bytes left is = record {
   no_memory = λ e. absurd (cc);
 }
 
-cut_ends : {O W : Type 0} (words : Standing O W) (station : Type 0) (kind : CaptureKind) (o : O) (h : List Entry) (tells : Type 0) (at : ℕ) (old new : W) (bytes left : List ℕ)
-    → IsCut words kind o h tells at old new bytes → Ends words station kind o h tells (end.Capture at) old new bytes left
-cut_ends words station kind o h tells at old new bytes left is = record {
+cut_ends : {O W : Type 0} (meanings : Standing O W) (station : Type 0) (kind : CaptureKind) (o : O) (h : List Entry) (tells : Type 0) (at : ℕ) (old new : W) (bytes left : List ℕ)
+    → IsCut meanings kind o h tells at old new bytes → Ends meanings station kind o h tells (end.Capture at) old new bytes left
+cut_ends meanings station kind o h tells at old new bytes left is = record {
   done = λ e. absurd (cc);
-  capture = λ place e. let same : at ≡ place = cc in subst (λ (k : ℕ). IsCut words kind o h tells k old new bytes) same is;
+  capture = λ place e. let same : at ≡ place = cc in subst (λ (k : ℕ). IsCut meanings kind o h tells k old new bytes) same is;
   source_fault = λ e. absurd (cc);
   reopen = λ fault e. absurd (cc);
   compaction = λ fault e. absurd (cc);
@@ -62,9 +62,9 @@ cut_ends words station kind o h tells at old new bytes left is = record {
   no_memory = λ e. absurd (cc);
 }
 
-source_ends : {O W : Type 0} (words : Standing O W) (station : Type 0) (kind : CaptureKind) (o : O) (h : List Entry) (tells : Type 0) (old new : W) (bytes left : List ℕ)
-    → LosesSource words kind o h tells old new bytes left → Ends words station kind o h tells end.SourceFault old new bytes left
-source_ends words station kind o h tells old new bytes left is = record {
+source_ends : {O W : Type 0} (meanings : Standing O W) (station : Type 0) (kind : CaptureKind) (o : O) (h : List Entry) (tells : Type 0) (old new : W) (bytes left : List ℕ)
+    → LosesSource meanings kind o h tells old new bytes left → Ends meanings station kind o h tells end.SourceFault old new bytes left
+source_ends meanings station kind o h tells old new bytes left is = record {
   done = λ e. absurd (cc);
   capture = λ at e. absurd (cc);
   source_fault = λ e. is;
@@ -74,45 +74,45 @@ source_ends words station kind o h tells old new bytes left is = record {
   no_memory = λ e. absurd (cc);
 }
 
-reopen_ends : {O W : Type 0} (words : Standing O W) (station : Type 0) (kind : CaptureKind) (o : O) (h : List Entry) (tells : Type 0) (f : OpenFault) (old new : W) (bytes left : List ℕ)
-    → StopsAtRestart words station kind o h tells f old new bytes → Ends words station kind o h tells (end.Reopen f) old new bytes left
-reopen_ends words station kind o h tells f old new bytes left is = record {
+reopen_ends : {O W : Type 0} (meanings : Standing O W) (station : Type 0) (kind : CaptureKind) (o : O) (h : List Entry) (tells : Type 0) (f : OpenFault) (old new : W) (bytes left : List ℕ)
+    → StopsAtRestart meanings station kind o h tells f old new bytes → Ends meanings station kind o h tells (end.Reopen f) old new bytes left
+reopen_ends meanings station kind o h tells f old new bytes left is = record {
   done = λ e. absurd (cc);
   capture = λ at e. absurd (cc);
   source_fault = λ e. absurd (cc);
-  reopen = λ fault e. let same : f ≡ fault = cc in subst (λ (x : OpenFault). StopsAtRestart words station kind o h tells x old new bytes) same is;
+  reopen = λ fault e. let same : f ≡ fault = cc in subst (λ (x : OpenFault). StopsAtRestart meanings station kind o h tells x old new bytes) same is;
   compaction = λ fault e. absurd (cc);
   fault = λ fault e. absurd (cc);
   no_memory = λ e. absurd (cc);
 }
 
-fault_ends : {O W : Type 0} (words : Standing O W) (station : Type 0) (kind : CaptureKind) (o : O) (h : List Entry) (tells : Type 0) (f : SwitchFault) (old new : W) (bytes left : List ℕ)
-    → StopsAtFault words kind o h tells f old new bytes → Ends words station kind o h tells (end.Fault f) old new bytes left
-fault_ends words station kind o h tells f old new bytes left is = record {
+fault_ends : {O W : Type 0} (meanings : Standing O W) (station : Type 0) (kind : CaptureKind) (o : O) (h : List Entry) (tells : Type 0) (f : SwitchFault) (old new : W) (bytes left : List ℕ)
+    → StopsAtFault meanings kind o h tells f old new bytes → Ends meanings station kind o h tells (end.Fault f) old new bytes left
+fault_ends meanings station kind o h tells f old new bytes left is = record {
   done = λ e. absurd (cc);
   capture = λ at e. absurd (cc);
   source_fault = λ e. absurd (cc);
   reopen = λ fault e. absurd (cc);
   compaction = λ fault e. absurd (cc);
-  fault = λ fault e. let same : f ≡ fault = cc in subst (λ (x : SwitchFault). StopsAtFault words kind o h tells x old new bytes) same is;
+  fault = λ fault e. let same : f ≡ fault = cc in subst (λ (x : SwitchFault). StopsAtFault meanings kind o h tells x old new bytes) same is;
   no_memory = λ e. absurd (cc);
 }
 
-compaction_ends : {O W : Type 0} (words : Standing O W) (station : Type 0) (kind : CaptureKind) (o : O) (h : List Entry) (tells : Type 0) (f : SwitchFault) (old new : W) (bytes left : List ℕ)
-    → StopsAtCompaction words kind o h tells f old new bytes → Ends words station kind o h tells (end.Compaction f) old new bytes left
-compaction_ends words station kind o h tells f old new bytes left is = record {
+compaction_ends : {O W : Type 0} (meanings : Standing O W) (station : Type 0) (kind : CaptureKind) (o : O) (h : List Entry) (tells : Type 0) (f : SwitchFault) (old new : W) (bytes left : List ℕ)
+    → StopsAtCompaction meanings kind o h tells f old new bytes → Ends meanings station kind o h tells (end.Compaction f) old new bytes left
+compaction_ends meanings station kind o h tells f old new bytes left is = record {
   done = λ e. absurd (cc);
   capture = λ at e. absurd (cc);
   source_fault = λ e. absurd (cc);
   reopen = λ fault e. absurd (cc);
-  compaction = λ fault e. let same : f ≡ fault = cc in subst (λ (x : SwitchFault). StopsAtCompaction words kind o h tells x old new bytes) same is;
+  compaction = λ fault e. let same : f ≡ fault = cc in subst (λ (x : SwitchFault). StopsAtCompaction meanings kind o h tells x old new bytes) same is;
   fault = λ fault e. absurd (cc);
   no_memory = λ e. absurd (cc);
 }
 
-memory_ends : {O W : Type 0} (words : Standing O W) (station : Type 0) (kind : CaptureKind) (o : O) (h : List Entry) (tells : Type 0) (old new : W) (bytes left : List ℕ)
-    → LacksMemory words station kind o h tells old new bytes → Ends words station kind o h tells end.NoMemory old new bytes left
-memory_ends words station kind o h tells old new bytes left is = record {
+memory_ends : {O W : Type 0} (meanings : Standing O W) (station : Type 0) (kind : CaptureKind) (o : O) (h : List Entry) (tells : Type 0) (old new : W) (bytes left : List ℕ)
+    → LacksMemory meanings station kind o h tells old new bytes → Ends meanings station kind o h tells end.NoMemory old new bytes left
+memory_ends meanings station kind o h tells old new bytes left is = record {
   done = λ e. absurd (cc);
   capture = λ at e. absurd (cc);
   source_fault = λ e. absurd (cc);
@@ -123,11 +123,11 @@ memory_ends words station kind o h tells old new bytes left is = record {
 }
 
 -- before the first step
-pub ends_unmade : {O W : Type 0} (words : Standing O W) (station : Type 0) (kind : CaptureKind) (o : O) (h : List Entry) (tells : Type 0) (now : W) (bytes left : List ℕ)
-    → StandsFor words o h now → Ends words station kind o h tells end.NoMemory now now bytes left
-ends_unmade words station kind o h tells now bytes left start =
-    let r = reads kind (words.directory now) (readable bytes) in
-    memory_ends words station kind o h tells now now bytes left record {
+pub ends_unmade : {O W : Type 0} (meanings : Standing O W) (station : Type 0) (kind : CaptureKind) (o : O) (h : List Entry) (tells : Type 0) (now : W) (bytes left : List ℕ)
+    → StandsFor meanings o h now → Ends meanings station kind o h tells end.NoMemory now now bytes left
+ends_unmade meanings station kind o h tells now bytes left start =
+    let r = reads kind (meanings.directory now) (readable bytes) in
+    memory_ends meanings station kind o h tells now now bytes left record {
       steps = r.0;
       read = λ t. (r.1, r.2);
       stands = inl record { same = refl; stands = start.stands };
@@ -135,36 +135,36 @@ ends_unmade words station kind o h tells now bytes left start =
 
 -- ---- at a head
 
-pub ends_done : {O W : Type 0} (words : Standing O W) (kind : CaptureKind) (station tells : Type 0) (bytes : List ℕ) (first : W) (steps : List Step) (old new : Held) (before after left : List ℕ) (ds : List Decoding) (now : W)
-    → Runs words kind tells bytes first steps old before ds now → (tells → old.ahead ++ before ≡ head_text EndHead ++ (new.ahead ++ after))
+pub ends_done : {O W : Type 0} (meanings : Standing O W) (kind : CaptureKind) (station tells : Type 0) (bytes : List ℕ) (first : W) (steps : List Step) (old new : Held) (before after left : List ℕ) (ds : List Decoding) (now : W)
+    → Runs meanings kind tells bytes first steps old before ds now → (tells → old.ahead ++ before ≡ head_text EndHead ++ (new.ahead ++ after))
     → old.at + length (head_text EndHead) ≤ LONGEST_CAPTURE
-    → (o : O) (h : List Entry) → StandsFor words o h first → Ends words station kind o h tells end.Done first now bytes left
-ends_done words kind station tells bytes first steps old new before after left ds now runs told within o h start =
-    done_ends words station kind o h tells first now bytes left record {
+    → (o : O) (h : List Entry) → StandsFor meanings o h first → Ends meanings station kind o h tells end.Done first now bytes left
+ends_done meanings kind station tells bytes first steps old new before after left ds now runs told within o h start =
+    done_ends meanings station kind o h tells first now bytes left record {
       steps = steps;
       are = runs.are;
       whole = λ t.
-          let R : List ℕ → Type 0 = λ xs. IsReadTo kind (words.directory first) bytes steps old xs in
-          at_end kind (words.directory first) bytes (new.ahead ++ after) steps old (subst R (told t) (runs.read t)) within;
+          let R : List ℕ → Type 0 = λ xs. IsReadTo kind (meanings.directory first) bytes steps old xs in
+          at_end kind (meanings.directory first) bytes (new.ahead ++ after) steps old (subst R (told t) (runs.read t)) within;
       stands = runs.stands o h start;
     }
 
-pub ends_bad : {O W : Type 0} (words : Standing O W) (kind : CaptureKind) (station tells : Type 0) (bytes : List ℕ) (first : W) (steps : List Step) (old : Held) (before left : List ℕ) (ds : List Decoding) (now : W) (at : ℕ)
-    → length (words.directory first).circuits ≤ 100 → Runs words kind tells bytes first steps old before ds now → (tells → IsBadAt old (readable_from old.at (old.ahead ++ before)) at)
-    → (o : O) (h : List Entry) → StandsFor words o h first → Ends words station kind o h tells (end.Capture at) first now bytes left
-ends_bad words kind station tells bytes first steps old before left ds now at few runs bad o h start =
-    let d : Directory = words.directory first in
+pub ends_bad : {O W : Type 0} (meanings : Standing O W) (kind : CaptureKind) (station tells : Type 0) (bytes : List ℕ) (first : W) (steps : List Step) (old : Held) (before left : List ℕ) (ds : List Decoding) (now : W) (at : ℕ)
+    → length (meanings.directory first).circuits ≤ 100 → Runs meanings kind tells bytes first steps old before ds now → (tells → IsBadAt old (readable_from old.at (old.ahead ++ before)) at)
+    → (o : O) (h : List Entry) → StandsFor meanings o h first → Ends meanings station kind o h tells (end.Capture at) first now bytes left
+ends_bad meanings kind station tells bytes first steps old before left ds now at few runs bad o h start =
+    let d : Directory = meanings.directory first in
     let early : (tells → EndsEarlyOf kind d bytes steps at) = λ t. at_bad kind d bytes (old.ahead ++ before) steps old at (runs.read t) (bad t) in
-    cut_ends words station kind o h tells at first now bytes left
+    cut_ends meanings station kind o h tells at first now bytes left
     record { steps = steps; early = early; none = λ t others w. early_is_none kind d bytes steps others at few (early t) w; stands = runs.stands o h start }
 
-pub ends_source : {O W : Type 0} (words : Standing O W) (kind : CaptureKind) (station tells : Type 0) (bytes : List ℕ) (first : W) (steps : List Step) (old new : Held) (before after : List ℕ) (ds : List Decoding) (now : W)
-    → Runs words kind tells bytes first steps old before ds now → IsSameCapture old new → (tells → StopsInHead old new before after)
-    → (o : O) (h : List Entry) → StandsFor words o h first → Ends words station kind o h tells end.SourceFault first now bytes after
-ends_source words kind station tells bytes first steps old new before after ds now runs same stops o h start =
-    source_ends words station kind o h tells first now bytes after record {
+pub ends_source : {O W : Type 0} (meanings : Standing O W) (kind : CaptureKind) (station tells : Type 0) (bytes : List ℕ) (first : W) (steps : List Step) (old new : Held) (before after : List ℕ) (ds : List Decoding) (now : W)
+    → Runs meanings kind tells bytes first steps old before ds now → IsSameCapture old new → (tells → StopsInHead old new before after)
+    → (o : O) (h : List Entry) → StandsFor meanings o h first → Ends meanings station kind o h tells end.SourceFault first now bytes after
+ends_source meanings kind station tells bytes first steps old new before after ds now runs same stops o h start =
+    source_ends meanings station kind o h tells first now bytes after record {
       steps = steps;
-      taken = λ t. taken_head kind (words.directory first) bytes before after steps old new (runs.read t) same (stops t);
+      taken = λ t. taken_head kind (meanings.directory first) bytes before after steps old new (runs.read t) same (stops t);
       stands = runs.stands o h start;
     }
 
@@ -186,14 +186,14 @@ two_each (s ∷ steps) =
     let more = two_each steps in
     omega (arith, more, two_bytes (head_of s), length-append (step_text s) (flat_map step_text steps), length-append (head_text (head_of s)) (bytes_of_step s))
 
-pub ends_never : {O W : Type 0} (words : Standing O W) (kind : CaptureKind) (station tells : Type 0) (bytes : List ℕ) (first : W) (steps : List Step) (held : Held) (left after : List ℕ) (ds : List Decoding) (now : W) (at : ℕ)
-    → Runs words kind tells bytes first steps held left ds now → 2 ^ 64 - 1 ≤ length steps
-    → (o : O) (h : List Entry) → StandsFor words o h first → Ends words station kind o h tells (end.Capture at) first now bytes after
-ends_never words kind station tells bytes first steps held left after ds now at runs many o h start =
+pub ends_never : {O W : Type 0} (meanings : Standing O W) (kind : CaptureKind) (station tells : Type 0) (bytes : List ℕ) (first : W) (steps : List Step) (held : Held) (left after : List ℕ) (ds : List Decoding) (now : W) (at : ℕ)
+    → Runs meanings kind tells bytes first steps held left ds now → 2 ^ 64 - 1 ≤ length steps
+    → (o : O) (h : List Entry) → StandsFor meanings o h first → Ends meanings station kind o h tells (end.Capture at) first now bytes after
+ends_never meanings kind station tells bytes first steps held left after ds now at runs many o h start =
     let never : tells → ⊥ = λ t.
     let r = runs.read t in
     omega (arith, many, two_each steps, r.place, r.within) in
-    cut_ends words station kind o h tells at first now bytes after
+    cut_ends meanings station kind o h tells at first now bytes after
     record { steps = steps; early = λ t. absurd (never t); none = λ t. absurd (never t); stands = runs.stands o h start }
 
 -- ---- in a step
@@ -384,14 +384,14 @@ follows kind d tells bytes steps step old mid before left EndHead read reads val
 
 -- ---- where the switch stands since, behind a part of a step
 
-module _ {O W : Type 0} (words : Standing O W) (o p : O) (at : List Entry → O) (h es added rest : List Entry)
+module _ {O W : Type 0} (meanings : Standing O W) (o p : O) (at : List Entry → O) (h es added rest : List Entry)
     (stays : (front : List Entry) → length front < length added → at (h ++ (es ++ front)) ≡ p) where
-  breaks_within : (fault : SwitchFault) (now : W) → BreaksOff words (λ _. p) (h ++ es) added fault now → BreaksOff words at h ((es ++ added) ++ rest) fault now
+  breaks_within : (fault : SwitchFault) (now : W) → BreaksOff meanings (λ _. p) (h ++ es) added fault now → BreaksOff meanings at h ((es ++ added) ++ rest) fault now
   breaks_within fault now b =
       let same : (h ++ es) ++ b.front ≡ h ++ (es ++ b.front) = append_assoc h es b.front in
       let here : at (h ++ (es ++ b.front)) ≡ p = stays b.front (omega (arith, ap length b.parts, length-append b.front (Done b.event ∷ b.behind))) in
-      let S : O → List Entry → Type 0 = λ q x. words.stands q (x ++ entry_of b.event (Err fault)) now in
-      let C : O → List Entry → Type 0 = λ q x. IsCause (words.is_full q x b.event) x (outcome_at words now q x b.event) fault in
+      let S : O → List Entry → Type 0 = λ q x. meanings.stands q (x ++ entry_of b.event (Err fault)) now in
+      let C : O → List Entry → Type 0 = λ q x. IsCause (meanings.is_full q x b.event) x (outcome_at meanings now q x b.event) fault in
       record {
         front = es ++ b.front;
         event = b.event;
@@ -402,8 +402,8 @@ module _ {O W : Type 0} (words : Standing O W) (o p : O) (at : List Entry → O)
         cause = subst (λ q. C q (h ++ (es ++ b.front))) (sym here) (subst (C p) same b.cause);
       }
 
-  restart_within : (station : Type 0) (fault : OpenFault) (now : W) → BreaksAtRestart words station (λ _. p) (h ++ es) added fault now
-      → BreaksAtRestart words station at h ((es ++ added) ++ rest) fault now
+  restart_within : (station : Type 0) (fault : OpenFault) (now : W) → BreaksAtRestart meanings station (λ _. p) (h ++ es) added fault now
+      → BreaksAtRestart meanings station at h ((es ++ added) ++ rest) fault now
   restart_within station fault now b =
       let same : (h ++ es) ++ b.front ≡ h ++ (es ++ b.front) = append_assoc h es b.front in
       let here : at (h ++ (es ++ b.front)) ≡ p = stays b.front (omega (arith, ap length b.parts, length-append b.front (Restarted ∷ b.behind))) in
@@ -412,7 +412,7 @@ module _ {O W : Type 0} (words : Standing O W) (o p : O) (at : List Entry → O)
         behind = b.behind ++ rest;
         parts = ap (λ (x : List Entry). (es ++ x) ++ rest) b.parts ∙ ap (λ (x : List Entry). x ++ rest) (sym (append_assoc es b.front (Restarted ∷ b.behind)))
             ∙ append_assoc (es ++ b.front) (Restarted ∷ b.behind) rest;
-        stands = subst (λ q. words.stands q (h ++ (es ++ b.front)) now) (sym here) (subst (λ (x : List Entry). words.stands p x now) same b.stands);
+        stands = subst (λ q. meanings.stands q (h ++ (es ++ b.front)) now) (sym here) (subst (λ (x : List Entry). meanings.stands p x now) same b.stands);
         fault_is = b.fault_is;
       }
 
@@ -436,86 +436,86 @@ journal_head RestartHead step of e = sym of
 journal_head CompactHead step of e = sym of
 journal_head EndHead step of e = sym of
 
-pub ends_step : {O W : Type 0} (words : Standing O W) (kind : CaptureKind) (station tells : Type 0) (bytes : List ℕ) (first : W) (steps : List Step) (old mid new : Held) (before left after : List ℕ)
-    (ds ds_now : List Decoding) (now later : W) (head : Head) (fault : StepFault) → length (words.directory first).circuits ≤ 100
-    → Runs words kind tells bytes first steps old before ds now → words.directory now ≡ words.directory first → ReadsHead tells head old mid before left
-    → DoesStep words station tells head (Err fault) mid new left after ds ds_now now later
-    → (o : O) (h : List Entry) → StandsFor words o h first → Ends words station kind o h tells (end_of fault) first later bytes after
-ends_step {O} {W} words kind station tells bytes first steps old mid new before left after ds ds_now now later head fault few runs same reads does o h start = go fault does
+pub ends_step : {O W : Type 0} (meanings : Standing O W) (kind : CaptureKind) (station tells : Type 0) (bytes : List ℕ) (first : W) (steps : List Step) (old mid new : Held) (before left after : List ℕ)
+    (ds ds_now : List Decoding) (now later : W) (head : Head) (fault : StepFault) → length (meanings.directory first).circuits ≤ 100
+    → Runs meanings kind tells bytes first steps old before ds now → meanings.directory now ≡ meanings.directory first → ReadsHead tells head old mid before left
+    → DoesStep meanings station tells head (Err fault) mid new left after ds ds_now now later
+    → (o : O) (h : List Entry) → StandsFor meanings o h first → Ends meanings station kind o h tells (end_of fault) first later bytes after
+ends_step {O} {W} meanings kind station tells bytes first steps old mid new before left after ds ds_now now later head fault few runs same reads does o h start = go fault does
   where
     d : Directory
-    d = words.directory first
+    d = meanings.directory first
 
     valid : IsHeadOf kind d head
     valid = head_here kind d old.circuits head old.kind runs.circuits runs.of_kind reads.valid
 
     es : List Entry
-    es = entries_at words first o h steps
+    es = entries_at meanings first o h steps
 
     ks : List ℕ
-    ks = compactions_at words first o h steps
+    ks = compactions_at meanings first o h steps
 
     p : O
-    p = origin_done words first o h steps
+    p = origin_done meanings first o h steps
 
     bs : Connections
     bs = connections_after d (no_bytes d) steps
 
     added : Step → List Entry
-    added s = entries_of_step (state_at words now p (h ++ es)) bs s
+    added s = entries_of_step (state_at meanings now p (h ++ es)) bs s
 
-    more : (s : Step) → entries_at words first o h (steps ++ s ∷ []) ≡ es ++ added s
-    more s = added_by words first now o h steps s same (runs.begins o h)
+    more : (s : Step) → entries_at meanings first o h (steps ++ s ∷ []) ≡ es ++ added s
+    more s = added_by meanings first now o h steps s same (runs.begins o h)
 
-    on : StandsFor words p (h ++ es) now
-    on = stands_on words kind tells bytes first steps old before ds now runs same o h start
+    on : StandsFor meanings p (h ++ es) now
+    on = stands_on meanings kind tells bytes first steps old before ds now runs same o h start
 
-    all_added : (s : Step) → words.stands (origin_after words p (h ++ es) s) ((h ++ es) ++ added s) later → HasDone words o h (steps ++ s ∷ []) first later
+    all_added : (s : Step) → meanings.stands (origin_after meanings p (h ++ es) s) ((h ++ es) ++ added s) later → HasDone meanings o h (steps ++ s ∷ []) first later
     all_added s stands =
-        let is : h ++ entries_at words first o h (steps ++ s ∷ []) ≡ (h ++ es) ++ added s = ap (λ (xs : List Entry). h ++ xs) (more s) ∙ sym (append_assoc h es (added s)) in
-        subst (λ (q : O). words.stands q (h ++ entries_at words first o h (steps ++ s ∷ [])) later) (sym (origin_more words first o h steps s (added s) is))
-        (subst (λ (xs : List Entry). words.stands (origin_after words p (h ++ es) s) xs later) (sym is) stands)
+        let is : h ++ entries_at meanings first o h (steps ++ s ∷ []) ≡ (h ++ es) ++ added s = ap (λ (xs : List Entry). h ++ xs) (more s) ∙ sym (append_assoc h es (added s)) in
+        subst (λ (q : O). meanings.stands q (h ++ entries_at meanings first o h (steps ++ s ∷ [])) later) (sym (origin_more meanings first o h steps s (added s) is))
+        (subst (λ (xs : List Entry). meanings.stands (origin_after meanings p (h ++ es) s) xs later) (sym is) stands)
 
     -- behind a part of the entries of the step in work, the compactions before it were done
     stays : (s : Step) (follow : Follows kind d tells bytes steps s) (front : List Entry) → length front < length (added s)
-        → origin_at words o h follow.all first (h ++ (es ++ front)) ≡ p
+        → origin_at meanings o h follow.all first (h ++ (es ++ front)) ≡ p
     stays s follow front less =
-        let c = follow.counts (state_at words first o h) (length h) in
-        let none : count_at (length (h ++ es)) s ≡ [] = nothing_counted (state_at words now p (h ++ es)) bs (length (h ++ es)) s (omega (arith, less)) in
-        let counts : compactions_at words first o h follow.all ≡ ks ++ c.0 =
-        c.1 ∙ ap (λ (xs : List ℕ). xs ++ c.0) (counts_more words first o h steps s ∙ ap (λ (xs : List ℕ). ks ++ xs) none ∙ append-nil ks) in
-        let far : length h + length (entries_at words first o h (steps ++ s ∷ [])) ≡ length h + length es + length (added s) = omega (arith, ap length (more s), length-append es (added s)) in
+        let c = follow.counts (state_at meanings first o h) (length h) in
+        let none : count_at (length (h ++ es)) s ≡ [] = nothing_counted (state_at meanings now p (h ++ es)) bs (length (h ++ es)) s (omega (arith, less)) in
+        let counts : compactions_at meanings first o h follow.all ≡ ks ++ c.0 =
+        c.1 ∙ ap (λ (xs : List ℕ). xs ++ c.0) (counts_more meanings first o h steps s ∙ ap (λ (xs : List ℕ). ks ++ xs) none ∙ append-nil ks) in
+        let far : length h + length (entries_at meanings first o h (steps ++ s ∷ [])) ≡ length h + length es + length (added s) = omega (arith, ap length (more s), length-append es (added s)) in
         let none_yet : AllBehind (length ((h ++ es) ++ front)) c.0 =
-        behind_all (length h + length (entries_at words first o h (steps ++ s ∷ []))) (length ((h ++ es) ++ front)) c.0
+        behind_all (length h + length (entries_at meanings first o h (steps ++ s ∷ []))) (length ((h ++ es) ++ front)) c.0
         (omega (arith, less, far, length-append (h ++ es) front, length-append h es)) c.2 in
-        ap (λ (xs : List ℕ). origin_behind words o xs (h ++ (es ++ front))) counts ∙ ap (λ (x : List Entry). origin_behind words o (ks ++ c.0) x) (sym (append_assoc h es front))
-        ∙ origin_is words o (h ++ es) front ks c.0 (counts_within words first o h steps) none_yet
+        ap (λ (xs : List ℕ). origin_behind meanings o xs (h ++ (es ++ front))) counts ∙ ap (λ (x : List Entry). origin_behind meanings o (ks ++ c.0) x) (sym (append_assoc h es front))
+        ∙ origin_is meanings o (h ++ es) front ks c.0 (counts_within meanings first o h steps) none_yet
       where
         behind_all : (m n : ℕ) (xs : List ℕ) → n < m → AllFrom m xs → AllBehind n xs
         behind_all m n [] lt each = tt
         behind_all m n (x ∷ xs) lt each = (omega (arith, lt, each.0), behind_all m n xs lt each.1)
 
-    whole : (s : Step) (follow : Follows kind d tells bytes steps s) → (rest : List Entry) × (entries_at words first o h follow.all ≡ (es ++ added s) ++ rest)
+    whole : (s : Step) (follow : Follows kind d tells bytes steps s) → (rest : List Entry) × (entries_at meanings first o h follow.all ≡ (es ++ added s) ++ rest)
     whole s follow =
-        let b = follow.behind (state_at words first o h) in
+        let b = follow.behind (state_at meanings first o h) in
         (b.0, b.1 ∙ ap (λ (xs : List Entry). xs ++ b.0) (more s))
 
-    restarts : (f : OpenFault) (w : DoesStep words station tells head (Err (step.Reopen f)) mid new left after ds ds_now now later)
-        → (follow : Follows kind d tells bytes steps w.step) → BreaksAtRestart words station (origin_at words o h follow.all first) h (entries_at words first o h follow.all) f later
+    restarts : (f : OpenFault) (w : DoesStep meanings station tells head (Err (step.Reopen f)) mid new left after ds ds_now now later)
+        → (follow : Follows kind d tells bytes steps w.step) → BreaksAtRestart meanings station (origin_at meanings o h follow.all first) h (entries_at meanings first o h follow.all) f later
     restarts f w follow =
         let b = whole w.step follow in
-        subst (λ (xs : List Entry). BreaksAtRestart words station (origin_at words o h follow.all first) h xs f later) (sym b.1)
-        (restart_within words o p (origin_at words o h follow.all first) h es (added w.step) b.0 (stays w.step follow) station f later (w.went bs p (h ++ es) runs.decode on).1)
+        subst (λ (xs : List Entry). BreaksAtRestart meanings station (origin_at meanings o h follow.all first) h xs f later) (sym b.1)
+        (restart_within meanings o p (origin_at meanings o h follow.all first) h es (added w.step) b.0 (stays w.step follow) station f later (w.went bs p (h ++ es) runs.decode on).1)
 
-    breaks : (f : SwitchFault) (w : DoesStep words station tells head (Err (step.Switch f)) mid new left after ds ds_now now later)
-        → (follow : Follows kind d tells bytes steps w.step) → BreaksOff words (origin_at words o h follow.all first) h (entries_at words first o h follow.all) f later
+    breaks : (f : SwitchFault) (w : DoesStep meanings station tells head (Err (step.Switch f)) mid new left after ds ds_now now later)
+        → (follow : Follows kind d tells bytes steps w.step) → BreaksOff meanings (origin_at meanings o h follow.all first) h (entries_at meanings first o h follow.all) f later
     breaks f w follow =
         let b = whole w.step follow in
-        subst (λ (xs : List Entry). BreaksOff words (origin_at words o h follow.all first) h xs f later) (sym b.1)
-        (breaks_within words o p (origin_at words o h follow.all first) h es (added w.step) b.0 (stays w.step follow) f later (w.went bs p (h ++ es) runs.decode on))
+        subst (λ (xs : List Entry). BreaksOff meanings (origin_at meanings o h follow.all first) h xs f later) (sym b.1)
+        (breaks_within meanings o p (origin_at meanings o h follow.all first) h es (added w.step) b.0 (stays w.step follow) f later (w.went bs p (h ++ es) runs.decode on))
 
-    uncompacts : (f : SwitchFault) (w : DoesStep words station tells head (Err (step.Compaction f)) mid new left after ds ds_now now later)
-        → (follow : Follows kind d tells bytes steps w.step) → BreaksAtCompaction words o h follow.all f first later
+    uncompacts : (f : SwitchFault) (w : DoesStep meanings station tells head (Err (step.Compaction f)) mid new left after ds ds_now now later)
+        → (follow : Follows kind d tells bytes steps w.step) → BreaksAtCompaction meanings o h follow.all f first later
     uncompacts f w follow =
         let u = w.went bs p (h ++ es) runs.decode on in
         record {
@@ -526,85 +526,85 @@ ends_step {O} {W} words kind station tells bytes first steps old mid new before 
           cause = u.cause;
         }
 
-    stops : (f : SwitchFault) → IsLasting f → (w : DoesStep words station tells head (Err (step.Switch f)) mid new left after ds ds_now now later) → StopsAtFault words kind o h tells f first later bytes
+    stops : (f : SwitchFault) → IsLasting f → (w : DoesStep meanings station tells head (Err (step.Switch f)) mid new left after ds ds_now now later) → StopsAtFault meanings kind o h tells f first later bytes
     stops f lasting w =
         let follow = follows kind d tells bytes steps w.step old mid before left head runs.read reads valid w.of_head w.taken in
         let b = breaks f w follow in
-        let at : O = origin_at words o h follow.all first (h ++ b.front) in
-        let sure : AllSure b.front = sure_front b.front (Done b.event ∷ b.behind) (subst AllSure b.parts (sure_from d (state_at words first o h) (no_bytes d) follow.all)) in
-        record { steps = follow.all; read = follow.read; breaks = b; lasting = lasting; earlier = stopped_before (words.is_full at (h ++ b.front) b.event) h b.front (outcome_at words later at (h ++ b.front) b.event) f sure b.cause }
+        let at : O = origin_at meanings o h follow.all first (h ++ b.front) in
+        let sure : AllSure b.front = sure_front b.front (Done b.event ∷ b.behind) (subst AllSure b.parts (sure_from d (state_at meanings first o h) (no_bytes d) follow.all)) in
+        record { steps = follow.all; read = follow.read; breaks = b; lasting = lasting; earlier = stopped_before (meanings.is_full at (h ++ b.front) b.event) h b.front (outcome_at meanings later at (h ++ b.front) b.event) f sure b.cause }
 
     journaled : (s : Step) → IsStepOf head s → (s ≡ Restart) ⊎ (s ≡ Compact) → kind ≡ Journaled
     journaled s of (inl e) = subst (λ (k : Head). IsHeadOf kind d k) (journal_head head s of (inl e) ∙ ap head_of e) valid
     journaled s of (inr e) = subst (λ (k : Head). IsHeadOf kind d k) (journal_head head s of (inr e) ∙ ap head_of e) valid
 
-    unopened : (f : OpenFault) → (f ≡ opening.NoMemory → ⊥) → (w : DoesStep words station tells head (Err (step.Reopen f)) mid new left after ds ds_now now later)
-        → StopsAtRestart words station kind o h tells f first later bytes
+    unopened : (f : OpenFault) → (f ≡ opening.NoMemory → ⊥) → (w : DoesStep meanings station tells head (Err (step.Reopen f)) mid new left after ds ds_now now later)
+        → StopsAtRestart meanings station kind o h tells f first later bytes
     unopened f memory w =
         let follow = follows kind d tells bytes steps w.step old mid before left head runs.read reads valid w.of_head w.taken in
         record { steps = follow.all; read = follow.read; breaks = restarts f w follow; of_kind = journaled w.step w.of_head (inl (w.went bs p (h ++ es) runs.decode on).0); memory = memory }
 
-    uncompacted : (f : SwitchFault) → IsLasting f → (w : DoesStep words station tells head (Err (step.Compaction f)) mid new left after ds ds_now now later)
-        → StopsAtCompaction words kind o h tells f first later bytes
+    uncompacted : (f : SwitchFault) → IsLasting f → (w : DoesStep meanings station tells head (Err (step.Compaction f)) mid new left after ds ds_now now later)
+        → StopsAtCompaction meanings kind o h tells f first later bytes
     uncompacted f lasting w =
         let follow = follows kind d tells bytes steps w.step old mid before left head runs.read reads valid w.of_head w.taken in
         let u = w.went bs p (h ++ es) runs.decode on in
-        let sure : AllSure es = sure_from d (state_at words first o h) (no_bytes d) steps in
+        let sure : AllSure es = sure_from d (state_at meanings first o h) (no_bytes d) steps in
         record {
           steps = follow.all;
           read = follow.read;
           breaks = uncompacts f w follow;
           of_kind = journaled w.step w.of_head (inr u.at_step);
           lasting = lasting;
-          earlier = uncompacted_before (words.is_full_compacted p (h ++ es)) h es f sure u.cause;
+          earlier = uncompacted_before (meanings.is_full_compacted p (h ++ es)) h es f sure u.cause;
         }
 
-    go : (f : StepFault) → DoesStep words station tells head (Err f) mid new left after ds ds_now now later → Ends words station kind o h tells (end_of f) first later bytes after
+    go : (f : StepFault) → DoesStep meanings station tells head (Err f) mid new left after ds ds_now now later → Ends meanings station kind o h tells (end_of f) first later bytes after
     go (step.Capture (Bad at)) w =
         let early : (tells → EndsEarlyOf kind d bytes (steps ++ w.step ∷ []) at) = λ t. cut_in kind d bytes steps old mid before left at tells head w.step t (runs.read t) reads valid w.of_head w.taken in
-        cut_ends words station kind o h tells at first later bytes after record {
+        cut_ends meanings station kind o h tells at first later bytes after record {
           steps = steps ++ w.step ∷ [];
           early = early;
           none = λ t others k. early_is_none kind d bytes (steps ++ w.step ∷ []) others at few (early t) k;
           stands = all_added w.step (w.went bs p (h ++ es) runs.decode on);
         }
     go (step.Capture SourceFault) w =
-        source_ends words station kind o h tells first later bytes after record {
+        source_ends meanings station kind o h tells first later bytes after record {
           steps = steps ++ w.step ∷ [];
           taken = λ t. lost_in kind d bytes steps old mid before left after tells head w.step t (runs.read t) reads valid w.of_head w.taken;
           stands = all_added w.step (w.went bs p (h ++ es) runs.decode on);
         }
-    go (step.Reopen opening.NoJournal) w = reopen_ends words station kind o h tells opening.NoJournal first later bytes after (unopened opening.NoJournal (λ e. cc) w)
-    go (step.Reopen opening.OldVersion) w = reopen_ends words station kind o h tells opening.OldVersion first later bytes after (unopened opening.OldVersion (λ e. cc) w)
+    go (step.Reopen opening.NoJournal) w = reopen_ends meanings station kind o h tells opening.NoJournal first later bytes after (unopened opening.NoJournal (λ e. cc) w)
+    go (step.Reopen opening.OldVersion) w = reopen_ends meanings station kind o h tells opening.OldVersion first later bytes after (unopened opening.OldVersion (λ e. cc) w)
     go (step.Reopen (opening.NotThis want found)) w =
-        reopen_ends words station kind o h tells (opening.NotThis want found) first later bytes after (unopened (opening.NotThis want found) (λ e. cc) w)
-    go (step.Reopen (opening.Damaged file at)) w = reopen_ends words station kind o h tells (opening.Damaged file at) first later bytes after (unopened (opening.Damaged file at) (λ e. cc) w)
-    go (step.Reopen opening.DiskFault) w = reopen_ends words station kind o h tells opening.DiskFault first later bytes after (unopened opening.DiskFault (λ e. cc) w)
+        reopen_ends meanings station kind o h tells (opening.NotThis want found) first later bytes after (unopened (opening.NotThis want found) (λ e. cc) w)
+    go (step.Reopen (opening.Damaged file at)) w = reopen_ends meanings station kind o h tells (opening.Damaged file at) first later bytes after (unopened (opening.Damaged file at) (λ e. cc) w)
+    go (step.Reopen opening.DiskFault) w = reopen_ends meanings station kind o h tells opening.DiskFault first later bytes after (unopened opening.DiskFault (λ e. cc) w)
     go (step.Reopen opening.NoMemory) w =
         let follow = follows kind d tells bytes steps w.step old mid before left head runs.read reads valid w.of_head w.taken in
         let b = restarts opening.NoMemory w follow in
-        memory_ends words station kind o h tells first later bytes after record {
+        memory_ends meanings station kind o h tells first later bytes after record {
           steps = follow.all;
           read = follow.read;
           stands = inr (inl b);
         }
-    go (step.Switch switch.DiskFault) w = fault_ends words station kind o h tells switch.DiskFault first later bytes after (stops switch.DiskFault tt w)
-    go (step.Switch switch.SayFault) w = fault_ends words station kind o h tells switch.SayFault first later bytes after (stops switch.SayFault tt w)
+    go (step.Switch switch.DiskFault) w = fault_ends meanings station kind o h tells switch.DiskFault first later bytes after (stops switch.DiskFault tt w)
+    go (step.Switch switch.SayFault) w = fault_ends meanings station kind o h tells switch.SayFault first later bytes after (stops switch.SayFault tt w)
     go (step.Switch (switch.Full used need limit)) w =
-        fault_ends words station kind o h tells (switch.Full used need limit) first later bytes after (stops (switch.Full used need limit) tt w)
-    go (step.Switch (switch.Stopped by)) w = fault_ends words station kind o h tells (switch.Stopped by) first later bytes after (stops (switch.Stopped by) tt w)
+        fault_ends meanings station kind o h tells (switch.Full used need limit) first later bytes after (stops (switch.Full used need limit) tt w)
+    go (step.Switch (switch.Stopped by)) w = fault_ends meanings station kind o h tells (switch.Stopped by) first later bytes after (stops (switch.Stopped by) tt w)
     go (step.Switch switch.Spent) w =
         let follow = follows kind d tells bytes steps w.step old mid before left head runs.read reads valid w.of_head w.taken in
         absurd ((breaks switch.Spent w follow).cause)
     go (step.Switch switch.NoMemory) w =
         let follow = follows kind d tells bytes steps w.step old mid before left head runs.read reads valid w.of_head w.taken in
-        memory_ends words station kind o h tells first later bytes after record { steps = follow.all; read = follow.read; stands = inr (inr (inr (breaks switch.NoMemory w follow))) }
-    go (step.Compaction switch.DiskFault) w = compaction_ends words station kind o h tells switch.DiskFault first later bytes after (uncompacted switch.DiskFault tt w)
+        memory_ends meanings station kind o h tells first later bytes after record { steps = follow.all; read = follow.read; stands = inr (inr (inr (breaks switch.NoMemory w follow))) }
+    go (step.Compaction switch.DiskFault) w = compaction_ends meanings station kind o h tells switch.DiskFault first later bytes after (uncompacted switch.DiskFault tt w)
     go (step.Compaction switch.SayFault) w = absurd (w.went bs p (h ++ es) runs.decode on).cause
     go (step.Compaction (switch.Full used need limit)) w =
-        compaction_ends words station kind o h tells (switch.Full used need limit) first later bytes after (uncompacted (switch.Full used need limit) tt w)
-    go (step.Compaction (switch.Stopped by)) w = compaction_ends words station kind o h tells (switch.Stopped by) first later bytes after (uncompacted (switch.Stopped by) tt w)
+        compaction_ends meanings station kind o h tells (switch.Full used need limit) first later bytes after (uncompacted (switch.Full used need limit) tt w)
+    go (step.Compaction (switch.Stopped by)) w = compaction_ends meanings station kind o h tells (switch.Stopped by) first later bytes after (uncompacted (switch.Stopped by) tt w)
     go (step.Compaction switch.Spent) w = absurd (w.went bs p (h ++ es) runs.decode on).cause
     go (step.Compaction switch.NoMemory) w =
         let follow = follows kind d tells bytes steps w.step old mid before left head runs.read reads valid w.of_head w.taken in
-        memory_ends words station kind o h tells first later bytes after record { steps = follow.all; read = follow.read; stands = inr (inr (inl (uncompacts switch.NoMemory w follow))) }
+        memory_ends meanings station kind o h tells first later bytes after record { steps = follow.all; read = follow.read; stands = inr (inr (inl (uncompacts switch.NoMemory w follow))) }

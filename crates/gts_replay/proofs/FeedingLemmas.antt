@@ -14,7 +14,7 @@ use Rattle.gts_frame.specs.declared.step.Step.{Step}
 use Rattle.gts_connection.specs.Connection.{events_added}
 use Rattle.gts_connection.specs.Steps.{events_of_signs}
 use Rattle.gts_connection.proofs.LawLemmas.{added-twice, added-signs}
-use Rattle.gts_turns.specs.{Standing}
+use Rattle.gts_calls.specs.{Standing}
 use Rattle.gts_replay.specs.Going.{BreaksOff, Goes, IsFed}
 use Rattle.gts_replay.proofs.GoingLemmas.{then_goes, breaks_before, goes_same}
 
@@ -37,10 +37,10 @@ nothing_added c before = done (added-twice c before [] [])
         let last = none (events_added c before []) (events_added c (before ++ []) []) e in
         subst (λ (b : List ℕ). events_added c b [] ≡ []) (append-nil before) last
 
-pub fed_none : {O W : Type 0} (words : Standing O W) (c : ℕ) (old : Decoding) (first : W) → IsFed words c old first [] old first
-fed_none words c old first = record {
+pub fed_none : {O W : Type 0} (meanings : Standing O W) (c : ℕ) (old : Decoding) (first : W) → IsFed meanings c old first [] old first
+fed_none meanings c old first = record {
   held = λ before is. is ∙ ap held_in (sym (append-nil before));
-  adds = λ before o h is stands. subst (λ (x : List Entry). words.stands o x first) (sym (append-nil h) ∙ ap (λ (x : List Event). h ++ all_done x) (sym (nothing_added c before))) stands;
+  adds = λ before o h is stands. subst (λ (x : List Entry). meanings.stands o x first) (sym (append-nil h) ∙ ap (λ (x : List Event). h ++ all_done x) (sym (nothing_added c before))) stands;
 }
 
 -- what a decoder's step showed
@@ -49,68 +49,68 @@ shown : (c : ℕ) (before x : List ℕ) (step : Step) (now : Decoding) → Reads
 shown c before x step now reads = ap all_done (added-signs c before x step now reads)
 
 -- one step of the decoder more was dealt with
-pub fed_more : {O W : Type 0} (words : Standing O W) (c : ℕ) (old : Decoding) (first : W) (bytes x : List ℕ) (step : Step) (decoder next : Decoding) (now later : W)
-    → IsFed words c old first bytes decoder now
+pub fed_more : {O W : Type 0} (meanings : Standing O W) (c : ℕ) (old : Decoding) (first : W) (bytes x : List ℕ) (step : Step) (decoder next : Decoding) (now later : W)
+    → IsFed meanings c old first bytes decoder now
     → ((before : List ℕ) → decoder.held ≡ held_in before → ReadsOn before x step next)
-    → ((o : O) (h : List Entry) → words.stands o h now → Goes words o h (all_done (events_of_signs c (signs_of_step step next.message))) (Ok tt) later)
-    → IsFed words c old first (bytes ++ x) next later
-fed_more words c old first bytes x step decoder next now later fed reads goes = record {
+    → ((o : O) (h : List Entry) → meanings.stands o h now → Goes meanings o h (all_done (events_of_signs c (signs_of_step step next.message))) (Ok tt) later)
+    → IsFed meanings c old first (bytes ++ x) next later
+fed_more meanings c old first bytes x step decoder next now later fed reads goes = record {
   held = λ before is. (reads (before ++ bytes) (fed.held before is)).held ∙ ap held_in (append_assoc before bytes x);
   adds = λ before o h is stands.
       let more = goes o (h ++ all_done (events_added c before bytes)) (fed.adds before o h is stands) in
       let same = shown c (before ++ bytes) x step next (reads (before ++ bytes) (fed.held before is)) in
-      let all = then_goes words o h (all_done (events_added c before bytes)) (all_done (events_of_signs c (signs_of_step step next.message))) (Ok tt) later more in
-      goes_same words o h _ _ (Ok tt) later
+      let all = then_goes meanings o h (all_done (events_added c before bytes)) (all_done (events_of_signs c (signs_of_step step next.message))) (Ok tt) later more in
+      goes_same meanings o h _ _ (Ok tt) later
       (ap (λ (e : List Entry). all_done (events_added c before bytes) ++ e) (sym same) ∙ sym (done_twice c before bytes x)) all;
 }
 
 -- a step of the decoder was answered with a fault, and what stands behind it was not dealt with
-pub fed_breaks : {O W : Type 0} (words : Standing O W) (c : ℕ) (old : Decoding) (first : W) (bytes x rest : List ℕ) (step : Step) (decoder next : Decoding) (now later : W)
+pub fed_breaks : {O W : Type 0} (meanings : Standing O W) (c : ℕ) (old : Decoding) (first : W) (bytes x rest : List ℕ) (step : Step) (decoder next : Decoding) (now later : W)
     (result r : Result (Unit {0}) SwitchFault) (fault : SwitchFault) → result ≡ Err fault → IsErrAnd r (λ e. e ≡ fault)
-    → IsFed words c old first bytes decoder now
+    → IsFed meanings c old first bytes decoder now
     → ((before : List ℕ) → decoder.held ≡ held_in before → ReadsOn before x step next)
-    → ((o : O) (h : List Entry) → words.stands o h now → Goes words o h (all_done (events_of_signs c (signs_of_step step next.message))) result later)
-    → (before : List ℕ) (o : O) (h : List Entry) → old.held ≡ held_in before → words.stands o h first
-    → Goes words o h (all_done (events_added c before (bytes ++ (x ++ rest)))) r later
-fed_breaks words c old first bytes x rest step decoder next now later result r fault is failed fed reads goes before o h held stands =
+    → ((o : O) (h : List Entry) → meanings.stands o h now → Goes meanings o h (all_done (events_of_signs c (signs_of_step step next.message))) result later)
+    → (before : List ℕ) (o : O) (h : List Entry) → old.held ≡ held_in before → meanings.stands o h first
+    → Goes meanings o h (all_done (events_added c before (bytes ++ (x ++ rest)))) r later
+fed_breaks meanings c old first bytes x rest step decoder next now later result r fault is failed fed reads goes before o h held stands =
     let error = err_from_is_err_and r failed in
     let front : List Entry = all_done (events_added c before bytes) in
     let made : List Entry = all_done (events_of_signs c (signs_of_step step next.message)) in
     let behind : List Entry = all_done (events_added c ((before ++ bytes) ++ x) rest) in
-    let broken : BreaksOff words (λ _. o) (h ++ front) made fault later =
-    subst (λ (e : Result (Unit {0}) SwitchFault). Goes words o (h ++ front) made e later) is (goes o (h ++ front) (fed.adds before o h held stands)) in
-    let all = then_goes words o h front (made ++ behind) (Err fault) later (breaks_before words o (h ++ front) made behind fault later broken) in
+    let broken : BreaksOff meanings (λ _. o) (h ++ front) made fault later =
+    subst (λ (e : Result (Unit {0}) SwitchFault). Goes meanings o (h ++ front) made e later) is (goes o (h ++ front) (fed.adds before o h held stands)) in
+    let all = then_goes meanings o h front (made ++ behind) (Err fault) later (breaks_before meanings o (h ++ front) made behind fault later broken) in
     let same : all_done (events_added c before (bytes ++ (x ++ rest))) ≡ front ++ (made ++ behind) =
     done_twice c before bytes (x ++ rest) ∙ ap (λ (e : List Entry). front ++ e) (done_twice c (before ++ bytes) x rest
     ∙ ap (λ (e : List Entry). e ++ behind) (shown c (before ++ bytes) x step next (reads (before ++ bytes) (fed.held before held)))) in
-    goes_same words o h (front ++ (made ++ behind)) (all_done (events_added c before (bytes ++ (x ++ rest)))) r later (sym same)
-    (subst (λ (e : Result (Unit {0}) SwitchFault). Goes words o h (front ++ (made ++ behind)) e later) (sym (error.1 ∙ ap (λ (e : SwitchFault). Err e) error.2)) all)
+    goes_same meanings o h (front ++ (made ++ behind)) (all_done (events_added c before (bytes ++ (x ++ rest)))) r later (sym same)
+    (subst (λ (e : Result (Unit {0}) SwitchFault). Goes meanings o h (front ++ (made ++ behind)) e later) (sym (error.1 ∙ ap (λ (e : SwitchFault). Err e) error.2)) all)
 
 -- a piece more was dealt with
-pub fed_piece : {O W : Type 0} (words : Standing O W) (c : ℕ) (old : Decoding) (first : W) (bytes piece : List ℕ) (decoder next : Decoding) (now later : W)
-    → IsFed words c old first bytes decoder now
+pub fed_piece : {O W : Type 0} (meanings : Standing O W) (c : ℕ) (old : Decoding) (first : W) (bytes piece : List ℕ) (decoder next : Decoding) (now later : W)
+    → IsFed meanings c old first bytes decoder now
     → ((before : List ℕ) → decoder.held ≡ held_in before → next.held ≡ held_in (before ++ piece))
-    → ((before : List ℕ) (o : O) (h : List Entry) → decoder.held ≡ held_in before → words.stands o h now → words.stands o (h ++ all_done (events_added c before piece)) later)
-    → IsFed words c old first (bytes ++ piece) next later
-fed_piece words c old first bytes piece decoder next now later fed held goes = record {
+    → ((before : List ℕ) (o : O) (h : List Entry) → decoder.held ≡ held_in before → meanings.stands o h now → meanings.stands o (h ++ all_done (events_added c before piece)) later)
+    → IsFed meanings c old first (bytes ++ piece) next later
+fed_piece meanings c old first bytes piece decoder next now later fed held goes = record {
   held = λ before is. held (before ++ bytes) (fed.held before is) ∙ ap held_in (append_assoc before bytes piece);
   adds = λ before o h is stands.
       let front : List Entry = all_done (events_added c before bytes) in
       let more = goes (before ++ bytes) o (h ++ front) (fed.held before is) (fed.adds before o h is stands) in
-      subst (λ (x : List Entry). words.stands o x later)
+      subst (λ (x : List Entry). meanings.stands o x later)
       (append_assoc h front (all_done (events_added c (before ++ bytes) piece)) ∙ ap (λ (x : List Entry). h ++ x) (sym (done_twice c before bytes piece))) more;
 }
 
 -- a piece broke off
-pub breaks_piece : {O W : Type 0} (words : Standing O W) (c : ℕ) (old : Decoding) (first : W) (bytes piece : List ℕ) (decoder : Decoding) (now later : W) (fault : SwitchFault)
-    → IsFed words c old first bytes decoder now
-    → ((before : List ℕ) (o : O) (h : List Entry) → decoder.held ≡ held_in before → words.stands o h now → BreaksOff words (λ _. o) h (all_done (events_added c before piece)) fault later)
-    → (before : List ℕ) (o : O) (h : List Entry) → old.held ≡ held_in before → words.stands o h first → BreaksOff words (λ _. o) h (all_done (events_added c before (bytes ++ piece))) fault later
-breaks_piece words c old first bytes piece decoder now later fault fed goes before o h is stands =
+pub breaks_piece : {O W : Type 0} (meanings : Standing O W) (c : ℕ) (old : Decoding) (first : W) (bytes piece : List ℕ) (decoder : Decoding) (now later : W) (fault : SwitchFault)
+    → IsFed meanings c old first bytes decoder now
+    → ((before : List ℕ) (o : O) (h : List Entry) → decoder.held ≡ held_in before → meanings.stands o h now → BreaksOff meanings (λ _. o) h (all_done (events_added c before piece)) fault later)
+    → (before : List ℕ) (o : O) (h : List Entry) → old.held ≡ held_in before → meanings.stands o h first → BreaksOff meanings (λ _. o) h (all_done (events_added c before (bytes ++ piece))) fault later
+breaks_piece meanings c old first bytes piece decoder now later fault fed goes before o h is stands =
     let front : List Entry = all_done (events_added c before bytes) in
     let more = goes (before ++ bytes) o (h ++ front) (fed.held before is) (fed.adds before o h is stands) in
-    let all = then_goes words o h front (all_done (events_added c (before ++ bytes) piece)) (Err fault) later more in
-    subst (λ (x : List Entry). BreaksOff words (λ _. o) h x fault later) (sym (done_twice c before bytes piece)) all
+    let all = then_goes meanings o h front (all_done (events_added c (before ++ bytes) piece)) (Err fault) later more in
+    subst (λ (x : List Entry). BreaksOff meanings (λ _. o) h x fault later) (sym (done_twice c before bytes piece)) all
 
 -- a slice from a place on
 pub slice_from : (n : ℕ) (xs : List ℕ) → take (length xs - n) (drop n xs) ≡ drop n xs

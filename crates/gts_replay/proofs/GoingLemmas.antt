@@ -10,61 +10,61 @@ use Rattle.gts_event.specs.declared.event.Entry.{Entry}
 use Rattle.gts_event.specs.declared.event.Entry.TheVariants.{Done}
 use Rattle.gts_event.specs.declared.outcome.Outcome.{Outcome}
 use Rattle.gts_event.specs.declared.fault.SwitchFault.{SwitchFault}
-use Rattle.gts_turns.specs.{Standing, IsTurn, IsCause, entry_of, outcome_at}
+use Rattle.gts_calls.specs.{Standing, IsTurn, IsCause, entry_of, outcome_at}
 use Rattle.gts_replay.specs.Going.{BreaksOff, Goes}
 
 -- nothing was to be added
-pub none_goes : {O W : Type 0} (words : Standing O W) (o : O) (h : List Entry) (now : W) → words.stands o h now → Goes words o h [] (Ok tt) now
-none_goes words o h now stands = subst (λ (x : List Entry). words.stands o x now) (sym (append-nil h)) stands
+pub none_goes : {O W : Type 0} (meanings : Standing O W) (o : O) (h : List Entry) (now : W) → meanings.stands o h now → Goes meanings o h [] (Ok tt) now
+none_goes meanings o h now stands = subst (λ (x : List Entry). meanings.stands o x now) (sym (append-nil h)) stands
 
-pub cause_at : {O W : Type 0} (words : Standing O W) (o : O) (h : List Entry) (event : Event) (fault : SwitchFault) (old new : W) → words.directory new ≡ words.directory old
-    → IsCause (words.is_full o h event) h (outcome_at words old o h event) fault → IsCause (words.is_full o h event) h (outcome_at words new o h event) fault
-cause_at words o h event fault old new same cause =
-    subst (λ (d : Directory). IsCause (words.is_full o h event) h (outcome d (after_all d (words.begin o) h) event) fault) (sym same) cause
+pub cause_at : {O W : Type 0} (meanings : Standing O W) (o : O) (h : List Entry) (event : Event) (fault : SwitchFault) (old new : W) → meanings.directory new ≡ meanings.directory old
+    → IsCause (meanings.is_full o h event) h (outcome_at meanings old o h event) fault → IsCause (meanings.is_full o h event) h (outcome_at meanings new o h event) fault
+cause_at meanings o h event fault old new same cause =
+    subst (λ (d : Directory). IsCause (meanings.is_full o h event) h (outcome d (after_all d (meanings.begin o) h) event) fault) (sym same) cause
 
 -- a call broke off
-pub one_breaks : {O W : Type 0} (words : Standing O W) (event : Event) (result : Result Outcome SwitchFault) (fault : SwitchFault) (r : Result (Unit {0}) SwitchFault) (old new : W)
-    → IsTurn words event result old new → result ≡ Err fault → IsErrAnd r (λ e. e ≡ fault)
-    → (o : O) (h : List Entry) → words.stands o h old → Goes words o h (Done event ∷ []) r new
-one_breaks words event result fault r old new turn is failed o h stands =
+pub one_breaks : {O W : Type 0} (meanings : Standing O W) (event : Event) (result : Result Outcome SwitchFault) (fault : SwitchFault) (r : Result (Unit {0}) SwitchFault) (old new : W)
+    → IsTurn meanings event result old new → result ≡ Err fault → IsErrAnd r (λ e. e ≡ fault)
+    → (o : O) (h : List Entry) → meanings.stands o h old → Goes meanings o h (Done event ∷ []) r new
+one_breaks meanings event result fault r old new turn is failed o h stands =
     let error = err_from_is_err_and r failed in
     let same : h ++ [] ≡ h = append-nil h in
-    let P : List Entry → Type 0 = λ x. IsCause (words.is_full o x event) x (outcome_at words new o x event) fault in
-    subst (λ (x : Result (Unit {0}) SwitchFault). Goes words o h (Done event ∷ []) x new) (sym (error.1 ∙ ap (λ (e : SwitchFault). Err e) error.2)) record {
+    let P : List Entry → Type 0 = λ x. IsCause (meanings.is_full o x event) x (outcome_at meanings new o x event) fault in
+    subst (λ (x : Result (Unit {0}) SwitchFault). Goes meanings o h (Done event ∷ []) x new) (sym (error.1 ∙ ap (λ (e : SwitchFault). Err e) error.2)) record {
       front = [];
       event = event;
       behind = [];
       parts = refl;
-      stands = subst (λ (x : List Entry). words.stands o x new)
+      stands = subst (λ (x : List Entry). meanings.stands o x new)
           (ap (λ (x : Result Outcome SwitchFault). h ++ entry_of event x) is ∙ ap (λ (x : List Entry). x ++ entry_of event (Err fault)) (sym same)) (turn.adds o h stands);
-      cause = subst P (sym same) (cause_at words o h event fault old new turn.directory (turn.caused o h stands fault is));
+      cause = subst P (sym same) (cause_at meanings o h event fault old new turn.directory (turn.caused o h stands fault is));
     }
 
 -- a call was done
-pub one_done : {O W : Type 0} (words : Standing O W) (event : Event) (result : Result Outcome SwitchFault) (answer : Outcome) (old new : W)
-    → IsTurn words event result old new → result ≡ Ok answer → (o : O) (h : List Entry) → words.stands o h old → Goes words o h (Done event ∷ []) (Ok tt) new
-one_done words event result answer old new turn is o h stands =
-    subst (λ (x : List Entry). words.stands o x new) (ap (λ (x : Result Outcome SwitchFault). h ++ entry_of event x) is) (turn.adds o h stands)
+pub one_done : {O W : Type 0} (meanings : Standing O W) (event : Event) (result : Result Outcome SwitchFault) (answer : Outcome) (old new : W)
+    → IsTurn meanings event result old new → result ≡ Ok answer → (o : O) (h : List Entry) → meanings.stands o h old → Goes meanings o h (Done event ∷ []) (Ok tt) new
+one_done meanings event result answer old new turn is o h stands =
+    subst (λ (x : List Entry). meanings.stands o x new) (ap (λ (x : Result Outcome SwitchFault). h ++ entry_of event x) is) (turn.adds o h stands)
 
 -- some were added, and then more
-pub then_goes : {O W : Type 0} (words : Standing O W) (o : O) (h xs ys : List Entry) (r : Result (Unit {0}) SwitchFault) (now : W)
-    → Goes words o (h ++ xs) ys r now → Goes words o h (xs ++ ys) r now
-then_goes words o h xs ys (Ok u) now goes = subst (λ (x : List Entry). words.stands o x now) (append_assoc h xs ys) goes
-then_goes words o h xs ys (Err fault) now b =
+pub then_goes : {O W : Type 0} (meanings : Standing O W) (o : O) (h xs ys : List Entry) (r : Result (Unit {0}) SwitchFault) (now : W)
+    → Goes meanings o (h ++ xs) ys r now → Goes meanings o h (xs ++ ys) r now
+then_goes meanings o h xs ys (Ok u) now goes = subst (λ (x : List Entry). meanings.stands o x now) (append_assoc h xs ys) goes
+then_goes meanings o h xs ys (Err fault) now b =
     let same : (h ++ xs) ++ b.front ≡ h ++ (xs ++ b.front) = append_assoc h xs b.front in
     record {
       front = xs ++ b.front;
       event = b.event;
       behind = b.behind;
       parts = ap (λ (x : List Entry). xs ++ x) b.parts ∙ sym (append_assoc xs b.front (Done b.event ∷ b.behind));
-      stands = subst (λ (x : List Entry). words.stands o (x ++ entry_of b.event (Err fault)) now) same b.stands;
-      cause = subst (λ (x : List Entry). IsCause (words.is_full o x b.event) x (outcome_at words now o x b.event) fault) same b.cause;
+      stands = subst (λ (x : List Entry). meanings.stands o (x ++ entry_of b.event (Err fault)) now) same b.stands;
+      cause = subst (λ (x : List Entry). IsCause (meanings.is_full o x b.event) x (outcome_at meanings now o x b.event) fault) same b.cause;
     }
 
 -- what would have come behind a fault doesn't matter
-pub breaks_before : {O W : Type 0} (words : Standing O W) (o : O) (h xs ys : List Entry) (fault : SwitchFault) (now : W)
-    → BreaksOff words (λ _. o) h xs fault now → BreaksOff words (λ _. o) h (xs ++ ys) fault now
-breaks_before words o h xs ys fault now b = record {
+pub breaks_before : {O W : Type 0} (meanings : Standing O W) (o : O) (h xs ys : List Entry) (fault : SwitchFault) (now : W)
+    → BreaksOff meanings (λ _. o) h xs fault now → BreaksOff meanings (λ _. o) h (xs ++ ys) fault now
+breaks_before meanings o h xs ys fault now b = record {
   front = b.front;
   event = b.event;
   behind = b.behind ++ ys;
@@ -74,6 +74,6 @@ breaks_before words o h xs ys fault now b = record {
 }
 
 -- the same over equal entries
-pub goes_same : {O W : Type 0} (words : Standing O W) (o : O) (h xs ys : List Entry) (r : Result (Unit {0}) SwitchFault) (now : W)
-    → xs ≡ ys → Goes words o h xs r now → Goes words o h ys r now
-goes_same words o h xs ys r now same goes = subst (λ (x : List Entry). Goes words o h x r now) same goes
+pub goes_same : {O W : Type 0} (meanings : Standing O W) (o : O) (h xs ys : List Entry) (r : Result (Unit {0}) SwitchFault) (now : W)
+    → xs ≡ ys → Goes meanings o h xs r now → Goes meanings o h ys r now
+goes_same meanings o h xs ys r now same goes = subst (λ (x : List Entry). Goes meanings o h x r now) same goes

@@ -11,7 +11,7 @@ use Rattle.gts_event.specs.declared.event.Entry.{Entry}
 use Rattle.gts_opening.specs.Room.{done_by}
 use Rattle.gts_connection.specs.Capture.{Step, Feed, Take, Reopen, Drain, Restart, Compact, no_bytes, count_at}
 use Rattle.gts_connection.proofs.LawLemmas.{compactions_go_on, compactions_between}
-use Rattle.gts_turns.specs.{Standing}
+use Rattle.gts_calls.specs.{Standing}
 use Rattle.gts_replay.specs.Going.{state_at, compacted_at, origin_behind}
 use Rattle.gts_replay.specs.Replay.{entries_at, compactions_at}
 use Rattle.gts_replay.specs.Ending.{origin_after}
@@ -41,35 +41,35 @@ none_done_by n (k ∷ ks) each = test_is k n false (no (nat_le k n) refl) ks ∙
 
 -- ---- the origin with its compactions
 
-module _ {O W : Type 0} (words : Standing O W) where
-  pub compacted_front : (o : O) (h x : List Entry) (ks : List ℕ) → AllWithin (length h) ks → compacted_at words o (h ++ x) ks ≡ compacted_at words o h ks
+module _ {O W : Type 0} (meanings : Standing O W) where
+  pub compacted_front : (o : O) (h x : List Entry) (ks : List ℕ) → AllWithin (length h) ks → compacted_at meanings o (h ++ x) ks ≡ compacted_at meanings o h ks
   compacted_front o h x [] each = refl
   compacted_front o h x (k ∷ ks) each =
-      compacted_front (words.compacts o (take k (h ++ x))) h x ks each.1
-      ∙ ap (λ (t : List Entry). compacted_at words (words.compacts o t) h ks) (take-append-le k h x each.0)
+      compacted_front (meanings.compacts o (take k (h ++ x))) h x ks each.1
+      ∙ ap (λ (t : List Entry). compacted_at meanings (meanings.compacts o t) h ks) (take-append-le k h x each.0)
 
-  compacted_append : (o : O) (h : List Entry) (xs ys : List ℕ) → compacted_at words o h (xs ++ ys) ≡ compacted_at words (compacted_at words o h xs) h ys
+  compacted_append : (o : O) (h : List Entry) (xs ys : List ℕ) → compacted_at meanings o h (xs ++ ys) ≡ compacted_at meanings (compacted_at meanings o h xs) h ys
   compacted_append o h [] ys = refl
-  compacted_append o h (x ∷ xs) ys = compacted_append (words.compacts o (take x h)) h xs ys
+  compacted_append o h (x ∷ xs) ys = compacted_append (meanings.compacts o (take x h)) h xs ys
 
   -- the compaction of a step behind entries
-  one_compacted : (o : O) (h x : List Entry) (step : Step) → compacted_at words o (h ++ x) (count_at (length h) step) ≡ origin_after words o h step
+  one_compacted : (o : O) (h x : List Entry) (step : Step) → compacted_at meanings o (h ++ x) (count_at (length h) step) ≡ origin_after meanings o h step
   one_compacted o h x (Feed c bytes) = refl
   one_compacted o h x (Take c) = refl
   one_compacted o h x (Reopen c) = refl
   one_compacted o h x (Drain c) = refl
   one_compacted o h x Restart = refl
-  one_compacted o h x Compact = ap (λ (t : List Entry). words.compacts o t) (take-append_seam h x)
+  one_compacted o h x Compact = ap (λ (t : List Entry). meanings.compacts o t) (take-append_seam h x)
 
   -- the origin behind the compactions that were done is the same, whatever comes later
   pub origin_is : (o : O) (h x : List Entry) (ks later : List ℕ) → AllWithin (length h) ks → AllBehind (length (h ++ x)) later
-      → origin_behind words o (ks ++ later) (h ++ x) ≡ compacted_at words o h ks
+      → origin_behind meanings o (ks ++ later) (h ++ x) ≡ compacted_at meanings o h ks
   origin_is o h x ks later each none =
       let n : ℕ = length (h ++ x) in
       let all : done_by n (ks ++ later) ≡ ks =
       filter-append (λ k. nat_le k n) ks later ∙ ap (λ (xs : List ℕ). done_by n ks ++ xs) (none_done_by n later none) ∙ append-nil (done_by n ks)
       ∙ all_done_by n ks (wider (length h) n ks (omega (arith, length-append h x)) each) in
-      ap (λ (xs : List ℕ). compacted_at words o (h ++ x) xs) all ∙ compacted_front o h x ks each
+      ap (λ (xs : List ℕ). compacted_at meanings o (h ++ x) xs) all ∙ compacted_front o h x ks each
     where
       wider : (m n : ℕ) (ks : List ℕ) → m ≤ n → AllWithin m ks → AllWithin n ks
       wider m n [] le each = tt
@@ -77,16 +77,16 @@ module _ {O W : Type 0} (words : Standing O W) where
 
   module _ (first : W) (o : O) (h : List Entry) (steps : List Step) where
     abbrev d : Directory
-    d = words.directory first
+    d = meanings.directory first
 
     abbrev s : State
-    s = state_at words first o h
+    s = state_at meanings first o h
 
     abbrev es : List Entry
-    es = entries_at words first o h steps
+    es = entries_at meanings first o h steps
 
     abbrev ks : List ℕ
-    ks = compactions_at words first o h steps
+    ks = compactions_at meanings first o h steps
 
     pub counts_within : AllWithin (length (h ++ es)) ks
     counts_within = go ks (compactions_between d s (no_bytes d) (length h) steps)
@@ -96,18 +96,18 @@ module _ {O W : Type 0} (words : Standing O W) where
         go (x ∷ xs) each = (omega (arith, each.0.1, length-append h es), go xs each.1)
 
     -- the compactions of one step more
-    pub counts_more : (step : Step) → compactions_at words first o h (steps ++ step ∷ []) ≡ ks ++ count_at (length (h ++ es)) step
+    pub counts_more : (step : Step) → compactions_at meanings first o h (steps ++ step ∷ []) ≡ ks ++ count_at (length (h ++ es)) step
     counts_more step =
         compactions_go_on d s (length h) steps (step ∷ []) ∙ ap (λ (xs : List ℕ). ks ++ xs) (append-nil (count_at (length h + length es) step))
         ∙ ap (λ (n : ℕ). ks ++ count_at n step) (sym (length-append h es))
 
-    pub origin_more : (step : Step) (added : List Entry) → h ++ entries_at words first o h (steps ++ step ∷ []) ≡ (h ++ es) ++ added
-        → compacted_at words o (h ++ entries_at words first o h (steps ++ step ∷ [])) (compactions_at words first o h (steps ++ step ∷ []))
-        ≡ origin_after words (compacted_at words o (h ++ es) ks) (h ++ es) step
+    pub origin_more : (step : Step) (added : List Entry) → h ++ entries_at meanings first o h (steps ++ step ∷ []) ≡ (h ++ es) ++ added
+        → compacted_at meanings o (h ++ entries_at meanings first o h (steps ++ step ∷ [])) (compactions_at meanings first o h (steps ++ step ∷ []))
+        ≡ origin_after meanings (compacted_at meanings o (h ++ es) ks) (h ++ es) step
     origin_more step added is =
         let one : List ℕ = count_at (length (h ++ es)) step in
-        ap (λ (x : List Entry). compacted_at words o x (compactions_at words first o h (steps ++ step ∷ []))) is
-        ∙ ap (λ (xs : List ℕ). compacted_at words o ((h ++ es) ++ added) xs) (counts_more step)
+        ap (λ (x : List Entry). compacted_at meanings o x (compactions_at meanings first o h (steps ++ step ∷ []))) is
+        ∙ ap (λ (xs : List ℕ). compacted_at meanings o ((h ++ es) ++ added) xs) (counts_more step)
         ∙ compacted_append o ((h ++ es) ++ added) ks one
-        ∙ ap (λ (p : O). compacted_at words p ((h ++ es) ++ added) one) (compacted_front o (h ++ es) added ks counts_within)
-        ∙ one_compacted (compacted_at words o (h ++ es) ks) (h ++ es) added step
+        ∙ ap (λ (p : O). compacted_at meanings p ((h ++ es) ++ added) one) (compacted_front o (h ++ es) added ks counts_within)
+        ∙ one_compacted (compacted_at meanings o (h ++ es) ks) (h ++ es) added step

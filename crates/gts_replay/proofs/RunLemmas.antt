@@ -14,7 +14,7 @@ use Rattle.gts_connection.specs.declared.limits.TheConstants.{LONGEST_CAPTURE}
 use Rattle.gts_capture.specs.{IsHeadIn, bytes_announced, IsReadTo, IsSameCapture, at_start}
 use Rattle.gts_capture.specs.Held.{Held}
 use Rattle.gts_capture.proofs.LawLemmas.{begins, one_step}
-use Rattle.gts_turns.specs.{Standing}
+use Rattle.gts_calls.specs.{Standing}
 use Rattle.gts_replay.specs.Going.{IsStart, StandsFor, state_at, compacted_at, Decode}
 use Rattle.gts_replay.specs.Replay.{HasDone, entries_at, compactions_at}
 use Rattle.gts_replay.specs.Ending.{IsStepOf, DoesStep, Takes, origin_after}
@@ -22,19 +22,19 @@ use Rattle.gts_replay.proofs.OriginLemmas.{origin_more}
 
 -- the origin behind steps that were done
 abbrev pub origin_done : {O W : Type 0} → Standing O W → W → O → List Entry → List Step → O
-origin_done words first o h steps = compacted_at words o (h ++ entries_at words first o h steps) (compactions_at words first o h steps)
+origin_done meanings first o h steps = compacted_at meanings o (h ++ entries_at meanings first o h steps) (compactions_at meanings first o h steps)
 
 -- These steps were done: the switch stands for their entries, the decoders have what came on their connections, and the reader
 -- stands behind them.
-pub record Runs {O W : Type 0} (words : Standing O W) (kind : CaptureKind) (tells : Type 0) (bytes : List ℕ) (first : W) (steps : List Step) (held : Held) (left : List ℕ) (ds : List Decoding) (now : W) : Type 0 where
-  pub circuits : held.circuits ≡ length (words.directory first).circuits
+pub record Runs {O W : Type 0} (meanings : Standing O W) (kind : CaptureKind) (tells : Type 0) (bytes : List ℕ) (first : W) (steps : List Step) (held : Held) (left : List ℕ) (ds : List Decoding) (now : W) : Type 0 where
+  pub circuits : held.circuits ≡ length (meanings.directory first).circuits
   pub of_kind : held.kind ≡ kind
   pub taken : held.feed ≡ 0
-  pub are : AreStepsOf kind (words.directory first) steps
-  pub read : tells → IsReadTo kind (words.directory first) bytes steps held (held.ahead ++ left)
-  pub decode : Decode ds (connections_after (words.directory first) (no_bytes (words.directory first)) steps)
-  pub stands : (o : O) (h : List Entry) → StandsFor words o h first → HasDone words o h steps first now
-  pub begins : (o : O) (h : List Entry) → words.begin (origin_done words first o h steps) ≡ words.begin o
+  pub are : AreStepsOf kind (meanings.directory first) steps
+  pub read : tells → IsReadTo kind (meanings.directory first) bytes steps held (held.ahead ++ left)
+  pub decode : Decode ds (connections_after (meanings.directory first) (no_bytes (meanings.directory first)) steps)
+  pub stands : (o : O) (h : List Entry) → StandsFor meanings o h first → HasDone meanings o h steps first now
+  pub begins : (o : O) (h : List Entry) → meanings.begin (origin_done meanings first o h steps) ≡ meanings.begin o
 
 -- a head was read
 pub record ReadsHead (tells : Type 0) (head : Head) (old new : Held) (before after : List ℕ) : Type 0 where
@@ -45,10 +45,10 @@ pub record ReadsHead (tells : Type 0) (head : Head) (old new : Held) (before aft
   pub within : new.at ≤ LONGEST_CAPTURE
   pub same : IsSameCapture old new
 
-pub runs_none : {O W : Type 0} (words : Standing O W) (kind : CaptureKind) (tells : Type 0) (bytes : List ℕ) (first : W) (held : Held) (ds : List Decoding)
-    → held ≡ at_start (length (words.directory first).circuits) kind → Decode ds (no_bytes (words.directory first)) → Runs words kind tells bytes first [] held bytes ds first
-runs_none words kind tells bytes first held ds is decode =
-    let d : Directory = words.directory first in
+pub runs_none : {O W : Type 0} (meanings : Standing O W) (kind : CaptureKind) (tells : Type 0) (bytes : List ℕ) (first : W) (held : Held) (ds : List Decoding)
+    → held ≡ at_start (length (meanings.directory first).circuits) kind → Decode ds (no_bytes (meanings.directory first)) → Runs meanings kind tells bytes first [] held bytes ds first
+runs_none meanings kind tells bytes first held ds is decode =
+    let d : Directory = meanings.directory first in
     let P : Held → Type 0 = λ x. IsReadTo kind d bytes [] x (x.ahead ++ bytes) in
     record {
       circuits = ap (λ (x : Held). x.circuits) is;
@@ -57,7 +57,7 @@ runs_none words kind tells bytes first held ds is decode =
       are = tt;
       read = λ t. subst P (sym is) (begins kind d bytes (at_start (length d.circuits) kind) refl);
       decode = decode;
-      stands = λ o h start. subst (λ (x : List Entry). words.stands o x first) (sym (append-nil h)) start.stands;
+      stands = λ o h start. subst (λ (x : List Entry). meanings.stands o x first) (sym (append-nil h)) start.stands;
       begins = λ o h. refl;
     }
 
@@ -83,46 +83,46 @@ are_more kind d (s ∷ steps) step are valid = (are.0, are_more kind d steps ste
 -- ---- entries
 
 -- the entries of one step more
-pub entries_more : {O W : Type 0} (words : Standing O W) (first now : W) (o : O) (h : List Entry) (steps : List Step) (step : Step) → words.directory now ≡ words.directory first
-    → entries_at words first o h (steps ++ step ∷ [])
-    ≡ entries_at words first o h steps ++ entries_of_step (state_at words now o (h ++ entries_at words first o h steps)) (connections_after (words.directory first) (no_bytes (words.directory first)) steps) step
-entries_more words first now o h steps step same =
-    let d : Directory = words.directory first in
+pub entries_more : {O W : Type 0} (meanings : Standing O W) (first now : W) (o : O) (h : List Entry) (steps : List Step) (step : Step) → meanings.directory now ≡ meanings.directory first
+    → entries_at meanings first o h (steps ++ step ∷ [])
+    ≡ entries_at meanings first o h steps ++ entries_of_step (state_at meanings now o (h ++ entries_at meanings first o h steps)) (connections_after (meanings.directory first) (no_bytes (meanings.directory first)) steps) step
+entries_more meanings first now o h steps step same =
+    let d : Directory = meanings.directory first in
     let bs : Connections = connections_after d (no_bytes d) steps in
-    let before : List Entry = entries_at words first o h steps in
-    let state : state_at words now o (h ++ before) ≡ after_all d (state_at words first o h) before =
-    ap (λ (e : Directory). after_all e (words.begin o) (h ++ before)) same ∙ after_all-append d (words.begin o) h before in
-    entries_go_on d (state_at words first o h) steps (step ∷ []) ∙ ap (λ (xs : List Entry). before ++ xs) (append-nil (entries_of_step (after_all d (state_at words first o h) before) bs step))
+    let before : List Entry = entries_at meanings first o h steps in
+    let state : state_at meanings now o (h ++ before) ≡ after_all d (state_at meanings first o h) before =
+    ap (λ (e : Directory). after_all e (meanings.begin o) (h ++ before)) same ∙ after_all-append d (meanings.begin o) h before in
+    entries_go_on d (state_at meanings first o h) steps (step ∷ []) ∙ ap (λ (xs : List Entry). before ++ xs) (append-nil (entries_of_step (after_all d (state_at meanings first o h) before) bs step))
     ∙ ap (λ (t : State). before ++ entries_of_step t bs step) (sym state)
 
 -- the switch stands for the entries of the steps so far
-pub stands_on : {O W : Type 0} (words : Standing O W) (kind : CaptureKind) (tells : Type 0) (bytes : List ℕ) (first : W) (steps : List Step) (held : Held) (left : List ℕ) (ds : List Decoding) (now : W)
-    → Runs words kind tells bytes first steps held left ds now → words.directory now ≡ words.directory first
-    → (o : O) (h : List Entry) → StandsFor words o h first → StandsFor words (origin_done words first o h steps) (h ++ entries_at words first o h steps) now
-stands_on words kind tells bytes first steps held left ds now runs same o h start = record {
-  start = subst (λ (s : State). IsStart (words.directory now) s) (sym (runs.begins o h)) (subst (λ (d : Directory). IsStart d (words.begin o)) (sym same) start.start);
+pub stands_on : {O W : Type 0} (meanings : Standing O W) (kind : CaptureKind) (tells : Type 0) (bytes : List ℕ) (first : W) (steps : List Step) (held : Held) (left : List ℕ) (ds : List Decoding) (now : W)
+    → Runs meanings kind tells bytes first steps held left ds now → meanings.directory now ≡ meanings.directory first
+    → (o : O) (h : List Entry) → StandsFor meanings o h first → StandsFor meanings (origin_done meanings first o h steps) (h ++ entries_at meanings first o h steps) now
+stands_on meanings kind tells bytes first steps held left ds now runs same o h start = record {
+  start = subst (λ (s : State). IsStart (meanings.directory now) s) (sym (runs.begins o h)) (subst (λ (d : Directory). IsStart d (meanings.begin o)) (sym same) start.start);
   stands = runs.stands o h start;
 }
 
 -- the entries that a step adds since the origin behind the steps so far
-pub added_by : {O W : Type 0} (words : Standing O W) (first now : W) (o : O) (h : List Entry) (steps : List Step) (step : Step) → words.directory now ≡ words.directory first
-    → words.begin (origin_done words first o h steps) ≡ words.begin o
-    → entries_at words first o h (steps ++ step ∷ [])
-    ≡ entries_at words first o h steps
-    ++ entries_of_step (state_at words now (origin_done words first o h steps) (h ++ entries_at words first o h steps)) (connections_after (words.directory first) (no_bytes (words.directory first)) steps) step
-added_by words first now o h steps step same begin =
-    let d : Directory = words.directory first in
-    let before : List Entry = entries_at words first o h steps in
-    entries_more words first now o h steps step same
-    ∙ ap (λ (t : State). before ++ entries_of_step (after_all (words.directory now) t (h ++ before)) (connections_after d (no_bytes d) steps) step) (sym begin)
+pub added_by : {O W : Type 0} (meanings : Standing O W) (first now : W) (o : O) (h : List Entry) (steps : List Step) (step : Step) → meanings.directory now ≡ meanings.directory first
+    → meanings.begin (origin_done meanings first o h steps) ≡ meanings.begin o
+    → entries_at meanings first o h (steps ++ step ∷ [])
+    ≡ entries_at meanings first o h steps
+    ++ entries_of_step (state_at meanings now (origin_done meanings first o h steps) (h ++ entries_at meanings first o h steps)) (connections_after (meanings.directory first) (no_bytes (meanings.directory first)) steps) step
+added_by meanings first now o h steps step same begin =
+    let d : Directory = meanings.directory first in
+    let before : List Entry = entries_at meanings first o h steps in
+    entries_more meanings first now o h steps step same
+    ∙ ap (λ (t : State). before ++ entries_of_step (after_all (meanings.directory now) t (h ++ before)) (connections_after d (no_bytes d) steps) step) (sym begin)
 
 -- one step more was done
-pub runs_more : {O W : Type 0} (words : Standing O W) (kind : CaptureKind) (station tells : Type 0) (bytes : List ℕ) (first : W) (steps : List Step) (old mid new : Held) (before left after : List ℕ)
-    (ds ds_now : List Decoding) (now later : W) (head : Head) → Runs words kind tells bytes first steps old before ds now → words.directory now ≡ words.directory first
-    → ReadsHead tells head old mid before left → (does : DoesStep words station tells head (Ok tt) mid new left after ds ds_now now later)
-    → Runs words kind tells bytes first (steps ++ does.step ∷ []) new after ds_now later
-runs_more words kind station tells bytes first steps old mid new before left after ds ds_now now later head runs same reads does =
-    let d : Directory = words.directory first in
+pub runs_more : {O W : Type 0} (meanings : Standing O W) (kind : CaptureKind) (station tells : Type 0) (bytes : List ℕ) (first : W) (steps : List Step) (old mid new : Held) (before left after : List ℕ)
+    (ds ds_now : List Decoding) (now later : W) (head : Head) → Runs meanings kind tells bytes first steps old before ds now → meanings.directory now ≡ meanings.directory first
+    → ReadsHead tells head old mid before left → (does : DoesStep meanings station tells head (Ok tt) mid new left after ds ds_now now later)
+    → Runs meanings kind tells bytes first (steps ++ does.step ∷ []) new after ds_now later
+runs_more meanings kind station tells bytes first steps old mid new before left after ds ds_now now later head runs same reads does =
+    let d : Directory = meanings.directory first in
     let step : Step = does.step in
     let bs : Connections = connections_after d (no_bytes d) steps in
     let x : List ℕ = bytes_of_step step in
@@ -146,19 +146,19 @@ runs_more words kind station tells bytes first steps old mid new before left aft
           record { circuits = taken.same.circuits ∙ reads.same.circuits; kind = taken.same.kind ∙ reads.same.kind } (omega (arith, place, reads.at, long)) (taken.within reads.within);
       decode = subst (λ cs. Decode ds_now cs) (ap (λ (e : Directory). after_step e bs step) same ∙ sym (connections_go_on d steps (step ∷ []))) (does.decode bs runs.decode);
       stands = λ o h start.
-          let on = stands_on words kind tells bytes first steps old before ds now runs same o h start in
-          let es : List Entry = entries_at words first o h steps in
-          let p = origin_done words first o h steps in
-          let added : List Entry = entries_of_step (state_at words now p (h ++ es)) bs step in
-          let is : h ++ entries_at words first o h (steps ++ step ∷ []) ≡ (h ++ es) ++ added =
-          ap (λ (xs : List Entry). h ++ xs) (added_by words first now o h steps step same (runs.begins o h)) ∙ sym (append_assoc h es added) in
-          subst (λ q. words.stands q (h ++ entries_at words first o h (steps ++ step ∷ [])) later) (sym (origin_more words first o h steps step added is))
-          (subst (λ (xs : List Entry). words.stands (origin_after words p (h ++ es) step) xs later) (sym is) (does.went bs p (h ++ es) runs.decode on));
+          let on = stands_on meanings kind tells bytes first steps old before ds now runs same o h start in
+          let es : List Entry = entries_at meanings first o h steps in
+          let p = origin_done meanings first o h steps in
+          let added : List Entry = entries_of_step (state_at meanings now p (h ++ es)) bs step in
+          let is : h ++ entries_at meanings first o h (steps ++ step ∷ []) ≡ (h ++ es) ++ added =
+          ap (λ (xs : List Entry). h ++ xs) (added_by meanings first now o h steps step same (runs.begins o h)) ∙ sym (append_assoc h es added) in
+          subst (λ q. meanings.stands q (h ++ entries_at meanings first o h (steps ++ step ∷ [])) later) (sym (origin_more meanings first o h steps step added is))
+          (subst (λ (xs : List Entry). meanings.stands (origin_after meanings p (h ++ es) step) xs later) (sym is) (does.went bs p (h ++ es) runs.decode on));
       begins = λ o h.
-          let es : List Entry = entries_at words first o h steps in
-          let p = origin_done words first o h steps in
-          let added : List Entry = entries_of_step (state_at words now p (h ++ es)) bs step in
-          let is : h ++ entries_at words first o h (steps ++ step ∷ []) ≡ (h ++ es) ++ added =
-          ap (λ (xs : List Entry). h ++ xs) (added_by words first now o h steps step same (runs.begins o h)) ∙ sym (append_assoc h es added) in
-          ap (λ q. words.begin q) (origin_more words first o h steps step added is) ∙ does.begins p (h ++ es) ∙ runs.begins o h;
+          let es : List Entry = entries_at meanings first o h steps in
+          let p = origin_done meanings first o h steps in
+          let added : List Entry = entries_of_step (state_at meanings now p (h ++ es)) bs step in
+          let is : h ++ entries_at meanings first o h (steps ++ step ∷ []) ≡ (h ++ es) ++ added =
+          ap (λ (xs : List Entry). h ++ xs) (added_by meanings first now o h steps step same (runs.begins o h)) ∙ sym (append_assoc h es added) in
+          ap (λ q. meanings.begin q) (origin_more meanings first o h steps step added is) ∙ does.begins p (h ++ es) ∙ runs.begins o h;
     }

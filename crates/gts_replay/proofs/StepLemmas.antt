@@ -13,7 +13,7 @@ use Rattle.gts_record.specs.declared.fault.OpenFault.{OpenFault}
 use Rattle.gts_connection.specs.Capture.{Feed, Take, Reopen, Drain, Restart, Compact, FeedHead, TakeHead, ReopenHead, DrainHead, RestartHead, CompactHead, Connections, no_bytes}
 use Rattle.gts_connection.specs.declared.limits.TheConstants.{LONGEST_CAPTURE}
 use Rattle.gts_capture.specs.Held.{Held, IsSameCapture, EndsInFeed, StopsInFeed, readable_from}
-use Rattle.gts_turns.specs.{Standing, IsTurn, IsReopening, IsCompacting, entry_of, restart_of}
+use Rattle.gts_calls.specs.{Standing, IsTurn, IsReopening, IsCompacting, entry_of, restart_of}
 use Rattle.gts_replay.specs.declared.fault.StepFault.{StepFault}
 use Rattle.gts_replay.specs.declared.fault.StepFault.TheVariants as step
 use Rattle.gts_replay.specs.Going.{StandsFor, state_at, BreaksOff, Remains, Decode}
@@ -78,32 +78,32 @@ nothing_taken tells held left = record { rest = held.ahead ++ left; told = λ _.
 
 -- ---- a step of each head
 
-pub does_take : {O W : Type 0} (words : Standing O W) (station tells : Type 0) (c : ℕ) (held : Held) (left : List ℕ) (ds : List Decoding) (old new : W) (result : Result Outcome SwitchFault) (answer : Outcome)
-    → IsTurn words (Taken c) result old new → result ≡ Ok answer → held.feed ≡ 0 → DoesStep words station tells (TakeHead c) (Ok tt) held held left left ds ds old new
-does_take words station tells c held left ds old new result answer turn is none = record {
+pub does_take : {O W : Type 0} (meanings : Standing O W) (station tells : Type 0) (c : ℕ) (held : Held) (left : List ℕ) (ds : List Decoding) (old new : W) (result : Result Outcome SwitchFault) (answer : Outcome)
+    → IsTurn meanings (Taken c) result old new → result ≡ Ok answer → held.feed ≡ 0 → DoesStep meanings station tells (TakeHead c) (Ok tt) held held left left ds ds old new
+does_take meanings station tells c held left ds old new result answer turn is none = record {
   step = Take c;
   of_head = refl;
   taken = (takes_none tells held left, none);
-  went = λ bs o h decode start. subst (λ (r : Result Outcome SwitchFault). words.stands o (h ++ entry_of (Taken c) r) new) is (turn.adds o h start.stands);
+  went = λ bs o h decode start. subst (λ (r : Result Outcome SwitchFault). meanings.stands o (h ++ entry_of (Taken c) r) new) is (turn.adds o h start.stands);
   decode = λ bs e. e;
   begins = λ o h. refl;
 }
 
-pub fails_take : {O W : Type 0} (words : Standing O W) (station tells : Type 0) (c : ℕ) (held : Held) (left : List ℕ) (ds : List Decoding) (old new : W) (result : Result Outcome SwitchFault) (fault : SwitchFault)
-    → IsTurn words (Taken c) result old new → result ≡ Err fault → DoesStep words station tells (TakeHead c) (Err (step.Switch fault)) held held left left ds ds old new
-fails_take words station tells c held left ds old new result fault turn is = record {
+pub fails_take : {O W : Type 0} (meanings : Standing O W) (station tells : Type 0) (c : ℕ) (held : Held) (left : List ℕ) (ds : List Decoding) (old new : W) (result : Result Outcome SwitchFault) (fault : SwitchFault)
+    → IsTurn meanings (Taken c) result old new → result ≡ Err fault → DoesStep meanings station tells (TakeHead c) (Err (step.Switch fault)) held held left left ds ds old new
+fails_take meanings station tells c held left ds old new result fault turn is = record {
   step = Take c;
   of_head = refl;
   taken = nothing_taken tells held left;
-  went = λ bs o h decode start. one_breaks words (Taken c) result fault (Err fault) old new turn is refl o h start.stands;
+  went = λ bs o h decode start. one_breaks meanings (Taken c) result fault (Err fault) old new turn is refl o h start.stands;
   decode = λ bs e. tt;
   begins = λ o h. tt;
 }
 
-pub does_drain : {O W : Type 0} (words : Standing O W) (station tells : Type 0) (c : ℕ) (held : Held) (left : List ℕ) (ds : List Decoding) (old new : W)
-    → ((o : O) (h : List Entry) → StandsFor words o h old → words.stands o (h ++ all_done (takes_of_drain (state_at words old o h) c)) new)
-    → held.feed ≡ 0 → DoesStep words station tells (DrainHead c) (Ok tt) held held left left ds ds old new
-does_drain words station tells c held left ds old new goes none = record {
+pub does_drain : {O W : Type 0} (meanings : Standing O W) (station tells : Type 0) (c : ℕ) (held : Held) (left : List ℕ) (ds : List Decoding) (old new : W)
+    → ((o : O) (h : List Entry) → StandsFor meanings o h old → meanings.stands o (h ++ all_done (takes_of_drain (state_at meanings old o h) c)) new)
+    → held.feed ≡ 0 → DoesStep meanings station tells (DrainHead c) (Ok tt) held held left left ds ds old new
+does_drain meanings station tells c held left ds old new goes none = record {
   step = Drain c;
   of_head = refl;
   taken = (takes_none tells held left, none);
@@ -112,10 +112,10 @@ does_drain words station tells c held left ds old new goes none = record {
   begins = λ o h. refl;
 }
 
-pub fails_drain : {O W : Type 0} (words : Standing O W) (station tells : Type 0) (c : ℕ) (held : Held) (left : List ℕ) (ds : List Decoding) (old new : W) (fault : SwitchFault)
-    → ((o : O) (h : List Entry) → StandsFor words o h old → BreaksOff words (λ _. o) h (all_done (takes_of_drain (state_at words old o h) c)) fault new)
-    → DoesStep words station tells (DrainHead c) (Err (step.Switch fault)) held held left left ds ds old new
-fails_drain words station tells c held left ds old new fault goes = record {
+pub fails_drain : {O W : Type 0} (meanings : Standing O W) (station tells : Type 0) (c : ℕ) (held : Held) (left : List ℕ) (ds : List Decoding) (old new : W) (fault : SwitchFault)
+    → ((o : O) (h : List Entry) → StandsFor meanings o h old → BreaksOff meanings (λ _. o) h (all_done (takes_of_drain (state_at meanings old o h) c)) fault new)
+    → DoesStep meanings station tells (DrainHead c) (Err (step.Switch fault)) held held left left ds ds old new
+fails_drain meanings station tells c held left ds old new fault goes = record {
   step = Drain c;
   of_head = refl;
   taken = nothing_taken tells held left;
@@ -124,32 +124,32 @@ fails_drain words station tells c held left ds old new fault goes = record {
   begins = λ o h. tt;
 }
 
-pub does_reopen : {O W : Type 0} (words : Standing O W) (station tells : Type 0) (c : ℕ) (held : Held) (left : List ℕ) (ds : List Decoding) (next : Decoding) (old : W)
-    → next ≡ fresh → held.feed ≡ 0 → DoesStep words station tells (ReopenHead c) (Ok tt) held held left left ds (set ds c next) old old
-does_reopen words station tells c held left ds next old is none = record {
+pub does_reopen : {O W : Type 0} (meanings : Standing O W) (station tells : Type 0) (c : ℕ) (held : Held) (left : List ℕ) (ds : List Decoding) (next : Decoding) (old : W)
+    → next ≡ fresh → held.feed ≡ 0 → DoesStep meanings station tells (ReopenHead c) (Ok tt) held held left left ds (set ds c next) old old
+does_reopen meanings station tells c held left ds next old is none = record {
   step = Reopen c;
   of_head = refl;
   taken = (takes_none tells held left, none);
-  went = λ bs o h decode start. subst (λ (x : List Entry). words.stands o x old) (sym (append-nil h)) start.stands;
+  went = λ bs o h decode start. subst (λ (x : List Entry). meanings.stands o x old) (sym (append-nil h)) start.stands;
   decode = λ bs e. decode_set ds bs c next [] e (ap (λ (d : Decoding). d.held) is);
   begins = λ o h. refl;
 }
 
-pub does_restart : {O W : Type 0} (words : Standing O W) (station tells : Type 0) (held : Held) (left : List ℕ) (ds ds_now : List Decoding) (old new : W) (result : Result (Unit {0}) OpenFault) (u : Unit {0})
-    → IsReopening words station result old new → result ≡ Ok u → ds_now ≡ map (λ _. fresh) ds → length ds ≡ length (words.directory old).circuits → held.feed ≡ 0
-    → DoesStep words station tells RestartHead (Ok tt) held held left left ds ds_now old new
-does_restart words station tells held left ds ds_now old new result u reopening is anew each none = record {
+pub does_restart : {O W : Type 0} (meanings : Standing O W) (station tells : Type 0) (held : Held) (left : List ℕ) (ds ds_now : List Decoding) (old new : W) (result : Result (Unit {0}) OpenFault) (u : Unit {0})
+    → IsReopening meanings station result old new → result ≡ Ok u → ds_now ≡ map (λ _. fresh) ds → length ds ≡ length (meanings.directory old).circuits → held.feed ≡ 0
+    → DoesStep meanings station tells RestartHead (Ok tt) held held left left ds ds_now old new
+does_restart meanings station tells held left ds ds_now old new result u reopening is anew each none = record {
   step = Restart;
   of_head = refl;
   taken = (takes_none tells held left, none);
-  went = λ bs o h decode start. subst (λ (r : Result (Unit {0}) OpenFault). words.stands o (h ++ restart_of r) new) is (reopening.adds o h start.stands);
-  decode = λ bs e. subst (λ (xs : List Decoding). Decode xs (no_bytes (words.directory old))) (sym anew) (decode_reopened ds (words.directory old) each);
+  went = λ bs o h decode start. subst (λ (r : Result (Unit {0}) OpenFault). meanings.stands o (h ++ restart_of r) new) is (reopening.adds o h start.stands);
+  decode = λ bs e. subst (λ (xs : List Decoding). Decode xs (no_bytes (meanings.directory old))) (sym anew) (decode_reopened ds (meanings.directory old) each);
   begins = λ o h. refl;
 }
 
-pub fails_restart : {O W : Type 0} (words : Standing O W) (station tells : Type 0) (held : Held) (left : List ℕ) (ds : List Decoding) (old new : W) (result : Result (Unit {0}) OpenFault) (fault : OpenFault)
-    → IsReopening words station result old new → result ≡ Err fault → DoesStep words station tells RestartHead (Err (step.Reopen fault)) held held left left ds ds old new
-fails_restart words station tells held left ds old new result fault reopening is = record {
+pub fails_restart : {O W : Type 0} (meanings : Standing O W) (station tells : Type 0) (held : Held) (left : List ℕ) (ds : List Decoding) (old new : W) (result : Result (Unit {0}) OpenFault) (fault : OpenFault)
+    → IsReopening meanings station result old new → result ≡ Err fault → DoesStep meanings station tells RestartHead (Err (step.Reopen fault)) held held left left ds ds old new
+fails_restart meanings station tells held left ds old new result fault reopening is = record {
   step = Restart;
   of_head = refl;
   taken = nothing_taken tells held left;
@@ -159,7 +159,7 @@ fails_restart words station tells held left ds old new result fault reopening is
       front = [];
       behind = [];
       parts = refl;
-      stands = subst (λ (r : Result (Unit {0}) OpenFault). words.stands o (h ++ restart_of r) new) is (reopening.adds o h start.stands);
+      stands = subst (λ (r : Result (Unit {0}) OpenFault). meanings.stands o (h ++ restart_of r) new) is (reopening.adds o h start.stands);
       fault_is = λ t. reopening.fault t o h start.stands fault is;
     },
   );
@@ -167,20 +167,20 @@ fails_restart words station tells held left ds old new result fault reopening is
   begins = λ o h. tt;
 }
 
-pub does_compact : {O W : Type 0} (words : Standing O W) (station tells : Type 0) (held : Held) (left : List ℕ) (ds : List Decoding) (old new : W) (result : Result (Unit {0}) SwitchFault) (u : Unit {0})
-    → IsCompacting words result old new → result ≡ Ok u → held.feed ≡ 0 → DoesStep words station tells CompactHead (Ok tt) held held left left ds ds old new
-does_compact words station tells held left ds old new result u compacting is none = record {
+pub does_compact : {O W : Type 0} (meanings : Standing O W) (station tells : Type 0) (held : Held) (left : List ℕ) (ds : List Decoding) (old new : W) (result : Result (Unit {0}) SwitchFault) (u : Unit {0})
+    → IsCompacting meanings result old new → result ≡ Ok u → held.feed ≡ 0 → DoesStep meanings station tells CompactHead (Ok tt) held held left left ds ds old new
+does_compact meanings station tells held left ds old new result u compacting is none = record {
   step = Compact;
   of_head = refl;
   taken = (takes_none tells held left, none);
-  went = λ bs o h decode start. subst (λ (x : List Entry). words.stands (words.compacts o h) x new) (sym (append-nil h)) (compacting.done o h start.stands is);
+  went = λ bs o h decode start. subst (λ (x : List Entry). meanings.stands (meanings.compacts o h) x new) (sym (append-nil h)) (compacting.done o h start.stands is);
   decode = λ bs e. e;
   begins = λ o h. compacting.begins o h;
 }
 
-pub fails_compact : {O W : Type 0} (words : Standing O W) (station tells : Type 0) (held : Held) (left : List ℕ) (ds : List Decoding) (old new : W) (result : Result (Unit {0}) SwitchFault) (fault : SwitchFault)
-    → IsCompacting words result old new → result ≡ Err fault → DoesStep words station tells CompactHead (Err (step.Compaction fault)) held held left left ds ds old new
-fails_compact {O} {W} words station tells held left ds old new result fault compacting is = record {
+pub fails_compact : {O W : Type 0} (meanings : Standing O W) (station tells : Type 0) (held : Held) (left : List ℕ) (ds : List Decoding) (old new : W) (result : Result (Unit {0}) SwitchFault) (fault : SwitchFault)
+    → IsCompacting meanings result old new → result ≡ Err fault → DoesStep meanings station tells CompactHead (Err (step.Compaction fault)) held held left left ds ds old new
+fails_compact {O} {W} meanings station tells held left ds old new result fault compacting is = record {
   step = Compact;
   of_head = refl;
   taken = nothing_taken tells held left;
@@ -189,7 +189,7 @@ fails_compact {O} {W} words station tells held left ds old new result fault comp
   begins = λ o h. tt;
 }
   where
-    remains : (o : O) (h : List Entry) → words.stands o h old → (f : SwitchFault) → result ≡ Err f → Remains words o h f new
+    remains : (o : O) (h : List Entry) → meanings.stands o h old → (f : SwitchFault) → result ≡ Err f → Remains meanings o h f new
     remains o h stands switch.DiskFault e = compacting.left o h stands e
     remains o h stands switch.SayFault e = compacting.idle o h stands switch.SayFault e tt
     remains o h stands (switch.Full used need limit) e = compacting.idle o h stands (switch.Full used need limit) e tt
@@ -197,16 +197,16 @@ fails_compact {O} {W} words station tells held left ds old new result fault comp
     remains o h stands switch.Spent e = compacting.idle o h stands switch.Spent e tt
     remains o h stands switch.NoMemory e = compacting.idle o h stands switch.NoMemory e tt
 
-pub does_feed : {O W : Type 0} (words : Standing O W) (station tells : Type 0) (c n : ℕ) (result : Result (Unit {0}) StepFault) (held held_now : Held) (left left_now : List ℕ)
-    (ds : List Decoding) (x next : Decoding) (old new : W) → c < length ds → Feeds words tells c result held held_now left left_now (get_or ds c x) next old new
-    → DoesStep words station tells (FeedHead c n) result held held_now left left_now ds (set ds c next) old new
-does_feed words station tells c n result held held_now left left_now ds x next old new within feeds = go result feeds
+pub does_feed : {O W : Type 0} (meanings : Standing O W) (station tells : Type 0) (c n : ℕ) (result : Result (Unit {0}) StepFault) (held held_now : Held) (left left_now : List ℕ)
+    (ds : List Decoding) (x next : Decoding) (old new : W) → c < length ds → Feeds meanings tells c result held held_now left left_now (get_or ds c x) next old new
+    → DoesStep meanings station tells (FeedHead c n) result held held_now left left_now ds (set ds c next) old new
+does_feed meanings station tells c n result held held_now left left_now ds x next old new within feeds = go result feeds
   where
     holds : (bs : Connections) → Decode ds bs → (get_or ds c x).held ≡ held_in (get_or bs c [])
     holds bs e = decode_at ds bs c x within e
 
-    go : (r : Result (Unit {0}) StepFault) → Feeds words tells c r held held_now left left_now (get_or ds c x) next old new
-        → DoesStep words station tells (FeedHead c n) r held held_now left left_now ds (set ds c next) old new
+    go : (r : Result (Unit {0}) StepFault) → Feeds meanings tells c r held held_now left left_now (get_or ds c x) next old new
+        → DoesStep meanings station tells (FeedHead c n) r held held_now left left_now ds (set ds c next) old new
     go (Ok u) f = record {
       step = Feed c f.bytes;
       of_head = (f.bytes, refl);

@@ -12,7 +12,7 @@ use Rattle.gts_event.specs.declared.fault.SwitchFault.TheVariants.{DiskFault, Sa
 use Rattle.gts_event.specs.declared.outcome.Outcome.{Outcome}
 use Rattle.gts_event.specs.Drain.{all_done}
 use Rattle.gts_connection.specs.Capture.{Step, Feed, Take, Reopen, Drain, Restart, Compact, Connections, entries_of_step, after_step, entries_from}
-use Rattle.gts_turns.specs.{IsCause, IsCompactCause}
+use Rattle.gts_calls.specs.{IsCause, IsCompactCause}
 use Rattle.gts_replay.specs.Replay.{StoppedBefore}
 
 -- an entry was done, or is an opening

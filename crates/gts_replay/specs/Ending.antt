@@ -10,7 +10,7 @@ use Rattle.gts_connection.specs.Capture.{Step, Feed, Restart, Compact, Head, Fee
 use Rattle.gts_connection.specs.declared.limits.TheConstants.{LONGEST_CAPTURE}
 use Rattle.gts_capture.specs.declared.capture_fault.CaptureFault.TheVariants.{Bad, SourceFault}
 use Rattle.gts_capture.specs.Held.{Held, IsSameCapture, readable_from}
-use Rattle.gts_turns.specs.{Standing, IsCompactCause}
+use Rattle.gts_calls.specs.{Standing, IsCompactCause}
 use Rattle.gts_replay.specs.declared.end.ReplayEnd.{ReplayEnd}
 use Rattle.gts_replay.specs.declared.end.ReplayEnd.TheVariants as end
 use Rattle.gts_replay.specs.declared.fault.StepFault.{StepFault}
@@ -71,38 +71,38 @@ HasTaken tells bytes (Err _) old new before after = TakesNoMore tells bytes old 
 
 -- bytes came on a circuit and were dealt with, or broke off at a fault of the switch
 abbrev pub IsFedOr : {O W : Type 0} → Standing O W → ℕ → Decoding → W → List ℕ → Result (Unit {0}) StepFault → Decoding → W → Type 0
-IsFedOr words c old first bytes (Err (step.Switch fault)) decoder now = BreaksFeed words c old first bytes fault now
-IsFedOr words c old first bytes (Err (step.Reopen fault)) decoder now = ⊥
-IsFedOr words c old first bytes (Err (step.Compaction fault)) decoder now = ⊥
-IsFedOr words c old first bytes _ decoder now = IsFed words c old first bytes decoder now
+IsFedOr meanings c old first bytes (Err (step.Switch fault)) decoder now = BreaksFeed meanings c old first bytes fault now
+IsFedOr meanings c old first bytes (Err (step.Reopen fault)) decoder now = ⊥
+IsFedOr meanings c old first bytes (Err (step.Compaction fault)) decoder now = ⊥
+IsFedOr meanings c old first bytes _ decoder now = IsFed meanings c old first bytes decoder now
 
 -- the origin behind a step
 abbrev pub origin_after : {O W : Type 0} → Standing O W → O → List Entry → Step → O
-origin_after words o h Compact = words.compacts o h
-origin_after words o h _ = o
+origin_after meanings o h Compact = meanings.compacts o h
+origin_after meanings o h _ = o
 
 -- The journal was to be compacted, and was not.
-pub record IsUncompacted {O W : Type 0} (words : Standing O W) (o : O) (h : List Entry) (step : Step)
+pub record IsUncompacted {O W : Type 0} (meanings : Standing O W) (o : O) (h : List Entry) (step : Step)
     (fault : SwitchFault) (now : W) : Type 0 where
   pub at_step : step ≡ Compact
-  pub remains : Remains words o h fault now
-  pub cause : IsCompactCause (words.is_full_compacted o h) h fault
+  pub remains : Remains meanings o h fault now
+  pub cause : IsCompactCause (meanings.is_full_compacted o h) h fault
 
 -- these entries of a step were to be added: all were, or those before a fault
 abbrev pub Went : {O W : Type 0} → Standing O W → Type 0 → O → (h more : List Entry) → Step → Result (Unit {0}) StepFault → W → Type 0
-Went words station o h more s (Ok _) now = words.stands (origin_after words o h s) (h ++ more) now
-Went words station o h more s (Err (step.Capture fault)) now = words.stands (origin_after words o h s) (h ++ more) now
-Went words station o h more s (Err (step.Reopen fault)) now = (s ≡ Restart) × BreaksAtRestart words station (λ _. o) h more fault now
-Went words station o h more s (Err (step.Compaction fault)) now = IsUncompacted words o h s fault now
-Went words station o h more s (Err (step.Switch fault)) now = BreaksOff words (λ _. o) h more fault now
+Went meanings station o h more s (Ok _) now = meanings.stands (origin_after meanings o h s) (h ++ more) now
+Went meanings station o h more s (Err (step.Capture fault)) now = meanings.stands (origin_after meanings o h s) (h ++ more) now
+Went meanings station o h more s (Err (step.Reopen fault)) now = (s ≡ Restart) × BreaksAtRestart meanings station (λ _. o) h more fault now
+Went meanings station o h more s (Err (step.Compaction fault)) now = IsUncompacted meanings o h s fault now
+Went meanings station o h more s (Err (step.Switch fault)) now = BreaksOff meanings (λ _. o) h more fault now
 
 -- Bytes of a feed came on a circuit: what they add was added, or what stands before a fault, and then the decoder took them.
-pub record Feeds {O W : Type 0} (words : Standing O W) (tells : Type 0) (c : ℕ) (result : Result (Unit {0}) StepFault)
+pub record Feeds {O W : Type 0} (meanings : Standing O W) (tells : Type 0) (c : ℕ) (result : Result (Unit {0}) StepFault)
     (held held_now : Held) (left left_now : List ℕ)
     (decoder decoder_now : Decoding) (old new : W) : Type 0 where
   pub bytes : List ℕ
   pub taken : HasTaken tells bytes result held held_now left left_now
-  pub fed : IsFedOr words c decoder old bytes result decoder_now new
+  pub fed : IsFedOr meanings c decoder old bytes result decoder_now new
 
 -- a step of this head; of a feed no more than so many bytes
 abbrev pub IsStepOf : Head → Step → Type 0
@@ -111,16 +111,16 @@ IsStepOf head step = head_of step ≡ head
 
 -- A step of this head was to be done: its entries were added, or those before a fault, and then the decoders have what came
 -- on their connections.
-pub record DoesStep {O W : Type 0} (words : Standing O W) (station tells : Type 0) (head : Head) (result : Result (Unit {0}) StepFault)
+pub record DoesStep {O W : Type 0} (meanings : Standing O W) (station tells : Type 0) (head : Head) (result : Result (Unit {0}) StepFault)
     (held held_now : Held) (left left_now : List ℕ)
     (decoders decoders_now : List Decoding) (old new : W) : Type 0 where
   pub step : Step
   pub of_head : IsStepOf head step
   pub taken : HasTaken tells (bytes_of_step step) result held held_now left left_now
-  pub went : (bs : Connections) (o : O) (h : List Entry) → Decode decoders bs → StandsFor words o h old
-      → Went words station o h (entries_of_step (state_at words old o h) bs step) step result new
-  pub begins : (o : O) (h : List Entry) → OnOk result (words.begin (origin_after words o h step) ≡ words.begin o)
-  pub decode : (bs : Connections) → Decode decoders bs → OnOk result (Decode decoders_now (after_step (words.directory old) bs step))
+  pub went : (bs : Connections) (o : O) (h : List Entry) → Decode decoders bs → StandsFor meanings o h old
+      → Went meanings station o h (entries_of_step (state_at meanings old o h) bs step) step result new
+  pub begins : (o : O) (h : List Entry) → OnOk result (meanings.begin (origin_after meanings o h step) ≡ meanings.begin o)
+  pub decode : (bs : Connections) → Decode decoders bs → OnOk result (Decode decoders_now (after_step (meanings.directory old) bs step))
 
 -- a fault of a device is answered only where its count rose, and no count falls
 pub record HasRunCause {T : Type 0} (result : Result T StepFault) (disk disk_now say say_now source source_now : ℕ) : Type 0 where

@@ -1,12 +1,12 @@
 ghost use Rattle.std.specs.Prelude.{◌≡◌, ◌<◌, ◌^◌, ◌↔◌, ℕ, List, length, IsTrue};
 ghost use Rattle.gts_event.specs.declared.event.Entry.{Entry};
 ghost use Rattle.gts_event.specs.Drain.{all_done, takes_of_drain};
-ghost use Rattle.gts_turns.specs.{HasTurnCause};
+ghost use Rattle.gts_calls.specs.{HasTurnCause};
 ghost use Rattle.gts_replay.specs.Going.{Goes, StandsFor, state_at};
 
+use gts_calls::Switch;
 use gts_event::{Outcome, SwitchFault};
 use gts_frame::FrameBuf;
-use gts_turns::Switch;
 
 /// Takes on a circuit, up to and with the first that gives nothing. No circuit has more to give than is counted here.
 pub(crate) fn drain<W: Switch>(
@@ -14,11 +14,11 @@ pub(crate) fn drain<W: Switch>(
     c: u32,
     out: &mut FrameBuf,
 ) -> Result<(), SwitchFault>
-    requires circuit { c < length (W.words.directory switch.old).circuits }
-    ensures goes { (o : W.Origin) (h : List Entry) → StandsFor W.words o h switch.old
-        → Goes W.words o h (all_done (takes_of_drain (state_at W.words switch.old o h) c))
+    requires circuit { c < length (W.meanings.directory switch.old).circuits }
+    ensures goes { (o : W.Origin) (h : List Entry) → StandsFor W.meanings o h switch.old
+        → Goes W.meanings o h (all_done (takes_of_drain (state_at W.meanings switch.old o h) c))
         result switch.new }
-    ensures directory { W.words.directory switch.new ≡ W.words.directory switch.old }
+    ensures directory { W.meanings.directory switch.new ≡ W.meanings.directory switch.old }
     ensures cause { HasTurnCause result (W.disk_faults switch.old) (W.disk_faults switch.new)
         (W.say_faults switch.old) (W.say_faults switch.new) }
 {

@@ -3,16 +3,16 @@ ghost use Rattle.gts_event.specs.declared.event.Entry.{Entry};
 ghost use Rattle.gts_event.specs.Drain.{all_done};
 ghost use Rattle.gts_frame.specs.Signs.{held_in};
 ghost use Rattle.gts_frame.specs.Decoder.{signs_of_step, HasMessage};
-ghost use Rattle.gts_connection.specs.Words.{events_added, events_of_signs};
-ghost use Rattle.gts_turns.specs.{HasTurnCause};
-ghost use Rattle.gts_replay.specs.Words.{Goes, Feeds, HasRunCause};
+ghost use Rattle.gts_connection.specs.Cited.{events_added, events_of_signs};
+ghost use Rattle.gts_calls.specs.{HasTurnCause};
+ghost use Rattle.gts_replay.specs.Cited.{Goes, Feeds, HasRunCause};
 
 use crate::fault::StepFault;
+use gts_calls::Switch;
 use gts_capture::Steps;
 use gts_event::SwitchFault;
 use gts_frame::{Decoder, Step};
 use gts_traits::Source;
-use gts_turns::Switch;
 use std::alloc::Global;
 
 /// A feed: its bytes come on a circuit, piece by piece, until all came that its head announced. A piece is as long as
@@ -26,11 +26,11 @@ pub(crate) fn feed<W: Switch, S: Source>(
     capture: &mut S,
     piece: &mut [u8],
 ) -> Result<(), StepFault>
-    requires circuit { c < length (W.words.directory switch.old).circuits }
+    requires circuit { c < length (W.meanings.directory switch.old).circuits }
     requires piece { 0 < length piece.old }
-    ensures feeds { Feeds W.words S.tells c result steps.old steps.new (S.left capture.old)
+    ensures feeds { Feeds W.meanings S.tells c result steps.old steps.new (S.left capture.old)
         (S.left capture.new) decoder.old decoder.new switch.old switch.new }
-    ensures directory { W.words.directory switch.new ≡ W.words.directory switch.old }
+    ensures directory { W.meanings.directory switch.new ≡ W.meanings.directory switch.old }
     ensures cause { HasRunCause result (W.disk_faults switch.old) (W.disk_faults switch.new)
         (W.say_faults switch.old) (W.say_faults switch.new)
         (S.faults capture.old) (S.faults capture.new) }
@@ -55,13 +55,13 @@ fn feed_piece<W: Switch>(
     decoder: &mut Decoder,
     piece: &[u8],
 ) -> Result<(), SwitchFault>
-    requires circuit { c < length (W.words.directory switch.old).circuits }
+    requires circuit { c < length (W.meanings.directory switch.old).circuits }
     ensures goes { (before : List ℕ) (o : W.Origin) (h : List Entry)
-        → decoder.old.held ≡ held_in before → W.words.stands o h switch.old
-        → Goes W.words o h (all_done (events_added c before piece.now)) result switch.new }
+        → decoder.old.held ≡ held_in before → W.meanings.stands o h switch.old
+        → Goes W.meanings o h (all_done (events_added c before piece.now)) result switch.new }
     ensures held { (before : List ℕ) → decoder.old.held ≡ held_in before
         → OnOk result (decoder.new.held ≡ held_in (before ++ piece.now)) }
-    ensures directory { W.words.directory switch.new ≡ W.words.directory switch.old }
+    ensures directory { W.meanings.directory switch.new ≡ W.meanings.directory switch.old }
     ensures cause { HasTurnCause result (W.disk_faults switch.old) (W.disk_faults switch.new)
         (W.say_faults switch.old) (W.say_faults switch.new) }
 {
@@ -82,12 +82,12 @@ fn deal<W: Switch>(
     step: Step,
     message: &[u8],
 ) -> Result<(), SwitchFault>
-    requires circuit { c < length (W.words.directory switch.old).circuits }
+    requires circuit { c < length (W.meanings.directory switch.old).circuits }
     requires message { HasMessage step message.now }
-    ensures goes { (o : W.Origin) (h : List Entry) → W.words.stands o h switch.old
-        → Goes W.words o h (all_done (events_of_signs c (signs_of_step step message.now)))
+    ensures goes { (o : W.Origin) (h : List Entry) → W.meanings.stands o h switch.old
+        → Goes W.meanings o h (all_done (events_of_signs c (signs_of_step step message.now)))
         result switch.new }
-    ensures directory { W.words.directory switch.new ≡ W.words.directory switch.old }
+    ensures directory { W.meanings.directory switch.new ≡ W.meanings.directory switch.old }
     ensures cause { HasTurnCause result (W.disk_faults switch.old) (W.disk_faults switch.new)
         (W.say_faults switch.old) (W.say_faults switch.new) }
 {

@@ -11,11 +11,11 @@ use crate::draining::drain;
 use crate::end::{ReplayEnd, end_after};
 use crate::fault::StepFault;
 use crate::feeding::feed;
+use gts_calls::Switch;
 use gts_capture::{Head, Steps};
 use gts_connection::CaptureKind;
 use gts_frame::{Decoder, FrameBuf};
 use gts_traits::Source;
-use gts_turns::Switch;
 use std::alloc::Global;
 
 /// How many bytes of a feed are taken at once.
@@ -30,10 +30,10 @@ pub fn replay<W: Switch, S: Source>(
     capture: &mut S,
     kind: CaptureKind,
 ) -> ReplayEnd
-    ensures ends { (o : W.Origin) (h : List Entry) → StandsFor W.words o h switch.old
-        → Ends W.words W.tells kind o h S.tells result switch.old switch.new
+    ensures ends { (o : W.Origin) (h : List Entry) → StandsFor W.meanings o h switch.old
+        → Ends W.meanings W.tells kind o h S.tells result switch.old switch.new
         (S.left capture.old) (S.left capture.new) }
-    ensures directory { W.words.directory switch.new ≡ W.words.directory switch.old }
+    ensures directory { W.meanings.directory switch.new ≡ W.meanings.directory switch.old }
     ensures cause { HasReplayCause result (W.disk_faults switch.old) (W.disk_faults switch.new)
         (W.say_faults switch.old) (W.say_faults switch.new)
         (S.faults capture.old) (S.faults capture.new) }
@@ -69,14 +69,14 @@ fn run<W: Switch, S: Source>(
     piece: &mut [u8],
 ) -> ReplayEnd
     requires begins { steps.old
-        ≡ at_start (length (W.words.directory switch.old).circuits) steps.old.kind }
-    requires few { length (W.words.directory switch.old).circuits ≤ 100 }
+        ≡ at_start (length (W.meanings.directory switch.old).circuits) steps.old.kind }
+    requires few { length (W.meanings.directory switch.old).circuits ≤ 100 }
     requires piece { 0 < length piece.old }
-    requires decode { Decode decoders.old (no_bytes (W.words.directory switch.old)) }
-    ensures ends { (o : W.Origin) (h : List Entry) → StandsFor W.words o h switch.old
-        → Ends W.words W.tells steps.old.kind o h S.tells result switch.old switch.new
+    requires decode { Decode decoders.old (no_bytes (W.meanings.directory switch.old)) }
+    ensures ends { (o : W.Origin) (h : List Entry) → StandsFor W.meanings o h switch.old
+        → Ends W.meanings W.tells steps.old.kind o h S.tells result switch.old switch.new
         (S.left capture.old) (S.left capture.new) }
-    ensures directory { W.words.directory switch.new ≡ W.words.directory switch.old }
+    ensures directory { W.meanings.directory switch.new ≡ W.meanings.directory switch.old }
     ensures cause { HasReplayCause result (W.disk_faults switch.old) (W.disk_faults switch.new)
         (W.say_faults switch.old) (W.say_faults switch.new)
         (S.faults capture.old) (S.faults capture.new) }
@@ -106,15 +106,15 @@ fn do_step<W: Switch, S: Source>(
     piece: &mut [u8],
     head: Head,
 ) -> Result<(), StepFault>
-    requires valid { let d = W.words.directory switch.old in
+    requires valid { let d = W.meanings.directory switch.old in
         IsHeadIn (length d.circuits) steps.old.kind (head_of head) }
     requires some { head ≡ Head.End → ⊥ }
     requires piece { 0 < length piece.old }
     requires feed { steps.old.feed ≡ bytes_announced (head_of head) }
-    requires decoders { length decoders.old ≡ length (W.words.directory switch.old).circuits }
-    ensures does { DoesStep W.words W.tells S.tells (head_of head) result steps.old steps.new
+    requires decoders { length decoders.old ≡ length (W.meanings.directory switch.old).circuits }
+    ensures does { DoesStep W.meanings W.tells S.tells (head_of head) result steps.old steps.new
         (S.left capture.old) (S.left capture.new) decoders.old decoders.new switch.old switch.new }
-    ensures directory { W.words.directory switch.new ≡ W.words.directory switch.old }
+    ensures directory { W.meanings.directory switch.new ≡ W.meanings.directory switch.old }
     ensures cause { HasRunCause result (W.disk_faults switch.old) (W.disk_faults switch.new)
         (W.say_faults switch.old) (W.say_faults switch.new)
         (S.faults capture.old) (S.faults capture.new) }

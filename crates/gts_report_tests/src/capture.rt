@@ -17,12 +17,12 @@ fn first_head(
 }
 
 #[test]
-fn a_step_of_the_journal_stands_in_no_plain_capture(rt: HostRuntime) -> Result<(), Fail> {
+fn a_step_of_the_journal_stands_in_no_capture_of_traffic(rt: HostRuntime) -> Result<(), Fail> {
     let alloc = rt.alloc();
     let bad = Err(CaptureFault::Bad { at: 0 });
     let head = first_head(alloc, CaptureKind::Journaled, b"C\n", &[])?;
     assert_eq!(rt; head, Ok(Head::Compact));
-    assert_eq!(rt; first_head(alloc, CaptureKind::Plain, b"C\n", &[])?, bad);
+    assert_eq!(rt; first_head(alloc, CaptureKind::Traffic, b"C\n", &[])?, bad);
     Ok(())
 }
 

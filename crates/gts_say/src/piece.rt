@@ -3,7 +3,7 @@ ghost use Rattle.std.specs.Prelude.{◌≡◌, ◌+◌, ◌≤◌, ◌++◌, [],
 use std::marker::Model;
 
 /// The most bytes of a short piece.
-pub const LONGEST_PIECE: usize = 48;
+pub const LONGEST_PIECE: usize = 96;
 
 /// A short text that is made before it is said, or handed on. Contracts see the list of its bytes.
 #[derive(Drop)]

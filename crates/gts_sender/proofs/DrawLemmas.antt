@@ -17,7 +17,7 @@ use Rattle.gts_event.specs.declared.fault.SwitchFault.{SwitchFault}
 use Rattle.gts_event.specs.declared.fault.SwitchFault.TheVariants.{DiskFault, SayFault, Full, Stopped, Spent, NoMemory}
 use Rattle.gts_event.proofs.LawLemmas.{after_all-append}
 use Rattle.gts_desk.specs.{entries}
-use Rattle.gts_turns.specs.Turns.{entry_of}
+use Rattle.gts_calls.specs.Calls.{entry_of}
 use Rattle.gts_desk.specs.Desks.{Seen, own, state_at, Adds, AddsJust, Answers, LeavesFrame}
 use Rattle.gts_desk.specs.Frames.{frame_of_outcome, frame_of, own_frames}
 use Rattle.gts_desk.proofs.LawLemmas.{own_added, frames_added, own_spent, frames_spent, goes_on, goes_on_spent, goes_further, stays}

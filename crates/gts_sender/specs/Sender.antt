@@ -10,7 +10,7 @@ use Rattle.gts_event.specs.declared.outcome.Outcome.{Outcome}
 use Rattle.gts_event.specs.declared.outcome.Outcome.TheVariants.{Resend, Draw, Nothing}
 use Rattle.gts_event.specs.declared.fault.SwitchFault.{SwitchFault}
 use Rattle.gts_event.specs.declared.fault.SwitchFault.TheVariants.{SayFault, Spent, NoMemory}
-use Rattle.gts_turns.specs.Turns.{entry_of}
+use Rattle.gts_calls.specs.Calls.{entry_of}
 use Rattle.gts_desk.specs.Desks.{Seen, own, state_at, Answers, LeavesFrame, GoesOn}
 use Rattle.gts_desk.specs.Frames.{own_frames}
 use Rattle.gts_sender.specs.declared.end.SendEnd.{SendEnd}

@@ -19,7 +19,7 @@ use Rattle.gts_event.specs.declared.event.Event.TheVariants.{Taken}
 use Rattle.gts_event.specs.declared.event.Entry.{Entry}
 use Rattle.gts_event.specs.declared.event.Entry.TheVariants as of_entry
 use Rattle.gts_event.specs.declared.fault.SwitchFault.{SwitchFault}
-use Rattle.gts_turns.specs.Turns.{entry_of}
+use Rattle.gts_calls.specs.Calls.{entry_of}
 use Rattle.gts_lock.specs.{Known, entries, entries_under, StartsWith}
 use Rattle.gts_lock.specs.declared.limits.TheConstants.{MOST_TURNS}
 use Rattle.gts_desk.specs.{Seen, frames}

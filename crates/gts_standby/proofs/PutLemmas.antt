@@ -8,7 +8,7 @@ use Rattle.std.proofs.lemmas.List.{length-take, take-append-drop, take-append-le
 use Rattle.gts_directory.specs.Directory.{Directory}
 use Rattle.gts_event.specs.Items.{need_of}
 use Rattle.gts_event.specs.Need.{Need, begun, is_sound}
-use Rattle.gts_event.specs.declared.plain.Need as plain
+use Rattle.gts_event.specs.declared.values.Need as values
 use Rattle.gts_record.specs.declared.version.Version.{Version}
 use Rattle.gts_record.specs.Format.{held, seal, first_seal, seal_size, draw_size, is_sealed, written}
 use Rattle.gts_opening.specs.Journal.{checkpoint_text, compacted_bytes, need_in, admits_checkpoint, due}
@@ -55,8 +55,8 @@ put_no_source NoMemory kind P is = absurd (cc is)
 
 -- ---- what was decoded
 
-pub found_there : (d : Directory) (bytes : List ℕ) (o : Option plain.Need) (n : plain.Need) → IfSome o (λ (m : plain.Need). IsCheckpoint written d bytes (need_of m)) → o ≡ Some n → IsCheckpoint written d bytes (need_of n)
-found_there d bytes o n found is = subst (λ (p : Option plain.Need). IfSome p (λ (m : plain.Need). IsCheckpoint written d bytes (need_of m))) is found
+pub found_there : (d : Directory) (bytes : List ℕ) (o : Option values.Need) (n : values.Need) → IfSome o (λ (m : values.Need). IsCheckpoint written d bytes (need_of m)) → o ≡ Some n → IsCheckpoint written d bytes (need_of n)
+found_there d bytes o n found is = subst (λ (p : Option values.Need). IfSome p (λ (m : values.Need). IsCheckpoint written d bytes (need_of m))) is found
 
 pub none_found : {X P : Type 0} (o : Option X) → IfNone o P → o ≡ None → P
 none_found {X} {P} o none is = subst (λ (p : Option X). IfNone p P) is none

@@ -1,7 +1,6 @@
 ghost use Rattle.std.specs.Prelude.{◌≡◌, ◌≤◌, [], length, IfOk};
 
-use crate::counting::counted;
-use gts_traits::{Failed, Line, Source};
+use gts_traits::{Failed, Line, Source, counted};
 use std::io;
 use std::io::{ErrorKind, Read};
 use std::net::{TcpListener, TcpStream};

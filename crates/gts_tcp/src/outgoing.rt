@@ -1,8 +1,7 @@
 ghost use Rattle.std.specs.Prelude.{◌≡◌, [], IfOk};
 
-use crate::counting::counted;
 use crate::dialing::{dial, dial_once, pause};
-use gts_traits::{Failed, Sink};
+use gts_traits::{Failed, Sink, counted};
 use std::io;
 use std::io::{ErrorKind, Write};
 use std::net::{Net, Shutdown, TcpListener, TcpStream};

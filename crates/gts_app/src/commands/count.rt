@@ -10,13 +10,13 @@ use crate::commands::replay::status_of;
 use crate::commands::show::OPERATOR;
 use crate::laws::a_history_keeps_its_laws;
 use crate::opening::open_engine;
+use gts_calls::Switch;
 use gts_connection::CaptureKind;
 use gts_count::{Counted, counting_of};
 use gts_engine::Engine;
 use gts_event::a_start_is_its_own_need;
 use gts_replay::ReplayEnd;
 use gts_traits::{Failed, NoMemory, Source, Station};
-use gts_turns::Switch;
 use std::alloc::Global;
 
 /// An engine that was just opened, with what is counted of its need beside it. Want of memory hands the engine back.
@@ -45,7 +45,7 @@ fn table_behind<T: Switch>(
     counted: &Counted<T>,
 ) -> Result<Vec<u8>, Status>
     ensures table { IfOk result (λ text. (end ≡ ReplayEnd.Done)
-        × ShowsTable T.words counted.now.parts text.items) }
+        × ShowsTable T.meanings counted.now.parts text.items) }
     ensures none { IfErr result (EndsWithoutTable end) }
 {
     if end != ReplayEnd::Done {
@@ -84,7 +84,7 @@ pub fn count<S: Source, P: Station>(
             return (Status::NoMemory, station);
         }
     };
-    let end = gts_replay::replay(alloc, &mut counted, capture, CaptureKind::Plain);
+    let end = gts_replay::replay(alloc, &mut counted, capture, CaptureKind::Traffic);
     let table = table_behind(alloc, end, &counted);
     let engine = counted.into_inner();
     // The files open with as many bytes in use as the engine counts.

@@ -7,8 +7,8 @@ use crate::commands::replay;
 use crate::directory::directory_of;
 use crate::laws::a_history_keeps_its_laws;
 use crate::opening::open_journal;
+use gts_calls::Switch;
 use gts_traits::{Source, Station};
-use gts_turns::Switch;
 use gts_unpack::UnpackEnd;
 use std::alloc::Global;
 

@@ -1,7 +1,7 @@
 use Rattle.std.proofs.Common.{◌≡◌, ◌+◌, ◌*◌, ◌^◌, ◌<◌, ◌≤◌, ℕ, List, Option, length, sym, ap, subst, ◌∙◌, arith}
 use Rattle.std.specs.Prelude.{IfSome, IfNone}
 use Rattle.gts_event.specs.Items.{need_of}
-use Rattle.gts_event.specs.declared.plain.Need.{Need}
+use Rattle.gts_event.specs.declared.values.Need.{Need}
 use Rattle.gts_record.specs.Format.{written, seal_size, draw_size}
 use Rattle.gts_opening.specs.Journal.{checkpoint_text, unowed}
 use Rattle.gts_checkpoint.specs.Reading.{FindsText, first_of}

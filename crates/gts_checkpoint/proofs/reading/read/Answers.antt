@@ -3,8 +3,8 @@ use Rattle.std.specs.Prelude.{min, IfErr, IfSome, IfNone, is_some}
 use Rattle.gts_traits.specs.Station.{Call}
 use Rattle.gts_event.specs.Items.{need_of}
 use Rattle.gts_event.specs.Need.{is_sound}
-use Rattle.gts_event.specs.declared.plain.CircuitNeed.{CircuitNeed}
-use Rattle.gts_event.specs.declared.plain.Need.{Need}
+use Rattle.gts_event.specs.declared.values.CircuitNeed.{CircuitNeed}
+use Rattle.gts_event.specs.declared.values.Need.{Need}
 use Rattle.gts_record.specs.Format.{seal, held, first_seal, is_sealed, seal_size, draw_size}
 use Rattle.gts_opening.specs.Journal.{checkpoint_text, unowed, FitsNeed}
 use Rattle.gts_checkpoint.specs.Reading.{bytes_from, CanBegin, FindsText, IsReadFault, first_of}

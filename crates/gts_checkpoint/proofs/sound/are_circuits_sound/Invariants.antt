@@ -1,5 +1,5 @@
 use Rattle.std.proofs.Common.{◌≡◌, ℕ, ◌<◌, true, slice_get, Some}
-use Rattle.gts_event.specs.declared.plain.CircuitNeed.{CircuitNeed}
+use Rattle.gts_event.specs.declared.values.CircuitNeed.{CircuitNeed}
 use Rattle.gts_checkpoint.specs.Sound.{Circuit, is_circuit_sound, circuit_need_of, need_of}
 use Rattle.gts_checkpoint.proofs.sound.are_circuits_sound.Given as goal
 

@@ -1,7 +1,7 @@
 use Rattle.std.proofs.Common.{◌∙◌, ap, List, map, arith}
 use Rattle.std.proofs.lemmas.List.{take_all}
 use Rattle.std.proofs.lemmas.List.Sorted.{IsNonDecreasingBy-from_sort}
-use Rattle.gts_event.specs.declared.plain.CircuitNeed.{CircuitNeed}
+use Rattle.gts_event.specs.declared.values.CircuitNeed.{CircuitNeed}
 use Rattle.gts_checkpoint.specs.Sound.{is_held, circuit_need_of}
 use Rattle.gts_checkpoint.proofs.SoundLemmas.{has-sorted}
 use Rattle.gts_checkpoint.proofs.sound.held.Goals as goal

@@ -1,7 +1,7 @@
 use Rattle.std.proofs.Common.{◌≡◌, ℕ, Bool, true, List, sym, ap, ◌∙◌}
 use Rattle.gts_directory.specs.Rows.{circuit_of_row}
 use Rattle.gts_event.specs.Need.{is_for}
-use Rattle.gts_event.specs.declared.plain.Bulletin as plain
+use Rattle.gts_event.specs.declared.values.Bulletin as values
 use Rattle.gts_checkpoint.specs.Sound.{Circuit, IsJudged, positions, is_marked, has_counts, has_positions, circuit_need_of, need_of}
 use Rattle.gts_checkpoint.proofs.NamedLemmas.{marked-for}
 use Rattle.gts_checkpoint.proofs.SoundLemmas.{circuit-is, positions-agree, if-ok}
@@ -17,7 +17,7 @@ returns c =
     let law = λ (from : ℕ) (h : _). c.a_mask_has_the_bits_of_its_circuits.ensures.bits d from h k c.requires.circuit in
     let test = is_marked (positions c.as_slice.result.now) ms k in
     let agrees : (p : ℕ) → test p ≡ is_for d n.bulletins k p = λ p.
-    ap (λ (bs : List plain.Bulletin). is_marked (positions bs) ms k p) c.as_slice.ensures
+    ap (λ (bs : List values.Bulletin). is_marked (positions bs) ms k p) c.as_slice.ensures
     ∙ ap (λ (l : List ℕ). is_marked (positions c.args.need.now.bulletins) l k p) c.requires.named.masks_are
     ∙ marked-for d n.bulletins k p law in
     if-ok (λ (sound : Bool). sound ≡ has_positions test c.as_slice-2.result.now c.as_slice-3.result.now) (IsJudged d n k q)

@@ -4,7 +4,7 @@ use Rattle.std.specs.List.{All}
 use Rattle.std.specs.Ordering.{nat_cmp}
 use Rattle.std.specs.BTreeMap.{get}
 use Rattle.std.proofs.lemmas.List.{length-take, length-map}
-use Rattle.gts_event.specs.declared.plain.CircuitNeed as plain
+use Rattle.gts_event.specs.declared.values.CircuitNeed as values
 use Rattle.gts_event.specs.Need.{CircuitNeed}
 use Rattle.gts_event.specs.Items.{circuit_need_of}
 use Rattle.gts_count.specs.Start.{NotesDraws, NotesKept}
@@ -23,7 +23,7 @@ loop-c-preserved c =
     let mid = c.loop-c.numbers in
     let new = c.note_kept.new.numbers in
     let size : length (take i cs) ≡ i = omega (arith, length-take i cs, length-map c.args.circuits.now circuit_need_of, c.loop-c-test.true) in
-    let kept : c.as_slice.result.now ≡ q.kept = c.as_slice.ensures ∙ ap (λ (x : plain.CircuitNeed). x.kept) (sym c.index-circuits-c.is) in
+    let kept : c.as_slice.result.now ≡ q.kept = c.as_slice.ensures ∙ ap (λ (x : values.CircuitNeed). x.kept) (sym c.index-circuits-c.is) in
     let one : NotesKept c.args.keys.now (length (take i cs)) q.kept mid new =
     subst (λ (k : ℕ). NotesKept c.args.keys.now k q.kept mid new) (sym size) (subst (λ (ps : List ℕ). NotesKept c.args.keys.now i ps mid new) kept c.note_kept.ensures) in
     subst (λ (l : List CircuitNeed). NotesDraws c.args.keys.now l c.args.numbers.now new) (sym (item_more circuit_need_of c.args.circuits.now i c.index-circuits-c.result c.loop-c-test.true c.index-circuits-c.is))

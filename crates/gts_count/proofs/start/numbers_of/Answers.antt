@@ -4,8 +4,8 @@ use Rattle.std.specs.List.{All}
 use Rattle.std.specs.Ordering.{nat_cmp}
 use Rattle.std.specs.BTreeMap.{get}
 use Rattle.std.proofs.lemmas.List.{length-map, get_or-map}
-use Rattle.gts_event.specs.declared.plain.Bulletin as plain
-use Rattle.gts_event.specs.declared.plain.CircuitNeed as needs
+use Rattle.gts_event.specs.declared.values.Bulletin as values
+use Rattle.gts_event.specs.declared.values.CircuitNeed as needs
 use Rattle.gts_event.specs.Items.{bulletin_of, circuit_need_of, need_of}
 use Rattle.gts_event.specs.Need.{Need, CircuitNeed, unused, is_bulletin}
 use Rattle.gts_event.proofs.LawLemmas.{sound-parts}
@@ -17,25 +17,25 @@ pub note_bulletins-requires-clause-bulletins : goal.note_bulletins-requires-clau
 note_bulletins-requires-clause-bulletins c =
     let d = c.args.directory.now in
     let n : Need = need_of c.args.need.now in
-    subst (λ (xs : List plain.Bulletin). All (λ b. IsTrue (is_bulletin d n.accepted (bulletin_of b))) xs) (sym c.as_slice-bulletins.ensures)
+    subst (λ (xs : List values.Bulletin). All (λ b. IsTrue (is_bulletin d n.accepted (bulletin_of b))) xs) (sym c.as_slice-bulletins.ensures)
     (all_of (is_bulletin d n.accepted) bulletin_of c.args.need.now.bulletins (sound-parts d n c.requires).bodies)
 
 pub keys_of-requires : goal.keys_of-requires
 keys_of-requires c =
-    subst (λ (xs : List plain.Bulletin). AreBodies (map bulletin_of xs)) (sym c.as_slice-bulletins.ensures) (bodies_of c.args.directory.now (need_of c.args.need.now) c.requires)
+    subst (λ (xs : List values.Bulletin). AreBodies (map bulletin_of xs)) (sym c.as_slice-bulletins.ensures) (bodies_of c.args.directory.now (need_of c.args.need.now) c.requires)
 
 pub note_draws-requires-clause-rows : goal.note_draws-requires-clause-rows
 note_draws-requires-clause-rows c =
     let mid = c.note_bulletins.new.numbers in
-    let has = subst (λ (xs : List plain.Bulletin). HasKeys (map bulletin_of xs) c.in_ok-keys.keys) c.as_slice-bulletins.ensures c.in_ok-keys.ensures in
-    let rows = subst (λ (xs : List plain.Bulletin). HaveRows mid (map bulletin_of xs)) c.as_slice-bulletins.ensures c.in_ok-note_bulletins.ensures.rows in
+    let has = subst (λ (xs : List values.Bulletin). HasKeys (map bulletin_of xs) c.in_ok-keys.keys) c.as_slice-bulletins.ensures c.in_ok-keys.ensures in
+    let rows = subst (λ (xs : List values.Bulletin). HaveRows mid (map bulletin_of xs)) c.as_slice-bulletins.ensures c.in_ok-note_bulletins.ensures.rows in
     each_row c.args.directory.now (need_of c.args.need.now) c.requires c.in_ok-keys.keys has mid rows
 
 pub note_draws-requires-clause-known : goal.note_draws-requires-clause-known
 note_draws-requires-clause-known c =
     let n : Need = need_of c.args.need.now in
     let cs : List needs.CircuitNeed = c.args.need.now.circuits in
-    let has = subst (λ (xs : List plain.Bulletin). HasKeys (map bulletin_of xs) c.in_ok-keys.keys) c.as_slice-bulletins.ensures c.in_ok-keys.ensures in
+    let has = subst (λ (xs : List values.Bulletin). HasKeys (map bulletin_of xs) c.in_ok-keys.keys) c.as_slice-bulletins.ensures c.in_ok-keys.ensures in
     subst (λ (xs : List needs.CircuitNeed). All (λ q. All (λ p. IsSome (get nat_cmp c.in_ok-keys.keys p)) q.kept) xs) (sym c.as_slice-circuits.ensures)
     (λ k q inside.
     subst (λ (x : CircuitNeed). All (λ p. IsSome (get nat_cmp c.in_ok-keys.keys p)) x.kept) (get_or-map circuit_need_of cs k q unused inside)
@@ -48,7 +48,7 @@ returns c =
     let none = c.in_ok-numbers.numbers in
     let mid = c.note_bulletins.new.numbers in
     let new = c.note_draws.new.numbers in
-    let has = subst (λ (xs : List plain.Bulletin). HasKeys (map bulletin_of xs) c.in_ok-keys.keys) c.as_slice-bulletins.ensures c.in_ok-keys.ensures in
-    let all = subst (λ (xs : List plain.Bulletin). NotesAll d n.accepted (map bulletin_of xs) none mid) c.as_slice-bulletins.ensures c.in_ok-note_bulletins.ensures in
+    let has = subst (λ (xs : List values.Bulletin). HasKeys (map bulletin_of xs) c.in_ok-keys.keys) c.as_slice-bulletins.ensures c.in_ok-keys.ensures in
+    let all = subst (λ (xs : List values.Bulletin). NotesAll d n.accepted (map bulletin_of xs) none mid) c.as_slice-bulletins.ensures c.in_ok-note_bulletins.ensures in
     let draws = subst (λ (xs : List needs.CircuitNeed). NotesDraws c.in_ok-keys.keys (map circuit_need_of xs) mid new) c.as_slice-circuits.ensures c.note_draws.ensures in
     starts d n c.requires c.in_ok-keys.keys has none mid new c.in_ok-numbers.ensures all draws

@@ -6,7 +6,7 @@ use Rattle.gts_count.proofs.steps.hear.Goals as goal
 
 pub returns-in-Ok-clause-turn : goal.returns-in-Ok-clause-turn
 returns-in-Ok-clause-turn g c =
-    counted_turn g.T.Switch.words (Heard c.args.c c.args.kind c.args.message.now) c.hear-answer.result c.args.parts.now _ c.hear-answer.ensures.turn
+    counted_turn g.T.Switch.meanings (Heard c.args.c c.args.kind c.args.message.now) c.hear-answer.result c.args.parts.now _ c.hear-answer.ensures.turn
     (λ o h stood told counts.
     counts_heard _ _ h c.ready.new.counting c.note_heard.new.counting c.args.c c.args.kind c.args.message.now c.in-Ok.ready c.hear-answer.result c.requires.circuit
     (λ current. c.in-Ok.ensures.ready _ _ h (sym c.in-Ok.ensures.rest.current ∙ current) c.requires.circuit counts)
@@ -15,6 +15,6 @@ returns-in-Ok-clause-turn g c =
 
 pub returns-in-Err-clause-turn : goal.returns-in-Err-clause-turn
 returns-in-Err-clause-turn g c =
-    left_turn g.T.Switch.words c.args.c c.args.kind c.args.message.now c.args.parts.now _ refl c.leave.ensures.leaves
+    left_turn g.T.Switch.meanings c.args.c c.args.kind c.args.message.now c.args.parts.now _ refl c.leave.ensures.leaves
     (λ d s h counts. counts_prepared d s h c.args.parts.now.counting c.ready.new.counting c.in-Err.ensures.prepares c.in-Err.ensures.rest counts)
     (λ d s h counts. c.in-Err.ensures.left d s h c.args.kind counts)

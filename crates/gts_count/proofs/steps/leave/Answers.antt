@@ -2,4 +2,4 @@ use Rattle.gts_count.proofs.TurnLemmas.{counted_leave}
 use Rattle.gts_count.proofs.steps.leave.Goals as goal
 
 pub returns : goal.returns
-returns g c = counted_leave g.T.Switch.words c.args.parts.now c.leave.ensures.leaves
+returns g c = counted_leave g.T.Switch.meanings c.args.parts.now c.leave.ensures.leaves

@@ -5,5 +5,5 @@ use Rattle.gts_count.proofs.steps.lose.Goals as goal
 
 pub returns-clause-turn : goal.returns-clause-turn
 returns-clause-turn g c =
-    counted_turn g.T.Switch.words (Lost c.args.c c.args.field) c.lost-answer.result c.args.parts.now _ c.lost-answer.ensures.turn
+    counted_turn g.T.Switch.meanings (Lost c.args.c c.args.field) c.lost-answer.result c.args.parts.now _ c.lost-answer.ensures.turn
     (λ o h stood told counts. counts_lost _ _ h c.args.parts.now.counting c.note_heard.new.counting c.args.c c.args.field c.lost-answer.result c.note_heard.ensures.noted counts)

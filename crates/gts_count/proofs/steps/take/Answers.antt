@@ -8,9 +8,9 @@ use Rattle.gts_count.proofs.steps.take.Goals as goal
 
 pub returns-clause-turn : goal.returns-clause-turn
 returns-clause-turn g c =
-    let words = g.T.Switch.words in
+    let meanings = g.T.Switch.meanings in
     let now = c.args.parts.now.switch in
-    counted_turn words (Taken c.args.c) c.take-answer.result c.args.parts.now _ c.take-answer.ensures.turn
+    counted_turn meanings (Taken c.args.c) c.take-answer.result c.args.parts.now _ c.take-answer.ensures.turn
     (λ o h stood told counts.
-    counts_taken (words.directory now) (state_at words now o h) h c.args.parts.now.counting c.note_taken.new.counting c.args.c c.requires.circuit c.bytes.result.now c.take-answer.result told
+    counts_taken (meanings.directory now) (state_at meanings now o h) h c.args.parts.now.counting c.note_taken.new.counting c.args.c c.requires.circuit c.bytes.result.now c.take-answer.result told
     (λ i e. c.take-answer.ensures.frame o h i stood e ∙ ap (λ (bytes : List ℕ). on (c.args.c + 1) bytes) (sym c.bytes.ensures)) c.note_taken.ensures.noted counts)

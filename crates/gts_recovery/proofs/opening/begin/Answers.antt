@@ -10,8 +10,8 @@ use Rattle.gts_recovery.proofs.opening.begin.Goals as goal
 
 pub returns-then-not-at_checkpoint-clause-reading : goal.returns-then-not-at_checkpoint-clause-reading
 returns-then-not-at_checkpoint-clause-reading g c =
-    let plain : is_at_checkpoint c.args.journal.now ≡ false = search rules in
-    start_reading c.args.directory.now (g.P.Station.calls c.args.station.now) c.in_ok-new.field-0 c.args.journal.now c.in_ok-new.ensures c.requires plain
+    let unpacked : is_at_checkpoint c.args.journal.now ≡ false = search rules in
+    start_reading c.args.directory.now (g.P.Station.calls c.args.station.now) c.in_ok-new.field-0 c.args.journal.now c.in_ok-new.ensures c.requires unpacked
 
 pub returns-in_ok-core-in-Ok-clause-reading : goal.returns-in_ok-core-in-Ok-clause-reading
 returns-in_ok-core-in-Ok-clause-reading g c =

@@ -6,18 +6,18 @@ use Rattle.gts_replay.proofs.draining.drain.Goals as goal
 
 pub returns-in-Err-clause-goes : goal.returns-in-Err-clause-goes
 returns-in-Err-clause-goes g c = λ o h start.
-    drained_breaks g.W.Switch.words c.args.switch.now c.drain.switch c.take.new.self o h c.args.c c.drain.counter c.take.result c.in-Err.fault
+    drained_breaks g.W.Switch.meanings c.args.switch.now c.drain.switch c.take.new.self o h c.args.c c.drain.counter c.take.result c.in-Err.fault
     (c.drain.invariant.drained o h start) c.take.ensures.turn c.in-Err.is
 
 pub returns-then-is_nothing-clause-goes : goal.returns-then-is_nothing-clause-goes
 returns-then-is_nothing-clause-goes g c = λ o h start.
-    drained_all g.W.Switch.words c.args.switch.now c.drain.switch c.take.new.self o h c.args.c c.drain.counter c.take.result start c.drain.invariant.directory
+    drained_all g.W.Switch.meanings c.args.switch.now c.drain.switch c.take.new.self o h c.args.c c.drain.counter c.take.result start c.drain.invariant.directory
     (c.drain.invariant.drained o h start) c.take.ensures.turn (c.in-Ok.is ∙ ap (λ (x : Outcome). Ok x) (c.is_nothing.ensures.nothing.0 c.if-is_nothing.true))
 
 pub drain-preserved : goal.drain-preserved
 drain-preserved g c = record {
   drained = λ o h start.
-      drained_more g.W.Switch.words c.args.switch.now c.drain.switch c.take.new.self o h c.args.c c.drain.counter c.take.result c.in-Ok.outcome start c.requires.circuit
+      drained_more g.W.Switch.meanings c.args.switch.now c.drain.switch c.take.new.self o h c.args.c c.drain.counter c.take.result c.in-Ok.outcome start c.requires.circuit
       c.drain.invariant.directory (c.drain.invariant.drained o h start) c.take.ensures.turn c.in-Ok.is
       (λ e. false≢true (sym c.if-is_nothing.false ∙ c.is_nothing.ensures.nothing.1 e)) c.is_nothing.ensures.few;
   directory = c.take.ensures.turn.directory ∙ c.drain.invariant.directory;
@@ -27,4 +27,4 @@ drain-preserved g c = record {
 
 pub returns-clause-goes : goal.returns-clause-goes
 returns-clause-goes g c = λ o h start.
-    absurd (omega (arith, c.drain-test.false, drained_few g.W.Switch.words c.args.switch.now c.drain.switch o h c.args.c c.drain.counter start (c.drain.invariant.drained o h start)))
+    absurd (omega (arith, c.drain-test.false, drained_few g.W.Switch.meanings c.args.switch.now c.drain.switch o h c.args.c c.drain.counter start (c.drain.invariant.drained o h start)))

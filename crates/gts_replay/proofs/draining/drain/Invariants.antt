@@ -7,8 +7,8 @@ use Rattle.gts_replay.proofs.draining.drain.Given as goal
 -- so many takes gave something
 abbrev pub invariant-drain : goal.invariant-drain
 invariant-drain g l = record {
-  drained : (o : g.W.Switch.Origin) (h : List Entry) → StandsFor g.W.Switch.words o h l.fn.switch → Drained g.W.Switch.words l.fn.switch o h l.c l.counter l.switch;
-  directory : g.W.Switch.words.directory l.switch ≡ g.W.Switch.words.directory l.fn.switch;
+  drained : (o : g.W.Switch.Origin) (h : List Entry) → StandsFor g.W.Switch.meanings o h l.fn.switch → Drained g.W.Switch.meanings l.fn.switch o h l.c l.counter l.switch;
+  directory : g.W.Switch.meanings.directory l.switch ≡ g.W.Switch.meanings.directory l.fn.switch;
   disk_later : g.W.Switch.disk_faults l.fn.switch ≤ g.W.Switch.disk_faults l.switch;
   say_later : g.W.Switch.say_faults l.fn.switch ≤ g.W.Switch.say_faults l.switch;
 }

@@ -15,7 +15,7 @@ use Rattle.gts_replay.proofs.feeding.feed.Goals as goal
 
 pub feed-init : goal.feed-init
 feed-init g c = record {
-  fed = ([], takes_none g.S.Source.tells c.args.steps.now (g.S.Source.left c.args.capture.now), fed_none g.W.Switch.words c.args.c c.args.decoder.now c.args.switch.now);
+  fed = ([], takes_none g.S.Source.tells c.args.steps.now (g.S.Source.left c.args.capture.now), fed_none g.W.Switch.meanings c.args.c c.args.decoder.now c.args.switch.now);
   directory = refl;
   disk_later = omega arith;
   say_later = omega arith;
@@ -25,7 +25,7 @@ feed-init g c = record {
 pub returns-in-Err-clause-feeds : goal.returns-in-Err-clause-feeds
 returns-in-Err-clause-feeds g c =
     let fed = c.feed.invariant.fed in
-    let F : CaptureFault → Type 0 = λ fault. Feeds g.W.Switch.words g.S.Source.tells c.args.c (Err (step.Capture fault)) c.args.steps.now c.bytes.new.self (g.S.Source.left c.args.capture.now) (g.S.Source.left c.bytes.new.source)
+    let F : CaptureFault → Type 0 = λ fault. Feeds g.W.Switch.meanings g.S.Source.tells c.args.c (Err (step.Capture fault)) c.args.steps.now c.bytes.new.self (g.S.Source.left c.args.capture.now) (g.S.Source.left c.bytes.new.source)
     c.args.decoder.now c.feed.decoder c.args.switch.now c.feed.switch in
     let go : (fault : CaptureFault) → c.bytes.result ≡ Err fault → F fault = elim [
       | Bad at ↦ λ is. record {
@@ -53,8 +53,8 @@ returns-in-Err-feed_piece-clause-feeds g c =
       bytes = fed.0 ++ piece;
       taken = takes_at_most g.S.Source.tells fed.0 piece c.args.steps.now c.feed.steps c.bytes.new.self (g.S.Source.left c.args.capture.now) (g.S.Source.left c.feed.capture) (g.S.Source.left c.bytes.new.source)
           fed.1 c.in-Ok.ensures.told (omega (arith, long, c.in-Ok.ensures.feed)) (omega (arith, long, c.in-Ok.ensures.at)) c.in-Ok.ensures.within;
-      fed = breaks_piece g.W.Switch.words c.args.c c.args.decoder.now c.args.switch.now fed.0 piece c.feed.decoder c.feed.switch c.feed_piece.new.switch c.in-Err-feed_piece.fault fed.2
-          (λ before o h held stands. subst (λ (r : Result (Unit {0}) SwitchFault). Goes g.W.Switch.words o h (all_done (events_added c.args.c before piece)) r c.feed_piece.new.switch)
+      fed = breaks_piece g.W.Switch.meanings c.args.c c.args.decoder.now c.args.switch.now fed.0 piece c.feed.decoder c.feed.switch c.feed_piece.new.switch c.in-Err-feed_piece.fault fed.2
+          (λ before o h held stands. subst (λ (r : Result (Unit {0}) SwitchFault). Goes g.W.Switch.meanings o h (all_done (events_added c.args.c before piece)) r c.feed_piece.new.switch)
           c.in-Err-feed_piece.is (c.feed_piece.ensures.goes before o h held stands));
     }
 
@@ -70,9 +70,9 @@ feed-preserved g c =
         fed.0 ++ piece,
         takes_more g.S.Source.tells fed.0 piece c.args.steps.now c.feed.steps c.bytes.new.self (g.S.Source.left c.args.capture.now) (g.S.Source.left c.feed.capture) (g.S.Source.left c.bytes.new.source)
             fed.1 c.in-Ok.ensures.told (omega (arith, long, c.in-Ok.ensures.feed)) (omega (arith, long, c.in-Ok.ensures.at)) c.in-Ok.ensures.within c.bytes.ensures.same,
-        fed_piece g.W.Switch.words c.args.c c.args.decoder.now c.args.switch.now fed.0 piece c.feed.decoder c.feed_piece.new.decoder c.feed.switch c.feed_piece.new.switch fed.2
+        fed_piece g.W.Switch.meanings c.args.c c.args.decoder.now c.args.switch.now fed.0 piece c.feed.decoder c.feed_piece.new.decoder c.feed.switch c.feed_piece.new.switch fed.2
             (λ before is. subst (λ (r : Result (Unit {0}) SwitchFault). OnOk r (c.feed_piece.new.decoder.held ≡ held_in (before ++ piece))) c.in_default.is (c.feed_piece.ensures.held before is))
-            (λ before o h held stands. subst (λ (r : Result (Unit {0}) SwitchFault). Goes g.W.Switch.words o h (all_done (events_added c.args.c before piece)) r c.feed_piece.new.switch)
+            (λ before o h held stands. subst (λ (r : Result (Unit {0}) SwitchFault). Goes g.W.Switch.meanings o h (all_done (events_added c.args.c before piece)) r c.feed_piece.new.switch)
             c.in_default.is (c.feed_piece.ensures.goes before o h held stands)),
       );
       directory = c.feed_piece.ensures.directory ∙ c.feed.invariant.directory;

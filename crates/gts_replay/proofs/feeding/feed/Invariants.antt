@@ -7,8 +7,8 @@ use Rattle.gts_replay.proofs.feeding.feed.Given as goal
 abbrev pub invariant-feed : goal.invariant-feed
 invariant-feed g l = record {
   fed : (bytes : List ℕ) × Takes g.S.Source.tells bytes l.fn.steps l.steps (g.S.Source.left l.fn.capture) (g.S.Source.left l.capture)
-      × IsFed g.W.Switch.words l.c l.fn.decoder l.fn.switch bytes l.decoder l.switch;
-  directory : g.W.Switch.words.directory l.switch ≡ g.W.Switch.words.directory l.fn.switch;
+      × IsFed g.W.Switch.meanings l.c l.fn.decoder l.fn.switch bytes l.decoder l.switch;
+  directory : g.W.Switch.meanings.directory l.switch ≡ g.W.Switch.meanings.directory l.fn.switch;
   disk_later : g.W.Switch.disk_faults l.fn.switch ≤ g.W.Switch.disk_faults l.switch;
   say_later : g.W.Switch.say_faults l.fn.switch ≤ g.W.Switch.say_faults l.switch;
   source_later : g.S.Source.faults l.fn.capture ≤ g.S.Source.faults l.capture;

@@ -5,8 +5,8 @@ use Rattle.gts_replay.proofs.feeding.feed_piece.Given as goal
 -- the bytes before the rest were dealt with
 abbrev pub invariant-loop-rest : goal.invariant-loop-rest
 invariant-loop-rest g l = record {
-  fed : (bytes : List ℕ) × (l.fn.piece ≡ bytes ++ l.rest) × IsFed g.W.Switch.words l.c l.fn.decoder l.fn.switch bytes l.decoder l.switch;
-  directory : g.W.Switch.words.directory l.switch ≡ g.W.Switch.words.directory l.fn.switch;
+  fed : (bytes : List ℕ) × (l.fn.piece ≡ bytes ++ l.rest) × IsFed g.W.Switch.meanings l.c l.fn.decoder l.fn.switch bytes l.decoder l.switch;
+  directory : g.W.Switch.meanings.directory l.switch ≡ g.W.Switch.meanings.directory l.fn.switch;
   disk_later : g.W.Switch.disk_faults l.fn.switch ≤ g.W.Switch.disk_faults l.switch;
   say_later : g.W.Switch.say_faults l.fn.switch ≤ g.W.Switch.say_faults l.switch;
 }

@@ -8,13 +8,13 @@ use Rattle.gts_replay.proofs.replaying.replay.Goals as goal
 
 pub returns-in_default-clause-ends : goal.returns-in_default-clause-ends
 returns-in_default-clause-ends g c = λ o h start.
-    ends_unmade g.W.Switch.words g.W.Switch.tells c.args.kind o h g.S.Source.tells c.args.switch.now (g.S.Source.left c.args.capture.now) (g.S.Source.left c.args.capture.now) start
+    ends_unmade g.W.Switch.meanings g.W.Switch.tells c.args.kind o h g.S.Source.tells c.args.switch.now (g.S.Source.left c.args.capture.now) (g.S.Source.left c.args.capture.now) start
 
 pub returns-in_default-new-clause-ends : goal.returns-in_default-new-clause-ends
 returns-in_default-new-clause-ends g c = λ o h start.
-    ends_unmade g.W.Switch.words g.W.Switch.tells c.args.kind o h g.S.Source.tells c.args.switch.now (g.S.Source.left c.args.capture.now) (g.S.Source.left c.args.capture.now) start
+    ends_unmade g.W.Switch.meanings g.W.Switch.tells c.args.kind o h g.S.Source.tells c.args.switch.now (g.S.Source.left c.args.capture.now) (g.S.Source.left c.args.capture.now) start
 
 pub run-requires-clause-decode : goal.run-requires-clause-decode
 run-requires-clause-decode g c =
-    let d = g.W.Switch.words.directory c.args.switch.now in
+    let d = g.W.Switch.meanings.directory c.args.switch.now in
     subst (λ (ds : List Decoding). Decode ds (no_bytes d)) (sym (c.deref_mut.ensures.value ∙ c.in-Ok.ensures)) (decode_fresh c.circuits-circuits.result d c.circuits-circuits.ensures.circuits)

@@ -19,7 +19,7 @@ pub returns-in-Ok-End-clause-ends : goal.returns-in-Ok-End-clause-ends
 returns-in-Ok-End-clause-ends g c = λ o h start.
     let done = c.loop.invariant.done in
     let told : g.S.Source.tells → c.loop.steps.ahead ++ g.S.Source.left c.loop.capture ≡ line_of c.in-Ok-End.field-0 ++ (c.next.new.self.ahead ++ g.S.Source.left c.next.new.source) = c.in-Ok-End.ensures.told in
-    ends_done g.W.Switch.words c.args.steps.now.kind g.W.Switch.tells g.S.Source.tells (g.S.Source.left c.args.capture.now) c.args.switch.now done.0 c.loop.steps c.next.new.self (g.S.Source.left c.loop.capture)
+    ends_done g.W.Switch.meanings c.args.steps.now.kind g.W.Switch.tells g.S.Source.tells (g.S.Source.left c.args.capture.now) c.args.switch.now done.0 c.loop.steps c.next.new.self (g.S.Source.left c.loop.capture)
     (g.S.Source.left c.next.new.source) (g.S.Source.left c.next.new.source) c.loop.decoders c.loop.switch done.2
     (λ t. told t ∙ ap (λ (head : Head). line_of head ++ (c.next.new.self.ahead ++ g.S.Source.left c.next.new.source)) c.in-Ok-End.field-0-is)
     (let place : c.next.new.self.at ≡ c.loop.steps.at + length (line_of End) = c.in-Ok-End.ensures.at ∙ ap (λ (head : Head). c.loop.steps.at + length (line_of head)) c.in-Ok-End.field-0-is in
@@ -28,14 +28,14 @@ returns-in-Ok-End-clause-ends g c = λ o h start.
 pub returns-in-Err-clause-ends : goal.returns-in-Err-clause-ends
 returns-in-Err-clause-ends g c = λ o h start.
     let done = c.loop.invariant.done in
-    let few : length (g.W.Switch.words.directory c.args.switch.now).circuits ≤ 100 = c.requires.few in
+    let few : length (g.W.Switch.meanings.directory c.args.switch.now).circuits ≤ 100 = c.requires.few in
     let before : List ℕ = g.S.Source.left c.loop.capture in
     let after : List ℕ = g.S.Source.left c.next.new.source in
-    let E : ReplayEnd → Type 0 = λ end. Ends g.W.Switch.words g.W.Switch.tells c.args.steps.now.kind o h g.S.Source.tells end c.args.switch.now c.loop.switch (g.S.Source.left c.args.capture.now) after in
+    let E : ReplayEnd → Type 0 = λ end. Ends g.W.Switch.meanings g.W.Switch.tells c.args.steps.now.kind o h g.S.Source.tells end c.args.switch.now c.loop.switch (g.S.Source.left c.args.capture.now) after in
     let go : (fault : CaptureFault) → c.next.result ≡ Err fault → E (end_of (step.Capture fault)) = elim [
-      | Bad at ↦ λ is. ends_bad g.W.Switch.words c.args.steps.now.kind g.W.Switch.tells g.S.Source.tells (g.S.Source.left c.args.capture.now) c.args.switch.now done.0 c.loop.steps before after c.loop.decoders c.loop.switch at few done.2
+      | Bad at ↦ λ is. ends_bad g.W.Switch.meanings c.args.steps.now.kind g.W.Switch.tells g.S.Source.tells (g.S.Source.left c.args.capture.now) c.args.switch.now done.0 c.loop.steps before after c.loop.decoders c.loop.switch at few done.2
           (λ t. c.next.ensures.bad t at is) o h start
-      | SourceFault ↦ λ is. ends_source g.W.Switch.words c.args.steps.now.kind g.W.Switch.tells g.S.Source.tells (g.S.Source.left c.args.capture.now) c.args.switch.now done.0 c.loop.steps c.next.new.self before after c.loop.decoders
+      | SourceFault ↦ λ is. ends_source g.W.Switch.meanings c.args.steps.now.kind g.W.Switch.tells g.S.Source.tells (g.S.Source.left c.args.capture.now) c.args.switch.now done.0 c.loop.steps c.next.new.self before after c.loop.decoders
           c.loop.switch done.2 c.next.ensures.same (λ t. c.next.ensures.source_fault t is) o h start
     ] in
     subst E (sym c.end_after.ensures) (go c.in-Err.fault c.in-Err.is)
@@ -47,16 +47,16 @@ returns-in-Err-do_step g c =
     let head = head_of c.in-Ok.head in
     let reads : ReadsHead g.S.Source.tells head c.loop.steps c.next.new.self (g.S.Source.left c.loop.capture) (g.S.Source.left c.next.new.source) =
     record { told = c.in-Ok.ensures.told; valid = c.in-Ok.ensures.valid; feed = c.in-Ok.ensures.feed; at = c.in-Ok.ensures.at; within = c.in-Ok.ensures.within; same = c.next.ensures.same } in
-    let does = subst (λ (r : Result (Unit {0}) StepFault). DoesStep g.W.Switch.words g.W.Switch.tells g.S.Source.tells head r c.next.new.self c.do_step.new.steps (g.S.Source.left c.next.new.source)
+    let does = subst (λ (r : Result (Unit {0}) StepFault). DoesStep g.W.Switch.meanings g.W.Switch.tells g.S.Source.tells head r c.next.new.self c.do_step.new.steps (g.S.Source.left c.next.new.source)
     (g.S.Source.left c.do_step.new.capture) c.loop.decoders c.do_step.new.decoders c.loop.switch c.do_step.new.switch) c.in-Err-do_step.is c.do_step.ensures.does in
     let E : (o : g.W.Switch.Origin) → List Entry → ReplayEnd → Type 0 = λ o h end.
-    Ends g.W.Switch.words g.W.Switch.tells c.args.steps.now.kind o h g.S.Source.tells end c.args.switch.now c.do_step.new.switch (g.S.Source.left c.args.capture.now) (g.S.Source.left c.do_step.new.capture) in
+    Ends g.W.Switch.meanings g.W.Switch.tells c.args.steps.now.kind o h g.S.Source.tells end c.args.switch.now c.do_step.new.switch (g.S.Source.left c.args.capture.now) (g.S.Source.left c.do_step.new.capture) in
     let C : ReplayEnd → Type 0 = λ end. HasReplayCause end (g.W.Switch.disk_faults c.args.switch.now) (g.W.Switch.disk_faults c.do_step.new.switch) (g.W.Switch.say_faults c.args.switch.now)
     (g.W.Switch.say_faults c.do_step.new.switch) (g.S.Source.faults c.args.capture.now) (g.S.Source.faults c.do_step.new.capture) in
     record {
       ends = λ o h start.
           subst (E o h) (sym c.end_after-in-Err-do_step.ensures)
-          (ends_step g.W.Switch.words c.args.steps.now.kind g.W.Switch.tells g.S.Source.tells (g.S.Source.left c.args.capture.now) c.args.switch.now done.0 c.loop.steps c.next.new.self c.do_step.new.steps
+          (ends_step g.W.Switch.meanings c.args.steps.now.kind g.W.Switch.tells g.S.Source.tells (g.S.Source.left c.args.capture.now) c.args.switch.now done.0 c.loop.steps c.next.new.self c.do_step.new.steps
           (g.S.Source.left c.loop.capture) (g.S.Source.left c.next.new.source) (g.S.Source.left c.do_step.new.capture) c.loop.decoders c.do_step.new.decoders c.loop.switch c.do_step.new.switch head fault
           c.requires.few done.2 c.loop.invariant.directory reads does o h start);
       directory = c.do_step.ensures.directory ∙ c.loop.invariant.directory;
@@ -73,13 +73,13 @@ loop-preserved g c =
     let head = head_of c.in-Ok.head in
     let reads : ReadsHead g.S.Source.tells head c.loop.steps c.next.new.self (g.S.Source.left c.loop.capture) (g.S.Source.left c.next.new.source) =
     record { told = c.in-Ok.ensures.told; valid = c.in-Ok.ensures.valid; feed = c.in-Ok.ensures.feed; at = c.in-Ok.ensures.at; within = c.in-Ok.ensures.within; same = c.next.ensures.same } in
-    let does = subst (λ (r : Result (Unit {0}) StepFault). DoesStep g.W.Switch.words g.W.Switch.tells g.S.Source.tells head r c.next.new.self c.do_step.new.steps (g.S.Source.left c.next.new.source)
+    let does = subst (λ (r : Result (Unit {0}) StepFault). DoesStep g.W.Switch.meanings g.W.Switch.tells g.S.Source.tells head r c.next.new.self c.do_step.new.steps (g.S.Source.left c.next.new.source)
     (g.S.Source.left c.do_step.new.capture) c.loop.decoders c.do_step.new.decoders c.loop.switch c.do_step.new.switch) c.in_default.is c.do_step.ensures.does in
     record {
       done = (
         done.0 ++ does.step ∷ [],
         length-append done.0 (does.step ∷ []) ∙ ap (λ (n : ℕ). n + 1) done.1,
-        runs_more g.W.Switch.words c.args.steps.now.kind g.W.Switch.tells g.S.Source.tells (g.S.Source.left c.args.capture.now) c.args.switch.now done.0 c.loop.steps c.next.new.self c.do_step.new.steps
+        runs_more g.W.Switch.meanings c.args.steps.now.kind g.W.Switch.tells g.S.Source.tells (g.S.Source.left c.args.capture.now) c.args.switch.now done.0 c.loop.steps c.next.new.self c.do_step.new.steps
             (g.S.Source.left c.loop.capture) (g.S.Source.left c.next.new.source) (g.S.Source.left c.do_step.new.capture) c.loop.decoders c.do_step.new.decoders c.loop.switch c.do_step.new.switch head done.2
             c.loop.invariant.directory reads does,
       );
@@ -92,5 +92,5 @@ loop-preserved g c =
 pub returns-clause-ends : goal.returns-clause-ends
 returns-clause-ends g c = λ o h start.
     let done = c.loop.invariant.done in
-    ends_never g.W.Switch.words c.args.steps.now.kind g.W.Switch.tells g.S.Source.tells (g.S.Source.left c.args.capture.now) c.args.switch.now done.0 c.loop.steps (g.S.Source.left c.loop.capture) (g.S.Source.left c.loop.capture)
+    ends_never g.W.Switch.meanings c.args.steps.now.kind g.W.Switch.tells g.S.Source.tells (g.S.Source.left c.args.capture.now) c.args.switch.now done.0 c.loop.steps (g.S.Source.left c.loop.capture) (g.S.Source.left c.loop.capture)
     c.loop.decoders c.loop.switch 18446744073709551615 done.2 (omega (arith, done.1, c.loop-test.false)) o h start

@@ -2,7 +2,7 @@ use Rattle.std.proofs.Common.{◌≡◌, ◌≤◌, length, Ok, sym, ap, subst, 
 use Rattle.gts_count.specs.declared.counted.Counted.{Counted}
 use Rattle.gts_count.specs.Counted.{ShowsTable}
 use Rattle.gts_engine.specs.Engine.{Engine}
-use Rattle.gts_engine.specs.Switching.{switch_words}
+use Rattle.gts_engine.specs.Switching.{switch_meanings}
 use Rattle.gts_app.specs.Opening.{Opens}
 use Rattle.gts_app.proofs.TrafficLemmas.{Leaves, not_counted, without_numbers, ended, counted_so, not_told}
 use Rattle.gts_app.proofs.commands.count.count.Goals as goal
@@ -52,7 +52,7 @@ returns-in-Err-say g c =
     not_told (λ (x : Counted (Engine g.row.P.Denot)). x.parts) g.S.Source g.P.Station c.replay-end.result od nd c.args.capture.now c.replay-end.new.capture c.args.station first last
     opens c.in-Ok-count_beside.ensures.counts (λ n es keeps sound. c.a_history_keeps_its_laws.ensures first.parts.switch.directory n es keeps sound) c.replay-end.ensures.ends few
     c.replay-end.ensures.cause files c.in-Ok-table.ensures.table.0 c.as_slice.result.now
-    (subst (ShowsTable (switch_words g.P.Station.tells g.P.Station.calls) last.parts) (sym c.as_slice.ensures.value) c.in-Ok-table.ensures.table.1)
+    (subst (ShowsTable (switch_meanings g.P.Station.tells g.P.Station.calls) last.parts) (sym c.as_slice.ensures.value) c.in-Ok-table.ensures.table.1)
     c.into_parts-station-2.result.0 c.say.new.self
     (c.into_parts-station-2.ensures.station ∙ ap (λ (e : Engine g.row.P.Denot). e.station) c.into_inner-engine.ensures)
     c.in-Err-say.ensures.told (c.in-Err-say.ensures.cause.failed refl) c.in-Err-say.ensures.cause.later c.in-Err-say.ensures.disk
@@ -73,7 +73,7 @@ returns g c =
     counted_so (λ (x : Counted (Engine g.row.P.Denot)). x.parts) g.S.Source g.P.Station c.replay-end.result od nd c.args.capture.now c.replay-end.new.capture c.args.station first last
     opens c.in-Ok-count_beside.ensures.counts (λ n es keeps sound. c.a_history_keeps_its_laws.ensures first.parts.switch.directory n es keeps sound) c.replay-end.ensures.ends few
     c.replay-end.ensures.cause files c.in-Ok-table.ensures.table.0 c.as_slice.result.now
-    (subst (ShowsTable (switch_words g.P.Station.tells g.P.Station.calls) last.parts) (sym c.as_slice.ensures.value) c.in-Ok-table.ensures.table.1)
+    (subst (ShowsTable (switch_meanings g.P.Station.tells g.P.Station.calls) last.parts) (sym c.as_slice.ensures.value) c.in-Ok-table.ensures.table.1)
     c.into_parts-station-2.result.0 c.say.new.self
     (c.into_parts-station-2.ensures.station ∙ ap (λ (e : Engine g.row.P.Denot). e.station) c.into_inner-engine.ensures)
     c.in-Ok-say.ensures.told c.in-Ok-say.ensures.cause.later c.in-Ok-say.ensures.disk

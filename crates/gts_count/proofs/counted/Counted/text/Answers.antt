@@ -9,7 +9,7 @@ use Rattle.gts_count.proofs.counted.Counted.text.Goals as goal
 pub returns : goal.returns
 returns g c =
     let parts = c.args.self.now.parts in
-    elim c.table.result as (λ r. IfOk r (λ text. text.items ≡ table_of (tally_of parts.counting.numbers)) → IfOk r (λ text. ShowsTable g.T.Switch.words parts text.items)) [
-      | Ok text ↦ λ e. shows g.T.Switch.words parts text.items e
+    elim c.table.result as (λ r. IfOk r (λ text. text.items ≡ table_of (tally_of parts.counting.numbers)) → IfOk r (λ text. ShowsTable g.T.Switch.meanings parts text.items)) [
+      | Ok text ↦ λ e. shows g.T.Switch.meanings parts text.items e
       | Err fault ↦ λ e. tt
     ] c.table.ensures

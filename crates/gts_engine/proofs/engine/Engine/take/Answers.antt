@@ -3,11 +3,11 @@ use Rattle.gts_traits.specs.Calls.{on}
 use Rattle.gts_event.specs.declared.event.Event.TheVariants.{Taken}
 use Rattle.gts_event.specs.declared.fault.SwitchFault.{SwitchFault}
 use Rattle.gts_event.specs.declared.fault.SwitchFault.TheVariants.{Stopped}
-use Rattle.gts_turns.specs.Turns.{IsTurn}
+use Rattle.gts_calls.specs.Calls.{IsTurn}
 use Rattle.gts_engine.specs.declared.mode.SayMode.{SayMode}
 use Rattle.gts_engine.specs.declared.mode.SayMode.TheVariants.{Station, Caller}
 use Rattle.gts_engine.specs.Engine.{Engine, engine_of}
-use Rattle.gts_engine.specs.Keeping.{words_of}
+use Rattle.gts_engine.specs.Keeping.{meanings_of}
 use Rattle.gts_engine.proofs.AnswerLemmas.{stopped_turn, doubt_turn}
 use Rattle.gts_engine.proofs.TakingLemmas.{by_station_mode, caller_silent, nothing_silent}
 use Rattle.gts_engine.proofs.StepLemmas.{not_said, said_well, said_badly, say_sound, stopped_by, not_stopped, part_directory, part_core, part_journal}
@@ -16,14 +16,14 @@ use Rattle.gts_engine.proofs.engine.Engine.take.Goals as goal
 pub returns-in-Some-clause-turn : goal.returns-in-Some-clause-turn
 returns-in-Some-clause-turn g c =
     let old = c.self.inside.parts in
-    let T : Engine g.row.P.Denot → Type 0 = λ e. IsTurn (words_of g.P.Station.tells g.P.Station.calls c.args.mode) (Taken c.args.c) (Err (Stopped c.in-Some.by)) e (engine_of old) in
+    let T : Engine g.row.P.Denot → Type 0 = λ e. IsTurn (meanings_of g.P.Station.tells g.P.Station.calls c.args.mode) (Taken c.args.c) (Err (Stopped c.in-Some.by)) e (engine_of old) in
     subst T c.self.view_is (stopped_turn g.P.Station.tells g.P.Station.calls c.args.mode (Taken c.args.c) c.in-Some.by (engine_of old) c.in-Some.is)
 
 pub returns-in-Err-clause-turn : goal.returns-in-Err-clause-turn
 returns-in-Err-clause-turn g c =
     let event = Taken c.args.c in
-    let F : SwitchFault → Type 0 = λ f. IsTurn (words_of g.P.Station.tells g.P.Station.calls c.args.mode) event (Err f) (engine_of c.self.inside.parts) (engine_of c.enter_take.new.parts) in
-    let T : Engine g.row.P.Denot → Type 0 = λ e. IsTurn (words_of g.P.Station.tells g.P.Station.calls c.args.mode) event (Err c.in-Err.fault) e (engine_of c.enter_take.new.parts) in
+    let F : SwitchFault → Type 0 = λ f. IsTurn (meanings_of g.P.Station.tells g.P.Station.calls c.args.mode) event (Err f) (engine_of c.self.inside.parts) (engine_of c.enter_take.new.parts) in
+    let T : Engine g.row.P.Denot → Type 0 = λ e. IsTurn (meanings_of g.P.Station.tells g.P.Station.calls c.args.mode) event (Err c.in-Err.fault) e (engine_of c.enter_take.new.parts) in
     subst T c.self.view_is
     (subst F (sym c.in-Err.ensures.entered.fault.0)
     (doubt_turn g.P.Station.tells g.P.Station.calls c.args.mode event (engine_of c.self.inside.parts) (engine_of c.enter_take.new.parts) c.in_default.is c.in-Err.ensures.entered.doubt))
@@ -34,8 +34,8 @@ returns-in-Caller-clause-turn g c =
     let mid = c.enter_take.new.parts in
     let event = Taken c.args.c in
     let enters = c.in-Ok.ensures.entered.entered in
-    let M : SayMode → Type 0 = λ m. IsTurn (words_of g.P.Station.tells g.P.Station.calls m) event (Ok c.in-Ok.outcome) (engine_of old) (engine_of mid) in
-    let T : Engine g.row.P.Denot → Type 0 = λ e. IsTurn (words_of g.P.Station.tells g.P.Station.calls c.args.mode) event (Ok c.in-Ok.outcome) e (engine_of mid) in
+    let M : SayMode → Type 0 = λ m. IsTurn (meanings_of g.P.Station.tells g.P.Station.calls m) event (Ok c.in-Ok.outcome) (engine_of old) (engine_of mid) in
+    let T : Engine g.row.P.Denot → Type 0 = λ e. IsTurn (meanings_of g.P.Station.tells g.P.Station.calls c.args.mode) event (Ok c.in-Ok.outcome) e (engine_of mid) in
     subst T c.self.view_is
     (subst M (sym c.in-Caller.is)
     (not_said g.P.Station.tells g.P.Station.calls event old c.in_default.is (c.self.invariant c.in_default.is) (engine_of mid) mid.journal c.in-Ok.outcome enters (c.in-Ok.ensures.entered.sound enters.stopped)
@@ -47,7 +47,7 @@ returns-in-Nothing-clause-turn g c =
     let mid = c.enter_take.new.parts in
     let event = Taken c.args.c in
     let enters = c.in-Ok.ensures.entered.entered in
-    let T : Engine g.row.P.Denot → Type 0 = λ e. IsTurn (words_of g.P.Station.tells g.P.Station.calls c.args.mode) event (Ok c.in-Ok.outcome) e (engine_of mid) in
+    let T : Engine g.row.P.Denot → Type 0 = λ e. IsTurn (meanings_of g.P.Station.tells g.P.Station.calls c.args.mode) event (Ok c.in-Ok.outcome) e (engine_of mid) in
     subst T c.self.view_is
     (not_said g.P.Station.tells g.P.Station.calls event old c.in_default.is (c.self.invariant c.in_default.is) (engine_of mid) mid.journal c.in-Ok.outcome enters (c.in-Ok.ensures.entered.sound enters.stopped)
     c.args.mode (λ s h. nothing_silent c.args.mode old.directory s c.args.c (sym c.in-Nothing.is ∙ enters.step.outcome s h)))
@@ -58,38 +58,38 @@ returns-clause-turn g c =
     let mid = c.enter_take.new.parts in
     let event = Taken c.args.c in
     let enters = c.in-Ok.ensures.entered.entered in
-    let rest = c.tell.ensures.rest in
-    let M : SayMode → Type 0 = λ m. IsTurn (words_of g.P.Station.tells g.P.Station.calls m) event (Ok c.in-Ok.outcome) (engine_of old) (engine_of c.tell.new.parts) in
-    let T : Engine g.row.P.Denot → Type 0 = λ e. IsTurn (words_of g.P.Station.tells g.P.Station.calls c.args.mode) event (Ok c.in-Ok.outcome) e (engine_of c.tell.new.parts) in
+    let rest = c.say_on.ensures.rest in
+    let M : SayMode → Type 0 = λ m. IsTurn (meanings_of g.P.Station.tells g.P.Station.calls m) event (Ok c.in-Ok.outcome) (engine_of old) (engine_of c.say_on.new.parts) in
+    let T : Engine g.row.P.Denot → Type 0 = λ e. IsTurn (meanings_of g.P.Station.tells g.P.Station.calls c.args.mode) event (Ok c.in-Ok.outcome) e (engine_of c.say_on.new.parts) in
     subst T c.self.view_is
     (by_station_mode M c.args.mode c.in_default-mode.not-Caller
     (said_well g.P.Station.tells g.P.Station.calls event old c.in_default.is (c.self.invariant c.in_default.is) (engine_of mid) mid.journal c.in-Ok.outcome enters (c.in-Ok.ensures.entered.sound enters.stopped)
-    (c.args.c + 1) c.bytes.result.now c.tell.new.parts (ap part_directory rest) (ap part_core rest) (ap part_journal rest) c.tell.result c.tell.ensures.told refl Station
-    (λ s h. c.in-Ok.ensures.frame c.in_default-outcome.not-Nothing old.directory s h ∙ ap (on (c.args.c + 1)) (sym c.bytes.ensures)) c.in_default-tell.field-0 c.in_default-tell.is
-    (not_stopped mid.stopped c.tell.new.parts.stopped c.tell.result c.in_default-tell.field-0 c.tell.ensures.stops c.in_default-tell.is)))
+    (c.args.c + 1) c.bytes.result.now c.say_on.new.parts (ap part_directory rest) (ap part_core rest) (ap part_journal rest) c.say_on.result c.say_on.ensures.told refl Station
+    (λ s h. c.in-Ok.ensures.frame c.in_default-outcome.not-Nothing old.directory s h ∙ ap (on (c.args.c + 1)) (sym c.bytes.ensures)) c.in_default-say_on.field-0 c.in_default-say_on.is
+    (not_stopped mid.stopped c.say_on.new.parts.stopped c.say_on.result c.in_default-say_on.field-0 c.say_on.ensures.stops c.in_default-say_on.is)))
 
 pub invariant_of-self-2 : goal.invariant_of-self-2
 invariant_of-self-2 g c =
     let old = c.self.inside.parts in
     let mid = c.enter_take.new.parts in
     let enters = c.in-Ok.ensures.entered.entered in
-    let rest = c.tell.ensures.rest in
+    let rest = c.say_on.ensures.rest in
     say_sound g.P.Station.tells g.P.Station.calls (Taken c.args.c) old c.in_default.is (c.self.invariant c.in_default.is) (engine_of mid) mid.journal c.in-Ok.outcome enters (c.in-Ok.ensures.entered.sound enters.stopped)
-    (c.args.c + 1) c.bytes.result.now c.tell.new.parts (ap part_directory rest) (ap part_core rest) (ap part_journal rest) c.tell.result c.tell.ensures.told
+    (c.args.c + 1) c.bytes.result.now c.say_on.new.parts (ap part_directory rest) (ap part_core rest) (ap part_journal rest) c.say_on.result c.say_on.ensures.told
 
-pub returns-in-Err-tell-clause-turn : goal.returns-in-Err-tell-clause-turn
-returns-in-Err-tell-clause-turn g c =
+pub returns-in-Err-say_on-clause-turn : goal.returns-in-Err-say_on-clause-turn
+returns-in-Err-say_on-clause-turn g c =
     let old = c.self.inside.parts in
     let mid = c.enter_take.new.parts in
     let event = Taken c.args.c in
     let enters = c.in-Ok.ensures.entered.entered in
-    let rest = c.tell.ensures.rest in
-    let M : SayMode → Type 0 = λ m. IsTurn (words_of g.P.Station.tells g.P.Station.calls m) event (Err c.in-Err-tell.fault) (engine_of old) (engine_of c.tell.new.parts) in
-    let T : Engine g.row.P.Denot → Type 0 = λ e. IsTurn (words_of g.P.Station.tells g.P.Station.calls c.args.mode) event (Err c.in-Err-tell.fault) e (engine_of c.tell.new.parts) in
+    let rest = c.say_on.ensures.rest in
+    let M : SayMode → Type 0 = λ m. IsTurn (meanings_of g.P.Station.tells g.P.Station.calls m) event (Err c.in-Err-say_on.fault) (engine_of old) (engine_of c.say_on.new.parts) in
+    let T : Engine g.row.P.Denot → Type 0 = λ e. IsTurn (meanings_of g.P.Station.tells g.P.Station.calls c.args.mode) event (Err c.in-Err-say_on.fault) e (engine_of c.say_on.new.parts) in
     subst T c.self.view_is
     (by_station_mode M c.args.mode c.in_default-mode.not-Caller
     (said_badly g.P.Station.tells g.P.Station.calls event old c.in_default.is (c.self.invariant c.in_default.is) (engine_of mid) mid.journal c.in-Ok.outcome enters (c.in-Ok.ensures.entered.sound enters.stopped)
-    (c.args.c + 1) c.bytes.result.now c.tell.new.parts (ap part_directory rest) (ap part_core rest) (ap part_journal rest) c.tell.result c.tell.ensures.told refl Station
+    (c.args.c + 1) c.bytes.result.now c.say_on.new.parts (ap part_directory rest) (ap part_core rest) (ap part_journal rest) c.say_on.result c.say_on.ensures.told refl Station
     (λ s h. c.in-Ok.ensures.frame c.in_default-outcome.not-Nothing old.directory s h ∙ ap (on (c.args.c + 1)) (sym c.bytes.ensures))
-    (stopped_by mid.stopped c.tell.new.parts.stopped c.tell.result c.in-Err-tell.fault c.tell.ensures.stops c.in-Err-tell.is c.in-Err-tell.ensures.fault.0)
-    c.in-Err-tell.fault c.in-Err-tell.ensures.fault.0))
+    (stopped_by mid.stopped c.say_on.new.parts.stopped c.say_on.result c.in-Err-say_on.fault c.say_on.ensures.stops c.in-Err-say_on.is c.in-Err-say_on.ensures.fault.0)
+    c.in-Err-say_on.fault c.in-Err-say_on.ensures.fault.0))

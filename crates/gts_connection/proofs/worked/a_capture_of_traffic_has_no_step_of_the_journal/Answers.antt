@@ -2,12 +2,12 @@ use Rattle.std.proofs.Common.{◌≡◌, ℕ, List, [], ◌∷◌, get_or, refl,
 use Rattle.std.specs.Prelude.{codes}
 use Rattle.gts_alphabet.specs.Digits.{dec}
 use Rattle.gts_event.specs.Worked.{two}
-use Rattle.gts_connection.specs.declared.kind.CaptureKind.TheVariants.{Plain}
+use Rattle.gts_connection.specs.declared.kind.CaptureKind.TheVariants.{Traffic}
 use Rattle.gts_connection.specs.Capture.{readable, Head, FeedHead, TakeHead, ReopenHead, DrainHead, RestartHead, CompactHead, EndHead, head_text, IsHeadOf, Bad}
-use Rattle.gts_connection.proofs.worked.a_plain_capture_has_no_step_of_the_journal.Goals as goal
+use Rattle.gts_connection.proofs.worked.a_capture_of_traffic_has_no_step_of_the_journal.Goals as goal
 
 -- no head begins so
-no_restart : (h : Head) (more : List ℕ) → IsHeadOf Plain two h → head_text h ≡ 82 ∷ more → ⊥
+no_restart : (h : Head) (more : List ℕ) → IsHeadOf Traffic two h → head_text h ≡ 82 ∷ more → ⊥
 unfolding dec
 no_restart (FeedHead c n) more here e = omega (arith, ap (λ (xs : List ℕ). get_or xs 0 0) e)
 no_restart (TakeHead c) more here e = omega (arith, ap (λ (xs : List ℕ). get_or xs 0 0) e)
@@ -17,7 +17,7 @@ no_restart RestartHead more here e = cc
 no_restart CompactHead more here e = cc
 no_restart EndHead more here e = omega (arith, ap (λ (xs : List ℕ). get_or xs 0 0) e)
 
-no_compaction : (h : Head) (more : List ℕ) → IsHeadOf Plain two h → head_text h ≡ 67 ∷ more → ⊥
+no_compaction : (h : Head) (more : List ℕ) → IsHeadOf Traffic two h → head_text h ≡ 67 ∷ more → ⊥
 unfolding dec
 no_compaction (FeedHead c n) more here e = omega (arith, ap (λ (xs : List ℕ). get_or xs 0 0) e)
 no_compaction (TakeHead c) more here e = omega (arith, ap (λ (xs : List ℕ). get_or xs 0 0) e)

@@ -1,4 +1,4 @@
--- The words that the clauses of this crate cite, in one place.
+-- What the clauses of this crate cite, in one place.
 pub use Rattle.circular_buffer.specs.Buffer.{buffer, keep_last}
 pub use Rattle.gts_heading.specs.Heading.{fields_of}
 pub use Rattle.gts_message.specs.Message.{body_at}

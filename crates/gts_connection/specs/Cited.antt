@@ -1,4 +1,4 @@
--- The words of this crate and of those below it in one place, for the clauses that cite many of them.
+-- What the clauses of this crate cite of it and of those below it, in one place.
 pub use Rattle.gts_frame.specs.declared.kind.Kind.{Kind}
 pub use Rattle.gts_frame.specs.Frame.{frame, IsFramed}
 pub use Rattle.gts_frame.specs.Stream.{IsFront, IsStreamFront, is_front}

@@ -1,3 +1,3 @@
--- The words of this crate in one place, for the clauses that cite many of them.
+-- What the clauses of this crate cite, in one place.
 pub use Rattle.gts_replay.specs.Going.{Goes}
 pub use Rattle.gts_replay.specs.Ending.{Feeds, HasRunCause}
