@@ -118,7 +118,7 @@ refused_there d s at calls j fed left r found bad = record {
 
 -- ---- all that a feed adds
 
-abbrev added_by : Directory → ℕ → List ℕ → State → ℕ → ℕ → List ℕ → Option Record → Taken
+abbrev pub added_by : Directory → ℕ → List ℕ → State → ℕ → ℕ → List ℕ → Option Record → Taken
 added_by d n before s gate at fed o = elim o as (λ _. Taken) [
   | None ↦ cond (may_be_cut written fed) (stopped Ends) (stopped (Breaks at))
   | Some r ↦
@@ -147,7 +147,7 @@ after-append : (d : Directory) (s : State) (rs : List Record) (r : Record) → a
 after-append d s [] r = refl
 after-append d s (q ∷ rs) r = after-append d (after d s (event_of_record q)) rs r
 
-no_begin : (d : Directory) (n : ℕ) (before : List ℕ) (s : State) (gate at : ℕ) (fed : List ℕ) → (add_all written d n before s gate at fed).begins ≡ None
+pub no_begin : (d : Directory) (n : ℕ) (before : List ℕ) (s : State) (gate at : ℕ) (fed : List ℕ) → (add_all written d n before s gate at fed).begins ≡ None
 no_begin d zero before s gate at fed = refl
 no_begin d (suc n) before s gate at fed = by_record (record_behind written d before s gate fed) (λ r. no_begin d n (seal written before (record_text r)) (after d s (event_of_record r)) (gate + record_size written r) (at + (record_size written r - 1)) (drop (record_size written r - 1) fed))
   where
@@ -189,11 +189,11 @@ stop : (d : Directory) (n : ℕ) (before : List ℕ) (s : State) (gate at : ℕ)
     → add_all written d (suc n) before s gate at fed ≡ cond (may_be_cut written fed) (stopped Ends) (stopped (Breaks at))
 stop d n before s gate at fed none = ap (added_by d n before s gate at fed) none
 
-some_text : (q : Record) → 1 ≤ length (record_text q)
+pub some_text : (q : Record) → 1 ≤ length (record_text q)
 some_text (Accept from kind position body) = omega arith
 some_text (Drew circuit position index) = omega arith
 
-not_empty : (d : Directory) (before : List ℕ) (s : State) (gate : ℕ) (fed : List ℕ) (r : Record) → record_behind written d before s gate fed ≡ Some r → 1 ≤ length fed
+pub not_empty : (d : Directory) (before : List ℕ) (s : State) (gate : ℕ) (fed : List ℕ) (r : Record) → record_behind written d before s gate fed ≡ Some r → 1 ≤ length fed
 not_empty d before s gate [] r is = absurd (by_sealed (sealed_at written before []) refl is)
   where
     by_sealed : (o : Option Record) → o ≡ sealed_at written before [] → behind_by written d s gate o ≡ Some r → ⊥

@@ -29,7 +29,7 @@ use Rattle.gts_standby.proofs.AddLemmas.{opened_need}
 
 -- ---- the checkpoint's file
 
-magic_size : length (magic written) ≡ 8
+pub magic_size : length (magic written) ≡ 8
 unfolding written
 magic_size = refl
 

@@ -144,7 +144,7 @@ ends_there SourceFault v fed left ahead at read enough is kind = tt
 ends_there DiskFault v fed left ahead at read enough is kind = tt
 ends_there NoMemory v fed left ahead at read enough is kind = tt
 
-abbrev piece_by : Version → List ℕ → List ℕ → Option Record → Piece
+abbrev pub piece_by : Version → List ℕ → List ℕ → Option Record → Piece
 piece_by v before fed o = elim o as (λ _. Piece) [ None ↦ unsealed v fed | Some r ↦ Sealed (record_size v r - 1) (seal v before (record_text r)) ]
 
 -- a piece was found

@@ -31,7 +31,7 @@ at_mark v before file gate bytes b = cond b (at_found file gate (sealed_at v bef
 open_is : (m : ℕ) → true ≡ (m == open_gate) → m ≡ open_gate
 open_is m f = grind (arith, nat_tests)
 
-was_found : (v : Version) (before : List ℕ) (file gate : ℕ) (bytes : List ℕ) (r : Record) → entry_at v before file gate bytes ≡ Ok (Some r) → (rest : List ℕ) × (bytes ≡ open_gate ∷ rest) × (sealed_at v before rest ≡ Some r)
+pub was_found : (v : Version) (before : List ℕ) (file gate : ℕ) (bytes : List ℕ) (r : Record) → entry_at v before file gate bytes ≡ Ok (Some r) → (rest : List ℕ) × (bytes ≡ open_gate ∷ rest) × (sealed_at v before rest ≡ Some r)
 was_found v before file gate [] r is = absurd (cc is)
 was_found v before file gate (mark ∷ bytes) r is = by_mark (mark == open_gate) refl is
   where
@@ -57,7 +57,7 @@ feed_of_gate v n before bytes b = elim b as (λ _. List ℕ) [ false ↦ [] | tr
 one_back : (k : ℕ) (mark : ℕ) (rest : List ℕ) → 1 ≤ k → drop (k - 1) rest ≡ drop k (mark ∷ rest)
 one_back k mark rest some = ap (λ (m : ℕ). drop m (mark ∷ rest)) (let e : suc (k - 1) ≡ k = omega (arith, some) in e)
 
-feed_one : (v : Version) (n file gate : ℕ) (before bytes : List ℕ) (r : Record) → entry_at v before file gate bytes ≡ Ok (Some r)
+pub feed_one : (v : Version) (n file gate : ℕ) (before bytes : List ℕ) (r : Record) → entry_at v before file gate bytes ≡ Ok (Some r)
     → feed_at v (suc n) before bytes ≡ sealed v before (record_text r) ++ feed_at v n (seal v before (record_text r)) (drop (record_size v r) bytes)
 feed_one v n file gate before bytes r is =
     let found = was_found v before file gate bytes r is in
@@ -66,7 +66,7 @@ feed_one v n file gate before bytes r is =
     ∙ ap (λ (l : List ℕ). sealed v before (record_text r) ++ feed_at v n (seal v before (record_text r)) l)
     (one_back (record_size v r) open_gate found.0 (omega arith) ∙ ap (λ (l : List ℕ). drop (record_size v r) l) (sym found.1))
 
-feed_none : (v : Version) (n file gate : ℕ) (before bytes : List ℕ) → entry_at v before file gate bytes ≡ Ok None → feed_at v n before bytes ≡ []
+pub feed_none : (v : Version) (n file gate : ℕ) (before bytes : List ℕ) → entry_at v before file gate bytes ≡ Ok None → feed_at v n before bytes ≡ []
 feed_none v zero file gate before bytes is = refl
 feed_none v (suc n) file gate before [] is = refl
 feed_none v (suc n) file gate before (mark ∷ bytes) is = by_mark (mark == open_gate) is
@@ -86,13 +86,13 @@ some_step v d zero file before s gate bytes x is = absurd (cc is)
 some_step v d (suc n) file before s gate bytes x is = (n, refl)
 
 -- what is found at a gate from which records come to an end
-data AtEntry (v : Version) (d : Directory) (n file : ℕ) (before : List ℕ) (s : State) (gate : ℕ) (bytes : List ℕ) (x : State × ℕ × List ℕ) : Type 0 where
+pub data AtEntry (v : Version) (d : Directory) (n file : ℕ) (before : List ℕ) (s : State) (gate : ℕ) (bytes : List ℕ) (x : State × ℕ × List ℕ) : Type 0 where
   IsEnd : entry_at v before file gate bytes ≡ Ok None → x ≡ (s, gate + 1, before) → AtEntry v d n file before s gate bytes x
   IsRecord : (r : Record) → entry_at v before file gate bytes ≡ Ok (Some r)
       → records_at v d n file (seal v before (record_text r)) (after d s (event_of_record r)) (gate + record_size v r) (drop (record_size v r) bytes) ≡ Ok x
       → AtEntry v d n file before s gate bytes x
 
-at_entry : (v : Version) (d : Directory) (n file : ℕ) (before : List ℕ) (s : State) (gate : ℕ) (bytes : List ℕ) (x : State × ℕ × List ℕ) → records_at v d (suc n) file before s gate bytes ≡ Ok x
+pub at_entry : (v : Version) (d : Directory) (n file : ℕ) (before : List ℕ) (s : State) (gate : ℕ) (bytes : List ℕ) (x : State × ℕ × List ℕ) → records_at v d (suc n) file before s gate bytes ≡ Ok x
     → AtEntry v d n file before s gate bytes x
 at_entry v d n file before s gate bytes x opens = by_entry (entry_at v before file gate bytes) refl
   where
@@ -224,7 +224,7 @@ seals_of_record v n before bytes o = elim o as (λ _. List (List ℕ)) [
   | Some r ↦ seal v before (record_text r) ∷ seals_at v n (seal v before (record_text r)) (drop (record_size v r - 1) bytes)
 ]
 
-seals_one : (v : Version) (n file gate : ℕ) (before bytes : List ℕ) (r : Record) → entry_at v before file gate bytes ≡ Ok (Some r)
+pub seals_one : (v : Version) (n file gate : ℕ) (before bytes : List ℕ) (r : Record) → entry_at v before file gate bytes ≡ Ok (Some r)
     → seals_at v (suc n) before bytes ≡ seal v before (record_text r) ∷ seals_at v n (seal v before (record_text r)) (drop (record_size v r) bytes)
 seals_one v n file gate before bytes r is =
     let found = was_found v before file gate bytes r is in

@@ -32,7 +32,7 @@ use Rattle.gts_standby.proofs.SayLemmas.{says_more, fronts_behind, fronts_more}
 
 -- ---- the header
 
-abbrev fault_by : Version → List ℕ → ℕ → List ℕ → (is_empty is_old begins is_short is_ours : Bool) → Option OpenFault
+abbrev pub fault_by : Version → List ℕ → ℕ → List ℕ → (is_empty is_old begins is_short is_ours : Bool) → Option OpenFault
 fault_by v mark file bytes is_empty is_old begins is_short is_ours =
     cond is_empty (Some opening.NoJournal) (cond is_old (Some opening.OldVersion) (cond (not begins) (Some (Damaged file (agreeing (magic v) bytes))) (cond is_short (Some (Damaged file (length bytes)))
     (cond (not is_ours) (Some (opening.NotThis mark (take 32 (drop 8 bytes)))) None))))
@@ -81,7 +81,7 @@ pub record CheckpointStands (v : Version) (d : Directory) (bytes : List ℕ) (n 
   pub piece : take (gate - 41) (drop 41 bytes) ≡ sealed v (first_seal v d.mark) (checkpoint_text n)
   pub there : gate ≤ length bytes
 
-starts : (bytes text : List ℕ) → starts_with nat_eq bytes text ≡ true → bytes ≡ text ++ drop (length text) bytes
+pub starts : (bytes text : List ℕ) → starts_with nat_eq bytes text ≡ true → bytes ≡ text ++ drop (length text) bytes
 starts bytes text is = sym (take-append-drop (length text) bytes) ∙ ap (λ (f : List ℕ). f ++ drop (length text) bytes) (sym (same_text text (take (length text) bytes) (sym is)))
 
 pub checkpoint_stands : (v : Version) (d : Directory) (bytes : List ℕ) (n : Need) (gate : ℕ) → admits_checkpoint v d (drop 41 bytes) n ≡ true → gate + 1 ≡ compacted_bytes v n → CheckpointStands v d bytes n gate

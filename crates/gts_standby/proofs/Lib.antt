@@ -12,3 +12,5 @@ pub mod PutLemmas
 pub mod TakeLemmas
 pub mod WholeLemmas
 pub mod NamedLemmas
+pub mod FrontLemmas
+pub mod HistoryLemmas

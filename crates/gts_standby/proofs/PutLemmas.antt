@@ -118,7 +118,7 @@ module _ (d : Directory) (j : InHand) (fed bytes left : List ℕ) (size : ℕ) (
   front = ap (take count) read ∙ take-append-le count bytes left (omega (arith, low))
 
   -- where a checkpoint was read
-  begins_so : (n : Need) → IsCheckpoint written d (take count bytes) n → begin_with written d j.seal size fed (need_in fed) ≡ behind_it d fed (seal written j.seal (checkpoint_text n)) (compacted_bytes written n - 1) size n
+  pub begins_so : (n : Need) → IsCheckpoint written d (take count bytes) n → begin_with written d j.seal size fed (need_in fed) ≡ behind_it d fed (seal written j.seal (checkpoint_text n)) (compacted_bytes written n - 1) size n
   begins_so n cp =
       let text : take count fed ≡ checkpoint_text n = front ∙ cp.text in
       let begins : BeginsWith fed (checkpoint_text n) = (drop count fed, sym (take-append-drop count fed) ∙ ap (λ (l : List ℕ). l ++ drop count fed) text) in
@@ -145,7 +145,7 @@ module _ (d : Directory) (j : InHand) (fed bytes left : List ℕ) (size : ℕ) (
       ap (λ (p : Piece). (by_piece 40 p (λ k b. begin_with written d j.seal k fed (need_in fed))).begins) piece ∙ ap (λ (t : Taken). t.begins) (begins_so n cp)
 
   -- where none was
-  checkpoint_there : (n : Need) → need_in fed ≡ n → (admits_checkpoint written d fed n && nat_eq (length (checkpoint_text n) + seal_size written) size) ≡ true → IsCheckpoint written d (take count bytes) n
+  pub checkpoint_there : (n : Need) → need_in fed ≡ n → (admits_checkpoint written d fed n && nat_eq (length (checkpoint_text n) + seal_size written) size) ≡ true → IsCheckpoint written d (take count bytes) n
   checkpoint_there n is e =
       let text : List ℕ = checkpoint_text n in
       let sealing : Bool = is_sealed written (first_seal written d.mark) text fed in

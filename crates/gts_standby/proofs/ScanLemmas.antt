@@ -17,12 +17,12 @@ use Rattle.gts_standby.proofs.HeaderLemmas.{no_more}
 
 -- ---- bytes of a front
 
-drop_front : (k : ℕ) (xs ys : List ℕ) → k ≤ length xs → drop k (xs ++ ys) ≡ drop k xs ++ ys
+pub drop_front : (k : ℕ) (xs ys : List ℕ) → k ≤ length xs → drop k (xs ++ ys) ≡ drop k xs ++ ys
 drop_front zero xs ys low = refl
 drop_front (suc k) [] ys low = absurd (omega (arith, low))
 drop_front (suc k) (x ∷ xs) ys low = drop_front k xs ys (omega (arith, low))
 
-take_front : (k : ℕ) (xs ys : List ℕ) → k ≤ length xs → take k (xs ++ ys) ≡ take k xs
+pub take_front : (k : ℕ) (xs ys : List ℕ) → k ≤ length xs → take k (xs ++ ys) ≡ take k xs
 take_front zero xs ys low = refl
 take_front (suc k) [] ys low = absurd (omega (arith, low))
 take_front (suc k) (x ∷ xs) ys low = ap (λ (l : List ℕ). x ∷ l) (take_front k xs ys (omega (arith, low)))

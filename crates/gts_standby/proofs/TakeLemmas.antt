@@ -267,7 +267,7 @@ module _ (v : Version) (d : Directory) (file : ℕ) (before : List ℕ) (gate : 
   at_its_end : here ≡ (state, gate + 1, before)
   at_its_end = by_steps n reads
 
-sound_header : (v : Version) (d : Directory) (file : ℕ) (bytes : List ℕ) (x : State × ℕ × List ℕ) → file_opens v d file bytes ≡ Ok x → header_fault v d.mark file bytes ≡ None
+pub sound_header : (v : Version) (d : Directory) (file : ℕ) (bytes : List ℕ) (x : State × ℕ × List ℕ) → file_opens v d file bytes ≡ Ok x → header_fault v d.mark file bytes ≡ None
 sound_header v d file bytes x opened = by_fault (header_fault v d.mark file bytes) refl
   where
     by_fault : (o : Option OpenFault) → header_fault v d.mark file bytes ≡ o → header_fault v d.mark file bytes ≡ None

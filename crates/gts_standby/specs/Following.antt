@@ -1,14 +1,15 @@
 -- What is said of a feed that is taken into a journal.
 use Rattle.std.specs.Prelude.{◌≡◌, ◌⊎◌, ℕ, ◌-◌, List, [], ◌∷◌, ◌++◌, Option, Some, None, Result, Ok, Err}
-use Rattle.gts_traits.specs.{Call, Did, Syncs, Files, Outside, EachSince}
+use Rattle.gts_traits.specs.{Call, Did, Syncs, Files, Outside, seen, EachSince}
 use Rattle.gts_directory.specs.Directory.{Directory}
 use Rattle.gts_event.specs.State.{State}
-use Rattle.gts_event.specs.Need.{Need, begun}
+use Rattle.gts_event.specs.History.{restarted}
+use Rattle.gts_event.specs.Need.{Need, need, begun}
 use Rattle.gts_record.specs.declared.fault.OpenFault.{OpenFault}
 use Rattle.gts_record.specs.declared.fault.OpenFault.TheVariants as opening
 use Rattle.gts_record.specs.Record.{Record}
 use Rattle.gts_record.specs.Format.{held, first_seal, written}
-use Rattle.gts_opening.specs.Journal.{after_records, files_read}
+use Rattle.gts_opening.specs.Journal.{after_records, opens, files_read}
 use Rattle.gts_journal.specs.{OnlySyncs, OpensTo, selected_bytes, is_checkpoint}
 use Rattle.gts_standby.specs.declared.end.FollowEnd.{FollowEnd}
 use Rattle.gts_standby.specs.declared.end.FollowEnd.TheVariants.{Done, Open, Feed, Diverged, SourceFault, DiskFault, NoMemory}
@@ -75,3 +76,15 @@ pub data OpensWithin (d : Directory) (s : State) (taken : Taken) (files : Files)
 -- From the sync of the opening on each moment leaves so much; or no more than that sync was tried.
 abbrev pub EachOpens : Directory → State → Taken → List Call → List Call → Type 0
 EachOpens d s taken old new = OnlySyncs old new ⊎ EachSince (Did Syncs ∷ old) new (OpensWithin d s taken)
+
+-- Where the files open, and a feed comes to something beside them: at each end of the feed they open to all that it adds.
+abbrev pub HasAll : FollowEnd → Directory → List Call → List Call → List ℕ → Type 0
+HasAll answer d old new fed =
+    (s : State) (used : ℕ) (last : List ℕ) (taken : Taken) → files_read written d (seen old) ≡ Ok (s, used, last)
+    → comes_to d (seen old) fed ≡ Ok taken → IsEnd answer → opens d (seen new) ≡ Ok (need d (restarted (state_after d s taken)))
+
+-- so each crash leaves files that open to a first part of it
+abbrev pub LeavesFronts : Directory → List Call → List Call → List ℕ → Type 0
+LeavesFronts d old new fed =
+    (s : State) (used : ℕ) (last : List ℕ) (taken : Taken) → files_read written d (seen old) ≡ Ok (s, used, last)
+    → comes_to d (seen old) fed ≡ Ok taken → EachOpens d s taken old new

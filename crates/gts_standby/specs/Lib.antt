@@ -8,8 +8,10 @@ pub mod Adding
 pub mod Comparing
 pub mod Beginning
 pub mod Whole
+pub mod Fronts
 pub use Rattle.gts_standby.specs.Feed.{feed}
 pub use Rattle.gts_standby.specs.Shipping.{IsShipFault, IsNamed, ShipsOnly, feed_of}
 pub use Rattle.gts_standby.specs.Taking.{End, Taken, taken}
 pub use Rattle.gts_standby.specs.Whole.{IsNamedEnd}
-pub use Rattle.gts_standby.specs.Following.{comes_to, own_seals, EndsAs, Answers, IsEnd, state_after, OpensWithin, EachOpens}
+pub use Rattle.gts_standby.specs.Following.{comes_to, own_seals, EndsAs, Answers, IsEnd, state_after, OpensWithin, EachOpens, HasAll, LeavesFronts}
+pub use Rattle.gts_standby.specs.Fronts.{AddsFront, LeadsTo}

@@ -39,10 +39,6 @@ IsLookedEnd (Feed at) = Unit {0}
 IsLookedEnd NoMemory = Unit {0}
 IsLookedEnd end = ⊥
 
--- what may be answered where a feed is compared with a journal
-abbrev pub IsCompareEnd : FollowEnd → Type 0
-IsCompareEnd end = Unit {0}
-
 -- at its end the source has nothing left
 abbrev pub ReadsAll : FollowEnd → List ℕ → Type 0
 ReadsAll Done left = left ≡ []

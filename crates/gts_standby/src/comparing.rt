@@ -9,7 +9,7 @@ ghost use Rattle.gts_journal.specs.{StandsOn, StandsFor, InHand, OnlySyncs, file
 ghost use Rattle.gts_standby.specs.Shipping.{IsAtFirst};
 ghost use Rattle.gts_standby.specs.Taking.{first_piece, compare_all, compare_first as feed_compared};
 ghost use Rattle.gts_standby.specs.Following.{own_seals};
-ghost use Rattle.gts_standby.specs.Reading.{HasRead, FindsPiece, IsFedEnd, IsCompareEnd};
+ghost use Rattle.gts_standby.specs.Reading.{HasRead, FindsPiece, IsFedEnd};
 ghost use Rattle.gts_standby.specs.Comparing.{IsAtSeals, OwnGoesOn, IsOwnEnd, ComparesFirst, ComparesOne, Compares, seals_here};
 ghost use Rattle.gts_standby.specs.Whole.{IsNamedEnd, IsWhole, StaysWhole};
 
@@ -151,7 +151,6 @@ fn compare_first<P: Station, S: Source>(
     ensures stands { P.tells → OnOk result (StandsOn (P.calls station.new) own.new) }
     ensures rises { OnOk result (own.old.gate < own.new.gate) }
     ensures version { OnOk result (own.new.version ≡ own.old.version) }
-    ensures kind { IfErr result IsCompareEnd }
     ensures told { P.tells → P.calls station.new ≡ P.calls station.old }
     ensures disk_fault { IsErrOf result FollowEnd.DiskFault
         → Rose (P.disk_faults station.old) (P.disk_faults station.new) }
@@ -210,7 +209,6 @@ fn compare_next<P: Station, S: Source>(
     ensures stands { P.tells → OnOk result (StandsOn (P.calls station.new) own.new) }
     ensures rises { OnOk result (own.old.gate < own.new.gate) }
     ensures version { OnOk result (own.new.version ≡ own.old.version) }
-    ensures kind { IfErr result IsCompareEnd }
     ensures told { P.tells → P.calls station.new ≡ P.calls station.old }
     ensures disk_fault { IsErrOf result FollowEnd.DiskFault
         → Rose (P.disk_faults station.old) (P.disk_faults station.new) }
@@ -267,7 +265,6 @@ fn compare_rest<P: Station, S: Source>(
         own.old.version behind left own.old.seal 1 at fed) ahead.new (S.left source.new) }
     ensures told { P.tells → P.calls station.new ≡ P.calls station.old }
     ensures place { IfOk result (λ at. at ≤ 2 ^ 62) }
-    ensures kind { IfErr result IsCompareEnd }
     ensures disk_fault { IsErrOf result FollowEnd.DiskFault
         → Rose (P.disk_faults station.old) (P.disk_faults station.new) }
     ensures later { P.disk_faults station.old ≤ P.disk_faults station.new }
@@ -311,7 +308,6 @@ pub(crate) fn compare<P: Station, S: Source>(
         ahead.new (S.left source.new) }
     ensures told { P.tells → OnlySyncs (P.calls station.old) (P.calls station.new) }
     ensures place { IfOk result (λ at. at ≤ 2 ^ 62) }
-    ensures kind { IfErr result IsCompareEnd }
     ensures disk_fault { IsErrOf result FollowEnd.DiskFault
         → Rose (P.disk_faults station.old) (P.disk_faults station.new) }
     ensures later { P.disk_faults station.old ≤ P.disk_faults station.new }

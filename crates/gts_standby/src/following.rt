@@ -1,15 +1,11 @@
-ghost use Rattle.std.specs.Prelude.{◌≡◌, ◌≤◌, ℕ, List, [], Ok};
+ghost use Rattle.std.specs.Prelude.{◌≡◌, ◌≤◌, ℕ, List, []};
 ghost use Rattle.gts_traits.specs.{Rose, seen, said_by};
-ghost use Rattle.gts_opening.specs.Journal.{opens, files_read};
 ghost use Rattle.gts_event.specs.State.{State};
-ghost use Rattle.gts_event.specs.History.{restarted};
-ghost use Rattle.gts_event.specs.Need.{need};
 ghost use Rattle.gts_record.specs.Format.{written, first_seal};
 ghost use Rattle.gts_journal.specs.{file_of};
 ghost use Rattle.gts_recovery.specs.{IsOpened};
 ghost use Rattle.gts_standby.specs.Taking as feeds;
-ghost use Rattle.gts_standby.specs.Taking.{Taken};
-ghost use Rattle.gts_standby.specs.Following.{comes_to, own_seals, Answers, IsEnd, state_after, EachOpens};
+ghost use Rattle.gts_standby.specs.Following.{comes_to, own_seals, Answers, HasAll, LeavesFronts};
 ghost use Rattle.gts_standby.specs.Reading.{HasRead, ReadsAll};
 ghost use Rattle.gts_standby.specs.Adding.{HoldsAt, IsAddEnd};
 ghost use Rattle.gts_standby.specs.Whole.{HasTaken, IsNamedEnd, IsWhole};
@@ -130,15 +126,10 @@ fn take_feed<P: Station, S: Source>(
 ) -> FollowEnd
     ensures answer { P.tells → S.tells → Answers result
         (comes_to directory.now (seen (P.calls station.old)) (S.left source.old)) }
-    ensures added { P.tells → S.tells → (s : State) (used : ℕ) (last : List ℕ) (taken : Taken)
-        → files_read written directory.now (seen (P.calls station.old)) ≡ Ok (s, used, last)
-        → comes_to directory.now (seen (P.calls station.old)) (S.left source.old) ≡ Ok taken
-        → IsEnd result → opens directory.now (seen (P.calls station.new))
-        ≡ Ok (need directory.now (restarted (state_after directory.now s taken))) }
-    ensures moments { P.tells → S.tells → (s : State) (used : ℕ) (last : List ℕ) (taken : Taken)
-        → files_read written directory.now (seen (P.calls station.old)) ≡ Ok (s, used, last)
-        → comes_to directory.now (seen (P.calls station.old)) (S.left source.old) ≡ Ok taken
-        → EachOpens directory.now s taken (P.calls station.old) (P.calls station.new) }
+    ensures added { P.tells → S.tells → HasAll result directory.now (P.calls station.old)
+        (P.calls station.new) (S.left source.old) }
+    ensures moments { P.tells → S.tells → LeavesFronts directory.now (P.calls station.old)
+        (P.calls station.new) (S.left source.old) }
     ensures done { S.tells → result ≡ FollowEnd.Done → S.left source.new ≡ [] }
     ensures silent { P.tells → said_by (P.calls station.new) ≡ said_by (P.calls station.old) }
     ensures source_fault { result ≡ FollowEnd.SourceFault
@@ -176,17 +167,12 @@ pub fn follow<P: Station, S: Source>(
         (comes_to directory.now (seen (P.calls station)) (S.left source.old)) }
 
     // At each end of the feed the journal has all that the feed adds.
-    ensures added { P.tells → S.tells → (s : State) (used : ℕ) (last : List ℕ) (taken : Taken)
-        → files_read written directory.now (seen (P.calls station)) ≡ Ok (s, used, last)
-        → comes_to directory.now (seen (P.calls station)) (S.left source.old) ≡ Ok taken
-        → IsEnd result.1 → opens directory.now (seen (P.calls result.0))
-        ≡ Ok (need directory.now (restarted (state_after directory.now s taken))) }
+    ensures added { P.tells → S.tells → HasAll result.1 directory.now (P.calls station)
+        (P.calls result.0) (S.left source.old) }
 
     // A crash at any moment since the sync of the opening leaves a journal that has what it had, and a first part of that.
-    ensures moments { P.tells → S.tells → (s : State) (used : ℕ) (last : List ℕ) (taken : Taken)
-        → files_read written directory.now (seen (P.calls station)) ≡ Ok (s, used, last)
-        → comes_to directory.now (seen (P.calls station)) (S.left source.old) ≡ Ok taken
-        → EachOpens directory.now s taken (P.calls station) (P.calls result.0) }
+    ensures moments { P.tells → S.tells → LeavesFronts directory.now (P.calls station)
+        (P.calls result.0) (S.left source.old) }
 
     // The feed was read to its end.
     ensures done { S.tells → result.1 ≡ FollowEnd.Done → S.left source.new ≡ [] }

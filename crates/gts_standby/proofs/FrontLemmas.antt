@@ -1,0 +1,453 @@
+-- What a front of a feed adds is a front of what the feed adds.
+use Rattle.std.proofs.Common.{◌≡◌, ◌⊎◌, inl, inr, ℕ, zero, suc, ◌+◌, ◌-◌, ◌*◌, ◌^◌, ◌<◌, ◌≤◌, Bool, true, false, cond, ◌&&◌, List, [], ◌∷◌, ◌++◌, length, take, drop, replicate, Option, Some, None, Result, Ok, Err, nat_eq, nat_le, nat_lt, refl, sym, ap, subst, ◌∙◌, arith, length-append}
+use Rattle.std.specs.Prelude.{codes, ◌==◌}
+use Rattle.std.specs.List.{starts_with}
+use Rattle.std.specs.Cmp.Lexicographic.{pointwise}
+use Rattle.std.proofs.lemmas.Bool.Decides.{nat_tests}
+use Rattle.std.proofs.lemmas.List.{append-nil, length-drop}
+use Rattle.gts_traits.specs.{Files}
+use Rattle.gts_directory.specs.Directory.{Directory}
+use Rattle.gts_event.specs.State.{State, empty}
+use Rattle.gts_event.specs.History.{after}
+use Rattle.gts_event.specs.Need.{Need, begun}
+use Rattle.gts_record.specs.declared.version.Version.{Version}
+use Rattle.gts_record.specs.declared.fault.OpenFault.{OpenFault}
+use Rattle.gts_record.specs.Record.{Record, record_text}
+use Rattle.gts_record.specs.Format.{magic, seal, seal_size, is_sealed, sealed_at, first_seal, record_size, written}
+use Rattle.gts_opening.specs.Journal.{Read, agreeing, admits, event_of_record, record_behind, checkpoint_text, compacted_bytes, need_in, admits_checkpoint, selected, files_read, file_opens, records_at}
+use Rattle.gts_journal.specs.{InHand, entry_at, is_checkpoint, selected_bytes}
+use Rattle.gts_journal.proofs.LawLemmas.{opens_behind, reads_end_there, reads_fault}
+use Rattle.gts_standby.specs.Ahead.{InFeed}
+use Rattle.gts_standby.specs.Taking.{Taken, Ends, Breaks, Parts, stopped, adding, Piece, Cut, Broken, Sealed, may_be_cut, record_piece, Reached, Short, Bad, Behind, or_else, number_at, reach, reach_found, least_bulletin, bulletin_size, behind_bulletin, circuit_size, behind_circuit, and_then, behind_all, least_front, behind_counted, behind_lists, behind_checkpoint, checkpoint_piece, is_checkpoint_fed, first_piece, seals_at, checkpoint_seals, seals_behind, by_piece, compared, compare_all, compare_first, add_all, begin_with, take_records, by_header, taken}
+use Rattle.gts_standby.specs.Following.{own_seals, comes_to}
+use Rattle.gts_standby.specs.Fronts.{AddsFront, AddsNothing, AddsPart}
+use Rattle.gts_standby.proofs.HeaderLemmas.{all_agree, agreeing-low}
+use Rattle.gts_standby.proofs.FedLemmas.{sealed_more, found_fits_there, piece_by}
+use Rattle.gts_standby.proofs.ScanLemmas.{drop_front, or_else_read, reach_on, sealed_piece}
+use Rattle.gts_standby.proofs.AddLemmas.{added_by, not_empty, some_text, no_begin}
+use Rattle.gts_standby.proofs.PutLemmas.{behind_it, begins_so, checkpoint_there}
+use Rattle.gts_standby.proofs.FeedLemmas.{seals_one}
+use Rattle.gts_standby.proofs.BeginLemmas.{magic_size}
+use Rattle.gts_standby.proofs.TakeLemmas.{sound_header}
+
+-- ---- records that are added
+
+abbrev pub behind_by : Directory → State → ℕ → Option Record → Option Record
+behind_by d s gate o = elim o as (λ _. Option Record) [ None ↦ None | Some r ↦ cond (admits written d s (gate + 1) r) (Some r) None ]
+
+-- a record that may stand next by a front may by the whole
+record_more : (d : Directory) (before : List ℕ) (s : State) (gate : ℕ) (p more : List ℕ) (r : Record) → record_behind written d before s gate p ≡ Some r
+    → (record_behind written d before s gate (p ++ more) ≡ Some r) × (record_size written r - 1 ≤ length p)
+record_more d before s gate p more r is = by_sealed (sealed_at written before p) refl is
+  where
+    fits : (q : Record) → sealed_at written before p ≡ Some q → record_size written q - 1 ≤ length p
+    fits q found = found_fits_there written before p q (record_size written q - 1) found (let e : record_size written q - 1 ≡ length (record_text q) + seal_size written = omega arith in e)
+
+    by_admission : (q : Record) (b : Bool) → sealed_at written before p ≡ Some q → admits written d s (gate + 1) q ≡ b → cond b (Some q) None ≡ Some r
+        → (record_behind written d before s gate (p ++ more) ≡ Some r) × (record_size written r - 1 ≤ length p)
+    by_admission q false found ok is = absurd (cc is)
+    by_admission q true found ok is =
+        let same : q ≡ r = cc is in (
+          ap (behind_by d s gate) (sealed_more written before p more q found) ∙ ap (λ (b : Bool). cond b (Some q) None) ok ∙ is,
+          subst (λ (x : Record). record_size written x - 1 ≤ length p) same (fits q found),
+        )
+
+    by_sealed : (o : Option Record) → sealed_at written before p ≡ o → behind_by d s gate o ≡ Some r
+        → (record_behind written d before s gate (p ++ more) ≡ Some r) × (record_size written r - 1 ≤ length p)
+    by_sealed None found is = absurd (let e : None ≡ Some r = is in cc e)
+    by_sealed (Some q) found is = by_admission q (admits written d s (gate + 1) q) found refl is
+
+-- the records that a front adds are a first part of those of the whole
+add_front : (d : Directory) (n m : ℕ) (before : List ℕ) (s : State) (gate at : ℕ) (p more : List ℕ) → length p + length more ≤ m
+    → (rest : List Record) × ((add_all written d m before s gate at (p ++ more)).records ≡ (add_all written d n before s gate at p).records ++ rest)
+add_front d zero m before s gate at p more long = ((add_all written d m before s gate at (p ++ more)).records, refl)
+add_front d (suc n) m before s gate at p more long =
+    by_record (record_behind written d before s gate p) refl
+    (λ r left.
+    add_front d n (m - 1) (seal written before (record_text r)) (after d s (event_of_record r)) (gate + record_size written r) (at + (record_size written r - 1)) (drop (record_size written r - 1) p) more left)
+  where
+    by_cut : (b : Bool) → (cond b (stopped Ends) (stopped (Breaks at))).records ≡ []
+    by_cut true = refl
+    by_cut false = refl
+
+    on_with : ℕ → Record → List ℕ → Taken
+    on_with k r l = add_all written d k (seal written before (record_text r)) (after d s (event_of_record r)) (gate + record_size written r) (at + (record_size written r - 1)) l
+
+    by_record : (o : Option Record) → record_behind written d before s gate p ≡ o
+        → ((r : Record) → length (drop (record_size written r - 1) p) + length more ≤ m - 1
+        → (rest : List Record) × ((on_with (m - 1) r (drop (record_size written r - 1) p ++ more)).records ≡ (on_with n r (drop (record_size written r - 1) p)).records ++ rest))
+        → (rest : List Record) × ((add_all written d m before s gate at (p ++ more)).records ≡ (added_by d n before s gate at p o).records ++ rest)
+    by_record None is so =
+        let all : List Record = (add_all written d m before s gate at (p ++ more)).records in
+        (all, ap (λ (l : List Record). l ++ all) (sym (by_cut (may_be_cut written p))))
+    by_record (Some r) is so =
+        let found = record_more d before s gate p more r is in
+        let size : ℕ = record_size written r - 1 in
+        let some = not_empty d before s gate p r is in
+        let left : length (drop size p) + length more ≤ m - 1 = omega (arith, long, some, found.1, some_text r, length-drop size p) in
+        let on = so r left in
+        let one : add_all written d m before s gate at (p ++ more) ≡ adding r (on_with (m - 1) r (drop size (p ++ more))) =
+        ap (λ (k : ℕ). add_all written d k before s gate at (p ++ more)) (let e : m ≡ suc (m - 1) = omega (arith, long, some) in e)
+        ∙ ap (added_by d (m - 1) before s gate at (p ++ more)) found.0 in
+        (
+          on.0,
+          ap (λ (t : Taken). t.records) one
+          ∙ ap (λ (l : List ℕ). r ∷ (on_with (m - 1) r l).records) (drop_front size p more found.1)
+          ∙ ap (λ (l : List Record). r ∷ l) on.1,
+        )
+
+add_adds : (d : Directory) (n m : ℕ) (before : List ℕ) (s : State) (gate at : ℕ) (p more : List ℕ) → length p + length more ≤ m
+    → AddsFront (add_all written d n before s gate at p) (add_all written d m before s gate at (p ++ more))
+add_adds d n m before s gate at p more long =
+    let front = add_front d n m before s gate at p more long in
+    AddsPart front.0 (no_begin d n before s gate at p ∙ sym (no_begin d m before s gate at (p ++ more))) front.1
+
+-- ---- pieces
+
+-- a record that stands at the front of a front stands at that of the whole
+piece_more : (v : Version) (before p more : List ℕ) (size : ℕ) (last : List ℕ) → record_piece v before p ≡ Sealed size last → (record_piece v before (p ++ more) ≡ Sealed size last) × (size ≤ length p)
+piece_more v before p more size last is = by_sealed (sealed_at v before p) refl is
+  where
+    by_cut : (b : Bool) → cond b Cut Broken ≡ Sealed size last → ⊥
+    by_cut true e = absurd (cc e)
+    by_cut false e = absurd (cc e)
+
+    by_sealed : (o : Option Record) → sealed_at v before p ≡ o → piece_by v before p o ≡ Sealed size last → (record_piece v before (p ++ more) ≡ Sealed size last) × (size ≤ length p)
+    by_sealed None found is = absurd (by_cut (may_be_cut v p) is)
+    by_sealed (Some r) found is =
+        let at : record_size v r - 1 ≡ size = cc is in (
+          ap (piece_by v before (p ++ more)) (sealed_more v before p more r found) ∙ is,
+          found_fits_there v before p r size found (let e : size ≡ length (record_text r) + seal_size v = omega (arith, at) in e),
+        )
+
+-- the bytes at a place are those of the whole
+head_more : (text p more : List ℕ) (at : ℕ) → at + length text ≤ length p → or_else text p at ≡ or_else text (p ++ more) at
+head_more text p more at long =
+    let front : InFeed = record { bytes = p; is_all = false } in
+    or_else_read text (p ++ more) more front at (record { is = refl; all = λ e. absurd (cc e) }) (inr long)
+
+not_few : (m n : ℕ) → nat_lt m n ≡ false → n ≤ m
+not_few m n few = grind (arith, nat_tests)
+
+-- a place that is reached in a front is reached in the whole
+reach_more : (limit : ℕ) (p more : List ℕ) (at size k : ℕ) → reach limit p at size ≡ Behind k → (reach limit (p ++ more) at size ≡ Behind k) × (at + size ≤ length p)
+reach_more limit p more at size k is = by_far (nat_lt limit (at + size)) refl is
+  where
+    by_short : (b : Bool) → nat_lt limit (at + size) ≡ false → nat_lt (length p) (at + size) ≡ b → cond b Short (Behind (at + size)) ≡ Behind k
+        → (reach limit (p ++ more) at size ≡ Behind k) × (at + size ≤ length p)
+    by_short true far few e = absurd (cc e)
+    by_short false far few e =
+        let there : at + size ≤ length p = not_few (length p) (at + size) few in
+        (reach_on limit (p ++ more) at size (not_few limit (at + size) far) (omega (arith, there, length-append p more)) ∙ e, there)
+
+    by_far : (b : Bool) → nat_lt limit (at + size) ≡ b → cond b Bad (cond (nat_lt (length p) (at + size)) Short (Behind (at + size))) ≡ Behind k
+        → (reach limit (p ++ more) at size ≡ Behind k) × (at + size ≤ length p)
+    by_far true far e = absurd (cc e)
+    by_far false far e = by_short (nat_lt (length p) (at + size)) far refl e
+
+bulletin_more : (limit : ℕ) (p more : List ℕ) (at k : ℕ) → behind_bulletin limit p at ≡ Behind k → behind_bulletin limit (p ++ more) at ≡ Behind k
+bulletin_more limit p more at k is = by_size (bulletin_size (or_else least_bulletin p at)) refl is
+  where
+    by_test : (b : Bool) (head : List ℕ) (size : ℕ) → cond b (Some (16 + number_at head 12)) None ≡ Some size → 16 ≤ size
+    by_test true head size e = let whole : 16 + number_at head 12 ≡ size = cc e in omega (arith, whole)
+    by_test false head size e = absurd (cc e)
+
+    by_size : (o : Option ℕ) → bulletin_size (or_else least_bulletin p at) ≡ o → reach_found limit p at o ≡ Behind k → behind_bulletin limit (p ++ more) at ≡ Behind k
+    by_size None e is = absurd (cc is)
+    by_size (Some size) e is =
+        let on = reach_more limit p more at size k is in
+        let same = head_more least_bulletin p more at (omega (arith, on.1, by_test _ (or_else least_bulletin p at) size e)) in
+        ap (λ (h : List ℕ). reach_found limit (p ++ more) at (bulletin_size h)) (sym same) ∙ ap (reach_found limit (p ++ more) at) e ∙ on.0
+
+circuit_more : (limit : ℕ) (p more : List ℕ) (at k : ℕ) → behind_circuit limit p at ≡ Behind k → behind_circuit limit (p ++ more) at ≡ Behind k
+circuit_more limit p more at k is =
+    let size : ℕ = circuit_size (or_else (replicate 16 0) p at) in
+    let on = reach_more limit p more at size k is in
+    let same = head_more (replicate 16 0) p more at (omega (arith, on.1)) in
+    ap (λ (h : List ℕ). reach limit (p ++ more) at (circuit_size h)) (sym same) ∙ on.0
+
+then_more : (one other : Reached) (next further : ℕ → Reached) (k : ℕ) → ((j : ℕ) → one ≡ Behind j → (other ≡ Behind j) × (next j ≡ Behind k → further j ≡ Behind k))
+    → and_then one next ≡ Behind k → and_then other further ≡ Behind k
+then_more Short other next further k so is = absurd (cc is)
+then_more Bad other next further k so is = absurd (cc is)
+then_more (Behind j) other next further k so is = let on = so j refl in ap (λ (r : Reached). and_then r further) on.0 ∙ on.1 is
+
+all_more : (one other : ℕ → Reached) → ((at k : ℕ) → one at ≡ Behind k → other at ≡ Behind k) → (count at k : ℕ) → behind_all one count at ≡ Behind k → behind_all other count at ≡ Behind k
+all_more one other so zero at k is = is
+all_more one other so (suc n) at k is =
+    then_more (one at) (other at) (behind_all one n) (behind_all other n) k (λ j e. (so at j e, all_more one other so n j k)) is
+
+counted_more : (limit : ℕ) (p more : List ℕ) (bulletins circuits k : ℕ) → behind_counted limit p bulletins circuits ≡ Behind k → behind_counted limit (p ++ more) bulletins circuits ≡ Behind k
+counted_more limit p more bulletins circuits k is =
+    then_more (reach limit p 0 20) (reach limit (p ++ more) 0 20)
+    (λ at. and_then (behind_all (behind_bulletin limit p) bulletins at) (λ behind. behind_all (behind_circuit limit p) circuits behind))
+    (λ at. and_then (behind_all (behind_bulletin limit (p ++ more)) bulletins at) (λ behind. behind_all (behind_circuit limit (p ++ more)) circuits behind)) k
+    (λ j e. (
+      (reach_more limit p more 0 20 j e).0,
+      then_more (behind_all (behind_bulletin limit p) bulletins j) (behind_all (behind_bulletin limit (p ++ more)) bulletins j)
+          (λ behind. behind_all (behind_circuit limit p) circuits behind) (λ behind. behind_all (behind_circuit limit (p ++ more)) circuits behind) k
+          (λ i f. (
+            all_more (behind_bulletin limit p) (behind_bulletin limit (p ++ more)) (bulletin_more limit p more) bulletins j i f,
+            all_more (behind_circuit limit p) (behind_circuit limit (p ++ more)) (circuit_more limit p more) circuits i k,
+          )),
+    )) is
+
+front_there : (limit : ℕ) (p : List ℕ) (bulletins circuits k : ℕ) → behind_counted limit p bulletins circuits ≡ Behind k → 20 ≤ length p
+front_there limit p bulletins circuits k is = by_front (reach limit p 0 20) refl is
+  where
+    rest : ℕ → Reached
+    rest at = and_then (behind_all (behind_bulletin limit p) bulletins at) (λ behind. behind_all (behind_circuit limit p) circuits behind)
+
+    by_front : (r : Reached) → reach limit p 0 20 ≡ r → and_then r rest ≡ Behind k → 20 ≤ length p
+    by_front Short e is = absurd (cc is)
+    by_front Bad e is = absurd (cc is)
+    by_front (Behind j) e is = let on = reach_more limit p [] 0 20 j e in omega (arith, on.1)
+
+reached_more : (limit : ℕ) (p more : List ℕ) (k : ℕ) → behind_checkpoint limit p ≡ Behind k → behind_checkpoint limit (p ++ more) ≡ Behind k
+reached_more limit p more k is = by_letter (starts_with nat_eq (or_else least_front p 0) (codes "C" ++ replicate 3 0)) refl is
+  where
+    by_letter : (b : Bool) → starts_with nat_eq (or_else least_front p 0) (codes "C" ++ replicate 3 0) ≡ b
+        → cond b (behind_counted limit p (number_at (or_else least_front p 0) 16) (number_at (or_else least_front p 0) 4)) Bad ≡ Behind k → behind_checkpoint limit (p ++ more) ≡ Behind k
+    by_letter false e is = absurd (cc is)
+    by_letter true e is =
+        let front : List ℕ = or_else least_front p 0 in
+        let low = front_there limit p (number_at front 16) (number_at front 4) k is in
+        let same = head_more least_front p more 0 (omega (arith, low)) in
+        ap (behind_lists limit (p ++ more)) (sym same)
+        ∙ ap (λ (b : Bool). cond b (behind_counted limit (p ++ more) (number_at front 16) (number_at front 4)) Bad) e
+        ∙ counted_more limit p more (number_at front 16) (number_at front 4) k is
+
+abbrev checkpoint_by : Version → List ℕ → List ℕ → Reached → Piece
+checkpoint_by v before bytes reached = elim reached as (λ _. Piece) [
+  | Short ↦ Cut
+  | Bad ↦ Broken
+  | Behind size ↦
+      cond (nat_lt (length bytes) (size + seal_size v)) Cut
+      (cond (is_sealed v before (take size bytes) bytes) (Sealed (size + seal_size v) (seal v before (take size bytes))) Broken)
+]
+
+-- so a checkpoint does
+checkpoint_more : (v : Version) (limit : ℕ) (before p more : List ℕ) (size : ℕ) (last : List ℕ) → checkpoint_piece v limit before p ≡ Sealed size last
+    → (checkpoint_piece v limit before (p ++ more) ≡ Sealed size last) × (size ≤ length p)
+checkpoint_more v limit before p more size last is = by_reached (behind_checkpoint limit p) refl is
+  where
+    by_seal : (k : ℕ) (b : Bool) → cond b (Sealed (k + seal_size v) (seal v before (take k p))) Broken ≡ Sealed size last → k + seal_size v ≡ size
+    by_seal k true e = cc e
+    by_seal k false e = absurd (cc e)
+
+    by_few : (k : ℕ) (cut : Bool) → behind_checkpoint limit p ≡ Behind k → nat_lt (length p) (k + seal_size v) ≡ cut
+        → cond cut Cut (cond (is_sealed v before (take k p) p) (Sealed (k + seal_size v) (seal v before (take k p))) Broken) ≡ Sealed size last
+        → (checkpoint_piece v limit before (p ++ more) ≡ Sealed size last) × (size ≤ length p)
+    by_few k true reached few e = absurd (cc e)
+    by_few k false reached few e =
+        let low : k + seal_size v ≤ length p = not_few (length p) (k + seal_size v) few in
+        let front : InFeed = record { bytes = p; is_all = false } in
+        let all : InFeed = record { bytes = p; is_all = true } in
+        let b : Bool = starts_with nat_eq (drop k p) (seal v before (take k p)) in
+        let there = sealed_piece v limit k before (p ++ more) more front b (reached_more limit p more k reached) (record { is = refl; all = λ e. absurd (cc e) }) low refl in
+        let here = sealed_piece v limit k before p [] all b reached (record { is = sym (append-nil p); all = λ _. refl }) low refl in
+        (there ∙ sym here ∙ is, omega (arith, low, by_seal k b (sym here ∙ is)))
+
+    by_reached : (r : Reached) → behind_checkpoint limit p ≡ r → checkpoint_by v before p r ≡ Sealed size last → (checkpoint_piece v limit before (p ++ more) ≡ Sealed size last) × (size ≤ length p)
+    by_reached Short reached e = absurd (cc e)
+    by_reached Bad reached e = absurd (cc e)
+    by_reached (Behind k) reached e = by_few k (nat_lt (length p) (k + seal_size v)) reached refl e
+
+abbrev first_by : Version → ℕ → List ℕ → List ℕ → Bool → Piece
+first_by v limit before bytes b = cond b (checkpoint_piece v limit before bytes) (record_piece v before bytes)
+
+first_more : (v : Version) (limit : ℕ) (before p more : List ℕ) (size : ℕ) (last : List ℕ) → first_piece v limit before p ≡ Sealed size last
+    → (first_piece v limit before (p ++ more) ≡ Sealed size last) × (size ≤ length p)
+first_more v limit before [] more size last is = absurd (let e : Cut ≡ Sealed size last = is in cc e)
+first_more v limit before (x ∷ p) more size last is = by_letter (is_checkpoint_fed (x ∷ p)) refl is
+  where
+    by_letter : (b : Bool) → is_checkpoint_fed (x ∷ p) ≡ b → first_by v limit before (x ∷ p) b ≡ Sealed size last
+        → (first_piece v limit before ((x ∷ p) ++ more) ≡ Sealed size last) × (size ≤ length (x ∷ p))
+    by_letter false letter e = let on = piece_more v before (x ∷ p) more size last e in (ap (first_by v limit before ((x ∷ p) ++ more)) letter ∙ on.0, on.1)
+    by_letter true letter e = let on = checkpoint_more v limit before (x ∷ p) more size last e in (ap (first_by v limit before ((x ∷ p) ++ more)) letter ∙ on.0, on.1)
+
+-- ---- what a feed comes to
+
+by_piece_front : (at : ℕ) (one other : Piece) (next further : ℕ → List ℕ → Taken) → ((size : ℕ) (last : List ℕ) → one ≡ Sealed size last → (other ≡ Sealed size last) × AddsFront (next size last) (further size last))
+    → AddsFront (by_piece at one next) (by_piece at other further)
+by_piece_front at Cut other next further so = AddsNothing refl refl
+by_piece_front at Broken other next further so = AddsNothing refl refl
+by_piece_front at (Sealed size last) other next further so =
+    let on = so size last refl in subst (λ (x : Piece). AddsFront (next size last) (by_piece at x further)) (sym on.0) on.1
+
+compared_front : (index : ℕ) (own fed : List ℕ) (part whole : Taken) → AddsFront part whole → AddsFront (compared index own fed part) (compared index own fed whole)
+compared_front index own fed part whole so = by_same (pointwise nat_eq own fed)
+  where
+    by_same : (b : Bool) → AddsFront (cond b part (stopped (Parts index own fed))) (cond b whole (stopped (Parts index own fed)))
+    by_same true = so
+    by_same false = AddsNothing refl refl
+
+compare_front : (v : Version) (one other : ℕ → List ℕ → Taken) (more : List ℕ) → ((at : ℕ) (p : List ℕ) → AddsFront (one at p) (other at (p ++ more))) → (own : List (List ℕ)) (before : List ℕ) (index at : ℕ) (p : List ℕ)
+    → AddsFront (compare_all v one own before index at p) (compare_all v other own before index at (p ++ more))
+compare_front v one other more so [] before index at p = so at p
+compare_front v one other more so (own ∷ rest) before index at p =
+    by_piece_front at (record_piece v before p) (record_piece v before (p ++ more))
+    (λ size fed. compared index own fed (compare_all v one rest own (index + 1) (at + size) (drop size p)))
+    (λ size fed. compared index own fed (compare_all v other rest own (index + 1) (at + size) (drop size (p ++ more))))
+    (λ size last is.
+    let on = piece_more v before p more size last is in
+    let part : Taken = compare_all v one rest own (index + 1) (at + size) (drop size p) in (
+      on.0,
+      compared_front index own last part (compare_all v other rest own (index + 1) (at + size) (drop size (p ++ more)))
+          (subst (λ (l : List ℕ). AddsFront part (compare_all v other rest own (index + 1) (at + size) l)) (sym (drop_front size p more on.1))
+          (compare_front v one other more so rest own (index + 1) (at + size) (drop size p))),
+    ))
+
+-- with the checkpoint at the front
+begin_front : (d : Directory) (last : List ℕ) (size : ℕ) (fed_seal p more : List ℕ) → d.limit < 256 ^ 4 → last ≡ first_seal written d.mark → checkpoint_piece written d.limit last p ≡ Sealed size fed_seal
+    → checkpoint_piece written d.limit last (p ++ more) ≡ Sealed size fed_seal → size ≤ length p
+    → AddsFront (begin_with written d last size p (need_in p)) (begin_with written d last size (p ++ more) (need_in (p ++ more)))
+begin_front d last size fed_seal p more limit first here there low =
+    by_test (admits_checkpoint written d p (need_in p) && nat_eq (length (checkpoint_text (need_in p)) + seal_size written) size) refl
+  where
+    j : InHand
+    j = record { version = written; file = 0; gate = 40; seal = last; ended = true; ahead = []; is_all = true }
+
+    n : Need
+    n = need_in p
+
+    all : Taken
+    all = begin_with written d last size (p ++ more) (need_in (p ++ more))
+
+    by_test : (b : Bool) → (admits_checkpoint written d p n && nat_eq (length (checkpoint_text n) + seal_size written) size) ≡ b
+        → AddsFront (cond b (behind_it d p (seal written last (checkpoint_text n)) (compacted_bytes written n - 1) size n) (stopped (Breaks 40))) all
+    by_test false e = AddsNothing refl refl
+    by_test true e =
+        let cp = checkpoint_there d j p p [] size fed_seal limit first (sym (append-nil p)) low here n refl e in
+        let whole = begins_so d j (p ++ more) p more size fed_seal limit first refl low there n cp in
+        let fed_last : List ℕ = seal written last (checkpoint_text n) in
+        let gate : ℕ = compacted_bytes written n - 1 in
+        let long : length (drop size p) + length more ≤ length (p ++ more) = omega (arith, length-drop size p, length-append p more) in
+        let front = add_front d (length p) (length (p ++ more)) fed_last (begun n) gate (40 + size) (drop size p) more long in
+        AddsPart front.0 (sym (ap (λ (t : Taken). t.begins) whole))
+        (ap (λ (t : Taken). t.records) whole ∙ ap (λ (l : List ℕ). (add_all written d (length (p ++ more)) fed_last (begun n) gate (40 + size) l).records) (drop_front size p more low) ∙ front.1)
+
+abbrev pub records_by : Directory → State → ℕ → List ℕ → List ℕ → Bool → Taken
+records_by d s gate last bytes b =
+    cond b (by_piece 40 (checkpoint_piece written d.limit last bytes) (λ size fed. begin_with written d last size bytes (need_in bytes)))
+    (add_all written d (length bytes) last s gate 40 bytes)
+
+records_front : (d : Directory) (s : State) (gate : ℕ) (last : List ℕ) (own : List (List ℕ)) (p more : List ℕ) → d.limit < 256 ^ 4 → (own ≡ [] → last ≡ first_seal written d.mark)
+    → AddsFront (take_records written d s gate last own p) (take_records written d s gate last own (p ++ more))
+records_front d s gate last [] [] more limit first = AddsNothing refl refl
+records_front d s gate last [] (x ∷ p) more limit first = by_letter (is_checkpoint_fed (x ∷ p)) refl
+  where
+    bytes : List ℕ
+    bytes = x ∷ p
+
+    by_letter : (b : Bool) → is_checkpoint_fed (x ∷ p) ≡ b → AddsFront (records_by d s gate last (x ∷ p) b) (take_records written d s gate last [] ((x ∷ p) ++ more))
+    by_letter false letter =
+        subst (λ (t : Taken). AddsFront (add_all written d (length bytes) last s gate 40 bytes) t) (sym (ap (records_by d s gate last (bytes ++ more)) letter))
+        (add_adds d (length bytes) (length (bytes ++ more)) last s gate 40 bytes more (omega (arith, length-append bytes more)))
+    by_letter true letter =
+        subst (λ (t : Taken). AddsFront (records_by d s gate last bytes true) t) (sym (ap (records_by d s gate last (bytes ++ more)) letter))
+        (by_piece_front 40 (checkpoint_piece written d.limit last bytes) (checkpoint_piece written d.limit last (bytes ++ more))
+        (λ size fed. begin_with written d last size bytes (need_in bytes)) (λ size fed. begin_with written d last size (bytes ++ more) (need_in (bytes ++ more)))
+        (λ size fed is.
+        let on = checkpoint_more written d.limit last bytes more size fed is in
+        (on.0, begin_front d last size fed bytes more limit (first refl) is on.0 on.1)))
+records_front d s gate last (own ∷ rest) p more limit first =
+    let before : List ℕ = first_seal written d.mark in
+    let behind : ℕ → List ℕ → Taken = λ at left. add_all written d (length left) last s gate at left in
+    let so : (at : ℕ) (l : List ℕ) → AddsFront (behind at l) (behind at (l ++ more)) =
+    λ at l. add_adds d (length l) (length (l ++ more)) last s gate at l more (omega (arith, length-append l more)) in
+    by_piece_front 40 (first_piece written d.limit before p) (first_piece written d.limit before (p ++ more))
+    (λ size fed. compared 0 own fed (compare_all written behind rest own 1 (40 + size) (drop size p)))
+    (λ size fed. compared 0 own fed (compare_all written behind rest own 1 (40 + size) (drop size (p ++ more))))
+    (λ size fed is.
+    let on = first_more written d.limit before p more size fed is in
+    let part : Taken = compare_all written behind rest own 1 (40 + size) (drop size p) in (
+      on.0,
+      compared_front 0 own fed part (compare_all written behind rest own 1 (40 + size) (drop size (p ++ more)))
+          (subst (λ (l : List ℕ). AddsFront part (compare_all written behind rest own 1 (40 + size) l)) (sym (drop_front size p more on.1))
+          (compare_front written behind behind more so rest own 1 (40 + size) (drop size p))),
+    ))
+
+-- behind the header
+taken_front : (d : Directory) (s : State) (gate : ℕ) (last : List ℕ) (own : List (List ℕ)) (fed more : List ℕ) → length d.mark ≡ 32 → d.limit < 256 ^ 4 → (own ≡ [] → last ≡ first_seal written d.mark)
+    → AddsFront (taken written d s gate last own fed) (taken written d s gate last own (fed ++ more))
+taken_front d s gate last own fed more size limit first = by_same (agreeing header fed == 40) refl
+  where
+    header : List ℕ
+    header = magic written ++ d.mark
+
+    part : Taken
+    part = take_records written d s gate last own (drop 40 fed)
+
+    by_end : (b : Bool) (at : ℕ) (t : Taken) → AddsFront (cond b (stopped Ends) (stopped (Breaks at))) t
+    by_end true at t = AddsNothing refl refl
+    by_end false at t = AddsNothing refl refl
+
+    is_forty : (n : ℕ) → (n == 40) ≡ true → n ≡ 40
+    is_forty n e = grind (arith, nat_tests)
+
+    by_same : (b : Bool) → (agreeing header fed == 40) ≡ b
+        → AddsFront (cond b part (cond (nat_le (length fed) (agreeing header fed)) (stopped Ends) (stopped (Breaks (agreeing header fed))))) (taken written d s gate last own (fed ++ more))
+    by_same false e = by_end (nat_le (length fed) (agreeing header fed)) (agreeing header fed) (taken written d s gate last own (fed ++ more))
+    by_same true e =
+        let at : agreeing header fed ≡ 40 = is_forty (agreeing header fed) e in
+        let there : 40 ≤ length fed = omega (arith, at, agreeing-low header fed) in
+        let front : InFeed = record { bytes = fed; is_all = false } in
+        let low : length header ≤ 40 = omega (arith, size, magic_size, length-append (magic written) d.mark) in
+        let same : agreeing header (fed ++ more) ≡ agreeing header fed = all_agree header (fed ++ more) more front low (record { is = refl; all = λ e. absurd (cc e) }) (inr there) in
+        let whole : taken written d s gate last own (fed ++ more) ≡ take_records written d s gate last own (drop 40 (fed ++ more)) =
+        ap (λ (k : ℕ). cond (k == 40) (take_records written d s gate last own (drop 40 (fed ++ more))) (cond (nat_le (length (fed ++ more)) k) (stopped Ends) (stopped (Breaks k)))) (same ∙ at) in
+        subst (λ (t : Taken). AddsFront part t) (sym (whole ∙ ap (take_records written d s gate last own) (drop_front 40 fed more there)))
+        (records_front d s gate last own (drop 40 fed) more limit first)
+
+-- a journal that has no records stands at its first gate, with the seal of its header
+pub unread_there : (d : Directory) (files : Files) (read : State × ℕ × List ℕ) → files_read written d files ≡ Ok read → own_seals d (selected_bytes files) ≡ [] → read ≡ (empty d, 41, first_seal written d.mark)
+unread_there d files read opened none = by_letter (is_checkpoint bytes) refl
+  where
+    bytes : List ℕ
+    bytes = selected_bytes files
+
+    file : ℕ
+    file = selected files
+
+    first : List ℕ
+    first = first_seal written d.mark
+
+    here : State × ℕ × List ℕ
+    here = (empty d, 41, first)
+
+    by_entry : (n : ℕ) (e : Result (Option Record) OpenFault) → entry_at written first file 40 (drop 40 bytes) ≡ e → records_at written d (suc n) file first (empty d) 40 (drop 40 bytes) ≡ Ok read
+        → seals_at written (suc n) first (drop 40 bytes) ≡ [] → read ≡ here
+    by_entry n (Err fault) is reads none = absurd (let one : Read = Err fault in let e : one ≡ Ok read = sym (reads_fault written d n file first (empty d) 40 (drop 40 bytes) fault is) ∙ reads in cc e)
+    by_entry n (Ok None) is reads none = let e : Ok read ≡ Ok here = sym reads ∙ reads_end_there written d n file first (empty d) 40 (drop 40 bytes) is in cc e
+    by_entry n (Ok (Some r)) is reads none =
+        absurd (let e : seal written first (record_text r) ∷ seals_at written n (seal written first (record_text r)) (drop (record_size written r) (drop 40 bytes)) ≡ [] = sym (seals_one written n file 40 first (drop 40 bytes) r is) ∙ none in cc e)
+
+    by_steps : (n : ℕ) → records_at written d n file first (empty d) 40 (drop 40 bytes) ≡ Ok read → seals_at written n first (drop 40 bytes) ≡ [] → read ≡ here
+    by_steps zero reads none = absurd (cc reads)
+    by_steps (suc n) reads none = by_entry n (entry_at written first file 40 (drop 40 bytes)) refl reads none
+
+    by_letter : (b : Bool) → is_checkpoint bytes ≡ b → read ≡ here
+    by_letter false plain =
+        by_steps (length bytes) (sym (opens_behind written d file bytes false (sound_header written d file bytes read opened) plain) ∙ opened)
+        (sym (ap (seals_behind written first bytes) plain) ∙ none)
+    by_letter true packed = absurd (let e : checkpoint_seals written first bytes (need_in (drop 41 bytes)) ≡ [] = sym (ap (seals_behind written first bytes) packed) ∙ none in cc e)
+
+abbrev pub come_by : Directory → Files → List ℕ → Read → Result Taken OpenFault
+come_by d files fed r = elim r as (λ _. Result Taken OpenFault) [
+  | Err fault ↦ Err fault
+  | Ok read ↦ Ok (taken written d read.0 (read.1 - 1) read.2 (own_seals d (selected_bytes files)) fed)
+]
+
+pub front_adds : (d : Directory) (files : Files) (fed more : List ℕ) (part whole : Taken) → length d.mark ≡ 32 → d.limit < 256 ^ 4 → comes_to d files fed ≡ Ok part → comes_to d files (fed ++ more) ≡ Ok whole
+    → AddsFront part whole
+front_adds d files fed more part whole size limit here there = by_read (files_read written d files) refl here there
+  where
+    by_read : (r : Read) → files_read written d files ≡ r → come_by d files fed r ≡ Ok part → come_by d files (fed ++ more) r ≡ Ok whole → AddsFront part whole
+    by_read (Err fault) opened here there = absurd (cc here)
+    by_read (Ok read) opened here there =
+        let own : List (List ℕ) = own_seals d (selected_bytes files) in
+        let one : taken written d read.0 (read.1 - 1) read.2 own fed ≡ part = cc here in
+        let other : taken written d read.0 (read.1 - 1) read.2 own (fed ++ more) ≡ whole = cc there in
+        let front = taken_front d read.0 (read.1 - 1) read.2 own fed more size limit (λ none. ap (λ (x : State × ℕ × List ℕ). x.2) (unread_there d files read opened none)) in
+        subst (λ (t : Taken). AddsFront part t) other (subst (λ (t : Taken). AddsFront t (taken written d read.0 (read.1 - 1) read.2 own (fed ++ more))) one front)

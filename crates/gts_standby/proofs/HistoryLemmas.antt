@@ -1,0 +1,194 @@
+-- What the feed of a journal comes to beside one that has no records.
+use Rattle.std.proofs.Common.{◌≡◌, ℕ, zero, suc, ◌+◌, ◌-◌, ◌*◌, ◌^◌, ◌<◌, ◌≤◌, Bool, true, false, cond, List, [], ◌∷◌, ◌++◌, length, take, drop, Option, Some, None, Result, Ok, Err, nat_eq, nat_lt, refl, sym, ap, subst, ◌∙◌, arith, length-append, append_assoc}
+use Rattle.std.specs.Prelude.{◌==◌, not}
+use Rattle.std.specs.List.{starts_with}
+use Rattle.std.specs.Cmp.Lexicographic.{pointwise, same_text}
+use Rattle.std.proofs.lemmas.Bool.Decides.{nat_tests}
+use Rattle.std.proofs.lemmas.List.{append-nil, drop_all}
+use Rattle.gts_traits.specs.{Files}
+use Rattle.gts_directory.specs.Directory.{Directory}
+use Rattle.gts_event.specs.State.{State, empty}
+use Rattle.gts_event.specs.History.{after}
+use Rattle.gts_record.specs.declared.fault.OpenFault.{OpenFault}
+use Rattle.gts_record.specs.declared.fault.OpenFault.TheVariants.{Damaged}
+use Rattle.gts_record.specs.Record.{Record, Accept, Drew, record_text}
+use Rattle.gts_record.specs.Format.{magic, seal, sealed, sealed_at, first_seal, record_size, is_older, written}
+use Rattle.gts_record.proofs.LawLemmas.{length-sealed, sealed_at-found, sealed_fits}
+use Rattle.gts_opening.specs.Journal.{Read, agreeing, admits, event_of_record, record_behind, after_records, selected, files_read, file_opens, records_at}
+use Rattle.gts_journal.specs.{entry_at, header_fault, is_checkpoint, selected_bytes}
+use Rattle.gts_journal.proofs.LawLemmas.{opens_behind, refuses_one}
+use Rattle.gts_standby.specs.Feed.{feed_at, feed_behind, feed}
+use Rattle.gts_standby.specs.Taking.{Taken, Ends, Breaks, stopped, adding, is_checkpoint_fed, add_all, take_records, by_header, taken}
+use Rattle.gts_standby.specs.Following.{own_seals, comes_to}
+use Rattle.gts_standby.specs.Fronts.{AddsFront, AddsNothing, AddsPart, LeadsTo}
+use Rattle.gts_standby.proofs.FeedLemmas.{was_found, feed_one, feed_none, at_entry, IsEnd, IsRecord}
+use Rattle.gts_standby.proofs.FirstLemmas.{starts, fault_by}
+use Rattle.gts_standby.proofs.BeginLemmas.{magic_size}
+use Rattle.gts_standby.proofs.HeaderLemmas.{header_on}
+use Rattle.gts_standby.proofs.ScanLemmas.{drop_front}
+use Rattle.gts_standby.proofs.AddLemmas.{added_by, some_text}
+use Rattle.gts_standby.proofs.TakeLemmas.{sound_header}
+use Rattle.gts_standby.proofs.FrontLemmas.{behind_by, records_by, come_by, unread_there, front_adds}
+
+-- taken to its end, with the records that lead to a state
+abbrev Comes : Directory → State → State → Taken → Type 0
+Comes d s t what = (what.end ≡ Ends) × (after_records d s what.records ≡ t)
+
+-- ---- the records of a feed
+
+drop_text : (text rest : List ℕ) (k : ℕ) → k ≡ length text → drop k (text ++ rest) ≡ rest
+drop_text text rest k is = drop_front k text rest (omega (arith, is)) ∙ ap (λ (l : List ℕ). l ++ rest) (drop_all k text (omega (arith, is)))
+
+nothing_fed : (d : Directory) (m : ℕ) (before : List ℕ) (s : State) (gate at : ℕ) → Comes d s s (add_all written d m before s gate at [])
+nothing_fed d zero before s gate at = (refl, refl)
+nothing_fed d (suc m) before s gate at = (refl, refl)
+
+admitted_there : (d : Directory) (n file : ℕ) (before : List ℕ) (s : State) (gate : ℕ) (bytes : List ℕ) (x : State × ℕ × List ℕ) (r : Record) → entry_at written before file gate bytes ≡ Ok (Some r)
+    → records_at written d (suc n) file before s gate bytes ≡ Ok x → admits written d s (gate + 1) r ≡ true
+admitted_there d n file before s gate bytes x r is reads = by_admission (admits written d s (gate + 1) r) refl
+  where
+    by_admission : (b : Bool) → admits written d s (gate + 1) r ≡ b → admits written d s (gate + 1) r ≡ true
+    by_admission true ok = ok
+    by_admission false bad = absurd (let one : Read = Err (Damaged file (gate + 1)) in let e : one ≡ Ok x = sym (refuses_one written d n file before s gate bytes r is bad) ∙ reads in cc e)
+
+-- what a journal reads from a gate on is what its feed adds
+records_fed : (d : Directory) (n file m : ℕ) (before : List ℕ) (s : State) (gate at : ℕ) (bytes : List ℕ) (x : State × ℕ × List ℕ) → records_at written d n file before s gate bytes ≡ Ok x
+    → length (feed_at written n before bytes) ≤ m → Comes d s x.0 (add_all written d m before s gate at (feed_at written n before bytes))
+records_fed d zero file m before s gate at bytes x reads long = absurd (cc reads)
+records_fed d (suc n) file m before s gate at bytes x reads long = elim (at_entry written d n file before s gate bytes x reads) [
+  | IsEnd is same ↦
+      let state : x.0 ≡ s = ap (λ (y : State × ℕ × List ℕ). y.0) same in
+      subst (λ (l : List ℕ). Comes d s x.0 (add_all written d m before s gate at l)) (sym (feed_none written (suc n) file gate before bytes is))
+      (subst (λ (t : State). Comes d s t (add_all written d m before s gate at [])) (sym state) (nothing_fed d m before s gate at))
+  | IsRecord r is more ↦
+      let found = was_found written before file gate bytes r is in
+      let text : List ℕ = sealed written before (record_text r) in
+      let last : List ℕ = seal written before (record_text r) in
+      let next : State = after d s (event_of_record r) in
+      let size : ℕ = record_size written r - 1 in
+      let rest : List ℕ = feed_at written n last (drop (record_size written r) bytes) in
+      let one : feed_at written (suc n) before bytes ≡ text ++ rest = feed_one written n file gate before bytes r is in
+      let there : sealed_at written before (text ++ rest) ≡ Some r = sealed_at-found written before r (text ++ rest) (sealed_fits written before found.0 r found.2) (rest, refl) in
+      let ok = admitted_there d n file before s gate bytes x r is reads in
+      let behind : record_behind written d before s gate (text ++ rest) ≡ Some r = ap (behind_by d s gate) there ∙ ap (λ (b : Bool). cond b (Some r) None) ok in
+      let wide : length text ≡ size = omega (arith, length-sealed written before (record_text r)) in
+      let some : 1 ≤ size = omega (arith, some_text r) in
+      let whole : length text + length rest ≤ m = omega (arith, long, ap (λ (l : List ℕ). length l) one, length-append text rest) in
+      let on = records_fed d n file (m - 1) last next (gate + record_size written r) (at + size) (drop (record_size written r) bytes) x more (omega (arith, whole, wide, some)) in
+      let step : add_all written d m before s gate at (text ++ rest) ≡ adding r (add_all written d (m - 1) last next (gate + record_size written r) (at + size) rest) =
+      ap (λ (k : ℕ). add_all written d k before s gate at (text ++ rest)) (let e : m ≡ suc (m - 1) = omega (arith, whole, wide, some) in e)
+      ∙ ap (added_by d (m - 1) before s gate at (text ++ rest)) behind
+      ∙ ap (λ (l : List ℕ). adding r (add_all written d (m - 1) last next (gate + record_size written r) (at + size) l)) (drop_text text rest size (sym wide)) in
+      subst (λ (l : List ℕ). Comes d s x.0 (add_all written d m before s gate at l)) (sym one) (subst (λ (t : Taken). Comes d s x.0 t) (sym step) (on.0, on.1))
+]
+
+-- none of them is a checkpoint
+no_checkpoint : (d : Directory) (n file : ℕ) (before : List ℕ) (s : State) (gate : ℕ) (bytes : List ℕ) (x : State × ℕ × List ℕ) → records_at written d n file before s gate bytes ≡ Ok x
+    → is_checkpoint_fed (feed_at written n before bytes) ≡ false
+no_checkpoint d zero file before s gate bytes x reads = absurd (cc reads)
+no_checkpoint d (suc n) file before s gate bytes x reads = elim (at_entry written d n file before s gate bytes x reads) [
+  | IsEnd is same ↦ ap is_checkpoint_fed (feed_none written (suc n) file gate before bytes is)
+  | IsRecord r is more ↦
+      ap is_checkpoint_fed (feed_one written n file gate before bytes r is)
+      ∙ by_record r (feed_at written n (seal written before (record_text r)) (drop (record_size written r) bytes))
+]
+  where
+    by_record : (r : Record) (rest : List ℕ) → is_checkpoint_fed (sealed written before (record_text r) ++ rest) ≡ false
+    by_record (Accept from kind position body) rest = refl
+    by_record (Drew circuit position index) rest = refl
+
+-- ---- the header
+
+agreeing_all : (xs ys : List ℕ) → agreeing xs (xs ++ ys) ≡ length xs
+agreeing_all [] ys = refl
+agreeing_all (x ∷ xs) ys = ap (λ (b : Bool). cond b (suc (agreeing xs (xs ++ ys))) 0) (same x) ∙ ap suc (agreeing_all xs ys)
+  where
+    same : (n : ℕ) → (n == n) ≡ true
+    same n = grind (arith, nat_tests)
+
+sound_tests : (mark : List ℕ) (file : ℕ) (bytes : List ℕ) (is_empty is_old begins is_short is_ours : Bool) → fault_by written mark file bytes is_empty is_old begins is_short is_ours ≡ None → (begins ≡ true) × (is_ours ≡ true)
+sound_tests mark file bytes true is_old begins is_short is_ours is = absurd (cc is)
+sound_tests mark file bytes false true begins is_short is_ours is = absurd (cc is)
+sound_tests mark file bytes false false false is_short is_ours is = absurd (cc is)
+sound_tests mark file bytes false false true true is_ours is = absurd (cc is)
+sound_tests mark file bytes false false true false false is = absurd (cc is)
+sound_tests mark file bytes false false true false true is = (refl, refl)
+
+take_past : (xs ys : List ℕ) (k n : ℕ) → n ≡ length xs + k → take n (xs ++ ys) ≡ xs ++ take k ys
+take_past [] ys k n is = ap (λ (m : ℕ). take m ys) (let e : n ≡ k = omega (arith, is) in e)
+take_past (x ∷ xs) ys k zero is = absurd (omega (arith, is))
+take_past (x ∷ xs) ys k (suc n) is = ap (λ (l : List ℕ). x ∷ l) (take_past xs ys k n (omega (arith, is)))
+
+-- it is that of the directory
+header_is : (d : Directory) (file : ℕ) (bytes : List ℕ) → header_fault written d.mark file bytes ≡ None → take 40 bytes ≡ magic written ++ d.mark
+header_is d file bytes sound =
+    let tests = sound_tests d.mark file bytes (length bytes == 0) (is_older written bytes) (starts_with nat_eq bytes (magic written)) (nat_lt (length bytes) 40) (pointwise nat_eq (take 32 (drop 8 bytes)) d.mark) sound in
+    let begins : bytes ≡ magic written ++ drop (length (magic written)) bytes = starts bytes (magic written) tests.0 in
+    let ours : take 32 (drop 8 bytes) ≡ d.mark = same_text (take 32 (drop 8 bytes)) d.mark (sym tests.1) in
+    ap (take 40) begins
+    ∙ take_past (magic written) (drop (length (magic written)) bytes) 32 40 (omega (arith, magic_size))
+    ∙ ap (λ (k : ℕ). magic written ++ take 32 (drop k bytes)) magic_size
+    ∙ ap (λ (l : List ℕ). magic written ++ l) ours
+
+-- ---- a whole feed
+
+module _ (d : Directory) (file : ℕ) (bytes : List ℕ) (x : State × ℕ × List ℕ) (size : length d.mark ≡ 32) (opened : file_opens written d file bytes ≡ Ok x) (plain : is_checkpoint bytes ≡ false) where
+  abbrev first : List ℕ
+  first = first_seal written d.mark
+
+  abbrev sent : List ℕ
+  sent = feed_at written (length bytes) first (drop 40 bytes)
+
+  abbrev header : List ℕ
+  header = magic written ++ d.mark
+
+  sound : header_fault written d.mark file bytes ≡ None
+  sound = sound_header written d file bytes x opened
+
+  reads : records_at written d (length bytes) file first (empty d) 40 (drop 40 bytes) ≡ Ok x
+  reads = sym (opens_behind written d file bytes false sound plain) ∙ opened
+
+  forty : length header ≡ 40
+  forty = omega (arith, size, magic_size, length-append (magic written) d.mark)
+
+  feed_is : feed written d.mark bytes ≡ header ++ sent
+  feed_is = ap (λ (l : List ℕ). l ++ feed_behind written first bytes (is_checkpoint bytes)) (header_is d file bytes sound) ∙ ap (λ (b : Bool). header ++ feed_behind written first bytes b) plain
+
+  pub feed_comes : Comes d (empty d) x.0 (taken written d (empty d) 40 first [] (feed written d.mark bytes))
+  feed_comes =
+      let behind : taken written d (empty d) 40 first [] (header ++ sent) ≡ take_records written d (empty d) 40 first [] (drop 40 (header ++ sent)) =
+      header_on header (header ++ sent) (agreeing_all header sent ∙ forty) (take_records written d (empty d) 40 first [] (drop 40 (header ++ sent))) in
+      let letter : is_checkpoint_fed sent ≡ false = no_checkpoint d (length bytes) file first (empty d) 40 (drop 40 bytes) x reads in
+      let adds : take_records written d (empty d) 40 first [] sent ≡ add_all written d (length sent) first (empty d) 40 40 sent = ap (records_by d (empty d) 40 first sent) letter in
+      let all = ap (taken written d (empty d) 40 first []) feed_is ∙ behind ∙ ap (take_records written d (empty d) 40 first []) (drop_text header sent 40 (sym forty)) ∙ adds in
+      subst (λ (t : Taken). Comes d (empty d) x.0 t) (sym all) (records_fed d (length bytes) file (length sent) first (empty d) 40 40 (drop 40 bytes) x reads (omega arith))
+
+-- ---- a front of it
+
+after_more : (d : Directory) (s : State) (rs more : List Record) → after_records d s (rs ++ more) ≡ after_records d (after_records d s rs) more
+after_more d s [] more = refl
+after_more d s (r ∷ rs) more = after_more d (after d s (event_of_record r)) rs more
+
+leads_by : (d : Directory) (s : State) (part whole : Taken) → AddsFront part whole → Comes d (empty d) s whole → LeadsTo d (after_records d (empty d) part.records) s
+leads_by d s part whole (AddsNothing begins none) all =
+    (whole.records, subst (λ (rs : List Record). s ≡ after_records d (after_records d (empty d) rs) whole.records) (sym none) (sym all.1))
+leads_by d s part whole (AddsPart rest begins is) all = (rest, sym all.1 ∙ ap (after_records d (empty d)) is ∙ after_more d (empty d) part.records rest)
+
+pub front_leads : (d : Directory) (own files : Files) (s : State) (used : ℕ) (last fed more : List ℕ) (part : Taken) → length d.mark ≡ 32 → d.limit < 256 ^ 4 → own_seals d (selected_bytes own) ≡ []
+    → files_read written d files ≡ Ok (s, used, last) → is_checkpoint (selected_bytes files) ≡ false → feed written d.mark (selected_bytes files) ≡ fed ++ more → comes_to d own fed ≡ Ok part
+    → LeadsTo d (after_records d (empty d) part.records) s
+front_leads d own files s used last fed more part size limit none opened plain sent here = by_read (files_read written d own) refl here
+  where
+    by_read : (r : Read) → files_read written d own ≡ r → come_by d own fed r ≡ Ok part → LeadsTo d (after_records d (empty d) part.records) s
+    by_read (Err fault) is come = absurd (cc come)
+    by_read (Ok read) is come =
+        let first : List ℕ = first_seal written d.mark in
+        let whole : Taken = taken written d read.0 (read.1 - 1) read.2 (own_seals d (selected_bytes own)) (fed ++ more) in
+        let there : comes_to d own (fed ++ more) ≡ Ok whole = ap (come_by d own (fed ++ more)) is in
+        let same : read ≡ (empty d, 41, first) = unread_there d own read is none in
+        let all = feed_comes d (selected files) (selected_bytes files) (s, used, last) size opened plain in
+        let whole_is : whole ≡ taken written d (empty d) 40 first [] (feed written d.mark (selected_bytes files)) =
+        ap (λ (y : State × ℕ × List ℕ). taken written d y.0 (y.1 - 1) y.2 (own_seals d (selected_bytes own)) (fed ++ more)) same
+        ∙ ap (λ (l : List (List ℕ)). taken written d (empty d) 40 first l (fed ++ more)) none
+        ∙ ap (taken written d (empty d) 40 first []) (sym sent) in
+        leads_by d s part whole (front_adds d own fed more part whole size limit here there) (subst (λ (t : Taken). Comes d (empty d) s t) (sym whole_is) all)
