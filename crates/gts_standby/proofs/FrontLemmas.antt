@@ -88,12 +88,11 @@ add_front d (suc n) m before s gate at p more long =
         let on = so r left in
         let one : add_all written d m before s gate at (p ++ more) ≡ adding r (on_with (m - 1) r (drop size (p ++ more))) =
         ap (λ (k : ℕ). add_all written d k before s gate at (p ++ more)) (let e : m ≡ suc (m - 1) = omega (arith, long, some) in e)
-        ∙ ap (added_by d (m - 1) before s gate at (p ++ more)) found.0 in
-        (
+        ∙ ap (added_by d (m - 1) before s gate at (p ++ more)) found.0 in (
           on.0,
           ap (λ (t : Taken). t.records) one
-          ∙ ap (λ (l : List ℕ). r ∷ (on_with (m - 1) r l).records) (drop_front size p more found.1)
-          ∙ ap (λ (l : List Record). r ∷ l) on.1,
+              ∙ ap (λ (l : List ℕ). r ∷ (on_with (m - 1) r l).records) (drop_front size p more found.1)
+              ∙ ap (λ (l : List Record). r ∷ l) on.1,
         )
 
 add_adds : (d : Directory) (n m : ℕ) (before : List ℕ) (s : State) (gate at : ℕ) (p more : List ℕ) → length p + length more ≤ m
