@@ -1,5 +1,5 @@
 -- What a front of a feed adds is a front of what the feed adds.
-use Rattle.std.proofs.Common.{◌≡◌, ◌⊎◌, inl, inr, ℕ, zero, suc, ◌+◌, ◌-◌, ◌*◌, ◌^◌, ◌<◌, ◌≤◌, Bool, true, false, cond, ◌&&◌, List, [], ◌∷◌, ◌++◌, length, take, drop, replicate, Option, Some, None, Result, Ok, Err, nat_eq, nat_le, nat_lt, refl, sym, ap, subst, ◌∙◌, arith, length-append}
+use Rattle.std.proofs.Common.{◌≡◌, inr, ℕ, zero, suc, ◌+◌, ◌-◌, ◌^◌, ◌<◌, ◌≤◌, Bool, true, false, cond, ◌&&◌, List, [], ◌∷◌, ◌++◌, length, take, drop, replicate, Option, Some, None, Result, Ok, Err, nat_eq, nat_le, nat_lt, refl, sym, ap, subst, ◌∙◌, arith, length-append}
 use Rattle.std.specs.Prelude.{codes, ◌==◌}
 use Rattle.std.specs.List.{starts_with}
 use Rattle.std.specs.Cmp.Lexicographic.{pointwise}
@@ -14,11 +14,11 @@ use Rattle.gts_record.specs.declared.version.Version.{Version}
 use Rattle.gts_record.specs.declared.fault.OpenFault.{OpenFault}
 use Rattle.gts_record.specs.Record.{Record, record_text}
 use Rattle.gts_record.specs.Format.{magic, seal, seal_size, is_sealed, sealed_at, first_seal, record_size, written}
-use Rattle.gts_opening.specs.Journal.{Read, agreeing, admits, event_of_record, record_behind, checkpoint_text, compacted_bytes, need_in, admits_checkpoint, selected, files_read, file_opens, records_at}
+use Rattle.gts_opening.specs.Journal.{Read, agreeing, admits, event_of_record, record_behind, checkpoint_text, compacted_bytes, need_in, admits_checkpoint, selected, files_read, records_at}
 use Rattle.gts_journal.specs.{InHand, entry_at, is_checkpoint, selected_bytes}
 use Rattle.gts_journal.proofs.LawLemmas.{opens_behind, reads_end_there, reads_fault}
 use Rattle.gts_standby.specs.Ahead.{InFeed}
-use Rattle.gts_standby.specs.Taking.{Taken, Ends, Breaks, Parts, stopped, adding, Piece, Cut, Broken, Sealed, may_be_cut, record_piece, Reached, Short, Bad, Behind, or_else, number_at, reach, reach_found, least_bulletin, bulletin_size, behind_bulletin, circuit_size, behind_circuit, and_then, behind_all, least_front, behind_counted, behind_lists, behind_checkpoint, checkpoint_piece, is_checkpoint_fed, first_piece, seals_at, checkpoint_seals, seals_behind, by_piece, compared, compare_all, compare_first, add_all, begin_with, take_records, by_header, taken}
+use Rattle.gts_standby.specs.Taking.{Taken, Ends, Breaks, Parts, stopped, adding, Piece, Cut, Broken, Sealed, may_be_cut, record_piece, Reached, Short, Bad, Behind, or_else, number_at, reach, reach_found, least_bulletin, bulletin_size, behind_bulletin, circuit_size, behind_circuit, and_then, behind_all, least_front, behind_counted, behind_lists, behind_checkpoint, checkpoint_piece, is_checkpoint_fed, first_piece, seals_at, checkpoint_seals, seals_behind, by_piece, compared, compare_all, add_all, begin_with, take_records, taken}
 use Rattle.gts_standby.specs.Following.{own_seals, comes_to}
 use Rattle.gts_standby.specs.Fronts.{AddsFront, AddsNothing, AddsPart}
 use Rattle.gts_standby.proofs.HeaderLemmas.{all_agree, agreeing-low}

@@ -1,15 +1,14 @@
 -- What the feed of a journal comes to beside one that has no records.
-use Rattle.std.proofs.Common.{◌≡◌, ℕ, zero, suc, ◌+◌, ◌-◌, ◌*◌, ◌^◌, ◌<◌, ◌≤◌, Bool, true, false, cond, List, [], ◌∷◌, ◌++◌, length, take, drop, Option, Some, None, Result, Ok, Err, nat_eq, nat_lt, refl, sym, ap, subst, ◌∙◌, arith, length-append, append_assoc}
-use Rattle.std.specs.Prelude.{◌==◌, not}
+use Rattle.std.proofs.Common.{◌≡◌, ℕ, zero, suc, ◌+◌, ◌-◌, ◌^◌, ◌<◌, ◌≤◌, Bool, true, false, cond, List, [], ◌∷◌, ◌++◌, length, take, drop, Some, None, Ok, Err, nat_eq, nat_lt, refl, sym, ap, subst, ◌∙◌, arith, length-append}
+use Rattle.std.specs.Prelude.{◌==◌}
 use Rattle.std.specs.List.{starts_with}
 use Rattle.std.specs.Cmp.Lexicographic.{pointwise, same_text}
 use Rattle.std.proofs.lemmas.Bool.Decides.{nat_tests}
-use Rattle.std.proofs.lemmas.List.{append-nil, drop_all}
+use Rattle.std.proofs.lemmas.List.{drop_all}
 use Rattle.gts_traits.specs.{Files}
 use Rattle.gts_directory.specs.Directory.{Directory}
 use Rattle.gts_event.specs.State.{State, empty}
 use Rattle.gts_event.specs.History.{after}
-use Rattle.gts_record.specs.declared.fault.OpenFault.{OpenFault}
 use Rattle.gts_record.specs.declared.fault.OpenFault.TheVariants.{Damaged}
 use Rattle.gts_record.specs.Record.{Record, Accept, Drew, record_text}
 use Rattle.gts_record.specs.Format.{magic, seal, sealed, sealed_at, first_seal, record_size, is_older, written}
@@ -18,7 +17,7 @@ use Rattle.gts_opening.specs.Journal.{Read, agreeing, admits, event_of_record, r
 use Rattle.gts_journal.specs.{entry_at, header_fault, is_checkpoint, selected_bytes}
 use Rattle.gts_journal.proofs.LawLemmas.{opens_behind, refuses_one}
 use Rattle.gts_standby.specs.Feed.{feed_at, feed_behind, feed}
-use Rattle.gts_standby.specs.Taking.{Taken, Ends, Breaks, stopped, adding, is_checkpoint_fed, add_all, take_records, by_header, taken}
+use Rattle.gts_standby.specs.Taking.{Taken, Ends, adding, is_checkpoint_fed, add_all, take_records, taken}
 use Rattle.gts_standby.specs.Following.{own_seals, comes_to}
 use Rattle.gts_standby.specs.Fronts.{AddsFront, AddsNothing, AddsPart, LeadsTo}
 use Rattle.gts_standby.proofs.FeedLemmas.{was_found, feed_one, feed_none, at_entry, IsEnd, IsRecord}
