@@ -4,9 +4,7 @@ ghost use Rattle.gts_engine.specs.Compacting.{IsSizeAt, GivesCheckpoint};
 
 use gts_directory::Directory;
 use gts_journal::Version;
-
-/// The bytes of a compacted journal beside its checkpoint and the seal: header, and two gates.
-const BESIDE_CHECKPOINT: u64 = 42;
+use gts_record::BESIDE_CHECKPOINT;
 
 /// A checkpoint and all draws that are due would pass the limit of a journal.
 #[derive(Clone, Copy, Debug, PartialEq, Eq)]

@@ -23,11 +23,9 @@ use gts_core::Core;
 use gts_directory::Directory;
 use gts_event::Need;
 use gts_journal::{Journal, Version};
+use gts_record::BESIDE_CHECKPOINT;
 use gts_traits::{NoMemory, Source, Station};
 use std::alloc::Global;
-
-/// The bytes of a journal that has a checkpoint alone beside that and its seal: header, and two gates.
-const BESIDE_CHECKPOINT: u64 = 42;
 
 /// Writes a checkpoint to the file that isn't selected, and selects that.
 fn put<P: Station>(
