@@ -2,7 +2,7 @@
 use Rattle.std.proofs.Common.{◌≡◌, ◌⊎◌, inl, inr, ℕ, zero, suc, ◌+◌, ◌-◌, ◌<◌, ◌≤◌, Bool, true, false, cond, List, [], ◌∷◌, ◌++◌, length, drop, Option, Some, None, Result, Ok, Err, refl, sym, ap, subst, ◌∙◌, arith, length-drop}
 use Rattle.std.proofs.lemmas.Bool.{cases_lt}
 use Rattle.std.proofs.lemmas.List.{append-nil}
-use Rattle.gts_traits.specs.{Call, Did, Broken, Syncs, Files, Outside, seen, said_by, SaidSince, IsSynced, EachSince}
+use Rattle.gts_traits.specs.{Call, Did, Broken, Syncs, Files, Outside, seen, said_by, IsSynced, EachSince}
 use Rattle.gts_traits.proofs.LawLemmas.{weaker, joined, sync_syncs}
 use Rattle.gts_directory.specs.Directory.{Directory}
 use Rattle.gts_event.specs.State.{State, empty}
@@ -16,7 +16,7 @@ use Rattle.gts_record.specs.Record.{Record}
 use Rattle.gts_record.specs.Format.{magic, seal, first_seal, written}
 use Rattle.gts_opening.specs.Journal.{Read, opened_of, selected, opens, files_read, file_opens, records_at, after_records, need_in, admits_checkpoint, checkpoint_text, compacted_bytes}
 use Rattle.gts_core.specs.Core.{Core}
-use Rattle.gts_journal.specs.{InHand, StandsOn, StandsFor, OnlySyncs, OpensTo, OpensAsBefore, entry_at, file_of, selected_bytes, header_fault, is_checkpoint}
+use Rattle.gts_journal.specs.{InHand, StandsFor, OnlySyncs, OpensTo, OpensAsBefore, entry_at, file_of, selected_bytes, header_fault, is_checkpoint}
 use Rattle.gts_journal.proofs.LawLemmas.{images_open, opening_opens, open_selected, opens_behind, faulty_header, reads_end_there, reads_fault}
 use Rattle.gts_recovery.specs.{IsOpened}
 use Rattle.gts_recovery.specs.Opened.{IsAnswer}
@@ -24,13 +24,13 @@ use Rattle.gts_standby.specs.declared.end.FollowEnd.{FollowEnd}
 use Rattle.gts_standby.specs.declared.end.FollowEnd.TheVariants.{Done, Open, Feed, Diverged, SourceFault, DiskFault, NoMemory}
 use Rattle.gts_standby.specs.Ahead.{InFeed}
 use Rattle.gts_standby.specs.Feed.{feed_at}
-use Rattle.gts_standby.specs.Taking.{Taken, End, Ends, Breaks, Parts, Piece, Sealed, by_piece, checkpoint_piece, is_checkpoint_fed, seals_at, seals_behind, add_all, begin_with, compare_first, take_records, by_header, taken}
+use Rattle.gts_standby.specs.Taking.{Taken, End, Ends, Breaks, Parts, Piece, by_piece, is_checkpoint_fed, seals_at, seals_behind, add_all, begin_with, compare_first, take_records, by_header, taken}
 use Rattle.gts_standby.specs.Following.{open_end, own_seals, comes_to, EndsAs, Answers, IsEnd, start_of, state_after, OpensWithin, AsBefore, WithFront, EachOpens}
-use Rattle.gts_standby.specs.Reading.{HasRead, unread, IsReadEnd, ReadsAll, StopsAt, StopsAs, TakesHeader}
+use Rattle.gts_standby.specs.Reading.{HasRead, unread, IsReadEnd, ReadsAll, StopsAt, StopsAs}
 use Rattle.gts_standby.specs.Adding.{HoldsAt, HasAdded, IsAddEnd}
 use Rattle.gts_standby.specs.Whole.{HasTaken, IsTakenEnd}
 use Rattle.gts_standby.specs.Beginning.{OpensOneOf, HasBegun, EndsBegin, BeforeIt, WithinIt, begun_taken}
-use Rattle.gts_standby.specs.Comparing.{Leads, Compares}
+use Rattle.gts_standby.specs.Comparing.{Leads}
 use Rattle.gts_standby.proofs.FeedLemmas.{leads_on, none_left, left_split}
 use Rattle.gts_standby.proofs.AddLemmas.{holds_of, opened_by, opened_now, begun_there}
 

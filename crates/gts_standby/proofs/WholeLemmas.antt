@@ -1,5 +1,5 @@
 -- At the end of a feed its source has no more.
-use Rattle.std.proofs.Common.{◌≡◌, ℕ, true, List, [], ◌++◌, refl}
+use Rattle.std.proofs.Common.{ℕ, List, ◌++◌, refl}
 use Rattle.gts_record.specs.declared.version.Version.{Version}
 use Rattle.gts_record.specs.declared.fault.OpenFault.{OpenFault}
 use Rattle.gts_record.specs.declared.fault.OpenFault.TheVariants as opening
@@ -8,7 +8,7 @@ use Rattle.gts_standby.specs.declared.end.FollowEnd.TheVariants.{Done, Open, Fee
 use Rattle.gts_standby.specs.Ahead.{InFeed}
 use Rattle.gts_standby.specs.Taking.{Taken}
 use Rattle.gts_standby.specs.Following.{open_end}
-use Rattle.gts_standby.specs.Reading.{HasRead, IsReadEnd, IsLookedEnd, IsUnsealed, ReadsAll, StopsAs}
+use Rattle.gts_standby.specs.Reading.{HasRead, IsReadEnd, IsUnsealed, ReadsAll, StopsAs}
 use Rattle.gts_standby.specs.Comparing.{IsOwnEnd}
 use Rattle.gts_standby.specs.Beginning.{IsPutEnd}
 use Rattle.gts_standby.specs.Whole.{IsWhole}

@@ -1,5 +1,5 @@
 -- What it is that records are added to a journal.
-use Rattle.std.specs.Prelude.{◌≡◌, ℕ, ◌+◌, ◌-◌, true, List, drop, if◌then◌else◌, Some, None, Result, Ok, Err}
+use Rattle.std.specs.Prelude.{◌≡◌, ℕ, ◌+◌, ◌-◌, ◌≤◌, true, List, length, drop, if◌then◌else◌, Some, None, Result, Ok, Err}
 use Rattle.gts_traits.specs.{Call, seen, said_by, EachSince}
 use Rattle.gts_directory.specs.Directory.{Directory}
 use Rattle.gts_event.specs.State.{State}
@@ -13,7 +13,7 @@ use Rattle.gts_recovery.specs.Reading.{IsKept}
 use Rattle.gts_standby.specs.declared.end.FollowEnd.{FollowEnd}
 use Rattle.gts_standby.specs.declared.end.FollowEnd.TheVariants.{Open, Diverged, DiskFault}
 use Rattle.gts_standby.specs.Ahead.{InFeed}
-use Rattle.gts_standby.specs.Taking.{Ends, Breaks, Taken, stopped, may_be_cut}
+use Rattle.gts_standby.specs.Taking.{Ends, Breaks, Taken, stopped, may_be_cut, add_all}
 use Rattle.gts_standby.specs.Following.{EndsAs, IsEnd, state_after, OpensWithin}
 use Rattle.gts_standby.specs.Reading.{HasRead, ReadsAll, StopsAs}
 
@@ -61,11 +61,25 @@ AddsOne (Ok size) tells d s fed at old j new core next ahead left = HasAddedOne 
 AddsOne (Err DiskFault) tells d s fed at old j new core next ahead left = FailsAtOne d s fed old j new
 AddsOne (Err answer) tells d s fed at old j new core next ahead left = AddsNone answer d s fed at old j new left
 
+-- so it is of whatever state the journal stands for, and whatever the feed has left
+abbrev pub AddsNext : Result ℕ FollowEnd → (tells : Type 0) → Directory → ℕ → List Call → Core → InHand → InFeed → List ℕ → List Call
+    → Core → InHand → InFeed → List ℕ → Type 0
+AddsNext result tells d at old core j ahead left new core_now next ahead_now left_now =
+    (s : State) (fed : List ℕ) → HoldsAt tells d s old core j → HasRead fed ahead left
+    → AddsOne result tells d s fed at old j new core_now next ahead_now left_now
+
 -- all that a feed adds was to be added
 pub record HasAdded (answer : FollowEnd) (d : Directory) (s : State) (taken : Taken) (old new : List Call) (left : List ℕ) : Type 0 where
   pub ends : IsEnd answer → EndsAs answer taken.end × ReadsAll answer left
   pub opened : IsEnd answer → OpensTo d (state_after d s taken) (seen new)
   pub moments : EachSince old new (OpensWithin d s taken)
+
+-- so it is of whatever state the journal stands for, and whatever the feed has left
+abbrev pub AddsAll : FollowEnd → (tells : Type 0) → Directory → ℕ → List Call → Core → InHand → InFeed → List ℕ → List Call → List ℕ
+    → Type 0
+AddsAll answer tells d at old core j ahead left new left_now =
+    (s : State) (fed : List ℕ) (n : ℕ) → HoldsAt tells d s old core j → HasRead fed ahead left → length fed ≤ n
+    → HasAdded answer d s (add_all written d n j.seal s j.gate at fed) old new left_now
 
 -- what may be answered where records are added
 abbrev pub IsAddEnd : FollowEnd → Type 0

@@ -4,7 +4,7 @@ use Rattle.gts_traits.specs.{Outside, Files, Call, said_by, EachSince}
 use Rattle.gts_directory.specs.Directory.{Directory}
 use Rattle.gts_event.specs.State.{State}
 use Rattle.gts_event.specs.Need.{Need, begun}
-use Rattle.gts_record.specs.Format.{written}
+use Rattle.gts_record.specs.Format.{first_seal, written}
 use Rattle.gts_opening.specs.Journal.{need_in}
 use Rattle.gts_core.specs.Core.{Core}
 use Rattle.gts_journal.specs.{InHand, OpensTo}
@@ -57,3 +57,10 @@ abbrev pub Begins : Result (Core × ℕ) FollowEnd → (tells : Type 0) → Dire
     → InHand → InFeed → List ℕ → Type 0
 Begins (Ok found) tells d s fed old j new next ahead left = HasBegun tells d s fed old j found.1 new found.0 next ahead left
 Begins (Err answer) tells d s fed old j new next ahead left = EndsBegin answer d s fed old j new left
+
+-- so it is of whatever state the journal stands for, and whatever the feed has left
+abbrev pub BeginsAny : Result (Core × ℕ) FollowEnd → (tells : Type 0) → Directory → List Call → Core → InHand → InFeed → List ℕ
+    → List Call → InHand → InFeed → List ℕ → Type 0
+BeginsAny result tells d old core j ahead left new next ahead_now left_now =
+    (s : State) (fed : List ℕ) → HoldsAt tells d s old core j → j.seal ≡ first_seal written d.mark → HasRead fed ahead left
+    → Begins result tells d s fed old j new next ahead_now left_now

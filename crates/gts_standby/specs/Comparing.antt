@@ -1,15 +1,17 @@
 -- What it is that the records of a journal are compared with those of a feed.
-use Rattle.std.specs.Prelude.{◌≡◌, ℕ, ◌+◌, ◌≤◌, List, ◌∷◌, length, drop, Result, Ok, Err}
+use Rattle.std.specs.Prelude.{◌≡◌, ℕ, ◌+◌, ◌≤◌, ◌<◌, List, ◌∷◌, length, drop, Result, Ok, Err}
 use Rattle.gts_traits.specs.{Call}
 use Rattle.gts_directory.specs.Directory.{Directory}
+use Rattle.gts_event.specs.State.{State}
 use Rattle.gts_record.specs.declared.version.Version.{Version}
-use Rattle.gts_record.specs.Format.{first_seal}
-use Rattle.gts_journal.specs.{InHand, file_of, is_checkpoint}
+use Rattle.gts_record.specs.Format.{first_seal, written}
+use Rattle.gts_journal.specs.{InHand, StandsFor, file_of, is_checkpoint}
 use Rattle.gts_standby.specs.declared.end.FollowEnd.{FollowEnd}
 use Rattle.gts_standby.specs.declared.end.FollowEnd.TheVariants.{Open, DiskFault, NoMemory}
 use Rattle.gts_standby.specs.Ahead.{InFeed}
-use Rattle.gts_standby.specs.Shipping.{Reaches}
+use Rattle.gts_standby.specs.Shipping.{Reaches, IsAtFirst}
 use Rattle.gts_standby.specs.Taking.{Taken, seals_at, seals_behind, compare_first, compare_all}
+use Rattle.gts_standby.specs.Following.{own_seals}
 use Rattle.gts_standby.specs.Reading.{HasRead, StopsAs}
 
 -- From a gate of these bytes on, where this seal stands before it, the records come to a closed gate at this place; and these are
@@ -84,8 +86,34 @@ ComparesFirst (Ok size) d old j fed calls next end ahead unread = HasComparedFir
 ComparesFirst (Err e) d old j fed calls next end ahead unread =
     (behind : ℕ → List ℕ → Taken) → StopsAs e (compare_first j.version d.limit behind (seals_here d old j) j.seal fed) unread
 
+-- so it is of whatever the journal and the feed have there
+abbrev pub ComparesFirstOfAny : Result ℕ FollowEnd → Directory → List Call → InHand → InFeed → List ℕ → List Call → InHand → InFeed
+    → List ℕ → Type 0
+ComparesFirstOfAny result d old j ahead left calls next ahead_now unread =
+    (end : ℕ) (fed : List ℕ) → IsAtFirst d old j end → 40 < end → HasRead fed ahead left
+    → ComparesFirst result d old j fed calls next end ahead_now unread
+
+-- so it is of each further record
+abbrev pub ComparesNext : Result ℕ FollowEnd → ℕ → ℕ → List Call → InHand → InFeed → List ℕ → List Call → InHand → InFeed → List ℕ → Type 0
+ComparesNext result index at old j ahead left calls next ahead_now unread =
+    (d : Directory) (end : ℕ) (seals : List (List ℕ)) (fed : List ℕ) → IsAtSeals d old j end seals → j.gate < end
+    → HasRead fed ahead left → ComparesOne result d seals j.version j.seal index at fed calls next end ahead_now unread
+
 -- What is to be compared comes to what is behind it in the feed; or the feed ends there.
 abbrev pub Compares : Result ℕ FollowEnd → ((ℕ → List ℕ → Taken) → Taken) → InFeed → List ℕ → Type 0
 Compares (Ok at) what ahead unread =
     (fed : List ℕ) × ((behind : ℕ → List ℕ → Taken) → what behind ≡ behind at fed) × HasRead fed ahead unread
 Compares (Err e) what ahead unread = (behind : ℕ → List ℕ → Taken) → StopsAs e (what behind) unread
+
+-- so it is of the further records, up to a gate
+abbrev pub ComparesRest : Result ℕ FollowEnd → ℕ → ℕ → List Call → InHand → InFeed → List ℕ → InFeed → List ℕ → Type 0
+ComparesRest result at end old j ahead left ahead_now unread =
+    (d : Directory) (seals : List (List ℕ)) (fed : List ℕ) → IsAtSeals d old j end seals → HasRead fed ahead left
+    → Compares result (λ behind. compare_all j.version behind seals j.seal 1 at fed) ahead_now unread
+
+-- so it is of all records of a journal that stands for a state
+abbrev pub ComparesAll : Result ℕ FollowEnd → Directory → ℕ → List Call → InFeed → List ℕ → InFeed → List ℕ → Type 0
+ComparesAll result d end old ahead left ahead_now unread =
+    (s : State) (j : InHand) (fed : List ℕ) → StandsFor d s old j → j.gate ≡ end → HasRead fed ahead left
+    → Compares result
+    (λ behind. compare_first written d.limit behind (own_seals d (file_of old j)) (first_seal written d.mark) fed) ahead_now unread

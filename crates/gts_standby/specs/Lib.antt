@@ -9,9 +9,12 @@ pub mod Comparing
 pub mod Beginning
 pub mod Whole
 pub mod Fronts
+pub mod Counts
+pub mod Cited
 pub use Rattle.gts_standby.specs.Feed.{feed}
 pub use Rattle.gts_standby.specs.Shipping.{IsShipFault, IsNamed, ShipsOnly, feed_of}
 pub use Rattle.gts_standby.specs.Taking.{End, Taken, taken}
 pub use Rattle.gts_standby.specs.Whole.{IsNamedEnd}
 pub use Rattle.gts_standby.specs.Following.{comes_to, own_seals, EndsAs, Answers, IsEnd, state_after, OpensWithin, EachOpens, HasAll, LeavesFronts}
-pub use Rattle.gts_standby.specs.Fronts.{AddsFront, LeadsTo}
+pub use Rattle.gts_standby.specs.Fronts.{AddsFront, HasNoRecord, IsPlainFeed, state_of, LeadsTo}
+pub use Rattle.gts_standby.specs.Counts.{KeepsAllCounts}

@@ -4,12 +4,16 @@ use Rattle.gts_traits.specs.{Call}
 use Rattle.gts_directory.specs.Directory.{Directory}
 use Rattle.gts_event.specs.State.{State}
 use Rattle.gts_record.specs.declared.fault.OpenFault.TheVariants as opening
+use Rattle.gts_record.specs.Format.{first_seal, written}
+use Rattle.gts_core.specs.Core.{Core}
+use Rattle.gts_journal.specs.{InHand, file_of}
 use Rattle.gts_standby.specs.declared.end.FollowEnd.{FollowEnd}
 use Rattle.gts_standby.specs.declared.end.FollowEnd.TheVariants.{Open}
 use Rattle.gts_standby.specs.Ahead.{InFeed}
-use Rattle.gts_standby.specs.Taking.{Taken}
-use Rattle.gts_standby.specs.Reading.{ReadsAll}
-use Rattle.gts_standby.specs.Adding.{HasAdded}
+use Rattle.gts_standby.specs.Taking.{Taken, take_records}
+use Rattle.gts_standby.specs.Following.{own_seals}
+use Rattle.gts_standby.specs.Reading.{HasRead, ReadsAll}
+use Rattle.gts_standby.specs.Adding.{HoldsAt, HasAdded}
 
 -- what may be answered where the journal opens
 abbrev pub IsTakenEnd : FollowEnd → Type 0
@@ -26,6 +30,20 @@ IsNamedEnd answer = Unit {0}
 pub record HasTaken (answer : FollowEnd) (d : Directory) (s : State) (taken : Taken) (old new : List Call) (left : List ℕ) : Type 0 where
   pub kind : IsTakenEnd answer
   pub added : HasAdded answer d s taken old new left
+
+-- So it is of a journal without records, of whatever state it stands for, and whatever the feed has left.
+abbrev pub TakesFirst : FollowEnd → (tells : Type 0) → Directory → List Call → Core → InHand → InFeed → List ℕ → List Call → List ℕ
+    → Type 0
+TakesFirst answer tells d old core j ahead left new left_now =
+    (s : State) (fed : List ℕ) → HoldsAt tells d s old core j → j.seal ≡ first_seal written d.mark → HasRead fed ahead left
+    → HasTaken answer d s (take_records written d s j.gate j.seal [] fed) old new left_now
+
+-- so it is of any journal
+abbrev pub TakesRecords : FollowEnd → (tells : Type 0) → Directory → List Call → Core → InHand → InFeed → List ℕ → List Call → List ℕ
+    → Type 0
+TakesRecords answer tells d old core j ahead left new left_now =
+    (s : State) (fed : List ℕ) → HoldsAt tells d s old core j → HasRead fed ahead left
+    → HasTaken answer d s (take_records written d s j.gate j.seal (own_seals d (file_of old j)) fed) old new left_now
 
 -- where all was read ahead, the source has no more
 abbrev pub IsWhole : InFeed → List ℕ → Type 0

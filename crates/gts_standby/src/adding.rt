@@ -1,12 +1,10 @@
 //! The records of a feed that a journal doesn't have are added to it.
-ghost use Rattle.std.specs.Prelude.{◌≡◌, ◌+◌, ◌*◌, ◌≤◌, ◌^◌, ℕ, List, length, IfOk, IfErr, OnOk, IsErrOf};
+ghost use Rattle.std.specs.Prelude.{◌≡◌, ◌+◌, ◌≤◌, ◌^◌, IfOk, IfErr, OnOk, IsErrOf};
 ghost use Rattle.gts_traits.specs.{Rose, said_by};
-ghost use Rattle.gts_event.specs.State.{State};
-ghost use Rattle.gts_record.specs.Format.{written};
 ghost use Rattle.gts_recovery.specs.{IsOpened};
-ghost use Rattle.gts_standby.specs.Taking as feeds;
-ghost use Rattle.gts_standby.specs.Reading.{HasRead, ReadsAll};
-ghost use Rattle.gts_standby.specs.Adding.{HoldsAt, AddsOne, HasAdded, IsAddEnd};
+ghost use Rattle.gts_standby.specs.Reading.{ReadsAll};
+ghost use Rattle.gts_standby.specs.Adding.{AddsNext, AddsAll, IsAddEnd};
+ghost use Rattle.gts_standby.specs.Counts.{KeepsAllCounts};
 ghost use Rattle.gts_standby.specs.Whole.{IsWhole, StaysWhole};
 
 use crate::FollowEnd;
@@ -32,11 +30,9 @@ fn add_next<P: Station, S: Source>(
     at: u64,
 ) -> Result<usize, FollowEnd>
     requires { IsOpened P.tells directory.now (P.calls station.old) core.old journal.old }
-    ensures added { P.tells → S.tells → (s : State) (fed : List ℕ)
-        → HoldsAt P.tells directory.now s (P.calls station.old) core.old journal.old
-        → HasRead fed ahead.old (S.left source.old) → AddsOne result P.tells directory.now s fed at
-        (P.calls station.old) journal.old (P.calls station.new) core.new journal.new ahead.new
-        (S.left source.new) }
+    ensures added { P.tells → S.tells → AddsNext result P.tells directory.now at
+        (P.calls station.old) core.old journal.old ahead.old (S.left source.old)
+        (P.calls station.new) core.new journal.new ahead.new (S.left source.new) }
     ensures opened { OnOk result
         (IsOpened P.tells directory.now (P.calls station.new) core.new journal.new) }
     ensures rises { IfOk result (λ size. journal.new.gate ≡ journal.old.gate + size + 1) }
@@ -46,9 +42,9 @@ fn add_next<P: Station, S: Source>(
         → Rose (S.faults source.old) (S.faults source.new) }
     ensures disk_fault { IsErrOf result FollowEnd.DiskFault
         → Rose (P.disk_faults station.old) (P.disk_faults station.new) }
-    ensures later { P.disk_faults station.old ≤ P.disk_faults station.new }
-    ensures source_later { S.faults source.old ≤ S.faults source.new }
-    ensures say { P.say_faults station.new ≡ P.say_faults station.old }
+    ensures counts { KeepsAllCounts (P.disk_faults station.old) (P.disk_faults station.new)
+        (P.say_faults station.old) (P.say_faults station.new) (S.faults source.old)
+        (S.faults source.new) }
     ensures whole { S.tells → IsWhole ahead.old (S.left source.old)
         → StaysWhole result ahead.new (S.left source.new) }
 {
@@ -94,21 +90,18 @@ pub(crate) fn add_all<P: Station, S: Source>(
 ) -> FollowEnd
     requires opened { IsOpened P.tells directory.now (P.calls station.old) core journal }
     requires place { at ≤ 2 ^ 62 }
-    ensures added { P.tells → S.tells → (s : State) (fed : List ℕ) (n : ℕ)
-        → HoldsAt P.tells directory.now s (P.calls station.old) core journal
-        → HasRead fed ahead.old (S.left source.old) → length fed ≤ n
-        → HasAdded result directory.now s
-        (feeds.add_all written directory.now n journal.seal s journal.gate at fed)
-        (P.calls station.old) (P.calls station.new) (S.left source.new) }
+    ensures added { P.tells → S.tells → AddsAll result P.tells directory.now at
+        (P.calls station.old) core journal ahead.old (S.left source.old) (P.calls station.new)
+        (S.left source.new) }
     ensures kind { IsAddEnd result }
     ensures silent { P.tells → said_by (P.calls station.new) ≡ said_by (P.calls station.old) }
     ensures source_fault { result ≡ FollowEnd.SourceFault
         → Rose (S.faults source.old) (S.faults source.new) }
     ensures disk_fault { result ≡ FollowEnd.DiskFault
         → Rose (P.disk_faults station.old) (P.disk_faults station.new) }
-    ensures later { P.disk_faults station.old ≤ P.disk_faults station.new }
-    ensures source_later { S.faults source.old ≤ S.faults source.new }
-    ensures say { P.say_faults station.new ≡ P.say_faults station.old }
+    ensures counts { KeepsAllCounts (P.disk_faults station.old) (P.disk_faults station.new)
+        (P.say_faults station.old) (P.say_faults station.new) (S.faults source.old)
+        (S.faults source.new) }
     ensures whole { S.tells → IsWhole ahead.old (S.left source.old)
         → ReadsAll result (S.left source.new) }
 {

@@ -1,17 +1,11 @@
 //! An empty journal begins with the checkpoint of a feed.
-ghost use Rattle.std.specs.Prelude.{◌≡◌, ◌+◌, ◌≤◌, ◌^◌, ℕ, List, true, length, IfOk, IfErr, OnOk, IsErrOf, IsTrue};
+ghost use Rattle.std.specs.Prelude.{◌≡◌, ◌+◌, ◌≤◌, ◌^◌, true, length, IfOk, IfErr, OnOk, IsErrOf, IsTrue};
 ghost use Rattle.gts_traits.specs.{Rose, said_by, EachSince};
-ghost use Rattle.gts_event.specs.State.{State};
-ghost use Rattle.gts_event.specs.Items as items;
-ghost use Rattle.gts_event.specs.Need.{begun, is_sound};
-ghost use Rattle.gts_record.specs.Format.{written, first_seal};
-ghost use Rattle.gts_opening.specs.Journal.{checkpoint_text, compacted_bytes, FitsLimit, unowed};
-ghost use Rattle.gts_checkpoint.specs.{need_seal};
-ghost use Rattle.gts_journal.specs.{StandsOn, StandsFor};
-ghost use Rattle.gts_recovery.specs.{IsOpened};
-ghost use Rattle.gts_standby.specs.Reading.{HasRead};
-ghost use Rattle.gts_standby.specs.Adding.{HoldsAt, IsAddEnd};
-ghost use Rattle.gts_standby.specs.Beginning.{OpensOneOf, IsPutEnd, Begins};
+ghost use Rattle.gts_standby.specs.Cited.{State, need_of, begun, is_sound, written, checkpoint_text, compacted_bytes, FitsLimit, unowed};
+ghost use Rattle.gts_standby.specs.Cited.{need_seal, StandsOn, StandsFor, IsOpened};
+ghost use Rattle.gts_standby.specs.Adding.{IsAddEnd};
+ghost use Rattle.gts_standby.specs.Beginning.{OpensOneOf, IsPutEnd, BeginsAny};
+ghost use Rattle.gts_standby.specs.Counts.{KeepsCounts, KeepsAllCounts};
 ghost use Rattle.gts_standby.specs.Whole.{IsWhole, StaysWhole};
 
 use crate::FollowEnd;
@@ -36,31 +30,31 @@ fn put<P: Station>(
     need: &Need,
     size: usize,
 ) -> Result<(), FollowEnd>
-    requires sound { IsTrue (is_sound directory.now (items.need_of need.now)) }
-    requires free { unowed (items.need_of need.now) ≡ items.need_of need.now }
-    requires fits { FitsLimit written directory.now (items.need_of need.now) }
-    requires size { size ≡ length (checkpoint_text (items.need_of need.now)) }
+    requires sound { IsTrue (is_sound directory.now (need_of need.now)) }
+    requires free { unowed (need_of need.now) ≡ need_of need.now }
+    requires fits { FitsLimit written directory.now (need_of need.now) }
+    requires size { size ≡ length (checkpoint_text (need_of need.now)) }
     requires stands { P.tells → StandsOn (P.calls station.old) journal.old }
     ensures begun { P.tells → OnOk result ((s : State)
         → StandsFor directory.now s (P.calls station.old) journal.old → StandsFor directory.now
-        (begun (items.need_of need.now)) (P.calls station.new) journal.new) }
+        (begun (need_of need.now)) (P.calls station.new) journal.new) }
     ensures gate { OnOk result
-        (journal.new.gate + 1 ≡ compacted_bytes written (items.need_of need.now)) }
+        (journal.new.gate + 1 ≡ compacted_bytes written (need_of need.now)) }
     ensures seal { OnOk result
-        (journal.new.seal ≡ need_seal directory.now.mark (items.need_of need.now)) }
+        (journal.new.seal ≡ need_seal directory.now.mark (need_of need.now)) }
     ensures current { OnOk result (journal.new.version ≡ written) }
     ensures ended { OnOk result (journal.new.ended ≡ true) }
 
     // A crash at any moment leaves the journal as it was, or as it begins with the checkpoint.
     ensures moments { P.tells → (s : State) → StandsFor directory.now s (P.calls station.old)
         journal.old → EachSince (P.calls station.old) (P.calls station.new)
-        (OpensOneOf directory.now s (begun (items.need_of need.now))) }
+        (OpensOneOf directory.now s (begun (need_of need.now))) }
     ensures silent { P.tells → said_by (P.calls station.new) ≡ said_by (P.calls station.old) }
     ensures kind { IfErr result IsPutEnd }
     ensures disk_fault { IsErrOf result FollowEnd.DiskFault
         → Rose (P.disk_faults station.old) (P.disk_faults station.new) }
-    ensures later { P.disk_faults station.old ≤ P.disk_faults station.new }
-    ensures say { P.say_faults station.new ≡ P.say_faults station.old }
+    ensures counts { KeepsCounts (P.disk_faults station.old) (P.disk_faults station.new)
+        (P.say_faults station.old) (P.say_faults station.new) }
 {
     // A directory is within its bounds.
     let _ = (directory.circuits(), directory.limit());
@@ -89,12 +83,9 @@ pub(crate) fn begin<P: Station, S: Source>(
     ahead: &mut Ahead,
 ) -> Result<(Core, u64), FollowEnd>
     requires { IsOpened P.tells directory.now (P.calls station.old) core.now journal.old }
-    ensures begun { P.tells → S.tells → (s : State) (fed : List ℕ)
-        → HoldsAt P.tells directory.now s (P.calls station.old) core.now journal.old
-        → journal.old.seal ≡ first_seal written directory.now.mark
-        → HasRead fed ahead.old (S.left source.old) → Begins result P.tells directory.now s fed
-        (P.calls station.old) journal.old (P.calls station.new) journal.new ahead.new
-        (S.left source.new) }
+    ensures begun { P.tells → S.tells → BeginsAny result P.tells directory.now (P.calls station.old)
+        core.now journal.old ahead.old (S.left source.old) (P.calls station.new) journal.new
+        ahead.new (S.left source.new) }
     ensures opened { IfOk result (λ found.
         IsOpened P.tells directory.now (P.calls station.new) found.0 journal.new) }
     ensures place { IfOk result (λ found. found.1 ≤ 2 ^ 62) }
@@ -104,9 +95,9 @@ pub(crate) fn begin<P: Station, S: Source>(
         → Rose (S.faults source.old) (S.faults source.new) }
     ensures disk_fault { IsErrOf result FollowEnd.DiskFault
         → Rose (P.disk_faults station.old) (P.disk_faults station.new) }
-    ensures later { P.disk_faults station.old ≤ P.disk_faults station.new }
-    ensures source_later { S.faults source.old ≤ S.faults source.new }
-    ensures say { P.say_faults station.new ≡ P.say_faults station.old }
+    ensures counts { KeepsAllCounts (P.disk_faults station.old) (P.disk_faults station.new)
+        (P.say_faults station.old) (P.say_faults station.new) (S.faults source.old)
+        (S.faults source.new) }
     ensures whole { S.tells → IsWhole ahead.old (S.left source.old)
         → StaysWhole result ahead.new (S.left source.new) }
 {

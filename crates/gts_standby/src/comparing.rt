@@ -1,16 +1,10 @@
 //! The records that a journal has are compared with those of a feed.
-ghost use Rattle.std.specs.Prelude.{◌≡◌, ◌≤◌, ◌<◌, ◌+◌, ◌*◌, ◌^◌, ℕ, false, List, nat_eq, length, IfOk, IfErr, OnOk, IsErrOf};
-ghost use Rattle.std.specs.Cmp.Lexicographic.{pointwise};
+ghost use Rattle.std.specs.Prelude.{◌≡◌, ◌≤◌, ◌<◌, ◌^◌, ℕ, false, List, nat_eq, length, IfOk, IfErr, OnOk, IsErrOf};
 ghost use Rattle.gts_traits.specs.{Rose};
-ghost use Rattle.gts_directory.specs.Directory.{Directory as DirectoryOf};
-ghost use Rattle.gts_event.specs.State.{State};
-ghost use Rattle.gts_record.specs.Format.{held, first_seal, written};
-ghost use Rattle.gts_journal.specs.{StandsOn, StandsFor, InHand, OnlySyncs, file_of};
-ghost use Rattle.gts_standby.specs.Shipping.{IsAtFirst};
-ghost use Rattle.gts_standby.specs.Taking.{first_piece, compare_all, compare_first as feed_compared};
-ghost use Rattle.gts_standby.specs.Following.{own_seals};
+ghost use Rattle.gts_standby.specs.Cited.{pointwise, Directory as DirectoryOf, held, written, StandsOn, OnlySyncs, IsAtFirst, first_piece};
 ghost use Rattle.gts_standby.specs.Reading.{HasRead, FindsPiece, IsFedEnd};
-ghost use Rattle.gts_standby.specs.Comparing.{IsAtSeals, OwnGoesOn, IsOwnEnd, ComparesFirst, ComparesOne, Compares, seals_here};
+ghost use Rattle.gts_standby.specs.Comparing.{IsAtSeals, OwnGoesOn, IsOwnEnd, ComparesFirstOfAny, ComparesNext, ComparesRest, ComparesAll, seals_here};
+ghost use Rattle.gts_standby.specs.Counts.{KeepsCounts, KeepsAllCounts, GoesOn};
 ghost use Rattle.gts_standby.specs.Whole.{IsNamedEnd, IsWhole, StaysWhole};
 
 use crate::FollowEnd;
@@ -45,16 +39,13 @@ fn own_first<P: Station>(
     ensures on { P.tells → (end : ℕ) → IsAtFirst directory.now (P.calls station.old) own.old end
         → 40 < end → OwnGoesOn result directory.now (P.calls station.new) own.new end
         (seals_here directory.now (P.calls station.old) own.old) }
-    ensures going { OnOk result (own.new.ended ≡ false) }
-    ensures stands { P.tells → OnOk result (StandsOn (P.calls station.new) own.new) }
-    ensures rises { OnOk result (own.old.gate < own.new.gate) }
-    ensures version { OnOk result (own.new.version ≡ own.old.version) }
+    ensures goes { OnOk result (GoesOn P.tells (P.calls station.new) own.old own.new) }
     ensures kind { IfErr result IsOwnEnd }
     ensures told { P.tells → P.calls station.new ≡ P.calls station.old }
     ensures disk_fault { IsErrOf result FollowEnd.DiskFault
         → Rose (P.disk_faults station.old) (P.disk_faults station.new) }
-    ensures later { P.disk_faults station.old ≤ P.disk_faults station.new }
-    ensures say { P.say_faults station.new ≡ P.say_faults station.old }
+    ensures counts { KeepsCounts (P.disk_faults station.old) (P.disk_faults station.new)
+        (P.say_faults station.old) (P.say_faults station.new) }
     ensures named { IfErr result IsNamedEnd }
 {
     if !own.at_checkpoint() {
@@ -80,16 +71,13 @@ fn own_next<P: Station>(station: &mut P, own: &mut Journal) -> Result<(), Follow
     ensures on { P.tells → (d : DirectoryOf) (end : ℕ) (left : List (List ℕ))
         → IsAtSeals d (P.calls station.old) own.old end left → own.old.gate < end
         → OwnGoesOn result d (P.calls station.new) own.new end left }
-    ensures going { OnOk result (own.new.ended ≡ false) }
-    ensures stands { P.tells → OnOk result (StandsOn (P.calls station.new) own.new) }
-    ensures rises { OnOk result (own.old.gate < own.new.gate) }
-    ensures version { OnOk result (own.new.version ≡ own.old.version) }
+    ensures goes { OnOk result (GoesOn P.tells (P.calls station.new) own.old own.new) }
     ensures kind { IfErr result IsOwnEnd }
     ensures told { P.tells → P.calls station.new ≡ P.calls station.old }
     ensures disk_fault { IsErrOf result FollowEnd.DiskFault
         → Rose (P.disk_faults station.old) (P.disk_faults station.new) }
-    ensures later { P.disk_faults station.old ≤ P.disk_faults station.new }
-    ensures say { P.say_faults station.new ≡ P.say_faults station.old }
+    ensures counts { KeepsCounts (P.disk_faults station.old) (P.disk_faults station.new)
+        (P.say_faults station.old) (P.say_faults station.new) }
     ensures named { IfErr result IsNamedEnd }
 {
     let file = own.file();
@@ -141,24 +129,19 @@ fn compare_first<P: Station, S: Source>(
     requires going { own.old.ended ≡ false }
     requires begins { own.old.gate ≡ 40 }
     requires stands { P.tells → StandsOn (P.calls station.old) own.old }
-    ensures compared { P.tells → S.tells → (end : ℕ) (fed : List ℕ)
-        → IsAtFirst directory.now (P.calls station.old) own.old end → 40 < end
-        → HasRead fed ahead.old (S.left source.old)
-        → ComparesFirst result directory.now (P.calls station.old) own.old fed
-        (P.calls station.new) own.new end ahead.new (S.left source.new) }
+    ensures compared { P.tells → S.tells → ComparesFirstOfAny result directory.now
+        (P.calls station.old) own.old ahead.old (S.left source.old) (P.calls station.new) own.new
+        ahead.new (S.left source.new) }
     ensures size { IfOk result (λ size. size ≤ 2 ^ 31) }
-    ensures going { OnOk result (own.new.ended ≡ false) }
-    ensures stands { P.tells → OnOk result (StandsOn (P.calls station.new) own.new) }
-    ensures rises { OnOk result (own.old.gate < own.new.gate) }
-    ensures version { OnOk result (own.new.version ≡ own.old.version) }
+    ensures goes { OnOk result (GoesOn P.tells (P.calls station.new) own.old own.new) }
     ensures told { P.tells → P.calls station.new ≡ P.calls station.old }
     ensures disk_fault { IsErrOf result FollowEnd.DiskFault
         → Rose (P.disk_faults station.old) (P.disk_faults station.new) }
-    ensures later { P.disk_faults station.old ≤ P.disk_faults station.new }
-    ensures say { P.say_faults station.new ≡ P.say_faults station.old }
+    ensures counts { KeepsAllCounts (P.disk_faults station.old) (P.disk_faults station.new)
+        (P.say_faults station.old) (P.say_faults station.new) (S.faults source.old)
+        (S.faults source.new) }
     ensures source_fault { IsErrOf result FollowEnd.SourceFault
         → Rose (S.faults source.old) (S.faults source.new) }
-    ensures source_later { S.faults source.old ≤ S.faults source.new }
     ensures whole { S.tells → IsWhole ahead.old (S.left source.old)
         → StaysWhole result ahead.new (S.left source.new) }
     ensures named { IfErr result IsNamedEnd }
@@ -200,23 +183,19 @@ fn compare_next<P: Station, S: Source>(
     requires going { own.old.ended ≡ false }
     requires room { own.old.gate < 2 ^ 40 }
     requires stands { P.tells → StandsOn (P.calls station.old) own.old }
-    ensures compared { P.tells → S.tells → (d : DirectoryOf) (end : ℕ) (left : List (List ℕ))
-        (fed : List ℕ) → IsAtSeals d (P.calls station.old) own.old end left → own.old.gate < end
-        → HasRead fed ahead.old (S.left source.old) → ComparesOne result d left own.old.version
-        own.old.seal index at fed (P.calls station.new) own.new end ahead.new (S.left source.new) }
+    ensures compared { P.tells → S.tells → ComparesNext result index at (P.calls station.old)
+        own.old ahead.old (S.left source.old) (P.calls station.new) own.new ahead.new
+        (S.left source.new) }
     ensures size { IfOk result (λ size. size ≤ 2 ^ 20) }
-    ensures going { OnOk result (own.new.ended ≡ false) }
-    ensures stands { P.tells → OnOk result (StandsOn (P.calls station.new) own.new) }
-    ensures rises { OnOk result (own.old.gate < own.new.gate) }
-    ensures version { OnOk result (own.new.version ≡ own.old.version) }
+    ensures goes { OnOk result (GoesOn P.tells (P.calls station.new) own.old own.new) }
     ensures told { P.tells → P.calls station.new ≡ P.calls station.old }
     ensures disk_fault { IsErrOf result FollowEnd.DiskFault
         → Rose (P.disk_faults station.old) (P.disk_faults station.new) }
-    ensures later { P.disk_faults station.old ≤ P.disk_faults station.new }
-    ensures say { P.say_faults station.new ≡ P.say_faults station.old }
+    ensures counts { KeepsAllCounts (P.disk_faults station.old) (P.disk_faults station.new)
+        (P.say_faults station.old) (P.say_faults station.new) (S.faults source.old)
+        (S.faults source.new) }
     ensures source_fault { IsErrOf result FollowEnd.SourceFault
         → Rose (S.faults source.old) (S.faults source.new) }
-    ensures source_later { S.faults source.old ≤ S.faults source.new }
     ensures whole { S.tells → IsWhole ahead.old (S.left source.old)
         → StaysWhole result ahead.new (S.left source.new) }
     ensures named { IfErr result IsNamedEnd }
@@ -259,19 +238,17 @@ fn compare_rest<P: Station, S: Source>(
     requires room { end ≤ 2 ^ 30 }
     requires place { at ≤ 2 ^ 32 }
     requires stands { P.tells → StandsOn (P.calls station.old) own.old }
-    ensures compared { P.tells → S.tells → (d : DirectoryOf) (left : List (List ℕ)) (fed : List ℕ)
-        → IsAtSeals d (P.calls station.old) own.old end left
-        → HasRead fed ahead.old (S.left source.old) → Compares result (λ behind. compare_all
-        own.old.version behind left own.old.seal 1 at fed) ahead.new (S.left source.new) }
+    ensures compared { P.tells → S.tells → ComparesRest result at end (P.calls station.old) own.old
+        ahead.old (S.left source.old) ahead.new (S.left source.new) }
     ensures told { P.tells → P.calls station.new ≡ P.calls station.old }
     ensures place { IfOk result (λ at. at ≤ 2 ^ 62) }
     ensures disk_fault { IsErrOf result FollowEnd.DiskFault
         → Rose (P.disk_faults station.old) (P.disk_faults station.new) }
-    ensures later { P.disk_faults station.old ≤ P.disk_faults station.new }
-    ensures say { P.say_faults station.new ≡ P.say_faults station.old }
+    ensures counts { KeepsAllCounts (P.disk_faults station.old) (P.disk_faults station.new)
+        (P.say_faults station.old) (P.say_faults station.new) (S.faults source.old)
+        (S.faults source.new) }
     ensures source_fault { IsErrOf result FollowEnd.SourceFault
         → Rose (S.faults source.old) (S.faults source.new) }
-    ensures source_later { S.faults source.old ≤ S.faults source.new }
     ensures whole { S.tells → IsWhole ahead.old (S.left source.old)
         → StaysWhole result ahead.new (S.left source.new) }
     ensures named { IfErr result IsNamedEnd }
@@ -300,21 +277,17 @@ pub(crate) fn compare<P: Station, S: Source>(
 ) -> Result<u64, FollowEnd>
     requires some { 40 < end }
     requires room { end ≤ 2 ^ 30 }
-    ensures compared { P.tells → S.tells → (s : State) (j : InHand) (fed : List ℕ)
-        → StandsFor directory.now s (P.calls station.old) j → j.gate ≡ end
-        → HasRead fed ahead.old (S.left source.old) → Compares result (λ behind. feed_compared
-        written directory.now.limit behind (own_seals directory.now
-        (file_of (P.calls station.old) j)) (first_seal written directory.now.mark) fed)
-        ahead.new (S.left source.new) }
+    ensures compared { P.tells → S.tells → ComparesAll result directory.now end
+        (P.calls station.old) ahead.old (S.left source.old) ahead.new (S.left source.new) }
     ensures told { P.tells → OnlySyncs (P.calls station.old) (P.calls station.new) }
     ensures place { IfOk result (λ at. at ≤ 2 ^ 62) }
     ensures disk_fault { IsErrOf result FollowEnd.DiskFault
         → Rose (P.disk_faults station.old) (P.disk_faults station.new) }
-    ensures later { P.disk_faults station.old ≤ P.disk_faults station.new }
-    ensures say { P.say_faults station.new ≡ P.say_faults station.old }
+    ensures counts { KeepsAllCounts (P.disk_faults station.old) (P.disk_faults station.new)
+        (P.say_faults station.old) (P.say_faults station.new) (S.faults source.old)
+        (S.faults source.new) }
     ensures source_fault { IsErrOf result FollowEnd.SourceFault
         → Rose (S.faults source.old) (S.faults source.new) }
-    ensures source_later { S.faults source.old ≤ S.faults source.new }
     ensures whole { S.tells → IsWhole ahead.old (S.left source.old)
         → StaysWhole result ahead.new (S.left source.new) }
     ensures named { IfErr result IsNamedEnd }

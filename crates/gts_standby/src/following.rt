@@ -1,14 +1,11 @@
-ghost use Rattle.std.specs.Prelude.{◌≡◌, ◌≤◌, ℕ, List, []};
+ghost use Rattle.std.specs.Prelude.{◌≡◌, []};
 ghost use Rattle.gts_traits.specs.{Rose, seen, said_by};
-ghost use Rattle.gts_event.specs.State.{State};
-ghost use Rattle.gts_record.specs.Format.{written, first_seal};
-ghost use Rattle.gts_journal.specs.{file_of};
 ghost use Rattle.gts_recovery.specs.{IsOpened};
-ghost use Rattle.gts_standby.specs.Taking as feeds;
-ghost use Rattle.gts_standby.specs.Following.{comes_to, own_seals, Answers, HasAll, LeavesFronts};
-ghost use Rattle.gts_standby.specs.Reading.{HasRead, ReadsAll};
-ghost use Rattle.gts_standby.specs.Adding.{HoldsAt, IsAddEnd};
-ghost use Rattle.gts_standby.specs.Whole.{HasTaken, IsNamedEnd, IsWhole};
+ghost use Rattle.gts_standby.specs.Following.{comes_to, Answers, HasAll, LeavesFronts};
+ghost use Rattle.gts_standby.specs.Reading.{ReadsAll};
+ghost use Rattle.gts_standby.specs.Adding.{IsAddEnd};
+ghost use Rattle.gts_standby.specs.Counts.{KeepsAllCounts};
+ghost use Rattle.gts_standby.specs.Whole.{TakesFirst, TakesRecords, IsNamedEnd, IsWhole};
 
 use crate::FollowEnd;
 use crate::adding::add_all;
@@ -35,21 +32,18 @@ fn take_first<P: Station, S: Source>(
     ahead: &mut Ahead,
 ) -> FollowEnd
     requires { IsOpened P.tells directory.now (P.calls station.old) core journal }
-    ensures taken { P.tells → S.tells → (s : State) (fed : List ℕ)
-        → HoldsAt P.tells directory.now s (P.calls station.old) core journal
-        → journal.seal ≡ first_seal written directory.now.mark
-        → HasRead fed ahead.old (S.left source.old) → HasTaken result directory.now s
-        (feeds.take_records written directory.now s journal.gate journal.seal [] fed)
-        (P.calls station.old) (P.calls station.new) (S.left source.new) }
+    ensures taken { P.tells → S.tells → TakesFirst result P.tells directory.now
+        (P.calls station.old) core journal ahead.old (S.left source.old) (P.calls station.new)
+        (S.left source.new) }
     ensures kind { IsAddEnd result }
     ensures silent { P.tells → said_by (P.calls station.new) ≡ said_by (P.calls station.old) }
     ensures source_fault { result ≡ FollowEnd.SourceFault
         → Rose (S.faults source.old) (S.faults source.new) }
     ensures disk_fault { result ≡ FollowEnd.DiskFault
         → Rose (P.disk_faults station.old) (P.disk_faults station.new) }
-    ensures later { P.disk_faults station.old ≤ P.disk_faults station.new }
-    ensures source_later { S.faults source.old ≤ S.faults source.new }
-    ensures say { P.say_faults station.new ≡ P.say_faults station.old }
+    ensures counts { KeepsAllCounts (P.disk_faults station.old) (P.disk_faults station.new)
+        (P.say_faults station.old) (P.say_faults station.new) (S.faults source.old)
+        (S.faults source.new) }
     ensures whole { S.tells → IsWhole ahead.old (S.left source.old)
         → ReadsAll result (S.left source.new) }
 {
@@ -87,20 +81,17 @@ fn take_records<P: Station, S: Source>(
     ahead: &mut Ahead,
 ) -> FollowEnd
     requires { IsOpened P.tells directory.now (P.calls station.old) core journal }
-    ensures taken { P.tells → S.tells → (s : State) (fed : List ℕ)
-        → HoldsAt P.tells directory.now s (P.calls station.old) core journal
-        → HasRead fed ahead.old (S.left source.old) → HasTaken result directory.now s
-        (feeds.take_records written directory.now s journal.gate journal.seal
-        (own_seals directory.now (file_of (P.calls station.old) journal)) fed)
-        (P.calls station.old) (P.calls station.new) (S.left source.new) }
+    ensures taken { P.tells → S.tells → TakesRecords result P.tells directory.now
+        (P.calls station.old) core journal ahead.old (S.left source.old) (P.calls station.new)
+        (S.left source.new) }
     ensures silent { P.tells → said_by (P.calls station.new) ≡ said_by (P.calls station.old) }
     ensures source_fault { result ≡ FollowEnd.SourceFault
         → Rose (S.faults source.old) (S.faults source.new) }
     ensures disk_fault { result ≡ FollowEnd.DiskFault
         → Rose (P.disk_faults station.old) (P.disk_faults station.new) }
-    ensures later { P.disk_faults station.old ≤ P.disk_faults station.new }
-    ensures source_later { S.faults source.old ≤ S.faults source.new }
-    ensures say { P.say_faults station.new ≡ P.say_faults station.old }
+    ensures counts { KeepsAllCounts (P.disk_faults station.old) (P.disk_faults station.new)
+        (P.say_faults station.old) (P.say_faults station.new) (S.faults source.old)
+        (S.faults source.new) }
     ensures whole { S.tells → IsWhole ahead.old (S.left source.old)
         → ReadsAll result (S.left source.new) }
     ensures named { IsNamedEnd result }
@@ -136,9 +127,9 @@ fn take_feed<P: Station, S: Source>(
         → Rose (S.faults source.old) (S.faults source.new) }
     ensures disk_fault { result ≡ FollowEnd.DiskFault
         → Rose (P.disk_faults station.old) (P.disk_faults station.new) }
-    ensures later { P.disk_faults station.old ≤ P.disk_faults station.new }
-    ensures source_later { S.faults source.old ≤ S.faults source.new }
-    ensures say { P.say_faults station.new ≡ P.say_faults station.old }
+    ensures counts { KeepsAllCounts (P.disk_faults station.old) (P.disk_faults station.new)
+        (P.say_faults station.old) (P.say_faults station.new) (S.faults source.old)
+        (S.faults source.new) }
     ensures named { IsNamedEnd result }
 {
     let (core, journal) = match open_core(alloc, station, directory) {
@@ -181,9 +172,8 @@ pub fn follow<P: Station, S: Source>(
         → Rose (S.faults source.old) (S.faults source.new) }
     ensures disk_fault { result.1 ≡ FollowEnd.DiskFault
         → Rose (P.disk_faults station) (P.disk_faults result.0) }
-    ensures later { P.disk_faults station ≤ P.disk_faults result.0 }
-    ensures source_later { S.faults source.old ≤ S.faults source.new }
-    ensures say { P.say_faults result.0 ≡ P.say_faults station }
+    ensures counts { KeepsAllCounts (P.disk_faults station) (P.disk_faults result.0)
+        (P.say_faults station) (P.say_faults result.0) (S.faults source.old) (S.faults source.new) }
 
     // A fault of the disk, and want of memory, have names of their own.
     ensures named { IsNamedEnd result.1 }

@@ -25,9 +25,9 @@ record-preserved g c =
           one_more _ tells c.args.directory.now s _ _ _ _ _ _ _ _ gone _ _ _ _ _ _ (c.in-Ok.ensures.added tells told gone.state gone.fed gone.holds gone.read);
       whole = λ told w. c.in-Ok.ensures.whole told (inv.whole told w);
       silent = λ tells. c.add_next.ensures.silent tells ∙ inv.silent tells;
-      later = omega (arith, inv.later, c.add_next.ensures.later);
-      source_later = omega (arith, inv.source_later, c.add_next.ensures.source_later);
-      say = c.add_next.ensures.say ∙ inv.say;
+      later = omega (arith, inv.later, c.add_next.ensures.counts.later);
+      source_later = omega (arith, inv.source_later, c.add_next.ensures.counts.source_later);
+      say = c.add_next.ensures.counts.say ∙ inv.say;
     }
 
 pub returns-in-Err-clause-added : goal.returns-in-Err-clause-added

@@ -44,7 +44,7 @@ returns-in-Ok-compare_first-clause-compared g c = λ tells told s j fed stands g
     λ behind.
     same_seals d old now j own c.mark.result synced stands.stands (c.in-Ok.ensures.stands tells) c.in-Ok.ensures.version c.in-Ok.ensures.seal c.mark.ensures d.limit behind fed
     ∙ one.same behind
-    ∙ ap (λ (w : Version). compare_all w behind one.rest next.seal 1 (40 + size) (drop size fed)) (sym c.in-Ok-compare_first.ensures.version) in
+    ∙ ap (λ (w : Version). compare_all w behind one.rest next.seal 1 (40 + size) (drop size fed)) (sym c.in-Ok-compare_first.ensures.goes.version) in
     compares_same c.compare_rest.result from_here whole c.compare_rest.new.ahead (g.S.Source.left c.compare_rest.new.source) same
     (c.compare_rest.ensures.compared tells told d one.rest (drop size fed) one.on one.read)
 

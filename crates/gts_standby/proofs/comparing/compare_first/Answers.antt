@@ -42,8 +42,8 @@ returns-then-not-is_same-clause-compared g c = λ tells told end fed first low r
     diverged _ v 0 c.seal-seal.result array next.seal (held j.version array) _
     (first_off j.version d.limit behind left one.rest next.seal j.seal (held j.version array) c.in-Ok.found.0 fed one.is
     (first_so j v c.seal-before.result array c.version-version.ensures c.seal-before.ensures d.limit c.in-Ok.found.0 fed limited)
-    (same_so j v c.seal-before.result array c.version-version.ensures c.seal-before.ensures next c.seal-seal.result false c.in-Ok-own_first.ensures.version c.seal-seal.ensures other))
-    (own_so j v c.seal-before.result array c.version-version.ensures c.seal-before.ensures next c.seal-seal.result c.in-Ok-own_first.ensures.version c.seal-seal.ensures c.requires.current)
+    (same_so j v c.seal-before.result array c.version-version.ensures c.seal-before.ensures next c.seal-seal.result false c.in-Ok-own_first.ensures.goes.version c.seal-seal.ensures other))
+    (own_so j v c.seal-before.result array c.version-version.ensures c.seal-before.ensures next c.seal-seal.result c.in-Ok-own_first.ensures.goes.version c.seal-seal.ensures c.requires.current)
     (fed_so j v c.seal-before.result array c.version-version.ensures c.seal-before.ensures c.requires.current)
 
 pub returns-clause-compared : goal.returns-clause-compared
@@ -65,7 +65,7 @@ returns-clause-compared g c = λ tells told end fed first low read.
       same = λ behind.
           first_on j.version d.limit behind left one.rest next.seal j.seal (held j.version array) c.in-Ok.found.0 fed one.is
           (first_so j v c.seal-before.result array c.version-version.ensures c.seal-before.ensures d.limit c.in-Ok.found.0 fed limited)
-          (same_so j v c.seal-before.result array c.version-version.ensures c.seal-before.ensures next c.seal-seal.result true c.in-Ok-own_first.ensures.version c.seal-seal.ensures same);
+          (same_so j v c.seal-before.result array c.version-version.ensures c.seal-before.ensures next c.seal-seal.result true c.in-Ok-own_first.ensures.goes.version c.seal-seal.ensures same);
       on = one.at;
       read = subst (λ (a : InFeed). HasRead (drop c.in-Ok.found.0 fed) a left_now) (sym c.pass.ensures) (passed fed left_now c.fed_first.new.ahead c.in-Ok.found.0 found.1 c.in-Ok.ensures.there);
     }

@@ -33,8 +33,8 @@ returns-then-not-is_same-clause-compared g c = λ tells told d end left fed on l
     diverged _ v c.args.index c.seal-seal.result array next.seal (held j.version array) _
     (compare_off j.version behind left one.rest next.seal j.seal (held j.version array) c.args.index c.args.at c.in-Ok.found.0 fed one.is
     (piece_so j v c.seal-before.result array c.version-version.ensures c.seal-before.ensures c.in-Ok.found.0 fed found.0)
-    (same_so j v c.seal-before.result array c.version-version.ensures c.seal-before.ensures next c.seal-seal.result false c.in-Ok-own_next.ensures.version c.seal-seal.ensures other))
-    (own_so j v c.seal-before.result array c.version-version.ensures c.seal-before.ensures next c.seal-seal.result c.in-Ok-own_next.ensures.version c.seal-seal.ensures c.requires.current)
+    (same_so j v c.seal-before.result array c.version-version.ensures c.seal-before.ensures next c.seal-seal.result false c.in-Ok-own_next.ensures.goes.version c.seal-seal.ensures other))
+    (own_so j v c.seal-before.result array c.version-version.ensures c.seal-before.ensures next c.seal-seal.result c.in-Ok-own_next.ensures.goes.version c.seal-seal.ensures c.requires.current)
     (fed_so j v c.seal-before.result array c.version-version.ensures c.seal-before.ensures c.requires.current)
 
 pub returns-clause-compared : goal.returns-clause-compared
@@ -52,7 +52,7 @@ returns-clause-compared g c = λ tells told d end left fed on low read.
       same = λ behind.
           compare_on j.version behind left one.rest next.seal j.seal (held j.version array) c.args.index c.args.at c.in-Ok.found.0 fed one.is
           (piece_so j v c.seal-before.result array c.version-version.ensures c.seal-before.ensures c.in-Ok.found.0 fed found.0)
-          (same_so j v c.seal-before.result array c.version-version.ensures c.seal-before.ensures next c.seal-seal.result true c.in-Ok-own_next.ensures.version c.seal-seal.ensures same);
+          (same_so j v c.seal-before.result array c.version-version.ensures c.seal-before.ensures next c.seal-seal.result true c.in-Ok-own_next.ensures.goes.version c.seal-seal.ensures same);
       on = one.at;
       read = subst (λ (a : InFeed). HasRead (drop c.in-Ok.found.0 fed) a left_now) (sym c.pass.ensures) (passed fed left_now c.fed_record.new.ahead c.in-Ok.found.0 found.1 c.in-Ok.ensures.there);
     }

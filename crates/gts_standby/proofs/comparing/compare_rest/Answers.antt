@@ -8,11 +8,11 @@ record-preserved g c =
     let j = c.record.own in
     let at_gate : c.used.result ≡ j.gate = c.used.ensures ∙ ap (λ (b : Bool). cond b (j.gate + 1) j.gate) inv.going in
     record {
-      going = c.in-Ok.ensures.going;
-      version = c.in-Ok.ensures.version ∙ inv.version;
-      stands = c.in-Ok.ensures.stands;
+      going = c.in-Ok.ensures.goes.going;
+      version = c.in-Ok.ensures.goes.version ∙ inv.version;
+      stands = c.in-Ok.ensures.goes.stands;
       place = omega (arith, inv.place, c.in-Ok.ensures.size);
-      count = omega (arith, inv.count, c.in-Ok.ensures.rises);
+      count = omega (arith, inv.count, c.in-Ok.ensures.goes.rises);
       few = omega (arith, inv.count, at_gate, c.record-test.true);
       gone = λ tells told d left fed on read.
           let so = inv.gone tells told d left fed on read in
@@ -20,9 +20,9 @@ record-preserved g c =
           (c.in-Ok.ensures.compared tells told d c.args.end so.rest so.fed so.on (omega (arith, at_gate, c.record-test.true)) so.read);
       whole = λ told w. c.in-Ok.ensures.whole told (inv.whole told w);
       told = λ tells. c.compare_next.ensures.told tells ∙ inv.told tells;
-      later = omega (arith, inv.later, c.compare_next.ensures.later);
-      say = c.compare_next.ensures.say ∙ inv.say;
-      source_later = omega (arith, inv.source_later, c.compare_next.ensures.source_later);
+      later = omega (arith, inv.later, c.compare_next.ensures.counts.later);
+      say = c.compare_next.ensures.counts.say ∙ inv.say;
+      source_later = omega (arith, inv.source_later, c.compare_next.ensures.counts.source_later);
     }
 
 pub returns-in-Err-clause-compared : goal.returns-in-Err-clause-compared

@@ -1,4 +1,4 @@
-use Rattle.std.proofs.Common.{◌≡◌, ℕ, List, drop, refl, sym, subst, arith}
+use Rattle.std.proofs.Common.{drop, sym, subst}
 use Rattle.gts_standby.specs.Ahead.{InFeed}
 use Rattle.gts_standby.specs.Taking.{Ends, stopped}
 use Rattle.gts_standby.specs.Reading.{HasRead, ReadsAll}

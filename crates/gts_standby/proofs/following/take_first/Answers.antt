@@ -1,4 +1,4 @@
-use Rattle.std.proofs.Common.{◌≡◌, ◌≤◌, ◌-◌, ℕ, List, length, drop, inl, inr, refl, sym, ◌∙◌, arith, length-drop}
+use Rattle.std.proofs.Common.{length, drop, inl, inr, refl, sym, ◌∙◌, arith, length-drop}
 use Rattle.gts_event.specs.Need.{begun}
 use Rattle.gts_standby.proofs.TakeLemmas.{unread_taken, plain_taken, begun_on, ends_begun}
 use Rattle.gts_standby.proofs.WholeLemmas.{whole_read, read_all}

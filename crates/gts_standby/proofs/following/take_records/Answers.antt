@@ -1,4 +1,4 @@
-use Rattle.std.proofs.Common.{rules, ◌≡◌, ◌≤◌, ◌<◌, ◌-◌, ℕ, List, length, sym, arith}
+use Rattle.std.proofs.Common.{rules, ◌≤◌, ◌<◌, ◌-◌, length, sym, arith}
 use Rattle.gts_standby.proofs.AddLemmas.{gate_so}
 use Rattle.gts_standby.proofs.TakeLemmas.{opened_kept, holds_kept, first_there, first_taken, ends_compared, goes_compared}
 use Rattle.gts_standby.proofs.NamedLemmas.{named_added}
