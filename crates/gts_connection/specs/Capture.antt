@@ -212,6 +212,12 @@ compactions_from d s bs n (step ∷ steps) =
 abbrev pub compactions : Directory → State → ℕ → List Step → List ℕ
 compactions d s n steps = compactions_from d s (no_bytes d) n steps
 
+-- how many entries there were at each compaction of further steps, from what the steps before them leave
+abbrev pub compactions_behind : Directory → State → ℕ → List Step → List Step → List ℕ
+compactions_behind d s n steps more =
+    let first : List Entry = entries d s steps in
+    compactions_from d (after_all d s first) (connections_after d (no_bytes d) steps) (n + length first) more
+
 -- a feed and a feed of the same circuit behind it are one
 abbrev pub join : Step → List Step → List Step
 join (Feed c x) (Feed e y ∷ steps) = if c == e then Feed c (x ++ y) ∷ steps else Feed c x ∷ Feed e y ∷ steps

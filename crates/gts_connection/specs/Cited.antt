@@ -10,7 +10,7 @@ pub use Rattle.gts_event.specs.declared.event.Event.{Event}
 pub use Rattle.gts_event.specs.declared.event.Event.TheVariants.{Heard}
 pub use Rattle.gts_connection.specs.Connection.{IsConnection, connection, events_in, events_added, is_lost}
 pub use Rattle.gts_connection.specs.declared.kind.CaptureKind.{CaptureKind}
-pub use Rattle.gts_connection.specs.Capture.{Step, EndHead, step_text, head_text, AreSteps, AreStepsOf, readable, Reading, ReadingOf, IsWhole, IsWholeOf, EndsEarly, EndsEarlyOf, entries, entries_from, compactions, compactions_from, Connections, connections_after, no_bytes, joined}
+pub use Rattle.gts_connection.specs.Capture.{Step, EndHead, step_text, head_text, AreSteps, AreStepsOf, readable, Reading, ReadingOf, IsWhole, IsWholeOf, EndsEarly, EndsEarlyOf, entries, entries_from, compactions, compactions_from, compactions_behind, Connections, connections_after, no_bytes, joined}
 pub use Rattle.gts_frame.specs.Decoder.{Decoding, ReadsOn, signs_of_step}
 pub use Rattle.gts_frame.specs.Signs.{signs_in}
 pub use Rattle.gts_frame.specs.declared.step.Step.{Step as FrameStep}

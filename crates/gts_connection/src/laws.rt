@@ -3,7 +3,7 @@ ghost use Rattle.std.specs.Prelude.{◌≡◌, ◌↔◌, ◌+◌, ◌-◌, ◌�
 ghost use Rattle.std.specs.List.{list_any, list_all, AllByRecursion};
 ghost use Rattle.gts_connection.specs.Cited.{Kind, Directory, State, Event, Heard, frame, IsFramed, IsFront, IsStreamFront, is_front, is_here};
 ghost use Rattle.gts_connection.specs.Cited.{IsConnection, connection, events_in, events_added, is_lost, CaptureKind, Step, AreSteps, AreStepsOf, EndHead, step_text, head_text, readable, ReadingOf, entries, joined};
-ghost use Rattle.gts_connection.specs.Cited.{IsWholeOf, EndsEarlyOf, entries_from, compactions, compactions_from, Connections, connections_after, no_bytes, after_all};
+ghost use Rattle.gts_connection.specs.Cited.{IsWholeOf, EndsEarlyOf, entries_from, compactions, compactions_from, compactions_behind, Connections, connections_after, no_bytes, after_all};
 ghost use Rattle.gts_connection.specs.declared.limits.TheConstants.{LONGEST_CAPTURE};
 ghost use Rattle.gts_connection.specs.Cited.{Decoding, ReadsOn, FrameStep, signs_in, signs_of_step, events_of_signs};
 
@@ -98,9 +98,8 @@ pub fn steps_go_on()
 /// before it: behind no fewer than there were at first, and no more than there are at last.
 pub fn compactions_go_on_with_the_entries()
     ensures more { (d : Directory) (s : State) (n : ℕ) (steps more : List Step)
-        → let first = entries d s steps in let bs = connections_after d (no_bytes d) steps in
-        compactions d s n (steps ++ more) ≡ compactions d s n steps
-        ++ compactions_from d (after_all d s first) bs (n + length first) more }
+        → compactions d s n (steps ++ more)
+        ≡ compactions d s n steps ++ compactions_behind d s n steps more }
     ensures between { (d : Directory) (s : State) (bs : Connections) (n : ℕ) (steps : List Step)
         → let all = length (entries_from d s bs steps) in
         AllByRecursion (λ k. (n ≤ k) × (k ≤ n + all)) (compactions_from d s bs n steps) }

@@ -9,6 +9,10 @@ pub record StationOnSystem : Type 0 where
   pub disk_faults : ℕ
   pub say_faults : ℕ
 
+-- a station that has had no fault
+abbrev pub faultless : Bool → Bool → StationOnSystem
+faultless is_reader is_lost = record { is_reader = is_reader; is_lost = is_lost; disk_faults = 0; say_faults = 0 }
+
 -- where this held of the station before, the call fails; and it stays as it was
 pub record FailsWhere {T E : Type 0} (result : Result T E) (before now : Bool) : Type 0 where
   pub fails : before ≡ true → IsErr result

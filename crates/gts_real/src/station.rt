@@ -1,6 +1,6 @@
 ghost use Rattle.std.specs.Prelude.{◌≡◌, ◌+◌, ◌^◌, ◌≤◌, ◌<◌, true, false, [], length, IfOk, OnOk, IsErr, is_err};
 ghost use Rattle.gts_traits.specs.{CHANNELS, HasCause};
-ghost use Rattle.gts_real.specs.{FailsWhere};
+ghost use Rattle.gts_real.specs.{FailsWhere, faultless};
 
 use crate::disk::Disk;
 use crate::outputs::Outputs;
@@ -57,12 +57,7 @@ impl<'a, R: Files<File = File> + Print + AllocGlobal> FileStation<'a, R> {
 
     /// A station over these journal files, which has had no fault.
     fn with(rt: &'a R, disk: Disk) -> FileStation<'a, R>
-        ensures { result ≡ record {
-          is_reader = disk.is_reader;
-          is_lost = disk.is_lost;
-          disk_faults = 0;
-          say_faults = 0;
-        } }
+        ensures { result ≡ faultless disk.is_reader disk.is_lost }
     {
         FileStation {
             rt,
