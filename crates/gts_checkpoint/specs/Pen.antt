@@ -12,6 +12,10 @@ pub record Pen : Type 0 where
   pub held : List ℕ
   pub sealer : Sealer
 
+-- the pen with these bytes behind those that it held, and with this seal
+abbrev pub holding : Pen → List ℕ → Sealer → Pen
+holding pen bytes sealer = record pen { held = pen.held ++ bytes; sealer = sealer }
+
 -- how many bytes were put so far
 abbrev pub count_of : Pen → ℕ
 count_of pen = pen.place + length pen.held

@@ -4,7 +4,7 @@ ghost use Rattle.gts_record.specs.declared.version.Version.{Version as VersionOf
 ghost use Rattle.gts_record.specs.Format.{seal, held};
 ghost use Rattle.gts_record.specs.Sealing.{Seals};
 ghost use Rattle.gts_checkpoint.specs.Alone.{OnlyOn};
-ghost use Rattle.gts_checkpoint.specs.Pen.{Stands, HasPut, count_of};
+ghost use Rattle.gts_checkpoint.specs.Pen.{Stands, HasPut, count_of, holding};
 
 use gts_record::{Sealer, Version};
 use gts_traits::{Failed, Station};
@@ -110,10 +110,7 @@ impl Pen {
     // Holds bytes, for which there is room.
     fn hold(&mut self, bytes: &[u8])
         requires { length self.old.held + length bytes.now ≤ PIECE }
-        ensures held { self.new ≡ record self.old {
-          held = self.old.held ++ bytes.now;
-          sealer = self.new.sealer;
-        } }
+        ensures held { self.new ≡ holding self.old bytes.now self.new.sealer }
         ensures seals { (v : VersionOf) (before text : List ℕ) → Seals self.old.sealer v before text
             → Seals self.new.sealer v before (text ++ bytes.now) }
     {
