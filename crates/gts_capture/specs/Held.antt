@@ -45,6 +45,12 @@ pub record IsSameCapture (old new : Held) : Type 0 where
   pub circuits : new.circuits ≡ old.circuits
   pub kind : new.kind ≡ old.kind
 
+-- so many bytes of a feed were passed over, and none behind the longest capture
+pub record Passed (old new : Held) (count : ℕ) : Type 0 where
+  pub feed : new.feed + count ≡ old.feed
+  pub at : new.at ≡ old.at + count
+  pub within : new.at ≤ LONGEST_CAPTURE
+
 -- What is read of what is left is bad at a place: at the first byte that no capture has there, or where the bytes end in a head.
 pub data IsBadAt (held : Held) (left : List ℕ) (at : ℕ) : Type 0 where
   BadByte : (front : List ℕ) (byte : ℕ) (unread : List ℕ) → IsPartIn held.circuits held.kind front

@@ -2,7 +2,7 @@ ghost use Rattle.std.specs.Prelude.{◌≡◌, ◌+◌, ◌-◌, ◌<◌, ◌≤
 ghost use Rattle.gts_traits.specs.Counts.{HasCause};
 ghost use Rattle.gts_connection.specs.declared.limits.TheConstants.{LONGEST_CAPTURE};
 ghost use Rattle.gts_capture.specs.Heads.{head_of, line_of, IsHeadIn, bytes_announced};
-ghost use Rattle.gts_capture.specs.Held.{BeginsWithHead, IsStop, IsSameCapture, IsBadAt, EndsInFeed, StopsInHead, StopsInFeed, HasSourceCause, at_start, readable_from};
+ghost use Rattle.gts_capture.specs.Held.{BeginsWithHead, IsStop, IsSameCapture, Passed, IsBadAt, EndsInFeed, StopsInHead, StopsInFeed, HasSourceCause, at_start, readable_from};
 
 use crate::capture_fault::CaptureFault;
 use crate::head::Head;
@@ -112,9 +112,7 @@ impl Steps {
         ensures most { IfOk result (λ count. count ≤ min (length into.old) self.old.feed) }
         ensures left { IsErr result → 0 < self.old.feed }
         ensures some { IfOk result (λ count. count ≡ 0 → min (length into.old) self.old.feed ≡ 0) }
-        ensures feed { IfOk result (λ count. self.new.feed + count ≡ self.old.feed) }
-        ensures at { IfOk result (λ count. self.new.at ≡ self.old.at + count) }
-        ensures within { IfOk result (λ count. self.new.at ≤ LONGEST_CAPTURE) }
+        ensures passed { IfOk result (λ count. Passed self.old self.new count) }
         ensures bad { S.tells → (at : ℕ) → result ≡ Err (CaptureFault.Bad at)
             → EndsInFeed self.old
             (readable_from self.old.at (self.old.ahead ++ S.left source.old)) at }
@@ -203,9 +201,7 @@ impl Steps {
     fn hand_on(&mut self, into: &mut [u8]) -> usize
         ensures taken { self.old.ahead ≡ take result into.new ++ self.new.ahead }
         ensures count { result ≡ min (min (length self.old.ahead) (length into.old)) self.old.feed }
-        ensures feed { self.new.feed + result ≡ self.old.feed }
-        ensures at { self.new.at ≡ self.old.at + result }
-        ensures within { self.new.at ≤ LONGEST_CAPTURE }
+        ensures passed { Passed self.old self.new result }
         ensures same { IsSameCapture self.old self.new }
     {
         let held = &self.buffer[self.start..self.end];

@@ -36,7 +36,7 @@ feed-preserved g c =
       fed = (
         fed.0 ++ piece,
         takes_more g.S.Source.tells fed.0 piece c.args.steps.now c.feed.steps c.bytes.new.self (g.S.Source.left c.args.capture.now) (g.S.Source.left c.feed.capture) (g.S.Source.left c.bytes.new.source)
-            fed.1 c.in-Ok.ensures.told (omega (arith, long, c.in-Ok.ensures.feed)) (omega (arith, long, c.in-Ok.ensures.at)) c.in-Ok.ensures.within c.bytes.ensures.same,
+            fed.1 c.in-Ok.ensures.told (omega (arith, long, c.in-Ok.ensures.passed.feed)) (omega (arith, long, c.in-Ok.ensures.passed.at)) c.in-Ok.ensures.passed.within c.bytes.ensures.same,
         fed_piece c.args.c c.args.decoder.now c.args.table.now fed.0 piece c.feed.decoder c.feed_piece.new.decoder c.feed.table c.feed_piece.new.table fed.2 c.feed_piece.ensures.held c.feed_piece.ensures.adds,
       );
       circuits = c.feed_piece.ensures.circuits ∙ c.feed.invariant.circuits;

@@ -52,7 +52,7 @@ returns-in-Err-feed_piece-clause-feeds g c =
     record {
       bytes = fed.0 ++ piece;
       taken = takes_at_most g.S.Source.tells fed.0 piece c.args.steps.now c.feed.steps c.bytes.new.self (g.S.Source.left c.args.capture.now) (g.S.Source.left c.feed.capture) (g.S.Source.left c.bytes.new.source)
-          fed.1 c.in-Ok.ensures.told (omega (arith, long, c.in-Ok.ensures.feed)) (omega (arith, long, c.in-Ok.ensures.at)) c.in-Ok.ensures.within;
+          fed.1 c.in-Ok.ensures.told (omega (arith, long, c.in-Ok.ensures.passed.feed)) (omega (arith, long, c.in-Ok.ensures.passed.at)) c.in-Ok.ensures.passed.within;
       fed = breaks_piece g.W.Switch.meanings c.args.c c.args.decoder.now c.args.switch.now fed.0 piece c.feed.decoder c.feed.switch c.feed_piece.new.switch c.in-Err-feed_piece.fault fed.2
           (λ before o h held stands. subst (λ (r : Result (Unit {0}) SwitchFault). Goes g.W.Switch.meanings o h (all_done (events_added c.args.c before piece)) r c.feed_piece.new.switch)
           c.in-Err-feed_piece.is (c.feed_piece.ensures.goes before o h held stands));
@@ -69,7 +69,7 @@ feed-preserved g c =
       fed = (
         fed.0 ++ piece,
         takes_more g.S.Source.tells fed.0 piece c.args.steps.now c.feed.steps c.bytes.new.self (g.S.Source.left c.args.capture.now) (g.S.Source.left c.feed.capture) (g.S.Source.left c.bytes.new.source)
-            fed.1 c.in-Ok.ensures.told (omega (arith, long, c.in-Ok.ensures.feed)) (omega (arith, long, c.in-Ok.ensures.at)) c.in-Ok.ensures.within c.bytes.ensures.same,
+            fed.1 c.in-Ok.ensures.told (omega (arith, long, c.in-Ok.ensures.passed.feed)) (omega (arith, long, c.in-Ok.ensures.passed.at)) c.in-Ok.ensures.passed.within c.bytes.ensures.same,
         fed_piece g.W.Switch.meanings c.args.c c.args.decoder.now c.args.switch.now fed.0 piece c.feed.decoder c.feed_piece.new.decoder c.feed.switch c.feed_piece.new.switch fed.2
             (λ before is. subst (λ (r : Result (Unit {0}) SwitchFault). OnOk r (c.feed_piece.new.decoder.held ≡ held_in (before ++ piece))) c.in_default.is (c.feed_piece.ensures.held before is))
             (λ before o h held stands. subst (λ (r : Result (Unit {0}) SwitchFault). Goes g.W.Switch.meanings o h (all_done (events_added c.args.c before piece)) r c.feed_piece.new.switch)
