@@ -3,13 +3,13 @@ use Rattle.std.specs.Prelude.{◌≡◌, ℕ, List}
 use Rattle.gts_directory.specs.Directory.{Directory}
 use Rattle.gts_event.specs.State.{State}
 use Rattle.gts_event.specs.History.{after_all}
-use Rattle.gts_event.specs.Need.{need}
+use Rattle.gts_event.specs.Need.{Need, need}
 use Rattle.gts_event.specs.declared.event.Entry.{Entry}
 use Rattle.gts_opening.specs.Room.{HasUnsaid}
 use Rattle.gts_calls.specs.Calls.{Standing}
 use Rattle.gts_count.specs.declared.parts.Parts.{Parts}
 use Rattle.gts_count.specs.Table.{table}
-use Rattle.gts_count.specs.Counting.{Counts}
+use Rattle.gts_count.specs.Counting.{Counts, StandsAt}
 
 -- the state for which a switch stands
 abbrev pub state_at : {O W : Type 0} → Standing O W → W → O → List Entry → State
@@ -32,6 +32,12 @@ meanings_by parts meanings = record {
 -- of the parts themselves
 abbrev pub counted_meanings : {O T : Type 0} → Standing O T → Standing O (Parts T)
 counted_meanings meanings = meanings_by (λ parts. parts) meanings
+
+-- parts stand for what a switch stands for, where that is a state with this need under this directory
+abbrev pub StandsWhere : {O T : Type 0} → Standing O T → Directory → Need → T → Parts T → Type 0
+StandsWhere {O} meanings d n switch parts =
+    (o : O) (h : List Entry) → meanings.stands o h switch → StandsAt d (state_at meanings switch o h) n
+    → (counted_meanings meanings).stands o h parts
 
 -- it is the table of the need where the switch stands, unless saying failed before
 abbrev pub ShowsTable : {O T : Type 0} → Standing O T → Parts T → List ℕ → Type 0

@@ -70,12 +70,10 @@ impl<T: Switch> Switch for Counted<T> {
 }
 
 impl<T: Switch> Counted<T> {
-    ghost use Rattle.std.specs.Prelude.{IfOk, IfErr, IsTrue, List};
-    ghost use Rattle.gts_event.specs.declared.event.Entry.{Entry};
+    ghost use Rattle.std.specs.Prelude.{IfOk, IfErr, IsTrue};
     ghost use Rattle.gts_event.specs.Need.{is_sound};
     ghost use Rattle.gts_event.specs.Items.{need_of};
-    ghost use Rattle.gts_count.specs.Counting.{StandsAt};
-    ghost use Rattle.gts_count.specs.Counted.{ShowsTable, counted_meanings, state_at};
+    ghost use Rattle.gts_count.specs.Counted.{ShowsTable, StandsWhere};
 
     /// A switch whose numbers begin with those of a need: with a row for each of its bulletins. A refusal hands the switch back.
     pub fn new(
@@ -89,10 +87,8 @@ impl<T: Switch> Counted<T> {
         ensures switch { IfOk result (λ c. c.parts.switch ≡ switch) }
 
         // It stands for what the switch stands for, where that has this need.
-        ensures stands { IfOk result (λ c. (o : T.Origin) (h : List Entry)
-            → T.meanings.stands o h switch
-            → StandsAt directory.now (state_at T.meanings switch o h) (need_of need.now)
-            → (counted_meanings T.meanings).stands o h c.parts) }
+        ensures stands { IfOk result (λ c.
+            StandsWhere T.meanings directory.now (need_of need.now) switch c.parts) }
         ensures err { IfErr result (λ e. e.0 ≡ switch) }
     {
         match counting_of(alloc, directory, need) {
