@@ -12,12 +12,12 @@ use crate::numbers::{eight_bytes, four_bytes};
 use crate::pen::Pen;
 use gts_event::{Bulletin, CircuitNeed, Need};
 use gts_frame::Kind;
-use gts_record::{Sealer, Version, first_seal};
+use gts_record::{HEADER, Sealer, Version, first_seal};
 use gts_traits::{Failed, Station};
 use std::alloc::Global;
 
-/// How many bytes stand in front of a checkpoint.
-const HEADER: u64 = 41;
+/// Where a checkpoint begins: behind the header and an open gate.
+const BEGIN: u64 = HEADER as u64 + 1;
 
 /// An open gate.
 const OPEN: u8 = 0x4f;
@@ -299,7 +299,7 @@ pub fn write<P: Station>(
     let version = Version::written();
     let before = first_seal(version, &mark);
     let sealer = Sealer::new(version, &before);
-    let mut pen = Pen::new(alloc, file, HEADER, sealer)?;
+    let mut pen = Pen::new(alloc, file, BEGIN, sealer)?;
     let seal = write_with(&mut pen, station, file, mark, &before, need)?;
     Ok(seal)
 }

@@ -8,7 +8,7 @@ use Rattle.std.proofs.lemmas.List.Elements.{All-append}
 use Rattle.circular_buffer.specs.Buffer.{Buffer, keep_last}
 use Rattle.gts_frame.specs.declared.kind.Kind.{Kind}
 use Rattle.gts_directory.specs.Directory.{Directory, Circuit, named, is_named}
-use Rattle.gts_event.specs.State.{State, CircuitState, Bulletin, has, is_recent, on_circuit, heading_of}
+use Rattle.gts_event.specs.State.{State, CircuitState, Bulletin, has, is_recent, recent, on_circuit, heading_of}
 use Rattle.gts_event.specs.History.{Choice, Repeats, Draws, Nothing_waits, choice, outcome, after, after_heard, after_take, with_bulletin, with_drawn, body_of, heading_of_message, restarted, found, places, items_of}
 use Rattle.gts_event.specs.Need.{need, is_here, is_for, circuit_of_event}
 use Rattle.gts_event.specs.Held.{IsHeld}
@@ -24,7 +24,7 @@ use Rattle.gts_count.specs.declared.numbers.Numbers.{Numbers}
 use Rattle.gts_count.specs.Tally.{Tally, tally, recent_of, key_of, key_at}
 use Rattle.gts_count.specs.Rows.{has_row}
 use Rattle.gts_count.specs.Numbers.{tally_of, no_ring, ring_at, kept_with}
-use Rattle.gts_count.specs.Going.{window_of, heard_of}
+use Rattle.gts_count.specs.Going.{heard_of}
 use Rattle.gts_count.specs.State.{takens_of, drawn_of, tally_at}
 use Rattle.gts_count.specs.Counting.{Follows, Notes, NotesDraw, Prepares}
 use Rattle.gts_count.proofs.WindowLemmas.{joins_window}
@@ -284,11 +284,11 @@ follows_drawn d s old new c i p key here f is key_is noted = record {
         ∙ sym (drawn-drew d.circuits t.accepted t.circuits c p (with_drawn p q) here (omega (arith, here, f.held.ordered.circuits)) refl)
         ∙ sym (ap (λ (u : State). drawn_of d.circuits u.accepted (takens_of u)) then)
 
-    recent : new.recent.items ≡ (tally_at d (after d t (Taken c))).recent
-    recent =
+    window : new.recent.items ≡ (tally_at d (after d t (Taken c))).recent
+    window =
         ap (λ (b : Buffer Recent). b.items) noted.recent
         ∙ ap (λ (x : Tally). x.recent) at
-        ∙ sym (ap (λ (u : State). map recent_of (window_of d u)) then)
+        ∙ sym (ap (λ (u : State). map recent_of (recent d u)) then)
 
     now : tally_of new ≡ tally d (need d (after d t (Taken c)))
-    now = tally_is (tally_of new) (tally_at d (after d t (Taken c))) recent drawn ∙ sym (tally-need d (after d t (Taken c)))
+    now = tally_is (tally_of new) (tally_at d (after d t (Taken c))) window drawn ∙ sym (tally-need d (after d t (Taken c)))

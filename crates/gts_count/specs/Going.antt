@@ -1,20 +1,13 @@
 -- How what is counted goes on with a history.
-use Rattle.std.specs.Prelude.{◌≡◌, ℕ, List, [], ◌∷◌, ◌++◌, length, filter}
+use Rattle.std.specs.Prelude.{ℕ, List, [], ◌∷◌, ◌++◌, length}
 use Rattle.circular_buffer.specs.Buffer.{keep_last}
 use Rattle.gts_directory.specs.Directory.{Directory}
-use Rattle.gts_event.specs.State.{State, Bulletin, is_recent}
+use Rattle.gts_event.specs.State.{State}
 use Rattle.gts_event.specs.History.{body_of}
-use Rattle.gts_event.specs.Need.{need, positions_of, recent_positions}
+use Rattle.gts_event.specs.Need.{need}
+pub use Rattle.gts_event.specs.Need.{HasWindow}
 use Rattle.gts_count.specs.declared.recent.Recent.{Recent}
 use Rattle.gts_count.specs.Tally.{tally, key_of}
-
--- the bulletins of the window
-abbrev pub window_of : Directory → State → List Bulletin
-window_of d s = filter (λ b. is_recent d s.count b.position) s.accepted
-
--- each position of the window has its bulletin, in order
-abbrev pub HasWindow : Directory → State → Type 0
-HasWindow d s = positions_of (window_of d s) ≡ recent_positions d s.count
 
 -- what is counted of a message that is accepted on a circuit
 abbrev pub heard_of : ℕ → List ℕ → Recent

@@ -1,9 +1,8 @@
 -- What is counted of a state, by its own bulletins.
 use Rattle.std.specs.Prelude.{ℕ, List, map, zip}
 use Rattle.gts_directory.specs.Directory.{Directory, Circuit}
-use Rattle.gts_event.specs.State.{State, Bulletin, last_of}
+use Rattle.gts_event.specs.State.{State, Bulletin, recent, last_of}
 use Rattle.gts_count.specs.Tally.{Tally, recent_of, key_at}
-use Rattle.gts_count.specs.Going.{window_of}
 
 -- the positions that were drawn on each circuit
 abbrev pub takens_of : State → List (List ℕ)
@@ -15,4 +14,4 @@ drawn_of rows bulletins takens = map (λ row. map (key_at bulletins) (last_of ro
 
 -- what is counted of a state
 abbrev pub tally_at : Directory → State → Tally
-tally_at d s = record { recent = map recent_of (window_of d s); drawn = drawn_of d.circuits s.accepted (takens_of s) }
+tally_at d s = record { recent = map recent_of (recent d s); drawn = drawn_of d.circuits s.accepted (takens_of s) }
