@@ -96,9 +96,7 @@ impl Journal {
         ensures later { P.disk_faults station.old ≤ P.disk_faults station.new }
         ensures say { P.say_faults station.new ≡ P.say_faults station.old }
     {
-        let Ok(_) = self.ready(station) else {
-            return Err(OpenFault::DiskFault);
-        };
+        self.ready(station)?;
         let [mark, rest @ ..] = &self.buffer[self.begin..self.end] else {
             return Err(OpenFault::Damaged {
                 file: self.file,

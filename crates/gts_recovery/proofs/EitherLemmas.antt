@@ -1,8 +1,9 @@
 -- A journal that is opened in the version that its magic tells is never one of an older version.
-use Rattle.std.proofs.Common.{◌≡◌, ℕ, zero, suc, ◌+◌, ◌-◌, Bool, true, false, ◌==◌, nat_eq, nat_lt, List, [], ◌∷◌, length, take, drop, cond, Option, Some, None, Result, Ok, Err, refl, sym, ap, subst, ◌∙◌, inl, inr}
+use Rattle.std.proofs.Common.{◌≡◌, ℕ, zero, suc, ◌+◌, ◌-◌, Bool, true, false, ◌==◌, nat_eq, nat_lt, List, [], ◌∷◌, length, take, drop, cond, Option, Some, None, Result, Ok, Err, refl, sym, subst}
 use Rattle.std.specs.List.{starts_with}
 use Rattle.std.specs.Cmp.Lexicographic.{pointwise}
-use Rattle.std.proofs.lemmas.Bool.{cases_Bool}
+use Rattle.std.specs.Prelude.{IfErr}
+use Rattle.std.proofs.lemmas.Result.{IfErr-weaker}
 use Rattle.gts_traits.specs.Station.{Files}
 use Rattle.gts_directory.specs.Directory.{Directory}
 use Rattle.gts_event.specs.State.{State, empty}
@@ -14,7 +15,7 @@ use Rattle.gts_record.specs.declared.fault.OpenFault.{OpenFault}
 use Rattle.gts_record.specs.declared.fault.OpenFault.TheVariants.{NoJournal, OldVersion, NotThis, Damaged, DiskFault, NoMemory}
 use Rattle.gts_record.specs.Record.{Record, open_gate, record_text}
 use Rattle.gts_record.specs.Format.{magic, seal, first_seal, is_older, record_size}
-use Rattle.gts_opening.specs.Journal.{Opened, Read, opened_of, admits_checkpoint, need_in, checkpoint_text, compacted_bytes, event_of_record, record_behind, records_at, checkpoint_opens, behind_header, behind_magic, bytes_open, file_opens, files_open_in, agreeing, selected}
+use Rattle.gts_opening.specs.Journal.{Read, opened_of, admits_checkpoint, need_in, checkpoint_text, compacted_bytes, event_of_record, record_behind, records_at, checkpoint_opens, behind_header, behind_magic, bytes_open, file_opens, agreeing, selected}
 use Rattle.gts_journal.specs.{version_of, selected_bytes}
 use Rattle.gts_recovery.specs.Opened.{IsAnswer, opens_any}
 
@@ -122,5 +123,7 @@ never_older d files e =
     let none : NotOlder (opens_any d files) = of_read d (file_opens (version_of (selected_bytes files)) d (selected files) (files (selected files))) (file_not d (selected files) (files (selected files))) in
     subst (λ (r : Result Need OpenFault). NotOlder r) e none
 
-pub not_older : (d : Directory) (files : Files) (e : OpenFault) → IsAnswer e (opens_any d files) → e ≡ OldVersion → ⊥
-not_older d files e is same = never_older d files (subst (λ (f : OpenFault). IsAnswer f (opens_any d files)) same is)
+pub not_older : {T : Type 0} (d : Directory) (files : Files) (r : Result T OpenFault) → IfErr r (λ e. IsAnswer e (opens_any d files)) → IfErr r (λ e. e ≡ OldVersion → ⊥)
+not_older d files r =
+    IfErr-weaker r (λ e. IsAnswer e (opens_any d files)) (λ e. e ≡ OldVersion → ⊥)
+    (λ e is same. never_older d files (subst (λ (f : OpenFault). IsAnswer f (opens_any d files)) same is))

@@ -2,7 +2,7 @@
 use Rattle.std.proofs.Common.{◌≡◌, List, [], ◌∷◌, ◌++◌, Result, Ok, Err, refl, sym, ap, subst, ◌∙◌}
 use Rattle.std.proofs.lemmas.List.{append-nil, append_assoc}
 use Rattle.std.proofs.lemmas.Result.{err_from_is_err_and}
-use Rattle.std.specs.Prelude.{IsErrAnd}
+use Rattle.std.specs.Prelude.{IsErrAnd, MatchResult}
 use Rattle.gts_directory.specs.Directory.{Directory}
 use Rattle.gts_event.specs.History.{outcome, after_all}
 use Rattle.gts_event.specs.declared.event.Event.{Event}
@@ -12,6 +12,16 @@ use Rattle.gts_event.specs.declared.outcome.Outcome.{Outcome}
 use Rattle.gts_event.specs.declared.fault.SwitchFault.{SwitchFault}
 use Rattle.gts_calls.specs.{Standing, IsTurn, IsCause, entry_of, outcome_at}
 use Rattle.gts_replay.specs.Going.{BreaksOff, Goes}
+
+-- what was answered, by what `map_err` made of it
+pub mapped_ok : {T E D : Type 0} (r : Result T E) (mapped : Result T D) (Q : E → D → Type 0) (x : T) → MatchResult r (λ y. mapped ≡ Ok y) (λ e. IsErrAnd mapped (Q e)) → mapped ≡ Ok x → r ≡ Ok x
+mapped_ok {T} {E} {D} (Ok y) mapped Q x cases is = let e : Ok y ≡ Ok x = sym cases ∙ is in let same : y ≡ x = cc e in ap Ok same
+mapped_ok {T} {E} {D} (Err e) mapped Q x cases is = absurd (subst (λ (m : Result T D). IsErrAnd m (Q e)) is cases)
+
+pub mapped_err : {T E D : Type 0} (r : Result T E) (mapped : Result T D) (Q : E → D → Type 0) (f : D) → MatchResult r (λ y. mapped ≡ Ok y) (λ e. IsErrAnd mapped (Q e)) → mapped ≡ Err f
+    → (e : E) × (r ≡ Err e) × Q e f
+mapped_err {T} {E} {D} (Ok y) mapped Q f cases is = absurd (let e : Ok y ≡ Err f = sym cases ∙ is in cc e)
+mapped_err {T} {E} {D} (Err e) mapped Q f cases is = (e, refl, subst (λ (m : Result T D). IsErrAnd m (Q e)) is cases)
 
 -- nothing was to be added
 pub none_goes : {O W : Type 0} (meanings : Standing O W) (o : O) (h : List Entry) (now : W) → meanings.stands o h now → Goes meanings o h [] (Ok tt) now

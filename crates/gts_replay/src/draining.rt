@@ -22,11 +22,8 @@ pub(crate) fn drain<W: Switch>(
     ensures cause { HasTurnCause result (W.disk_faults switch.old) (W.disk_faults switch.new)
         (W.say_faults switch.old) (W.say_faults switch.new) }
 {
-    'drain: for _ in 0..u128::MAX {
-        let outcome = match switch.take(c, out) {
-            Ok(outcome) => outcome,
-            Err(fault) => return Err(fault),
-        };
+    for _ in 0..u128::MAX {
+        let outcome = switch.take(c, out)?;
         if is_nothing(outcome) {
             return Ok(());
         }

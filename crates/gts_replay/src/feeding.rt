@@ -35,15 +35,12 @@ pub(crate) fn feed<W: Switch, S: Source>(
         (W.say_faults switch.old) (W.say_faults switch.new)
         (S.faults capture.old) (S.faults capture.new) }
 {
-    'feed: loop {
-        let count = match steps.bytes(capture, piece) {
-            Ok(0) => return Ok(()),
-            Ok(count) => count,
-            Err(fault) => return Err(StepFault::Capture(fault)),
-        };
-        if let Err(fault) = feed_piece(alloc, switch, c, decoder, &piece[..count]) {
-            return Err(StepFault::Switch(fault));
+    loop {
+        let count = steps.bytes(capture, piece).map_err(StepFault::Capture)?;
+        if count == 0 {
+            return Ok(());
         }
+        feed_piece(alloc, switch, c, decoder, &piece[..count]).map_err(StepFault::Switch)?;
     }
 }
 

@@ -5,13 +5,13 @@ use Rattle.gts_replay.proofs.DrainLemmas.{Drained}
 use Rattle.gts_replay.proofs.draining.drain.Given as goal
 
 -- so many takes gave something
-abbrev pub invariant-drain : goal.invariant-drain
-invariant-drain g l = record {
+abbrev pub invariant-loop : goal.invariant-loop
+invariant-loop g l = record {
   drained : (o : g.W.Switch.Origin) (h : List Entry) → StandsFor g.W.Switch.meanings o h l.fn.switch → Drained g.W.Switch.meanings l.fn.switch o h l.c l.counter l.switch;
   directory : g.W.Switch.meanings.directory l.switch ≡ g.W.Switch.meanings.directory l.fn.switch;
   disk_later : g.W.Switch.disk_faults l.fn.switch ≤ g.W.Switch.disk_faults l.switch;
   say_later : g.W.Switch.say_faults l.fn.switch ≤ g.W.Switch.say_faults l.switch;
 }
 
-abbrev pub decreases-drain : goal.decreases-drain
-decreases-drain g l = 2 ^ 128 - 1 - l.counter
+abbrev pub decreases-loop : goal.decreases-loop
+decreases-loop g l = 2 ^ 128 - 1 - l.counter

@@ -1,5 +1,7 @@
-use Rattle.std.proofs.Common.{◌≡◌, ◌++◌, ℕ, List, [], take, length, Result, Err, OnOk, refl, subst, ◌∙◌, arith}
+use Rattle.std.proofs.Common.{◌≡◌, ◌++◌, ℕ, List, [], take, length, Result, Ok, Err, OnOk, refl, ap, subst, ◌∙◌, arith}
+use Rattle.std.specs.Prelude.{is_err}
 use Rattle.std.proofs.lemmas.List.{length-take-le}
+use Rattle.std.proofs.lemmas.Result.{IfOk-at_ok, err_from_is_err_and}
 use Rattle.gts_event.specs.Drain.{all_done}
 use Rattle.gts_event.specs.declared.fault.SwitchFault.{SwitchFault}
 use Rattle.gts_frame.specs.Signs.{held_in}
@@ -9,12 +11,13 @@ use Rattle.gts_capture.specs.declared.capture_fault.CaptureFault.TheVariants.{Ba
 use Rattle.gts_replay.specs.declared.fault.StepFault.TheVariants as step
 use Rattle.gts_replay.specs.Going.{Goes}
 use Rattle.gts_replay.specs.Ending.{Feeds}
+use Rattle.gts_replay.proofs.GoingLemmas.{mapped_ok, mapped_err}
 use Rattle.gts_replay.proofs.FeedingLemmas.{fed_none, fed_piece, breaks_piece}
 use Rattle.gts_replay.proofs.StepLemmas.{takes_none, takes_more, takes_end, takes_stop, takes_at_most}
 use Rattle.gts_replay.proofs.feeding.feed.Goals as goal
 
-pub feed-init : goal.feed-init
-feed-init g c = record {
+pub loop-count-init : goal.loop-count-init
+loop-count-init g c = record {
   fed = ([], takes_none g.S.Source.tells c.args.steps.now (g.S.Source.left c.args.capture.now), fed_none g.W.Switch.meanings c.args.c c.args.decoder.now c.args.switch.now);
   directory = refl;
   disk_later = omega arith;
@@ -22,61 +25,72 @@ feed-init g c = record {
   source_later = omega arith;
 }
 
-pub returns-in-Err-clause-feeds : goal.returns-in-Err-clause-feeds
-returns-in-Err-clause-feeds g c =
-    let fed = c.feed.invariant.fed in
+pub returns-in_err-count-clause-feeds : goal.returns-in_err-count-clause-feeds
+returns-in_err-count-clause-feeds g c =
+    let fed = c.loop-count.invariant.fed in
     let F : CaptureFault → Type 0 = λ fault. Feeds g.W.Switch.meanings g.S.Source.tells c.args.c (Err (step.Capture fault)) c.args.steps.now c.bytes.new.self (g.S.Source.left c.args.capture.now) (g.S.Source.left c.bytes.new.source)
-    c.args.decoder.now c.feed.decoder c.args.switch.now c.feed.switch in
+    c.args.decoder.now c.loop-count.decoder c.args.switch.now c.loop-count.switch in
     let go : (fault : CaptureFault) → c.bytes.result ≡ Err fault → F fault = elim [
       | Bad at ↦ λ is. record {
         bytes = fed.0;
-        taken = takes_end g.S.Source.tells fed.0 c.args.steps.now c.feed.steps (g.S.Source.left c.args.capture.now) (g.S.Source.left c.feed.capture) at fed.1 (λ t. c.bytes.ensures.bad t at is);
+        taken = takes_end g.S.Source.tells fed.0 c.args.steps.now c.loop-count.steps (g.S.Source.left c.args.capture.now) (g.S.Source.left c.loop-count.capture) at fed.1 (λ t. c.bytes.ensures.bad t at is);
         fed = fed.2;
       }
       | SourceFault ↦ λ is. record {
         bytes = fed.0;
-        taken = takes_stop g.S.Source.tells fed.0 c.args.steps.now c.feed.steps c.bytes.new.self (g.S.Source.left c.args.capture.now) (g.S.Source.left c.feed.capture) (g.S.Source.left c.bytes.new.source)
-            fed.1 (λ t. c.bytes.ensures.source_fault t is) (c.in-Err.ensures.left refl);
+        taken = takes_stop g.S.Source.tells fed.0 c.args.steps.now c.loop-count.steps c.bytes.new.self (g.S.Source.left c.args.capture.now) (g.S.Source.left c.loop-count.capture) (g.S.Source.left c.bytes.new.source)
+            fed.1 (λ t. c.bytes.ensures.source_fault t is) (c.bytes.ensures.left (ap is_err is));
         fed = fed.2;
       }
     ] in
-    go c.in-Err.fault c.in-Err.is
+    let m = mapped_err c.bytes.result c.map_err.result _ c.in_err-count.field-0.0 c.map_err.ensures.cases c.in_err-count.was in
+    let p = err_from_is_err_and c.from_residual.result c.from_residual.ensures.1 in
+    rw (p.1, p.2, m.2) (go m.0 m.1)
 
-pub returns-in-Err-feed_piece-clause-feeds : goal.returns-in-Err-feed_piece-clause-feeds
-returns-in-Err-feed_piece-clause-feeds g c =
-    let fed = c.feed.invariant.fed in
-    let n : ℕ = c.in-Ok.count in
+pub returns-in_err-map_err-clause-feeds : goal.returns-in_err-map_err-clause-feeds
+returns-in_err-map_err-clause-feeds g c =
+    let fed = c.loop-count.invariant.fed in
+    let n : ℕ = c.in_ok-count.count in
     let into : List ℕ = c.bytes.new.into in
     let piece : List ℕ = take n into in
-    let long : length piece ≡ n = length-take-le n into (omega (arith, c.in-Ok.ensures.most, c.bytes.auto.into)) in
-    record {
+    let came : c.bytes.result ≡ Ok n = mapped_ok c.bytes.result c.map_err.result _ n c.map_err.ensures.cases c.in_ok-count.was in
+    let passed = IfOk-at_ok _ came c.bytes.ensures.passed in
+    let long : length piece ≡ n = length-take-le n into (omega (arith, IfOk-at_ok _ came c.bytes.ensures.most, c.bytes.auto.into)) in
+    let m = mapped_err c.feed_piece.result c.map_err-in-loop-count.result _ c.in_err-map_err.field-0.0 c.map_err-in-loop-count.ensures.cases c.in_err-map_err.was in
+    let p = err_from_is_err_and c.from_residual-in_err-map_err.result c.from_residual-in_err-map_err.ensures.1 in
+    let broken : Feeds g.W.Switch.meanings g.S.Source.tells c.args.c (Err (step.Switch m.0)) c.args.steps.now c.bytes.new.self (g.S.Source.left c.args.capture.now) (g.S.Source.left c.bytes.new.source)
+    c.args.decoder.now c.feed_piece.new.decoder c.args.switch.now c.feed_piece.new.switch = record {
       bytes = fed.0 ++ piece;
-      taken = takes_at_most g.S.Source.tells fed.0 piece c.args.steps.now c.feed.steps c.bytes.new.self (g.S.Source.left c.args.capture.now) (g.S.Source.left c.feed.capture) (g.S.Source.left c.bytes.new.source)
-          fed.1 c.in-Ok.ensures.told (omega (arith, long, c.in-Ok.ensures.passed.feed)) (omega (arith, long, c.in-Ok.ensures.passed.at)) c.in-Ok.ensures.passed.within;
-      fed = breaks_piece g.W.Switch.meanings c.args.c c.args.decoder.now c.args.switch.now fed.0 piece c.feed.decoder c.feed.switch c.feed_piece.new.switch c.in-Err-feed_piece.fault fed.2
+      taken = takes_at_most g.S.Source.tells fed.0 piece c.args.steps.now c.loop-count.steps c.bytes.new.self (g.S.Source.left c.args.capture.now) (g.S.Source.left c.loop-count.capture) (g.S.Source.left c.bytes.new.source)
+          fed.1 (λ t. IfOk-at_ok _ came (c.bytes.ensures.told t)) (omega (arith, long, passed.feed)) (omega (arith, long, passed.at)) passed.within;
+      fed = breaks_piece g.W.Switch.meanings c.args.c c.args.decoder.now c.args.switch.now fed.0 piece c.loop-count.decoder c.loop-count.switch c.feed_piece.new.switch m.0 fed.2
           (λ before o h held stands. subst (λ (r : Result (Unit {0}) SwitchFault). Goes g.W.Switch.meanings o h (all_done (events_added c.args.c before piece)) r c.feed_piece.new.switch)
-          c.in-Err-feed_piece.is (c.feed_piece.ensures.goes before o h held stands));
-    }
+          m.1 (c.feed_piece.ensures.goes before o h held stands));
+    } in
+    rw (p.1, p.2, m.2) broken
 
-pub feed-preserved : goal.feed-preserved
-feed-preserved g c =
-    let fed = c.feed.invariant.fed in
-    let n : ℕ = c.in-Ok.count in
+pub loop-count-preserved : goal.loop-count-preserved
+loop-count-preserved g c =
+    let fed = c.loop-count.invariant.fed in
+    let n : ℕ = c.in_ok-count.count in
     let into : List ℕ = c.bytes.new.into in
     let piece : List ℕ = take n into in
-    let long : length piece ≡ n = length-take-le n into (omega (arith, c.in-Ok.ensures.most, c.bytes.auto.into)) in
+    let came : c.bytes.result ≡ Ok n = mapped_ok c.bytes.result c.map_err.result _ n c.map_err.ensures.cases c.in_ok-count.was in
+    let dealt : c.feed_piece.result ≡ Ok tt = mapped_ok c.feed_piece.result c.map_err-in-loop-count.result _ tt c.map_err-in-loop-count.ensures.cases c.in_ok-map_err.was in
+    let passed = IfOk-at_ok _ came c.bytes.ensures.passed in
+    let long : length piece ≡ n = length-take-le n into (omega (arith, IfOk-at_ok _ came c.bytes.ensures.most, c.bytes.auto.into)) in
     record {
       fed = (
         fed.0 ++ piece,
-        takes_more g.S.Source.tells fed.0 piece c.args.steps.now c.feed.steps c.bytes.new.self (g.S.Source.left c.args.capture.now) (g.S.Source.left c.feed.capture) (g.S.Source.left c.bytes.new.source)
-            fed.1 c.in-Ok.ensures.told (omega (arith, long, c.in-Ok.ensures.passed.feed)) (omega (arith, long, c.in-Ok.ensures.passed.at)) c.in-Ok.ensures.passed.within c.bytes.ensures.same,
-        fed_piece g.W.Switch.meanings c.args.c c.args.decoder.now c.args.switch.now fed.0 piece c.feed.decoder c.feed_piece.new.decoder c.feed.switch c.feed_piece.new.switch fed.2
-            (λ before is. subst (λ (r : Result (Unit {0}) SwitchFault). OnOk r (c.feed_piece.new.decoder.held ≡ held_in (before ++ piece))) c.in_default.is (c.feed_piece.ensures.held before is))
+        takes_more g.S.Source.tells fed.0 piece c.args.steps.now c.loop-count.steps c.bytes.new.self (g.S.Source.left c.args.capture.now) (g.S.Source.left c.loop-count.capture) (g.S.Source.left c.bytes.new.source)
+            fed.1 (λ t. IfOk-at_ok _ came (c.bytes.ensures.told t)) (omega (arith, long, passed.feed)) (omega (arith, long, passed.at)) passed.within c.bytes.ensures.same,
+        fed_piece g.W.Switch.meanings c.args.c c.args.decoder.now c.args.switch.now fed.0 piece c.loop-count.decoder c.feed_piece.new.decoder c.loop-count.switch c.feed_piece.new.switch fed.2
+            (λ before is. subst (λ (r : Result (Unit {0}) SwitchFault). OnOk r (c.feed_piece.new.decoder.held ≡ held_in (before ++ piece))) dealt (c.feed_piece.ensures.held before is))
             (λ before o h held stands. subst (λ (r : Result (Unit {0}) SwitchFault). Goes g.W.Switch.meanings o h (all_done (events_added c.args.c before piece)) r c.feed_piece.new.switch)
-            c.in_default.is (c.feed_piece.ensures.goes before o h held stands)),
+            dealt (c.feed_piece.ensures.goes before o h held stands)),
       );
-      directory = c.feed_piece.ensures.directory ∙ c.feed.invariant.directory;
-      disk_later = omega (arith, c.feed_piece.ensures.cause.disk_later, c.feed.invariant.disk_later);
-      say_later = omega (arith, c.feed_piece.ensures.cause.say_later, c.feed.invariant.say_later);
-      source_later = omega (arith, c.bytes.ensures.cause.later, c.feed.invariant.source_later);
+      directory = c.feed_piece.ensures.directory ∙ c.loop-count.invariant.directory;
+      disk_later = omega (arith, c.feed_piece.ensures.cause.disk_later, c.loop-count.invariant.disk_later);
+      say_later = omega (arith, c.feed_piece.ensures.cause.say_later, c.loop-count.invariant.say_later);
+      source_later = omega (arith, c.bytes.ensures.cause.later, c.loop-count.invariant.source_later);
     }

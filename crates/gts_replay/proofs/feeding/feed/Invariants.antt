@@ -4,8 +4,8 @@ use Rattle.gts_replay.specs.Ending.{Takes}
 use Rattle.gts_replay.proofs.feeding.feed.Given as goal
 
 -- the bytes so far were taken and dealt with
-abbrev pub invariant-feed : goal.invariant-feed
-invariant-feed g l = record {
+abbrev pub invariant-loop-count : goal.invariant-loop-count
+invariant-loop-count g l = record {
   fed : (bytes : List ℕ) × Takes g.S.Source.tells bytes l.fn.steps l.steps (g.S.Source.left l.fn.capture) (g.S.Source.left l.capture)
       × IsFed g.W.Switch.meanings l.c l.fn.decoder l.fn.switch bytes l.decoder l.switch;
   directory : g.W.Switch.meanings.directory l.switch ≡ g.W.Switch.meanings.directory l.fn.switch;
@@ -14,5 +14,5 @@ invariant-feed g l = record {
   source_later : g.S.Source.faults l.fn.capture ≤ g.S.Source.faults l.capture;
 }
 
-abbrev pub decreases-feed : goal.decreases-feed
-decreases-feed g l = l.steps.feed
+abbrev pub decreases-loop-count : goal.decreases-loop-count
+decreases-loop-count g l = l.steps.feed
