@@ -126,8 +126,6 @@ pub fn rewrite<P: Station>(
     let mark = parts.directory.mark();
     let other = 1 - parts.journal.file();
     let used = compacted_size(size);
-    match put(parts, alloc, other, mark, need) {
-        Ok(seal) => choose(parts, other, used, seal),
-        Err(fault) => Err(fault),
-    }
+    let seal = put(parts, alloc, other, mark, need)?;
+    choose(parts, other, used, seal)
 }

@@ -106,10 +106,8 @@ fn prepare(
         Err(_) => return Err(MigrateFault::NoMemory),
     };
     let size = size(&wide);
-    match check_room(core, old, new, size) {
-        Ok(()) => Ok((wide, size)),
-        Err(fault) => Err(fault),
-    }
+    check_room(core, old, new, size)?;
+    Ok((wide, size))
 }
 
 /// Writes the checkpoint of the wider need under the new directory to the file that isn't selected, and selects that.
@@ -185,10 +183,8 @@ fn take_over<P: Station>(
         Ok(opened) => opened,
         Err(fault) => return Err(MigrateFault::Open(fault)),
     };
-    match prepare(alloc, &core, old, new) {
-        Ok((need, size)) => rewrite(alloc, station, journal, new, &need, size),
-        Err(fault) => Err(fault),
-    }
+    let (need, size) = prepare(alloc, &core, old, new)?;
+    rewrite(alloc, station, journal, new, &need, size)
 }
 
 /// Takes a journal over under a directory that extends its own. The journal, of either version, is opened under the old

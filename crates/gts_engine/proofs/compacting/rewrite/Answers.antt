@@ -1,5 +1,6 @@
 use Rattle.std.proofs.Common.{rules, ◌≡◌, ◌-◌, ◌<◌, ℕ, Result, Err, None, length, ap, subst, ◌∙◌, arith}
 use Rattle.std.specs.Prelude.{IfErr}
+use Rattle.std.proofs.lemmas.Result.{err_from_is_err_and}
 use Rattle.gts_event.specs.Items.{need_of}
 use Rattle.gts_event.specs.declared.fault.SwitchFault.{SwitchFault}
 use Rattle.gts_event.specs.declared.fault.SwitchFault.TheVariants.{DiskFault}
@@ -42,10 +43,10 @@ choose-requires-clause-whole g c =
     let used_is : used ≡ compacted_bytes written n =
     c.compacted_size-used.ensures ∙ size_free p.directory g0.state n c.args.size (c.requires.need p.directory g0.state g0.holds) c.requires.size (c.requires.free g0.state g0.holds) (omega (arith, p.within.limit)) in
     let q = c.put.new.parts in
-    whole_put g.P.Station.tells g.P.Station.calls p c.requires.going g0 n c.requires.need c.requires.free low file file_is mark c.mark-mark.ensures long used used_is q c.put.ensures.rest c.put.ensures.beside c.in-Ok.ensures.written (held written c.in-Ok.seal) c.in-Ok.ensures.seal
+    whole_put g.P.Station.tells g.P.Station.calls p c.requires.going g0 n c.requires.need c.requires.free low file file_is mark c.mark-mark.ensures long used used_is q c.put.ensures.rest c.put.ensures.beside c.in_ok-seal.ensures.written (held written c.in_ok-seal.seal) c.in_ok-seal.ensures.seal
 
-pub returns-in-Ok : goal.returns-in-Ok
-returns-in-Ok g c =
+pub returns : goal.returns
+returns g c =
     let p = c.args.parts.now in
     let g0 = c.requires.sound c.requires.going in
     let n = need_of c.args.need.now in
@@ -58,21 +59,22 @@ returns-in-Ok g c =
     let used_is : used ≡ compacted_bytes written n =
     c.compacted_size-used.ensures ∙ size_free p.directory g0.state n c.args.size (c.requires.need p.directory g0.state g0.holds) c.requires.size (c.requires.free g0.state g0.holds) (omega (arith, p.within.limit)) in
     let q = c.put.new.parts in
-    let q_none : q.stopped ≡ None = c.in-Ok.ensures.stops ∙ c.requires.going in
+    let q_none : q.stopped ≡ None = c.in_ok-seal.ensures.stops ∙ c.requires.going in
     record {
-      compaction = compaction_by g.P.Station.tells g.P.Station.calls p c.requires.going g0 n c.requires.need c.requires.free low file file_is mark c.mark-mark.ensures long used used_is q c.put.ensures.rest c.put.ensures.beside c.in-Ok.ensures.written (held written c.in-Ok.seal) c.in-Ok.ensures.seal c.choose.new.parts c.choose.ensures.rest c.choose.ensures.silent c.choose.ensures.moments c.choose.result q_none c.choose.ensures.stops (λ e is. fault_of _ c.choose.result e is c.choose.ensures.fault) c.choose.ensures.place c.choose.ensures.stands c.choose.ensures.files;
-      sound = sound_by g.P.Station.tells g.P.Station.calls p c.requires.going g0 n c.requires.need c.requires.free low file file_is mark c.mark-mark.ensures long used used_is q c.put.ensures.rest c.put.ensures.beside c.in-Ok.ensures.written (held written c.in-Ok.seal) c.in-Ok.ensures.seal c.choose.new.parts c.choose.ensures.rest c.choose.ensures.silent c.choose.ensures.moments c.choose.result q_none c.choose.ensures.stops (λ e is. fault_of _ c.choose.result e is c.choose.ensures.fault) c.choose.ensures.place c.choose.ensures.stands c.choose.ensures.files;
-      moments = moments_all g.P.Station.tells g.P.Station.calls p c.requires.going g0 n c.requires.need c.requires.free low file file_is mark c.mark-mark.ensures long used used_is q c.put.ensures.rest c.put.ensures.beside c.in-Ok.ensures.written (held written c.in-Ok.seal) c.in-Ok.ensures.seal c.choose.new.parts c.choose.ensures.rest c.choose.ensures.silent c.choose.ensures.moments;
-      written = written_by g.P.Station.tells g.P.Station.calls p c.requires.going g0 n c.requires.need c.requires.free low file file_is mark c.mark-mark.ensures long used used_is q c.put.ensures.rest c.put.ensures.beside c.in-Ok.ensures.written (held written c.in-Ok.seal) c.in-Ok.ensures.seal c.choose.new.parts c.choose.ensures.rest c.choose.ensures.silent c.choose.ensures.moments c.choose.result c.choose.ensures.place c.choose.ensures.stands c.choose.ensures.files;
+      compaction = compaction_by g.P.Station.tells g.P.Station.calls p c.requires.going g0 n c.requires.need c.requires.free low file file_is mark c.mark-mark.ensures long used used_is q c.put.ensures.rest c.put.ensures.beside c.in_ok-seal.ensures.written (held written c.in_ok-seal.seal) c.in_ok-seal.ensures.seal c.choose.new.parts c.choose.ensures.rest c.choose.ensures.silent c.choose.ensures.moments c.choose.result q_none c.choose.ensures.stops (λ e is. fault_of _ c.choose.result e is c.choose.ensures.fault) c.choose.ensures.place c.choose.ensures.stands c.choose.ensures.files;
+      sound = sound_by g.P.Station.tells g.P.Station.calls p c.requires.going g0 n c.requires.need c.requires.free low file file_is mark c.mark-mark.ensures long used used_is q c.put.ensures.rest c.put.ensures.beside c.in_ok-seal.ensures.written (held written c.in_ok-seal.seal) c.in_ok-seal.ensures.seal c.choose.new.parts c.choose.ensures.rest c.choose.ensures.silent c.choose.ensures.moments c.choose.result q_none c.choose.ensures.stops (λ e is. fault_of _ c.choose.result e is c.choose.ensures.fault) c.choose.ensures.place c.choose.ensures.stands c.choose.ensures.files;
+      moments = moments_all g.P.Station.tells g.P.Station.calls p c.requires.going g0 n c.requires.need c.requires.free low file file_is mark c.mark-mark.ensures long used used_is q c.put.ensures.rest c.put.ensures.beside c.in_ok-seal.ensures.written (held written c.in_ok-seal.seal) c.in_ok-seal.ensures.seal c.choose.new.parts c.choose.ensures.rest c.choose.ensures.silent c.choose.ensures.moments;
+      written = written_by g.P.Station.tells g.P.Station.calls p c.requires.going g0 n c.requires.need c.requires.free low file file_is mark c.mark-mark.ensures long used used_is q c.put.ensures.rest c.put.ensures.beside c.in_ok-seal.ensures.written (held written c.in_ok-seal.seal) c.in_ok-seal.ensures.seal c.choose.new.parts c.choose.ensures.rest c.choose.ensures.silent c.choose.ensures.moments c.choose.result c.choose.ensures.place c.choose.ensures.stands c.choose.ensures.files;
       stops = search rules;
       kind = search rules;
       unchanged = search rules;
       cause = search rules;
     }
 
-pub returns-in-Err : goal.returns-in-Err
-returns-in-Err g c =
+pub returns-in_err-seal : goal.returns-in_err-seal
+returns-in_err-seal g c =
     let p = c.args.parts.now in
+    let x = err_from_is_err_and c.from_residual.result c.from_residual.ensures.1 in
     let g0 = c.requires.sound c.requires.going in
     let n = need_of c.args.need.now in
     let low : p.journal.file < 2 = omega (arith, c.file-other.ensures.file, c.file-other.ensures.below) in
@@ -84,8 +86,8 @@ returns-in-Err g c =
     let used_is : used ≡ compacted_bytes written n =
     c.compacted_size-used.ensures ∙ size_free p.directory g0.state n c.args.size (c.requires.need p.directory g0.state g0.holds) c.requires.size (c.requires.free g0.state g0.holds) (omega (arith, p.within.limit)) in
     let q = c.put.new.parts in
-    record {
-      compaction = failed_put g.P.Station.tells g.P.Station.calls p c.requires.going g0 n c.requires.need c.requires.free low file file_is mark c.mark-mark.ensures long used used_is q c.put.ensures.rest c.put.ensures.beside c.in-Err.fault c.in-Err.ensures.fault c.in-Err.ensures.stops;
+    rw (x.1, x.2) (record {
+      compaction = failed_put g.P.Station.tells g.P.Station.calls p c.requires.going g0 n c.requires.need c.requires.free low file file_is mark c.mark-mark.ensures long used used_is q c.put.ensures.rest c.put.ensures.beside c.in_err-seal.field-0.0 c.in_err-seal.ensures.fault c.in_err-seal.ensures.stops;
       sound = search rules;
       moments = moments_put g.P.Station.tells g.P.Station.calls p c.requires.going g0 n c.requires.need c.requires.free low file file_is mark c.mark-mark.ensures long used used_is q c.put.ensures.rest c.put.ensures.beside;
       written = λ tell. tt;
@@ -93,4 +95,4 @@ returns-in-Err g c =
       kind = search rules;
       unchanged = search rules;
       cause = search rules;
-    }
+    })

@@ -1,24 +1,26 @@
 use Rattle.std.proofs.Common.{◌-◌, ◌^◌, length, min, ap, ◌∙◌}
+use Rattle.std.proofs.lemmas.Result.{err_from_is_err_and}
 use Rattle.gts_event.specs.Need.{Need}
 use Rattle.gts_event.specs.Items.{need_of}
 use Rattle.gts_opening.specs.Journal.{checkpoint_text}
 use Rattle.gts_migrate.proofs.MigratingLemmas.{wide_is, wide_from}
 use Rattle.gts_migrate.proofs.migrating.prepare.Goals as goal
 
-pub returns-in-Ok-check_room-clause-room : goal.returns-in-Ok-check_room-clause-room
-returns-in-Ok-check_room-clause-room c = λ s holds.
+pub returns-clause-room : goal.returns-clause-room
+returns-clause-room c = λ s holds.
     let old = c.args.old.now in
     let new = c.args.new.now in
     let core = c.args.core.now in
     let wide = wide_from old new core (need_of c.in-Ok.need) (need_of c.in-Ok-widen.wide) c.circuits.result c.in-Ok.ensures c.circuits.ensures.value c.in-Ok-widen.ensures in
     let is = wide_is old new core s (need_of c.in-Ok-widen.wide) c.requires.extends holds (wide s holds) in
-    c.in-Ok-check_room.ensures.room s holds (c.size-size.ensures ∙ ap (λ (n : Need). min (length (checkpoint_text n)) (2 ^ 64 - 1)) is)
+    c.in_ok-check_room.ensures.room s holds (c.size-size.ensures ∙ ap (λ (n : Need). min (length (checkpoint_text n)) (2 ^ 64 - 1)) is)
 
-pub returns-in-Err-check_room-clause-room : goal.returns-in-Err-check_room-clause-room
-returns-in-Err-check_room-clause-room c = λ s holds.
+pub returns-in_err-check_room-clause-room : goal.returns-in_err-check_room-clause-room
+returns-in_err-check_room-clause-room c = λ s holds.
+    let p = err_from_is_err_and c.from_residual.result c.from_residual.ensures.1 in
     let old = c.args.old.now in
     let new = c.args.new.now in
     let core = c.args.core.now in
     let wide = wide_from old new core (need_of c.in-Ok.need) (need_of c.in-Ok-widen.wide) c.circuits.result c.in-Ok.ensures c.circuits.ensures.value c.in-Ok-widen.ensures in
     let is = wide_is old new core s (need_of c.in-Ok-widen.wide) c.requires.extends holds (wide s holds) in
-    c.in-Err-check_room.ensures.room s holds (c.size-size.ensures ∙ ap (λ (n : Need). min (length (checkpoint_text n)) (2 ^ 64 - 1)) is)
+    rw (p.1, p.2) (c.in_err-check_room.ensures.room s holds (c.size-size.ensures ∙ ap (λ (n : Need). min (length (checkpoint_text n)) (2 ^ 64 - 1)) is))

@@ -1,4 +1,5 @@
-use Rattle.std.proofs.Common.{◌≡◌, ◌∷◌, List, None, length, sym, subst}
+use Rattle.std.proofs.Common.{◌≡◌, ◌∷◌, List, None, Result, Ok, Err, length, sym, subst}
+use Rattle.std.proofs.lemmas.Result.{err_from_is_err_and}
 use Rattle.gts_traits.specs.Calls.{Call, Did, Syncs}
 use Rattle.gts_traits.specs.Moments.{EachSince}
 use Rattle.gts_event.specs.State.{State}
@@ -9,7 +10,10 @@ use Rattle.gts_opening.specs.Room.{full_compacted}
 use Rattle.gts_recovery.specs.Wider.{widened}
 use Rattle.gts_recovery.specs.Opened.{opens_any}
 use Rattle.gts_traits.specs.Disk.{seen}
-use Rattle.gts_migrate.specs.Migrating.{OpensEither, IsRoomAnswer}
+use Rattle.gts_record.specs.declared.fault.OpenFault.{OpenFault}
+use Rattle.gts_migrate.specs.declared.migrating.MigrateFault.{MigrateFault}
+use Rattle.gts_migrate.specs.declared.migrating.MigrateFault.TheVariants.{Open, Full, DiskFault, NoMemory}
+use Rattle.gts_migrate.specs.Migrating.{OpensEither, IsRoomAnswer, IsRoomFaultOf, AnswersOpening}
 use Rattle.gts_migrate.proofs.MigratingLemmas.{fits_for, can_migrate, state_is, need_is, opens_so, at_rest, room_after, opening_after, told_after, disk_after, migrated_after}
 use Rattle.gts_migrate.proofs.migrating.take_over.Goals as goal
 
@@ -21,81 +25,9 @@ rewrite-requires-clause-fits g c =
     let core = c.in-Ok.opened.0 in
     let j = c.in-Ok.opened.1 in
     let o = c.in-Ok.ensures.opened in
-    let n = need_of c.in-Ok-prepare.need in
-    let wide = c.in-Ok-prepare.ensures.wide in
-    fits_for g.P.Station.tells old new c.requires mid core j o n wide (c.in-Ok-prepare.ensures.room o.state o.kept.holds)
-
-pub returns-in-Ok-prepare-clause-moments : goal.returns-in-Ok-prepare-clause-moments
-returns-in-Ok-prepare-clause-moments g c = λ tell k was is.
-    let old = c.args.old.now in
-    let new = c.args.new.now in
-    let mid = g.P.Station.calls c.open_core_any.new.station in
-    let core = c.in-Ok.opened.0 in
-    let j = c.in-Ok.opened.1 in
-    let o = c.in-Ok.ensures.opened in
-    let n = need_of c.in-Ok-prepare.need in
-    let wide = c.in-Ok-prepare.ensures.wide in
-    let before = g.P.Station.calls c.args.station.now in
-    let synced = c.in-Ok.ensures.synced tell in
-    let after = g.P.Station.calls c.rewrite.new.station in
-    let can = can_migrate g.P.Station.tells old new c.requires mid core j o n wide tell in
-    let each = c.rewrite.ensures.moments tell old o.state can in
-    let here = subst (λ (calls : List Call). EachSince calls after (OpensEither old new (need old (restarted o.state)))) synced each in
-    subst (λ (m : Need). EachSince (Did Syncs ∷ before) after (OpensEither old new m)) (need_is g.P.Station.tells old new c.requires mid core j o tell before synced k is) here
-
-pub returns-in-Ok-prepare-clause-migrated : goal.returns-in-Ok-prepare-clause-migrated
-returns-in-Ok-prepare-clause-migrated g c = λ tell s used is.
-    let old = c.args.old.now in
-    let new = c.args.new.now in
-    let mid = g.P.Station.calls c.open_core_any.new.station in
-    let core = c.in-Ok.opened.0 in
-    let j = c.in-Ok.opened.1 in
-    let o = c.in-Ok.ensures.opened in
-    let n = need_of c.in-Ok-prepare.need in
-    let wide = c.in-Ok-prepare.ensures.wide in
-    let before = g.P.Station.calls c.args.station.now in
-    let synced = c.in-Ok.ensures.synced tell in
-    let can = can_migrate g.P.Station.tells old new c.requires mid core j o n wide tell in
-    migrated_after c.rewrite.result old new o.state s n before mid (g.P.Station.calls c.rewrite.new.station) j synced
-    (state_is g.P.Station.tells old new c.requires mid core j o tell before synced s used is) can (c.rewrite.ensures.written tell)
-
-pub returns-in-Ok-prepare-clause-full : goal.returns-in-Ok-prepare-clause-full
-returns-in-Ok-prepare-clause-full g c = λ tell s used is.
-    let old = c.args.old.now in
-    let new = c.args.new.now in
-    let mid = g.P.Station.calls c.open_core_any.new.station in
-    let core = c.in-Ok.opened.0 in
-    let j = c.in-Ok.opened.1 in
-    let o = c.in-Ok.ensures.opened in
-    let before = g.P.Station.calls c.args.station.now in
-    let synced = c.in-Ok.ensures.synced tell in
-    let same = state_is g.P.Station.tells old new c.requires mid core j o tell before synced s used is in
-    let free : full_compacted new (widened (length new.circuits) o.state) ≡ None = c.in-Ok-prepare.ensures.room o.state o.kept.holds in
-    room_after c.rewrite.result new (widened (length new.circuits) s) c.rewrite.ensures.kind
-    (subst (λ (t : State). full_compacted new (widened (length new.circuits) t) ≡ None) (sym same) free)
-
-pub returns-in-Ok-prepare-clause-opening : goal.returns-in-Ok-prepare-clause-opening
-returns-in-Ok-prepare-clause-opening g c = λ tell.
-    let old = c.args.old.now in
-    let new = c.args.new.now in
-    let mid = g.P.Station.calls c.open_core_any.new.station in
-    let core = c.in-Ok.opened.0 in
-    let j = c.in-Ok.opened.1 in
-    let o = c.in-Ok.ensures.opened in
-    let before = g.P.Station.calls c.args.station.now in
-    let synced = c.in-Ok.ensures.synced tell in
-    opening_after c.rewrite.result (opens_any old (seen before)) (need old (restarted o.state)) c.rewrite.ensures.kind
-    (opens_so g.P.Station.tells old new c.requires mid core j o tell before synced)
-
-pub returns-in-Ok-prepare-clause-told : goal.returns-in-Ok-prepare-clause-told
-returns-in-Ok-prepare-clause-told g c = λ tell leaves.
-    told_after g.P.Station.calls c.rewrite.result c.args.station.now c.open_core_any.new.station c.rewrite.new.station c.rewrite.ensures.kind c.rewrite.ensures.no_memory
-    (c.in-Ok.ensures.told tell) leaves
-
-pub returns-in-Ok-prepare-clause-disk : goal.returns-in-Ok-prepare-clause-disk
-returns-in-Ok-prepare-clause-disk g c = λ is.
-    disk_after c.rewrite.result (g.P.Station.disk_faults c.args.station.now) (g.P.Station.disk_faults c.open_core_any.new.station) (g.P.Station.disk_faults c.rewrite.new.station)
-    c.rewrite.ensures.kind c.rewrite.ensures.disk c.in-Ok.ensures.later is
+    let n = need_of c.in_ok-need.need in
+    let wide = c.in_ok-need.ensures.wide in
+    fits_for g.P.Station.tells old new c.requires mid core j o n wide (c.in_ok-need.ensures.room o.state o.kept.holds)
 
 pub returns-clause-moments : goal.returns-clause-moments
 returns-clause-moments g c = λ tell k was is.
@@ -105,10 +37,31 @@ returns-clause-moments g c = λ tell k was is.
     let core = c.in-Ok.opened.0 in
     let j = c.in-Ok.opened.1 in
     let o = c.in-Ok.ensures.opened in
+    let n = need_of c.in_ok-need.need in
+    let wide = c.in_ok-need.ensures.wide in
     let before = g.P.Station.calls c.args.station.now in
     let synced = c.in-Ok.ensures.synced tell in
-    subst (λ (m : Need). EachSince (Did Syncs ∷ before) mid (OpensEither old new m)) (need_is g.P.Station.tells old new c.requires mid core j o tell before synced k is)
-    (at_rest g.P.Station.tells old new c.requires mid core j o tell before synced)
+    let after = g.P.Station.calls c.rewrite.new.station in
+    let can = can_migrate g.P.Station.tells old new c.requires mid core j o n wide tell in
+    let each = c.rewrite.ensures.moments tell old o.state can in
+    let here = subst (λ (calls : List Call). EachSince calls after (OpensEither old new (need old (restarted o.state)))) synced each in
+    subst (λ (m : Need). EachSince (Did Syncs ∷ before) after (OpensEither old new m)) (need_is g.P.Station.tells old new c.requires mid core j o tell before synced k is) here
+
+pub returns-clause-migrated : goal.returns-clause-migrated
+returns-clause-migrated g c = λ tell s used is.
+    let old = c.args.old.now in
+    let new = c.args.new.now in
+    let mid = g.P.Station.calls c.open_core_any.new.station in
+    let core = c.in-Ok.opened.0 in
+    let j = c.in-Ok.opened.1 in
+    let o = c.in-Ok.ensures.opened in
+    let n = need_of c.in_ok-need.need in
+    let wide = c.in_ok-need.ensures.wide in
+    let before = g.P.Station.calls c.args.station.now in
+    let synced = c.in-Ok.ensures.synced tell in
+    let can = can_migrate g.P.Station.tells old new c.requires mid core j o n wide tell in
+    migrated_after c.rewrite.result old new o.state s n before mid (g.P.Station.calls c.rewrite.new.station) j synced
+    (state_is g.P.Station.tells old new c.requires mid core j o tell before synced s used is) can (c.rewrite.ensures.written tell)
 
 pub returns-clause-full : goal.returns-clause-full
 returns-clause-full g c = λ tell s used is.
@@ -120,5 +73,78 @@ returns-clause-full g c = λ tell s used is.
     let o = c.in-Ok.ensures.opened in
     let before = g.P.Station.calls c.args.station.now in
     let synced = c.in-Ok.ensures.synced tell in
-    subst (λ (t : State). IsRoomAnswer c.in-Err-prepare.fault new (widened (length new.circuits) t)) (sym (state_is g.P.Station.tells old new c.requires mid core j o tell before synced s used is))
-    (c.in-Err-prepare.ensures.room o.state o.kept.holds)
+    let same = state_is g.P.Station.tells old new c.requires mid core j o tell before synced s used is in
+    let free : full_compacted new (widened (length new.circuits) o.state) ≡ None = c.in_ok-need.ensures.room o.state o.kept.holds in
+    room_after c.rewrite.result new (widened (length new.circuits) s) c.rewrite.ensures.kind
+    (subst (λ (t : State). full_compacted new (widened (length new.circuits) t) ≡ None) (sym same) free)
+
+pub returns-clause-opening : goal.returns-clause-opening
+returns-clause-opening g c = λ tell.
+    let old = c.args.old.now in
+    let new = c.args.new.now in
+    let mid = g.P.Station.calls c.open_core_any.new.station in
+    let core = c.in-Ok.opened.0 in
+    let j = c.in-Ok.opened.1 in
+    let o = c.in-Ok.ensures.opened in
+    let before = g.P.Station.calls c.args.station.now in
+    let synced = c.in-Ok.ensures.synced tell in
+    opening_after c.rewrite.result (opens_any old (seen before)) (need old (restarted o.state)) c.rewrite.ensures.kind
+    (opens_so g.P.Station.tells old new c.requires mid core j o tell before synced)
+
+pub returns-clause-told : goal.returns-clause-told
+returns-clause-told g c = λ tell leaves.
+    told_after g.P.Station.calls c.rewrite.result c.args.station.now c.open_core_any.new.station c.rewrite.new.station c.rewrite.ensures.kind c.rewrite.ensures.no_memory
+    (c.in-Ok.ensures.told tell) leaves
+
+pub returns-clause-disk : goal.returns-clause-disk
+returns-clause-disk g c = λ is.
+    disk_after c.rewrite.result (g.P.Station.disk_faults c.args.station.now) (g.P.Station.disk_faults c.open_core_any.new.station) (g.P.Station.disk_faults c.rewrite.new.station)
+    c.rewrite.ensures.kind c.rewrite.ensures.disk c.in-Ok.ensures.later is
+
+pub returns-in_err-need-clause-moments : goal.returns-in_err-need-clause-moments
+returns-in_err-need-clause-moments g c = λ tell k was is.
+    let old = c.args.old.now in
+    let new = c.args.new.now in
+    let mid = g.P.Station.calls c.open_core_any.new.station in
+    let core = c.in-Ok.opened.0 in
+    let j = c.in-Ok.opened.1 in
+    let o = c.in-Ok.ensures.opened in
+    let before = g.P.Station.calls c.args.station.now in
+    let synced = c.in-Ok.ensures.synced tell in
+    subst (λ (m : Need). EachSince (Did Syncs ∷ before) mid (OpensEither old new m)) (need_is g.P.Station.tells old new c.requires mid core j o tell before synced k is)
+    (at_rest g.P.Station.tells old new c.requires mid core j o tell before synced)
+
+pub returns-in_err-need-clause-full : goal.returns-in_err-need-clause-full
+returns-in_err-need-clause-full g c = λ tell s used is.
+    let p = err_from_is_err_and c.from_residual.result c.from_residual.ensures.1 in
+    let old = c.args.old.now in
+    let new = c.args.new.now in
+    let mid = g.P.Station.calls c.open_core_any.new.station in
+    let core = c.in-Ok.opened.0 in
+    let j = c.in-Ok.opened.1 in
+    let o = c.in-Ok.ensures.opened in
+    let before = g.P.Station.calls c.args.station.now in
+    let synced = c.in-Ok.ensures.synced tell in
+    rw (p.1, p.2) (subst (λ (t : State). IsRoomAnswer c.in_err-need.field-0.0 new (widened (length new.circuits) t)) (sym (state_is g.P.Station.tells old new c.requires mid core j o tell before synced s used is))
+    (c.in_err-need.ensures.room o.state o.kept.holds))
+
+-- where there was no room or no memory, the files opened
+opening_before : (fault : MigrateFault) (opened : Result Need OpenFault) (n : Need) → IsRoomFaultOf fault → opened ≡ Ok n → AnswersOpening (Err fault) opened
+opening_before (Full at wanted limit) opened n kind is = (n, is)
+opening_before NoMemory opened n kind is = (n, is)
+opening_before (Open e) opened n kind is = absurd kind
+opening_before DiskFault opened n kind is = absurd kind
+
+pub returns-in_err-need-clause-opening : goal.returns-in_err-need-clause-opening
+returns-in_err-need-clause-opening g c = λ tell.
+    let p = err_from_is_err_and c.from_residual.result c.from_residual.ensures.1 in
+    let old = c.args.old.now in
+    let new = c.args.new.now in
+    let mid = g.P.Station.calls c.open_core_any.new.station in
+    let core = c.in-Ok.opened.0 in
+    let j = c.in-Ok.opened.1 in
+    let o = c.in-Ok.ensures.opened in
+    let before = g.P.Station.calls c.args.station.now in
+    let synced = c.in-Ok.ensures.synced tell in
+    rw (p.1, p.2) (opening_before c.in_err-need.field-0.0 (opens_any old (seen before)) (need old (restarted o.state)) c.in_err-need.ensures.kind
+    (opens_so g.P.Station.tells old new c.requires mid core j o tell before synced))
