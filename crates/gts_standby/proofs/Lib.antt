@@ -1,3 +1,4 @@
+pub mod ExitLemmas
 pub mod SayLemmas
 pub mod FeedLemmas
 pub mod ShipLemmas

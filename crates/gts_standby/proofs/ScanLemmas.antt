@@ -1,6 +1,6 @@
 -- How long the checkpoint at the front of a feed is, by the bytes that were read ahead.
-use Rattle.std.proofs.Common.{◌≡◌, ◌⊎◌, ⊎_elim, ℕ, zero, suc, ◌+◌, ◌-◌, ◌<◌, ◌≤◌, Bool, true, false, cond, List, [], ◌∷◌, ◌++◌, length, take, drop, Result, Err, refl, sym, ap, subst, ◌∙◌, arith, length-append}
-use Rattle.std.specs.Prelude.{nat_lt, nat_eq}
+use Rattle.std.proofs.Common.{◌≡◌, ◌⊎◌, ⊎_elim, ℕ, zero, suc, ◌+◌, ◌-◌, ◌<◌, ◌≤◌, Bool, true, false, cond, List, [], ◌∷◌, ◌++◌, length, take, drop, Result, Err, Some, replicate, refl, sym, ap, subst, ◌∙◌, arith, length-append}
+use Rattle.std.specs.Prelude.{nat_lt, nat_eq, IsErrAnd}
 use Rattle.std.specs.List.{starts_with}
 use Rattle.std.specs.Cmp.Lexicographic.{pointwise}
 use Rattle.std.proofs.lemmas.Bool.Decides.{nat_tests}
@@ -8,11 +8,14 @@ use Rattle.std.proofs.lemmas.List.{length-take}
 use Rattle.gts_record.specs.declared.version.Version.{Version}
 use Rattle.gts_record.specs.Format.{seal, seal_size, is_sealed}
 use Rattle.gts_record.proofs.LawLemmas.{length-seal}
+use Rattle.gts_standby.specs.declared.scanning.Listed.{Listed}
+use Rattle.gts_standby.specs.declared.scanning.Listed.TheVariants.{Bulletin, Circuit}
 use Rattle.gts_standby.specs.declared.end.FollowEnd.{FollowEnd}
 use Rattle.gts_standby.specs.declared.end.FollowEnd.TheVariants.{Done, Open, Feed, Diverged, SourceFault, DiskFault, NoMemory}
 use Rattle.gts_standby.specs.Ahead.{InFeed}
-use Rattle.gts_standby.specs.Taking.{Taken, Ends, Breaks, Piece, Cut, Broken, Sealed, by_piece, Reached, Short, Bad, Behind, or_else, reach, and_then, behind_all, behind_checkpoint, checkpoint_piece}
-use Rattle.gts_standby.specs.Reading.{HasRead, IsReadEnd, IsFedEnd, Reaches, StopsAt, StopsAs}
+use Rattle.gts_standby.specs.Taking.{Taken, Ends, Breaks, Piece, Cut, Broken, Sealed, by_piece, Reached, Short, Bad, Behind, or_else, reach, reach_found, least_bulletin, bulletin_size, circuit_size, and_then, behind_all, behind_checkpoint, checkpoint_piece}
+use Rattle.gts_standby.specs.Reading.{HasRead, IsReadEnd, IsFedEnd, Reaches, FindsPiece, StopsAt, StopsAs, listed_size, behind_listed}
+use Rattle.gts_standby.proofs.ExitLemmas.{returned}
 use Rattle.gts_standby.proofs.HeaderLemmas.{no_more}
 
 -- ---- bytes of a front
@@ -114,6 +117,21 @@ all_done one left at none = ap (λ (k : ℕ). behind_all one k at) none
 pub reaches_same : (answer : Result ℕ FollowEnd) (one other : Reached) (fed : List ℕ) (ahead : InFeed) (unread : List ℕ) → other ≡ one → Reaches answer one fed ahead unread → Reaches answer other fed ahead unread
 reaches_same answer one other fed ahead unread same is = subst (λ (r : Reached). Reaches answer r fed ahead unread) (sym same) is
 
+pub reaches_err : (answer : Result ℕ FollowEnd) (end : FollowEnd) (one other : Reached) (fed : List ℕ) (ahead : InFeed) (unread : List ℕ) → IsErrAnd answer (λ e. e ≡ end) → other ≡ one
+    → Reaches (Err end) one fed ahead unread → Reaches answer other fed ahead unread
+reaches_err answer end one other fed ahead unread failed same is =
+    subst (λ (r : Result ℕ FollowEnd). Reaches r other fed ahead unread) (sym (returned answer end failed)) (reaches_same (Err end) one other fed ahead unread same is)
+
+-- ---- a bulletin or a circuit
+
+pub size_read : (listed : Listed) (fed left : List ℕ) (ahead : InFeed) (at : ℕ) → HasRead fed ahead left → (ahead.is_all ≡ true) ⊎ (at + 16 ≤ length ahead.bytes) → listed_size listed ahead.bytes at ≡ listed_size listed fed at
+size_read Bulletin fed left ahead at read enough = ap bulletin_size (or_else_read least_bulletin fed left ahead at read enough)
+size_read Circuit fed left ahead at read enough = ap (λ (head : List ℕ). Some (circuit_size head)) (or_else_read (replicate 16 0) fed left ahead at read enough)
+
+pub reach_listed : (listed : Listed) (limit : ℕ) (fed : List ℕ) (at : ℕ) → behind_listed listed limit fed at ≡ reach_found limit fed at (listed_size listed fed at)
+reach_listed Bulletin limit fed at = refl
+reach_listed Circuit limit fed at = refl
+
 -- ---- what was read is enough
 
 -- a place that was reached stands in the feed
@@ -142,6 +160,10 @@ checkpoint_by v before bytes reached = elim reached as (λ _. Piece) [
       cond (nat_lt (length bytes) (size + seal_size v)) Cut
       (cond (is_sealed v before (take size bytes) bytes) (Sealed (size + seal_size v) (seal v before (take size bytes))) Broken)
 ]
+
+pub finds_err : (answer : Result (ℕ × List ℕ) FollowEnd) (end : FollowEnd) (v : Version) (at : ℕ) (piece : Piece) (fed : List ℕ) (ahead : InFeed) (left : List ℕ) → IsErrAnd answer (λ e. e ≡ end)
+    → ((next : ℕ → List ℕ → Taken) → StopsAs end (by_piece at piece next) left) → FindsPiece answer v at piece fed ahead left
+finds_err answer end v at piece fed ahead left failed stops = subst (λ (r : Result (ℕ × List ℕ) FollowEnd). FindsPiece r v at piece fed ahead left) (sym (returned answer end failed)) stops
 
 -- it isn't reached
 pub scan_stops : (answer : FollowEnd) → IsFedEnd answer → (v : Version) (limit : ℕ) (before fed : List ℕ) (ahead : InFeed) (left : List ℕ) → Reaches (Err answer) (behind_checkpoint limit fed) fed ahead left

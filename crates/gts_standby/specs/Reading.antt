@@ -3,10 +3,12 @@ use Rattle.std.specs.Prelude.{◌≡◌, ℕ, true, false, List, [], ◌++◌, d
 use Rattle.std.specs.List.{starts_with}
 use Rattle.gts_record.specs.declared.version.Version.{Version}
 use Rattle.gts_record.specs.Format.{held}
+use Rattle.gts_standby.specs.declared.scanning.Listed.{Listed}
+use Rattle.gts_standby.specs.declared.scanning.Listed.TheVariants.{Bulletin, Circuit}
 use Rattle.gts_standby.specs.declared.end.FollowEnd.{FollowEnd}
 use Rattle.gts_standby.specs.declared.end.FollowEnd.TheVariants.{Done, Feed, SourceFault, DiskFault, NoMemory}
 use Rattle.gts_standby.specs.Ahead.{InFeed}
-use Rattle.gts_standby.specs.Taking.{End, Taken, stopped, by_header, Piece, Sealed, by_piece, Reached, Short, Bad, Behind, may_be_cut, number_at}
+use Rattle.gts_standby.specs.Taking.{End, Taken, stopped, by_header, Piece, Sealed, by_piece, Reached, Short, Bad, Behind, may_be_cut, number_at, or_else, least_bulletin, bulletin_size, behind_bulletin, circuit_size, behind_circuit}
 use Rattle.gts_standby.specs.Following.{EndsAs}
 
 -- what was read ahead and what the source has left are what is left of a feed
@@ -67,6 +69,15 @@ TakesHeader (Err end) header fed ahead left = (next : Taken) → StopsAs end (by
 abbrev pub FindsPiece : Result (ℕ × List ℕ) FollowEnd → Version → ℕ → Piece → List ℕ → InFeed → List ℕ → Type 0
 FindsPiece (Ok found) v at piece fed ahead left = (piece ≡ Sealed found.0 (held v found.1)) × HasRead fed ahead left
 FindsPiece (Err end) v at piece fed ahead left = (next : ℕ → List ℕ → Taken) → StopsAs end (by_piece at piece next) left
+
+-- how many bytes one of a checkpoint's bulletins or circuits has by its first ones, as far as they are there
+abbrev pub listed_size : Listed → List ℕ → ℕ → Option ℕ
+listed_size Bulletin bytes at = bulletin_size (or_else least_bulletin bytes at)
+listed_size Circuit bytes at = Some (circuit_size (or_else (replicate 16 0) bytes at))
+
+abbrev pub behind_listed : Listed → ℕ → List ℕ → ℕ → Reached
+behind_listed Bulletin = behind_bulletin
+behind_listed Circuit = behind_circuit
 
 -- a place in a checkpoint was reached
 abbrev pub Reaches : Result ℕ FollowEnd → Reached → List ℕ → InFeed → List ℕ → Type 0

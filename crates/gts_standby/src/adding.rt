@@ -15,7 +15,7 @@ use gts_directory::Directory;
 use gts_journal::Journal;
 use gts_record::decode_sealed;
 use gts_recovery::admit;
-use gts_traits::{Failed, NoMemory, Source, Station};
+use gts_traits::{Failed, Source, Station};
 use std::alloc::Global;
 
 /// Adds the record of a feed that stands next, at a place, and answers its size there.
@@ -48,10 +48,7 @@ fn add_next<P: Station, S: Source>(
     ensures whole { S.tells → IsWhole ahead.old (S.left source.old)
         → StaysWhole result ahead.new (S.left source.new) }
 {
-    match ahead.fill(source, LONGEST) {
-        Ok(()) => {}
-        Err(end) => return Err(end),
-    }
+    ahead.fill(source, LONGEST)?;
     // A limit is low enough for the places of gates.
     let _ = directory.limit();
     let version = journal.version();
@@ -61,16 +58,15 @@ fn add_next<P: Station, S: Source>(
         Some(found) => {
             let record = found.0;
             let size = found.1;
-            match admit(core, alloc, directory, version, gate, &record) {
-                Ok(true) => match journal.append(station, &record) {
-                    Ok(()) => {
-                        ahead.pass(size);
-                        Ok(size)
-                    }
-                    Err(Failed) => Err(FollowEnd::DiskFault),
-                },
-                Ok(false) => Err(FollowEnd::Feed { at }),
-                Err(NoMemory) => Err(FollowEnd::NoMemory),
+            if !admit(core, alloc, directory, version, gate, &record)? {
+                return Err(FollowEnd::Feed { at });
+            }
+            match journal.append(station, &record) {
+                Ok(()) => {
+                    ahead.pass(size);
+                    Ok(size)
+                }
+                Err(Failed) => Err(FollowEnd::DiskFault),
             }
         }
         None => Err(end_at(alloc, version, ahead, at)),

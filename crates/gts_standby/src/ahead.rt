@@ -124,11 +124,8 @@ impl Ahead {
         if self.len() < want && !self.is_all {
             self.settle();
         }
-        'piece: while self.len() < want && !self.is_all {
-            match self.read_on(source) {
-                Ok(()) => {}
-                Err(end) => return Err(end),
-            }
+        while self.len() < want && !self.is_all {
+            self.read_on(source)?;
         }
         Ok(())
     }

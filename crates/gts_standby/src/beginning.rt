@@ -10,15 +10,14 @@ ghost use Rattle.gts_standby.specs.Whole.{IsWhole, StaysWhole};
 
 use crate::FollowEnd;
 use crate::ahead::Ahead;
-use crate::header::HEADER;
 use crate::scanning::fed_checkpoint;
 use gts_checkpoint::{WriteFault, decode, write};
 use gts_core::Core;
 use gts_directory::Directory;
 use gts_event::Need;
 use gts_journal::{Journal, Version};
-use gts_record::BESIDE_CHECKPOINT;
-use gts_traits::{NoMemory, Source, Station};
+use gts_record::{BESIDE_CHECKPOINT, HEADER};
+use gts_traits::{Source, Station};
 use std::alloc::Global;
 
 /// Writes a checkpoint to the file that isn't selected, and selects that.
@@ -105,23 +104,13 @@ pub(crate) fn begin<P: Station, S: Source>(
     let version = journal.version();
     let limit = directory.limit();
     let before = journal.seal();
-    let behind = match fed_checkpoint(source, ahead, limit, version, &before) {
-        Ok(found) => found.0,
-        Err(end) => return Err(end),
-    };
+    let behind = fed_checkpoint(source, ahead, limit, version, &before)?.0;
     let size = behind - version.seal_size();
-    let need = match decode(alloc, &ahead.bytes()[..size], directory) {
-        Ok(Some(need)) => need,
-        Ok(None) => return Err(FollowEnd::Feed { at: HEADER as u64 }),
-        Err(NoMemory) => return Err(FollowEnd::NoMemory),
+    let Some(need) = decode(alloc, &ahead.bytes()[..size], directory)? else {
+        return Err(FollowEnd::Feed { at: HEADER as u64 });
     };
-    match put(alloc, station, directory, journal, &need, size) {
-        Ok(()) => {}
-        Err(end) => return Err(end),
-    }
+    put(alloc, station, directory, journal, &need, size)?;
     ahead.pass(behind);
-    match Core::of_need(alloc, directory, need) {
-        Ok(core) => Ok((core, HEADER as u64 + behind as u64)),
-        Err(NoMemory) => Err(FollowEnd::NoMemory),
-    }
+    let core = Core::of_need(alloc, directory, need)?;
+    Ok((core, HEADER as u64 + behind as u64))
 }

@@ -10,11 +10,11 @@ ghost use Rattle.gts_standby.specs.Whole.{IsNamedEnd, IsWhole, StaysWhole};
 use crate::FollowEnd;
 use crate::ahead::Ahead;
 use crate::fed::fed_record;
-use crate::header::HEADER;
 use crate::scanning::{fed_checkpoint, is_at_checkpoint};
 use gts_checkpoint::read;
 use gts_directory::Directory;
 use gts_journal::{Journal, OpenFault, Version};
+use gts_record::HEADER;
 use gts_traits::{Source, Station};
 use std::alloc::Global;
 
@@ -54,13 +54,9 @@ fn own_first<P: Station>(
     // A limit is low enough for the place of the gate.
     let _ = directory.limit();
     let file = own.file();
-    match read(alloc, station, own.version(), file, directory) {
-        Ok(found) => {
-            own.pass(found.1, found.2);
-            Ok(())
-        }
-        Err(fault) => Err(FollowEnd::from(fault)),
-    }
+    let found = read(alloc, station, own.version(), file, directory)?;
+    own.pass(found.1, found.2);
+    Ok(())
 }
 
 /// Goes on behind the next record of a journal.
@@ -82,10 +78,9 @@ fn own_next<P: Station>(station: &mut P, own: &mut Journal) -> Result<(), Follow
 {
     let file = own.file();
     let gate = own.used();
-    match own.next(station) {
-        Ok(Some(_)) => Ok(()),
-        Ok(None) => Err(FollowEnd::Open(OpenFault::Damaged { file, at: gate })),
-        Err(fault) => Err(FollowEnd::from(fault)),
+    match own.next(station)? {
+        Some(_) => Ok(()),
+        None => Err(FollowEnd::Open(OpenFault::Damaged { file, at: gate })),
     }
 }
 
@@ -109,10 +104,10 @@ fn fed_first<S: Source>(
         → Rose (S.faults source.old) (S.faults source.new) }
     ensures source_later { S.faults source.old ≤ S.faults source.new }
 {
-    match is_at_checkpoint(source, ahead) {
-        Ok(true) => fed_checkpoint(source, ahead, limit, version, before),
-        Ok(false) => fed_record(alloc, source, ahead, version, before, HEADER as u64),
-        Err(end) => Err(end),
+    if is_at_checkpoint(source, ahead)? {
+        fed_checkpoint(source, ahead, limit, version, before)
+    } else {
+        fed_record(alloc, source, ahead, version, before, HEADER as u64)
     }
 }
 
@@ -149,14 +144,8 @@ fn compare_first<P: Station, S: Source>(
     let version = own.version();
     let before = own.seal();
     let limit = directory.limit();
-    let (size, fed) = match fed_first(alloc, source, ahead, limit, version, &before) {
-        Ok(found) => found,
-        Err(end) => return Err(end),
-    };
-    match own_first(alloc, station, directory, own) {
-        Ok(()) => {}
-        Err(end) => return Err(end),
-    }
+    let (size, fed) = fed_first(alloc, source, ahead, limit, version, &before)?;
+    own_first(alloc, station, directory, own)?;
     let seal = own.seal();
     if !is_same(version, &seal, &fed) {
         return Err(FollowEnd::Diverged {
@@ -202,14 +191,8 @@ fn compare_next<P: Station, S: Source>(
 {
     let version = own.version();
     let before = own.seal();
-    let (size, fed) = match fed_record(alloc, source, ahead, version, &before, at) {
-        Ok(found) => found,
-        Err(end) => return Err(end),
-    };
-    match own_next(station, own) {
-        Ok(()) => {}
-        Err(end) => return Err(end),
-    }
+    let (size, fed) = fed_record(alloc, source, ahead, version, &before, at)?;
+    own_next(station, own)?;
     let seal = own.seal();
     if !is_same(version, &seal, &fed) {
         return Err(FollowEnd::Diverged {
@@ -255,11 +238,9 @@ fn compare_rest<P: Station, S: Source>(
 {
     let mut index = 1;
     let mut at = at;
-    'record: while own.used() < end {
-        match compare_next(alloc, station, own, source, ahead, index, at) {
-            Ok(size) => at += size as u64,
-            Err(end) => return Err(end),
-        }
+    while own.used() < end {
+        let size = compare_next(alloc, station, own, source, ahead, index, at)?;
+        at += size as u64;
         index += 1;
     }
     Ok(at)
@@ -294,15 +275,8 @@ pub(crate) fn compare<P: Station, S: Source>(
 {
     // A limit is low enough for what a checkpoint takes.
     let _ = directory.limit();
-    let mut own = match Journal::start(alloc, station, directory.mark()) {
-        Ok(own) => own,
-        Err(fault) => return Err(FollowEnd::from(fault)),
-    };
-    match compare_first(alloc, station, directory, &mut own, source, ahead) {
-        Ok(size) => {
-            let at = HEADER as u64 + size as u64;
-            compare_rest(alloc, station, &mut own, end, source, ahead, at)
-        }
-        Err(end) => Err(end),
-    }
+    let mut own = Journal::start(alloc, station, directory.mark())?;
+    let size = compare_first(alloc, station, directory, &mut own, source, ahead)?;
+    let at = HEADER as u64 + size as u64;
+    compare_rest(alloc, station, &mut own, end, source, ahead, at)
 }

@@ -1,7 +1,9 @@
 ghost use Rattle.std.specs.Prelude.{◌≡◌};
 ghost use Rattle.gts_standby.specs.Following.{open_end};
+ghost use Rattle.gts_standby.specs.declared.end.FollowEnd.TheVariants as end;
 
 use gts_journal::OpenFault;
+use gts_traits::NoMemory;
 
 /// How a feed ended that was taken into a journal.
 #[derive(Clone, Copy, Debug, PartialEq, Eq)]
@@ -27,6 +29,14 @@ pub enum FollowEnd {
     DiskFault,
     /// There was no memory.
     NoMemory,
+}
+
+impl From<NoMemory> for FollowEnd {
+    ghost from_gives = { λ _ e. e ≡ end.NoMemory };
+
+    fn from(_: NoMemory) -> Self {
+        FollowEnd::NoMemory
+    }
 }
 
 impl From<OpenFault> for FollowEnd {

@@ -103,10 +103,7 @@ pub(crate) fn fed_record<S: Source>(
         → Rose (S.faults source.old) (S.faults source.new) }
     ensures later { S.faults source.old ≤ S.faults source.new }
 {
-    match ahead.fill(source, LONGEST) {
-        Ok(()) => {}
-        Err(end) => return Err(end),
-    }
+    ahead.fill(source, LONGEST)?;
     match decode_sealed(version, before, ahead.bytes()) {
         Some(found) => {
             let seal = found.2;

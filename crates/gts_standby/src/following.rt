@@ -12,11 +12,12 @@ use crate::adding::add_all;
 use crate::ahead::Ahead;
 use crate::beginning::begin;
 use crate::comparing::compare;
-use crate::header::{HEADER, take_header};
+use crate::header::take_header;
 use crate::scanning::is_at_checkpoint;
 use gts_core::Core;
 use gts_directory::Directory;
 use gts_journal::Journal;
+use gts_record::HEADER;
 use gts_recovery::open_core;
 use gts_traits::{Source, Station};
 use std::alloc::Global;
@@ -144,9 +145,9 @@ fn take_feed<P: Station, S: Source>(
 }
 
 /// Takes a feed, which is read to its end, into the journal, which is opened first. The records that the journal has are compared
-/// with those of the feed by their seals, in order; what it doesn't have is checked by the rules of the journal, in the state so far,
-/// and appended. A checkpoint can only be the first record of a journal that has none. The feed may end anywhere: what isn't a
-/// whole record with its seal there is dropped.
+/// with those of the feed by their seals, in order; what it doesn't have is checked by the rules of the journal, in the state so
+/// far, and appended. A checkpoint can only be the first record of a journal that has none. The feed may end anywhere: what isn't
+/// a whole record with its seal there is dropped.
 pub fn follow<P: Station, S: Source>(
     alloc: Global,
     station: P,

@@ -8,10 +8,8 @@ ghost use Rattle.gts_standby.specs.Reading.{HasRead, IsReadEnd, IsFedEnd, TakesH
 use crate::FollowEnd;
 use crate::ahead::Ahead;
 use gts_journal::Version;
+use gts_record::HEADER;
 use gts_traits::Source;
-
-/// How many bytes a header has.
-pub(crate) const HEADER: usize = 40;
 
 /// The header of a journal with this mark.
 fn header_of(mark: [u8; 32]) -> [u8; 40]
@@ -50,10 +48,7 @@ pub(crate) fn take_header<S: Source>(
         → Rose (S.faults source.old) (S.faults source.new) }
     ensures later { S.faults source.old ≤ S.faults source.new }
 {
-    match ahead.fill(source, HEADER) {
-        Ok(()) => {}
-        Err(end) => return Err(end),
-    }
+    ahead.fill(source, HEADER)?;
     let bytes = ahead.bytes();
     let same = agreeing(&header_of(mark), bytes);
     if same == HEADER {

@@ -52,7 +52,7 @@ pub(crate) fn say_part<P: Station>(
 {
     let mut piece = [0u8; PIECE];
     let mut at = from;
-    'piece: while at < to {
+    while at < to {
         let count = (to - at).min(PIECE as u64) as usize;
         let part = &mut piece[..count];
         let found = station.read(file, at, part)?;

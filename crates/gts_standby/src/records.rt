@@ -30,11 +30,9 @@ fn say_next<P: Station>(station: &mut P, journal: &mut Journal) -> Result<(), Sh
 {
     let gate = journal.used();
     let file = journal.file();
-    match journal.next(station) {
-        Ok(Some(_)) => {}
-        Ok(None) => return Err(ShipFault::Open(OpenFault::Damaged { file, at: gate })),
-        Err(fault) => return Err(ShipFault::from(fault)),
-    }
+    let Some(_) = journal.next(station)? else {
+        return Err(ShipFault::Open(OpenFault::Damaged { file, at: gate }));
+    };
     let behind = journal.used();
     say_part(station, file, gate + 1, behind)
 }
@@ -59,11 +57,8 @@ pub(crate) fn say_records<P: Station>(
     ensures later { P.disk_faults station.old ≤ P.disk_faults station.new }
     ensures say { P.say_faults station.old ≤ P.say_faults station.new }
 {
-    'record: while journal.used() < end {
-        match say_next(station, journal) {
-            Ok(()) => {}
-            Err(fault) => return Err(fault),
-        }
+    while journal.used() < end {
+        say_next(station, journal)?;
     }
     Ok(())
 }

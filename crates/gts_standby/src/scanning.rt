@@ -3,17 +3,24 @@ ghost use Rattle.std.specs.Prelude.{◌≡◌, ◌≤◌, ◌<◌, ◌+◌, ◌*
 ghost use Rattle.gts_traits.specs.{Rose};
 ghost use Rattle.gts_record.specs.Format.{held, seal_size};
 ghost use Rattle.gts_standby.specs.Taking as feeds;
-ghost use Rattle.gts_standby.specs.Reading.{HasRead, FindsPiece, IsFedEnd, IsReadEnd, Reaches, FindsFront};
+ghost use Rattle.gts_standby.specs.Reading.{HasRead, FindsPiece, IsFedEnd, IsReadEnd, Reaches, FindsFront, listed_size, behind_listed};
 
 use crate::FollowEnd;
 use crate::ahead::Ahead;
-use crate::header::HEADER;
 use gts_alphabet::LONGEST_BODY;
 use gts_journal::Version;
+use gts_record::HEADER;
 use gts_traits::Source;
 
 /// The end of a feed whose first record may not stand there.
 const BAD: FollowEnd = FollowEnd::Feed { at: HEADER as u64 };
+
+/// What a checkpoint lists: bulletins, and circuits behind them.
+#[derive(Clone, Copy)]
+enum Listed {
+    Bulletin,
+    Circuit,
+}
 
 /// What stands in front of a body and of the positions of a circuit.
 const HEAD: usize = 16;
@@ -83,6 +90,17 @@ fn circuit_in(bytes: &[u8], at: usize) -> usize
     HEAD + 8 * (number_at(&head, 8) + number_at(&head, 12))
 }
 
+/// How many bytes a bulletin or a circuit has by its first ones, as far as they are there.
+fn size_in(listed: Listed, bytes: &[u8], at: usize) -> Option<usize>
+    ensures size { result ≡ listed_size listed bytes.now at }
+    ensures bound { IfSome result (λ size. size ≤ 2 ^ 40) }
+{
+    match listed {
+        Listed::Bulletin => bulletin_in(bytes, at),
+        Listed::Circuit => Some(circuit_in(bytes, at)),
+    }
+}
+
 /// The place behind so many bytes of a checkpoint. It is no longer than a limit.
 fn reach<S: Source>(
     source: &mut S,
@@ -106,48 +124,44 @@ fn reach<S: Source>(
     if behind > limit {
         return Err(BAD);
     }
-    match ahead.fill(source, behind) {
-        Ok(()) => {}
-        Err(end) => return Err(end),
-    }
+    ahead.fill(source, behind)?;
     if ahead.bytes().len() < behind {
         return Err(FollowEnd::Done);
     }
     Ok(behind)
 }
 
-/// The place behind a bulletin.
-fn behind_bulletin<S: Source>(
+/// The place behind a bulletin or a circuit.
+fn behind_one<S: Source>(
     source: &mut S,
     ahead: &mut Ahead,
     limit: usize,
+    listed: Listed,
     at: usize,
 ) -> Result<usize, FollowEnd>
     requires limit { limit ≤ 2 ^ 30 }
     requires place { at ≤ limit }
     ensures reached { S.tells → (fed : List ℕ) → HasRead fed ahead.old (S.left source.old)
-        → Reaches result (feeds.behind_bulletin limit fed at) fed ahead.new (S.left source.new) }
+        → Reaches result (behind_listed listed limit fed at) fed ahead.new (S.left source.new) }
     ensures there { IfOk result (λ behind. (behind ≤ length ahead.new.bytes) × (behind ≤ limit)) }
     ensures kind { IfErr result IsFedEnd }
     ensures source_fault { IsErrOf result FollowEnd.SourceFault
         → Rose (S.faults source.old) (S.faults source.new) }
     ensures later { S.faults source.old ≤ S.faults source.new }
 {
-    match ahead.fill(source, at + HEAD) {
-        Ok(()) => {}
-        Err(end) => return Err(end),
-    }
-    match bulletin_in(ahead.bytes(), at) {
+    ahead.fill(source, at + HEAD)?;
+    match size_in(listed, ahead.bytes(), at) {
         Some(size) => reach(source, ahead, limit, at, size),
         None => Err(BAD),
     }
 }
 
-/// The place behind so many bulletins.
-fn behind_bulletins<S: Source>(
+/// The place behind so many bulletins or circuits.
+fn behind_all<S: Source>(
     source: &mut S,
     ahead: &mut Ahead,
     limit: usize,
+    listed: Listed,
     at: usize,
     count: usize,
 ) -> Result<usize, FollowEnd>
@@ -155,7 +169,7 @@ fn behind_bulletins<S: Source>(
     requires place { at ≤ limit }
     requires begins { at ≤ length ahead.old.bytes }
     ensures reached { S.tells → (fed : List ℕ) → HasRead fed ahead.old (S.left source.old)
-        → Reaches result (feeds.behind_all (feeds.behind_bulletin limit fed) count at)
+        → Reaches result (feeds.behind_all (behind_listed listed limit fed) count at)
         fed ahead.new (S.left source.new) }
     ensures there { IfOk result (λ behind. (behind ≤ length ahead.new.bytes) × (behind ≤ limit)) }
     ensures kind { IfErr result IsFedEnd }
@@ -165,68 +179,8 @@ fn behind_bulletins<S: Source>(
 {
     let mut at = at;
     let mut left = count;
-    'bulletin: while left > 0 {
-        match behind_bulletin(source, ahead, limit, at) {
-            Ok(behind) => at = behind,
-            Err(end) => return Err(end),
-        }
-        left -= 1;
-    }
-    Ok(at)
-}
-
-/// The place behind a circuit.
-fn behind_circuit<S: Source>(
-    source: &mut S,
-    ahead: &mut Ahead,
-    limit: usize,
-    at: usize,
-) -> Result<usize, FollowEnd>
-    requires limit { limit ≤ 2 ^ 30 }
-    requires place { at ≤ limit }
-    ensures reached { S.tells → (fed : List ℕ) → HasRead fed ahead.old (S.left source.old)
-        → Reaches result (feeds.behind_circuit limit fed at) fed ahead.new (S.left source.new) }
-    ensures there { IfOk result (λ behind. (behind ≤ length ahead.new.bytes) × (behind ≤ limit)) }
-    ensures kind { IfErr result IsFedEnd }
-    ensures source_fault { IsErrOf result FollowEnd.SourceFault
-        → Rose (S.faults source.old) (S.faults source.new) }
-    ensures later { S.faults source.old ≤ S.faults source.new }
-{
-    match ahead.fill(source, at + HEAD) {
-        Ok(()) => {}
-        Err(end) => return Err(end),
-    }
-    let size = circuit_in(ahead.bytes(), at);
-    reach(source, ahead, limit, at, size)
-}
-
-/// The place behind so many circuits.
-fn behind_circuits<S: Source>(
-    source: &mut S,
-    ahead: &mut Ahead,
-    limit: usize,
-    at: usize,
-    count: usize,
-) -> Result<usize, FollowEnd>
-    requires limit { limit ≤ 2 ^ 30 }
-    requires place { at ≤ limit }
-    requires begins { at ≤ length ahead.old.bytes }
-    ensures reached { S.tells → (fed : List ℕ) → HasRead fed ahead.old (S.left source.old)
-        → Reaches result (feeds.behind_all (feeds.behind_circuit limit fed) count at)
-        fed ahead.new (S.left source.new) }
-    ensures there { IfOk result (λ behind. (behind ≤ length ahead.new.bytes) × (behind ≤ limit)) }
-    ensures kind { IfErr result IsFedEnd }
-    ensures source_fault { IsErrOf result FollowEnd.SourceFault
-        → Rose (S.faults source.old) (S.faults source.new) }
-    ensures later { S.faults source.old ≤ S.faults source.new }
-{
-    let mut at = at;
-    let mut left = count;
-    'circuit: while left > 0 {
-        match behind_circuit(source, ahead, limit, at) {
-            Ok(behind) => at = behind,
-            Err(end) => return Err(end),
-        }
+    while left > 0 {
+        at = behind_one(source, ahead, limit, listed, at)?;
         left -= 1;
     }
     Ok(at)
@@ -250,14 +204,9 @@ fn behind_lists<S: Source>(
         → Rose (S.faults source.old) (S.faults source.new) }
     ensures later { S.faults source.old ≤ S.faults source.new }
 {
-    let at = match reach(source, ahead, limit, 0, FRONT) {
-        Ok(at) => at,
-        Err(end) => return Err(end),
-    };
-    match behind_bulletins(source, ahead, limit, at, bulletins) {
-        Ok(at) => behind_circuits(source, ahead, limit, at, circuits),
-        Err(end) => Err(end),
-    }
+    let front = reach(source, ahead, limit, 0, FRONT)?;
+    let at = behind_all(source, ahead, limit, Listed::Bulletin, front, bulletins)?;
+    behind_all(source, ahead, limit, Listed::Circuit, at, circuits)
 }
 
 /// How many bytes the checkpoint has that stands at the front.
@@ -271,10 +220,7 @@ fn scan<S: Source>(source: &mut S, ahead: &mut Ahead, limit: usize) -> Result<us
         → Rose (S.faults source.old) (S.faults source.new) }
     ensures later { S.faults source.old ≤ S.faults source.new }
 {
-    match ahead.fill(source, FRONT) {
-        Ok(()) => {}
-        Err(end) => return Err(end),
-    }
+    ahead.fill(source, FRONT)?;
     match front_in(ahead.bytes()) {
         Some((circuits, bulletins)) => { behind_lists(source, ahead, limit, circuits, bulletins) }
         None => Err(BAD),
@@ -302,15 +248,9 @@ pub(crate) fn fed_checkpoint<S: Source>(
         → Rose (S.faults source.old) (S.faults source.new) }
     ensures source_later { S.faults source.old ≤ S.faults source.new }
 {
-    let size = match scan(source, ahead, limit as usize) {
-        Ok(size) => size,
-        Err(end) => return Err(end),
-    };
+    let size = scan(source, ahead, limit as usize)?;
     let count = version.seal_size();
-    match ahead.fill(source, size + count) {
-        Ok(()) => {}
-        Err(end) => return Err(end),
-    }
+    ahead.fill(source, size + count)?;
     let bytes = ahead.bytes();
     if bytes.len() < size + count {
         return Err(FollowEnd::Done);
@@ -336,8 +276,6 @@ pub(crate) fn is_at_checkpoint<S: Source>(
         → Rose (S.faults source.old) (S.faults source.new) }
     ensures source_later { S.faults source.old ≤ S.faults source.new }
 {
-    match ahead.fill(source, 1) {
-        Ok(()) => Ok(ahead.bytes().starts_with(b"C")),
-        Err(end) => Err(end),
-    }
+    ahead.fill(source, 1)?;
+    Ok(ahead.bytes().starts_with(b"C"))
 }

@@ -10,12 +10,10 @@ use crate::records::say_records;
 use gts_checkpoint::read;
 use gts_directory::Directory;
 use gts_journal::Journal;
+use gts_record::HEADER;
 use gts_recovery::open_core;
 use gts_traits::Station;
 use std::alloc::Global;
-
-/// The bytes in front of the first gate.
-const HEADER: u64 = 40;
 
 /// Says the checkpoint with its seal, if the journal begins with one, and goes on behind it. The records come to a closed gate at
 /// a place.
@@ -50,20 +48,10 @@ fn say_checkpoint<P: Station>(
     // A limit is low enough for the place of the gate.
     let _ = directory.limit();
     let file = journal.file();
-    match read(alloc, station, journal.version(), file, directory) {
-        Ok(found) => {
-            let seal = found.2;
-            let gate = found.1;
-            match say_part(station, file, HEADER + 1, gate) {
-                Ok(()) => {
-                    journal.pass(gate, seal);
-                    Ok(())
-                }
-                Err(fault) => Err(fault),
-            }
-        }
-        Err(fault) => Err(ShipFault::from(fault)),
-    }
+    let found = read(alloc, station, journal.version(), file, directory)?;
+    say_part(station, file, HEADER as u64 + 1, found.1)?;
+    journal.pass(found.1, found.2);
+    Ok(())
 }
 
 /// Says the feed of a journal that stands at its first gate, whose records come to a closed gate at a place.
@@ -89,14 +77,9 @@ fn say_feed<P: Station>(
     ensures say { P.say_faults station.old ≤ P.say_faults station.new }
 {
     let mut journal = journal;
-    match say_part(station, journal.file(), 0, HEADER) {
-        Ok(()) => {}
-        Err(fault) => return Err(fault),
-    }
-    match say_checkpoint(alloc, station, directory, &mut journal, end) {
-        Ok(()) => say_records(station, &mut journal, end),
-        Err(fault) => Err(fault),
-    }
+    say_part(station, journal.file(), 0, HEADER as u64)?;
+    say_checkpoint(alloc, station, directory, &mut journal, end)?;
+    say_records(station, &mut journal, end)
 }
 
 /// Says the feed of the selected file on channel 0, in pieces: the header, and each record behind an open gate with its seal. The
@@ -123,12 +106,7 @@ pub fn ship<P: Station>(
 {
     // A limit is low enough for the places of gates.
     let _ = directory.limit();
-    let end = match open_core(alloc, station, directory) {
-        Ok((_core, opened)) => opened.used() - 1,
-        Err(fault) => return Err(ShipFault::from(fault)),
-    };
-    match Journal::start(alloc, station, directory.mark()) {
-        Ok(journal) => say_feed(alloc, station, directory, journal, end),
-        Err(fault) => Err(ShipFault::from(fault)),
-    }
+    let end = open_core(alloc, station, directory)?.1.used() - 1;
+    let journal = Journal::start(alloc, station, directory.mark())?;
+    say_feed(alloc, station, directory, journal, end)
 }

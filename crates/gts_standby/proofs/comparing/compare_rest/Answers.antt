@@ -1,53 +1,55 @@
 use Rattle.std.proofs.Common.{◌≡◌, ◌+◌, Bool, cond, ap, ◌∙◌, arith}
+use Rattle.gts_standby.proofs.ExitLemmas.{returned}
 use Rattle.gts_standby.proofs.CompareLemmas.{far_on, far_stops, far_done}
 use Rattle.gts_standby.proofs.comparing.compare_rest.Goals as goal
 
-pub record-preserved : goal.record-preserved
-record-preserved g c =
-    let inv = c.record.invariant in
-    let j = c.record.own in
+pub loop-alloc-preserved : goal.loop-alloc-preserved
+loop-alloc-preserved g c =
+    let inv = c.loop-alloc.invariant in
+    let j = c.loop-alloc.own in
     let at_gate : c.used.result ≡ j.gate = c.used.ensures ∙ ap (λ (b : Bool). cond b (j.gate + 1) j.gate) inv.going in
     record {
-      going = c.in-Ok.ensures.goes.going;
-      version = c.in-Ok.ensures.goes.version ∙ inv.version;
-      stands = c.in-Ok.ensures.goes.stands;
-      place = omega (arith, inv.place, c.in-Ok.ensures.size);
-      count = omega (arith, inv.count, c.in-Ok.ensures.goes.rises);
-      few = omega (arith, inv.count, at_gate, c.record-test.true);
+      going = c.in_ok-size.ensures.goes.going;
+      version = c.in_ok-size.ensures.goes.version ∙ inv.version;
+      stands = c.in_ok-size.ensures.goes.stands;
+      place = omega (arith, inv.place, c.in_ok-size.ensures.size);
+      count = omega (arith, inv.count, c.in_ok-size.ensures.goes.rises);
+      few = omega (arith, inv.count, at_gate, c.loop-alloc-test.true);
       gone = λ tells told d left fed on read.
           let so = inv.gone tells told d left fed on read in
-          far_on d _ _ c.args.end _ _ j c.compare_next.new.own c.record.index c.record.at c.in-Ok.size _ _ _ _ so inv.version
-          (c.in-Ok.ensures.compared tells told d c.args.end so.rest so.fed so.on (omega (arith, at_gate, c.record-test.true)) so.read);
-      whole = λ told w. c.in-Ok.ensures.whole told (inv.whole told w);
+          far_on d _ _ c.args.end _ _ j c.compare_next.new.own c.loop-alloc.index c.loop-alloc.at c.in_ok-size.size _ _ _ _ so inv.version
+          (c.in_ok-size.ensures.compared tells told d c.args.end so.rest so.fed so.on (omega (arith, at_gate, c.loop-alloc-test.true)) so.read);
+      whole = λ told w. c.in_ok-size.ensures.whole told (inv.whole told w);
       told = λ tells. c.compare_next.ensures.told tells ∙ inv.told tells;
       later = omega (arith, inv.later, c.compare_next.ensures.counts.later);
       say = c.compare_next.ensures.counts.say ∙ inv.say;
       source_later = omega (arith, inv.source_later, c.compare_next.ensures.counts.source_later);
     }
 
-pub returns-in-Err-clause-compared : goal.returns-in-Err-clause-compared
-returns-in-Err-clause-compared g c = λ tells told d left fed on read.
-    let inv = c.record.invariant in
-    let j = c.record.own in
+pub returns-in_err-size-clause-compared : goal.returns-in_err-size-clause-compared
+returns-in_err-size-clause-compared g c = λ tells told d left fed on read.
+    let inv = c.loop-alloc.invariant in
+    let j = c.loop-alloc.own in
     let at_gate : c.used.result ≡ j.gate = c.used.ensures ∙ ap (λ (b : Bool). cond b (j.gate + 1) j.gate) inv.going in
     let so = inv.gone tells told d left fed on read in
-    far_stops c.in-Err.end d _ _ c.args.end _ j c.record.index c.record.at _ _ _ so inv.version
-    (c.in-Err.ensures.compared tells told d c.args.end so.rest so.fed so.on (omega (arith, at_gate, c.record-test.true)) so.read)
+    rw (returned c.from_residual.result c.in_err-size.field-0.0 c.from_residual.ensures.1)
+    (far_stops c.in_err-size.field-0.0 d _ _ c.args.end _ j c.loop-alloc.index c.loop-alloc.at _ _ _ so inv.version
+    (c.in_err-size.ensures.compared tells told d c.args.end so.rest so.fed so.on (omega (arith, at_gate, c.loop-alloc-test.true)) so.read))
 
 pub returns-clause-compared : goal.returns-clause-compared
 returns-clause-compared g c = λ tells told d left fed on read.
-    let inv = c.record.invariant in
-    let j = c.record.own in
+    let inv = c.loop-alloc.invariant in
+    let j = c.loop-alloc.own in
     let at_gate : c.used.result ≡ j.gate = c.used.ensures ∙ ap (λ (b : Bool). cond b (j.gate + 1) j.gate) inv.going in
-    far_done d _ _ c.args.end _ j c.record.index c.record.at _ _ (inv.gone tells told d left fed on read) (omega (arith, at_gate, c.record-test.false))
+    far_done d _ _ c.args.end _ j c.loop-alloc.index c.loop-alloc.at _ _ (inv.gone tells told d left fed on read) (omega (arith, at_gate, c.loop-alloc-test.false))
 
 pub returns-clause-place : goal.returns-clause-place
 returns-clause-place g c =
-    let inv = c.record.invariant in
+    let inv = c.loop-alloc.invariant in
     omega (arith, inv.place, inv.few, c.requires.room)
 
-pub returns-in-Err-clause-whole : goal.returns-in-Err-clause-whole
-returns-in-Err-clause-whole g c = λ told w. c.in-Err.ensures.whole told (c.record.invariant.whole told w)
+pub returns-in_err-size-clause-whole : goal.returns-in_err-size-clause-whole
+returns-in_err-size-clause-whole g c = λ told w. rw (returned c.from_residual.result c.in_err-size.field-0.0 c.from_residual.ensures.1) (c.in_err-size.ensures.whole told (c.loop-alloc.invariant.whole told w))
 
 pub returns-clause-whole : goal.returns-clause-whole
-returns-clause-whole g c = λ told w. c.record.invariant.whole told w
+returns-clause-whole g c = λ told w. c.loop-alloc.invariant.whole told w

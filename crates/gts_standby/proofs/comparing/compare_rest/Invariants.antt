@@ -9,8 +9,8 @@ use Rattle.gts_standby.proofs.CompareLemmas.{HasGoneFar}
 use Rattle.gts_standby.proofs.comparing.compare_rest.Given as goal
 
 -- so many records were compared
-abbrev pub invariant-record : goal.invariant-record
-invariant-record g l = record {
+abbrev pub invariant-loop-alloc : goal.invariant-loop-alloc
+invariant-loop-alloc g l = record {
   going : l.own.ended ≡ false;
   version : l.own.version ≡ l.fn.own.version;
   stands : g.P.Station.tells → StandsOn (g.P.Station.calls l.station) l.own;
@@ -28,5 +28,5 @@ invariant-record g l = record {
   source_later : g.S.Source.faults l.fn.source ≤ g.S.Source.faults l.source;
 }
 
-abbrev pub decreases-record : goal.decreases-record
-decreases-record g l = l.end - l.own.gate
+abbrev pub decreases-loop-alloc : goal.decreases-loop-alloc
+decreases-loop-alloc g l = l.end - l.own.gate

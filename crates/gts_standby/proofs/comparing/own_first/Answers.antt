@@ -1,15 +1,15 @@
-use Rattle.std.proofs.Common.{rules, ◌≡◌, ◌+◌, ℕ, true, false, drop, sym, ap, subst, ◌∙◌, arith}
+use Rattle.std.proofs.Common.{rules, ◌≡◌, ◌+◌, ℕ, true, false, drop, ap, subst, ◌∙◌, arith}
 use Rattle.gts_event.specs.Items.{need_of}
 use Rattle.gts_record.specs.declared.version.Version.{Version}
 use Rattle.gts_record.specs.Format.{held}
 use Rattle.gts_opening.specs.Journal.{compacted_bytes}
 use Rattle.gts_checkpoint.specs.Reading.{bytes_from, HasRead, IsDamage}
 use Rattle.gts_journal.specs.{file_of, is_at_checkpoint}
-use Rattle.gts_standby.specs.Comparing.{IsDevice}
+use Rattle.gts_standby.specs.Following.{open_end}
+use Rattle.gts_standby.proofs.ExitLemmas.{returned}
 use Rattle.gts_standby.proofs.FirstLemmas.{no_damage}
 use Rattle.gts_standby.proofs.CompareLemmas.{device_read, first_leads, behind_first}
 use Rattle.gts_standby.proofs.NamedLemmas.{named_open}
-use Rattle.gts_standby.specs.Whole.{IsNamedEnd}
 use Rattle.gts_standby.proofs.comparing.own_first.Goals as goal
 
 pub returns-then-not-at_checkpoint-clause-on : goal.returns-then-not-at_checkpoint-clause-on
@@ -20,30 +20,30 @@ returns-then-not-at_checkpoint-clause-on g c = λ tells end first low.
     let plain : is_at_checkpoint j ≡ false = search rules in
     c.own_next.ensures.on tells d end _ (first_leads d old j end first plain) (omega (arith, c.requires.begins, low))
 
-pub returns-in-Ok-clause-on : goal.returns-in-Ok-clause-on
-returns-in-Ok-clause-on g c = λ tells end first low.
+pub returns-clause-on : goal.returns-clause-on
+returns-clause-on g c = λ tells end first low.
     let d = c.args.directory.now in
     let old = g.P.Station.calls c.args.station.now in
     let j = c.args.own.now in
-    let gate : ℕ = c.in-Ok.found.1 in
-    let n = need_of c.in-Ok.found.0 in
+    let gate : ℕ = c.in_ok-found.found.1 in
+    let n = need_of c.in_ok-found.found.0 in
     let packed : is_at_checkpoint j ≡ true = search rules in
-    let H : ℕ → Type 0 = λ k. HasRead c.version.result d (bytes_from old k 41) n (held c.version.result c.in-Ok.found.2) in
-    let K : Version → Type 0 = λ v. HasRead v d (bytes_from old j.file 41) n (held v c.in-Ok.found.2) in
-    let read = subst K c.version.ensures (subst H c.file-file.ensures.file (c.in-Ok.ensures.found tells)) in
-    let place : gate + 1 ≡ compacted_bytes j.version n = c.in-Ok.ensures.begins.place ∙ ap (λ (v : Version). compacted_bytes v n) c.version.ensures in
-    behind_first d old _ j c.pass.new.self end n (held j.version c.in-Ok.found.2) gate first packed read place (c.in-Ok.ensures.told tells) c.pass.ensures.place
+    let H : ℕ → Type 0 = λ k. HasRead c.version.result d (bytes_from old k 41) n (held c.version.result c.in_ok-found.found.2) in
+    let K : Version → Type 0 = λ v. HasRead v d (bytes_from old j.file 41) n (held v c.in_ok-found.found.2) in
+    let read = subst K c.version.ensures (subst H c.file-file.ensures.file (c.in_ok-found.ensures.found tells)) in
+    let place : gate + 1 ≡ compacted_bytes j.version n = c.in_ok-found.ensures.begins.place ∙ ap (λ (v : Version). compacted_bytes v n) c.version.ensures in
+    behind_first d old _ j c.pass.new.self end n (held j.version c.in_ok-found.found.2) gate first packed read place (c.in_ok-found.ensures.told tells) c.pass.ensures.place
 
-pub returns-in-Err-clause-on : goal.returns-in-Err-clause-on
-returns-in-Err-clause-on g c = λ tells end first low.
+pub returns-in_err-found-clause-on : goal.returns-in_err-found-clause-on
+returns-in_err-found-clause-on g c = λ tells end first low.
     let d = c.args.directory.now in
     let old = g.P.Station.calls c.args.station.now in
     let j = c.args.own.now in
     let packed : is_at_checkpoint j ≡ true = search rules in
-    let D : ℕ → Type 0 = λ k. IsDamage c.version.result d k (bytes_from old k 41) c.in-Err.fault in
-    let E : Version → Type 0 = λ v. IsDamage v d j.file (bytes_from old j.file 41) c.in-Err.fault in
-    let damage = subst E c.version.ensures (subst D c.file-file.ensures.file (c.in-Err.ensures.fault tells)) in
-    subst IsDevice (sym c.from.ensures) (device_read j.version d j.file (drop 41 (file_of old j)) c.in-Err.fault damage (no_damage d old j end first packed))
+    let D : ℕ → Type 0 = λ k. IsDamage c.version.result d k (bytes_from old k 41) c.in_err-found.field-0.0 in
+    let E : Version → Type 0 = λ v. IsDamage v d j.file (bytes_from old j.file 41) c.in_err-found.field-0.0 in
+    let damage = subst E c.version.ensures (subst D c.file-file.ensures.file (c.in_err-found.ensures.fault tells)) in
+    rw (returned c.from_residual.result (open_end c.in_err-found.field-0.0) c.from_residual.ensures.1) (device_read j.version d j.file (drop 41 (file_of old j)) c.in_err-found.field-0.0 damage (no_damage d old j end first packed))
 
-pub returns-in-Err-clause-named : goal.returns-in-Err-clause-named
-returns-in-Err-clause-named g c = subst IsNamedEnd (sym c.from.ensures) (named_open c.in-Err.fault)
+pub returns-in_err-found-clause-named : goal.returns-in_err-found-clause-named
+returns-in_err-found-clause-named g c = rw (returned c.from_residual.result (open_end c.in_err-found.field-0.0) c.from_residual.ensures.1) (named_open c.in_err-found.field-0.0)

@@ -4,8 +4,8 @@ use Rattle.gts_standby.specs.Shipping.{SaysHere}
 use Rattle.gts_standby.proofs.piece.say_part.Given as goal
 
 -- the bytes up to a place were said
-abbrev pub invariant-piece : goal.invariant-piece
-invariant-piece g l = record {
+abbrev pub invariant-loop-at : goal.invariant-loop-at
+invariant-loop-at g l = record {
   begun : l.from ≤ l.at;
   inside : l.at ≤ l.to;
   says : g.P.Station.tells → SaysHere (g.P.Station.calls l.fn.station) (g.P.Station.calls l.station) (take (l.at - l.from) (drop l.from (seen (g.P.Station.calls l.fn.station) l.file)));
@@ -13,5 +13,5 @@ invariant-piece g l = record {
   say : g.P.Station.say_faults l.fn.station ≤ g.P.Station.say_faults l.station;
 }
 
-abbrev pub decreases-piece : goal.decreases-piece
-decreases-piece g l = l.to - l.at
+abbrev pub decreases-loop-at : goal.decreases-loop-at
+decreases-loop-at g l = l.to - l.at

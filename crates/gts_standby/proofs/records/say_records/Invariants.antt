@@ -5,8 +5,8 @@ use Rattle.gts_standby.specs.Shipping.{IsAtGate, GoesOnBehind}
 use Rattle.gts_standby.proofs.records.say_records.Given as goal
 
 -- the records up to a gate were said
-abbrev pub invariant-record : goal.invariant-record
-invariant-record g l = record {
+abbrev pub invariant-loop-station : goal.invariant-loop-station
+invariant-loop-station g l = record {
   going : l.journal.ended ≡ false;
   stands : g.P.Station.tells → StandsOn (g.P.Station.calls l.station) l.journal;
   said : g.P.Station.tells → (d : Directory) (left : List ℕ) → IsAtGate d (g.P.Station.calls l.fn.station) l.fn.journal l.end left
@@ -15,5 +15,5 @@ invariant-record g l = record {
   say : g.P.Station.say_faults l.fn.station ≤ g.P.Station.say_faults l.station;
 }
 
-abbrev pub decreases-record : goal.decreases-record
-decreases-record g l = l.end - l.journal.gate
+abbrev pub decreases-loop-station : goal.decreases-loop-station
+decreases-loop-station g l = l.end - l.journal.gate

@@ -3,22 +3,27 @@ use Rattle.std.specs.List.{starts_with}
 use Rattle.gts_record.specs.Format.{held, seal, seal_size}
 use Rattle.gts_standby.specs.Ahead.{InFeed}
 use Rattle.gts_standby.specs.Taking as feeds
-use Rattle.gts_standby.proofs.ScanLemmas.{scan_stops, seal_cut, sealed_piece}
+use Rattle.gts_standby.proofs.ScanLemmas.{finds_err, scan_stops, seal_cut, sealed_piece}
 use Rattle.gts_standby.proofs.scanning.fed_checkpoint.Goals as goal
 
-pub returns-in-Err-clause-piece : goal.returns-in-Err-clause-piece
-returns-in-Err-clause-piece g c = λ told fed read next.
-    scan_stops c.in-Err.end c.in-Err.ensures.kind c.args.version c.args.limit (held c.args.version c.args.before.now) fed c.scan.new.ahead (g.S.Source.left c.scan.new.source) (c.in-Err.ensures.reached told fed read) next
+pub returns-in_err-size-clause-piece : goal.returns-in_err-size-clause-piece
+returns-in_err-size-clause-piece g c = λ told fed read.
+    let v = c.args.version in
+    let end = c.in_err-size.field-0.0 in
+    let before : List ℕ = held v c.args.before.now in
+    let left = g.S.Source.left c.scan.new.source in
+    finds_err c.from_residual.result end v 40 (feeds.checkpoint_piece v c.args.limit before fed) fed c.scan.new.ahead left c.from_residual.ensures.1
+    (scan_stops end c.in_err-size.ensures.kind v c.args.limit before fed c.scan.new.ahead left (c.in_err-size.ensures.reached told fed read))
 
 pub returns-then-bytes-size-clause-piece : goal.returns-then-bytes-size-clause-piece
 returns-then-bytes-size-clause-piece g c = λ told fed read next.
     let v = c.args.version in
     let ahead : InFeed = c.fill.new.self in
-    let size = c.in-Ok.size in
-    let reached = c.in-Ok.ensures.reached told fed read in
-    let now = c.in-Ok-fill.ensures.kept told fed reached.1 in
+    let size = c.in_ok-size.size in
+    let reached = c.in_ok-size.ensures.reached told fed read in
+    let now = c.in_ok-fill.ensures.kept told fed reached.1 in
     let count : c.seal_size-count.result ≡ seal_size v = c.seal_size-count.ensures.value in
-    let enough = subst (λ (k : ℕ). (ahead.is_all ≡ true) ⊎ (size + k ≤ length ahead.bytes)) count c.in-Ok-fill.ensures.enough in
+    let enough = subst (λ (k : ℕ). (ahead.is_all ≡ true) ⊎ (size + k ≤ length ahead.bytes)) count c.in_ok-fill.ensures.enough in
     seal_cut v c.args.limit size (held v c.args.before.now) fed (g.S.Source.left c.fill.new.source) ahead reached.0 now enough
     (omega (arith, c.if-bytes-size.true, count, ap (λ (l : List ℕ). length l) c.bytes-bytes.ensures)) next
 
@@ -26,10 +31,10 @@ pub returns-then-not-starts_with-clause-piece : goal.returns-then-not-starts_wit
 returns-then-not-starts_with-clause-piece g c = λ told fed read next.
     let v = c.args.version in
     let ahead : InFeed = c.fill.new.self in
-    let size = c.in-Ok.size in
+    let size = c.in_ok-size.size in
     let before : List ℕ = held v c.args.before.now in
-    let reached = c.in-Ok.ensures.reached told fed read in
-    let now = c.in-Ok-fill.ensures.kept told fed reached.1 in
+    let reached = c.in_ok-size.ensures.reached told fed read in
+    let now = c.in_ok-fill.ensures.kept told fed reached.1 in
     let count : c.seal_size-count.result ≡ seal_size v = c.seal_size-count.ensures.value in
     let long : size + seal_size v ≤ length ahead.bytes = omega (arith, c.if-bytes-size.false, count, ap (λ (l : List ℕ). length l) c.bytes-bytes.ensures) in
     let other : c.starts_with.result ≡ false = search rules in
@@ -51,10 +56,10 @@ pub returns-clause-piece : goal.returns-clause-piece
 returns-clause-piece g c = λ told fed read.
     let v = c.args.version in
     let ahead : InFeed = c.fill.new.self in
-    let size = c.in-Ok.size in
+    let size = c.in_ok-size.size in
     let before : List ℕ = held v c.args.before.now in
-    let reached = c.in-Ok.ensures.reached told fed read in
-    let now = c.in-Ok-fill.ensures.kept told fed reached.1 in
+    let reached = c.in_ok-size.ensures.reached told fed read in
+    let now = c.in_ok-fill.ensures.kept told fed reached.1 in
     let count : c.seal_size-count.result ≡ seal_size v = c.seal_size-count.ensures.value in
     let long : size + seal_size v ≤ length ahead.bytes = omega (arith, c.if-bytes-size.false, count, ap (λ (l : List ℕ). length l) c.bytes-bytes.ensures) in
     let same : c.starts_with.result ≡ true = search rules in

@@ -3,11 +3,11 @@ use Rattle.gts_standby.specs.Reading.{HasRead}
 use Rattle.gts_standby.proofs.ahead.Ahead.fill.Given as goal
 
 -- what was read and what the source has left are still the feed
-abbrev pub invariant-piece : goal.invariant-piece
-invariant-piece g l = record {
+abbrev pub invariant-loop-self : goal.invariant-loop-self
+invariant-loop-self g l = record {
   kept : g.S.Source.tells → (fed : List ℕ) → HasRead fed l.fn.self (g.S.Source.left l.fn.source) → HasRead fed l.self (g.S.Source.left l.source);
   later : g.S.Source.faults l.fn.source ≤ g.S.Source.faults l.source;
 }
 
-abbrev pub decreases-piece : goal.decreases-piece
-decreases-piece g l = l.want - length l.self.bytes + cond l.self.is_all 0 1
+abbrev pub decreases-loop-self : goal.decreases-loop-self
+decreases-loop-self g l = l.want - length l.self.bytes + cond l.self.is_all 0 1
