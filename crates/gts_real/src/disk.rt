@@ -37,9 +37,8 @@ fn open_for_writing<R: Files<File = File>>(rt: &R, name: &str) -> io::Result<Fil
 /// A file that is there; `None` where it isn't there.
 fn existing(opened: io::Result<File>) -> io::Result<Option<File>> {
     match opened {
-        Ok(file) => Ok(Some(file)),
         Err(error) if error.kind() == ErrorKind::NotFound => Ok(None),
-        Err(error) => Err(error),
+        opened => Ok(Some(opened?)),
     }
 }
 

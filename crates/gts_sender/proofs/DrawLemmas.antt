@@ -1,5 +1,5 @@
 -- The steps of a sender.
-use Rattle.std.proofs.Common.{◌≡◌, ◌⊎◌, ℕ, zero, suc, ◌+◌, List, [], ◌∷◌, ◌++◌, Some, None, true, false, Ok, Err, inl, inr, refl, sym, ap, ◌∙◌, append_assoc, add-one}
+use Rattle.std.proofs.Common.{◌≡◌, ◌⊎◌, ℕ, Bool, Result, zero, suc, ◌+◌, List, [], ◌∷◌, ◌++◌, Some, None, true, false, Ok, Err, inl, inr, refl, sym, ap, ◌∙◌, subst, append_assoc, add-one}
 use Rattle.std.specs.Prelude.{replicate}
 use Rattle.std.proofs.lemmas.List.{append-nil, map-append}
 use Rattle.gts_traits.specs.Station.{IsFront}
@@ -21,8 +21,9 @@ use Rattle.gts_calls.specs.Calls.{entry_of}
 use Rattle.gts_desk.specs.Desks.{Seen, own, state_at, Adds, AddsJust, Answers, LeavesFrame}
 use Rattle.gts_desk.specs.Frames.{frame_of_outcome, frame_of, own_frames}
 use Rattle.gts_desk.proofs.LawLemmas.{own_added, frames_added, own_spent, frames_spent, goes_on, goes_on_spent, goes_further, stays}
+use Rattle.gts_sender.specs.declared.end.SendEnd.{SendEnd}
 use Rattle.gts_sender.specs.declared.end.SendEnd.TheVariants as ends
-use Rattle.gts_sender.specs.Sender.{takes, given_index, Sending, TookLast, Breaks, Fails, SendsMore, AnswersTake}
+use Rattle.gts_sender.specs.Sender.{takes, given_index, WroteGiven, Sending, TookLast, Breaks, Fails, SendsMore, AnswersTake}
 
 more : {A : Type 0} (x : A) (n : ℕ) → replicate n x ++ x ∷ [] ≡ replicate (suc n) x
 more x zero = refl
@@ -187,6 +188,14 @@ module _ (c : ℕ) (old new : Seen) (out : List ℕ) where
 
   pub none : (o : Outcome) → AnswersTake c out (Ok o) old new → given_index o ≡ None → SendsMore c old new [] (Ok false)
   none o answers given first sent so_far = drew_nothing c first old new sent so_far o out answers given
+
+  pub given : (o : Outcome) (bytes : List ℕ) (result : Result Bool SendEnd) → AnswersTake c out (Ok o) old new → WroteGiven o out bytes result
+      → SendsMore c old new bytes result
+  given o bytes (Ok true) answers w = subst (λ (l : List ℕ). SendsMore c old new l (Ok true)) (sym w.2) (whole o w.0 answers w.1)
+  given o bytes (Ok false) answers w = subst (λ (l : List ℕ). SendsMore c old new l (Ok false)) (sym w.1) (none o answers w.0)
+  given o bytes (Err (ends.LineFault index)) answers w = broken o index bytes answers w.0 w.1
+  given o bytes (Err ends.Quiet) answers w = absurd w
+  given o bytes (Err (ends.Fault fault)) answers w = absurd w
 
   pub failed : (fault : SwitchFault) → AnswersTake c out (Err fault) old new → (fault ≡ SayFault → ⊥) → (fault ≡ NoMemory → ⊥)
       → SendsMore c old new [] (Err (ends.Fault fault))

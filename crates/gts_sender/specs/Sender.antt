@@ -31,6 +31,14 @@ abbrev pub Wrote : {T E : Type 0} → Result T E → List ℕ → List ℕ → T
 Wrote (Ok _) piece bytes = bytes ≡ piece
 Wrote (Err _) piece bytes = IsFront bytes piece
 
+-- what was written where a take with this outcome left this frame: it, a front of it where the line failed, or nothing
+abbrev pub WroteGiven : Outcome → List ℕ → List ℕ → Result Bool SendEnd → Type 0
+WroteGiven outcome frame bytes (Ok true) = (index : ℕ) × (given_index outcome ≡ Some index) × (bytes ≡ frame)
+WroteGiven outcome frame bytes (Ok false) = (given_index outcome ≡ None) × (bytes ≡ [])
+WroteGiven outcome frame bytes (Err Quiet) = ⊥
+WroteGiven outcome frame bytes (Err (LineFault index)) = (given_index outcome ≡ Some index) × IsFront bytes frame
+WroteGiven outcome frame bytes (Err (Fault fault)) = ⊥
+
 -- some takes were done, and the frames that they gave were written
 pub record Sending (c : ℕ) (old new : Seen) (bytes : List ℕ) : Type 0 where
   pub desk : GoesOn old new

@@ -1,3 +1,6 @@
+ghost use Rattle.std.specs.Prelude.{◌≡◌};
+ghost use Rattle.gts_sender.specs.declared.end.SendEnd.TheVariants as ends;
+
 use gts_event::SwitchFault;
 
 /// Why a sender ended.
@@ -10,4 +13,12 @@ pub enum SendEnd {
     LineFault { index: u64 },
     /// The desk answered with this fault.
     Fault(SwitchFault),
+}
+
+impl From<SwitchFault> for SendEnd {
+    ghost from_gives = { λ fault made. made ≡ ends.Fault fault };
+
+    fn from(fault: SwitchFault) -> SendEnd {
+        SendEnd::Fault(fault)
+    }
 }

@@ -1,12 +1,12 @@
 //! A law of what a sender sends: the contract of a function with an empty body.
-ghost use Rattle.std.specs.Prelude.{◌≡◌, ℕ, List, [], Ok, Err, true, false, Some, None};
+ghost use Rattle.std.specs.Prelude.{◌≡◌, ℕ, List, [], Bool, Result, Ok, Err, true, false, Some, None};
 ghost use Rattle.gts_traits.specs.{IsFront};
 ghost use Rattle.gts_desk.specs.{Seen};
 ghost use Rattle.gts_event.specs.declared.outcome.Outcome.{Outcome};
 ghost use Rattle.gts_event.specs.declared.fault.SwitchFault.{SwitchFault};
 ghost use Rattle.gts_event.specs.declared.fault.SwitchFault.TheVariants.{SayFault, NoMemory};
 ghost use Rattle.gts_sender.specs.declared.end.SendEnd.TheVariants.{LineFault, Fault};
-ghost use Rattle.gts_sender.specs.{given_index, SendsMore, AnswersTake};
+ghost use Rattle.gts_sender.specs.{SendEnd, given_index, SendsMore, AnswersTake, WroteGiven};
 
 /// What a take adds to what was sent: the frame that it gave; a front of it, where the line failed in it; and nothing, where it
 /// gave none or was answered with a fault.
@@ -20,6 +20,9 @@ pub fn a_take_sends_what_it_gave()
     ensures none { (c : ℕ) (old new : Seen) (out : List ℕ) (o : Outcome)
         → AnswersTake c out (Ok o) old new → given_index o ≡ None
         → SendsMore c old new [] (Ok false) }
+    ensures given { (c : ℕ) (old new : Seen) (out : List ℕ) (o : Outcome) (bytes : List ℕ)
+        (result : Result Bool SendEnd) → AnswersTake c out (Ok o) old new
+        → WroteGiven o out bytes result → SendsMore c old new bytes result }
     ensures failed { (c : ℕ) (old new : Seen) (out : List ℕ) (fault : SwitchFault)
         → AnswersTake c out (Err fault) old new → (fault ≡ SayFault → ⊥)
         → (fault ≡ NoMemory → ⊥) → SendsMore c old new [] (Err (Fault fault)) }

@@ -1,6 +1,6 @@
 ghost use Rattle.std.specs.Prelude.{◌≡◌, ℕ, ◌<◌, ◌≤◌, List, ◌++◌, length, Err, OnOk, IfErr};
 ghost use Rattle.gts_traits.specs.Counts.{Rose};
-ghost use Rattle.gts_sender.specs.Sender.{given_index, Sends, SendsMore, LineStood};
+ghost use Rattle.gts_sender.specs.Sender.{given_index, Sends, SendsMore, LineStood, WroteGiven};
 
 use crate::SendEnd;
 use crate::writing::write_all;
@@ -67,19 +67,30 @@ fn send_one<D: Desk, K: Sink, G: Gate>(
         → K.faults sink.new ≡ K.faults sink.old) }
 {
     gate.at(Point::Take { c });
-    let outcome = match desk.take(c, out) {
-        Ok(outcome) => outcome,
-        Err(fault) => return Err(SendEnd::Fault(fault)),
-    };
-    let index = match index_of(outcome) {
-        Some(index) => index,
-        None => return Ok(false),
+    let outcome = desk.take(c, out)?;
+    let is_sent = write_given(outcome, sink, out)?;
+    if is_sent {
+        gate.at(Point::Sent { c });
+    }
+    Ok(is_sent)
+}
+
+/// Writes the frame that a take with this outcome left in `out`. False where it gave none.
+pub fn write_given<K: Sink>(outcome: Outcome, sink: &mut K, out: &FrameBuf) -> Result<bool, SendEnd>
+    ensures wrote { (bytes : List ℕ) × WroteGiven outcome out.now bytes result
+        × (K.tells → K.written sink.new ≡ K.written sink.old ++ bytes) }
+    ensures later { K.faults sink.old ≤ K.faults sink.new }
+    ensures fault { (index : ℕ) → result ≡ Err (SendEnd.LineFault index)
+        → Rose (K.faults sink.old) (K.faults sink.new) }
+    ensures sound { OnOk result (K.faults sink.new ≡ K.faults sink.old) }
+    ensures stood { IfErr result (λ end. LineStood end
+        → K.faults sink.new ≡ K.faults sink.old) }
+{
+    let Some(index) = index_of(outcome) else {
+        return Ok(false);
     };
     match write_all(sink, out.bytes()) {
-        Ok(()) => {
-            gate.at(Point::Sent { c });
-            Ok(true)
-        }
+        Ok(()) => Ok(true),
         Err(Failed) => Err(SendEnd::LineFault { index }),
     }
 }

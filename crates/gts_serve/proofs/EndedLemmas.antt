@@ -1,0 +1,47 @@
+-- What is known once all workers have ended, of what opening their lines left and what closing the hall says of each.
+use Rattle.std.proofs.Common.{◌≡◌, ℕ, ◌*◌, ◌<◌, true, List, length, arith}
+use mathlib.Core.Option.{some}
+use lib.ListN.{get_elem?}
+use Rattle.atomic_table.specs.Seated.{TableId}
+use Rattle.gts_traits.specs.declared.source.Source.{Ghosts as SourceMeanings}
+use Rattle.gts_traits.specs.declared.sink.Sink.{Ghosts as SinkMeanings}
+use Rattle.gts_traits.specs.Lines.{Ports}
+use Rattle.gts_event.specs.declared.event.Entry.{Entry}
+use Rattle.gts_housed.specs.{Beginning}
+use Rattle.gts_workers.specs.declared.line.Line.{Line}
+use Rattle.gts_workers.specs.{has_end}
+use Rattle.gts_circuits.specs.declared.sockets.Sockets.{Sockets}
+use Rattle.gts_circuits.specs.{LinesStand}
+use Rattle.gts_circuits.proofs.PlacesLemmas.{there}
+use Rattle.gts_serve.specs.declared.sockets.Incoming.{Incoming}
+use Rattle.gts_serve.specs.declared.sockets.Outgoing.{Outgoing}
+use Rattle.gts_serve.specs.Serving.{LinesSeen}
+use Rattle.gts_serve.specs.Standing.{AreOpened, ReceiverStands, SenderStands}
+use Rattle.gts_serve.specs.Passing.{incoming_of, outgoing_of}
+use Rattle.gts_serve.proofs.PartedLemmas.{parted, all_ended}
+
+module _ (b : Beginning) {S K : Type 0} (source : SourceMeanings S) (sink : SinkMeanings K) where
+  -- the lines of all sockets, each of which stands for its part of this history
+  pub record AreEnded (connections : ℕ) (now : LinesSeen) (threads : List (ℕ × Entry)) (count : ℕ) (lines : List (Line S K)) : Type 0 where
+    pub ended : (k : ℕ) (l : Line S K) → get_elem? lines k ≡ some l → has_end l ≡ true
+    pub sources_are : length (incoming_of lines) ≡ count
+    pub sinks_are : length (outgoing_of lines) ≡ count
+    pub each_source : (c : ℕ) (x : Incoming S) → get_elem? (incoming_of lines) c ≡ some x
+        → ReceiverStands b source.tells source.begun source.left source.faults threads threads c connections x
+    pub each_sink : (c : ℕ) (y : Outgoing K) → get_elem? (outgoing_of lines) c ≡ some y
+        → SenderStands b sink.tells sink.written sink.faults threads threads c y
+    pub unclosed : (c : ℕ) → c < length (outgoing_of lines) → now.is_open c ≡ true
+
+  pub are_ended : {asked : List Ports} {connections : ℕ} {before now : LinesSeen} (hall : TableId) (threads : List (ℕ × Entry)) (sockets : List (Sockets S K)) (lines : List (Line S K))
+      → AreOpened source.tells source.begun source.left source.faults sink.tells sink.written sink.faults before now asked connections sockets (length sockets)
+      → length lines ≡ 2 * length sockets → LinesStand b source sink hall sockets threads lines → AreEnded connections now threads (length sockets) lines
+  are_ended {asked} {connections} {before} {now} hall threads sockets lines opened count stand =
+      let p = parted b source.tells source.begun source.left source.faults sink.tells sink.written sink.faults asked connections before now threads hall sockets lines count opened stand in
+      record {
+        ended = all_ended b source.tells source.begun source.left source.faults sink.tells sink.written sink.faults asked connections before now threads hall sockets lines count stand;
+        sources_are = p.sources_are;
+        sinks_are = p.sinks_are;
+        each_source = p.each_source;
+        each_sink = p.each_sink;
+        unclosed = λ c less. let t = there sockets c (omega (arith, less, p.sinks_are)) in (opened.each c t.0 t.1).opened;
+      }
