@@ -204,9 +204,9 @@ where
 
 /// The run was done, and the station has the receipts and the journal of two bulletins.
 fn is_served<R: Abort>(rt: &R, status: Status, station: &MemStation) {
-    assert_eq!(rt; status, Status::Done);
-    assert_eq!(rt; station.said(0), RECEIPTS);
-    assert_eq!(rt; station.file(0).len(), JOURNAL_BYTES);
+    assert!(rt; status == Status::Done);
+    assert!(rt; station.said(0) == RECEIPTS);
+    assert!(rt; station.file(0).len() == JOURNAL_BYTES);
 }
 
 #[test]
@@ -217,7 +217,7 @@ fn what_one_neighbour_sends_comes_to_the_other(rt: HostRuntime) -> Result<(), Fa
     let Ends { switch, at_a, at_b } = run_all(&rt, circuits, text.as_bytes(), station);
     let (status, station) = switch?;
     is_served(&rt, status, &station);
-    assert_eq!(rt; at_a?.bytes(), b"".as_slice());
-    assert_eq!(rt; at_b?.bytes(), FRAMES);
+    assert!(rt; at_a?.bytes() == b"".as_slice());
+    assert!(rt; at_b?.bytes() == FRAMES);
     Ok(())
 }

@@ -6,38 +6,38 @@ use std::thread;
 #[test]
 fn a_look_counts_rings_and_shows_that_the_bell_is_closed(rt: HostRuntime) -> Result<(), Fail> {
     let bell = Bell::new();
-    assert_eq!(rt;
-        bell.look(),
-        Look {
-            closing: false,
-            rings: 0
-        }
+    assert!(rt;
+        bell.look()
+            == Look {
+                closing: false,
+                rings: 0
+            }
     );
     bell.ring();
     bell.ring();
-    assert_eq!(rt;
-        bell.look(),
-        Look {
-            closing: false,
-            rings: 2
-        }
+    assert!(rt;
+        bell.look()
+            == Look {
+                closing: false,
+                rings: 2
+            }
     );
     bell.close();
     bell.close();
-    assert_eq!(rt;
-        bell.look(),
-        Look {
-            closing: true,
-            rings: 2
-        }
+    assert!(rt;
+        bell.look()
+            == Look {
+                closing: true,
+                rings: 2
+            }
     );
     bell.ring();
-    assert_eq!(rt;
-        bell.look(),
-        Look {
-            closing: true,
-            rings: 3
-        }
+    assert!(rt;
+        bell.look()
+            == Look {
+                closing: true,
+                rings: 3
+            }
     );
     Ok(())
 }
@@ -72,6 +72,6 @@ fn who_waits_at_a_bell_goes_on_once_another_thread_closes_it(rt: HostRuntime) ->
         || wait_for_the_end(runtime, shared),
         || ring_to_the_end(shared),
     );
-    assert_eq!(rt; rings, 100);
+    assert!(rt; rings == 100);
     Ok(())
 }

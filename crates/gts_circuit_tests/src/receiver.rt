@@ -118,8 +118,8 @@ fn end_of_source(
     Ok((end, desk.heard))
 }
 
-/// How three connections end, the first with these bytes, the second with two frames, the last with a frame and a loss; the source
-/// fails at these calls.
+/// How three connections end, the first with these bytes, the second with two frames, the last with a frame and a loss; the
+/// source fails at these calls.
 fn end_of_three(alloc: Global, first: &[u8], failing: &[u64]) -> Result<(ReceiveEnd, u64), Fail> {
     let mut source = MemSource::new(alloc, first, failing)?;
     source.add(SHORT)?;
@@ -140,25 +140,19 @@ fn each_end_of_a_connection_is_told_apart(rt: HostRuntime) -> Result<(), Fail> {
     let alloc = rt.alloc();
     let ended = ReceiveEnd::Ended { rest: 20 };
     let spent = ReceiveEnd::Fault(SwitchFault::Spent);
-    assert_eq!(rt;
-        end_of(alloc, b"0000039 AN", &[], &mut [0; 1])?,
-        (lost_at(8), 0)
-    );
-    assert_eq!(rt; end_of(alloc, BROKEN, &[], &mut [0; 9])?, (lost_at(20), 1));
-    assert_eq!(rt; end_of(alloc, &FRAME[..20], &[], &mut [0; 64])?, (ended, 0));
-    assert_eq!(rt;
-        end_of(alloc, FRAME, &[2], &mut [0; 10])?,
-        (ReceiveEnd::SourceFault, 0)
-    );
-    assert_eq!(rt; end_of(alloc, FRAME, &[], &mut [0; 7])?, (spent, 0));
+    assert!(rt; end_of(alloc, b"0000039 AN", &[], &mut [0; 1])? == (lost_at(8), 0));
+    assert!(rt; end_of(alloc, BROKEN, &[], &mut [0; 9])? == (lost_at(20), 1));
+    assert!(rt; end_of(alloc, &FRAME[..20], &[], &mut [0; 64])? == (ended, 0));
+    assert!(rt; end_of(alloc, FRAME, &[2], &mut [0; 10])? == (ReceiveEnd::SourceFault, 0));
+    assert!(rt; end_of(alloc, FRAME, &[], &mut [0; 7])? == (spent, 0));
     Ok(())
 }
 
 #[test]
 fn a_connection_follows_each_that_is_over(rt: HostRuntime) -> Result<(), Fail> {
     let alloc = rt.alloc();
-    assert_eq!(rt; end_of_three(alloc, SHORT, &[])?, (lost_at(20), 5));
-    assert_eq!(rt; end_of_three(alloc, b"", &[])?, (lost_at(20), 3));
+    assert!(rt; end_of_three(alloc, SHORT, &[])? == (lost_at(20), 5));
+    assert!(rt; end_of_three(alloc, b"", &[])? == (lost_at(20), 3));
     Ok(())
 }
 
@@ -167,9 +161,9 @@ fn a_connection_that_breaks_is_followed_and_told_at_the_end(rt: HostRuntime) -> 
     let alloc = rt.alloc();
     let broken = ReceiveEnd::SourceFault;
     // The first read fails; the read behind the first bytes; and the next connection doesn't come.
-    assert_eq!(rt; end_of_three(alloc, SHORT, &[0])?, (broken, 3));
-    assert_eq!(rt; end_of_three(alloc, SHORT, &[1])?, (broken, 5));
-    assert_eq!(rt; end_of_three(alloc, SHORT, &[2])?, (broken, 2));
+    assert!(rt; end_of_three(alloc, SHORT, &[0])? == (broken, 3));
+    assert!(rt; end_of_three(alloc, SHORT, &[1])? == (broken, 5));
+    assert!(rt; end_of_three(alloc, SHORT, &[2])? == (broken, 2));
     Ok(())
 }
 
@@ -177,8 +171,8 @@ fn a_connection_that_breaks_is_followed_and_told_at_the_end(rt: HostRuntime) -> 
 fn each_message_is_heard_once_however_it_is_cut(rt: HostRuntime) -> Result<(), Fail> {
     let alloc = rt.alloc();
     let ended = ReceiveEnd::Ended { rest: 4 };
-    assert_eq!(rt; end_of(alloc, SHORT, &[], &mut [0; 1])?, (ended, 2));
-    assert_eq!(rt; end_of(alloc, SHORT, &[], &mut [0; 5])?, (ended, 2));
-    assert_eq!(rt; end_of(alloc, SHORT, &[], &mut [0; 64])?, (ended, 2));
+    assert!(rt; end_of(alloc, SHORT, &[], &mut [0; 1])? == (ended, 2));
+    assert!(rt; end_of(alloc, SHORT, &[], &mut [0; 5])? == (ended, 2));
+    assert!(rt; end_of(alloc, SHORT, &[], &mut [0; 64])? == (ended, 2));
     Ok(())
 }

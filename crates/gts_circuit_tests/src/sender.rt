@@ -84,8 +84,8 @@ fn end_of<R: AllocGlobal + Wait, K: Sink>(rt: &R, sink: &mut K) -> Result<SendEn
 fn what_is_owed_is_sent_once(rt: HostRuntime) -> Result<(), Fail> {
     let mut sink = MemSink::new(rt.alloc(), &[])?;
     let end = end_of(&rt, &mut sink)?;
-    assert_eq!(rt; end, SendEnd::Quiet);
-    assert_eq!(rt; sink.bytes(), FRAME);
+    assert!(rt; end == SendEnd::Quiet);
+    assert!(rt; sink.bytes() == FRAME);
     Ok(())
 }
 
@@ -93,8 +93,8 @@ fn what_is_owed_is_sent_once(rt: HostRuntime) -> Result<(), Fail> {
 fn a_line_that_fails_ends_its_sender(rt: HostRuntime) -> Result<(), Fail> {
     let mut sink = MemSink::new(rt.alloc(), &[0])?;
     let end = end_of(&rt, &mut sink)?;
-    assert_eq!(rt; end, SendEnd::LineFault { index: 0 });
-    assert_eq!(rt; sink.bytes().len(), 0);
+    assert!(rt; end == SendEnd::LineFault { index: 0 });
+    assert!(rt; sink.bytes().len() == 0);
     Ok(())
 }
 
@@ -106,7 +106,7 @@ fn a_frame_that_was_begun_is_not_begun_again(rt: HostRuntime) -> Result<(), Fail
         faults: 0,
     };
     let end = end_of(&rt, &mut sink)?;
-    assert_eq!(rt; end, SendEnd::LineFault { index: 0 });
-    assert_eq!(rt; sink.bytes.as_slice(), &FRAME[..10]);
+    assert!(rt; end == SendEnd::LineFault { index: 0 });
+    assert!(rt; sink.bytes.as_slice() == &FRAME[..10]);
     Ok(())
 }

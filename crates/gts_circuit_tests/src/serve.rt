@@ -98,10 +98,10 @@ fn ran<R: Threads + Wait + Sync>(
 fn each_circuit_gets_the_bulletin_of_the_other(rt: HostRuntime) -> Result<(), Fail> {
     let mut lines = fed(rt.alloc(), &[], &[])?;
     let (_, end, has_pass) = ran(&rt, rt.alloc(), &mut lines)?;
-    assert_eq!(rt; end, ServeEnd::Done);
+    assert!(rt; end == ServeEnd::Done);
     assert!(rt; has_pass);
-    assert_eq!(rt; lines.sent(0), frame_of(1, 1).as_slice());
-    assert_eq!(rt; lines.sent(1), frame_of(1, 0).as_slice());
+    assert!(rt; lines.sent(0) == frame_of(1, 1).as_slice());
+    assert!(rt; lines.sent(1) == frame_of(1, 0).as_slice());
     Ok(())
 }
 
@@ -112,9 +112,9 @@ fn a_sink_that_fails_is_the_end_and_the_other_circuit_is_served(
     let mut lines = fed(rt.alloc(), &[], &[0])?;
     let (_, end, _) = ran(&rt, rt.alloc(), &mut lines)?;
     let fault = SendEnd::LineFault { index: 0 };
-    assert_eq!(rt; end, ServeEnd::Sender { c: 1, end: fault });
-    assert_eq!(rt; lines.sent(0), frame_of(1, 1).as_slice());
-    assert_eq!(rt; lines.sent(1), b"".as_slice());
+    assert!(rt; end == ServeEnd::Sender { c: 1, end: fault });
+    assert!(rt; lines.sent(0) == frame_of(1, 1).as_slice());
+    assert!(rt; lines.sent(1) == b"".as_slice());
     Ok(())
 }
 
@@ -124,8 +124,8 @@ fn a_first_line_that_fails_to_open_is_the_end_before_anything_is_done(
 ) -> Result<(), Fail> {
     let mut lines = fed(rt.alloc(), &[0], &[])?;
     let (station, end, has_pass) = ran(&rt, rt.alloc(), &mut lines)?;
-    assert_eq!(rt; end, ServeEnd::NotOpened { c: 0 });
+    assert!(rt; end == ServeEnd::NotOpened { c: 0 });
     assert!(rt; !has_pass);
-    assert_eq!(rt; station.said(0), b"".as_slice());
+    assert!(rt; station.said(0) == b"".as_slice());
     Ok(())
 }

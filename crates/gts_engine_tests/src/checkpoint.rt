@@ -32,18 +32,22 @@ fn circuit(alloc: Global, drawn: bool) -> Result<CircuitNeed, Fail> {
     })
 }
 
+/// Writes bytes behind those of a body.
+fn push_all(alloc: Global, body: &mut Bytes, bytes: &[u8]) -> Result<(), Fail> {
+    for byte in bytes {
+        body.push(alloc, *byte)?;
+    }
+    Ok(())
+}
+
 /// The body of a bulletin with so many letters in its text.
 fn body(alloc: Global, letters: u32) -> Result<Bytes, Fail> {
     let mut body = Bytes::new();
-    for byte in HEADING {
-        body.push(alloc, *byte)?;
-    }
+    push_all(alloc, &mut body, HEADING)?;
     for _ in 0..letters {
         body.push(alloc, b'A')?;
     }
-    for byte in END {
-        body.push(alloc, *byte)?;
-    }
+    push_all(alloc, &mut body, END)?;
     Ok(body)
 }
 
@@ -90,19 +94,27 @@ fn put(rt: &impl Abort, station: &mut MemStation, place: u64, byte: u8) -> Resul
     Ok(())
 }
 
+/// The need that is read from the second file, and the place of the gate behind it.
+fn found<P: Station>(alloc: Global, station: &mut P) -> Result<(Need, u64), Fail> {
+    let directory = two_circuits(alloc)?;
+    let (need, gate, _) = read(alloc, station, Version::written(), 1, &directory)?;
+    Ok((need, gate))
+}
+
+/// Whether a need has one bulletin, which was accepted, and two circuits.
+fn has_one_draw(need: &Need) -> bool {
+    need.accepted == 1 && need.bulletins.len() == 1 && need.circuits.len() == 2
+}
+
 #[test]
 fn a_checkpoint_is_read_as_it_was_written(rt: HostRuntime) -> Result<(), Fail> {
-    let alloc = rt.alloc();
-    let directory = two_circuits(alloc)?;
-    let need = one_draw(alloc, 3)?;
-    assert_eq!(rt; size(&need), 105);
-    let mut station = written(&rt, alloc, &need)?;
-    assert_eq!(rt; station.size(1)?, 179);
-    let (found, gate, _) = read(alloc, &mut station, Version::written(), 1, &directory)?;
-    assert_eq!(rt; gate, 178);
-    assert_eq!(rt; found.accepted, 1);
-    assert_eq!(rt; found.bulletins.len(), 1);
-    assert_eq!(rt; found.circuits.len(), 2);
+    let need = one_draw(rt.alloc(), 3)?;
+    assert!(rt; size(&need) == 105);
+    let mut station = written(&rt, rt.alloc(), &need)?;
+    assert!(rt; station.size(1)? == 179);
+    let (need, gate) = found(rt.alloc(), &mut station)?;
+    assert!(rt; gate == 178);
+    assert!(rt; has_one_draw(&need));
     Ok(())
 }
 
@@ -120,17 +132,29 @@ const DAMAGED: [(u32, u64); 9] = [
     (5000, 5000),
 ];
 
+/// A disk whose second file holds the checkpoint of one draw, with another byte at a place.
+fn damaged<R: AllocGlobal + Abort>(rt: &R, letters: u32, place: u64) -> Result<MemStation, Fail> {
+    let need = one_draw(rt.alloc(), letters)?;
+    let mut station = written(rt, rt.alloc(), &need)?;
+    put(rt, &mut station, place, 7)?;
+    Ok(station)
+}
+
+/// Why no checkpoint is read from the second file.
+fn fault_of<P: Station>(alloc: Global, station: &mut P) -> Result<Option<OpenFault>, Fail> {
+    let directory = two_circuits(alloc)?;
+    Ok(read(alloc, station, Version::written(), 1, &directory).err())
+}
+
 #[test]
 fn a_damaged_byte_is_damage(rt: HostRuntime) -> Result<(), Fail> {
-    let alloc = rt.alloc();
-    let directory = two_circuits(alloc)?;
-    let damage = OpenFault::Damaged { file: 1, at: 41 };
+    let damage = Some(OpenFault::Damaged { file: 1, at: 41 });
     for (letters, place) in DAMAGED {
-        let need = one_draw(alloc, letters)?;
-        let mut station = written(&rt, alloc, &need)?;
-        put(&rt, &mut station, place, 7)?;
-        let read = read(alloc, &mut station, Version::written(), 1, &directory);
-        assert!(rt; read.err() == Some(damage), "{letters} {place}");
+        let mut station = damaged(&rt, letters, place)?;
+        assert!(rt;
+            fault_of(rt.alloc(), &mut station)? == damage,
+            "{letters} {place}"
+        );
     }
     Ok(())
 }

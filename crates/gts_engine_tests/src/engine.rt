@@ -1,5 +1,4 @@
-ghost use Rattle.std.specs.Prelude.{◌≡◌, IfOk};
-
+use crate::same::is_same;
 use gts_calls::Switch;
 use gts_directory::Directory;
 use gts_engine::{Engine, SayMode};
@@ -22,9 +21,7 @@ fn engine(
     alloc: Global,
     directory: Directory,
     failing: &[u64],
-) -> Result<Result<Engine<MemStation>, u64>, Fail>
-    ensures { IfOk result (λ made. IfOk made (λ engine. engine.directory ≡ directory)) }
-{
+) -> Result<Result<Engine<MemStation>, u64>, Fail> {
     let mut station = MemStation::new(alloc, failing)?;
     if Journal::init(&mut station, directory.mark()).is_err() {
         return Ok(Err(station.calls()));
@@ -70,6 +67,11 @@ const DRAWN: Option<Outcome> = Some(Outcome::Draw { index: 0 });
 
 const REPEATED: Option<Outcome> = Some(Outcome::Resend { index: 0 });
 
+/// The station of an engine that is done.
+fn station_in(engine: Engine<MemStation>) -> MemStation {
+    engine.into_parts().0
+}
+
 #[test]
 fn a_bulletin_goes_to_the_other_circuit(rt: HostRuntime) -> Result<(), Fail> {
     let alloc = rt.alloc();
@@ -77,18 +79,24 @@ fn a_bulletin_goes_to_the_other_circuit(rt: HostRuntime) -> Result<(), Fail> {
     let mut engine = sound_engine(alloc)?;
     assert!(rt; heard(alloc, &mut engine) == ACCEPTED);
     assert!(rt; taken(&mut engine, &mut out, SayMode::Station) == DRAWN);
-    assert_eq!(rt; engine.used(), 175);
-    let (station, _directory) = engine.into_parts();
-    assert_eq!(rt; station.said(0), RECEIPT);
-    assert_eq!(rt; station.said(2), FRAME);
+    assert!(rt; engine.used() == 175);
+    let station = station_in(engine);
+    assert!(rt; is_same(station.said(0), RECEIPT));
+    assert!(rt; is_same(station.said(2), FRAME));
     Ok(())
 }
 
-/// An engine with the bulletin and its draw, opened once more.
-fn restarted(alloc: Global, out: &mut FrameBuf) -> Result<Engine<MemStation>, Fail> {
+/// An engine with the bulletin and its draw.
+fn drawn(alloc: Global, out: &mut FrameBuf) -> Result<Engine<MemStation>, Fail> {
     let mut engine = sound_engine(alloc)?;
     let _ = heard(alloc, &mut engine);
     let _ = taken(&mut engine, out, SayMode::Station);
+    Ok(engine)
+}
+
+/// The same, opened once more.
+fn restarted(alloc: Global, out: &mut FrameBuf) -> Result<Engine<MemStation>, Fail> {
+    let mut engine = drawn(alloc, out)?;
     match engine.restart(alloc) {
         Ok(()) => Ok(engine),
         Err(_) => Err(Fail::from("an engine that opens again")),
@@ -101,23 +109,29 @@ fn the_last_draw_is_repeated_after_an_opening(rt: HostRuntime) -> Result<(), Fai
     let mut out = FrameBuf::new(alloc)?;
     let mut engine = restarted(alloc, &mut out)?;
     assert!(rt; taken(&mut engine, &mut out, SayMode::Caller) == REPEATED);
-    assert_eq!(rt; out.bytes(), FRAME);
+    assert!(rt; is_same(out.bytes(), FRAME));
     Ok(())
+}
+
+/// What comes of a loss on circuit 0.
+fn lost(engine: &mut Engine<MemStation>) -> Option<Outcome> {
+    if engine.directory().circuits() == 0 {
+        return None;
+    }
+    Engine::lost(engine, 0, LostField::Kind).ok()
+}
+
+/// What stopped an engine after a message and a loss.
+fn stopped_by(alloc: Global, mut engine: Engine<MemStation>) -> Option<Device> {
+    let _ = heard(alloc, &mut engine);
+    let _ = lost(&mut engine);
+    engine.stopped()
 }
 
 /// What stopped an engine whose call with this number failed, after a message and a loss.
 fn stopped_at(alloc: Global, call: u64) -> Result<Option<Device>, Fail> {
-    let directory = two_circuits(alloc)?;
-    match engine(alloc, directory, &[call])? {
-        Ok(mut engine) => {
-            if engine.directory().circuits() > 0 {
-                let _ = Engine::hear(&mut engine, alloc, 0, Kind::An, MESSAGE);
-            }
-            if engine.directory().circuits() > 0 {
-                let _ = Engine::lost(&mut engine, 0, LostField::Kind);
-            }
-            Ok(engine.stopped())
-        }
+    match engine(alloc, two_circuits(alloc)?, &[call])? {
+        Ok(engine) => Ok(stopped_by(alloc, engine)),
         Err(_) => Ok(None),
     }
 }
@@ -126,53 +140,49 @@ fn stopped_at(alloc: Global, call: u64) -> Result<Option<Device>, Fail> {
 fn a_device_that_fails_stops_the_engine(rt: HostRuntime) -> Result<(), Fail> {
     let alloc = rt.alloc();
     // Twelve calls make and open the journal. Four write a record, the fifth says its receipt, and the sixth that of the loss.
-    assert_eq!(rt; stopped_at(alloc, 12)?, Some(Device::Disk));
-    assert_eq!(rt; stopped_at(alloc, 15)?, Some(Device::Disk));
-    assert_eq!(rt; stopped_at(alloc, 16)?, Some(Device::Say));
-    assert_eq!(rt; stopped_at(alloc, 17)?, Some(Device::Say));
-    assert_eq!(rt; stopped_at(alloc, 18)?, None);
+    assert!(rt; stopped_at(alloc, 12)? == Some(Device::Disk));
+    assert!(rt; stopped_at(alloc, 15)? == Some(Device::Disk));
+    assert!(rt; stopped_at(alloc, 16)? == Some(Device::Say));
+    assert!(rt; stopped_at(alloc, 17)? == Some(Device::Say));
+    assert!(rt; stopped_at(alloc, 18)?.is_none());
     Ok(())
 }
 
-/// An engine with the bulletin and its draw, whose journal was compacted twice, and how many bytes were in use each time.
-fn compacted(
-    alloc: Global,
-    out: &mut FrameBuf,
-) -> Result<(Engine<MemStation>, Option<[u64; 2]>), Fail> {
-    let mut engine = sound_engine(alloc)?;
-    let _ = heard(alloc, &mut engine);
-    let _ = taken(&mut engine, out, SayMode::Station);
+/// How many bytes are in use when the journal was compacted.
+fn compact(alloc: Global, engine: &mut Engine<MemStation>) -> Option<u64> {
     if engine.compact(alloc).is_err() {
-        return Ok((engine, None));
+        return None;
     }
-    let once = engine.used();
-    if engine.compact(alloc).is_err() {
-        return Ok((engine, None));
-    }
-    let twice = engine.used();
-    Ok((engine, Some([once, twice])))
+    Some(engine.used())
+}
+
+/// What an engine whose journal was compacted twice has: itself, and how many bytes were in use each time.
+type Compacted = (Engine<MemStation>, Option<u64>, Option<u64>);
+
+/// An engine with the bulletin and its draw, whose journal was compacted twice.
+fn compacted(alloc: Global, out: &mut FrameBuf) -> Result<Compacted, Fail> {
+    let mut engine = drawn(alloc, out)?;
+    let once = compact(alloc, &mut engine);
+    let twice = compact(alloc, &mut engine);
+    Ok((engine, once, twice))
 }
 
 #[test]
 fn a_compacted_journal_has_the_same_size_each_time(rt: HostRuntime) -> Result<(), Fail> {
     let alloc = rt.alloc();
     let mut out = FrameBuf::new(alloc)?;
-    let (engine, used) = compacted(alloc, &mut out)?;
-    assert!(rt; used == Some([179, 179]));
-    let (station, _directory) = engine.into_parts();
-    assert_eq!(rt; station.file(0).len(), 179);
-    assert_eq!(rt; station.file(1).len(), 179);
-    assert_eq!(rt; station.file(2), [0u8].as_slice());
+    let (engine, once, twice) = compacted(alloc, &mut out)?;
+    assert!(rt; once == Some(179) && twice == Some(179));
+    let station = station_in(engine);
+    assert!(rt; station.file(0).len() == 179);
+    assert!(rt; station.file(1).len() == 179);
+    assert!(rt; is_same(station.file(2), &[0]));
     Ok(())
 }
 
-/// What circuit 1 is given by an engine that opens these files.
-fn taken_again(
-    alloc: Global,
-    station: MemStation,
-    directory: Directory,
-    out: &mut FrameBuf,
-) -> Option<Outcome> {
+/// What circuit 1 is given by an engine that opens the files of another one.
+fn taken_again(alloc: Global, engine: Engine<MemStation>, out: &mut FrameBuf) -> Option<Outcome> {
+    let (station, directory) = engine.into_parts();
     match Engine::open(alloc, station, directory) {
         Ok(mut engine) => taken(&mut engine, out, SayMode::Caller),
         Err(_) => None,
@@ -183,9 +193,8 @@ fn taken_again(
 fn a_compacted_journal_is_opened_again(rt: HostRuntime) -> Result<(), Fail> {
     let alloc = rt.alloc();
     let mut out = FrameBuf::new(alloc)?;
-    let (engine, _used) = compacted(alloc, &mut out)?;
-    let (station, directory) = engine.into_parts();
-    assert!(rt; taken_again(alloc, station, directory, &mut out) == REPEATED);
-    assert_eq!(rt; out.bytes(), FRAME);
+    let (engine, _, _) = compacted(alloc, &mut out)?;
+    assert!(rt; taken_again(alloc, engine, &mut out) == REPEATED);
+    assert!(rt; is_same(out.bytes(), FRAME));
     Ok(())
 }

@@ -1,6 +1,7 @@
 ghost use Rattle.std.specs.Prelude.{◌≡◌, ◌≤◌, ◌^◌, true, length, IfOk};
 ghost use Rattle.gts_journal.specs.{StandsOn};
 
+use crate::same::is_same;
 use gts_frame::Kind;
 use gts_journal::{InitFault, Journal, OpenFault, Record, Version};
 use gts_memory::{MemStation, Touched};
@@ -103,51 +104,87 @@ fn read<P: Station>(alloc: Global, station: &mut P) -> Result<u64, OpenFault> {
     }
 }
 
+/// The places of the two records.
+const PLACES: Option<[u64; 3]> = Some([41, 119, 175]);
+
 #[test]
 fn a_journal_of_two_records_has_these_bytes(rt: HostRuntime) -> Result<(), Fail> {
     let alloc = rt.alloc();
     let mut station = MemStation::new(alloc, &[])?;
     assert!(rt; fault_of(alloc, &mut station) == Some(OpenFault::NoJournal));
-    assert_eq!(rt; two_records(alloc, &mut station), Some([41, 119, 175]));
-    assert_eq!(rt; station.file(0), SEALED);
+    assert!(rt; two_records(alloc, &mut station) == PLACES);
+    assert!(rt; is_same(station.file(0), SEALED));
     assert!(rt; read(alloc, &mut station) == Ok(2));
-    assert_eq!(rt; size_that_exists(&mut station), Some(175));
+    assert!(rt; size_that_exists(&mut station) == Some(175));
     Ok(())
+}
+
+/// How many calls are made until the listed one fails, none where no call does.
+fn calls_until(alloc: Global, call: u64) -> Result<Option<u64>, Fail> {
+    let mut station = MemStation::new(alloc, &[call])?;
+    match two_records(alloc, &mut station) {
+        Some(_) => Ok(None),
+        None => Ok(Some(station.calls())),
+    }
 }
 
 #[test]
 fn a_call_that_fails_ends_what_is_done(rt: HostRuntime) -> Result<(), Fail> {
-    let alloc = rt.alloc();
     // Eight calls make the journal, four open it, and four are made for each record.
     for call in 0..20 {
-        let mut station = MemStation::new(alloc, &[call])?;
-        assert_eq!(rt; two_records(alloc, &mut station), None);
-        assert_eq!(rt; station.calls(), call + 1);
+        assert!(rt;
+            calls_until(rt.alloc(), call)? == Some(call + 1),
+            "call {call}"
+        );
     }
     Ok(())
 }
 
+/// What a crash may leave in each place that was touched.
+const CHOICES: [Touched; 5] = [
+    Touched::Old,
+    Touched::New,
+    Touched::Fill(0),
+    Touched::Fill(0x4f),
+    Touched::Fill(0xff),
+];
+
+/// What a crash in a call leaves, with this in each place that was touched.
+fn crashed(station: &MemStation, call: u64, choice: Touched) -> Result<MemStation, Fail> {
+    if call >= station.calls() {
+        return Err(Fail::from("no such call"));
+    }
+    Ok(station.crashed(call, choice)?)
+}
+
+/// Whether a crash in a call of an append leaves the records that were there before or one more, whatever stands in the places
+/// that were touched.
+fn leaves_either(
+    alloc: Global,
+    station: &MemStation,
+    call: u64,
+    before: u64,
+) -> Result<bool, Fail> {
+    for choice in CHOICES {
+        let mut left = crashed(station, call, choice)?;
+        let found = read(alloc, &mut left);
+        if found != Ok(before) && found != Ok(before.saturating_add(1)) {
+            return Ok(false);
+        }
+    }
+    Ok(true)
+}
+
 #[test]
 fn a_crash_in_an_append_leaves_the_records_before_or_one_more(rt: HostRuntime) -> Result<(), Fail> {
-    let alloc = rt.alloc();
-    let mut station = MemStation::new(alloc, &[])?;
-    assert_eq!(rt; two_records(alloc, &mut station), Some([41, 119, 175]));
-    let choices = [
-        Touched::Old,
-        Touched::New,
-        Touched::Fill(0),
-        Touched::Fill(0x4f),
-        Touched::Fill(0xff),
-    ];
+    let mut station = MemStation::new(rt.alloc(), &[])?;
+    assert!(rt; two_records(rt.alloc(), &mut station) == PLACES);
     // The calls before these make the journal and open it; each append has four.
     for call in 12..20 {
-        let before = (call - 12) / 4;
-        for choice in choices {
-            assert!(rt; call < station.calls());
-            let mut crashed = station.crashed(call, choice)?;
-            let found = read(alloc, &mut crashed);
-            assert!(rt; found == Ok(before) || found == Ok(before + 1), "{call}");
-        }
+        assert!(rt;
+            leaves_either(rt.alloc(), &station, call, (call - 12) / 4)?,
+            "call {call}"
+        );
     }
     Ok(())
 }
@@ -161,14 +198,18 @@ fn station_of(alloc: Global, file: &[u8]) -> Result<MemStation, Fail>
     Ok(station)
 }
 
+/// The version of a journal that is taken, whichever it has.
+fn version_of<P: Station>(alloc: Global, station: &mut P) -> Option<Version> {
+    match Journal::start_any(alloc, station, MARK) {
+        Ok(journal) => Some(journal.version()),
+        Err(_) => None,
+    }
+}
+
 #[test]
 fn a_journal_of_an_older_version_is_told_or_taken(rt: HostRuntime) -> Result<(), Fail> {
-    let alloc = rt.alloc();
-    let mut station = station_of(alloc, UNSEALED)?;
-    assert!(rt; fault_of(alloc, &mut station) == Some(OpenFault::OldVersion));
-    match Journal::start_any(alloc, &mut station, MARK) {
-        Ok(journal) => assert!(rt; journal.version() == Version::One),
-        Err(_) => assert!(rt; false),
-    }
+    let mut station = station_of(rt.alloc(), UNSEALED)?;
+    assert!(rt; fault_of(rt.alloc(), &mut station) == Some(OpenFault::OldVersion));
+    assert!(rt; version_of(rt.alloc(), &mut station) == Some(Version::One));
     Ok(())
 }

@@ -9,3 +9,5 @@ mod engine;
 mod journal;
 #[cfg(test)]
 mod recovery;
+#[cfg(test)]
+mod same;

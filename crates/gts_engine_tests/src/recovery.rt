@@ -50,33 +50,35 @@ fn opened<P: Station>(
     }
 }
 
-#[test]
-fn a_journal_is_opened_to_what_its_records_lead_to(rt: HostRuntime) -> Result<(), Fail> {
-    let alloc = rt.alloc();
+/// The same in a station that has nothing.
+fn opened_of(alloc: Global, file: &[u8]) -> Result<Result<(u64, u64), OpenFault>, Fail> {
+    if file.len() > 1000 {
+        return Err(Fail::from("too long"));
+    }
     let directory = two_circuits(alloc)?;
     let mut station = MemStation::new(alloc, &[])?;
-    assert!(rt; opened(alloc, &mut station, &directory, EMPTY) == Ok((41, 0)));
-    let mut station = MemStation::new(alloc, &[])?;
-    assert!(rt; opened(alloc, &mut station, &directory, BOTH) == Ok((175, 1)));
-    Ok(())
+    Ok(opened(alloc, &mut station, &directory, file))
 }
 
 #[test]
+fn a_journal_is_opened_to_what_its_records_lead_to(rt: HostRuntime) -> Result<(), Fail> {
+    assert!(rt; opened_of(rt.alloc(), EMPTY)? == Ok((41, 0)));
+    assert!(rt; opened_of(rt.alloc(), BOTH)? == Ok((175, 1)));
+    Ok(())
+}
+
+/// Journals with a record that breaks a rule, and where it stands.
+const DAMAGED: [(&[u8], u64); 3] = [(WRONG_INDEX, 119), (WRONG_POSITION, 41), (CHECKPOINT, 41)];
+
+#[test]
 fn a_record_that_breaks_a_rule_is_damage(rt: HostRuntime) -> Result<(), Fail> {
-    let alloc = rt.alloc();
-    let directory = two_circuits(alloc)?;
-    let files = [
-        (WRONG_INDEX, 119),
-        (WRONG_POSITION, 41),
-        (CHECKPOINT, 41),
-        (&BOTH[..118], 118),
-    ];
-    for (file, at) in files {
-        let mut station = MemStation::new(alloc, &[])?;
+    for (file, at) in DAMAGED {
         let fault = OpenFault::Damaged { file: 0, at };
-        assert!(rt; opened(alloc, &mut station, &directory, file) == Err(fault));
+        assert!(rt; opened_of(rt.alloc(), file)? == Err(fault));
     }
-    let mut station = MemStation::new(alloc, &[])?;
-    assert!(rt; opened(alloc, &mut station, &directory, b"") == Err(OpenFault::NoJournal));
+    let cut = BOTH.get(..118).unwrap_or(&[]);
+    let fault = OpenFault::Damaged { file: 0, at: 118 };
+    assert!(rt; opened_of(rt.alloc(), cut)? == Err(fault));
+    assert!(rt; opened_of(rt.alloc(), b"")? == Err(OpenFault::NoJournal));
     Ok(())
 }

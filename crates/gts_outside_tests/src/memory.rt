@@ -11,12 +11,12 @@ use std::test::Fail;
 fn a_source_gives_its_bytes_in_order(rt: HostRuntime) -> Result<(), Fail> {
     let mut source = MemSource::new(rt.alloc(), b"hello", &[1])?;
     let mut into = [0; 3];
-    assert_eq!(rt; source.read(&mut into), Ok(3));
-    assert_eq!(rt; into, [104, 101, 108]);
-    assert_eq!(rt; source.read(&mut into), Err(Failed));
-    assert_eq!(rt; source.read(&mut into), Ok(2));
-    assert_eq!(rt; into, [108, 111, 108]);
-    assert_eq!(rt; source.read(&mut into), Ok(0));
+    assert!(rt; source.read(&mut into) == Ok(3));
+    assert!(rt; into == [104, 101, 108]);
+    assert!(rt; source.read(&mut into) == Err(Failed));
+    assert!(rt; source.read(&mut into) == Ok(2));
+    assert!(rt; into == [108, 111, 108]);
+    assert!(rt; source.read(&mut into) == Ok(0));
     Ok(())
 }
 
@@ -30,19 +30,19 @@ fn read_next(source: &mut MemSource) -> Result<usize, Failed> {
 fn a_source_begins_its_connections_one_after_another(rt: HostRuntime) -> Result<(), Fail> {
     let mut source = MemSource::new(rt.alloc(), b"abc", &[])?;
     source.add(b"d")?;
-    assert_eq!(rt; read_next(&mut source), Ok(1));
-    assert_eq!(rt; read_next(&mut source), Ok(0));
+    assert!(rt; read_next(&mut source) == Ok(1));
+    assert!(rt; read_next(&mut source) == Ok(0));
     Ok(())
 }
 
 #[test]
 fn a_sink_keeps_what_is_written(rt: HostRuntime) -> Result<(), Fail> {
     let mut sink = MemSink::new(rt.alloc(), &[1])?;
-    assert_eq!(rt; sink.write(b"ab"), Ok(2));
-    assert_eq!(rt; sink.write(b"lost"), Err(Failed));
-    assert_eq!(rt; sink.write(b"c"), Ok(1));
-    assert_eq!(rt; sink.bytes(), b"abc".as_slice());
-    assert_eq!(rt; sink.starved(), 0);
+    assert!(rt; sink.write(b"ab") == Ok(2));
+    assert!(rt; sink.write(b"lost") == Err(Failed));
+    assert!(rt; sink.write(b"c") == Ok(1));
+    assert!(rt; sink.bytes() == b"abc".as_slice());
+    assert!(rt; sink.starved() == 0);
     Ok(())
 }
 
@@ -61,10 +61,10 @@ fn a_station_keeps_each_channel_apart(rt: HostRuntime) -> Result<(), Fail> {
     let mut station = MemStation::new(rt.alloc(), &[1])?;
     let answers = say_pieces(&mut station);
     assert!(rt; answers == [Ok(()), Err(Failed), Ok(()), Ok(())]);
-    assert_eq!(rt; station.said(0), b"started".as_slice());
-    assert_eq!(rt; station.said(64), b"abc".as_slice());
-    assert_eq!(rt; station.said(1), b"".as_slice());
-    assert_eq!(rt; station.calls(), 4);
+    assert!(rt; station.said(0) == b"started".as_slice());
+    assert!(rt; station.said(64) == b"abc".as_slice());
+    assert!(rt; station.said(1) == b"".as_slice());
+    assert!(rt; station.calls() == 4);
     Ok(())
 }
 
@@ -74,7 +74,7 @@ fn a_station_tells_what_each_call_says(rt: HostRuntime) -> Result<(), Fail> {
     let _ = say_pieces(&mut station);
     assert!(rt; station.saying(1) == Some((64, b"ab".as_slice())));
     assert!(rt; station.saying(3).is_none());
-    assert_eq!(rt; station.starved(), 0);
+    assert!(rt; station.starved() == 0);
     Ok(())
 }
 
@@ -92,12 +92,12 @@ fn keep<S: Station>(station: &mut S, into: &mut [u8]) -> Result<usize, Failed>
 fn a_station_keeps_its_files(rt: HostRuntime) -> Result<(), Fail> {
     let mut station = MemStation::new(rt.alloc(), &[])?;
     let mut into = [0; 4];
-    assert_eq!(rt; keep(&mut station, &mut into), Ok(2));
-    assert_eq!(rt; into, [120, 121, 0, 0]);
-    assert_eq!(rt; station.size(1), Ok(3));
-    assert_eq!(rt; station.file(1), b"axy".as_slice());
-    assert_eq!(rt; station.file(0), b"".as_slice());
-    assert_eq!(rt; station.calls(), 7);
+    assert!(rt; keep(&mut station, &mut into) == Ok(2));
+    assert!(rt; into == [120, 121, 0, 0]);
+    assert!(rt; station.size(1) == Ok(3));
+    assert!(rt; station.file(1) == b"axy".as_slice());
+    assert!(rt; station.file(0) == b"".as_slice());
+    assert!(rt; station.calls() == 7);
     Ok(())
 }
 
@@ -118,10 +118,10 @@ fn a_circuit_is_opened_and_closed(rt: HostRuntime) -> Result<(), Fail> {
     lines.add(5, b"then")?;
     lines.sink_fails(5, &[1])?;
     let mut into = [0; 4];
-    assert_eq!(rt; visit(&mut lines, &mut into), Ok(5));
-    assert_eq!(rt; into, *b"then");
-    assert_eq!(rt; lines.sent(5), b"frame".as_slice());
-    assert_eq!(rt; visit(&mut lines, &mut into), Err(Failed));
+    assert!(rt; visit(&mut lines, &mut into) == Ok(5));
+    assert!(rt; into == *b"then");
+    assert!(rt; lines.sent(5) == b"frame".as_slice());
+    assert!(rt; visit(&mut lines, &mut into) == Err(Failed));
     Ok(())
 }
 
@@ -140,9 +140,9 @@ fn pass_on<I: Source, O: Sink, G: Gate>(
 fn each_object_is_used_by_its_trait(rt: HostRuntime) -> Result<(), Fail> {
     let mut source = MemSource::new(rt.alloc(), b"frames", &[])?;
     let mut sink = MemSink::new(rt.alloc(), &[])?;
-    assert_eq!(rt; pass_on(&mut source, &mut sink, &FreeGate), Ok(4));
-    assert_eq!(rt; pass_on(&mut source, &mut sink, &FreeGate), Ok(2));
-    assert_eq!(rt; sink.bytes(), b"frames".as_slice());
+    assert!(rt; pass_on(&mut source, &mut sink, &FreeGate) == Ok(4));
+    assert!(rt; pass_on(&mut source, &mut sink, &FreeGate) == Ok(2));
+    assert!(rt; sink.bytes() == b"frames".as_slice());
     Ok(())
 }
 
@@ -187,7 +187,7 @@ fn a_crash_leaves_the_synced_bytes_or_others_where_a_write_was(
     rt: HostRuntime,
 ) -> Result<(), Fail> {
     let mut station = MemStation::new(rt.alloc(), &[])?;
-    assert_eq!(rt; write_over(&mut station), Ok(()));
+    assert!(rt; write_over(&mut station) == Ok(()));
     for (call, choice, file) in LEFT {
         assert!(rt; is_left(&station, call, choice, file)?, "{call}");
     }

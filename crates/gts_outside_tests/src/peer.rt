@@ -47,8 +47,8 @@ fn a_neighbour_keeps_what_it_gets_back(rt: HostRuntime) -> Result<(), Fail> {
         || echo(runtime, input, output),
         || is_echoed(runtime, input, output),
     );
-    assert_eq!(rt; here, Ok(()));
-    assert_eq!(rt; there, Ok(true));
+    assert!(rt; here == Ok(()));
+    assert!(rt; there == Ok(true));
     Ok(())
 }
 
@@ -56,6 +56,6 @@ fn a_neighbour_keeps_what_it_gets_back(rt: HostRuntime) -> Result<(), Fail> {
 fn a_switch_that_is_not_there_is_a_failure(rt: HostRuntime) -> Result<(), Fail> {
     let (input, output) = free_ports(&rt)?;
     let mut got = MemSink::new(rt.alloc(), &[])?;
-    assert_eq!(rt; talk(&rt, input, output, b"abc", &mut got, 3), Err(Failed));
+    assert!(rt; talk(&rt, input, output, b"abc", &mut got, 3) == Err(Failed));
     Ok(())
 }

@@ -42,14 +42,14 @@ fn are_files(rt: &HostRuntime, one: &str, other: &str) -> Result<bool, Fail> {
 fn one_station_at_a_time_changes_the_journal(rt: HostRuntime) -> Result<(), Fail> {
     let mut into = [0u8; 4];
     let mut early = FileStation::new(&rt);
-    assert_eq!(rt; early.size(0), Ok(0));
+    assert!(rt; early.size(0) == Ok(0));
     let read = written_and_read(&rt, &mut into);
     assert!(rt; read == Ok((4, Err(Failed))));
-    assert_eq!(rt; into, *b"xyde");
+    assert!(rt; into == *b"xyde");
     // Since the early one looked, the journal was made, and its view is old.
-    assert_eq!(rt; early.write_at(0, 0, b"old"), Err(Failed));
+    assert!(rt; early.write_at(0, 0, b"old") == Err(Failed));
     let mut third = FileStation::new(&rt);
-    assert_eq!(rt; third.write_at(0, 0, b"new"), Ok(()));
+    assert!(rt; third.write_at(0, 0, b"new") == Ok(()));
     assert!(rt; are_files(&rt, "new", "axyde")?);
     remove_journal(&rt)
 }
@@ -73,16 +73,16 @@ fn written_and_seen(
 fn a_reader_and_a_writer_stand_side_by_side(rt: HostRuntime) -> Result<(), Fail> {
     let mut reader = FileStation::for_reading(&rt);
     // No file is there yet, and the reader makes none.
-    assert_eq!(rt; reader.size(0), Ok(0));
-    assert_eq!(rt; reader.write_at(0, 0, b"x"), Err(Failed));
+    assert!(rt; reader.size(0) == Ok(0));
+    assert!(rt; reader.write_at(0, 0, b"x") == Err(Failed));
     // What it looks at is free for one that writes, and it sees what was written since.
     let seen = written_and_seen(&rt, &mut reader);
     assert!(rt; seen == Ok((*b"cd", 6)));
-    assert_eq!(rt; reader.cut(0, 1), Err(Failed));
-    assert_eq!(rt; reader.write_at(1, 0, b"x"), Err(Failed));
+    assert!(rt; reader.cut(0, 1) == Err(Failed));
+    assert!(rt; reader.write_at(1, 0, b"x") == Err(Failed));
     let mut writer = FileStation::new(&rt);
-    assert_eq!(rt; writer.size(0), Ok(6));
-    assert_eq!(rt; writer.size(1), Ok(0));
+    assert!(rt; writer.size(0) == Ok(6));
+    assert!(rt; writer.size(1) == Ok(0));
     remove_journal(&rt)
 }
 
@@ -90,28 +90,25 @@ fn a_reader_and_a_writer_stand_side_by_side(rt: HostRuntime) -> Result<(), Fail>
 fn a_disk_that_failed_to_sync_is_not_used_again(rt: HostRuntime) -> Result<(), Fail> {
     fs::create_dir(&rt, "journal.2")?;
     let mut station = FileStation::new(&rt);
-    assert_eq!(rt; station.sync(), Err(Failed));
+    assert!(rt; station.sync() == Err(Failed));
     fs::remove_dir(&rt, "journal.2")?;
-    assert_eq!(rt; station.sync(), Err(Failed));
-    assert_eq!(rt; station.size(2), Err(Failed));
+    assert!(rt; station.sync() == Err(Failed));
+    assert!(rt; station.size(2) == Err(Failed));
     let mut again = FileStation::new(&rt);
-    assert_eq!(rt; again.size(2), Ok(0));
+    assert!(rt; again.size(2) == Ok(0));
     Ok(())
 }
 
 #[test]
 fn what_is_said_on_a_channel_goes_behind_its_file(rt: HostRuntime) -> Result<(), Fail> {
     let mut station = FileStation::new(&rt);
-    assert_eq!(rt; station.say(8, b"one "), Ok(()));
-    assert_eq!(rt; station.say(8, b"two"), Ok(()));
+    assert!(rt; station.say(8, b"one ") == Ok(()));
+    assert!(rt; station.say(8, b"two") == Ok(()));
     let mut source = FileSource::new(&rt, "circuit.07.out");
     let mut into = [0u8; 8];
-    assert_eq!(rt; source.read(&mut into), Ok(7));
-    assert_eq!(rt; &into[..7], b"one two".as_slice());
-    assert_eq!(rt; source.read(&mut into), Ok(0));
-    assert_eq!(rt;
-        FileSource::new(&rt, "no such file").read(&mut into),
-        Err(Failed)
-    );
+    assert!(rt; source.read(&mut into) == Ok(7));
+    assert!(rt; &into[..7] == b"one two".as_slice());
+    assert!(rt; source.read(&mut into) == Ok(0));
+    assert!(rt; FileSource::new(&rt, "no such file").read(&mut into) == Err(Failed));
     Ok(())
 }

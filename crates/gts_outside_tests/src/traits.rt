@@ -4,14 +4,14 @@ use std::test::Fail;
 #[test]
 fn a_word_list_gives_its_words_by_place(rt: HostRuntime) -> Result<(), Fail> {
     let mut words = WordList::new();
-    assert_eq!(rt; words.len(), 0);
-    assert_eq!(rt; words.get(0), None);
+    assert!(rt; words.len() == 0);
+    assert!(rt; words.get(0).is_none());
     words.push(rt.alloc(), "run")?;
     words.push(rt.alloc(), "gts.toml")?;
-    assert_eq!(rt; words.len(), 2);
-    assert_eq!(rt; words.get(0), Some("run"));
-    assert_eq!(rt; words.get(1), Some("gts.toml"));
-    assert_eq!(rt; words.get(2), None);
+    assert!(rt; words.len() == 2);
+    assert!(rt; words.get(0) == Some("run"));
+    assert!(rt; words.get(1) == Some("gts.toml"));
+    assert!(rt; words.get(2).is_none());
     Ok(())
 }
 

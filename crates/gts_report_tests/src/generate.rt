@@ -18,6 +18,6 @@ fn the_capture_of_200_messages_is_that_of_a_plain_program(rt: HostRuntime) -> Re
         let count = capture.read(&mut into)?;
         hasher.update(&into[..count]);
     }
-    assert_eq!(rt; hasher.finalize(), CAPTURE_OF_200);
+    assert!(rt; hasher.finalize() == CAPTURE_OF_200);
     Ok(())
 }

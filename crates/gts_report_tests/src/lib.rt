@@ -12,6 +12,8 @@ mod generate;
 #[cfg(test)]
 mod missing;
 #[cfg(test)]
+mod same;
+#[cfg(test)]
 mod standby;
 #[cfg(test)]
 mod words;

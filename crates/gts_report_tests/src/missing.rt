@@ -1,6 +1,9 @@
+use crate::same::is_same;
+use gts_directory::Directory;
 use gts_dirfile::read_directory;
 use gts_memory::{MemSource, MemStation};
 use gts_missing::{GapsEnd, Moment, gaps};
+use gts_traits::Station;
 use std::alloc::Global;
 use std::test::Fail;
 
@@ -17,27 +20,40 @@ O 00\nF 00 000049\n00000039AN\x01\r\r\n003\r\r\nSMVG01 TVSV 280000\r\r\nNIL=\r\r
 const REQUEST: &[u8] =
     b"00000050AN\x01\r\r\n000\r\r\nBMRR01 AAAA 281030\r\r\nTVSV\r\r\nSQN 004=\r\r\n\x03";
 
-/// How a run of a capture ends, and what is said.
-fn named(alloc: Global, capture: &[u8], calls: &[u64]) -> Result<(GapsEnd, MemStation), Fail> {
-    let directory = read_directory(alloc, DIRECTORY).map_err(|_| Fail::from("a directory"))?;
+/// The directory of one circuit.
+fn directory(alloc: Global) -> Result<Directory, Fail> {
+    match read_directory(alloc, DIRECTORY) {
+        Ok(directory) => Ok(directory),
+        Err(_) => Err(Fail::from("a directory")),
+    }
+}
+
+/// How a run of a capture ends in a station.
+fn end_in<P: Station>(alloc: Global, capture: &[u8], station: &mut P) -> Result<GapsEnd, Fail> {
+    let directory = directory(alloc)?;
     let moment = Moment {
         day: 28,
         hour: 10,
         minute: 30,
     };
     let mut capture = MemSource::new(alloc, capture, &[])?;
+    Ok(gaps(alloc, &directory, moment, &mut capture, station))
+}
+
+/// How the run of the capture ends in a station whose listed calls fail, and what is said.
+fn named(alloc: Global, calls: &[u64]) -> Result<(GapsEnd, MemStation), Fail> {
     let mut station = MemStation::new(alloc, calls)?;
-    let end = gaps(alloc, &directory, moment, &mut capture, &mut station);
+    let end = end_in(alloc, CAPTURE, &mut station)?;
     Ok((end, station))
 }
 
 #[test]
 fn what_is_missing_is_said_and_asked_for(rt: HostRuntime) -> Result<(), Fail> {
-    let (end, station) = named(rt.alloc(), CAPTURE, &[])?;
-    assert_eq!(rt; end, GapsEnd::Done);
-    assert_eq!(rt; station.said(0), b"gap 00 004\nend\n".as_slice());
-    assert_eq!(rt; station.said(1), REQUEST);
-    let (end, _) = named(rt.alloc(), CAPTURE, &[1])?;
-    assert_eq!(rt; end, GapsEnd::SayFault);
+    let (end, station) = named(rt.alloc(), &[])?;
+    assert!(rt; end == GapsEnd::Done);
+    assert!(rt; is_same(station.said(0), b"gap 00 004\nend\n"));
+    assert!(rt; is_same(station.said(1), REQUEST));
+    let (end, _) = named(rt.alloc(), &[1])?;
+    assert!(rt; end == GapsEnd::SayFault);
     Ok(())
 }

@@ -1,7 +1,8 @@
+use crate::same::is_same;
 use gts_directory::Directory;
 use gts_fixtures::two_circuits;
 use gts_memory::{MemSource, MemStation, Touched};
-use gts_standby::{FollowEnd, follow, ship};
+use gts_standby::{FollowEnd, ShipFault, follow, ship};
 use gts_traits::Station;
 use std::alloc::Global;
 use std::process::Abort;
@@ -39,36 +40,55 @@ const CHOICES: [Touched; 5] = [
     Touched::Fill(0xff),
 ];
 
-#[test]
-fn the_header_and_each_record_with_its_seal_are_shipped(rt: HostRuntime) -> Result<(), Fail> {
-    let alloc = rt.alloc();
-    let directory = two_circuits(alloc)?;
-    let mut station = MemStation::new(alloc, &[])?;
-    station.write_at(0, 0, BOTH)?;
-    assert!(rt; ship(alloc, &mut station, &directory) == Ok(()));
-    let mut feed = Vec::new(alloc);
-    feed.extend_from_slice(&BOTH[..40])?;
-    feed.extend_from_slice(&BOTH[41..118])?;
-    feed.extend_from_slice(&BOTH[119..174])?;
-    assert!(rt; feed.len() == 172 && station.said(0) == feed.as_slice());
-    Ok(())
+/// The bytes from one place up to another, or none.
+fn piece(bytes: &[u8], from: usize, to: usize) -> &[u8] {
+    bytes.get(from..to).unwrap_or(&[])
 }
 
-/// The feed of that journal.
+/// The feed of the first journal.
 fn feed_of_both(alloc: Global) -> Result<Vec<u8>, Fail> {
-    let mut feed = Vec::from_slice(alloc, &BOTH[..40])?;
-    feed.extend_from_slice(&BOTH[41..118])?;
-    feed.extend_from_slice(&BOTH[119..174])?;
-    Ok(feed)
+    let pieces = [
+        piece(BOTH, 0, 40),
+        piece(BOTH, 41, 118),
+        piece(BOTH, 119, 174),
+    ];
+    Ok(pieces.concat(alloc)?)
 }
 
-/// A standby whose journal has these bytes.
-fn standby(alloc: Global, journal: &[u8]) -> Result<MemStation, Fail> {
+/// Writes a journal into a station that has none.
+fn write<P: Station>(station: &mut P, journal: &[u8]) -> Result<(), Fail> {
     if journal.len() > 1000 {
         return Err(Fail::from("too long"));
     }
-    let mut station = MemStation::new(alloc, &[])?;
     station.write_at(0, 0, journal)?;
+    Ok(())
+}
+
+/// A station whose journal has these bytes.
+fn station_of(alloc: Global, journal: &[u8]) -> Result<MemStation, Fail> {
+    let mut station = MemStation::new(alloc, &[])?;
+    write(&mut station, journal)?;
+    Ok(station)
+}
+
+/// How shipping ends in a station.
+fn shipped(alloc: Global, station: &mut MemStation) -> Result<Result<(), ShipFault>, Fail> {
+    let directory = two_circuits(alloc)?;
+    Ok(ship(alloc, station, &directory))
+}
+
+#[test]
+fn the_header_and_each_record_with_its_seal_are_shipped(rt: HostRuntime) -> Result<(), Fail> {
+    let mut station = station_of(rt.alloc(), BOTH)?;
+    assert!(rt; shipped(rt.alloc(), &mut station)? == Ok(()));
+    let feed = feed_of_both(rt.alloc())?;
+    assert!(rt; feed.len() == 172 && is_same(station.said(0), &feed));
+    Ok(())
+}
+
+/// A standby whose journal has these bytes, which are on the disk.
+fn standby(alloc: Global, journal: &[u8]) -> Result<MemStation, Fail> {
+    let mut station = station_of(alloc, journal)?;
     station.sync()?;
     Ok(station)
 }
@@ -84,35 +104,37 @@ fn followed(
     Ok(follow(alloc, station, directory, &mut source))
 }
 
-#[test]
-fn a_feed_is_taken_into_an_empty_journal(rt: HostRuntime) -> Result<(), Fail> {
-    let alloc = rt.alloc();
+/// How the feed of the first journal ends in a station.
+fn follows_both(alloc: Global, station: MemStation) -> Result<(MemStation, FollowEnd), Fail> {
     let directory = two_circuits(alloc)?;
     let feed = feed_of_both(alloc)?;
-    let station = standby(alloc, EMPTY)?;
-    let (station, end) = followed(alloc, station, &directory, feed.as_slice())?;
-    assert!(rt; end == FollowEnd::Done, "{end:?}");
-    assert!(rt; station.file(0) == BOTH);
-    let (station, end) = followed(alloc, station, &directory, feed.as_slice())?;
-    assert!(rt; end == FollowEnd::Done);
-    assert!(rt; station.file(0) == BOTH);
+    followed(alloc, station, &directory, &feed)
+}
+
+#[test]
+fn a_feed_is_taken_into_an_empty_journal(rt: HostRuntime) -> Result<(), Fail> {
+    let station = standby(rt.alloc(), EMPTY)?;
+    let (station, end) = follows_both(rt.alloc(), station)?;
+    assert!(rt; end == FollowEnd::Done && is_same(station.file(0), BOTH));
+    let (station, end) = follows_both(rt.alloc(), station)?;
+    assert!(rt; end == FollowEnd::Done && is_same(station.file(0), BOTH));
     Ok(())
+}
+
+/// Whether the first record is found to be another one, with the seals of both.
+fn tells_both_seals(end: FollowEnd) -> bool {
+    let FollowEnd::Diverged { index, own, fed } = end else {
+        return false;
+    };
+    index == 0 && is_same(&own, piece(OTHER, 86, 118)) && is_same(&fed, piece(BOTH, 86, 118))
 }
 
 #[test]
 fn the_seals_of_records_that_differ_are_told(rt: HostRuntime) -> Result<(), Fail> {
-    let alloc = rt.alloc();
-    let directory = two_circuits(alloc)?;
-    let feed = feed_of_both(alloc)?;
-    let station = standby(alloc, OTHER)?;
-    let (station, end) = followed(alloc, station, &directory, feed.as_slice())?;
-    let FollowEnd::Diverged { index, own, fed } = end else {
-        return Err(Fail::from("no other record was found"));
-    };
-    assert_eq!(rt; index, 0);
-    assert_eq!(rt; own.as_slice(), &OTHER[86..118]);
-    assert_eq!(rt; fed.as_slice(), &BOTH[86..118]);
-    assert!(rt; station.file(0) == OTHER);
+    let station = standby(rt.alloc(), OTHER)?;
+    let (station, end) = follows_both(rt.alloc(), station)?;
+    assert!(rt; tells_both_seals(end));
+    assert!(rt; is_same(station.file(0), OTHER));
     Ok(())
 }
 
@@ -135,7 +157,19 @@ fn is_taken(
     standby: MemStation,
 ) -> Result<bool, Fail> {
     let (standby, end) = followed(alloc, standby, directory, fed.feed)?;
-    Ok(end == FollowEnd::Done && standby.file(0) == fed.first && standby.file(1) == fed.second)
+    Ok(
+        end == FollowEnd::Done
+            && is_same(standby.file(0), fed.first)
+            && is_same(standby.file(1), fed.second),
+    )
+}
+
+/// What a stop in a call leaves of a standby, with this in each place that was touched.
+fn left_by(standby: &MemStation, call: u64, choice: Touched) -> Result<MemStation, Fail> {
+    if call >= standby.calls() {
+        return Err(Fail::from("no such call"));
+    }
+    Ok(standby.crashed(call, choice)?)
 }
 
 /// A standby that a stop in this call left follows the feed once more, whatever the stop left.
@@ -146,21 +180,24 @@ fn is_taken_after<R: AllocGlobal + Abort>(
     standby: &MemStation,
     call: u64,
 ) -> Result<(), Fail> {
-    if call >= standby.calls() {
-        return Err(Fail::from("no such call"));
-    }
     for choice in CHOICES {
-        let left = standby.crashed(call, choice)?;
+        let left = left_by(standby, call, choice)?;
         assert!(rt; is_taken(rt.alloc(), directory, fed, left)?, "call {call}");
     }
     Ok(())
 }
 
+/// A standby that had nothing, and has followed a feed.
+fn following(alloc: Global, directory: &Directory, feed: &[u8]) -> Result<MemStation, Fail> {
+    let begun = standby(alloc, EMPTY)?;
+    let (standby, _) = followed(alloc, begun, directory, feed)?;
+    Ok(standby)
+}
+
 /// So does one that a stop left in any call in which it followed the feed.
 fn is_taken_after_each<R: AllocGlobal + Abort>(rt: &R, fed: Fed<'_>) -> Result<(), Fail> {
     let directory = two_circuits(rt.alloc())?;
-    let begun = standby(rt.alloc(), EMPTY)?;
-    let (standby, _) = followed(rt.alloc(), begun, &directory, fed.feed)?;
+    let standby = following(rt.alloc(), &directory, fed.feed)?;
     for call in OPENED..standby.calls() {
         is_taken_after(rt, &directory, fed, &standby, call)?;
     }
@@ -180,8 +217,8 @@ fn a_feed_is_taken_whenever_the_machine_stops(rt: HostRuntime) -> Result<(), Fai
 
 #[test]
 fn a_checkpoint_is_taken_whenever_the_machine_stops(rt: HostRuntime) -> Result<(), Fail> {
-    let mut feed = Vec::from_slice(rt.alloc(), &COMPACTED[..40])?;
-    feed.extend_from_slice(&COMPACTED[41..178])?;
+    let pieces = [piece(COMPACTED, 0, 40), piece(COMPACTED, 41, 178)];
+    let feed = pieces.concat(rt.alloc())?;
     let fed = Fed {
         feed: feed.as_slice(),
         first: EMPTY,

@@ -15,7 +15,7 @@ fn read(alloc: Global, words: &[&str]) -> Result<Result<Command, WordsFault>, Fa
 #[test]
 fn words_are_a_command_or_none(rt: HostRuntime) -> Result<(), Fail> {
     let serve = Command::Serve { connections: 12 };
-    assert_eq!(rt; read(rt.alloc(), &["serve", "0012"])?, Ok(serve));
-    assert_eq!(rt; read(rt.alloc(), &["serve", "0"])?, Err(WordsFault::Words));
+    assert!(rt; read(rt.alloc(), &["serve", "0012"])? == Ok(serve));
+    assert!(rt; read(rt.alloc(), &["serve", "0"])? == Err(WordsFault::Words));
     Ok(())
 }

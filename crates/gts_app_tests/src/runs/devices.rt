@@ -7,7 +7,7 @@ fn init_on_a_disk_that_fails(rt: HostRuntime) -> Result<(), Fail> {
     for call in 0..FIRST {
         let station = MemStation::new(rt.alloc(), &[call])?;
         let (status, _) = run_word(&rt, "init", b"", station)?;
-        assert_eq!(rt; status, Status::DiskFault, "call {call}");
+        assert!(rt; status == Status::DiskFault, "call {call}");
     }
     Ok(())
 }
@@ -28,7 +28,7 @@ fn ends_and_goes_on<R: AllocGlobal + Threads + Wait + Sync + Abort>(
 #[test]
 fn a_call_that_fails_ends_the_run_and_the_next_run_goes_on(rt: HostRuntime) -> Result<(), Fail> {
     let (status, station) = replayed(&rt, COMPACTED, &[])?;
-    assert_eq!(rt; status, Status::Done);
+    assert!(rt; status == Status::Done);
     for behind in 0..station.calls().saturating_sub(FIRST) {
         ends_and_goes_on(&rt, behind)?;
     }
@@ -53,8 +53,8 @@ fn replayed_from<R: AllocGlobal + Threads + Wait + Sync>(
 
 #[test]
 fn a_source_that_fails_ends_the_run(rt: HostRuntime) -> Result<(), Fail> {
-    assert_eq!(rt; replayed_from(&rt, &[], &[])?, Status::Done);
-    assert_eq!(rt; replayed_from(&rt, &[0], &[])?, Status::SourceFault);
-    assert_eq!(rt; replayed_from(&rt, &[], &[0])?, Status::SourceFault);
+    assert!(rt; replayed_from(&rt, &[], &[])? == Status::Done);
+    assert!(rt; replayed_from(&rt, &[0], &[])? == Status::SourceFault);
+    assert!(rt; replayed_from(&rt, &[], &[0])? == Status::SourceFault);
     Ok(())
 }

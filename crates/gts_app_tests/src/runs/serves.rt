@@ -37,10 +37,10 @@ fn what_comes_on_a_circuit_goes_out_on_the_other(rt: HostRuntime) -> Result<(), 
     for (opens, writes, wanted, journal, sent) in ENDS {
         let mut lines = lines_with(rt.alloc(), opens, writes)?;
         let (status, station) = served(&rt, &words, &mut lines)?;
-        assert_eq!(rt; status, wanted);
-        assert_eq!(rt; station.file(0).len(), journal);
-        assert_eq!(rt; lines.sent(0), b"".as_slice());
-        assert_eq!(rt; lines.sent(1).len(), sent);
+        assert!(rt; status == wanted);
+        assert!(rt; station.file(0).len() == journal);
+        assert!(rt; lines.sent(0) == b"".as_slice());
+        assert!(rt; lines.sent(1).len() == sent);
     }
     Ok(())
 }
@@ -56,8 +56,8 @@ fn a_connection_that_lost_synchronisation_is_followed_by_the_next(
     lines.feed(0, b"0000039 AN")?;
     lines.add(0, FRAME)?;
     let (status, station) = served(&rt, &words, &mut lines)?;
-    assert_eq!(rt; status, Status::Done);
+    assert!(rt; status == Status::Done);
     assert!(rt; station.said(0).starts_with(b"LOS 0 Length\nACC 0 0 1 "));
-    assert_eq!(rt; lines.sent(1), FRAME);
+    assert!(rt; lines.sent(1) == FRAME);
     Ok(())
 }

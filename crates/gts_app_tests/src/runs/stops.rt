@@ -23,9 +23,9 @@ fn a_bulletin_was_accepted_where_its_gate_is_open(rt: HostRuntime) -> Result<(),
     for (choice, receipts) in GATES {
         let left = crashed(&station, GATE, choice)?;
         let (status, left) = run_word(&rt, "replay", DRAWN, left)?;
-        assert_eq!(rt; status, Status::Done);
-        assert_eq!(rt; left.said(0), receipts);
-        assert_eq!(rt; left.said(2), FRAME);
+        assert!(rt; status == Status::Done);
+        assert!(rt; left.said(0) == receipts);
+        assert!(rt; left.said(2) == FRAME);
     }
     Ok(())
 }
@@ -69,7 +69,7 @@ fn are_sent_by<R: AllocGlobal + Threads + Wait + Sync + Abort>(
     left: MemStation,
 ) -> Result<(), Fail> {
     let (status, left) = run_word(rt, "replay", REST, left)?;
-    assert_eq!(rt; status, Status::Done, "call {call}");
+    assert!(rt; status == Status::Done, "call {call}");
     assert!(rt; are_both_sent(left.said(2)), "call {call}");
     Ok(())
 }
