@@ -66,8 +66,8 @@ impl Steps {
 
     /// Reads the head that comes next. It needs that the last feed's bytes were taken through, and is not called after the
     /// end or a fault. `Bad` comes exactly where what is left begins with no head, with the place of the first byte that
-    /// no head has there, or of the end of the bytes; the longest capture ends them too. `SourceFault` comes only where the source's count of faults rose;
-    /// then what is held is the beginning of a head, and all that stands before it was handed on.
+    /// no head has there, or of the end of the bytes; the longest capture ends them too. `SourceFault` comes only where the
+    /// source's count of faults rose; then what is held is the beginning of a head, and all that stands before it was handed on.
     pub fn next<S: Source>(&mut self, source: &mut S) -> Result<Head, CaptureFault>
         requires taken { self.old.feed ≡ 0 }
         ensures told { S.tells → IfOk result (λ head. self.old.ahead ++ S.left source.old
@@ -100,8 +100,8 @@ impl Steps {
 
     /// Takes the next bytes of the feed to the front of `into`, and answers how many: 0 exactly at the feed's end or for an
     /// empty `into`. It is not called after the end or a fault. `Bad` comes exactly where the bytes end in the feed, or where
-    /// the longest capture does, with their number. `SourceFault` comes only where the source's count of faults rose; then nothing is held, and all that
-    /// was read was handed on.
+    /// the longest capture does, with their number. `SourceFault` comes only where the source's count of faults rose; then
+    /// nothing is held, and all that was read was handed on.
     pub fn bytes<S: Source>(
         &mut self,
         source: &mut S,

@@ -68,8 +68,8 @@ fn say_report<P: Station>(
     say(station, OPERATOR, b"end\n")
 }
 
-/// Reads a capture through its end, and then says which numbers are missing on each circuit of the directory, and the requests for
-/// them. All memory is taken before the first step.
+/// Reads a capture through its end, and then says which numbers are missing on each circuit of the directory, and the requests
+/// for them. All memory is taken before the first step.
 pub fn gaps<S: Source, P: Station>(
     alloc: Global,
     directory: &Directory,

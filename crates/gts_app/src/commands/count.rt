@@ -57,8 +57,8 @@ fn table_behind<T: Switch>(
     }
 }
 
-/// Does what `replay` does with a capture that has no `R` and no `C`, and once it is done says a table of the traffic behind it on
-/// channel 0. The station is handed back.
+/// Does what `replay` does with a capture that has no `R` and no `C`, and once it is done says a table of the traffic behind it
+/// on channel 0. The station is handed back.
 pub fn count<S: Source, P: Station>(
     alloc: Global,
     directory: &mut S,

@@ -25,8 +25,8 @@ fn status_of(end: FollowEnd) -> Status
     }
 }
 
-/// Reads the directory, opens the journal, and takes the feed of another station's journal into it: what both have is compared, and
-/// what the own one doesn't have is checked and appended. Nothing is said. The station is handed back.
+/// Reads the directory, opens the journal, and takes the feed of another station's journal into it: what both have is compared,
+/// and what the own one doesn't have is checked and appended. Nothing is said. The station is handed back.
 pub fn follow<S: Source, P: Station>(
     alloc: Global,
     directory: &mut S,
