@@ -10,7 +10,7 @@ use Rattle.gts_event.specs.declared.values.CircuitNeed as value_circuit
 use Rattle.gts_event.specs.declared.values.Need.{Need}
 use Rattle.gts_record.specs.Record.{bytes_of, number_in}
 use Rattle.gts_record.proofs.LawLemmas.{number_in-bytes_of}
-use Rattle.gts_opening.specs.Journal.{bulletin_text, circuit_text, checkpoint_text, compacted_bytes, unowed, unowed_circuit, FitsBulletin, FitsCircuit, FitsNeed}
+use Rattle.gts_opening.specs.Journal.{bulletin_text, circuit_text, checkpoint_text, unowed, unowed_circuit, FitsBulletin, FitsCircuit, FitsNeed}
 use Rattle.gts_checkpoint.specs.Writing.{head_text, written_bulletin, written_circuit}
 use Rattle.gts_checkpoint.specs.Reading.{BeginsWith, FitBodies, FitsValue, FitsValueCircuit}
 use Rattle.gts_checkpoint.proofs.PieceLemmas.{cancel_front, same_bulletin, fits_value}

@@ -10,3 +10,4 @@ pub mod ReadLemmas
 pub mod SealLemmas
 pub mod LooseLemmas
 pub mod DecodeLemmas
+pub mod LawLemmas

@@ -2,19 +2,18 @@
 use Rattle.std.proofs.Common.{◌≡◌, ℕ, ◌+◌, ◌*◌, ◌^◌, ◌<◌, ◌≤◌, List, [], ◌∷◌, ◌++◌, Bool, cond, take, length, map, flat_map, refl, sym, ap, subst, ◌∙◌, append_assoc, length-append, arith}
 use Rattle.std.specs.List.{AllByRecursion}
 use Rattle.std.proofs.lemmas.List.{append-nil, length-map}
-use Rattle.std.specs.Prelude.{Result, Ok, Err, OnOk}
 use Rattle.std.proofs.lemmas.Bool.{eq-eqb}
-use Rattle.gts_traits.specs.Station.{Cuts, Syncs, Writes, Call, Did, overwritten, seen, IsSynced, Tries}
+use Rattle.gts_traits.specs.Station.{Cuts, Syncs, Writes, Call, Did, overwritten, seen, IsSynced}
 use Rattle.gts_event.specs.Need as needs
 use Rattle.gts_event.specs.Items.{bulletin_of, circuit_need_of, need_of}
 use Rattle.gts_event.specs.declared.values.Bulletin.{Bulletin}
 use Rattle.gts_event.specs.declared.values.CircuitNeed.{CircuitNeed}
 use Rattle.gts_event.specs.declared.values.Need.{Need}
 use Rattle.gts_record.specs.Record.{open_gate, closed_gate, bytes_of}
-use Rattle.gts_record.specs.Format.{magic, sealed, first_seal, file_text, written}
-use Rattle.gts_opening.specs.Journal.{bulletin_text, circuit_text, checkpoint_text, compacted_bytes}
-use Rattle.gts_checkpoint.specs.Writing.{FitsByte, FitBytes, CanPutBulletin, CanPutCircuit, head_text, bulletin_head, written_bulletin, written_circuit, header_text, sealed_need, checkpoint_file, HasWritten}
-use Rattle.gts_checkpoint.specs.Pen.{Pen, put_by, HasPut}
+use Rattle.gts_record.specs.Format.{magic, written}
+use Rattle.gts_opening.specs.Journal.{bulletin_text, circuit_text, checkpoint_text}
+use Rattle.gts_checkpoint.specs.Writing.{FitsByte, CanPutBulletin, CanPutCircuit, head_text, bulletin_head, written_bulletin, written_circuit, header_text, sealed_need, checkpoint_file, HasWritten}
+use Rattle.gts_checkpoint.specs.Pen.{Pen, put_by}
 use Rattle.gts_checkpoint.proofs.PenLemmas.{written_end}
 use Rattle.gts_checkpoint.proofs.PieceLemmas.{head_long, numbers_long}
 

@@ -7,7 +7,6 @@ use Rattle.std.proofs.lemmas.List.Concat.{flat_map-append}
 use Rattle.std.proofs.lemmas.List.Folds.{length-flat_map-take}
 use Rattle.gts_traits.specs.Station.{Call, seen, overwritten}
 use Rattle.gts_record.specs.declared.version.Version.{Version}
-use Rattle.gts_record.specs.declared.sealer.Sealer.{Sealer}
 use Rattle.gts_record.specs.Sealing.{Seals}
 use Rattle.gts_checkpoint.specs.Pen.{Pen, count_of, put_by, Stands, HasPut}
 

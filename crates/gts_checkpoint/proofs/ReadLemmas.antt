@@ -3,7 +3,7 @@ use Rattle.std.proofs.Common.{◌≡◌, ℕ, ◌+◌, ◌-◌, ◌*◌, ◌^◌
 use Rattle.std.specs.List.{fold, list_all, starts_with}
 use Rattle.std.specs.Cmp.Lexicographic.{same_text}
 use Rattle.std.specs.Prelude.{min, is_some, IfErr, IfSome, Option, None, Some}
-use Rattle.std.proofs.Math.Nat.{add-mul, mul_comm}
+use Rattle.std.proofs.Math.Nat.{add-mul}
 use Rattle.std.proofs.lemmas.Bool.{false≢true, and_parts, and_from, le-leb, leb-true}
 use Rattle.std.proofs.lemmas.List.{length-map, take_at, take-append-drop}
 use Rattle.gts_traits.specs.Station.{Call}
@@ -137,9 +137,6 @@ counted w waits is low = omega arith
 all_counted : (w waits : ℕ) → w ≡ min waits (2 ^ 64 - 1) → waits ≤ 2 ^ 30 → w ≡ waits
 all_counted w waits is low = omega arith
 
-times_some : (k n : ℕ) → n ≤ (24 + k) * n
-times_some k n = omega (arith, add-mul 24 k n)
-
 -- a checkpoint's text stands at the front, and its need is as a checkpoint has it
 pub record Stands (bytes : List ℕ) (n : needs.Need) : Type 0 where
   pub begins : BeginsWith bytes (checkpoint_text n)
@@ -185,7 +182,7 @@ size_there bytes n found at is stands place =
 pub can_begin : (v : Version) (d : Directory) (n : Need) (at w limit gate : ℕ) → Counted d n at w limit → unowed (need_of n) ≡ need_of n → is_sound d (need_of n) ≡ true
     → gate ≡ at + seal_size v → gate + 1 + draw_size v * w ≤ limit → CanBegin v d (need_of n) gate
 can_begin v d n at w limit gate counts free sound gate_is room =
-    let some = times_some (seal_size v) w in
+    let some = add-mul 24 (seal_size v) w in
     let all : w ≡ length (flat_map waiting_of n.circuits) = counted w (length (flat_map waiting_of n.circuits)) counts.waits (omega (arith, some, room, counts.low)) in
     let exact : w ≡ due (begun (need_of n)) = all ∙ sym (due_is d n sound) in
     let same : draw_size v * w ≡ draw_size v * due (begun (need_of n)) = ap (λ (k : ℕ). draw_size v * k) exact in
@@ -201,7 +198,7 @@ pub over_limit : (v : Version) (d : Directory) (n : Need) (at w limit : ℕ) →
     → is_sound d (need_of n) ≡ true → compacted_bytes v (need_of n) + draw_size v * due (begun (need_of n)) ≤ d.limit → ⊥
 over_limit v d n at w limit counts over sound room =
     let waits : ℕ = length (flat_map waiting_of n.circuits) in
-    let some = times_some (seal_size v) waits in
+    let some = add-mul 24 (seal_size v) waits in
     let there : draw_size v * due (begun (need_of n)) ≡ draw_size v * waits = ap (λ (k : ℕ). draw_size v * k) (due_is d n sound) in
     let exact : w ≡ waits = all_counted w waits counts.waits (omega (arith, some, there, room, counts.limit_is, counts.low)) in
     let same : draw_size v * w ≡ draw_size v * waits = ap (λ (k : ℕ). draw_size v * k) exact in

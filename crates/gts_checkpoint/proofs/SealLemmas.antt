@@ -1,5 +1,5 @@
 -- The seal of bytes that are read piece by piece.
-use Rattle.std.proofs.Common.{◌≡◌, ℕ, suc, ◌+◌, ◌-◌, ◌<◌, ◌≤◌, Bool, true, false, ◌&&◌, nat_eq, List, [], ◌∷◌, ◌++◌, length, take, drop, refl, sym, ap, subst, ◌∙◌, append_assoc, take-append-drop, length-append, arith}
+use Rattle.std.proofs.Common.{◌≡◌, ℕ, ◌+◌, ◌-◌, ◌<◌, ◌≤◌, Bool, true, false, ◌&&◌, nat_eq, List, [], ◌∷◌, ◌++◌, length, take, drop, refl, sym, ap, subst, ◌∙◌, append_assoc, take-append-drop, length-append, arith}
 use Rattle.std.specs.Prelude.{Option, Some, IfSome}
 use Rattle.std.specs.List.{starts_with}
 use Rattle.std.specs.Cmp.Lexicographic.{pointwise}
@@ -34,7 +34,8 @@ left_there calls file done there =
     let all : List ℕ = bytes_from calls file 41 in
     omega (arith, ap (λ (l : List ℕ). length l) (rest_is calls file done there), length-take-le done all there, length-append (take done all) (drop done all), ap (λ (l : List ℕ). length l) (take-append-drop done all))
 
-starts_front : (front rest s : List ℕ) → length s ≤ length front → starts_with nat_eq (front ++ rest) s ≡ starts_with nat_eq front s
+-- a text that is no longer than a front stands at the front of all where it does at that of the front
+pub starts_front : (front rest s : List ℕ) → length s ≤ length front → starts_with nat_eq (front ++ rest) s ≡ starts_with nat_eq front s
 starts_front front rest s few = ap (pointwise nat_eq s) (take-append-le (length s) front rest few)
 
 -- the seal is looked for in as many bytes as it has

@@ -153,7 +153,7 @@ fn seal_of<P: Station>(
     let mut sealer = Sealer::new(version, before);
     let mut piece = [0u8; PIECE];
     let mut done: u32 = 0;
-    'piece: while done < size {
+    while done < size {
         let count = (size - done).min(PIECE as u32);
         let part = &mut piece[..count as usize];
         if !fetch(station, file, FIRST_RECORD + u64::from(done), part)? {

@@ -5,9 +5,9 @@ use Rattle.std.specs.List.{starts_with}
 use Rattle.std.specs.Cmp.Lexicographic.{pointwise}
 use Rattle.std.proofs.lemmas.Bool.{cases_eq}
 use Rattle.std.proofs.lemmas.List.{append-nil}
-use Rattle.gts_traits.specs.Station.{Outside, Call, Says, Syncs, Tries, said_by, Files, seen, IsImage}
+use Rattle.gts_traits.specs.Station.{Outside, Call, Says, Syncs, Tries, said_by, Files, seen, IsImage, IsSynced}
 use Rattle.gts_traits.specs.Moments.{EachSince}
-use Rattle.gts_traits.proofs.LawLemmas.{weaker, started, synced, said_is, synced_image, says_keeps}
+use Rattle.gts_traits.proofs.LawLemmas.{weaker, started, synced, said_is, synced_image, sync_syncs, says_keeps}
 use Rattle.gts_directory.specs.Directory.{Directory}
 use Rattle.gts_event.specs.State.{State, empty}
 use Rattle.gts_event.specs.History.{after, restarted}
@@ -18,13 +18,14 @@ use Rattle.gts_record.specs.declared.fault.OpenFault.TheVariants.{NoJournal, Old
 use Rattle.gts_record.specs.Record.{Record, open_gate, closed_gate, record_text}
 use Rattle.gts_record.specs.Format.{magic, seal, sealed_at, is_older, first_seal, record_size, written}
 use Rattle.gts_opening.specs.Journal.{IsClosed, agreeing, need_in, checkpoint_opens, event_of_record, admits, Read, opened_of, records_at, file_opens, files_read, selected}
-use Rattle.gts_opening.proofs.LawLemmas.{opens_same, opens_more}
+use Rattle.gts_opening.proofs.LawLemmas.{opens_same, opens_more, selected_few}
 use Rattle.gts_journal.specs.Hand.{InHand}
 use Rattle.gts_journal.specs.Standing.{EndsAt, StandsOn, file_of, front_of, next_seal, sealed_next, LeavesEither, LeavesBoth, HasAppended, selecting, entry_at, OnlySyncs}
 use Rattle.gts_journal.specs.Opening.{header_fault, is_checkpoint}
 use Rattle.gts_journal.specs.Law.{StandsFor, IsNext, OpensTo, OpensToEither, OpensAsBefore, HoldsState}
-use Rattle.gts_journal.proofs.AheadLemmas.{at_mark, at_found}
+pub use Rattle.gts_journal.proofs.AheadLemmas.{at_mark, at_found}
 use Rattle.gts_journal.proofs.OpensLemmas.{at_gate, at_record, if_admitted, open_is}
+pub use Rattle.gts_journal.proofs.OpeningLemmas.{agreeing-same, agreeing-other, agreeing-end}
 
 -- ---- the header
 
@@ -98,6 +99,16 @@ same_open v d files others same =
 
 abbrev opened_need : Directory → Read → Result Need OpenFault
 opened_need d read = elim (opened_of read) as (λ _. Result Need OpenFault) [ Err fault ↦ Err fault | Ok x ↦ Ok (need d (restarted x.0)) ]
+
+-- the file that is selected is the first or the second
+pub file_low : (calls : List Call) (j : InHand) → StandsOn calls j → j.file < 2
+file_low calls j stands = omega (arith, sym stands.selected_is, selected_few (seen calls))
+
+-- each of these two is as it was
+pub both_left : (calls : List Call) (files : Files) {outside : Outside} → LeavesBoth calls files outside → (k : ℕ) → k < 2 → files k ≡ seen calls k
+both_left calls files left zero low = left.first
+both_left calls files left (suc zero) low = left.second
+both_left calls files left (suc (suc k)) low = absurd (omega (arith, low))
 
 -- an end is a gate that isn't open
 closed_end : (front file : List ℕ) (ends : EndsAt front file) → IsClosed (ends.gate ∷ ends.behind)
@@ -180,26 +191,17 @@ module _ (d : Directory) (s : State) (calls : List Call) (j : InHand) (f : Stand
     pub select_moments : (new : List Call) → o < 2 → (o ≡ j.file → ⊥) → need d (restarted t) ≡ need d (restarted s) → EachSince calls new (LeavesBoth calls) → EachSince calls new (OpensAsBefore d s)
     select_moments new low other same each = weaker _ (OpensAsBefore d s) calls new (λ files outside left. (left.silent, by_file files outside left)) each
       where
-        kept : (files : Files) (outside : Outside) → LeavesBoth calls files outside → (k : ℕ) → k < 2 → files k ≡ seen calls k
-        kept files outside left zero lt = left.first
-        kept files outside left (suc zero) lt = left.second
-        kept files outside left (suc (suc k)) lt = absurd (omega (arith, lt))
-
-        below : (b : Bool) → cond b 1 0 < 2
-        below true = omega arith
-        below false = omega arith
-
         this_low : j.file < 2
-        this_low = omega (arith, sym f.stands.selected_is, below (starts_with nat_eq (seen calls 2) (1 ∷ [])))
+        this_low = file_low calls j f.stands
 
         by_file : (files : Files) (outside : Outside) → LeavesBoth calls files outside → OpensTo d s files
         by_file files outside left = elim (cases_eq (selected files) o) as (λ _. OpensTo d s files) [
           | inl there ↦
-              ap (opened_need d) (open_selected written d files o there ∙ ap (file_opens written d o) (kept files outside left o low) ∙ holds)
+              ap (opened_need d) (open_selected written d files o there ∙ ap (file_opens written d o) (both_left calls files left o low) ∙ holds)
               ∙ ap (λ (n : Need). Ok n) same
           | inr elsewhere ↦
-              reads_as files (s, j.gate + 1, j.seal) (omega (arith, below (starts_with nat_eq (files 2) (1 ∷ [])), this_low, low, other, elsewhere))
-              (ap (file_opens j.version d j.file) (kept files outside left j.file this_low) ∙ opens_file)
+              reads_as files (s, j.gate + 1, j.seal) (omega (arith, selected_few files, this_low, low, other, elsewhere))
+              (ap (file_opens j.version d j.file) (both_left calls files left j.file this_low) ∙ opens_file)
         ]
 
     pub selected_stands : (new : List Call) → 0 < used → seen new o ≡ seen calls o → StandsOn new (selecting written o used last j) → StandsFor d t new (selecting written o used last j)
@@ -214,10 +216,9 @@ module _ (d : Directory) (s : State) (calls : List Call) (j : InHand) (f : Stand
 
 -- ---- what is said, and what is read
 
-pub say_stands : {T E : Type 0} (result : Result T E) (channel : ℕ) (bytes : List ℕ) (old new : List Call) (j : InHand) → Tries (Says channel bytes) result old new → StandsOn old j → StandsOn new j
-say_stands result channel bytes old new j tries stands =
-    let selector = says_keeps result channel bytes old new 2 tries stands.selector_synced in
-    let file = says_keeps result channel bytes old new j.file tries stands.file_synced in
+-- where the selector and the journal's file are as they were, and synced, it stands where it stood
+pub same_stands : (old new : List Call) (j : InHand) → (seen new 2 ≡ seen old 2) × IsSynced new 2 → (seen new j.file ≡ seen old j.file) × IsSynced new j.file → StandsOn old j → StandsOn new j
+same_stands old new j selector file stands =
     let P : List ℕ → Type 0 = λ l. j.ahead ≡ take (length j.ahead) (drop j.gate l) in
     let Q : List ℕ → Type 0 = λ l. j.is_all ≡ true → length j.ahead ≡ length l - j.gate in
     let R : List ℕ → Type 0 = λ l. j.ended ≡ true → EndsAt (take j.gate l) l in
@@ -230,11 +231,9 @@ say_stands result channel bytes old new j tries stands =
       end_is = subst R (sym file.0) stands.end_is;
     }
 
-pub say_stands_for : {T E : Type 0} (d : Directory) (s : State) (result : Result T E) (channel : ℕ) (bytes : List ℕ) (old new : List Call) (j : InHand)
-    → Tries (Says channel bytes) result old new → StandsFor d s old j → StandsFor d s new j
-say_stands_for d s result channel bytes old new j tries f =
-    let file = says_keeps result channel bytes old new j.file tries f.stands.file_synced in
-    let stands = say_stands result channel bytes old new j tries f.stands in
+pub same_stands_for : (d : Directory) (s : State) (old new : List Call) (j : InHand) → (seen new 2 ≡ seen old 2) × IsSynced new 2 → (seen new j.file ≡ seen old j.file) × IsSynced new j.file → StandsFor d s old j → StandsFor d s new j
+same_stands_for d s old new j selector file f =
+    let stands = same_stands old new j selector file f.stands in
     record {
       stands = stands;
       ended = f.ended;
@@ -243,8 +242,37 @@ say_stands_for d s result channel bytes old new j tries f =
       opens_to = open_selected j.version d (seen new) j.file stands.selected_is ∙ ap (file_opens j.version d j.file) file.0 ∙ opens_file d s old j f;
     }
 
+pub say_stands : {T E : Type 0} (result : Result T E) (channel : ℕ) (bytes : List ℕ) (old new : List Call) (j : InHand) → Tries (Says channel bytes) result old new → StandsOn old j → StandsOn new j
+say_stands result channel bytes old new j tries stands =
+    same_stands old new j (says_keeps result channel bytes old new 2 tries stands.selector_synced) (says_keeps result channel bytes old new j.file tries stands.file_synced) stands
+
+pub say_stands_for : {T E : Type 0} (d : Directory) (s : State) (result : Result T E) (channel : ℕ) (bytes : List ℕ) (old new : List Call) (j : InHand)
+    → Tries (Says channel bytes) result old new → StandsFor d s old j → StandsFor d s new j
+say_stands_for d s result channel bytes old new j tries f =
+    same_stands_for d s old new j (says_keeps result channel bytes old new 2 tries f.stands.selector_synced) (says_keeps result channel bytes old new j.file tries f.stands.file_synced) f
+
+-- ---- at most a sync was tried
+
+-- nothing is said
+pub syncs_silent : (old new : List Call) → OnlySyncs old new → said_by new ≡ said_by old
+syncs_silent old new (inl is) = ap said_by is
+syncs_silent old new (inr (inl same)) = ap said_by same
+syncs_silent old new (inr (inr broke)) = ap said_by broke.2
+
+syncs_keep : (old new : List Call) (k : ℕ) → OnlySyncs old new → IsSynced old k → (seen new k ≡ seen old k) × IsSynced new k
+syncs_keep old new k (inl is) kept = let P : List Call → Type 0 = λ l. (seen l k ≡ seen old k) × IsSynced l k in subst P (sym is) (refl, sync_syncs old k)
+syncs_keep old new k (inr (inl same)) kept = let P : List Call → Type 0 = λ l. (seen l k ≡ seen old k) × IsSynced l k in subst P (sym same) (refl, kept)
+syncs_keep old new k (inr (inr broke)) kept =
+    let P : List Call → Type 0 = λ l. (seen l k ≡ seen old k) × IsSynced l k in
+    subst P (sym broke.2) (refl, record { same = kept.same; untouched = λ p. kept.untouched p })
+
+-- and the journal stands where it stood
+pub syncs_stand : (d : Directory) (s : State) (old new : List Call) (j : InHand) → OnlySyncs old new → StandsFor d s old j → StandsFor d s new j
+syncs_stand d s old new j syncs f =
+    same_stands_for d s old new j (syncs_keep old new 2 syncs f.stands.selector_synced) (syncs_keep old new j.file syncs f.stands.file_synced) f
+
 -- what stands at a gate
-was_found : (v : Version) (before : List ℕ) (file gate : ℕ) (bytes : List ℕ) (r : Record) → entry_at v before file gate bytes ≡ Ok (Some r) → (rest : List ℕ) × (bytes ≡ open_gate ∷ rest) × (sealed_at v before rest ≡ Some r)
+pub was_found : (v : Version) (before : List ℕ) (file gate : ℕ) (bytes : List ℕ) (r : Record) → entry_at v before file gate bytes ≡ Ok (Some r) → (rest : List ℕ) × (bytes ≡ open_gate ∷ rest) × (sealed_at v before rest ≡ Some r)
 was_found v before file gate [] r is = absurd (cc is)
 was_found v before file gate (mark ∷ bytes) r is = by_mark (mark == open_gate) refl is
   where
@@ -256,6 +284,10 @@ was_found v before file gate (mark ∷ bytes) r is = by_mark (mark == open_gate)
         by_found None f is = absurd (cc is)
         by_found (Some q) f is = let same : q ≡ r = cc is in sym f ∙ ap Some same
 
+-- a record is passed from behind its gate as from the gate
+pub one_back : (k : ℕ) (mark : ℕ) (rest : List ℕ) → 1 ≤ k → drop (k - 1) rest ≡ drop k (mark ∷ rest)
+one_back k mark rest some = ap (λ (m : ℕ). drop m (mark ∷ rest)) (let e : suc (k - 1) ≡ k = omega (arith, some) in e)
+
 pub reads_one : (v : Version) (d : Directory) (n file : ℕ) (before : List ℕ) (s : State) (gate : ℕ) (bytes : List ℕ) (r : Record) → entry_at v before file gate bytes ≡ Ok (Some r)
     → admits v d s (gate + 1) r ≡ true → records_at v d (suc n) file before s gate bytes
     ≡ records_at v d n file (seal v before (record_text r)) (after d s (event_of_record r)) (gate + record_size v r) (drop (record_size v r) bytes)
@@ -266,9 +298,6 @@ reads_one v d n file before s gate bytes r is ok =
     ∙ ap (if_admitted v d n file before s gate found.0 r) ok
     ∙ ap (records_at v d n file (seal v before (record_text r)) (after d s (event_of_record r)) (gate + record_size v r))
     (one_back (record_size v r) open_gate found.0 (omega arith) ∙ ap (λ (l : List ℕ). drop (record_size v r) l) (sym found.1))
-  where
-    one_back : (k : ℕ) (mark : ℕ) (rest : List ℕ) → 1 ≤ k → drop (k - 1) rest ≡ drop k (mark ∷ rest)
-    one_back k mark rest some = ap (λ (m : ℕ). drop m (mark ∷ rest)) (let e : suc (k - 1) ≡ k = omega (arith, some) in e)
 
 pub refuses_one : (v : Version) (d : Directory) (n file : ℕ) (before : List ℕ) (s : State) (gate : ℕ) (bytes : List ℕ) (r : Record) → entry_at v before file gate bytes ≡ Ok (Some r)
     → admits v d s (gate + 1) r ≡ false → records_at v d (suc n) file before s gate bytes ≡ Err (Damaged file (gate + 1))

@@ -1,5 +1,5 @@
 -- A state and a need under a directory that extends theirs.
-use Rattle.std.proofs.Common.{◌≡◌, ℕ, zero, suc, ◌+◌, ◌-◌, ◌<◌, ◌≤◌, min, Bool, true, false, not, cond, ◌⊎◌, ◌&&◌, ◌||◌, ◌==◌, nat_eq, nat_lt, nat_le, List, [], ◌∷◌, ◌++◌, length, map, filter, replicate, drop, get_or, zip, refl, sym, ap, subst, ◌∙◌, arith, length-append, inl, inr}
+use Rattle.std.proofs.Common.{◌≡◌, ℕ, zero, suc, ◌+◌, ◌-◌, ◌<◌, ◌≤◌, Bool, true, false, not, cond, ◌⊎◌, ◌&&◌, ◌||◌, ◌==◌, nat_eq, nat_lt, nat_le, List, [], ◌∷◌, ◌++◌, length, map, filter, replicate, get_or, zip, refl, sym, ap, ◌∙◌, arith, length-append, inl, inr}
 use Rattle.std.specs.List.{list_any, list_all, enumerate_from}
 use Rattle.std.specs.Cmp.Lexicographic.{pointwise}
 use Rattle.std.proofs.lemmas.List.{length-map}
@@ -11,7 +11,6 @@ use Rattle.gts_directory.specs.Extending.{CircuitStays, RuleStays, BeginWith, Ex
 use Rattle.gts_event.specs.State.{State, CircuitState, Bulletin, idle, has, is_recent, heading_of}
 use Rattle.gts_event.specs.History.{owed_last, restarted, is_request}
 use Rattle.gts_event.specs.Need.{Need, CircuitNeed, unused, need, circuit_need, circuit_needs, is_needed, is_bulletin, is_for, is_circuit_sound, is_sound, are_below, owes_kept, recent_positions, positions_of, IsOrdered}
-use Rattle.gts_event.specs.Sound.{SoundNeed, SoundCircuit}
 use Rattle.gts_recovery.specs.Wider.{wider, widened}
 use Rattle.gts_event.proofs.LawLemmas.{circuit-parts, circuit-from, sound-parts, sound-from}
 

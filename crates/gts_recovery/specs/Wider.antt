@@ -1,5 +1,5 @@
 -- What a need and a state are under a directory with further circuits, on which nothing waits and nothing was drawn.
-use Rattle.std.specs.Prelude.{ℕ, ◌-◌, List, ◌++◌, length, replicate}
+use Rattle.std.specs.Prelude.{ℕ, ◌-◌, ◌++◌, length, replicate}
 use Rattle.gts_event.specs.State.{State, idle}
 use Rattle.gts_event.specs.Need.{Need, unused}
 

@@ -1,12 +1,10 @@
-use Rattle.std.proofs.Common.{rules, ◌≡◌, ◌+◌, ◌-◌, ◌*◌, ◌^◌, ◌<◌, ◌≤◌, ℕ, List, Option, Some, None, length, take, flat_map, refl, sym, ap, subst, ◌∙◌, arith}
-use Rattle.std.specs.Prelude.{min, IfErr, IfSome, IfNone, is_some}
+use Rattle.std.proofs.Common.{rules, ◌≡◌, ◌+◌, ◌-◌, ◌*◌, ◌^◌, ◌<◌, ◌≤◌, ℕ, List, Option, length, refl, sym, subst, ◌∙◌, arith}
+use Rattle.std.specs.Prelude.{IfErr, IfSome, IfNone}
 use Rattle.gts_traits.specs.Station.{Call}
 use Rattle.gts_event.specs.Items.{need_of}
-use Rattle.gts_event.specs.Need.{is_sound}
-use Rattle.gts_event.specs.declared.values.CircuitNeed.{CircuitNeed}
 use Rattle.gts_event.specs.declared.values.Need.{Need}
-use Rattle.gts_record.specs.Format.{seal, held, first_seal, is_sealed, seal_size, draw_size}
-use Rattle.gts_opening.specs.Journal.{checkpoint_text, unowed, FitsNeed}
+use Rattle.gts_record.specs.Format.{seal_size, draw_size}
+use Rattle.gts_opening.specs.Journal.{unowed}
 use Rattle.gts_checkpoint.specs.Reading.{bytes_from, CanBegin, FindsText, IsReadFault, first_of}
 use Rattle.gts_checkpoint.proofs.ReadLemmas.{none_there, stands_there, counts_there, can_begin, no_room, not_sound, no_seal, compares, has_read, size_there, no_damage}
 use Rattle.gts_checkpoint.proofs.SealLemmas.{last_is}

@@ -6,13 +6,13 @@ use Rattle.gts_checkpoint.specs.Reading.{bytes_from, BeginsWith}
 use Rattle.gts_checkpoint.proofs.SealLemmas.{piece_there, same_place, enough}
 use Rattle.gts_checkpoint.proofs.reading.seal_of.Goals as goal
 
-pub piece-preserved : goal.piece-preserved
-piece-preserved g c =
-    let inv = c.piece.invariant in
-    let done : ℕ = c.piece.done in
+pub loop-done-preserved : goal.loop-done-preserved
+loop-done-preserved g c =
+    let inv = c.loop-done.invariant in
+    let done : ℕ = c.loop-done.done in
     let count : ℕ = c.min-count.result in
     let part : List ℕ = c.fetch.new.into in
-    let long : length part ≡ count = c.fetch.auto.into ∙ length-take-le count c.piece.piece (omega (arith, c.min-count.array_long, c.min-count.ensures)) in
+    let long : length part ≡ count = c.fetch.auto.into ∙ length-take-le count c.loop-done.piece (omega (arith, c.min-count.array_long, c.min-count.ensures)) in
     record {
       inside = omega (arith, c.min-count.ensures, inv.inside);
       seals = λ tells.
@@ -20,7 +20,7 @@ piece-preserved g c =
           let calls = g.P.Station.calls c.args.station.now in
           let all : List ℕ = bytes_from calls c.args.file 41 in
           let there : done ≤ length all = omega (arith, inv.inside, c.requires.there tells) in
-          let begins = same_place (λ l. BeginsWith l part) (g.P.Station.calls c.piece.station) calls c.args.file c.from.result done (inv.told tells) c.from.ensures (c.in_ok-fetch.ensures.whole tells (ap Ok c.if-not-branch.false)) in
+          let begins = same_place (λ l. BeginsWith l part) (g.P.Station.calls c.loop-done.station) calls c.args.file c.from.result done (inv.told tells) c.from.ensures (c.in_ok-fetch.ensures.whole tells (ap Ok c.if-not-branch.false)) in
           let S : List ℕ → Type 0 = λ l. Seals c.add.new.self c.args.version before l in
           subst S (piece_there calls c.args.file done part there begins ∙ ap (λ (k : ℕ). take (done + k) all) long) (c.add.ensures c.args.version before (take done all) (inv.seals tells));
       told = λ tells. c.in_ok-fetch.ensures.told tells ∙ inv.told tells;
@@ -30,19 +30,19 @@ piece-preserved g c =
 
 pub returns-then-not-branch-clause-some : goal.returns-then-not-branch-clause-some
 returns-then-not-branch-clause-some g c = λ tells.
-    let inv = c.piece.invariant in
+    let inv = c.loop-done.invariant in
     let calls = g.P.Station.calls c.args.station.now in
     let count : ℕ = c.min-count.result in
     let short = c.in_ok-fetch.ensures.short tells (ap Ok c.if-not-branch.true) in
-    let few : length (bytes_from (g.P.Station.calls c.piece.station) c.args.file (41 + c.from.result)) < count =
-    omega (arith, short, length-take-le count c.piece.piece (omega (arith, c.min-count.array_long, c.min-count.ensures))) in
-    absurd (enough calls c.args.file c.piece.done c.args.size count inv.inside (c.requires.there tells) (omega (arith, c.min-count.ensures))
-    (same_place (λ l. length l < count) (g.P.Station.calls c.piece.station) calls c.args.file c.from.result c.piece.done (inv.told tells) c.from.ensures few))
+    let few : length (bytes_from (g.P.Station.calls c.loop-done.station) c.args.file (41 + c.from.result)) < count =
+    omega (arith, short, length-take-le count c.loop-done.piece (omega (arith, c.min-count.array_long, c.min-count.ensures))) in
+    absurd (enough calls c.args.file c.loop-done.done c.args.size count inv.inside (c.requires.there tells) (omega (arith, c.min-count.ensures))
+    (same_place (λ l. length l < count) (g.P.Station.calls c.loop-done.station) calls c.args.file c.from.result c.loop-done.done (inv.told tells) c.from.ensures few))
 
 pub returns-clause-found : goal.returns-clause-found
 returns-clause-found g c = λ tells.
-    let inv = c.piece.invariant in
+    let inv = c.loop-done.invariant in
     let before : List ℕ = held c.args.version c.args.before.now in
     let all : List ℕ = bytes_from (g.P.Station.calls c.args.station.now) c.args.file 41 in
-    let all_done : c.piece.done ≡ c.args.size = omega (arith, inv.inside, c.piece-test.false) in
-    c.seal.ensures c.args.version before (take c.piece.done all) (inv.seals tells) ∙ ap (λ (k : ℕ). seal c.args.version before (take k all)) all_done
+    let all_done : c.loop-done.done ≡ c.args.size = omega (arith, inv.inside, c.loop-done-test.false) in
+    c.seal.ensures c.args.version before (take c.loop-done.done all) (inv.seals tells) ∙ ap (λ (k : ℕ). seal c.args.version before (take k all)) all_done

@@ -5,8 +5,8 @@ use Rattle.gts_checkpoint.specs.Reading.{bytes_from}
 use Rattle.gts_checkpoint.proofs.reading.seal_of.Given as goal
 
 -- the first bytes were added
-abbrev pub invariant-piece : goal.invariant-piece
-invariant-piece g l = record {
+abbrev pub invariant-loop-done : goal.invariant-loop-done
+invariant-loop-done g l = record {
   inside : l.done ≤ l.size;
   seals : g.P.Station.tells → Seals l.sealer l.fn.version (held l.fn.version l.before) (take l.done (bytes_from (g.P.Station.calls l.fn.station) l.file 41));
   told : g.P.Station.tells → g.P.Station.calls l.station ≡ g.P.Station.calls l.fn.station;
@@ -14,5 +14,5 @@ invariant-piece g l = record {
   say : g.P.Station.say_faults l.station ≡ g.P.Station.say_faults l.fn.station;
 }
 
-abbrev pub decreases-piece : goal.decreases-piece
-decreases-piece g l = l.size - l.done
+abbrev pub decreases-loop-done : goal.decreases-loop-done
+decreases-loop-done g l = l.size - l.done

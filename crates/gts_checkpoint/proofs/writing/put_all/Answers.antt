@@ -1,10 +1,9 @@
-use Rattle.std.proofs.Common.{◌≡◌, ◌++◌, ◌+◌, ℕ, List, [], ◌∷◌, length, refl, sym, ap, subst, ◌∙◌, arith, rules, append_assoc, length-append}
-use Rattle.std.specs.Prelude.{take, OnOk}
-use Rattle.std.proofs.lemmas.List.{append-nil, length-take}
-use Rattle.gts_traits.specs.Station.{seen}
+use Rattle.std.proofs.Common.{◌≡◌, ◌++◌, ℕ, List, [], ◌∷◌, sym, ap, subst, ◌∙◌, append_assoc}
+use Rattle.std.specs.Prelude.{take}
+use Rattle.std.proofs.lemmas.List.{append-nil}
 use Rattle.gts_event.specs.Items.{need_of}
 use Rattle.gts_record.specs.Record.{closed_gate}
-use Rattle.gts_record.specs.Format.{seal, seal_size, sealed, held, written}
+use Rattle.gts_record.specs.Format.{seal, seal_size, held, written}
 use Rattle.gts_opening.specs.Journal.{checkpoint_text}
 use Rattle.gts_checkpoint.specs.Alone.{OnlyOn}
 use Rattle.gts_checkpoint.specs.Pen as pens

@@ -1,7 +1,6 @@
-use Rattle.std.proofs.Common.{◌≡◌, ◌++◌, ℕ, List, [], ◌∷◌, take, length, refl, sym, ap, subst, cond, Bool, ◌∙◌, rules, arith}
-use Rattle.gts_traits.specs.Station.{Cuts, Syncs, Writes, Call, Did, seen}
+use Rattle.std.proofs.Common.{◌≡◌, ◌++◌, ℕ, List, [], ◌∷◌, refl, sym, ap, subst, ◌∙◌}
+use Rattle.gts_traits.specs.Station.{Cuts, Syncs, Writes, seen}
 use Rattle.gts_checkpoint.specs.Alone.{OnlyOn}
-use Rattle.gts_checkpoint.specs.Pen as pens
 use Rattle.gts_event.specs.Items.{need_of}
 use Rattle.gts_record.specs.Record.{closed_gate}
 use Rattle.gts_record.specs.Format.{seal, held, written}

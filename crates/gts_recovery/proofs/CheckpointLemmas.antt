@@ -1,0 +1,42 @@
+-- A checkpoint is written to the file that isn't the journal's.
+use Rattle.std.proofs.Common.{◌≡◌, ◌≢◌, ℕ, ◌-◌, ◌<◌, List, [], ◌∷◌, ◌++◌, length, take, refl, sym, ap, subst, arith, length-append}
+use Rattle.std.proofs.lemmas.List.{take_at}
+use Rattle.gts_traits.specs.Station.{Call}
+use Rattle.gts_event.specs.Need.{Need}
+use Rattle.gts_record.specs.Record.{open_gate, closed_gate}
+use Rattle.gts_record.specs.Format.{magic, sealed, first_seal, written}
+use Rattle.gts_record.proofs.LawLemmas.{length-sealed}
+use Rattle.gts_opening.specs.Journal.{checkpoint_text, compacted_bytes}
+use Rattle.gts_opening.proofs.LawLemmas.{magic_size}
+use Rattle.gts_checkpoint.specs.Alone.{WorksBeside}
+use Rattle.gts_checkpoint.specs.Writing.{HasWritten, checkpoint_file}
+use Rattle.gts_journal.specs.{InHand, EndsAt, StandsOn, IsClosedAt}
+use Rattle.gts_journal.proofs.LawLemmas.{same_stands}
+
+-- it ends at the closed gate behind the checkpoint
+pub ends_there : (mark : List ℕ) (n : Need) (used : ℕ) → length mark ≡ 32 → used ≡ compacted_bytes written n
+    → EndsAt (take (used - 1) (checkpoint_file mark n)) (checkpoint_file mark n)
+ends_there mark n used long size =
+    let last : List ℕ = first_seal written mark in
+    let cp : List ℕ = sealed written last (checkpoint_text n) in
+    let m : List ℕ = magic written in
+    let front : List ℕ = (m ++ mark) ++ ((open_gate ∷ cp) ++ []) in
+    let at : length front ≡ used - 1 =
+    omega (arith, size, long, magic_size written, length-append m mark, length-append (m ++ mark) ((open_gate ∷ cp) ++ []), length-append cp [], length-sealed written last (checkpoint_text n)) in
+    let same : take (used - 1) (front ++ closed_gate ∷ []) ≡ front = take_at front (closed_gate ∷ []) (used - 1) at in
+    record { gate = closed_gate; behind = []; closed = refl; is = ap (λ (l : List ℕ). l ++ closed_gate ∷ []) (sym same) }
+
+-- so it does once it is written
+pub closed_there : (mark : List ℕ) (n : Need) (file : ℕ) (mid : List Call) (j : InHand) (used : ℕ) → HasWritten mark n file mid → length mark ≡ 32 → used ≡ compacted_bytes written n → IsClosedAt mid j file used
+closed_there mark n file mid j used wrote long size =
+    let E : List ℕ → Type 0 = λ l. EndsAt (take (used - 1) l) l in
+    record { synced = wrote.synced file; ends = subst E (sym wrote.text) (ends_there mark n used long size) }
+
+-- the journal stands where it stood while the other file is written, also where nobody knows what it stands for
+pub still_stands : (calls mid : List Call) (j : InHand) → StandsOn calls j → j.file < 2 → WorksBeside (1 - j.file) calls mid → StandsOn mid j
+still_stands calls mid j stands low beside =
+    let not_other : j.file ≢ 1 - j.file = λ e. omega (arith, e, low) in
+    let not_selector : 2 ≢ 1 - j.file = λ e. omega (arith, e, low) in
+    same_stands calls mid j
+    (beside.seen 2 not_selector, beside.synced 2 not_selector stands.selector_synced)
+    (beside.seen j.file not_other, beside.synced j.file not_other stands.file_synced) stands
