@@ -9,7 +9,7 @@ mod FollowLemmas
 mod KeyLemmas
 mod CountingLemmas
 mod TakingLemmas
-mod TurnLemmas
+mod CallLemmas
 mod KeysLemmas
 mod SortedLemmas
 mod LineLemmas

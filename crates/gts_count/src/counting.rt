@@ -81,10 +81,8 @@ pub fn ready(counting: &mut Counting, c: u32, message: &[u8]) -> Result<Option<R
     let Some(bulletin) = heard_in(&counting.centre, c, message) else {
         return Ok(None);
     };
-    match counting.numbers.prepare(bulletin.key) {
-        Ok(()) => Ok(Some(bulletin)),
-        Err(NoMemory) => Err(NoMemory),
-    }
+    counting.numbers.prepare(bulletin.key)?;
+    Ok(Some(bulletin))
 }
 
 /// Notes a bulletin that was accepted. Takes no memory.

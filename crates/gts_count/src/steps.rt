@@ -2,7 +2,7 @@
 ghost use Rattle.std.specs.Prelude.{◌≡◌, ◌<◌, ◌≤◌, length};
 ghost use Rattle.gts_alphabet.specs.declared.limits.TheConstants.{LONGEST_MESSAGE};
 ghost use Rattle.gts_event.specs.declared.event.Event.TheVariants.{Heard, Lost, Taken};
-ghost use Rattle.gts_calls.specs.Calls.{IsTurn, IsReopening, IsCompacting, LeavesFrame, MayLeave, HasTurnCause, HasReopenCause};
+ghost use Rattle.gts_calls.specs.Calls.{IsCalled, IsReopening, IsCompacting, LeavesFrame, MayLeave, HasCallCause, HasReopenCause};
 ghost use Rattle.gts_count.specs.Numbers.{IsSound};
 ghost use Rattle.gts_count.specs.Counted.{counted_meanings};
 
@@ -27,10 +27,10 @@ pub fn hear<T: Switch>(
     requires circuit { c < length (T.meanings.directory parts.old.switch).circuits }
     requires short { length message.now ≤ LONGEST_MESSAGE }
     requires sound { IsSound parts.old.counting.numbers }
-    ensures turn { IsTurn (counted_meanings T.meanings) (Heard c kind message.now) result
+    ensures called { IsCalled (counted_meanings T.meanings) (Heard c kind message.now) result
         parts.old parts.new }
     ensures sound { IsSound parts.new.counting.numbers }
-    ensures cause { HasTurnCause result
+    ensures cause { HasCallCause result
         (T.disk_faults parts.old.switch) (T.disk_faults parts.new.switch)
         (T.say_faults parts.old.switch) (T.say_faults parts.new.switch) }
 {
@@ -55,9 +55,10 @@ pub fn lose<T: Switch>(
 ) -> Result<Outcome, SwitchFault>
     requires circuit { c < length (T.meanings.directory parts.old.switch).circuits }
     requires sound { IsSound parts.old.counting.numbers }
-    ensures turn { IsTurn (counted_meanings T.meanings) (Lost c field) result parts.old parts.new }
+    ensures called { IsCalled (counted_meanings T.meanings) (Lost c field) result
+        parts.old parts.new }
     ensures sound { IsSound parts.new.counting.numbers }
-    ensures cause { HasTurnCause result
+    ensures cause { HasCallCause result
         (T.disk_faults parts.old.switch) (T.disk_faults parts.new.switch)
         (T.say_faults parts.old.switch) (T.say_faults parts.new.switch) }
 {
@@ -74,10 +75,10 @@ pub fn take<T: Switch>(
 ) -> Result<Outcome, SwitchFault>
     requires circuit { c < length (T.meanings.directory parts.old.switch).circuits }
     requires sound { IsSound parts.old.counting.numbers }
-    ensures turn { IsTurn (counted_meanings T.meanings) (Taken c) result parts.old parts.new }
+    ensures called { IsCalled (counted_meanings T.meanings) (Taken c) result parts.old parts.new }
     ensures frame { LeavesFrame (counted_meanings T.meanings) c result parts.old out.new }
     ensures sound { IsSound parts.new.counting.numbers }
-    ensures cause { HasTurnCause result
+    ensures cause { HasCallCause result
         (T.disk_faults parts.old.switch) (T.disk_faults parts.new.switch)
         (T.say_faults parts.old.switch) (T.say_faults parts.new.switch) }
 {
@@ -109,7 +110,7 @@ pub fn restart<T: Switch>(parts: &mut Parts<T>, alloc: Global) -> Result<(), Ope
 pub fn compact<T: Switch>(parts: &mut Parts<T>, alloc: Global) -> Result<(), SwitchFault>
     ensures compacting { IsCompacting (counted_meanings T.meanings) result parts.old parts.new }
     ensures counting { parts.new.counting ≡ parts.old.counting }
-    ensures cause { HasTurnCause result
+    ensures cause { HasCallCause result
         (T.disk_faults parts.old.switch) (T.disk_faults parts.new.switch)
         (T.say_faults parts.old.switch) (T.say_faults parts.new.switch) }
 {

@@ -1,7 +1,6 @@
 -- The journal is compacted: what a crash leaves meanwhile, and where the journal stands then.
-use Rattle.std.proofs.Common.{◌≡◌, ◌≢◌, ◌⊎◌, inl, inr, ℕ, zero, suc, ◌+◌, ◌-◌, ◌*◌, ◌^◌, ◌<◌, ◌≤◌, nat_eq, nat_lt, Bool, true, false, cond, List, [], ◌∷◌, ◌++◌, length, map, take, drop, Some, None, Ok, refl, sym, ap, subst, ◌∙◌, arith, length-append}
+use Rattle.std.proofs.Common.{◌≡◌, ◌≢◌, inl, inr, ℕ, ◌+◌, ◌-◌, ◌*◌, ◌^◌, ◌<◌, ◌≤◌, nat_lt, Bool, true, cond, List, [], length, Some, None, Ok, refl, sym, ap, subst, ◌∙◌, arith}
 use Rattle.std.specs.Prelude.{min}
-use Rattle.std.specs.List.{starts_with}
 use Rattle.std.proofs.lemmas.Bool.{lt-ltb, le-ltb, cases_eq}
 use Rattle.gts_event.specs.declared.fault.SwitchFault.TheVariants.{Full}
 use Rattle.gts_traits.specs.Calls.{Call, Outside}
@@ -9,9 +8,9 @@ use Rattle.gts_traits.specs.Disk.{Files, seen}
 use Rattle.gts_traits.specs.Moments.{EachSince}
 use Rattle.gts_traits.proofs.LawLemmas.{weaker, started}
 use Rattle.gts_directory.specs.Directory.{Directory}
-use Rattle.gts_event.specs.State.{State, CircuitState}
+use Rattle.gts_event.specs.State.{State}
 use Rattle.gts_event.specs.History.{restarted}
-use Rattle.gts_event.specs.Need.{Need, CircuitNeed, need, begun, begun_circuit, is_sound}
+use Rattle.gts_event.specs.Need.{Need, need, begun, is_sound}
 use Rattle.gts_event.specs.Stand.{SameNeed}
 use Rattle.gts_event.proofs.LawLemmas.{need-begun, ordered-begun, routed_once-begun, held-begun, sound-held, sound-parts}
 use Rattle.gts_core.specs.Core.{Core, Holds}
@@ -19,23 +18,18 @@ use Rattle.gts_core.proofs.LawLemmas.{held-same}
 use Rattle.gts_record.specs.Record.{closed_gate}
 use Rattle.gts_record.specs.declared.version.Version.{Version}
 use Rattle.gts_record.specs.Format.{seal_size, draw_size, written}
-use Rattle.gts_opening.specs.Journal.{selected, checkpoint_text, compacted_bytes, due, opens, opened_of, file_opens, unowed, unowed_on, unowed_circuit, unowed_state}
+use Rattle.gts_opening.specs.Journal.{selected, checkpoint_text, compacted_bytes, due, opens, opened_of, file_opens, unowed, unowed_state}
 use Rattle.gts_opening.specs.Room.{full_compacted}
-use Rattle.gts_opening.proofs.LawLemmas.{compacted_opened, opened_again}
-use Rattle.gts_opening.proofs.FileLemmas.{file_opens-checkpoint, room_for, due-left}
+use Rattle.gts_opening.proofs.LawLemmas.{compacted_opened, opened_again, file_opens-checkpoint, room_for, due-left, begun-unowed, selected_few}
 use Rattle.gts_checkpoint.specs.Alone.{LeavesOthers, WorksBeside}
 use Rattle.gts_checkpoint.specs.Writing.{HasWritten, checkpoint_file, need_seal}
-use Rattle.gts_journal.specs.{InHand, EndsAt, StandsOn, StandsFor, IsClosedAt, LeavesBoth, selecting as selecting_at}
+use Rattle.gts_journal.specs.{InHand, StandsOn, StandsFor, IsClosedAt, LeavesBoth, selecting as selecting_at}
 use Rattle.gts_journal.specs.Law.{OpensAsBefore}
+use Rattle.gts_journal.proofs.LawLemmas.{both_left}
+use Rattle.gts_recovery.proofs.LawLemmas.{closed_there, still_stands}
 use Rattle.gts_engine.specs.Going.{IsGoing}
-use Rattle.gts_engine.proofs.CheckpointLemmas.{ends_there}
 use Rattle.gts_engine.proofs.GoingLemmas.{opened_same, images}
 use Rattle.gts_engine.proofs.ReopenLemmas.{opens_by}
-
--- a need with nothing owed begins what has nothing owed
-unowed_of : (cs : List CircuitNeed) → map unowed_on (map begun_circuit cs) ≡ map begun_circuit (map unowed_circuit cs)
-unowed_of [] = refl
-unowed_of (c ∷ cs) = ap (λ (qs : List CircuitState). begun_circuit (unowed_circuit c) ∷ qs) (unowed_of cs)
 
 -- ---- an engine that goes on
 
@@ -92,29 +86,11 @@ module _ (tells : Type 0) (d : Directory) (old : List Call) (core : Core) (j : I
 
     module _ (mid : List Call) (beside : WorksBeside other old mid) (wrote : HasWritten d.mark n other mid) where
       -- the journal stands where it stood
-      still : StandsOn mid j
-      still =
-          let selector = beside.seen 2 not_selector in
-          let file = beside.seen j.file not_other in
-          let A : List ℕ → Type 0 = λ l. j.ahead ≡ take (length j.ahead) (drop j.gate l) in
-          let B : List ℕ → Type 0 = λ l. j.is_all ≡ true → length j.ahead ≡ length l - j.gate in
-          let E : List ℕ → Type 0 = λ l. j.ended ≡ true → EndsAt (take j.gate l) l in
-          record {
-            selected_is = ap (λ (l : List ℕ). selected (λ _. l)) selector ∙ stood.stands.selected_is;
-            selector_synced = beside.synced 2 not_selector stood.stands.selector_synced;
-            file_synced = beside.synced j.file not_other stood.stands.file_synced;
-            ahead_is = subst A (sym file) stood.stands.ahead_is;
-            all_is = subst B (sym file) stood.stands.all_is;
-            end_is = subst E (sym file) stood.stands.end_is;
-          }
-
       pub stands_still : StandsOn mid j
-      stands_still = still
+      stands_still = still_stands old mid j stood.stands low beside
 
       pub is_journal : length d.mark ≡ 32 → (used : ℕ) → used ≡ compacted_bytes written n → IsClosedAt mid j other used
-      is_journal long used size =
-          let E : List ℕ → Type 0 = λ l. EndsAt (take (used - 1) l) l in
-          record { synced = wrote.synced other; ends = subst E (sym wrote.text) (ends_there d.mark n used long size) }
+      is_journal long used size = closed_there d.mark n other mid j used wrote long size
 
       module _ (long : length d.mark ≡ 32) (free : full_compacted d g.state ≡ None) where
         -- files of which the other one is selected
@@ -128,20 +104,11 @@ module _ (tells : Type 0) (d : Directory) (old : List Call) (core : Core) (j : I
         selecting new each s holds = weaker (LeavesBoth mid) (OpensAsBefore d s) mid new
             (λ files outside left. (left.silent, by_choice files left ∙ ap {A = Need} (λ m. Ok m) (to_state s holds))) each
           where
-            kept : (files : Files) {outside : Outside} → LeavesBoth mid files outside → (k : ℕ) → k < 2 → files k ≡ seen mid k
-            kept files left zero lt = left.first
-            kept files left (suc zero) lt = left.second
-            kept files left (suc (suc k)) lt = absurd (omega (arith, lt))
-
-            below : (b : Bool) → cond b 1 0 < 2
-            below true = omega arith
-            below false = omega arith
-
             by_choice : (files : Files) {outside : Outside} → LeavesBoth mid files outside → opens d files ≡ Ok (need d (restarted (unowed_state g.state)))
             by_choice files left = elim (cases_eq (selected files) j.file) as (λ _. opens d files ≡ Ok (need d (restarted (unowed_state g.state)))) [
-              | inl at ↦ opens_old files at (kept files left j.file low ∙ beside.seen j.file not_other)
+              | inl at ↦ opens_old files at (both_left mid files left j.file low ∙ beside.seen j.file not_other)
               | inr elsewhere ↦
-                  opens_new files (omega (arith, below (starts_with nat_eq (files 2) (1 ∷ [])), low, elsewhere)) (kept files left other (omega (arith, low)))
+                  opens_new files (omega (arith, selected_few files, low, elsewhere)) (both_left mid files left other (omega (arith, low)))
                   ∙ ap (λ (u : State). Ok (need d u)) (sym (opened_again g.state).1)
             ]
 
@@ -166,7 +133,7 @@ module _ (tells : Type 0) (d : Directory) (old : List Call) (core : Core) (j : I
               file_opens-checkpoint written d other n [] closed_gate [] long stood.limit sound room tt refl in
               let version : place.version ≡ written = ap (λ (k : InHand). k.version) at in
               let gate : compacted_bytes written n - 1 + 1 ≡ place.gate + 1 = omega (arith, ap (λ (k : InHand). k.gate) at, size) in
-              let bare : begun (unowed n) ≡ unowed_state (begun n) = ap (λ (qs : List CircuitState). record (begun n) { circuits = qs }) (sym (unowed_of n.circuits)) in
+              let bare : begun (unowed n) ≡ unowed_state (begun n) = sym (begun-unowed n) in
               record {
                 limit = stood.limit;
                 current = version;

@@ -14,7 +14,7 @@ use Rattle.gts_journal.specs.Law.{OpensAsBefore}
 use Rattle.gts_opening.specs.Journal.{selected, checkpoint_text}
 use Rattle.gts_opening.specs.Room.{compacted_size, full_compacted}
 use Rattle.gts_checkpoint.specs.{checkpoint_file}
-use Rattle.gts_calls.specs.Calls.{HasTurnCause}
+use Rattle.gts_calls.specs.Calls.{HasCallCause}
 use Rattle.gts_engine.specs.declared.room.CheckpointFull.{CheckpointFull}
 use Rattle.gts_engine.specs.declared.mode.SayMode.{SayMode}
 use Rattle.gts_engine.specs.declared.parts.Parts.{Parts}
@@ -89,7 +89,7 @@ pub record Rewrites {P : Type 0} (tells : Type 0) (calls : P → List Call) (dis
   pub stops : new.stopped ≡ stopped_after old.stopped result
   pub kind : IfErr result IsWriteFault
   pub unchanged : IsIdleFault result → new ≡ old
-  pub cause : HasTurnCause result (disk old.station) (disk new.station) (say old.station) (say new.station)
+  pub cause : HasCallCause result (disk old.station) (disk new.station) (say old.station) (say new.station)
 
 -- what may be answered where a journal is to be compacted
 abbrev pub IsCompactFault : SwitchFault → Type 0

@@ -21,7 +21,7 @@ use Rattle.gts_event.specs.declared.fault.SwitchFault.{SwitchFault}
 use Rattle.gts_event.specs.declared.fault.SwitchFault.TheVariants.{DiskFault, SayFault, Full, Stopped, Spent, NoMemory}
 use Rattle.gts_opening.specs.Room.{HasDoubt, HasUnsaid, IsAccepted}
 use Rattle.gts_core.specs.Core.{Says}
-use Rattle.gts_calls.specs.{IsTurn, HasTurnCause, entry_of}
+use Rattle.gts_calls.specs.{IsCalled, HasCallCause, entry_of}
 use Rattle.gts_engine.specs.declared.mode.SayMode.TheVariants.{Caller}
 use Rattle.gts_engine.specs.Engine.{Engine, shown}
 use Rattle.gts_engine.specs.Origin.{state_at}
@@ -105,15 +105,15 @@ unsaid_rose b h event result old new from before later failed (front, other, bac
 
 module _ {P : Type 0} (tells : Type 0) (calls : P → List Call) (disk say : P → ℕ) (b : Beginning) where
   outcome_of : (h : List Entry) (event : Event) (result : Result Outcome SwitchFault) (old new : Engine P)
-      → IsTurn (meanings_of tells calls Caller) event result old new → Stands tells calls disk say b h old
+      → IsCalled (meanings_of tells calls Caller) event result old new → Stands tells calls disk say b h old
       → (a : Outcome) → result ≡ Ok a → a ≡ outcome b.origin.directory (state_at b.origin h) event
   outcome_of h event result old new turn stands a ok =
       let D : Directory → Type 0 = λ d. a ≡ outcome d (after_all d (begun b.origin.start) h) event in
       subst D stands.keeps.directory (turn.outcome b.origin h stands.keeps a ok)
 
   pub adds : (h : List Entry) (event : Event) (Holds : Outcome → State → Type 0) (result : Result Outcome SwitchFault) (old new : Engine P)
-      → IsTurn (meanings_of tells calls Caller) event result old new
-      → HasTurnCause result (disk old.station) (disk new.station) (say old.station) (say new.station)
+      → IsCalled (meanings_of tells calls Caller) event result old new
+      → HasCallCause result (disk old.station) (disk new.station) (say old.station) (say new.station)
       → ((o : Outcome) → result ≡ Ok o → Holds o (state_at b.origin h))
       → Stands tells calls disk say b h old → Adds tells calls disk say b h event Holds result new
   adds h event Holds result old new turn cause leaves stands =
@@ -159,7 +159,7 @@ module _ {P : Type 0} (tells : Type 0) (calls : P → List Call) (disk say : P �
 
   -- what is given is what the state says
   pub leaves : (h : List Entry) (c : ℕ) (out : List ℕ) (result : Result Outcome SwitchFault) (old new : Engine P)
-      → IsTurn (meanings_of tells calls Caller) (Taken c) result old new
+      → IsCalled (meanings_of tells calls Caller) (Taken c) result old new
       → IfOk result (λ o. o ≢ Nothing → Says old.core c out)
       → IfSome old.stopped (λ by. (result ≡ Err (Stopped by)) × (new ≡ old))
       → Stands tells calls disk say b h old
@@ -179,7 +179,7 @@ module _ {P : Type 0} (tells : Type 0) (calls : P → List Call) (disk say : P �
   -- ---- memory is wanted only for a bulletin
 
   pub lost_takes_none : (h : List Entry) (c : ℕ) (field : LostField) (result : Result Outcome SwitchFault) (old new : Engine P)
-      → IsTurn (meanings_of tells calls Caller) (Lost c field) result old new → Stands tells calls disk say b h old → result ≢ Err NoMemory
+      → IsCalled (meanings_of tells calls Caller) (Lost c field) result old new → Stands tells calls disk say b h old → result ≢ Err NoMemory
   lost_takes_none h c field result old new turn stands e = turn.caused b.origin h stands.keeps NoMemory e
 
   takes_accept_nothing : (d : Directory) (s : State) (c : ℕ) → IsAccepted (outcome d s (Taken c)) → ⊥
@@ -196,6 +196,6 @@ module _ {P : Type 0} (tells : Type 0) (calls : P → List Call) (disk say : P �
       go Nothing_waits e a = subst (λ (x : Choice). IsAccepted (leads_to x)) e a
 
   pub take_takes_none : (h : List Entry) (c : ℕ) (result : Result Outcome SwitchFault) (old new : Engine P)
-      → IsTurn (meanings_of tells calls Caller) (Taken c) result old new → Stands tells calls disk say b h old → result ≢ Err NoMemory
+      → IsCalled (meanings_of tells calls Caller) (Taken c) result old new → Stands tells calls disk say b h old → result ≢ Err NoMemory
   take_takes_none h c result old new turn stands e =
       takes_accept_nothing old.directory (after_all old.directory (begun b.origin.start) h) c (turn.caused b.origin h stands.keeps NoMemory e)

@@ -14,7 +14,7 @@ use Rattle.gts_event.specs.declared.outcome.Outcome.{Outcome}
 use Rattle.gts_event.specs.declared.outcome.Outcome.TheVariants.{Resend, Draw, Nothing}
 use Rattle.gts_event.specs.declared.fault.SwitchFault.{SwitchFault}
 use Rattle.gts_event.proofs.LawLemmas.{after_all-append, ordered-all, routed_once-all, owed_few-all, one_less, nothing_left}
-use Rattle.gts_calls.specs.{Standing, IsTurn, entry_of}
+use Rattle.gts_calls.specs.{Standing, IsCalled, entry_of}
 use Rattle.gts_replay.specs.Going.{IsStart, StandsFor, state_at, BreaksOff}
 use Rattle.gts_replay.proofs.GoingLemmas.{cause_at}
 
@@ -127,28 +127,28 @@ drained_none meanings first o h c start =
 
 -- the answer of a take in the state behind these entries
 answer_at : {O W : Type 0} (meanings : Standing O W) (first now later : W) (o : O) (h : List Entry) (event : Event) (result : Result Outcome SwitchFault) (answer : Outcome)
-    → meanings.directory now ≡ meanings.directory first → IsTurn meanings event result now later → result ≡ Ok answer → meanings.stands o h now
+    → meanings.directory now ≡ meanings.directory first → IsCalled meanings event result now later → result ≡ Ok answer → meanings.stands o h now
     → answer ≡ outcome (meanings.directory first) (state_at meanings first o h) event
-answer_at meanings first now later o h event result answer same turn is stands =
-    turn.outcome o h stands answer is ∙ ap (λ (d : Directory). outcome d (after_all d (meanings.begin o) h) event) same
+answer_at meanings first now later o h event result answer same called is stands =
+    called.outcome o h stands answer is ∙ ap (λ (d : Directory). outcome d (after_all d (meanings.begin o) h) event) same
 
 -- the switch stands for one take more
 one_more : {O W : Type 0} (meanings : Standing O W) (now later : W) (o : O) (h : List Entry) (c i : ℕ) (result : Result Outcome SwitchFault) (answer : Outcome)
-    → IsTurn meanings (Taken c) result now later → result ≡ Ok answer → meanings.stands o (h ++ takes c i) now → meanings.stands o (h ++ takes c (i + 1)) later
-one_more meanings now later o h c i result answer turn is stands =
+    → IsCalled meanings (Taken c) result now later → result ≡ Ok answer → meanings.stands o (h ++ takes c i) now → meanings.stands o (h ++ takes c (i + 1)) later
+one_more meanings now later o h c i result answer called is stands =
     subst (λ (x : List Entry). meanings.stands o x later)
     (ap (λ (r : Result Outcome SwitchFault). (h ++ takes c i) ++ entry_of (Taken c) r) is ∙ append_assoc h (takes c i) (Done (Taken c) ∷ []) ∙ ap (λ (x : List Entry). h ++ x) (sym (takes-suc c i)))
-    (turn.adds o (h ++ takes c i) stands)
+    (called.adds o (h ++ takes c i) stands)
 
 pub drained_more : {O W : Type 0} (meanings : Standing O W) (first now later : W) (o : O) (h : List Entry) (c i : ℕ) (result : Result Outcome SwitchFault) (answer : Outcome)
     → StandsFor meanings o h first → c < length (meanings.directory first).circuits → meanings.directory now ≡ meanings.directory first → Drained meanings first o h c i now
-    → IsTurn meanings (Taken c) result now later → result ≡ Ok answer → (answer ≡ Nothing → ⊥) → Few answer → Drained meanings first o h c (i + 1) later
-drained_more meanings first now later o h c i result answer start within same drained turn is some few =
+    → IsCalled meanings (Taken c) result now later → result ≡ Ok answer → (answer ≡ Nothing → ⊥) → Few answer → Drained meanings first o h c (i + 1) later
+drained_more meanings first now later o h c i result answer start within same drained called is some few =
     let d : Directory = meanings.directory first in
     let before : List Entry = h ++ takes c i in
     let s : State = state_at meanings first o before in
     let begun : IsStart d s = start_on d (meanings.begin o) before start.start in
-    let answered : answer ≡ outcome d s (Taken c) = answer_at meanings first now later o before (Taken c) result answer same turn is drained.stands in
+    let answered : answer ≡ outcome d s (Taken c) = answer_at meanings first now later o before (Taken c) result answer same called is drained.stands in
     let gives : choice d s c ≡ Nothing_waits → ⊥ = λ (e : choice d s c ≡ Nothing_waits). some (answered ∙ ap outcome_of_choice e) in
     let all : h ++ takes c (i + 1) ≡ before ++ Done (Taken c) ∷ [] = ap (λ (x : List Entry). h ++ x) (takes-suc c i) ∙ sym (append_assoc h (takes c i) (Done (Taken c) ∷ [])) in
     let next_state : state_at meanings first o (h ++ takes c (i + 1)) ≡ after d s (Taken c) =
@@ -160,7 +160,7 @@ drained_more meanings first now later o h c i result answer start within same dr
     let owed : length (q (state_at meanings first o (h ++ takes c (i + 1)))).owed ≡ length (q (after d s (Taken c))).owed = ap (λ (t : State). length (q t).owed) next_state in
     let drawn : draws (q (state_at meanings first o (h ++ takes c (i + 1)))) ≡ draws (q (after d s (Taken c))) = ap (λ (t : State). draws (q t)) next_state in
     record {
-      stands = one_more meanings now later o h c i result answer turn is drained.stands;
+      stands = one_more meanings now later o h c i result answer called is drained.stands;
       left = omega (arith, left, less, drained.left);
       counted = omega (arith, owed, drawn, one.0, drained.counted);
       few = fits drawn one.1 drained.few;
@@ -173,23 +173,23 @@ drained_more meanings first now later o h c i result answer start within same dr
 
 -- the take that gives nothing is the last
 pub drained_all : {O W : Type 0} (meanings : Standing O W) (first now later : W) (o : O) (h : List Entry) (c i : ℕ) (result : Result Outcome SwitchFault)
-    → StandsFor meanings o h first → meanings.directory now ≡ meanings.directory first → Drained meanings first o h c i now → IsTurn meanings (Taken c) result now later → result ≡ Ok Nothing
+    → StandsFor meanings o h first → meanings.directory now ≡ meanings.directory first → Drained meanings first o h c i now → IsCalled meanings (Taken c) result now later → result ≡ Ok Nothing
     → meanings.stands o (h ++ all_done (takes_of_drain (state_at meanings first o h) c)) later
-drained_all meanings first now later o h c i result start same drained turn is =
+drained_all meanings first now later o h c i result start same drained called is =
     let d : Directory = meanings.directory first in
     let before : List Entry = h ++ takes c i in
     let s : State = state_at meanings first o before in
-    let none : choice d s c ≡ Nothing_waits = nothing_chosen (choice d s c) (answer_at meanings first now later o before (Taken c) result Nothing same turn is drained.stands) in
+    let none : choice d s c ≡ Nothing_waits = nothing_chosen (choice d s c) (answer_at meanings first now later o before (Taken c) result Nothing same called is drained.stands) in
     let both = nothing_left d s c none in
     let nothing : left_to_give (on_circuit s c) ≡ 0 = omega (arith, ap length both.0, ap length both.1) in
     let count : i + 1 ≡ left_to_give (on_circuit (state_at meanings first o h) c) + 1 = omega (arith, nothing, drained.left) in
-    subst (λ (k : ℕ). meanings.stands o (h ++ takes c k) later) count (one_more meanings now later o h c i result Nothing turn is drained.stands)
+    subst (λ (k : ℕ). meanings.stands o (h ++ takes c k) later) count (one_more meanings now later o h c i result Nothing called is drained.stands)
 
 -- a take was answered with a fault
 pub drained_breaks : {O W : Type 0} (meanings : Standing O W) (first now later : W) (o : O) (h : List Entry) (c i : ℕ) (result : Result Outcome SwitchFault) (fault : SwitchFault)
-    → Drained meanings first o h c i now → IsTurn meanings (Taken c) result now later → result ≡ Err fault
+    → Drained meanings first o h c i now → IsCalled meanings (Taken c) result now later → result ≡ Err fault
     → BreaksOff meanings (λ _. o) h (all_done (takes_of_drain (state_at meanings first o h) c)) fault later
-drained_breaks meanings first now later o h c i result fault drained turn is =
+drained_breaks meanings first now later o h c i result fault drained called is =
     let before : List Entry = h ++ takes c i in
     let k : ℕ = left_to_give (on_circuit (state_at meanings first o before) c) in
     let count : left_to_give (on_circuit (state_at meanings first o h) c) + 1 ≡ i + suc k = omega (arith, drained.left) in
@@ -198,8 +198,8 @@ drained_breaks meanings first now later o h c i result fault drained turn is =
       event = Taken c;
       behind = takes c k;
       parts = ap (takes c) count ∙ takes-split c i (suc k);
-      stands = subst (λ (r : Result Outcome SwitchFault). meanings.stands o (before ++ entry_of (Taken c) r) later) is (turn.adds o before drained.stands);
-      cause = cause_at meanings o before (Taken c) fault now later turn.directory (turn.caused o before drained.stands fault is);
+      stands = subst (λ (r : Result Outcome SwitchFault). meanings.stands o (before ++ entry_of (Taken c) r) later) is (called.adds o before drained.stands);
+      cause = cause_at meanings o before (Taken c) fault now later called.directory (called.caused o before drained.stands fault is);
     }
 
 -- no circuit has so much to give

@@ -10,7 +10,7 @@ use Rattle.gts_event.specs.declared.event.Entry.{Entry}
 use Rattle.gts_event.specs.declared.event.Entry.TheVariants.{Done}
 use Rattle.gts_event.specs.declared.outcome.Outcome.{Outcome}
 use Rattle.gts_event.specs.declared.fault.SwitchFault.{SwitchFault}
-use Rattle.gts_calls.specs.{Standing, IsTurn, IsCause, entry_of, outcome_at}
+use Rattle.gts_calls.specs.{Standing, IsCalled, IsCause, entry_of, outcome_at}
 use Rattle.gts_replay.specs.Going.{BreaksOff, Goes}
 
 -- what was answered, by what `map_err` made of it
@@ -34,9 +34,9 @@ cause_at meanings o h event fault old new same cause =
 
 -- a call broke off
 pub one_breaks : {O W : Type 0} (meanings : Standing O W) (event : Event) (result : Result Outcome SwitchFault) (fault : SwitchFault) (r : Result (Unit {0}) SwitchFault) (old new : W)
-    → IsTurn meanings event result old new → result ≡ Err fault → IsErrAnd r (λ e. e ≡ fault)
+    → IsCalled meanings event result old new → result ≡ Err fault → IsErrAnd r (λ e. e ≡ fault)
     → (o : O) (h : List Entry) → meanings.stands o h old → Goes meanings o h (Done event ∷ []) r new
-one_breaks meanings event result fault r old new turn is failed o h stands =
+one_breaks meanings event result fault r old new called is failed o h stands =
     let error = err_from_is_err_and r failed in
     let same : h ++ [] ≡ h = append-nil h in
     let P : List Entry → Type 0 = λ x. IsCause (meanings.is_full o x event) x (outcome_at meanings new o x event) fault in
@@ -46,15 +46,15 @@ one_breaks meanings event result fault r old new turn is failed o h stands =
       behind = [];
       parts = refl;
       stands = subst (λ (x : List Entry). meanings.stands o x new)
-          (ap (λ (x : Result Outcome SwitchFault). h ++ entry_of event x) is ∙ ap (λ (x : List Entry). x ++ entry_of event (Err fault)) (sym same)) (turn.adds o h stands);
-      cause = subst P (sym same) (cause_at meanings o h event fault old new turn.directory (turn.caused o h stands fault is));
+          (ap (λ (x : Result Outcome SwitchFault). h ++ entry_of event x) is ∙ ap (λ (x : List Entry). x ++ entry_of event (Err fault)) (sym same)) (called.adds o h stands);
+      cause = subst P (sym same) (cause_at meanings o h event fault old new called.directory (called.caused o h stands fault is));
     }
 
 -- a call was done
 pub one_done : {O W : Type 0} (meanings : Standing O W) (event : Event) (result : Result Outcome SwitchFault) (answer : Outcome) (old new : W)
-    → IsTurn meanings event result old new → result ≡ Ok answer → (o : O) (h : List Entry) → meanings.stands o h old → Goes meanings o h (Done event ∷ []) (Ok tt) new
-one_done meanings event result answer old new turn is o h stands =
-    subst (λ (x : List Entry). meanings.stands o x new) (ap (λ (x : Result Outcome SwitchFault). h ++ entry_of event x) is) (turn.adds o h stands)
+    → IsCalled meanings event result old new → result ≡ Ok answer → (o : O) (h : List Entry) → meanings.stands o h old → Goes meanings o h (Done event ∷ []) (Ok tt) new
+one_done meanings event result answer old new called is o h stands =
+    subst (λ (x : List Entry). meanings.stands o x new) (ap (λ (x : Result Outcome SwitchFault). h ++ entry_of event x) is) (called.adds o h stands)
 
 -- some were added, and then more
 pub then_goes : {O W : Type 0} (meanings : Standing O W) (o : O) (h xs ys : List Entry) (r : Result (Unit {0}) SwitchFault) (now : W)

@@ -13,7 +13,7 @@ use Rattle.gts_record.specs.declared.fault.OpenFault.{OpenFault}
 use Rattle.gts_connection.specs.Capture.{Feed, Take, Reopen, Drain, Restart, Compact, FeedHead, TakeHead, ReopenHead, DrainHead, RestartHead, CompactHead, Connections, no_bytes}
 use Rattle.gts_connection.specs.declared.limits.TheConstants.{LONGEST_CAPTURE}
 use Rattle.gts_capture.specs.Held.{Held, IsSameCapture, EndsInFeed, StopsInFeed, readable_from}
-use Rattle.gts_calls.specs.{Standing, IsTurn, IsReopening, IsCompacting, entry_of, restart_of}
+use Rattle.gts_calls.specs.{Standing, IsCalled, IsReopening, IsCompacting, entry_of, restart_of}
 use Rattle.gts_replay.specs.declared.fault.StepFault.{StepFault}
 use Rattle.gts_replay.specs.declared.fault.StepFault.TheVariants as step
 use Rattle.gts_replay.specs.Going.{StandsFor, state_at, BreaksOff, Remains, Decode}
@@ -79,23 +79,23 @@ nothing_taken tells held left = record { rest = held.ahead ++ left; told = λ _.
 -- ---- a step of each head
 
 pub does_take : {O W : Type 0} (meanings : Standing O W) (station tells : Type 0) (c : ℕ) (held : Held) (left : List ℕ) (ds : List Decoding) (old new : W) (result : Result Outcome SwitchFault) (answer : Outcome)
-    → IsTurn meanings (Taken c) result old new → result ≡ Ok answer → held.feed ≡ 0 → DoesStep meanings station tells (TakeHead c) (Ok tt) held held left left ds ds old new
-does_take meanings station tells c held left ds old new result answer turn is none = record {
+    → IsCalled meanings (Taken c) result old new → result ≡ Ok answer → held.feed ≡ 0 → DoesStep meanings station tells (TakeHead c) (Ok tt) held held left left ds ds old new
+does_take meanings station tells c held left ds old new result answer called is none = record {
   step = Take c;
   of_head = refl;
   taken = (takes_none tells held left, none);
-  went = λ bs o h decode start. subst (λ (r : Result Outcome SwitchFault). meanings.stands o (h ++ entry_of (Taken c) r) new) is (turn.adds o h start.stands);
+  went = λ bs o h decode start. subst (λ (r : Result Outcome SwitchFault). meanings.stands o (h ++ entry_of (Taken c) r) new) is (called.adds o h start.stands);
   decode = λ bs e. e;
   begins = λ o h. refl;
 }
 
 pub fails_take : {O W : Type 0} (meanings : Standing O W) (station tells : Type 0) (c : ℕ) (held : Held) (left : List ℕ) (ds : List Decoding) (old new : W) (result : Result Outcome SwitchFault) (fault : SwitchFault)
-    → IsTurn meanings (Taken c) result old new → result ≡ Err fault → DoesStep meanings station tells (TakeHead c) (Err (step.Switch fault)) held held left left ds ds old new
-fails_take meanings station tells c held left ds old new result fault turn is = record {
+    → IsCalled meanings (Taken c) result old new → result ≡ Err fault → DoesStep meanings station tells (TakeHead c) (Err (step.Switch fault)) held held left left ds ds old new
+fails_take meanings station tells c held left ds old new result fault called is = record {
   step = Take c;
   of_head = refl;
   taken = nothing_taken tells held left;
-  went = λ bs o h decode start. one_breaks meanings (Taken c) result fault (Err fault) old new turn is refl o h start.stands;
+  went = λ bs o h decode start. one_breaks meanings (Taken c) result fault (Err fault) old new called is refl o h start.stands;
   decode = λ bs e. tt;
   begins = λ o h. tt;
 }

@@ -1,7 +1,7 @@
 ghost use Rattle.std.specs.Prelude.{◌≡◌, ◌<◌, ◌^◌, ◌↔◌, ℕ, List, length, IsTrue};
 ghost use Rattle.gts_event.specs.declared.event.Entry.{Entry};
 ghost use Rattle.gts_event.specs.Drain.{all_done, takes_of_drain};
-ghost use Rattle.gts_calls.specs.{HasTurnCause};
+ghost use Rattle.gts_calls.specs.{HasCallCause};
 ghost use Rattle.gts_replay.specs.Going.{Goes, StandsFor, state_at};
 
 use gts_calls::Switch;
@@ -19,7 +19,7 @@ pub(crate) fn drain<W: Switch>(
         → Goes W.meanings o h (all_done (takes_of_drain (state_at W.meanings switch.old o h) c))
         result switch.new }
     ensures directory { W.meanings.directory switch.new ≡ W.meanings.directory switch.old }
-    ensures cause { HasTurnCause result (W.disk_faults switch.old) (W.disk_faults switch.new)
+    ensures cause { HasCallCause result (W.disk_faults switch.old) (W.disk_faults switch.new)
         (W.say_faults switch.old) (W.say_faults switch.new) }
 {
     for _ in 0..u128::MAX {

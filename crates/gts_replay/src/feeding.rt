@@ -4,7 +4,7 @@ ghost use Rattle.gts_event.specs.Drain.{all_done};
 ghost use Rattle.gts_frame.specs.Signs.{held_in};
 ghost use Rattle.gts_frame.specs.Decoder.{signs_of_step, HasMessage};
 ghost use Rattle.gts_connection.specs.Cited.{events_added, events_of_signs};
-ghost use Rattle.gts_calls.specs.{HasTurnCause};
+ghost use Rattle.gts_calls.specs.{HasCallCause};
 ghost use Rattle.gts_replay.specs.Cited.{Goes, Feeds, HasRunCause};
 
 use crate::fault::StepFault;
@@ -59,7 +59,7 @@ fn feed_piece<W: Switch>(
     ensures held { (before : List ℕ) → decoder.old.held ≡ held_in before
         → OnOk result (decoder.new.held ≡ held_in (before ++ piece.now)) }
     ensures directory { W.meanings.directory switch.new ≡ W.meanings.directory switch.old }
-    ensures cause { HasTurnCause result (W.disk_faults switch.old) (W.disk_faults switch.new)
+    ensures cause { HasCallCause result (W.disk_faults switch.old) (W.disk_faults switch.new)
         (W.say_faults switch.old) (W.say_faults switch.new) }
 {
     let mut rest = piece;
@@ -85,7 +85,7 @@ fn deal<W: Switch>(
         → Goes W.meanings o h (all_done (events_of_signs c (signs_of_step step message.now)))
         result switch.new }
     ensures directory { W.meanings.directory switch.new ≡ W.meanings.directory switch.old }
-    ensures cause { HasTurnCause result (W.disk_faults switch.old) (W.disk_faults switch.new)
+    ensures cause { HasCallCause result (W.disk_faults switch.old) (W.disk_faults switch.new)
         (W.say_faults switch.old) (W.say_faults switch.new) }
 {
     match step {

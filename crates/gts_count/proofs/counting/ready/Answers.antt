@@ -1,4 +1,5 @@
 use Rattle.std.proofs.Common.{ap, sym, ◌∙◌}
+use Rattle.std.proofs.lemmas.Result.{err_from_is_err_and}
 use Rattle.gts_count.specs.declared.recent.Recent.{Recent}
 use Rattle.gts_count.specs.Rows.{has_row}
 use Rattle.gts_count.proofs.CountingLemmas.{current_counts, left_accepted}
@@ -8,8 +9,10 @@ pub returns-in_default-clause-ready : goal.returns-in_default-clause-ready
 returns-in_default-clause-ready c = λ d s h current here counts kind p n is.
     absurd (c.heard_in.ensures.none d s kind p n c.in_default.is (current_counts d s h c.args.counting.now current counts).0.centre is)
 
-pub returns-in-Err-clause-left : goal.returns-in-Err-clause-left
-returns-in-Err-clause-left c = λ d s h kind counts.
+pub returns-in_err-prepare-clause-left : goal.returns-in_err-prepare-clause-left
+returns-in_err-prepare-clause-left c =
+    let p = err_from_is_err_and c.from_residual.result c.from_residual.ensures.1 in
+    rw p.1 (λ d s h kind counts.
     let known = current_counts d s h c.args.counting.now c.if-not-counting.false counts in
     left_accepted d s c.args.counting.now.numbers c.args.c kind c.args.message.now known.1 (c.in-Some.ensures.read d known.0.centre)
-    (sym (ap (λ (r : Recent). has_row c.args.counting.now.numbers.rows r.key) c.in-Some.ensures.some) ∙ c.in-Err.ensures.none)
+    (sym (ap (λ (r : Recent). has_row c.args.counting.now.numbers.rows r.key) c.in-Some.ensures.some) ∙ c.in_err-prepare.ensures.none))

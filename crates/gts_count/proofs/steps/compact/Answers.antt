@@ -1,5 +1,5 @@
 use Rattle.std.proofs.Common.{refl}
-use Rattle.gts_count.proofs.TurnLemmas.{counted_compacting}
+use Rattle.gts_count.proofs.CallLemmas.{counted_compacting}
 use Rattle.gts_count.proofs.steps.compact.Goals as goal
 
 pub returns-clause-compacting : goal.returns-clause-compacting

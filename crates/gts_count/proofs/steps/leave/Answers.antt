@@ -1,4 +1,4 @@
-use Rattle.gts_count.proofs.TurnLemmas.{counted_leave}
+use Rattle.gts_count.proofs.CallLemmas.{counted_leave}
 use Rattle.gts_count.proofs.steps.leave.Goals as goal
 
 pub returns : goal.returns

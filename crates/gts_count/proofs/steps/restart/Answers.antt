@@ -1,5 +1,5 @@
 use Rattle.std.proofs.Common.{refl}
-use Rattle.gts_count.proofs.TurnLemmas.{counted_reopening}
+use Rattle.gts_count.proofs.CallLemmas.{counted_reopening}
 use Rattle.gts_count.proofs.steps.restart.Goals as goal
 
 pub returns-clause-reopening : goal.returns-clause-reopening

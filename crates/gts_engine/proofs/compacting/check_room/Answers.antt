@@ -1,25 +1,26 @@
 use Rattle.std.proofs.Common.{sym, ◌∙◌, arith}
+use Rattle.std.proofs.Math.Nat.{add-mul}
 use Rattle.gts_record.specs.Format.{seal_size, written}
 use Rattle.gts_opening.specs.Journal.{due}
-use Rattle.gts_engine.proofs.HearingLemmas.{due_waiting, times_some}
+use Rattle.gts_recovery.proofs.LawLemmas.{due-waiting}
 use Rattle.gts_engine.proofs.compacting.check_room.Goals as goal
 
 pub waiting-requires : goal.waiting-requires
 waiting-requires g c =
     let old = c.args.parts.now in
     let s0 = c.requires.sound c.requires.going in
-    omega (arith, c.a_core_has_the_waiting_draws_of_its_state.ensures old.directory old.core s0.state s0.holds, due_waiting s0.state.circuits, s0.room, times_some (seal_size written) (due s0.state), old.within.limit)
+    omega (arith, c.a_core_has_the_waiting_draws_of_its_state.ensures old.directory old.core s0.state s0.holds, due-waiting s0.state, s0.room, add-mul 24 (seal_size written) (due s0.state), old.within.limit)
 
 pub check_checkpoint-requires : goal.check_checkpoint-requires
 check_checkpoint-requires g c =
     let old = c.args.parts.now in
     let s0 = c.requires.sound c.requires.going in
-    omega (arith, c.waiting.ensures old.directory s0.state s0.holds, due_waiting s0.state.circuits, s0.room, times_some (seal_size written) (due s0.state), old.within.limit)
+    omega (arith, c.waiting.ensures old.directory s0.state s0.holds, due-waiting s0.state, s0.room, add-mul 24 (seal_size written) (due s0.state), old.within.limit)
 
 pub returns-in-Ok-clause-room : goal.returns-in-Ok-clause-room
 returns-in-Ok-clause-room g c = λ s holds size.
-    c.in-Ok.ensures s (due_waiting s.circuits ∙ sym (c.waiting.ensures c.args.parts.now.directory s holds)) size
+    c.in-Ok.ensures s (due-waiting s ∙ sym (c.waiting.ensures c.args.parts.now.directory s holds)) size
 
 pub returns-in-Err-clause-room : goal.returns-in-Err-clause-room
 returns-in-Err-clause-room g c = λ s holds size.
-    c.in-Err.ensures s (due_waiting s.circuits ∙ sym (c.waiting.ensures c.args.parts.now.directory s holds)) size
+    c.in-Err.ensures s (due-waiting s ∙ sym (c.waiting.ensures c.args.parts.now.directory s holds)) size

@@ -6,7 +6,7 @@ use Rattle.gts_event.specs.declared.fault.SwitchFault.{SwitchFault}
 use Rattle.gts_event.specs.declared.fault.SwitchFault.TheVariants.{DiskFault}
 use Rattle.gts_record.specs.Format.{held, written}
 use Rattle.gts_opening.specs.Journal.{compacted_bytes}
-use Rattle.gts_engine.proofs.CheckpointLemmas.{fit_bytes}
+use Rattle.gts_checkpoint.proofs.LawLemmas.{fit_bytes}
 use Rattle.gts_engine.proofs.CompactLemmas.{sound, size_free, size_few}
 use Rattle.gts_engine.proofs.RewritingLemmas.{moments_put, failed_put, whole_put, moments_all, compaction_by, sound_by, written_by}
 use Rattle.gts_engine.proofs.compacting.rewrite.Goals as goal

@@ -1,4 +1,4 @@
-use Rattle.gts_engine.proofs.CheckpointLemmas.{ends_there, fit_bytes}
+use Rattle.gts_engine.proofs.LawLemmas.{ends_there, fit_bytes}
 use Rattle.gts_engine.proofs.laws.a_checkpoint_is_a_whole_journal.Goals as goal
 
 pub returns-clause-ends : goal.returns-clause-ends

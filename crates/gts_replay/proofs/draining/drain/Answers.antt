@@ -9,20 +9,20 @@ pub returns-in_err-outcome-clause-goes : goal.returns-in_err-outcome-clause-goes
 returns-in_err-outcome-clause-goes g c = λ o h start.
     let p = err_from_is_err_and c.from_residual.result c.from_residual.ensures.1 in
     rw (p.1, p.2) (drained_breaks g.W.Switch.meanings c.args.switch.now c.loop.switch c.take.new.self o h c.args.c c.loop.counter c.take.result c.in_err-outcome.field-0.0
-    (c.loop.invariant.drained o h start) c.take.ensures.turn c.in_err-outcome.was)
+    (c.loop.invariant.drained o h start) c.take.ensures.called c.in_err-outcome.was)
 
 pub returns-then-is_nothing-clause-goes : goal.returns-then-is_nothing-clause-goes
 returns-then-is_nothing-clause-goes g c = λ o h start.
     drained_all g.W.Switch.meanings c.args.switch.now c.loop.switch c.take.new.self o h c.args.c c.loop.counter c.take.result start c.loop.invariant.directory
-    (c.loop.invariant.drained o h start) c.take.ensures.turn (c.in_ok-outcome.was ∙ ap (λ (x : Outcome). Ok x) (c.is_nothing.ensures.nothing.0 c.if-is_nothing.true))
+    (c.loop.invariant.drained o h start) c.take.ensures.called (c.in_ok-outcome.was ∙ ap (λ (x : Outcome). Ok x) (c.is_nothing.ensures.nothing.0 c.if-is_nothing.true))
 
 pub loop-preserved : goal.loop-preserved
 loop-preserved g c = record {
   drained = λ o h start.
       drained_more g.W.Switch.meanings c.args.switch.now c.loop.switch c.take.new.self o h c.args.c c.loop.counter c.take.result c.in_ok-outcome.outcome start c.requires.circuit
-      c.loop.invariant.directory (c.loop.invariant.drained o h start) c.take.ensures.turn c.in_ok-outcome.was
+      c.loop.invariant.directory (c.loop.invariant.drained o h start) c.take.ensures.called c.in_ok-outcome.was
       (λ e. false≢true (sym c.if-is_nothing.false ∙ c.is_nothing.ensures.nothing.1 e)) c.is_nothing.ensures.few;
-  directory = c.take.ensures.turn.directory ∙ c.loop.invariant.directory;
+  directory = c.take.ensures.called.directory ∙ c.loop.invariant.directory;
   disk_later = omega (arith, c.take.ensures.cause.disk_later, c.loop.invariant.disk_later);
   say_later = omega (arith, c.take.ensures.cause.say_later, c.loop.invariant.say_later);
 }

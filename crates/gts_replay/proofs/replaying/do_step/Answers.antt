@@ -24,7 +24,7 @@ returns-in-Err-clause-does g c =
     let P : Head → Type 0 = λ head. DoesStep g.W.Switch.meanings g.W.Switch.tells g.S.Source.tells (head_of head) (Err (step.Switch c.in-Err.fault)) c.args.steps.now c.args.steps.now left left
     c.args.decoders.now c.args.decoders.now c.args.switch.now c.take.new.self in
     subst P (sym c.in-Take.is) (fails_take g.W.Switch.meanings g.W.Switch.tells g.S.Source.tells c.in-Take.c c.args.steps.now left c.args.decoders.now c.args.switch.now c.take.new.self c.take.result c.in-Err.fault
-    c.take.ensures.turn c.in-Err.is)
+    c.take.ensures.called c.in-Err.is)
 
 pub returns-in-Err-drain-clause-does : goal.returns-in-Err-drain-clause-does
 returns-in-Err-drain-clause-does g c =
@@ -50,7 +50,7 @@ returns-in_default-clause-does g c =
     let P : Head → Type 0 = λ head. DoesStep g.W.Switch.meanings g.W.Switch.tells g.S.Source.tells (head_of head) (Ok tt) c.args.steps.now c.args.steps.now left left
     c.args.decoders.now c.args.decoders.now c.args.switch.now c.take.new.self in
     subst P (sym c.in-Take.is) (does_take g.W.Switch.meanings g.W.Switch.tells g.S.Source.tells c.in-Take.c c.args.steps.now left c.args.decoders.now c.args.switch.now c.take.new.self c.take.result
-    c.in_default.field-0 c.take.ensures.turn c.in_default.is none)
+    c.in_default.field-0 c.take.ensures.called c.in_default.is none)
 
 pub returns-in_default-drain-clause-does : goal.returns-in_default-drain-clause-does
 returns-in_default-drain-clause-does g c =

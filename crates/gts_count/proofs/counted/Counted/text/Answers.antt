@@ -3,7 +3,7 @@ use Rattle.std.specs.Prelude.{IfOk}
 use Rattle.gts_count.specs.Table.{table_of}
 use Rattle.gts_count.specs.Numbers.{tally_of}
 use Rattle.gts_count.specs.Counted.{ShowsTable}
-use Rattle.gts_count.proofs.TurnLemmas.{shows}
+use Rattle.gts_count.proofs.CallLemmas.{shows}
 use Rattle.gts_count.proofs.counted.Counted.text.Goals as goal
 
 pub returns : goal.returns

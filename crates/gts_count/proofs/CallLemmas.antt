@@ -14,7 +14,7 @@ use Rattle.gts_event.specs.declared.fault.SwitchFault.TheVariants.{NoMemory}
 use Rattle.gts_event.proofs.LawLemmas.{after_all-append}
 use Rattle.gts_record.specs.declared.fault.OpenFault.{OpenFault}
 use Rattle.gts_opening.specs.Room.{IsAccepted}
-use Rattle.gts_calls.specs.Calls.{Standing, IsTurn, IsReopening, IsCompacting, MayLeave, IsCause, entry_of, restart_of, outcome_at}
+use Rattle.gts_calls.specs.Calls.{Standing, IsCalled, IsReopening, IsCompacting, MayLeave, IsCause, entry_of, restart_of, outcome_at}
 use Rattle.gts_count.specs.declared.parts.Parts.{Parts}
 use Rattle.gts_count.specs.declared.counting.Counting.{Counting}
 use Rattle.gts_event.specs.Need.{need}
@@ -36,11 +36,11 @@ module _ {O T : Type 0} (meanings : Standing O T) where
       subst (λ (s : State). Counts d s (h ++ xs) new.counting) (sym (after_all-append d (meanings.begin o) h xs)) counts in
       subst (λ (e : Directory). Counts e (after_all e (meanings.begin o) (h ++ xs)) (h ++ xs) new.counting) (sym same) there
 
-  pub counted_turn : (event : Event) (result : Result Outcome SwitchFault) (old new : Parts T) → IsTurn meanings event result old.switch new.switch
+  pub counted_call : (event : Event) (result : Result Outcome SwitchFault) (old new : Parts T) → IsCalled meanings event result old.switch new.switch
       → ((o : O) (h : List Entry) → meanings.stands o h old.switch → IsTold result (meanings.directory old.switch) (state_at meanings old.switch o h) event
       → Counts (meanings.directory old.switch) (state_at meanings old.switch o h) h old.counting → GoesOn (meanings.directory old.switch) (state_at meanings old.switch o h) h event result new.counting)
-      → IsTurn (counted_meanings meanings) event result old new
-  counted_turn event result old new t goes = record {
+      → IsCalled (counted_meanings meanings) event result old new
+  counted_call event result old new t goes = record {
     directory = t.directory;
     adds = λ o h stood. (t.adds o h stood.0, behind o h (entry_of event result) old new t.directory (goes o h stood.0 (t.outcome o h stood.0) stood.1));
     outcome = λ o h stood answer e. t.outcome o h stood.0 answer e;
@@ -48,11 +48,11 @@ module _ {O T : Type 0} (meanings : Standing O T) where
   }
 
   -- a message that was left, since there was no memory for its numbers
-  pub left_turn : (c : ℕ) (kind : Kind) (m : List ℕ) (old new : Parts T) → new.switch ≡ old.switch → MayLeave meanings old.switch
+  pub left_call : (c : ℕ) (kind : Kind) (m : List ℕ) (old new : Parts T) → new.switch ≡ old.switch → MayLeave meanings old.switch
       → ((d : Directory) (s : State) (h : List Entry) → Counts d s h old.counting → Counts d s h new.counting)
       → ((d : Directory) (s : State) (h : List Entry) → Counts d s h old.counting → IsAccepted (outcome d s (Heard c kind m)))
-      → IsTurn (counted_meanings meanings) (Heard c kind m) (Err NoMemory) old new
-  left_turn c kind m old new same leave keeps accepted = record {
+      → IsCalled (counted_meanings meanings) (Heard c kind m) (Err NoMemory) old new
+  left_call c kind m old new same leave keeps accepted = record {
     directory = ap meanings.directory same;
     adds = λ o h stood.
         let d : Directory = meanings.directory old.switch in
@@ -106,8 +106,8 @@ module _ {O T : Type 0} (meanings : Standing O T) where
 
 -- what holds of the parts holds of what stands for what they do
 module _ {O T W : Type 0} (parts : W → Parts T) (meanings : Standing O T) where
-  pub turn_by : (event : Event) (result : Result Outcome SwitchFault) (old new : W) → IsTurn (counted_meanings meanings) event result (parts old) (parts new) → IsTurn (meanings_by parts meanings) event result old new
-  turn_by event result old new t = record { directory = t.directory; adds = t.adds; outcome = t.outcome; caused = t.caused }
+  pub call_by : (event : Event) (result : Result Outcome SwitchFault) (old new : W) → IsCalled (counted_meanings meanings) event result (parts old) (parts new) → IsCalled (meanings_by parts meanings) event result old new
+  call_by event result old new t = record { directory = t.directory; adds = t.adds; outcome = t.outcome; caused = t.caused }
 
   pub reopening_by : (tells : Type 0) (result : Result (Unit {0}) OpenFault) (old new : W) → IsReopening (counted_meanings meanings) tells result (parts old) (parts new) → IsReopening (meanings_by parts meanings) tells result old new
   reopening_by tells result old new r = record { directory = r.directory; adds = r.adds; fault = r.fault }
