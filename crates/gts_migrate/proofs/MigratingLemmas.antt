@@ -1,8 +1,9 @@
 -- A journal is taken over: what a crash leaves meanwhile, and what the files open to then.
-use Rattle.std.proofs.Common.{◌≡◌, ◌≢◌, ◌⊎◌, inl, inr, ℕ, zero, suc, ◌+◌, ◌-◌, ◌*◌, ◌^◌, ◌<◌, ◌≤◌, nat_eq, Bool, true, false, cond, List, [], ◌∷◌, ◌++◌, length, map, take, drop, replicate, None, Result, Ok, Err, refl, sym, ap, subst, ◌∙◌, arith}
+use Rattle.std.proofs.Common.{◌≡◌, ◌≢◌, ◌⊎◌, inl, inr, ℕ, zero, suc, ◌+◌, ◌-◌, ◌*◌, ◌^◌, ◌<◌, ◌≤◌, true, List, [], ◌∷◌, ◌++◌, length, map, replicate, None, Result, Ok, Err, refl, sym, ap, subst, ◌∙◌, arith}
 use Rattle.std.specs.Prelude.{OnOk, IfErr, IsErrOf}
-use Rattle.std.specs.List.{starts_with, sum_by}
+use Rattle.std.specs.List.{sum_by}
 use Rattle.std.proofs.lemmas.Bool.{cases_eq}
+use Rattle.std.proofs.Math.Nat.{add-mul}
 use Rattle.std.proofs.lemmas.List.Sums.{sum_by-cons}
 use Rattle.std.proofs.lemmas.List.{length-map, append-nil, append_assoc, map-append}
 use Rattle.gts_traits.specs.Calls.{Call, Did, Syncs, Outside, said_by}
@@ -13,11 +14,11 @@ use Rattle.gts_traits.proofs.LawLemmas.{weaker, started, joined, synced_image}
 use Rattle.gts_directory.specs.Directory.{Directory}
 use Rattle.gts_directory.specs.Extending.{Extends}
 use Rattle.gts_event.specs.State.{State, CircuitState, idle, waiting}
-use Rattle.gts_event.specs.History.{restarted, owed_last}
+use Rattle.gts_event.specs.History.{restarted}
 use Rattle.gts_event.specs.Items.{circuit_need_of, need_of}
 use Rattle.gts_event.specs.declared.values.CircuitNeed as value_circuit
 use Rattle.gts_event.specs.declared.values.Need as values
-use Rattle.gts_event.specs.Need.{Need, CircuitNeed, unused, IsOrdered, need, begun, begun_circuit, is_sound, keeps_one}
+use Rattle.gts_event.specs.Need.{Need, CircuitNeed, unused, IsOrdered, need, begun, begun_circuit, is_sound}
 use Rattle.gts_recovery.specs.Wider.{wider, widened}
 use Rattle.gts_event.specs.declared.event.Entry.TheVariants.{Restarted}
 use Rattle.gts_event.proofs.LawLemmas.{ordered-begun, ordered-all, restarted-left, sound-held}
@@ -26,20 +27,18 @@ use Rattle.gts_record.specs.Record.{closed_gate}
 use Rattle.gts_record.specs.declared.version.Version.{Version}
 use Rattle.gts_record.specs.declared.fault.OpenFault.{OpenFault}
 use Rattle.gts_record.specs.Format.{seal_size, draw_size, written}
-use Rattle.gts_opening.specs.Journal.{Opened, selected, opened_of, compacted_bytes, due, opens, opens_in, files_open_in, files_read, file_opens, unowed, unowed_circuit}
+use Rattle.gts_opening.specs.Journal.{Opened, selected, opened_of, compacted_bytes, due, opens, opens_in, files_open_in, files_read, file_opens, unowed}
 use Rattle.gts_opening.specs.Room.{full_compacted}
-use Rattle.gts_opening.proofs.LawLemmas.{checkpoint_opened}
-use Rattle.gts_opening.proofs.FileLemmas.{room_for, due-left}
+use Rattle.gts_opening.proofs.LawLemmas.{checkpoint_opened, room_for, due-left, restarted-unowed, selected_few}
 use Rattle.gts_checkpoint.specs.Alone.{LeavesOthers, WorksBeside}
 use Rattle.gts_checkpoint.specs.Writing.{HasWritten, checkpoint_file}
-use Rattle.gts_journal.specs.{InHand, EndsAt, StandsOn, IsClosedAt, LeavesBoth, OnlySyncs, version_of, selected_bytes, selecting as selecting_at}
+use Rattle.gts_journal.specs.{InHand, StandsOn, LeavesBoth, OnlySyncs, version_of, selected_bytes, selecting as selecting_at}
+use Rattle.gts_journal.proofs.LawLemmas.{both_left, file_low}
 use Rattle.gts_core.specs.Core.{Core, Holds, Needs}
 use Rattle.gts_recovery.specs.Opened.{IsOpenedAny, opens_any, files_open_any}
-use Rattle.gts_migrate.specs.declared.migrating.MigrateFault.{MigrateFault}
-use Rattle.gts_migrate.specs.declared.migrating.MigrateFault.TheVariants.{Open, Full, DiskFault, NoMemory}
+use Rattle.gts_migrate.specs.declared.fault.MigrateFault.{MigrateFault}
+use Rattle.gts_migrate.specs.declared.fault.MigrateFault.TheVariants.{Open, Full, DiskFault, NoMemory}
 use Rattle.gts_migrate.specs.Migrating.{OpensEither, GivesRoomFor, AnswersOpening, LeavesFiles, IsDiskFaultOf, IsWriteFaultOf, IsMigrated, HasFewDue, IsWide, CanMigrate, FitsFor}
-use Rattle.gts_engine.proofs.LawLemmas.{ends_there}
-use Rattle.gts_migrate.proofs.RoomLemmas.{times_some}
 
 -- ---- needs and states with further circuits
 
@@ -56,17 +55,6 @@ begun-wider k n =
     ap (λ (qs : List CircuitState). record { count = n.accepted; accepted = n.bulletins; circuits = qs })
     (circuits_begun n.circuits (k - length n.circuits)
     ∙ ap (λ (m : ℕ). map begun_circuit n.circuits ++ replicate (k - m) idle) (sym (length-map n.circuits begun_circuit)))
-
--- what is owed doesn't matter where a state is opened again
-owed_again : (cs : List CircuitNeed) → map owed_last (map begun_circuit (map unowed_circuit cs)) ≡ map owed_last (map begun_circuit cs)
-owed_again [] = refl
-owed_again (c ∷ cs) = ap (λ (qs : List CircuitState). owed_last (begun_circuit c) ∷ qs) (owed_again cs)
-
-restarted-unowed : (n : Need) → restarted (begun (unowed n)) ≡ restarted (begun n)
-restarted-unowed n = ap (λ (qs : List CircuitState). record { count = n.accepted; accepted = n.bulletins; circuits = qs }) (owed_again n.circuits)
-
-ordered_again : (d : Directory) (s : State) → keeps_one d ≡ true → IsOrdered d s → IsOrdered d (restarted s)
-ordered_again d s keeps ordered = ordered-all d s (Restarted ∷ []) keeps ordered
 
 -- nothing is due on the further circuits
 due_idle : (k : ℕ) → sum_by (λ (q : CircuitState). length (waiting q)) (replicate k idle) ≡ 0
@@ -179,7 +167,7 @@ module _ (old new : Directory) (s : State) (n : Need) (calls : List Call) (j : I
       ∙ ap (λ (x : Need). need new (restarted (begun x))) g.wide
       ∙ ap (λ (x : State). need new (restarted x)) (begun-wider count m)
       ∙ ap (need new) (restarted-widened count (begun m))
-      ∙ need-widened new old (restarted (begun m)) g.extends (ordered_again old (begun m) g.keeps (ordered-begun old m g.sound))
+      ∙ need-widened new old (restarted (begun m)) g.extends (ordered-all old (begun m) (Restarted ∷ []) g.keeps (ordered-begun old m g.sound))
       ∙ ap (wider count) (restarted-left old s g.keeps)
 
   module _ (mid : List Call) (beside : WorksBeside other calls mid) (wrote : HasWritten new.mark n other mid) (fits : FitsFor new n) (long : length new.mark ≡ 32) (limit : new.limit < 256 ^ 4) where
@@ -193,20 +181,11 @@ module _ (old new : Directory) (s : State) (n : Need) (calls : List Call) (j : I
     choosing : (last : List Call) → EachSince mid last (LeavesBoth mid) → EachSince mid last (OpensEither old new (need old (restarted s)))
     choosing last each = weaker (LeavesBoth mid) (OpensEither old new (need old (restarted s))) mid last (λ files outside left. (left.silent, by_choice files outside left)) each
       where
-        kept : (files : Files) (outside : Outside) → LeavesBoth mid files outside → (k : ℕ) → k < 2 → files k ≡ seen mid k
-        kept files outside left zero lt = left.first
-        kept files outside left (suc zero) lt = left.second
-        kept files outside left (suc (suc k)) lt = absurd (omega (arith, lt))
-
-        below : (b : Bool) → cond b 1 0 < 2
-        below true = omega arith
-        below false = omega arith
-
         by_choice : (files : Files) (outside : Outside) → LeavesBoth mid files outside → (opens_any old files ≡ Ok (need old (restarted s))) ⊎ (opens new files ≡ Ok wide_need)
         by_choice files outside left = elim (cases_eq (selected files) j.file) [
-          | inl at ↦ inl (opens_old files at (kept files outside left j.file low ∙ beside.seen j.file not_other))
+          | inl at ↦ inl (opens_old files at (both_left mid files left j.file low ∙ beside.seen j.file not_other))
           | inr elsewhere ↦
-              inr (opens_new files (omega (arith, below (starts_with nat_eq (files 2) (1 ∷ [])), low, elsewhere)) (kept files outside left other (omega (arith, low))))
+              inr (opens_new files (omega (arith, selected_few files, low, elsewhere)) (both_left mid files left other (omega (arith, low))))
         ]
 
     -- all of it
@@ -233,40 +212,7 @@ module _ (old new : Directory) (s : State) (n : Need) (calls : List Call) (j : I
               (ap image (sym file) ∙ bytes ∙ ap (seen last) file ∙ files other other_not);
         }
 
--- the file ends at the gate behind the checkpoint
-pub closed_there : (mark : List ℕ) (n : Need) (file : ℕ) (mid : List Call) (j : InHand) (used : ℕ) → HasWritten mark n file mid → length mark ≡ 32 → used ≡ compacted_bytes written n → IsClosedAt mid j file used
-closed_there mark n file mid j used wrote long size =
-    let E : List ℕ → Type 0 = λ l. EndsAt (take (used - 1) l) l in
-    record { synced = wrote.synced file; ends = subst E (sym wrote.text) (ends_there mark n used long size) }
-
--- the journal stands where it stood, also where nobody knows what it stands for
-pub still_stands : (calls mid : List Call) (j : InHand) → StandsOn calls j → j.file < 2 → WorksBeside (1 - j.file) calls mid → StandsOn mid j
-still_stands calls mid j stands low beside =
-    let not_other : j.file ≢ 1 - j.file = λ e. omega (arith, e, low) in
-    let not_selector : 2 ≢ 1 - j.file = λ e. omega (arith, e, low) in
-    let selector = beside.seen 2 not_selector in
-    let file = beside.seen j.file not_other in
-    let A : List ℕ → Type 0 = λ l. j.ahead ≡ take (length j.ahead) (drop j.gate l) in
-    let B : List ℕ → Type 0 = λ l. j.is_all ≡ true → length j.ahead ≡ length l - j.gate in
-    let E : List ℕ → Type 0 = λ l. j.ended ≡ true → EndsAt (take j.gate l) l in
-    record {
-      selected_is = ap (λ (l : List ℕ). selected (λ _. l)) selector ∙ stands.selected_is;
-      selector_synced = beside.synced 2 not_selector stands.selector_synced;
-      file_synced = beside.synced j.file not_other stands.file_synced;
-      ahead_is = subst A (sym file) stands.ahead_is;
-      all_is = subst B (sym file) stands.all_is;
-      end_is = subst E (sym file) stands.end_is;
-    }
-
 -- ---- once the journal was opened
-
--- the file that is selected is the first or the second
-file_low : (calls : List Call) (j : InHand) → StandsOn calls j → j.file < 2
-file_low calls j stands = omega (arith, sym stands.selected_is, below (starts_with nat_eq (seen calls 2) (1 ∷ [])))
-  where
-    below : (b : Bool) → cond b 1 0 < 2
-    below true = omega arith
-    below false = omega arith
 
 module _ (tells : Type 0) (old new : Directory) (extends : Extends new old) (mid : List Call) (core : Core) (j : InHand) (g : IsOpenedAny tells old mid core j) where
   sound_need : is_sound old (need old g.state) ≡ true
@@ -276,7 +222,7 @@ module _ (tells : Type 0) (old new : Directory) (extends : Extends new old) (mid
   few_due limit = record {
     state = g.state;
     holds = g.kept.holds;
-    few = omega (arith, limit, g.kept.room, times_some (seal_size j.version) (due g.state));
+    few = omega (arith, limit, g.kept.room, add-mul 24 (seal_size j.version) (due g.state));
   }
 
   pub fits_for : (n : Need) → IsWide old new core n → full_compacted new (widened (length new.circuits) g.state) ≡ None → FitsFor new n

@@ -26,8 +26,15 @@ pub use Rattle.gts_event.specs.Need.{Need as NeedOf, need as need_at, unused as 
 pub use Rattle.gts_event.specs.Items.{circuit_need_of, need_of}
 pub use Rattle.gts_opening.specs.Journal.{checkpoint_text}
 use Rattle.gts_engine.specs.Keeping.{IsFullCompacted}
-use Rattle.gts_migrate.specs.declared.migrating.MigrateFault.{MigrateFault}
-use Rattle.gts_migrate.specs.declared.migrating.MigrateFault.TheVariants.{Open, Full, DiskFault, NoMemory}
+use Rattle.gts_checkpoint.specs.declared.fault.WriteFault.{WriteFault}
+use Rattle.gts_checkpoint.specs.declared.fault.WriteFault.TheVariants as writes
+use Rattle.gts_migrate.specs.declared.fault.MigrateFault.{MigrateFault}
+use Rattle.gts_migrate.specs.declared.fault.MigrateFault.TheVariants.{Open, Full, DiskFault, NoMemory}
+
+-- a fault of the writing of a checkpoint, as a migration is answered with it
+abbrev pub write_fault : WriteFault → MigrateFault
+write_fault writes.DiskFault = DiskFault
+write_fault writes.NoMemory = NoMemory
 
 -- Nothing is said; and the files open under the old directory, in either version, to this need, or under the new one to the
 -- wider need.

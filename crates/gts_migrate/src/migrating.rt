@@ -7,35 +7,16 @@ ghost use Rattle.gts_migrate.specs.Migrating.{DirectoryOf, Extends, State, NeedO
 ghost use Rattle.gts_migrate.specs.Migrating.{opens_any, files_open_any, OpensEitherAt, StaysEither, IsMigrated, GivesRoomFor, AnswersOpening, WasOpened, LeavesFiles, IsDiskFaultOf};
 ghost use Rattle.gts_migrate.specs.Migrating.{IsRoomFaultOf, IsWriteFaultOf, HasFewDue, IsWide, CanMigrate, FitsFor};
 
-use gts_checkpoint::{WriteFault, size, write};
+use crate::MigrateFault;
+use gts_checkpoint::{size, write};
 use gts_core::{Core, a_core_has_the_waiting_draws_of_its_state};
 use gts_directory::Directory;
 use gts_engine::{check_checkpoint, compacted_size};
 use gts_event::{CircuitNeed, Need, Places};
 use gts_journal::Journal;
-use gts_recovery::{OpenFault, open_core_any};
+use gts_recovery::open_core_any;
 use gts_traits::{NoMemory, Station};
 use std::alloc::Global;
-
-/// Why a journal was not taken over.
-#[derive(Clone, Copy, Debug, PartialEq, Eq)]
-pub enum MigrateFault {
-    /// The journal could not be opened under the old directory.
-    Open(OpenFault),
-    /// The checkpoint and all draws that are due would pass the limit of the new directory.
-    Full {
-        /// The bytes of the journal beside them.
-        used: u64,
-        /// The bytes that they take.
-        need: u64,
-        /// The limit.
-        limit: u64,
-    },
-    /// The disk failed at it.
-    DiskFault,
-    /// There was no memory.
-    NoMemory,
-}
 
 /// What is needed of a circuit on which nothing was drawn and nothing waits.
 fn unused() -> CircuitNeed
@@ -71,14 +52,8 @@ fn check_room(core: &Core, old: &Directory, new: &Directory, size: u64) -> Resul
 {
     let _ = old;
     a_core_has_the_waiting_draws_of_its_state();
-    match check_checkpoint(new, size, core.waiting()) {
-        Ok(()) => Ok(()),
-        Err(full) => Err(MigrateFault::Full {
-            used: full.used,
-            need: full.need,
-            limit: full.limit,
-        }),
-    }
+    check_checkpoint(new, size, core.waiting())?;
+    Ok(())
 }
 
 /// The need that a core has under the new directory, with the size of its checkpoint, for which there is room.
@@ -97,14 +72,8 @@ fn prepare(
         → GivesRoomFor result new.now (widened (length new.now.circuits) s) }
     ensures kind { IfErr result IsRoomFaultOf }
 {
-    let need = match core.need(alloc) {
-        Ok(need) => need,
-        Err(_) => return Err(MigrateFault::NoMemory),
-    };
-    let wide = match widen(alloc, need, new.circuits()) {
-        Ok(wide) => wide,
-        Err(_) => return Err(MigrateFault::NoMemory),
-    };
+    let need = core.need(alloc)?;
+    let wide = widen(alloc, need, new.circuits())?;
     let size = size(&wide);
     check_room(core, old, new, size)?;
     Ok((wide, size))
@@ -141,14 +110,9 @@ fn rewrite<P: Station>(
     let mut journal = journal;
     let other = 1 - journal.file();
     let used = compacted_size(size);
-    match write(alloc, station, other, new.mark(), need) {
-        Ok(seal) => match journal.select(station, other, used, seal) {
-            Ok(()) => Ok(()),
-            Err(_) => Err(MigrateFault::DiskFault),
-        },
-        Err(WriteFault::NoMemory) => Err(MigrateFault::NoMemory),
-        Err(WriteFault::DiskFault) => Err(MigrateFault::DiskFault),
-    }
+    let seal = write(alloc, station, other, new.mark(), need)?;
+    journal.select(station, other, used, seal)?;
+    Ok(())
 }
 
 /// Takes the journal over, on a station that is lent.
@@ -179,10 +143,7 @@ fn take_over<P: Station>(
 {
     // A limit leaves few draws due.
     let _ = old.limit();
-    let (core, journal) = match open_core_any(alloc, station, old) {
-        Ok(opened) => opened,
-        Err(fault) => return Err(MigrateFault::Open(fault)),
-    };
+    let (core, journal) = open_core_any(alloc, station, old)?;
     let (need, size) = prepare(alloc, &core, old, new)?;
     rewrite(alloc, station, journal, new, &need, size)
 }

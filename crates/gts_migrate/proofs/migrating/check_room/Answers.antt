@@ -1,6 +1,8 @@
 use Rattle.std.proofs.Common.{length, sym, ◌∙◌, arith}
+use Rattle.std.proofs.lemmas.Result.{err_from_is_err_and}
 use Rattle.gts_recovery.specs.Wider.{widened}
-use Rattle.gts_migrate.proofs.RoomLemmas.{due_waiting}
+use Rattle.gts_recovery.proofs.LawLemmas.{due_counted as due_waiting}
+use Rattle.gts_migrate.specs.declared.fault.MigrateFault.TheVariants.{Full}
 use Rattle.gts_migrate.proofs.MigratingLemmas.{due-widened}
 use Rattle.gts_migrate.proofs.migrating.check_room.Goals as goal
 
@@ -14,12 +16,15 @@ check_checkpoint-requires c =
     let s0 = c.requires in
     omega (arith, c.waiting.ensures c.args.old.now s0.state s0.holds, due_waiting s0.state.circuits, s0.few)
 
-pub returns-in-Ok-clause-room : goal.returns-in-Ok-clause-room
-returns-in-Ok-clause-room c = λ s holds size.
+pub returns-clause-room : goal.returns-clause-room
+returns-clause-room c = λ s holds size.
     let k = length c.args.new.now.circuits in
-    c.in-Ok.ensures (widened k s) (due-widened k s ∙ due_waiting s.circuits ∙ sym (c.waiting.ensures c.args.old.now s holds)) size
+    c.in_ok-check_checkpoint.ensures (widened k s) (due-widened k s ∙ due_waiting s.circuits ∙ sym (c.waiting.ensures c.args.old.now s holds)) size
 
-pub returns-in-Err-clause-room : goal.returns-in-Err-clause-room
-returns-in-Err-clause-room c = λ s holds size.
+pub returns-in_err-check_checkpoint-clause-room : goal.returns-in_err-check_checkpoint-clause-room
+returns-in_err-check_checkpoint-clause-room c = λ s holds size.
     let k = length c.args.new.now.circuits in
-    c.in-Err.ensures (widened k s) (due-widened k s ∙ due_waiting s.circuits ∙ sym (c.waiting.ensures c.args.old.now s holds)) size
+    let full = c.in_err-check_checkpoint.field-0.0 in
+    let p = err_from_is_err_and c.from_residual.result c.from_residual.ensures.1 in
+    rw (p.1, p.2)
+    (c.in_err-check_checkpoint.ensures (widened k s) (due-widened k s ∙ due_waiting s.circuits ∙ sym (c.waiting.ensures c.args.old.now s holds)) size)

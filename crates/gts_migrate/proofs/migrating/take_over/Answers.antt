@@ -11,8 +11,8 @@ use Rattle.gts_recovery.specs.Wider.{widened}
 use Rattle.gts_recovery.specs.Opened.{opens_any}
 use Rattle.gts_traits.specs.Disk.{seen}
 use Rattle.gts_record.specs.declared.fault.OpenFault.{OpenFault}
-use Rattle.gts_migrate.specs.declared.migrating.MigrateFault.{MigrateFault}
-use Rattle.gts_migrate.specs.declared.migrating.MigrateFault.TheVariants.{Open, Full, DiskFault, NoMemory}
+use Rattle.gts_migrate.specs.declared.fault.MigrateFault.{MigrateFault}
+use Rattle.gts_migrate.specs.declared.fault.MigrateFault.TheVariants.{Open, Full, DiskFault, NoMemory}
 use Rattle.gts_migrate.specs.Migrating.{OpensEither, IsRoomAnswer, IsRoomFaultOf, AnswersOpening}
 use Rattle.gts_migrate.proofs.MigratingLemmas.{fits_for, can_migrate, state_is, need_is, opens_so, at_rest, room_after, opening_after, told_after, disk_after, migrated_after}
 use Rattle.gts_migrate.proofs.migrating.take_over.Goals as goal
@@ -22,9 +22,9 @@ rewrite-requires-clause-fits g c =
     let old = c.args.old.now in
     let new = c.args.new.now in
     let mid = g.P.Station.calls c.open_core_any.new.station in
-    let core = c.in-Ok.opened.0 in
-    let j = c.in-Ok.opened.1 in
-    let o = c.in-Ok.ensures.opened in
+    let core = c.in_ok-core.core in
+    let j = c.in_ok-core.journal in
+    let o = c.in_ok-core.ensures.opened in
     let n = need_of c.in_ok-need.need in
     let wide = c.in_ok-need.ensures.wide in
     fits_for g.P.Station.tells old new c.requires mid core j o n wide (c.in_ok-need.ensures.room o.state o.kept.holds)
@@ -34,13 +34,13 @@ returns-clause-moments g c = λ tell k was is.
     let old = c.args.old.now in
     let new = c.args.new.now in
     let mid = g.P.Station.calls c.open_core_any.new.station in
-    let core = c.in-Ok.opened.0 in
-    let j = c.in-Ok.opened.1 in
-    let o = c.in-Ok.ensures.opened in
+    let core = c.in_ok-core.core in
+    let j = c.in_ok-core.journal in
+    let o = c.in_ok-core.ensures.opened in
     let n = need_of c.in_ok-need.need in
     let wide = c.in_ok-need.ensures.wide in
     let before = g.P.Station.calls c.args.station.now in
-    let synced = c.in-Ok.ensures.synced tell in
+    let synced = c.in_ok-core.ensures.synced tell in
     let after = g.P.Station.calls c.rewrite.new.station in
     let can = can_migrate g.P.Station.tells old new c.requires mid core j o n wide tell in
     let each = c.rewrite.ensures.moments tell old o.state can in
@@ -52,13 +52,13 @@ returns-clause-migrated g c = λ tell s used is.
     let old = c.args.old.now in
     let new = c.args.new.now in
     let mid = g.P.Station.calls c.open_core_any.new.station in
-    let core = c.in-Ok.opened.0 in
-    let j = c.in-Ok.opened.1 in
-    let o = c.in-Ok.ensures.opened in
+    let core = c.in_ok-core.core in
+    let j = c.in_ok-core.journal in
+    let o = c.in_ok-core.ensures.opened in
     let n = need_of c.in_ok-need.need in
     let wide = c.in_ok-need.ensures.wide in
     let before = g.P.Station.calls c.args.station.now in
-    let synced = c.in-Ok.ensures.synced tell in
+    let synced = c.in_ok-core.ensures.synced tell in
     let can = can_migrate g.P.Station.tells old new c.requires mid core j o n wide tell in
     migrated_after c.rewrite.result old new o.state s n before mid (g.P.Station.calls c.rewrite.new.station) j synced
     (state_is g.P.Station.tells old new c.requires mid core j o tell before synced s used is) can (c.rewrite.ensures.written tell)
@@ -68,11 +68,11 @@ returns-clause-full g c = λ tell s used is.
     let old = c.args.old.now in
     let new = c.args.new.now in
     let mid = g.P.Station.calls c.open_core_any.new.station in
-    let core = c.in-Ok.opened.0 in
-    let j = c.in-Ok.opened.1 in
-    let o = c.in-Ok.ensures.opened in
+    let core = c.in_ok-core.core in
+    let j = c.in_ok-core.journal in
+    let o = c.in_ok-core.ensures.opened in
     let before = g.P.Station.calls c.args.station.now in
-    let synced = c.in-Ok.ensures.synced tell in
+    let synced = c.in_ok-core.ensures.synced tell in
     let same = state_is g.P.Station.tells old new c.requires mid core j o tell before synced s used is in
     let free : full_compacted new (widened (length new.circuits) o.state) ≡ None = c.in_ok-need.ensures.room o.state o.kept.holds in
     room_after c.rewrite.result new (widened (length new.circuits) s) c.rewrite.ensures.kind
@@ -83,49 +83,50 @@ returns-clause-opening g c = λ tell.
     let old = c.args.old.now in
     let new = c.args.new.now in
     let mid = g.P.Station.calls c.open_core_any.new.station in
-    let core = c.in-Ok.opened.0 in
-    let j = c.in-Ok.opened.1 in
-    let o = c.in-Ok.ensures.opened in
+    let core = c.in_ok-core.core in
+    let j = c.in_ok-core.journal in
+    let o = c.in_ok-core.ensures.opened in
     let before = g.P.Station.calls c.args.station.now in
-    let synced = c.in-Ok.ensures.synced tell in
+    let synced = c.in_ok-core.ensures.synced tell in
     opening_after c.rewrite.result (opens_any old (seen before)) (need old (restarted o.state)) c.rewrite.ensures.kind
     (opens_so g.P.Station.tells old new c.requires mid core j o tell before synced)
 
 pub returns-clause-told : goal.returns-clause-told
 returns-clause-told g c = λ tell leaves.
     told_after g.P.Station.calls c.rewrite.result c.args.station.now c.open_core_any.new.station c.rewrite.new.station c.rewrite.ensures.kind c.rewrite.ensures.no_memory
-    (c.in-Ok.ensures.told tell) leaves
+    (c.in_ok-core.ensures.told tell) leaves
 
 pub returns-clause-disk : goal.returns-clause-disk
 returns-clause-disk g c = λ is.
     disk_after c.rewrite.result (g.P.Station.disk_faults c.args.station.now) (g.P.Station.disk_faults c.open_core_any.new.station) (g.P.Station.disk_faults c.rewrite.new.station)
-    c.rewrite.ensures.kind c.rewrite.ensures.disk c.in-Ok.ensures.later is
+    c.rewrite.ensures.kind c.rewrite.ensures.disk c.in_ok-core.ensures.later is
 
 pub returns-in_err-need-clause-moments : goal.returns-in_err-need-clause-moments
 returns-in_err-need-clause-moments g c = λ tell k was is.
     let old = c.args.old.now in
     let new = c.args.new.now in
     let mid = g.P.Station.calls c.open_core_any.new.station in
-    let core = c.in-Ok.opened.0 in
-    let j = c.in-Ok.opened.1 in
-    let o = c.in-Ok.ensures.opened in
+    let core = c.in_ok-core.core in
+    let j = c.in_ok-core.journal in
+    let o = c.in_ok-core.ensures.opened in
     let before = g.P.Station.calls c.args.station.now in
-    let synced = c.in-Ok.ensures.synced tell in
+    let synced = c.in_ok-core.ensures.synced tell in
     subst (λ (m : Need). EachSince (Did Syncs ∷ before) mid (OpensEither old new m)) (need_is g.P.Station.tells old new c.requires mid core j o tell before synced k is)
     (at_rest g.P.Station.tells old new c.requires mid core j o tell before synced)
 
 pub returns-in_err-need-clause-full : goal.returns-in_err-need-clause-full
 returns-in_err-need-clause-full g c = λ tell s used is.
-    let p = err_from_is_err_and c.from_residual.result c.from_residual.ensures.1 in
     let old = c.args.old.now in
     let new = c.args.new.now in
     let mid = g.P.Station.calls c.open_core_any.new.station in
-    let core = c.in-Ok.opened.0 in
-    let j = c.in-Ok.opened.1 in
-    let o = c.in-Ok.ensures.opened in
+    let core = c.in_ok-core.core in
+    let j = c.in_ok-core.journal in
+    let o = c.in_ok-core.ensures.opened in
     let before = g.P.Station.calls c.args.station.now in
-    let synced = c.in-Ok.ensures.synced tell in
-    rw (p.1, p.2) (subst (λ (t : State). IsRoomAnswer c.in_err-need.field-0.0 new (widened (length new.circuits) t)) (sym (state_is g.P.Station.tells old new c.requires mid core j o tell before synced s used is))
+    let synced = c.in_ok-core.ensures.synced tell in
+    let p = err_from_is_err_and c.from_residual-in_err-need.result c.from_residual-in_err-need.ensures.1 in
+    rw (p.1, p.2)
+    (subst (λ (t : State). IsRoomAnswer c.in_err-need.field-0.0 new (widened (length new.circuits) t)) (sym (state_is g.P.Station.tells old new c.requires mid core j o tell before synced s used is))
     (c.in_err-need.ensures.room o.state o.kept.holds))
 
 -- where there was no room or no memory, the files opened
@@ -137,14 +138,15 @@ opening_before DiskFault opened n kind is = absurd kind
 
 pub returns-in_err-need-clause-opening : goal.returns-in_err-need-clause-opening
 returns-in_err-need-clause-opening g c = λ tell.
-    let p = err_from_is_err_and c.from_residual.result c.from_residual.ensures.1 in
     let old = c.args.old.now in
     let new = c.args.new.now in
     let mid = g.P.Station.calls c.open_core_any.new.station in
-    let core = c.in-Ok.opened.0 in
-    let j = c.in-Ok.opened.1 in
-    let o = c.in-Ok.ensures.opened in
+    let core = c.in_ok-core.core in
+    let j = c.in_ok-core.journal in
+    let o = c.in_ok-core.ensures.opened in
     let before = g.P.Station.calls c.args.station.now in
-    let synced = c.in-Ok.ensures.synced tell in
-    rw (p.1, p.2) (opening_before c.in_err-need.field-0.0 (opens_any old (seen before)) (need old (restarted o.state)) c.in_err-need.ensures.kind
+    let synced = c.in_ok-core.ensures.synced tell in
+    let p = err_from_is_err_and c.from_residual-in_err-need.result c.from_residual-in_err-need.ensures.1 in
+    rw (p.1, p.2)
+    (opening_before c.in_err-need.field-0.0 (opens_any old (seen before)) (need old (restarted o.state)) c.in_err-need.ensures.kind
     (opens_so g.P.Station.tells old new c.requires mid core j o tell before synced))
