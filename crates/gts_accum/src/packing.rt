@@ -75,7 +75,7 @@ fn take_piece<P: Station>(
 {
     let mut rest = piece;
     let mut at = start;
-    'piece: while !rest.is_empty() {
+    while !rest.is_empty() {
         let (count, step) = decoder.take(rest);
         if let Step::Lost(_) = step {
             return Err(Stop::Lost {
@@ -129,7 +129,7 @@ pub fn pack<S: Source, P: Station>(alloc: Global, stream: &mut S, station: &mut 
     };
     let mut piece = [0; PIECE];
     let mut at: u64 = 0;
-    'stream: loop {
+    loop {
         let count = match stream.read(&mut piece) {
             Ok(0) => return finish(at, decoder.rest(), station),
             Ok(count) => count,

@@ -157,7 +157,7 @@ impl<'a> HeadCursor<'a> {
             (λ stop. reading.digits_at SIZE_DIGITS 0 self.old ≡ Err stop) }
     {
         let mut number = 0;
-        'digits: for _ in 0..SIZE_DIGITS {
+        for _ in 0..SIZE_DIGITS {
             number = 10 * number + self.digit(10)?;
         }
         Ok(number)

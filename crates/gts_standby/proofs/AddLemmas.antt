@@ -1,7 +1,7 @@
 -- Records of a feed are added to a journal.
 use Rattle.std.proofs.Common.{◌≡◌, inl, inr, ℕ, zero, suc, ◌+◌, ◌-◌, ◌^◌, ◌≤◌, Bool, true, false, cond, List, [], ◌∷◌, ◌++◌, length, drop, Option, Some, None, Result, Ok, Err, refl, sym, ap, subst, ◌∙◌, arith, length-append, length-drop}
 use Rattle.std.specs.Prelude.{nat_lt}
-use Rattle.std.proofs.lemmas.Bool.Decides.{nat_tests}
+use Rattle.std.proofs.lemmas.Bool.{le-ltb}
 use Rattle.std.proofs.lemmas.List.{append-nil, append_assoc}
 use Rattle.gts_traits.specs.{Call, Files, Outside, seen, said_by, SaidSince, EachSince}
 use Rattle.gts_traits.proofs.LawLemmas.{started, joined}
@@ -101,10 +101,7 @@ whole_uncut v before fed r found =
     let long : length text + seal_size v ≤ length fed =
     omega (arith, ap (λ (l : List ℕ). length l) stands.1, length-append (sealed v before text) stands.0, length-sealed v before (record_text r)) in
     ap (λ (o : Option Record). elim o as (λ _. Bool) [ None ↦ may_begin fed | Some q ↦ nat_lt (length fed) (length (record_text q) + seal_size v) ]) there
-    ∙ not_below (length fed) (length text + seal_size v) long
-  where
-    not_below : (m n : ℕ) → n ≤ m → nat_lt m n ≡ false
-    not_below m n le = grind (arith, nat_tests)
+    ∙ le-ltb (length fed) (length text + seal_size v) long
 
 -- a record is refused
 pub refused_there : (d : Directory) (s : State) (at : ℕ) (calls : List Call) (j : InHand) (fed left : List ℕ) (r : Record) → sealed_at written j.seal fed ≡ Some r

@@ -2,6 +2,7 @@
 use Rattle.std.proofs.Common.{◌≡◌, ◌⊎◌, ⊎_elim, ℕ, ◌+◌, ◌-◌, ◌<◌, ◌≤◌, Bool, true, false, cond, List, [], ◌∷◌, ◌++◌, length, take, drop, replicate, Option, Some, None, Result, Ok, Err, nat_eq, refl, sym, ap, subst, ◌∙◌, arith, length-append}
 use Rattle.std.specs.Prelude.{nat_lt, nat_le, is_some, option_map, min, codes, IfOk, IsErrOf}
 use Rattle.std.proofs.lemmas.List.{drop_all, take_all}
+use Rattle.std.proofs.lemmas.Bool.{le-ltb}
 use Rattle.std.proofs.lemmas.Bool.Decides.{nat_tests}
 use Rattle.std.proofs.Common.{append_assoc}
 use Rattle.std.specs.List.{starts_with}
@@ -105,10 +106,7 @@ cut_none : (v : Version) (bytes : List ℕ) → LONGEST ≤ length bytes → (o 
 cut_none v bytes long None is = long_begins_none bytes long (sym is)
 cut_none v bytes long (Some r) is =
     let few : length (record_text r) + seal_size v ≤ length bytes = omega (arith, long, few_bytes v, text_length r (record_at-stands bytes r (sym is)).1) in
-    not_below (length bytes) (length (record_text r) + seal_size v) few
-  where
-    not_below : (m n : ℕ) → n ≤ m → nat_lt m n ≡ false
-    not_below m n le = grind (arith, nat_tests)
+    le-ltb (length bytes) (length (record_text r) + seal_size v) few
 
 pub long_is_whole : (v : Version) (bytes : List ℕ) → LONGEST ≤ length bytes → may_be_cut v bytes ≡ false
 long_is_whole v bytes long = cut_none v bytes long (record_at bytes) refl

@@ -1,7 +1,6 @@
 -- What is left of a feed, record by record.
-use Rattle.std.proofs.Common.{◌≡◌, ℕ, zero, suc, ◌+◌, ◌-◌, ◌<◌, ◌≤◌, Bool, true, false, cond, List, [], ◌∷◌, ◌++◌, length, take, drop, Option, Some, None, Result, Ok, Err, refl, sym, ap, subst, ◌∙◌, arith, length-append, length-drop}
+use Rattle.std.proofs.Common.{◌≡◌, ℕ, zero, suc, ◌+◌, ◌-◌, ◌<◌, ◌≤◌, Bool, true, false, List, [], ◌∷◌, ◌++◌, length, take, drop, Option, Some, None, Result, Ok, Err, refl, sym, ap, subst, ◌∙◌, arith, length-append, length-drop}
 use Rattle.std.specs.Prelude.{◌==◌}
-use Rattle.std.proofs.lemmas.Bool.Decides.{nat_tests}
 use Rattle.std.proofs.lemmas.List.{drop-drop, take_at}
 use Rattle.gts_directory.specs.Directory.{Directory}
 use Rattle.gts_event.specs.State.{State}
@@ -14,34 +13,11 @@ use Rattle.gts_record.specs.Format.{seal, sealed, sealed_at, record_size}
 use Rattle.gts_record.proofs.LawLemmas.{length-sealed, sealed_at-stands}
 use Rattle.gts_opening.specs.Journal.{event_of_record, admits, Read, records_at}
 use Rattle.gts_journal.specs.{entry_at}
-use Rattle.gts_journal.proofs.LawLemmas.{reads_one, refuses_one, reads_end_there, reads_fault}
+use Rattle.gts_journal.proofs.LawLemmas.{at_mark, at_found, was_found, one_back, reads_one, refuses_one, reads_end_there, reads_fault}
 use Rattle.gts_standby.specs.Feed.{feed_at}
 use Rattle.gts_standby.specs.Shipping.{Reaches}
 use Rattle.gts_standby.specs.Taking.{seals_at}
 use Rattle.gts_standby.specs.Comparing.{Leads}
-
--- ---- what stands at a gate
-
-abbrev at_found : ℕ → ℕ → Option Record → Result (Option Record) OpenFault
-at_found file gate o = elim o as (λ _. Result (Option Record) OpenFault) [ None ↦ Err (Damaged file (gate + 1)) | Some r ↦ Ok (Some r) ]
-
-abbrev at_mark : Version → List ℕ → ℕ → ℕ → List ℕ → Bool → Result (Option Record) OpenFault
-at_mark v before file gate bytes b = cond b (at_found file gate (sealed_at v before bytes)) (Ok None)
-
-open_is : (m : ℕ) → true ≡ (m == open_gate) → m ≡ open_gate
-open_is m f = grind (arith, nat_tests)
-
-pub was_found : (v : Version) (before : List ℕ) (file gate : ℕ) (bytes : List ℕ) (r : Record) → entry_at v before file gate bytes ≡ Ok (Some r) → (rest : List ℕ) × (bytes ≡ open_gate ∷ rest) × (sealed_at v before rest ≡ Some r)
-was_found v before file gate [] r is = absurd (cc is)
-was_found v before file gate (mark ∷ bytes) r is = by_mark (mark == open_gate) refl is
-  where
-    by_mark : (b : Bool) → b ≡ (mark == open_gate) → at_mark v before file gate bytes b ≡ Ok (Some r) → (rest : List ℕ) × (mark ∷ bytes ≡ open_gate ∷ rest) × (sealed_at v before rest ≡ Some r)
-    by_mark false e is = absurd (let f : None ≡ Some r = cc is in cc f)
-    by_mark true e is = (bytes, ap (λ (m : ℕ). m ∷ bytes) (open_is mark e), by_found (sealed_at v before bytes) refl is)
-      where
-        by_found : (o : Option Record) → o ≡ sealed_at v before bytes → at_found file gate o ≡ Ok (Some r) → sealed_at v before bytes ≡ Some r
-        by_found None f is = absurd (cc is)
-        by_found (Some q) f is = let same : q ≡ r = cc is in sym f ∙ ap Some same
 
 -- ---- the feed from a gate on
 
@@ -53,9 +29,6 @@ feed_of_record v n before bytes o = elim o as (λ _. List ℕ) [
 
 abbrev feed_of_gate : Version → ℕ → List ℕ → List ℕ → Bool → List ℕ
 feed_of_gate v n before bytes b = elim b as (λ _. List ℕ) [ false ↦ [] | true ↦ feed_of_record v n before bytes (sealed_at v before bytes) ]
-
-one_back : (k : ℕ) (mark : ℕ) (rest : List ℕ) → 1 ≤ k → drop (k - 1) rest ≡ drop k (mark ∷ rest)
-one_back k mark rest some = ap (λ (m : ℕ). drop m (mark ∷ rest)) (let e : suc (k - 1) ≡ k = omega (arith, some) in e)
 
 pub feed_one : (v : Version) (n file gate : ℕ) (before bytes : List ℕ) (r : Record) → entry_at v before file gate bytes ≡ Ok (Some r)
     → feed_at v (suc n) before bytes ≡ sealed v before (record_text r) ++ feed_at v n (seal v before (record_text r)) (drop (record_size v r) bytes)

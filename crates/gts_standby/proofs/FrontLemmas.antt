@@ -15,6 +15,7 @@ use Rattle.gts_record.specs.declared.fault.OpenFault.{OpenFault}
 use Rattle.gts_record.specs.Record.{Record, record_text}
 use Rattle.gts_record.specs.Format.{magic, seal, seal_size, is_sealed, sealed_at, first_seal, record_size, written}
 use Rattle.gts_opening.specs.Journal.{Read, agreeing, admits, event_of_record, record_behind, checkpoint_text, compacted_bytes, need_in, admits_checkpoint, selected, files_read, records_at}
+use Rattle.gts_opening.proofs.LawLemmas.{magic_size}
 use Rattle.gts_journal.specs.{InHand, entry_at, is_checkpoint, selected_bytes}
 use Rattle.gts_journal.proofs.LawLemmas.{opens_behind, reads_end_there, reads_fault}
 use Rattle.gts_standby.specs.Ahead.{InFeed}
@@ -27,7 +28,6 @@ use Rattle.gts_standby.proofs.ScanLemmas.{drop_front, or_else_read, reach_on, se
 use Rattle.gts_standby.proofs.AddLemmas.{added_by, not_empty, some_text, no_begin}
 use Rattle.gts_standby.proofs.PutLemmas.{behind_it, begins_so, checkpoint_there}
 use Rattle.gts_standby.proofs.FeedLemmas.{seals_one}
-use Rattle.gts_standby.proofs.BeginLemmas.{magic_size}
 use Rattle.gts_standby.proofs.TakeLemmas.{sound_header}
 
 -- ---- records that are added
@@ -392,7 +392,7 @@ taken_front d s gate last own fed more size limit first = by_same (agreeing head
         let at : agreeing header fed ≡ 40 = is_forty (agreeing header fed) e in
         let there : 40 ≤ length fed = omega (arith, at, agreeing-low header fed) in
         let front : InFeed = record { bytes = fed; is_all = false } in
-        let low : length header ≤ 40 = omega (arith, size, magic_size, length-append (magic written) d.mark) in
+        let low : length header ≤ 40 = omega (arith, size, magic_size written, length-append (magic written) d.mark) in
         let same : agreeing header (fed ++ more) ≡ agreeing header fed = all_agree header (fed ++ more) more front low (record { is = refl; all = λ e. absurd (cc e) }) (inr there) in
         let whole : taken written d s gate last own (fed ++ more) ≡ take_records written d s gate last own (drop 40 (fed ++ more)) =
         ap (λ (k : ℕ). cond (k == 40) (take_records written d s gate last own (drop 40 (fed ++ more))) (cond (nat_le (length (fed ++ more)) k) (stopped Ends) (stopped (Breaks k)))) (same ∙ at) in

@@ -1,36 +1,14 @@
 -- The header of a feed.
-use Rattle.std.proofs.Common.{◌≡◌, ◌≢◌, ◌⊎◌, ⊎_elim, ℕ, zero, suc, ◌+◌, ◌<◌, ◌≤◌, Bool, true, false, cond, List, [], ◌∷◌, ◌++◌, length, get_or, drop, refl, sym, ap, subst, ◌∙◌, arith, length-append}
+use Rattle.std.proofs.Common.{◌≡◌, ◌≢◌, ◌⊎◌, ⊎_elim, ℕ, zero, suc, ◌<◌, ◌≤◌, Bool, true, false, cond, List, [], ◌∷◌, ◌++◌, length, drop, refl, sym, ap, subst, ◌∙◌, arith, length-append}
 use Rattle.std.specs.Prelude.{◌==◌, nat_le}
-use Rattle.std.proofs.lemmas.Bool.{eq-eqb, ne_eqb}
+use Rattle.std.proofs.lemmas.Bool.{ne_eqb}
 use Rattle.std.proofs.lemmas.Bool.Decides.{nat_tests}
-use Rattle.std.proofs.lemmas.List.{drop_more, drop_all, append-nil}
+use Rattle.std.proofs.lemmas.List.{append-nil}
 use Rattle.gts_opening.specs.Journal.{agreeing}
 use Rattle.gts_standby.specs.Ahead.{InFeed}
 use Rattle.gts_standby.specs.Taking.{Taken, Ends, Breaks, stopped, by_header}
 use Rattle.gts_standby.specs.Reading.{HasRead, StopsAt}
 use Rattle.gts_standby.specs.declared.end.FollowEnd.TheVariants.{Done, Feed}
-
-agreeing-none : (xs : List ℕ) → agreeing xs [] ≡ 0
-agreeing-none [] = refl
-agreeing-none (x ∷ xs) = refl
-
--- the next bytes are compared
-at_heads : (xs ys : List ℕ) (i : ℕ) (b : Bool) → i < length xs → i < length ys → (get_or xs i 0 == get_or ys i 0) ≡ b
-    → agreeing (drop i xs) (drop i ys) ≡ cond b (suc (agreeing (drop (i + 1) xs) (drop (i + 1) ys))) 0
-at_heads xs ys i b low small is =
-    ap (λ (l : List ℕ). agreeing l (drop i ys)) (drop_more xs i 0 low)
-    ∙ ap (λ (l : List ℕ). agreeing (get_or xs i 0 ∷ drop (i + 1) xs) l) (drop_more ys i 0 small)
-    ∙ ap (λ (c : Bool). cond c (suc (agreeing (drop (i + 1) xs) (drop (i + 1) ys))) 0) is
-
-pub agreeing-same : (xs ys : List ℕ) (i n : ℕ) → i < length xs → i < length ys → get_or xs i 0 ≡ get_or ys i 0 → n ≡ i + agreeing (drop i xs) (drop i ys)
-    → n ≡ i + 1 + agreeing (drop (i + 1) xs) (drop (i + 1) ys)
-agreeing-same xs ys i n low small same is = omega (arith, is, at_heads xs ys i true low small (eq-eqb (get_or xs i 0) (get_or ys i 0) same))
-
-pub agreeing-other : (xs ys : List ℕ) (i n : ℕ) → i < length xs → i < length ys → get_or xs i 0 ≢ get_or ys i 0 → n ≡ i + agreeing (drop i xs) (drop i ys) → i ≡ n
-agreeing-other xs ys i n low small other is = omega (arith, is, at_heads xs ys i false low small (ne_eqb (get_or xs i 0) (get_or ys i 0) other))
-
-pub agreeing-end : (xs ys : List ℕ) (i n : ℕ) → length ys ≤ i → n ≡ i + agreeing (drop i xs) (drop i ys) → i ≡ n
-agreeing-end xs ys i n end is = omega (arith, is, ap (agreeing (drop i xs)) (drop_all i ys end), agreeing-none (drop i xs))
 
 -- no more agree than there are
 pub agreeing-low : (xs ys : List ℕ) → agreeing xs ys ≤ length ys

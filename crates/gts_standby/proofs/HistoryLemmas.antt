@@ -14,15 +14,15 @@ use Rattle.gts_record.specs.Record.{Record, Accept, Drew, record_text}
 use Rattle.gts_record.specs.Format.{magic, seal, sealed, sealed_at, first_seal, record_size, is_older, written}
 use Rattle.gts_record.proofs.LawLemmas.{length-sealed, sealed_at-found, sealed_fits}
 use Rattle.gts_opening.specs.Journal.{Read, agreeing, admits, event_of_record, record_behind, after_records, selected, files_read, file_opens, records_at}
+use Rattle.gts_opening.proofs.LawLemmas.{magic_size}
 use Rattle.gts_journal.specs.{entry_at, header_fault, is_checkpoint, selected_bytes}
-use Rattle.gts_journal.proofs.LawLemmas.{opens_behind, refuses_one}
+use Rattle.gts_journal.proofs.LawLemmas.{opens_behind, was_found, refuses_one}
 use Rattle.gts_standby.specs.Feed.{feed_at, feed_behind, feed}
 use Rattle.gts_standby.specs.Taking.{Taken, Ends, adding, is_checkpoint_fed, add_all, take_records, taken}
 use Rattle.gts_standby.specs.Following.{own_seals, comes_to}
 use Rattle.gts_standby.specs.Fronts.{AddsFront, AddsNothing, AddsPart, LeadsTo}
-use Rattle.gts_standby.proofs.FeedLemmas.{was_found, feed_one, feed_none, at_entry, IsEnd, IsRecord}
+use Rattle.gts_standby.proofs.FeedLemmas.{feed_one, feed_none, at_entry, IsEnd, IsRecord}
 use Rattle.gts_standby.proofs.FirstLemmas.{starts, fault_by}
-use Rattle.gts_standby.proofs.BeginLemmas.{magic_size}
 use Rattle.gts_standby.proofs.HeaderLemmas.{header_on}
 use Rattle.gts_standby.proofs.ScanLemmas.{drop_front}
 use Rattle.gts_standby.proofs.AddLemmas.{added_by, some_text}
@@ -125,8 +125,8 @@ header_is d file bytes sound =
     let begins : bytes ≡ magic written ++ drop (length (magic written)) bytes = starts bytes (magic written) tests.0 in
     let ours : take 32 (drop 8 bytes) ≡ d.mark = same_text (take 32 (drop 8 bytes)) d.mark (sym tests.1) in
     ap (take 40) begins
-    ∙ take_past (magic written) (drop (length (magic written)) bytes) 32 40 (omega (arith, magic_size))
-    ∙ ap (λ (k : ℕ). magic written ++ take 32 (drop k bytes)) magic_size
+    ∙ take_past (magic written) (drop (length (magic written)) bytes) 32 40 (omega (arith, magic_size written))
+    ∙ ap (λ (k : ℕ). magic written ++ take 32 (drop k bytes)) (magic_size written)
     ∙ ap (λ (l : List ℕ). magic written ++ l) ours
 
 -- ---- a whole feed
@@ -148,7 +148,7 @@ module _ (d : Directory) (file : ℕ) (bytes : List ℕ) (x : State × ℕ × Li
   reads = sym (opens_behind written d file bytes false sound plain) ∙ opened
 
   forty : length header ≡ 40
-  forty = omega (arith, size, magic_size, length-append (magic written) d.mark)
+  forty = omega (arith, size, magic_size written, length-append (magic written) d.mark)
 
   feed_is : feed written d.mark bytes ≡ header ++ sent
   feed_is = ap (λ (l : List ℕ). l ++ feed_behind written first bytes (is_checkpoint bytes)) (header_is d file bytes sound) ∙ ap (λ (b : Bool). header ++ feed_behind written first bytes b) plain

@@ -1,13 +1,14 @@
 -- How long the checkpoint at the front of a feed is, by the bytes that were read ahead.
-use Rattle.std.proofs.Common.{◌≡◌, ◌⊎◌, ⊎_elim, ℕ, zero, suc, ◌+◌, ◌-◌, ◌<◌, ◌≤◌, Bool, true, false, cond, List, [], ◌∷◌, ◌++◌, length, take, drop, Result, Err, Some, replicate, refl, sym, ap, subst, ◌∙◌, arith, length-append}
+use Rattle.std.proofs.Common.{◌≡◌, ◌⊎◌, ⊎_elim, ℕ, zero, suc, ◌+◌, ◌-◌, ◌<◌, ◌≤◌, Bool, true, cond, List, [], ◌∷◌, ◌++◌, length, take, drop, Result, Err, Some, replicate, refl, sym, ap, subst, ◌∙◌, arith, length-append}
 use Rattle.std.specs.Prelude.{nat_lt, nat_eq, IsErrAnd}
 use Rattle.std.specs.List.{starts_with}
-use Rattle.std.specs.Cmp.Lexicographic.{pointwise}
+use Rattle.std.proofs.lemmas.Bool.{lt-ltb, le-ltb}
 use Rattle.std.proofs.lemmas.Bool.Decides.{nat_tests}
 use Rattle.std.proofs.lemmas.List.{length-take}
 use Rattle.gts_record.specs.declared.version.Version.{Version}
 use Rattle.gts_record.specs.Format.{seal, seal_size, is_sealed}
 use Rattle.gts_record.proofs.LawLemmas.{length-seal}
+use Rattle.gts_checkpoint.proofs.LawLemmas.{starts_front}
 use Rattle.gts_standby.specs.declared.scanning.Listed.{Listed}
 use Rattle.gts_standby.specs.declared.scanning.Listed.TheVariants.{Bulletin, Circuit}
 use Rattle.gts_standby.specs.declared.end.FollowEnd.{FollowEnd}
@@ -53,29 +54,17 @@ by_tests : ℕ → Bool → Bool → Reached
 by_tests behind far short = cond far Bad (cond short Short (Behind behind))
 
 pub reach_bad : (limit : ℕ) (bytes : List ℕ) (at size : ℕ) → limit < at + size → reach limit bytes at size ≡ Bad
-reach_bad limit bytes at size far = ap (λ (b : Bool). cond b Bad (cond (nat_lt (length bytes) (at + size)) Short (Behind (at + size)))) (is_far limit (at + size) far)
-  where
-    is_far : (m n : ℕ) → m < n → nat_lt m n ≡ true
-    is_far m n lt = grind (arith, nat_tests)
+reach_bad limit bytes at size far = ap (λ (b : Bool). cond b Bad (cond (nat_lt (length bytes) (at + size)) Short (Behind (at + size)))) (lt-ltb limit (at + size) far)
 
 pub reach_short : (limit : ℕ) (bytes : List ℕ) (at size : ℕ) → at + size ≤ limit → length bytes < at + size → reach limit bytes at size ≡ Short
 reach_short limit bytes at size low few =
-    ap (λ (b : Bool). cond b Bad (cond (nat_lt (length bytes) (at + size)) Short (Behind (at + size)))) (not_far limit (at + size) low)
-    ∙ ap (λ (b : Bool). cond b Short (Behind (at + size))) (is_far (length bytes) (at + size) few)
-  where
-    is_far : (m n : ℕ) → m < n → nat_lt m n ≡ true
-    is_far m n lt = grind (arith, nat_tests)
-
-    not_far : (m n : ℕ) → n ≤ m → nat_lt m n ≡ false
-    not_far m n le = grind (arith, nat_tests)
+    ap (λ (b : Bool). cond b Bad (cond (nat_lt (length bytes) (at + size)) Short (Behind (at + size)))) (le-ltb limit (at + size) low)
+    ∙ ap (λ (b : Bool). cond b Short (Behind (at + size))) (lt-ltb (length bytes) (at + size) few)
 
 pub reach_on : (limit : ℕ) (bytes : List ℕ) (at size : ℕ) → at + size ≤ limit → at + size ≤ length bytes → reach limit bytes at size ≡ Behind (at + size)
 reach_on limit bytes at size low there =
-    ap (λ (b : Bool). cond b Bad (cond (nat_lt (length bytes) (at + size)) Short (Behind (at + size)))) (not_far limit (at + size) low)
-    ∙ ap (λ (b : Bool). cond b Short (Behind (at + size))) (not_far (length bytes) (at + size) there)
-  where
-    not_far : (m n : ℕ) → n ≤ m → nat_lt m n ≡ false
-    not_far m n le = grind (arith, nat_tests)
+    ap (λ (b : Bool). cond b Bad (cond (nat_lt (length bytes) (at + size)) Short (Behind (at + size)))) (le-ltb limit (at + size) low)
+    ∙ ap (λ (b : Bool). cond b Short (Behind (at + size))) (le-ltb (length bytes) (at + size) there)
 
 -- an end by what was read is one whatever is found
 pub read_end : (answer : FollowEnd) → IsReadEnd answer → (reached : Reached) (fed : List ℕ) (ahead : InFeed) (left : List ℕ) → Reaches (Err answer) reached fed ahead left
@@ -206,9 +195,6 @@ sealed_same v size before fed left ahead read long =
     ∙ ap (λ (k : ℕ). starts_with nat_eq (drop k fed) last) count
     ∙ ap (λ (l : List ℕ). starts_with nat_eq l last) rest
     ∙ starts_front (drop size ahead.bytes) left last (omega (arith, length-seal v before (take size ahead.bytes), length_dropped size ahead.bytes (omega (arith, long)), long))
-  where
-    starts_front : (xs ys s : List ℕ) → length s ≤ length xs → starts_with nat_eq (xs ++ ys) s ≡ starts_with nat_eq xs s
-    starts_front xs ys s low = ap (λ (l : List ℕ). pointwise nat_eq s l) (take_front (length s) xs ys low)
 
 -- with another seal it is broken, with its own it is a piece
 pub sealed_piece : (v : Version) (limit size : ℕ) (before fed left : List ℕ) (ahead : InFeed) (b : Bool) → behind_checkpoint limit fed ≡ Behind size → HasRead fed ahead left → size + seal_size v ≤ length ahead.bytes
@@ -218,9 +204,6 @@ sealed_piece v limit size before fed left ahead b reached read long is =
     let text : take size fed ≡ take size ahead.bytes = ap (take size) read.is ∙ take_front size ahead.bytes left (omega (arith, long)) in
     let whole : size + seal_size v ≤ length fed = omega (arith, long, ap (λ (l : List ℕ). length l) read.is, length-append ahead.bytes left) in
     ap (checkpoint_by v before fed) reached
-    ∙ ap (λ (c : Bool). cond c Cut (cond (is_sealed v before (take size fed) fed) (Sealed (size + seal_size v) (seal v before (take size fed))) Broken)) (not_low (length fed) (size + seal_size v) whole)
+    ∙ ap (λ (c : Bool). cond c Cut (cond (is_sealed v before (take size fed) fed) (Sealed (size + seal_size v) (seal v before (take size fed))) Broken)) (le-ltb (length fed) (size + seal_size v) whole)
     ∙ ap (λ (c : Bool). cond c (Sealed (size + seal_size v) (seal v before (take size fed))) Broken) (sealed_same v size before fed left ahead read long ∙ is)
     ∙ ap (λ (l : List ℕ). cond b (Sealed (size + seal_size v) (seal v before l)) Broken) text
-  where
-    not_low : (m n : ℕ) → n ≤ m → nat_lt m n ≡ false
-    not_low m n le = grind (arith, nat_tests)

@@ -2,8 +2,8 @@
 use Rattle.std.proofs.Common.{◌≡◌, ◌⊎◌, inl, inr, ℕ, zero, suc, ◌+◌, ◌-◌, ◌<◌, ◌≤◌, Bool, true, false, cond, List, [], ◌∷◌, ◌++◌, length, drop, Option, Some, None, Result, Ok, Err, refl, sym, ap, subst, ◌∙◌, arith, length-drop}
 use Rattle.std.proofs.lemmas.Bool.{cases_lt}
 use Rattle.std.proofs.lemmas.List.{append-nil}
-use Rattle.gts_traits.specs.{Call, Did, Broken, Syncs, Files, Outside, seen, said_by, IsSynced, EachSince}
-use Rattle.gts_traits.proofs.LawLemmas.{weaker, joined, sync_syncs}
+use Rattle.gts_traits.specs.{Call, Did, Syncs, Files, Outside, seen, said_by, EachSince}
+use Rattle.gts_traits.proofs.LawLemmas.{weaker, joined}
 use Rattle.gts_directory.specs.Directory.{Directory}
 use Rattle.gts_event.specs.State.{State, empty}
 use Rattle.gts_event.specs.History.{restarted}
@@ -17,7 +17,7 @@ use Rattle.gts_record.specs.Format.{magic, seal, first_seal, written}
 use Rattle.gts_opening.specs.Journal.{Read, opened_of, selected, opens, files_read, file_opens, records_at, after_records, need_in, admits_checkpoint, checkpoint_text, compacted_bytes}
 use Rattle.gts_core.specs.Core.{Core}
 use Rattle.gts_journal.specs.{InHand, StandsFor, OnlySyncs, OpensTo, OpensAsBefore, entry_at, file_of, selected_bytes, header_fault, is_checkpoint}
-use Rattle.gts_journal.proofs.LawLemmas.{images_open, opening_opens, open_selected, opens_behind, faulty_header, reads_end_there, reads_fault}
+use Rattle.gts_journal.proofs.LawLemmas.{syncs_silent, syncs_stand, images_open, opening_opens, open_selected, opens_behind, faulty_header, reads_end_there, reads_fault}
 use Rattle.gts_recovery.specs.{IsOpened}
 use Rattle.gts_recovery.specs.Opened.{IsAnswer}
 use Rattle.gts_standby.specs.declared.end.FollowEnd.{FollowEnd}
@@ -41,53 +41,8 @@ opens_kept d s old new (inl is) there = ap (λ (l : List Call). opens d (seen l)
 opens_kept d s old new (inr (inl same)) there = ap (λ (l : List Call). opens d (seen l)) same ∙ there
 opens_kept d s old new (inr (inr left)) there = ap (λ (l : List Call). opens d (seen l)) left.2 ∙ there
 
-pub said_kept : (old new : List Call) → OnlySyncs old new → said_by new ≡ said_by old
-said_kept old new (inl is) = ap said_by is
-said_kept old new (inr (inl same)) = ap said_by same
-said_kept old new (inr (inr left)) = ap said_by left.2
-
-synced_stands : (d : Directory) (s : State) (old : List Call) (j : InHand) → StandsFor d s old j → StandsFor d s (Did Syncs ∷ old) j
-synced_stands d s old j f = record {
-  limit = f.limit;
-  current = f.current;
-  stands = record {
-    selected_is = f.stands.selected_is;
-    selector_synced = sync_syncs old 2;
-    file_synced = sync_syncs old j.file;
-    ahead_is = f.stands.ahead_is;
-    all_is = f.stands.all_is;
-    end_is = f.stands.end_is;
-  };
-  ended = f.ended;
-  opens_to = f.opens_to;
-}
-
-broken_synced : (old : List Call) (left : List ℕ) (k : ℕ) → IsSynced old k → IsSynced (Broken Syncs left ∷ old) k
-broken_synced old left k synced = record { same = synced.same; untouched = λ p. synced.untouched p }
-
-broken_stands : (d : Directory) (s : State) (old : List Call) (j : InHand) (left : List ℕ) → StandsFor d s old j → StandsFor d s (Broken Syncs left ∷ old) j
-broken_stands d s old j left f = record {
-  limit = f.limit;
-  current = f.current;
-  stands = record {
-    selected_is = f.stands.selected_is;
-    selector_synced = broken_synced old left 2 f.stands.selector_synced;
-    file_synced = broken_synced old left j.file f.stands.file_synced;
-    ahead_is = f.stands.ahead_is;
-    all_is = f.stands.all_is;
-    end_is = f.stands.end_is;
-  };
-  ended = f.ended;
-  opens_to = f.opens_to;
-}
-
-stands_kept : (d : Directory) (s : State) (old new : List Call) (j : InHand) → OnlySyncs old new → StandsFor d s old j → StandsFor d s new j
-stands_kept d s old new j (inl is) f = subst (λ (l : List Call). StandsFor d s l j) (sym is) (synced_stands d s old j f)
-stands_kept d s old new j (inr (inl same)) f = subst (λ (l : List Call). StandsFor d s l j) (sym same) f
-stands_kept d s old new j (inr (inr left)) f = subst (λ (l : List Call). StandsFor d s l j) (sym left.2) (broken_stands d s old j left.0 f)
-
 pub holds_kept : (tells : Type 0) (d : Directory) (s : State) (old new : List Call) (core : Core) (j : InHand) → (tells → OnlySyncs old new) → HoldsAt tells d s old core j → HoldsAt tells d s new core j
-holds_kept tells d s old new core j syncs h = record { kept = h.kept; current = h.current; ended = h.ended; stands = λ tell. stands_kept d s old new j (syncs tell) (h.stands tell) }
+holds_kept tells d s old new core j syncs h = record { kept = h.kept; current = h.current; ended = h.ended; stands = λ tell. syncs_stand d s old new j (syncs tell) (h.stands tell) }
 
 pub opened_kept : (tells : Type 0) (d : Directory) (old new : List Call) (core : Core) (j : InHand) → (tells → OnlySyncs old new) → IsOpened tells d old core j → IsOpened tells d new core j
 opened_kept tells d old new core j syncs o = opened_by tells d o.state new core j (holds_kept tells d o.state old new core j syncs (holds_of tells d old core j o))
@@ -388,7 +343,7 @@ module _ (d : Directory) (s : State) (old mid : List Call) (j : InHand) (fed : L
       moments =
           joined (OpensWithin d s (behind_all d s j.gate j.seal at on)) (OpensWithin d s (behind_all d s j.gate j.seal at on)) old mid new []
           (kept_moments d s (behind_all d s j.gate j.seal at on) old mid j f syncs)
-          (said_kept old mid syncs ∙ sym (append-nil (said_by old))) added.moments (λ files later is. is);
+          (syncs_silent old mid syncs ∙ sym (append-nil (said_by old))) added.moments (λ files later is. is);
     });
   }
 

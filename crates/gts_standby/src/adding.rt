@@ -104,7 +104,7 @@ pub(crate) fn add_all<P: Station, S: Source>(
     let mut core = core;
     let mut journal = journal;
     let mut at = at;
-    'record: loop {
+    loop {
         match add_next(
             alloc,
             station,

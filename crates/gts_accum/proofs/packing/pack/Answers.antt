@@ -13,14 +13,14 @@ use Rattle.gts_accum.proofs.packing.pack.Goals as goal
 
 pub returns-in-Ok-eq0-clause-packs : goal.returns-in-Ok-eq0-clause-packs
 returns-in-Ok-eq0-clause-packs g c = λ s.
-    let taken = c.stream.invariant.taken in
+    let taken = c.loop-decoder.invariant.taken in
     let st = taken.3 in
     let bytes : List ℕ = taken.0 in
     let first : List Call = g.P.Station.calls c.args.station.now in
     let now : List Call = g.P.Station.calls c.finish.new.station in
     let read = c.in-Ok-eq0.ensures.bytes s in
     let zero : c.in-Ok-eq0.field-0 ≡ 0 = omega (arith, c.in-Ok-eq0.field-0-test) in
-    let none : g.S.Source.left c.stream.stream ≡ [] = read.1 zero (omega (arith, c.read.auto.into)) in
+    let none : g.S.Source.left c.loop-decoder.stream ≡ [] = read.1 zero (omega (arith, c.read.auto.into)) in
     let left : g.S.Source.left c.read.new.self ≡ [] = sym (ap (λ (n : ℕ). take n c.read.new.into ++ g.S.Source.left c.read.new.self) zero) ∙ sym read.0 ∙ none in
     let text : g.S.Source.left c.args.stream.now ≡ bytes = taken.1 s ∙ ap (λ (l : List ℕ). bytes ++ l) none ∙ append-nil bytes in
     let packs = c.finish.ensures.ends first bytes st.held taken.2 st.holds (c.rest.ensures ∙ ap (λ (o : Option (List ℕ)). length (unwrap_or o [])) st.is) in
@@ -29,21 +29,21 @@ returns-in-Ok-eq0-clause-packs g c = λ s.
 
 pub returns-in-Ok-eq0-clause-files : goal.returns-in-Ok-eq0-clause-files
 returns-in-Ok-eq0-clause-files g c =
-    let taken = c.stream.invariant.taken in
+    let taken = c.loop-decoder.invariant.taken in
     let st = taken.3 in
     let first : List Call = g.P.Station.calls c.args.station.now in
     same_files g.P.Station.tells c.finish.result taken.0 [] first (g.P.Station.calls c.finish.new.station)
     (c.finish.ensures.ends first taken.0 st.held taken.2 st.holds (c.rest.ensures ∙ ap (λ (o : Option (List ℕ)). length (unwrap_or o [])) st.is))
 
 pub returns-in-Ok-eq0-clause-source : goal.returns-in-Ok-eq0-clause-source
-returns-in-Ok-eq0-clause-source g c = record { later = omega (arith, c.stream.invariant.read_later, c.read.ensures.cause.later); failed = λ e. absurd (c.finish.ensures.read.0 e) }
+returns-in-Ok-eq0-clause-source g c = record { later = omega (arith, c.loop-decoder.invariant.read_later, c.read.ensures.cause.later); failed = λ e. absurd (c.finish.ensures.read.0 e) }
 
 pub returns-in-Ok-eq0-clause-unmade : goal.returns-in-Ok-eq0-clause-unmade
 returns-in-Ok-eq0-clause-unmade g c = λ e. absurd (c.finish.ensures.read.1 e)
 
 pub returns-in-Err-Lost-clause-packs : goal.returns-in-Err-Lost-clause-packs
 returns-in-Err-Lost-clause-packs g c = λ s.
-    let taken = c.stream.invariant.taken in
+    let taken = c.loop-decoder.invariant.taken in
     let bytes : List ℕ = taken.0 in
     let tells = g.P.Station.tells in
     let first : List Call = g.P.Station.calls c.args.station.now in
@@ -52,7 +52,7 @@ returns-in-Err-Lost-clause-packs g c = λ s.
     let room : ℕ = c.min-room.result in
     let count : ℕ = c.in-Ok-read.count in
     let new : List ℕ = g.S.Source.left c.read.new.self in
-    let text = read_text (g.S.Source.left c.args.stream.now) bytes (g.S.Source.left c.stream.stream) into new room count (taken.1 s) (c.in-Ok-read.ensures.bytes s).0 (omega (arith, c.min-room.ensures))
+    let text = read_text (g.S.Source.left c.args.stream.now) bytes (g.S.Source.left c.loop-decoder.stream) into new room count (taken.1 s) (c.in-Ok-read.ensures.bytes s).0 (omega (arith, c.min-room.ensures))
     (omega (arith, c.in-Ok-read.ensures.count)) in
     let E : Result (Unit {0}) Stop → Type 0 = λ r. PieceEnds tells first now (bytes ++ take room into) r c.take_piece.new.decoder in
     let ends : E (Err (Lost c.in-Err-Lost.at)) =
@@ -62,7 +62,7 @@ returns-in-Err-Lost-clause-packs g c = λ s.
 
 pub returns-in-Err-Lost-clause-files : goal.returns-in-Err-Lost-clause-files
 returns-in-Err-Lost-clause-files g c = λ t.
-    let taken = c.stream.invariant.taken in
+    let taken = c.loop-decoder.invariant.taken in
     let first : List Call = g.P.Station.calls c.args.station.now in
     let now : List Call = g.P.Station.calls c.take_piece.new.station in
     let E : Result (Unit {0}) Stop → Type 0 = λ r. PieceEnds g.P.Station.tells first now (taken.0 ++ take c.min-room.result c.read.new.into) r c.take_piece.new.decoder in
@@ -72,7 +72,7 @@ returns-in-Err-Lost-clause-files g c = λ t.
 
 pub returns-in-Err-Unsaid-clause-packs : goal.returns-in-Err-Unsaid-clause-packs
 returns-in-Err-Unsaid-clause-packs g c = λ s t.
-    let taken = c.stream.invariant.taken in
+    let taken = c.loop-decoder.invariant.taken in
     let bytes : List ℕ = taken.0 in
     let first : List Call = g.P.Station.calls c.args.station.now in
     let now : List Call = g.P.Station.calls c.take_piece.new.station in
@@ -80,7 +80,7 @@ returns-in-Err-Unsaid-clause-packs g c = λ s t.
     let room : ℕ = c.min-room.result in
     let count : ℕ = c.in-Ok-read.count in
     let new : List ℕ = g.S.Source.left c.read.new.self in
-    let text = read_text (g.S.Source.left c.args.stream.now) bytes (g.S.Source.left c.stream.stream) into new room count (taken.1 s) (c.in-Ok-read.ensures.bytes s).0 (omega (arith, c.min-room.ensures))
+    let text = read_text (g.S.Source.left c.args.stream.now) bytes (g.S.Source.left c.loop-decoder.stream) into new room count (taken.1 s) (c.in-Ok-read.ensures.bytes s).0 (omega (arith, c.min-room.ensures))
     (omega (arith, c.in-Ok-read.ensures.count)) in
     let E : Result (Unit {0}) Stop → Type 0 = λ r. PieceEnds g.P.Station.tells first now (bytes ++ take room into) r c.take_piece.new.decoder in
     let ends : E (Err Unsaid) = subst E (c.in-Err-Unsaid.is ∙ ap (λ (e : Stop). Err e) c.in-Err-Unsaid.field-0-is) (c.take_piece.ensures.ends first bytes taken.2 taken.3) in
@@ -88,7 +88,7 @@ returns-in-Err-Unsaid-clause-packs g c = λ s t.
 
 pub returns-in-Err-Unsaid-clause-files : goal.returns-in-Err-Unsaid-clause-files
 returns-in-Err-Unsaid-clause-files g c = λ t.
-    let taken = c.stream.invariant.taken in
+    let taken = c.loop-decoder.invariant.taken in
     let first : List Call = g.P.Station.calls c.args.station.now in
     let now : List Call = g.P.Station.calls c.take_piece.new.station in
     let E : Result (Unit {0}) Stop → Type 0 = λ r. PieceEnds g.P.Station.tells first now (taken.0 ++ take c.min-room.result c.read.new.into) r c.take_piece.new.decoder in
@@ -97,7 +97,7 @@ returns-in-Err-Unsaid-clause-files g c = λ t.
 
 pub returns-then-room-count-clause-packs : goal.returns-then-room-count-clause-packs
 returns-then-room-count-clause-packs g c = λ s.
-    let taken = c.stream.invariant.taken in
+    let taken = c.loop-decoder.invariant.taken in
     let bytes : List ℕ = taken.0 in
     let tells = g.P.Station.tells in
     let first : List Call = g.P.Station.calls c.args.station.now in
@@ -107,19 +107,19 @@ returns-then-room-count-clause-packs g c = λ s.
     let count : ℕ = c.in-Ok-read.count in
     let new : List ℕ = g.S.Source.left c.read.new.self in
     let few : count ≤ length into = omega (arith, c.in-Ok-read.ensures.count) in
-    let text = read_text (g.S.Source.left c.args.stream.now) bytes (g.S.Source.left c.stream.stream) into new room count (taken.1 s) (c.in-Ok-read.ensures.bytes s).0 (omega (arith, c.min-room.ensures)) few in
+    let text = read_text (g.S.Source.left c.args.stream.now) bytes (g.S.Source.left c.loop-decoder.stream) into new room count (taken.1 s) (c.in-Ok-read.ensures.bytes s).0 (omega (arith, c.min-room.ensures)) few in
     let E : Result (Unit {0}) Stop → Type 0 = λ r. PieceEnds tells first now (bytes ++ take room into) r c.take_piece.new.decoder in
     let stands : Stands tells first now (bytes ++ take room into) c.take_piece.new.decoder = subst E c.in-Ok-take_piece.is (c.take_piece.ensures.ends first bytes taken.2 taken.3) in
     let more : List ℕ = drop room (take count into) ++ new in
     let long : length (bytes ++ take room into) ≡ LONGEST_STREAM =
-    omega (arith, length-append bytes (take room into), length-take-le room into (omega (arith, few, c.if-room-count.true)), taken.2, c.min-room.ensures, c.if-room-count.true, c.stream.invariant.short) in
+    omega (arith, length-append bytes (take room into), length-take-le room into (omega (arith, few, c.if-room-count.true)), taken.2, c.min-room.ensures, c.if-room-count.true, c.loop-decoder.invariant.short) in
     let some : 1 ≤ length more =
     omega (arith, length-append (drop room (take count into)) new, length-drop room (take count into), length-take-le count into few, c.if-room-count.true) in
     subst (λ (l : List ℕ). IsBad tells first now l LONGEST_STREAM) (sym text) (goes_past tells first now (bytes ++ take room into) more stands.held stands.holds long some)
 
 pub returns-then-room-count-clause-files : goal.returns-then-room-count-clause-files
 returns-then-room-count-clause-files g c = λ t.
-    let taken = c.stream.invariant.taken in
+    let taken = c.loop-decoder.invariant.taken in
     let first : List Call = g.P.Station.calls c.args.station.now in
     let now : List Call = g.P.Station.calls c.take_piece.new.station in
     let E : Result (Unit {0}) Stop → Type 0 = λ r. PieceEnds g.P.Station.tells first now (taken.0 ++ take c.min-room.result c.read.new.into) r c.take_piece.new.decoder in
@@ -127,9 +127,9 @@ returns-then-room-count-clause-files g c = λ t.
     subst E c.in-Ok-take_piece.is (c.take_piece.ensures.ends first taken.0 taken.2 taken.3) in
     (stands.holds.said t).files
 
-pub stream-preserved : goal.stream-preserved
-stream-preserved g c =
-    let taken = c.stream.invariant.taken in
+pub loop-decoder-preserved : goal.loop-decoder-preserved
+loop-decoder-preserved g c =
+    let taken = c.loop-decoder.invariant.taken in
     let bytes : List ℕ = taken.0 in
     let first : List Call = g.P.Station.calls c.args.station.now in
     let now : List Call = g.P.Station.calls c.take_piece.new.station in
@@ -148,8 +148,8 @@ stream-preserved g c =
         omega (arith, taken.2, length-append bytes (take room into), length-take-le room into (omega (arith, few, all)), all),
         stands,
       );
-      short = omega (arith, c.min-room.ensures, c.if-room-count.false, c.stream.invariant.short);
-      read_later = omega (arith, c.stream.invariant.read_later, c.read.ensures.cause.later);
-      say_later = omega (arith, c.stream.invariant.say_later, c.take_piece.ensures.cause.later);
-      disk = c.take_piece.ensures.disk ∙ c.stream.invariant.disk;
+      short = omega (arith, c.min-room.ensures, c.if-room-count.false, c.loop-decoder.invariant.short);
+      read_later = omega (arith, c.loop-decoder.invariant.read_later, c.read.ensures.cause.later);
+      say_later = omega (arith, c.loop-decoder.invariant.say_later, c.take_piece.ensures.cause.later);
+      disk = c.take_piece.ensures.disk ∙ c.loop-decoder.invariant.disk;
     }

@@ -4,8 +4,8 @@ use Rattle.gts_accum.specs.declared.limits.TheConstants.{LONGEST_STREAM}
 use Rattle.gts_accum.proofs.packing.pack.Given as goal
 
 -- the bytes so far were taken
-abbrev pub invariant-stream : goal.invariant-stream
-invariant-stream g l = record {
+abbrev pub invariant-loop-decoder : goal.invariant-loop-decoder
+invariant-loop-decoder g l = record {
   taken : (bytes : List ℕ) × (g.S.Source.tells → g.S.Source.left l.fn.stream ≡ bytes ++ g.S.Source.left l.stream) × (l.at ≡ length bytes)
       × Stands g.P.Station.tells (g.P.Station.calls l.fn.station) (g.P.Station.calls l.station) bytes l.decoder;
   short : l.at ≤ LONGEST_STREAM;
@@ -14,5 +14,5 @@ invariant-stream g l = record {
   disk : g.P.Station.disk_faults l.station ≡ g.P.Station.disk_faults l.fn.station;
 }
 
-abbrev pub decreases-stream : goal.decreases-stream
-decreases-stream g l = LONGEST_STREAM - l.at
+abbrev pub decreases-loop-decoder : goal.decreases-loop-decoder
+decreases-loop-decoder g l = LONGEST_STREAM - l.at

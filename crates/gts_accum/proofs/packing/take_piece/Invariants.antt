@@ -4,8 +4,8 @@ use Rattle.gts_accum.specs.Packs.{Stands}
 use Rattle.gts_accum.proofs.packing.take_piece.Given as goal
 
 -- the bytes before the rest were taken
-abbrev pub invariant-piece : goal.invariant-piece
-invariant-piece g l = record {
+abbrev pub invariant-loop-rest : goal.invariant-loop-rest
+invariant-loop-rest g l = record {
   taken : (done : List ℕ) × (l.fn.piece ≡ done ++ l.rest) × (l.at ≡ l.fn.start + length done)
       × ((first : List Call) (before : List ℕ) → Stands g.P.Station.tells first (g.P.Station.calls l.fn.station) before l.fn.decoder
       → Stands g.P.Station.tells first (g.P.Station.calls l.station) (before ++ done) l.decoder);
@@ -13,5 +13,5 @@ invariant-piece g l = record {
   disk : g.P.Station.disk_faults l.station ≡ g.P.Station.disk_faults l.fn.station;
 }
 
-abbrev pub decreases-piece : goal.decreases-piece
-decreases-piece g l = length l.rest
+abbrev pub decreases-loop-rest : goal.decreases-loop-rest
+decreases-loop-rest g l = length l.rest

@@ -2,8 +2,8 @@ use Rattle.std.proofs.Common.{Err, refl, ◌∙◌, arith}
 use Rattle.gts_standby.proofs.AddLemmas.{begun_there, one_more, add_ended}
 use Rattle.gts_standby.proofs.adding.add_all.Goals as goal
 
-pub record-init : goal.record-init
-record-init g c = record {
+pub loop-size-init : goal.loop-size-init
+loop-size-init g c = record {
   opened = c.requires.opened;
   place = omega (arith, c.requires.place);
   gone = λ tells told s fed n h read enough. begun_there _ tells c.args.directory.now s _ _ _ _ _ _ fed n h read enough;
@@ -14,9 +14,9 @@ record-init g c = record {
   say = refl;
 }
 
-pub record-preserved : goal.record-preserved
-record-preserved g c =
-    let inv = c.record.invariant in
+pub loop-size-preserved : goal.loop-size-preserved
+loop-size-preserved g c =
+    let inv = c.loop-size.invariant in
     record {
       opened = c.in-Ok.ensures.opened;
       place = omega (arith, inv.place, c.in-Ok.ensures.rises);
@@ -32,9 +32,9 @@ record-preserved g c =
 
 pub returns-in-Err-clause-added : goal.returns-in-Err-clause-added
 returns-in-Err-clause-added g c = λ tells told s fed n h read enough.
-    let inv = c.record.invariant in
+    let inv = c.loop-size.invariant in
     let gone = inv.gone tells told s fed n h read enough in
     add_ended _ tells c.args.directory.now s _ _ _ _ _ _ _ _ gone c.in-Err.end _ _ _ _ _ (Err c.in-Err.end) refl c.in-Err.ensures.kind (c.in-Err.ensures.added tells told gone.state gone.fed gone.holds gone.read)
 
 pub returns-in-Err-clause-whole : goal.returns-in-Err-clause-whole
-returns-in-Err-clause-whole g c = λ told w. c.in-Err.ensures.whole told (c.record.invariant.whole told w)
+returns-in-Err-clause-whole g c = λ told w. c.in-Err.ensures.whole told (c.loop-size.invariant.whole told w)

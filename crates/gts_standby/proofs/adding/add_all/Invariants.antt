@@ -11,8 +11,8 @@ use Rattle.gts_standby.proofs.AddLemmas.{HasGone}
 use Rattle.gts_standby.proofs.adding.add_all.Given as goal
 
 -- some records were added
-abbrev pub invariant-record : goal.invariant-record
-invariant-record g l = record {
+abbrev pub invariant-loop-size : goal.invariant-loop-size
+invariant-loop-size g l = record {
   opened : IsOpened g.P.Station.tells l.directory (g.P.Station.calls l.station) l.core l.journal;
   place : l.at ≤ 2 ^ 62 + l.journal.gate;
   gone : g.P.Station.tells → g.S.Source.tells → (s : State) (fed : List ℕ) (n : ℕ)
@@ -28,5 +28,5 @@ invariant-record g l = record {
   say : g.P.Station.say_faults l.station ≡ g.P.Station.say_faults l.fn.station;
 }
 
-abbrev pub decreases-record : goal.decreases-record
-decreases-record g l = l.directory.limit - l.journal.gate
+abbrev pub decreases-loop-size : goal.decreases-loop-size
+decreases-loop-size g l = l.directory.limit - l.journal.gate

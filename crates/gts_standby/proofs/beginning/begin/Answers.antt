@@ -12,7 +12,7 @@ use Rattle.gts_standby.specs.Beginning.{WithinIt, BeforeIt}
 use Rattle.gts_standby.specs.declared.end.FollowEnd.TheVariants.{NoMemory}
 use Rattle.gts_standby.proofs.ExitLemmas.{returned}
 use Rattle.gts_standby.proofs.HeaderLemmas.{passed}
-use Rattle.gts_standby.proofs.BeginLemmas.{kept_begun}
+use Rattle.gts_recovery.proofs.LawLemmas.{kept_begun}
 use Rattle.gts_standby.proofs.PutLemmas.{put_ends, put_adds, put_no_source, found_there, none_found, piece_of, begun_so, begins_with, none_begins}
 use Rattle.gts_standby.proofs.WholeLemmas.{whole_read, stops_all, put_all}
 use Rattle.gts_standby.specs.Whole.{IsWhole}
@@ -101,7 +101,7 @@ returns-clause-begun g c = λ tell told s fed holds first read.
       begins = begun_so d j fed ahead.bytes left size (held v c.in_ok-behind.field-0.1) limit first found.1.is c.in_ok-behind.ensures.there piece n next cp c.in_ok-put.ensures.seal c.in_ok-put.ensures.gate;
       place = refl;
       holds = record {
-        kept = kept_begun d c.in_ok-core.core n next.gate c.in_ok-core.ensures cp.sound cp.free cp.room c.in_ok-put.ensures.gate;
+        kept = kept_begun written d c.in_ok-core.core n next.gate c.in_ok-core.ensures cp.sound cp.free (omega (arith, cp.room, c.in_ok-put.ensures.gate));
         current = c.in_ok-put.ensures.current;
         ended = c.in_ok-put.ensures.ended;
         stands = λ tells. c.in_ok-put.ensures.begun tells s (holds.stands tells);
@@ -119,7 +119,7 @@ returns-clause-opened g c =
     let cp = found_there d (take (c.in_ok-behind.field-0.0 - c.seal_size.result) c.bytes.result.now) c.in_ok-need.field-0 c.in-Some.need c.in_ok-need.ensures.found c.in-Some.is in
     record {
       state = begun n;
-      kept = kept_begun d c.in_ok-core.core n next.gate c.in_ok-core.ensures cp.sound cp.free cp.room c.in_ok-put.ensures.gate;
+      kept = kept_begun written d c.in_ok-core.core n next.gate c.in_ok-core.ensures cp.sound cp.free (omega (arith, cp.room, c.in_ok-put.ensures.gate));
       current = c.in_ok-put.ensures.current;
       ended = c.in_ok-put.ensures.ended;
       stands = λ tell. c.in_ok-put.ensures.begun tell c.requires.state (c.requires.stands tell);

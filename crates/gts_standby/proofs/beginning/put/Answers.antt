@@ -6,7 +6,9 @@ use Rattle.gts_opening.specs.Journal.{compacted_bytes}
 use Rattle.gts_checkpoint.specs.Alone.{WorksBeside}
 use Rattle.gts_checkpoint.specs.Writing.{HasWritten, need_seal}
 use Rattle.gts_journal.specs.{HoldsState}
-use Rattle.gts_standby.proofs.BeginLemmas.{fit_bytes, closed_there, still_stands, still_stands_for, holds_begun, begun_stands, all_moments}
+use Rattle.gts_checkpoint.proofs.LawLemmas.{fit_bytes}
+use Rattle.gts_recovery.proofs.LawLemmas.{closed_there, still_stands}
+use Rattle.gts_standby.proofs.BeginLemmas.{still_stands_for, holds_begun, begun_stands, all_moments}
 use Rattle.gts_standby.proofs.beginning.put.Goals as goal
 
 pub write-requires-clause-fits : goal.write-requires-clause-fits

@@ -8,10 +8,10 @@ use Rattle.gts_capture.proofs.head_cursor.HeadCursor.six_digits.Goals as goal
 
 -- five digits leave room for a sixth
 pub overflow_mul-number : goal.overflow_mul-number
-overflow_mul-number c = omega (arith, pow-le-pow_right {n = 10} (omega arith) {i = c.digits.counter} {j = 5} (omega arith))
+overflow_mul-number c = omega (arith, pow-le-pow_right {n = 10} (omega arith) {i = c.loop.counter} {j = 5} (omega arith))
 
 pub overflow_add-number : goal.overflow_add-number
-overflow_add-number c = omega (arith, pow-le-pow_right {n = 10} (omega arith) {i = c.digits.counter} {j = 5} (omega arith), c.in_ok-number.ensures.small.1)
+overflow_add-number c = omega (arith, pow-le-pow_right {n = 10} (omega arith) {i = c.loop.counter} {j = 5} (omega arith), c.in_ok-number.ensures.small.1)
 
 -- one digit more
 one_more : (k more number digit : ℕ) (bytes rest : List ℕ) → k ≡ suc more → digit_at 10 bytes ≡ Ok (digit, rest)
@@ -30,20 +30,20 @@ all_there : (k number : ℕ) (bytes : List ℕ) → k ≡ 0 → digits_at k numb
 unfolding digits_at
 all_there k number bytes e = ap (λ (n : ℕ). digits_at n number bytes) e
 
-pub digits-preserved : goal.digits-preserved
-digits-preserved c =
-    let i : ℕ = c.digits.counter in
+pub loop-preserved : goal.loop-preserved
+loop-preserved c =
+    let i : ℕ = c.loop.counter in
     record {
-      left = c.digits.invariant.left ∙ one_more (6 - i) (6 - (i + 1)) c.digits.number c.in_ok-number.field-0 c.digits.self c.digit.new.self (omega arith) c.in_ok-number.ensures.exact;
+      left = c.loop.invariant.left ∙ one_more (6 - i) (6 - (i + 1)) c.loop.number c.in_ok-number.field-0 c.loop.self c.digit.new.self (omega arith) c.in_ok-number.ensures.exact;
       small = omega (arith, pow_more 10 i, c.in_ok-number.ensures.small.1);
     }
 
 pub returns-in_err-number : goal.returns-in_err-number
 returns-in_err-number c =
-    let i : ℕ = c.digits.counter in
+    let i : ℕ = c.loop.counter in
     let p = err_from_is_err_and c.from_residual.result c.from_residual.ensures.1 in
-    let none = none_more (6 - i) (6 - (i + 1)) c.digits.number c.digits.self c.in_err-number.field-0.0 (omega arith) c.in_err-number.ensures.exact in
-    rw (p.1, p.2) (c.digits.invariant.left ∙ none)
+    let none = none_more (6 - i) (6 - (i + 1)) c.loop.number c.loop.self c.in_err-number.field-0.0 (omega arith) c.in_err-number.ensures.exact in
+    rw (p.1, p.2) (c.loop.invariant.left ∙ none)
 
 pub returns : goal.returns
-returns c = c.digits.invariant.left ∙ all_there (6 - c.digits.counter) c.digits.number c.digits.self (omega arith)
+returns c = c.loop.invariant.left ∙ all_there (6 - c.loop.counter) c.loop.number c.loop.self (omega arith)
