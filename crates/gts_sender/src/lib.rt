@@ -8,5 +8,4 @@ mod writing;
 
 pub use end::SendEnd;
 pub use laws::a_take_sends_what_it_gave;
-pub use sending::{index_of, send, write_given};
-pub use writing::write_all;
+pub use sending::{send, write_given};

@@ -96,7 +96,7 @@ pub fn write_given<K: Sink>(outcome: Outcome, sink: &mut K, out: &FrameBuf) -> R
 }
 
 /// The index of the frame that a take left, where it gave something.
-pub fn index_of(outcome: Outcome) -> Option<u64>
+fn index_of(outcome: Outcome) -> Option<u64>
     ensures { result ≡ given_index outcome }
 {
     match outcome {

@@ -5,7 +5,7 @@ ghost use Rattle.gts_sender.specs.Sender.{Wrote};
 use gts_traits::{Failed, Sink};
 
 /// Writes all of a piece, in as few calls as the sink takes. What was written of it is never written again.
-pub fn write_all<K: Sink>(sink: &mut K, piece: &[u8]) -> Result<(), Failed>
+pub(crate) fn write_all<K: Sink>(sink: &mut K, piece: &[u8]) -> Result<(), Failed>
     ensures written { (bytes : List ℕ) × Wrote result piece.now bytes
         × (K.tells → K.written sink.new ≡ K.written sink.old ++ bytes) }
     ensures later { K.faults sink.old ≤ K.faults sink.new }
