@@ -52,10 +52,8 @@ fn empty_journal(alloc: Global, mark: [u8; 32]) -> Result<MemStation, NoMemory>
     ensures silent { IfOk result (λ station. said_by (calls_of station.past) ≡ []) }
 {
     let mut station = MemStation::new(alloc, &[])?;
-    match Journal::init(&mut station, mark) {
-        Ok(()) => Ok(station),
-        Err(_) => Err(NoMemory),
-    }
+    Journal::init(&mut station, mark).map_err(|_| NoMemory)?;
+    Ok(station)
 }
 
 /// The switch of the day's centre over an empty journal in memory.
@@ -69,10 +67,7 @@ fn begin(alloc: Global) -> Result<Engine<MemStation>, NoMemory>
     an_opened_engine_begins_with_what_the_files_open_to::<MemStation>();
     let directory = generated_directory(alloc)?;
     let station = empty_journal(alloc, directory.mark())?;
-    match Engine::open(alloc, station, directory) {
-        Ok(engine) => Ok(engine),
-        Err(_) => Err(NoMemory),
-    }
+    Engine::open(alloc, station, directory).map_err(|_| NoMemory)
 }
 
 /// Runs the capture of a day of so many messages. It is a whole capture, and is read without a fault; in memory, the disk and
@@ -122,8 +117,6 @@ pub fn day_summary(alloc: Global, count: u32) -> Result<ReportText, DayFault>
         → IsFullOn count used need limit }
 {
     let mut engine = begin(alloc)?;
-    match run(alloc, count, &mut engine) {
-        Ok(()) => Ok(summarised(alloc, count, engine)?),
-        Err(fault) => Err(fault),
-    }
+    run(alloc, count, &mut engine)?;
+    Ok(summarised(alloc, count, engine)?)
 }

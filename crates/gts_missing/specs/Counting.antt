@@ -18,6 +18,11 @@ use Rattle.gts_gap.specs.Ring.{Ring, StandsAt}
 use Rattle.gts_missing.specs.declared.fault.TableFault.{TableFault}
 use Rattle.gts_missing.specs.declared.fault.TableFault.TheVariants as table
 
+-- why no table was made, where reading the capture had this fault
+abbrev pub table_fault : CaptureFault → TableFault
+table_fault (Bad at) = table.Capture at
+table_fault SourceFault = table.SourceFault
+
 -- the rings of a table
 abbrev pub Rings : Type 0
 Rings = List Ring

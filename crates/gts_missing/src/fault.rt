@@ -1,3 +1,10 @@
+ghost use Rattle.std.specs.Prelude.{◌≡◌};
+ghost use Rattle.gts_missing.specs.Counting.{table_fault};
+ghost use Rattle.gts_missing.specs.declared.fault.TableFault.TheVariants as table;
+
+use gts_capture::CaptureFault;
+use gts_traits::NoMemory;
+
 /// Why no table of a capture's numbers was made.
 #[derive(Clone, Copy, Debug, PartialEq, Eq)]
 pub enum TableFault {
@@ -8,6 +15,25 @@ pub enum TableFault {
     SourceFault,
     /// There was no memory. Nothing was read.
     NoMemory,
+}
+
+impl From<NoMemory> for TableFault {
+    ghost from_gives = { λ _ made. made ≡ table.NoMemory };
+
+    fn from(_: NoMemory) -> TableFault {
+        TableFault::NoMemory
+    }
+}
+
+impl From<CaptureFault> for TableFault {
+    ghost from_gives = { λ fault made. made ≡ table_fault fault };
+
+    fn from(fault: CaptureFault) -> TableFault {
+        match fault {
+            CaptureFault::Bad { at } => TableFault::Capture { at },
+            CaptureFault::SourceFault => TableFault::SourceFault,
+        }
+    }
 }
 
 /// How a run of a capture ended that names the missing numbers.

@@ -71,12 +71,11 @@ pub(crate) fn feed<S: Source>(
     ensures cause { HasSourceCause result (S.faults capture.old) (S.faults capture.new) }
 {
     let mut piece = [0; PIECE];
-    'feed: loop {
-        let count = match steps.bytes(capture, &mut piece) {
-            Ok(0) => return Ok(()),
-            Ok(count) => count,
-            Err(fault) => return Err(fault),
-        };
+    loop {
+        let count = steps.bytes(capture, &mut piece)?;
+        if count == 0 {
+            return Ok(());
+        }
         feed_piece(table, c, decoder, &piece[..count]);
     }
 }

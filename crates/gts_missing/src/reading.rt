@@ -64,11 +64,10 @@ fn run<S: Source>(
     ensures cause { HasSourceCause result (S.faults capture.old) (S.faults capture.new) }
 {
     for _ in 0..u64::MAX {
-        let head = match steps.next(capture) {
-            Ok(Head::End) => return Ok(()),
-            Ok(head) => head,
-            Err(fault) => return Err(fault),
-        };
+        let head = steps.next(capture)?;
+        if let Head::End = head {
+            return Ok(());
+        }
         do_step(table, decoders, steps, capture, head)?;
     }
     // No capture that is told has so many steps.
@@ -87,16 +86,9 @@ pub fn table_of<S: Source>(
     ensures cause { HasTableCause result (S.faults capture.old) (S.faults capture.new) }
 {
     let circuits = directory.circuits();
-    let Ok(mut table) = GapTable::new(alloc, circuits) else {
-        return Err(TableFault::NoMemory);
-    };
-    let Ok(mut decoders) = new_decoders(alloc, circuits) else {
-        return Err(TableFault::NoMemory);
-    };
+    let mut table = GapTable::new(alloc, circuits)?;
+    let mut decoders = new_decoders(alloc, circuits)?;
     let mut steps = Steps::new(circuits, CaptureKind::Journaled);
-    match run(&mut table, &mut decoders, &mut steps, capture) {
-        Ok(()) => Ok(table),
-        Err(CaptureFault::Bad { at }) => Err(TableFault::Capture { at }),
-        Err(CaptureFault::SourceFault) => Err(TableFault::SourceFault),
-    }
+    run(&mut table, &mut decoders, &mut steps, capture)?;
+    Ok(table)
 }

@@ -47,10 +47,8 @@ fn keep(got: &mut MemSink, piece: &[u8]) -> Result<(), Failed>
     ensures kept { IsFront got.old.written got.new.written }
     ensures sound { OnOk result (got.new.faults ≡ got.old.faults) }
 {
-    match got.write(piece) {
-        Ok(_) => Ok(()),
-        Err(failed) => Err(failed),
-    }
+    got.write(piece)?;
+    Ok(())
 }
 
 /// Keeps what the switch sends, until it ends its stream.

@@ -4,13 +4,13 @@ use Rattle.gts_missing.specs.Counting.{IsFed}
 use Rattle.gts_missing.proofs.hearing.feed.Given as goal
 
 -- the bytes so far were taken and dealt with
-abbrev pub invariant-feed : goal.invariant-feed
-invariant-feed g l = record {
+abbrev pub invariant-loop-count : goal.invariant-loop-count
+invariant-loop-count g l = record {
   fed : (bytes : List ℕ) × Takes g.S.Source.tells bytes l.fn.steps l.steps (g.S.Source.left l.fn.capture) (g.S.Source.left l.capture)
       × IsFed l.c l.fn.decoder l.fn.table bytes l.decoder l.table;
   circuits : length l.table ≡ length l.fn.table;
   later : g.S.Source.faults l.fn.capture ≤ g.S.Source.faults l.capture;
 }
 
-abbrev pub decreases-feed : goal.decreases-feed
-decreases-feed g l = l.steps.feed
+abbrev pub decreases-loop-count : goal.decreases-loop-count
+decreases-loop-count g l = l.steps.feed

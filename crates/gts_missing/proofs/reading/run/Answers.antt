@@ -1,5 +1,4 @@
-use Rattle.std.proofs.Common.{◌≡◌, ◌+◌, ◌++◌, ℕ, [], ◌∷◌, length, Result, Err, refl, sym, ap, subst, ◌∙◌, arith, length-append}
-use Rattle.std.specs.Prelude.{IsErrAnd}
+use Rattle.std.proofs.Common.{◌≡◌, ◌+◌, ◌++◌, ℕ, [], ◌∷◌, length, Result, Err, refl, ap, subst, ◌∙◌, arith, length-append}
 use Rattle.std.proofs.lemmas.Result.{err_from_is_err_and}
 use Rattle.gts_capture.specs.{head_of, line_of}
 use Rattle.gts_capture.specs.Held.{Held}
@@ -12,10 +11,6 @@ use Rattle.gts_missing.specs.Counting.{Comes, DoesStep}
 use Rattle.gts_missing.proofs.RunLemmas.{runs_none, runs_more, ends_done, ends_bad, ends_in_step, ends_never}
 use Rattle.gts_missing.proofs.reading.run.Goals as goal
 
--- what `?` returns
-returned : (r : Result (Unit {0}) CaptureFault) (fault : CaptureFault) → IsErrAnd r (λ e. e ≡ fault) → r ≡ Err fault
-returned r fault h = let x = err_from_is_err_and r h in x.1 ∙ ap (λ (e : CaptureFault). Err e) x.2
-
 pub loop-init : goal.loop-init
 loop-init g c = record {
   done = λ d new. ([], refl, runs_none g.S.Source.tells d (g.S.Source.left c.args.capture.now) c.args.steps.now c.args.decoders.now c.args.table.now c.requires.begins c.requires.decoders new);
@@ -27,31 +22,33 @@ loop-init g c = record {
   later = omega arith;
 }
 
-pub returns-in-Ok-End-clause-comes : goal.returns-in-Ok-End-clause-comes
-returns-in-Ok-End-clause-comes g c = λ d new.
+pub returns-in-End-clause-comes : goal.returns-in-End-clause-comes
+returns-in-End-clause-comes g c = λ d new.
     let done = c.loop.invariant.done d new in
-    let told : g.S.Source.tells → c.loop.steps.ahead ++ g.S.Source.left c.loop.capture ≡ line_of c.in-Ok-End.field-0 ++ (c.next.new.self.ahead ++ g.S.Source.left c.next.new.source) = c.in-Ok-End.ensures.told in
+    let e = c.in_ok-head.ensures in
+    let is : c.in_ok-head.head ≡ End = c.in-End.is in
     ends_done g.S.Source.tells d (g.S.Source.left c.args.capture.now) done.0 c.loop.steps c.next.new.self (g.S.Source.left c.loop.capture) (g.S.Source.left c.next.new.source) c.loop.decoders c.loop.table done.2
-    (λ t. told t ∙ ap (λ (head : Head). line_of head ++ (c.next.new.self.ahead ++ g.S.Source.left c.next.new.source)) c.in-Ok-End.field-0-is)
-    (let place : c.next.new.self.at ≡ c.loop.steps.at + length (line_of End) = c.in-Ok-End.ensures.at ∙ ap (λ (head : Head). c.loop.steps.at + length (line_of head)) c.in-Ok-End.field-0-is in
-    omega (arith, place, c.in-Ok-End.ensures.within))
+    (λ t. e.told t ∙ ap (λ (head : Head). line_of head ++ (c.next.new.self.ahead ++ g.S.Source.left c.next.new.source)) is)
+    (let place : c.next.new.self.at ≡ c.loop.steps.at + length (line_of End) = e.at ∙ ap (λ (head : Head). c.loop.steps.at + length (line_of head)) is in
+    omega (arith, place, e.within))
 
-pub returns-in-Err-clause-comes : goal.returns-in-Err-clause-comes
-returns-in-Err-clause-comes g c = λ d new.
+pub returns-in_err-head-clause-comes : goal.returns-in_err-head-clause-comes
+returns-in_err-head-clause-comes g c = λ d new.
     let done = c.loop.invariant.done d new in
     let C : CaptureFault → Type 0 = λ fault. Comes g.S.Source.tells d (Err fault) c.loop.table (g.S.Source.left c.args.capture.now) in
     let go : (fault : CaptureFault) → c.next.result ≡ Err fault → C fault = elim [
       | Bad at ↦ λ is. ends_bad g.S.Source.tells d (g.S.Source.left c.args.capture.now) done.0 c.loop.steps (g.S.Source.left c.loop.capture) c.loop.decoders c.loop.table at done.2 (λ t. c.next.ensures.bad t at is)
       | SourceFault ↦ λ is. tt
     ] in
-    go c.in-Err.fault c.in-Err.is
+    let p = err_from_is_err_and c.from_residual.result c.from_residual.ensures.1 in
+    rw (p.1, p.2) (go c.in_err-head.field-0.0 c.in_err-head.was)
 
 pub returns-in_err-do_step-clause-comes : goal.returns-in_err-do_step-clause-comes
 returns-in_err-do_step-clause-comes g c = λ d new.
     let done = c.loop.invariant.done d new in
-    let head = head_of c.in-Ok.head in
+    let head = head_of c.in_ok-head.head in
     let reads : ReadsHead g.S.Source.tells head c.loop.steps c.next.new.self (g.S.Source.left c.loop.capture) (g.S.Source.left c.next.new.source) =
-    record { told = c.in-Ok.ensures.told; valid = c.in-Ok.ensures.valid; feed = c.in-Ok.ensures.feed; at = c.in-Ok.ensures.at; within = c.in-Ok.ensures.within; same = c.next.ensures.same } in
+    record { told = c.in_ok-head.ensures.told; valid = c.in_ok-head.ensures.valid; feed = c.in_ok-head.ensures.feed; at = c.in_ok-head.ensures.at; within = c.in_ok-head.ensures.within; same = c.next.ensures.same } in
     let D : CaptureFault → Type 0 = λ fault. DoesStep g.S.Source.tells head (Err fault) c.next.new.self c.do_step.new.steps (g.S.Source.left c.next.new.source) (g.S.Source.left c.do_step.new.capture)
     c.loop.decoders c.do_step.new.decoders c.loop.table c.do_step.new.table in
     let does : D c.in_err-do_step.field-0.0 = subst (λ (r : Result (Unit {0}) CaptureFault). DoesStep g.S.Source.tells head r c.next.new.self c.do_step.new.steps (g.S.Source.left c.next.new.source) (g.S.Source.left c.do_step.new.capture)
@@ -62,14 +59,14 @@ returns-in_err-do_step-clause-comes g c = λ d new.
           c.loop.decoders c.loop.table head at done.2 reads ends
       | SourceFault ↦ λ ends. tt
     ] in
-    subst (λ (r : Result (Unit {0}) CaptureFault). Comes g.S.Source.tells d r c.do_step.new.table (g.S.Source.left c.args.capture.now))
-    (sym (returned c.from_residual.result c.in_err-do_step.field-0.0 c.from_residual.ensures.1)) (go c.in_err-do_step.field-0.0 does)
+    let p = err_from_is_err_and c.from_residual-in_err-do_step.result c.from_residual-in_err-do_step.ensures.1 in
+    rw (p.1, p.2) (go c.in_err-do_step.field-0.0 does)
 
 pub loop-preserved : goal.loop-preserved
 loop-preserved g c =
-    let head = head_of c.in-Ok.head in
+    let head = head_of c.in_ok-head.head in
     let reads : ReadsHead g.S.Source.tells head c.loop.steps c.next.new.self (g.S.Source.left c.loop.capture) (g.S.Source.left c.next.new.source) =
-    record { told = c.in-Ok.ensures.told; valid = c.in-Ok.ensures.valid; feed = c.in-Ok.ensures.feed; at = c.in-Ok.ensures.at; within = c.in-Ok.ensures.within; same = c.next.ensures.same } in
+    record { told = c.in_ok-head.ensures.told; valid = c.in_ok-head.ensures.valid; feed = c.in_ok-head.ensures.feed; at = c.in_ok-head.ensures.at; within = c.in_ok-head.ensures.within; same = c.next.ensures.same } in
     let does = subst (λ (r : Result (Unit {0}) CaptureFault). DoesStep g.S.Source.tells head r c.next.new.self c.do_step.new.steps (g.S.Source.left c.next.new.source)
     (g.S.Source.left c.do_step.new.capture) c.loop.decoders c.do_step.new.decoders c.loop.table c.do_step.new.table) c.in_ok-do_step.was c.do_step.ensures.does in
     let same = does.taken.same in
