@@ -32,17 +32,13 @@ fn read_to_end<P: Station>(alloc: Global, station: &mut P) -> Result<(Journal, u
     ensures end { IfOk result (λ x. x.0.ended ≡ true) }
     ensures stands { P.tells → IfOk result (λ x. StandsOn (P.calls station.new) x.0) }
 {
-    let mut journal = match Journal::start(alloc, station, MARK) {
-        Ok(journal) => journal,
-        Err(fault) => return Err(fault),
-    };
+    let mut journal = Journal::start(alloc, station, MARK)?;
     let mut count: u64 = 0;
     while journal.used() < 1 << 40 {
-        match journal.next(station) {
-            Ok(Some(_)) => count = count.saturating_add(1),
-            Ok(None) => return Ok((journal, count)),
-            Err(fault) => return Err(fault),
+        if journal.next(station)?.is_none() {
+            return Ok((journal, count));
         }
+        count = count.saturating_add(1);
     }
     Err(OpenFault::Damaged {
         file: journal.file(),
@@ -98,10 +94,8 @@ fn size_that_exists<P: Station>(station: &mut P) -> Option<u64> {
 
 /// How many records are read.
 fn read<P: Station>(alloc: Global, station: &mut P) -> Result<u64, OpenFault> {
-    match read_to_end(alloc, station) {
-        Ok((_, count)) => Ok(count),
-        Err(fault) => Err(fault),
-    }
+    let (_, count) = read_to_end(alloc, station)?;
+    Ok(count)
 }
 
 /// The places of the two records.

@@ -44,10 +44,8 @@ fn opened<P: Station>(
     requires { length file.now ≤ 2 ^ 20 }
 {
     station.write_at(0, 0, file)?;
-    match open_core(alloc, station, directory) {
-        Ok((core, journal)) => Ok((journal.used(), core.accepted())),
-        Err(fault) => Err(fault),
-    }
+    let (core, journal) = open_core(alloc, station, directory)?;
+    Ok((journal.used(), core.accepted()))
 }
 
 /// The same in a station that has nothing.
