@@ -20,7 +20,7 @@ use Rattle.gts_checkpoint.specs.{checkpoint_file}
 use Rattle.gts_connection.specs.declared.kind.CaptureKind.TheVariants.{Journaled}
 use Rattle.gts_opening.specs.Journal.{opens, selected}
 use Rattle.gts_opening.specs.Room.{compacted_size, full_compacted}
-use Rattle.gts_calls.specs.{HasTurnCause}
+use Rattle.gts_calls.specs.{HasCallCause}
 use Rattle.gts_core.specs.Core.{Holds}
 use Rattle.gts_engine.specs.declared.mode.SayMode.TheVariants as mode
 use Rattle.gts_engine.specs.Engine.{Engine, shown}
@@ -161,7 +161,7 @@ module _ {S P : Type 0} (source : SourceMeanings S) (w : StationMeanings P) (od 
       (written : w.tells → OnOk r ((s : State) → Holds e.directory e.core s → IsRewritten e.directory s (w.calls e.station) (w.calls new.station) new.used))
       (room : (s : State) → e.stopped ≡ None → Holds e.directory e.core s → GivesRoom r e.directory s)
       (kind : IfErr r IsCompactFault) (unchanged : IsIdleFault r → new ≡ e)
-      (cause : HasTurnCause r (w.disk_faults e.station) (w.disk_faults new.station) (w.say_faults e.station) (w.say_faults new.station))
+      (cause : HasCallCause r (w.disk_faults e.station) (w.disk_faults new.station) (w.say_faults e.station) (w.say_faults new.station))
       (files : w.tells → new.stopped ≡ None → OpensWith new.directory (seen (w.calls new.station)) new.used) where
     stays : (k : Known) → StaysThere e.directory k.n (w.calls old) (w.calls new.station)
     stays k =
@@ -216,7 +216,7 @@ module _ {S P : Type 0} (source : SourceMeanings S) (w : StationMeanings P) (od 
     by_disk : r ≡ Err switch.DiskFault → Compacts source w DiskFault od old nd new.station
     by_disk failed =
         let rose : Rose (w.disk_faults old) (w.disk_faults new.station) =
-        let here = subst (λ (x : Result (Unit {0}) SwitchFault). HasTurnCause x (w.disk_faults e.station) (w.disk_faults new.station) (w.say_faults e.station) (w.say_faults new.station)) failed cause in
+        let here = subst (λ (x : Result (Unit {0}) SwitchFault). HasCallCause x (w.disk_faults e.station) (w.disk_faults new.station) (w.say_faults e.station) (w.say_faults new.station)) failed cause in
         omega (arith, (h.kept e is).0, here.disk_failed refl) in
         record {
           done = λ of. absurd (cc);

@@ -23,8 +23,8 @@ use Rattle.gts_opening.specs.Room.{full_compacted}
 use Rattle.gts_recovery.specs.Wider.{widened}
 use Rattle.gts_recovery.specs.Opened.{opens_any, files_open_any}
 use Rattle.gts_migrate.specs.Migrating.{OpensEither, IsMigrated, GivesRoomFor, AnswersOpening, WasOpened, LeavesFiles, IsDiskFaultOf}
-use Rattle.gts_migrate.specs.declared.migrating.MigrateFault.{MigrateFault}
-use Rattle.gts_migrate.specs.declared.migrating.MigrateFault.TheVariants as fault
+use Rattle.gts_migrate.specs.declared.fault.MigrateFault.{MigrateFault}
+use Rattle.gts_migrate.specs.declared.fault.MigrateFault.TheVariants as fault
 use Rattle.gts_app.specs.declared.status.Status.{Status}
 use Rattle.gts_app.specs.declared.status.Status.TheVariants.{Done, Words, Directory, OldDirectory, Changed, Capture, NoJournal, OldVersion, NotThis, Damaged, Exists, Accum, Feed, Diverged, DiskFault, SourceFault, SayFault, Full, LineFault, LongSession, Spent, NoMemory}
 use Rattle.gts_app.specs.Ending.{refusal}

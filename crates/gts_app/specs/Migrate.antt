@@ -22,8 +22,8 @@ use Rattle.gts_recovery.specs.Wider.{widened}
 use Rattle.gts_recovery.specs.Opened.{opens_any, files_open_any}
 use Rattle.gts_engine.specs.Keeping.{IsFullCompacted}
 use Rattle.gts_migrate.specs.Migrating.{OpensEither, IsMigrated}
-use Rattle.gts_migrate.specs.declared.migrating.MigrateFault.{MigrateFault}
-use Rattle.gts_migrate.specs.declared.migrating.MigrateFault.TheVariants as fault
+use Rattle.gts_migrate.specs.declared.fault.MigrateFault.{MigrateFault}
+use Rattle.gts_migrate.specs.declared.fault.MigrateFault.TheVariants as fault
 use Rattle.gts_app.specs.declared.status.Status.{Status}
 use Rattle.gts_app.specs.declared.status.Status.TheVariants.{Done, Directory, OldDirectory, Changed, NoJournal, OldVersion, NotThis, Damaged, DiskFault, SourceFault, Full, NoMemory}
 use Rattle.gts_app.specs.Ending.{refusal}
