@@ -1,9 +1,8 @@
-use crate::same::is_same;
 use gts_calls::Switch;
 use gts_directory::Directory;
 use gts_engine::{Engine, SayMode};
 use gts_event::{Device, Outcome};
-use gts_fixtures::two_circuits;
+use gts_fixtures::{is_same, two_circuits};
 use gts_frame::{FrameBuf, Kind, LostField};
 use gts_journal::Journal;
 use gts_memory::MemStation;

@@ -1,7 +1,7 @@
 ghost use Rattle.std.specs.Prelude.{◌≡◌, ◌≤◌, ◌^◌, true, length, IfOk};
 ghost use Rattle.gts_journal.specs.{StandsOn};
 
-use crate::same::is_same;
+use gts_fixtures::is_same;
 use gts_frame::Kind;
 use gts_journal::{InitFault, Journal, OpenFault, Record, Version};
 use gts_memory::{MemStation, Touched};

@@ -9,5 +9,3 @@ mod engine;
 mod journal;
 #[cfg(test)]
 mod recovery;
-#[cfg(test)]
-mod same;

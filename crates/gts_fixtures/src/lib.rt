@@ -1,4 +1,4 @@
-//! What the tests of several layers begin with: a small directory.
+//! What the tests of several layers begin with: a small directory, and a comparison of bytes.
 #![tactic(auto)]
 
 use gts_directory::{CircuitRow, DirRows, Directory, RuleRow};
@@ -29,4 +29,9 @@ pub fn two_circuits(alloc: Global) -> Result<Directory, Fail> {
         to: 3,
     })?;
     Ok(Directory::check(rows)?)
+}
+
+/// Whether these bytes are those that are wanted. It is a function of its own, since a proof of a test takes it as one call.
+pub fn is_same(found: &[u8], wanted: &[u8]) -> bool {
+    found == wanted
 }

@@ -1,5 +1,5 @@
-use crate::same::is_same;
 use gts_accum::{PackEnd, Unpacked, pack};
+use gts_fixtures::is_same;
 use gts_memory::{MemSource, MemStation};
 use gts_traits::Source;
 use std::alloc::Global;

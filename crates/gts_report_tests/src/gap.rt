@@ -1,6 +1,6 @@
 ghost use Rattle.std.specs.Prelude.{◌≡◌, length, IfOk};
 
-use crate::same::is_same;
+use gts_fixtures::is_same;
 use gts_gap::{AskText, GapTable};
 use std::alloc::Global;
 use std::test::Fail;

@@ -12,8 +12,6 @@ mod generate;
 #[cfg(test)]
 mod missing;
 #[cfg(test)]
-mod same;
-#[cfg(test)]
 mod standby;
 #[cfg(test)]
 mod words;

@@ -1,6 +1,6 @@
-use crate::same::is_same;
 use gts_directory::Directory;
 use gts_dirfile::read_directory;
+use gts_fixtures::is_same;
 use gts_memory::{MemSource, MemStation};
 use gts_missing::{GapsEnd, Moment, gaps};
 use gts_traits::Station;

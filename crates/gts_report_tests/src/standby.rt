@@ -1,6 +1,5 @@
-use crate::same::is_same;
 use gts_directory::Directory;
-use gts_fixtures::two_circuits;
+use gts_fixtures::{is_same, two_circuits};
 use gts_memory::{MemSource, MemStation, Touched};
 use gts_standby::{FollowEnd, ShipFault, follow, ship};
 use gts_traits::Station;
