@@ -1,6 +1,8 @@
 //! What the tests of several layers begin with: a small directory, and a comparison of bytes.
 #![tactic(auto)]
 
+ghost use Rattle.std.specs.Prelude.{◌≡◌, ◌↔◌, IsTrue};
+
 use gts_directory::{CircuitRow, DirRows, Directory, RuleRow};
 use std::alloc::Global;
 use std::test::Fail;
@@ -32,6 +34,8 @@ pub fn two_circuits(alloc: Global) -> Result<Directory, Fail> {
 }
 
 /// Whether these bytes are those that are wanted. It is a function of its own, since a proof of a test takes it as one call.
-pub fn is_same(found: &[u8], wanted: &[u8]) -> bool {
+pub fn is_same(found: &[u8], wanted: &[u8]) -> bool
+    ensures { IsTrue result ↔ (found.now ≡ wanted.now) }
+{
     found == wanted
 }
