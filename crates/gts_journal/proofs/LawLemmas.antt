@@ -1,10 +1,10 @@
 -- What the files open to, before and after an append.
-use Rattle.std.proofs.Common.{◌≡◌, ◌⊎◌, inl, inr, ℕ, zero, suc, ◌+◌, ◌-◌, ◌<◌, ◌≤◌, Bool, true, false, cond, List, [], ◌∷◌, ◌++◌, length, take, drop, Option, Some, None, Result, Ok, Err, refl, sym, ◌∙◌, ap, subst, arith}
+use Rattle.std.proofs.Common.{◌≡◌, ◌⊎◌, inl, inr, ℕ, zero, suc, ◌+◌, ◌-◌, ◌^◌, ◌<◌, ◌≤◌, Bool, true, false, cond, List, [], ◌∷◌, ◌++◌, length, take, drop, Option, Some, None, Result, Ok, Err, refl, sym, ◌∙◌, ap, subst, arith}
 use Rattle.std.specs.Prelude.{◌==◌, nat_eq, nat_lt, not}
 use Rattle.std.specs.List.{starts_with}
 use Rattle.std.specs.Cmp.Lexicographic.{pointwise}
 use Rattle.std.proofs.lemmas.Bool.{cases_eq}
-use Rattle.std.proofs.lemmas.List.{append-nil}
+use Rattle.std.proofs.lemmas.List.{append-nil, append_assoc, length-append, take_at}
 use Rattle.gts_traits.specs.Station.{Outside, Call, Says, Syncs, Tries, said_by, Files, seen, IsImage, IsSynced}
 use Rattle.gts_traits.specs.Moments.{EachSince}
 use Rattle.gts_traits.proofs.LawLemmas.{weaker, started, synced, said_is, synced_image, sync_syncs, says_keeps}
@@ -15,17 +15,94 @@ use Rattle.gts_event.specs.Need.{Need, need}
 use Rattle.gts_record.specs.declared.version.Version.{Version}
 use Rattle.gts_record.specs.declared.fault.OpenFault.{OpenFault}
 use Rattle.gts_record.specs.declared.fault.OpenFault.TheVariants.{NoJournal, OldVersion, NotThis, Damaged}
-use Rattle.gts_record.specs.Record.{Record, open_gate, closed_gate, record_text}
-use Rattle.gts_record.specs.Format.{magic, seal, sealed_at, is_older, first_seal, record_size, written}
-use Rattle.gts_opening.specs.Journal.{IsClosed, agreeing, need_in, checkpoint_opens, event_of_record, admits, Read, opened_of, records_at, file_opens, files_read, selected}
-use Rattle.gts_opening.proofs.LawLemmas.{opens_same, opens_more, selected_few}
+use Rattle.gts_record.specs.Record.{FitsRecord, Record, open_gate, closed_gate, record_text}
+use Rattle.gts_record.specs.Format.{magic, seal, sealed, sealed_at, is_older, first_seal, record_size, written, chain_text, last_seal, texts_of}
+use Rattle.gts_record.proofs.LawLemmas.{length-sealed}
+use Rattle.gts_opening.specs.Journal.{IsClosed, MayStand, AreAdmitted, after_records, gate_after, agreeing, need_in, checkpoint_opens, event_of_record, admits, Read, opened_of, records_at, file_opens, files_read, selected}
+use Rattle.gts_opening.proofs.LawLemmas.{far_enough, opens_same, opens_more, selected_few}
 use Rattle.gts_journal.specs.Hand.{InHand}
 use Rattle.gts_journal.specs.Standing.{EndsAt, StandsOn, file_of, front_of, next_seal, sealed_next, LeavesEither, LeavesBoth, HasAppended, selecting, entry_at, OnlySyncs}
 use Rattle.gts_journal.specs.Opening.{header_fault, is_checkpoint}
+use Rattle.gts_journal.specs.Batch.{no_records, Gathered, Gathers, IsBlock, opened_part, HasAppendedBlock, LeavesAllOrNone, AreNext, OpensToOneOf}
+use Rattle.gts_journal.proofs.GateLemmas.{gate_at}
 use Rattle.gts_journal.specs.Law.{StandsFor, IsNext, OpensTo, OpensToEither, OpensAsBefore, HoldsState}
 pub use Rattle.gts_journal.proofs.AheadLemmas.{at_mark, at_found}
 use Rattle.gts_journal.proofs.OpensLemmas.{at_gate, at_record, if_admitted, open_is}
 pub use Rattle.gts_journal.proofs.OpeningLemmas.{agreeing-same, agreeing-other, agreeing-end}
+
+-- ---- a batch
+
+-- with these records in the place of its closed gate, a file opens to the state after them
+pub opens_many : (v : Version) (d : Directory) (k : ℕ) (rs : List Record) (bytes : List ℕ) (s : State) (used : ℕ) (last : List ℕ) → d.limit < 256 ^ 4 → file_opens v d k bytes ≡ Ok (s, used, last)
+    → length (take (used - 1) bytes) ≡ used - 1 → AreAdmitted v d s (used - 1) rs → (image end : List ℕ) → IsClosed end → image ≡ (take (used - 1) bytes ++ chain_text v last (texts_of rs)) ++ end
+    → file_opens v d k image ≡ Ok (after_records d s rs, gate_after v (used - 1) rs + 1, last_seal v last (texts_of rs))
+opens_many v d k [] bytes s used last limit is long admitted image end closed ends =
+    let far : 41 ≤ used = far_enough v d k bytes s used last limit is in
+    opens_same v d k bytes s used last limit is image end closed (ends ∙ ap (λ (l : List ℕ). l ++ end) (append-nil (take (used - 1) bytes)))
+    ∙ ap (λ (n : ℕ). Ok (s, n, last)) (let e : used ≡ used - 1 + 1 = omega (arith, far) in e)
+opens_many v d k (r ∷ rs) bytes s used last limit is long admitted image end closed ends =
+    let far : 41 ≤ used = far_enough v d k bytes s used last limit is in
+    let front : List ℕ = take (used - 1) bytes in
+    let one : List ℕ = open_gate ∷ sealed v last (record_text r) in
+    let next : List ℕ = seal v last (record_text r) in
+    let t : State = after d s (event_of_record r) in
+    let then : ℕ = used + record_size v r in
+    let mid : List ℕ = front ++ one ++ closed_gate ∷ [] in
+    let shut : IsClosed (closed_gate ∷ []) = (closed_gate, [], refl, refl) in
+    let A : ℕ → Type 0 = λ n. admits v d s n r ≡ true in
+    let opened : file_opens v d k mid ≡ Ok (t, then, next) =
+    opens_more v d k bytes s used last limit is mid (closed_gate ∷ []) r shut admitted.0
+    (subst A (let e : used - 1 + 1 ≡ used = omega (arith, far) in e) admitted.1) refl in
+    let size : length (front ++ one) ≡ then - 1 = omega (arith, far, long, length-append front one, length-sealed v last (record_text r)) in
+    let front_is : take (then - 1) mid ≡ front ++ one =
+    take_at (front ++ one) (closed_gate ∷ []) (then - 1) size in
+    let B : ℕ → Type 0 = λ n. AreAdmitted v d t n rs in
+    let gate_is : used - 1 + record_size v r ≡ then - 1 = omega (arith, far) in
+    opens_many v d k rs mid t then next limit opened (ap length front_is ∙ size) (subst B gate_is admitted.2) image end closed
+    (ends ∙ ap (λ (l : List ℕ). l ++ end) (sym (append_assoc front one (chain_text v next (texts_of rs))) ∙ ap (λ (l : List ℕ). l ++ chain_text v next (texts_of rs)) (sym front_is)))
+    ∙ ap (λ (n : ℕ). Ok (after_records d t rs, gate_after v n rs + 1, last_seal v next (texts_of rs))) (sym gate_is)
+
+-- the gate behind records stands behind their bytes
+length-chain : (v : Version) (before : List ℕ) (rs : List Record) (gate : ℕ) → gate_after v gate rs ≡ gate + length (chain_text v before (texts_of rs))
+length-chain v before [] gate = omega arith
+length-chain v before (r ∷ rs) gate =
+    let next : List ℕ = seal v before (record_text r) in
+    let one : List ℕ = open_gate ∷ sealed v before (record_text r) in
+    omega (arith, length-chain v next rs (gate + record_size v r), length-append one (chain_text v next (texts_of rs)), length-sealed v before (record_text r))
+
+-- records that were gathered, with the closed gate behind them
+pub gathered_block : (before : List ℕ) (r : Record) (rs : List Record) (b : Gathered) → Gathers before (r ∷ rs) b → IsBlock b.text
+gathered_block before r rs b g = (sealed b.version before (record_text r) ++ chain_text b.version (seal b.version before (record_text r)) (texts_of rs), g.text)
+
+-- and without it
+gathered_part : (before : List ℕ) (rs : List Record) (b : Gathered) → Gathers before rs b → opened_part b.text ≡ chain_text b.version before (texts_of rs)
+gathered_part before rs b g =
+    let chained : List ℕ = chain_text b.version before (texts_of rs) in
+    ap (λ (l : List ℕ). take (length l - 1) l) g.text ∙ take_at chained (closed_gate ∷ []) (length (chained ++ closed_gate ∷ []) - 1) (omega (arith, length-append chained (closed_gate ∷ [])))
+
+-- one record more may stand behind records
+admitted_more : (v : Version) (d : Directory) (s : State) (gate : ℕ) (rs : List Record) (r : Record) → AreAdmitted v d s gate rs → FitsRecord r
+    → admits v d (after_records d s rs) (gate_after v gate rs + 1) r ≡ true → AreAdmitted v d s gate (rs ++ r ∷ [])
+admitted_more v d s gate [] r admitted fits ok = (fits, ok, tt)
+admitted_more v d s gate (q ∷ rs) r admitted fits ok =
+    (admitted.0, admitted.1, admitted_more v d (after d s (event_of_record q)) (gate + record_size v q) rs r admitted.2 fits ok)
+
+pub records_more : (d : Directory) (s : State) (rs : List Record) (r : Record) → after_records d s (rs ++ r ∷ []) ≡ after d (after_records d s rs) (event_of_record r)
+records_more d s [] r = refl
+records_more d s (q ∷ rs) r = records_more d (after d s (event_of_record q)) rs r
+
+pub next_none : (d : Directory) (s : State) (j : InHand) → AreNext d s j [] (no_records j)
+next_none d s j = record { version = refl; gathers = record { text = refl; seal = refl }; admitted = tt }
+
+pub next_more : (d : Directory) (s : State) (j : InHand) (rs : List Record) (r : Record) (b next : Gathered) → j.version ≡ written → AreNext d s j rs b → next.version ≡ b.version
+    → Gathers j.seal (rs ++ r ∷ []) next → MayStand written d (after_records d s rs) (j.gate + length b.text) r → AreNext d s j (rs ++ r ∷ []) next
+next_more d s j rs r b next current are version gathers may =
+    let v : b.version ≡ written = are.version ∙ current in
+    let chained : List ℕ = chain_text b.version j.seal (texts_of rs) in
+    let P : ℕ → Type 0 = λ n. admits written d (after_records d s rs) n r ≡ true in
+    let at : j.gate + length b.text ≡ gate_after written j.gate rs + 1 =
+    omega (arith, ap length are.gathers.text, length-append chained (closed_gate ∷ []), length-chain b.version j.seal rs j.gate, ap (λ (w : Version). gate_after w j.gate rs) v) in
+    record { version = version ∙ are.version; gathers = gathers; admitted = admitted_more written d s j.gate rs r are.admitted may.fits (subst P at may.admitted) }
 
 -- ---- the header
 
@@ -177,6 +254,67 @@ module _ (d : Directory) (s : State) (calls : List Call) (j : InHand) (f : Stand
               ∙ ap (λ (n : ℕ). file_opens j.version d n (file_of new then)) (ap (λ (k : InHand). k.file) has.place) ∙ opened
               ∙ ap (λ (n : ℕ). Ok (t, n, next_seal j r)) (let e : j.gate + 1 + record_size j.version r ≡ then.gate + 1 = omega (arith, at) in e)
               ∙ ap (λ (l : List ℕ). Ok (t, then.gate + 1, l)) (sym (ap (λ (k : InHand). k.seal) has.place));
+        }
+
+  module _ (rs : List Record) (b : Gathered) (next : AreNext d s j rs b) where
+    all_file : (bytes : List ℕ) → EndsAt (front_of calls j ++ opened_part b.text) bytes
+        → file_opens j.version d j.file bytes ≡ Ok (after_records d s rs, gate_after j.version j.gate rs + 1, last_seal j.version j.seal (texts_of rs))
+    all_file bytes ends =
+        let P : Version → Type 0 = λ v. AreAdmitted v d s (j.gate + 1 - 1) rs in
+        let Q : ℕ → Type 0 = λ n. AreAdmitted written d s n rs in
+        let gate_is : j.gate ≡ j.gate + 1 - 1 = omega arith in
+        let long : length (take (j.gate + 1 - 1) (file_of calls j)) ≡ j.gate + 1 - 1 = ap length same_gate ∙ sym (gate_at j.gate (file_of calls j) (f.stands.end_is f.ended)) ∙ gate_is in
+        let part : opened_part b.text ≡ chain_text j.version j.seal (texts_of rs) =
+        gathered_part j.seal rs b next.gathers ∙ ap (λ (v : Version). chain_text v j.seal (texts_of rs)) next.version in
+        opens_many j.version d j.file rs (file_of calls j) s (j.gate + 1) j.seal f.limit opens_file long (subst P (sym f.current) (subst Q gate_is next.admitted))
+        bytes (ends.gate ∷ ends.behind) (closed_end (front_of calls j ++ opened_part b.text) bytes ends)
+        (ends.is ∙ ap (λ (l : List ℕ). l ++ ends.gate ∷ ends.behind) (ap (λ (l : List ℕ). l ++ opened_part b.text) (sym same_gate) ∙ ap (λ (l : List ℕ). take (j.gate + 1 - 1) (file_of calls j) ++ l) part))
+        ∙ ap (λ (n : ℕ). Ok (after_records d s rs, gate_after j.version n rs + 1, last_seal j.version j.seal (texts_of rs))) (sym gate_is)
+
+    all_opens : (files : Files) → files 2 ≡ seen calls 2 → EndsAt (front_of calls j ++ opened_part b.text) (files j.file) → OpensTo d (after_records d s rs) files
+    all_opens files same ends =
+        reads_as files (after_records d s rs, gate_after j.version j.gate rs + 1, last_seal j.version j.seal (texts_of rs)) (selects files same) (all_file (files j.file) ends)
+
+    pub batch_opens : (new : List Call) → EachSince calls new (LeavesAllOrNone calls j b.text) → EachSince calls new (OpensToOneOf d s (after_records d s rs))
+    batch_opens new each = weaker _ (OpensToOneOf d s (after_records d s rs)) calls new (λ files outside left. (left.silent, by_end files left.selector left.journal)) each
+      where
+        by_end : (files : Files) → files 2 ≡ seen calls 2 → EndsAt (front_of calls j) (files j.file) ⊎ EndsAt (front_of calls j ++ opened_part b.text) (files j.file)
+            → OpensTo d s files ⊎ OpensTo d (after_records d s rs) files
+        by_end files same (inl ends) = inl (before_opens files same ends)
+        by_end files same (inr ends) = inr (all_opens files same ends)
+
+    pub batch_stands : (new : List Call) (then : InHand) → HasAppendedBlock calls j b new then → StandsFor d (after_records d s rs) new then
+    batch_stands new then has =
+        let part : opened_part b.text ≡ chain_text j.version j.seal (texts_of rs) =
+        gathered_part j.seal rs b next.gathers ∙ ap (λ (v : Version). chain_text v j.seal (texts_of rs)) next.version in
+        let chained : List ℕ = chain_text b.version j.seal (texts_of rs) in
+        let back : List ℕ = drop (j.gate + length b.text) (file_of calls j) in
+        let ends : EndsAt (front_of calls j ++ opened_part b.text) (file_of new then) = record {
+          gate = closed_gate;
+          behind = back;
+          closed = refl;
+          is = has.text ∙ append_assoc (front_of calls j) b.text back ∙ ap (λ (l : List ℕ). front_of calls j ++ (l ++ back)) next.gathers.text ∙ ap (λ (l : List ℕ). front_of calls j ++ l) (append_assoc chained (closed_gate ∷ []) back)
+              ∙ sym (append_assoc (front_of calls j) chained (closed_gate ∷ back)) ∙ ap (λ (l : List ℕ). (front_of calls j ++ l) ++ closed_gate ∷ back) (sym (gathered_part j.seal rs b next.gathers));
+        } in
+        let opened = all_file (file_of new then) ends in
+        let t : State = after_records d s rs in
+        let version : then.version ≡ j.version = ap (λ (k : InHand). k.version) has.place in
+        let at : then.gate ≡ j.gate + (length b.text - 1) = ap (λ (k : InHand). k.gate) has.place in
+        let long : length b.text ≡ length (chain_text j.version j.seal (texts_of rs)) + 1 =
+        ap length next.gathers.text ∙ length-append chained (closed_gate ∷ []) ∙ ap (λ (v : Version). length (chain_text v j.seal (texts_of rs)) + 1) next.version in
+        let last : last_seal j.version j.seal (texts_of rs) ≡ then.seal =
+        ap (λ (v : Version). last_seal v j.seal (texts_of rs)) (sym next.version) ∙ sym next.gathers.seal ∙ sym (ap (λ (k : InHand). k.seal) has.place) in
+        record {
+          limit = f.limit;
+          current = version ∙ f.current;
+          stands = has.stands;
+          ended = ap (λ (k : InHand). k.ended) has.place ∙ f.ended;
+          opens_to = open_selected then.version d (seen new) then.file has.stands.selected_is
+              ∙ ap (λ (v : Version). file_opens v d then.file (file_of new then)) version
+              ∙ ap (λ (n : ℕ). file_opens j.version d n (file_of new then)) (ap (λ (k : InHand). k.file) has.place) ∙ opened
+              ∙ ap (λ (n : ℕ). Ok (t, n, last_seal j.version j.seal (texts_of rs)))
+              (let e : gate_after j.version j.gate rs + 1 ≡ then.gate + 1 = omega (arith, at, long, length-chain j.version j.seal rs j.gate) in e)
+              ∙ ap (λ (l : List ℕ). Ok (t, then.gate + 1, l)) last;
         }
 
   pub images_open : (image : Files) → IsImage calls image → OpensTo d s image
