@@ -1,5 +1,5 @@
 //! A station that has the bytes of a checkpoint, so that they are read as those of a file.
-ghost use Rattle.std.specs.Prelude.{◌≡◌, IsErr};
+ghost use Rattle.std.specs.Prelude.{◌≡◌, false, IsErr};
 ghost use Rattle.gts_traits.specs.{HasCause};
 ghost use Rattle.gts_checkpoint.specs.Loose.{laid, laid_is_possible};
 
@@ -47,6 +47,8 @@ impl Station for Loose<'_> {
 
     ghost say_faults = { λ s. s.say_faults };
 
+    ghost is_kept = { λ _. false };
+
     ghost possible = { λ s told. laid_is_possible s.bytes.now };
 
     fn size(&mut self, _file: u32) -> Result<u64, Failed> {
@@ -76,6 +78,10 @@ impl Station for Loose<'_> {
     }
 
     fn say(&mut self, _channel: u32, _bytes: &[u8]) -> Result<(), Failed> {
+        refuse(&mut self.say_faults)
+    }
+
+    fn keep(&mut self) -> Result<(), Failed> {
         refuse(&mut self.say_faults)
     }
 }

@@ -32,6 +32,7 @@ impl<'a, R: Files<File = File> + Print + AllocGlobal> Model for FileStation<'a, 
     ghost view = { λ s. record {
       is_reader = s.disk.is_reader;
       is_lost = s.disk.is_lost;
+      is_unkept = s.outputs.is_lost;
       disk_faults = s.disk_faults;
       say_faults = s.say_faults;
     } };
@@ -40,8 +41,7 @@ impl<'a, R: Files<File = File> + Print + AllocGlobal> Model for FileStation<'a, 
 impl<'a, R: Files<File = File> + Print + AllocGlobal> FileStation<'a, R> {
     /// A station that may write. Nothing is opened yet, and no memory is taken.
     pub fn new(rt: &'a R) -> FileStation<'a, R>
-        ensures { result
-            ≡ record { is_reader = false; is_lost = false; disk_faults = 0; say_faults = 0 } }
+        ensures { result ≡ faultless false }
     {
         FileStation::with(rt, Disk::new(false))
     }
@@ -49,15 +49,15 @@ impl<'a, R: Files<File = File> + Print + AllocGlobal> FileStation<'a, R> {
     /// A station that reads the journal files and brings them to the disk, and changes none: each write and each cut fails.
     /// Nothing is opened yet, and no memory is taken.
     pub fn for_reading(rt: &'a R) -> FileStation<'a, R>
-        ensures { result
-            ≡ record { is_reader = true; is_lost = false; disk_faults = 0; say_faults = 0 } }
+        ensures { result ≡ faultless true }
     {
         FileStation::with(rt, Disk::new(true))
     }
 
     /// A station over these journal files, which has had no fault.
     fn with(rt: &'a R, disk: Disk) -> FileStation<'a, R>
-        ensures { result ≡ faultless disk.is_reader disk.is_lost }
+        requires { disk.is_lost ≡ false }
+        ensures { result ≡ faultless disk.is_reader }
     {
         FileStation {
             rt,
@@ -78,6 +78,8 @@ impl<R: Files<File = File> + Print + AllocGlobal> Station for FileStation<'_, R>
 
     ghost say_faults = { λ s. s.say_faults };
 
+    ghost is_kept = { λ _. true };
+
     ghost possible = { λ s told. absurd told };
 
     fn size(&mut self, file: u32) -> Result<u64, Failed>
@@ -87,6 +89,7 @@ impl<R: Files<File = File> + Print + AllocGlobal> Station for FileStation<'_, R>
         ensures say { self.new.say_faults ≡ self.old.say_faults }
         ensures reader { self.new.is_reader ≡ self.old.is_reader }
         ensures lost { FailsWhere result self.old.is_lost self.new.is_lost }
+        ensures unkept { self.new.is_unkept ≡ self.old.is_unkept }
     {
         counted(self.disk.size(self.rt, file), &mut self.disk_faults)
     }
@@ -99,6 +102,7 @@ impl<R: Files<File = File> + Print + AllocGlobal> Station for FileStation<'_, R>
         ensures say { self.new.say_faults ≡ self.old.say_faults }
         ensures reader { self.new.is_reader ≡ self.old.is_reader }
         ensures lost { FailsWhere result self.old.is_lost self.new.is_lost }
+        ensures unkept { self.new.is_unkept ≡ self.old.is_unkept }
     {
         counted(
             self.disk.read(self.rt, file, at, into),
@@ -116,6 +120,7 @@ impl<R: Files<File = File> + Print + AllocGlobal> Station for FileStation<'_, R>
         ensures say { self.new.say_faults ≡ self.old.say_faults }
         ensures reader { FailsWhere result self.old.is_reader self.new.is_reader }
         ensures lost { FailsWhere result self.old.is_lost self.new.is_lost }
+        ensures unkept { self.new.is_unkept ≡ self.old.is_unkept }
     {
         counted(
             self.disk.write_at(self.rt, file, at, bytes),
@@ -132,6 +137,7 @@ impl<R: Files<File = File> + Print + AllocGlobal> Station for FileStation<'_, R>
         ensures say { self.new.say_faults ≡ self.old.say_faults }
         ensures reader { FailsWhere result self.old.is_reader self.new.is_reader }
         ensures lost { FailsWhere result self.old.is_lost self.new.is_lost }
+        ensures unkept { self.new.is_unkept ≡ self.old.is_unkept }
     {
         counted(self.disk.cut(self.rt, file, size), &mut self.disk_faults)
     }
@@ -145,6 +151,7 @@ impl<R: Files<File = File> + Print + AllocGlobal> Station for FileStation<'_, R>
         ensures reader { self.new.is_reader ≡ self.old.is_reader }
         ensures fails { self.old.is_lost ≡ true → IsErr result }
         ensures lost { self.new.is_lost ≡ is_err result }
+        ensures unkept { self.new.is_unkept ≡ self.old.is_unkept }
     {
         counted(self.disk.sync(self.rt), &mut self.disk_faults)
     }
@@ -156,10 +163,25 @@ impl<R: Files<File = File> + Print + AllocGlobal> Station for FileStation<'_, R>
         ensures disk { self.new.disk_faults ≡ self.old.disk_faults }
         ensures reader { self.new.is_reader ≡ self.old.is_reader }
         ensures lost { self.new.is_lost ≡ self.old.is_lost }
+        ensures unkept { self.new.is_unkept ≡ self.old.is_unkept }
     {
         counted(
             self.outputs.write(self.rt, channel, bytes),
             &mut self.say_faults,
         )
+    }
+
+    /// Brings to the disk what was said to the circuits' files, and the folder's list of them. Once it has failed, every later
+    /// call of it fails.
+    fn keep(&mut self) -> Result<(), Failed>
+        ensures cause { HasCause result self.old.say_faults self.new.say_faults }
+        ensures sound { OnOk result (self.new.say_faults ≡ self.old.say_faults) }
+        ensures disk { self.new.disk_faults ≡ self.old.disk_faults }
+        ensures reader { self.new.is_reader ≡ self.old.is_reader }
+        ensures lost { self.new.is_lost ≡ self.old.is_lost }
+        ensures fails { self.old.is_unkept ≡ true → IsErr result }
+        ensures unkept { self.new.is_unkept ≡ is_err result }
+    {
+        counted(self.outputs.keep(self.rt), &mut self.say_faults)
     }
 }

@@ -48,6 +48,16 @@ sync-tells g c = record {
 pub say-tells : goal.say-tells
 say-tells g c = record {
   told = λ told. absurd told;
+  kept = λ told. absurd told;
+  cause = search rules;
+  sound = search rules;
+  disk = search rules;
+}
+
+pub keep-tells : goal.keep-tells
+keep-tells g c = record {
+  told = λ told. absurd told;
+  kept = λ told. absurd told;
   cause = search rules;
   sound = search rules;
   disk = search rules;
