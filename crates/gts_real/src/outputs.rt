@@ -28,6 +28,20 @@ fn open<R: Files<File = File> + AllocGlobal>(rt: &R, circuit: u32) -> io::Result
         .open(rt, name.as_str())
 }
 
+/// Brings to the disk those of these files that aren't yet.
+fn keep_files(
+    files: &[Option<File>; MOST_CIRCUITS],
+    kept: &mut [bool; MOST_CIRCUITS],
+) -> io::Result<()> {
+    for circuit in 0..MOST_CIRCUITS {
+        if let (false, Some(file)) = (kept[circuit], &files[circuit]) {
+            file.sync_data()?;
+            kept[circuit] = true;
+        }
+    }
+    Ok(())
+}
+
 impl Outputs {
     /// Nothing is opened yet.
     pub(crate) fn new() -> Outputs
@@ -71,12 +85,7 @@ impl Outputs {
     fn keep_changed<R: Files<File = File>>(&mut self, rt: &R) -> io::Result<()>
         ensures { self.new.is_lost ≡ self.old.is_lost }
     {
-        for circuit in 0..MOST_CIRCUITS {
-            if let (false, Some(file)) = (self.kept[circuit], &self.files[circuit]) {
-                file.sync_data()?;
-                self.kept[circuit] = true;
-            }
-        }
+        keep_files(&self.files, &mut self.kept)?;
         if !self.is_folder_kept {
             File::open(rt, ".")?.sync_all()?;
             self.is_folder_kept = true;
