@@ -2,7 +2,7 @@
 -- asked for takes alone.
 use Rattle.std.specs.Prelude.{ℕ, true, false, List, [], ◌∷◌, None, replicate}
 use Rattle.gts_frame.specs.declared.kind.Kind.TheVariants.{An}
-use Rattle.gts_directory.specs.Directory.{Directory}
+use Rattle.gts_directory.specs.Directory.{Directory, circuit_of, localhost}
 use Rattle.gts_event.specs.Need.{Need}
 use Rattle.gts_event.specs.declared.event.Event.TheVariants.{Taken}
 use Rattle.gts_event.specs.declared.event.Entry.{Entry}
@@ -15,8 +15,9 @@ one_circuit = record {
   centre = [];
   window = 0;
   limit = 0;
+  address = localhost;
   mark = [];
-  circuits = record { name = []; peer = []; kept = 1; digits = 3; input = 0; output = 0 } ∷ [];
+  circuits = record (circuit_of [] []) { kept = 1 } ∷ [];
   rules = [];
   levels = [];
 }

@@ -3,7 +3,7 @@
 use Rattle.std.specs.Prelude.{ℕ, true, false, List, [], ◌∷◌, ◌++◌, replicate, Option, Some, None}
 use Rattle.gts_frame.specs.declared.kind.Kind.TheVariants.{An}
 use Rattle.gts_frame.specs.declared.lost.LostField.{LostField}
-use Rattle.gts_directory.specs.Directory.{Directory}
+use Rattle.gts_directory.specs.Directory.{Directory, circuit_of, localhost}
 use Rattle.gts_event.specs.Need.{nothing}
 use Rattle.gts_event.specs.declared.event.Event.TheVariants.{Heard, Lost}
 use Rattle.gts_event.specs.declared.event.Entry.{Entry}
@@ -16,8 +16,9 @@ one_circuit = record {
   centre = [];
   window = 0;
   limit = 0;
+  address = localhost;
   mark = [];
-  circuits = record { name = []; peer = []; kept = 1; digits = 3; input = 0; output = 0 } ∷ [];
+  circuits = record (circuit_of [] []) { kept = 1 } ∷ [];
   rules = [];
   levels = [];
 }

@@ -8,6 +8,7 @@ use Rattle.std.proofs.lemmas.Bool.{true≢false}
 use Rattle.std.proofs.lemmas.List.{length-map, get_or-map, ext_get_or}
 use Rattle.std.proofs.lemmas.List.FromFn.{length-range_with_len}
 use Rattle.circular_buffer.specs.Buffer.{Buffer, keep_last}
+use Rattle.gts_directory.specs.Directory as directory
 use Rattle.gts_directory.specs.Directory.{Directory, Circuit}
 use Rattle.gts_event.specs.State.{State, Bulletin, is_recent}
 use Rattle.gts_event.specs.Need.{Need, CircuitNeed, unused, need, begun, keeps_one, is_sound, is_bulletin, is_for, is_circuit_sound, positions_of, IsOrdered}
@@ -44,7 +45,7 @@ back_part f (x ∷ xs) ys e = back_part f xs ys (and_true (f x) (list_all f (xs 
 
 -- a row of the directory beside its circuit
 abbrev no_circuit : Circuit
-no_circuit = record { name = []; peer = []; kept = 0; digits = 3; input = 0; output = 0 }
+no_circuit = directory.circuit_of [] []
 
 rows_at : (f : ℕ → Circuit → CircuitNeed → Bool) (m : ℕ) (rows : List Circuit) (cs : List CircuitNeed) → length cs ≡ length rows → list_all (λ r. f r.0 r.1.0 r.1.1) (enumerate_from m (zip rows cs)) ≡ true
     → (k : ℕ) → k < length cs → f (m + k) (get_or rows k no_circuit) (get_or cs k unused) ≡ true

@@ -1,5 +1,6 @@
 -- Which directory extends another one: the loops over its rows, and what both forms of the definition say.
 use Rattle.std.proofs.Common.{◌≡◌, ℕ, zero, suc, ◌+◌, ◌<◌, ◌≤◌, ◌^◌, Bool, true, false, ◌&&◌, ◌==◌, nat_eq, List, [], ◌∷◌, length, map, filter, get_or, drop, min, bit_and, Option, None, Some, cond, refl, sym, ◌∙◌, ap, arith, rules, inl, inr}
+use Rattle.std.specs.Bool.{beq}
 use Rattle.std.specs.Int.{bit_at}
 use Rattle.std.specs.List.{list_any, list_all, range_with_len}
 use Rattle.std.specs.Cmp.Lexicographic.{pointwise}
@@ -195,10 +196,21 @@ same_text (x ∷ xs) (y ∷ ys) h =
 text_same : (xs ys : List ℕ) → ys ≡ xs → pointwise nat_eq xs ys ≡ true
 text_same xs ys same = rw same (same_as_itself xs)
 
+same_bool : (a b : Bool) → beq a b ≡ true → a ≡ b
+same_bool true true h = refl
+same_bool false false h = refl
+same_bool true false h = absurd (cc)
+same_bool false true h = absurd (cc)
+
+bool_same : (a b : Bool) → b ≡ a → beq a b ≡ true
+bool_same true b h = rw h refl
+bool_same false b h = rw h refl
+
 -- both forms of what stays
 circuit_from : (old new : Circuit) → circuit_stays old new ≡ true → CircuitStays old new
 circuit_from old new h =
-    let (first, digits) = and_parts (pointwise nat_eq old.name new.name && pointwise nat_eq old.peer new.peer && (old.kept == new.kept)) (old.digits == new.digits) h in
+    let (others, closed) = and_parts (pointwise nat_eq old.name new.name && pointwise nat_eq old.peer new.peer && (old.kept == new.kept) && (old.digits == new.digits)) (beq old.closed new.closed) h in
+    let (first, digits) = and_parts (pointwise nat_eq old.name new.name && pointwise nat_eq old.peer new.peer && (old.kept == new.kept)) (old.digits == new.digits) others in
     let (second, kept) = and_parts (pointwise nat_eq old.name new.name && pointwise nat_eq old.peer new.peer) (old.kept == new.kept) first in
     let (name, peer) = and_parts (pointwise nat_eq old.name new.name) (pointwise nat_eq old.peer new.peer) second in
     record {
@@ -206,11 +218,12 @@ circuit_from old new h =
       peer = same_text _ _ peer;
       kept = sym (eqb-true _ _ kept);
       digits = sym (eqb-true _ _ digits);
+      closed = sym (same_bool _ _ closed);
     }
 
 from_circuit : (old new : Circuit) → CircuitStays old new → circuit_stays old new ≡ true
 from_circuit old new stays =
-    rw (text_same _ _ stays.name, text_same _ _ stays.peer, eq-eqb _ _ (sym stays.kept), eq-eqb _ _ (sym stays.digits)) refl
+    rw (text_same _ _ stays.name, text_same _ _ stays.peer, eq-eqb _ _ (sym stays.kept), eq-eqb _ _ (sym stays.digits), bool_same _ _ stays.closed) refl
 
 rule_from : (old new : Rule) → rule_stays old new ≡ true → RuleStays old new
 rule_from old new h =

@@ -1,6 +1,7 @@
 -- Which directory extends another one, and the first row that doesn't stay where it doesn't: circuits and rules may be added
 -- behind the others, and a rule may name further circuits (profile).
 use Rattle.std.specs.Prelude.{◌≡◌, ℕ, ◌+◌, Bool, ◌&&◌, ◌==◌, nat_eq, List, [], ◌∷◌, Option, None, Some, if◌then◌else◌, IsTrue}
+use Rattle.std.specs.Bool.{beq}
 use Rattle.std.specs.List.{list_any, list_all}
 use Rattle.std.specs.Cmp.Lexicographic.{pointwise}
 use Rattle.std.specs.Option.{option_or, option_map}
@@ -9,12 +10,13 @@ use Rattle.gts_directory.specs.declared.fault.Part.{Part}
 use Rattle.gts_directory.specs.declared.extending.Change.{Change}
 use Rattle.gts_directory.specs.Directory.{Circuit, Rule, Directory}
 
--- a circuit stays: only its ports may be other ones
+-- a circuit stays: only its ports, its host, its idle time and its repeat may be other ones
 pub record CircuitStays (old new : Circuit) : Type 0 where
   pub name : new.name ≡ old.name
   pub peer : new.peer ≡ old.peer
   pub kept : new.kept ≡ old.kept
   pub digits : new.digits ≡ old.digits
+  pub closed : new.closed ≡ old.closed
 
 -- each circuit of a rule is named by the other one
 abbrev pub names_all : Rule → Rule → Bool
@@ -31,8 +33,8 @@ BeginWith Stays [] rows = Unit {0}
 BeginWith Stays (row ∷ old) [] = ⊥
 BeginWith Stays (row ∷ old) (new ∷ rows) = Stays row new × BeginWith Stays old rows
 
--- A directory extends an old one: what a journal of the old one has come to can go on under it. The limit, the level rows and
--- the ports of circuits may be other ones.
+-- A directory extends an old one: what a journal of the old one has come to can go on under it. The limit, the address and the
+-- level rows may be other ones, and the ports, the host, the idle time and the repeat of circuits.
 pub record Extends (new old : Directory) : Type 0 where
   pub centre : new.centre ≡ old.centre
   pub window : new.window ≡ old.window
@@ -43,6 +45,7 @@ pub record Extends (new old : Directory) : Type 0 where
 abbrev pub circuit_stays : Circuit → Circuit → Bool
 circuit_stays old new =
     pointwise nat_eq old.name new.name && pointwise nat_eq old.peer new.peer && (old.kept == new.kept) && (old.digits == new.digits)
+    && beq old.closed new.closed
 
 abbrev pub rule_stays : Rule → Rule → Bool
 rule_stays old new = pointwise nat_eq old.heading new.heading && names_all old new

@@ -67,7 +67,7 @@ fn first_changed_circuit(old: &[CircuitRow], new: &[CircuitRow]) -> Option<u32>
     None
 }
 
-/// Whether a circuit stays: only its ports may be other ones.
+/// Whether a circuit stays: only its ports, its host, its idle time and its repeat may be other ones.
 fn circuit_stays(old: &CircuitRow, new: &CircuitRow) -> bool
     ensures { result ≡ staying.circuit_row_stays old.now new.now }
 {
@@ -75,6 +75,7 @@ fn circuit_stays(old: &CircuitRow, new: &CircuitRow) -> bool
         && old.peer == new.peer
         && old.kept == new.kept
         && old.digits == new.digits
+        && old.closed == new.closed
 }
 
 /// The first rule that doesn't stay.

@@ -1,7 +1,11 @@
 use gts_directory::{Change, CircuitRow, DirRows, Directory, LevelRow, Part, RuleRow};
 use gts_heading::Heading;
 use std::alloc::Global;
+use std::net::Ipv4Addr;
 use std::test::Fail;
+
+/// Where the switch listens.
+const ADDRESS: Ipv4Addr = Ipv4Addr::new(10, 0, 0, 1);
 
 /// The row of a circuit to a centre.
 fn circuit(name: u8, peer: [u8; 4], digits: u32) -> CircuitRow {
@@ -14,12 +18,16 @@ fn circuit(name: u8, peer: [u8; 4], digits: u32) -> CircuitRow {
         digits,
         input: 4001,
         output: 4002,
+        host: Ipv4Addr::new(10, 0, 0, 2),
+        idle: Some(60),
+        repeat: 20,
+        closed: false,
     }
 }
 
 /// Circuits A and B to different centres and C to that of A; `SM` goes to A and B, the number 01 to B and C.
 fn three_circuits(alloc: Global) -> Result<DirRows, Fail> {
-    let mut rows = DirRows::new(alloc, *b"TVSV", 1000, 1 << 30, [7; 32]);
+    let mut rows = DirRows::new(alloc, *b"TVSV", 1000, 1 << 30, ADDRESS, [7; 32]);
     rows.add_circuit(circuit(b'A', *b"AAAA", 3))?;
     rows.add_circuit(circuit(b'B', *b"BBBB", 5))?;
     rows.add_circuit(circuit(b'C', *b"AAAA", 3))?;
@@ -72,6 +80,7 @@ fn a_directory_gives_its_rows(rt: HostRuntime) -> Result<(), Fail> {
     assert_eq!(rt; directory.centre(), *b"TVSV");
     assert_eq!(rt; directory.window(), 1000);
     assert_eq!(rt; directory.limit(), 1 << 30);
+    assert_eq!(rt; directory.address(), ADDRESS);
     assert_eq!(rt; directory.mark(), [7; 32]);
     Ok(())
 }

@@ -5,6 +5,7 @@ ghost use Rattle.std.specs.Prelude.{◌≡◌, ◌↔◌, IsTrue};
 
 use gts_directory::{CircuitRow, DirRows, Directory, RuleRow};
 use std::alloc::Global;
+use std::net::Ipv4Addr;
 use std::test::Fail;
 
 /// The mark of the directory of two circuits.
@@ -12,7 +13,7 @@ pub const MARK: [u8; 32] = *b"the mark of this small directory";
 
 /// A directory of two circuits, each of which gets what comes in on the other.
 pub fn two_circuits(alloc: Global) -> Result<Directory, Fail> {
-    let mut rows = DirRows::new(alloc, *b"TVSV", 1000, 1 << 30, MARK);
+    let mut rows = DirRows::new(alloc, *b"TVSV", 1000, 1 << 30, Ipv4Addr::LOCALHOST, MARK);
     for (name, peer, input) in [
         (*b"A       ", *b"AAAA", 4001),
         (*b"B       ", *b"BBBB", 4003),
@@ -24,6 +25,10 @@ pub fn two_circuits(alloc: Global) -> Result<Directory, Fail> {
             digits: 3,
             input,
             output: input + 1,
+            host: Ipv4Addr::LOCALHOST,
+            idle: None,
+            repeat: 1,
+            closed: false,
         })?;
     }
     rows.add_rule(RuleRow {

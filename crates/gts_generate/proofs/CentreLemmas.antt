@@ -7,7 +7,7 @@ use Rattle.gts_alphabet.specs.Digits.{dec}
 use Rattle.gts_directory.specs.declared.rows.CircuitRow.{CircuitRow}
 use Rattle.gts_directory.specs.declared.rows.RuleRow.{RuleRow}
 use Rattle.gts_directory.specs.declared.fault.DirFault.{DirFault}
-use Rattle.gts_directory.specs.Directory.{Directory}
+use Rattle.gts_directory.specs.Directory.{Directory, localhost}
 use Rattle.gts_directory.specs.Rows.{Rows, no_rows}
 use Rattle.gts_directory.specs.Faults.{checked}
 use Rattle.gts_generate.specs.Centre.{circuit_row, rule_row, level_rows, rows, directory}
@@ -42,7 +42,7 @@ unfolding dec
 rows-are = refl
 
 -- the rows, as they are put together
-pub rows-made : (r₀ r₁ r₂ r₃ : Rows) → r₀ ≡ no_rows (codes "TVSV") 1000 (2 ^ 30) (replicate 32 0)
+pub rows-made : (r₀ r₁ r₂ r₃ : Rows) → r₀ ≡ no_rows (codes "TVSV") 1000 (2 ^ 30) localhost (replicate 32 0)
     → r₁ ≡ record r₀ { circuits = r₀.circuits ++ map circuit_row (range_with_len 0 8) }
     → r₂ ≡ record r₁ { rules = r₁.rules ++ map rule_row (range_with_len 0 60) }
     → r₃ ≡ record r₂ { levels = r₂.levels ++ level_rows } → r₃ ≡ rows

@@ -1,12 +1,12 @@
 -- The directory of the day: who gets what at a centre with eight circuits and 60 rules (profile).
-use Rattle.std.specs.Prelude.{ℕ, ◌+◌, ◌%◌, ◌^◌, ◌==◌, ◌||◌, List, [], ◌∷◌, ◌++◌, map, filter, replicate, codes}
+use Rattle.std.specs.Prelude.{ℕ, false, None, ◌+◌, ◌%◌, ◌^◌, ◌==◌, ◌||◌, List, [], ◌∷◌, ◌++◌, map, filter, replicate, codes}
 use Rattle.std.specs.List.{range_with_len}
 use Rattle.gts_alphabet.specs.Digits.{dec}
 use Rattle.gts_directory.specs.declared.rows.CircuitRow.{CircuitRow}
 use Rattle.gts_directory.specs.declared.rows.RuleRow.{RuleRow}
 use Rattle.gts_directory.specs.declared.rows.LevelRow.{LevelRow}
 use Rattle.gts_directory.specs.Directory as directories
-use Rattle.gts_directory.specs.Directory.{Circuit, Rule, Level, circuit_of, directory_of}
+use Rattle.gts_directory.specs.Directory.{Circuit, Rule, Level, localhost, circuit_of, directory_of}
 use Rattle.gts_directory.specs.Rows.{Rows}
 
 -- circuit j: C and the digit j, to the centre whose four letters are the letter number j; 1,000 draws are kept, no ports
@@ -36,6 +36,10 @@ circuit_row j = record {
   digits = 3;
   input = 0;
   output = 0;
+  host = localhost;
+  idle = None;
+  repeat = 1;
+  closed = false;
 }
 
 abbrev pub rule_row : ℕ → RuleRow
@@ -49,6 +53,7 @@ rows = record {
   centre = codes "TVSV";
   window = 1000;
   limit = 2 ^ 30;
+  address = localhost;
   mark = replicate 32 0;
   circuits = map circuit_row (range_with_len 0 8);
   rules = map rule_row (range_with_len 0 60);

@@ -7,6 +7,7 @@ use gts_alphabet::digits_of;
 use gts_directory::{CircuitRow, DirRows, Directory, LevelRow, RuleRow};
 use gts_traits::NoMemory;
 use std::alloc::Global;
+use std::net::Ipv4Addr;
 
 /// Among how many accepted bulletins a duplicate is looked for.
 const WINDOW: u32 = 1000;
@@ -32,6 +33,10 @@ fn circuit_row(j: u32) -> CircuitRow
         digits: 3,
         input: 0,
         output: 0,
+        host: Ipv4Addr::LOCALHOST,
+        idle: None,
+        repeat: 1,
+        closed: false,
     }
 }
 
@@ -99,7 +104,7 @@ fn add_levels(rows: &mut DirRows) -> Result<(), NoMemory>
 pub fn generated_directory(alloc: Global) -> Result<Directory, NoMemory>
     ensures { IfOk result (λ directory. directory ≡ centre.directory) }
 {
-    let mut rows = DirRows::new(alloc, *b"TVSV", WINDOW, LIMIT, [0; 32]);
+    let mut rows = DirRows::new(alloc, *b"TVSV", WINDOW, LIMIT, Ipv4Addr::LOCALHOST, [0; 32]);
     add_circuits(&mut rows)?;
     add_rules(&mut rows)?;
     add_levels(&mut rows)?;
