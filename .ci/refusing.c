@@ -9,6 +9,10 @@
 #include <sys/mman.h>
 #include <unistd.h>
 
+#ifndef REFUSED_ALLOCATION
+#define REFUSED_ALLOCATION "REFUSED_ALLOCATION"
+#endif
+
 extern void *__libc_malloc(size_t size);
 extern void *__libc_realloc(void *block, size_t size);
 
@@ -30,7 +34,7 @@ static atomic_ulong *place_in(const char *path) {
 }
 
 __attribute__((constructor)) static void begin(void) {
-    const char *number = getenv("REFUSED_ALLOCATION");
+    const char *number = getenv(REFUSED_ALLOCATION);
     const char *path = getenv("COUNTED_ALLOCATIONS");
     refused = number ? strtoul(number, NULL, 10) : 0;
     allocations = path ? place_in(path) : &in_no_file;

@@ -194,6 +194,8 @@ def run_tests(name, doc, breaks=(), seconds=180):
     words.add_argument('program', nargs='?', help='another program than the built one')
     words.add_argument('--seed', type=int, default=1)
     words.add_argument('--break', dest='broken', choices=breaks, help='one thing is wrong on purpose, and the tests fail')
+    words.add_argument('--each', type=int, default=1, help='each Nth of many comparisons alone, for a program that is slow')
     words.add_argument('-k', dest='chosen', help='the tests whose names fit these words, as pytest has it')
     found = words.parse_args()
-    tested(name, found.program, found.broken, found.seed, seconds, more=['-k', found.chosen] if found.chosen else [])
+    more = [f'--each={found.each}', *(['-k', found.chosen] if found.chosen else [])]
+    tested(name, found.program, found.broken, found.seed, seconds * found.each, more=more)

@@ -14,6 +14,7 @@ def pytest_addoption(parser):
     parser.addoption('--program', help='another program than the built one')
     parser.addoption('--break', dest='broken', help='one thing is wrong on purpose, and a test fails')
     parser.addoption('--seed', type=int, default=1)
+    parser.addoption('--each', type=int, default=1, help='each Nth of many comparisons alone, for a program that is slow')
     parser.addoption('--seconds', type=int, help='how long all of them may take')
 
 
@@ -34,6 +35,11 @@ def program(pytestconfig):
 @pytest.fixture(scope='session')
 def broken(pytestconfig):
     return pytestconfig.getoption('broken')
+
+
+@pytest.fixture(scope='session')
+def each(pytestconfig):
+    return pytestconfig.getoption('each')
 
 
 @pytest.fixture

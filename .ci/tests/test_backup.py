@@ -1,0 +1,98 @@
+"""Backups beside a running switch: what `ship` writes is brought back by `follow`, with each bulletin that had been acknowledged before
+the call; a plain copy of the three files opens to a front of the journal while nothing is compacted; and a copy whose files belong to
+two moments, around compactions, is told by `show`, or is a front too.
+
+    --break copy    the copy by `ship` lacks its second half"""
+import os
+import shutil
+import socket
+import threading
+import time
+
+from gate import Folder, feed
+from loopback import Neighbour, directory, frame, free_ports
+
+BULLETINS, ROUNDS, SECONDS = 900, 6, 60
+HEADING = b'SMVG01 TVSV 280000'
+
+
+def accepted(report):
+    """How many bulletins were accepted, by a report."""
+    return int(report.split(b'\n')[0].split()[1])
+
+
+def copied(folder, to, order):
+    """A plain copy of the files, in this order."""
+    for name in (*order, 'directory.toml'):
+        shutil.copyfile(folder.path(name), os.path.join(to, name))
+
+
+def test_backups_beside_a_running_switch(folder, program, broken, tmp_path):
+    ports = free_ports(4)
+    folder.write('directory.toml', directory('AB', 'B', ports))
+    folder.wants('init', folder.run('init'), (0, b'', ''))
+    frames = [frame((number + 1) % 1000, HEADING, b'%04d=' % number + b'x' * 200) for number in range(BULLETINS)]
+    may_end = threading.Event()
+
+    def sends(_neighbour, to):
+        for one in frames:
+            if not may_end.is_set():
+                to.sendall(one)
+                time.sleep(0.005)
+        may_end.wait(SECONDS)
+        to.shutdown(socket.SHUT_WR)
+
+    def listens(_neighbour, to):
+        may_end.wait(SECONDS)
+        to.shutdown(socket.SHUT_WR)
+    neighbours = [Neighbour(*ports[:2], sends, SECONDS), Neighbour(*ports[2:], listens, SECONDS)]
+    with open(folder.path('receipts'), 'wb') as receipts:
+        process = folder.starts('serve', stdout=receipts)
+    for one in neighbours:
+        one.start()
+    worth = []
+    for number in range(ROUNDS):
+        time.sleep(0.1)
+        acknowledged = folder.read('receipts').count(b'\n')
+        status, shipped, line = folder.run('ship')
+        folder.wants('ship', (status, line), (0, ''))
+        back = Folder(program, str(tmp_path / f'shipped.{number}'), folder.read('directory.toml'))
+        back.run('init')
+        if broken == 'copy':
+            shipped = shipped[:len(shipped) // 2]
+        folder.wants('follow', back.run('follow', capture=shipped), (0, b'', ''))
+        status, report, _ = back.run('show')
+        folder.wants('each acknowledged bulletin is in the copy', status == 0 and accepted(report) >= acknowledged, True)
+        plain = Folder(program, str(tmp_path / f'plain.{number}'))
+        acknowledged = folder.read('receipts').count(b'\n')
+        copied(folder, plain.at, ['journal.2', 'journal.0', 'journal.1'])
+        status, report, line = plain.run('show')
+        folder.wants('a plain copy opens', (status, line), (0, ''))
+        folder.wants('each acknowledged bulletin is in the plain copy', status == 0 and accepted(report) >= acknowledged, True)
+        worth.append(acknowledged)
+    may_end.set()
+    folder.wants('the end of serve', process.wait(SECONDS), 0)
+    folder.wants('backups were taken beside a switch that had work', worth[-1] > 0, True)
+    again = b''.join(feed(0, one) for one in frames)
+    _, said, _ = back.run('replay', capture=again + b'E\n')
+    known = sum(line.startswith(b'DUP 0 ') for line in said.splitlines())
+    folder.wants('what the last copy knows once more', known >= worth[-1], True)
+
+
+def test_a_copy_around_a_compaction_is_told_or_is_a_front(folder, tmp_path, program):
+    folder.write('directory.toml', directory('AB', 'B', [0, 0, 0, 0]))
+    folder.run('init')
+    for number in range(3):
+        frames = [frame(k + 1, HEADING, b'%d %d=' % (number, k)) for k in range(20)]
+        folder.run('replay', capture=b''.join(feed(0, one) for one in frames) + b'D 01\nE\n')
+        before = folder.journal()
+        folder.wants('compact', folder.run('compact'), (0, b'', ''))
+        after = folder.journal()
+        # Each of the three files is of the one moment or of the other.
+        for which in range(8):
+            mixed = [(after if which >> place & 1 else before)[place] for place in range(3)]
+            other = Folder(program, str(tmp_path / f'{number}.{which}'), folder.read('directory.toml'))
+            other.lay(mixed)
+            status, report, line = other.run('show')
+            told = status == 5 and line.startswith(('journal: none', 'journal: file'))
+            folder.wants(f'files of two moments ({which:03b})', told or (status == 0 and accepted(report) <= 20 * (number + 1)), True)

@@ -1,0 +1,231 @@
+"""What is installed of the program: by packaging/install under a folder of its own, and as a package of Debian in a root that has nothing
+else. The manual page renders without a warning and names every command, file, end and line; the units are sound; what was installed
+runs; lintian finds no error; and when the package is removed, and purged, each byte of the journal stays.
+
+    --break page       the manual page lacks its table of ends
+    --break journal    removing the package takes the journal with it"""
+import os
+import re
+import shlex
+import shutil
+import subprocess
+
+import gate
+import pytest
+from gate import TOP, Folder
+
+SECONDS = 60
+EXAMPLE = os.path.join(TOP, 'examples/first')
+FAULTS = os.path.join(TOP, 'crates/gts_switch/src/fault.rt')
+FILES = ['directory.toml', 'directory.old.toml', 'capture.gts', 'journal.0', 'journal.1', 'journal.2', 'circuit.NN.out']
+# What scripts of a package may call in the clean root.
+TOOLS = ['sh', 'rm', 'install', 'getent', 'useradd', 'systemctl', 'systemd-sysusers', 'systemd-tmpfiles']
+USUAL_LIMIT = 1073741824
+DIRECTORY = 'centre = "TVSV"\n[[circuit]]\nname = "A"\npeer = "AAAA"\n'
+
+faults = gate.Faults()
+wants = faults.wants
+
+
+@pytest.fixture(autouse=True)
+def no_faults():
+    """What was wrong in a test is told at its end."""
+    faults.clear()
+    yield
+    assert not faults, '\n'.join(faults[:20])
+
+
+def run(words, folder=None, **more):
+    done = subprocess.run(words, cwd=folder, capture_output=True, timeout=SECONDS, **more)
+    return done.returncode, done.stdout.decode(errors='replace'), done.stderr.decode(errors='replace').strip()
+
+
+def page_text(page):
+    """The page as it is rendered, with one blank wherever there are some. It renders without a warning."""
+    status, text, warnings = run(['groff', '-ww', '-man', '-Tutf8', '-P-cbou', '-rLL=1000n', page])
+    wants('the page renders', (status, warnings), (0, ''))
+    if shutil.which('man'):
+        status, _, warnings = run(['man', '--warnings', '-l', page], env={**os.environ, 'MANWIDTH': '100', 'MANPAGER': 'cat'})
+        wants('man renders the page', (status, warnings), (0, ''))
+    return re.sub(r'\s+', ' ', text)
+
+
+def lines_of_faults():
+    """Each line of a fault, as the program has it, with the status that its end has."""
+    with open(FAULTS) as file:
+        source = file.read()
+    statuses = dict(re.findall(r'Status::(\w+)(?:\(_\)| \{ \.\. \})? => (\d+),', source))
+    arms = re.findall(r'Status::(\w+)[^=]*=> \{?\s*write!\(\s*f,\s*"([^"]*)"', source)
+    wants('the lines of all ends', {name for name, _ in arms}, set(statuses))
+    return [(line, statuses[name]) for name, line in arms if name != 'Done']
+
+
+def check_page(text):
+    lines = lines_of_faults()
+    usage = next(line for line, _ in lines if line.startswith('usage: '))
+    for word in re.findall(r'(?:, | or )([a-z]+)', usage.replace('usage: ', ', ')):
+        wants(f'the page names {word}', f'gts_switch {word}' in text, True)
+    for name in FILES:
+        wants(f'the page names {name}', name in text, True)
+    wants('the page names the end 0', ' 0 It was done' in text, True)
+    for line, status in lines:
+        pattern = re.sub(r'\\\{\w*\\\}', r'[A-Z]+', re.escape(line))
+        wants(f'the page names the end {status}, {line}', bool(re.search(rf' {status} {pattern} ', text)), True)
+
+
+def check_unit(unit, prefix):
+    """The commands of a unit, as systemd runs them."""
+    with open(unit) as file:
+        text = file.read()
+    wants(f'{unit} has the prefix', (f'={prefix}/bin/' in text, '@PREFIX@' in text), (True, False))
+    if shutil.which('systemd-analyze'):
+        more = {**os.environ, 'MANPATH': os.path.join(prefix, 'share/man')}
+        units = os.path.dirname(unit)
+        beside = [os.path.join(units, name) for name in os.listdir(units) if name.endswith('.service')]
+        status, said, line = run(['systemd-analyze', 'verify', '--man=no', unit, *beside], env=more)
+        wants(f'{unit} is sound', (status, said, line), (0, '', ''))
+    return [shlex.split(words.replace('%%', '%')) for words in re.findall(r'^Exec\w+=-?(.*)$', text, re.MULTILINE)]
+
+
+def check_program(program, commands, folder):
+    for name in ('directory.toml', 'capture.gts'):
+        shutil.copy(os.path.join(EXAMPLE, name), folder)
+    wants('init', run([program, 'init'], folder), (0, '', ''))
+    status, receipts, line = run([program, 'replay'], folder)
+    wants('replay', (status, 'ACC ' in receipts, line), (0, True, ''))
+    status, report, line = run([program, 'show'], folder)
+    wants('show', (status, report.endswith('end\n'), line), (0, True, ''))
+    # The unit's commands, in a folder whose circuits have no ports: what comes before is no hindrance, and serving begins.
+    with open(os.path.join(folder, 'directory.toml'), 'w') as file:
+        file.write(DIRECTORY)
+    for name in ('journal.0', 'journal.1', 'journal.2'):
+        os.remove(os.path.join(folder, name))
+    wants('init of another directory', run([program, 'init'], folder), (0, '', ''))
+    *before, serve = commands
+    open(os.path.join(folder, 'receipts'), 'w').close()
+    said = ''
+    for words in before:
+        status, text, _ = run(words, folder)
+        wants(' '.join(words[1:]), status in (0, 2), True)
+        said += text
+    wants('the mark of a start', bool(re.fullmatch(r'START \d{4}-\d\d-\d\dT\d\d:\d\d:\d\dZ\n', said)), True)
+    status, said, line = run(serve, folder)
+    wants('serve of the unit', (status, said, line.splitlines()[:1]), (10, '', ['gts_switch: line fault on circuit 0']))
+
+
+def check_about(program):
+    """What the program tells of itself: its version stands in one place, and its help has each command of the usage line."""
+    _, version, _ = run([os.path.join(TOP, 'packaging/version')])
+    status, said, line = run([program, '--version'])
+    wants('--version', (status, said.splitlines()[:1], line), (0, [f'gts_switch {version.strip()}'], ''))
+    if shutil.which('rt'):
+        _, kit, _ = run(['rt', 'version'])
+        wants('the kit', said.splitlines()[-1:], [f'kit: {kit.split()[0]}'])
+    status, said, line = run([program, '--help'])
+    wants('--help', (status, line), (0, ''))
+    usage = next(line for line, _ in lines_of_faults() if line.startswith('usage: '))
+    for word in re.findall(r'(?:, | or )([a-z]+)', usage.replace('usage: ', ', ')):
+        wants(f'--help has {word}', bool(re.search(rf'^  {word}\b.* [a-z]', said, re.M)), True)
+    with open(os.path.join(TOP, 'CHANGELOG.md')) as file:
+        wants('CHANGELOG.md has the version', f'\n## {version.strip()}\n' in file.read(), True)
+
+
+def test_what_is_installed(program, broken, tmp_path):
+    prefix, folder = str(tmp_path / 'prefix'), str(tmp_path / 'run')
+    os.mkdir(folder)
+    status, said, line = run([os.path.join(TOP, 'packaging/install'), program], env={**os.environ, 'PREFIX': prefix})
+    wants('the installation', (status, line), (0, ''))
+    wants('it tells of neighbours on other hosts', 'IPAddressAllow' in said, True)
+    text = page_text(os.path.join(prefix, 'share/man/man1/gts_switch.1'))
+    check_page(text.replace('EXIT STATUS', '').split(' 0 It was done')[0] if broken == 'page' else text)
+    page_text(os.path.join(prefix, 'share/man/man1/gts-switch-status.1'))
+    units = os.path.join(prefix, 'lib/systemd/system')
+    for name in sorted(os.listdir(units)):
+        if name.endswith('.service') and name != 'gts_switch.service':
+            check_unit(os.path.join(units, name), prefix)
+    commands = check_unit(os.path.join(units, 'gts_switch.service'), prefix)
+    check_program(os.path.join(prefix, 'bin/gts_switch'), commands, folder)
+    check_about(os.path.join(prefix, 'bin/gts_switch'))
+    status, said, line = run([os.path.join(prefix, 'bin/gts-switch-status')], folder)
+    wants('what Prometheus is told', (status, line), (0, ''))
+    wants('its lines', re.findall(r'^gts_switch_(\w+)(?:\{.*\})? (\d+)$', said, re.M),
+          [('show_status', '0'), ('accepted_total', '0'), ('journal_used_bytes', str(os.path.getsize(os.path.join(folder, 'journal.1')))), ('journal_limit_bytes', str(USUAL_LIMIT)),
+           ('drawn_total', '0'), ('waiting', '0')])
+
+
+def clean_root(at):
+    """A root with the tools that a package's scripts call, their libraries, and dpkg's books."""
+    for folder in ('bin', 'etc', 'tmp', 'usr/sbin', 'var/lib/dpkg/info', 'var/lib/dpkg/updates', 'var/log', 'proc', 'dev', 'run'):
+        os.makedirs(os.path.join(at, folder))
+    os.symlink('bin', os.path.join(at, 'sbin'))
+    for name in ('status', 'available'):
+        open(os.path.join(at, 'var/lib/dpkg', name), 'w').close()
+    for name in ('passwd', 'group', 'shadow', 'gshadow'):
+        row = {'passwd': 'root:x:0:0::/:/bin/sh\n', 'group': 'root:x:0:\nadm:x:4:\n'}.get(name, '')
+        with open(os.path.join(at, 'etc', name), 'w') as file:
+            file.write(row)
+    with open(os.path.join(at, 'etc/nsswitch.conf'), 'w') as file:
+        file.write('passwd: files\ngroup: files\nshadow: files\n')
+    for tool in TOOLS:
+        path = shutil.which(tool)
+        if path is None:
+            continue
+        shutil.copy(path, os.path.join(at, 'bin', tool))
+        for library in re.findall(r'(/\S+) \(0x', run(['ldd', path])[1]):
+            there = at + library
+            os.makedirs(os.path.dirname(there), exist_ok=True)
+            if not os.path.exists(there):
+                shutil.copy(library, there)
+    return at
+
+
+def dpkg(root, *words):
+    # What the package depends on isn't in this root, but for what was put there.
+    return run(['dpkg', f'--root={root}', '--force-depends', '--force-unsafe-io', *words],
+               env={**os.environ, 'PATH': '/usr/sbin:/usr/bin:/sbin:/bin', 'LC_ALL': 'C', 'DEBIAN_FRONTEND': 'noninteractive'})
+
+
+def everything(folder):
+    """What a folder has: each file's bytes."""
+    return {name: Folder('', folder).read(name) for name in sorted(os.listdir(folder))}
+
+
+@pytest.fixture(scope='module')
+def package(program, tmp_path_factory):
+    to = str(tmp_path_factory.mktemp('package'))
+    status, said, line = run([os.path.join(TOP, 'packaging/deb'), to, program])
+    assert (status, line) == (0, '')
+    return said.strip()
+
+
+def test_lintian_finds_no_error(package):
+    status, said, line = run(['lintian', '--allow-root', '--fail-on', 'error', package])
+    print(said)
+    wants('lintian', (status, [text for text in said.splitlines() if text.startswith('E:')]), (0, []))
+
+
+@pytest.mark.skipif(os.geteuid() != 0, reason='a root is entered by root alone')
+def test_the_package_in_a_clean_root(package, broken, tmp_path):
+    root = clean_root(str(tmp_path / 'root'))
+    wants('the installation of the package', dpkg(root, '--install', package)[0], 0)
+    folder = os.path.join(root, 'var/lib/gts_switch')
+    with open(os.path.join(root, 'etc/passwd')) as file:
+        user = [row.split(':') for row in file if row.startswith('gts_switch:')]
+    wants('the user', [(row[5], row[6].strip()) for row in user], [('/var/lib/gts_switch', '/usr/sbin/nologin')])
+    wants('the folder', (os.path.isdir(folder), os.stat(folder).st_mode & 0o777, os.stat(folder).st_uid), (True, 0o750, int(user[0][2])))
+    installed = Folder(os.path.join(root, 'usr/bin/gts_switch'), folder, DIRECTORY)
+    wants('init of what was installed', installed.run('init'), (0, b'', ''))
+    wants('the example directory', os.path.exists(os.path.join(root, 'usr/share/doc/gts-switch/examples/directory.toml')), True)
+    before = everything(folder)
+    for word in ('--remove', '--purge'):
+        wants(f'{word} of the package', dpkg(root, word, 'gts-switch')[0], 0)
+        if broken == 'journal':
+            os.remove(os.path.join(folder, 'journal.0'))
+        wants(f'the folder behind {word}', everything(folder) if os.path.isdir(folder) else None, before)
+        wants(f'the program behind {word}', os.path.exists(installed.program), False)
+        if word == '--remove':
+            wants('the package once more', dpkg(root, '--install', package)[0], 0)
+            wants('the folder behind that', everything(folder), before)
+    left = [os.path.join(here, name) for here, _, names in os.walk(os.path.join(root, 'usr')) for name in names
+            if re.search('gts[-_]switch', os.path.join(here, name))]
+    wants('what is left under /usr', left, [])
