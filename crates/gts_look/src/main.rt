@@ -12,13 +12,16 @@ use gts_traits::{Source, Station};
 use std::alloc::Global;
 use std::process::ExitCode;
 
-/// How many pieces of 4,096 bytes are read of a directory: those of the longest one, and one more.
+/// How many bytes of a directory are read at once.
+const PIECE: usize = 4_096;
+
+/// How many pieces are read of a directory: those of the longest one, and one more.
 const PIECES: u32 = 65;
 
 /// The directory that a file holds, and `None` where it can't be read or is none.
 fn directory_of<S: Source>(alloc: Global, source: &mut S) -> Option<Directory> {
     let mut bytes = Vec::new(alloc);
-    let mut piece = [0; 4096];
+    let mut piece = [0; PIECE];
     for _ in 0..PIECES {
         let count = source.read(&mut piece).ok()?;
         bytes.extend_from_slice(&piece[..count]).ok()?;
