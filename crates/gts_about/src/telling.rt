@@ -1,7 +1,4 @@
-ghost use Rattle.std.specs.Prelude.{◌≡◌};
-ghost use Rattle.gts_switch.specs.Reading as reading;
-
-use gts_traits::WordList;
+use crate::About;
 use std::fmt;
 
 /// The version of this program. Its package, its manual page and a release take it from here.
@@ -9,39 +6,6 @@ pub const VERSION: &str = "1.0.0";
 
 /// The kit that it is proved and built with.
 pub const KIT: &str = "rattle-kit-13f";
-
-/// What a user may ask of the program itself, in place of a command.
-#[derive(Clone, Copy, Debug, PartialEq, Eq, Drop)]
-pub enum About {
-    /// Its version, that of its journals, and the kit.
-    Version,
-    /// Its commands, with a line each.
-    Help,
-}
-
-/// What this one word asks, if anything.
-fn asked(word: &str) -> Option<About>
-    ensures { result ≡ reading.asked word.now }
-{
-    if word == "--version" {
-        Some(About::Version)
-    } else if word == "--help" {
-        Some(About::Help)
-    } else {
-        None
-    }
-}
-
-/// What the words ask of the program itself, if anything: they are one word then, and no command.
-pub fn asked_of(words: &WordList) -> Option<About>
-    ensures { result ≡ reading.asked_of words.now }
-{
-    let word = words.get(0)?;
-    match words.get(1) {
-        None => asked(word),
-        Some(_) => None,
-    }
-}
 
 /// The commands, each with what it does.
 const COMMANDS: &str = "\
