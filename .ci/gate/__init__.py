@@ -62,6 +62,14 @@ def program_of(path=None):
     return program
 
 
+def program_or_end(path=None):
+    """The same; where there is none this script ends here, and has failed."""
+    try:
+        return program_of(path)
+    except Fault as fault:
+        sys.exit(f'{os.path.basename(sys.argv[0])}: {fault}')
+
+
 class Folder:
     """A folder with a directory file, and the program that works in it. `faults` has what was wrong with that, and `count` how
     often it was run."""
@@ -154,10 +162,7 @@ def words_of_call(doc, breaks=(), **more):
     for name, how in more.items():
         words.add_argument(name if how.pop('bare', False) else f'--{name}', **how)
     found = words.parse_args()
-    try:
-        found.program = program_of(found.program)
-    except Fault as fault:
-        sys.exit(f'{os.path.basename(sys.argv[0])}: {fault}')
+    found.program = program_or_end(found.program)
     return found
 
 
