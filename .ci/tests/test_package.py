@@ -77,7 +77,7 @@ def check_unit(unit, prefix):
     """The commands of a unit, as systemd runs them."""
     with open(unit) as file:
         text = file.read()
-    wants(f'{unit} has the prefix', (f'={prefix}/bin/' in text, '@PREFIX@' in text), (True, False))
+    wants(f'{unit} has the prefix', (f'={prefix}/' in text, '@PREFIX@' in text), (True, False))
     if shutil.which('systemd-analyze'):
         more = {**os.environ, 'MANPATH': os.path.join(prefix, 'share/man')}
         units = os.path.dirname(unit)
