@@ -5,7 +5,7 @@ use std::net::Ipv4Addr;
 use std::test::Fail;
 
 /// Where the switch listens.
-const ADDRESS: Ipv4Addr = Ipv4Addr::new(10, 0, 0, 1);
+const ADDRESS: [u8; 4] = [10, 0, 0, 1];
 
 /// The row of a circuit to a centre.
 fn circuit(name: u8, peer: [u8; 4], digits: u32) -> CircuitRow {
@@ -27,7 +27,14 @@ fn circuit(name: u8, peer: [u8; 4], digits: u32) -> CircuitRow {
 
 /// Circuits A and B to different centres and C to that of A; `SM` goes to A and B, the number 01 to B and C.
 fn three_circuits(alloc: Global) -> Result<DirRows, Fail> {
-    let mut rows = DirRows::new(alloc, *b"TVSV", 1000, 1 << 30, ADDRESS, [7; 32]);
+    let mut rows = DirRows::new(
+        alloc,
+        *b"TVSV",
+        1000,
+        1 << 30,
+        Ipv4Addr::from_octets(ADDRESS),
+        [7; 32],
+    );
     rows.add_circuit(circuit(b'A', *b"AAAA", 3))?;
     rows.add_circuit(circuit(b'B', *b"BBBB", 5))?;
     rows.add_circuit(circuit(b'C', *b"AAAA", 3))?;
@@ -80,7 +87,7 @@ fn a_directory_gives_its_rows(rt: HostRuntime) -> Result<(), Fail> {
     assert_eq!(rt; directory.centre(), *b"TVSV");
     assert_eq!(rt; directory.window(), 1000);
     assert_eq!(rt; directory.limit(), 1 << 30);
-    assert_eq!(rt; directory.address(), ADDRESS);
+    assert_eq!(rt; directory.address().octets(), ADDRESS);
     assert_eq!(rt; directory.mark(), [7; 32]);
     Ok(())
 }
