@@ -172,6 +172,7 @@ class Case:
         self.line = done.stderr
         self.status = 0
         self.wanted = b''
+        self.cause = b''
         self.looked = set()
 
     def closed(self):
@@ -180,8 +181,8 @@ class Case:
             return
         if self.ran != self.status:
             self.differs(f'exit status {self.ran}, wanted {self.status}')
-        if self.line != self.wanted:
-            self.differs(f'standard error {difference(self.line, self.wanted)}')
+        if self.line != self.wanted + self.cause:
+            self.differs(f'standard error {difference(self.line, self.wanted + self.cause)}')
         if 'says' not in self.looked:
             self.equal('standard output', self.said, b'')
         for file in sorted(glob.glob('circuit.*.out')):
@@ -201,6 +202,8 @@ class Case:
             self.status = number(name)
         elif verb == 'line':
             self.wanted = b'gts_switch: ' + self.spelled(rest) + b'\n'
+        elif verb == 'cause':
+            self.cause = b'gts_switch: ' + self.spelled(rest) + b'\n'
         elif verb == 'says':
             self.looked.add('says')
             self.equal('standard output', self.said, self.lines(block))

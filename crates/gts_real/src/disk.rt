@@ -1,6 +1,8 @@
-ghost use Rattle.std.specs.Prelude.{◌≡◌, ◌≤◌, ◌<◌, true, false, length, IfOk, IsErr, is_err};
+ghost use Rattle.std.specs.Prelude.{◌≡◌, ◌≤◌, ◌<◌, true, None, length, IfOk, IsErr, is_err, is_some};
 ghost use Rattle.gts_real.specs.{FailsWhere};
 
+use crate::ahead::Ahead;
+use crate::cause::{Act, Cause, Place, answered};
 use crate::lock::{Owner, lock};
 use std::fs::{File, OpenOptions};
 use std::io;
@@ -22,8 +24,30 @@ pub(crate) struct Disk {
     synced: [bool; 3],
     is_folder_synced: bool,
     owner: Owner,
-    // A sync failed. A later one may succeed without the bytes that it was for, so nothing is done any more.
-    is_lost: bool,
+    // What was read ahead, of which nothing is left when the files change.
+    ahead: Ahead,
+    // The sync that failed. A later one may succeed without the bytes that it was for, so nothing is done any more.
+    lost: Option<Cause>,
+}
+
+/// A journal file, by its number.
+fn place_of(file: u32) -> Place
+    requires { file < 3 }
+{
+    Place::File(NAMES[file as usize])
+}
+
+/// Brings the folder's list of files to the disk.
+pub(crate) fn sync_folder<R: Files<File = File>>(rt: &R) -> Result<(), Cause> {
+    let folder = answered(File::open(rt, "."), Place::Folder, Act::Open)?;
+    answered(folder.sync_all(), Place::Folder, Act::Sync)
+}
+
+/// The call of the system was made on a file that isn't there.
+fn missing(file: u32, act: Act) -> Cause
+    requires { file < 3 }
+{
+    Cause::system(place_of(file), act, io::Error::from(ErrorKind::NotFound))
 }
 
 /// Opens a file for writing where that is allowed, and else for reading.
@@ -42,27 +66,11 @@ fn existing(opened: io::Result<File>) -> io::Result<Option<File>> {
     }
 }
 
-/// Reads a file's bytes from a place on, as many as there are, up to the length of `into`.
-fn read_from(file: &File, at: u64, into: &mut [u8]) -> io::Result<usize>
-    ensures { IfOk result (λ count. count ≤ length into.old) }
-{
-    let mut count = 0;
-    for _ in 0..u64::MAX {
-        match file.read_at(&mut into[count..], at.wrapping_add(count as u64)) {
-            Ok(0) => break,
-            Ok(more) => count += more,
-            Err(error) if error.kind() == ErrorKind::Interrupted => {}
-            Err(error) => return Err(error),
-        }
-    }
-    Ok(count)
-}
-
 impl Disk {
     /// Nothing is opened yet. The files are only to be read, or also to be changed.
     pub(crate) fn new(is_reader: bool) -> Disk
         ensures reader { result.is_reader ≡ is_reader }
-        ensures lost { result.is_lost ≡ false }
+        ensures lost { result.lost ≡ None }
     {
         Disk {
             is_reader,
@@ -70,15 +78,16 @@ impl Disk {
             synced: [false; 3],
             is_folder_synced: false,
             owner: Owner::Unknown,
-            is_lost: false,
+            ahead: Ahead::new(),
+            lost: None,
         }
     }
 
     /// Opens a journal file that is there, where it isn't open yet.
-    fn open<R: Files<File = File>>(&mut self, rt: &R, file: u32) -> io::Result<()>
+    fn open<R: Files<File = File>>(&mut self, rt: &R, file: u32) -> Result<(), Cause>
         requires { file < 3 }
         ensures reader { self.new.is_reader ≡ self.old.is_reader }
-        ensures lost { self.new.is_lost ≡ self.old.is_lost }
+        ensures lost { self.new.lost ≡ self.old.lost }
     {
         let place = file as usize;
         if self.files[place].is_none() {
@@ -87,7 +96,7 @@ impl Disk {
             } else {
                 open_for_writing(rt, NAMES[place])
             };
-            self.files[place] = existing(opened)?;
+            self.files[place] = answered(existing(opened), place_of(file), Act::Open)?;
         }
         Ok(())
     }
@@ -101,15 +110,15 @@ impl Disk {
 
     /// Begins a call on a file. The first call of a station that may write takes the lock, so that what is read stays as it is
     /// until it is written.
-    fn begin<R: Files<File = File>>(&mut self, rt: &R, file: u32) -> io::Result<()>
+    fn begin<R: Files<File = File>>(&mut self, rt: &R, file: u32) -> Result<(), Cause>
         requires { file < 3 }
         ensures reader { self.new.is_reader ≡ self.old.is_reader }
-        ensures lost { FailsWhere result self.old.is_lost self.new.is_lost }
+        ensures lost { FailsWhere result (is_some self.old.lost) (is_some self.new.lost) }
     {
-        if self.is_lost {
-            return Err(io::Error::from(ErrorKind::Other));
+        if let Some(cause) = self.lost {
+            return Err(cause);
         }
-        if self.owner == Owner::Unknown && !self.is_reader {
+        if matches!(&self.owner, Owner::Unknown) && !self.is_reader {
             self.open(rt, 0)?;
             self.owner = match self.opened(0) {
                 Some(file) => lock(file),
@@ -120,17 +129,18 @@ impl Disk {
     }
 
     /// Makes a journal file. It fails where the file is there.
-    fn make<R: Files<File = File>>(&mut self, rt: &R, file: u32) -> io::Result<()>
+    fn make<R: Files<File = File>>(&mut self, rt: &R, file: u32) -> Result<(), Cause>
         requires { file < 3 }
         ensures reader { self.new.is_reader ≡ self.old.is_reader }
-        ensures lost { self.new.is_lost ≡ self.old.is_lost }
+        ensures lost { self.new.lost ≡ self.old.lost }
     {
         let place = file as usize;
         let made = OpenOptions::new()
             .read(true)
             .write(true)
             .create_new(true)
-            .open(rt, NAMES[place])?;
+            .open(rt, NAMES[place]);
+        let made = answered(made, place_of(file), Act::Make)?;
         self.is_folder_synced = false;
         if file == 0 {
             self.owner = lock(&made);
@@ -139,60 +149,77 @@ impl Disk {
         Ok(())
     }
 
+    /// Whether this station has the lock on the journal.
+    fn owned(&self) -> Result<(), Cause> {
+        match &self.owner {
+            Owner::This => Ok(()),
+            Owner::Refused(error) => Err(Cause::system(place_of(0), Act::Lock, *error)),
+            Owner::Unknown | Owner::Nobody | Owner::Another => Err(Cause::held(place_of(0))),
+        }
+    }
+
     /// Begins a change of a file, which is made where it isn't there. A reader changes nothing, and nobody without the lock.
-    fn begin_change<R: Files<File = File>>(&mut self, rt: &R, file: u32) -> io::Result<()>
+    fn begin_change<R: Files<File = File>>(
+        &mut self,
+        rt: &R,
+        file: u32,
+        act: Act,
+    ) -> Result<(), Cause>
         requires { file < 3 }
         ensures reader { FailsWhere result self.old.is_reader self.new.is_reader }
-        ensures lost { FailsWhere result self.old.is_lost self.new.is_lost }
+        ensures lost { FailsWhere result (is_some self.old.lost) (is_some self.new.lost) }
     {
         if self.is_reader {
-            return Err(io::Error::from(ErrorKind::PermissionDenied));
+            return Err(Cause::only_read(place_of(file), act));
         }
         self.begin(rt, file)?;
-        if self.owner == Owner::Nobody {
+        if matches!(&self.owner, Owner::Nobody) {
             self.make(rt, 0)?;
         }
-        if self.owner != Owner::This {
-            return Err(io::Error::from(ErrorKind::WouldBlock));
-        }
+        self.owned()?;
         if self.opened(file).is_none() {
             self.make(rt, file)?;
         }
         self.synced[file as usize] = false;
+        self.ahead.forget();
         Ok(())
     }
 
     /// How many bytes a journal file has: none where it isn't there.
-    pub(crate) fn size<R: Files<File = File>>(&mut self, rt: &R, file: u32) -> io::Result<u64>
+    pub(crate) fn size<R: Files<File = File>>(&mut self, rt: &R, file: u32) -> Result<u64, Cause>
         requires { file < 3 }
         ensures reader { self.new.is_reader ≡ self.old.is_reader }
-        ensures lost { FailsWhere result self.old.is_lost self.new.is_lost }
+        ensures lost { FailsWhere result (is_some self.old.lost) (is_some self.new.lost) }
     {
         self.begin(rt, file)?;
         match self.opened(file) {
-            Some(file) => Ok(file.metadata()?.len()),
+            Some(opened) => {
+                let metadata = answered(opened.metadata(), place_of(file), Act::Size)?;
+                Ok(metadata.len())
+            }
             None => Ok(0),
         }
     }
 
     /// Reads a journal file's bytes from a place on, as many as there are, up to the length of `into`.
-    pub(crate) fn read<R: Files<File = File>>(
+    pub(crate) fn read<R: Files<File = File> + AllocGlobal>(
         &mut self,
         rt: &R,
         file: u32,
         at: u64,
         into: &mut [u8],
-    ) -> io::Result<usize>
+    ) -> Result<usize, Cause>
         requires { file < 3 }
         ensures within { IfOk result (λ count. count ≤ length into.old) }
         ensures reader { self.new.is_reader ≡ self.old.is_reader }
-        ensures lost { FailsWhere result self.old.is_lost self.new.is_lost }
+        ensures lost { FailsWhere result (is_some self.old.lost) (is_some self.new.lost) }
     {
         self.begin(rt, file)?;
-        match self.opened(file) {
-            Some(file) => read_from(file, at, into),
-            None => Ok(0),
-        }
+        let Some(opened) = &self.files[file as usize] else {
+            return Ok(0);
+        };
+        let answer = self.ahead.read(rt.alloc(), opened, file, at, into);
+        answered(answer, place_of(file), Act::Read)
     }
 
     /// Writes bytes over what stands in a journal file from a place on, and past its end.
@@ -202,15 +229,15 @@ impl Disk {
         file: u32,
         at: u64,
         bytes: &[u8],
-    ) -> io::Result<()>
+    ) -> Result<(), Cause>
         requires { file < 3 }
         ensures reader { FailsWhere result self.old.is_reader self.new.is_reader }
-        ensures lost { FailsWhere result self.old.is_lost self.new.is_lost }
+        ensures lost { FailsWhere result (is_some self.old.lost) (is_some self.new.lost) }
     {
-        self.begin_change(rt, file)?;
+        self.begin_change(rt, file, Act::Write)?;
         match self.opened(file) {
-            Some(file) => file.write_all_at(bytes, at),
-            None => Err(io::Error::from(ErrorKind::NotFound)),
+            Some(opened) => answered(opened.write_all_at(bytes, at), place_of(file), Act::Write),
+            None => Err(missing(file, Act::Write)),
         }
     }
 
@@ -220,69 +247,78 @@ impl Disk {
         rt: &R,
         file: u32,
         size: u64,
-    ) -> io::Result<()>
+    ) -> Result<(), Cause>
         requires { file < 3 }
         ensures reader { FailsWhere result self.old.is_reader self.new.is_reader }
-        ensures lost { FailsWhere result self.old.is_lost self.new.is_lost }
+        ensures lost { FailsWhere result (is_some self.old.lost) (is_some self.new.lost) }
     {
-        self.begin_change(rt, file)?;
+        self.begin_change(rt, file, Act::Cut)?;
         match self.opened(file) {
-            Some(file) => file.set_len(size),
-            None => Err(io::Error::from(ErrorKind::NotFound)),
+            Some(opened) => answered(opened.set_len(size), place_of(file), Act::Cut),
+            None => Err(missing(file, Act::Cut)),
         }
     }
 
     /// Brings a journal file to the disk, where it was changed. One that wasn't isn't looked for, whether it is there or not.
-    fn sync_file<R: Files<File = File>>(&mut self, rt: &R, file: u32) -> io::Result<()>
+    fn sync_file<R: Files<File = File>>(&mut self, rt: &R, file: u32) -> Result<(), Cause>
         requires { file < 3 }
         ensures reader { self.new.is_reader ≡ self.old.is_reader }
-        ensures lost { self.new.is_lost ≡ self.old.is_lost }
+        ensures lost { is_some self.new.lost ≡ is_some self.old.lost }
     {
         if self.synced[file as usize] {
             return Ok(());
         }
         self.begin(rt, file)?;
-        if let Some(file) = self.opened(file) {
-            file.sync_data()?;
+        if let Some(opened) = self.opened(file) {
+            answered(opened.sync_data(), place_of(file), Act::Sync)?;
         }
         self.synced[file as usize] = true;
         Ok(())
     }
 
     /// Brings the folder's list of files to the disk, where one was made.
-    fn sync_folder<R: Files<File = File>>(&mut self, rt: &R) -> io::Result<()>
+    fn sync_list<R: Files<File = File>>(&mut self, rt: &R) -> Result<(), Cause>
         ensures reader { self.new.is_reader ≡ self.old.is_reader }
-        ensures lost { self.new.is_lost ≡ self.old.is_lost }
+        ensures lost { self.new.lost ≡ self.old.lost }
     {
         if !self.is_folder_synced {
-            File::open(rt, ".")?.sync_all()?;
+            sync_folder(rt)?;
             self.is_folder_synced = true;
         }
         Ok(())
     }
 
     /// Brings to the disk what was changed: the files, and the folder where one was made.
-    fn sync_changed<R: Files<File = File>>(&mut self, rt: &R) -> io::Result<()>
+    fn sync_changed<R: Files<File = File>>(&mut self, rt: &R) -> Result<(), Cause>
         ensures reader { self.new.is_reader ≡ self.old.is_reader }
-        ensures lost { FailsWhere result self.old.is_lost self.new.is_lost }
+        ensures lost { FailsWhere result (is_some self.old.lost) (is_some self.new.lost) }
     {
-        if self.is_lost {
-            return Err(io::Error::from(ErrorKind::Other));
+        if let Some(cause) = self.lost {
+            return Err(cause);
         }
         self.sync_file(rt, 0)?;
         self.sync_file(rt, 1)?;
         self.sync_file(rt, 2)?;
-        self.sync_folder(rt)
+        self.sync_list(rt)
     }
 
     /// Brings to the disk what was changed since the last sync. Once it has failed, every call fails.
-    pub(crate) fn sync<R: Files<File = File>>(&mut self, rt: &R) -> io::Result<()>
+    pub(crate) fn sync<R: Files<File = File>>(&mut self, rt: &R) -> Result<(), Cause>
         ensures reader { self.new.is_reader ≡ self.old.is_reader }
-        ensures fails { self.old.is_lost ≡ true → IsErr result }
-        ensures lost { self.new.is_lost ≡ is_err result }
+        ensures fails { is_some self.old.lost ≡ true → IsErr result }
+        ensures lost { is_some self.new.lost ≡ is_err result }
     {
-        let answer = self.sync_changed(rt);
-        self.is_lost = answer.is_err();
-        answer
+        // A read behind it is of the disk once more.
+        self.ahead.forget();
+        match self.sync_changed(rt) {
+            Ok(()) => {
+                self.lost = None;
+                Ok(())
+            }
+            Err(cause) => {
+                self.lost = Some(cause);
+                Err(cause)
+            }
+        }
     }
 }

@@ -1,7 +1,8 @@
-use std::fs::File;
+use std::fs::{File, TryLockError};
+use std::io;
 
 /// Who may write the journal, as far as this station knows.
-#[derive(Clone, Copy, Debug, PartialEq, Eq)]
+#[derive(Clone, Copy)]
 pub(crate) enum Owner {
     /// It wasn't looked at yet, or the station only reads.
     Unknown,
@@ -9,14 +10,17 @@ pub(crate) enum Owner {
     Nobody,
     /// This station has the lock.
     This,
-    /// Another program has the lock, or there is none to be had.
+    /// Another program has the lock.
     Another,
+    /// The system gives no lock on the file.
+    Refused(io::Error),
 }
 
 /// Takes the system's lock on a file, where it is free. It is let go when the file is closed.
 pub(crate) fn lock(file: &File) -> Owner {
     match file.try_lock() {
         Ok(()) => Owner::This,
-        Err(_) => Owner::Another,
+        Err(TryLockError::WouldBlock) => Owner::Another,
+        Err(TryLockError::Error(error)) => Owner::Refused(error),
     }
 }

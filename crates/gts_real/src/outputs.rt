@@ -1,9 +1,11 @@
-ghost use Rattle.std.specs.Prelude.{◌≡◌, ◌<◌, true, false, IsErr, is_err};
+ghost use Rattle.std.specs.Prelude.{◌≡◌, ◌<◌, true, None, IsErr, is_err, is_some};
 ghost use Rattle.gts_traits.specs.{MOST_CIRCUITS, CHANNELS};
 
+use crate::cause::{Act, Cause, Place, answered};
+use crate::disk::sync_folder;
 use gts_alphabet::MOST_CIRCUITS;
 use std::fs::{File, OpenOptions};
-use std::io::{ErrorKind, Write};
+use std::io::Write;
 use std::rt::Files;
 use std::{array, io};
 
@@ -15,8 +17,8 @@ pub(crate) struct Outputs {
     // opened may have been made by that.
     kept: [bool; MOST_CIRCUITS],
     is_folder_kept: bool,
-    // Keeping failed. A later sync may succeed without the bytes that it was for, so nothing is kept any more.
-    is_lost: bool,
+    // The sync that failed. A later one may succeed without the bytes that it was for, so nothing is kept any more.
+    lost: Option<Cause>,
 }
 
 /// Opens a circuit's file for bytes at its end; it is made where it isn't there.
@@ -32,10 +34,10 @@ fn open<R: Files<File = File> + AllocGlobal>(rt: &R, circuit: u32) -> io::Result
 fn keep_files(
     files: &[Option<File>; MOST_CIRCUITS],
     kept: &mut [bool; MOST_CIRCUITS],
-) -> io::Result<()> {
+) -> Result<(), Cause> {
     for circuit in 0..MOST_CIRCUITS {
         if let (false, Some(file)) = (kept[circuit], &files[circuit]) {
-            file.sync_data()?;
+            answered(file.sync_data(), Place::Circuit(circuit as u32), Act::Sync)?;
             kept[circuit] = true;
         }
     }
@@ -45,13 +47,13 @@ fn keep_files(
 impl Outputs {
     /// Nothing is opened yet.
     pub(crate) fn new() -> Outputs
-        ensures { result.is_lost ≡ false }
+        ensures { result.lost ≡ None }
     {
         Outputs {
             files: array::from_fn(|_| None),
             kept: [true; MOST_CIRCUITS],
             is_folder_kept: true,
-            is_lost: false,
+            lost: None,
         }
     }
 
@@ -62,47 +64,52 @@ impl Outputs {
         rt: &R,
         channel: u32,
         bytes: &[u8],
-    ) -> io::Result<()>
+    ) -> Result<(), Cause>
         requires { channel < CHANNELS }
-        ensures { self.new.is_lost ≡ self.old.is_lost }
+        ensures { self.new.lost ≡ self.old.lost }
     {
         if channel == 0 {
-            return rt.write_all(bytes);
+            return answered(rt.write_all(bytes), Place::Output, Act::Write);
         }
         let circuit = channel - 1;
+        let place = Place::Circuit(circuit);
         self.kept[circuit as usize] = false;
         if let Some(file) = &mut self.files[circuit as usize] {
-            return file.write_all(bytes);
+            return answered(file.write_all(bytes), place, Act::Write);
         }
-        let mut opened = open(rt, circuit)?;
+        let mut opened = answered(open(rt, circuit), place, Act::Open)?;
         self.is_folder_kept = false;
-        let answer = opened.write_all(bytes);
+        let answer = answered(opened.write_all(bytes), place, Act::Write);
         self.files[circuit as usize] = Some(opened);
         answer
     }
 
     /// Brings to the disk what was said to files, and the folder's list of them where one may have been made.
-    fn keep_changed<R: Files<File = File>>(&mut self, rt: &R) -> io::Result<()>
-        ensures { self.new.is_lost ≡ self.old.is_lost }
+    fn keep_changed<R: Files<File = File>>(&mut self, rt: &R) -> Result<(), Cause>
+        ensures { self.new.lost ≡ self.old.lost }
     {
         keep_files(&self.files, &mut self.kept)?;
         if !self.is_folder_kept {
-            File::open(rt, ".")?.sync_all()?;
+            sync_folder(rt)?;
             self.is_folder_kept = true;
         }
         Ok(())
     }
 
     /// Brings to the disk what was said to files since the last time. Once it has failed, it fails.
-    pub(crate) fn keep<R: Files<File = File>>(&mut self, rt: &R) -> io::Result<()>
-        ensures fails { self.old.is_lost ≡ true → IsErr result }
-        ensures lost { self.new.is_lost ≡ is_err result }
+    pub(crate) fn keep<R: Files<File = File>>(&mut self, rt: &R) -> Result<(), Cause>
+        ensures fails { is_some self.old.lost ≡ true → IsErr result }
+        ensures lost { is_some self.new.lost ≡ is_err result }
     {
-        if self.is_lost {
-            return Err(io::Error::from(ErrorKind::Other));
+        if let Some(cause) = self.lost {
+            return Err(cause);
         }
-        let answer = self.keep_changed(rt);
-        self.is_lost = answer.is_err();
-        answer
+        match self.keep_changed(rt) {
+            Ok(()) => Ok(()),
+            Err(cause) => {
+                self.lost = Some(cause);
+                Err(cause)
+            }
+        }
     }
 }

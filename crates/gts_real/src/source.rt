@@ -1,8 +1,9 @@
-ghost use Rattle.std.specs.Prelude.{◌≡◌, ◌≤◌, [], length, IfOk};
+ghost use Rattle.std.specs.Prelude.{◌≡◌, ◌≤◌, [], length, IfOk, OnOk, OnErr, IsSome};
+ghost use Rattle.gts_traits.specs.{HasCause};
 
-use gts_traits::{Failed, Source, counted};
+use crate::cause::{Act, Cause, Place, answered, noted};
+use gts_traits::{Failed, Source};
 use std::fs::File;
-use std::io;
 use std::io::Read;
 use std::rt::Files;
 
@@ -13,6 +14,8 @@ pub struct FileSource<'a, R: Files> {
     name: &'static str,
     file: Option<R::File>,
     faults: u64,
+    // Why the last call that failed did.
+    cause: Option<Cause>,
 }
 
 impl<'a, R: Files> FileSource<'a, R> {
@@ -25,26 +28,49 @@ impl<'a, R: Files> FileSource<'a, R> {
             name,
             file: None,
             faults: 0,
+            cause: None,
         }
+    }
+
+    /// Why the last call that failed did. `None` where none has failed.
+    pub fn cause(&self) -> Option<Cause>
+        ensures { result ≡ self.now.cause }
+    {
+        self.cause
+    }
+}
+
+impl<'a, R: Files<File = File>> FileSource<'a, R> {
+    /// Brings the file to the disk, where it was read: another program may have written it just before.
+    pub fn keep(&mut self) -> Result<(), Failed>
+        ensures cause { HasCause result self.old.faults self.new.faults }
+        ensures sound { OnOk result (self.new.faults ≡ self.old.faults) }
+        ensures why { OnErr result (IsSome self.new.cause) }
+    {
+        let answer = match &self.file {
+            Some(file) => answered(file.sync_all(), Place::File(self.name), Act::Sync),
+            None => Ok(()),
+        };
+        noted(answer, &mut self.faults, &mut self.cause)
     }
 }
 
 /// Reads the next bytes of a file, which is opened where it isn't yet.
 fn read_on<R: Files>(
     rt: &R,
-    name: &str,
+    name: &'static str,
     file: &mut Option<R::File>,
     into: &mut [u8],
-) -> io::Result<usize>
+) -> Result<usize, Cause>
     ensures { IfOk result (λ count. count ≤ length into.new) }
 {
     if let Some(file) = file {
-        return file.read(into);
+        return answered(file.read(into), Place::File(name), Act::Read);
     }
-    let mut opened = File::open(rt, name)?;
+    let mut opened = answered(File::open(rt, name), Place::File(name), Act::Open)?;
     let count = opened.read(into);
     *file = Some(opened);
-    count
+    answered(count, Place::File(name), Act::Read)
 }
 
 impl<R: Files> Source for FileSource<'_, R> {
@@ -54,9 +80,14 @@ impl<R: Files> Source for FileSource<'_, R> {
 
     ghost faults = { λ s. s.faults };
 
-    /// Fails where the file can't be opened or read.
-    fn read(&mut self, into: &mut [u8]) -> Result<usize, Failed> {
+    /// Fails where the file can't be opened or read. Then there is a cause.
+    fn read(&mut self, into: &mut [u8]) -> Result<usize, Failed>
+        ensures count { IfOk result (λ count. count ≤ length into.new) }
+        ensures cause { HasCause result self.old.faults self.new.faults }
+        ensures sound { OnOk result (self.new.faults ≡ self.old.faults) }
+        ensures why { OnErr result (IsSome self.new.cause) }
+    {
         let answer = read_on(self.rt, self.name, &mut self.file, into);
-        counted(answer, &mut self.faults)
+        noted(answer, &mut self.faults, &mut self.cause)
     }
 }

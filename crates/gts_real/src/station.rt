@@ -1,10 +1,11 @@
-ghost use Rattle.std.specs.Prelude.{◌≡◌, ◌+◌, ◌^◌, ◌≤◌, ◌<◌, true, false, [], length, IfOk, OnOk, IsErr, is_err};
+ghost use Rattle.std.specs.Prelude.{◌≡◌, ◌+◌, ◌^◌, ◌≤◌, ◌<◌, true, false, [], length, IfOk, OnOk, OnErr, IsErr, IsSome, is_err, is_some};
 ghost use Rattle.gts_traits.specs.{CHANNELS, HasCause};
 ghost use Rattle.gts_real.specs.{FailsWhere, faultless};
 
+use crate::cause::{Cause, noted};
 use crate::disk::Disk;
 use crate::outputs::Outputs;
-use gts_traits::{Failed, Station, counted};
+use gts_traits::{Failed, Station};
 use std::fs::File;
 use std::marker::Model;
 use std::rt::Files;
@@ -22,19 +23,25 @@ pub struct FileStation<'a, R: Files<File = File> + Print + AllocGlobal> {
     outputs: Outputs,
     disk_faults: u64,
     say_faults: u64,
+    // Why the last call on a file that failed did, and the last say.
+    disk_cause: Option<Cause>,
+    say_cause: Option<Cause>,
 }
 
 impl<'a, R: Files<File = File> + Print + AllocGlobal> Model for FileStation<'a, R> {
+    ghost use Rattle.std.specs.Prelude.{is_some};
     ghost use Rattle.gts_real.specs.Station.{StationOnSystem};
 
     ghost Value = { StationOnSystem };
 
     ghost view = { λ s. record {
       is_reader = s.disk.is_reader;
-      is_lost = s.disk.is_lost;
-      is_unkept = s.outputs.is_lost;
+      is_lost = is_some s.disk.lost;
+      is_unkept = is_some s.outputs.lost;
       disk_faults = s.disk_faults;
       say_faults = s.say_faults;
+      disk_cause = s.disk_cause;
+      say_cause = s.say_cause;
     } };
 }
 
@@ -54,9 +61,23 @@ impl<'a, R: Files<File = File> + Print + AllocGlobal> FileStation<'a, R> {
         FileStation::with(rt, Disk::new(true))
     }
 
+    /// Why the last call on a journal file that failed did. `None` where none has failed.
+    pub fn disk_cause(&self) -> Option<Cause>
+        ensures { result ≡ self.now.disk_cause }
+    {
+        self.disk_cause
+    }
+
+    /// Why the last say that failed did, or keeping what was said. `None` where none has failed.
+    pub fn say_cause(&self) -> Option<Cause>
+        ensures { result ≡ self.now.say_cause }
+    {
+        self.say_cause
+    }
+
     /// A station over these journal files, which has had no fault.
     fn with(rt: &'a R, disk: Disk) -> FileStation<'a, R>
-        requires { disk.is_lost ≡ false }
+        requires { disk.lost ≡ None }
         ensures { result ≡ faultless disk.is_reader }
     {
         FileStation {
@@ -65,6 +86,8 @@ impl<'a, R: Files<File = File> + Print + AllocGlobal> FileStation<'a, R> {
             outputs: Outputs::new(),
             disk_faults: 0,
             say_faults: 0,
+            disk_cause: None,
+            say_cause: None,
         }
     }
 }
@@ -85,28 +108,35 @@ impl<R: Files<File = File> + Print + AllocGlobal> Station for FileStation<'_, R>
     fn size(&mut self, file: u32) -> Result<u64, Failed>
         requires { file < 3 }
         ensures cause { HasCause result self.old.disk_faults self.new.disk_faults }
+        ensures why { OnErr result (IsSome self.new.disk_cause) }
         ensures sound { OnOk result (self.new.disk_faults ≡ self.old.disk_faults) }
         ensures say { self.new.say_faults ≡ self.old.say_faults }
         ensures reader { self.new.is_reader ≡ self.old.is_reader }
         ensures lost { FailsWhere result self.old.is_lost self.new.is_lost }
         ensures unkept { self.new.is_unkept ≡ self.old.is_unkept }
     {
-        counted(self.disk.size(self.rt, file), &mut self.disk_faults)
+        noted(
+            self.disk.size(self.rt, file),
+            &mut self.disk_faults,
+            &mut self.disk_cause,
+        )
     }
 
     fn read(&mut self, file: u32, at: u64, into: &mut [u8]) -> Result<usize, Failed>
         requires { file < 3 }
         ensures within { IfOk result (λ n. n ≤ length into.old) }
         ensures cause { HasCause result self.old.disk_faults self.new.disk_faults }
+        ensures why { OnErr result (IsSome self.new.disk_cause) }
         ensures sound { OnOk result (self.new.disk_faults ≡ self.old.disk_faults) }
         ensures say { self.new.say_faults ≡ self.old.say_faults }
         ensures reader { self.new.is_reader ≡ self.old.is_reader }
         ensures lost { FailsWhere result self.old.is_lost self.new.is_lost }
         ensures unkept { self.new.is_unkept ≡ self.old.is_unkept }
     {
-        counted(
+        noted(
             self.disk.read(self.rt, file, at, into),
             &mut self.disk_faults,
+            &mut self.disk_cause,
         )
     }
 
@@ -116,15 +146,17 @@ impl<R: Files<File = File> + Print + AllocGlobal> Station for FileStation<'_, R>
         requires file { file < 3 }
         requires room { at + length bytes.now ≤ 2 ^ 40 }
         ensures cause { HasCause result self.old.disk_faults self.new.disk_faults }
+        ensures why { OnErr result (IsSome self.new.disk_cause) }
         ensures sound { OnOk result (self.new.disk_faults ≡ self.old.disk_faults) }
         ensures say { self.new.say_faults ≡ self.old.say_faults }
         ensures reader { FailsWhere result self.old.is_reader self.new.is_reader }
         ensures lost { FailsWhere result self.old.is_lost self.new.is_lost }
         ensures unkept { self.new.is_unkept ≡ self.old.is_unkept }
     {
-        counted(
+        noted(
             self.disk.write_at(self.rt, file, at, bytes),
             &mut self.disk_faults,
+            &mut self.disk_cause,
         )
     }
 
@@ -133,19 +165,25 @@ impl<R: Files<File = File> + Print + AllocGlobal> Station for FileStation<'_, R>
     fn cut(&mut self, file: u32, size: u64) -> Result<(), Failed>
         requires { file < 3 }
         ensures cause { HasCause result self.old.disk_faults self.new.disk_faults }
+        ensures why { OnErr result (IsSome self.new.disk_cause) }
         ensures sound { OnOk result (self.new.disk_faults ≡ self.old.disk_faults) }
         ensures say { self.new.say_faults ≡ self.old.say_faults }
         ensures reader { FailsWhere result self.old.is_reader self.new.is_reader }
         ensures lost { FailsWhere result self.old.is_lost self.new.is_lost }
         ensures unkept { self.new.is_unkept ≡ self.old.is_unkept }
     {
-        counted(self.disk.cut(self.rt, file, size), &mut self.disk_faults)
+        noted(
+            self.disk.cut(self.rt, file, size),
+            &mut self.disk_faults,
+            &mut self.disk_cause,
+        )
     }
 
     /// Brings to the disk what was written or cut since the last sync; the first one all that is there, whoever wrote it. Once
     /// it has failed, every later call on a file fails.
     fn sync(&mut self) -> Result<(), Failed>
         ensures cause { HasCause result self.old.disk_faults self.new.disk_faults }
+        ensures why { OnErr result (IsSome self.new.disk_cause) }
         ensures sound { OnOk result (self.new.disk_faults ≡ self.old.disk_faults) }
         ensures say { self.new.say_faults ≡ self.old.say_faults }
         ensures reader { self.new.is_reader ≡ self.old.is_reader }
@@ -153,21 +191,27 @@ impl<R: Files<File = File> + Print + AllocGlobal> Station for FileStation<'_, R>
         ensures lost { self.new.is_lost ≡ is_err result }
         ensures unkept { self.new.is_unkept ≡ self.old.is_unkept }
     {
-        counted(self.disk.sync(self.rt), &mut self.disk_faults)
+        noted(
+            self.disk.sync(self.rt),
+            &mut self.disk_faults,
+            &mut self.disk_cause,
+        )
     }
 
     fn say(&mut self, channel: u32, bytes: &[u8]) -> Result<(), Failed>
         requires { channel < CHANNELS }
         ensures cause { HasCause result self.old.say_faults self.new.say_faults }
+        ensures why { OnErr result (IsSome self.new.say_cause) }
         ensures sound { OnOk result (self.new.say_faults ≡ self.old.say_faults) }
         ensures disk { self.new.disk_faults ≡ self.old.disk_faults }
         ensures reader { self.new.is_reader ≡ self.old.is_reader }
         ensures lost { self.new.is_lost ≡ self.old.is_lost }
         ensures unkept { self.new.is_unkept ≡ self.old.is_unkept }
     {
-        counted(
+        noted(
             self.outputs.write(self.rt, channel, bytes),
             &mut self.say_faults,
+            &mut self.say_cause,
         )
     }
 
@@ -175,6 +219,7 @@ impl<R: Files<File = File> + Print + AllocGlobal> Station for FileStation<'_, R>
     /// call of it fails.
     fn keep(&mut self) -> Result<(), Failed>
         ensures cause { HasCause result self.old.say_faults self.new.say_faults }
+        ensures why { OnErr result (IsSome self.new.say_cause) }
         ensures sound { OnOk result (self.new.say_faults ≡ self.old.say_faults) }
         ensures disk { self.new.disk_faults ≡ self.old.disk_faults }
         ensures reader { self.new.is_reader ≡ self.old.is_reader }
@@ -182,6 +227,10 @@ impl<R: Files<File = File> + Print + AllocGlobal> Station for FileStation<'_, R>
         ensures fails { self.old.is_unkept ≡ true → IsErr result }
         ensures unkept { self.new.is_unkept ≡ is_err result }
     {
-        counted(self.outputs.keep(self.rt), &mut self.say_faults)
+        noted(
+            self.outputs.keep(self.rt),
+            &mut self.say_faults,
+            &mut self.say_cause,
+        )
     }
 }
