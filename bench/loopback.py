@@ -199,7 +199,7 @@ class Switch:
 
     def run(self, word, seconds=60):
         done = subprocess.run([self.program, word], cwd=self.folder, capture_output=True, timeout=seconds)
-        return done.returncode, done.stdout, done.stderr.decode().strip()
+        return done.returncode, done.stdout, done.stderr.decode().partition('\n')[0]
 
     def serve(self, connections=None):
         """Serves one incoming connection of each circuit, or so many."""
@@ -228,7 +228,7 @@ class Switch:
             self.stop()
             return None, f'no end within {seconds} seconds'
         with open(self.path('faults'), 'rb') as file:
-            return status, file.read().decode().strip()
+            return status, file.read().decode().partition('\n')[0]
 
     def stop(self):
         """Ends this process, and no other."""

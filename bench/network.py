@@ -301,7 +301,7 @@ class Centre:
 
     def call(self, *words):
         done = subprocess.run([self.program, *words], cwd=self.folder, capture_output=True, timeout=60)
-        return done.returncode, done.stdout, done.stderr.decode().strip()
+        return done.returncode, done.stdout, done.stderr.decode().partition('\n')[0]
 
     def report(self):
         """What `show` says of a stopped switch: for each circuit its draws and how many wait."""

@@ -121,7 +121,7 @@ class Folder:
             self.write('capture.gts', capture)
         done = subprocess.run([self.program, *words], cwd=self.at, stdin=subprocess.DEVNULL, capture_output=True, timeout=seconds,
                               **more)
-        return done.returncode, done.stdout, done.stderr.decode(errors='replace').strip().removeprefix('gts_switch: ')
+        return done.returncode, done.stdout, done.stderr.decode(errors='replace').partition('\n')[0].removeprefix('gts_switch: ')
 
     def starts(self, *words, **more):
         """The program as a process whose output is read by the caller, where nothing else is said."""

@@ -37,7 +37,7 @@ def no_faults():
 
 def run(words, folder=None, **more):
     done = subprocess.run(words, cwd=folder, capture_output=True, timeout=SECONDS, **more)
-    return done.returncode, done.stdout.decode(errors='replace'), done.stderr.decode(errors='replace').strip()
+    return done.returncode, done.stdout.decode(errors='replace'), done.stderr.decode(errors='replace').strip().partition('\n')[0]
 
 
 def page_text(page):

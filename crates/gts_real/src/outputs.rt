@@ -5,7 +5,7 @@ use crate::cause::{Act, Cause, Place, answered};
 use crate::disk::sync_folder;
 use gts_alphabet::MOST_CIRCUITS;
 use std::fs::{File, OpenOptions};
-use std::io::Write;
+use std::io::{ErrorKind, Write};
 use std::rt::Files;
 use std::{array, io};
 
@@ -30,6 +30,16 @@ fn open<R: Files<File = File> + AllocGlobal>(rt: &R, circuit: u32) -> io::Result
         .open(rt, name.as_str())
 }
 
+/// What a sync came to. A file that is on no disk, as a FIFO, can't be brought there, and there is nothing to bring.
+pub(crate) fn where_it_can(synced: io::Result<()>) -> io::Result<()>
+    ensures { IsErr result → IsErr synced }
+{
+    match synced {
+        Err(error) if error.kind() == ErrorKind::InvalidInput => Ok(()),
+        answer => answer,
+    }
+}
+
 /// Brings to the disk those of these files that aren't yet.
 fn keep_files(
     files: &[Option<File>; MOST_CIRCUITS],
@@ -37,7 +47,8 @@ fn keep_files(
 ) -> Result<(), Cause> {
     for circuit in 0..MOST_CIRCUITS {
         if let (false, Some(file)) = (kept[circuit], &files[circuit]) {
-            answered(file.sync_data(), Place::Circuit(circuit as u32), Act::Sync)?;
+            let synced = where_it_can(file.sync_data());
+            answered(synced, Place::Circuit(circuit as u32), Act::Sync)?;
             kept[circuit] = true;
         }
     }

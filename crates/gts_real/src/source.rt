@@ -2,6 +2,7 @@ ghost use Rattle.std.specs.Prelude.{◌≡◌, ◌≤◌, [], length, IfOk, OnOk
 ghost use Rattle.gts_traits.specs.{HasCause};
 
 use crate::cause::{Act, Cause, Place, answered, noted};
+use crate::outputs::where_it_can;
 use gts_traits::{Failed, Source};
 use std::fs::File;
 use std::io::Read;
@@ -48,7 +49,10 @@ impl<'a, R: Files<File = File>> FileSource<'a, R> {
         ensures why { OnErr result (IsSome self.new.cause) }
     {
         let answer = match &self.file {
-            Some(file) => answered(file.sync_all(), Place::File(self.name), Act::Sync),
+            Some(file) => {
+                let synced = where_it_can(file.sync_all());
+                answered(synced, Place::File(self.name), Act::Sync)
+            }
             None => Ok(()),
         };
         noted(answer, &mut self.faults, &mut self.cause)
