@@ -14,7 +14,7 @@ import gate
 import pytest
 from gate import TOP, Folder
 
-SECONDS = 60
+SECONDS = 180
 EXAMPLE = os.path.join(TOP, 'examples/first')
 FAULTS = os.path.join(TOP, 'crates/gts_switch/src/fault.rt')
 FILES = ['directory.toml', 'directory.old.toml', 'capture.gts', 'journal.0', 'journal.1', 'journal.2', 'circuit.NN.out']
