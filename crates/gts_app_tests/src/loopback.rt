@@ -106,6 +106,7 @@ where
         + Wait
         + Sync
         + Clock
+        + Eprint
         + Net<Listener = TcpListener, Stream = TcpStream>,
 {
     let alloc = rt.alloc();
@@ -113,7 +114,7 @@ where
     words.push(alloc, word)?;
     let mut directory = MemSource::new(alloc, text, &[])?;
     let capture = MemSource::new(alloc, b"", &[])?;
-    let mut lines = TcpLines::new(rt, TRIES);
+    let mut lines = TcpLines::new(rt, Some(TRIES));
     let (status, station, _) = run(
         rt,
         alloc,
@@ -135,6 +136,7 @@ where
         + Wait
         + Sync
         + Clock
+        + Eprint
         + Net<Listener = TcpListener, Stream = TcpStream>,
 {
     let station = MemStation::new(rt.alloc(), &[])?;
@@ -158,6 +160,7 @@ where
         + Wait
         + Sync
         + Clock
+        + Eprint
         + Net<Listener = TcpListener, Stream = TcpStream>,
 {
     let end = run_word(rt, "serve", text, station);
@@ -186,6 +189,7 @@ where
         + Wait
         + Sync
         + Clock
+        + Eprint
         + Net<Listener = TcpListener, Stream = TcpStream>,
 {
     let (switch, (at_a, at_b)) = thread::join(

@@ -1,5 +1,6 @@
 use std::sync::Wait;
 use std::sync::atomic::{AtomicU64, Ordering};
+use std::time::Duration;
 
 /// A bell that any thread rings, and at which any thread waits. Once closed it stays closed.
 #[derive(Drop)]
@@ -48,7 +49,19 @@ impl Bell {
 
     /// Sleeps until there is something that wasn't seen. It may also return for no reason.
     pub fn wait<R: Wait>(&self, rt: &R, seen: Look) {
-        let rings = (seen.rings % (1 << 31)) as u32;
-        self.word.park(rt, rings * 2 + u32::from(seen.closing));
+        self.word.park(rt, low_bits(seen));
     }
+
+    /// Sleeps until there is something that wasn't seen, and about so many milliseconds at most. It may also return for no
+    /// reason.
+    pub fn wait_at_most<R: Wait>(&self, rt: &R, seen: Look, milliseconds: u32) {
+        let time = Duration::from_millis(u64::from(milliseconds));
+        self.word.park_timeout(rt, low_bits(seen), time);
+    }
+}
+
+/// What the low bits of the bell's word were when this was seen.
+fn low_bits(seen: Look) -> u32 {
+    let rings = (seen.rings % (1 << 31)) as u32;
+    rings * 2 + u32::from(seen.closing)
 }

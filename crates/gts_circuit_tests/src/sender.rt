@@ -69,6 +69,10 @@ impl Sink for NarrowSink {
         }
         Ok(count)
     }
+
+    fn nothing_due(&mut self) -> Option<u32> {
+        None
+    }
 }
 
 /// How a sender ends that sends what is owed to this sink.

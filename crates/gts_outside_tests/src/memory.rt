@@ -1,5 +1,6 @@
 ghost use Rattle.std.specs.Prelude.{◌≡◌, []};
 
+use crate::ports::between;
 use gts_memory::{MemLines, MemSink, MemSource, MemStation, Touched};
 use gts_traits::{
     Failed, FreeGate, Gate, Line, Lines, NoMemory, Point, Sink, Source, Station, cut_synced,
@@ -103,7 +104,7 @@ fn a_station_keeps_its_files(rt: HostRuntime) -> Result<(), Fail> {
 
 /// Opens a circuit, reads from its line and from the next connection, writes, and hands the line back.
 fn visit<L: Lines>(lines: &mut L, into: &mut [u8]) -> Result<usize, Failed> {
-    let (mut input, mut output) = lines.open(5, 4001, 4002)?;
+    let (mut input, mut output) = lines.open(5, &between(4001, 4002))?;
     let first = input.read(into);
     let second = input.again().and(input.read(into));
     let written = output.write(b"frame");

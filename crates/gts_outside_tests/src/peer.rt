@@ -1,4 +1,4 @@
-use crate::ports::{TRIES, free_ports};
+use crate::ports::{TRIES, between, free_ports};
 use gts_memory::MemSink;
 use gts_peer::talk;
 use gts_tcp::TcpLines;
@@ -11,10 +11,10 @@ use std::time::Clock;
 // A switch of one circuit that writes what it reads.
 fn echo<R>(rt: &R, input: u16, output: u16) -> Result<(), Failed>
 where
-    R: Net<Listener = TcpListener, Stream = TcpStream> + Clock + Sync,
+    R: Net<Listener = TcpListener, Stream = TcpStream> + Clock + Eprint + Sync,
 {
-    let mut lines = TcpLines::new(rt, TRIES);
-    let (mut from, mut to) = lines.open(0, input, output)?;
+    let mut lines = TcpLines::new(rt, Some(TRIES));
+    let (mut from, mut to) = lines.open(0, &between(input, output))?;
     let mut piece = [0u8; 4];
     for _ in 0..100u32 {
         let count = from.read(&mut piece)?;

@@ -1,5 +1,6 @@
 //! Ports for the tests over loopback.
 use gts_tcp::listen;
+use gts_traits::Place;
 use std::io;
 use std::net::{Net, TcpListener, TcpStream};
 
@@ -14,4 +15,13 @@ where
     let one = listen(rt, 0)?;
     let other = listen(rt, 0)?;
     Ok((one.local_addr()?.port(), other.local_addr()?.port()))
+}
+
+/// Lines between these two ports of the machine itself.
+pub fn between(input: u16, output: u16) -> Place {
+    Place {
+        input,
+        output,
+        ..Place::nowhere()
+    }
 }

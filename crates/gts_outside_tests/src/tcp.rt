@@ -1,5 +1,5 @@
-use crate::ports::{TRIES, free_ports};
-use gts_tcp::{TcpLines, dial, listen};
+use crate::ports::{TRIES, between, free_ports};
+use gts_tcp::{LineCall, TcpLines, dial, listen};
 use gts_traits::{Failed, Line, Lines, Sink, Source};
 use std::io::{Read, Write};
 use std::net::{Net, Shutdown, TcpListener, TcpStream};
@@ -28,10 +28,10 @@ where
 // The switch: it reads to the end of two connections, writes two bytes, and hands the sockets back.
 fn switch<R>(rt: &R, input: u16, output: u16) -> Result<([u8; 4], usize, usize, usize), Failed>
 where
-    R: Net<Listener = TcpListener, Stream = TcpStream> + Clock + Sync,
+    R: Net<Listener = TcpListener, Stream = TcpStream> + Clock + Eprint + Sync,
 {
-    let mut lines = TcpLines::new(rt, TRIES);
-    let (mut from, mut to) = lines.open(5, input, output)?;
+    let mut lines = TcpLines::new(rt, Some(TRIES));
+    let (mut from, mut to) = lines.open(5, &between(input, output))?;
     let mut got = [0u8; 4];
     let count = from.read(&mut got)?;
     let end = from.read(&mut got[count..])?;
@@ -59,14 +59,34 @@ fn a_circuit_is_opened_used_and_handed_back(rt: HostRuntime) -> Result<(), Fail>
 }
 
 #[test]
-fn a_port_on_which_nobody_listens_is_a_fault(rt: HostRuntime) -> Result<(), Fail> {
+fn a_port_that_cannot_be_had_is_a_fault(rt: HostRuntime) -> Result<(), Fail> {
     let (input, output) = free_ports(&rt)?;
-    let mut lines = TcpLines::new(&rt, 3);
-    assert!(rt; lines.open(0, input, output).err() == Some(Failed));
-    assert!(rt; lines.open(0, 0, output).err() == Some(Failed));
+    let mut lines = TcpLines::new(&rt, Some(3));
+    assert!(rt; lines.open(0, &between(0, output)).err() == Some(Failed));
+    assert!(rt; lines.open(0, &between(input, 0)).err() == Some(Failed));
     let taken = listen(&rt, input)?;
-    assert!(rt; lines.open(0, input, output).err() == Some(Failed));
+    assert!(rt; lines.open(0, &between(input, output)).err() == Some(Failed));
     drop(taken);
+    let Some(cause) = lines.cause(0) else {
+        return Err(Fail::from("no cause was kept"));
+    };
+    assert!(rt; cause.call == LineCall::Bind);
+    assert!(rt; cause.port == input);
+    Ok(())
+}
+
+#[test]
+fn a_neighbour_that_is_not_there_is_a_fault_of_the_first_frame(
+    rt: HostRuntime,
+) -> Result<(), Fail> {
+    let (input, output) = free_ports(&rt)?;
+    let mut lines = TcpLines::new(&rt, Some(2));
+    let Ok((from, mut to)) = lines.open(0, &between(input, output)) else {
+        return Err(Fail::from("the circuit wasn't opened"));
+    };
+    assert!(rt; to.write(b"x") == Err(Failed));
+    lines.close(0, from, to);
+    assert!(rt; lines.cause(0).map(|cause| cause.call) == Some(LineCall::Connect));
     Ok(())
 }
 
@@ -105,11 +125,11 @@ where
 // The switch writes one long piece: how many bytes were taken, where the line didn't fail.
 fn writing<R>(rt: &R, input: u16, output: u16) -> Result<Option<usize>, Fail>
 where
-    R: Net<Listener = TcpListener, Stream = TcpStream> + Clock + Sync + AllocGlobal,
+    R: Net<Listener = TcpListener, Stream = TcpStream> + Clock + Eprint + Sync + AllocGlobal,
 {
     let piece = vec![in rt.alloc(); 0u8; MANY]?;
-    let mut lines = TcpLines::new(rt, 3);
-    let Ok((from, mut to)) = lines.open(0, input, output) else {
+    let mut lines = TcpLines::new(rt, Some(3));
+    let Ok((from, mut to)) = lines.open(0, &between(input, output)) else {
         return Err(Fail::from("the circuit wasn't opened"));
     };
     let written = to.write(&piece);

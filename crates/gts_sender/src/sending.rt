@@ -4,7 +4,7 @@ ghost use Rattle.gts_sender.specs.Sender.{given_index, Sends, SendsMore, LineSto
 
 use crate::SendEnd;
 use crate::writing::write_all;
-use gts_bell::Bell;
+use gts_bell::{Bell, Look};
 use gts_desk::Desk;
 use gts_event::Outcome;
 use gts_frame::FrameBuf;
@@ -12,7 +12,8 @@ use gts_traits::{Failed, Gate, Point, Sink};
 use std::sync::Wait;
 
 /// Sends on circuit `c`: writes the frame of each take, until the bell is closed and a take gives nothing. Where there is
-/// nothing, it sleeps at the bell. With a bell that is closed it writes what there is, and doesn't sleep. Takes no memory.
+/// nothing, it tells the sink so, and sleeps at the bell as long as that lets it. With a bell that is closed it writes what there
+/// is, and doesn't sleep. Takes no memory.
 pub fn send<R: Wait, D: Desk, K: Sink, G: Gate>(
     rt: &R,
     desk: &mut D,
@@ -38,12 +39,23 @@ pub fn send<R: Wait, D: Desk, K: Sink, G: Gate>(
                 if seen.closing {
                     return SendEnd::Quiet;
                 }
-                bell.wait(rt, seen);
+                rest(rt, sink, bell, seen);
             }
             Err(end) => return end,
         }
     }
     unreachable!()
+}
+
+/// Lets the sink keep its line alive, and sleeps at the bell, at most until the sink wants to be asked again.
+fn rest<R: Wait, K: Sink>(rt: &R, sink: &mut K, bell: &Bell, seen: Look)
+    ensures unwritten { K.tells → K.written sink.new ≡ K.written sink.old }
+    ensures sound { K.faults sink.new ≡ K.faults sink.old }
+{
+    match sink.nothing_due() {
+        Some(milliseconds) => bell.wait_at_most(rt, seen, milliseconds),
+        None => bell.wait(rt, seen),
+    }
 }
 
 /// Takes once, and writes the frame that was given. False where nothing was.

@@ -5,7 +5,7 @@ use lib.ListN.{get_elem?}
 use Rattle.atomic_table.specs.Seated.{TableId}
 use Rattle.gts_traits.specs.declared.source.Source.{Ghosts as SourceMeanings}
 use Rattle.gts_traits.specs.declared.sink.Sink.{Ghosts as SinkMeanings}
-use Rattle.gts_traits.specs.Lines.{Ports}
+use Rattle.gts_traits.specs.Places.{PlaceSeen}
 use Rattle.gts_event.specs.declared.event.Entry.{Entry}
 use Rattle.gts_housed.specs.{Beginning}
 use Rattle.gts_workers.specs.declared.line.Line.{Line}
@@ -32,7 +32,7 @@ module _ (b : Beginning) {S K : Type 0} (source : SourceMeanings S) (sink : Sink
         → SenderStands b sink.tells sink.written sink.faults threads threads c y
     pub unclosed : (c : ℕ) → c < length (outgoing_of lines) → now.is_open c ≡ true
 
-  pub are_ended : {asked : List Ports} {connections : ℕ} {before now : LinesSeen} (hall : TableId) (threads : List (ℕ × Entry)) (sockets : List (Sockets S K)) (lines : List (Line S K))
+  pub are_ended : {asked : List PlaceSeen} {connections : ℕ} {before now : LinesSeen} (hall : TableId) (threads : List (ℕ × Entry)) (sockets : List (Sockets S K)) (lines : List (Line S K))
       → AreOpened source.tells source.begun source.left source.faults sink.tells sink.written sink.faults before now asked connections sockets (length sockets)
       → length lines ≡ 2 * length sockets → LinesStand b source sink hall sockets threads lines → AreEnded connections now threads (length sockets) lines
   are_ended {asked} {connections} {before} {now} hall threads sockets lines opened count stand =

@@ -6,7 +6,9 @@ use Rattle.atomic_table.specs.Seated.{TableId}
 use Rattle.gts_traits.specs.Calls.{Call}
 use Rattle.gts_traits.specs.Counts.{Rose}
 use Rattle.gts_traits.specs.Connections.{Part}
-use Rattle.gts_traits.specs.Lines.{Ports, CircuitBytes}
+use Rattle.gts_traits.specs.Lines.{CircuitBytes}
+use Rattle.gts_traits.specs.Places.{PlaceSeen}
+use Rattle.std.specs.Net.Addr.{ipv4_octets}
 use Rattle.gts_traits.specs.Station.{IsFront}
 use Rattle.gts_traits.specs.declared.lines.Lines.{Ghosts as LinesMeanings}
 use Rattle.gts_directory.specs.Directory.{Directory, Circuit}
@@ -40,40 +42,41 @@ use Rattle.gts_serve.specs.declared.end.ServeEnd.TheVariants.{Done, NotOpened, R
 
 -- ---- lines
 
--- what contracts see of lines: which circuits are open, how often each has failed, the ports it was last opened with, and its bytes
+-- what contracts see of lines: which circuits are open, how often each has failed, the place it was last opened at, and its bytes
 pub record LinesSeen : Type 0 where
   pub is_open : ℕ → Bool
   pub faults : ℕ → ℕ
-  pub ports : ℕ → Ports
+  pub place : ℕ → PlaceSeen
   pub bytes : ℕ → CircuitBytes
 
-abbrev pub seen_lines : {L : Type 0} → (L → ℕ → Bool) → (L → ℕ → ℕ) → (L → ℕ → Ports) → (L → ℕ → CircuitBytes) → L → LinesSeen
-seen_lines is_open faults ports bytes lines =
-    record { is_open = is_open lines; faults = faults lines; ports = ports lines; bytes = bytes lines }
+abbrev pub seen_lines : {L : Type 0} → (L → ℕ → Bool) → (L → ℕ → ℕ) → (L → ℕ → PlaceSeen) → (L → ℕ → CircuitBytes) → L → LinesSeen
+seen_lines is_open faults place bytes lines =
+    record { is_open = is_open lines; faults = faults lines; place = place lines; bytes = bytes lines }
 
 -- the same by what the type of the lines means
 abbrev pub lines_seen : {L In Out : Type 0} → LinesMeanings L In Out → L → LinesSeen
-lines_seen m lines = seen_lines m.is_open m.faults m.ports m.bytes lines
+lines_seen m lines = seen_lines m.is_open m.faults m.place m.bytes lines
 
--- the ports of a circuit in the directory
-abbrev pub ports_of : Circuit → Ports
-ports_of row = record { input = row.input; output = row.output }
+-- where the lines of a circuit are by the directory
+abbrev pub place_of : Directory → Circuit → PlaceSeen
+place_of d row =
+    record { address = ipv4_octets d.address; input = row.input; host = ipv4_octets row.host; output = row.output; idle = row.idle }
 
--- circuit c was opened, or was to be, with the ports that the directory has for it
-abbrev pub HasPorts : Directory → LinesSeen → ℕ → Type 0
-HasPorts d now c = get_elem? (map ports_of d.circuits) c ≡ some (now.ports c)
+-- circuit c was opened, or was to be, at the place that the directory has for it
+abbrev pub HasPlace : Directory → LinesSeen → ℕ → Type 0
+HasPlace d now c = get_elem? (map (place_of d) d.circuits) c ≡ some (now.place c)
 
 -- circuit c is as it was
 pub record IsSame (before now : LinesSeen) (c : ℕ) : Type 0 where
   pub is_open : now.is_open c ≡ before.is_open c
   pub faults : now.faults c ≡ before.faults c
-  pub ports : now.ports c ≡ before.ports c
+  pub place : now.place c ≡ before.place c
   pub bytes : now.bytes c ≡ before.bytes c
 
 -- circuit c was opened and handed back, nothing was read or written, and nothing failed
 pub record IsHandedBack (d : Directory) (source_tells sink_tells : Type 0) (before now : LinesSeen) (c : ℕ) : Type 0 where
   pub closed : now.is_open c ≡ false
-  pub ports : HasPorts d now c
+  pub place : HasPlace d now c
   pub unread : source_tells → (left : List ℕ) × ((now.bytes c).parts ≡ record { given = []; left = left } ∷ [])
   pub taken : sink_tells → (now.bytes c).taken ≡ []
   pub sound : now.faults c ≡ before.faults c
@@ -82,7 +85,7 @@ pub record IsHandedBack (d : Directory) (source_tells sink_tells : Type 0) (befo
 -- those behind it are as they were.
 pub record StopsAtOpening (d : Directory) (source_tells sink_tells : Type 0) (f : ℕ) (before now : LinesSeen) : Type 0 where
   pub within : f < length d.circuits
-  pub ports : HasPorts d now f
+  pub place : HasPlace d now f
   pub rose : Rose (before.faults f) (now.faults f)
   pub unopened : now.is_open f ≡ before.is_open f
   pub handed_back : (c : ℕ) → c < f → IsHandedBack d source_tells sink_tells before now c
@@ -185,7 +188,7 @@ abbrev pub TookFrames : Beginning → ℕ → List (ℕ × Entry) → SendEnd �
 TookFrames b c history (LineFault index) bytes = BreaksOff b c index history bytes
 TookFrames b c history end bytes = bytes ≡ frames_on b c history
 
--- Circuit c was served on the ports that the directory has for it, and came to these ends: what its source gave on its
+-- Circuit c was served at the place that the directory has for it, and came to these ends: what its source gave on its
 -- connections was told, and its sink took what its sender wrote. Its count rose where one of its sockets failed. It was handed back.
 pub record ServesCircuit (b : Beginning) (source_tells sink_tells : Type 0) (connections : ℕ) (threads history : List (ℕ × Entry))
     (before now : LinesSeen) (c : ℕ) (received : ReceiveEnd) (sent : SendEnd) : Type 0 where
@@ -194,7 +197,7 @@ pub record ServesCircuit (b : Beginning) (source_tells sink_tells : Type 0) (con
   pub written : List ℕ
   pub receives : IsReceived b threads history c connections earlier last received
   pub sends : IsSent b threads history c written sent
-  pub ports : HasPorts b.origin.directory now c
+  pub place : HasPlace b.origin.directory now c
   -- its source began these connections, at most as many as it might
   pub parts : source_tells → (now.bytes c).parts ≡ earlier ++ last ∷ []
   pub few : length (earlier ++ last ∷ []) ≤ connections

@@ -1,28 +1,45 @@
 ghost use Rattle.std.specs.Prelude.{◌≡◌, ◌≤◌, [], length, IfOk};
 
-use gts_traits::{Failed, Line, Source, counted};
+use crate::cause::{named, note};
+use crate::{LineCall, LineCause};
+use gts_traits::{Failed, Line, Place, Source, counted};
 use std::io;
 use std::io::{ErrorKind, Read};
-use std::net::{TcpListener, TcpStream};
+use std::net::{IpAddr, Ipv4Addr, TcpListener, TcpStream};
+use std::time::{Clock, Duration, Instant};
+
+/// For how many seconds a circuit tells of no further callers that it turns away, once it has told of one.
+const A_MINUTE: u64 = 60;
 
 /// The connections that a circuit's bytes come in on, one after another. They tell no bytes.
 #[derive(Drop)]
-pub struct TcpIn {
+pub struct TcpIn<'a, R: Clock + Eprint> {
+    rt: &'a R,
+    circuit: u32,
     listener: TcpListener,
-    /// The present connection. None where the next one didn't come.
+    place: Place,
+    /// The present connection. None where it isn't accepted yet.
     stream: Option<TcpStream>,
     faults: u64,
+    cause: Option<LineCause>,
+    /// When a caller that was turned away was last told of.
+    told: Option<Instant>,
 }
 
-impl TcpIn {
-    /// A first connection that hasn't failed yet, from this listener, which accepts the others.
-    pub(crate) fn new(listener: TcpListener, stream: TcpStream) -> TcpIn
+impl<'a, R: Clock + Eprint> TcpIn<'a, R> {
+    /// The connections of this listener, of which none was accepted yet, and none has failed.
+    pub(crate) fn new(rt: &'a R, circuit: u32, listener: TcpListener, at: &Place) -> TcpIn<'a, R>
         ensures { result.faults ≡ 0 }
     {
         TcpIn {
+            rt,
+            circuit,
             listener,
-            stream: Some(stream),
+            place: *at,
+            stream: None,
             faults: 0,
+            cause: None,
+            told: None,
         }
     }
 
@@ -32,29 +49,89 @@ impl TcpIn {
     {
         self.faults
     }
-}
 
-/// Reads some bytes of a connection that is there.
-fn read_some(stream: &mut Option<TcpStream>, into: &mut [u8]) -> io::Result<usize>
-    ensures { IfOk result (λ count. count ≤ length into.new) }
-{
-    match stream {
-        Some(stream) => stream.read(into),
-        None => Err(io::Error::from(ErrorKind::NotConnected)),
+    /// Why it failed last.
+    pub(crate) fn cause(&self) -> Option<LineCause> {
+        self.cause
+    }
+
+    /// Tells the operator of a caller that was turned away, unless another one was told of within the last minute.
+    fn tell(&mut self, caller: IpAddr)
+        ensures { self.new.faults ≡ self.old.faults }
+    {
+        if let Some(told) = self.told
+            && let Ok(since) = told.elapsed(self.rt)
+            && since.as_secs() < A_MINUTE
+        {
+            return;
+        }
+        self.told = Instant::now(self.rt).ok();
+        let circuit = self.circuit;
+        let rt = self.rt;
+        // Where it can't be told, the caller is turned away all the same.
+        let _ = eprintln!(rt; "gts_switch: circuit {circuit}: turned away {caller}");
+    }
+
+    /// The neighbour's next connection. A caller that was gone before it was accepted is passed over. One from another address is
+    /// closed, and told of.
+    fn next_caller(&mut self) -> io::Result<TcpStream>
+        ensures { self.new.faults ≡ self.old.faults }
+    {
+        for _ in 0..u64::MAX {
+            match self.listener.accept() {
+                Ok((stream, from)) if is_neighbour(self.place.host, from.ip()) => {
+                    if is_there(&stream) {
+                        return Ok(stream);
+                    }
+                }
+                Ok((stream, from)) => {
+                    drop(stream);
+                    self.tell(from.ip());
+                }
+                Err(error) if error.kind() == ErrorKind::ConnectionAborted => {}
+                Err(error) => return Err(error),
+            }
+        }
+        Err(io::Error::from(ErrorKind::ConnectionAborted))
+    }
+
+    /// Accepts the next connection, which counts as broken where no byte comes on it for the circuit's `idle` seconds.
+    fn accept(&mut self) -> io::Result<()>
+        ensures { self.new.faults ≡ self.old.faults }
+    {
+        let stream = self.next_caller()?;
+        if let Some(seconds) = self.place.idle {
+            stream.set_read_timeout(Some(Duration::from_secs(u64::from(seconds))))?;
+        }
+        self.stream = Some(stream);
+        Ok(())
+    }
+
+    /// Reads some bytes of the present connection, or of the next one, where none was accepted yet.
+    fn read_some(&mut self, into: &mut [u8]) -> Result<usize, LineCause>
+        ensures count { IfOk result (λ count. count ≤ length into.new) }
+        ensures faults { self.new.faults ≡ self.old.faults }
+    {
+        let port = self.place.input;
+        if self.stream.is_none() {
+            named(self.accept(), LineCall::Accept, port)?;
+        }
+        match &mut self.stream {
+            Some(stream) => named(stream.read(into), LineCall::Read, port),
+            None => named(Err(not_connected()), LineCall::Read, port),
+        }
     }
 }
 
-impl Source for TcpIn {
-    ghost tells = { ⊥ };
+/// Whether a caller from this address is the neighbour at that host. On the machine itself the system lets callers come from
+/// 127.0.0.1, whatever loopback address is their own.
+fn is_neighbour(host: Ipv4Addr, caller: IpAddr) -> bool {
+    caller == IpAddr::V4(host) || (host.is_loopback() && caller == IpAddr::V4(Ipv4Addr::LOCALHOST))
+}
 
-    ghost left = { λ _. [] };
-
-    ghost faults = { λ s. s.faults };
-
-    /// Fails where the connection broke, or the next one didn't come.
-    fn read(&mut self, into: &mut [u8]) -> Result<usize, Failed> {
-        counted(read_some(&mut self.stream, into), &mut self.faults)
-    }
+/// No connection stands.
+pub(crate) fn not_connected() -> io::Error {
+    io::Error::from(ErrorKind::NotConnected)
 }
 
 /// Whether a caller is still there. One that broke its connection before it was accepted has left an error on it.
@@ -62,26 +139,29 @@ fn is_there(caller: &TcpStream) -> bool {
     matches!(caller.take_error(), Ok(None))
 }
 
-/// The next connection. A caller that was gone before it was accepted is passed over.
-pub(crate) fn next_caller(listener: &TcpListener) -> io::Result<TcpStream> {
-    for caller in listener.incoming() {
-        match caller {
-            Ok(stream) if is_there(&stream) => return Ok(stream),
-            Ok(_) => {}
-            Err(error) if error.kind() == ErrorKind::ConnectionAborted => {}
-            Err(error) => return Err(error),
-        }
+impl<R: Clock + Eprint> Source for TcpIn<'_, R> {
+    ghost tells = { ⊥ };
+
+    ghost left = { λ _. [] };
+
+    ghost faults = { λ s. s.faults };
+
+    /// Accepts a connection, where none was yet. Fails where that broke, where no byte came on it for the circuit's `idle` seconds,
+    /// or where none could be accepted.
+    fn read(&mut self, into: &mut [u8]) -> Result<usize, Failed> {
+        let answer = self.read_some(into);
+        note(&answer, &mut self.cause);
+        counted(answer, &mut self.faults)
     }
-    Err(io::Error::from(ErrorKind::ConnectionAborted))
 }
 
-impl Line for TcpIn {
+impl<R: Clock + Eprint> Line for TcpIn<'_, R> {
     /// Closes the connection and waits for the next one on the same port. It is closed before, since a neighbour that still
     /// sends on it would else never hear that nobody reads.
     fn again(&mut self) -> Result<(), Failed> {
         self.stream = None;
-        let next = counted(next_caller(&self.listener), &mut self.faults)?;
-        self.stream = Some(next);
-        Ok(())
+        let answer = named(self.accept(), LineCall::Accept, self.place.input);
+        note(&answer, &mut self.cause);
+        counted(answer, &mut self.faults)
     }
 }

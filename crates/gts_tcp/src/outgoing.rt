@@ -1,58 +1,137 @@
-ghost use Rattle.std.specs.Prelude.{◌≡◌, [], IfOk};
+ghost use Rattle.std.specs.Prelude.{◌≡◌, []};
 
-use crate::dialing::{dial, dial_once, pause};
-use gts_traits::{Failed, Sink, counted};
+use crate::cause::{named, note};
+use crate::dialing::{LONGEST_TRY, dial_once};
+use crate::incoming::not_connected;
+use crate::pausing::Pauses;
+use crate::{LineCall, LineCause};
+use gts_traits::{Failed, Place, Sink, counted};
 use std::io;
-use std::io::{ErrorKind, Write};
+use std::io::{ErrorKind, Read, Write};
 use std::net::{Net, Shutdown, TcpListener, TcpStream};
-use std::time::Clock;
+use std::time::{Clock, Duration, Instant};
+
+/// A keep-alive: a frame's length and type, with the length 0 (the Manual).
+const KEEP_ALIVE: &[u8] = b"00000000AN";
+
+/// How many milliseconds a try takes at most that nobody waits for.
+const SHORT_TRY: u32 = 20;
+
+/// How many pieces of what a neighbour sends on this line are read away before a frame is written.
+const MOST_LOOKS: u32 = 64;
 
 /// The way to a neighbour's port, over the connection that stands there now.
 #[derive(Drop)]
 struct Way<'a, R: Net<Listener = TcpListener, Stream = TcpStream> + Clock> {
     rt: &'a R,
-    port: u16,
-    tries: u32,
-    /// None where the last connection broke and no other came.
+    place: Place,
+    tries: Option<u32>,
+    /// None where none came yet, or the last one broke.
     stream: Option<TcpStream>,
+    /// Whether a connection has stood.
+    has_stood: bool,
+    /// The pauses between tries until the first one stands.
+    pauses: Pauses,
+    /// When something was last written.
+    written: Option<Instant>,
 }
 
 impl<R: Net<Listener = TcpListener, Stream = TcpStream> + Clock> Way<'_, R> {
+    /// Connects anew, with one try that takes so many milliseconds at most.
+    fn connect(&mut self, milliseconds: u32) -> io::Result<()> {
+        self.stream = None;
+        let stream = dial_once(self.rt, self.place.host, self.place.output, milliseconds)?;
+        stream.set_nodelay(true)?;
+        self.stream = Some(stream);
+        self.has_stood = true;
+        Ok(())
+    }
+
     /// Writes all of a piece on the connection that stands.
     fn write_whole(&mut self, piece: &[u8]) -> io::Result<()> {
         match &mut self.stream {
-            Some(stream) => stream.write_all(piece),
-            None => Err(io::Error::from(ErrorKind::NotConnected)),
+            Some(stream) => stream.write_all(piece)?,
+            None => return Err(not_connected()),
+        }
+        if self.place.idle.is_some() {
+            self.written = Instant::now(self.rt).ok();
+        }
+        Ok(())
+    }
+
+    /// Connects anew, and writes all of a piece there.
+    fn write_anew(&mut self, piece: &[u8]) -> Result<(), LineCause> {
+        let port = self.place.output;
+        named(self.connect(LONGEST_TRY), LineCall::Connect, port)?;
+        named(self.write_whole(piece), LineCall::Write, port)
+    }
+
+    /// Gives up a connection that the neighbour has ended.
+    fn look(&mut self) {
+        if let Some(stream) = &mut self.stream
+            && has_ended(stream)
+        {
+            self.stream = None;
         }
     }
 
-    /// Closes the connection that stands, tries the port once, and writes all of a piece on the new connection.
-    fn write_anew(&mut self, piece: &[u8]) -> io::Result<()> {
-        self.stream = None;
-        let stream = dial_once(self.rt, self.port)?;
-        stream.set_nodelay(true)?;
-        self.stream = Some(stream);
-        self.write_whole(piece)
-    }
-
-    /// Writes all of a piece. Where the connection breaks, the port is tried so many times at most, and each connection that
-    /// comes of it begins with the first byte of the piece. The answer is the last failure where none of them takes all of it.
-    fn deliver(&mut self, piece: &[u8]) -> io::Result<()> {
-        let Err(mut last) = self.write_whole(piece) else {
+    /// Writes all of a piece. Where the neighbour has ended the connection, or that breaks, the port is tried so many times at most,
+    /// or without an end, and each connection that comes of it begins with the first byte of the piece. The answer is the last
+    /// failure where none of them takes all of it.
+    fn deliver(&mut self, piece: &[u8]) -> Result<(), LineCause> {
+        self.look();
+        let first = named(self.write_whole(piece), LineCall::Write, self.place.output);
+        let Err(mut last) = first else {
             return Ok(());
         };
-        for _ in 0..self.tries {
+        let mut pauses = Pauses::new();
+        for _ in 0..self.tries.map_or(u64::MAX, u64::from) {
             match self.write_anew(piece) {
                 Ok(()) => return Ok(()),
-                Err(error) => last = error,
+                Err(cause) => last = cause,
             }
-            pause(self.rt);
+            pauses.make(self.rt);
         }
         Err(last)
     }
 
-    /// Ends the bytes of the connection that stands.
-    fn end(&self) {
+    /// How many milliseconds ago something was last written.
+    fn quiet(&self) -> u32 {
+        match self.written.map(|written| written.elapsed(self.rt)) {
+            Some(Ok(since)) => milliseconds_of(since),
+            _ => u32::MAX,
+        }
+    }
+
+    /// Nothing is due. Where no connection has stood yet, the port is tried once. Where one stands and nothing was written for a third
+    /// of the circuit's `idle` seconds, a keep-alive is; a connection that doesn't take it is given up.
+    fn keep_up(&mut self) -> Option<u32> {
+        if !self.has_stood && self.connect(LONGEST_TRY).is_err() {
+            return Some(self.pauses.next());
+        }
+        let third = u32::from(self.place.idle?) * 1_000 / 3;
+        self.look();
+        if self.stream.is_none() {
+            return None;
+        }
+        let quiet = self.quiet();
+        if quiet < third {
+            return Some(third - quiet);
+        }
+        if self.write_whole(KEEP_ALIVE).is_err() {
+            self.stream = None;
+            return None;
+        }
+        Some(third)
+    }
+
+    /// Ends the bytes of the connection that stands. Where none has stood, the port is tried once more, so that a neighbour that listens
+    /// hears the end.
+    fn end(&mut self) {
+        if !self.has_stood {
+            // Where the neighbour isn't there, there is nobody to tell.
+            let _ = self.connect(SHORT_TRY);
+        }
         if let Some(stream) = &self.stream {
             // Where the connection is gone, there is nobody to tell.
             let _ = stream.shutdown(Shutdown::Write);
@@ -60,29 +139,65 @@ impl<R: Net<Listener = TcpListener, Stream = TcpStream> + Clock> Way<'_, R> {
     }
 }
 
+/// A time in milliseconds.
+fn milliseconds_of(time: Duration) -> u32 {
+    u32::try_from(time.as_millis()).unwrap_or(u32::MAX)
+}
+
+/// Whether the neighbour has ended a connection, or it broke. What the neighbour sends on it is read away, and is no end.
+fn has_ended(stream: &mut TcpStream) -> bool {
+    if stream.set_nonblocking(true).is_err() {
+        return true;
+    }
+    let is_ended = reads_an_end(stream);
+    stream.set_nonblocking(false).is_err() || is_ended
+}
+
+/// Whether a connection that doesn't wait has come to its end.
+fn reads_an_end(stream: &mut TcpStream) -> bool {
+    let mut piece = [0u8; 64];
+    for _ in 0..MOST_LOOKS {
+        match stream.read(&mut piece) {
+            Ok(0) => return true,
+            Ok(_) => {}
+            Err(error) => return error.kind() != ErrorKind::WouldBlock,
+        }
+    }
+    false
+}
+
 /// The connections that a circuit's bytes go out on, one after another. They tell no bytes. Each piece is taken whole, and
 /// where a connection breaks within a piece, the next one begins with that piece. So with a frame for a piece each connection
-/// carries whole frames, but for the last frame of one that broke.
+/// carries whole frames, but for the last frame of one that broke, and whole keep-alives between frames.
 #[derive(Drop)]
 pub struct TcpOut<'a, R: Net<Listener = TcpListener, Stream = TcpStream> + Clock> {
     way: Way<'a, R>,
     faults: u64,
+    cause: Option<LineCause>,
 }
 
 impl<'a, R: Net<Listener = TcpListener, Stream = TcpStream> + Clock> TcpOut<'a, R> {
-    /// Connects to a port of the machine itself, with at most so many tries, now and wherever a connection breaks.
-    pub(crate) fn connect(rt: &'a R, port: u16, tries: u32) -> io::Result<TcpOut<'a, R>>
-        ensures { IfOk result (λ out. out.faults ≡ 0) }
+    /// The way to a neighbour, whose port is tried once now, without waiting. Where something is to be written and no connection
+    /// stands, it is tried so many times at most, or without an end.
+    pub(crate) fn new(rt: &'a R, at: &Place, tries: Option<u32>) -> TcpOut<'a, R>
+        ensures { result.faults ≡ 0 }
     {
-        let stream = dial(rt, port, tries)?;
-        stream.set_nodelay(true)?;
-        let way = Way {
+        let mut way = Way {
             rt,
-            port,
+            place: *at,
             tries,
-            stream: Some(stream),
+            stream: None,
+            has_stood: false,
+            pauses: Pauses::new(),
+            written: None,
         };
-        Ok(TcpOut { way, faults: 0 })
+        // Where the neighbour isn't there yet, it is tried again later.
+        let _ = way.connect(SHORT_TRY);
+        TcpOut {
+            way,
+            faults: 0,
+            cause: None,
+        }
     }
 
     /// How often it has failed.
@@ -92,9 +207,15 @@ impl<'a, R: Net<Listener = TcpListener, Stream = TcpStream> + Clock> TcpOut<'a, 
         self.faults
     }
 
+    /// Why it failed last.
+    pub(crate) fn cause(&self) -> Option<LineCause> {
+        self.cause
+    }
+
     /// Ends its bytes, so that the neighbour reads all of them and then the end.
     pub(crate) fn end(self) {
-        self.way.end();
+        let mut way = self.way;
+        way.end();
     }
 }
 
@@ -107,7 +228,14 @@ impl<R: Net<Listener = TcpListener, Stream = TcpStream> + Clock> Sink for TcpOut
 
     /// Takes all of the piece. Fails where the connection broke and no other took it within the tries.
     fn write(&mut self, piece: &[u8]) -> Result<usize, Failed> {
-        counted(self.way.deliver(piece), &mut self.faults)?;
+        let answer = self.way.deliver(piece);
+        note(&answer, &mut self.cause);
+        counted(answer, &mut self.faults)?;
         Ok(piece.len())
+    }
+
+    /// Tries the port until a connection has stood, and keeps a connection alive that stands.
+    fn nothing_due(&mut self) -> Option<u32> {
+        self.way.keep_up()
     }
 }

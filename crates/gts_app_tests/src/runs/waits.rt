@@ -2,11 +2,11 @@
 //! gone out on circuit 2.
 ghost use Rattle.std.specs.Prelude.{[]};
 ghost use Rattle.gts_traits.specs.{no_bytes};
-ghost use Rattle.gts_tcp.specs.{is_open_in, faults_in, ports_in};
+ghost use Rattle.gts_tcp.specs.{is_open_in, faults_in, place_in};
 
 use super::*;
 use gts_alphabet::MOST_CIRCUITS;
-use gts_traits::{Failed, Line, Lines, Sink, Source};
+use gts_traits::{Failed, Line, Lines, Place, Sink, Source};
 use std::marker::Model;
 use std::mem::replace;
 use std::sync::atomic::{AtomicU64, Ordering};
@@ -89,6 +89,10 @@ impl Sink for Getting<'_> {
         }
         Ok(piece.len())
     }
+
+    fn nothing_due(&mut self) -> Option<u32> {
+        None
+    }
 }
 
 /// The neighbours on three circuits: the first two send, one of them when it has waited, and the third one gets.
@@ -102,8 +106,7 @@ struct Neighbours<'a> {
     got: Vec<u8>,
     opened: [bool; MOST_CIRCUITS],
     faults: [u64; MOST_CIRCUITS],
-    inputs: [u16; MOST_CIRCUITS],
-    outputs: [u16; MOST_CIRCUITS],
+    places: [Option<Place>; MOST_CIRCUITS],
 }
 
 impl<'a> Model for Neighbours<'a> {
@@ -114,8 +117,7 @@ impl<'a> Model for Neighbours<'a> {
     ghost view = { λ lines. record {
       opened = lines.opened;
       faults = lines.faults;
-      inputs = lines.inputs;
-      outputs = lines.outputs;
+      places = lines.places;
     } };
 }
 
@@ -128,19 +130,13 @@ impl<'a> Lines for Neighbours<'a> {
 
     ghost faults = { faults_in };
 
-    ghost ports = { ports_in };
+    ghost place = { place_in };
 
     ghost bytes = { λ _ _. no_bytes };
 
-    fn open(
-        &mut self,
-        c: u32,
-        input: u16,
-        output: u16,
-    ) -> Result<(Sending<'a>, Getting<'a>), Failed> {
+    fn open(&mut self, c: u32, at: &Place) -> Result<(Sending<'a>, Getting<'a>), Failed> {
         self.opened[c as usize] = true;
-        self.inputs[c as usize] = input;
-        self.outputs[c as usize] = output;
+        self.places[c as usize] = Some(*at);
         let bytes = match c {
             0 => self.first,
             1 => self.second,
@@ -234,8 +230,7 @@ fn waiting_on<'a>(alloc: Global, waiting: u32, frames: &'a AtomicU64) -> Neighbo
         got: Vec::new(alloc),
         opened: [false; MOST_CIRCUITS],
         faults: [0; MOST_CIRCUITS],
-        inputs: [0; MOST_CIRCUITS],
-        outputs: [0; MOST_CIRCUITS],
+        places: [None; MOST_CIRCUITS],
     }
 }
 

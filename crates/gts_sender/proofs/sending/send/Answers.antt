@@ -48,9 +48,9 @@ loop-preserved g c =
       sent = (
         i.sent.0 ++ t.0,
         (subst P c.in-Ok-false.field-0-test (t.1 (g.D.Desk.seen c.args.desk.now) i.sent.0 i.sent.1)).0,
-        λ tells. t.2 tells ∙ ap (λ (l : List ℕ). l ++ t.0) (i.sent.2 tells) ∙ append_assoc (g.K.Sink.written c.args.sink.now) i.sent.0 t.0,
+        λ tells. c.rest.ensures.unwritten tells ∙ t.2 tells ∙ ap (λ (l : List ℕ). l ++ t.0) (i.sent.2 tells) ∙ append_assoc (g.K.Sink.written c.args.sink.now) i.sent.0 t.0,
       );
-      sound = c.in-Ok-false.ensures.sound ∙ i.sound;
+      sound = c.rest.ensures.sound ∙ c.in-Ok-false.ensures.sound ∙ i.sound;
       can = search rules;
     }
 
