@@ -95,7 +95,7 @@ fn end_of(
 fn end_of_source(
     alloc: Global,
     source: &mut MemSource,
-    connections: u32,
+    connections: u64,
     room: &mut [u8],
 ) -> Result<(ReceiveEnd, u64), Fail>
     requires some { 1 ≤ connections }

@@ -118,6 +118,7 @@ seen_at b hall name full history = record {
   directory = b.origin.directory;
   start = b.origin.start;
   used = b.origin.used;
+  makes_room = b.makes_room;
   name = name;
   alone = false;
   full = full;
