@@ -60,6 +60,8 @@ impl Desk for ShortDesk {
         }
     }
 
+    fn rest(&mut self) {}
+
     #[tactic(auto, using(crate::proofs::ShortDeskLemmas::spent))]
     fn lost(&mut self, c: u32, field: LostField) -> Result<Outcome, SwitchFault> {
         match self.lost {
