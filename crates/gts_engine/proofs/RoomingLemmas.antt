@@ -1,8 +1,7 @@
 -- Room is made for a bulletin for which the journal has none.
-use Rattle.std.proofs.Common.{◌≡◌, ◌⊎◌, inl, inr, ℕ, ◌+◌, ◌*◌, ◌/◌, ◌<◌, ◌≤◌, nat_lt, Bool, true, false, cond, List, [], ◌∷◌, ◌++◌, length, Option, Some, None, Result, Ok, Err, refl, sym, ap, subst, ◌∙◌, arith}
+use Rattle.std.proofs.Common.{◌≡◌, ◌⊎◌, inl, inr, ℕ, ◌+◌, ◌*◌, ◌/◌, ◌<◌, ◌≤◌, nat_lt, Bool, true, false, cond, List, [], ◌∷◌, ◌++◌, length, Option, Some, None, Result, Ok, Err, refl, sym, ap, subst, ◌∙◌, arith, mul-le-mul_left}
 use Rattle.std.specs.Prelude.{IsOk, IsSome, IfSome, is_ok}
 use Rattle.std.proofs.lemmas.Bool.{ltb-true, ltb-false, le-ltb, cases_eq}
-use Rattle.std.proofs.Math.Nat.{mul-le-mul_left}
 use Rattle.std.proofs.lemmas.List.{append-nil}
 use Rattle.gts_traits.specs.Calls.{Call, Outside, said_by, SaidSince}
 use Rattle.gts_traits.proofs.LawLemmas.{weaker}
@@ -180,7 +179,8 @@ module _ (tells : Type 0) (mode : SayMode) (o : Origin) (h : List Entry) (event 
 full_is : (result : Result Outcome SwitchFault) (bytes : ℕ) → bytes_wanted result ≡ Some bytes → (used : ℕ) × (limit : ℕ) × (result ≡ Err (Full used bytes limit))
 full_is (Ok o) bytes is = absurd (let e : None ≡ Some bytes = is in cc e)
 full_is (Err (Full used need limit)) bytes is =
-    let same : need ≡ bytes = cc is in
+    let there : Some need ≡ Some bytes = is in
+    let same : need ≡ bytes = cc there in
     (used, limit, ap (λ (n : ℕ). Err (Full used n limit)) same)
 full_is (Err DiskFault) bytes is = absurd (let e : None ≡ Some bytes = is in cc e)
 full_is (Err SayFault) bytes is = absurd (let e : None ≡ Some bytes = is in cc e)
@@ -339,17 +339,17 @@ module _ {P : Type 0} (tells : Type 0) (calls : P → List Call) (mode : SayMode
         pub left_off : (fault : SwitchFault) (last : Engine P) → IsCompaction tells calls (Err fault) mid last
             → ((s : State) → mid.stopped ≡ None → Holds mid.directory mid.core s → GivesRoom (Err fault) mid.directory s)
             → IsCompactFault fault → (IsIdleFault (Err fault) → last ≡ mid) → IsHeardWithRoom tells calls mode heard (Err fault) old last
-        left_off NoMemory last c room kind idle = without_memory last (idle tt)
-        left_off SayFault last c room kind idle = absurd kind
-        left_off Spent last c room kind idle = absurd kind
-        left_off (Stopped by) last c room kind idle = record {
-          directory = c.directory ∙ unchanged.directory;
+        left_off NoMemory last comp room may same = without_memory last (same tt)
+        left_off SayFault last comp room may same = absurd may
+        left_off Spent last comp room may same = absurd may
+        left_off (Stopped by) last comp room may same = record {
+          directory = comp.directory ∙ unchanged.directory;
           adds = λ o h kept. absurd (room (state_at o h) going_mid (holds_mid o h kept));
           outcome = λ o h kept answer a. absurd (cc a);
           caused = λ o h kept. absurd (room (state_at o h) going_mid (holds_mid o h kept));
         }
-        left_off (Full at more limit) last c room kind idle = record {
-          directory = c.directory ∙ unchanged.directory;
+        left_off (Full at more limit) last comp room may same = record {
+          directory = comp.directory ∙ unchanged.directory;
           adds = λ o h kept. absurd (never o h kept);
           outcome = λ o h kept answer a. absurd (cc a);
           caused = λ o h kept. absurd (never o h kept);
@@ -361,10 +361,10 @@ module _ {P : Type 0} (tells : Type 0) (calls : P → List Call) (mode : SayMode
                 let over = subst F (kept_mid o h kept).directory (room (state_at o h) going_mid (holds_mid o h kept)) in
                 let free = holds_due o.directory (state_at o h) c kind message (used_at o h) used_then bytes limit_then (was_full o h kept) (spare_there o h kept) in
                 let x : None ≡ Some (Full 42 over.0 limit) = sym free ∙ over.1 in cc x
-        left_off DiskFault last c room kind idle = record {
-          directory = c.directory ∙ unchanged.directory;
+        left_off DiskFault last comp room may same = record {
+          directory = comp.directory ∙ unchanged.directory;
           adds = λ o h kept. inl (record {
-            keeps = doubt_left tells mode o h heard (shown calls mid) (shown calls last) (kept_mid o h kept) (c.failed refl mode o h (kept_mid o h kept)) (recorded (outcome o.directory (state_at o h) heard) (accepted o h kept));
+            keeps = doubt_left tells mode o h heard (shown calls mid) (shown calls last) (kept_mid o h kept) (comp.failed refl mode o h (kept_mid o h kept)) (recorded (outcome o.directory (state_at o h) heard) (accepted o h kept));
             had_room = λ ok. absurd (cc ok);
           });
           outcome = λ o h kept answer a. absurd (cc a);
@@ -376,8 +376,8 @@ module _ {P : Type 0} (tells : Type 0) (calls : P → List Call) (mode : SayMode
         -- it was done, and the message heard
         pub made : (last : Engine P) (result : Result Outcome SwitchFault) (new : Engine P) → IsCompaction tells calls (Ok tt) mid last
             → IsCalled (meanings_of tells calls mode) heard result last new → IsHeardWithRoom tells calls mode heard result old new
-        made last result new c then = record {
-          directory = then.directory ∙ c.directory ∙ unchanged.directory;
+        made last result new comp then = record {
+          directory = then.directory ∙ comp.directory ∙ unchanged.directory;
           adds = λ o h kept. inr (record {
             keeps = then.adds (compacted_after o h) h (kept_last o h kept);
             was_full = subst IsSome (sym (was_full o h kept)) refl;
@@ -390,7 +390,7 @@ module _ {P : Type 0} (tells : Type 0) (calls : P → List Call) (mode : SayMode
         }
           where
             kept_last : (o : Origin) (h : List Entry) → Keeps tells mode o h (shown calls old) → Keeps tells mode (compacted_after o h) h (shown calls last)
-            kept_last o h kept = c.done refl mode o h (kept_mid o h kept)
+            kept_last o h kept = comp.done refl mode o h (kept_mid o h kept)
 
             never : (o : Origin) (h : List Entry) → Keeps tells mode o h (shown calls old) → (fault : SwitchFault) → result ≡ Err fault → (used need limit : ℕ) → fault ≡ Full used need limit → ⊥
             never o h kept fault e used need limit is =
