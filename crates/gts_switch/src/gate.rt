@@ -2,6 +2,7 @@ use gts_traits::{Gate, Point};
 
 /// The gate of the program: it lets everyone through, and tells on standard error which circuit waits for room in the journal, and
 /// which goes on.
+#[derive(Drop)]
 pub struct TellingGate<'a, R: Eprint> {
     pub rt: &'a R,
 }
