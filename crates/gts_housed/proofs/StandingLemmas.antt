@@ -150,9 +150,9 @@ cramped_more : (b : Beginning) (h : List Entry) (event : Event) (result : Result
 cramped_more b h event result before now makes front other used need limit back is =
     ⊎_elim {C = IsCrampedFor b front other}
     (λ last.
-        let there = full_of event result other used need limit last.0 in
-        let C : List Entry → Event → Type 0 = λ es e. IsCrampedFor b es e in
-        subst (C front) there.0 (subst (λ (es : List Entry). C es event) last.1 (now makes used need limit there.1)))
+    let there = full_of event result other used need limit last.0 in
+    let C : List Entry → Event → Type 0 = λ es e. IsCrampedFor b es e in
+    subst (C front) there.0 (subst (λ (es : List Entry). C es event) last.1 (now makes used need limit there.1)))
     (λ earlier. before makes front other used need limit earlier.0 earlier.1)
     (split_end h (entry_by event result) front (Idle other (Full used need limit)) back is)
 
