@@ -1,6 +1,7 @@
 ghost use Rattle.std.specs.Prelude.{◌≡◌, ◌≤◌, [], length, IfOk};
 
 use crate::cause::{named, note};
+use crate::pausing::Pauses;
 use crate::{LineCall, LineCause};
 use gts_traits::{Failed, Line, Place, Source, counted};
 use std::io;
@@ -18,6 +19,8 @@ pub struct TcpIn<'a, R: Clock + Eprint> {
     circuit: u32,
     listener: TcpListener,
     place: Place,
+    /// Whether a failure to accept is answered. A service accepts again.
+    gives_up: bool,
     /// The present connection. None where it isn't accepted yet.
     stream: Option<TcpStream>,
     faults: u64,
@@ -27,8 +30,15 @@ pub struct TcpIn<'a, R: Clock + Eprint> {
 }
 
 impl<'a, R: Clock + Eprint> TcpIn<'a, R> {
-    /// The connections of this listener, of which none was accepted yet, and none has failed.
-    pub(crate) fn new(rt: &'a R, circuit: u32, listener: TcpListener, at: &Place) -> TcpIn<'a, R>
+    /// The connections of this listener, of which none was accepted yet, and none has failed. Where accepting fails, that is
+    /// answered, or it is tried again and again.
+    pub(crate) fn new(
+        rt: &'a R,
+        circuit: u32,
+        listener: TcpListener,
+        at: &Place,
+        gives_up: bool,
+    ) -> TcpIn<'a, R>
         ensures { result.faults ≡ 0 }
     {
         TcpIn {
@@ -36,6 +46,7 @@ impl<'a, R: Clock + Eprint> TcpIn<'a, R> {
             circuit,
             listener,
             place: *at,
+            gives_up,
             stream: None,
             faults: 0,
             cause: None,
@@ -77,6 +88,7 @@ impl<'a, R: Clock + Eprint> TcpIn<'a, R> {
     fn next_caller(&mut self) -> io::Result<TcpStream>
         ensures { self.new.faults ≡ self.old.faults }
     {
+        let mut pauses = Pauses::new();
         for _ in 0..u64::MAX {
             match self.listener.accept() {
                 Ok((stream, from)) if is_neighbour(self.place.host, from.ip()) => {
@@ -89,7 +101,9 @@ impl<'a, R: Clock + Eprint> TcpIn<'a, R> {
                     self.tell(from.ip());
                 }
                 Err(error) if error.kind() == ErrorKind::ConnectionAborted => {}
-                Err(error) => return Err(error),
+                Err(error) if self.gives_up => return Err(error),
+                // There may be no descriptor left for a while.
+                Err(_) => pauses.make(self.rt),
             }
         }
         Err(io::Error::from(ErrorKind::ConnectionAborted))
