@@ -13,10 +13,5 @@ pub mod PutLemmas
 pub mod TakeLemmas
 pub mod WholeLemmas
 pub mod NamedLemmas
-mod OtherLemmas
 pub mod FrontLemmas
-mod FurtherLemmas
 pub mod HistoryLemmas
-mod ScannedLemmas
-mod StationLemmas
-mod PartLemmas
