@@ -40,7 +40,6 @@ seen_by count = record {
   directory = one_circuit;
   start = one_owed;
   used = 0;
-  makes_room = false;
   name = 0;
   alone = false;
   full = true;

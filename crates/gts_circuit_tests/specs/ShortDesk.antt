@@ -37,7 +37,6 @@ seen_by count lost = record {
   directory = one_circuit;
   start = nothing one_circuit;
   used = 0;
-  makes_room = false;
   name = 0;
   alone = false;
   full = true;
