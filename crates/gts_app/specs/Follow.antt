@@ -48,7 +48,7 @@ pub record TakesFeed (d : directories.Directory) (old new : List Call) (fed : Li
   pub taken : Taken
   pub comes : comes_to d (seen old) fed ≡ Ok taken
   pub ends : EndsAs answer taken.end
-  pub opened : opens d (seen new) ≡ Ok (need d (restarted (state_after d state taken)))
+  pub opened : opens d (seen new) ≡ Ok (need d (restarted d (state_after d state taken)))
 
 -- the feed was taken into the journal of the directory, and this was answered
 abbrev pub TakenAs : {S P : Type 0} → FollowEnd → SourceMeanings S → StationMeanings P → (old new : World S S P) → Type 0

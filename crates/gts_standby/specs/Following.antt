@@ -81,7 +81,7 @@ EachOpens d s taken old new = OnlySyncs old new ⊎ EachSince (Did Syncs ∷ old
 abbrev pub HasAll : FollowEnd → Directory → List Call → List Call → List ℕ → Type 0
 HasAll answer d old new fed =
     (s : State) (used : ℕ) (last : List ℕ) (taken : Taken) → files_read written d (seen old) ≡ Ok (s, used, last)
-    → comes_to d (seen old) fed ≡ Ok taken → IsEnd answer → opens d (seen new) ≡ Ok (need d (restarted (state_after d s taken)))
+    → comes_to d (seen old) fed ≡ Ok taken → IsEnd answer → opens d (seen new) ≡ Ok (need d (restarted d (state_after d s taken)))
 
 -- so each crash leaves files that open to a first part of it
 abbrev pub LeavesFronts : Directory → List Call → List Call → List ℕ → Type 0
