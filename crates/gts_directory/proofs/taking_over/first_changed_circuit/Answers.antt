@@ -1,8 +1,8 @@
 use Rattle.std.proofs.Common.{sym, ◌∙◌}
 use Rattle.gts_directory.specs.Staying.{circuit_row_stays}
-use Rattle.gts_directory.proofs.ExtendingLemmas.{found_gone, found_other, next_stays}
-use Rattle.gts_directory.proofs.extending.first_changed_circuit.Goals as goal
-use Rattle.gts_directory.proofs.extending.first_changed_circuit.Goals.{then-row-new-via-then-row-new, then-row-new-via-else-row-new+then-not-circuit_stays}
+use Rattle.gts_directory.proofs.TakingOverLemmas.{found_gone, found_other, next_stays}
+use Rattle.gts_directory.proofs.taking_over.first_changed_circuit.Goals as goal
+use Rattle.gts_directory.proofs.taking_over.first_changed_circuit.Goals.{then-row-new-via-then-row-new, then-row-new-via-else-row-new+then-not-circuit_stays}
 
 pub returns-then-row-new : goal.returns-then-row-new
 returns-then-row-new c =

@@ -1,14 +1,13 @@
-//! Whether a directory extends another one, and the first row that doesn't stay where it doesn't.
+//! Whether a directory takes over from another one, and the first row that doesn't stay where it doesn't.
 
 ghost use Rattle.std.specs.Prelude.{◌≡◌, ◌≤◌, length, None};
 ghost use Rattle.gts_directory.specs.Faults.{first_fault};
 ghost use Rattle.gts_directory.specs.Rows.{directory_of_rows};
-ghost use Rattle.gts_directory.specs.Extending as extends;
+ghost use Rattle.gts_directory.specs.TakingOver as takes_over;
 ghost use Rattle.gts_directory.specs.Staying as staying;
 
-use crate::limits::MOST_RULES;
 use crate::patterns::unpadded;
-use crate::{CircuitRow, DirRows, Part, RuleRow};
+use crate::{CircuitRow, DirRows, Part};
 use gts_alphabet::MOST_CIRCUITS;
 use thiserror::Error;
 
@@ -17,7 +16,7 @@ use thiserror::Error;
 #[derive(Clone, Copy, Debug, PartialEq, Eq, Error)]
 #[error("changed in {part} row {row}")]
 pub struct Change {
-    /// The part with that row: `Top`, `Circuit` or `Rule`.
+    /// The part with that row: `Top` or `Circuit`.
     pub part: Part,
     /// The row in the old directory.
     pub row: u32,
@@ -27,7 +26,7 @@ pub struct Change {
 pub(crate) fn first_change(new: &DirRows, old: &DirRows) -> Option<Change>
     requires new { first_fault new.now ≡ None }
     requires old { first_fault old.now ≡ None }
-    ensures { result ≡ extends.first_change (directory_of_rows new.now)
+    ensures { result ≡ takes_over.first_change (directory_of_rows new.now)
         (directory_of_rows old.now) }
 {
     if !top_stays(old, new) {
@@ -40,24 +39,20 @@ pub(crate) fn first_change(new: &DirRows, old: &DirRows) -> Option<Change>
         let part = Part::Circuit;
         return Some(Change { part, row });
     }
-    if let Some(row) = first_changed_rule(old.rules(), new.rules()) {
-        let part = Part::Rule;
-        return Some(Change { part, row });
-    }
     None
 }
 
-/// Whether the own centre and the window stay.
+/// Whether the own centre stays, and the window is no greater.
 fn top_stays(old: &DirRows, new: &DirRows) -> bool
-    ensures { result ≡ extends.top_stays (directory_of_rows old.now) (directory_of_rows new.now) }
+    ensures { result ≡ takes_over.top_stays (directory_of_rows old.now) (directory_of_rows new.now) }
 {
-    old.centre == new.centre && old.window == new.window
+    old.centre == new.centre && new.window <= old.window
 }
 
 /// The first circuit that doesn't stay.
 fn first_changed_circuit(old: &[CircuitRow], new: &[CircuitRow]) -> Option<u32>
     requires { length old.now ≤ MOST_CIRCUITS }
-    ensures { result ≡ extends.first_changed staying.circuit_row_stays 0 old.now new.now }
+    ensures { result ≡ takes_over.first_changed staying.circuit_row_stays 0 old.now new.now }
 {
     for (row, circuit) in old.iter().enumerate() {
         if row >= new.len() || !circuit_stays(circuit, &new[row]) {
@@ -67,32 +62,9 @@ fn first_changed_circuit(old: &[CircuitRow], new: &[CircuitRow]) -> Option<u32>
     None
 }
 
-/// Whether a circuit stays: only its ports may be other ones.
+/// Whether a circuit stays: it has its name, and the same neighbour.
 fn circuit_stays(old: &CircuitRow, new: &CircuitRow) -> bool
     ensures { result ≡ staying.circuit_row_stays old.now new.now }
 {
-    unpadded(&old.name) == unpadded(&new.name)
-        && old.peer == new.peer
-        && old.kept == new.kept
-        && old.digits == new.digits
-}
-
-/// The first rule that doesn't stay.
-fn first_changed_rule(old: &[RuleRow], new: &[RuleRow]) -> Option<u32>
-    requires { length old.now ≤ MOST_RULES }
-    ensures { result ≡ extends.first_changed staying.rule_row_stays 0 old.now new.now }
-{
-    for (row, rule) in old.iter().enumerate() {
-        if row >= new.len() || !rule_stays(rule, &new[row]) {
-            return Some(row as u32);
-        }
-    }
-    None
-}
-
-/// Whether a rule stays: it may only name further circuits.
-fn rule_stays(old: &RuleRow, new: &RuleRow) -> bool
-    ensures { result ≡ staying.rule_row_stays old.now new.now }
-{
-    old.heading == new.heading && old.to & new.to == old.to
+    unpadded(&old.name) == unpadded(&new.name) && old.peer == new.peer
 }
