@@ -10,7 +10,7 @@ import gate
 from gate import feed
 from loopback import EOL, messages_of
 
-BULLETINS = 400
+BULLETINS = 990
 KILLS = 30
 # So many of these kills, and of those in `compact`, are to be in the middle.
 LEAST = KILLS // 3
@@ -125,6 +125,6 @@ def test_each_bulletin_is_sent_once_whenever_the_program_is_killed(folder, chanc
     lost = [i for i in range(BULLETINS) if body(i) not in day.bodies]
     folder.wants('bulletins that were not sent', lost, [])
     folder.wants('bulletins that were acknowledged', day.done, BULLETINS)
-    folder.wants(f"{LEAST // 3} kills in the middle of a replay at least, of {day.kills}", day.kills >= LEAST // 3, True)
+    folder.wants(f'{LEAST} kills in the middle of a replay at least, of {day.kills}', day.kills >= LEAST, True)
     folder.wants(f'{LEAST} kills in the middle of `compact` at least, of {day.cut_off}', day.cut_off >= LEAST, True)
     print(f'kills: {day.kills} in a replay and {day.cut_off} in `compact`, {day.done} bulletins acknowledged')
