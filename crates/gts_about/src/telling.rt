@@ -13,6 +13,7 @@ usage: gts_switch COMMAND, in a folder with directory.toml
   init         makes an empty journal
   replay       works through capture.gts
   serve [N]    works on the lines of the circuits, over N connections each
+  serve always works on them without an end, as a service
   show         reports what the switch stands at
   compact      makes the journal as small as what is needed
   generate N   works through a day of N messages in memory

@@ -1,7 +1,7 @@
 -- The words that name a command which is built, and what each command comes to.
 use Rattle.std.specs.Prelude.{◌≡◌, ℕ, List, Option, Some}
 use Rattle.gts_words.specs.declared.command.Command.{Command}
-use Rattle.gts_words.specs.declared.command.Command.TheVariants.{Init, Replay, Serve, Show, Compact, Generate, Migrate, Unpack, Pack, Gaps, Ship, Follow, Count}
+use Rattle.gts_words.specs.declared.command.Command.TheVariants.{Init, Replay, Serve, ServeAlways, Show, Compact, Generate, Migrate, Unpack, Pack, Gaps, Ship, Follow, Count}
 use Rattle.gts_words.specs.{command_of}
 pub use Rattle.gts_app.specs.Generate.{Generates}
 pub use Rattle.gts_app.specs.Init.{Inits}
@@ -28,6 +28,7 @@ IsBuilt Init = Unit {0}
 IsBuilt Replay = Unit {0}
 IsBuilt Show = Unit {0}
 IsBuilt (Serve connections) = Unit {0}
+IsBuilt ServeAlways = Unit {0}
 IsBuilt Compact = Unit {0}
 IsBuilt (Generate count) = Unit {0}
 IsBuilt Migrate = Unit {0}

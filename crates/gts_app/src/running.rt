@@ -1,4 +1,5 @@
 ghost use Rattle.std.specs.Prelude.{◌≡◌, ◌⊎◌, ℕ, Some};
+ghost use Rattle.gts_receiver.specs.declared.limits.TheConstants.{WITHOUT_END};
 ghost use Rattle.gts_words.specs.{command_of};
 ghost use Rattle.gts_serve.specs.{lines_seen as seen};
 ghost use Rattle.gts_app.specs.Commands.{IsCommand, IsSettled, Inits, Replays, world, IsNoCapture, Serves, Generates, OpensJournal, ReadsApart};
@@ -19,6 +20,7 @@ use crate::commands::show::show;
 use crate::commands::unpack::unpack;
 use gts_connection::CaptureKind;
 use gts_missing::Moment;
+use gts_receiver::WITHOUT_END;
 use gts_traits::{Gate, Lines, Source, Station, WordList};
 use gts_words::{Command, WordsFault, a_count_is_within_its_limits, read_words};
 use std::alloc::Global;
@@ -73,6 +75,9 @@ where
     ensures serve { (n : ℕ) → command_of words.now ≡ Some (Command.Serve n) → (result.2 ≡ capture)
         × Serves S.Source P.Station L.In.tells L.Out.tells n result.0 directory.old station
         (seen L.Lines lines.old) directory.new result.1 (seen L.Lines lines.new) }
+    ensures always { command_of words.now ≡ Some Command.ServeAlways → (result.2 ≡ capture)
+        × Serves S.Source P.Station L.In.tells L.Out.tells WITHOUT_END result.0 directory.old station
+        (seen L.Lines lines.old) directory.new result.1 (seen L.Lines lines.new) }
     ensures generate { (count : ℕ) → command_of words.now ≡ Some (Command.Generate count)
         → (directory.new ≡ directory.old) × (result.2 ≡ capture)
         × Generates P.Station result.0 count station result.1 }
@@ -86,7 +91,8 @@ where
 
     // No other command changes the lines.
     ensures untouched { ((connections : ℕ)
-        → command_of words.now ≡ Some (Command.Serve connections) → ⊥) → lines.new ≡ lines.old }
+        → command_of words.now ≡ Some (Command.Serve connections) → ⊥)
+        → (command_of words.now ≡ Some Command.ServeAlways → ⊥) → lines.new ≡ lines.old }
 {
     a_count_is_within_its_limits();
     let command = match read_words(alloc, words) {
@@ -100,7 +106,12 @@ where
         Command::Show => beside(show(alloc, directory, station), capture),
         Command::Compact => beside(compact(alloc, directory, station), capture),
         Command::Serve { connections } => {
-            let served = serve(rt, alloc, directory, station, lines, connections, gate);
+            let many = u64::from(connections);
+            let served = serve(rt, alloc, directory, station, lines, many, gate);
+            beside(served, capture)
+        }
+        Command::ServeAlways => {
+            let served = serve(rt, alloc, directory, station, lines, WITHOUT_END, gate);
             beside(served, capture)
         }
         Command::Generate { count } => (generate(alloc, count, &mut station), station, capture),

@@ -15,7 +15,7 @@ use Rattle.gts_event.specs.declared.outcome.Outcome.TheVariants.{Resend, Nothing
 use Rattle.gts_opening.specs.Room.{IsCaused}
 use Rattle.gts_opening.proofs.LawLemmas.{caused-nothing, caused-entry}
 use Rattle.gts_desk.specs.{entries}
-use Rattle.gts_desk.specs.Desks.{IsSpent, Answers, LeavesFrame, history_of, state_at}
+use Rattle.gts_desk.specs.Desks.{IsSpent, Answers, LeavesFrame, history_of, state_at, HasCauses}
 use Rattle.gts_circuit_tests.specs.OwedDesk.{one_circuit, one_owed, taken, seen_by}
 
 pub spent : (count : ℕ) → IsSpent (seen_by count) (seen_by count)
@@ -32,6 +32,9 @@ caused (suc n) =
     let same : entries (taken (suc n)) ≡ entries (taken n) ++ Done (Taken 0) ∷ [] = ap entries (more n) ∙ map-append (λ (x : ℕ × Entry). x.1) (taken n) ((0, Done (Taken 0)) ∷ []) in
     subst (λ (es : List Entry). IsCaused one_circuit (record h { entries = es }) []) (sym same) (caused-entry one_circuit h [] (Done (Taken 0)) (caused n) tt)
 
+has_causes : (n : ℕ) → HasCauses (seen_by n)
+has_causes n = record { compactions = []; none = λ e. refl; caused = caused n }
+
 -- the state that the first take leaves, and all others keep
 abbrev given : State
 given = after one_circuit (begun one_owed) (Taken 0)
@@ -41,7 +44,7 @@ stays zero = refl
 stays (suc n) = stays n
 
 pub first_take : (out : List ℕ) → out ≡ frame An (message_of (dec 3 1) (3 ∷ [])) → Answers (seen_by 0) (Taken 0) (LeavesFrame one_circuit 0 out) (Ok (Resend 0)) (seen_by 1)
-first_take out is = record { others = []; is = refl; strange = refl; alone = λ e. refl; holds = (refl, is); caused = caused 1 }
+first_take out is = record { others = []; is = refl; strange = refl; alone = λ e. refl; holds = (refl, is); caused = has_causes 1 }
 
 pub later_take : (n : ℕ) (out : List ℕ) → Answers (seen_by (suc n)) (Taken 0) (LeavesFrame one_circuit 0 out) (Ok Nothing) (seen_by (suc (suc n)))
 later_take n out =
@@ -57,7 +60,7 @@ later_take n out =
             subst P (sym (ap (λ (l : List (ℕ × Entry)). state_at (seen_by (suc n)) l) (append-nil (taken (suc n))) ∙ stays n)) refl),
         tt,
       );
-      caused = caused (suc (suc n));
+      caused = has_causes (suc (suc n));
     }
 
 -- the same on the only circuit, by whatever name

@@ -18,7 +18,7 @@ use Rattle.gts_event.specs.declared.outcome.Refusal.TheVariants.{Message}
 use Rattle.gts_opening.specs.Room.{History, IsCaused}
 use Rattle.gts_opening.proofs.LawLemmas.{caused-nothing, caused-entry}
 use Rattle.gts_desk.specs.{entries}
-use Rattle.gts_desk.specs.Desks.{IsSpent, Answers, SaysNoMore, state_at}
+use Rattle.gts_desk.specs.Desks.{IsSpent, Answers, SaysNoMore, HasCauses, history_of, state_at}
 use Rattle.gts_circuit_tests.specs.ShortDesk.{one_circuit, heard, seen_by}
 
 pub spent : (count : ℕ) (lost : Option LostField) → IsSpent (seen_by count lost) (seen_by count lost)
@@ -45,6 +45,9 @@ caused : (n : ℕ) → IsCaused one_circuit (since_nothing (entries (heard n))) 
 caused zero = caused-nothing one_circuit (since_nothing []) []
 caused (suc n) = subst (λ (xs : List (ℕ × Entry)). IsCaused one_circuit (since_nothing (entries xs)) []) (sym (more n)) (done_more (heard n) short (caused n))
 
+has_causes : (n : ℕ) (lost : Option LostField) → IsCaused one_circuit (history_of (seen_by n lost)) [] → HasCauses (seen_by n lost)
+has_causes n lost is = record { compactions = []; none = λ e. refl; caused = is }
+
 -- what was heard, and no loss
 alone : (n : ℕ) → heard n ++ [] ≡ heard n
 alone n = append-nil (heard n)
@@ -64,7 +67,7 @@ hears n =
       strange = refl;
       alone = λ e. refl;
       holds = (is_refused (state_at (seen_by n None) ((heard n ++ []) ++ [])), tt);
-      caused = subst (λ (xs : List (ℕ × Entry)). IsCaused one_circuit (since_nothing (entries xs)) []) (sym (append-nil (heard (suc n)))) (caused (suc n));
+      caused = has_causes (suc n) None (subst (λ (xs : List (ℕ × Entry)). IsCaused one_circuit (since_nothing (entries xs)) []) (sym (append-nil (heard (suc n)))) (caused (suc n)));
     }
 
 loses : (n : ℕ) (field : LostField) → Answers (seen_by n None) (Lost 0 field) SaysNoMore (Ok (LineLost field)) (seen_by n (Some field))
@@ -76,7 +79,7 @@ loses n field =
       strange = refl;
       alone = λ e. refl;
       holds = (refl, tt);
-      caused = done_more (heard n) (Lost 0 field) (caused n);
+      caused = has_causes n (Some field) (done_more (heard n) (Lost 0 field) (caused n));
     }
 
 -- the same on the only circuit, by whatever name

@@ -40,6 +40,7 @@ seen_by count = record {
   directory = one_circuit;
   start = one_owed;
   used = 0;
+  makes_room = false;
   name = 0;
   alone = false;
   full = true;

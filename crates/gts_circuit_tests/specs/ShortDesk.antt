@@ -37,6 +37,7 @@ seen_by count lost = record {
   directory = one_circuit;
   start = nothing one_circuit;
   used = 0;
+  makes_room = false;
   name = 0;
   alone = false;
   full = true;

@@ -60,6 +60,8 @@ impl Desk for ShortDesk {
         }
     }
 
+    fn rest(&mut self) {}
+
     #[tactic(auto, using(crate::proofs::ShortDeskLemmas::spent))]
     fn lost(&mut self, c: u32, field: LostField) -> Result<Outcome, SwitchFault> {
         match self.lost {
@@ -95,7 +97,7 @@ fn end_of(
 fn end_of_source(
     alloc: Global,
     source: &mut MemSource,
-    connections: u32,
+    connections: u64,
     room: &mut [u8],
 ) -> Result<(ReceiveEnd, u64), Fail>
     requires some { 1 ≤ connections }

@@ -26,6 +26,8 @@ impl Desk for OwedDesk {
         Err(SwitchFault::Spent)
     }
 
+    fn rest(&mut self) {}
+
     #[tactic(auto, using(crate::proofs::OwedDeskLemmas::spent))]
     fn lost(&mut self, _c: u32, _field: LostField) -> Result<Outcome, SwitchFault> {
         Err(SwitchFault::Spent)

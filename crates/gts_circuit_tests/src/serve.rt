@@ -1,5 +1,6 @@
 //! A run of two circuits over lines in memory.
-ghost use Rattle.std.specs.Prelude.{[]};
+ghost use Rattle.std.specs.Prelude.{◌≡◌, ◌≤◌, []};
+ghost use Rattle.gts_receiver.specs as service;
 ghost use Rattle.gts_housed.specs.{Stands};
 
 use gts_circuits::an_opened_engine_stands_for_no_entry;
@@ -35,15 +36,18 @@ fn run<R, P, B>(
     alloc: Global,
     engine: Engine<P>,
     lines: &mut MemLines,
+    connections: u64,
 ) -> (P, ServeEnd, bool)
 where
     R: Threads + Wait + Sync,
     P: Station + Send + Drop,
     B: Began + Send,
+    requires some { 1 ≤ connections }
+    requires mode { B.beginning.makes_room ≡ service.goes_on connections }
     requires stands { Stands P.tells P.calls P.disk_faults P.say_faults B.beginning [] engine }
     requires tells { P.tells }
 {
-    let served: Served<P, B> = serve(rt, alloc, engine, lines, 1, &FreeGate);
+    let served: Served<P, B> = serve(rt, alloc, engine, lines, connections, &FreeGate);
     let Served { engine, end, pass } = served;
     let (station, _) = engine.into_parts();
     (station, end, pass.is_some())
@@ -56,17 +60,19 @@ fn open_and_run<R, P>(
     station: P,
     directory: Directory,
     lines: &mut MemLines,
+    connections: u64,
 ) -> Option<(P, ServeEnd, bool)>
 where
     R: Threads + Wait + Sync,
     P: Station + Send + Drop,
-    requires { P.tells }
+    requires tells { P.tells }
+    requires some { 1 ≤ connections }
 {
     // What its history begins with.
     an_opened_engine_begins_with_what_the_files_open_to::<P>();
     an_opened_engine_stands_for_no_entry::<P>();
     match Engine::open(alloc, station, directory) {
-        Ok(engine) => Some(run::<R, P, Brand>(rt, alloc, engine, lines)),
+        Ok(engine) => Some(run::<R, P, Brand>(rt, alloc, engine, lines, connections)),
         Err(_) => None,
     }
 }
@@ -91,7 +97,7 @@ fn ran<R: Threads + Wait + Sync>(
     let directory = two_circuits(alloc)?;
     let mut station = MemStation::new(alloc, &[])?;
     Journal::init(&mut station, directory.mark()).map_err(|_| "init")?;
-    Ok(open_and_run(rt, alloc, station, directory, lines).ok_or("open")?)
+    Ok(open_and_run(rt, alloc, station, directory, lines, 1).ok_or("open")?)
 }
 
 #[test]

@@ -77,6 +77,7 @@ module _ (old new : Seen) (entry : Entry) (adds : AddsJust old entry new) where
     directory = ap (λ (d : Seen). d.directory) adds.is;
     start = ap (λ (d : Seen). d.start) adds.is;
     used = ap (λ (d : Seen). d.used) adds.is;
+    makes_room = ap (λ (d : Seen). d.makes_room) adds.is;
     name = ap (λ (d : Seen). d.name) adds.is;
     alone = ap (λ (d : Seen). d.alone) adds.is;
     later = (
@@ -112,6 +113,7 @@ module _ (old new : Seen) (spent : IsSpent old new) where
     directory = ap (λ (d : Seen). d.directory) spent.is;
     start = ap (λ (d : Seen). d.start) spent.is;
     used = ap (λ (d : Seen). d.used) spent.is;
+    makes_room = ap (λ (d : Seen). d.makes_room) spent.is;
     name = ap (λ (d : Seen). d.name) spent.is;
     alone = ap (λ (d : Seen). d.alone) spent.is;
     later = ([], ap (λ (d : Seen). d.history) spent.is ∙ sym (append-nil old.history));
@@ -126,10 +128,11 @@ goes_further a b c s t = record {
   directory = t.directory ∙ s.directory;
   start = t.start ∙ s.start;
   used = t.used ∙ s.used;
+  makes_room = t.makes_room ∙ s.makes_room;
   name = t.name ∙ s.name;
   alone = t.alone ∙ s.alone;
   later = starts_later a.history b.history c.history s.later t.later;
 }
 
 pub stays : (d : Seen) → GoesOn d d
-stays d = record { hall = refl; directory = refl; start = refl; used = refl; name = refl; alone = refl; later = ([], sym (append-nil d.history)) }
+stays d = record { hall = refl; directory = refl; start = refl; used = refl; makes_room = refl; name = refl; alone = refl; later = ([], sym (append-nil d.history)) }

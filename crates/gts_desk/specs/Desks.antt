@@ -18,13 +18,15 @@ use Rattle.gts_opening.specs.Room.{History, IsCaused}
 use Rattle.gts_lock.specs.History.{entries, entries_under, StartsWith}
 
 -- What a desk has seen: the hall that it is at, or none; the directory; what the history starts from, and the bytes of the
--- journal there; the desk's own name; whether it is alone, so that there are no entries of others; whether no turn was left; and
--- the history so far, each entry with the name of the desk that added it.
+-- journal there; whether the journal may be compacted meanwhile, to make room; the desk's own name; whether it is alone, so that
+-- there are no entries of others; whether no turn was left; and the history so far, each entry with the name of the desk that
+-- added it.
 pub record Seen : Type 0 where
   pub hall : Option TableId
   pub directory : Directory
   pub start : Need
   pub used : ℕ
+  pub makes_room : Bool
   pub name : ℕ
   pub alone : Bool
   pub full : Bool
@@ -42,6 +44,13 @@ history_of d = record { start = d.start; used = d.used; entries = entries d.hist
 abbrev pub state_at : Seen → List (ℕ × Entry) → State
 state_at d history = after_all d.directory (begun d.start) (entries history)
 
+-- Each entry has its cause, with the compactions that were done meanwhile, each told by how many entries there were: none where
+-- no room is made.
+pub record HasCauses (d : Seen) : Type 0 where
+  pub compactions : List ℕ
+  pub none : d.makes_room ≡ false → compactions ≡ []
+  pub caused : IsCaused d.directory (history_of d) compactions
+
 -- Entries of others may have come, and then this one, the desk's own. Before it the state was one of which this holds. Each
 -- entry has its cause.
 pub record Adds (old : Seen) (entry : Entry) (Holds : State → Type 0) (new : Seen) : Type 0 where
@@ -50,7 +59,7 @@ pub record Adds (old : Seen) (entry : Entry) (Holds : State → Type 0) (new : S
   pub strange : entries_under old.name others ≡ []
   pub alone : old.alone ≡ true → others ≡ []
   pub holds : Holds (state_at old (old.history ++ others))
-  pub caused : IsCaused new.directory (history_of new) []
+  pub caused : HasCauses new
 
 -- an entry of which no more is said than that
 abbrev pub AddsJust : Seen → Entry → Seen → Type 0
@@ -93,6 +102,7 @@ pub record GoesOn (old new : Seen) : Type 0 where
   pub directory : new.directory ≡ old.directory
   pub start : new.start ≡ old.start
   pub used : new.used ≡ old.used
+  pub makes_room : new.makes_room ≡ old.makes_room
   pub name : new.name ≡ old.name
   pub alone : new.alone ≡ old.alone
   pub later : StartsWith new.history old.history

@@ -20,6 +20,11 @@ pub trait Desk {
         ensures { Answers (seen self.old) (Heard c kind message.now) SaysNoMore
             result (seen self.new) };
 
+    /// Sleeps until draws have gone out, so that there may be room for a message for which there was none. It may also return for
+    /// no reason. Adds nothing.
+    fn rest(&mut self)
+        ensures { seen self.new ≡ seen self.old };
+
     /// Synchronisation was lost on circuit `c`, in this field of a frame. Takes no memory.
     fn lost(&mut self, c: u32, field: LostField) -> Result<Outcome, SwitchFault>
         requires { c < length (seen self.old).directory.circuits }

@@ -1,8 +1,11 @@
 ghost use Rattle.std.specs.Prelude.{◌≡◌, ◌+◌, ◌^◌, ◌<◌};
-ghost use Rattle.gts_engine.specs.Cited.{State, due, seal_size, written};
+ghost use Rattle.gts_engine.specs.Cited.{State, Holds, due, seal_size, written};
 ghost use Rattle.gts_engine.specs.Compacting.{IsSizeAt, GivesCheckpoint};
+ghost use Rattle.gts_engine.specs.Rooming.{TellsSpare, bytes_wanted as wanted_of};
 
+use gts_core::Core;
 use gts_directory::Directory;
+use gts_event::{MOST_ACCEPTED, Outcome, SwitchFault};
 use gts_journal::Version;
 use gts_record::BESIDE_CHECKPOINT;
 
@@ -43,4 +46,28 @@ pub fn check_checkpoint(directory: &Directory, size: u64, draws: u64) -> Result<
         });
     }
     Ok(())
+}
+
+/// The bytes that were wanted of a journal that was full. `None` for any other answer.
+pub(crate) fn bytes_wanted(answer: Result<Outcome, SwitchFault>) -> Option<u64>
+    ensures { result ≡ wanted_of answer }
+{
+    match answer {
+        Err(SwitchFault::Full { need, .. }) => Some(need),
+        _ => None,
+    }
+}
+
+/// Whether a journal that is a checkpoint of this size alone has room for so many bytes more with an eighth of the limit to
+/// spare, and a position is left.
+pub(crate) fn has_spare(core: &Core, directory: &Directory, size: u64, bytes: u64) -> bool
+    ensures { (s : State) → Holds directory.now core.now s → IsSizeAt directory.now s size
+        → TellsSpare result directory.now s bytes }
+{
+    if core.accepted() == MOST_ACCEPTED {
+        return false;
+    }
+    let limit = directory.limit();
+    let beside = BESIDE_CHECKPOINT + Version::written().seal_size() as u64 + limit / 8;
+    size.saturating_add(beside).saturating_add(bytes) <= limit
 }

@@ -1,8 +1,8 @@
 use gts_calls::Switch;
-use gts_directory::Directory;
+use gts_directory::{CircuitRow, DirRows, Directory, RuleRow};
 use gts_engine::{Engine, SayMode};
 use gts_event::{Device, Outcome};
-use gts_fixtures::{is_same, two_circuits};
+use gts_fixtures::{MARK, is_same, two_circuits};
 use gts_frame::{FrameBuf, Kind, LostField};
 use gts_journal::Journal;
 use gts_memory::MemStation;
@@ -195,5 +195,92 @@ fn a_compacted_journal_is_opened_again(rt: HostRuntime) -> Result<(), Fail> {
     let (engine, _, _) = compacted(alloc, &mut out)?;
     assert!(rt; taken_again(alloc, engine, &mut out) == REPEATED);
     assert!(rt; is_same(out.bytes(), FRAME));
+    Ok(())
+}
+
+/// A directory of two circuits with a small journal, a small window and few kept draws; all goes to the second one.
+fn small(alloc: Global) -> Result<Directory, Fail> {
+    let mut rows = DirRows::new(alloc, *b"TVSV", 10, 30_000, MARK);
+    for (name, peer) in [(*b"A       ", *b"AAAA"), (*b"B       ", *b"BBBB")] {
+        rows.add_circuit(CircuitRow {
+            name,
+            peer,
+            kept: 10,
+            digits: 3,
+            input: 0,
+            output: 0,
+        })?;
+    }
+    rows.add_rule(RuleRow {
+        heading: *b"****** ****",
+        to: 2,
+    })?;
+    Ok(Directory::check(rows)?)
+}
+
+/// The message whose text is this number below 1,000.
+fn numbered(number: u32) -> [u8; 40] {
+    let mut message = *b"\x01\r\r\n123\r\r\nSMVG01 TVSV 280000\r\r\n0000=\r\r\n\x03";
+    message[32] = b'0' + (number / 100 % 10) as u8;
+    message[33] = b'0' + (number / 10 % 10) as u8;
+    message[34] = b'0' + (number % 10) as u8;
+    message
+}
+
+/// What comes of a message on circuit 0, for which room is made.
+fn heard_with_room(
+    alloc: Global,
+    engine: &mut Engine<MemStation>,
+    message: &[u8],
+) -> Option<Outcome> {
+    if engine.directory().circuits() == 0 {
+        return None;
+    }
+    engine.hear_with_room(alloc, 0, Kind::An, message).ok()
+}
+
+/// How many of so many bulletins were accepted, each of which is drawn before the next one where `draws` is set.
+fn accepted_of(
+    alloc: Global,
+    engine: &mut Engine<MemStation>,
+    out: &mut FrameBuf,
+    count: u32,
+    draws: bool,
+) -> u32 {
+    let mut accepted = 0;
+    for number in 0..count {
+        if let Some(Outcome::Accepted { .. }) = heard_with_room(alloc, engine, &numbered(number)) {
+            accepted += 1;
+        }
+        if draws {
+            let _ = taken(engine, out, SayMode::Caller);
+        }
+    }
+    accepted
+}
+
+#[test]
+fn room_is_made_for_all_that_is_drawn(rt: HostRuntime) -> Result<(), Fail> {
+    let alloc = rt.alloc();
+    let mut out = FrameBuf::new(alloc)?;
+    let Ok(mut engine) = engine(alloc, small(alloc)?, &[])? else {
+        return Err(Fail::from("an engine"));
+    };
+    assert!(rt; accepted_of(alloc, &mut engine, &mut out, 600, true) == 600);
+    assert!(rt; engine.used() < 30_000);
+    Ok(())
+}
+
+#[test]
+fn no_room_is_made_where_all_waits(rt: HostRuntime) -> Result<(), Fail> {
+    let alloc = rt.alloc();
+    let mut out = FrameBuf::new(alloc)?;
+    let Ok(mut engine) = engine(alloc, small(alloc)?, &[])? else {
+        return Err(Fail::from("an engine"));
+    };
+    let accepted = accepted_of(alloc, &mut engine, &mut out, 600, false);
+    assert!(rt; accepted > 100 && accepted < 300);
+    let station = station_in(engine);
+    assert!(rt; station.file(1).len() == 0);
     Ok(())
 }

@@ -1,5 +1,5 @@
 -- What an engine stands for, with the entry that a call adds.
-use Rattle.std.proofs.Common.{◌≡◌, ◌≢◌, ◌⊎◌, inl, inr, ⊎_elim, ℕ, ◌+◌, ◌≤◌, List, [], ◌∷◌, ◌++◌, length, Option, Some, None, Result, Ok, Err, refl, sym, ap, subst, ◌∙◌, arith, length-append}
+use Rattle.std.proofs.Common.{◌≡◌, ◌≢◌, ◌⊎◌, inl, inr, ⊎_elim, ℕ, ◌+◌, ◌≤◌, Bool, true, false, List, [], ◌∷◌, ◌++◌, length, Option, Some, None, Result, Ok, Err, refl, sym, ap, subst, ◌∙◌, arith, length-append}
 use Rattle.std.specs.Prelude.{IsErrOf, IfOk, IfSome}
 use Rattle.gts_traits.specs.Calls.{Call, Outside, on, channel_bytes}
 use Rattle.gts_traits.proofs.LawLemmas.{channel_bytes-on}
@@ -13,21 +13,22 @@ use Rattle.gts_event.specs.Need.{begun}
 use Rattle.gts_event.specs.declared.event.Event.{Event}
 use Rattle.gts_event.specs.declared.event.Event.TheVariants.{Lost, Taken}
 use Rattle.gts_event.specs.declared.event.Entry.{Entry}
-use Rattle.gts_event.specs.declared.event.Entry.TheVariants.{Unsaid, Doubt}
+use Rattle.gts_event.specs.declared.event.Entry.TheVariants.{Unsaid, Idle, Doubt}
 use Rattle.gts_event.specs.declared.outcome.Outcome.{Outcome}
-use Rattle.gts_event.specs.declared.outcome.Outcome.TheVariants.{Resend, Draw, Nothing}
+use Rattle.gts_event.specs.declared.outcome.Outcome.TheVariants.{Accepted, Duplicate, Asked, Refused, LineLost, Resend, Draw, Nothing}
 use Rattle.gts_event.specs.declared.fault.Device.{Device}
 use Rattle.gts_event.specs.declared.fault.SwitchFault.{SwitchFault}
 use Rattle.gts_event.specs.declared.fault.SwitchFault.TheVariants.{DiskFault, SayFault, Full, Stopped, Spent, NoMemory}
-use Rattle.gts_opening.specs.Room.{HasDoubt, HasUnsaid, IsAccepted}
+use Rattle.gts_opening.specs.Room.{HasDoubt, HasUnsaid, IsAccepted, room}
 use Rattle.gts_core.specs.Core.{Says}
 use Rattle.gts_calls.specs.{IsCalled, HasCallCause, entry_of}
 use Rattle.gts_engine.specs.declared.mode.SayMode.TheVariants.{Caller}
 use Rattle.gts_engine.specs.Engine.{Engine, shown}
-use Rattle.gts_engine.specs.Origin.{state_at}
+use Rattle.gts_engine.specs.Origin.{Origin, state_at, used_at}
 use Rattle.gts_engine.specs.Keeping.{Keeps, meanings_of}
+use Rattle.gts_engine.specs.Rooming.{HearsWithRoom}
 use Rattle.gts_desk.specs.{LeavesFrame}
-use Rattle.gts_housed.specs.Housed.{Beginning, Stands, Adds, entry_by}
+use Rattle.gts_housed.specs.Housed.{Beginning, Stands, Adds, entry_by, origin_with, IsCrampedFor, AreCramped}
 
 -- ---- the last of a list
 
@@ -45,6 +46,21 @@ split_last (a ∷ xs) x (f ∷ front) y back e =
     let same : a ≡ f = cc in let rest : xs ++ x ∷ [] ≡ front ++ y ∷ back = cc in
     elim (split_last xs x front y back rest) as (λ _. IsLast (a ∷ xs) x (f ∷ front) y) [
       | inl last ↦ inl last
+      | inr before ↦ inr (before.0, ap (λ (z : Entry). z ∷ xs) same ∙ ap (λ (zs : List Entry). f ∷ zs) before.1)
+    ]
+
+abbrev IsEnd : List Entry → Entry → List Entry → Entry → Type 0
+IsEnd xs x front y = ((x ≡ y) × (xs ≡ front)) ⊎ ((z : List Entry) × (xs ≡ front ++ y ∷ z))
+
+-- the last one has all others before it
+split_end : (xs : List Entry) (x : Entry) (front : List Entry) (y : Entry) (back : List Entry) → xs ++ x ∷ [] ≡ front ++ y ∷ back → IsEnd xs x front y
+split_end [] x [] y back e = let same : x ≡ y = cc in inl (same, refl)
+split_end [] x (f ∷ front) y back e = absurd (none_behind front y back (let r : [] ≡ front ++ y ∷ back = cc in r))
+split_end (a ∷ xs) x [] y back e = let same : a ≡ y = cc in inr (xs, ap (λ (z : Entry). z ∷ xs) same)
+split_end (a ∷ xs) x (f ∷ front) y back e =
+    let same : a ≡ f = cc in let rest : xs ++ x ∷ [] ≡ front ++ y ∷ back = cc in
+    elim (split_end xs x front y back rest) as (λ _. IsEnd (a ∷ xs) x (f ∷ front) y) [
+      | inl last ↦ inl (last.0, ap (λ (z : Entry). z ∷ xs) same ∙ ap (λ (zs : List Entry). f ∷ zs) last.1)
       | inr before ↦ inr (before.0, ap (λ (z : Entry). z ∷ xs) same ∙ ap (λ (zs : List Entry). f ∷ zs) before.1)
     ]
 
@@ -77,6 +93,30 @@ unsaid_of event other (Err (Stopped by)) e = cc
 unsaid_of event other (Err Spent) e = cc
 unsaid_of event other (Err NoMemory) e = cc
 
+full_of : (event : Event) (result : Result Outcome SwitchFault) (other : Event) (used need limit : ℕ) → entry_by event result ≡ Idle other (Full used need limit)
+    → (event ≡ other) × (result ≡ Err (Full used need limit))
+full_of event (Ok o) other used need limit e = absurd (cc e)
+full_of event (Err DiskFault) other used need limit e = absurd (cc e)
+full_of event (Err SayFault) other used need limit e = absurd (cc e)
+full_of event (Err (Full at more most)) other used need limit e =
+    let same : event ≡ other = cc e in
+    let fault : ◌≡◌ {A = SwitchFault} (Full at more most) (Full used need limit) = cc e in
+    (same, ap {A = SwitchFault} (λ f. Err f) fault)
+full_of event (Err (Stopped by)) other used need limit e = absurd (cc e)
+full_of event (Err Spent) other used need limit e = absurd (cc e)
+full_of event (Err NoMemory) other used need limit e = absurd (cc e)
+
+-- a journal is full for accepted bulletins alone
+full_accepts : (d : Directory) (s : State) (at : ℕ) (event : Event) (o : Outcome) (fault : SwitchFault) → room d s at event o ≡ Some fault → IsAccepted o
+full_accepts d s at event (Accepted p n) fault is = tt
+full_accepts d s at event (Duplicate position) fault is = absurd (let e : None ≡ Some fault = is in cc e)
+full_accepts d s at event (Asked n m) fault is = absurd (let e : None ≡ Some fault = is in cc e)
+full_accepts d s at event (Refused refusal) fault is = absurd (let e : None ≡ Some fault = is in cc e)
+full_accepts d s at event (LineLost field) fault is = absurd (let e : None ≡ Some fault = is in cc e)
+full_accepts d s at event (Resend index) fault is = absurd (let e : None ≡ Some fault = is in cc e)
+full_accepts d s at event (Draw index) fault is = absurd (let e : None ≡ Some fault = is in cc e)
+full_accepts d s at event Nothing fault is = absurd (let e : None ≡ Some fault = is in cc e)
+
 -- ---- counts
 
 rose_on : (a b c : ℕ) → Rose a b → b ≤ c → Rose a c
@@ -103,34 +143,88 @@ unsaid_rose b h event result old new from before later failed (front, other, bac
 
 -- ---- a call
 
+-- Full was answered for the last entry, or for one before it
+cramped_more : (b : Beginning) (h : List Entry) (event : Event) (result : Result Outcome SwitchFault) → (b.makes_room ≡ true → AreCramped b h)
+    → (b.makes_room ≡ true → (used need limit : ℕ) → result ≡ Err (Full used need limit) → IsCrampedFor b h event)
+    → b.makes_room ≡ true → AreCramped b (h ++ entry_by event result ∷ [])
+cramped_more b h event result before now makes front other used need limit back is =
+    ⊎_elim {C = IsCrampedFor b front other}
+    (λ last.
+    let there = full_of event result other used need limit last.0 in
+    let C : List Entry → Event → Type 0 = λ es e. IsCrampedFor b es e in
+    subst (C front) there.0 (subst (λ (es : List Entry). C es event) last.1 (now makes used need limit there.1)))
+    (λ earlier. before makes front other used need limit earlier.0 earlier.1)
+    (split_end h (entry_by event result) front (Idle other (Full used need limit)) back is)
+
 module _ {P : Type 0} (tells : Type 0) (calls : P → List Call) (disk say : P → ℕ) (b : Beginning) where
   outcome_of : (h : List Entry) (event : Event) (result : Result Outcome SwitchFault) (old new : Engine P)
       → IsCalled (meanings_of tells calls Caller) event result old new → Stands tells calls disk say b h old
       → (a : Outcome) → result ≡ Ok a → a ≡ outcome b.origin.directory (state_at b.origin h) event
   outcome_of h event result old new turn stands a ok =
       let D : Directory → Type 0 = λ d. a ≡ outcome d (after_all d (begun b.origin.start) h) event in
-      subst D stands.keeps.directory (turn.outcome b.origin h stands.keeps a ok)
+      subst D stands.keeps.directory (turn.outcome (origin_with b stands.compactions) h stands.keeps a ok)
+
+  -- the engine stands for the entry of an answer more
+  more_stands : (h : List Entry) (event : Event) (result : Result Outcome SwitchFault) (old new : Engine P)
+      → HasCallCause result (disk old.station) (disk new.station) (say old.station) (say new.station)
+      → (compactions : List ℕ) → Keeps tells Caller (origin_with b compactions) (h ++ entry_of event result) (shown calls new)
+      → (b.makes_room ≡ false → compactions ≡ []) → (b.makes_room ≡ true → (used need limit : ℕ) → result ≡ Err (Full used need limit) → IsCrampedFor b h event)
+      → result ≢ Err Spent → Stands tells calls disk say b h old → Stands tells calls disk say b (h ++ entry_by event result ∷ []) new
+  more_stands h event result old new cause compactions kept none full spent stands =
+      let K : List Entry → Type 0 = λ es. Keeps tells Caller (origin_with b compactions) (h ++ es) (shown calls new) in
+      record {
+        compactions = compactions;
+        keeps = subst K (is_one event result spent) kept;
+        none = none;
+        cramped = cramped_more b h event result stands.cramped full;
+        disk_later = omega (arith, stands.disk_later, cause.disk_later);
+        disk_failed = doubt_rose b.disk h event result (disk old.station) (disk new.station) stands.disk_later stands.disk_failed cause.disk_later cause.disk_failed;
+        say_later = omega (arith, stands.say_later, cause.say_later);
+        say_failed = unsaid_rose b.say h event result (say old.station) (say new.station) stands.say_later stands.say_failed cause.say_later cause.say_failed;
+      }
 
   pub adds : (h : List Entry) (event : Event) (Holds : Outcome → State → Type 0) (result : Result Outcome SwitchFault) (old new : Engine P)
       → IsCalled (meanings_of tells calls Caller) event result old new
       → HasCallCause result (disk old.station) (disk new.station) (say old.station) (say new.station)
       → ((o : Outcome) → result ≡ Ok o → Holds o (state_at b.origin h))
+      → (b.makes_room ≡ true → (d : Directory) (s : State) → IsAccepted (outcome d s event) → ⊥)
       → Stands tells calls disk say b h old → Adds tells calls disk say b h event Holds result new
-  adds h event Holds result old new turn cause leaves stands =
-      let o = b.origin in
+  adds h event Holds result old new turn cause leaves never stands =
+      let o : Origin = origin_with b stands.compactions in
       let spent : result ≢ Err Spent = λ e. turn.caused o h stands.keeps Spent e in
-      let K : List Entry → Type 0 = λ es. Keeps tells Caller o (h ++ es) (shown calls new) in
       record {
-        stands = record {
-          keeps = subst K (is_one event result spent) (turn.adds o h stands.keeps);
-          disk_later = omega (arith, stands.disk_later, cause.disk_later);
-          disk_failed = doubt_rose b.disk h event result (disk old.station) (disk new.station) stands.disk_later stands.disk_failed cause.disk_later cause.disk_failed;
-          say_later = omega (arith, stands.say_later, cause.say_later);
-          say_failed = unsaid_rose b.say h event result (say old.station) (say new.station) stands.say_later stands.say_failed cause.say_later cause.say_failed;
-        };
+        stands = more_stands h event result old new cause stands.compactions (turn.adds o h stands.keeps) stands.none
+            (λ makes used need limit e. absurd (never makes b.origin.directory (state_at b.origin h)
+            (full_accepts b.origin.directory (state_at b.origin h) (used_at o h) event (outcome b.origin.directory (state_at b.origin h) event) (Full used need limit) (turn.caused o h stands.keeps (Full used need limit) e))))
+            spent stands;
         answers = λ a ok. (outcome_of h event result old new turn stands a ok, leaves a ok);
         spent = spent;
       }
+
+  -- a call that makes room
+  pub adds_with_room : (h : List Entry) (event : Event) (Holds : Outcome → State → Type 0) (result : Result Outcome SwitchFault) (old new : Engine P)
+      → HearsWithRoom tells calls event result old new
+      → HasCallCause result (disk old.station) (disk new.station) (say old.station) (say new.station)
+      → ((o : Outcome) (s : State) → Holds o s) → b.makes_room ≡ true
+      → Stands tells calls disk say b h old → Adds tells calls disk say b h event Holds result new
+  adds_with_room h event Holds result old new heard cause leaves makes stands =
+      let o : Origin = origin_with b stands.compactions in
+      let turn = heard Caller in
+      let spent : result ≢ Err Spent = λ e. turn.caused o h stands.keeps Spent e in
+      let cramped : b.makes_room ≡ true → (used need limit : ℕ) → result ≡ Err (Full used need limit) → IsCrampedFor b h event =
+      λ m used need limit e. (turn.caused o h stands.keeps (Full used need limit) e).1 in
+      let none : (compactions : List ℕ) → b.makes_room ≡ false → compactions ≡ [] = λ cs e. absurd (both_ways makes e) in
+      record {
+        stands = ⊎_elim
+            (λ same. more_stands h event result old new cause stands.compactions same.keeps (none stands.compactions) cramped spent stands)
+            (λ there. more_stands h event result old new cause (stands.compactions ++ length h ∷ []) there.keeps (none (stands.compactions ++ length h ∷ [])) cramped spent stands)
+            (turn.adds o h stands.keeps);
+        answers = λ a ok. (turn.outcome o h stands.keeps a ok, leaves a (state_at b.origin h));
+        spent = spent;
+      }
+    where
+      both_ways : b.makes_room ≡ true → b.makes_room ≡ false → ⊥
+      both_ways is isnt = let x : true ≡ false = sym is ∙ isnt in cc x
 
   -- ---- a take
 
@@ -180,9 +274,9 @@ module _ {P : Type 0} (tells : Type 0) (calls : P → List Call) (disk say : P �
 
   pub lost_takes_none : (h : List Entry) (c : ℕ) (field : LostField) (result : Result Outcome SwitchFault) (old new : Engine P)
       → IsCalled (meanings_of tells calls Caller) (Lost c field) result old new → Stands tells calls disk say b h old → result ≢ Err NoMemory
-  lost_takes_none h c field result old new turn stands e = turn.caused b.origin h stands.keeps NoMemory e
+  lost_takes_none h c field result old new turn stands e = turn.caused (origin_with b stands.compactions) h stands.keeps NoMemory e
 
-  takes_accept_nothing : (d : Directory) (s : State) (c : ℕ) → IsAccepted (outcome d s (Taken c)) → ⊥
+  pub takes_accept_nothing : (d : Directory) (s : State) (c : ℕ) → IsAccepted (outcome d s (Taken c)) → ⊥
   takes_accept_nothing d s c accepted = go (choice d s c) refl accepted
     where
       leads_to : Choice → Outcome
@@ -198,4 +292,4 @@ module _ {P : Type 0} (tells : Type 0) (calls : P → List Call) (disk say : P �
   pub take_takes_none : (h : List Entry) (c : ℕ) (result : Result Outcome SwitchFault) (old new : Engine P)
       → IsCalled (meanings_of tells calls Caller) (Taken c) result old new → Stands tells calls disk say b h old → result ≢ Err NoMemory
   take_takes_none h c result old new turn stands e =
-      takes_accept_nothing old.directory (after_all old.directory (begun b.origin.start) h) c (turn.caused b.origin h stands.keeps NoMemory e)
+      takes_accept_nothing old.directory (after_all old.directory (begun b.origin.start) h) c (turn.caused (origin_with b stands.compactions) h stands.keeps NoMemory e)

@@ -64,16 +64,17 @@ module _ {P : Type 0} (tells : Type 0) (calls : P → List Call) (disk say : P �
   added : (entry : Entry) (Says : State → Type 0) → q ≡ after_adding (after_seeing p h) entry → Stands tells calls disk say b (entries h ++ entry ∷ []) new
       → Says (state_at b.origin (entries h)) → Adds (seen_by b p) entry Says (seen_by b q)
   added entry Says is stands says =
-      let after : List Entry = entries h ++ entry ∷ [] in
-      let caused_fresh : IsCaused b.origin.directory (history_of b.origin after) [] =
-      subst (λ (k : List ℕ). IsCaused b.origin.directory (history_of b.origin after) k) b.fresh stands.keeps.caused in record {
+      record {
         others = later.0;
         is = ap (seen_by b) is ∙ ap (λ (l : List (ℕ × Entry)). record (seen_by b p) { history = l ++ (p.name, entry) ∷ [] }) later.1;
         strange = none_between;
         alone = λ e. absurd (no_true e);
         holds = let Q : List (ℕ × Entry) → Type 0 = λ l. Says (state_at b.origin (entries l)) in subst Q later.1 says;
-        caused = let C : List Entry → Type 0 = λ es. IsCaused b.origin.directory (history_of b.origin es) [] in
-            subst C (sym (ap (λ (k : Known Entry). entries k.seen) is ∙ entries-append h ((p.name, entry) ∷ []))) caused_fresh;
+        caused = let C : List Entry → Type 0 = λ es. IsCaused b.origin.directory (history_of b.origin es) stands.compactions in record {
+          compactions = stands.compactions;
+          none = stands.none;
+          caused = subst C (sym (ap (λ (k : Known Entry). entries k.seen) is ∙ entries-append h ((p.name, entry) ∷ []))) stands.keeps.caused;
+        };
       }
 
   pub answers : (result : Result Outcome SwitchFault) → housed.Adds tells calls disk say b (entries h) event Holds result new

@@ -1,5 +1,5 @@
 -- The engine as a hall's value: what it stands for, and what a call on it adds.
-use Rattle.std.specs.Prelude.{◌≡◌, refl, ◌≢◌, ℕ, ◌≤◌, List, [], ◌∷◌, ◌++◌, Result, Ok, Err}
+use Rattle.std.specs.Prelude.{◌≡◌, refl, ◌≢◌, ℕ, ◌≤◌, Bool, true, false, List, [], ◌∷◌, ◌++◌, Result, Ok, Err, IsSome}
 use Rattle.gts_traits.specs.Calls.{Call}
 use Rattle.gts_traits.specs.Counts.{Rose}
 use Rattle.gts_directory.specs.Directory.{Directory, directory_of}
@@ -11,19 +11,21 @@ use Rattle.gts_event.specs.declared.event.Entry.{Entry}
 use Rattle.gts_event.specs.declared.event.Entry.TheVariants.{Done, Unsaid, Idle, Doubt}
 use Rattle.gts_event.specs.declared.outcome.Outcome.{Outcome}
 use Rattle.gts_event.specs.declared.fault.SwitchFault.{SwitchFault}
-use Rattle.gts_event.specs.declared.fault.SwitchFault.TheVariants.{DiskFault, SayFault, Spent}
+use Rattle.gts_event.specs.declared.fault.SwitchFault.TheVariants.{DiskFault, SayFault, Full, Spent}
 use Rattle.gts_opening.specs.Room.{HasDoubt, HasUnsaid}
 use Rattle.gts_engine.specs.declared.mode.SayMode.TheVariants.{Caller}
 use Rattle.gts_engine.specs.Engine.{Engine, shown}
 use Rattle.gts_engine.specs.Origin.{Origin, state_at}
 use Rattle.gts_engine.specs.Keeping.{Keeps}
+use Rattle.gts_engine.specs.Rooming.{full_with_spare}
 
--- What a hall's history begins with: the engine's origin, with no compaction since, and the counts of its station's faults by
--- then.
+-- What a hall's history begins with: the engine's origin, with no compaction since, the counts of its station's faults by then,
+-- and whether room is made for bulletins for which the journal has none, by compactions.
 pub record Beginning : Type 0 where
   pub origin : Origin
   pub disk : ℕ
   pub say : ℕ
+  pub makes_room : Bool
   pub fresh : origin.compactions ≡ []
 
 -- a beginning that no run has picked yet
@@ -32,8 +34,23 @@ unset = record {
   origin = let d : Directory = directory_of [] [] [] in record { directory = d; start = nothing d; used = 0; calls = []; compactions = [] };
   disk = 0;
   say = 0;
+  makes_room = false;
   fresh = refl;
 }
+
+-- the origin, with these compactions since: for each, how many entries there were
+abbrev pub origin_with : Beginning → List ℕ → Origin
+origin_with b compactions = record b.origin { compactions = compactions }
+
+-- Full was answered behind entries behind which a compacted journal would have been full for the event, too
+abbrev pub IsCrampedFor : Beginning → List Entry → Event → Type 0
+IsCrampedFor b entries event = IsSome (full_with_spare b.origin.directory (state_at b.origin entries) event)
+
+-- so it was at each of these entries at which it was answered
+abbrev pub AreCramped : Beginning → List Entry → Type 0
+AreCramped b entries =
+    (front : List Entry) (event : Event) (used need limit : ℕ) (back : List Entry)
+    → entries ≡ front ++ Idle event (Full used need limit) ∷ back → IsCrampedFor b front event
 
 -- The entry that a turn adds: its event as it was done; done and not said; in doubt; or idle, with the fault.
 abbrev pub entry_by : Event → Result Outcome SwitchFault → Entry
@@ -50,10 +67,14 @@ Answers b entries event Holds result =
     × Holds o (state_at b.origin entries)
 
 module _ {P : Type 0} (tells : Type 0) (calls : P → List Call) (disk say : P → ℕ) (b : Beginning) where
-  -- An engine stands for these entries since the beginning: it keeps what an engine keeps whose caller says the frames, and
-  -- a device failed at one of them only where the count of its faults rose.
+  -- An engine stands for these entries since the beginning: it keeps what an engine keeps whose caller says the frames, with the
+  -- compactions that were done meanwhile, of which there are none where no room is made. Where it is, Full was answered only where
+  -- a compacted journal would have been full, too. A device failed at an entry only where the count of its faults rose.
   pub record Stands (entries : List Entry) (e : Engine P) : Type 0 where
-    pub keeps : Keeps tells Caller b.origin entries (shown calls e)
+    pub compactions : List ℕ
+    pub keeps : Keeps tells Caller (origin_with b compactions) entries (shown calls e)
+    pub none : b.makes_room ≡ false → compactions ≡ []
+    pub cramped : b.makes_room ≡ true → AreCramped b entries
     pub disk_later : b.disk ≤ disk e.station
     pub disk_failed : HasDoubt entries → Rose b.disk (disk e.station)
     pub say_later : b.say ≤ say e.station

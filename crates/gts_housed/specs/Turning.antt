@@ -24,6 +24,7 @@ seen_by b p = record {
   directory = b.origin.directory;
   start = b.origin.start;
   used = b.origin.used;
+  makes_room = b.makes_room;
   name = p.name;
   alone = false;
   full = p.full;

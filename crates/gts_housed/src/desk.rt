@@ -3,8 +3,9 @@ ghost use Rattle.gts_housed.specs.{KnowsOwn};
 
 use crate::began::Began;
 use crate::housed::Housed;
+use crate::room::RoomBell;
 use crate::turns;
-use gts_bell::Bell;
+use gts_bell::{Bell, Look};
 use gts_desk::Desk;
 use gts_event::{Outcome, SwitchFault};
 use gts_frame::{FrameBuf, Kind, LostField};
@@ -15,12 +16,15 @@ use std::marker::Model;
 use std::sync::Wait;
 
 /// The desk of a circuit's receiver or sender at a hall: each call is one turn of its pass. After a turn for what came in, the
-/// bell is rung, since there may be something to send.
+/// bell is rung, since there may be something to send; after a draw the one for room, where somebody waits for that.
 pub struct HallDesk<'a, R: Wait, P: Station, B: Began> {
     rt: &'a R,
     alloc: Global,
     hall: &'a Hall<Housed<P, B>>,
     bell: &'a Bell,
+    room: &'a RoomBell,
+    // What was seen at the bell for room before the last try, once this desk waits there.
+    looked: Option<Look>,
     pass: Option<Pass<Housed<P, B>>>,
 }
 
@@ -44,6 +48,7 @@ impl<'a, R: Wait, P: Station, B: Began> HallDesk<'a, R, P, B> {
         alloc: Global,
         hall: &'a Hall<Housed<P, B>>,
         bell: &'a Bell,
+        room: &'a RoomBell,
         pass: Pass<Housed<P, B>>,
     ) -> HallDesk<'a, R, P, B>
         requires hall { pass.hall ≡ Some hall.now }
@@ -55,7 +60,22 @@ impl<'a, R: Wait, P: Station, B: Began> HallDesk<'a, R, P, B> {
             alloc,
             hall,
             bell,
+            room,
+            looked: None,
             pass: Some(pass),
+        }
+    }
+
+    /// Waits for room no more, unless this answer says that there was none.
+    fn waits_on(&mut self, answer: Result<Outcome, SwitchFault>)
+        ensures { self.new ≡ self.old }
+    {
+        if let Err(SwitchFault::Full { .. } | SwitchFault::NoMemory) = answer {
+            return;
+        }
+        if self.looked.is_some() {
+            self.looked = None;
+            self.room.go();
         }
     }
 
@@ -69,6 +89,8 @@ impl<'a, R: Wait, P: Station, B: Began> HallDesk<'a, R, P, B> {
             alloc: _,
             hall: _,
             bell: _,
+            room: _,
+            looked: _,
             pass,
         } = self;
         let Some(pass) = pass else { unreachable!() };
@@ -88,7 +110,16 @@ impl<'a, R: Wait, P: Station, B: Began> Desk for HallDesk<'a, R, P, B> {
         let (pass, answer) = turns::hear(self.rt, self.alloc, self.hall, pass, c, kind, message);
         self.pass = Some(pass);
         self.bell.ring();
+        self.waits_on(answer);
         answer
+    }
+
+    fn rest(&mut self) {
+        match self.looked {
+            None => self.room.come(),
+            Some(looked) => self.room.wait(self.rt, looked),
+        }
+        self.looked = Some(self.room.look());
     }
 
     fn lost(&mut self, c: u32, field: LostField) -> Result<Outcome, SwitchFault> {
@@ -107,6 +138,9 @@ impl<'a, R: Wait, P: Station, B: Began> Desk for HallDesk<'a, R, P, B> {
         };
         let (pass, answer) = turns::take(self.rt, self.hall, pass, c, out);
         self.pass = Some(pass);
+        if let Ok(Outcome::Draw { .. }) = answer {
+            self.room.drew();
+        }
         answer
     }
 }

@@ -16,16 +16,20 @@ use std::marker::PhantomData;
 #[derive(Drop)]
 pub struct Housed<P: Station, B> {
     pub engine: Engine<P>,
+    /// Room is made for a bulletin for which the journal has none, by a compaction.
+    pub makes_room: bool,
     pub began: PhantomData<B>,
 }
 
 impl<P: Station, B: Began> Told for Housed<P, B> {
     type Entry = Entry;
 
+    ghost use Rattle.std.specs.Prelude.{◌≡◌};
     ghost use Rattle.gts_housed.specs.Housed.{Stands};
 
     ghost stands = { λ housed entries.
-        Stands P.tells P.calls P.disk_faults P.say_faults B.beginning entries housed.engine };
+        Stands P.tells P.calls P.disk_faults P.say_faults B.beginning entries housed.engine
+        × (housed.makes_room ≡ B.beginning.makes_room) };
 }
 
 impl<P: Station, B: Began> Housed<P, B> {
@@ -37,10 +41,15 @@ impl<P: Station, B: Began> Housed<P, B> {
         kind: Kind,
         message: &[u8],
     ) -> Result<Outcome, SwitchFault>
-        requires { c < length self.old.engine.directory.circuits }
+        requires circuit { c < length self.old.engine.directory.circuits }
+        requires mode { self.old.makes_room ≡ B.beginning.makes_room }
         ensures adds { Turns P.tells P.calls P.disk_faults P.say_faults B.beginning
             (Heard c kind message.now) SaysNoMore result self.old.engine self.new.engine }
+        ensures mode { self.new.makes_room ≡ self.old.makes_room }
     {
+        if self.makes_room {
+            return self.engine.hear_with_room(alloc, c, kind, message);
+        }
         self.engine.hear(alloc, c, kind, message)
     }
 
@@ -49,6 +58,7 @@ impl<P: Station, B: Began> Housed<P, B> {
         requires { c < length self.old.engine.directory.circuits }
         ensures adds { Turns P.tells P.calls P.disk_faults P.say_faults B.beginning
             (Lost c field) SaysNoMore result self.old.engine self.new.engine }
+        ensures mode { self.new.makes_room ≡ self.old.makes_room }
         ensures no_memory { Never P.tells P.calls P.disk_faults P.say_faults B.beginning
             SwitchFault.NoMemory result self.old.engine }
     {
@@ -62,6 +72,7 @@ impl<P: Station, B: Began> Housed<P, B> {
             (Taken c) (LeavesFrame B.beginning.origin.directory c out.new)
             result self.old.engine self.new.engine }
         ensures directory { self.new.engine.directory ≡ self.old.engine.directory }
+        ensures mode { self.new.makes_room ≡ self.old.makes_room }
         ensures silent { result ≢ Err SwitchFault.SayFault }
         ensures no_memory { Never P.tells P.calls P.disk_faults P.say_faults B.beginning
             SwitchFault.NoMemory result self.old.engine }

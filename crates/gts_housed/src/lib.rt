@@ -7,6 +7,7 @@ mod crossing;
 mod desk;
 mod housed;
 mod laws;
+mod room;
 mod turns;
 
 pub use began::Began;
@@ -14,3 +15,4 @@ pub use crossing::an_engine_crosses_threads;
 pub use desk::HallDesk;
 pub use housed::Housed;
 pub use laws::a_desk_answers_what_its_turn_took;
+pub use room::RoomBell;

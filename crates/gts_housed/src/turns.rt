@@ -28,6 +28,7 @@ fn leave_heard<P: Station, B: Began>(
     requires entry { added ≡ entry_by (Heard c kind message.now) answer }
     requires value { Stands P.tells P.calls P.disk_faults P.say_faults B.beginning
         (entries turn.pass.seen ++ added ∷ []) turn.value.engine }
+    requires mode { turn.value.makes_room ≡ B.beginning.makes_room }
     ensures pass { result ≡ after_adding turn.entry.pass added }
     ensures own { KnowsOwn result }
 {
@@ -46,6 +47,7 @@ fn leave_lost<P: Station, B: Began>(
     requires entry { added ≡ entry_by (Lost c field) answer }
     requires value { Stands P.tells P.calls P.disk_faults P.say_faults B.beginning
         (entries turn.pass.seen ++ added ∷ []) turn.value.engine }
+    requires mode { turn.value.makes_room ≡ B.beginning.makes_room }
     ensures pass { result ≡ after_adding turn.entry.pass added }
     ensures own { KnowsOwn result }
 {
@@ -63,6 +65,7 @@ fn leave_taken<P: Station, B: Began>(
     requires entry { added ≡ entry_by (Taken c) answer }
     requires value { Stands P.tells P.calls P.disk_faults P.say_faults B.beginning
         (entries turn.pass.seen ++ added ∷ []) turn.value.engine }
+    requires mode { turn.value.makes_room ≡ B.beginning.makes_room }
     ensures pass { result ≡ after_adding turn.entry.pass added }
     ensures own { KnowsOwn result }
 {

@@ -1,5 +1,5 @@
 -- What a run of all circuits leaves: the history of all threads and the takes behind it, the bytes of each circuit, and its end.
-use Rattle.std.specs.Prelude.{◌≡◌, ℕ, ◌+◌, ◌*◌, ◌<◌, ◌≤◌, Bool, true, false, List, [], ◌∷◌, ◌++◌, length, map, Option, Some, None, Err}
+use Rattle.std.specs.Prelude.{◌≡◌, ◌⊎◌, ℕ, ◌+◌, ◌*◌, ◌<◌, ◌≤◌, Bool, true, false, List, [], ◌∷◌, ◌++◌, length, map, Option, Some, None, Err}
 use mathlib.Core.Option.{some}
 use lib.ListN.{get_elem?}
 use Rattle.atomic_table.specs.Seated.{TableId}
@@ -29,7 +29,7 @@ use Rattle.gts_desk.specs.{Seen, frames}
 use Rattle.gts_engine.specs.Engine.{Engine}
 use Rattle.gts_engine.specs.Origin.{state_at}
 use Rattle.gts_housed.specs.{Beginning, Stands}
-use Rattle.gts_receiver.specs.{events_over, Receives, AreOver, WentThroughAll}
+use Rattle.gts_receiver.specs.{events_over, goes_on, is_try, settled, Receives, AreOver, WentThroughAll}
 use Rattle.gts_receiver.specs.declared.end.ReceiveEnd.{ReceiveEnd}
 use Rattle.gts_receiver.specs.declared.end.ReceiveEnd.TheVariants.{Ended, LostSync, SourceFault, Fault}
 use Rattle.gts_sender.specs.{Sends, LineStood, given_index}
@@ -121,6 +121,7 @@ seen_at b hall name full history = record {
   directory = b.origin.directory;
   start = b.origin.start;
   used = b.origin.used;
+  makes_room = b.makes_room;
   name = name;
   alone = false;
   full = full;
@@ -151,20 +152,21 @@ pub record IsSent (b : Beginning) (threads history : List (ℕ × Entry)) (c : �
   pub within : EndsWithin threads history (sender_name c) full upto
   pub sent : Sends c (fresh b hall (sender_name c)) (seen_at b hall (sender_name c) full upto) bytes end
 
--- of the events of some connections, those before one were done, and that one was answered with this fault
-pub record EntersUpTo (events : List Event) (fault : SwitchFault) (entered : List Entry) : Type 0 where
+-- Of the events of some connections, those before one were done, and that one was answered with this fault; without the tries of a
+-- service (w).
+pub record EntersUpTo (w : Bool) (events : List Event) (fault : SwitchFault) (entered : List Entry) : Type 0 where
   pub front : List Event
   pub event : Event
   pub behind : List Event
   pub parts : events ≡ front ++ event ∷ behind
-  pub is : entered ≡ all_done front ++ entry_of event (Err fault)
+  pub is : entered ≡ all_done front ++ settled w (entry_of event (Err fault))
 
--- What a receiver entered over a whole history, by its end, where its source gave these connections: the events of each connection,
--- one connection after another, each event once and in their order. Only where one was answered with a fault, it entered no more
--- behind that.
-abbrev pub EnteredConnections : ℕ → List Part → ReceiveEnd → List Entry → Type 0
-EnteredConnections c parts (Fault fault) entered = EntersUpTo (events_over c parts) fault entered
-EnteredConnections c parts end entered = entered ≡ all_done (events_over c parts)
+-- What a receiver entered over a whole history, without the tries of a service (w), by its end, where its source gave these
+-- connections: the events of each connection, one connection after another, each event once and in their order. Only where one was
+-- answered with a fault, it entered no more behind that.
+abbrev pub EnteredConnections : Bool → ℕ → List Part → ReceiveEnd → List Entry → Type 0
+EnteredConnections w c parts (Fault fault) entered = EntersUpTo w (events_over c parts) fault entered
+EnteredConnections w c parts end entered = entered ≡ all_done (events_over c parts)
 
 -- the frames that the takes on c gave over a history, each whole and in their order
 abbrev pub frames_on : Beginning → ℕ → List (ℕ × Entry) → List ℕ
@@ -206,7 +208,8 @@ pub record ServesCircuit (b : Beginning) (source_tells sink_tells : Type 0) (con
       → (length (now.bytes c).parts ≡ connections) × AreOver c (now.bytes c).parts
   pub ended : source_tells → (rest : ℕ) → received ≡ Ended rest → last.left ≡ []
   pub taken : sink_tells → (now.bytes c).taken ≡ written
-  pub entered : EnteredConnections c (earlier ++ last ∷ []) received (entries_under (receiver_name c) history)
+  pub entered : EnteredConnections (goes_on connections) c (earlier ++ last ∷ []) received
+      (settled (goes_on connections) (entries_under (receiver_name c) history))
   pub took : sink_tells → TookFrames b c history sent (now.bytes c).taken
   pub source_failed : received ≡ SourceFault → Rose (before.faults c) (now.faults c)
   pub sink_failed : (index : ℕ) → sent ≡ LineFault index → Rose (before.faults c) (now.faults c)
@@ -224,9 +227,13 @@ IsTake c (of_entry.Idle event fault) = event ≡ Taken c
 IsTake c (of_entry.Doubt event) = event ≡ Taken c
 IsTake c of_entry.Restarted = ⊥
 
--- each entry was done, and nothing waits or is owed on any of so many circuits
-pub record IsAtRest (b : Beginning) (count : ℕ) (history : List Entry) : Type 0 where
-  pub done_all : (k : ℕ) (x : Entry) → get_elem? history k ≡ some x → (event : Event) × (x ≡ of_entry.Done event)
+-- an entry was done, or it is a try of a service (w)
+abbrev pub IsDoneIn : Bool → Entry → Type 0
+IsDoneIn w x = ((event : Event) × (x ≡ of_entry.Done event)) ⊎ ((w ≡ true) × (is_try x ≡ true))
+
+-- each entry was done but for the tries of a service (w), and nothing waits or is owed on any of so many circuits
+pub record IsAtRest (b : Beginning) (w : Bool) (count : ℕ) (history : List Entry) : Type 0 where
+  pub done_all : (k : ℕ) (x : Entry) → get_elem? history k ≡ some x → IsDoneIn w x
   pub nothing_owed : (c : ℕ) → c < count → (on_circuit (state_at b.origin history) c).owed ≡ []
   pub nothing_waits : (c : ℕ) → c < count → waiting (on_circuit (state_at b.origin history) c) ≡ []
 
@@ -252,7 +259,7 @@ module _ {P : Type 0} (tells : Type 0) (calls : P → List Call) (disk say : P �
     pub names : NamesAreUpTo (2 * length ends) (threads ++ drained)
     pub full_is : full ≡ true → length threads ≡ MOST_TURNS
     pub end_is : end ≡ first_fault 0 ends
-    pub at_rest : end ≡ Done → IsAtRest b (length ends) (entries (threads ++ drained))
+    pub at_rest : end ≡ Done → IsAtRest b (goes_on connections) (length ends) (entries (threads ++ drained))
     -- a circuit whose sender ended with nothing to send has nothing left, whatever became of the others
     pub quiet : (c : ℕ) (x : ReceiveEnd × SendEnd) → get_elem? ends c ≡ some x → x.1 ≡ Quiet → HasNothing b c (entries (threads ++ drained))
     -- done is answered only where each source that tells began all its connections, and each was read to its end or lost

@@ -7,8 +7,8 @@ use Rattle.std.specs.Str.Parse.{digits_value}
 use Rattle.std.proofs.lemmas.Bool.{leb-true, and_parts}
 use Rattle.gts_words.specs.declared.count.TheConstants.{MOST_GENERATED, LONGEST_COUNT, MOST_CONNECTIONS, LONGEST_CONNECTIONS}
 use Rattle.gts_words.specs.declared.command.Command.{Command}
-use Rattle.gts_words.specs.declared.command.Command.TheVariants.{Init, Replay, Serve, Show, Compact, Generate, Migrate, Unpack, Pack, Gaps, Ship, Follow, Count}
-use Rattle.gts_words.specs.Commands.{same, alone, is_count, count_in, number_in, circuit_in, is_moment, gaps_of, moment_in, command_of}
+use Rattle.gts_words.specs.declared.command.Command.TheVariants.{Init, Replay, Serve, ServeAlways, Show, Compact, Generate, Migrate, Unpack, Pack, Gaps, Ship, Follow, Count}
+use Rattle.gts_words.specs.Commands.{same, alone, is_count, count_in, number_in, circuit_in, is_moment, gaps_of, moment_in, serving, command_of}
 
 -- a command has no count, or one within the limits
 abbrev IsWithin : Command → Type 0
@@ -59,6 +59,10 @@ by_connections : (w : List ℕ) (b : Bool) → is_count LONGEST_CONNECTIONS MOST
 by_connections w true is = spelled LONGEST_CONNECTIONS MOST_CONNECTIONS w is
 by_connections w false is = tt
 
+by_serving : (w : List ℕ) (a : Bool) → AllWithin (cond a (Some ServeAlways) (option_map (λ n. Serve n) (count_in LONGEST_CONNECTIONS MOST_CONNECTIONS w)))
+by_serving w true = tt
+by_serving w false = by_connections w (is_count LONGEST_CONNECTIONS MOST_CONNECTIONS w) refl
+
 -- a circuit has no count, and neither has a time
 no_count : (found : Option ℕ) → AllWithin (option_map (λ c. Unpack c) found)
 no_count None = tt
@@ -77,10 +81,10 @@ in_moment w true = at_gaps (number_in w)
 in_moment w false = tt
 
 by_name : (w : List ℕ) (a b c e : Bool) → AllWithin (cond a (option_map (λ n. Generate n) (count_in LONGEST_COUNT MOST_GENERATED w))
-    (cond b (option_map (λ n. Serve n) (count_in LONGEST_CONNECTIONS MOST_CONNECTIONS w))
+    (cond b (serving w)
     (cond c (option_map (λ c. Unpack c) (circuit_in w)) (cond e (moment_in w) None))))
 by_name w true b c e = by_count w (is_count LONGEST_COUNT MOST_GENERATED w) refl
-by_name w false true c e = by_connections w (is_count LONGEST_CONNECTIONS MOST_CONNECTIONS w) refl
+by_name w false true c e = by_serving w (same w (codes "always"))
 by_name w false false true e = no_count (circuit_in w)
 by_name w false false false true = in_moment w (length w == 6)
 by_name w false false false false = tt

@@ -6,7 +6,7 @@ use Rattle.std.specs.List.{list_all}
 use Rattle.std.specs.Str.Parse.{digits_value}
 use Rattle.gts_words.specs.declared.count.TheConstants.{MOST_GENERATED, LONGEST_COUNT, MOST_CONNECTIONS, LONGEST_CONNECTIONS}
 use Rattle.gts_words.specs.declared.command.Command.{Command}
-use Rattle.gts_words.specs.declared.command.Command.TheVariants.{Init, Replay, Serve, Show, Compact, Generate, Migrate, Unpack, Pack, Gaps, Ship, Follow, Count}
+use Rattle.gts_words.specs.declared.command.Command.TheVariants.{Init, Replay, Serve, ServeAlways, Show, Compact, Generate, Migrate, Unpack, Pack, Gaps, Ship, Follow, Count}
 use Rattle.gts_words.specs.declared.command.WordsFault.{WordsFault}
 use Rattle.gts_words.specs.declared.command.WordsFault.TheVariants as fault
 
@@ -69,12 +69,18 @@ gaps_of None = None
 abbrev pub moment_in : List ℕ → Option Command
 moment_in word = if length word == 6 then gaps_of (number_in word) else None
 
+-- the command for the circuits with this word behind it: always, or a count of connections
+abbrev pub serving : List ℕ → Option Command
+serving word =
+    if same word (codes "always") then Some ServeAlways
+    else option_map (λ n. Serve n) (count_in LONGEST_CONNECTIONS MOST_CONNECTIONS word)
+
 -- The command that a word and another one are: messages are counted by one to six digits, up to 100,000; connections by one to
 -- four, up to 1,000.
 abbrev pub counted : List ℕ → List ℕ → Option Command
 counted name word =
     if same name (codes "generate") then option_map (λ n. Generate n) (count_in LONGEST_COUNT MOST_GENERATED word)
-    else (if same name (codes "serve") then option_map (λ n. Serve n) (count_in LONGEST_CONNECTIONS MOST_CONNECTIONS word)
+    else (if same name (codes "serve") then serving word
     else (if same name (codes "unpack") then option_map (λ c. Unpack c) (circuit_in word)
     else (if same name (codes "gaps") then moment_in word
     else None)))

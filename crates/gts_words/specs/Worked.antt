@@ -1,6 +1,6 @@
 -- Worked rows: lists of words, and what they are.
 use Rattle.std.specs.Prelude.{◌≡◌, [], ◌∷◌, None, Some, codes}
-use Rattle.gts_words.specs.declared.command.Command.TheVariants.{Init, Replay, Serve, Show, Compact, Generate, Migrate, Unpack, Pack, Gaps, Ship, Follow, Count}
+use Rattle.gts_words.specs.declared.command.Command.TheVariants.{Init, Replay, Serve, ServeAlways, Show, Compact, Generate, Migrate, Unpack, Pack, Gaps, Ship, Follow, Count}
 use Rattle.gts_words.specs.Commands.{command_of}
 
 -- Each command of one word.
@@ -35,6 +35,9 @@ ConnectionCounts = (command_of (codes "serve" ∷ codes "2" ∷ []) ≡ Some (Se
     × (command_of (codes "serve" ∷ codes "0" ∷ []) ≡ None)
     × (command_of (codes "serve" ∷ codes "1001" ∷ []) ≡ None)
     × (command_of (codes "serve" ∷ codes "00001" ∷ []) ≡ None)
+    × (command_of (codes "serve" ∷ codes "always" ∷ []) ≡ Some ServeAlways)
+    × (command_of (codes "serve" ∷ codes "Always" ∷ []) ≡ None)
+    × (command_of (codes "serve" ∷ codes "always1" ∷ []) ≡ None)
     × (command_of (codes "serve" ∷ codes "+2" ∷ []) ≡ None)
 
 -- A circuit has two digits, whatever circuits there are; a time has six, in their ranges.

@@ -12,6 +12,8 @@ pub enum Command {
     Replay,
     /// To work on the lines of the circuits, each over so many incoming connections.
     Serve { connections: u32 },
+    /// To work on the lines of the circuits as a service, without end.
+    ServeAlways,
     /// To say what the switch stands at.
     Show,
     /// To write the journal anew, shorter.

@@ -82,6 +82,9 @@ fn counted(name: &str, word: &str) -> Option<Command>
         let count = count_in(LONGEST_COUNT, MOST_GENERATED, word)?;
         return Some(Command::Generate { count });
     }
+    if name == "serve" && word == "always" {
+        return Some(Command::ServeAlways);
+    }
     if name == "serve" {
         let connections = count_in(LONGEST_CONNECTIONS, MOST_CONNECTIONS, word)?;
         return Some(Command::Serve { connections });

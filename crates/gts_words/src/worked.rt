@@ -12,7 +12,7 @@ pub fn counts_of_one_to_six_digits()
     ensures { Counts }
 {}
 
-/// `serve` alone means one connection, and else has their count of one to four digits.
+/// `serve` alone means one connection, with `always` those without end, and else it has their count of one to four digits.
 pub fn connections_of_one_to_four_digits()
     ensures { ConnectionCounts }
 {}

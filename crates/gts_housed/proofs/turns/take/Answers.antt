@@ -1,4 +1,4 @@
-use Rattle.std.proofs.Common.{◌≡◌, ◌<◌, length, refl, sym, ap, subst}
+use Rattle.std.proofs.Common.{◌≡◌, ◌<◌, length, refl, sym, ap, ◌∙◌, subst}
 use Rattle.gts_lock.specs.{entries, entries_under, Known, after_adding}
 use Rattle.gts_directory.specs.Directory.{Directory}
 use Rattle.gts_event.specs.declared.event.Entry.{Entry}
@@ -13,15 +13,16 @@ pub leave_taken-requires : goal.leave_taken-requires
 leave_taken-requires g c κs within =
     let h = c.in-Ok.turn.pass.seen in
     let S : Engine _ → Type 0 = λ e. Stands g.P.Station.tells g.P.Station.calls g.P.Station.disk_faults g.P.Station.say_faults g.B.Began.beginning (entries h) e in
-    let stands = subst S (ap (λ (v : _). v.engine) (sym c.value.ensures.value)) c.in-Ok.ensures.value in
+    let stands = subst S (ap (λ (v : _). v.engine) (sym c.value.ensures.value)) c.in-Ok.ensures.value.0 in
     let adds = c.take-answer.ensures.adds (entries h) stands in
-    (within.0, (within.1, (refl, adds.stands)))
+    let mode = c.take-answer.ensures.mode ∙ ap (λ (v : _). v.makes_room) c.value.ensures.value ∙ c.in-Ok.ensures.value.1 in
+    (within.0, (within.1, (refl, (adds.stands, mode))))
 
 pub returns-clause-answers : goal.returns-clause-answers
 returns-clause-answers g c =
     let h = c.in-Ok.turn.pass.seen in
     let S : Engine _ → Type 0 = λ e. Stands g.P.Station.tells g.P.Station.calls g.P.Station.disk_faults g.P.Station.say_faults g.B.Began.beginning (entries h) e in
-    let stands = subst S (ap (λ (v : _). v.engine) (sym c.value.ensures.value)) c.in-Ok.ensures.value in
+    let stands = subst S (ap (λ (v : _). v.engine) (sym c.value.ensures.value)) c.in-Ok.ensures.value.0 in
     let adds = c.take-answer.ensures.adds (entries h) stands in
     let t = c.in-Ok.ensures.same in
     let R : Known Entry → Type 0 = λ k. k.own ≡ entries_under k.name h in
@@ -33,7 +34,7 @@ returns-clause-answers g c =
 
 pub take-answer-requires : goal.take-answer-requires
 take-answer-requires g c =
-    let many : c.in-Ok.turn.value.engine.directory ≡ g.B.Began.beginning.origin.directory = c.in-Ok.ensures.value.keeps.directory in
+    let many : c.in-Ok.turn.value.engine.directory ≡ g.B.Began.beginning.origin.directory = c.in-Ok.ensures.value.0.keeps.directory in
     let D : Engine _ → Type 0 = λ e. c.args.c < length e.directory.circuits in
     subst D (ap (λ (v : _). v.engine) (sym c.value.ensures.value)) (let L : Directory → Type 0 = λ d. c.args.c < length d.circuits in subst L (sym many) c.requires.circuit)
 
@@ -41,5 +42,5 @@ pub returns-clause-no_memory : goal.returns-clause-no_memory
 returns-clause-no_memory g c =
     let h = c.in-Ok.turn.pass.seen in
     let S : Engine _ → Type 0 = λ e. Stands g.P.Station.tells g.P.Station.calls g.P.Station.disk_faults g.P.Station.say_faults g.B.Began.beginning (entries h) e in
-    let stands = subst S (ap (λ (v : _). v.engine) (sym c.value.ensures.value)) c.in-Ok.ensures.value in
+    let stands = subst S (ap (λ (v : _). v.engine) (sym c.value.ensures.value)) c.in-Ok.ensures.value.0 in
     c.take-answer.ensures.no_memory (entries h) stands

@@ -1,0 +1,400 @@
+-- Room is made for a bulletin for which the journal has none.
+use Rattle.std.proofs.Common.{◌≡◌, ◌⊎◌, inl, inr, ℕ, ◌+◌, ◌*◌, ◌/◌, ◌<◌, ◌≤◌, nat_lt, Bool, true, false, cond, List, [], ◌∷◌, ◌++◌, length, Option, Some, None, Result, Ok, Err, refl, sym, ap, subst, ◌∙◌, arith, mul-le-mul_left}
+use Rattle.std.specs.Prelude.{IsOk, IsSome, IfSome, is_ok}
+use Rattle.std.proofs.lemmas.Bool.{ltb-true, ltb-false, le-ltb, cases_eq}
+use Rattle.std.proofs.lemmas.List.{append-nil}
+use Rattle.gts_traits.specs.Calls.{Call, Outside, said_by, SaidSince}
+use Rattle.gts_traits.proofs.LawLemmas.{weaker}
+use Rattle.gts_frame.specs.declared.kind.Kind.{Kind}
+use Rattle.gts_directory.specs.Directory.{Directory}
+use Rattle.gts_event.specs.State.{State, most_accepted}
+use Rattle.gts_event.specs.History.{outcome, after_all, restarted, body_of}
+use Rattle.gts_event.specs.Need.{need, begun}
+use Rattle.gts_event.specs.declared.event.Event.{Event}
+use Rattle.gts_event.specs.declared.event.Event.TheVariants.{Heard}
+use Rattle.gts_event.specs.declared.event.Entry.{Entry}
+use Rattle.gts_event.specs.declared.event.Entry.TheVariants.{Idle, Doubt}
+use Rattle.gts_event.specs.declared.outcome.Outcome.{Outcome}
+use Rattle.gts_event.specs.declared.outcome.Outcome.TheVariants.{Accepted, Duplicate, Asked, Refused, LineLost, Resend, Draw, Nothing}
+use Rattle.gts_event.specs.declared.fault.Device.{Device}
+use Rattle.gts_event.specs.declared.fault.Device.TheVariants.{Disk, Say}
+use Rattle.gts_event.specs.declared.fault.SwitchFault.{SwitchFault}
+use Rattle.gts_event.specs.declared.fault.SwitchFault.TheVariants.{DiskFault, SayFault, Full, Stopped, Spent, NoMemory}
+use Rattle.gts_record.specs.Format.{seal_size, draw_size, written}
+use Rattle.gts_core.specs.Core.{Core, Holds}
+use Rattle.gts_opening.specs.Journal.{due, checkpoint_text}
+use Rattle.gts_opening.specs.Room.{HasRecord, IsAccepted, IsReading, HasDoubt, HasUnsaid, room, full, full_compacted, compacted_size}
+use Rattle.gts_calls.specs.Calls.{IsCalled, IsCause, entry_of}
+use Rattle.gts_engine.specs.declared.mode.SayMode.{SayMode}
+use Rattle.gts_engine.specs.Engine.{Engine, Shown, shown}
+use Rattle.gts_engine.specs.Origin.{Origin, compacted_after, state_at, used_at, told}
+use Rattle.gts_engine.specs.Keeping.{LeavesFront, HasSaid, HasFailed, IsLeft, IsFullCompacted, Keeps, meanings_of}
+use Rattle.gts_engine.specs.Going.{stopped_after}
+use Rattle.gts_engine.specs.Compacting.{IsCompaction, GivesRoom, IsIdleFault, IsCompactFault}
+use Rattle.gts_engine.specs.Parts.{AnswersFull, IsUnchanged}
+use Rattle.gts_engine.specs.Rooming.{spare, full_with_spare, TellsSpare, bytes_wanted, AddsPlain, AddsCompacted, IsFullEither, IsHeardWithRoom}
+use Rattle.gts_engine.proofs.EntryLemmas.{told_more, nothing_said, anchors_more, caused_more, stops_now, only_itself, read_not}
+use Rattle.gts_engine.proofs.LeavingLemmas.{longer}
+use Rattle.gts_engine.proofs.TurnLemmas.{goes_on, quiet, idle, same}
+use Rattle.gts_engine.proofs.CompactingLemmas.{used_compacted}
+use Rattle.gts_engine.proofs.HearingLemmas.{no_room, has_room, last_room}
+
+-- ---- when a journal is full
+
+module _ (d : Directory) (s : State) (c : ℕ) (kind : Kind) (message : List ℕ) where
+  abbrev event : Event
+  event = Heard c kind message
+
+  abbrev bytes_for : ℕ → ℕ
+  bytes_for n = 17 + seal_size written + length (body_of message) + draw_size written * (due s + n)
+
+  -- it is full for accepted bulletins alone
+  accepted_of : (at : ℕ) (o : Outcome) (fault : SwitchFault) → room d s at event o ≡ Some fault → IsAccepted o
+  accepted_of at (Accepted p n) fault is = tt
+  accepted_of at (Duplicate position) fault is = absurd (let e : None ≡ Some fault = is in cc e)
+  accepted_of at (Asked n m) fault is = absurd (let e : None ≡ Some fault = is in cc e)
+  accepted_of at (Refused refusal) fault is = absurd (let e : None ≡ Some fault = is in cc e)
+  accepted_of at (LineLost field) fault is = absurd (let e : None ≡ Some fault = is in cc e)
+  accepted_of at (Resend index) fault is = absurd (let e : None ≡ Some fault = is in cc e)
+  accepted_of at (Draw index) fault is = absurd (let e : None ≡ Some fault = is in cc e)
+  accepted_of at Nothing fault is = absurd (let e : None ≡ Some fault = is in cc e)
+
+  pub full_accepted : (at : ℕ) (fault : SwitchFault) → full d s at event ≡ Some fault → IsAccepted (outcome d s event)
+  full_accepted at fault is = accepted_of at (outcome d s event) fault is
+
+  -- the bytes that are told are those that are wanted
+  bytes_are : (at used bytes limit p n : ℕ) → (s.count ≡ most_accepted → ⊥) → room d s at event (Accepted p n) ≡ Some (Full used bytes limit) → bytes ≡ bytes_for n
+  bytes_are at used bytes limit p n few is = by_test (nat_lt d.limit (at + bytes_for n)) refl
+    where
+      by_test : (b : Bool) → nat_lt d.limit (at + bytes_for n) ≡ b → bytes ≡ bytes_for n
+      by_test true e =
+          let there : Some (Full at (bytes_for n) d.limit) ≡ Some (Full used bytes limit) =
+          sym (no_room d s at c kind message p n few (ltb-true d.limit (at + bytes_for n) e) at (bytes_for n) d.limit refl refl refl) ∙ is in
+          let same : bytes_for n ≡ bytes = cc there in sym same
+      by_test false e =
+          absurd (let none : None ≡ Some (Full used bytes limit) = sym (has_room d s at c kind message p n few (ltb-false d.limit (at + bytes_for n) e)) ∙ is in cc none)
+
+  -- from other bytes on there is room for them, or not
+  fits_of : (at from used bytes limit : ℕ) (o : Outcome) → room d s at event o ≡ Some (Full used bytes limit) → (s.count ≡ most_accepted → ⊥) → from + bytes ≤ d.limit → room d s from event o ≡ None
+  fits_of at from used bytes limit (Accepted p n) is few fits = has_room d s from c kind message p n few (let e = bytes_are at used bytes limit p n few is in omega (arith, fits, e))
+  fits_of at from used bytes limit (Duplicate position) is few fits = refl
+  fits_of at from used bytes limit (Asked n m) is few fits = refl
+  fits_of at from used bytes limit (Refused refusal) is few fits = refl
+  fits_of at from used bytes limit (LineLost field) is few fits = refl
+  fits_of at from used bytes limit (Resend index) is few fits = refl
+  fits_of at from used bytes limit (Draw index) is few fits = refl
+  fits_of at from used bytes limit Nothing is few fits = refl
+
+  over_of : (at from used bytes limit : ℕ) (o : Outcome) → room d s at event o ≡ Some (Full used bytes limit) → (s.count ≡ most_accepted) ⊎ (d.limit < from + bytes) → IsSome (room d s from event o)
+  over_of at from used bytes limit (Accepted p n) is (inl last) = subst IsSome (sym (last_room d s from c kind message p n last)) refl
+  over_of at from used bytes limit (Accepted p n) is (inr over) = by_test (cases_eq s.count most_accepted)
+    where
+      by_test : (s.count ≡ most_accepted) ⊎ (s.count ≡ most_accepted → ⊥) → IsSome (room d s from event (Accepted p n))
+      by_test (inl last) = subst IsSome (sym (last_room d s from c kind message p n last)) refl
+      by_test (inr few) =
+          let e = bytes_are at used bytes limit p n few is in
+          subst IsSome (sym (no_room d s from c kind message p n few (omega (arith, over, e)) from (bytes_for n) d.limit refl refl refl)) refl
+  over_of at from used bytes limit (Duplicate position) is over = absurd (accepted_of at (Duplicate position) (Full used bytes limit) is)
+  over_of at from used bytes limit (Asked n m) is over = absurd (accepted_of at (Asked n m) (Full used bytes limit) is)
+  over_of at from used bytes limit (Refused refusal) is over = absurd (accepted_of at (Refused refusal) (Full used bytes limit) is)
+  over_of at from used bytes limit (LineLost field) is over = absurd (accepted_of at (LineLost field) (Full used bytes limit) is)
+  over_of at from used bytes limit (Resend index) is over = absurd (accepted_of at (Resend index) (Full used bytes limit) is)
+  over_of at from used bytes limit (Draw index) is over = absurd (accepted_of at (Draw index) (Full used bytes limit) is)
+  over_of at from used bytes limit Nothing is over = absurd (accepted_of at Nothing (Full used bytes limit) is)
+
+  -- what is due is among the bytes that are wanted
+  due_of : (at used bytes limit : ℕ) (o : Outcome) → room d s at event o ≡ Some (Full used bytes limit) → (s.count ≡ most_accepted → ⊥) → draw_size written * due s ≤ bytes
+  due_of at used bytes limit (Accepted p n) is few =
+      let e = bytes_are at used bytes limit p n few is in
+      let more : draw_size written * due s ≤ draw_size written * (due s + n) = mul-le-mul_left (draw_size written) (omega arith) in
+      omega (arith, e, more)
+  due_of at used bytes limit (Duplicate position) is few = absurd (accepted_of at (Duplicate position) (Full used bytes limit) is)
+  due_of at used bytes limit (Asked n m) is few = absurd (accepted_of at (Asked n m) (Full used bytes limit) is)
+  due_of at used bytes limit (Refused refusal) is few = absurd (accepted_of at (Refused refusal) (Full used bytes limit) is)
+  due_of at used bytes limit (LineLost field) is few = absurd (accepted_of at (LineLost field) (Full used bytes limit) is)
+  due_of at used bytes limit (Resend index) is few = absurd (accepted_of at (Resend index) (Full used bytes limit) is)
+  due_of at used bytes limit (Draw index) is few = absurd (accepted_of at (Draw index) (Full used bytes limit) is)
+  due_of at used bytes limit Nothing is few = absurd (accepted_of at Nothing (Full used bytes limit) is)
+
+  module _ (at used bytes limit : ℕ) (is : full d s at event ≡ Some (Full used bytes limit)) where
+    -- there is room in a compacted journal, with bytes to spare and without
+    pub pays : TellsSpare true d s bytes → full_with_spare d s event ≡ None
+    pays tells = fits_of at (compacted_size (need d s) + spare d) used bytes limit (outcome d s event) is tells.0 tells.1
+
+    pub fits_compacted : TellsSpare true d s bytes → full d s (compacted_size (need d s)) event ≡ None
+    fits_compacted tells = let within = tells.1 in fits_of at (compacted_size (need d s)) used bytes limit (outcome d s event) is tells.0 (omega (arith, within))
+
+    -- and for all that is due
+    pub holds_due : TellsSpare true d s bytes → full_compacted d s ≡ None
+    holds_due tells =
+        let within = tells.1 in
+        let least = due_of at used bytes limit (outcome d s event) is tells.0 in
+        let fits : 42 + (length (checkpoint_text (need d s)) + seal_size written + draw_size written * due s) ≤ d.limit = omega (arith, within, least) in
+        ap (λ (b : Bool). cond b (Some (Full 42 (length (checkpoint_text (need d s)) + seal_size written + draw_size written * due s) d.limit)) None)
+        (le-ltb d.limit (42 + (length (checkpoint_text (need d s)) + seal_size written + draw_size written * due s)) fits)
+
+    -- or there isn't
+    pub cramped : TellsSpare false d s bytes → IsSome (full_with_spare d s event)
+    cramped tells = over_of at (compacted_size (need d s) + spare d) used bytes limit (outcome d s event) is tells
+
+-- ---- the disk failed while room was made
+
+module _ (tells : Type 0) (mode : SayMode) (o : Origin) (h : List Entry) (event : Event) (old new : Shown) (kept : Keeps tells mode o h old) (left : IsLeft tells mode o h new)
+    (records : HasRecord (outcome o.directory (state_at o h) event)) where
+  abbrev g : List Entry
+  g = h ++ Doubt event ∷ []
+
+  none : HasFailed None h
+  none = left.failed
+
+  pub doubt_left : Keeps tells mode o g new
+  doubt_left =
+      let P : Option Device → Type 0 = λ x. HasFailed x g in
+      record {
+        directory = left.directory;
+        core = λ e. absurd (goes_on new.stopped Disk left.stopped e);
+        used = λ e. absurd (goes_on new.stopped Disk left.stopped e);
+        failed = subst P (sym left.stopped) (h, event, [], refl);
+        once = stops_now h (Doubt event) none;
+        anchors = anchors_more o h (Doubt event) kept.anchors;
+        caused = caused_more o h (Doubt event) kept.anchors kept.caused records;
+        leaves = λ tell.
+            let Q : Option Device → Type 0 = λ x. HasSaid mode o g x new.calls in
+            let l = left.leaves tell in
+            record {
+              moments = weaker (LeavesFront mode o h) (LeavesFront mode o g) o.calls new.calls
+                  (λ files outside front. longer mode o h g [] files outside front
+                  (subst (IsReading g) (sym (append-nil front.read ∙ only_itself h front.read none.0 front.reading)) (read_not h event))) l.moments;
+              now = λ files image.
+                  let r = l.now files image in
+                  (h, read_not h event, r.2 ∙ ap (λ (es : List Entry). Ok (need o.directory (restarted (state_at o es)))) (only_itself h r.0 none.0 r.1));
+              said = subst Q (sym left.stopped)
+                  (l.said ∙ ap (λ (x : Outside). said_by o.calls ++ x) (sym (quiet mode o h (Doubt event) _ (told_more mode o h (Doubt event)) (nothing_said mode))));
+            };
+      }
+
+-- ---- the call
+
+-- the fault that was answered tells the bytes that are wanted
+full_is : (result : Result Outcome SwitchFault) (bytes : ℕ) → bytes_wanted result ≡ Some bytes → (used : ℕ) × (limit : ℕ) × (result ≡ Err (Full used bytes limit))
+full_is (Ok o) bytes is = absurd (let e : None ≡ Some bytes = is in cc e)
+full_is (Err (Full used need limit)) bytes is =
+    let there : Some need ≡ Some bytes = is in
+    let same : need ≡ bytes = cc there in
+    (used, limit, ap (λ (n : ℕ). Err (Full used n limit)) same)
+full_is (Err DiskFault) bytes is = absurd (let e : None ≡ Some bytes = is in cc e)
+full_is (Err SayFault) bytes is = absurd (let e : None ≡ Some bytes = is in cc e)
+full_is (Err (Stopped by)) bytes is = absurd (let e : None ≡ Some bytes = is in cc e)
+full_is (Err Spent) bytes is = absurd (let e : None ≡ Some bytes = is in cc e)
+full_is (Err NoMemory) bytes is = absurd (let e : None ≡ Some bytes = is in cc e)
+
+-- an accepted bulletin has a record
+recorded : (o : Outcome) → IsAccepted o → HasRecord o
+recorded (Accepted p n) accepted = tt
+recorded (Duplicate position) accepted = absurd accepted
+recorded (Asked n m) accepted = absurd accepted
+recorded (Refused refusal) accepted = absurd accepted
+recorded (LineLost field) accepted = absurd accepted
+recorded (Resend index) accepted = tt
+recorded (Draw index) accepted = tt
+recorded Nothing accepted = absurd accepted
+
+-- an engine that answers so had not stopped
+went_on : {E : Type 0} (result : Result Outcome SwitchFault) (before : Option Device) → IfSome before (λ by. (result ≡ Err (Stopped by)) × E)
+    → ((by : Device) → result ≡ Err (Stopped by) → ⊥) → before ≡ None
+went_on result None stopped other = refl
+went_on result (Some by) stopped other = absurd (other by stopped.0)
+
+module _ {P : Type 0} (tells : Type 0) (calls : P → List Call) (mode : SayMode) (c : ℕ) (kind : Kind) (message : List ℕ) where
+  abbrev heard : Event
+  heard = Heard c kind message
+
+  -- a cause that isn't want of room
+  other_cause : {F G : SwitchFault → Type 0} (h : List Entry) (o : Outcome) (fault : SwitchFault) → ((used need limit : ℕ) → fault ≡ Full used need limit → ⊥) → IsCause F h o fault → IsCause G h o fault
+  other_cause h o DiskFault other cause = cause
+  other_cause h o SayFault other cause = cause
+  other_cause h o (Full used need limit) other cause = absurd (other used need limit refl)
+  other_cause h o (Stopped Disk) other cause = cause
+  other_cause h o (Stopped Say) other cause = cause
+  other_cause h o Spent other cause = cause
+  other_cause h o NoMemory other cause = cause
+
+  module _ (o : Origin) (h : List Entry) where
+    abbrev there : State
+    there = state_at o h
+
+    -- in the words of the origin
+    outcome_in : (e : Engine P) → Keeps tells mode o h (shown calls e) → outcome e.directory (after_all e.directory (begun o.start) h) heard ≡ outcome o.directory there heard
+    outcome_in e kept = ap (λ (d : Directory). outcome d (after_all d (begun o.start) h) heard) kept.directory
+
+    cause_in : {F : SwitchFault → Type 0} (e : Engine P) (fault : SwitchFault) → Keeps tells mode o h (shown calls e)
+        → IsCause F h (outcome e.directory (after_all e.directory (begun o.start) h) heard) fault → IsCause F h (outcome o.directory there heard) fault
+    cause_in {F} e fault kept cause = subst (λ (x : Outcome). IsCause F h x fault) (outcome_in e kept) cause
+
+  -- what was answered stands, but for want of room
+  pub plain : (result : Result Outcome SwitchFault) (old new : Engine P) → IsCalled (meanings_of tells calls mode) heard result old new → AnswersFull old heard result
+      → IfSome old.stopped (λ by. (result ≡ Err (Stopped by)) × (new ≡ old)) → bytes_wanted result ≡ None → IsHeardWithRoom tells calls mode heard result old new
+  plain result old new called full_answer stopped other = record {
+    directory = called.directory;
+    adds = λ o h kept. inl (record { keeps = called.adds o h kept; had_room = λ ok. roomy o h kept ok (full o.directory (state_at o h) (used_at o h) heard) refl });
+    outcome = λ o h kept answer e. called.outcome o h kept answer e ∙ outcome_in o h old kept;
+    caused = λ o h kept fault e.
+        other_cause h (outcome o.directory (state_at o h) heard) fault (λ used need limit is. absurd (let x : Some need ≡ None = sym (ap bytes_wanted (e ∙ ap {A = SwitchFault} (λ f. Err f) is)) ∙ other in cc x))
+        (cause_in o h old fault kept (called.caused o h kept fault e));
+  }
+    where
+      not_stopped : IsOk result → old.stopped ≡ None
+      not_stopped ok = went_on result old.stopped stopped (λ by e. let x : false ≡ true = sym (ap is_ok e) ∙ ok in absurd (cc x))
+
+      roomy : (o : Origin) (h : List Entry) → Keeps tells mode o h (shown calls old) → IsOk result → (f : Option SwitchFault) → full o.directory (state_at o h) (used_at o h) heard ≡ f → full o.directory (state_at o h) (used_at o h) heard ≡ None
+      roomy o h kept ok None is = is
+      roomy o h kept ok (Some fault) is =
+          let going = not_stopped ok in
+          let D : Directory → Type 0 = λ d. Holds d old.core (state_at o h) in
+          let holds : Holds old.directory old.core (state_at o h) = subst D (sym kept.directory) (kept.core going) in
+          let F : ℕ → Directory → Type 0 = λ n d. full d (state_at o h) n heard ≡ Some fault in
+          let full_there : full old.directory (state_at o h) old.used heard ≡ Some fault =
+          subst (F old.used) (sym kept.directory) (subst (λ (n : ℕ). F n o.directory) (sym (kept.used going)) is) in
+          let x : false ≡ true = sym (ap is_ok (full_answer (state_at o h) fault holds going full_there)) ∙ ok in absurd (cc x)
+
+  -- ---- the journal was full
+
+  module _ (first : Result Outcome SwitchFault) (bytes : ℕ) (wanted : bytes_wanted first ≡ Some bytes) (old mid : Engine P) (called : IsCalled (meanings_of tells calls mode) heard first old mid)
+      (stopped : IfSome old.stopped (λ by. (first ≡ Err (Stopped by)) × (mid ≡ old))) (unchanged : IsUnchanged old mid) where
+    used_then : ℕ
+    used_then = (full_is first bytes wanted).0
+
+    limit_then : ℕ
+    limit_then = (full_is first bytes wanted).1
+
+    first_is : first ≡ Err (Full used_then bytes limit_then)
+    first_is = (full_is first bytes wanted).2
+
+    pub going : old.stopped ≡ None
+    going = went_on first old.stopped stopped (λ by e. let x : ◌≡◌ {A = Result Outcome SwitchFault} (Err (Full used_then bytes limit_then)) (Err (Stopped by)) = sym first_is ∙ e in cc x)
+
+    pub going_mid : mid.stopped ≡ None
+    going_mid = unchanged.stopped ∙ going
+
+    module _ (o : Origin) (h : List Entry) (kept : Keeps tells mode o h (shown calls old)) where
+      kept_mid : Keeps tells mode o h (shown calls mid)
+      kept_mid = same tells mode o h (shown calls old) (shown calls mid) unchanged.directory unchanged.used unchanged.stopped (ap calls unchanged.station) unchanged.core kept
+
+      was_full : full o.directory (state_at o h) (used_at o h) heard ≡ Some (Full used_then bytes limit_then)
+      was_full = called.caused o h kept (Full used_then bytes limit_then) first_is
+
+      pub holds_mid : Holds mid.directory mid.core (state_at o h)
+      holds_mid =
+          let D : Directory → Type 0 = λ d. Holds d mid.core (state_at o h) in
+          subst D (sym kept_mid.directory) (kept_mid.core going_mid)
+
+      accepted : IsAccepted (outcome o.directory (state_at o h) heard)
+      accepted = full_accepted o.directory (state_at o h) c kind message (used_at o h) (Full used_then bytes limit_then) was_full
+
+      -- memory was wanted for the size of a compacted journal, or for the compaction
+      memory_keeps : (e : Engine P) → e ≡ mid → Keeps tells mode o (h ++ entry_of heard (let r : Result Outcome SwitchFault = Err NoMemory in r)) (shown calls e)
+      memory_keeps e is =
+          subst (λ (x : Engine P). Keeps tells mode o (h ++ Idle heard NoMemory ∷ []) (shown calls x)) (sym is)
+          (idle mode o h heard tells NoMemory (shown calls mid) accepted kept_mid)
+
+    -- there was no memory
+    pub without_memory : (e : Engine P) → e ≡ mid → IsHeardWithRoom tells calls mode heard (Err NoMemory) old e
+    without_memory e is = record {
+      directory = ap (λ (x : Engine P). x.directory) is ∙ unchanged.directory;
+      adds = λ o h kept. inl (record { keeps = memory_keeps o h kept e is; had_room = λ ok. absurd (cc ok) });
+      outcome = λ o h kept answer a. absurd (cc a);
+      caused = λ o h kept fault f.
+          let same_fault : NoMemory ≡ fault = cc f in
+          subst (IsCause (IsFullEither o h heard) h (outcome o.directory (state_at o h) heard)) same_fault (accepted o h kept);
+    }
+
+    module _ (has : Bool) (spares : (s : State) → Holds mid.directory mid.core s → TellsSpare has mid.directory s bytes) where
+      spare_at : (o : Origin) (h : List Entry) → Keeps tells mode o h (shown calls old) → TellsSpare has o.directory (state_at o h) bytes
+      spare_at o h kept =
+          let T : Directory → Type 0 = λ d. TellsSpare has d (state_at o h) bytes in
+          subst T (kept_mid o h kept).directory (spares (state_at o h) (holds_mid o h kept))
+
+      -- a compacted journal would be full, too
+      pub full_either : has ≡ false → IsHeardWithRoom tells calls mode heard first old mid
+      full_either is = record {
+        directory = called.directory;
+        adds = λ o h kept. inl (record {
+          keeps = called.adds o h kept;
+          had_room = λ ok. absurd (let x : false ≡ true = sym (ap is_ok first_is) ∙ ok in cc x);
+        });
+        outcome = λ o h kept answer e. called.outcome o h kept answer e ∙ outcome_in o h old kept;
+        caused = λ o h kept fault e.
+            let same_fault : Full used_then bytes limit_then ≡ fault =
+            (let x : ◌≡◌ {A = Result Outcome SwitchFault} (Err (Full used_then bytes limit_then)) (Err fault) = sym first_is ∙ e in cc x) in
+            let T : Bool → Type 0 = λ b. TellsSpare b o.directory (state_at o h) bytes in
+            subst (IsCause (IsFullEither o h heard) h (outcome o.directory (state_at o h) heard)) same_fault
+            (was_full o h kept, cramped o.directory (state_at o h) c kind message (used_at o h) used_then bytes limit_then (was_full o h kept) (subst T is (spare_at o h kept)));
+      }
+
+      module _ (roomy : has ≡ true) where
+        spare_there : (o : Origin) (h : List Entry) → Keeps tells mode o h (shown calls old) → TellsSpare true o.directory (state_at o h) bytes
+        spare_there o h kept = let T : Bool → Type 0 = λ b. TellsSpare b o.directory (state_at o h) bytes in subst T roomy (spare_at o h kept)
+
+        -- the compaction failed
+        pub left_off : (fault : SwitchFault) (last : Engine P) → IsCompaction tells calls (Err fault) mid last
+            → ((s : State) → mid.stopped ≡ None → Holds mid.directory mid.core s → GivesRoom (Err fault) mid.directory s)
+            → IsCompactFault fault → (IsIdleFault (Err fault) → last ≡ mid) → IsHeardWithRoom tells calls mode heard (Err fault) old last
+        left_off NoMemory last comp room may same = without_memory last (same tt)
+        left_off SayFault last comp room may same = absurd may
+        left_off Spent last comp room may same = absurd may
+        left_off (Stopped by) last comp room may same = record {
+          directory = comp.directory ∙ unchanged.directory;
+          adds = λ o h kept. absurd (room (state_at o h) going_mid (holds_mid o h kept));
+          outcome = λ o h kept answer a. absurd (cc a);
+          caused = λ o h kept. absurd (room (state_at o h) going_mid (holds_mid o h kept));
+        }
+        left_off (Full at more limit) last comp room may same = record {
+          directory = comp.directory ∙ unchanged.directory;
+          adds = λ o h kept. absurd (never o h kept);
+          outcome = λ o h kept answer a. absurd (cc a);
+          caused = λ o h kept. absurd (never o h kept);
+        }
+          where
+            never : (o : Origin) (h : List Entry) → Keeps tells mode o h (shown calls old) → ⊥
+            never o h kept =
+                let F : Directory → Type 0 = λ d. IsFullCompacted d (state_at o h) (Full at more limit) in
+                let over = subst F (kept_mid o h kept).directory (room (state_at o h) going_mid (holds_mid o h kept)) in
+                let free = holds_due o.directory (state_at o h) c kind message (used_at o h) used_then bytes limit_then (was_full o h kept) (spare_there o h kept) in
+                let x : None ≡ Some (Full 42 over.0 limit) = sym free ∙ over.1 in cc x
+        left_off DiskFault last comp room may same = record {
+          directory = comp.directory ∙ unchanged.directory;
+          adds = λ o h kept. inl (record {
+            keeps = doubt_left tells mode o h heard (shown calls mid) (shown calls last) (kept_mid o h kept) (comp.failed refl mode o h (kept_mid o h kept)) (recorded (outcome o.directory (state_at o h) heard) (accepted o h kept));
+            had_room = λ ok. absurd (cc ok);
+          });
+          outcome = λ o h kept answer a. absurd (cc a);
+          caused = λ o h kept fault f.
+              let same_fault : DiskFault ≡ fault = cc f in
+              subst (IsCause (IsFullEither o h heard) h (outcome o.directory (state_at o h) heard)) same_fault (recorded (outcome o.directory (state_at o h) heard) (accepted o h kept));
+        }
+
+        -- it was done, and the message heard
+        pub made : (last : Engine P) (result : Result Outcome SwitchFault) (new : Engine P) → IsCompaction tells calls (Ok tt) mid last
+            → IsCalled (meanings_of tells calls mode) heard result last new → IsHeardWithRoom tells calls mode heard result old new
+        made last result new comp then = record {
+          directory = then.directory ∙ comp.directory ∙ unchanged.directory;
+          adds = λ o h kept. inr (record {
+            keeps = then.adds (compacted_after o h) h (kept_last o h kept);
+            was_full = subst IsSome (sym (was_full o h kept)) refl;
+            has_room = pays o.directory (state_at o h) c kind message (used_at o h) used_then bytes limit_then (was_full o h kept) (spare_there o h kept);
+          });
+          outcome = λ o h kept answer e. then.outcome (compacted_after o h) h (kept_last o h kept) answer e ∙ outcome_in (compacted_after o h) h last (kept_last o h kept);
+          caused = λ o h kept fault e.
+              other_cause h (outcome o.directory (state_at o h) heard) fault (λ used need limit is. never o h kept fault e used need limit is)
+              (cause_in (compacted_after o h) h last fault (kept_last o h kept) (then.caused (compacted_after o h) h (kept_last o h kept) fault e));
+        }
+          where
+            kept_last : (o : Origin) (h : List Entry) → Keeps tells mode o h (shown calls old) → Keeps tells mode (compacted_after o h) h (shown calls last)
+            kept_last o h kept = comp.done refl mode o h (kept_mid o h kept)
+
+            never : (o : Origin) (h : List Entry) → Keeps tells mode o h (shown calls old) → (fault : SwitchFault) → result ≡ Err fault → (used need limit : ℕ) → fault ≡ Full used need limit → ⊥
+            never o h kept fault e used need limit is =
+                let cause : full o.directory (state_at o h) (used_at (compacted_after o h) h) heard ≡ Some (Full used need limit) =
+                then.caused (compacted_after o h) h (kept_last o h kept) (Full used need limit) (e ∙ ap {A = SwitchFault} (λ f. Err f) is) in
+                let free = fits_compacted o.directory (state_at o h) c kind message (used_at o h) used_then bytes limit_then (was_full o h kept) (spare_there o h kept) in
+                let x : None ≡ Some (Full used need limit) = sym free ∙ ap (λ (n : ℕ). full o.directory (state_at o h) n heard) (sym (used_compacted o h)) ∙ cause in cc x

@@ -1,0 +1,71 @@
+-- A message is heard, and room is made for a bulletin for which a journal has none.
+use Rattle.std.specs.Prelude.{◌≡◌, ◌⊎◌, ℕ, ◌+◌, ◌/◌, ◌<◌, ◌≤◌, Bool, true, false, List, ◌++◌, Option, Some, None, Result, Ok, Err, IsOk, IsSome}
+use Rattle.gts_traits.specs.Calls.{Call}
+use Rattle.gts_directory.specs.Directory.{Directory}
+use Rattle.gts_event.specs.State.{State, most_accepted}
+use Rattle.gts_event.specs.History.{outcome}
+use Rattle.gts_event.specs.Need.{need}
+use Rattle.gts_event.specs.declared.event.Event.{Event}
+use Rattle.gts_event.specs.declared.event.Entry.{Entry}
+use Rattle.gts_event.specs.declared.outcome.Outcome.{Outcome}
+use Rattle.gts_event.specs.declared.fault.SwitchFault.{SwitchFault}
+use Rattle.gts_event.specs.declared.fault.SwitchFault.TheVariants.{Full}
+use Rattle.gts_opening.specs.Room.{full, compacted_size}
+use Rattle.gts_calls.specs.Calls.{IsCause, entry_of}
+use Rattle.gts_engine.specs.declared.mode.SayMode.{SayMode}
+use Rattle.gts_engine.specs.Engine.{Engine, Shown, shown}
+use Rattle.gts_engine.specs.Origin.{Origin, compacted_after, state_at, used_at}
+use Rattle.gts_engine.specs.Keeping.{Keeps}
+
+-- the bytes that a compaction is to leave free beside all that is due, so that it pays for itself: an eighth of the limit (profile)
+abbrev pub spare : Directory → ℕ
+spare d = d.limit / 8
+
+-- a compacted journal would be full for an event, with these bytes to spare
+abbrev pub full_with_spare : Directory → State → Event → Option SwitchFault
+full_with_spare d s event = full d s (compacted_size (need d s) + spare d) event
+
+-- a compacted journal would have room for so many bytes more, with those to spare, and a position is left; or it would not
+abbrev pub TellsSpare : Bool → Directory → State → ℕ → Type 0
+TellsSpare true d s bytes = (s.count ≡ most_accepted → ⊥) × (compacted_size (need d s) + spare d + bytes ≤ d.limit)
+TellsSpare false d s bytes = (s.count ≡ most_accepted) ⊎ (d.limit < compacted_size (need d s) + spare d + bytes)
+
+-- the bytes that were wanted of a journal that was full
+abbrev pub bytes_wanted : Result Outcome SwitchFault → Option ℕ
+bytes_wanted (Err (Full used need limit)) = Some need
+bytes_wanted _ = None
+
+module _ (tells : Type 0) (mode : SayMode) (o : Origin) (h : List Entry) (event : Event) (result : Result Outcome SwitchFault) (e : Shown) where
+  -- The entry was added behind these, to a journal as it was, which had room for what was done.
+  pub record AddsPlain : Type 0 where
+    pub keeps : Keeps tells mode o (h ++ entry_of event result) e
+    pub had_room : IsOk result → full o.directory (state_at o h) (used_at o h) event ≡ None
+
+  -- The journal was full for the event, and a compacted one has room with bytes to spare: behind these entries it was compacted,
+  -- and then the entry was added.
+  pub record AddsCompacted : Type 0 where
+    pub keeps : Keeps tells mode (compacted_after o h) (h ++ entry_of event result) e
+    pub was_full : IsSome (full o.directory (state_at o h) (used_at o h) event)
+    pub has_room : full_with_spare o.directory (state_at o h) event ≡ None
+
+-- the journal was full for an event behind these entries, with this fault, and a compacted one would be, too
+abbrev pub IsFullEither : Origin → List Entry → Event → SwitchFault → Type 0
+IsFullEither o h event fault =
+    (full o.directory (state_at o h) (used_at o h) event ≡ Some fault) × IsSome (full_with_spare o.directory (state_at o h) event)
+
+-- A message was heard so, and room was made for it: whatever entries the engine stood for, it stands for these and the entry,
+-- with the journal compacted in front of that exactly where there was no room and a compacted journal has it. The answer is the
+-- outcome. A fault has its cause: Full is answered only where a compacted journal would be full, too.
+pub record IsHeardWithRoom {P : Type 0} (tells : Type 0) (calls : P → List Call) (mode : SayMode) (event : Event)
+    (result : Result Outcome SwitchFault) (old new : Engine P) : Type 0 where
+  pub directory : new.directory ≡ old.directory
+  pub adds : (o : Origin) (h : List Entry) → Keeps tells mode o h (shown calls old)
+      → AddsPlain tells mode o h event result (shown calls new) ⊎ AddsCompacted tells mode o h event result (shown calls new)
+  pub outcome : (o : Origin) (h : List Entry) → Keeps tells mode o h (shown calls old)
+      → (answer : Outcome) → result ≡ Ok answer → answer ≡ outcome o.directory (state_at o h) event
+  pub caused : (o : Origin) (h : List Entry) → Keeps tells mode o h (shown calls old)
+      → (fault : SwitchFault) → result ≡ Err fault → IsCause (IsFullEither o h event) h (outcome o.directory (state_at o h) event) fault
+
+-- whoever says the frames
+abbrev pub HearsWithRoom : {P : Type 0} → Type 0 → (P → List Call) → Event → Result Outcome SwitchFault → (old new : Engine P) → Type 0
+HearsWithRoom tells calls event result old new = (mode : SayMode) → IsHeardWithRoom tells calls mode event result old new

@@ -1,0 +1,92 @@
+-- The entries of a service without its tries.
+use Rattle.std.proofs.Common.{◌≡◌, ◌⊎◌, inl, inr, ℕ, Bool, true, false, not, List, [], ◌∷◌, ◌++◌, Result, Ok, Err, refl, sym, ap, ◌∙◌, subst}
+use Rattle.std.proofs.lemmas.List.{append-nil}
+use Rattle.std.proofs.lemmas.List.Elements.{filter-append}
+use Rattle.gts_frame.specs.declared.kind.Kind.{Kind}
+use Rattle.gts_event.specs.State.{State}
+use Rattle.gts_event.specs.History.{outcome}
+use Rattle.gts_event.specs.declared.event.Event.{Event}
+use Rattle.gts_event.specs.declared.event.Event.TheVariants.{Heard}
+use Rattle.gts_event.specs.declared.event.Entry.{Entry}
+use Rattle.gts_event.specs.declared.event.Entry.TheVariants.{Done, Unsaid, Idle, Doubt}
+use Rattle.gts_event.specs.declared.outcome.Outcome.{Outcome}
+use Rattle.gts_event.specs.declared.fault.SwitchFault.{SwitchFault}
+use Rattle.gts_event.specs.declared.fault.SwitchFault.TheVariants.{DiskFault, SayFault, Full, Stopped, Spent, NoMemory}
+use Rattle.gts_desk.specs.Desks.{Seen, own, Answers, SaysNoMore, AddsJust, IsUntold, GoesOn}
+use Rattle.gts_desk.proofs.LawLemmas.{just, own_added, goes_on, goes_on_spent, goes_further, stays}
+use Rattle.gts_receiver.specs.Service.{is_try, is_wanting, settled, settled_own, Hears}
+
+pub settled-append : (w : Bool) (xs ys : List Entry) → settled w (xs ++ ys) ≡ settled w xs ++ settled w ys
+settled-append true xs ys = filter-append (λ (e : Entry). not (is_try e)) xs ys
+settled-append false xs ys = refl
+
+pub none_settled : (w : Bool) → settled w [] ≡ []
+none_settled true = refl
+none_settled false = refl
+
+-- what was done is no try
+pub settled_done : (w : Bool) (event : Event) → settled w (Done event ∷ []) ≡ Done event ∷ []
+settled_done true event = refl
+settled_done false event = refl
+
+-- one of the desk's own entries more
+pub own_settled : (w : Bool) (old new : Seen) (entry : Entry) → AddsJust old entry new → settled_own w new ≡ settled_own w old ++ settled w (entry ∷ [])
+own_settled w old new entry adds = ap (settled w) (own_added old new entry adds) ∙ settled-append w (own old) (entry ∷ [])
+
+-- a try is left out
+one_try : (before now : Seen) (entry : Entry) → is_try entry ≡ true → AddsJust before entry now → settled_own true now ≡ settled_own true before
+one_try before now entry is adds =
+    own_settled true before now entry adds ∙ ap (λ (l : List Entry). settled_own true before ++ l) (left_out entry is) ∙ append-nil (settled_own true before)
+  where
+    left_out : (e : Entry) → is_try e ≡ true → settled true (e ∷ []) ≡ []
+    left_out e is = rw is refl
+
+module _ (c : ℕ) (kind : Kind) (message : List ℕ) where
+  abbrev heard : Event
+  heard = Heard c kind message
+
+  tried_so : (answer : Result Outcome SwitchFault) (before now : Seen) → is_wanting answer ≡ true → Answers before heard SaysNoMore answer now
+      → settled_own true now ≡ settled_own true before
+  tried_so (Err (Full used need limit)) before now is adds = one_try before now (Idle heard (Full used need limit)) refl adds
+  tried_so (Err NoMemory) before now is (inl adds) = one_try before now (Idle heard NoMemory) refl adds
+  tried_so (Err NoMemory) before now is (inr untold) = ap (settled_own true) untold.is
+  tried_so (Ok o) before now is adds = absurd (cc is)
+  tried_so (Err DiskFault) before now is adds = absurd (cc is)
+  tried_so (Err SayFault) before now is adds = absurd (cc is)
+  tried_so (Err (Stopped by)) before now is adds = absurd (cc is)
+  tried_so (Err Spent) before now is adds = absurd (cc is)
+
+  went_on : (answer : Result Outcome SwitchFault) (before now : Seen) → is_wanting answer ≡ true → Answers before heard SaysNoMore answer now → GoesOn before now
+  went_on (Err (Full used need limit)) before now is adds = goes_on before now (Idle heard (Full used need limit)) adds
+  went_on (Err NoMemory) before now is (inl adds) = goes_on before now (Idle heard NoMemory) adds
+  went_on (Err NoMemory) before now is (inr untold) = subst (λ (d : Seen). GoesOn before d) (sym untold.is) (stays before)
+  went_on (Ok o) before now is adds = absurd (cc is)
+  went_on (Err DiskFault) before now is adds = absurd (cc is)
+  went_on (Err SayFault) before now is adds = absurd (cc is)
+  went_on (Err (Stopped by)) before now is adds = absurd (cc is)
+  went_on (Err Spent) before now is adds = absurd (cc is)
+
+  -- a try more
+  pub again : (first : Result Outcome SwitchFault) (old now : Seen) → is_wanting first ≡ true → Hears true heard first old now
+      → (answer : Result Outcome SwitchFault) (later : Seen) → Answers now heard SaysNoMore answer later → Hears true heard answer old later
+  again first old now is h answer later answers = record {
+    before = now;
+    desk = goes_further old h.before now h.desk (went_on first h.before now is h.answers);
+    tried = tried_so first h.before now is h.answers ∙ h.tried;
+    answers = answers;
+  }
+
+-- without a try
+pub at_once : (w : Bool) (asked : Event) (answer : Result Outcome SwitchFault) (old new : Seen) → Answers old asked SaysNoMore answer new → Hears w asked answer old new
+at_once w asked answer old new answers = record { before = old; desk = stays old; tried = refl; answers = answers }
+
+-- with any answer a desk goes on
+pub answers_go : (asked : Event) (answer : Result Outcome SwitchFault) (old new : Seen) → Answers old asked SaysNoMore answer new → GoesOn old new
+answers_go asked (Ok o) old new adds = goes_on old new (Done asked) (just old new (Done asked) (λ (s : State). (o ≡ outcome old.directory s asked) × SaysNoMore o s) adds)
+answers_go asked (Err DiskFault) old new adds = goes_on old new (Doubt asked) adds
+answers_go asked (Err SayFault) old new adds = goes_on old new (Unsaid asked) adds
+answers_go asked (Err (Full used need limit)) old new adds = goes_on old new (Idle asked (Full used need limit)) adds
+answers_go asked (Err (Stopped by)) old new adds = goes_on old new (Idle asked (Stopped by)) adds
+answers_go asked (Err NoMemory) old new (inl adds) = goes_on old new (Idle asked NoMemory) adds
+answers_go asked (Err NoMemory) old new (inr untold) = subst (λ (d : Seen). GoesOn old d) (sym untold.is) (stays old)
+answers_go asked (Err Spent) old new spent = goes_on_spent old new spent
