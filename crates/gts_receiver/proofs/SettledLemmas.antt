@@ -1,5 +1,5 @@
 -- The entries of a service without its tries.
-use Rattle.std.proofs.Common.{◌≡◌, ◌⊎◌, inl, inr, ℕ, Bool, true, false, not, List, [], ◌∷◌, ◌++◌, Result, Ok, Err, refl, sym, ap, ◌∙◌, subst}
+use Rattle.std.proofs.Common.{◌≡◌, inl, inr, ℕ, Bool, true, false, not, List, [], ◌∷◌, ◌++◌, Result, Ok, Err, refl, sym, ap, ◌∙◌, subst}
 use Rattle.std.proofs.lemmas.List.{append-nil}
 use Rattle.std.proofs.lemmas.List.Elements.{filter-append}
 use Rattle.gts_frame.specs.declared.kind.Kind.{Kind}
@@ -12,7 +12,7 @@ use Rattle.gts_event.specs.declared.event.Entry.TheVariants.{Done, Unsaid, Idle,
 use Rattle.gts_event.specs.declared.outcome.Outcome.{Outcome}
 use Rattle.gts_event.specs.declared.fault.SwitchFault.{SwitchFault}
 use Rattle.gts_event.specs.declared.fault.SwitchFault.TheVariants.{DiskFault, SayFault, Full, Stopped, Spent, NoMemory}
-use Rattle.gts_desk.specs.Desks.{Seen, own, Answers, SaysNoMore, AddsJust, IsUntold, GoesOn}
+use Rattle.gts_desk.specs.Desks.{Seen, own, Answers, SaysNoMore, AddsJust, GoesOn}
 use Rattle.gts_desk.proofs.LawLemmas.{just, own_added, goes_on, goes_on_spent, goes_further, stays}
 use Rattle.gts_receiver.specs.Service.{is_try, is_wanting, settled, settled_own, Hears}
 
