@@ -1,12 +1,13 @@
 -- The entries of a service without its tries.
-use Rattle.std.proofs.Common.{◌≡◌, inl, inr, ℕ, Bool, true, false, not, List, [], ◌∷◌, ◌++◌, Result, Ok, Err, refl, sym, ap, ◌∙◌, subst}
+use Rattle.std.proofs.Common.{◌≡◌, ◌⊎◌, inl, inr, ℕ, ◌+◌, ◌≤◌, length, length-append, arith, Bool, true, false, not, List, [], ◌∷◌, ◌++◌, Result, Ok, Err, refl, sym, ap, ◌∙◌, subst}
 use Rattle.std.proofs.lemmas.List.{append-nil}
 use Rattle.std.proofs.lemmas.List.Elements.{filter-append}
 use Rattle.gts_frame.specs.declared.kind.Kind.{Kind}
 use Rattle.gts_event.specs.State.{State}
 use Rattle.gts_event.specs.History.{outcome}
 use Rattle.gts_event.specs.declared.event.Event.{Event}
-use Rattle.gts_event.specs.declared.event.Event.TheVariants.{Heard}
+use Rattle.gts_event.specs.declared.event.Event.TheVariants.{Heard, Lost}
+use Rattle.gts_frame.specs.declared.lost.LostField.{LostField}
 use Rattle.gts_event.specs.declared.event.Entry.{Entry}
 use Rattle.gts_event.specs.declared.event.Entry.TheVariants.{Done, Unsaid, Idle, Doubt}
 use Rattle.gts_event.specs.declared.outcome.Outcome.{Outcome}
@@ -14,7 +15,7 @@ use Rattle.gts_event.specs.declared.fault.SwitchFault.{SwitchFault}
 use Rattle.gts_event.specs.declared.fault.SwitchFault.TheVariants.{DiskFault, SayFault, Full, Stopped, Spent, NoMemory}
 use Rattle.gts_desk.specs.Desks.{Seen, own, Answers, SaysNoMore, AddsJust, GoesOn}
 use Rattle.gts_desk.proofs.LawLemmas.{just, own_added, goes_on, goes_on_spent, goes_further, stays}
-use Rattle.gts_receiver.specs.Service.{is_try, is_wanting, settled, settled_own, Hears}
+use Rattle.gts_receiver.specs.Service.{is_try, is_wanting, settled, settled_own, AreMost, TriesOn, Hears}
 
 pub settled-append : (w : Bool) (xs ys : List Entry) → settled w (xs ++ ys) ≡ settled w xs ++ settled w ys
 settled-append true xs ys = filter-append (λ (e : Entry). not (is_try e)) xs ys
@@ -41,6 +42,24 @@ one_try before now entry is adds =
     left_out : (e : Entry) → is_try e ≡ true → settled true (e ∷ []) ≡ []
     left_out e is = rw is refl
 
+one_added : (before now : Seen) (entry : Entry) (tries : ℕ) → AddsJust before entry now → (tries ≤ length (own before)) ⊎ (before.alone ≡ true)
+    → (tries + 1 ≤ length (own now)) ⊎ (now.alone ≡ true)
+one_added before now entry tries adds (inl few) = inl (omega (arith, few, ap length (own_added before now entry adds), length-append (own before) (entry ∷ [])))
+one_added before now entry tries adds (inr alone) = inr ((goes_on before now entry adds).alone ∙ alone)
+
+-- an event of a message is tried again at these answers, and a loss at none
+pub tries_on : (w : Bool) (c : ℕ) (kind : Kind) (message : List ℕ) (fault : SwitchFault) (new : Seen)
+    → (w ≡ true → is_wanting (Err fault) ≡ true → AreMost new.alone (own new)) → TriesOn w (Heard c kind message) fault new.alone (own new)
+tries_on w c kind message (Full used need limit) new kept = kept
+tries_on w c kind message NoMemory new kept = kept
+tries_on w c kind message DiskFault new kept = λ yes is. absurd (cc is)
+tries_on w c kind message SayFault new kept = λ yes is. absurd (cc is)
+tries_on w c kind message (Stopped by) new kept = λ yes is. absurd (cc is)
+tries_on w c kind message Spent new kept = λ yes is. absurd (cc is)
+
+pub no_try : (w : Bool) (c : ℕ) (field : LostField) (fault : SwitchFault) (new : Seen) → TriesOn w (Lost c field) fault new.alone (own new)
+no_try w c field fault new = λ yes is. absurd (cc is)
+
 module _ (c : ℕ) (kind : Kind) (message : List ℕ) where
   abbrev heard : Event
   heard = Heard c kind message
@@ -65,6 +84,18 @@ module _ (c : ℕ) (kind : Kind) (message : List ℕ) where
   went_on (Err SayFault) before now is adds = absurd (cc is)
   went_on (Err (Stopped by)) before now is adds = absurd (cc is)
   went_on (Err Spent) before now is adds = absurd (cc is)
+
+  -- a try adds one of the desk's own, or the desk is alone
+  pub one_more : (answer : Result Outcome SwitchFault) (before now : Seen) (tries : ℕ) → is_wanting answer ≡ true → Answers before heard SaysNoMore answer now
+      → (tries ≤ length (own before)) ⊎ (before.alone ≡ true) → (tries + 1 ≤ length (own now)) ⊎ (now.alone ≡ true)
+  one_more (Err (Full used need limit)) before now tries is adds so_far = one_added before now (Idle heard (Full used need limit)) tries adds so_far
+  one_more (Err NoMemory) before now tries is (inl adds) so_far = one_added before now (Idle heard NoMemory) tries adds so_far
+  one_more (Err NoMemory) before now tries is (inr untold) so_far = inr (ap (λ (d : Seen). d.alone) untold.is ∙ untold.alone)
+  one_more (Ok o) before now tries is adds so_far = absurd (cc is)
+  one_more (Err DiskFault) before now tries is adds so_far = absurd (cc is)
+  one_more (Err SayFault) before now tries is adds so_far = absurd (cc is)
+  one_more (Err (Stopped by)) before now tries is adds so_far = absurd (cc is)
+  one_more (Err Spent) before now tries is adds so_far = absurd (cc is)
 
   -- a try more
   pub again : (first : Result Outcome SwitchFault) (old now : Seen) → is_wanting first ≡ true → Hears true heard first old now

@@ -1,5 +1,5 @@
 -- What is a service, by the number of its connections.
-use Rattle.std.specs.Prelude.{◌≡◌, ℕ, Bool, true, false, not, ◌==◌, List, Result, Err}
+use Rattle.std.specs.Prelude.{◌≡◌, ◌⊎◌, ℕ, ◌≤◌, Bool, true, false, not, ◌==◌, List, length, Result, Err}
 use Rattle.std.specs.List.{filter}
 use Rattle.gts_event.specs.declared.event.Event.{Event}
 use Rattle.gts_event.specs.declared.event.Event.TheVariants.{Heard}
@@ -9,7 +9,7 @@ use Rattle.gts_event.specs.declared.outcome.Outcome.{Outcome}
 use Rattle.gts_event.specs.declared.fault.SwitchFault.{SwitchFault}
 use Rattle.gts_event.specs.declared.fault.SwitchFault.TheVariants.{Full, NoMemory}
 use Rattle.gts_desk.specs.Desks.{Seen, own, Answers, SaysNoMore, GoesOn}
-use Rattle.gts_receiver.specs.declared.limits.TheConstants.{WITHOUT_END}
+use Rattle.gts_receiver.specs.declared.limits.TheConstants.{WITHOUT_END, MOST_TRIES}
 
 -- so many connections are those of a service, without end
 abbrev pub goes_on : ℕ → Bool
@@ -35,6 +35,14 @@ settled false entries = entries
 -- so of a desk's own entries
 abbrev pub settled_own : Bool → Seen → List Entry
 settled_own service d = settled service (own d)
+
+-- So many entries of the desk's own are there as there are tries at most, or the desk is alone, which adds none where it lacks memory.
+abbrev pub AreMost : Bool → List Entry → Type 0
+AreMost alone entries = (MOST_TRIES ≤ length entries) ⊎ (alone ≡ true)
+
+-- A service (w) takes this fault for the answer of an event that it tries again only behind that many.
+abbrev pub TriesOn : Bool → Event → SwitchFault → Bool → List Entry → Type 0
+TriesOn w event fault alone entries = w ≡ true → is_try (Idle event fault) ≡ true → AreMost alone entries
 
 -- What became of an event at a desk: tries may have come before, and then it was answered so.
 pub record Hears (service : Bool) (event : Event) (result : Result Outcome SwitchFault) (old new : Seen) : Type 0 where

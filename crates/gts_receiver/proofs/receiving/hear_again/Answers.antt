@@ -2,7 +2,7 @@ use Rattle.std.proofs.Common.{◌≡◌, true, sym, ◌∙◌, subst}
 use Rattle.gts_event.specs.declared.event.Event.TheVariants.{Heard}
 use Rattle.gts_desk.specs.Desks.{Seen, Answers, SaysNoMore}
 use Rattle.gts_receiver.specs.Service.{is_wanting}
-use Rattle.gts_receiver.proofs.SettledLemmas.{again, answers_go}
+use Rattle.gts_receiver.proofs.SettledLemmas.{again, answers_go, one_more}
 use Rattle.gts_receiver.proofs.receiving.hear_again.Goals as goal
 
 pub loop-answer-preserved : goal.loop-answer-preserved
@@ -14,5 +14,6 @@ loop-answer-preserved g c =
     let answers : A now = subst A c.rest.ensures c.hear-answer.ensures in
     record {
       directory = (answers_go (Heard c.args.c c.args.kind c.args.message.now) c.hear-answer.result now later answers).directory ∙ c.loop-answer.invariant.directory;
+      tired = λ is. one_more c.args.c c.args.kind c.args.message.now c.hear-answer.result now later c.loop-answer.tries is answers (c.loop-answer.invariant.tired wants);
       heard = λ old h. again c.args.c c.args.kind c.args.message.now c.loop-answer.answer old now wants (c.loop-answer.invariant.heard old h) c.hear-answer.result later answers;
     }
