@@ -33,6 +33,7 @@ pub record Closing {T E : Type 0} (stands : T → List E → Type 0) (v : View E
   pub joined : (k : ℕ) (y : ℕ × List E) → get_elem? v.joined k ≡ some y → y.1 ≡ entries_under y.0 v.seen
   pub names : (k : ℕ) (x : ℕ × E) → get_elem? v.seen k ≡ some x → (x.0 ≡ 0) ⊎ IsAmong v.joined x.0
   pub full : v.full ≡ true → length v.seen ≡ MOST_TURNS
+  pub few : length v.seen ≤ MOST_TURNS
 
 no_tickets : (st : Stage) → (Live st → tickets st ≡ 0) → tickets st ≡ 0
 no_tickets Idle f = refl
@@ -77,6 +78,7 @@ module _ {T E : Type 0} (stands : T → List E → Type 0) where
             (λ a. inr (a.0, a.1, ap (λ (l : List (ℕ × List E)). get_elem? l a.0) (f.first zero_name).1 ∙ a.2))
             (r.named k x (ap (λ (l : List (ℕ × E)). get_elem? l k) (sym whole) ∙ e));
         full = λ z. let n = f.full z in let l = ap length whole in omega arith;
+        few = omega (arith, r.low, r.high, d, ap length whole);
       }
 
   -- the same, at a seat whose view is an equal one

@@ -127,6 +127,7 @@ impl<T: Told> Hall<T> {
         ensures accounts { Accounts pass pass.seen }
         ensures names { NamesAreJoined pass pass.seen }
         ensures full { pass.full ≡ true → length pass.seen ≡ MOST_TURNS }
+        ensures few { length pass.seen ≤ MOST_TURNS }
     {
         let Hall { table } = self;
         let Pass { mut seat } = pass;

@@ -1,4 +1,4 @@
-use Rattle.std.proofs.Common.{rules, ◌≡◌, ◌∙◌, ap, sym, subst, arith, length, true}
+use Rattle.std.proofs.Common.{rules, ◌≡◌, ◌≤◌, ◌∙◌, ap, sym, subst, arith, length, true}
 use Rattle.gts_lock.specs.declared.limits.TheConstants.{MOST_TURNS}
 use Rattle.gts_lock.specs.History.{entries}
 use Rattle.gts_lock.specs.Passes.{AllJoined, Accounts, NamesAreJoined}
@@ -55,3 +55,12 @@ returns-clause-full g c =
     (resting_idle c.pass.inside.seat.me.0.stage c.pass.inside.seat.table_id _ c.pass.invariant.1 (ap (λ (p : _). p.hall) c.pass.view_is ∙ c.requires.hall))
     (subst AllJoined (sym c.pass.view_is) c.requires.joined) in
     subst (λ (p : _). p.full ≡ true → length p.seen ≡ MOST_TURNS) c.pass.view_is closing.full
+
+pub returns-clause-few : goal.returns-clause-few
+returns-clause-few g c =
+    let stands = g.T.Told.stands in
+    let closing = closes_as stands _ _ c.pass.inside.seat.me.0 _ _ (ap (λ (m : _). m.0) c.split_seat-copy.ensures.2) c.close_with-closed.ensures.values.2
+    (ap (λ (p : _). p.name) c.pass.view_is ∙ c.requires.first)
+    (resting_idle c.pass.inside.seat.me.0.stage c.pass.inside.seat.table_id _ c.pass.invariant.1 (ap (λ (p : _). p.hall) c.pass.view_is ∙ c.requires.hall))
+    (subst AllJoined (sym c.pass.view_is) c.requires.joined) in
+    subst (λ (p : _). length p.seen ≤ MOST_TURNS) c.pass.view_is closing.few
