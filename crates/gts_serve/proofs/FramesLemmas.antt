@@ -1,5 +1,5 @@
 -- What a circuit's receiver entered and what its sink took, over the whole history.
-use Rattle.std.proofs.Common.{◌≡◌, ◌⊎◌, inl, inr, ℕ, ◌==◌, List, [], ◌∷◌, ◌++◌, Bool, true, false, cond, Some, Err, refl, sym, ap, ◌∙◌, subst, arith, append_assoc}
+use Rattle.std.proofs.Common.{◌≡◌, ◌⊎◌, inl, inr, ℕ, ◌≤◌, ◌==◌, length, List, [], ◌∷◌, ◌++◌, Bool, true, false, cond, Some, Err, refl, sym, ap, ◌∙◌, subst, arith, append_assoc}
 use Rattle.std.proofs.lemmas.List.{append-nil, append_cancel_right}
 use Rattle.gts_directory.specs.Directory.{Directory}
 use Rattle.gts_event.specs.State.{State}
@@ -8,14 +8,15 @@ use Rattle.gts_event.specs.History.{outcome, after, after_all}
 use Rattle.gts_event.specs.Said.{line}
 use Rattle.gts_event.specs.declared.event.Event.TheVariants.{Taken}
 use Rattle.gts_event.specs.declared.event.Entry.{Entry}
-use Rattle.gts_event.specs.declared.event.Entry.TheVariants.{Done}
+use Rattle.gts_event.specs.declared.event.Entry.TheVariants.{Done, Idle}
 use Rattle.gts_event.specs.declared.outcome.Outcome.{Outcome}
 use Rattle.gts_event.specs.declared.outcome.Outcome.TheVariants.{Resend, Draw}
 use Rattle.gts_event.proofs.LawLemmas.{after_all-append}
 use Rattle.gts_traits.specs.Connections.{Part}
 use Rattle.gts_calls.specs.{entry_of}
-use Rattle.gts_receiver.specs.{events_over, goes_on, settled}
+use Rattle.gts_receiver.specs.{events_over, goes_on, is_try, settled, AreMost}
 use Rattle.gts_lock.specs.{entries, entries_under}
+use Rattle.gts_lock.specs.declared.limits.TheConstants.{MOST_TURNS}
 use Rattle.gts_desk.specs.{frame_of, frame_of_outcome, frames}
 use Rattle.gts_housed.specs.{Beginning}
 use Rattle.gts_receiver.specs.declared.end.ReceiveEnd.{ReceiveEnd}
@@ -110,21 +111,30 @@ none_settled : (w : Bool) → settled w [] ≡ []
 none_settled true = refl
 none_settled false = refl
 
+-- a hall has fewer turns than a service has tries
+tried_out : (own : List Entry) → AreMost false own → length own ≤ MOST_TURNS → ⊥
+tried_out own (inl many) few = omega (arith, many, few)
+tried_out own (inr alone) few = let n : false ≡ true = alone in cc n
+
+no_try : (b : Bool) → (b ≡ true → ⊥) → b ≡ false
+no_try true never = absurd (never refl)
+no_try false never = refl
+
 module _ (b : Beginning) (threads history : History) (c connections : ℕ) (earlier : List Part) (last : Part) where
   -- what is so of the entries that the receiver had seen is so of the whole history
   settled_from : {mine upto : List Entry} {done : List Entry} → mine ≡ upto → settled (goes_on connections) upto ≡ settled (goes_on connections) [] ++ done
       → settled (goes_on connections) mine ≡ done
   settled_from {mine} {upto} {done} same is = ap (settled (goes_on connections)) same ∙ is ∙ ap (λ (l : List Entry). l ++ done) (none_settled (goes_on connections))
 
-  pub entered : (end : ReceiveEnd) → IsReceived b threads history c connections earlier last end
-      → EnteredConnections (goes_on connections) c (earlier ++ last ∷ []) end (settled (goes_on connections) (entries_under (receiver_name c) history))
-  entered (Ended rest) r = settled_from r.within.own r.received.ends.0
-  entered (LostSync field at) r = settled_from r.within.own r.received.ends.0
-  entered SourceFault r = settled_from r.within.own r.received.ends
-  entered Long r = settled_from r.within.own r.received.ends.0
-  entered (Fault fault) r =
+  pub entered : (end : ReceiveEnd) → length (entries_under (receiver_name c) history) ≤ MOST_TURNS → IsReceived b threads history c connections earlier last end
+      → EnteredConnections (goes_on connections) c (earlier ++ last ∷ []) end (entries_under (receiver_name c) history)
+  entered (Ended rest) few r = settled_from r.within.own r.received.ends.0
+  entered (LostSync field at) few r = settled_from r.within.own r.received.ends.0
+  entered SourceFault few r = settled_from r.within.own r.received.ends.0
+  entered Long few r = settled_from r.within.own r.received.ends.0
+  entered (Fault fault) few r =
       let f = r.received.ends in
-      elim f.added as (λ _. EntersUpTo (goes_on connections) (events_over c (earlier ++ last ∷ [])) fault (settled (goes_on connections) (entries_under (receiver_name c) history))) [
+      elim f.added as (λ _. EntersUpTo (goes_on connections) (events_over c (earlier ++ last ∷ [])) fault (entries_under (receiver_name c) history)) [
         | inl added ↦ record {
           front = f.front;
           event = f.event;
@@ -132,6 +142,7 @@ module _ (b : Beginning) (threads history : History) (c connections : ℕ) (earl
           parts = f.parts;
           is = ap (settled (goes_on connections)) r.within.own ∙ added
               ∙ ap (λ (l : List Entry). (l ++ all_done f.front) ++ settled (goes_on connections) (entry_of f.event (Err fault))) (none_settled (goes_on connections));
+          kept = λ yes. no_try (is_try (Idle f.event fault)) (λ is. tried_out (entries_under (receiver_name c) r.upto) (f.kept yes is) (omega (arith, few, ap length r.within.own)));
         }
         | inr none ↦ absurd (let n : false ≡ true = none.1 in cc n)
       ]

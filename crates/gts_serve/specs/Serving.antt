@@ -152,21 +152,22 @@ pub record IsSent (b : Beginning) (threads history : List (ℕ × Entry)) (c : �
   pub within : EndsWithin threads history (sender_name c) full upto
   pub sent : Sends c (fresh b hall (sender_name c)) (seen_at b hall (sender_name c) full upto) bytes end
 
--- Of the events of some connections, those before one were done, and that one was answered with this fault; without the tries of a
--- service (w).
-pub record EntersUpTo (w : Bool) (events : List Event) (fault : SwitchFault) (entered : List Entry) : Type 0 where
+-- Of the events of some connections, those before one were done, and that one was answered with this fault. The tries of a service
+-- (w) are left out, and its receiver doesn't end with one.
+pub record EntersUpTo (w : Bool) (events : List Event) (fault : SwitchFault) (own : List Entry) : Type 0 where
   pub front : List Event
   pub event : Event
   pub behind : List Event
   pub parts : events ≡ front ++ event ∷ behind
-  pub is : entered ≡ all_done front ++ settled w (entry_of event (Err fault))
+  pub is : settled w own ≡ all_done front ++ settled w (entry_of event (Err fault))
+  pub kept : w ≡ true → is_try (of_entry.Idle event fault) ≡ false
 
 -- What a receiver entered over a whole history, without the tries of a service (w), by its end, where its source gave these
 -- connections: the events of each connection, one connection after another, each event once and in their order. Only where one was
 -- answered with a fault, it entered no more behind that.
 abbrev pub EnteredConnections : Bool → ℕ → List Part → ReceiveEnd → List Entry → Type 0
-EnteredConnections w c parts (Fault fault) entered = EntersUpTo w (events_over c parts) fault entered
-EnteredConnections w c parts end entered = entered ≡ all_done (events_over c parts)
+EnteredConnections w c parts (Fault fault) own = EntersUpTo w (events_over c parts) fault own
+EnteredConnections w c parts end own = settled w own ≡ all_done (events_over c parts)
 
 -- the frames that the takes on c gave over a history, each whole and in their order
 abbrev pub frames_on : Beginning → ℕ → List (ℕ × Entry) → List ℕ
@@ -208,8 +209,7 @@ pub record ServesCircuit (b : Beginning) (source_tells sink_tells : Type 0) (con
       → (length (now.bytes c).parts ≡ connections) × AreOver c (now.bytes c).parts
   pub ended : source_tells → (rest : ℕ) → received ≡ Ended rest → last.left ≡ []
   pub taken : sink_tells → (now.bytes c).taken ≡ written
-  pub entered : EnteredConnections (goes_on connections) c (earlier ++ last ∷ []) received
-      (settled (goes_on connections) (entries_under (receiver_name c) history))
+  pub entered : EnteredConnections (goes_on connections) c (earlier ++ last ∷ []) received (entries_under (receiver_name c) history)
   pub took : sink_tells → TookFrames b c history sent (now.bytes c).taken
   pub source_failed : received ≡ SourceFault → Rose (before.faults c) (now.faults c)
   pub sink_failed : (index : ℕ) → sent ≡ LineFault index → Rose (before.faults c) (now.faults c)
@@ -258,6 +258,7 @@ module _ {P : Type 0} (tells : Type 0) (calls : P → List Call) (disk say : P �
     pub others : (c : ℕ) → length ends ≤ c → IsSame before now c
     pub names : NamesAreUpTo (2 * length ends) (threads ++ drained)
     pub full_is : full ≡ true → length threads ≡ MOST_TURNS
+    pub few : length threads ≤ MOST_TURNS
     pub end_is : end ≡ first_fault 0 ends
     pub at_rest : end ≡ Done → IsAtRest b (goes_on connections) (length ends) (entries (threads ++ drained))
     -- a circuit whose sender ended with nothing to send has nothing left, whatever became of the others
