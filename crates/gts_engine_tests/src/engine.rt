@@ -7,6 +7,7 @@ use gts_frame::{FrameBuf, Kind, LostField};
 use gts_journal::Journal;
 use gts_memory::MemStation;
 use std::alloc::Global;
+use std::net::Ipv4Addr;
 use std::test::Fail;
 
 const MESSAGE: &[u8] = b"\x01\r\r\n123\r\r\nSMVG01 TVSV 280000\r\r\nNIL=\r\r\n\x03";
@@ -200,7 +201,7 @@ fn a_compacted_journal_is_opened_again(rt: HostRuntime) -> Result<(), Fail> {
 
 /// A directory of two circuits with a small journal, a small window and few kept draws; all goes to the second one.
 fn small(alloc: Global) -> Result<Directory, Fail> {
-    let mut rows = DirRows::new(alloc, *b"TVSV", 10, 30_000, MARK);
+    let mut rows = DirRows::new(alloc, *b"TVSV", 10, 30_000, Ipv4Addr::LOCALHOST, MARK);
     for (name, peer) in [(*b"A       ", *b"AAAA"), (*b"B       ", *b"BBBB")] {
         rows.add_circuit(CircuitRow {
             name,
@@ -209,6 +210,10 @@ fn small(alloc: Global) -> Result<Directory, Fail> {
             digits: 3,
             input: 0,
             output: 0,
+            host: Ipv4Addr::LOCALHOST,
+            idle: None,
+            repeat: 1,
+            closed: false,
         })?;
     }
     rows.add_rule(RuleRow {
@@ -272,7 +277,7 @@ fn room_is_made_for_all_that_is_drawn(rt: HostRuntime) -> Result<(), Fail> {
 }
 
 #[test]
-fn no_room_is_made_where_all_waits(rt: HostRuntime) -> Result<(), Fail> {
+fn full_waits_until_draws_go_out(rt: HostRuntime) -> Result<(), Fail> {
     let alloc = rt.alloc();
     let mut out = FrameBuf::new(alloc)?;
     let Ok(mut engine) = engine(alloc, small(alloc)?, &[])? else {
@@ -280,7 +285,10 @@ fn no_room_is_made_where_all_waits(rt: HostRuntime) -> Result<(), Fail> {
     };
     let accepted = accepted_of(alloc, &mut engine, &mut out, 600, false);
     assert!(rt; accepted > 100 && accepted < 300);
-    let station = station_in(engine);
-    assert!(rt; station.file(1).len() == 0);
+    assert!(rt; accepted_of(alloc, &mut engine, &mut out, 50, false) == 0);
+    for _ in 0..accepted {
+        let _ = taken(&mut engine, &mut out, SayMode::Caller);
+    }
+    assert!(rt; accepted_of(alloc, &mut engine, &mut out, 50, false) == 50);
     Ok(())
 }
