@@ -1,9 +1,9 @@
 -- Room is made for a bulletin for which the journal has none.
-use Rattle.std.proofs.Common.{◌≡◌, ◌⊎◌, inl, inr, ℕ, ◌+◌, ◌*◌, ◌/◌, ◌<◌, ◌≤◌, nat_lt, Bool, true, false, cond, List, [], ◌∷◌, ◌++◌, length, Option, Some, None, Result, Ok, Err, refl, sym, ap, subst, ◌∙◌, arith, mul-le-mul_left}
-use Rattle.std.specs.Prelude.{IsOk, IsSome, IfSome, is_ok}
-use Rattle.std.proofs.lemmas.Bool.{ltb-true, ltb-false, le-ltb, cases_eq}
+use Rattle.std.proofs.Common.{◌≡◌, ◌⊎◌, inl, inr, ℕ, ◌+◌, ◌*◌, ◌/◌, ◌-◌, ◌^◌, ◌<◌, ◌≤◌, nat_lt, nat_le, Bool, true, false, cond, List, [], ◌∷◌, ◌++◌, length, Option, Some, None, Result, Ok, Err, refl, sym, ap, subst, ◌∙◌, arith, mul-le-mul_left}
+use Rattle.std.specs.Prelude.{IsOk, IsSome, IfSome, is_ok, min}
+use Rattle.std.proofs.lemmas.Bool.{ltb-true, ltb-false, le-ltb, leb-true, leb-false, cases_eq}
 use Rattle.std.proofs.lemmas.List.{append-nil}
-use Rattle.gts_traits.specs.Calls.{Call, Outside, said_by, SaidSince}
+use Rattle.gts_traits.specs.Calls.{Call, Outside, said_by}
 use Rattle.gts_traits.proofs.LawLemmas.{weaker}
 use Rattle.gts_frame.specs.declared.kind.Kind.{Kind}
 use Rattle.gts_directory.specs.Directory.{Directory}
@@ -21,18 +21,17 @@ use Rattle.gts_event.specs.declared.fault.Device.TheVariants.{Disk, Say}
 use Rattle.gts_event.specs.declared.fault.SwitchFault.{SwitchFault}
 use Rattle.gts_event.specs.declared.fault.SwitchFault.TheVariants.{DiskFault, SayFault, Full, Stopped, Spent, NoMemory}
 use Rattle.gts_record.specs.Format.{seal_size, draw_size, written}
-use Rattle.gts_core.specs.Core.{Core, Holds}
+use Rattle.gts_core.specs.Core.{Holds}
 use Rattle.gts_opening.specs.Journal.{due, checkpoint_text}
-use Rattle.gts_opening.specs.Room.{HasRecord, IsAccepted, IsReading, HasDoubt, HasUnsaid, room, full, full_compacted, compacted_size}
+use Rattle.gts_opening.specs.Room.{HasRecord, IsAccepted, IsReading, room, full, full_compacted, compacted_size}
 use Rattle.gts_calls.specs.Calls.{IsCalled, IsCause, entry_of}
 use Rattle.gts_engine.specs.declared.mode.SayMode.{SayMode}
 use Rattle.gts_engine.specs.Engine.{Engine, Shown, shown}
-use Rattle.gts_engine.specs.Origin.{Origin, compacted_after, state_at, used_at, told}
+use Rattle.gts_engine.specs.Origin.{Origin, compacted_after, state_at, used_at}
 use Rattle.gts_engine.specs.Keeping.{LeavesFront, HasSaid, HasFailed, IsLeft, IsFullCompacted, Keeps, meanings_of}
-use Rattle.gts_engine.specs.Going.{stopped_after}
 use Rattle.gts_engine.specs.Compacting.{IsCompaction, GivesRoom, IsIdleFault, IsCompactFault}
-use Rattle.gts_engine.specs.Parts.{AnswersFull, IsUnchanged}
-use Rattle.gts_engine.specs.Rooming.{spare, full_with_spare, TellsSpare, bytes_wanted, AddsPlain, AddsCompacted, IsFullEither, IsHeardWithRoom}
+use Rattle.gts_engine.specs.Parts.{AnswersFull, IsUnchanged, IsIdleAnswer}
+use Rattle.gts_engine.specs.Rooming.{spare, full_with_spare, TellsSpare, bytes_wanted, IsFullEither, IsHeardWithRoom}
 use Rattle.gts_engine.proofs.EntryLemmas.{told_more, nothing_said, anchors_more, caused_more, stops_now, only_itself, read_not}
 use Rattle.gts_engine.proofs.LeavingLemmas.{longer}
 use Rattle.gts_engine.proofs.TurnLemmas.{goes_on, quiet, idle, same}
@@ -137,6 +136,12 @@ module _ (d : Directory) (s : State) (c : ℕ) (kind : Kind) (message : List ℕ
     pub cramped : TellsSpare false d s bytes → IsSome (full_with_spare d s event)
     cramped tells = over_of at (compacted_size (need d s) + spare d) used bytes limit (outcome d s event) is tells
 
+-- whether there are bytes to spare, by a sum that stops at the greatest number
+pub spare_tells : (d : Directory) (s : State) (size bytes total : ℕ) → (s.count ≡ most_accepted → ⊥) → size ≡ min (length (checkpoint_text (need d s))) (2 ^ 64 - 1)
+    → total ≡ min (min (size + (42 + seal_size written + d.limit / 8)) (2 ^ 64 - 1) + bytes) (2 ^ 64 - 1) → d.limit < 2 ^ 63 → (b : Bool) → nat_le total d.limit ≡ b → TellsSpare b d s bytes
+spare_tells d s size bytes total few size_is total_is low true e = (few, omega (arith, size_is, total_is, low, leb-true total d.limit e))
+spare_tells d s size bytes total few size_is total_is low false e = inr (omega (arith, size_is, total_is, low, leb-false total d.limit e))
+
 -- ---- the disk failed while room was made
 
 module _ (tells : Type 0) (mode : SayMode) (o : Origin) (h : List Entry) (event : Event) (old new : Shown) (kept : Keeps tells mode o h old) (left : IsLeft tells mode o h new)
@@ -188,6 +193,16 @@ full_is (Err (Stopped by)) bytes is = absurd (let e : None ≡ Some bytes = is i
 full_is (Err Spent) bytes is = absurd (let e : None ≡ Some bytes = is in cc e)
 full_is (Err NoMemory) bytes is = absurd (let e : None ≡ Some bytes = is in cc e)
 
+-- nothing changed then
+pub idle_full : (result : Result Outcome SwitchFault) (bytes : ℕ) → bytes_wanted result ≡ Some bytes → IsIdleAnswer result
+idle_full (Ok o) bytes is = absurd (let e : None ≡ Some bytes = is in cc e)
+idle_full (Err (Full used need limit)) bytes is = tt
+idle_full (Err DiskFault) bytes is = absurd (let e : None ≡ Some bytes = is in cc e)
+idle_full (Err SayFault) bytes is = absurd (let e : None ≡ Some bytes = is in cc e)
+idle_full (Err (Stopped by)) bytes is = tt
+idle_full (Err Spent) bytes is = absurd (let e : None ≡ Some bytes = is in cc e)
+idle_full (Err NoMemory) bytes is = tt
+
 -- an accepted bulletin has a record
 recorded : (o : Outcome) → IsAccepted o → HasRecord o
 recorded (Accepted p n) accepted = tt
@@ -195,41 +210,45 @@ recorded (Duplicate position) accepted = absurd accepted
 recorded (Asked n m) accepted = absurd accepted
 recorded (Refused refusal) accepted = absurd accepted
 recorded (LineLost field) accepted = absurd accepted
-recorded (Resend index) accepted = tt
-recorded (Draw index) accepted = tt
+recorded (Resend index) accepted = absurd accepted
+recorded (Draw index) accepted = absurd accepted
 recorded Nothing accepted = absurd accepted
 
 -- an engine that answers so had not stopped
-went_on : {E : Type 0} (result : Result Outcome SwitchFault) (before : Option Device) → IfSome before (λ by. (result ≡ Err (Stopped by)) × E)
+went_on : (E : Type 0) (result : Result Outcome SwitchFault) (before : Option Device) → IfSome before (λ by. (result ≡ Err (Stopped by)) × E)
     → ((by : Device) → result ≡ Err (Stopped by) → ⊥) → before ≡ None
-went_on result None stopped other = refl
-went_on result (Some by) stopped other = absurd (other by stopped.0)
+went_on E result None stopped other = refl
+went_on E result (Some by) stopped other = absurd (other by stopped.0)
 
 module _ {P : Type 0} (tells : Type 0) (calls : P → List Call) (mode : SayMode) (c : ℕ) (kind : Kind) (message : List ℕ) where
   abbrev heard : Event
   heard = Heard c kind message
 
   -- a cause that isn't want of room
-  other_cause : {F G : SwitchFault → Type 0} (h : List Entry) (o : Outcome) (fault : SwitchFault) → ((used need limit : ℕ) → fault ≡ Full used need limit → ⊥) → IsCause F h o fault → IsCause G h o fault
-  other_cause h o DiskFault other cause = cause
-  other_cause h o SayFault other cause = cause
-  other_cause h o (Full used need limit) other cause = absurd (other used need limit refl)
-  other_cause h o (Stopped Disk) other cause = cause
-  other_cause h o (Stopped Say) other cause = cause
-  other_cause h o Spent other cause = cause
-  other_cause h o NoMemory other cause = cause
+  other_cause : (F G : SwitchFault → Type 0) (h : List Entry) (o : Outcome) (fault : SwitchFault) → ((used need limit : ℕ) → fault ≡ Full used need limit → ⊥) → IsCause F h o fault → IsCause G h o fault
+  other_cause F G h o DiskFault other cause = cause
+  other_cause F G h o SayFault other cause = cause
+  other_cause F G h o (Full used need limit) other cause = absurd (other used need limit refl)
+  other_cause F G h o (Stopped Disk) other cause = cause
+  other_cause F G h o (Stopped Say) other cause = cause
+  other_cause F G h o Spent other cause = cause
+  other_cause F G h o NoMemory other cause = cause
 
   module _ (o : Origin) (h : List Entry) where
     abbrev there : State
     there = state_at o h
 
+    -- from so many bytes on the journal is full for it, with this fault
+    abbrev is_full_at : ℕ → SwitchFault → Type 0
+    is_full_at at fault = full o.directory there at heard ≡ Some fault
+
     -- in the words of the origin
     outcome_in : (e : Engine P) → Keeps tells mode o h (shown calls e) → outcome e.directory (after_all e.directory (begun o.start) h) heard ≡ outcome o.directory there heard
     outcome_in e kept = ap (λ (d : Directory). outcome d (after_all d (begun o.start) h) heard) kept.directory
 
-    cause_in : {F : SwitchFault → Type 0} (e : Engine P) (fault : SwitchFault) → Keeps tells mode o h (shown calls e)
+    cause_in : (F : SwitchFault → Type 0) (e : Engine P) (fault : SwitchFault) → Keeps tells mode o h (shown calls e)
         → IsCause F h (outcome e.directory (after_all e.directory (begun o.start) h) heard) fault → IsCause F h (outcome o.directory there heard) fault
-    cause_in {F} e fault kept cause = subst (λ (x : Outcome). IsCause F h x fault) (outcome_in e kept) cause
+    cause_in F e fault kept cause = subst (λ (x : Outcome). IsCause F h x fault) (outcome_in e kept) cause
 
   -- what was answered stands, but for want of room
   pub plain : (result : Result Outcome SwitchFault) (old new : Engine P) → IsCalled (meanings_of tells calls mode) heard result old new → AnswersFull old heard result
@@ -239,12 +258,13 @@ module _ {P : Type 0} (tells : Type 0) (calls : P → List Call) (mode : SayMode
     adds = λ o h kept. inl (record { keeps = called.adds o h kept; had_room = λ ok. roomy o h kept ok (full o.directory (state_at o h) (used_at o h) heard) refl });
     outcome = λ o h kept answer e. called.outcome o h kept answer e ∙ outcome_in o h old kept;
     caused = λ o h kept fault e.
-        other_cause h (outcome o.directory (state_at o h) heard) fault (λ used need limit is. absurd (let x : Some need ≡ None = sym (ap bytes_wanted (e ∙ ap {A = SwitchFault} (λ f. Err f) is)) ∙ other in cc x))
-        (cause_in o h old fault kept (called.caused o h kept fault e));
+        other_cause (is_full_at o h (used_at o h)) (IsFullEither o h heard) h (outcome o.directory (state_at o h) heard) fault
+        (λ used need limit is. absurd (let x : Some need ≡ None = sym (ap bytes_wanted (e ∙ ap {A = SwitchFault} (λ f. Err f) is)) ∙ other in cc x))
+        (cause_in o h (is_full_at o h (used_at o h)) old fault kept (called.caused o h kept fault e));
   }
     where
       not_stopped : IsOk result → old.stopped ≡ None
-      not_stopped ok = went_on result old.stopped stopped (λ by e. let x : false ≡ true = sym (ap is_ok e) ∙ ok in absurd (cc x))
+      not_stopped ok = went_on (new ≡ old) result old.stopped stopped (λ by e. let x : false ≡ true = sym (ap is_ok e) ∙ ok in absurd (cc x))
 
       roomy : (o : Origin) (h : List Entry) → Keeps tells mode o h (shown calls old) → IsOk result → (f : Option SwitchFault) → full o.directory (state_at o h) (used_at o h) heard ≡ f → full o.directory (state_at o h) (used_at o h) heard ≡ None
       roomy o h kept ok None is = is
@@ -261,17 +281,17 @@ module _ {P : Type 0} (tells : Type 0) (calls : P → List Call) (mode : SayMode
 
   module _ (first : Result Outcome SwitchFault) (bytes : ℕ) (wanted : bytes_wanted first ≡ Some bytes) (old mid : Engine P) (called : IsCalled (meanings_of tells calls mode) heard first old mid)
       (stopped : IfSome old.stopped (λ by. (first ≡ Err (Stopped by)) × (mid ≡ old))) (unchanged : IsUnchanged old mid) where
-    used_then : ℕ
+    abbrev used_then : ℕ
     used_then = (full_is first bytes wanted).0
 
-    limit_then : ℕ
+    abbrev limit_then : ℕ
     limit_then = (full_is first bytes wanted).1
 
     first_is : first ≡ Err (Full used_then bytes limit_then)
     first_is = (full_is first bytes wanted).2
 
     pub going : old.stopped ≡ None
-    going = went_on first old.stopped stopped (λ by e. let x : ◌≡◌ {A = Result Outcome SwitchFault} (Err (Full used_then bytes limit_then)) (Err (Stopped by)) = sym first_is ∙ e in cc x)
+    going = went_on (mid ≡ old) first old.stopped stopped (λ by e. let x : ◌≡◌ {A = Result Outcome SwitchFault} (Err (Full used_then bytes limit_then)) (Err (Stopped by)) = sym first_is ∙ e in cc x)
 
     pub going_mid : mid.stopped ≡ None
     going_mid = unchanged.stopped ∙ going
@@ -385,8 +405,8 @@ module _ {P : Type 0} (tells : Type 0) (calls : P → List Call) (mode : SayMode
           });
           outcome = λ o h kept answer e. then.outcome (compacted_after o h) h (kept_last o h kept) answer e ∙ outcome_in (compacted_after o h) h last (kept_last o h kept);
           caused = λ o h kept fault e.
-              other_cause h (outcome o.directory (state_at o h) heard) fault (λ used need limit is. never o h kept fault e used need limit is)
-              (cause_in (compacted_after o h) h last fault (kept_last o h kept) (then.caused (compacted_after o h) h (kept_last o h kept) fault e));
+              other_cause (is_full_at o h (used_at (compacted_after o h) h)) (IsFullEither o h heard) h (outcome o.directory (state_at o h) heard) fault (λ used need limit is. never o h kept fault e used need limit is)
+              (cause_in (compacted_after o h) h (is_full_at o h (used_at (compacted_after o h) h)) last fault (kept_last o h kept) (then.caused (compacted_after o h) h (kept_last o h kept) fault e));
         }
           where
             kept_last : (o : Origin) (h : List Entry) → Keeps tells mode o h (shown calls old) → Keeps tells mode (compacted_after o h) h (shown calls last)

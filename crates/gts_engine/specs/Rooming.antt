@@ -53,6 +53,10 @@ abbrev pub IsFullEither : Origin → List Entry → Event → SwitchFault → Ty
 IsFullEither o h event fault =
     (full o.directory (state_at o h) (used_at o h) event ≡ Some fault) × IsSome (full_with_spare o.directory (state_at o h) event)
 
+-- what comes of an event behind these entries
+abbrev pub outcome_behind : Origin → List Entry → Event → Outcome
+outcome_behind o h event = outcome o.directory (state_at o h) event
+
 -- A message was heard so, and room was made for it: whatever entries the engine stood for, it stands for these and the entry,
 -- with the journal compacted in front of that exactly where there was no room and a compacted journal has it. The answer is the
 -- outcome. A fault has its cause: Full is answered only where a compacted journal would be full, too.
@@ -62,9 +66,9 @@ pub record IsHeardWithRoom {P : Type 0} (tells : Type 0) (calls : P → List Cal
   pub adds : (o : Origin) (h : List Entry) → Keeps tells mode o h (shown calls old)
       → AddsPlain tells mode o h event result (shown calls new) ⊎ AddsCompacted tells mode o h event result (shown calls new)
   pub outcome : (o : Origin) (h : List Entry) → Keeps tells mode o h (shown calls old)
-      → (answer : Outcome) → result ≡ Ok answer → answer ≡ outcome o.directory (state_at o h) event
+      → (answer : Outcome) → result ≡ Ok answer → answer ≡ outcome_behind o h event
   pub caused : (o : Origin) (h : List Entry) → Keeps tells mode o h (shown calls old)
-      → (fault : SwitchFault) → result ≡ Err fault → IsCause (IsFullEither o h event) h (outcome o.directory (state_at o h) event) fault
+      → (fault : SwitchFault) → result ≡ Err fault → IsCause (IsFullEither o h event) h (outcome_behind o h event) fault
 
 -- whoever says the frames
 abbrev pub HearsWithRoom : {P : Type 0} → Type 0 → (P → List Call) → Event → Result Outcome SwitchFault → (old new : Engine P) → Type 0
