@@ -1,6 +1,8 @@
 /* Loaded before a program, it writes a line for each call of it on a file to the file that WATCHED_CALLS names: the call, the name of
-   the file, and whether it was done. Where FAILING_CALL is `CALL NAME K ERROR`, the Kth such call, from 1 on, fails with that number
-   of an error and does nothing; with `*` for the name, of any file. Standard output is called `-`. */
+   the file, and whether it was done. Where WATCHED_BYTES names a file, each change that was done and each sync is kept there: a line
+   `CALL NAME PLACE COUNT`, and behind it the bytes that were written, so many. PLACE is that of a write, -1 where it is the end of the
+   file, or the size that a cut left. Where FAILING_CALL is `CALL NAME K ERROR`, the Kth such call, from 1 on, fails with that number of
+   an error and does nothing; with `*` for the name, of any file. Standard output is called `-`. */
 #define _GNU_SOURCE
 #include <dlfcn.h>
 #include <errno.h>
@@ -13,16 +15,20 @@
 #include <sys/types.h>
 #include <unistd.h>
 
-static int watched = -1;
+static int watched = -1, kept_bytes = -1;
 static char failing_call[16], failing_name[64];
 static int failing_in, failing_error;
 
 __attribute__((constructor)) static void begin(void) {
     const char *path = getenv("WATCHED_CALLS");
+    const char *bytes_path = getenv("WATCHED_BYTES");
     const char *failing = getenv("FAILING_CALL");
     int (*real)(const char *, int, ...) = dlsym(RTLD_NEXT, "open");
     if (path != NULL && real != NULL) {
         watched = fcntl(real(path, O_WRONLY | O_CREAT | O_APPEND, 0600), F_DUPFD_CLOEXEC, 200);
+    }
+    if (bytes_path != NULL && real != NULL) {
+        kept_bytes = fcntl(real(bytes_path, O_WRONLY | O_CREAT | O_APPEND, 0600), F_DUPFD_CLOEXEC, 200);
     }
     if (failing == NULL || sscanf(failing, "%15s %63s %d %d", failing_call, failing_name, &failing_in, &failing_error) != 4) {
         failing_in = 0;
@@ -72,6 +78,21 @@ static void tell(const char *call, const char *name, long answer) {
     errno = kept;
 }
 
+/* Keeps a change of a file, or a sync of it, with the bytes that were written. */
+static void keep(const char *call, const char *name, long place, const void *bytes, long count) {
+    char line[256];
+    int kept = errno;
+    if (kept_bytes < 0 || count < 0) {
+        return;
+    }
+    ssize_t (*real)(int, const void *, size_t) = dlsym(RTLD_NEXT, "write");
+    int length = snprintf(line, sizeof line, "%s %s %ld %ld\n", call, name, place, count);
+    if (real(kept_bytes, line, (size_t)length) < 0 || (count > 0 && real(kept_bytes, bytes, (size_t)count) != count)) {
+        _exit(99);
+    }
+    errno = kept;
+}
+
 #define WATCHED(call, name, answer_type, real_call) \
     do { \
         const char *watched_name = (name); \
@@ -87,19 +108,31 @@ static void tell(const char *call, const char *name, long answer) {
 
 #define REAL(name, type) ((type)dlsym(RTLD_NEXT, name))
 
+static ssize_t write_behind(const char *name, int file, const void *bytes, size_t count) {
+    WATCHED("write", name, ssize_t, REAL("write", ssize_t (*)(int, const void *, size_t))(file, bytes, count));
+}
+
 ssize_t write(int file, const void *bytes, size_t count) {
     char path[4096];
     if (file == STDERR_FILENO) {
         return REAL("write", ssize_t (*)(int, const void *, size_t))(file, bytes, count);
     }
-    WATCHED("write", name_of(file, path, sizeof path), ssize_t,
-        REAL("write", ssize_t (*)(int, const void *, size_t))(file, bytes, count));
+    const char *name = name_of(file, path, sizeof path);
+    ssize_t written = write_behind(name, file, bytes, count);
+    keep("write", name, -1, bytes, written);
+    return written;
+}
+
+static ssize_t write_at(const char *name, int file, const void *bytes, size_t count, off64_t at) {
+    WATCHED("write", name, ssize_t, REAL("pwrite64", ssize_t (*)(int, const void *, size_t, off64_t))(file, bytes, count, at));
 }
 
 ssize_t pwrite64(int file, const void *bytes, size_t count, off64_t at) {
     char path[4096];
-    WATCHED("write", name_of(file, path, sizeof path), ssize_t,
-        REAL("pwrite64", ssize_t (*)(int, const void *, size_t, off64_t))(file, bytes, count, at));
+    const char *name = name_of(file, path, sizeof path);
+    ssize_t written = write_at(name, file, bytes, count, at);
+    keep("write", name, at, bytes, written);
+    return written;
 }
 
 ssize_t pwrite(int file, const void *bytes, size_t count, off_t at) {
@@ -116,23 +149,40 @@ ssize_t pread(int file, void *bytes, size_t count, off_t at) {
     return pread64(file, bytes, count, at);
 }
 
+static int cut(const char *name, int file, off64_t size) {
+    WATCHED("cut", name, int, REAL("ftruncate64", int (*)(int, off64_t))(file, size));
+}
+
 int ftruncate64(int file, off64_t size) {
     char path[4096];
-    WATCHED("cut", name_of(file, path, sizeof path), int, REAL("ftruncate64", int (*)(int, off64_t))(file, size));
+    const char *name = name_of(file, path, sizeof path);
+    int answer = cut(name, file, size);
+    keep("cut", name, size, NULL, answer);
+    return answer;
 }
 
 int ftruncate(int file, off_t size) {
     return ftruncate64(file, size);
 }
 
-int fsync(int file) {
+static int synced(const char *name, int file, const char *by) {
+    WATCHED("sync", name, int, REAL(by, int (*)(int))(file));
+}
+
+static int sync_by(int file, const char *by) {
     char path[4096];
-    WATCHED("sync", name_of(file, path, sizeof path), int, REAL("fsync", int (*)(int))(file));
+    const char *name = name_of(file, path, sizeof path);
+    int answer = synced(name, file, by);
+    keep("sync", name, 0, NULL, answer);
+    return answer;
+}
+
+int fsync(int file) {
+    return sync_by(file, "fsync");
 }
 
 int fdatasync(int file) {
-    char path[4096];
-    WATCHED("sync", name_of(file, path, sizeof path), int, REAL("fdatasync", int (*)(int))(file));
+    return sync_by(file, "fdatasync");
 }
 
 int flock(int file, int how) {
