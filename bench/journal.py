@@ -421,6 +421,8 @@ class Following:
         while at < len(feed):
             try:
                 record, seal = piece_of(directory, feed[at:], seal, index == 0)
+                if index == 0 and self.may_begin_anew(record, seal):
+                    self.begin_anew()
                 if index >= len(self.own):
                     self.add(record, seal)
             except Bad:
@@ -428,6 +430,23 @@ class Following:
             if index < len(self.own) and seal != self.own[index]:
                 raise Feed(15, f'feed: other from record {index}')
             at, index = at + len(record) + SEAL, index + 1
+
+    def may_begin_anew(self, record, seal):
+        """Whether record 0 of the feed is another one, and a checkpoint that isn't behind what the journal has come to."""
+        if not self.own or seal == self.own[0] or record[:1] != b'C':
+            return False
+        try:
+            fed = state_of_checkpoint(self.journal.directory, record)
+        except Bad:
+            return False
+        own = self.journal.state
+        circuits = range(len(self.journal.directory.names))
+        return fed.accepted >= own.accepted and all(fed.draws(circuit) >= own.draws(circuit) for circuit in circuits)
+
+    def begin_anew(self):
+        """The journal has no record, and the next one goes into the other file."""
+        self.own = []
+        self.journal.records, self.journal.seals, self.journal.gate = [], self.journal.seals[:1], HEADER
 
     def add(self, record, seal):
         """One record more in the journal: a checkpoint in the other file, which is then selected."""

@@ -30,7 +30,7 @@ POLL = 0.01
 PIECE, DELAY = 4096, 0.002
 # How long nothing may have moved before the network counts as at rest.
 QUIET = 0.7
-USAGE, FEED_IS_OTHER = 2, 15
+USAGE = 2
 
 
 def neighbours_of(code):
@@ -333,25 +333,19 @@ class Standby:
         self.folder = centre.folder + '.standby'
         with open(os.path.join(centre.folder, 'directory.toml')) as file:
             self.text = file.read()
-        self.followed = self.begun_anew = 0
+        self.followed = 0
         make_folder(centre.program, self.folder, self.text)
 
     def run(self, word):
         return subprocess.run([self.centre.program, word], cwd=self.folder, capture_output=True, timeout=60)
 
     def follow(self):
-        """Ships and follows once. Where the centre has compacted its journal, the standby begins anew."""
+        """Ships and follows once, also where the centre has compacted its journal."""
         status, feed, line = self.centre.call('ship')
         self.centre.wants('ship', (status, line), (0, ''))
         with open(os.path.join(self.folder, 'capture.gts'), 'wb') as file:
             file.write(feed)
         done = self.run('follow')
-        if done.returncode == FEED_IS_OTHER:
-            self.begun_anew += 1
-            for number in range(3):
-                os.remove(os.path.join(self.folder, f'journal.{number}'))
-            self.run('init')
-            done = self.run('follow')
         self.followed += 1
         self.centre.wants('follow', (done.returncode, done.stderr.decode().strip()), (0, ''))
 

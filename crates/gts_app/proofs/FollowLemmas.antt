@@ -16,7 +16,7 @@ use Rattle.gts_journal.specs.{selected_bytes}
 use Rattle.gts_opening.specs.Journal.{Read, opened_of, opens, files_read}
 use Rattle.gts_standby.specs.declared.end.FollowEnd.{FollowEnd}
 use Rattle.gts_standby.specs.declared.end.FollowEnd.TheVariants as follow
-use Rattle.gts_standby.specs.{Taken, taken, comes_to, own_seals, EndsAs, Answers, IsEnd, IsNamedEnd, state_after, EachOpens}
+use Rattle.gts_standby.specs.{Taken, taken, comes_to, own_seals, EndsAs, Answers, LeavesAlone, IsEnd, IsNamedEnd, state_after, read_after, EachOpens}
 use Rattle.gts_app.specs.declared.status.Status.{Status}
 use Rattle.gts_app.specs.declared.status.Status.TheVariants.{NoMemory}
 use Rattle.gts_app.specs.Opening.{IsOfFiles}
@@ -109,9 +109,12 @@ module _ {S P : Type 0} (source : SourceMeanings S) (station : StationMeanings P
     (added : station.tells → source.tells → (s : State) (used : ℕ) (last : List ℕ) (t : Taken) → files_read written d (seen (station.calls old)) ≡ Ok (s, used, last)
     → comes_to d (seen (station.calls old)) (source.left oc) ≡ Ok t → IsEnd answer
     → opens d (seen (station.calls new)) ≡ Ok (need d (restarted (state_after d s t))))
+    (records : station.tells → source.tells → (read : State × ℕ × List ℕ) (t : Taken) → files_read written d (seen (station.calls old)) ≡ Ok read
+    → comes_to d (seen (station.calls old)) (source.left oc) ≡ Ok t → IsEnd answer → files_read written d (seen (station.calls new)) ≡ Ok (read_after d read t))
     (moments : station.tells → source.tells → (s : State) (used : ℕ) (last : List ℕ) (t : Taken) → files_read written d (seen (station.calls old)) ≡ Ok (s, used, last)
     → comes_to d (seen (station.calls old)) (source.left oc) ≡ Ok t → EachOpens d s t (station.calls old) (station.calls new))
     (done : source.tells → answer ≡ follow.Done → source.left nc ≡ [])
+    (refused : station.tells → source.tells → LeavesAlone answer (station.calls old) (station.calls new) (nc ≡ oc))
     (named : (fault : OpenFault) → answer ≡ follow.Open fault → IsOfFiles fault)
     (silent : station.tells → said_by (station.calls new) ≡ said_by (station.calls old))
     (source_fault : answer ≡ follow.SourceFault → Rose (source.faults oc) (source.faults nc))
@@ -138,12 +141,20 @@ module _ {S P : Type 0} (source : SourceMeanings S) (station : StationMeanings P
             comes = e;
             ends = ends_of answer is t (subst (Answers answer) e (answers told tells));
             opened = added told tells x.0 x.1 x.2 t x.3 e is;
+            records = records told tells (x.0, x.1, x.2) t x.3 e is;
           }
 
   refused_by : (fault : OpenFault) → answer ≡ follow.Open fault → RefusedBy fault source station (world od oc old) (world nd nc new)
-  refused_by fault e = λ tells told.
-      let come : Result Taken OpenFault = comes_to d (seen (station.calls old)) (source.left oc) in
-      (d, read tells, unopened d (seen (station.calls old)) (source.left oc) fault (subst (λ (a : FollowEnd). Answers a come) e (answers told tells)))
+  refused_by fault e =
+      let alone : source.tells → station.tells → LeavesAlone (follow.Open fault) (station.calls old) (station.calls new) (nc ≡ oc) =
+      λ tells told. subst (λ (a : FollowEnd). LeavesAlone a (station.calls old) (station.calls new) (nc ≡ oc)) e (refused told tells) in
+      record {
+        opened = λ tells told.
+            let come : Result Taken OpenFault = comes_to d (seen (station.calls old)) (source.left oc) in
+            (d, read tells, unopened d (seen (station.calls old)) (source.left oc) fault (subst (λ (a : FollowEnd). Answers a come) e (answers told tells)));
+        only_syncs = λ tells told. (alone tells told).0;
+        unread = λ tells told. (alone tells told).1;
+      }
 
   means : (a : FollowEnd) → answer ≡ a → FollowedAs source station (status_followed a) (world od oc old) (world nd nc new)
   means follow.Done e = (

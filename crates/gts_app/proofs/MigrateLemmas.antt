@@ -92,7 +92,7 @@ new_unread {S} {P} source station status od nd oc at h =
     means (inr (inl e)) =
         subst (λ (s : Status). MigratedAs source station s (world od oc at) (world nd oc at)) (sym e)
         (refl, inl (h.cause.failed (ap (λ (s : Status). Err s) e)))
-    means (inr (inr e)) = subst (λ (s : Status). MigratedAs source station s (world od oc at) (world nd oc at)) (sym e) tt
+    means (inr (inr e)) = subst (λ (s : Status). MigratedAs source station s (world od oc at) (world nd oc at)) (sym e) (λ told. inr (inl refl))
 
     only_memory : source.tells → (new : directories.Directory) → directory_of_bytes (source.left od) ≡ Ok new → (Rose (source.faults od) (source.faults nd) → ⊥) → Ended status → status ≡ NoMemory
     only_memory tells new read calm (inl e) = absurd (no_fault new e.0 (directory_of_bytes (source.left od)) read (h.fault tells e.0 (ap (λ (s : Status). Err s) e.1)))
@@ -125,7 +125,7 @@ old_unread {S} {P} source station status d od nd oc nc at first h =
     means (inr (inl e)) =
         subst (λ (s : Status). MigratedAs source station s (world od oc at) (world nd nc at)) (sym e)
         (refl, inr (h.cause.failed (ap (λ (s : Status). Err s) e)))
-    means (inr (inr e)) = subst (λ (s : Status). MigratedAs source station s (world od oc at) (world nd nc at)) (sym e) tt
+    means (inr (inr e)) = subst (λ (s : Status). MigratedAs source station s (world od oc at) (world nd nc at)) (sym e) (λ told. inr (inl refl))
 
     only_memory : source.tells → (old : directories.Directory) → directory_of_bytes (source.left oc) ≡ Ok old → (Rose (source.faults oc) (source.faults nc) → ⊥) → OldEnded status → status ≡ NoMemory
     only_memory tells old read calm (inl e) = absurd (no_fault old e.0 (directory_of_bytes (source.left oc)) read (h.fault tells e.0 (ap (λ (s : Status). Err s) e.1)))
@@ -236,8 +236,9 @@ module _ {S P : Type 0} (source : SourceMeanings S) (station : StationMeanings P
   read_both : source.tells → (directory_of_bytes (source.left od) ≡ Ok d) × (directory_of_bytes (source.left oc) ≡ Ok o)
   read_both tells = (first.read tells d refl, second.read tells o refl)
 
-  refused_by : (e : OpenFault) → (station.tells → opens_any o (seen (station.calls old)) ≡ Err e) → IsRefusedBy source station (world od oc old) e
-  refused_by e is = record { new = d; old = o; read = read_both; holds = (extends, is) }
+  refused_by : (e : OpenFault) → (station.tells → opens_any o (seen (station.calls old)) ≡ Err e) → (station.tells → OnlySyncs (station.calls old) (station.calls new))
+      → IsRefusedBy source station (world od oc old) (world nd nc new) e
+  refused_by e is told = (record { new = d; old = o; read = read_both; holds = (extends, is) }, told)
 
   means : (r : Result (Unit {0}) MigrateFault) → Ends r → MigratedAs source station (status_migrated r) (world od oc old) (world nd nc new)
   means (Ok done) e = record {
@@ -251,25 +252,28 @@ module _ {S P : Type 0} (source : SourceMeanings S) (station : StationMeanings P
           (x.0, x.1, x.2, e.migrated t x.0 x.1 x.2);
     };
   }
-  means (Err (fault.Open opening.NoJournal)) e = refused_by opening.NoJournal (λ t. (e.answers t).0)
+  means (Err (fault.Open opening.NoJournal)) e = refused_by opening.NoJournal (λ t. (e.answers t).0) (λ t. e.told t tt)
   means (Err (fault.Open opening.OldVersion)) e = λ t. (e.answers t).1 refl
-  means (Err (fault.Open (opening.NotThis want found))) e = refused_by (opening.NotThis want found) (λ t. (e.answers t).0)
-  means (Err (fault.Open (opening.Damaged file at))) e = refused_by (opening.Damaged file at) (λ t. (e.answers t).0)
+  means (Err (fault.Open (opening.NotThis want found))) e = refused_by (opening.NotThis want found) (λ t. (e.answers t).0) (λ t. e.told t tt)
+  means (Err (fault.Open (opening.Damaged file at))) e = refused_by (opening.Damaged file at) (λ t. (e.answers t).0) (λ t. e.told t tt)
   means (Err (fault.Open opening.DiskFault)) e = e.disk tt
-  means (Err (fault.Open opening.NoMemory)) e = tt
-  means (Err (fault.Full used need limit)) e = record {
-    new = d;
-    old = o;
-    read = read_both;
-    holds = record {
-      extends = extends;
-      opened = λ t.
-          let x = files_of o (seen (station.calls old)) (e.answers t).0 (e.answers t).1 in
-          (x.0, x.1, x.2, e.full t x.0 x.1 x.2);
-    };
-  }
+  means (Err (fault.Open opening.NoMemory)) e = λ t. e.told t tt
+  means (Err (fault.Full used need limit)) e = (
+    record {
+      new = d;
+      old = o;
+      read = read_both;
+      holds = record {
+        extends = extends;
+        opened = λ t.
+            let x = files_of o (seen (station.calls old)) (e.answers t).0 (e.answers t).1 in
+            (x.0, x.1, x.2, e.full t x.0 x.1 x.2);
+      };
+    },
+    λ t. e.told t tt,
+  )
   means (Err fault.DiskFault) e = e.disk tt
-  means (Err fault.NoMemory) e = tt
+  means (Err fault.NoMemory) e = λ t. e.told t tt
 
   -- a fault of the files is answered
   answered : (r : Result (Unit {0}) MigrateFault) → Ends r → station.tells → (e : OpenFault) → opens_any o (seen (station.calls old)) ≡ Err e

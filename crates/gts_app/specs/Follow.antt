@@ -14,9 +14,10 @@ use Rattle.gts_record.specs.declared.fault.OpenFault.{OpenFault}
 use Rattle.gts_record.specs.declared.fault.OpenFault.TheVariants as opening
 use Rattle.gts_record.specs.Format.{written}
 use Rattle.gts_opening.specs.Journal.{opens, files_read}
+use Rattle.gts_journal.specs.{OnlySyncs}
 use Rattle.gts_standby.specs.declared.end.FollowEnd.{FollowEnd}
 use Rattle.gts_standby.specs.declared.end.FollowEnd.TheVariants as follow
-use Rattle.gts_standby.specs.{Taken, comes_to, EndsAs, IsEnd, state_after, EachOpens}
+use Rattle.gts_standby.specs.{Taken, comes_to, EndsAs, IsEnd, state_after, read_after, EachOpens}
 use Rattle.gts_app.specs.declared.status.Status.{Status}
 use Rattle.gts_app.specs.declared.status.Status.TheVariants.{Done, Directory, NoJournal, OldVersion, NotThis, Damaged, Feed, Diverged, DiskFault, SourceFault, NoMemory}
 use Rattle.gts_app.specs.Ending.{refusal}
@@ -39,7 +40,7 @@ Under source station old OfIt =
     source.tells → station.tells → (d : directories.Directory) × (directory_of_bytes (source.left old.directory) ≡ Ok d) × OfIt d
 
 -- The files opened, and the bytes of the feed came to this beside them, with an end as it is answered. The journal has all that
--- they add.
+-- they add, behind what it had or behind the checkpoint with which it begins anew, and nothing else.
 pub record TakesFeed (d : directories.Directory) (old new : List Call) (fed : List ℕ) (answer : FollowEnd) : Type 0 where
   pub state : State
   pub used : ℕ
@@ -49,15 +50,19 @@ pub record TakesFeed (d : directories.Directory) (old new : List Call) (fed : Li
   pub comes : comes_to d (seen old) fed ≡ Ok taken
   pub ends : EndsAs answer taken.end
   pub opened : opens d (seen new) ≡ Ok (need d (restarted (state_after d state taken)))
+  pub records : files_read written d (seen new) ≡ Ok (read_after d (state, used, last) taken)
 
 -- the feed was taken into the journal of the directory, and this was answered
 abbrev pub TakenAs : {S P : Type 0} → FollowEnd → SourceMeanings S → StationMeanings P → (old new : World S S P) → Type 0
 TakenAs answer source station old new =
     Under source station old (λ d. TakesFeed d (station.calls old.station) (station.calls new.station) (source.left old.capture) answer)
 
--- the files open to this fault
-abbrev pub RefusedBy : {S P : Type 0} → OpenFault → SourceMeanings S → StationMeanings P → (old new : World S S P) → Type 0
-RefusedBy fault source station old new = Under source station old (λ d. opens d (seen (station.calls old.station)) ≡ Err fault)
+-- The files open to this fault. They are left alone, but for a sync that was tried, and nothing of the feed is read.
+pub record RefusedBy {S P : Type 0} (fault : OpenFault) (source : SourceMeanings S) (station : StationMeanings P)
+    (old new : World S S P) : Type 0 where
+  pub opened : Under source station old (λ d. opens d (seen (station.calls old.station)) ≡ Err fault)
+  pub only_syncs : source.tells → station.tells → OnlySyncs (station.calls old.station) (station.calls new.station)
+  pub unread : source.tells → station.tells → new.capture ≡ old.capture
 
 -- For each status, what it means: the feed was taken to its end; or up to where it is bad, or of another history; or why it was not.
 abbrev pub FollowedAs : {S P : Type 0} → SourceMeanings S → StationMeanings P → Status → (old new : World S S P) → Type 0

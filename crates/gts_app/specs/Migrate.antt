@@ -56,10 +56,15 @@ pub record OpensUnder {S P : Type 0} (station : StationMeanings P) (w : World S 
   pub extends : Extends new old
   pub opened : station.tells → (s : State) × (used : ℕ) × (files_open_any old (seen (station.calls w.station)) ≡ Ok (s, used)) × OfIt s
 
--- under the old directory, which the new one extends, the files open to this fault
-abbrev pub IsRefusedBy : {S P : Type 0} → SourceMeanings S → StationMeanings P → World S S P → OpenFault → Type 0
-IsRefusedBy source station w e =
+-- the files are left alone, but for a sync that was tried
+abbrev pub IsLeftAlone : {S P : Type 0} → StationMeanings P → World S S P → World S S P → Type 0
+IsLeftAlone station w v = station.tells → OnlySyncs (station.calls w.station) (station.calls v.station)
+
+-- Under the old directory, which the new one extends, the files open to this fault, and are left alone.
+abbrev pub IsRefusedBy : {S P : Type 0} → SourceMeanings S → StationMeanings P → World S S P → World S S P → OpenFault → Type 0
+IsRefusedBy source station w v e =
     UnderBoth source w (λ new old. Extends new old × (station.tells → opens_any old (seen (station.calls w.station)) ≡ Err e))
+    × IsLeftAlone station w v
 
 -- the station was not touched, and the old directory's bytes have this fault
 abbrev pub IsOldRefused : {S P : Type 0} → SourceMeanings S → World S S P → World S S P → DirFault → Type 0
@@ -77,18 +82,19 @@ MigratedAs source station (Directory e) w v = IsTurnedAway source e w v
 MigratedAs source station (OldDirectory e) w v = IsOldRefused source w v e
 MigratedAs source station (Changed part row) w v =
     (v.station ≡ w.station) × UnderBoth source w (λ new old. first_change new old ≡ Some (record { part = part; row = row }))
-MigratedAs source station NoJournal w v = IsRefusedBy source station w opening.NoJournal
+MigratedAs source station NoJournal w v = IsRefusedBy source station w v opening.NoJournal
 MigratedAs source station OldVersion w v = station.tells → ⊥
-MigratedAs source station (NotThis want found) w v = IsRefusedBy source station w (opening.NotThis want found)
-MigratedAs source station (Damaged file at) w v = IsRefusedBy source station w (opening.Damaged file at)
+MigratedAs source station (NotThis want found) w v = IsRefusedBy source station w v (opening.NotThis want found)
+MigratedAs source station (Damaged file at) w v = IsRefusedBy source station w v (opening.Damaged file at)
 MigratedAs source station (Full used need limit) w v =
     UnderBoth source w (λ new old. OpensUnder station w new old
     (λ s. IsFullCompacted new (widened (length new.circuits) s) (switch.Full used need limit)))
+    × IsLeftAlone station w v
 MigratedAs source station DiskFault w v = Rose (station.disk_faults w.station) (station.disk_faults v.station)
 MigratedAs source station SourceFault w v =
     (v.station ≡ w.station)
     × (Rose (source.faults w.directory) (source.faults v.directory) ⊎ Rose (source.faults w.capture) (source.faults v.capture))
-MigratedAs source station NoMemory w v = Unit {0}
+MigratedAs source station NoMemory w v = IsLeftAlone station w v
 MigratedAs source station _ w v = ⊥
 
 -- at most a sync was tried; or since a sync that was done each moment opens under the old directory or, wider, under the new one

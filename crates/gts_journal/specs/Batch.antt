@@ -1,12 +1,13 @@
 -- Records that are appended behind one gate, and what that leaves of the files.
 use Rattle.std.specs.Prelude.{◌≡◌, ◌⊎◌, false, ℕ, ◌+◌, ◌-◌, List, [], ◌∷◌, ◌++◌, length, take, drop}
 use Rattle.gts_traits.specs.Station.{Outside, Call, Files, seen}
+use Rattle.gts_traits.specs.Moments.{EachSince}
 use Rattle.gts_record.specs.declared.version.Version.{Version}
 use Rattle.gts_record.specs.Record.{Record, open_gate, closed_gate}
 use Rattle.gts_record.specs.Format.{chain_text, last_seal, texts_of, written}
 use Rattle.gts_directory.specs.Directory.{Directory}
 use Rattle.gts_event.specs.State.{State}
-use Rattle.gts_opening.specs.Journal.{AreAdmitted}
+use Rattle.gts_opening.specs.Journal.{AreAdmitted, MayStand, after_records}
 use Rattle.gts_journal.specs.Law.{OpensTo}
 use Rattle.gts_journal.specs.Hand.{InHand}
 use Rattle.gts_journal.specs.Standing.{EndsAt, StandsOn, file_of, front_of}
@@ -61,6 +62,17 @@ pub record AreNext (d : Directory) (s : State) (j : InHand) (rs : List Record) (
   pub gathers : Gathers j.seal rs b
   pub admitted : AreAdmitted written d s j.gate rs
 
+-- one record more was gathered, which may stand behind those of a batch
+pub record GathersMore (d : Directory) (s : State) (j : InHand) (rs : List Record) (b : Gathered) (r : Record) (next : Gathered) : Type 0 where
+  pub version : next.version ≡ b.version
+  pub gathers : Gathers j.seal (rs ++ r ∷ []) next
+  pub may : MayStand written d (after_records d s rs) (j.gate + length b.text) r
+
 -- nothing is said, and the files open to the first of two states, or to the second
 abbrev pub OpensToOneOf : Directory → State → State → Files → Outside → Type 0
 OpensToOneOf d s t files outside = (outside ≡ []) × (OpensTo d s files ⊎ OpensTo d t files)
+
+-- calls that leave all records of a batch or none leave, at each moment, what opens to the state before them, or to that with all
+abbrev pub AddsAllOrNone : Directory → State → List Call → List Call → InHand → List Record → Gathered → Type 0
+AddsAllOrNone d s old new j rs b =
+    EachSince old new (LeavesAllOrNone old j b.text) → EachSince old new (OpensToOneOf d s (after_records d s rs))

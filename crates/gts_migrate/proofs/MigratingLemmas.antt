@@ -204,6 +204,9 @@ module _ (old new : Directory) (s : State) (n : Need) (calls : List Call) (j : I
         let other_not : other ≢ 2 = λ e. omega (arith, e) in
         record {
           other = λ e. not_other (sym stands.selected_is ∙ sym e ∙ chosen);
+          stays =
+              ap (seen last) stands.selected_is ∙ files j.file (λ e. omega (arith, e, low)) ∙ beside.seen j.file not_other
+              ∙ sym (ap (seen calls) stands.selected_is);
           text = ap (seen last) chosen ∙ files other other_not ∙ wrote.text ∙ ap (checkpoint_file new.mark) g.wide;
           opened = λ image left.
               let selector : image 2 ≡ seen last 2 = synced_image last 2 image there.selector_synced left in
@@ -345,6 +348,6 @@ pub migrated_after : (result : Result (Unit {0}) MigrateFault) (old new : Direct
     → OnOk result ((o : Directory) (u : State) → CanMigrate o new u n mid j → IsMigrated o new u mid after) → OnOk result (IsMigrated old new t before after)
 migrated_after (Ok done) old new s t n before mid after j synced same can each =
     let m : IsMigrated old new s (Did Syncs ∷ before) after = subst (λ (calls : List Call). IsMigrated old new s calls after) synced (each old s can) in
-    let here : IsMigrated old new s before after = record { other = m.other; text = m.text; opened = m.opened } in
+    let here : IsMigrated old new s before after = record { other = m.other; stays = m.stays; text = m.text; opened = m.opened } in
     subst (λ (u : State). IsMigrated old new u before after) (sym same) here
 migrated_after (Err e) old new s t n before mid after j synced same can each = tt

@@ -52,10 +52,11 @@ abbrev pub StaysEither : Directory → Directory → Need → (before after : Li
 StaysEither old new n before after =
     opens_any old (seen before) ≡ Ok n → EachSince (Did Syncs ∷ before) after (OpensEither old new n)
 
--- The other file is selected. It is the checkpoint of the wider need alone, under the mark of the new directory; and whatever a
--- crash leaves opens under that to what the old files opened to, opened again, and wider.
+-- The other file is selected, and the one before stays as it is. The other one is the checkpoint of the wider need alone, under the
+-- mark of the new directory; and whatever a crash leaves opens under that to what the old files opened to, opened again, and wider.
 pub record IsMigrated (old new : Directory) (s : State) (before after : List Call) : Type 0 where
   pub other : selected (seen after) ≢ selected (seen before)
+  pub stays : seen after (selected (seen before)) ≡ seen before (selected (seen before))
   pub text : seen after (selected (seen after)) ≡ checkpoint_file new.mark (wider (length new.circuits) (need old s))
   pub opened : (files : Files) → IsImage after files → opens new files ≡ Ok (wider (length new.circuits) (need old (restarted s)))
 

@@ -140,9 +140,10 @@ fn the_seals_of_records_that_differ_are_told(rt: HostRuntime) -> Result<(), Fail
 /// How many calls a standby has had before a feed is followed.
 const OPENED: u64 = 2;
 
-/// A feed, and the files of a standby that has taken it.
+/// The journal of a standby, a feed, and the files of the standby that has taken it.
 #[derive(Clone, Copy)]
 struct Fed<'a> {
+    begun: &'a [u8],
     feed: &'a [u8],
     first: &'a [u8],
     second: &'a [u8],
@@ -186,17 +187,17 @@ fn is_taken_after<R: AllocGlobal + Abort>(
     Ok(())
 }
 
-/// A standby that had nothing, and has followed a feed.
-fn following(alloc: Global, directory: &Directory, feed: &[u8]) -> Result<MemStation, Fail> {
-    let begun = standby(alloc, EMPTY)?;
-    let (standby, _) = followed(alloc, begun, directory, feed)?;
+/// A standby that has followed a feed.
+fn following(alloc: Global, directory: &Directory, fed: Fed<'_>) -> Result<MemStation, Fail> {
+    let begun = standby(alloc, fed.begun)?;
+    let (standby, _) = followed(alloc, begun, directory, fed.feed)?;
     Ok(standby)
 }
 
 /// So does one that a stop left in any call in which it followed the feed.
 fn is_taken_after_each<R: AllocGlobal + Abort>(rt: &R, fed: Fed<'_>) -> Result<(), Fail> {
     let directory = two_circuits(rt.alloc())?;
-    let standby = following(rt.alloc(), &directory, fed.feed)?;
+    let standby = following(rt.alloc(), &directory, fed)?;
     for call in OPENED..standby.calls() {
         is_taken_after(rt, &directory, fed, &standby, call)?;
     }
@@ -207,6 +208,7 @@ fn is_taken_after_each<R: AllocGlobal + Abort>(rt: &R, fed: Fed<'_>) -> Result<(
 fn a_feed_is_taken_whenever_the_machine_stops(rt: HostRuntime) -> Result<(), Fail> {
     let feed = feed_of_both(rt.alloc())?;
     let fed = Fed {
+        begun: EMPTY,
         feed: feed.as_slice(),
         first: BOTH,
         second: b"",
@@ -214,11 +216,49 @@ fn a_feed_is_taken_whenever_the_machine_stops(rt: HostRuntime) -> Result<(), Fai
     is_taken_after_each(&rt, fed)
 }
 
+/// The feed of the journal that has the checkpoint.
+fn feed_of_compacted(alloc: Global) -> Result<Vec<u8>, Fail> {
+    let pieces = [piece(COMPACTED, 0, 40), piece(COMPACTED, 41, 178)];
+    Ok(pieces.concat(alloc)?)
+}
+
+/// The first journal before the draw.
+fn before_the_draw(alloc: Global) -> Result<Vec<u8>, Fail> {
+    Ok([piece(BOTH, 0, 118), b"C"].concat(alloc)?)
+}
+
+#[test]
+fn a_standby_goes_on_behind_a_compaction_whenever_the_machine_stops(
+    rt: HostRuntime,
+) -> Result<(), Fail> {
+    let begun = before_the_draw(rt.alloc())?;
+    let feed = feed_of_compacted(rt.alloc())?;
+    let fed = Fed {
+        begun: begun.as_slice(),
+        feed: feed.as_slice(),
+        first: begun.as_slice(),
+        second: COMPACTED,
+    };
+    is_taken_after_each(&rt, fed)
+}
+
+#[test]
+fn a_checkpoint_that_is_behind_is_of_another_history(rt: HostRuntime) -> Result<(), Fail> {
+    let directory = two_circuits(rt.alloc())?;
+    let feed = feed_of_compacted(rt.alloc())?;
+    let station = standby(rt.alloc(), BOTH)?;
+    let (station, end) = followed(rt.alloc(), station, &directory, &feed)?;
+    let is_other = matches!(end, FollowEnd::Diverged { index: 0, .. });
+    assert!(rt; is_other);
+    assert!(rt; is_same(station.file(0), BOTH) && station.file(1).is_empty());
+    Ok(())
+}
+
 #[test]
 fn a_checkpoint_is_taken_whenever_the_machine_stops(rt: HostRuntime) -> Result<(), Fail> {
-    let pieces = [piece(COMPACTED, 0, 40), piece(COMPACTED, 41, 178)];
-    let feed = pieces.concat(rt.alloc())?;
+    let feed = feed_of_compacted(rt.alloc())?;
     let fed = Fed {
+        begun: EMPTY,
         feed: feed.as_slice(),
         first: EMPTY,
         second: COMPACTED,

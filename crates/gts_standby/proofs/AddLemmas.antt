@@ -24,7 +24,7 @@ use Rattle.gts_standby.specs.declared.end.FollowEnd.{FollowEnd}
 use Rattle.gts_standby.specs.declared.end.FollowEnd.TheVariants.{Done, Open, Feed, Diverged, SourceFault, DiskFault, NoMemory}
 use Rattle.gts_standby.specs.Ahead.{InFeed}
 use Rattle.gts_standby.specs.Taking.{Taken, Ends, Breaks, stopped, adding, may_begin, may_be_cut, add_all}
-use Rattle.gts_standby.specs.Following.{EndsAs, IsEnd, start_of, OpensWithin, AsBefore, WithFront}
+use Rattle.gts_standby.specs.Following.{EndsAs, IsEnd, start_of, read_behind, read_begun, read_after, OpensWithin, AsBefore, WithFront}
 use Rattle.gts_standby.specs.Reading.{HasRead, IsLookedEnd, StopsAt, StopsAs}
 use Rattle.gts_standby.specs.Adding.{HoldsAt, IsFedNext, HasAddedOne, AddsNone, AddsOne, HasAdded, IsAddEnd}
 
@@ -125,10 +125,11 @@ added_by d n before s gate at fed o = elim o as (λ _. Taken) [
 ]
 
 -- so many records were added: the feed comes to these and to what it comes to from here on
-pub record HasGone (tells : Type 0) (d : Directory) (s : State) (all : Taken) (old : List Call) (calls : List Call) (core : Core) (j : InHand) (at : ℕ) (ahead : InFeed) (left : List ℕ) : Type 0 where
+pub record HasGone (tells : Type 0) (d : Directory) (s : State) (used : ℕ) (last : List ℕ) (all : Taken) (old : List Call) (calls : List Call) (core : Core) (j : InHand) (at : ℕ) (ahead : InFeed) (left : List ℕ) : Type 0 where
   pub done : List Record
   pub state : State
   pub state_is : state ≡ after_records d s done
+  pub reads : (state, j.gate + 1, j.seal) ≡ read_behind d (s, used, last) done
   pub fed : List ℕ
   pub n : ℕ
   pub enough : length fed ≤ n
@@ -144,6 +145,14 @@ after-append : (d : Directory) (s : State) (rs : List Record) (r : Record) → a
 after-append d s [] r = refl
 after-append d s (q ∷ rs) r = after-append d (after d s (event_of_record q)) rs r
 
+read-append : (d : Directory) (x : State × ℕ × List ℕ) (rs : List Record) (r : Record) → read_behind d x (rs ++ r ∷ []) ≡ read_behind d (read_behind d x rs) (r ∷ [])
+read-append d x [] r = refl
+read-append d x (q ∷ rs) r = read-append d (after d x.0 (event_of_record q), x.1 + record_size written q, seal written x.2 (record_text q)) rs r
+
+-- what the files of a journal read to
+pub read_now : (d : Directory) (s : State) (calls : List Call) (j : InHand) → StandsFor d s calls j → files_read written d (seen calls) ≡ Ok (s, j.gate + 1, j.seal)
+read_now d s calls j f = ap (λ (v : Version). files_read v d (seen calls)) (sym f.current) ∙ f.opens_to
+
 pub no_begin : (d : Directory) (n : ℕ) (before : List ℕ) (s : State) (gate at : ℕ) (fed : List ℕ) → (add_all written d n before s gate at fed).begins ≡ None
 no_begin d zero before s gate at fed = refl
 no_begin d (suc n) before s gate at fed = by_record (record_behind written d before s gate fed) (λ r. no_begin d n (seal written before (record_text r)) (after d s (event_of_record r)) (gate + record_size written r) (at + (record_size written r - 1)) (drop (record_size written r - 1) fed))
@@ -158,13 +167,14 @@ no_begin d (suc n) before s gate at fed = by_record (record_behind written d bef
     by_record (Some r) so = so r
 
 pub begun_there : (tells : Type 0) → tells → (d : Directory) (s : State) (calls : List Call) (core : Core) (j : InHand) (at : ℕ) (ahead : InFeed) (left fed : List ℕ) (n : ℕ) → HoldsAt tells d s calls core j
-    → HasRead fed ahead left → length fed ≤ n → HasGone tells d s (add_all written d n j.seal s j.gate at fed) calls calls core j at ahead left
+    → HasRead fed ahead left → length fed ≤ n → HasGone tells d s (j.gate + 1) j.seal (add_all written d n j.seal s j.gate at fed) calls calls core j at ahead left
 begun_there tells tell d s calls core j at ahead left fed n h read enough =
     let all : Taken = add_all written d n j.seal s j.gate at fed in
     record {
       done = [];
       state = s;
       state_is = refl;
+      reads = refl;
       fed = fed;
       n = n;
       enough = enough;
@@ -212,8 +222,8 @@ pub opened_now : (d : Directory) (s : State) (calls : List Call) (j : InHand) �
 opened_now d s calls j f = ap (λ (v : Version). opened_need d (files_read v d (seen calls))) (sym f.current) ∙ ap (opened_need d) f.opens_to
 
 -- a crash while a record is added behind others leaves these, or that one too
-module _ (tells : Type 0) (tell : tells) (d : Directory) (s : State) (all : Taken) (old mid : List Call) (core : Core) (j : InHand) (at : ℕ) (ahead : InFeed) (left : List ℕ)
-    (g : HasGone tells d s all old mid core j at ahead left) where
+module _ (tells : Type 0) (tell : tells) (d : Directory) (s : State) (used : ℕ) (last : List ℕ) (all : Taken) (old mid : List Call) (core : Core) (j : InHand) (at : ℕ) (ahead : InFeed) (left : List ℕ)
+    (g : HasGone tells d s used last all old mid core j at ahead left) where
   silent_so : SaidSince old mid []
   silent_so = g.silent ∙ sym (append-nil (said_by old))
 
@@ -248,7 +258,7 @@ module _ (tells : Type 0) (tell : tells) (d : Directory) (s : State) (all : Take
     moments_on new each = joined (OpensWithin d s all) (OpensToEither d g.state r) old mid new [] g.moments silent_so each either_so
 
   pub one_more : (size : ℕ) (new : List Call) (next_core : Core) (next : InHand) (ahead_next : InFeed) (left_next : List ℕ)
-      → HasAddedOne tells d g.state g.fed mid j size new next_core next ahead_next left_next → HasGone tells d s all old new next_core next (at + size) ahead_next left_next
+      → HasAddedOne tells d g.state g.fed mid j size new next_core next ahead_next left_next → HasGone tells d s used last all old new next_core next (at + size) ahead_next left_next
   one_more size new next_core next ahead_next left_next one =
       let r = one.r in
       let t : State = after d g.state (event_of_record r) in
@@ -260,6 +270,10 @@ module _ (tells : Type 0) (tell : tells) (d : Directory) (s : State) (all : Take
         done = g.done ++ r ∷ [];
         state = t;
         state_is = ap (λ (q : State). after d q (event_of_record r)) g.state_is ∙ sym (after-append d s g.done r);
+        reads =
+            ap (λ (l : List ℕ). (t, next.gate + 1, l)) one.seal_is
+            ∙ ap (λ (k : ℕ). (t, k, seal written j.seal (record_text r))) (let e : next.gate + 1 ≡ j.gate + 1 + record_size written r = omega (arith, one.gate_is) in e)
+            ∙ ap (λ (x : State × ℕ × List ℕ). read_behind d x (r ∷ [])) g.reads ∙ sym (read-append d (s, used, last) g.done r);
         fed = drop size g.fed;
         n = g.n - 1;
         enough = omega (arith, length-drop size g.fed, g.enough, one.size_is, some_text r, not_empty d j.seal g.state j.gate g.fed r one.is);
@@ -283,7 +297,7 @@ module _ (tells : Type 0) (tell : tells) (d : Directory) (s : State) (all : Take
   stopped_so (suc n) few none = stop d n j.seal g.state j.gate at g.fed none
 
   ended : (answer : FollowEnd) (left_next : List ℕ) → record_behind written d j.seal g.state j.gate g.fed ≡ None
-      → StopsAt answer (cond (may_be_cut written g.fed) (stopped Ends) (stopped (Breaks at))) left_next → HasAdded answer d s all old mid left_next
+      → StopsAt answer (cond (may_be_cut written g.fed) (stopped Ends) (stopped (Breaks at))) left_next → HasAdded answer d s used last all old mid left_next
   ended answer left_next none stops =
       let here : add_all written d g.n j.seal g.state j.gate at g.fed ≡ stopped stops.end = stopped_so g.n g.enough none ∙ stops.is in
       let end_so : all.end ≡ stops.end = g.end_is ∙ ap (λ (x : Taken). x.end) here in
@@ -292,27 +306,31 @@ module _ (tells : Type 0) (tell : tells) (d : Directory) (s : State) (all : Take
       record {
         ends = λ _. (subst (EndsAs answer) (sym end_so) stops.ends, stops.all);
         opened = λ _. start_is all.records (seen mid) (subst P (g.state_is ∙ ap (after_records d s) (sym records_all)) (opened_now d g.state mid j (g.holds.stands tell)));
+        reads = λ _.
+            let there : read_behind d (s, used, last) g.done ≡ read_after d (s, used, last) all =
+            ap (read_behind d (s, used, last)) (sym records_all) ∙ ap (λ (o : Option Need). read_behind d (read_begun d (s, used, last) o) all.records) (sym g.none) in
+            read_now d g.state mid j (g.holds.stands tell) ∙ ap (λ (x : State × ℕ × List ℕ). Ok x) (g.reads ∙ there);
         moments = g.moments;
       }
 
-  broke_off : (answer : FollowEnd) (left_next : List ℕ) → (IsEnd answer → ⊥) → HasAdded answer d s all old mid left_next
-  broke_off answer left_next fault = record { ends = λ e. absurd (fault e); opened = λ e. absurd (fault e); moments = g.moments }
+  broke_off : (answer : FollowEnd) (left_next : List ℕ) → (IsEnd answer → ⊥) → HasAdded answer d s used last all old mid left_next
+  broke_off answer left_next fault = record { ends = λ e. absurd (fault e); opened = λ e. absurd (fault e); reads = λ e. absurd (fault e); moments = g.moments }
 
   pub add_ended : (answer : FollowEnd) (new : List Call) (next_core : Core) (next : InHand) (ahead_next : InFeed) (left_next : List ℕ) (error : Result ℕ FollowEnd) → error ≡ Err answer → IsAddEnd answer
-      → AddsOne error tells d g.state g.fed at mid j new next_core next ahead_next left_next → HasAdded answer d s all old new left_next
+      → AddsOne error tells d g.state g.fed at mid j new next_core next ahead_next left_next → HasAdded answer d s used last all old new left_next
   add_ended answer new next_core next ahead_next left_next error is kind adds =
       let P : Result ℕ FollowEnd → Type 0 = λ e. AddsOne e tells d g.state g.fed at mid j new next_core next ahead_next left_next in
       by_answer answer kind (subst P is adds)
     where
-      at_calls : (a : FollowEnd) → new ≡ mid → HasAdded a d s all old mid left_next → HasAdded a d s all old new left_next
-      at_calls a same has = subst (λ (l : List Call). HasAdded a d s all old l left_next) (sym same) has
+      at_calls : (a : FollowEnd) → new ≡ mid → HasAdded a d s used last all old mid left_next → HasAdded a d s used last all old new left_next
+      at_calls a same has = subst (λ (l : List Call). HasAdded a d s used last all old l left_next) (sym same) has
 
-      by_answer : (a : FollowEnd) → IsAddEnd a → AddsOne (Err a) tells d g.state g.fed at mid j new next_core next ahead_next left_next → HasAdded a d s all old new left_next
+      by_answer : (a : FollowEnd) → IsAddEnd a → AddsOne (Err a) tells d g.state g.fed at mid j new next_core next ahead_next left_next → HasAdded a d s used last all old new left_next
       by_answer Done kind adds = at_calls Done adds.calls (ended Done left_next (adds.ends tt).0 (adds.ends tt).1)
       by_answer (Feed place) kind adds = at_calls (Feed place) adds.calls (ended (Feed place) left_next (adds.ends tt).0 (adds.ends tt).1)
       by_answer SourceFault kind adds = at_calls SourceFault adds.calls (broke_off SourceFault left_next (λ e. e))
       by_answer NoMemory kind adds = at_calls NoMemory adds.calls (broke_off NoMemory left_next (λ e. e))
-      by_answer DiskFault kind adds = record { ends = λ e. absurd e; opened = λ e. absurd e; moments = moments_on adds.r adds.is new adds.moments }
+      by_answer DiskFault kind adds = record { ends = λ e. absurd e; opened = λ e. absurd e; reads = λ e. absurd e; moments = moments_on adds.r adds.is new adds.moments }
       by_answer (Open fault) kind adds = absurd kind
       by_answer (Diverged index own fed) kind adds = absurd kind
 

@@ -206,7 +206,7 @@ seals_one v n file gate before bytes r is =
     ∙ ap (λ (l : List ℕ). seal v before (record_text r) ∷ seals_at v n (seal v before (record_text r)) l)
     (one_back (record_size v r) open_gate found.0 (omega arith) ∙ ap (λ (l : List ℕ). drop (record_size v r) l) (sym found.1))
 
-seals_none : (v : Version) (n file gate : ℕ) (before bytes : List ℕ) → entry_at v before file gate bytes ≡ Ok None → seals_at v n before bytes ≡ []
+pub seals_none : (v : Version) (n file gate : ℕ) (before bytes : List ℕ) → entry_at v before file gate bytes ≡ Ok None → seals_at v n before bytes ≡ []
 seals_none v zero file gate before bytes is = refl
 seals_none v (suc n) file gate before [] is = refl
 seals_none v (suc n) file gate before (mark ∷ bytes) is = by_mark (mark == open_gate) is

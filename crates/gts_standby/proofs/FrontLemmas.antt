@@ -1,15 +1,16 @@
 -- What a front of a feed adds is a front of what the feed adds.
 use Rattle.std.proofs.Common.{◌≡◌, inr, ℕ, zero, suc, ◌+◌, ◌-◌, ◌^◌, ◌<◌, ◌≤◌, Bool, true, false, cond, ◌&&◌, List, [], ◌∷◌, ◌++◌, length, take, drop, replicate, Option, Some, None, Result, Ok, Err, nat_eq, nat_le, nat_lt, refl, sym, ap, subst, ◌∙◌, arith, length-append}
-use Rattle.std.specs.Prelude.{codes, ◌==◌}
+use Rattle.std.specs.Prelude.{codes, ◌==◌, not}
 use Rattle.std.specs.List.{starts_with}
 use Rattle.std.specs.Cmp.Lexicographic.{pointwise}
+use Rattle.std.proofs.lemmas.Bool.{and_parts}
 use Rattle.std.proofs.lemmas.Bool.Decides.{nat_tests}
 use Rattle.std.proofs.lemmas.List.{append-nil, length-drop}
 use Rattle.gts_traits.specs.{Files}
 use Rattle.gts_directory.specs.Directory.{Directory}
 use Rattle.gts_event.specs.State.{State, empty}
 use Rattle.gts_event.specs.History.{after}
-use Rattle.gts_event.specs.Need.{Need, begun}
+use Rattle.gts_event.specs.Need.{Need, need, begun}
 use Rattle.gts_record.specs.declared.version.Version.{Version}
 use Rattle.gts_record.specs.declared.fault.OpenFault.{OpenFault}
 use Rattle.gts_record.specs.Record.{Record, record_text}
@@ -19,8 +20,9 @@ use Rattle.gts_opening.proofs.LawLemmas.{magic_size}
 use Rattle.gts_journal.specs.{InHand, entry_at, is_checkpoint, selected_bytes}
 use Rattle.gts_journal.proofs.LawLemmas.{opens_behind, reads_end_there, reads_fault}
 use Rattle.gts_standby.specs.Ahead.{InFeed}
-use Rattle.gts_standby.specs.Taking.{Taken, Ends, Breaks, Parts, stopped, adding, Piece, Cut, Broken, Sealed, may_be_cut, record_piece, Reached, Short, Bad, Behind, or_else, number_at, reach, reach_found, least_bulletin, bulletin_size, behind_bulletin, circuit_size, behind_circuit, and_then, behind_all, least_front, behind_counted, behind_lists, behind_checkpoint, checkpoint_piece, is_checkpoint_fed, first_piece, seals_at, checkpoint_seals, seals_behind, by_piece, compared, compare_all, add_all, begin_with, take_records, taken}
+use Rattle.gts_standby.specs.Taking.{Taken, Ends, Breaks, Parts, stopped, adding, Piece, Cut, Broken, Sealed, may_be_cut, record_piece, Reached, Short, Bad, Behind, or_else, number_at, reach, reach_found, least_bulletin, bulletin_size, behind_bulletin, circuit_size, behind_circuit, and_then, behind_all, least_front, behind_counted, behind_lists, behind_checkpoint, checkpoint_piece, is_checkpoint_fed, first_piece, seals_at, checkpoint_seals, seals_behind, by_piece, compared, compare_all, add_all, begin_with, begin_first, is_behind, is_further, is_other_first, or_anew, End, take_records, taken}
 use Rattle.gts_standby.specs.Following.{own_seals, comes_to}
+use Rattle.gts_standby.specs.Beginning.{begun_taken}
 use Rattle.gts_standby.specs.Fronts.{AddsFront, AddsNothing, AddsPart}
 use Rattle.gts_standby.proofs.HeaderLemmas.{all_agree, agreeing-low}
 use Rattle.gts_standby.proofs.FedLemmas.{sealed_more, found_fits_there, piece_by}
@@ -28,7 +30,7 @@ use Rattle.gts_standby.proofs.ScanLemmas.{drop_front, or_else_read, reach_on, se
 use Rattle.gts_standby.proofs.AddLemmas.{added_by, not_empty, some_text, no_begin}
 use Rattle.gts_standby.proofs.PutLemmas.{behind_it, begins_so, checkpoint_there}
 use Rattle.gts_standby.proofs.FeedLemmas.{seals_one}
-use Rattle.gts_standby.proofs.TakeLemmas.{sound_header}
+use Rattle.gts_standby.proofs.TakeLemmas.{sound_header, stays, add_ends}
 
 -- ---- records that are added
 
@@ -252,7 +254,7 @@ checkpoint_more v limit before p more size last is = by_reached (behind_checkpoi
     by_reached Bad reached e = absurd (cc e)
     by_reached (Behind k) reached e = by_few k (nat_lt (length p) (k + seal_size v)) reached refl e
 
-abbrev first_by : Version → ℕ → List ℕ → List ℕ → Bool → Piece
+abbrev pub first_by : Version → ℕ → List ℕ → List ℕ → Bool → Piece
 first_by v limit before bytes b = cond b (checkpoint_piece v limit before bytes) (record_piece v before bytes)
 
 first_more : (v : Version) (limit : ℕ) (before p more : List ℕ) (size : ℕ) (last : List ℕ) → first_piece v limit before p ≡ Sealed size last
@@ -298,14 +300,14 @@ compare_front v one other more so (own ∷ rest) before index at p =
     ))
 
 -- with the checkpoint at the front
-begin_front : (d : Directory) (last : List ℕ) (size : ℕ) (fed_seal p more : List ℕ) → d.limit < 256 ^ 4 → last ≡ first_seal written d.mark → checkpoint_piece written d.limit last p ≡ Sealed size fed_seal
-    → checkpoint_piece written d.limit last (p ++ more) ≡ Sealed size fed_seal → size ≤ length p
-    → AddsFront (begin_with written d last size p (need_in p)) (begin_with written d last size (p ++ more) (need_in (p ++ more)))
-begin_front d last size fed_seal p more limit first here there low =
+begin_front : (d : Directory) (size : ℕ) (fed_seal p more : List ℕ) → d.limit < 256 ^ 4 → checkpoint_piece written d.limit (first_seal written d.mark) p ≡ Sealed size fed_seal
+    → checkpoint_piece written d.limit (first_seal written d.mark) (p ++ more) ≡ Sealed size fed_seal → size ≤ length p
+    → AddsFront (begin_with written d (first_seal written d.mark) size p (need_in p)) (begin_with written d (first_seal written d.mark) size (p ++ more) (need_in (p ++ more)))
+begin_front d size fed_seal p more limit here there low =
     by_test (admits_checkpoint written d p (need_in p) && nat_eq (length (checkpoint_text (need_in p)) + seal_size written) size) refl
   where
-    j : InHand
-    j = record { version = written; file = 0; gate = 40; seal = last; ended = true; ahead = []; is_all = true }
+    last : List ℕ
+    last = first_seal written d.mark
 
     n : Need
     n = need_in p
@@ -317,14 +319,71 @@ begin_front d last size fed_seal p more limit first here there low =
         → AddsFront (cond b (behind_it d p (seal written last (checkpoint_text n)) (compacted_bytes written n - 1) size n) (stopped (Breaks 40))) all
     by_test false e = AddsNothing refl refl
     by_test true e =
-        let cp = checkpoint_there d j p p [] size fed_seal limit first (sym (append-nil p)) low here n refl e in
-        let whole = begins_so d j (p ++ more) p more size fed_seal limit first refl low there n cp in
+        let cp = checkpoint_there d p p [] size fed_seal limit (sym (append-nil p)) low here n refl e in
+        let whole = begins_so d (p ++ more) p more size fed_seal limit refl low there n cp in
         let fed_last : List ℕ = seal written last (checkpoint_text n) in
         let gate : ℕ = compacted_bytes written n - 1 in
         let long : length (drop size p) + length more ≤ length (p ++ more) = omega (arith, length-drop size p, length-append p more) in
         let front = add_front d (length p) (length (p ++ more)) fed_last (begun n) gate (40 + size) (drop size p) more long in
         AddsPart front.0 (sym (ap (λ (t : Taken). t.begins) whole))
         (ap (λ (t : Taken). t.records) whole ∙ ap (λ (l : List ℕ). (add_all written d (length (p ++ more)) fed_last (begun n) gate (40 + size) l).records) (drop_front size p more low) ∙ front.1)
+
+-- where the journal begins with the checkpoint
+begun_front : (d : Directory) (p more : List ℕ) → d.limit < 256 ^ 4 → AddsFront (begun_taken d p) (begun_taken d (p ++ more))
+begun_front d p more limit =
+    let last : List ℕ = first_seal written d.mark in
+    by_piece_front 40 (checkpoint_piece written d.limit last p) (checkpoint_piece written d.limit last (p ++ more))
+    (λ size fed. begin_with written d last size p (need_in p)) (λ size fed. begin_with written d last size (p ++ more) (need_in (p ++ more)))
+    (λ size fed is.
+    let on = checkpoint_more written d.limit last p more size fed is in
+    (on.0, begin_front d size fed p more limit is on.0 on.1))
+
+abbrev pub further_by : Directory → State → Option Need → Bool
+further_by d s o = elim o as (λ _. Bool) [ None ↦ false | Some n ↦ not (is_behind n (need d s)) ]
+
+-- where record 0 is another one
+other_front : (d : Directory) (s : State) (end : End) (p more : List ℕ) → d.limit < 256 ^ 4
+    → AddsFront (or_anew d s (begun_taken d p) (stopped end)) (or_anew d s (begun_taken d (p ++ more)) (stopped end))
+other_front d s end p more limit = by_test (is_other_first end && is_further d s one) refl (begun_front d p more limit)
+  where
+    one : Taken
+    one = begun_taken d p
+
+    all : Taken
+    all = begun_taken d (p ++ more)
+
+    by_test : (b : Bool) → (is_other_first end && is_further d s one) ≡ b → AddsFront one all
+        → AddsFront (cond b one (stopped end)) (cond (is_other_first end && is_further d s all) all (stopped end))
+    by_test false e front = AddsNothing refl refl
+    by_test true e (AddsNothing none nothing) =
+        let further : is_further d s one ≡ true = (and_parts (is_other_first end) (is_further d s one) e).1 in
+        let both : false ≡ true = sym (ap (further_by d s) none) ∙ further in absurd (cc both)
+    by_test true e (AddsPart rest begins is) =
+        let there : (is_other_first end && is_further d s all) ≡ true = ap (λ (o : Option Need). is_other_first end && further_by d s o) (sym begins) ∙ e in
+        subst (λ (b : Bool). AddsFront one (cond b all (stopped end))) (sym there) (AddsPart rest begins is)
+
+-- a further record that is another one isn't record 0
+parts_later : (index : ℕ) (own fed : List ℕ) → 1 ≤ index → is_other_first (Parts index own fed) ≡ false
+parts_later zero own fed low = absurd (omega (arith, low))
+parts_later (suc index) own fed low = refl
+
+later_ends : (v : Version) (behind : ℕ → List ℕ → Taken) → ((at : ℕ) (l : List ℕ) → is_other_first (behind at l).end ≡ false) → (own : List (List ℕ)) (before : List ℕ) (index at : ℕ) (p : List ℕ) → 1 ≤ index
+    → is_other_first (compare_all v behind own before index at p).end ≡ false
+later_ends v behind so [] before index at p low = so at p
+later_ends v behind so (own ∷ more) before index at p low =
+    by_found (record_piece v before p) (λ size. later_ends v behind so more own (index + 1) (at + size) (drop size p) (omega (arith, low)))
+  where
+    on : ℕ → Taken
+    on size = compare_all v behind more own (index + 1) (at + size) (drop size p)
+
+    by_same : (size : ℕ) (fed : List ℕ) (b : Bool) → is_other_first (on size).end ≡ false → is_other_first (cond b (on size) (stopped (Parts index own fed))).end ≡ false
+    by_same size fed true later = later
+    by_same size fed false later = parts_later index own fed low
+
+    by_found : (x : Piece) → ((size : ℕ) → is_other_first (on size).end ≡ false) → is_other_first (by_piece at x (λ size fed. compared index own fed (on size))).end ≡ false
+    by_found Cut later = refl
+    by_found Broken later = refl
+    by_found (Sealed size fed) later = by_same size fed (pointwise nat_eq own fed) (later size)
 
 abbrev pub records_by : Directory → State → ℕ → List ℕ → List ℕ → Bool → Taken
 records_by d s gate last bytes b =
@@ -345,27 +404,48 @@ records_front d s gate last [] (x ∷ p) more limit first = by_letter (is_checkp
         (add_adds d (length bytes) (length (bytes ++ more)) last s gate 40 bytes more (omega (arith, length-append bytes more)))
     by_letter true letter =
         subst (λ (t : Taken). AddsFront (records_by d s gate last bytes true) t) (sym (ap (records_by d s gate last (bytes ++ more)) letter))
-        (by_piece_front 40 (checkpoint_piece written d.limit last bytes) (checkpoint_piece written d.limit last (bytes ++ more))
-        (λ size fed. begin_with written d last size bytes (need_in bytes)) (λ size fed. begin_with written d last size (bytes ++ more) (need_in (bytes ++ more)))
-        (λ size fed is.
-        let on = checkpoint_more written d.limit last bytes more size fed is in
-        (on.0, begin_front d last size fed bytes more limit (first refl) is on.0 on.1)))
-records_front d s gate last (own ∷ rest) p more limit first =
-    let before : List ℕ = first_seal written d.mark in
-    let behind : ℕ → List ℕ → Taken = λ at left. add_all written d (length left) last s gate at left in
-    let so : (at : ℕ) (l : List ℕ) → AddsFront (behind at l) (behind at (l ++ more)) =
-    λ at l. add_adds d (length l) (length (l ++ more)) last s gate at l more (omega (arith, length-append l more)) in
-    by_piece_front 40 (first_piece written d.limit before p) (first_piece written d.limit before (p ++ more))
-    (λ size fed. compared 0 own fed (compare_all written behind rest own 1 (40 + size) (drop size p)))
-    (λ size fed. compared 0 own fed (compare_all written behind rest own 1 (40 + size) (drop size (p ++ more))))
-    (λ size fed is.
-    let on = first_more written d.limit before p more size fed is in
-    let part : Taken = compare_all written behind rest own 1 (40 + size) (drop size p) in (
-      on.0,
-      compared_front 0 own fed part (compare_all written behind rest own 1 (40 + size) (drop size (p ++ more)))
-          (subst (λ (l : List ℕ). AddsFront part (compare_all written behind rest own 1 (40 + size) l)) (sym (drop_front size p more on.1))
-          (compare_front written behind behind more so rest own 1 (40 + size) (drop size p))),
-    ))
+        (subst (λ (l : List ℕ). AddsFront (begin_first written d l bytes) (begin_first written d l (bytes ++ more))) (sym (first refl)) (begun_front d bytes more limit))
+records_front d s gate last (own ∷ rest) p more limit first = by_found (first_piece written d.limit before p) refl
+  where
+    before : List ℕ
+    before = first_seal written d.mark
+
+    behind : ℕ → List ℕ → Taken
+    behind at left = add_all written d (length left) last s gate at left
+
+    so : (at : ℕ) (l : List ℕ) → AddsFront (behind at l) (behind at (l ++ more))
+    so at l = add_adds d (length l) (length (l ++ more)) last s gate at l more (omega (arith, length-append l more))
+
+    on : ℕ → List ℕ → Taken
+    on size l = compare_all written behind rest own 1 (40 + size) (drop size l)
+
+    first_compared : List ℕ → Piece → Taken
+    first_compared l x = by_piece 40 x (λ size fed. compared 0 own fed (on size l))
+
+    stays_so : (size : ℕ) (l : List ℕ) → or_anew d s (begun_taken d l) (on size l) ≡ on size l
+    stays_so size l =
+        stays d s (begun_taken d l) (on size l)
+        (later_ends written behind (λ at k. add_ends d (length k) last s gate at k) rest own 1 (40 + size) (drop size l) (omega arith))
+
+    by_same : (size : ℕ) (fed : List ℕ) (b : Bool) → size ≤ length p
+        → AddsFront (or_anew d s (begun_taken d p) (cond b (on size p) (stopped (Parts 0 own fed)))) (or_anew d s (begun_taken d (p ++ more)) (cond b (on size (p ++ more)) (stopped (Parts 0 own fed))))
+    by_same size fed false low = other_front d s (Parts 0 own fed) p more limit
+    by_same size fed true low =
+        let part : Taken = on size p in
+        let front : AddsFront part (on size (p ++ more)) =
+        subst (λ (l : List ℕ). AddsFront part (compare_all written behind rest own 1 (40 + size) l)) (sym (drop_front size p more low))
+        (compare_front written behind behind more so rest own 1 (40 + size) (drop size p)) in
+        subst (λ (t : Taken). AddsFront t (or_anew d s (begun_taken d (p ++ more)) (on size (p ++ more)))) (sym (stays_so size p))
+        (subst (λ (t : Taken). AddsFront part t) (sym (stays_so size (p ++ more))) front)
+
+    by_found : (x : Piece) → first_piece written d.limit before p ≡ x
+        → AddsFront (or_anew d s (begun_taken d p) (first_compared p x)) (or_anew d s (begun_taken d (p ++ more)) (first_compared (p ++ more) (first_piece written d.limit before (p ++ more))))
+    by_found Cut is = AddsNothing refl refl
+    by_found Broken is = AddsNothing refl refl
+    by_found (Sealed size fed) is =
+        let on_more = first_more written d.limit before p more size fed is in
+        subst (λ (x : Piece). AddsFront (or_anew d s (begun_taken d p) (first_compared p (Sealed size fed))) (or_anew d s (begun_taken d (p ++ more)) (first_compared (p ++ more) x))) (sym on_more.0)
+        (by_same size fed (pointwise nat_eq own fed) on_more.1)
 
 -- behind the header
 taken_front : (d : Directory) (s : State) (gate : ℕ) (last : List ℕ) (own : List (List ℕ)) (fed more : List ℕ) → length d.mark ≡ 32 → d.limit < 256 ^ 4 → (own ≡ [] → last ≡ first_seal written d.mark)

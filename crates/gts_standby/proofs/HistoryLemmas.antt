@@ -19,26 +19,31 @@ use Rattle.gts_journal.specs.{entry_at, header_fault, is_checkpoint, selected_by
 use Rattle.gts_journal.proofs.LawLemmas.{opens_behind, was_found, refuses_one}
 use Rattle.gts_standby.specs.Feed.{feed_at, feed_behind, feed}
 use Rattle.gts_standby.specs.Taking.{Taken, Ends, adding, is_checkpoint_fed, add_all, take_records, taken}
-use Rattle.gts_standby.specs.Following.{own_seals, comes_to}
+use Rattle.gts_standby.specs.Following.{own_seals, read_behind, comes_to}
 use Rattle.gts_standby.specs.Fronts.{AddsFront, AddsNothing, AddsPart, LeadsTo}
 use Rattle.gts_standby.proofs.FeedLemmas.{feed_one, feed_none, at_entry, IsEnd, IsRecord}
 use Rattle.gts_standby.proofs.FirstLemmas.{starts, fault_by}
 use Rattle.gts_standby.proofs.HeaderLemmas.{header_on}
 use Rattle.gts_standby.proofs.ScanLemmas.{drop_front}
-use Rattle.gts_standby.proofs.AddLemmas.{added_by, some_text}
+use Rattle.gts_standby.proofs.AddLemmas.{added_by, some_text, no_begin}
 use Rattle.gts_standby.proofs.TakeLemmas.{sound_header}
 use Rattle.gts_standby.proofs.FrontLemmas.{behind_by, records_by, come_by, unread_there, front_adds}
 
--- taken to its end, with the records that lead to a state
-abbrev Comes : Directory → State → State → Taken → Type 0
-Comes d s t what = (what.end ≡ Ends) × (after_records d s what.records ≡ t)
+-- taken to its end, with records that lead from what a journal reads to on to this
+abbrev pub Comes : Directory → State × ℕ × List ℕ → State × ℕ × List ℕ → Taken → Type 0
+Comes d y x what = (what.end ≡ Ends) × (read_behind d y what.records ≡ x)
+
+-- the state among that
+pub read_state : (d : Directory) (y : State × ℕ × List ℕ) (rs : List Record) → (read_behind d y rs).0 ≡ after_records d y.0 rs
+read_state d y [] = refl
+read_state d y (r ∷ rs) = read_state d (after d y.0 (event_of_record r), y.1 + record_size written r, seal written y.2 (record_text r)) rs
 
 -- ---- the records of a feed
 
-drop_text : (text rest : List ℕ) (k : ℕ) → k ≡ length text → drop k (text ++ rest) ≡ rest
+pub drop_text : (text rest : List ℕ) (k : ℕ) → k ≡ length text → drop k (text ++ rest) ≡ rest
 drop_text text rest k is = drop_front k text rest (omega (arith, is)) ∙ ap (λ (l : List ℕ). l ++ rest) (drop_all k text (omega (arith, is)))
 
-nothing_fed : (d : Directory) (m : ℕ) (before : List ℕ) (s : State) (gate at : ℕ) → Comes d s s (add_all written d m before s gate at [])
+nothing_fed : (d : Directory) (m : ℕ) (before : List ℕ) (s : State) (gate at : ℕ) → Comes d (s, gate + 1, before) (s, gate + 1, before) (add_all written d m before s gate at [])
 nothing_fed d zero before s gate at = (refl, refl)
 nothing_fed d (suc m) before s gate at = (refl, refl)
 
@@ -51,14 +56,13 @@ admitted_there d n file before s gate bytes x r is reads = by_admission (admits 
     by_admission false bad = absurd (let one : Read = Err (Damaged file (gate + 1)) in let e : one ≡ Ok x = sym (refuses_one written d n file before s gate bytes r is bad) ∙ reads in cc e)
 
 -- what a journal reads from a gate on is what its feed adds
-records_fed : (d : Directory) (n file m : ℕ) (before : List ℕ) (s : State) (gate at : ℕ) (bytes : List ℕ) (x : State × ℕ × List ℕ) → records_at written d n file before s gate bytes ≡ Ok x
-    → length (feed_at written n before bytes) ≤ m → Comes d s x.0 (add_all written d m before s gate at (feed_at written n before bytes))
+pub records_fed : (d : Directory) (n file m : ℕ) (before : List ℕ) (s : State) (gate at : ℕ) (bytes : List ℕ) (x : State × ℕ × List ℕ) → records_at written d n file before s gate bytes ≡ Ok x
+    → length (feed_at written n before bytes) ≤ m → Comes d (s, gate + 1, before) x (add_all written d m before s gate at (feed_at written n before bytes))
 records_fed d zero file m before s gate at bytes x reads long = absurd (cc reads)
 records_fed d (suc n) file m before s gate at bytes x reads long = elim (at_entry written d n file before s gate bytes x reads) [
   | IsEnd is same ↦
-      let state : x.0 ≡ s = ap (λ (y : State × ℕ × List ℕ). y.0) same in
-      subst (λ (l : List ℕ). Comes d s x.0 (add_all written d m before s gate at l)) (sym (feed_none written (suc n) file gate before bytes is))
-      (subst (λ (t : State). Comes d s t (add_all written d m before s gate at [])) (sym state) (nothing_fed d m before s gate at))
+      subst (λ (l : List ℕ). Comes d (s, gate + 1, before) x (add_all written d m before s gate at l)) (sym (feed_none written (suc n) file gate before bytes is))
+      (subst (λ (y : State × ℕ × List ℕ). Comes d (s, gate + 1, before) y (add_all written d m before s gate at [])) (sym same) (nothing_fed d m before s gate at))
   | IsRecord r is more ↦
       let found = was_found written before file gate bytes r is in
       let text : List ℕ = sealed written before (record_text r) in
@@ -78,11 +82,13 @@ records_fed d (suc n) file m before s gate at bytes x reads long = elim (at_entr
       ap (λ (k : ℕ). add_all written d k before s gate at (text ++ rest)) (let e : m ≡ suc (m - 1) = omega (arith, whole, wide, some) in e)
       ∙ ap (added_by d (m - 1) before s gate at (text ++ rest)) behind
       ∙ ap (λ (l : List ℕ). adding r (add_all written d (m - 1) last next (gate + record_size written r) (at + size) l)) (drop_text text rest size (sym wide)) in
-      subst (λ (l : List ℕ). Comes d s x.0 (add_all written d m before s gate at l)) (sym one) (subst (λ (t : Taken). Comes d s x.0 t) (sym step) (on.0, on.1))
+      let far : gate + 1 + record_size written r ≡ gate + record_size written r + 1 = omega arith in
+      let leads = ap (λ (k : ℕ). read_behind d (next, k, last) (add_all written d (m - 1) last next (gate + record_size written r) (at + size) rest).records) far ∙ on.1 in
+      subst (λ (l : List ℕ). Comes d (s, gate + 1, before) x (add_all written d m before s gate at l)) (sym one) (subst (λ (t : Taken). Comes d (s, gate + 1, before) x t) (sym step) (on.0, leads))
 ]
 
 -- none of them is a checkpoint
-no_checkpoint : (d : Directory) (n file : ℕ) (before : List ℕ) (s : State) (gate : ℕ) (bytes : List ℕ) (x : State × ℕ × List ℕ) → records_at written d n file before s gate bytes ≡ Ok x
+pub no_checkpoint : (d : Directory) (n file : ℕ) (before : List ℕ) (s : State) (gate : ℕ) (bytes : List ℕ) (x : State × ℕ × List ℕ) → records_at written d n file before s gate bytes ≡ Ok x
     → is_checkpoint_fed (feed_at written n before bytes) ≡ false
 no_checkpoint d zero file before s gate bytes x reads = absurd (cc reads)
 no_checkpoint d (suc n) file before s gate bytes x reads = elim (at_entry written d n file before s gate bytes x reads) [
@@ -98,7 +104,7 @@ no_checkpoint d (suc n) file before s gate bytes x reads = elim (at_entry writte
 
 -- ---- the header
 
-agreeing_all : (xs ys : List ℕ) → agreeing xs (xs ++ ys) ≡ length xs
+pub agreeing_all : (xs ys : List ℕ) → agreeing xs (xs ++ ys) ≡ length xs
 agreeing_all [] ys = refl
 agreeing_all (x ∷ xs) ys = ap (λ (b : Bool). cond b (suc (agreeing xs (xs ++ ys))) 0) (same x) ∙ ap suc (agreeing_all xs ys)
   where
@@ -119,7 +125,7 @@ take_past (x ∷ xs) ys k zero is = absurd (omega (arith, is))
 take_past (x ∷ xs) ys k (suc n) is = ap (λ (l : List ℕ). x ∷ l) (take_past xs ys k n (omega (arith, is)))
 
 -- it is that of the directory
-header_is : (d : Directory) (file : ℕ) (bytes : List ℕ) → header_fault written d.mark file bytes ≡ None → take 40 bytes ≡ magic written ++ d.mark
+pub header_is : (d : Directory) (file : ℕ) (bytes : List ℕ) → header_fault written d.mark file bytes ≡ None → take 40 bytes ≡ magic written ++ d.mark
 header_is d file bytes sound =
     let tests = sound_tests d.mark file bytes (length bytes == 0) (is_older written bytes) (starts_with nat_eq bytes (magic written)) (nat_lt (length bytes) 40) (pointwise nat_eq (take 32 (drop 8 bytes)) d.mark) sound in
     let begins : bytes ≡ magic written ++ drop (length (magic written)) bytes = starts bytes (magic written) tests.0 in
@@ -153,14 +159,20 @@ module _ (d : Directory) (file : ℕ) (bytes : List ℕ) (x : State × ℕ × Li
   feed_is : feed written d.mark bytes ≡ header ++ sent
   feed_is = ap (λ (l : List ℕ). l ++ feed_behind written first bytes (is_checkpoint bytes)) (header_is d file bytes sound) ∙ ap (λ (b : Bool). header ++ feed_behind written first bytes b) plain
 
-  pub feed_comes : Comes d (empty d) x.0 (taken written d (empty d) 40 first [] (feed written d.mark bytes))
-  feed_comes =
+  all_is : taken written d (empty d) 40 first [] (feed written d.mark bytes) ≡ add_all written d (length sent) first (empty d) 40 40 sent
+  all_is =
       let behind : taken written d (empty d) 40 first [] (header ++ sent) ≡ take_records written d (empty d) 40 first [] (drop 40 (header ++ sent)) =
       header_on header (header ++ sent) (agreeing_all header sent ∙ forty) (take_records written d (empty d) 40 first [] (drop 40 (header ++ sent))) in
       let letter : is_checkpoint_fed sent ≡ false = no_checkpoint d (length bytes) file first (empty d) 40 (drop 40 bytes) x reads in
       let adds : take_records written d (empty d) 40 first [] sent ≡ add_all written d (length sent) first (empty d) 40 40 sent = ap (records_by d (empty d) 40 first sent) letter in
-      let all = ap (taken written d (empty d) 40 first []) feed_is ∙ behind ∙ ap (take_records written d (empty d) 40 first []) (drop_text header sent 40 (sym forty)) ∙ adds in
-      subst (λ (t : Taken). Comes d (empty d) x.0 t) (sym all) (records_fed d (length bytes) file (length sent) first (empty d) 40 40 (drop 40 bytes) x reads (omega arith))
+      ap (taken written d (empty d) 40 first []) feed_is ∙ behind ∙ ap (take_records written d (empty d) 40 first []) (drop_text header sent 40 (sym forty)) ∙ adds
+
+  pub plain_begins : (taken written d (empty d) 40 first [] (feed written d.mark bytes)).begins ≡ None
+  plain_begins = ap (λ (t : Taken). t.begins) all_is ∙ no_begin d (length sent) first (empty d) 40 40 sent
+
+  pub feed_comes : Comes d (empty d, 41, first) x (taken written d (empty d) 40 first [] (feed written d.mark bytes))
+  feed_comes =
+      subst (λ (t : Taken). Comes d (empty d, 41, first) x t) (sym all_is) (records_fed d (length bytes) file (length sent) first (empty d) 40 40 (drop 40 bytes) x reads (omega arith))
 
 -- ---- a front of it
 
@@ -168,10 +180,10 @@ after_more : (d : Directory) (s : State) (rs more : List Record) → after_recor
 after_more d s [] more = refl
 after_more d s (r ∷ rs) more = after_more d (after d s (event_of_record r)) rs more
 
-leads_by : (d : Directory) (s : State) (part whole : Taken) → AddsFront part whole → Comes d (empty d) s whole → LeadsTo d (after_records d (empty d) part.records) s
+leads_by : (d : Directory) (s : State) (part whole : Taken) → AddsFront part whole → after_records d (empty d) whole.records ≡ s → LeadsTo d (after_records d (empty d) part.records) s
 leads_by d s part whole (AddsNothing begins none) all =
-    (whole.records, subst (λ (rs : List Record). s ≡ after_records d (after_records d (empty d) rs) whole.records) (sym none) (sym all.1))
-leads_by d s part whole (AddsPart rest begins is) all = (rest, sym all.1 ∙ ap (after_records d (empty d)) is ∙ after_more d (empty d) part.records rest)
+    (whole.records, subst (λ (rs : List Record). s ≡ after_records d (after_records d (empty d) rs) whole.records) (sym none) (sym all))
+leads_by d s part whole (AddsPart rest begins is) all = (rest, sym all ∙ ap (after_records d (empty d)) is ∙ after_more d (empty d) part.records rest)
 
 pub front_leads : (d : Directory) (own files : Files) (s : State) (used : ℕ) (last fed more : List ℕ) (part : Taken) → length d.mark ≡ 32 → d.limit < 256 ^ 4 → own_seals d (selected_bytes own) ≡ []
     → files_read written d files ≡ Ok (s, used, last) → is_checkpoint (selected_bytes files) ≡ false → feed written d.mark (selected_bytes files) ≡ fed ++ more → comes_to d own fed ≡ Ok part
@@ -190,4 +202,4 @@ front_leads d own files s used last fed more part size limit none opened plain s
         ap (λ (y : State × ℕ × List ℕ). taken written d y.0 (y.1 - 1) y.2 (own_seals d (selected_bytes own)) (fed ++ more)) same
         ∙ ap (λ (l : List (List ℕ)). taken written d (empty d) 40 first l (fed ++ more)) none
         ∙ ap (taken written d (empty d) 40 first []) (sym sent) in
-        leads_by d s part whole (front_adds d own fed more part whole size limit here there) (subst (λ (t : Taken). Comes d (empty d) s t) (sym whole_is) all)
+        leads_by d s part whole (front_adds d own fed more part whole size limit here there) (ap (λ (t : Taken). after_records d (empty d) t.records) whole_is ∙ sym (read_state d (empty d, 41, first) _) ∙ ap (λ (y : State × ℕ × List ℕ). y.0) all.1)

@@ -13,5 +13,10 @@ pub mod PutLemmas
 pub mod TakeLemmas
 pub mod WholeLemmas
 pub mod NamedLemmas
+mod OtherLemmas
 pub mod FrontLemmas
+mod FurtherLemmas
 pub mod HistoryLemmas
+mod ScannedLemmas
+mod StationLemmas
+mod PartLemmas

@@ -1,10 +1,11 @@
 -- A fault of a device, and want of memory, are answered by their names.
+use Rattle.std.proofs.Common.{◌≡◌, true}
 use Rattle.gts_record.specs.declared.fault.OpenFault.{OpenFault}
 use Rattle.gts_record.specs.declared.fault.OpenFault.TheVariants as opening
 use Rattle.gts_standby.specs.declared.end.FollowEnd.{FollowEnd}
 use Rattle.gts_standby.specs.declared.end.FollowEnd.TheVariants.{Done, Open, Feed, Diverged, SourceFault, DiskFault, NoMemory}
 use Rattle.gts_standby.specs.Following.{open_end}
-use Rattle.gts_standby.specs.Reading.{IsFedEnd}
+use Rattle.gts_standby.specs.Reading.{IsFedEnd, IsReadEnd, is_other}
 use Rattle.gts_standby.specs.Adding.{IsAddEnd}
 use Rattle.gts_standby.specs.Whole.{IsNamedEnd}
 
@@ -33,3 +34,21 @@ named_added (Diverged index own fed) kind = tt
 named_added SourceFault kind = tt
 named_added DiskFault kind = tt
 named_added NoMemory kind = tt
+
+pub named_read : (answer : FollowEnd) → IsReadEnd answer → IsNamedEnd answer
+named_read Done kind = tt
+named_read (Open fault) kind = absurd kind
+named_read (Feed at) kind = tt
+named_read (Diverged index own fed) kind = tt
+named_read SourceFault kind = tt
+named_read DiskFault kind = tt
+named_read NoMemory kind = tt
+
+pub named_other : (answer : FollowEnd) → is_other answer ≡ true → IsNamedEnd answer
+named_other Done other = tt
+named_other (Open fault) other = absurd (cc other)
+named_other (Feed at) other = tt
+named_other (Diverged index own fed) other = tt
+named_other SourceFault other = tt
+named_other DiskFault other = tt
+named_other NoMemory other = tt

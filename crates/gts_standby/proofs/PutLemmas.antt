@@ -89,14 +89,14 @@ sealed_parts v limit before fed size last is = by_reached (behind_checkpoint lim
     by_reached Bad e = absurd (cc e)
     by_reached (Behind k) e = by_tests k (nat_lt (length fed) (k + seal_size v)) (is_sealed v before (take k fed) fed) refl e
 
--- it is that of the feed beside the journal
-pub piece_of : (d : Directory) (j : InHand) (v : Version) (limit : ℕ) (before fed : List ℕ) (piece : Piece) → v ≡ j.version → j.version ≡ written → limit ≡ d.limit → held j.version before ≡ j.seal
-    → checkpoint_piece v limit (held v before) fed ≡ piece → checkpoint_piece written d.limit j.seal fed ≡ piece
-piece_of d j v limit before fed piece version current most last is =
+-- it is that of the feed beside a journal of the directory
+pub piece_of : (d : Directory) (v : Version) (limit : ℕ) (mark before fed : List ℕ) (piece : Piece) → v ≡ written → limit ≡ d.limit → mark ≡ d.mark → held v before ≡ first_seal v mark
+    → checkpoint_piece v limit (held v before) fed ≡ piece → checkpoint_piece written d.limit (first_seal written d.mark) fed ≡ piece
+piece_of d v limit mark before fed piece version most ours first is =
     sym
-    (ap (λ (w : Version). checkpoint_piece w limit (held w before) fed) (version ∙ current)
-    ∙ ap (λ (l : ℕ). checkpoint_piece written l (held written before) fed) most
-    ∙ ap (λ (b : List ℕ). checkpoint_piece written d.limit b fed) (ap (λ (w : Version). held w before) (sym current) ∙ last))
+    (ap (λ (b : List ℕ). checkpoint_piece v limit b fed) (first ∙ ap (first_seal v) ours)
+    ∙ ap (λ (w : Version). checkpoint_piece w limit (first_seal w d.mark) fed) version
+    ∙ ap (λ (l : ℕ). checkpoint_piece written l (first_seal written d.mark) fed) most)
     ∙ is
 
 -- ---- what it comes to
@@ -105,44 +105,47 @@ piece_of d j v limit before fed piece version current most last is =
 abbrev pub behind_it : Directory → List ℕ → List ℕ → ℕ → ℕ → Need → Taken
 behind_it d fed last gate size n = record (add_all written d (length fed) last (begun n) gate (40 + size) (drop size fed)) { begins = Some n }
 
-module _ (d : Directory) (j : InHand) (fed bytes left : List ℕ) (size : ℕ) (last : List ℕ) (limit : d.limit < 256 ^ 4) (first : j.seal ≡ first_seal written d.mark) (read : fed ≡ bytes ++ left) (low : size ≤ length bytes)
-    (piece : checkpoint_piece written d.limit j.seal fed ≡ Sealed size last) where
+module _ (d : Directory) (fed bytes left : List ℕ) (size : ℕ) (last : List ℕ) (limit : d.limit < 256 ^ 4) (read : fed ≡ bytes ++ left) (low : size ≤ length bytes)
+    (piece : checkpoint_piece written d.limit (first_seal written d.mark) fed ≡ Sealed size last) where
+  abbrev first : List ℕ
+  first = first_seal written d.mark
+
   -- the bytes before the seal
   abbrev count : ℕ
   count = size - seal_size written
 
-  parts : StandsSealed written j.seal fed size count
-  parts = sealed_parts written d.limit j.seal fed size last piece
+  parts : StandsSealed written first fed size count
+  parts = sealed_parts written d.limit first fed size last piece
 
   front : take count fed ≡ take count bytes
   front = ap (take count) read ∙ take-append-le count bytes left (omega (arith, low))
 
   -- where a checkpoint was read
-  pub begins_so : (n : Need) → IsCheckpoint written d (take count bytes) n → begin_with written d j.seal size fed (need_in fed) ≡ behind_it d fed (seal written j.seal (checkpoint_text n)) (compacted_bytes written n - 1) size n
+  pub begins_so : (n : Need) → IsCheckpoint written d (take count bytes) n → begin_with written d first size fed (need_in fed) ≡ behind_it d fed (seal written first (checkpoint_text n)) (compacted_bytes written n - 1) size n
   begins_so n cp =
       let text : take count fed ≡ checkpoint_text n = front ∙ cp.text in
       let begins : BeginsWith fed (checkpoint_text n) = (drop count fed, sym (take-append-drop count fed) ∙ ap (λ (l : List ℕ). l ++ drop count fed) text) in
       let fits = fits-sound written d n cp.sound (omega (arith, limit, cp.room)) in
       let is : need_in fed ≡ n = need_read fed n begins fits cp.free in
       let stands : is_sealed written (first_seal written d.mark) (checkpoint_text n) fed ≡ true =
-      ap (λ (b : List ℕ). is_sealed written b (checkpoint_text n) fed) (sym first) ∙ ap (λ (l : List ℕ). is_sealed written j.seal l fed) (sym text) ∙ parts.stands in
+      ap (λ (l : List ℕ). is_sealed written first l fed) (sym text) ∙ parts.stands in
       let may : admits_checkpoint written d fed n ≡ true = admitted written d fed n begins stands cp.sound cp.room in
       let long : length (checkpoint_text n) ≡ count = omega (arith, ap (λ (l : List ℕ). length l) cp.text, length-take count bytes, low) in
       let whole : nat_eq (length (checkpoint_text n) + seal_size written) size ≡ true = eq-eqb (length (checkpoint_text n) + seal_size written) size (omega (arith, long, parts.size_is)) in
-      ap (begin_with written d j.seal size fed) is
-      ∙ ap (λ (b : Bool). cond b (behind_it d fed (seal written j.seal (checkpoint_text n)) (compacted_bytes written n - 1) size n) (stopped (Breaks 40))) (and_from _ _ may whole)
+      ap (begin_with written d first size fed) is
+      ∙ ap (λ (b : Bool). cond b (behind_it d fed (seal written first (checkpoint_text n)) (compacted_bytes written n - 1) size n) (stopped (Breaks 40))) (and_from _ _ may whole)
 
   -- as the journal stands that begins with it
   pub begun_so : (n : Need) (next : InHand) → IsCheckpoint written d (take count bytes) n → next.seal ≡ seal written (first_seal written d.mark) (checkpoint_text n) → next.gate + 1 ≡ compacted_bytes written n
-      → begin_with written d j.seal size fed (need_in fed) ≡ behind_it d fed next.seal next.gate size n
+      → begin_with written d first size fed (need_in fed) ≡ behind_it d fed next.seal next.gate size n
   begun_so n next cp seal_is gate_is =
       begins_so n cp
-      ∙ ap (λ (b : List ℕ). behind_it d fed b (compacted_bytes written n - 1) size n) (ap (λ (b : List ℕ). seal written b (checkpoint_text n)) first ∙ sym seal_is)
+      ∙ ap (λ (b : List ℕ). behind_it d fed b (compacted_bytes written n - 1) size n) (sym seal_is)
       ∙ ap (λ (k : ℕ). behind_it d fed next.seal k size n) (let at : compacted_bytes written n - 1 ≡ next.gate = omega (arith, gate_is) in at)
 
-  pub begins_with : (n : Need) → IsCheckpoint written d (take count bytes) n → (begun_taken d j fed).begins ≡ Some n
+  pub begins_with : (n : Need) → IsCheckpoint written d (take count bytes) n → (begun_taken d fed).begins ≡ Some n
   begins_with n cp =
-      ap (λ (p : Piece). (by_piece 40 p (λ k b. begin_with written d j.seal k fed (need_in fed))).begins) piece ∙ ap (λ (t : Taken). t.begins) (begins_so n cp)
+      ap (λ (p : Piece). (by_piece 40 p (λ k b. begin_with written d first k fed (need_in fed))).begins) piece ∙ ap (λ (t : Taken). t.begins) (begins_so n cp)
 
   -- where none was
   pub checkpoint_there : (n : Need) → need_in fed ≡ n → (admits_checkpoint written d fed n && nat_eq (length (checkpoint_text n) + seal_size written) size) ≡ true → IsCheckpoint written d (take count bytes) n
@@ -166,13 +169,13 @@ module _ (d : Directory) (j : InHand) (fed bytes left : List ℕ) (size : ℕ) (
         room = room;
       }
 
-  pub none_begins : ((n : Need) → IsCheckpoint written d (take count bytes) n → ⊥) → begun_taken d j fed ≡ stopped (Breaks 40)
+  pub none_begins : ((n : Need) → IsCheckpoint written d (take count bytes) n → ⊥) → begun_taken d fed ≡ stopped (Breaks 40)
   none_begins none =
       let n : Need = need_in fed in
-      ap (λ (p : Piece). by_piece 40 p (λ k b. begin_with written d j.seal k fed n)) piece
+      ap (λ (p : Piece). by_piece 40 p (λ k b. begin_with written d first k fed n)) piece
       ∙ refused (admits_checkpoint written d fed n && nat_eq (length (checkpoint_text n) + seal_size written) size) refl
     where
       refused : (b : Bool) → (admits_checkpoint written d fed (need_in fed) && nat_eq (length (checkpoint_text (need_in fed)) + seal_size written) size) ≡ b
-          → cond b (behind_it d fed (seal written j.seal (checkpoint_text (need_in fed))) (compacted_bytes written (need_in fed) - 1) size (need_in fed)) (stopped (Breaks 40)) ≡ stopped (Breaks 40)
+          → cond b (behind_it d fed (seal written first (checkpoint_text (need_in fed))) (compacted_bytes written (need_in fed) - 1) size (need_in fed)) (stopped (Breaks 40)) ≡ stopped (Breaks 40)
       refused false e = refl
       refused true e = absurd (none (need_in fed) (checkpoint_there (need_in fed) refl e))

@@ -1,20 +1,20 @@
 -- A feed is taken into a journal that opens.
-use Rattle.std.proofs.Common.{◌≡◌, ◌⊎◌, inl, inr, ℕ, zero, suc, ◌+◌, ◌-◌, ◌<◌, ◌≤◌, Bool, true, false, cond, List, [], ◌∷◌, ◌++◌, length, drop, Option, Some, None, Result, Ok, Err, refl, sym, ap, subst, ◌∙◌, arith, length-drop}
+use Rattle.std.proofs.Common.{◌≡◌, ◌⊎◌, inl, inr, ℕ, zero, suc, ◌+◌, ◌-◌, ◌<◌, ◌≤◌, Bool, true, false, cond, ◌&&◌, List, [], ◌∷◌, ◌++◌, length, drop, Option, Some, None, Result, Ok, Err, refl, sym, ap, subst, ◌∙◌, arith, length-drop}
 use Rattle.std.proofs.lemmas.Bool.{cases_lt}
 use Rattle.std.proofs.lemmas.List.{append-nil}
 use Rattle.gts_traits.specs.{Call, Did, Syncs, Files, Outside, seen, said_by, EachSince}
 use Rattle.gts_traits.proofs.LawLemmas.{weaker, joined}
 use Rattle.gts_directory.specs.Directory.{Directory}
 use Rattle.gts_event.specs.State.{State, empty}
-use Rattle.gts_event.specs.History.{restarted}
+use Rattle.gts_event.specs.History.{restarted, after}
 use Rattle.gts_event.specs.Need.{Need, need, begun}
 use Rattle.gts_record.specs.declared.version.Version.{Version}
 use Rattle.gts_record.specs.declared.fault.OpenFault.{OpenFault}
 use Rattle.gts_record.specs.declared.fault.OpenFault.TheVariants as opening
 use Rattle.gts_record.specs.declared.fault.OpenFault.TheVariants.{Damaged}
-use Rattle.gts_record.specs.Record.{Record}
-use Rattle.gts_record.specs.Format.{magic, seal, first_seal, written}
-use Rattle.gts_opening.specs.Journal.{Read, opened_of, selected, opens, files_read, file_opens, records_at, after_records, need_in, admits_checkpoint, checkpoint_text, compacted_bytes}
+use Rattle.gts_record.specs.Record.{Record, record_text}
+use Rattle.gts_record.specs.Format.{magic, seal, first_seal, record_size, written}
+use Rattle.gts_opening.specs.Journal.{Read, opened_of, selected, opens, files_read, file_opens, records_at, after_records, record_behind, event_of_record, need_in, admits_checkpoint, checkpoint_text, compacted_bytes}
 use Rattle.gts_core.specs.Core.{Core}
 use Rattle.gts_journal.specs.{InHand, StandsFor, OnlySyncs, OpensTo, OpensAsBefore, entry_at, file_of, selected_bytes, header_fault, is_checkpoint}
 use Rattle.gts_journal.proofs.LawLemmas.{syncs_silent, syncs_stand, images_open, opening_opens, open_selected, opens_behind, faulty_header, reads_end_there, reads_fault}
@@ -24,15 +24,15 @@ use Rattle.gts_standby.specs.declared.end.FollowEnd.{FollowEnd}
 use Rattle.gts_standby.specs.declared.end.FollowEnd.TheVariants.{Done, Open, Feed, Diverged, SourceFault, DiskFault, NoMemory}
 use Rattle.gts_standby.specs.Ahead.{InFeed}
 use Rattle.gts_standby.specs.Feed.{feed_at}
-use Rattle.gts_standby.specs.Taking.{Taken, End, Ends, Breaks, Parts, Piece, by_piece, is_checkpoint_fed, seals_at, seals_behind, add_all, begin_with, compare_first, take_records, by_header, taken}
-use Rattle.gts_standby.specs.Following.{open_end, own_seals, comes_to, EndsAs, Answers, IsEnd, start_of, state_after, OpensWithin, AsBefore, WithFront, EachOpens}
-use Rattle.gts_standby.specs.Reading.{HasRead, unread, IsReadEnd, ReadsAll, StopsAt, StopsAs}
+use Rattle.gts_standby.specs.Taking.{Taken, End, Ends, Breaks, Parts, stopped, Piece, by_piece, may_be_cut, is_checkpoint_fed, seals_at, seals_behind, add_all, begin_with, begin_first, is_further, is_other_first, or_anew, compare_first, take_records, by_header, taken}
+use Rattle.gts_standby.specs.Following.{open_end, own_seals, comes_to, EndsAs, Answers, LeavesAlone, IsEnd, start_of, state_after, read_behind, read_begun, read_after, OpensWithin, AsBefore, WithFront, EachOpens}
+use Rattle.gts_standby.specs.Reading.{HasRead, unread, IsReadEnd, IsFedEnd, ReadsAll, StopsAt, StopsAs, is_other}
 use Rattle.gts_standby.specs.Adding.{HoldsAt, HasAdded, IsAddEnd}
 use Rattle.gts_standby.specs.Whole.{HasTaken, IsTakenEnd}
 use Rattle.gts_standby.specs.Beginning.{OpensOneOf, HasBegun, EndsBegin, BeforeIt, WithinIt, begun_taken}
 use Rattle.gts_standby.specs.Comparing.{Leads}
 use Rattle.gts_standby.proofs.FeedLemmas.{leads_on, none_left, left_split}
-use Rattle.gts_standby.proofs.AddLemmas.{holds_of, opened_by, opened_now, begun_there}
+use Rattle.gts_standby.proofs.AddLemmas.{holds_of, opened_by, opened_now, read_now, begun_there, added_by}
 
 -- ---- at most a sync was tried
 
@@ -40,6 +40,11 @@ pub opens_kept : (d : Directory) (s : State) (old new : List Call) → OnlySyncs
 opens_kept d s old new (inl is) there = ap (λ (l : List Call). opens d (seen l)) is ∙ there
 opens_kept d s old new (inr (inl same)) there = ap (λ (l : List Call). opens d (seen l)) same ∙ there
 opens_kept d s old new (inr (inr left)) there = ap (λ (l : List Call). opens d (seen l)) left.2 ∙ there
+
+pub reads_kept : (d : Directory) (read : Read) (old new : List Call) → OnlySyncs old new → files_read written d (seen old) ≡ read → files_read written d (seen new) ≡ read
+reads_kept d read old new (inl is) there = ap (λ (l : List Call). files_read written d (seen l)) is ∙ there
+reads_kept d read old new (inr (inl same)) there = ap (λ (l : List Call). files_read written d (seen l)) same ∙ there
+reads_kept d read old new (inr (inr left)) there = ap (λ (l : List Call). files_read written d (seen l)) left.2 ∙ there
 
 pub holds_kept : (tells : Type 0) (d : Directory) (s : State) (old new : List Call) (core : Core) (j : InHand) → (tells → OnlySyncs old new) → HoldsAt tells d s old core j → HoldsAt tells d s new core j
 holds_kept tells d s old new core j syncs h = record { kept = h.kept; current = h.current; ended = h.ended; stands = λ tell. syncs_stand d s old new j (syncs tell) (h.stands tell) }
@@ -60,23 +65,26 @@ no_open fault (Breaks at) is = is
 no_open fault (Parts index own fed) is = is
 
 module _ (d : Directory) (s : State) (old new : List Call) (j : InHand) (taken : Taken) (left : List ℕ) (f : StandsFor d s old j) (syncs : OnlySyncs old new) where
-  quiet : (answer : FollowEnd) → IsTakenEnd answer → (IsEnd answer → ⊥) → HasTaken answer d s taken old new left
+  quiet : (answer : FollowEnd) → IsTakenEnd answer → (IsEnd answer → ⊥) → HasTaken answer d s (j.gate + 1) j.seal taken old new left
   quiet answer kind fault = record {
     kind = kind;
-    added = record { ends = λ e. absurd (fault e); opened = λ e. absurd (fault e); moments = kept_moments d s taken old new j f syncs };
+    added = record { ends = λ e. absurd (fault e); opened = λ e. absurd (fault e); reads = λ e. absurd (fault e); moments = kept_moments d s taken old new j f syncs };
   }
 
-  ended : (answer : FollowEnd) → IsTakenEnd answer → StopsAt answer taken left → HasTaken answer d s taken old new left
+  ended : (answer : FollowEnd) → IsTakenEnd answer → StopsAt answer taken left → HasTaken answer d s (j.gate + 1) j.seal taken old new left
   ended answer kind stops = record {
     kind = kind;
     added = record {
       ends = λ _. (subst (λ (t : Taken). EndsAs answer t.end) (sym stops.is) stops.ends, stops.all);
       opened = λ _. subst (λ (t : Taken). OpensTo d (state_after d s t) (seen new)) (sym stops.is) (opens_kept d s old new syncs (opened_now d s old j f));
+      reads = λ _.
+          subst (λ (t : Taken). files_read written d (seen new) ≡ Ok (read_after d (s, j.gate + 1, j.seal) t)) (sym stops.is)
+          (reads_kept d (Ok (s, j.gate + 1, j.seal)) old new syncs (read_now d s old j f));
       moments = kept_moments d s taken old new j f syncs;
     };
   }
 
-  pub stops_taken : (answer : FollowEnd) → StopsAs answer taken left → HasTaken answer d s taken old new left
+  pub stops_taken : (answer : FollowEnd) → StopsAs answer taken left → HasTaken answer d s (j.gate + 1) j.seal taken old new left
   stops_taken Done stops = ended Done tt stops
   stops_taken (Feed at) stops = ended (Feed at) tt stops
   stops_taken (Diverged index own fed) stops = ended (Diverged index own fed) tt stops
@@ -85,7 +93,7 @@ module _ (d : Directory) (s : State) (old new : List Call) (j : InHand) (taken :
   stops_taken DiskFault stops = quiet DiskFault tt (λ e. e)
   stops_taken NoMemory stops = quiet NoMemory tt (λ e. e)
 
-  pub unread_taken : (answer : FollowEnd) → IsReadEnd answer → HasTaken answer d s taken old new left
+  pub unread_taken : (answer : FollowEnd) → IsReadEnd answer → HasTaken answer d s (j.gate + 1) j.seal taken old new left
   unread_taken SourceFault kind = quiet SourceFault tt (λ e. e)
   unread_taken NoMemory kind = quiet NoMemory tt (λ e. e)
   unread_taken Done kind = absurd kind
@@ -116,11 +124,17 @@ begun_moments d s old mid n taken begins each = weaker (OpensOneOf d s (begun n)
 abbrev beginning : Need → Taken → Taken
 beginning n more = record more { begins = Some n }
 
-begun_added : (answer : FollowEnd) (d : Directory) (s : State) (n : Need) (more : Taken) (old mid new : List Call) (left : List ℕ) → more.begins ≡ None → said_by mid ≡ said_by old
-    → EachSince old mid (OpensOneOf d s (begun n)) → HasAdded answer d (begun n) more mid new left → HasAdded answer d s (beginning n more) old new left
-begun_added answer d s n more old mid new left none silent each added = record {
+begun_added : (answer : FollowEnd) (d : Directory) (s : State) (used : ℕ) (last : List ℕ) (n : Need) (un : ℕ) (ln : List ℕ) (more : Taken) (old mid new : List Call) (left : List ℕ) → more.begins ≡ None
+    → un ≡ compacted_bytes written n → ln ≡ seal written (first_seal written d.mark) (checkpoint_text n) → said_by mid ≡ said_by old
+    → EachSince old mid (OpensOneOf d s (begun n)) → HasAdded answer d (begun n) un ln more mid new left → HasAdded answer d s used last (beginning n more) old new left
+begun_added answer d s used last n un ln more old mid new left none used_is last_is silent each added = record {
   ends = added.ends;
   opened = λ e. (let P : Option Need → Type 0 = λ o. OpensTo d (after_records d (start_of (begun n) o) more.records) (seen new) in subst P none (added.opened e));
+  reads = λ e.
+      added.reads e
+      ∙ ap (λ (o : Option Need). Ok (read_behind d (read_begun d (begun n, un, ln) o) more.records)) none
+      ∙ ap (λ (k : ℕ). Ok (read_behind d (begun n, k, ln) more.records)) used_is
+      ∙ ap (λ (l : List ℕ). Ok (read_behind d (begun n, compacted_bytes written n, l) more.records)) last_is;
   moments =
       joined (OpensWithin d s (beginning n more)) (OpensWithin d (begun n) more) old mid new [] (begun_moments d s old mid n (beginning n more) refl each)
       (silent ∙ sym (append-nil (said_by old))) added.moments later_so;
@@ -132,34 +146,37 @@ begun_added answer d s n more old mid new left none silent each added = record {
         let P : Option Need → Type 0 = λ o. OpensTo d (after_records d (start_of (begun n) o) front) files in WithFront front back is quiet (subst P none there)
 
 abbrev taken_first : Directory → State → InHand → List ℕ → Bool → Taken
-taken_first d s j fed b = cond b (begun_taken d j fed) (add_all written d (length fed) j.seal s j.gate 40 fed)
+taken_first d s j fed b = cond b (begin_first written d j.seal fed) (add_all written d (length fed) j.seal s j.gate 40 fed)
 
 -- no checkpoint stands at the front
 pub plain_taken : (answer : FollowEnd) (d : Directory) (s : State) (j : InHand) (fed : List ℕ) (old new : List Call) (left : List ℕ) → false ≡ is_checkpoint_fed fed → IsAddEnd answer
-    → HasAdded answer d s (add_all written d (length fed) j.seal s j.gate 40 fed) old new left → HasTaken answer d s (take_records written d s j.gate j.seal [] fed) old new left
+    → HasAdded answer d s (j.gate + 1) j.seal (add_all written d (length fed) j.seal s j.gate 40 fed) old new left → HasTaken answer d s (j.gate + 1) j.seal (take_records written d s j.gate j.seal [] fed) old new left
 plain_taken answer d s j fed old new left is kind added = record {
   kind = taken_end answer kind;
-  added = subst (λ (t : Taken). HasAdded answer d s t old new left) (ap (taken_first d s j fed) is) added;
+  added = subst (λ (t : Taken). HasAdded answer d s (j.gate + 1) j.seal t old new left) (ap (taken_first d s j fed) is) added;
 }
 
--- the feed ends at its checkpoint
-pub ends_begun : (answer : FollowEnd) (d : Directory) (s : State) (j : InHand) (fed : List ℕ) (old new : List Call) (left : List ℕ) → true ≡ is_checkpoint_fed fed → StandsFor d s old j → IsAddEnd answer
-    → EndsBegin answer d s fed old j new left → HasTaken answer d s (take_records written d s j.gate j.seal [] fed) old new left
-ends_begun answer d s j fed old new left is f kind ends = subst (λ (t : Taken). HasTaken answer d s t old new left) (ap (taken_first d s j fed) is) (by_end ends)
-  where
-    by_end : EndsBegin answer d s fed old j new left → HasTaken answer d s (begun_taken d j fed) old new left
-    by_end (BeforeIt same stops) = stops_taken d s old new j (begun_taken d j fed) left f (inr (inl same)) answer stops
-    by_end (WithinIt n begins each fault) = record {
-      kind = taken_end answer kind;
-      added = record { ends = λ e. absurd (fault e); opened = λ e. absurd (fault e); moments = begun_moments d s old new n (begun_taken d j fed) begins each };
-    }
+-- one does, and the journal has the seal of its header
+pub checkpoint_taken : (answer : FollowEnd) (d : Directory) (s : State) (j : InHand) (fed : List ℕ) (old new : List Call) (left : List ℕ) → true ≡ is_checkpoint_fed fed → j.seal ≡ first_seal written d.mark
+    → HasTaken answer d s (j.gate + 1) j.seal (begun_taken d fed) old new left → HasTaken answer d s (j.gate + 1) j.seal (take_records written d s j.gate j.seal [] fed) old new left
+checkpoint_taken answer d s j fed old new left is first has =
+    subst (λ (t : Taken). HasTaken answer d s (j.gate + 1) j.seal t old new left) (ap (λ (l : List ℕ). begin_first written d l fed) (sym first) ∙ ap (taken_first d s j fed) is) has
 
-abbrev by_found : Directory → InHand → List ℕ → Piece → Taken
-by_found d j fed piece = by_piece 40 piece (λ size other. begin_with written d j.seal size fed (need_in fed))
+-- the feed ends at its checkpoint
+pub ends_begun : (answer : FollowEnd) (d : Directory) (s : State) (j : InHand) (fed : List ℕ) (old new : List Call) (left : List ℕ) → StandsFor d s old j → IsAddEnd answer
+    → EndsBegin answer d s fed old new left → HasTaken answer d s (j.gate + 1) j.seal (begun_taken d fed) old new left
+ends_begun answer d s j fed old new left f kind (BeforeIt same stops) = stops_taken d s old new j (begun_taken d fed) left f (inr (inl same)) answer stops
+ends_begun answer d s j fed old new left f kind (WithinIt n begins each fault) = record {
+  kind = taken_end answer kind;
+  added = record { ends = λ e. absurd (fault e); opened = λ e. absurd (fault e); reads = λ e. absurd (fault e); moments = begun_moments d s old new n (begun_taken d fed) begins each };
+}
+
+abbrev by_found : Directory → List ℕ → Piece → Taken
+by_found d fed piece = by_piece 40 piece (λ size other. begin_with written d (first_seal written d.mark) size fed (need_in fed))
 
 -- the checkpoint was taken, and records are added behind it
-module _ (tells : Type 0) (tell : tells) (d : Directory) (s : State) (fed : List ℕ) (old mid : List Call) (j : InHand) (at : ℕ) (core : Core) (next : InHand) (ahead : InFeed) (left : List ℕ)
-    (b : HasBegun tells d s fed old j at mid core next ahead left) where
+module _ (tells : Type 0) (tell : tells) (d : Directory) (s : State) (fed : List ℕ) (old mid : List Call) (at : ℕ) (core : Core) (next : InHand) (ahead : InFeed) (left : List ℕ)
+    (b : HasBegun tells d s fed old at mid core next ahead left) where
   abbrev behind_it : ℕ → Taken
   behind_it place = add_all written d (length fed) next.seal (begun b.n) next.gate place (drop b.size fed)
 
@@ -169,16 +186,16 @@ module _ (tells : Type 0) (tell : tells) (d : Directory) (s : State) (fed : List
   none_begins : (behind_it at).begins ≡ None
   none_begins = (begun_there tells tell d (begun b.n) mid core next at ahead left (drop b.size fed) (length fed) b.holds b.read enough_left).none
 
-  comes_behind : true ≡ is_checkpoint_fed fed → take_records written d s j.gate j.seal [] fed ≡ beginning b.n (behind_it at)
-  comes_behind is =
-      sym (ap (taken_first d s j fed) is) ∙ ap (by_found d j fed) b.piece ∙ b.begins
+  comes_behind : begun_taken d fed ≡ beginning b.n (behind_it at)
+  comes_behind =
+      ap (by_found d fed) b.piece ∙ b.begins
       ∙ ap (λ (k : ℕ). beginning b.n (behind_it k)) (sym b.place)
 
-  pub begun_on : (answer : FollowEnd) (new : List Call) (left_next : List ℕ) → true ≡ is_checkpoint_fed fed → IsAddEnd answer → HasAdded answer d (begun b.n) (behind_it at) mid new left_next
-      → HasTaken answer d s (take_records written d s j.gate j.seal [] fed) old new left_next
-  begun_on answer new left_next is kind added =
-      let has = begun_added answer d s b.n (behind_it at) old mid new left_next none_begins b.silent b.moments added in
-      record { kind = taken_end answer kind; added = subst (λ (t : Taken). HasAdded answer d s t old new left_next) (sym (comes_behind is)) has }
+  pub begun_on : (answer : FollowEnd) (used : ℕ) (last : List ℕ) (new : List Call) (left_next : List ℕ) → IsAddEnd answer → HasAdded answer d (begun b.n) (next.gate + 1) next.seal (behind_it at) mid new left_next
+      → HasTaken answer d s used last (begun_taken d fed) old new left_next
+  begun_on answer used last new left_next kind added =
+      let has = begun_added answer d s used last b.n (next.gate + 1) next.seal (behind_it at) old mid new left_next none_begins b.gate_is b.seal_is b.silent b.moments added in
+      record { kind = taken_end answer kind; added = subst (λ (t : Taken). HasAdded answer d s used last t old new left_next) (sym comes_behind) has }
 
 -- ---- whether a journal has records
 
@@ -314,44 +331,175 @@ abbrev behind_all : Directory → State → ℕ → List ℕ → ℕ → List �
 behind_all d s gate last at left = add_all written d (length left) last s gate at left
 
 compared_taken : (d : Directory) (s : State) (gate : ℕ) (last fed own : List ℕ) (all rest : List (List ℕ)) → all ≡ own ∷ rest
-    → take_records written d s gate last all fed ≡ compare_first written d.limit (behind_all d s gate last) all (first_seal written d.mark) fed
+    → take_records written d s gate last all fed ≡ or_anew d s (begun_taken d fed) (compare_first written d.limit (behind_all d s gate last) all (first_seal written d.mark) fed)
 compared_taken d s gate last fed own all rest is =
     ap (λ (l : List (List ℕ)). take_records written d s gate last l fed) is
-    ∙ sym (ap (λ (l : List (List ℕ)). compare_first written d.limit (behind_all d s gate last) l (first_seal written d.mark) fed) is)
+    ∙ sym (ap (λ (l : List (List ℕ)). or_anew d s (begun_taken d fed) (compare_first written d.limit (behind_all d s gate last) l (first_seal written d.mark) fed)) is)
 
 abbrev compared_by : Directory → List Call → InHand → List ℕ → (ℕ → List ℕ → Taken) → Taken
 compared_by d calls j fed behind = compare_first written d.limit behind (own_seals d (file_of calls j)) (first_seal written d.mark) fed
+
+-- it goes on as it was compared, where record 0 isn't another one
+pub stays : (d : Directory) (s : State) (anew compared : Taken) → is_other_first compared.end ≡ false → or_anew d s anew compared ≡ compared
+stays d s anew compared is = ap (λ (b : Bool). cond (b && is_further d s anew) anew compared) is
+
+-- so it does where records are added
+pub add_ends : (d : Directory) (n : ℕ) (last : List ℕ) (s : State) (gate at : ℕ) (bytes : List ℕ) → is_other_first (add_all written d n last s gate at bytes).end ≡ false
+add_ends d zero last s gate at bytes = refl
+add_ends d (suc n) last s gate at bytes =
+    by_record (record_behind written d last s gate bytes)
+    (λ r. add_ends d n (seal written last (record_text r)) (after d s (event_of_record r)) (gate + record_size written r) (at + (record_size written r - 1)) (drop (record_size written r - 1) bytes))
+  where
+    by_cut : (b : Bool) → is_other_first (cond b (stopped Ends) (stopped (Breaks at))).end ≡ false
+    by_cut true = refl
+    by_cut false = refl
+
+    by_record : (o : Option Record)
+        → ((r : Record) → is_other_first (add_all written d n (seal written last (record_text r)) (after d s (event_of_record r)) (gate + record_size written r) (at + (record_size written r - 1)) (drop (record_size written r - 1) bytes)).end ≡ false)
+        → is_other_first (added_by d n last s gate at bytes o).end ≡ false
+    by_record None so = by_cut (may_be_cut written bytes)
+    by_record (Some r) so = so r
+
+-- how a feed is answered that was compared
+ends_so : (answer : FollowEnd) (end : End) → EndsAs answer end → is_other answer ≡ false → IsEnd answer → is_other_first end ≡ false
+ends_so Done Ends is other ends = refl
+ends_so Done (Breaks at) is other ends = absurd is
+ends_so Done (Parts index own fed) is other ends = absurd is
+ends_so (Feed at) Ends is other ends = absurd is
+ends_so (Feed at) (Breaks place) is other ends = refl
+ends_so (Feed at) (Parts index own fed) is other ends = absurd is
+ends_so (Diverged index own fed) Ends is other ends = absurd is
+ends_so (Diverged index own fed) (Breaks at) is other ends = absurd is
+ends_so (Diverged zero own fed) (Parts number its other_fed) is other ends = absurd (let e : true ≡ false = other in cc e)
+ends_so (Diverged (suc index) own fed) (Parts zero its other_fed) is other ends = absurd (let e : suc index ≡ 0 = is.0 in cc e)
+ends_so (Diverged (suc index) own fed) (Parts (suc number) its other_fed) is other ends = refl
+ends_so (Open fault) end is other ends = absurd ends
+ends_so SourceFault end is other ends = absurd ends
+ends_so DiskFault end is other ends = absurd ends
+ends_so NoMemory end is other ends = absurd ends
+
+stops_anew : (answer : FollowEnd) (d : Directory) (s : State) (anew compared : Taken) (left : List ℕ) → is_other answer ≡ false → StopsAs answer compared left → StopsAs answer (or_anew d s anew compared) left
+stops_anew answer d s anew compared left other stops = by_answer answer other stops
+  where
+    by_end : (a : FollowEnd) → is_other a ≡ false → IsEnd a → StopsAt a compared left → StopsAt a (or_anew d s anew compared) left
+    by_end a other ends stops = record {
+      end = stops.end;
+      is = stays d s anew compared (ap (λ (t : Taken). is_other_first t.end) stops.is ∙ ends_so a stops.end stops.ends other ends) ∙ stops.is;
+      ends = stops.ends;
+      all = stops.all;
+    }
+
+    by_answer : (a : FollowEnd) → is_other a ≡ false → StopsAs a compared left → StopsAs a (or_anew d s anew compared) left
+    by_answer Done other stops = by_end Done other tt stops
+    by_answer (Feed at) other stops = by_end (Feed at) other tt stops
+    by_answer (Diverged index own fed) other stops = by_end (Diverged index own fed) other tt stops
+    by_answer (Open fault) other stops = absurd (no_open fault stops.end stops.ends)
+    by_answer SourceFault other stops = tt
+    by_answer DiskFault other stops = tt
+    by_answer NoMemory other stops = tt
 
 module _ (d : Directory) (s : State) (old mid : List Call) (j : InHand) (fed : List ℕ) (f : StandsFor d s old j) (syncs : OnlySyncs old mid) (low : 40 < j.gate) where
   abbrev comes : Taken
   comes = take_records written d s j.gate j.seal (own_seals d (file_of old j)) fed
 
-  comes_so : comes ≡ compared_by d old j fed (behind_all d s j.gate j.seal)
+  abbrev compared_here : Taken
+  compared_here = compared_by d old j fed (behind_all d s j.gate j.seal)
+
+  comes_so : comes ≡ or_anew d s (begun_taken d fed) compared_here
   comes_so = let split = some_own d s old j f low in compared_taken d s j.gate j.seal fed split.0 (own_seals d (file_of old j)) split.1 split.2
 
-  pub ends_compared : (answer : FollowEnd) (left : List ℕ) → ((behind : ℕ → List ℕ → Taken) → StopsAs answer (compared_by d old j fed behind) left) → HasTaken answer d s comes old mid left
-  ends_compared answer left stops =
-      stops_taken d s old mid j comes left f syncs answer (subst (λ (t : Taken). StopsAs answer t left) (sym comes_so) (stops (behind_all d s j.gate j.seal)))
+  pub ends_compared : (answer : FollowEnd) (left : List ℕ) → is_other answer ≡ false → ((behind : ℕ → List ℕ → Taken) → StopsAs answer (compared_by d old j fed behind) left) → HasTaken answer d s (j.gate + 1) j.seal comes old mid left
+  ends_compared answer left other stops =
+      stops_taken d s old mid j comes left f syncs answer
+      (subst (λ (t : Taken). StopsAs answer t left) (sym comes_so) (stops_anew answer d s (begun_taken d fed) compared_here left other (stops (behind_all d s j.gate j.seal))))
 
-  pub goes_compared : (answer : FollowEnd) (new : List Call) (at : ℕ) (on left : List ℕ) → ((behind : ℕ → List ℕ → Taken) → compared_by d old j fed behind ≡ behind at on) → IsAddEnd answer
-      → HasAdded answer d s (behind_all d s j.gate j.seal at on) mid new left → HasTaken answer d s comes old new left
-  goes_compared answer new at on left same kind added = record {
-    kind = taken_end answer kind;
-    added = subst (λ (t : Taken). HasAdded answer d s t old new left) (sym (comes_so ∙ same (behind_all d s j.gate j.seal))) (record {
+  -- since the opening
+  from_opening : (answer : FollowEnd) (taken : Taken) (new : List Call) (left : List ℕ) → IsTakenEnd answer → HasAdded answer d s (j.gate + 1) j.seal taken mid new left → HasTaken answer d s (j.gate + 1) j.seal taken old new left
+  from_opening answer taken new left kind added = record {
+    kind = kind;
+    added = record {
       ends = added.ends;
       opened = added.opened;
+      reads = added.reads;
       moments =
-          joined (OpensWithin d s (behind_all d s j.gate j.seal at on)) (OpensWithin d s (behind_all d s j.gate j.seal at on)) old mid new []
-          (kept_moments d s (behind_all d s j.gate j.seal at on) old mid j f syncs)
+          joined (OpensWithin d s taken) (OpensWithin d s taken) old mid new [] (kept_moments d s taken old mid j f syncs)
           (syncs_silent old mid syncs ∙ sym (append-nil (said_by old))) added.moments (λ files later is. is);
-    });
+    };
   }
+
+  pub goes_compared : (answer : FollowEnd) (new : List Call) (at : ℕ) (on left : List ℕ) → ((behind : ℕ → List ℕ → Taken) → compared_by d old j fed behind ≡ behind at on) → IsAddEnd answer
+      → HasAdded answer d s (j.gate + 1) j.seal (behind_all d s j.gate j.seal at on) mid new left → HasTaken answer d s (j.gate + 1) j.seal comes old new left
+  goes_compared answer new at on left same kind added =
+      let on_is = same (behind_all d s j.gate j.seal) in
+      let goes : or_anew d s (begun_taken d fed) compared_here ≡ behind_all d s j.gate j.seal at on =
+      ap (or_anew d s (begun_taken d fed)) on_is ∙ stays d s (begun_taken d fed) (behind_all d s j.gate j.seal at on) (add_ends d (length on) j.seal s j.gate at on) in
+      subst (λ (t : Taken). HasTaken answer d s (j.gate + 1) j.seal t old new left) (sym (comes_so ∙ goes))
+      (from_opening answer (behind_all d s j.gate j.seal at on) new left (taken_end answer kind) added)
+
+  -- record 0 is another one
+  pub other_compared : (compared answer : FollowEnd) (new : List Call) (left left_now : List ℕ) → is_other compared ≡ true → ((behind : ℕ → List ℕ → Taken) → StopsAs compared (compared_by d old j fed behind) left)
+      → ((end : End) → EndsAs compared end → HasTaken answer d s (j.gate + 1) j.seal (or_anew d s (begun_taken d fed) (stopped end)) mid new left_now) → HasTaken answer d s (j.gate + 1) j.seal comes old new left_now
+  other_compared compared answer new left left_now other stops has = by_end compared other (stops (behind_all d s j.gate j.seal)) has
+    where
+      by_end : (a : FollowEnd) → is_other a ≡ true → StopsAs a compared_here left
+          → ((end : End) → EndsAs a end → HasTaken answer d s (j.gate + 1) j.seal (or_anew d s (begun_taken d fed) (stopped end)) mid new left_now) → HasTaken answer d s (j.gate + 1) j.seal comes old new left_now
+      by_end Done other stops has = absurd (cc other)
+      by_end (Open fault) other stops has = absurd (cc other)
+      by_end (Feed at) other stops has = absurd (cc other)
+      by_end SourceFault other stops has = absurd (cc other)
+      by_end DiskFault other stops has = absurd (cc other)
+      by_end NoMemory other stops has = absurd (cc other)
+      by_end (Diverged index own fed_seal) other stops has =
+          let h = has stops.end stops.ends in
+          let is : comes ≡ or_anew d s (begun_taken d fed) (stopped stops.end) = comes_so ∙ ap (or_anew d s (begun_taken d fed)) stops.is in
+          subst (λ (t : Taken). HasTaken answer d s (j.gate + 1) j.seal t old new left_now) (sym is) (from_opening answer (or_anew d s (begun_taken d fed) (stopped stops.end)) new left_now h.kind h.added)
+
+-- ---- a journal that may begin anew
+
+anew_by : (d : Directory) (s : State) (anew : Taken) (end : End) (first further : Bool) → is_other_first end ≡ first → is_further d s anew ≡ further → or_anew d s anew (stopped end) ≡ cond (first && further) anew (stopped end)
+anew_by d s anew end first further one two = ap (λ (b : Bool). cond (b && is_further d s anew) anew (stopped end)) one ∙ ap (λ (b : Bool). cond (first && b) anew (stopped end)) two
+
+other_there : (compared : FollowEnd) (end : End) → is_other compared ≡ true → EndsAs compared end → is_other_first end ≡ true
+other_there Done end other is = absurd (cc other)
+other_there (Open fault) end other is = absurd (cc other)
+other_there (Feed at) end other is = absurd (cc other)
+other_there SourceFault end other is = absurd (cc other)
+other_there DiskFault end other is = absurd (cc other)
+other_there NoMemory end other is = absurd (cc other)
+other_there (Diverged (suc index) own fed) end other is = absurd (cc other)
+other_there (Diverged zero own fed) Ends other is = absurd is
+other_there (Diverged zero own fed) (Breaks at) other is = absurd is
+other_there (Diverged zero own fed) (Parts zero its other_fed) other is = refl
+other_there (Diverged zero own fed) (Parts (suc number) its other_fed) other is = absurd (let e : 0 ≡ suc number = is.0 in cc e)
+
+-- it begins anew
+pub anew_taken : (answer compared : FollowEnd) (d : Directory) (s : State) (j : InHand) (fed : List ℕ) (end : End) (old new : List Call) (left : List ℕ) → is_other compared ≡ true → EndsAs compared end
+    → true ≡ is_further d s (begun_taken d fed) → HasTaken answer d s (j.gate + 1) j.seal (begun_taken d fed) old new left → HasTaken answer d s (j.gate + 1) j.seal (or_anew d s (begun_taken d fed) (stopped end)) old new left
+anew_taken answer compared d s j fed end old new left other is further has =
+    subst (λ (t : Taken). HasTaken answer d s (j.gate + 1) j.seal t old new left) (sym (anew_by d s (begun_taken d fed) end true true (other_there compared end other is) (sym further))) has
+
+-- its checkpoint is behind, or none
+pub behind_taken_over : (compared : FollowEnd) (d : Directory) (s : State) (fed : List ℕ) (end : End) (calls : List Call) (j : InHand) (left : List ℕ) → StandsFor d s calls j → is_other compared ≡ true → EndsAs compared end
+    → false ≡ is_further d s (begun_taken d fed) → HasTaken compared d s (j.gate + 1) j.seal (or_anew d s (begun_taken d fed) (stopped end)) calls calls left
+behind_taken_over compared d s fed end calls j left f other is further =
+    subst (λ (t : Taken). HasTaken compared d s (j.gate + 1) j.seal t calls calls left)
+    (sym (anew_by d s (begun_taken d fed) end true false (other_there compared end other is) (sym further)))
+    (stops_taken d s calls calls j (stopped end) left f (inr (inl refl)) compared (by_end compared other is))
+  where
+    by_end : (a : FollowEnd) → is_other a ≡ true → EndsAs a end → StopsAs a (stopped end) left
+    by_end Done other is = absurd (cc other)
+    by_end (Open fault) other is = absurd (cc other)
+    by_end (Feed at) other is = absurd (cc other)
+    by_end SourceFault other is = absurd (cc other)
+    by_end DiskFault other is = absurd (cc other)
+    by_end NoMemory other is = absurd (cc other)
+    by_end (Diverged index own fed_seal) other is = record { end = end; is = refl; ends = is; all = tt }
 
 -- without records
 pub first_taken : (answer : FollowEnd) (d : Directory) (s : State) (old new : List Call) (j : InHand) (fed left : List ℕ) → StandsFor d s old j → j.gate ≤ 40
-    → HasTaken answer d s (take_records written d s j.gate j.seal [] fed) old new left → HasTaken answer d s (take_records written d s j.gate j.seal (own_seals d (file_of old j)) fed) old new left
+    → HasTaken answer d s (j.gate + 1) j.seal (take_records written d s j.gate j.seal [] fed) old new left → HasTaken answer d s (j.gate + 1) j.seal (take_records written d s j.gate j.seal (own_seals d (file_of old j)) fed) old new left
 first_taken answer d s old new j fed left f low has =
-    subst (λ (l : List (List ℕ)). HasTaken answer d s (take_records written d s j.gate j.seal l fed) old new left) (sym (nothing_own d s old j f low)) has
+    subst (λ (l : List (List ℕ)). HasTaken answer d s (j.gate + 1) j.seal (take_records written d s j.gate j.seal l fed) old new left) (sym (nothing_own d s old j f low)) has
 
 -- ---- all of it
 
@@ -416,6 +564,34 @@ open_no_source opening.OldVersion is = absurd (cc is)
 open_no_source (opening.NotThis want found) is = absurd (cc is)
 open_no_source (opening.Damaged file at) is = absurd (cc is)
 
+-- a journal that is refused is left alone
+pub open_alone : (e : OpenFault) (old new : List Call) (Unread : Type 0) → OnlySyncs old new → Unread → LeavesAlone (open_end e) old new Unread
+open_alone opening.DiskFault old new Unread told same = tt
+open_alone opening.NoMemory old new Unread told same = tt
+open_alone opening.NoJournal old new Unread told same = (told, same)
+open_alone opening.OldVersion old new Unread told same = (told, same)
+open_alone (opening.NotThis want found) old new Unread told same = (told, same)
+open_alone (opening.Damaged file at) old new Unread told same = (told, same)
+
+-- and where it opens, it isn't refused
+pub taken_alone : (answer : FollowEnd) (old new : List Call) (Unread : Type 0) → IsTakenEnd answer → LeavesAlone answer old new Unread
+taken_alone Done old new Unread kind = tt
+taken_alone (Open fault) old new Unread kind = absurd kind
+taken_alone (Feed at) old new Unread kind = tt
+taken_alone (Diverged index own fed) old new Unread kind = tt
+taken_alone SourceFault old new Unread kind = tt
+taken_alone DiskFault old new Unread kind = tt
+taken_alone NoMemory old new Unread kind = tt
+
+pub fed_alone : (answer : FollowEnd) (old new : List Call) (Unread : Type 0) → IsFedEnd answer → LeavesAlone answer old new Unread
+fed_alone Done old new Unread kind = tt
+fed_alone (Open fault) old new Unread kind = absurd kind
+fed_alone (Feed at) old new Unread kind = tt
+fed_alone (Diverged index own fed) old new Unread kind = tt
+fed_alone SourceFault old new Unread kind = tt
+fed_alone DiskFault old new Unread kind = tt
+fed_alone NoMemory old new Unread kind = tt
+
 -- where it opens
 module _ (d : Directory) (old mid : List Call) (j : InHand) (s : State) (fed : List ℕ) (synced : mid ≡ Did Syncs ∷ old) (f : StandsFor d s mid j) where
   abbrev behind_header : Taken
@@ -440,19 +616,19 @@ module _ (d : Directory) (old mid : List Call) (j : InHand) (s : State) (fed : L
 
   -- the header was taken
   pub behind_taken : (answer : FollowEnd) (mark : List ℕ) (new : List Call) (left : List ℕ) → mark ≡ d.mark → ((next : Taken) → by_header (magic written ++ mark) fed next ≡ next)
-      → HasTaken answer d s behind_header mid new left → HasTaken answer d s all_taken mid new left
+      → HasTaken answer d s (j.gate + 1) j.seal behind_header mid new left → HasTaken answer d s (j.gate + 1) j.seal all_taken mid new left
   behind_taken answer mark new left ours same has =
-      subst (λ (t : Taken). HasTaken answer d s t mid new left)
+      subst (λ (t : Taken). HasTaken answer d s (j.gate + 1) j.seal t mid new left)
       (sym (ap (λ (l : List ℕ). by_header (magic written ++ l) fed behind_header) (sym ours) ∙ same behind_header)) has
 
   -- the feed ends there
   pub header_taken : (answer : FollowEnd) (mark left : List ℕ) → mark ≡ d.mark → ((next : Taken) → StopsAs answer (by_header (magic written ++ mark) fed next) left)
-      → HasTaken answer d s all_taken mid mid left
+      → HasTaken answer d s (j.gate + 1) j.seal all_taken mid mid left
   header_taken answer mark left ours stops =
       stops_taken d s mid mid j all_taken left f (inr (inl refl)) answer
       (subst (λ (l : List ℕ). StopsAs answer (by_header (magic written ++ l) fed behind_header) left) ours (stops behind_header))
 
-  module _ (answer : FollowEnd) (new : List Call) (left : List ℕ) (has : HasTaken answer d s all_taken mid new left) where
+  module _ (answer : FollowEnd) (new : List Call) (left : List ℕ) (has : HasTaken answer d s (j.gate + 1) j.seal all_taken mid new left) where
     by_answer : (a : FollowEnd) → IsTakenEnd a → (IsEnd a → EndsAs a all_taken.end × ReadsAll a left) → Answers a (Ok all_taken)
     by_answer Done kind ends = (ends tt).0
     by_answer (Feed at) kind ends = (ends tt).0
@@ -478,6 +654,13 @@ module _ (d : Directory) (old mid : List Call) (j : InHand) (s : State) (fed : L
     added_there t used last other reads comes ends =
         let by_state : OpensTo d (state_after d t all_taken) (seen new) = subst (λ (q : State). OpensTo d (state_after d q all_taken) (seen new)) (same_state t used last reads) (has.added.opened ends) in
         subst (λ (x : Taken). OpensTo d (state_after d t x) (seen new)) (same_taken other comes) by_state
+
+    pub reads_after_there : (read : State × ℕ × List ℕ) (other : Taken) → files_read written d (seen old) ≡ Ok read → comes_to d (seen old) fed ≡ Ok other → IsEnd answer
+        → files_read written d (seen new) ≡ Ok (read_after d read other)
+    reads_after_there read other reads comes ends =
+        let e : Ok (s, j.gate + 1, j.seal) ≡ Ok read = sym reads_there ∙ reads in
+        let same : (s, j.gate + 1, j.seal) ≡ read = cc e in
+        has.added.reads ends ∙ ap (λ (x : State × ℕ × List ℕ). Ok (read_after d x all_taken)) same ∙ ap (λ (t : Taken). Ok (read_after d read t)) (same_taken other comes)
 
     pub moments_there : (t : State) (used : ℕ) (last : List ℕ) (other : Taken) → files_read written d (seen old) ≡ Ok (t, used, last) → comes_to d (seen old) fed ≡ Ok other → EachOpens d t other old new
     moments_there t used last other reads comes =

@@ -6,7 +6,7 @@ use Rattle.gts_event.specs.State.{State}
 use Rattle.gts_event.specs.History.{after}
 use Rattle.gts_record.specs.Record.{Record, record_text}
 use Rattle.gts_record.specs.Format.{seal, record_size, written}
-use Rattle.gts_opening.specs.Journal.{event_of_record, record_behind}
+use Rattle.gts_opening.specs.Journal.{event_of_record, record_behind, files_read}
 use Rattle.gts_core.specs.Core.{Core}
 use Rattle.gts_journal.specs.{InHand, StandsFor, OpensTo, OpensToEither}
 use Rattle.gts_recovery.specs.Reading.{IsKept}
@@ -14,7 +14,7 @@ use Rattle.gts_standby.specs.declared.end.FollowEnd.{FollowEnd}
 use Rattle.gts_standby.specs.declared.end.FollowEnd.TheVariants.{Open, Diverged, DiskFault}
 use Rattle.gts_standby.specs.Ahead.{InFeed}
 use Rattle.gts_standby.specs.Taking.{Ends, Breaks, Taken, stopped, may_be_cut, add_all}
-use Rattle.gts_standby.specs.Following.{EndsAs, IsEnd, state_after, OpensWithin}
+use Rattle.gts_standby.specs.Following.{EndsAs, IsEnd, state_after, read_after, OpensWithin}
 use Rattle.gts_standby.specs.Reading.{HasRead, ReadsAll, StopsAs}
 
 -- The journal is at its end, and the core holds the state that it stands for, which is this one, where the station tells.
@@ -69,9 +69,11 @@ AddsNext result tells d at old core j ahead left new core_now next ahead_now lef
     → AddsOne result tells d s fed at old j new core_now next ahead_now left_now
 
 -- all that a feed adds was to be added
-pub record HasAdded (answer : FollowEnd) (d : Directory) (s : State) (taken : Taken) (old new : List Call) (left : List ℕ) : Type 0 where
+pub record HasAdded (answer : FollowEnd) (d : Directory) (s : State) (used : ℕ) (last : List ℕ) (taken : Taken) (old new : List Call)
+    (left : List ℕ) : Type 0 where
   pub ends : IsEnd answer → EndsAs answer taken.end × ReadsAll answer left
   pub opened : IsEnd answer → OpensTo d (state_after d s taken) (seen new)
+  pub reads : IsEnd answer → files_read written d (seen new) ≡ Ok (read_after d (s, used, last) taken)
   pub moments : EachSince old new (OpensWithin d s taken)
 
 -- so it is of whatever state the journal stands for, and whatever the feed has left
@@ -79,7 +81,7 @@ abbrev pub AddsAll : FollowEnd → (tells : Type 0) → Directory → ℕ → Li
     → Type 0
 AddsAll answer tells d at old core j ahead left new left_now =
     (s : State) (fed : List ℕ) (n : ℕ) → HoldsAt tells d s old core j → HasRead fed ahead left → length fed ≤ n
-    → HasAdded answer d s (add_all written d n j.seal s j.gate at fed) old new left_now
+    → HasAdded answer d s (j.gate + 1) j.seal (add_all written d n j.seal s j.gate at fed) old new left_now
 
 -- what may be answered where records are added
 abbrev pub IsAddEnd : FollowEnd → Type 0

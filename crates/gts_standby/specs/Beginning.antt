@@ -1,17 +1,17 @@
--- What it is that a journal without records begins with the checkpoint of a feed.
+-- What it is that a journal begins with the checkpoint of a feed: one without records, or one that begins anew.
 use Rattle.std.specs.Prelude.{◌≡◌, ◌⊎◌, ℕ, ◌+◌, List, [], length, drop, Some, Result, Ok, Err}
 use Rattle.gts_traits.specs.{Outside, Files, Call, said_by, EachSince}
 use Rattle.gts_directory.specs.Directory.{Directory}
 use Rattle.gts_event.specs.State.{State}
 use Rattle.gts_event.specs.Need.{Need, begun}
-use Rattle.gts_record.specs.Format.{first_seal, written}
-use Rattle.gts_opening.specs.Journal.{need_in}
+use Rattle.gts_record.specs.Format.{seal, first_seal, written}
+use Rattle.gts_opening.specs.Journal.{need_in, checkpoint_text, compacted_bytes}
 use Rattle.gts_core.specs.Core.{Core}
 use Rattle.gts_journal.specs.{InHand, OpensTo}
 use Rattle.gts_standby.specs.declared.end.FollowEnd.{FollowEnd}
 use Rattle.gts_standby.specs.declared.end.FollowEnd.TheVariants.{DiskFault, NoMemory}
 use Rattle.gts_standby.specs.Ahead.{InFeed}
-use Rattle.gts_standby.specs.Taking.{Taken, Sealed, by_piece, checkpoint_piece, begin_with, add_all}
+use Rattle.gts_standby.specs.Taking.{Taken, Sealed, checkpoint_piece, begin_with, begin_first, add_all}
 use Rattle.gts_standby.specs.Following.{IsEnd}
 use Rattle.gts_standby.specs.Reading.{HasRead, StopsAs}
 use Rattle.gts_standby.specs.Adding.{HoldsAt}
@@ -27,40 +27,41 @@ IsPutEnd NoMemory = Unit {0}
 IsPutEnd end = ⊥
 
 -- The journal begins with the checkpoint that stands at the front of the feed's records, and its seal; the feed goes on behind them.
-pub record HasBegun (tells : Type 0) (d : Directory) (s : State) (fed : List ℕ) (old : List Call) (j : InHand) (at : ℕ)
+pub record HasBegun (tells : Type 0) (d : Directory) (s : State) (fed : List ℕ) (old : List Call) (at : ℕ)
     (new : List Call) (core : Core) (next : InHand) (ahead : InFeed) (left : List ℕ) : Type 0 where
   pub n : Need
   pub size : ℕ
   pub fed_seal : List ℕ
-  pub piece : checkpoint_piece written d.limit j.seal fed ≡ Sealed size fed_seal
-  pub begins : begin_with written d j.seal size fed (need_in fed)
+  pub piece : checkpoint_piece written d.limit (first_seal written d.mark) fed ≡ Sealed size fed_seal
+  pub begins : begin_with written d (first_seal written d.mark) size fed (need_in fed)
       ≡ record (add_all written d (length fed) next.seal (begun n) next.gate (40 + size) (drop size fed)) { begins = Some n }
   pub place : at ≡ 40 + size
+  pub gate_is : next.gate + 1 ≡ compacted_bytes written n
+  pub seal_is : next.seal ≡ seal written (first_seal written d.mark) (checkpoint_text n)
   pub holds : HoldsAt tells d (begun n) new core next
   pub read : HasRead (drop size fed) ahead left
   pub silent : said_by new ≡ said_by old
   pub moments : EachSince old new (OpensOneOf d s (begun n))
 
--- what a feed that begins with a checkpoint comes to beside a journal without records
-abbrev pub begun_taken : Directory → InHand → List ℕ → Taken
-begun_taken d j fed =
-    by_piece 40 (checkpoint_piece written d.limit j.seal fed) (λ size seal. begin_with written d j.seal size fed (need_in fed))
+-- what a feed comes to where the journal begins with its checkpoint
+abbrev pub begun_taken : Directory → List ℕ → Taken
+begun_taken d fed = begin_first written d (first_seal written d.mark) fed
 
 -- The feed ends there; or the disk failed, or there was no memory, while the checkpoint was taken.
-pub data EndsBegin (answer : FollowEnd) (d : Directory) (s : State) (fed : List ℕ) (old : List Call) (j : InHand)
-    (new : List Call) (left : List ℕ) : Type 0 where
-  BeforeIt : new ≡ old → StopsAs answer (begun_taken d j fed) left → EndsBegin answer d s fed old j new left
-  WithinIt : (n : Need) → (begun_taken d j fed).begins ≡ Some n → EachSince old new (OpensOneOf d s (begun n)) → (IsEnd answer → ⊥)
-      → EndsBegin answer d s fed old j new left
+pub data EndsBegin (answer : FollowEnd) (d : Directory) (s : State) (fed : List ℕ) (old new : List Call)
+    (left : List ℕ) : Type 0 where
+  BeforeIt : new ≡ old → StopsAs answer (begun_taken d fed) left → EndsBegin answer d s fed old new left
+  WithinIt : (n : Need) → (begun_taken d fed).begins ≡ Some n → EachSince old new (OpensOneOf d s (begun n)) → (IsEnd answer → ⊥)
+      → EndsBegin answer d s fed old new left
 
-abbrev pub Begins : Result (Core × ℕ) FollowEnd → (tells : Type 0) → Directory → State → List ℕ → List Call → InHand → List Call
+abbrev pub Begins : Result (Core × ℕ) FollowEnd → (tells : Type 0) → Directory → State → List ℕ → List Call → List Call
     → InHand → InFeed → List ℕ → Type 0
-Begins (Ok found) tells d s fed old j new next ahead left = HasBegun tells d s fed old j found.1 new found.0 next ahead left
-Begins (Err answer) tells d s fed old j new next ahead left = EndsBegin answer d s fed old j new left
+Begins (Ok found) tells d s fed old new next ahead left = HasBegun tells d s fed old found.1 new found.0 next ahead left
+Begins (Err answer) tells d s fed old new next ahead left = EndsBegin answer d s fed old new left
 
 -- so it is of whatever state the journal stands for, and whatever the feed has left
 abbrev pub BeginsAny : Result (Core × ℕ) FollowEnd → (tells : Type 0) → Directory → List Call → Core → InHand → InFeed → List ℕ
     → List Call → InHand → InFeed → List ℕ → Type 0
 BeginsAny result tells d old core j ahead left new next ahead_now left_now =
-    (s : State) (fed : List ℕ) → HoldsAt tells d s old core j → j.seal ≡ first_seal written d.mark → HasRead fed ahead left
-    → Begins result tells d s fed old j new next ahead_now left_now
+    (s : State) (fed : List ℕ) → HoldsAt tells d s old core j → HasRead fed ahead left
+    → Begins result tells d s fed old new next ahead_now left_now

@@ -1,15 +1,15 @@
 -- What is said of a feed that is taken into a journal.
-use Rattle.std.specs.Prelude.{◌≡◌, ◌⊎◌, ℕ, ◌-◌, List, [], ◌∷◌, ◌++◌, Option, Some, None, Result, Ok, Err}
+use Rattle.std.specs.Prelude.{◌≡◌, ◌⊎◌, ℕ, ◌+◌, ◌-◌, List, [], ◌∷◌, ◌++◌, Option, Some, None, Result, Ok, Err}
 use Rattle.gts_traits.specs.{Call, Did, Syncs, Files, Outside, seen, EachSince}
 use Rattle.gts_directory.specs.Directory.{Directory}
 use Rattle.gts_event.specs.State.{State}
-use Rattle.gts_event.specs.History.{restarted}
+use Rattle.gts_event.specs.History.{restarted, after}
 use Rattle.gts_event.specs.Need.{Need, need, begun}
 use Rattle.gts_record.specs.declared.fault.OpenFault.{OpenFault}
 use Rattle.gts_record.specs.declared.fault.OpenFault.TheVariants as opening
-use Rattle.gts_record.specs.Record.{Record}
-use Rattle.gts_record.specs.Format.{held, first_seal, written}
-use Rattle.gts_opening.specs.Journal.{after_records, opens, files_read}
+use Rattle.gts_record.specs.Record.{Record, record_text}
+use Rattle.gts_record.specs.Format.{held, seal, first_seal, record_size, written}
+use Rattle.gts_opening.specs.Journal.{after_records, event_of_record, checkpoint_text, compacted_bytes, opens, files_read}
 use Rattle.gts_journal.specs.{OnlySyncs, OpensTo, selected_bytes, is_checkpoint}
 use Rattle.gts_standby.specs.declared.end.FollowEnd.{FollowEnd}
 use Rattle.gts_standby.specs.declared.end.FollowEnd.TheVariants.{Done, Open, Feed, Diverged, SourceFault, DiskFault, NoMemory}
@@ -51,6 +51,11 @@ Answers NoMemory come = Unit {0}
 Answers answer (Ok taken) = EndsAs answer taken.end
 Answers answer (Err fault) = ⊥
 
+-- Where the journal is refused, at most a sync was tried, and this holds.
+abbrev pub LeavesAlone : FollowEnd → List Call → List Call → Type 0 → Type 0
+LeavesAlone (Open fault) old new unread = OnlySyncs old new × unread
+LeavesAlone answer old new unread = Unit {0}
+
 -- an answer that tells the end of a feed
 abbrev pub IsEnd : FollowEnd → Type 0
 IsEnd Done = Unit {0}
@@ -67,6 +72,21 @@ start_of s (Some n) = begun n
 abbrev pub state_after : Directory → State → Taken → State
 state_after d s taken = after_records d (start_of s taken.begins) taken.records
 
+-- what files read to behind records that were added to a journal: the state, the place behind the closed gate, and the last seal
+abbrev pub read_behind : Directory → State × ℕ × List ℕ → List Record → State × ℕ × List ℕ
+read_behind d read [] = read
+read_behind d read (r ∷ rs) =
+    read_behind d (after d read.0 (event_of_record r), read.1 + record_size written r, seal written read.2 (record_text r)) rs
+
+-- the same where the journal begins anew before, or doesn't
+abbrev pub read_begun : Directory → State × ℕ × List ℕ → Option Need → State × ℕ × List ℕ
+read_begun d read None = read
+read_begun d read (Some n) = (begun n, compacted_bytes written n, seal written (first_seal written d.mark) (checkpoint_text n))
+
+-- what files that read to this read to behind all that is added
+abbrev pub read_after : Directory → State × ℕ × List ℕ → Taken → State × ℕ × List ℕ
+read_after d read taken = read_behind d (read_begun d read taken.begins) taken.records
+
 -- Nothing is said. The files open to the state from before, or to that with a first part of what is added, and no more.
 pub data OpensWithin (d : Directory) (s : State) (taken : Taken) (files : Files) (outside : Outside) : Type 0 where
   AsBefore : outside ≡ [] → OpensTo d s files → OpensWithin d s taken files outside
@@ -77,7 +97,14 @@ pub data OpensWithin (d : Directory) (s : State) (taken : Taken) (files : Files)
 abbrev pub EachOpens : Directory → State → Taken → List Call → List Call → Type 0
 EachOpens d s taken old new = OnlySyncs old new ⊎ EachSince (Did Syncs ∷ old) new (OpensWithin d s taken)
 
--- Where the files open, and a feed comes to something beside them: at each end of the feed they open to all that it adds.
+-- Where the files open, and a feed comes to something beside them: at each end of the feed they read to what they read to before and
+-- to all that it adds, its seals chained over the last one, and nothing else.
+abbrev pub ReadsAllOf : FollowEnd → Directory → List Call → List Call → List ℕ → Type 0
+ReadsAllOf answer d old new fed =
+    (read : State × ℕ × List ℕ) (taken : Taken) → files_read written d (seen old) ≡ Ok read → comes_to d (seen old) fed ≡ Ok taken
+    → IsEnd answer → files_read written d (seen new) ≡ Ok (read_after d read taken)
+
+-- so they open to all that it adds
 abbrev pub HasAll : FollowEnd → Directory → List Call → List Call → List ℕ → Type 0
 HasAll answer d old new fed =
     (s : State) (used : ℕ) (last : List ℕ) (taken : Taken) → files_read written d (seen old) ≡ Ok (s, used, last)

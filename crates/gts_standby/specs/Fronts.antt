@@ -1,15 +1,17 @@
 -- What a front of a feed adds, beside what the feed adds.
-use Rattle.std.specs.Prelude.{◌≡◌, ℕ, false, List, [], ◌++◌, None, Ok}
+use Rattle.std.specs.Prelude.{◌≡◌, ℕ, true, false, List, [], ◌∷◌, ◌++◌, drop, nat_eq, None, Ok}
+use Rattle.std.specs.Cmp.Lexicographic.{pointwise}
 use Rattle.gts_traits.specs.{Files}
 use Rattle.gts_directory.specs.Directory.{Directory}
 use Rattle.gts_event.specs.State.{State, empty}
+use Rattle.gts_event.specs.Need.{need}
 use Rattle.gts_record.specs.Record.{Record}
 use Rattle.gts_record.specs.Format.{written}
-use Rattle.gts_opening.specs.Journal.{after_records, files_read}
+use Rattle.gts_opening.specs.Journal.{after_records, need_in, files_read}
 use Rattle.gts_journal.specs.{is_checkpoint, selected_bytes}
 use Rattle.gts_standby.specs.Feed.{feed}
-use Rattle.gts_standby.specs.Taking.{Taken}
-use Rattle.gts_standby.specs.Following.{own_seals}
+use Rattle.gts_standby.specs.Taking.{Taken, Ends, is_behind}
+use Rattle.gts_standby.specs.Following.{own_seals, read_after}
 
 -- Nothing is added; or the journal begins as with the whole feed, and a first part of its records is added.
 pub data AddsFront (part whole : Taken) : Type 0 where
@@ -35,3 +37,33 @@ state_of d part = after_records d (empty d) part.records
 -- further records lead from the first state to the other one
 abbrev pub LeadsTo : Directory → State → State → Type 0
 LeadsTo d t s = (rest : List Record) × (s ≡ after_records d t rest)
+
+-- The journal in these files reads to this state, end and last seal, and this is its feed.
+pub record IsFeedOf (d : Directory) (files : Files) (read : State × ℕ × List ℕ) (fed : List ℕ) : Type 0 where
+  pub reads : files_read written d files ≡ Ok read
+  pub is : feed written d.mark (selected_bytes files) ≡ fed
+
+-- A feed is taken to its end, and brings a journal from what it reads to on to this.
+pub record BringsTo (d : Directory) (from : State × ℕ × List ℕ) (what : Taken) (read : State × ℕ × List ℕ) : Type 0 where
+  pub end : what.end ≡ Ends
+  pub reads : read_after d from what ≡ read
+
+-- The journal in the first files reads to this, and has another record 0 than the one in the other files, which begins with a
+-- checkpoint that isn't behind it.
+pub record IsOvertaken (d : Directory) (own files : Files) (from : State × ℕ × List ℕ) : Type 0 where
+  pub reads : files_read written d own ≡ Ok from
+  pub first : List ℕ
+  pub more : List (List ℕ)
+  pub seals : own_seals d (selected_bytes own) ≡ first ∷ more
+  pub packed : is_checkpoint (selected_bytes files) ≡ true
+  pub other : (fed : List ℕ) (further : List (List ℕ)) → own_seals d (selected_bytes files) ≡ fed ∷ further → pointwise nat_eq first fed ≡ false
+  pub further : is_behind (need_in (drop 41 (selected_bytes files))) (need d from.0) ≡ false
+
+-- The journal in the first files has records, reads to this, and has this feed; and neither it nor the other one has a checkpoint.
+pub record HasPlainPart (d : Directory) (own files : Files) (from : State × ℕ × List ℕ) (fed : List ℕ) : Type 0 where
+  pub is : IsFeedOf d own from fed
+  pub first : List ℕ
+  pub more : List (List ℕ)
+  pub seals : own_seals d (selected_bytes own) ≡ first ∷ more
+  pub own_plain : is_checkpoint (selected_bytes own) ≡ false
+  pub plain : is_checkpoint (selected_bytes files) ≡ false

@@ -1,12 +1,12 @@
 -- How a feed is read, and the ends of what is read of it.
-use Rattle.std.specs.Prelude.{◌≡◌, ℕ, true, false, List, [], ◌++◌, drop, replicate, codes, nat_eq, Option, Some, None, Result, Ok, Err}
+use Rattle.std.specs.Prelude.{◌≡◌, ℕ, zero, suc, Bool, true, false, List, [], ◌++◌, drop, replicate, codes, nat_eq, Option, Some, None, Result, Ok, Err}
 use Rattle.std.specs.List.{starts_with}
 use Rattle.gts_record.specs.declared.version.Version.{Version}
 use Rattle.gts_record.specs.Format.{held}
 use Rattle.gts_standby.specs.declared.scanning.Listed.{Listed}
 use Rattle.gts_standby.specs.declared.scanning.Listed.TheVariants.{Bulletin, Circuit}
 use Rattle.gts_standby.specs.declared.end.FollowEnd.{FollowEnd}
-use Rattle.gts_standby.specs.declared.end.FollowEnd.TheVariants.{Done, Feed, SourceFault, DiskFault, NoMemory}
+use Rattle.gts_standby.specs.declared.end.FollowEnd.TheVariants.{Done, Open, Feed, Diverged, SourceFault, DiskFault, NoMemory}
 use Rattle.gts_standby.specs.Ahead.{InFeed}
 use Rattle.gts_standby.specs.Taking.{End, Taken, stopped, by_header, Piece, Sealed, by_piece, Reached, Short, Bad, Behind, may_be_cut, number_at, or_else, least_bulletin, bulletin_size, behind_bulletin, circuit_size, behind_circuit}
 use Rattle.gts_standby.specs.Following.{EndsAs}
@@ -45,6 +45,27 @@ IsLookedEnd end = ⊥
 abbrev pub ReadsAll : FollowEnd → List ℕ → Type 0
 ReadsAll Done left = left ≡ []
 ReadsAll end left = Unit {0}
+
+-- the feed has another record 0 than the journal
+abbrev pub is_other : FollowEnd → Bool
+is_other (Diverged zero own fed) = true
+is_other (Diverged (suc index) own fed) = false
+is_other Done = false
+is_other (Open fault) = false
+is_other (Feed at) = false
+is_other SourceFault = false
+is_other DiskFault = false
+is_other NoMemory = false
+
+-- The records were compared up to this end; where record 0 is another one, nothing of the feed was taken yet.
+abbrev pub KeepsOther : {T : Type 0} → Result T FollowEnd → List ℕ → InFeed → List ℕ → Type 0
+KeepsOther (Ok _) fed ahead left = Unit {0}
+KeepsOther (Err end) fed ahead left = is_other end ≡ true → HasRead fed ahead left
+
+-- a further record is another one, if any
+abbrev pub IsLater : {T : Type 0} → Result T FollowEnd → Type 0
+IsLater (Ok _) = Unit {0}
+IsLater (Err end) = is_other end ≡ false
 
 -- nothing is added, and the feed is answered with its end
 pub record StopsAt (answer : FollowEnd) (taken : Taken) (left : List ℕ) : Type 0 where

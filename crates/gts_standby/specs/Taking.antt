@@ -1,12 +1,12 @@
 -- What a feed comes to where it is taken into a journal (profile): the records that are added, and how it ends.
-use Rattle.std.specs.Prelude.{ℕ, zero, suc, ◌+◌, ◌-◌, ◌*◌, Bool, true, false, ◌&&◌, ◌==◌, nat_eq, nat_lt, nat_le, is_some, if◌then◌else◌, List, [], ◌∷◌, ◌++◌, length, take, drop, replicate, codes, Option, Some, None}
-use Rattle.std.specs.List.{starts_with, slice_index_or}
+use Rattle.std.specs.Prelude.{ℕ, zero, suc, ◌+◌, ◌-◌, ◌*◌, Bool, true, false, ◌&&◌, ◌||◌, not, ◌==◌, nat_eq, nat_lt, nat_le, is_some, if◌then◌else◌, List, [], ◌∷◌, ◌++◌, length, take, drop, replicate, zip, codes, Option, Some, None}
+use Rattle.std.specs.List.{starts_with, slice_index_or, list_any}
 use Rattle.std.specs.Cmp.Lexicographic.{pointwise}
 use Rattle.gts_alphabet.specs.declared.limits.TheConstants.{LONGEST_BODY}
 use Rattle.gts_directory.specs.Directory.{Directory}
 use Rattle.gts_event.specs.State.{State}
 use Rattle.gts_event.specs.History.{after}
-use Rattle.gts_event.specs.Need.{Need, begun}
+use Rattle.gts_event.specs.Need.{Need, need, begun}
 use Rattle.gts_record.specs.declared.version.Version.{Version}
 use Rattle.gts_record.specs.Record.{Record, record_text, record_at, number_in, kind_of, open_gate}
 use Rattle.gts_record.specs.Format.{magic, seal, seal_size, is_sealed, sealed_at, first_seal, record_size}
@@ -237,14 +237,39 @@ begin_with v d before size bytes n =
     }
     else stopped (Breaks 40)
 
+-- a journal begins with the checkpoint at the front of the feed, where this seal stands before it
+abbrev pub begin_first : Version → Directory → List ℕ → List ℕ → Taken
+begin_first v d before bytes =
+    by_piece 40 (checkpoint_piece v d.limit before bytes) (λ size fed. begin_with v d before size bytes (need_in bytes))
+
+-- a need is behind another one: fewer bulletins were accepted, or on one of the circuits fewer were drawn
+abbrev pub is_behind : Need → Need → Bool
+is_behind fed own =
+    nat_lt fed.accepted own.accepted || list_any (λ pair. nat_lt pair.0.draws pair.1.draws) (zip fed.circuits own.circuits)
+
+-- a journal that begins so has a checkpoint that isn't behind what this state has come to
+abbrev pub is_further : Directory → State → Taken → Bool
+is_further d s anew = elim anew.begins [ None ↦ false | Some n ↦ not (is_behind n (need d s)) ]
+
+-- record 0 is another one
+pub is_other_first : End → Bool
+is_other_first (Parts zero own fed) = true
+is_other_first (Parts (suc index) own fed) = false
+is_other_first Ends = false
+is_other_first (Breaks at) = false
+
+-- Where record 0 is another one, and the feed begins with a checkpoint that isn't behind, the journal was compacted at the station:
+-- it begins anew with that. Else it is as it was compared.
+abbrev pub or_anew : Directory → State → Taken → Taken → Taken
+or_anew d s anew compared = if is_other_first compared.end && is_further d s anew then anew else compared
+
 -- the records of the feed behind its header, where the journal has this state, its end and the seals of its records
 abbrev pub take_records : Version → Directory → State → ℕ → List ℕ → List (List ℕ) → List ℕ → Taken
 take_records v d s gate last [] bytes =
-    if is_checkpoint_fed bytes
-    then by_piece 40 (checkpoint_piece v d.limit last bytes) (λ size fed. begin_with v d last size bytes (need_in bytes))
-    else add_all v d (length bytes) last s gate 40 bytes
+    if is_checkpoint_fed bytes then begin_first v d last bytes else add_all v d (length bytes) last s gate 40 bytes
 take_records v d s gate last (own ∷ more) bytes =
-    compare_first v d.limit (λ at left. add_all v d (length left) last s gate at left) (own ∷ more) (first_seal v d.mark) bytes
+    or_anew d s (begin_first v d (first_seal v d.mark) bytes)
+    (compare_first v d.limit (λ at left. add_all v d (length left) last s gate at left) (own ∷ more) (first_seal v d.mark) bytes)
 
 -- the header of the feed is that of the journal; one that isn't whole is dropped
 abbrev pub by_header : List ℕ → List ℕ → Taken → Taken

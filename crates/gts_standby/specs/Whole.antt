@@ -1,5 +1,5 @@
 -- What it is that a whole feed is taken into a journal that opens.
-use Rattle.std.specs.Prelude.{◌≡◌, ℕ, true, List, [], Result, Ok, Err}
+use Rattle.std.specs.Prelude.{◌≡◌, ℕ, Bool, true, List, [], Result, Ok, Err}
 use Rattle.gts_traits.specs.{Call}
 use Rattle.gts_directory.specs.Directory.{Directory}
 use Rattle.gts_event.specs.State.{State}
@@ -10,8 +10,9 @@ use Rattle.gts_journal.specs.{InHand, file_of}
 use Rattle.gts_standby.specs.declared.end.FollowEnd.{FollowEnd}
 use Rattle.gts_standby.specs.declared.end.FollowEnd.TheVariants.{Open}
 use Rattle.gts_standby.specs.Ahead.{InFeed}
-use Rattle.gts_standby.specs.Taking.{Taken, take_records}
-use Rattle.gts_standby.specs.Following.{own_seals}
+use Rattle.gts_standby.specs.Taking.{End, Taken, stopped, is_further, or_anew, take_records}
+use Rattle.gts_standby.specs.Following.{EndsAs, own_seals}
+use Rattle.gts_standby.specs.Beginning.{begun_taken}
 use Rattle.gts_standby.specs.Reading.{HasRead, ReadsAll}
 use Rattle.gts_standby.specs.Adding.{HoldsAt, HasAdded}
 
@@ -27,23 +28,42 @@ IsNamedEnd (Open opening.NoMemory) = ⊥
 IsNamedEnd answer = Unit {0}
 
 -- a feed was to be taken into a journal that opens
-pub record HasTaken (answer : FollowEnd) (d : Directory) (s : State) (taken : Taken) (old new : List Call) (left : List ℕ) : Type 0 where
+pub record HasTaken (answer : FollowEnd) (d : Directory) (s : State) (used : ℕ) (last : List ℕ) (taken : Taken) (old new : List Call)
+    (left : List ℕ) : Type 0 where
   pub kind : IsTakenEnd answer
-  pub added : HasAdded answer d s taken old new left
+  pub added : HasAdded answer d s used last taken old new left
 
 -- So it is of a journal without records, of whatever state it stands for, and whatever the feed has left.
 abbrev pub TakesFirst : FollowEnd → (tells : Type 0) → Directory → List Call → Core → InHand → InFeed → List ℕ → List Call → List ℕ
     → Type 0
 TakesFirst answer tells d old core j ahead left new left_now =
     (s : State) (fed : List ℕ) → HoldsAt tells d s old core j → j.seal ≡ first_seal written d.mark → HasRead fed ahead left
-    → HasTaken answer d s (take_records written d s j.gate j.seal [] fed) old new left_now
+    → HasTaken answer d s (j.gate + 1) j.seal (take_records written d s j.gate j.seal [] fed) old new left_now
+
+-- So it is of any journal that begins with the feed's checkpoint.
+abbrev pub TakesCheckpoint : FollowEnd → (tells : Type 0) → Directory → List Call → Core → InHand → InFeed → List ℕ → List Call → List ℕ
+    → Type 0
+TakesCheckpoint answer tells d old core j ahead left new left_now =
+    (s : State) (fed : List ℕ) → HoldsAt tells d s old core j → HasRead fed ahead left
+    → HasTaken answer d s (j.gate + 1) j.seal (begun_taken d fed) old new left_now
+
+-- Where record 0 is another one, it is so of a journal with records, which begins anew, or is answered as it was compared.
+abbrev pub TakesOther : FollowEnd → FollowEnd → (tells : Type 0) → Directory → List Call → Core → InHand → InFeed → List ℕ → List Call
+    → List ℕ → Type 0
+TakesOther compared answer tells d old core j ahead left new left_now =
+    (s : State) (fed : List ℕ) (end : End) → HoldsAt tells d s old core j → HasRead fed ahead left → EndsAs compared end
+    → HasTaken answer d s (j.gate + 1) j.seal (or_anew d s (begun_taken d fed) (stopped end)) old new left_now
+
+-- a checkpoint stands at the front of a feed that a journal of this state may begin anew with, and the feed is there
+abbrev pub FindsFurther : Bool → Directory → State → List ℕ → InFeed → List ℕ → Type 0
+FindsFurther is d s fed ahead left = (is ≡ is_further d s (begun_taken d fed)) × (is ≡ true → HasRead fed ahead left)
 
 -- so it is of any journal
 abbrev pub TakesRecords : FollowEnd → (tells : Type 0) → Directory → List Call → Core → InHand → InFeed → List ℕ → List Call → List ℕ
     → Type 0
 TakesRecords answer tells d old core j ahead left new left_now =
     (s : State) (fed : List ℕ) → HoldsAt tells d s old core j → HasRead fed ahead left
-    → HasTaken answer d s (take_records written d s j.gate j.seal (own_seals d (file_of old j)) fed) old new left_now
+    → HasTaken answer d s (j.gate + 1) j.seal (take_records written d s j.gate j.seal (own_seals d (file_of old j)) fed) old new left_now
 
 -- where all was read ahead, the source has no more
 abbrev pub IsWhole : InFeed → List ℕ → Type 0

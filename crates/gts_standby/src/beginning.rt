@@ -1,4 +1,4 @@
-//! An empty journal begins with the checkpoint of a feed.
+//! A journal begins with the checkpoint of a feed: one without records, or one that begins anew.
 ghost use Rattle.std.specs.Prelude.{◌≡◌, ◌+◌, ◌≤◌, ◌^◌, true, length, IfOk, IfErr, OnOk, IsErrOf, IsTrue};
 ghost use Rattle.gts_traits.specs.{Rose, said_by, EachSince};
 ghost use Rattle.gts_standby.specs.Cited.{State, need_of, begun, is_sound, written, checkpoint_text, compacted_bytes, FitsLimit, unowed};
@@ -16,7 +16,7 @@ use gts_core::Core;
 use gts_directory::Directory;
 use gts_event::Need;
 use gts_journal::{Journal, Version};
-use gts_record::{BESIDE_CHECKPOINT, HEADER};
+use gts_record::{BESIDE_CHECKPOINT, HEADER, first_seal};
 use gts_traits::{Source, Station};
 use std::alloc::Global;
 
@@ -70,8 +70,8 @@ fn put<P: Station>(
     }
 }
 
-/// Begins an empty journal with the checkpoint that stands at the front of a feed's records. Answers a core of it, and the place
-/// in the feed behind it and its seal.
+/// Begins a journal with the checkpoint that stands at the front of a feed's records. Answers a core of it, and the place in the
+/// feed behind it and its seal.
 pub(crate) fn begin<P: Station, S: Source>(
     alloc: Global,
     station: &mut P,
@@ -103,7 +103,7 @@ pub(crate) fn begin<P: Station, S: Source>(
     let _ = core;
     let version = journal.version();
     let limit = directory.limit();
-    let before = journal.seal();
+    let before = first_seal(version, &directory.mark());
     let behind = fed_checkpoint(source, ahead, limit, version, &before)?.0;
     let size = behind - version.seal_size();
     let Some(need) = decode(alloc, &ahead.bytes()[..size], directory)? else {

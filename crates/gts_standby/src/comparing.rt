@@ -2,7 +2,7 @@
 ghost use Rattle.std.specs.Prelude.{◌≡◌, ◌≤◌, ◌<◌, ◌^◌, ℕ, false, List, nat_eq, length, IfOk, IfErr, OnOk, IsErrOf};
 ghost use Rattle.gts_traits.specs.{Rose};
 ghost use Rattle.gts_standby.specs.Cited.{pointwise, Directory as DirectoryOf, held, written, StandsOn, OnlySyncs, IsAtFirst, first_piece};
-ghost use Rattle.gts_standby.specs.Reading.{HasRead, FindsPiece, IsFedEnd};
+ghost use Rattle.gts_standby.specs.Reading.{HasRead, FindsPiece, IsFedEnd, is_other, KeepsOther, IsLater};
 ghost use Rattle.gts_standby.specs.Comparing.{IsAtSeals, OwnGoesOn, IsOwnEnd, ComparesFirstOfAny, ComparesNext, ComparesRest, ComparesAll, seals_here};
 ghost use Rattle.gts_standby.specs.Counts.{KeepsCounts, KeepsAllCounts, GoesOn};
 ghost use Rattle.gts_standby.specs.Whole.{IsNamedEnd, IsWhole, StaysWhole};
@@ -24,6 +24,16 @@ fn is_same(version: Version, own: &[u8; 32], fed: &[u8; 32]) -> bool
 {
     let count = version.seal_size();
     own[..count] == fed[..count]
+}
+
+/// Whether record 0 of a journal and of a feed were compared and differ.
+pub(crate) fn is_other(end: FollowEnd) -> bool
+    ensures { result ≡ is_other end }
+{
+    match end {
+        FollowEnd::Diverged { index, .. } => index == 0,
+        _ => false,
+    }
 }
 
 /// Goes on behind the first record of a journal.
@@ -127,6 +137,8 @@ fn compare_first<P: Station, S: Source>(
     ensures compared { P.tells → S.tells → ComparesFirstOfAny result directory.now
         (P.calls station.old) own.old ahead.old (S.left source.old) (P.calls station.new) own.new
         ahead.new (S.left source.new) }
+    ensures kept { S.tells → (fed : List ℕ) → HasRead fed ahead.old (S.left source.old)
+        → KeepsOther result fed ahead.new (S.left source.new) }
     ensures size { IfOk result (λ size. size ≤ 2 ^ 31) }
     ensures goes { OnOk result (GoesOn P.tells (P.calls station.new) own.old own.new) }
     ensures told { P.tells → P.calls station.new ≡ P.calls station.old }
@@ -175,6 +187,7 @@ fn compare_next<P: Station, S: Source>(
     ensures compared { P.tells → S.tells → ComparesNext result index at (P.calls station.old)
         own.old ahead.old (S.left source.old) (P.calls station.new) own.new ahead.new
         (S.left source.new) }
+    ensures later { 1 ≤ index → IsLater result }
     ensures size { IfOk result (λ size. size ≤ 2 ^ 20) }
     ensures goes { OnOk result (GoesOn P.tells (P.calls station.new) own.old own.new) }
     ensures told { P.tells → P.calls station.new ≡ P.calls station.old }
@@ -223,6 +236,7 @@ fn compare_rest<P: Station, S: Source>(
     requires stands { P.tells → StandsOn (P.calls station.old) own.old }
     ensures compared { P.tells → S.tells → ComparesRest result at end (P.calls station.old) own.old
         ahead.old (S.left source.old) ahead.new (S.left source.new) }
+    ensures later { IsLater result }
     ensures told { P.tells → P.calls station.new ≡ P.calls station.old }
     ensures place { IfOk result (λ at. at ≤ 2 ^ 62) }
     ensures disk_fault { IsErrOf result FollowEnd.DiskFault
@@ -260,6 +274,8 @@ pub(crate) fn compare<P: Station, S: Source>(
     requires room { end ≤ 2 ^ 30 }
     ensures compared { P.tells → S.tells → ComparesAll result directory.now end
         (P.calls station.old) ahead.old (S.left source.old) ahead.new (S.left source.new) }
+    ensures kept { S.tells → (fed : List ℕ) → HasRead fed ahead.old (S.left source.old)
+        → KeepsOther result fed ahead.new (S.left source.new) }
     ensures told { P.tells → OnlySyncs (P.calls station.old) (P.calls station.new) }
     ensures place { IfOk result (λ at. at ≤ 2 ^ 62) }
     ensures disk_fault { IsErrOf result FollowEnd.DiskFault

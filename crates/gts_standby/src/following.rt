@@ -1,17 +1,18 @@
-ghost use Rattle.std.specs.Prelude.{◌≡◌, []};
+ghost use Rattle.std.specs.Prelude.{◌≡◌, true, []};
 ghost use Rattle.gts_traits.specs.{Rose, seen, said_by};
 ghost use Rattle.gts_recovery.specs.{IsOpened};
-ghost use Rattle.gts_standby.specs.Following.{comes_to, Answers, HasAll, LeavesFronts};
-ghost use Rattle.gts_standby.specs.Reading.{ReadsAll};
+ghost use Rattle.gts_standby.specs.Following.{comes_to, Answers, LeavesAlone, HasAll, ReadsAllOf, LeavesFronts};
+ghost use Rattle.gts_standby.specs.Reading.{ReadsAll, is_other};
 ghost use Rattle.gts_standby.specs.Adding.{IsAddEnd};
 ghost use Rattle.gts_standby.specs.Counts.{KeepsAllCounts};
-ghost use Rattle.gts_standby.specs.Whole.{TakesFirst, TakesRecords, IsNamedEnd, IsWhole};
+ghost use Rattle.gts_standby.specs.Whole.{TakesFirst, TakesCheckpoint, TakesOther, TakesRecords, IsNamedEnd, IsWhole};
 
 use crate::FollowEnd;
 use crate::adding::add_all;
 use crate::ahead::Ahead;
 use crate::beginning::begin;
-use crate::comparing::compare;
+use crate::comparing::{compare, is_other};
+use crate::further::is_further;
 use crate::header::take_header;
 use crate::scanning::is_at_checkpoint;
 use gts_core::Core;
@@ -21,6 +22,47 @@ use gts_record::HEADER;
 use gts_recovery::open_core;
 use gts_traits::{Source, Station};
 use std::alloc::Global;
+
+/// Takes the records of a feed into a journal that begins with its checkpoint.
+fn take_checkpoint<P: Station, S: Source>(
+    alloc: Global,
+    station: &mut P,
+    directory: &Directory,
+    core: Core,
+    journal: Journal,
+    source: &mut S,
+    ahead: &mut Ahead,
+) -> FollowEnd
+    requires { IsOpened P.tells directory.now (P.calls station.old) core journal }
+    ensures taken { P.tells → S.tells → TakesCheckpoint result P.tells directory.now
+        (P.calls station.old) core journal ahead.old (S.left source.old) (P.calls station.new)
+        (S.left source.new) }
+    ensures kind { IsAddEnd result }
+    ensures silent { P.tells → said_by (P.calls station.new) ≡ said_by (P.calls station.old) }
+    ensures source_fault { result ≡ FollowEnd.SourceFault
+        → Rose (S.faults source.old) (S.faults source.new) }
+    ensures disk_fault { result ≡ FollowEnd.DiskFault
+        → Rose (P.disk_faults station.old) (P.disk_faults station.new) }
+    ensures counts { KeepsAllCounts (P.disk_faults station.old) (P.disk_faults station.new)
+        (P.say_faults station.old) (P.say_faults station.new) (S.faults source.old)
+        (S.faults source.new) }
+    ensures whole { S.tells → IsWhole ahead.old (S.left source.old)
+        → ReadsAll result (S.left source.new) }
+{
+    let mut journal = journal;
+    match begin(
+        alloc,
+        station,
+        directory,
+        &core,
+        &mut journal,
+        source,
+        ahead,
+    ) {
+        Ok((core, at)) => add_all(alloc, station, directory, core, journal, source, ahead, at),
+        Err(end) => end,
+    }
+}
 
 /// Takes the records of a feed into a journal that has none.
 fn take_first<P: Station, S: Source>(
@@ -48,25 +90,48 @@ fn take_first<P: Station, S: Source>(
     ensures whole { S.tells → IsWhole ahead.old (S.left source.old)
         → ReadsAll result (S.left source.new) }
 {
-    let mut journal = journal;
     match is_at_checkpoint(source, ahead) {
-        Ok(true) => {}
+        Ok(true) => take_checkpoint(alloc, station, directory, core, journal, source, ahead),
         Ok(false) => {
             let at = HEADER as u64;
-            return add_all(alloc, station, directory, core, journal, source, ahead, at);
+            add_all(alloc, station, directory, core, journal, source, ahead, at)
         }
-        Err(end) => return end,
+        Err(end) => end,
     }
-    match begin(
-        alloc,
-        station,
-        directory,
-        &core,
-        &mut journal,
-        source,
-        ahead,
-    ) {
-        Ok((core, at)) => add_all(alloc, station, directory, core, journal, source, ahead, at),
+}
+
+/// Takes a feed into a journal that has another record 0, where the feed's is a checkpoint that isn't behind what the journal has
+/// come to: the journal begins anew with it. Else the feed is answered as it was compared.
+fn take_other<P: Station, S: Source>(
+    alloc: Global,
+    station: &mut P,
+    directory: &Directory,
+    core: Core,
+    journal: Journal,
+    source: &mut S,
+    ahead: &mut Ahead,
+    compared: FollowEnd,
+) -> FollowEnd
+    requires opened { IsOpened P.tells directory.now (P.calls station.old) core journal }
+    requires other { is_other compared ≡ true }
+    ensures taken { P.tells → S.tells → TakesOther compared result P.tells directory.now
+        (P.calls station.old) core journal ahead.old (S.left source.old) (P.calls station.new)
+        (S.left source.new) }
+    ensures silent { P.tells → said_by (P.calls station.new) ≡ said_by (P.calls station.old) }
+    ensures source_fault { result ≡ FollowEnd.SourceFault
+        → Rose (S.faults source.old) (S.faults source.new) }
+    ensures disk_fault { result ≡ FollowEnd.DiskFault
+        → Rose (P.disk_faults station.old) (P.disk_faults station.new) }
+    ensures counts { KeepsAllCounts (P.disk_faults station.old) (P.disk_faults station.new)
+        (P.say_faults station.old) (P.say_faults station.new) (S.faults source.old)
+        (S.faults source.new) }
+    ensures whole { S.tells → IsWhole ahead.old (S.left source.old)
+        → ReadsAll result (S.left source.new) }
+    ensures named { IsNamedEnd result }
+{
+    match is_further(alloc, directory, &core, source, ahead) {
+        Ok(true) => take_checkpoint(alloc, station, directory, core, journal, source, ahead),
+        Ok(false) => compared,
         Err(end) => end,
     }
 }
@@ -105,7 +170,12 @@ fn take_records<P: Station, S: Source>(
     }
     match compare(alloc, station, directory, end, source, ahead) {
         Ok(at) => add_all(alloc, station, directory, core, journal, source, ahead, at),
-        Err(end) => end,
+        Err(end) => {
+            if !is_other(end) {
+                return end;
+            }
+            take_other(alloc, station, directory, core, journal, source, ahead, end)
+        }
     }
 }
 
@@ -120,9 +190,13 @@ fn take_feed<P: Station, S: Source>(
         (comes_to directory.now (seen (P.calls station.old)) (S.left source.old)) }
     ensures added { P.tells → S.tells → HasAll result directory.now (P.calls station.old)
         (P.calls station.new) (S.left source.old) }
+    ensures records { P.tells → S.tells → ReadsAllOf result directory.now (P.calls station.old)
+        (P.calls station.new) (S.left source.old) }
     ensures moments { P.tells → S.tells → LeavesFronts directory.now (P.calls station.old)
         (P.calls station.new) (S.left source.old) }
     ensures done { S.tells → result ≡ FollowEnd.Done → S.left source.new ≡ [] }
+    ensures refused { P.tells → S.tells → LeavesAlone result (P.calls station.old)
+        (P.calls station.new) (source.new ≡ source.old) }
     ensures silent { P.tells → said_by (P.calls station.new) ≡ said_by (P.calls station.old) }
     ensures source_fault { result ≡ FollowEnd.SourceFault
         → Rose (S.faults source.old) (S.faults source.new) }
@@ -162,12 +236,20 @@ pub fn follow<P: Station, S: Source>(
     ensures added { P.tells → S.tells → HasAll result.1 directory.now (P.calls station)
         (P.calls result.0) (S.left source.old) }
 
+    // It is the journal from before with that behind it, each seal chained over the one before: nothing else is done to it.
+    ensures records { P.tells → S.tells → ReadsAllOf result.1 directory.now (P.calls station)
+        (P.calls result.0) (S.left source.old) }
+
     // A crash at any moment since the sync of the opening leaves a journal that has what it had, and a first part of that.
     ensures moments { P.tells → S.tells → LeavesFronts directory.now (P.calls station)
         (P.calls result.0) (S.left source.old) }
 
     // The feed was read to its end.
     ensures done { S.tells → result.1 ≡ FollowEnd.Done → S.left source.new ≡ [] }
+
+    // A refusal of the journal writes nothing, and nothing of the feed is read then.
+    ensures refused { P.tells → S.tells → LeavesAlone result.1 (P.calls station)
+        (P.calls result.0) (source.new ≡ source.old) }
     ensures silent { P.tells → said_by (P.calls result.0) ≡ said_by (P.calls station) }
     ensures source_fault { result.1 ≡ FollowEnd.SourceFault
         → Rose (S.faults source.old) (S.faults source.new) }

@@ -9,6 +9,7 @@ mod end;
 mod fault;
 mod fed;
 mod following;
+mod further;
 mod header;
 mod laws;
 mod piece;
@@ -19,5 +20,10 @@ mod shipping;
 pub use end::FollowEnd;
 pub use fault::ShipFault;
 pub use following::follow;
-pub use laws::{a_front_of_a_feed_adds_a_front, a_front_of_a_feed_comes_to_a_front_of_the_history};
+pub use laws::{
+    a_front_of_a_feed_adds_a_front, a_front_of_a_feed_comes_to_a_front_of_the_history,
+    a_whole_feed_brings_a_new_standby_to_the_station,
+    a_whole_feed_brings_a_standby_that_has_a_part,
+    a_whole_feed_brings_a_standby_through_a_compaction,
+};
 pub use shipping::ship;

@@ -18,7 +18,7 @@ invariant-loop-size g l = record {
   gone : g.P.Station.tells → g.S.Source.tells → (s : State) (fed : List ℕ) (n : ℕ)
       → HoldsAt g.P.Station.tells l.directory s (g.P.Station.calls l.fn.station) l.initial.core l.initial.journal
       → HasRead fed l.fn.ahead (g.S.Source.left l.fn.source) → length fed ≤ n
-      → HasGone g.P.Station.tells l.directory s
+      → HasGone g.P.Station.tells l.directory s (l.initial.journal.gate + 1) l.initial.journal.seal
       (feeds.add_all written l.directory n l.initial.journal.seal s l.initial.journal.gate l.initial.at fed)
       (g.P.Station.calls l.fn.station) (g.P.Station.calls l.station) l.core l.journal l.at l.ahead (g.S.Source.left l.source);
   whole : g.S.Source.tells → IsWhole l.fn.ahead (g.S.Source.left l.fn.source) → IsWhole l.ahead (g.S.Source.left l.source);

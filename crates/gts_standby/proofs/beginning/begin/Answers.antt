@@ -19,22 +19,21 @@ use Rattle.gts_standby.specs.Whole.{IsWhole}
 use Rattle.gts_standby.proofs.beginning.begin.Goals as goal
 
 pub returns-in_default-clause-begun : goal.returns-in_default-clause-begun
-returns-in_default-clause-begun g c = λ tell told s fed holds first read.
+returns-in_default-clause-begun g c = λ tell told s fed holds read.
     let d = c.args.directory.now in
-    let j = c.args.journal.now in
     let ahead : InFeed = c.fed_checkpoint.new.ahead in
     let left : List ℕ = g.S.Source.left c.fed_checkpoint.new.source in
     let v : Version = c.version-version.result in
     let size : ℕ = c.in_ok-behind.field-0.0 in
     let found = c.in_ok-behind.ensures.piece told fed read in
-    let piece = piece_of d j v c.limit-limit.result c.seal-before.result fed (feeds.Sealed size (held v c.in_ok-behind.field-0.1)) c.version-version.ensures holds.current c.limit-limit.ensures.value c.seal-before.ensures found.0 in
+    let piece = piece_of d v c.limit-limit.result c.mark.result c.first_seal-before.result fed (feeds.Sealed size (held v c.in_ok-behind.field-0.1)) (c.version-version.ensures ∙ holds.current) c.limit-limit.ensures.value c.mark.ensures c.first_seal-before.ensures found.0 in
     let limit : d.limit < 256 ^ 4 = omega (arith, c.limit-limit.ensures.value, c.limit-limit.ensures.range.1) in
     let count : size - c.seal_size.result ≡ size - seal_size written = ap (λ (k : ℕ). size - k) (c.seal_size.ensures.value ∙ ap seal_size (c.version-version.ensures ∙ holds.current)) in
     let bytes : take (size - c.seal_size.result) c.bytes.result.now ≡ take (size - seal_size written) ahead.bytes =
     ap (λ (k : ℕ). take k c.bytes.result.now) count ∙ ap (take (size - seal_size written)) c.bytes.ensures in
     BeforeIt refl (record {
       end = feeds.Breaks 40;
-      is = none_begins d j fed ahead.bytes left size (held v c.in_ok-behind.field-0.1) limit first found.1.is c.in_ok-behind.ensures.there piece
+      is = none_begins d fed ahead.bytes left size (held v c.in_ok-behind.field-0.1) limit found.1.is c.in_ok-behind.ensures.there piece
           (λ n cp. none_found c.in_ok-need.field-0 c.in_ok-need.ensures.none c.in_default.is n (subst (λ (l : List ℕ). IsCheckpoint written d l n) (sym bytes) cp));
       ends = refl;
       all = tt;
@@ -48,16 +47,15 @@ put-requires-clause-size g c =
     omega (arith, ap (λ (l : List ℕ). length l) cp.text, length-take (c.in_ok-behind.field-0.0 - c.seal_size.result) c.bytes.result.now, long)
 
 pub returns-in_err-put-clause-begun : goal.returns-in_err-put-clause-begun
-returns-in_err-put-clause-begun g c = λ tell told s fed holds first read.
+returns-in_err-put-clause-begun g c = λ tell told s fed holds read.
     let d = c.args.directory.now in
-    let j = c.args.journal.now in
     let n = need_of c.in-Some.need in
     let ahead : InFeed = c.fed_checkpoint.new.ahead in
     let left : List ℕ = g.S.Source.left c.fed_checkpoint.new.source in
     let v : Version = c.version-version.result in
     let size : ℕ = c.in_ok-behind.field-0.0 in
     let found = c.in_ok-behind.ensures.piece told fed read in
-    let piece = piece_of d j v c.limit-limit.result c.seal-before.result fed (feeds.Sealed size (held v c.in_ok-behind.field-0.1)) c.version-version.ensures holds.current c.limit-limit.ensures.value c.seal-before.ensures found.0 in
+    let piece = piece_of d v c.limit-limit.result c.mark.result c.first_seal-before.result fed (feeds.Sealed size (held v c.in_ok-behind.field-0.1)) (c.version-version.ensures ∙ holds.current) c.limit-limit.ensures.value c.mark.ensures c.first_seal-before.ensures found.0 in
     let limit : d.limit < 256 ^ 4 = omega (arith, c.limit-limit.ensures.value, c.limit-limit.ensures.range.1) in
     let count : size - c.seal_size.result ≡ size - seal_size written = ap (λ (k : ℕ). size - k) (c.seal_size.ensures.value ∙ ap seal_size (c.version-version.ensures ∙ holds.current)) in
     let bytes : take (size - c.seal_size.result) c.bytes.result.now ≡ take (size - seal_size written) ahead.bytes =
@@ -66,7 +64,7 @@ returns-in_err-put-clause-begun g c = λ tell told s fed holds first read.
     subst (λ (l : List ℕ). IsCheckpoint written d l n) bytes
     (found_there d (take (size - c.seal_size.result) c.bytes.result.now) c.in_ok-need.field-0 c.in-Some.need c.in_ok-need.ensures.found c.in-Some.is) in
     rw (returned c.from_residual-in_err-put.result c.in_err-put.field-0.0 c.from_residual-in_err-put.ensures.1)
-    (WithinIt n (begins_with d j fed ahead.bytes left size (held v c.in_ok-behind.field-0.1) limit first found.1.is c.in_ok-behind.ensures.there piece n cp) (c.put.ensures.moments tell s (holds.stands tell)) (put_ends c.in_err-put.field-0.0 c.in_err-put.ensures.kind))
+    (WithinIt n (begins_with d fed ahead.bytes left size (held v c.in_ok-behind.field-0.1) limit found.1.is c.in_ok-behind.ensures.there piece n cp) (c.put.ensures.moments tell s (holds.stands tell)) (put_ends c.in_err-put.field-0.0 c.in_err-put.ensures.kind))
 
 pub returns-in_err-put-clause-kind : goal.returns-in_err-put-clause-kind
 returns-in_err-put-clause-kind g c = rw (returned c.from_residual-in_err-put.result c.in_err-put.field-0.0 c.from_residual-in_err-put.ensures.1) (put_adds c.in_err-put.field-0.0 c.in_err-put.ensures.kind)
@@ -75,9 +73,8 @@ pub returns-in_err-put-clause-source_fault : goal.returns-in_err-put-clause-sour
 returns-in_err-put-clause-source_fault g c = rw (returned c.from_residual-in_err-put.result c.in_err-put.field-0.0 c.from_residual-in_err-put.ensures.1) (λ e. put_no_source c.in_err-put.field-0.0 c.in_err-put.ensures.kind _ e)
 
 pub returns-clause-begun : goal.returns-clause-begun
-returns-clause-begun g c = λ tell told s fed holds first read.
+returns-clause-begun g c = λ tell told s fed holds read.
     let d = c.args.directory.now in
-    let j = c.args.journal.now in
     let next = c.put.new.journal in
     let n = need_of c.in-Some.need in
     let ahead : InFeed = c.fed_checkpoint.new.ahead in
@@ -85,7 +82,7 @@ returns-clause-begun g c = λ tell told s fed holds first read.
     let v : Version = c.version-version.result in
     let size : ℕ = c.in_ok-behind.field-0.0 in
     let found = c.in_ok-behind.ensures.piece told fed read in
-    let piece = piece_of d j v c.limit-limit.result c.seal-before.result fed (feeds.Sealed size (held v c.in_ok-behind.field-0.1)) c.version-version.ensures holds.current c.limit-limit.ensures.value c.seal-before.ensures found.0 in
+    let piece = piece_of d v c.limit-limit.result c.mark.result c.first_seal-before.result fed (feeds.Sealed size (held v c.in_ok-behind.field-0.1)) (c.version-version.ensures ∙ holds.current) c.limit-limit.ensures.value c.mark.ensures c.first_seal-before.ensures found.0 in
     let limit : d.limit < 256 ^ 4 = omega (arith, c.limit-limit.ensures.value, c.limit-limit.ensures.range.1) in
     let count : size - c.seal_size.result ≡ size - seal_size written = ap (λ (k : ℕ). size - k) (c.seal_size.ensures.value ∙ ap seal_size (c.version-version.ensures ∙ holds.current)) in
     let bytes : take (size - c.seal_size.result) c.bytes.result.now ≡ take (size - seal_size written) ahead.bytes =
@@ -98,8 +95,10 @@ returns-clause-begun g c = λ tell told s fed holds first read.
       size = size;
       fed_seal = held v c.in_ok-behind.field-0.1;
       piece = piece;
-      begins = begun_so d j fed ahead.bytes left size (held v c.in_ok-behind.field-0.1) limit first found.1.is c.in_ok-behind.ensures.there piece n next cp c.in_ok-put.ensures.seal c.in_ok-put.ensures.gate;
+      begins = begun_so d fed ahead.bytes left size (held v c.in_ok-behind.field-0.1) limit found.1.is c.in_ok-behind.ensures.there piece n next cp c.in_ok-put.ensures.seal c.in_ok-put.ensures.gate;
       place = refl;
+      gate_is = c.in_ok-put.ensures.gate;
+      seal_is = c.in_ok-put.ensures.seal;
       holds = record {
         kept = kept_begun written d c.in_ok-core.core n next.gate c.in_ok-core.ensures cp.sound cp.free (omega (arith, cp.room, c.in_ok-put.ensures.gate));
         current = c.in_ok-put.ensures.current;
@@ -126,16 +125,15 @@ returns-clause-opened g c =
     }
 
 pub returns-in_err-core-clause-begun : goal.returns-in_err-core-clause-begun
-returns-in_err-core-clause-begun g c = λ tell told s fed holds first read.
+returns-in_err-core-clause-begun g c = λ tell told s fed holds read.
     let d = c.args.directory.now in
-    let j = c.args.journal.now in
     let n = need_of c.in-Some.need in
     let ahead : InFeed = c.fed_checkpoint.new.ahead in
     let left : List ℕ = g.S.Source.left c.fed_checkpoint.new.source in
     let v : Version = c.version-version.result in
     let size : ℕ = c.in_ok-behind.field-0.0 in
     let found = c.in_ok-behind.ensures.piece told fed read in
-    let piece = piece_of d j v c.limit-limit.result c.seal-before.result fed (feeds.Sealed size (held v c.in_ok-behind.field-0.1)) c.version-version.ensures holds.current c.limit-limit.ensures.value c.seal-before.ensures found.0 in
+    let piece = piece_of d v c.limit-limit.result c.mark.result c.first_seal-before.result fed (feeds.Sealed size (held v c.in_ok-behind.field-0.1)) (c.version-version.ensures ∙ holds.current) c.limit-limit.ensures.value c.mark.ensures c.first_seal-before.ensures found.0 in
     let limit : d.limit < 256 ^ 4 = omega (arith, c.limit-limit.ensures.value, c.limit-limit.ensures.range.1) in
     let count : size - c.seal_size.result ≡ size - seal_size written = ap (λ (k : ℕ). size - k) (c.seal_size.ensures.value ∙ ap seal_size (c.version-version.ensures ∙ holds.current)) in
     let bytes : take (size - c.seal_size.result) c.bytes.result.now ≡ take (size - seal_size written) ahead.bytes =
@@ -144,7 +142,7 @@ returns-in_err-core-clause-begun g c = λ tell told s fed holds first read.
     subst (λ (l : List ℕ). IsCheckpoint written d l n) bytes
     (found_there d (take (size - c.seal_size.result) c.bytes.result.now) c.in_ok-need.field-0 c.in-Some.need c.in_ok-need.ensures.found c.in-Some.is) in
     rw (returned c.from_residual-in_err-core.result NoMemory c.from_residual-in_err-core.ensures.1)
-    (WithinIt n (begins_with d j fed ahead.bytes left size (held v c.in_ok-behind.field-0.1) limit first found.1.is c.in_ok-behind.ensures.there piece n cp) (c.put.ensures.moments tell s (holds.stands tell)) (λ end. end))
+    (WithinIt n (begins_with d fed ahead.bytes left size (held v c.in_ok-behind.field-0.1) limit found.1.is c.in_ok-behind.ensures.there piece n cp) (c.put.ensures.moments tell s (holds.stands tell)) (λ end. end))
 
 pub returns-in_err-behind-clause-whole : goal.returns-in_err-behind-clause-whole
 returns-in_err-behind-clause-whole g c = λ told w. rw (returned c.from_residual.result c.in_err-behind.field-0.0 c.from_residual.ensures.1) (stops_all c.in_err-behind.field-0.0 _ _ (c.in_err-behind.ensures.piece told _ (whole_read c.args.ahead.now _ w) (λ size seal. feeds.stopped feeds.Ends)))

@@ -13,6 +13,7 @@ use Rattle.gts_standby.proofs.FirstLemmas.{at_start, no_header_fault}
 use Rattle.gts_standby.proofs.CompareLemmas.{device_start, device_stops, compares_same, same_seals}
 use Rattle.gts_standby.proofs.WholeLemmas.{open_all}
 use Rattle.gts_standby.proofs.NamedLemmas.{named_open}
+use Rattle.gts_standby.proofs.OtherLemmas.{open_other, no_other, kept_later}
 use Rattle.gts_standby.proofs.comparing.compare.Goals as goal
 
 pub returns-in_err-own-clause-compared : goal.returns-in_err-own-clause-compared
@@ -72,3 +73,15 @@ returns-in_err-size-clause-whole g c = λ told w. rw (returned c.from_residual-i
 
 pub returns-in_err-own-clause-named : goal.returns-in_err-own-clause-named
 returns-in_err-own-clause-named g c = rw (returned c.from_residual.result (open_end c.in_err-own.field-0.0) c.from_residual.ensures.1) (named_open c.in_err-own.field-0.0)
+
+pub returns-in_err-own-clause-kept : goal.returns-in_err-own-clause-kept
+returns-in_err-own-clause-kept g c = λ told fed read.
+    rw (returned c.from_residual.result (open_end c.in_err-own.field-0.0) c.from_residual.ensures.1)
+    (λ other. no_other _ (open_end c.in_err-own.field-0.0) (open_other c.in_err-own.field-0.0) other)
+
+pub returns-in_err-size-clause-kept : goal.returns-in_err-size-clause-kept
+returns-in_err-size-clause-kept g c = λ told fed read.
+    rw (returned c.from_residual-in_err-size.result c.in_err-size.field-0.0 c.from_residual-in_err-size.ensures.1) (c.in_err-size.ensures.kept told fed read)
+
+pub returns-clause-kept : goal.returns-clause-kept
+returns-clause-kept g c = λ told fed read. kept_later c.compare_rest.result fed _ _ c.compare_rest.ensures.later

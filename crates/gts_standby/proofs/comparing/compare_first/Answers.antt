@@ -12,6 +12,7 @@ use Rattle.gts_standby.proofs.WholeLemmas.{whole_read, stops_all, own_all}
 use Rattle.gts_standby.specs.Whole.{IsWhole}
 use Rattle.gts_standby.specs.Taking.{Ends, stopped}
 use Rattle.gts_standby.proofs.NamedLemmas.{named_fed}
+use Rattle.gts_standby.proofs.OtherLemmas.{fed_other, own_other, no_other}
 use Rattle.gts_standby.proofs.comparing.compare_first.Goals as goal
 
 pub returns-in_err-size-clause-compared : goal.returns-in_err-size-clause-compared
@@ -85,3 +86,16 @@ returns-clause-whole g c = λ told w. subst (λ (a : InFeed). IsWhole a (g.S.Sou
 
 pub returns-in_err-size-clause-named : goal.returns-in_err-size-clause-named
 returns-in_err-size-clause-named g c = rw (returned c.from_residual.result c.in_err-size.field-0.0 c.from_residual.ensures.1) (named_fed c.in_err-size.field-0.0 c.in_err-size.ensures.kind)
+
+pub returns-in_err-size-clause-kept : goal.returns-in_err-size-clause-kept
+returns-in_err-size-clause-kept g c = λ told fed read.
+    rw (returned c.from_residual.result c.in_err-size.field-0.0 c.from_residual.ensures.1)
+    (λ other. no_other _ c.in_err-size.field-0.0 (fed_other c.in_err-size.field-0.0 c.in_err-size.ensures.kind) other)
+
+pub returns-in_err-own_first-clause-kept : goal.returns-in_err-own_first-clause-kept
+returns-in_err-own_first-clause-kept g c = λ told fed read.
+    rw (returned c.from_residual-in_err-own_first.result c.in_err-own_first.field-0.0 c.from_residual-in_err-own_first.ensures.1)
+    (λ other. no_other _ c.in_err-own_first.field-0.0 (own_other c.in_err-own_first.field-0.0 c.in_err-own_first.ensures.kind) other)
+
+pub returns-then-not-is_same-clause-kept : goal.returns-then-not-is_same-clause-kept
+returns-then-not-is_same-clause-kept g c = λ told fed read other. (c.in_ok-size.ensures.piece told fed read).1

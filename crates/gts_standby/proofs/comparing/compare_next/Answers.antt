@@ -10,6 +10,7 @@ use Rattle.gts_standby.proofs.WholeLemmas.{whole_read, stops_all, own_all}
 use Rattle.gts_standby.specs.Whole.{IsWhole}
 use Rattle.gts_standby.specs.Taking.{Ends, stopped}
 use Rattle.gts_standby.proofs.NamedLemmas.{named_fed}
+use Rattle.gts_standby.proofs.OtherLemmas.{fed_other, own_other, later_other}
 use Rattle.gts_standby.proofs.comparing.compare_next.Goals as goal
 
 pub returns-in_err-size-clause-compared : goal.returns-in_err-size-clause-compared
@@ -72,3 +73,14 @@ returns-clause-whole g c = λ told w. subst (λ (a : InFeed). IsWhole a (g.S.Sou
 
 pub returns-in_err-size-clause-named : goal.returns-in_err-size-clause-named
 returns-in_err-size-clause-named g c = rw (returned c.from_residual.result c.in_err-size.field-0.0 c.from_residual.ensures.1) (named_fed c.in_err-size.field-0.0 c.in_err-size.ensures.kind)
+
+pub returns-in_err-size-clause-later : goal.returns-in_err-size-clause-later
+returns-in_err-size-clause-later g c = λ low.
+    rw (returned c.from_residual.result c.in_err-size.field-0.0 c.from_residual.ensures.1) (fed_other c.in_err-size.field-0.0 c.in_err-size.ensures.kind)
+
+pub returns-in_err-own_next-clause-later : goal.returns-in_err-own_next-clause-later
+returns-in_err-own_next-clause-later g c = λ low.
+    rw (returned c.from_residual-in_err-own_next.result c.in_err-own_next.field-0.0 c.from_residual-in_err-own_next.ensures.1) (own_other c.in_err-own_next.field-0.0 c.in_err-own_next.ensures.kind)
+
+pub returns-then-not-is_same-clause-later : goal.returns-then-not-is_same-clause-later
+returns-then-not-is_same-clause-later g c = λ low. later_other c.args.index _ _ low

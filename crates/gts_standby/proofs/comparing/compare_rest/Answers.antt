@@ -15,6 +15,7 @@ loop-alloc-preserved g c =
       place = omega (arith, inv.place, c.in_ok-size.ensures.size);
       count = omega (arith, inv.count, c.in_ok-size.ensures.goes.rises);
       few = omega (arith, inv.count, at_gate, c.loop-alloc-test.true);
+      further = omega (arith, inv.further);
       gone = λ tells told d left fed on read.
           let so = inv.gone tells told d left fed on read in
           far_on d _ _ c.args.end _ _ j c.compare_next.new.own c.loop-alloc.index c.loop-alloc.at c.in_ok-size.size _ _ _ _ so inv.version
@@ -53,3 +54,6 @@ returns-in_err-size-clause-whole g c = λ told w. rw (returned c.from_residual.r
 
 pub returns-clause-whole : goal.returns-clause-whole
 returns-clause-whole g c = λ told w. c.loop-alloc.invariant.whole told w
+
+pub returns-in_err-size-clause-later : goal.returns-in_err-size-clause-later
+returns-in_err-size-clause-later g c = rw (returned c.from_residual.result c.in_err-size.field-0.0 c.from_residual.ensures.1) (c.in_err-size.ensures.later c.loop-alloc.invariant.further)

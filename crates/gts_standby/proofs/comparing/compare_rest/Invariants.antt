@@ -17,6 +17,7 @@ invariant-loop-alloc g l = record {
   place : l.at ≤ 2 ^ 32 + l.index * 2 ^ 20;
   count : l.index ≤ l.own.gate + 1;
   few : l.index ≤ l.end + 1;
+  further : 1 ≤ l.index;
   gone : g.P.Station.tells → g.S.Source.tells → (d : Directory) (left : List (List ℕ)) (fed : List ℕ)
       → IsAtSeals d (g.P.Station.calls l.fn.station) l.fn.own l.end left → HasRead fed l.fn.ahead (g.S.Source.left l.fn.source)
       → HasGoneFar d l.fn.own.version (λ behind. compare_all l.fn.own.version behind left l.fn.own.seal 1 l.initial.at fed) l.end

@@ -1,9 +1,9 @@
-use Rattle.std.proofs.Common.{drop, sym, subst}
+use Rattle.std.proofs.Common.{refl, drop, sym, subst}
 use Rattle.gts_standby.specs.Ahead.{InFeed}
 use Rattle.gts_standby.specs.Taking.{Ends, stopped}
 use Rattle.gts_standby.specs.Reading.{HasRead, ReadsAll}
 use Rattle.gts_standby.proofs.AddLemmas.{holds_of}
-use Rattle.gts_standby.proofs.TakeLemmas.{all_unread, behind_taken, header_taken, answers_there, added_there, moments_there, done_stops}
+use Rattle.gts_standby.proofs.TakeLemmas.{all_unread, behind_taken, header_taken, answers_there, added_there, reads_after_there, moments_there, done_stops, open_alone, taken_alone, fed_alone}
 use Rattle.gts_standby.specs.declared.end.FollowEnd.{FollowEnd}
 use Rattle.gts_standby.proofs.NamedLemmas.{named_open, named_fed}
 use Rattle.gts_standby.specs.Whole.{IsNamedEnd}
@@ -95,3 +95,47 @@ returns-in-Err-clause-named g c = subst IsNamedEnd (sym c.from.ensures) (named_o
 
 pub returns-in-Err-take_header-clause-named : goal.returns-in-Err-take_header-clause-named
 returns-in-Err-take_header-clause-named g c = named_fed c.in-Err-take_header.end c.in-Err-take_header.ensures.kind
+
+pub returns-in-Err-clause-refused : goal.returns-in-Err-clause-refused
+returns-in-Err-clause-refused g c = λ tells told. rw c.from.ensures (open_alone c.in-Err.fault _ _ _ (c.open_core.ensures.told tells) refl)
+
+pub returns-in-Ok-take_header-clause-refused : goal.returns-in-Ok-take_header-clause-refused
+returns-in-Ok-take_header-clause-refused g c = λ tells told.
+    let d = c.args.directory.now in
+    let o = c.in-Ok.ensures.opened in
+    let j = c.in-Ok.opened.1 in
+    let fed = g.S.Source.left c.args.source.now in
+    let read : HasRead fed c.new-ahead.result fed = subst (λ (a : InFeed). HasRead fed a fed) (sym c.new-ahead.ensures) (all_unread fed) in
+    let header = c.in-Ok-take_header.ensures.taken told fed read in
+    let has = c.take_records.ensures.taken tells told o.state (drop 40 fed) (holds_of _ d _ _ j o) header.1 in
+    taken_alone c.take_records.result _ _ _ has.kind
+
+pub returns-in-Err-take_header-clause-refused : goal.returns-in-Err-take_header-clause-refused
+returns-in-Err-take_header-clause-refused g c = λ tells told. fed_alone c.in-Err-take_header.end _ _ _ c.in-Err-take_header.ensures.kind
+
+pub returns-in-Ok-take_header-clause-records : goal.returns-in-Ok-take_header-clause-records
+returns-in-Ok-take_header-clause-records g c = λ tells told read_old taken reads comes ends.
+    let d = c.args.directory.now in
+    let o = c.in-Ok.ensures.opened in
+    let j = c.in-Ok.opened.1 in
+    let fed = g.S.Source.left c.args.source.now in
+    let read : HasRead fed c.new-ahead.result fed = subst (λ (a : InFeed). HasRead fed a fed) (sym c.new-ahead.ensures) (all_unread fed) in
+    let synced = c.in-Ok.ensures.synced tells in
+    let f = o.stands tells in
+    let header = c.in-Ok-take_header.ensures.taken told fed read in
+    let has = c.take_records.ensures.taken tells told o.state (drop 40 fed) (holds_of _ d _ _ j o) header.1 in
+    let whole = behind_taken d _ _ j o.state fed synced f c.take_records.result c.mark.result _ _ c.mark.ensures header.0 has in
+    reads_after_there d _ _ j o.state fed synced f c.take_records.result _ _ whole read_old taken reads comes ends
+
+pub returns-in-Err-take_header-clause-records : goal.returns-in-Err-take_header-clause-records
+returns-in-Err-take_header-clause-records g c = λ tells told read_old taken reads comes ends.
+    let d = c.args.directory.now in
+    let o = c.in-Ok.ensures.opened in
+    let j = c.in-Ok.opened.1 in
+    let fed = g.S.Source.left c.args.source.now in
+    let read : HasRead fed c.new-ahead.result fed = subst (λ (a : InFeed). HasRead fed a fed) (sym c.new-ahead.ensures) (all_unread fed) in
+    let synced = c.in-Ok.ensures.synced tells in
+    let f = o.stands tells in
+    let header = c.in-Err-take_header.ensures.taken told fed read in
+    let whole = header_taken d _ _ j o.state fed synced f c.in-Err-take_header.end c.mark.result _ c.mark.ensures header in
+    reads_after_there d _ _ j o.state fed synced f c.in-Err-take_header.end _ _ whole read_old taken reads comes ends

@@ -1,7 +1,9 @@
-use Rattle.std.proofs.Common.{rules, ◌≤◌, ◌<◌, ◌-◌, length, sym, arith}
+use Rattle.std.proofs.Common.{rules, ◌≡◌, true, false, ◌≤◌, ◌<◌, ◌-◌, length, sym, arith}
 use Rattle.gts_standby.proofs.AddLemmas.{gate_so}
-use Rattle.gts_standby.proofs.TakeLemmas.{opened_kept, holds_kept, first_there, first_taken, ends_compared, goes_compared}
+use Rattle.gts_standby.proofs.TakeLemmas.{opened_kept, holds_kept, first_there, first_taken, ends_compared, goes_compared, other_compared}
 use Rattle.gts_standby.proofs.NamedLemmas.{named_added}
+use Rattle.gts_standby.proofs.WholeLemmas.{whole_read}
+use Rattle.gts_standby.specs.Reading.{is_other}
 use Rattle.gts_standby.proofs.following.take_records.Goals as goal
 
 pub returns-then-end-clause-taken : goal.returns-then-end-clause-taken
@@ -30,15 +32,32 @@ returns-in-Ok-clause-taken g c = λ tells told s fed h read.
     goes_compared d s _ _ j fed f (c.compare.ensures.told tells) low c.add_all.result _ c.in-Ok.at compared.0 _ compared.1 c.add_all.ensures.kind
     (c.add_all.ensures.added tells told s compared.0 (length compared.0) holds compared.2 (omega arith))
 
-pub returns-in-Err-clause-taken : goal.returns-in-Err-clause-taken
-returns-in-Err-clause-taken g c = λ tells told s fed h read.
+pub returns-then-not-is_other-clause-taken : goal.returns-then-not-is_other-clause-taken
+returns-then-not-is_other-clause-taken g c = λ tells told s fed h read.
     let d = c.args.directory.now in
     let j = c.args.journal in
     let f = h.stands tells in
     let gate = gate_so c.used-end.result j c.used-end.ensures h.ended in
     let here : 40 < c.used-end.result - 1 = search rules in
     let low : 40 < j.gate = omega (arith, gate, here) in
-    ends_compared d s _ _ j fed f (c.compare.ensures.told tells) low c.in-Err.end _ (c.in-Err.ensures.compared tells told s j fed f (sym gate) read)
+    let same : is_other c.in-Err.end ≡ false = search rules in
+    ends_compared d s _ _ j fed f (c.compare.ensures.told tells) low c.in-Err.end _ same (c.in-Err.ensures.compared tells told s j fed f (sym gate) read)
+
+pub take_other-requires-clause-opened : goal.take_other-requires-clause-opened
+take_other-requires-clause-opened g c = opened_kept _ c.args.directory.now _ _ c.args.core c.args.journal (λ tell. c.compare.ensures.told tell) c.requires
+
+pub returns-clause-taken : goal.returns-clause-taken
+returns-clause-taken g c = λ tells told s fed h read.
+    let d = c.args.directory.now in
+    let j = c.args.journal in
+    let f = h.stands tells in
+    let gate = gate_so c.used-end.result j c.used-end.ensures h.ended in
+    let here : 40 < c.used-end.result - 1 = search rules in
+    let low : 40 < j.gate = omega (arith, gate, here) in
+    let other : is_other c.in-Err.end ≡ true = search rules in
+    let holds = holds_kept _ d s _ _ c.args.core j (λ tell. c.compare.ensures.told tell) h in
+    other_compared d s _ _ j fed f (c.compare.ensures.told tells) low c.in-Err.end c.take_other.result _ _ _ other (c.in-Err.ensures.compared tells told s j fed f (sym gate) read)
+    (λ end is. c.take_other.ensures.taken tells told s fed end holds (c.in-Err.ensures.kept told fed read other) is)
 
 pub returns-then-end-clause-whole : goal.returns-then-end-clause-whole
 returns-then-end-clause-whole g c = λ told w. c.take_first.ensures.whole told w
@@ -46,8 +65,13 @@ returns-then-end-clause-whole g c = λ told w. c.take_first.ensures.whole told w
 pub returns-in-Ok-clause-whole : goal.returns-in-Ok-clause-whole
 returns-in-Ok-clause-whole g c = λ told w. c.add_all.ensures.whole told (c.in-Ok.ensures.whole told w)
 
-pub returns-in-Err-clause-whole : goal.returns-in-Err-clause-whole
-returns-in-Err-clause-whole g c = λ told w. c.in-Err.ensures.whole told w
+pub returns-then-not-is_other-clause-whole : goal.returns-then-not-is_other-clause-whole
+returns-then-not-is_other-clause-whole g c = λ told w. c.in-Err.ensures.whole told w
+
+pub returns-clause-whole : goal.returns-clause-whole
+returns-clause-whole g c = λ told w.
+    let other : is_other c.in-Err.end ≡ true = search rules in
+    c.take_other.ensures.whole told (c.in-Err.ensures.kept told _ (whole_read c.args.ahead.now _ w) other).all
 
 pub returns-then-end-clause-named : goal.returns-then-end-clause-named
 returns-then-end-clause-named g c = named_added c.take_first.result c.take_first.ensures.kind

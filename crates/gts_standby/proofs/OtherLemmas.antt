@@ -1,0 +1,56 @@
+-- Whether a feed has another record 0, by how it is answered.
+use Rattle.std.proofs.Common.{◌≡◌, zero, suc, ◌≤◌, ℕ, List, Result, Ok, Err, true, false, refl, sym, ◌∙◌, arith}
+use Rattle.gts_record.specs.declared.fault.OpenFault.{OpenFault}
+use Rattle.gts_record.specs.declared.fault.OpenFault.TheVariants as opening
+use Rattle.gts_standby.specs.declared.end.FollowEnd.{FollowEnd}
+use Rattle.gts_standby.specs.declared.end.FollowEnd.TheVariants.{Done, Open, Feed, Diverged, SourceFault, DiskFault, NoMemory}
+use Rattle.gts_standby.specs.Ahead.{InFeed}
+use Rattle.gts_standby.specs.Following.{open_end}
+use Rattle.gts_standby.specs.Reading.{IsFedEnd, ReadsAll, is_other, KeepsOther, IsLater}
+use Rattle.gts_standby.specs.Comparing.{IsOwnEnd}
+
+pub fed_other : (answer : FollowEnd) → IsFedEnd answer → is_other answer ≡ false
+fed_other Done kind = refl
+fed_other (Open fault) kind = refl
+fed_other (Feed at) kind = refl
+fed_other (Diverged index own fed) kind = absurd kind
+fed_other SourceFault kind = refl
+fed_other DiskFault kind = refl
+fed_other NoMemory kind = refl
+
+pub own_other : (answer : FollowEnd) → IsOwnEnd answer → is_other answer ≡ false
+own_other Done kind = refl
+own_other (Open fault) kind = refl
+own_other (Feed at) kind = refl
+own_other (Diverged index own fed) kind = absurd kind
+own_other SourceFault kind = refl
+own_other DiskFault kind = refl
+own_other NoMemory kind = refl
+
+pub open_other : (e : OpenFault) → is_other (open_end e) ≡ false
+open_other opening.DiskFault = refl
+open_other opening.NoMemory = refl
+open_other opening.NoJournal = refl
+open_other opening.OldVersion = refl
+open_other (opening.NotThis want found) = refl
+open_other (opening.Damaged file at) = refl
+
+pub later_other : (index : ℕ) (own fed : List ℕ) → 1 ≤ index → is_other (Diverged index own fed) ≡ false
+later_other zero own fed low = absurd (omega (arith, low))
+later_other (suc index) own fed low = refl
+
+pub no_other : (P : Type 0) (answer : FollowEnd) → is_other answer ≡ false → is_other answer ≡ true → P
+no_other P answer none other = let both : true ≡ false = sym other ∙ none in absurd (cc both)
+
+pub kept_later : {T : Type 0} (r : Result T FollowEnd) (fed : List ℕ) (ahead : InFeed) (left : List ℕ) → IsLater r → KeepsOther r fed ahead left
+kept_later (Ok x) fed ahead left later = tt
+kept_later (Err end) fed ahead left later = λ other. no_other _ end later other
+
+pub other_all : (answer : FollowEnd) (left : List ℕ) → is_other answer ≡ true → ReadsAll answer left
+other_all Done left other = absurd (cc other)
+other_all (Open fault) left other = tt
+other_all (Feed at) left other = tt
+other_all (Diverged index own fed) left other = tt
+other_all SourceFault left other = tt
+other_all DiskFault left other = tt
+other_all NoMemory left other = tt

@@ -1,0 +1,133 @@
+-- The checkpoint of a need is found by its lengths, at the front of whatever stands behind it.
+use Rattle.std.proofs.Common.{◌≡◌, ℕ, suc, ◌+◌, ◌*◌, ◌^◌, ◌<◌, ◌≤◌, Bool, true, false, cond, ◌&&◌, List, [], ◌∷◌, ◌++◌, length, take, drop, replicate, Option, Some, None, nat_le, nat_lt, refl, sym, ap, ◌∙◌, arith, length-append}
+use Rattle.std.specs.List.{flat_map, list_all, AllByRecursion}
+use Rattle.std.proofs.lemmas.Bool.{and_parts, le-leb, leb-true}
+use Rattle.std.proofs.lemmas.List.{append_assoc, drop-drop}
+use Rattle.std.proofs.Math.Seq.{drop-append_seam}
+use Rattle.gts_alphabet.specs.declared.limits.TheConstants.{LONGEST_BODY}
+use Rattle.gts_frame.specs.declared.kind.Kind.{Kind}
+use Rattle.gts_frame.specs.declared.kind.Kind.TheVariants.{An, Bi, Fx}
+use Rattle.gts_directory.specs.Directory.{Directory}
+use Rattle.gts_event.specs.State.{Bulletin}
+use Rattle.gts_event.specs.Need.{Need, CircuitNeed, is_bulletin}
+use Rattle.gts_record.specs.Record.{bytes_of, number_in}
+use Rattle.gts_record.proofs.LawLemmas.{number_in-bytes_of}
+use Rattle.gts_opening.specs.Journal.{bulletin_text, circuit_text, checkpoint_text, FitsBulletin, FitsCircuit, FitsNeed}
+use Rattle.gts_opening.proofs.CheckpointLemmas.{length-numbers}
+use Rattle.gts_standby.specs.Taking.{Reached, Behind, or_else, number_at, reach, reach_found, least_bulletin, bulletin_size, behind_bulletin, circuit_size, behind_circuit, and_then, behind_all, least_front, behind_counted, behind_lists, behind_checkpoint}
+use Rattle.gts_standby.proofs.ScanLemmas.{reach_on}
+
+-- ---- a bulletin
+
+-- a head over another one, by the bytes from its place on
+abbrev over : List ℕ → List ℕ → List ℕ
+over text found = take (length text) found ++ drop (length (take (length text) found)) text
+
+-- its body is no longer than a body may be
+abbrev IsShortBody : Bulletin → Type 0
+IsShortBody b = length b.body ≤ LONGEST_BODY
+
+size_of : (k length_body : ℕ) → k ≡ length_body → length_body ≤ LONGEST_BODY → cond (nat_le k LONGEST_BODY) (Some (16 + k)) None ≡ Some (16 + length_body)
+size_of k size is short =
+    ap (λ (m : ℕ). cond (nat_le m LONGEST_BODY) (Some (16 + m)) None) is
+    ∙ ap (λ (b : Bool). cond b (Some (16 + size)) None) (le-leb size LONGEST_BODY short)
+
+bulletin_found : (b : Bulletin) (more : List ℕ) → IsShortBody b → bulletin_size (over least_bulletin (bulletin_text b ++ more)) ≡ Some (16 + length b.body)
+bulletin_found b more short = go b.kind b.position b.from b.body short
+  where
+    few : (body : List ℕ) → length body ≤ LONGEST_BODY → length body < 256 ^ 4
+    few body short = omega (arith, short)
+
+    go : (kind : Kind) (position from : ℕ) (body : List ℕ) → length body ≤ LONGEST_BODY
+        → bulletin_size (over least_bulletin (bulletin_text (record { position = position; from = from; kind = kind; body = body }) ++ more)) ≡ Some (16 + length body)
+    go An position from body short = size_of (number_in (bytes_of 4 (length body))) (length body) (number_in-bytes_of 4 (length body) (few body short)) short
+    go Bi position from body short = size_of (number_in (bytes_of 4 (length body))) (length body) (number_in-bytes_of 4 (length body) (few body short)) short
+    go Fx position from body short = size_of (number_in (bytes_of 4 (length body))) (length body) (number_in-bytes_of 4 (length body) (few body short)) short
+
+length-bulletin_text : (b : Bulletin) → length (bulletin_text b) ≡ 16 + length b.body
+length-bulletin_text b = go b.kind b.position b.from b.body
+  where
+    go : (kind : Kind) (position from : ℕ) (body : List ℕ) → length (bulletin_text (record { position = position; from = from; kind = kind; body = body })) ≡ 16 + length body
+    go An position from body = omega arith
+    go Bi position from body = omega arith
+    go Fx position from body = omega arith
+
+bulletin_there : (limit : ℕ) (bytes : List ℕ) (at : ℕ) (b : Bulletin) (more : List ℕ) → drop at bytes ≡ bulletin_text b ++ more → IsShortBody b → at + length (bulletin_text b) ≤ limit
+    → at + length (bulletin_text b) ≤ length bytes → behind_bulletin limit bytes at ≡ Behind (at + length (bulletin_text b))
+bulletin_there limit bytes at b more is short low there =
+    let size = length-bulletin_text b in
+    ap (λ (l : List ℕ). reach_found limit bytes at (bulletin_size (over least_bulletin l))) is
+    ∙ ap (reach_found limit bytes at) (bulletin_found b more short)
+    ∙ ap (reach limit bytes at) (sym size)
+    ∙ reach_on limit bytes at (length (bulletin_text b)) low there
+
+-- ---- a circuit
+
+circuit_found : (c : CircuitNeed) (more : List ℕ) → FitsCircuit c → circuit_size (over (replicate 16 0) (circuit_text c ++ more)) ≡ 16 + 8 * (length c.waiting + length c.kept)
+circuit_found c more fits =
+    ap (λ (k : ℕ). 16 + 8 * (k + number_in (bytes_of 4 (length c.kept)))) (number_in-bytes_of 4 (length c.waiting) fits.1)
+    ∙ ap (λ (k : ℕ). 16 + 8 * (length c.waiting + k)) (number_in-bytes_of 4 (length c.kept) fits.2)
+
+length-circuit_text : (c : CircuitNeed) → length (circuit_text c) ≡ 16 + 8 * (length c.waiting + length c.kept)
+length-circuit_text c = omega (arith, length-numbers (c.waiting ++ c.kept), length-append c.waiting c.kept)
+
+circuit_there : (limit : ℕ) (bytes : List ℕ) (at : ℕ) (c : CircuitNeed) (more : List ℕ) → drop at bytes ≡ circuit_text c ++ more → FitsCircuit c → at + length (circuit_text c) ≤ limit
+    → at + length (circuit_text c) ≤ length bytes → behind_circuit limit bytes at ≡ Behind (at + length (circuit_text c))
+circuit_there limit bytes at c more is fits low there =
+    ap (λ (l : List ℕ). reach limit bytes at (circuit_size (over (replicate 16 0) l))) is
+    ∙ ap (reach limit bytes at) (circuit_found c more fits ∙ sym (length-circuit_text c))
+    ∙ reach_on limit bytes at (length (circuit_text c)) low there
+
+-- ---- one behind the other
+
+module _ {A : Type 0} (text : A → List ℕ) (Fits : A → Type 0) (limit : ℕ) (bytes : List ℕ) (one : ℕ → Reached)
+    (found : (at : ℕ) (x : A) (more : List ℕ) → drop at bytes ≡ text x ++ more → Fits x → at + length (text x) ≤ limit → at + length (text x) ≤ length bytes → one at ≡ Behind (at + length (text x))) where
+  all_there : (xs : List A) (at : ℕ) (more : List ℕ) → AllByRecursion Fits xs → drop at bytes ≡ flat_map text xs ++ more → at + length (flat_map text xs) ≤ limit → at + length (flat_map text xs) ≤ length bytes
+      → behind_all one (length xs) at ≡ Behind (at + length (flat_map text xs))
+  all_there [] at more fits is low there = ap Behind (let e : at ≡ at + 0 = omega arith in e)
+  all_there (x ∷ xs) at more fits is low there =
+      let behind : List ℕ = flat_map text xs ++ more in
+      let size = length-append (text x) (flat_map text xs) in
+      let split : drop at bytes ≡ text x ++ behind = is ∙ append_assoc (text x) (flat_map text xs) more in
+      let next : drop (at + length (text x)) bytes ≡ behind =
+      sym (drop-drop (length (text x)) at bytes) ∙ ap (drop (length (text x))) split ∙ drop-append_seam (text x) behind in
+      ap (λ (r : Reached). and_then r (behind_all one (length xs))) (found at x behind split fits.0 (omega (arith, low, size)) (omega (arith, there, size)))
+      ∙ all_there xs (at + length (text x)) more fits.1 next (omega (arith, low, size)) (omega (arith, there, size))
+      ∙ ap Behind (let e : at + length (text x) + length (flat_map text xs) ≡ at + length (flat_map text (x ∷ xs)) = omega (arith, size) in e)
+
+-- ---- all of it
+
+-- the bodies are short where the need is sound
+pub short_bodies : (d : Directory) (accepted : ℕ) (bs : List Bulletin) → list_all (is_bulletin d accepted) bs ≡ true → AllByRecursion IsShortBody bs
+short_bodies d accepted [] is = tt
+short_bodies d accepted (b ∷ bs) is =
+    let both = and_parts (is_bulletin d accepted b) (list_all (is_bulletin d accepted) bs) is in
+    (short_body b both.0, short_bodies d accepted bs both.1)
+  where
+    short_body : (b : Bulletin) → is_bulletin d accepted b ≡ true → IsShortBody b
+    short_body b is =
+        let h1 = and_parts _ _ is in
+        let h2 = and_parts _ _ h1.0 in
+        let h3 = and_parts _ (nat_le (length b.body) LONGEST_BODY) h2.0 in
+        leb-true (length b.body) LONGEST_BODY h3.1
+
+pub scan_text : (limit : ℕ) (n : Need) (rest : List ℕ) → FitsNeed n → AllByRecursion IsShortBody n.bulletins → length (checkpoint_text n) ≤ limit
+    → behind_checkpoint limit (checkpoint_text n ++ rest) ≡ Behind (length (checkpoint_text n))
+scan_text limit n rest fits short low =
+    let bytes : List ℕ = checkpoint_text n ++ rest in
+    let bs : List ℕ = flat_map bulletin_text n.bulletins in
+    let cs : List ℕ = flat_map circuit_text n.circuits in
+    let size : length (checkpoint_text n) ≡ 20 + (length bs + length cs) = omega (arith, length-append bs cs) in
+    let all : length bytes ≡ length (checkpoint_text n) + length rest = length-append (checkpoint_text n) rest in
+    let split : drop 20 bytes ≡ bs ++ (cs ++ rest) = append_assoc bs cs rest in
+    let next : drop (20 + length bs) bytes ≡ cs ++ rest =
+    sym (drop-drop (length bs) 20 bytes) ∙ ap (drop (length bs)) split ∙ drop-append_seam bs (cs ++ rest) in
+    ap (λ (k : ℕ). behind_counted limit bytes k (number_in (bytes_of 4 (length n.circuits)))) (number_in-bytes_of 4 (length n.bulletins) fits.few_bulletins)
+    ∙ ap (behind_counted limit bytes (length n.bulletins)) (number_in-bytes_of 4 (length n.circuits) fits.few_circuits)
+    ∙ ap
+    (λ (r : Reached). and_then r (λ at. and_then (behind_all (behind_bulletin limit bytes) (length n.bulletins) at) (λ behind. behind_all (behind_circuit limit bytes) (length n.circuits) behind)))
+    (reach_on limit bytes 0 20 (omega (arith, low, size)) (omega (arith, all, size)))
+    ∙ ap (λ (r : Reached). and_then r (λ behind. behind_all (behind_circuit limit bytes) (length n.circuits) behind))
+    (all_there bulletin_text IsShortBody limit bytes (behind_bulletin limit bytes) (bulletin_there limit bytes) n.bulletins 20 (cs ++ rest) short split (omega (arith, low, size)) (omega (arith, all, size)))
+    ∙ all_there circuit_text FitsCircuit limit bytes (behind_circuit limit bytes) (circuit_there limit bytes) n.circuits (20 + length bs) rest fits.circuits next (omega (arith, low, size)) (omega (arith, all, size))
+    ∙ ap Behind (let e : 20 + length bs + length cs ≡ length (checkpoint_text n) = omega (arith, size) in e)

@@ -1,0 +1,317 @@
+-- What the whole feed of a station's journal comes to, whatever it begins with.
+use Rattle.std.proofs.Common.{◌≡◌, ℕ, suc, ◌+◌, ◌-◌, ◌^◌, ◌<◌, ◌≤◌, Bool, true, false, cond, ◌&&◌, List, [], ◌∷◌, ◌++◌, length, take, drop, Option, Some, None, Result, Ok, Err, nat_eq, nat_le, refl, sym, ap, subst, ◌∙◌, arith, length-append}
+use Rattle.std.specs.Prelude.{not}
+use Rattle.std.specs.List.{starts_with, list_all}
+use Rattle.std.specs.Cmp.Lexicographic.{pointwise}
+use Rattle.std.proofs.lemmas.Bool.{and_parts, leb-true}
+use Rattle.std.proofs.lemmas.Bool.Decides.{nat_tests}
+use Rattle.std.proofs.lemmas.List.{append-nil, append_assoc}
+use Rattle.gts_traits.specs.{Files}
+use Rattle.gts_directory.specs.Directory.{Directory}
+use Rattle.gts_event.specs.State.{State, empty}
+use Rattle.gts_event.specs.Need.{Need, need, begun, is_sound, is_bulletin}
+use Rattle.gts_record.specs.declared.fault.OpenFault.TheVariants.{Damaged}
+use Rattle.gts_record.specs.Record.{number_in}
+use Rattle.gts_record.specs.Format.{magic, seal, seal_size, sealed, is_sealed, first_seal, draw_size, written}
+use Rattle.gts_record.proofs.LawLemmas.{length-sealed, length-seal}
+use Rattle.gts_opening.specs.Journal.{Read, due, need_in, unowed, checkpoint_text, compacted_bytes, admits_checkpoint, selected, files_read, file_opens, records_at}
+use Rattle.gts_opening.proofs.CheckpointLemmas.{need_in-text}
+use Rattle.gts_opening.proofs.FileLemmas.{fits-sound}
+use Rattle.gts_opening.proofs.LawLemmas.{magic_size}
+use Rattle.gts_checkpoint.specs.{IsCheckpoint}
+use Rattle.gts_checkpoint.proofs.LawLemmas.{starts_front}
+use Rattle.gts_journal.specs.{is_checkpoint, selected_bytes, header_fault}
+use Rattle.gts_journal.proofs.LawLemmas.{opens_behind}
+use Rattle.gts_standby.specs.Feed.{feed_at, feed_behind, checkpoint_feed, feed}
+use Rattle.gts_standby.specs.Ahead.{InFeed}
+use Rattle.gts_standby.specs.Taking.{Taken, Ends, Sealed, Piece, by_piece, behind_checkpoint, checkpoint_piece, is_checkpoint_fed, begin_with, begin_first, add_all, take_records, taken, End, Parts, stopped, compared, compare_all, compare_first, is_behind, is_further, or_anew}
+use Rattle.gts_standby.specs.Following.{own_seals, read_behind, read_begun, read_after, comes_to}
+use Rattle.gts_standby.proofs.FirstLemmas.{starts}
+use Rattle.gts_standby.proofs.HeaderLemmas.{header_on}
+use Rattle.gts_standby.proofs.ScanLemmas.{sealed_piece}
+use Rattle.gts_standby.proofs.ScannedLemmas.{scan_text, short_bodies}
+use Rattle.gts_standby.proofs.PutLemmas.{begins_so, behind_it}
+use Rattle.gts_standby.proofs.TakeLemmas.{sound_header}
+use Rattle.gts_standby.proofs.AddLemmas.{no_begin}
+use Rattle.gts_standby.proofs.FrontLemmas.{records_by, come_by, unread_there, first_by, further_by}
+use Rattle.gts_standby.proofs.HistoryLemmas.{Comes, records_fed, drop_text, agreeing_all, header_is, feed_comes, plain_begins}
+
+-- ---- a checkpoint at the front
+
+abbrev by_admission : Directory → ℕ → List ℕ → Need → Bool → Read
+by_admission d file bytes n b = elim b as (λ _. Read) [
+  | false ↦ Err (Damaged file 41)
+  | true ↦
+      records_at written d (length bytes) file (seal written (first_seal written d.mark) (checkpoint_text n)) (begun n) (compacted_bytes written n - 1)
+      (drop (compacted_bytes written n - 1) bytes)
+]
+
+module _ (d : Directory) (file : ℕ) (bytes : List ℕ) (x : State × ℕ × List ℕ) (size : length d.mark ≡ 32) (limit : d.limit < 256 ^ 4) (opened : file_opens written d file bytes ≡ Ok x) (packed : is_checkpoint bytes ≡ true) where
+  abbrev first : List ℕ
+  first = first_seal written d.mark
+
+  abbrev n : Need
+  n = need_in (drop 41 bytes)
+
+  abbrev text : List ℕ
+  text = checkpoint_text n
+
+  abbrev last : List ℕ
+  last = seal written first text
+
+  abbrev gate : ℕ
+  gate = compacted_bytes written n - 1
+
+  abbrev rest : List ℕ
+  rest = feed_at written (length bytes) last (drop gate bytes)
+
+  abbrev sent : List ℕ
+  sent = sealed written first text ++ rest
+
+  abbrev header : List ℕ
+  header = magic written ++ d.mark
+
+  sound : header_fault written d.mark file bytes ≡ None
+  sound = sound_header written d file bytes x opened
+
+  chained : by_admission d file bytes n (admits_checkpoint written d (drop 41 bytes) n) ≡ Ok x
+  chained = sym (opens_behind written d file bytes true sound packed) ∙ opened
+
+  admitted : admits_checkpoint written d (drop 41 bytes) n ≡ true
+  admitted = by_test (admits_checkpoint written d (drop 41 bytes) n) chained
+    where
+      by_test : (b : Bool) → by_admission d file bytes n b ≡ Ok x → b ≡ true
+      by_test true reads = refl
+      by_test false reads = absurd (let one : Read = Err (Damaged file 41) in let e : one ≡ Ok x = reads in cc e)
+
+  reads : records_at written d (length bytes) file last (begun n) gate (drop gate bytes) ≡ Ok x
+  reads = sym (ap (by_admission d file bytes n) admitted) ∙ chained
+
+  -- the parts of its admission
+  abbrev all : List ℕ
+  all = drop 41 bytes
+
+  h1 : ((starts_with nat_eq all text && is_sealed written first text all && is_sound d n) ≡ true) × (nat_le (compacted_bytes written n + draw_size written * due (begun n)) d.limit ≡ true)
+  h1 = and_parts (starts_with nat_eq all text && is_sealed written first text all && is_sound d n) (nat_le (compacted_bytes written n + draw_size written * due (begun n)) d.limit) admitted
+
+  h2 : ((starts_with nat_eq all text && is_sealed written first text all) ≡ true) × (is_sound d n ≡ true)
+  h2 = and_parts (starts_with nat_eq all text && is_sealed written first text all) (is_sound d n) h1.0
+
+  h3 : (starts_with nat_eq all text ≡ true) × (is_sealed written first text all ≡ true)
+  h3 = and_parts (starts_with nat_eq all text) (is_sealed written first text all) h2.0
+
+  room : compacted_bytes written n + draw_size written * due (begun n) ≤ d.limit
+  room = leb-true (compacted_bytes written n + draw_size written * due (begun n)) d.limit h1.1
+
+  free : unowed n ≡ n
+  free =
+      let fits = fits-sound written d n h2.1 (omega (arith, limit, room)) in
+      sym (need_in-text n (drop (length text) all) fits) ∙ ap need_in (sym (starts all text h3.0))
+
+  bodies : list_all (is_bulletin d n.accepted) n.bulletins ≡ true
+  bodies =
+      let a = and_parts _ _ h2.1 in
+      let b = and_parts _ _ a.0 in
+      let c = and_parts _ _ b.0 in
+      let e = and_parts _ _ c.0 in
+      (and_parts _ (list_all (is_bulletin d n.accepted) n.bulletins) e.0).1
+
+  -- it is found, with its seal
+  abbrev whole : ℕ
+  whole = length text + seal_size written
+
+  sent_is : sent ≡ text ++ (last ++ rest)
+  sent_is = append_assoc text last rest
+
+  there : whole ≤ length sent
+  there = omega (arith, length-append (sealed written first text) rest, length-sealed written first text)
+
+  take_text : (xs ys : List ℕ) → take (length xs) (xs ++ ys) ≡ xs
+  take_text [] ys = refl
+  take_text (x ∷ xs) ys = ap (λ (l : List ℕ). x ∷ l) (take_text xs ys)
+
+  front : take (length text) sent ≡ text
+  front = ap (take (length text)) sent_is ∙ take_text text (last ++ rest)
+
+  behind : drop (length text) sent ≡ last ++ rest
+  behind = ap (drop (length text)) sent_is ∙ drop_text text (last ++ rest) (length text) refl
+
+  starts_seal : starts_with nat_eq (drop (length text) sent) (seal written first (take (length text) sent)) ≡ true
+  starts_seal =
+      ap (λ (l : List ℕ). starts_with nat_eq l (seal written first (take (length text) sent))) behind
+      ∙ ap (λ (l : List ℕ). starts_with nat_eq (last ++ rest) (seal written first l)) front
+      ∙ begins last rest
+    where
+      same : (m : ℕ) → nat_eq m m ≡ true
+      same m = grind (arith, nat_tests)
+
+      begins : (xs ys : List ℕ) → starts_with nat_eq (xs ++ ys) xs ≡ true
+      begins [] ys = refl
+      begins (x ∷ xs) ys = ap (λ (b : Bool). b && starts_with nat_eq (xs ++ ys) xs) (same x) ∙ begins xs ys
+
+  pub piece : checkpoint_piece written d.limit first sent ≡ Sealed whole last
+  piece =
+      let fits = fits-sound written d n h2.1 (omega (arith, limit, room)) in
+      let low : length text ≤ d.limit = omega (arith, room) in
+      let reached = ap (λ (l : List ℕ). behind_checkpoint d.limit l) sent_is ∙ scan_text d.limit n (last ++ rest) fits (short_bodies d n.accepted n.bulletins bodies) low in
+      let ahead : InFeed = record { bytes = sent; is_all = false } in
+      sealed_piece written d.limit (length text) first sent [] ahead true reached (record { is = sym (append-nil sent); all = λ e. absurd (cc e) }) there starts_seal
+      ∙ ap (λ (l : List ℕ). Sealed whole (seal written first l)) front
+
+  is_one : IsCheckpoint written d (take (whole - seal_size written) sent) n
+  is_one = record {
+    text = ap (λ (k : ℕ). take k sent) (let e : whole - seal_size written ≡ length text = omega arith in e) ∙ front;
+    sound = h2.1;
+    free = free;
+    room = room;
+  }
+
+  -- so the journal begins with it, and goes on behind it
+  abbrev goes : Taken
+  goes = add_all written d (length sent) last (begun n) gate (40 + whole) rest
+
+  begins_there : begin_first written d first sent ≡ record goes { begins = Some n }
+  begins_there =
+      ap (λ (p : Piece). by_piece 40 p (λ k seal_there. begin_with written d first k sent (need_in sent))) piece
+      ∙ begins_so d sent sent [] whole last limit (sym (append-nil sent)) there piece n is_one
+      ∙ ap (λ (l : List ℕ). record (add_all written d (length sent) last (begun n) gate (40 + whole) l) { begins = Some n })
+      (drop_text (sealed written first text) rest whole (sym (length-sealed written first text)))
+
+  comes_there : Comes d (begun n, gate + 1, last) x goes
+  comes_there =
+      records_fed d (length bytes) file (length sent) last (begun n) gate (40 + whole) (drop gate bytes) x reads (omega (arith, length-append (sealed written first text) rest))
+
+  pub anew_comes : ((begin_first written d first sent).end ≡ Ends) × ((y : State × ℕ × List ℕ) → read_after d y (begin_first written d first sent) ≡ x)
+  anew_comes = (
+    ap (λ (t : Taken). t.end) begins_there ∙ comes_there.0,
+    λ y.
+        ap (read_after d y) begins_there
+        ∙ ap (λ (k : ℕ). read_behind d (begun n, k, last) goes.records) (let e : compacted_bytes written n ≡ gate + 1 = omega arith in e)
+        ∙ comes_there.1,
+  )
+
+  pub packed_feed : feed written d.mark bytes ≡ header ++ sent
+  packed_feed =
+      ap (λ (l : List ℕ). l ++ feed_behind written first bytes (is_checkpoint bytes)) (header_is d file bytes sound)
+      ∙ ap (λ (b : Bool). header ++ feed_behind written first bytes b) packed
+
+  pub packed_begins : (is_checkpoint_fed sent ≡ true) × ((begin_first written d first sent).begins ≡ Some n)
+  packed_begins = (refl, ap (λ (t : Taken). t.begins) begins_there)
+
+-- ---- behind a header
+
+forty : (d : Directory) → length d.mark ≡ 32 → length (magic written ++ d.mark) ≡ 40
+forty d size = omega (arith, size, magic_size written, length-append (magic written) d.mark)
+
+pub behind_header : (d : Directory) (s : State) (gate : ℕ) (last : List ℕ) (own : List (List ℕ)) (sent : List ℕ) → length d.mark ≡ 32
+    → taken written d s gate last own ((magic written ++ d.mark) ++ sent) ≡ take_records written d s gate last own sent
+behind_header d s gate last own sent size =
+    let header : List ℕ = magic written ++ d.mark in
+    header_on header (header ++ sent) (agreeing_all header sent ∙ forty d size) (take_records written d s gate last own (drop 40 (header ++ sent)))
+    ∙ ap (take_records written d s gate last own) (drop_text header sent 40 (sym (forty d size)))
+
+-- ---- a standby without records
+
+pub whole_comes : (d : Directory) (own files : Files) (read : State × ℕ × List ℕ) (fed : List ℕ) (whole : Taken) → length d.mark ≡ 32 → d.limit < 256 ^ 4 → own_seals d (selected_bytes own) ≡ []
+    → files_read written d files ≡ Ok read → feed written d.mark (selected_bytes files) ≡ fed → comes_to d own fed ≡ Ok whole
+    → (whole.end ≡ Ends) × (read_after d (empty d, 41, first_seal written d.mark) whole ≡ read)
+whole_comes d own files read fed whole size limit none opened sent here = by_read (files_read written d own) refl here
+  where
+    bytes : List ℕ
+    bytes = selected_bytes files
+
+    begin : List ℕ
+    begin = first_seal written d.mark
+
+    Brings : Taken → Type 0
+    Brings t = (t.end ≡ Ends) × (read_after d (empty d, 41, begin) t ≡ read)
+
+    by_letter : (b : Bool) → is_checkpoint bytes ≡ b → Brings (taken written d (empty d) 40 begin [] (feed written d.mark bytes))
+    by_letter true packed =
+        let letter = packed_begins d (selected files) bytes read size limit opened packed in
+        let brings = anew_comes d (selected files) bytes read size limit opened packed in
+        let is =
+        ap (taken written d (empty d) 40 begin []) (packed_feed d (selected files) bytes read size limit opened packed)
+        ∙ behind_header d (empty d) 40 begin [] _ size ∙ ap (records_by d (empty d) 40 begin _) letter.0 in
+        subst Brings (sym is) (brings.0, brings.1 (empty d, 41, begin))
+    by_letter false plain =
+        let all = feed_comes d (selected files) bytes read size opened plain in
+        (all.0, ap (λ (o : Option Need). read_behind d (read_begun d (empty d, 41, begin) o) (taken written d (empty d) 40 begin [] (feed written d.mark bytes)).records) (plain_begins d (selected files) bytes read size opened plain) ∙ all.1)
+
+    by_read : (r : Read) → files_read written d own ≡ r → come_by d own fed r ≡ Ok whole → Brings whole
+    by_read (Err fault) is come = absurd (cc come)
+    by_read (Ok there) is come =
+        let same : there ≡ (empty d, 41, begin) = unread_there d own there is none in
+        let whole_is : whole ≡ taken written d (empty d) 40 begin [] (feed written d.mark bytes) =
+        sym (let e : taken written d there.0 (there.1 - 1) there.2 (own_seals d (selected_bytes own)) fed ≡ whole = cc come in e)
+        ∙ ap (λ (y : State × ℕ × List ℕ). taken written d y.0 (y.1 - 1) y.2 (own_seals d (selected_bytes own)) fed) same
+        ∙ ap (λ (l : List (List ℕ)). taken written d (empty d) 40 begin l fed) none
+        ∙ ap (taken written d (empty d) 40 begin []) (sym sent) in
+        subst Brings (sym whole_is) (by_letter (is_checkpoint bytes) refl)
+
+-- ---- a standby with another record 0
+
+pub anew_whole : (d : Directory) (own files : Files) (t : State) (used : ℕ) (last : List ℕ) (read : State × ℕ × List ℕ) (fed one : List ℕ) (more : List (List ℕ)) (whole : Taken) → length d.mark ≡ 32 → d.limit < 256 ^ 4
+    → files_read written d own ≡ Ok (t, used, last) → own_seals d (selected_bytes own) ≡ one ∷ more → files_read written d files ≡ Ok read → is_checkpoint (selected_bytes files) ≡ true
+    → feed written d.mark (selected_bytes files) ≡ fed → pointwise nat_eq one (seal written (first_seal written d.mark) (checkpoint_text (need_in (drop 41 (selected_bytes files))))) ≡ false
+    → is_behind (need_in (drop 41 (selected_bytes files))) (need d t) ≡ false → comes_to d own fed ≡ Ok whole
+    → (whole.end ≡ Ends) × (read_after d (t, used, last) whole ≡ read)
+anew_whole d own files t used last read fed one more whole size limit own_is seals opened packed sent other further here =
+    subst Brings (whole_is) (brings.0, brings.1 (t, used, last))
+  where
+    bytes : List ℕ
+    bytes = selected_bytes files
+
+    begin : List ℕ
+    begin = first_seal written d.mark
+
+    n : Need
+    n = need_in (drop 41 bytes)
+
+    fed_seal : List ℕ
+    fed_seal = seal written begin (checkpoint_text n)
+
+    records : List ℕ
+    records = sealed written begin (checkpoint_text n) ++ feed_at written (length bytes) fed_seal (drop (compacted_bytes written n - 1) bytes)
+
+    anew : Taken
+    anew = begin_first written d begin records
+
+    Brings : Taken → Type 0
+    Brings w = (w.end ≡ Ends) × (read_after d (t, used, last) w ≡ read)
+
+    brings : (anew.end ≡ Ends) × ((y : State × ℕ × List ℕ) → read_after d y anew ≡ read)
+    brings = anew_comes d (selected files) bytes read size limit opened packed
+
+    begun : (is_checkpoint_fed records ≡ true) × (anew.begins ≡ Some n)
+    begun = packed_begins d (selected files) bytes read size limit opened packed
+
+    behind : ℕ → List ℕ → Taken
+    behind at left = add_all written d (length left) last t (used - 1) at left
+
+    on : ℕ → Taken
+    on k = compare_all written behind more one 1 (40 + k) (drop k records)
+
+    compared_is : compare_first written d.limit behind (one ∷ more) begin records ≡ stopped (Parts 0 one fed_seal)
+    compared_is =
+        ap (λ (x : Piece). by_piece 40 x (λ k its. compared 0 one its (on k)))
+        (ap (first_by written d.limit begin records) begun.0 ∙ piece d (selected files) bytes read size limit opened packed)
+        ∙ ap (λ (b : Bool). cond b (on (length (checkpoint_text n) + seal_size written)) (stopped (Parts 0 one fed_seal))) other
+
+    further_is : is_further d t anew ≡ true
+    further_is = ap (further_by d t) begun.1 ∙ ap not further
+
+    taken_is : take_records written d t (used - 1) last (one ∷ more) records ≡ anew
+    taken_is =
+        ap (or_anew d t anew) compared_is
+        ∙ ap (λ (b : Bool). cond b anew (stopped (Parts 0 one fed_seal))) further_is
+
+    come : comes_to d own fed ≡ Ok anew
+    come =
+        ap (come_by d own fed) own_is
+        ∙ ap (λ (l : List (List ℕ)). Ok (taken written d t (used - 1) last l fed)) seals
+        ∙ ap (λ (l : List ℕ). Ok (taken written d t (used - 1) last (one ∷ more) l)) (sym sent ∙ packed_feed d (selected files) bytes read size limit opened packed)
+        ∙ ap (λ (w : Taken). Ok w) (behind_header d t (used - 1) last (one ∷ more) records size ∙ taken_is)
+
+    whole_is : anew ≡ whole
+    whole_is = let both : Ok anew ≡ Ok whole = sym come ∙ here in cc both

@@ -1,0 +1,71 @@
+//! Whether a journal may begin anew with the checkpoint of a feed.
+ghost use Rattle.std.specs.Prelude.{◌≡◌, ◌≤◌, ℕ, List, zip, map, nat_lt, IfOk, IfErr, IsErrOf};
+ghost use Rattle.std.specs.List.{list_any};
+ghost use Rattle.gts_traits.specs.{Rose};
+ghost use Rattle.gts_core.specs.Core.{Holds};
+ghost use Rattle.gts_standby.specs.Cited.{State, need_of, circuit_need_of};
+ghost use Rattle.gts_standby.specs.Taking as feeds;
+ghost use Rattle.gts_standby.specs.Reading.{HasRead, IsReadEnd};
+ghost use Rattle.gts_standby.specs.Whole.{FindsFurther};
+
+use crate::FollowEnd;
+use crate::ahead::Ahead;
+use crate::scanning::fed_checkpoint;
+use gts_checkpoint::decode;
+use gts_core::Core;
+use gts_directory::Directory;
+use gts_event::{CircuitNeed, Need};
+use gts_journal::Version;
+use gts_record::first_seal;
+use gts_traits::Source;
+use std::alloc::Global;
+
+/// Whether on one of the circuits fewer were drawn.
+fn drew_fewer(fed: &[CircuitNeed], own: &[CircuitNeed]) -> bool
+    ensures { result ≡ list_any (λ pair. nat_lt pair.0.draws pair.1.draws)
+        (zip (map circuit_need_of fed.now) (map circuit_need_of own.now)) }
+{
+    fed.iter()
+        .zip(own.iter())
+        .any(|pair| pair.0.draws < pair.1.draws)
+}
+
+/// Whether a need is behind another one: fewer bulletins were accepted, or on one of the circuits fewer were drawn.
+fn is_behind(fed: &Need, own: &Need) -> bool
+    ensures { result ≡ feeds.is_behind (need_of fed.now) (need_of own.now) }
+{
+    fed.accepted < own.accepted || drew_fewer(fed.circuits.as_slice(), own.circuits.as_slice())
+}
+
+/// Whether a checkpoint stands at the front of a feed's records with which a journal may begin, and which isn't behind what a core
+/// has come to.
+pub(crate) fn is_further<S: Source>(
+    alloc: Global,
+    directory: &Directory,
+    core: &Core,
+    source: &mut S,
+    ahead: &mut Ahead,
+) -> Result<bool, FollowEnd>
+    ensures further { S.tells → (s : State) (fed : List ℕ) → Holds directory.now core.now s
+        → HasRead fed ahead.old (S.left source.old)
+        → IfOk result (λ is. FindsFurther is directory.now s fed ahead.new (S.left source.new)) }
+    ensures kind { IfErr result IsReadEnd }
+    ensures source_fault { IsErrOf result FollowEnd.SourceFault
+        → Rose (S.faults source.old) (S.faults source.new) }
+    ensures source_later { S.faults source.old ≤ S.faults source.new }
+{
+    let version = Version::written();
+    let limit = directory.limit();
+    let before = first_seal(version, &directory.mark());
+    let behind = match fed_checkpoint(source, ahead, limit, version, &before) {
+        Ok(found) => found.0,
+        Err(FollowEnd::Done | FollowEnd::Feed { .. }) => return Ok(false),
+        Err(end) => return Err(end),
+    };
+    let size = behind - version.seal_size();
+    let Some(fed) = decode(alloc, &ahead.bytes()[..size], directory)? else {
+        return Ok(false);
+    };
+    let own = core.need(alloc)?;
+    Ok(!is_behind(&fed, &own))
+}
