@@ -67,7 +67,7 @@ def check_page(text):
         wants(f'the page names {word}', f'gts_switch {word}' in text, True)
     for name in FILES:
         wants(f'the page names {name}', name in text, True)
-    wants('the page names the end 0', ' 0 It was done' in text, True)
+    wants('the page names the end 0', ' 0 All was done' in text, True)
     for line, status in lines:
         pattern = re.sub(r'\\\{\w*\\\}', r'[A-Z]+', re.escape(line))
         wants(f'the page names the end {status}, {line}', bool(re.search(rf' {status} {pattern} ', text)), True)
@@ -137,7 +137,7 @@ def test_what_is_installed(program, broken, tmp_path):
     wants('the installation', (status, line), (0, ''))
     wants('it tells of neighbours on other hosts', 'IPAddressAllow' in said, True)
     text = page_text(os.path.join(prefix, 'share/man/man1/gts_switch.1'))
-    check_page(text.replace('EXIT STATUS', '').split(' 0 It was done')[0] if broken == 'page' else text)
+    check_page(text.replace('EXIT STATUS', '').split(' 0 All was done')[0] if broken == 'page' else text)
     page_text(os.path.join(prefix, 'share/man/man1/gts-switch-status.1'))
     units = os.path.join(prefix, 'lib/systemd/system')
     for name in sorted(os.listdir(units)):
