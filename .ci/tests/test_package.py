@@ -1,9 +1,11 @@
 """What is installed of the program: by packaging/install under a folder of its own, and as a package of Debian in a root that has nothing
 else. The manual page renders without a warning and names every command, file, end and line; the units are sound; what was installed
-runs; lintian finds no error; and when the package is removed, and purged, each byte of the journal stays.
+runs; lintian finds no error; and when the package is removed, and purged, each byte of the journal stays. A release is made of a
+clean commit over which the gate has passed, and of nothing else.
 
     --break page       the manual page lacks its table of ends
-    --break journal    removing the package takes the journal with it"""
+    --break journal    removing the package takes the journal with it
+    --break release    the gate of a release has failed"""
 import os
 import re
 import shlex
@@ -67,7 +69,7 @@ def check_page(text):
         wants(f'the page names {word}', f'gts_switch {word}' in text, True)
     for name in FILES:
         wants(f'the page names {name}', name in text, True)
-    wants('the page names the end 0', ' 0 It was done' in text, True)
+    wants('the page names the end 0', ' 0 All was done' in text, True)
     for line, status in lines:
         pattern = re.sub(r'\\\{\w*\\\}', r'[A-Z]+', re.escape(line))
         wants(f'the page names the end {status}, {line}', bool(re.search(rf' {status} {pattern} ', text)), True)
@@ -137,7 +139,7 @@ def test_what_is_installed(program, broken, tmp_path):
     wants('the installation', (status, line), (0, ''))
     wants('it tells of neighbours on other hosts', 'IPAddressAllow' in said, True)
     text = page_text(os.path.join(prefix, 'share/man/man1/gts_switch.1'))
-    check_page(text.replace('EXIT STATUS', '').split(' 0 It was done')[0] if broken == 'page' else text)
+    check_page(text.replace('EXIT STATUS', '').split(' 0 All was done')[0] if broken == 'page' else text)
     page_text(os.path.join(prefix, 'share/man/man1/gts-switch-status.1'))
     units = os.path.join(prefix, 'lib/systemd/system')
     for name in sorted(os.listdir(units)):
@@ -202,6 +204,38 @@ def test_lintian_finds_no_error(package):
     status, said, line = run(['lintian', '--allow-root', '--fail-on', 'error', package])
     print(said)
     wants('lintian', (status, [text for text in said.splitlines() if text.startswith('E:')]), (0, []))
+
+
+def git(folder, *words):
+    status, said, line = run(['git', '-c', 'user.name=a', '-c', 'user.email=a@b', '-C', folder, *words])
+    assert (status, line) == (0, ''), line
+    return said.strip()
+
+
+@pytest.mark.skipif(not os.path.isdir(os.path.join(TOP, '.git')), reason='a release is made of a commit')
+def test_a_release_is_of_a_clean_commit_over_which_the_gate_has_passed(program, broken, tmp_path):
+    clone, log, to = (str(tmp_path / name) for name in ('clone', 'log', 'to'))
+    git(TOP, 'clone', '-q', TOP, clone)
+    os.makedirs(os.path.join(clone, 'crates/gts_switch/out'))
+    shutil.copy(program, os.path.join(clone, 'crates/gts_switch/out/gts_switch'))
+    commit, version = git(clone, 'rev-parse', 'HEAD'), run([os.path.join(clone, 'packaging/version')])[1].strip()
+
+    def released(over=commit, last='9 passed, 0 failed (1 crate)'):
+        with open(log, 'w') as file:
+            file.write(f'commit {over}\n{last}\n')
+        return run([os.path.join(clone, 'packaging/release'), to, log])[::2]
+    wants('another commit', released(over='0' * 40), (1, f"release: the gate didn't run over commit {commit}"))
+    wants('a gate that failed', released(last='8 passed, 1 failed'), (1, "release: the gate didn't pass: 8 passed, 1 failed"))
+    Folder('', clone).write('README.md', '')
+    wants('a change', released(), (1, "release: there are changes that aren't committed"))
+    git(clone, 'checkout', '-q', 'README.md')
+    git(clone, 'tag', '-a', '-m', 'a tag', f'v{version}', git(clone, 'commit-tree', '-m', 'another commit', 'HEAD^{tree}'))
+    wants('a version that is tagged', released()[0], 1)
+    git(clone, 'tag', '-d', f'v{version}')
+    wants('nothing was left', os.path.exists(to), False)
+    wants('the release', released(last='9 passed, 1 failed' if broken == 'release' else '9 passed, 0 failed'), (0, ''))
+    wants('what it has', len(os.listdir(to)), 4)
+    wants('its checksums', run(['sha256sum', '--quiet', '-c', f'gts-switch_{version}.sha256'], to), (0, '', ''))
 
 
 @pytest.mark.skipif(os.geteuid() != 0, reason='a root is entered by root alone')
