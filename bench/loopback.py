@@ -11,6 +11,8 @@ HOST = '127.0.0.1'
 # Where folders are made for runs that aren't about the disk: in memory, where the system has a folder there.
 IN_MEMORY = '/dev/shm' if os.access('/dev/shm', os.W_OK) else None
 EOL = b'\r\r\n'
+# How long a thing may take that is there at once, or after the longest pause between two tries.
+SOON = 15
 
 
 def frame(number, heading, text):
@@ -180,6 +182,65 @@ def reset(to):
     """Breaks a connection, so that the other side's next read fails."""
     to.setsockopt(socket.SOL_SOCKET, socket.SO_LINGER, struct.pack('ii', 1, 0))
     to.close()
+
+
+class Listener:
+    """A neighbour's port: it accepts one connection after another, and keeps what comes on each."""
+
+    def __init__(self, port, host=HOST):
+        self.socket = socket.create_server((host, port))
+        self.streams = []
+        self.connections = []
+        threading.Thread(target=self.accept, daemon=True).start()
+
+    def accept(self):
+        while True:
+            try:
+                connection, _ = self.socket.accept()
+            except OSError:
+                return
+            self.connections.append(connection)
+            self.streams.append(bytearray())
+            threading.Thread(target=self.hear, args=(connection, self.streams[-1]), daemon=True).start()
+
+    def hear(self, connection, stream):
+        try:
+            while piece := connection.recv(1 << 16):
+                stream += piece
+        except OSError:
+            pass
+
+    def end(self):
+        """Ends the connection that stands, and goes on listening."""
+        self.connections[-1].shutdown(socket.SHUT_RDWR)
+        self.connections[-1].close()
+
+    def close(self):
+        self.socket.shutdown(socket.SHUT_RDWR)
+        self.socket.close()
+
+    def messages(self):
+        """What came in frames, keep-alives left out."""
+        return [message for stream in list(self.streams) for message in messages_of(bytes(stream))[0] if message]
+
+    def numbers(self):
+        return [number_of(message) for message in self.messages()]
+
+
+def calls(port, *pieces, host=HOST, source=None):
+    """Connects to a port, as soon as somebody listens there, and sends these pieces."""
+    until = time.monotonic() + SOON
+    while True:
+        try:
+            to = socket.create_connection((host, port), SOON, source_address=(source, 0) if source else None)
+            break
+        except ConnectionRefusedError:
+            if time.monotonic() > until:
+                raise
+            time.sleep(0.02)
+    for piece in pieces:
+        to.sendall(piece)
+    return to
 
 
 class Switch:

@@ -24,6 +24,8 @@ LINKS = [('TBPB', 'TTPP'), ('TTPP', 'TVSV'), ('TVSV', 'TBPB'), ('TBPB', 'TLPL'),
 TOWARDS_BARBADOS = {'TTPP': 'TBPB', 'TVSV': 'TBPB', 'TLPL': 'TBPB', 'TGPY': 'TTPP'}
 HOME = 'HOME'
 DIGITS, KEPT, WINDOW, CONNECTIONS = 5, 20_000, 20_000, 1000
+# The seed of the day of examples/network, and how many stations report there from each centre every hour.
+DAY, STATIONS = 28, 4
 # How long a thread sleeps or waits before it looks again whether something else is wanted of it.
 POLL = 0.01
 # How many bytes a relay reads at once, and how long it holds them.
@@ -157,6 +159,22 @@ class Traffic:
     def warning(self, code, hour):
         text = f'SMALL CRAFT WARNING NO {self.count} FOR THE EASTERN CARIBBEAN UNTIL 290000'
         return self.bulletin(code, 'WW', '31', hour, 20, [text])
+
+
+def hour_of(traffic, hour):
+    """What stations and forecasters send in an hour: pairs of a centre and a bulletin."""
+    for code in NAMES:
+        kinds = [traffic.observation] * STATIONS + [traffic.aerodrome]
+        kinds += [traffic.forecast] if hour % 6 == 0 else []
+        kinds += [traffic.upper_air] if hour % 12 == 0 else []
+        yield from ((code, kind(code, hour)) for kind in kinds)
+    yield 'TBPB', traffic.radar('TBPB', hour)
+
+
+def day_of(*codes):
+    """What these centres send in the day of examples/network."""
+    traffic = Traffic(random.Random(DAY))
+    return [body for hour in range(24) for code, body in hour_of(traffic, hour) if code in codes]
 
 
 class Stream:
