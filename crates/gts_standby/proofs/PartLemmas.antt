@@ -56,15 +56,20 @@ front_fed d (suc n) m own_file file before s gate index at own bytes y x more ow
       let comes = records_fed d m file (length sent) before s gate at bytes x reads (omega arith) in
       subst (λ (t : Taken). GoesTo d y x t) (sym all)
       (subst (λ (z : State × ℕ × List ℕ). Comes d z x (add_all written d (length sent) before s gate at sent)) (sym same) comes, no_begin d (length sent) before s gate at sent)
-  | IsRecord r found own_more ↦ by_station m reads is r found own_more
+  | IsRecord r found own_more ↦
+      by_station m reads is r found own_more
+      (λ k more_read rest_is. front_fed d n k own_file file (seal written before (record_text r)) (after d s (event_of_record r)) (gate + record_size written r) (index + 1) (at + (record_size written r - 1)) (drop (record_size written r) own) (drop (record_size written r) bytes) y x more own_more more_read rest_is)
 ]
   where
     by_station : (k : ℕ) → records_at written d k file before s gate bytes ≡ Ok x → feed_at written (suc n) before own ++ more ≡ feed_at written k before bytes
         → (r : Record) → entry_at written before own_file gate own ≡ Ok (Some r)
         → records_at written d n own_file (seal written before (record_text r)) (after d s (event_of_record r)) (gate + record_size written r) (drop (record_size written r) own) ≡ Ok y
+        → ((j : ℕ) → records_at written d j file (seal written before (record_text r)) (after d s (event_of_record r)) (gate + record_size written r) (drop (record_size written r) bytes) ≡ Ok x
+            → feed_at written n (seal written before (record_text r)) (drop (record_size written r) own) ++ more ≡ feed_at written j (seal written before (record_text r)) (drop (record_size written r) bytes)
+            → GoesTo d y x (compare_all written (behind_own d y) (seals_at written n (seal written before (record_text r)) (drop (record_size written r) own)) (seal written before (record_text r)) (index + 1) (at + (record_size written r - 1)) (feed_at written j (seal written before (record_text r)) (drop (record_size written r) bytes))))
         → GoesTo d y x (compare_all written (behind_own d y) (seals_at written (suc n) before own) before index at (feed_at written k before bytes))
-    by_station zero reads is r found own_more = absurd (cc reads)
-    by_station (suc k) reads is r found own_more =
+    by_station zero reads is r found own_more so = absurd (cc reads)
+    by_station (suc k) reads is r found own_more so =
         let text : List ℕ = sealed written before (record_text r) in
         let last : List ℕ = seal written before (record_text r) in
         let own_rest : List ℕ = feed_at written n last (drop (record_size written r) own) in
@@ -88,7 +93,7 @@ front_fed d (suc n) m own_file file before s gate index at own bytes y x more ow
               let same : q ≡ r = (let both : Some q ≡ Some r = sym also ∙ here in cc both) in
               by_record r found own_more begins here wide (subst (λ (z : Record). records_at written d k file (seal written before (record_text z)) (after d s (event_of_record z)) (gate + record_size written z) (drop (record_size written z) bytes) ≡ Ok x) same station_more)
               (subst (λ (z : Record). feed_at written (suc k) before bytes ≡ sealed written before (record_text z) ++ feed_at written k (seal written before (record_text z)) (drop (record_size written z) bytes)) same one)
-              (λ q_more rest_is. front_fed d n k own_file file last (after d s (event_of_record r)) (gate + record_size written r) (index + 1) (at + (record_size written r - 1)) (drop (record_size written r) own) (drop (record_size written r) bytes) y x more own_more q_more rest_is)
+              (so k)
         ]
       where
         by_record : (r : Record) → entry_at written before own_file gate own ≡ Ok (Some r)

@@ -1,5 +1,5 @@
 -- What the whole feed of a station's journal comes to, whatever it begins with.
-use Rattle.std.proofs.Common.{◌≡◌, ℕ, suc, ◌+◌, ◌-◌, ◌^◌, ◌<◌, ◌≤◌, Bool, true, false, cond, ◌&&◌, List, [], ◌∷◌, ◌++◌, length, take, drop, Option, Some, None, Result, Ok, Err, nat_eq, nat_le, refl, sym, ap, subst, ◌∙◌, arith, length-append}
+use Rattle.std.proofs.Common.{◌≡◌, ℕ, suc, ◌+◌, ◌*◌, ◌-◌, ◌^◌, ◌<◌, ◌≤◌, Bool, true, false, cond, ◌&&◌, List, [], ◌∷◌, ◌++◌, length, take, drop, Option, Some, None, Result, Ok, Err, nat_eq, nat_le, refl, sym, ap, subst, ◌∙◌, arith, length-append}
 use Rattle.std.specs.Prelude.{not}
 use Rattle.std.specs.List.{starts_with, list_all}
 use Rattle.std.specs.Cmp.Lexicographic.{pointwise}
@@ -230,9 +230,12 @@ whole_comes d own files read fed whole size limit none opened sent here = by_rea
     by_letter true packed =
         let letter = packed_begins d (selected files) bytes read size limit opened packed in
         let brings = anew_comes d (selected files) bytes read size limit opened packed in
-        let is =
+        let n : Need = need_in (drop 41 bytes) in
+        let fed_seal : List ℕ = seal written begin (checkpoint_text n) in
+        let records : List ℕ = sealed written begin (checkpoint_text n) ++ feed_at written (length bytes) fed_seal (drop (compacted_bytes written n - 1) bytes) in
+        let is : taken written d (empty d) 40 begin [] (feed written d.mark bytes) ≡ begin_first written d begin records =
         ap (taken written d (empty d) 40 begin []) (packed_feed d (selected files) bytes read size limit opened packed)
-        ∙ behind_header d (empty d) 40 begin [] _ size ∙ ap (records_by d (empty d) 40 begin _) letter.0 in
+        ∙ behind_header d (empty d) 40 begin [] records size ∙ ap (records_by d (empty d) 40 begin records) letter.0 in
         subst Brings (sym is) (brings.0, brings.1 (empty d, 41, begin))
     by_letter false plain =
         let all = feed_comes d (selected files) bytes read size opened plain in
