@@ -1,5 +1,5 @@
 -- Whether a journal may begin anew with the checkpoint of a feed.
-use Rattle.std.proofs.Common.{◌≡◌, ℕ, ◌-◌, ◌^◌, ◌<◌, ◌≤◌, ◌++◌, Bool, true, false, List, [], ◌∷◌, length, take, Option, Some, None, refl, sym, ap, subst, ◌∙◌}
+use Rattle.std.proofs.Common.{◌≡◌, ℕ, Bool, false, List, [], ◌∷◌, Some, None, refl, sym, ap, subst, ◌∙◌}
 use Rattle.std.specs.Prelude.{not, ◌||◌, map, nat_lt, zip}
 use Rattle.std.specs.List.{list_any}
 use Rattle.gts_event.specs.declared.values.CircuitNeed.{CircuitNeed}
@@ -7,13 +7,12 @@ use Rattle.gts_event.specs.Items.{circuit_need_of}
 use Rattle.gts_directory.specs.Directory.{Directory}
 use Rattle.gts_event.specs.State.{State}
 use Rattle.gts_event.specs.Need.{Need, need}
-use Rattle.gts_record.specs.Format.{first_seal, seal_size, written}
+use Rattle.gts_record.specs.Format.{first_seal, written}
 use Rattle.gts_opening.specs.Journal.{need_in}
-use Rattle.gts_checkpoint.specs.{IsCheckpoint}
 use Rattle.gts_standby.specs.declared.end.FollowEnd.{FollowEnd}
 use Rattle.gts_standby.specs.declared.end.FollowEnd.TheVariants.{Done, Open, Feed, Diverged, SourceFault, DiskFault, NoMemory}
 use Rattle.gts_standby.specs.Ahead.{InFeed}
-use Rattle.gts_standby.specs.Taking.{Taken, End, Breaks, Parts, stopped, Piece, Cut, Broken, Sealed, by_piece, checkpoint_piece, begin_with, is_behind, is_further}
+use Rattle.gts_standby.specs.Taking.{Taken, Breaks, Parts, stopped, Piece, Cut, Broken, Sealed, by_piece, checkpoint_piece, begin_with, is_behind, is_further}
 use Rattle.gts_standby.specs.Following.{EndsAs}
 use Rattle.gts_standby.specs.Reading.{HasRead, StopsAs}
 use Rattle.gts_standby.specs.Beginning.{begun_taken}

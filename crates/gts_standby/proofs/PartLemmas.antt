@@ -1,5 +1,5 @@
 -- What the whole feed of a station's journal comes to beside a standby that has a first part of it.
-use Rattle.std.proofs.Common.{◌≡◌, ℕ, zero, suc, ◌+◌, ◌-◌, ◌^◌, ◌<◌, ◌≤◌, Bool, true, false, cond, ◌&&◌, List, [], ◌∷◌, ◌++◌, length, take, drop, Option, Some, None, Result, Ok, Err, nat_eq, refl, sym, ap, subst, ◌∙◌, arith, length-append}
+use Rattle.std.proofs.Common.{◌≡◌, ℕ, zero, suc, ◌+◌, ◌-◌, Bool, true, false, cond, ◌&&◌, List, [], ◌∷◌, ◌++◌, length, drop, Option, Some, None, Ok, nat_eq, refl, sym, ap, subst, ◌∙◌, arith, length-append}
 use Rattle.std.specs.Cmp.Lexicographic.{pointwise}
 use Rattle.std.proofs.lemmas.Bool.Decides.{nat_tests}
 use Rattle.std.proofs.lemmas.List.{append_assoc}
@@ -12,10 +12,10 @@ use Rattle.gts_record.specs.Record.{Record, record_text}
 use Rattle.gts_record.specs.Format.{magic, seal, sealed, sealed_at, first_seal, record_size, written}
 use Rattle.gts_record.proofs.LawLemmas.{length-sealed, sealed_at-found, sealed_fits}
 use Rattle.gts_opening.specs.Journal.{event_of_record, selected, files_read, file_opens, records_at}
-use Rattle.gts_journal.specs.{entry_at, header_fault, is_checkpoint, selected_bytes}
+use Rattle.gts_journal.specs.{entry_at, is_checkpoint, selected_bytes}
 use Rattle.gts_journal.proofs.LawLemmas.{opens_behind, was_found}
 use Rattle.gts_standby.specs.Feed.{feed_at, feed_behind, feed}
-use Rattle.gts_standby.specs.Taking.{Taken, End, Ends, Parts, stopped, Piece, Sealed, by_piece, compared, compare_all, compare_first, is_checkpoint_fed, seals_at, seals_behind, add_all, begin_first, is_other_first, or_anew, take_records, taken}
+use Rattle.gts_standby.specs.Taking.{Taken, Ends, Parts, stopped, Piece, by_piece, compared, compare_all, compare_first, is_checkpoint_fed, seals_at, seals_behind, add_all, is_other_first, or_anew, taken}
 use Rattle.gts_standby.specs.Following.{own_seals, read_behind, read_begun, read_after, comes_to}
 use Rattle.gts_standby.specs.Beginning.{begun_taken}
 use Rattle.gts_standby.proofs.FeedLemmas.{feed_one, feed_none, seals_one, seals_none, at_entry, IsEnd, IsRecord}
@@ -65,8 +65,8 @@ front_fed d (suc n) m own_file file before s gate index at own bytes y x more ow
         → (r : Record) → entry_at written before own_file gate own ≡ Ok (Some r)
         → records_at written d n own_file (seal written before (record_text r)) (after d s (event_of_record r)) (gate + record_size written r) (drop (record_size written r) own) ≡ Ok y
         → ((j : ℕ) → records_at written d j file (seal written before (record_text r)) (after d s (event_of_record r)) (gate + record_size written r) (drop (record_size written r) bytes) ≡ Ok x
-            → feed_at written n (seal written before (record_text r)) (drop (record_size written r) own) ++ more ≡ feed_at written j (seal written before (record_text r)) (drop (record_size written r) bytes)
-            → GoesTo d y x (compare_all written (behind_own d y) (seals_at written n (seal written before (record_text r)) (drop (record_size written r) own)) (seal written before (record_text r)) (index + 1) (at + (record_size written r - 1)) (feed_at written j (seal written before (record_text r)) (drop (record_size written r) bytes))))
+        → feed_at written n (seal written before (record_text r)) (drop (record_size written r) own) ++ more ≡ feed_at written j (seal written before (record_text r)) (drop (record_size written r) bytes)
+        → GoesTo d y x (compare_all written (behind_own d y) (seals_at written n (seal written before (record_text r)) (drop (record_size written r) own)) (seal written before (record_text r)) (index + 1) (at + (record_size written r - 1)) (feed_at written j (seal written before (record_text r)) (drop (record_size written r) bytes))))
         → GoesTo d y x (compare_all written (behind_own d y) (seals_at written (suc n) before own) before index at (feed_at written k before bytes))
     by_station zero reads is r found own_more so = absurd (cc reads)
     by_station (suc k) reads is r found own_more so =

@@ -1,4 +1,4 @@
-use Rattle.std.proofs.Common.{◌≡◌, ◌-◌, ◌<◌, ◌^◌, ℕ, List, length, take, sym, ap, subst, ◌∙◌, arith}
+use Rattle.std.proofs.Common.{◌≡◌, ◌-◌, ◌<◌, ◌^◌, ℕ, List, take, sym, ap, subst, ◌∙◌, arith}
 use Rattle.gts_event.specs.Items.{need_of}
 use Rattle.gts_record.specs.declared.version.Version.{Version}
 use Rattle.gts_record.specs.Format.{held, seal_size, written}
