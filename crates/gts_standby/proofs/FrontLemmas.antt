@@ -17,7 +17,7 @@ use Rattle.gts_record.specs.Record.{Record, record_text}
 use Rattle.gts_record.specs.Format.{magic, seal, seal_size, is_sealed, sealed_at, first_seal, record_size, written}
 use Rattle.gts_opening.specs.Journal.{Read, agreeing, admits, event_of_record, record_behind, checkpoint_text, compacted_bytes, need_in, admits_checkpoint, selected, files_read, records_at}
 use Rattle.gts_opening.proofs.LawLemmas.{magic_size}
-use Rattle.gts_journal.specs.{InHand, entry_at, is_checkpoint, selected_bytes}
+use Rattle.gts_journal.specs.{entry_at, is_checkpoint, selected_bytes}
 use Rattle.gts_journal.proofs.LawLemmas.{opens_behind, reads_end_there, reads_fault}
 use Rattle.gts_standby.specs.Ahead.{InFeed}
 use Rattle.gts_standby.specs.Taking.{Taken, Ends, Breaks, Parts, stopped, adding, Piece, Cut, Broken, Sealed, may_be_cut, record_piece, Reached, Short, Bad, Behind, or_else, number_at, reach, reach_found, least_bulletin, bulletin_size, behind_bulletin, circuit_size, behind_circuit, and_then, behind_all, least_front, behind_counted, behind_lists, behind_checkpoint, checkpoint_piece, is_checkpoint_fed, first_piece, seals_at, checkpoint_seals, seals_behind, by_piece, compared, compare_all, add_all, begin_with, begin_first, is_behind, is_further, is_other_first, or_anew, End, take_records, taken}

@@ -1,16 +1,18 @@
 -- Whether a journal may begin anew with the checkpoint of a feed.
-use Rattle.std.proofs.Common.{◌≡◌, ℕ, ◌-◌, ◌^◌, ◌<◌, ◌≤◌, ◌++◌, Bool, true, false, List, [], length, take, Option, Some, None, refl, sym, ap, subst, ◌∙◌}
-use Rattle.std.specs.Prelude.{not}
+use Rattle.std.proofs.Common.{◌≡◌, ℕ, Bool, false, List, [], ◌∷◌, Some, None, refl, sym, ap, subst, ◌∙◌}
+use Rattle.std.specs.Prelude.{not, ◌||◌, map, nat_lt, zip}
+use Rattle.std.specs.List.{list_any}
+use Rattle.gts_event.specs.declared.values.CircuitNeed.{CircuitNeed}
+use Rattle.gts_event.specs.Items.{circuit_need_of}
 use Rattle.gts_directory.specs.Directory.{Directory}
 use Rattle.gts_event.specs.State.{State}
 use Rattle.gts_event.specs.Need.{Need, need}
-use Rattle.gts_record.specs.Format.{first_seal, seal_size, written}
+use Rattle.gts_record.specs.Format.{first_seal, written}
 use Rattle.gts_opening.specs.Journal.{need_in}
-use Rattle.gts_checkpoint.specs.{IsCheckpoint}
 use Rattle.gts_standby.specs.declared.end.FollowEnd.{FollowEnd}
 use Rattle.gts_standby.specs.declared.end.FollowEnd.TheVariants.{Done, Open, Feed, Diverged, SourceFault, DiskFault, NoMemory}
 use Rattle.gts_standby.specs.Ahead.{InFeed}
-use Rattle.gts_standby.specs.Taking.{Taken, End, Breaks, Parts, stopped, Piece, Cut, Broken, Sealed, by_piece, checkpoint_piece, begin_with, is_behind, is_further}
+use Rattle.gts_standby.specs.Taking.{Taken, Breaks, Parts, stopped, Piece, Cut, Broken, Sealed, by_piece, checkpoint_piece, begin_with, is_behind, is_further}
 use Rattle.gts_standby.specs.Following.{EndsAs}
 use Rattle.gts_standby.specs.Reading.{HasRead, StopsAs}
 use Rattle.gts_standby.specs.Beginning.{begun_taken}
@@ -64,3 +66,12 @@ pub some_further : (d : Directory) (s : State) (fed : List ℕ) (ahead : InFeed)
     → HasRead fed ahead left → FindsFurther (not behind) d s fed ahead left
 some_further d s fed ahead left n own behind begins own_is is read =
     (ap not (is ∙ ap (is_behind n) own_is) ∙ sym (ap (further_by d s) begins), λ _. read)
+
+-- ---- on a circuit
+
+-- of what is needed of each circuit the draws alone are compared
+pub fewer_seen : (fed own : List CircuitNeed) → list_any (λ pair. nat_lt pair.0.draws pair.1.draws) (zip fed own)
+    ≡ list_any (λ pair. nat_lt pair.0.draws pair.1.draws) (zip (map circuit_need_of fed) (map circuit_need_of own))
+fewer_seen [] own = refl
+fewer_seen (one ∷ fed) [] = refl
+fewer_seen (one ∷ fed) (other ∷ own) = ap (λ (b : Bool). nat_lt one.draws other.draws || b) (fewer_seen fed own)

@@ -202,4 +202,4 @@ front_leads d own files s used last fed more part size limit none opened plain s
         ap (λ (y : State × ℕ × List ℕ). taken written d y.0 (y.1 - 1) y.2 (own_seals d (selected_bytes own)) (fed ++ more)) same
         ∙ ap (λ (l : List (List ℕ)). taken written d (empty d) 40 first l (fed ++ more)) none
         ∙ ap (taken written d (empty d) 40 first []) (sym sent) in
-        leads_by d s part whole (front_adds d own fed more part whole size limit here there) (ap (λ (t : Taken). after_records d (empty d) t.records) whole_is ∙ sym (read_state d (empty d, 41, first) _) ∙ ap (λ (y : State × ℕ × List ℕ). y.0) all.1)
+        leads_by d s part whole (front_adds d own fed more part whole size limit here there) (ap (λ (t : Taken). after_records d (empty d) t.records) whole_is ∙ sym (read_state d (empty d, 41, first) (taken written d (empty d) 40 first [] (feed written d.mark (selected_bytes files))).records) ∙ ap (λ (y : State × ℕ × List ℕ). y.0) all.1)

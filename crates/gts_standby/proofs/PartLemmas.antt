@@ -1,5 +1,5 @@
 -- What the whole feed of a station's journal comes to beside a standby that has a first part of it.
-use Rattle.std.proofs.Common.{◌≡◌, ℕ, zero, suc, ◌+◌, ◌-◌, ◌^◌, ◌<◌, ◌≤◌, Bool, true, false, cond, ◌&&◌, List, [], ◌∷◌, ◌++◌, length, take, drop, Option, Some, None, Result, Ok, Err, nat_eq, refl, sym, ap, subst, ◌∙◌, arith, length-append}
+use Rattle.std.proofs.Common.{◌≡◌, ℕ, zero, suc, ◌+◌, ◌-◌, Bool, true, false, cond, ◌&&◌, List, [], ◌∷◌, ◌++◌, length, drop, Option, Some, None, Ok, nat_eq, refl, sym, ap, subst, ◌∙◌, arith, length-append}
 use Rattle.std.specs.Cmp.Lexicographic.{pointwise}
 use Rattle.std.proofs.lemmas.Bool.Decides.{nat_tests}
 use Rattle.std.proofs.lemmas.List.{append_assoc}
@@ -12,10 +12,10 @@ use Rattle.gts_record.specs.Record.{Record, record_text}
 use Rattle.gts_record.specs.Format.{magic, seal, sealed, sealed_at, first_seal, record_size, written}
 use Rattle.gts_record.proofs.LawLemmas.{length-sealed, sealed_at-found, sealed_fits}
 use Rattle.gts_opening.specs.Journal.{event_of_record, selected, files_read, file_opens, records_at}
-use Rattle.gts_journal.specs.{entry_at, header_fault, is_checkpoint, selected_bytes}
+use Rattle.gts_journal.specs.{entry_at, is_checkpoint, selected_bytes}
 use Rattle.gts_journal.proofs.LawLemmas.{opens_behind, was_found}
 use Rattle.gts_standby.specs.Feed.{feed_at, feed_behind, feed}
-use Rattle.gts_standby.specs.Taking.{Taken, End, Ends, Parts, stopped, Piece, Sealed, by_piece, compared, compare_all, compare_first, is_checkpoint_fed, seals_at, seals_behind, add_all, begin_first, is_other_first, or_anew, take_records, taken}
+use Rattle.gts_standby.specs.Taking.{Taken, Ends, Parts, stopped, Piece, by_piece, compared, compare_all, compare_first, is_checkpoint_fed, seals_at, seals_behind, add_all, is_other_first, or_anew, taken}
 use Rattle.gts_standby.specs.Following.{own_seals, read_behind, read_begun, read_after, comes_to}
 use Rattle.gts_standby.specs.Beginning.{begun_taken}
 use Rattle.gts_standby.proofs.FeedLemmas.{feed_one, feed_none, seals_one, seals_none, at_entry, IsEnd, IsRecord}
@@ -56,15 +56,20 @@ front_fed d (suc n) m own_file file before s gate index at own bytes y x more ow
       let comes = records_fed d m file (length sent) before s gate at bytes x reads (omega arith) in
       subst (λ (t : Taken). GoesTo d y x t) (sym all)
       (subst (λ (z : State × ℕ × List ℕ). Comes d z x (add_all written d (length sent) before s gate at sent)) (sym same) comes, no_begin d (length sent) before s gate at sent)
-  | IsRecord r found own_more ↦ by_station m reads is r found own_more
+  | IsRecord r found own_more ↦
+      by_station m reads is r found own_more
+      (λ k more_read rest_is. front_fed d n k own_file file (seal written before (record_text r)) (after d s (event_of_record r)) (gate + record_size written r) (index + 1) (at + (record_size written r - 1)) (drop (record_size written r) own) (drop (record_size written r) bytes) y x more own_more more_read rest_is)
 ]
   where
     by_station : (k : ℕ) → records_at written d k file before s gate bytes ≡ Ok x → feed_at written (suc n) before own ++ more ≡ feed_at written k before bytes
         → (r : Record) → entry_at written before own_file gate own ≡ Ok (Some r)
         → records_at written d n own_file (seal written before (record_text r)) (after d s (event_of_record r)) (gate + record_size written r) (drop (record_size written r) own) ≡ Ok y
+        → ((j : ℕ) → records_at written d j file (seal written before (record_text r)) (after d s (event_of_record r)) (gate + record_size written r) (drop (record_size written r) bytes) ≡ Ok x
+        → feed_at written n (seal written before (record_text r)) (drop (record_size written r) own) ++ more ≡ feed_at written j (seal written before (record_text r)) (drop (record_size written r) bytes)
+        → GoesTo d y x (compare_all written (behind_own d y) (seals_at written n (seal written before (record_text r)) (drop (record_size written r) own)) (seal written before (record_text r)) (index + 1) (at + (record_size written r - 1)) (feed_at written j (seal written before (record_text r)) (drop (record_size written r) bytes))))
         → GoesTo d y x (compare_all written (behind_own d y) (seals_at written (suc n) before own) before index at (feed_at written k before bytes))
-    by_station zero reads is r found own_more = absurd (cc reads)
-    by_station (suc k) reads is r found own_more =
+    by_station zero reads is r found own_more so = absurd (cc reads)
+    by_station (suc k) reads is r found own_more so =
         let text : List ℕ = sealed written before (record_text r) in
         let last : List ℕ = seal written before (record_text r) in
         let own_rest : List ℕ = feed_at written n last (drop (record_size written r) own) in
@@ -88,7 +93,7 @@ front_fed d (suc n) m own_file file before s gate index at own bytes y x more ow
               let same : q ≡ r = (let both : Some q ≡ Some r = sym also ∙ here in cc both) in
               by_record r found own_more begins here wide (subst (λ (z : Record). records_at written d k file (seal written before (record_text z)) (after d s (event_of_record z)) (gate + record_size written z) (drop (record_size written z) bytes) ≡ Ok x) same station_more)
               (subst (λ (z : Record). feed_at written (suc k) before bytes ≡ sealed written before (record_text z) ++ feed_at written k (seal written before (record_text z)) (drop (record_size written z) bytes)) same one)
-              (λ q_more rest_is. front_fed d n k own_file file last (after d s (event_of_record r)) (gate + record_size written r) (index + 1) (at + (record_size written r - 1)) (drop (record_size written r) own) (drop (record_size written r) bytes) y x more own_more q_more rest_is)
+              (so k)
         ]
       where
         by_record : (r : Record) → entry_at written before own_file gate own ≡ Ok (Some r)

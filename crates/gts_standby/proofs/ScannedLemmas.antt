@@ -1,5 +1,5 @@
 -- The checkpoint of a need is found by its lengths, at the front of whatever stands behind it.
-use Rattle.std.proofs.Common.{◌≡◌, ℕ, suc, ◌+◌, ◌*◌, ◌^◌, ◌<◌, ◌≤◌, Bool, true, false, cond, ◌&&◌, List, [], ◌∷◌, ◌++◌, length, take, drop, replicate, Option, Some, None, nat_le, nat_lt, refl, sym, ap, ◌∙◌, arith, length-append}
+use Rattle.std.proofs.Common.{◌≡◌, ℕ, ◌+◌, ◌*◌, ◌^◌, ◌<◌, ◌≤◌, Bool, true, cond, List, [], ◌∷◌, ◌++◌, length, take, drop, replicate, Some, None, nat_le, sym, ap, ◌∙◌, arith, length-append}
 use Rattle.std.specs.List.{flat_map, list_all, AllByRecursion}
 use Rattle.std.proofs.lemmas.Bool.{and_parts, le-leb, leb-true}
 use Rattle.std.proofs.lemmas.List.{append_assoc, drop-drop}
@@ -12,9 +12,9 @@ use Rattle.gts_event.specs.State.{Bulletin}
 use Rattle.gts_event.specs.Need.{Need, CircuitNeed, is_bulletin}
 use Rattle.gts_record.specs.Record.{bytes_of, number_in}
 use Rattle.gts_record.proofs.LawLemmas.{number_in-bytes_of}
-use Rattle.gts_opening.specs.Journal.{bulletin_text, circuit_text, checkpoint_text, FitsBulletin, FitsCircuit, FitsNeed}
+use Rattle.gts_opening.specs.Journal.{bulletin_text, circuit_text, checkpoint_text, FitsCircuit, FitsNeed}
 use Rattle.gts_opening.proofs.CheckpointLemmas.{length-numbers}
-use Rattle.gts_standby.specs.Taking.{Reached, Behind, or_else, number_at, reach, reach_found, least_bulletin, bulletin_size, behind_bulletin, circuit_size, behind_circuit, and_then, behind_all, least_front, behind_counted, behind_lists, behind_checkpoint}
+use Rattle.gts_standby.specs.Taking.{Reached, Behind, reach, reach_found, least_bulletin, bulletin_size, behind_bulletin, circuit_size, behind_circuit, and_then, behind_all, behind_counted, behind_checkpoint}
 use Rattle.gts_standby.proofs.ScanLemmas.{reach_on}
 
 -- ---- a bulletin

@@ -1,5 +1,5 @@
 -- What the whole feed of a station's journal comes to, whatever it begins with.
-use Rattle.std.proofs.Common.{◌≡◌, ℕ, suc, ◌+◌, ◌-◌, ◌^◌, ◌<◌, ◌≤◌, Bool, true, false, cond, ◌&&◌, List, [], ◌∷◌, ◌++◌, length, take, drop, Option, Some, None, Result, Ok, Err, nat_eq, nat_le, refl, sym, ap, subst, ◌∙◌, arith, length-append}
+use Rattle.std.proofs.Common.{◌≡◌, ℕ, ◌+◌, ◌*◌, ◌-◌, ◌^◌, ◌<◌, ◌≤◌, Bool, true, false, cond, ◌&&◌, List, [], ◌∷◌, ◌++◌, length, take, drop, Option, Some, None, Ok, Err, nat_eq, nat_le, refl, sym, ap, subst, ◌∙◌, arith, length-append}
 use Rattle.std.specs.Prelude.{not}
 use Rattle.std.specs.List.{starts_with, list_all}
 use Rattle.std.specs.Cmp.Lexicographic.{pointwise}
@@ -11,28 +11,25 @@ use Rattle.gts_directory.specs.Directory.{Directory}
 use Rattle.gts_event.specs.State.{State, empty}
 use Rattle.gts_event.specs.Need.{Need, need, begun, is_sound, is_bulletin}
 use Rattle.gts_record.specs.declared.fault.OpenFault.TheVariants.{Damaged}
-use Rattle.gts_record.specs.Record.{number_in}
 use Rattle.gts_record.specs.Format.{magic, seal, seal_size, sealed, is_sealed, first_seal, draw_size, written}
-use Rattle.gts_record.proofs.LawLemmas.{length-sealed, length-seal}
+use Rattle.gts_record.proofs.LawLemmas.{length-sealed}
 use Rattle.gts_opening.specs.Journal.{Read, due, need_in, unowed, checkpoint_text, compacted_bytes, admits_checkpoint, selected, files_read, file_opens, records_at}
 use Rattle.gts_opening.proofs.CheckpointLemmas.{need_in-text}
 use Rattle.gts_opening.proofs.FileLemmas.{fits-sound}
 use Rattle.gts_opening.proofs.LawLemmas.{magic_size}
 use Rattle.gts_checkpoint.specs.{IsCheckpoint}
-use Rattle.gts_checkpoint.proofs.LawLemmas.{starts_front}
 use Rattle.gts_journal.specs.{is_checkpoint, selected_bytes, header_fault}
 use Rattle.gts_journal.proofs.LawLemmas.{opens_behind}
-use Rattle.gts_standby.specs.Feed.{feed_at, feed_behind, checkpoint_feed, feed}
+use Rattle.gts_standby.specs.Feed.{feed_at, feed_behind, feed}
 use Rattle.gts_standby.specs.Ahead.{InFeed}
-use Rattle.gts_standby.specs.Taking.{Taken, Ends, Sealed, Piece, by_piece, behind_checkpoint, checkpoint_piece, is_checkpoint_fed, begin_with, begin_first, add_all, take_records, taken, End, Parts, stopped, compared, compare_all, compare_first, is_behind, is_further, or_anew}
+use Rattle.gts_standby.specs.Taking.{Taken, Ends, Sealed, Piece, by_piece, behind_checkpoint, checkpoint_piece, is_checkpoint_fed, begin_with, begin_first, add_all, take_records, taken, Parts, stopped, compared, compare_all, compare_first, is_behind, is_further, or_anew}
 use Rattle.gts_standby.specs.Following.{own_seals, read_behind, read_begun, read_after, comes_to}
 use Rattle.gts_standby.proofs.FirstLemmas.{starts}
 use Rattle.gts_standby.proofs.HeaderLemmas.{header_on}
 use Rattle.gts_standby.proofs.ScanLemmas.{sealed_piece}
 use Rattle.gts_standby.proofs.ScannedLemmas.{scan_text, short_bodies}
-use Rattle.gts_standby.proofs.PutLemmas.{begins_so, behind_it}
+use Rattle.gts_standby.proofs.PutLemmas.{begins_so}
 use Rattle.gts_standby.proofs.TakeLemmas.{sound_header}
-use Rattle.gts_standby.proofs.AddLemmas.{no_begin}
 use Rattle.gts_standby.proofs.FrontLemmas.{records_by, come_by, unread_there, first_by, further_by}
 use Rattle.gts_standby.proofs.HistoryLemmas.{Comes, records_fed, drop_text, agreeing_all, header_is, feed_comes, plain_begins}
 
@@ -230,9 +227,12 @@ whole_comes d own files read fed whole size limit none opened sent here = by_rea
     by_letter true packed =
         let letter = packed_begins d (selected files) bytes read size limit opened packed in
         let brings = anew_comes d (selected files) bytes read size limit opened packed in
-        let is =
+        let n : Need = need_in (drop 41 bytes) in
+        let fed_seal : List ℕ = seal written begin (checkpoint_text n) in
+        let records : List ℕ = sealed written begin (checkpoint_text n) ++ feed_at written (length bytes) fed_seal (drop (compacted_bytes written n - 1) bytes) in
+        let is : taken written d (empty d) 40 begin [] (feed written d.mark bytes) ≡ begin_first written d begin records =
         ap (taken written d (empty d) 40 begin []) (packed_feed d (selected files) bytes read size limit opened packed)
-        ∙ behind_header d (empty d) 40 begin [] _ size ∙ ap (records_by d (empty d) 40 begin _) letter.0 in
+        ∙ behind_header d (empty d) 40 begin [] records size ∙ ap (records_by d (empty d) 40 begin records) letter.0 in
         subst Brings (sym is) (brings.0, brings.1 (empty d, 41, begin))
     by_letter false plain =
         let all = feed_comes d (selected files) bytes read size opened plain in

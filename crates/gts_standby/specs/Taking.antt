@@ -252,7 +252,7 @@ abbrev pub is_further : Directory → State → Taken → Bool
 is_further d s anew = elim anew.begins [ None ↦ false | Some n ↦ not (is_behind n (need d s)) ]
 
 -- record 0 is another one
-pub is_other_first : End → Bool
+abbrev pub is_other_first : End → Bool
 is_other_first (Parts zero own fed) = true
 is_other_first (Parts (suc index) own fed) = false
 is_other_first Ends = false

@@ -1,5 +1,5 @@
 -- What it is that a whole feed is taken into a journal that opens.
-use Rattle.std.specs.Prelude.{◌≡◌, ℕ, Bool, true, List, [], Result, Ok, Err}
+use Rattle.std.specs.Prelude.{◌≡◌, ℕ, ◌+◌, Bool, true, List, [], Result, Ok, Err}
 use Rattle.gts_traits.specs.{Call}
 use Rattle.gts_directory.specs.Directory.{Directory}
 use Rattle.gts_event.specs.State.{State}

@@ -9,8 +9,8 @@ returns-in-Ok-false-clause-taken g c = λ tells told s fed h first read.
     plain_taken c.add_all.result c.args.directory.now s c.args.journal fed _ _ _ (sym c.in-Ok-false.field-0-test ∙ here.0) c.add_all.ensures.kind
     (c.add_all.ensures.added tells told s fed (length fed) h here.1 (omega arith))
 
-pub returns-clause-taken : goal.returns-clause-taken
-returns-clause-taken g c = λ tells told s fed h first read.
+pub returns-in-Err-clause-taken : goal.returns-in-Err-clause-taken
+returns-in-Err-clause-taken g c = λ tells told s fed h first read.
     unread_taken c.args.directory.now s _ _ c.args.journal _ _ (h.stands tells) (inr (inl refl)) c.in-Err.end c.in-Err.ensures.kind
 
 pub returns-in-Ok-true-clause-taken : goal.returns-in-Ok-true-clause-taken
@@ -22,8 +22,8 @@ returns-in-Ok-true-clause-taken g c = λ tells told s fed h first read.
 pub returns-in-Ok-false-clause-whole : goal.returns-in-Ok-false-clause-whole
 returns-in-Ok-false-clause-whole g c = λ told w. c.add_all.ensures.whole told (c.in-Ok-false.ensures.first told _ (whole_read c.args.ahead.now _ w)).1.all
 
-pub returns-clause-whole : goal.returns-clause-whole
-returns-clause-whole g c = λ told w. read_all c.in-Err.end _ c.in-Err.ensures.kind
+pub returns-in-Err-clause-whole : goal.returns-in-Err-clause-whole
+returns-in-Err-clause-whole g c = λ told w. read_all c.in-Err.end _ c.in-Err.ensures.kind
 
 pub returns-in-Ok-true-clause-whole : goal.returns-in-Ok-true-clause-whole
 returns-in-Ok-true-clause-whole g c = λ told w. c.take_checkpoint.ensures.whole told (c.in-Ok-true.ensures.first told _ (whole_read c.args.ahead.now _ w)).1.all

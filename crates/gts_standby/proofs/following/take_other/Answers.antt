@@ -16,8 +16,8 @@ returns-in-Ok-false-clause-taken g c = λ tells told s fed end h read is.
     let found = c.in-Ok-false.ensures.further told s fed h.kept.holds read in
     behind_taken_over c.args.compared c.args.directory.now s fed end _ c.args.journal _ (h.stands tells) c.requires.other is (sym c.in-Ok-false.field-0-test ∙ found.0)
 
-pub returns-clause-taken : goal.returns-clause-taken
-returns-clause-taken g c = λ tells told s fed end h read is.
+pub returns-in-Err-clause-taken : goal.returns-in-Err-clause-taken
+returns-in-Err-clause-taken g c = λ tells told s fed end h read is.
     unread_taken c.args.directory.now s _ _ c.args.journal _ _ (h.stands tells) (inr (inl refl)) c.in-Err.end c.in-Err.ensures.kind
 
 pub returns-in-Ok-true-clause-whole : goal.returns-in-Ok-true-clause-whole
@@ -28,8 +28,8 @@ returns-in-Ok-true-clause-whole g c = λ told w.
 pub returns-in-Ok-false-clause-whole : goal.returns-in-Ok-false-clause-whole
 returns-in-Ok-false-clause-whole g c = λ told w. other_all c.args.compared _ c.requires.other
 
-pub returns-clause-whole : goal.returns-clause-whole
-returns-clause-whole g c = λ told w. read_all c.in-Err.end _ c.in-Err.ensures.kind
+pub returns-in-Err-clause-whole : goal.returns-in-Err-clause-whole
+returns-in-Err-clause-whole g c = λ told w. read_all c.in-Err.end _ c.in-Err.ensures.kind
 
 pub returns-in-Ok-true-clause-named : goal.returns-in-Ok-true-clause-named
 returns-in-Ok-true-clause-named g c = named_added c.take_checkpoint.result c.take_checkpoint.ensures.kind
@@ -37,5 +37,5 @@ returns-in-Ok-true-clause-named g c = named_added c.take_checkpoint.result c.tak
 pub returns-in-Ok-false-clause-named : goal.returns-in-Ok-false-clause-named
 returns-in-Ok-false-clause-named g c = named_other c.args.compared c.requires.other
 
-pub returns-clause-named : goal.returns-clause-named
-returns-clause-named g c = named_read c.in-Err.end c.in-Err.ensures.kind
+pub returns-in-Err-clause-named : goal.returns-in-Err-clause-named
+returns-in-Err-clause-named g c = named_read c.in-Err.end c.in-Err.ensures.kind

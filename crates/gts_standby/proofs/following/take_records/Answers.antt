@@ -46,8 +46,8 @@ returns-then-not-is_other-clause-taken g c = λ tells told s fed h read.
 pub take_other-requires-clause-opened : goal.take_other-requires-clause-opened
 take_other-requires-clause-opened g c = opened_kept _ c.args.directory.now _ _ c.args.core c.args.journal (λ tell. c.compare.ensures.told tell) c.requires
 
-pub returns-clause-taken : goal.returns-clause-taken
-returns-clause-taken g c = λ tells told s fed h read.
+pub returns-else-not-is_other-clause-taken : goal.returns-else-not-is_other-clause-taken
+returns-else-not-is_other-clause-taken g c = λ tells told s fed h read.
     let d = c.args.directory.now in
     let j = c.args.journal in
     let f = h.stands tells in
@@ -68,8 +68,8 @@ returns-in-Ok-clause-whole g c = λ told w. c.add_all.ensures.whole told (c.in-O
 pub returns-then-not-is_other-clause-whole : goal.returns-then-not-is_other-clause-whole
 returns-then-not-is_other-clause-whole g c = λ told w. c.in-Err.ensures.whole told w
 
-pub returns-clause-whole : goal.returns-clause-whole
-returns-clause-whole g c = λ told w.
+pub returns-else-not-is_other-clause-whole : goal.returns-else-not-is_other-clause-whole
+returns-else-not-is_other-clause-whole g c = λ told w.
     let other : is_other c.in-Err.end ≡ true = search rules in
     c.take_other.ensures.whole told (c.in-Err.ensures.kept told _ (whole_read c.args.ahead.now _ w) other).all
 

@@ -1,4 +1,4 @@
-use Rattle.std.proofs.Common.{refl, sym, ap, ◌∙◌}
+use Rattle.std.proofs.Common.{ap}
 use Rattle.gts_record.specs.Format.{first_seal, written}
 use Rattle.gts_journal.specs.{selected_bytes}
 use Rattle.gts_standby.specs.Taking.{seals_behind}

@@ -1,0 +1,12 @@
+use Rattle.std.proofs.Common.{rules, tests, ◌∙◌}
+use Rattle.std.specs.Prelude.{nat_lt}
+use Rattle.std.proofs.lemmas.Iterator.{YieldsList-from_slice, YieldsList-from_zip}
+use Rattle.std.proofs.lemmas.Iterator.Search.{any_from_yields_List}
+use Rattle.gts_standby.proofs.FurtherLemmas.{fewer_seen}
+use Rattle.gts_standby.proofs.further.drew_fewer.Goals as goal
+
+pub returns : goal.returns
+returns c =
+    any_from_yields_List (λ pair. nat_lt pair.0.draws pair.1.draws) c.any.new.self _ c.any.result c.any.ensures.ran
+    (YieldsList-from_zip (YieldsList-from_slice c.args.fed.now cc) (YieldsList-from_slice c.args.own.now cc)) (λ x b q k. search (rules, tests))
+    ∙ fewer_seen c.args.fed.now c.args.own.now
