@@ -190,6 +190,8 @@ module _ {S P : Type 0} (source : SourceMeanings S) (w : StationMeanings P) (od 
         let free : full_compacted e.directory (begun k.n) ≡ None = subst (λ (x : Result (Unit {0}) SwitchFault). GivesRoom x e.directory (begun k.n)) ok (room (begun k.n) (going k) (holds k)) in
         record {
           other = λ same. rewritten.other (same ∙ ap (λ (calls : List Call). selected (seen calls)) (sym k.synced));
+          stays = subst (λ (calls : List Call). seen (w.calls new.station) (selected (seen calls)) ≡ seen calls (selected (seen calls)))
+              k.synced rewritten.stays;
           text = rewritten.text ∙ ap (λ (m : Need). checkpoint_file e.directory.mark m) k.same;
           used = subst (λ (d : directories.Directory). OpensWith d (seen (w.calls new.station)) (compacted_size k.n)) compaction.directory
               (subst (λ (used : ℕ). OpensWith new.directory (seen (w.calls new.station)) used) (rewritten.size ∙ ap compacted_size k.same) (files k.told goes));

@@ -32,9 +32,11 @@ Over source station directory old OfIt =
 abbrev pub StaysThere : directories.Directory → Need → (old new : List Call) → Type 0
 StaysThere d n old new = EachSince (Did Syncs ∷ old) new (OpensAsBefore d (begun n))
 
--- The other file is selected. It is the checkpoint of what the files opened to, and nothing more, and has so many bytes in use.
+-- The other file is selected, and the one before stays as it is. The other one is the checkpoint of what the files opened to, and
+-- nothing more, and has so many bytes in use.
 pub record IsCompacted (d : directories.Directory) (n : Need) (old new : List Call) : Type 0 where
   pub other : selected (seen new) ≢ selected (seen old)
+  pub stays : seen new (selected (seen old)) ≡ seen old (selected (seen old))
   pub text : seen new (selected (seen new)) ≡ checkpoint_file d.mark n
   pub used : OpensWith d (seen new) (compacted_size n)
   pub room : full_compacted d (begun n) ≡ None

@@ -126,6 +126,12 @@ module _ (tells : Type 0) (d : Directory) (old : List Call) (core : Core) (j : I
           pub apart : selected (seen new) ≢ selected (seen old)
           apart e = not_other (sym stood.stands.selected_is ∙ sym e ∙ chosen)
 
+          -- the file that was selected before is left alone
+          pub left : seen new (selected (seen old)) ≡ seen old (selected (seen old))
+          left =
+              ap (seen new) stood.stands.selected_is ∙ files j.file (λ e. omega (arith, e, low)) ∙ beside.seen j.file not_other
+              ∙ sym (ap (seen old) stood.stands.selected_is)
+
           pub goes_for : StandsFor d (unowed_state (begun n)) new place
           goes_for =
               let room : compacted_bytes written n + draw_size written * due (begun n) ≤ d.limit = has_room n_is free in

@@ -25,7 +25,7 @@ use Rattle.gts_engine.specs.Engine.{engine_of}
 use Rattle.gts_engine.specs.Going.{IsGoing, stopped_after}
 use Rattle.gts_engine.specs.Parts.{IsSound}
 use Rattle.gts_engine.specs.Compacting.{IsCompaction, IsRewritten, IsBehind, StaysAt, IsWriteFault}
-use Rattle.gts_engine.proofs.CompactLemmas.{sound, writing, stands_still, is_journal, selecting, text, apart, goes_for, goes_on_compacted}
+use Rattle.gts_engine.proofs.CompactLemmas.{sound, writing, stands_still, is_journal, selecting, text, apart, left, goes_for, goes_on_compacted}
 use Rattle.gts_engine.proofs.CompactingLemmas.{compacted_so, left_so, memory_so}
 use Rattle.gts_engine.proofs.StepLemmas.{stopped_sound}
 
@@ -132,6 +132,8 @@ module _ {P : Type 0} (tells : Type 0) (calls : P → List Call) (p : Parts P) (
               let is : n ≡ need p.directory s = needs p.directory s holds in
               record {
                 other = apart tells p.directory (calls p.station) p.core p.journal g n n_is low tell (calls q.station) (besides tell) (has_written tell) mark_long (free g.state g.holds) (calls r.station) r.journal used used_is last seal_is at
+                    (stands tell) (files tell);
+                stays = left tells p.directory (calls p.station) p.core p.journal g n n_is low tell (calls q.station) (besides tell) (has_written tell) mark_long (free g.state g.holds) (calls r.station) r.journal used used_is last seal_is at
                     (stands tell) (files tell);
                 text = text tells p.directory (calls p.station) p.core p.journal g n n_is low tell (calls q.station) (besides tell) (has_written tell) mark_long (free g.state g.holds) (calls r.station) r.journal used used_is last seal_is at
                     (stands tell) (files tell) ∙ ap (checkpoint_file p.directory.mark) is;

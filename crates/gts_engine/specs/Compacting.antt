@@ -34,9 +34,11 @@ pub record IsCompaction {P : Type 0} (tells : Type 0) (calls : P → List Call)
   pub failed : result ≡ Err DiskFault → (mode : SayMode) (o : Origin) (h : List Entry) → Keeps tells mode o h (shown calls old)
       → IsLeft tells mode o h (shown calls new)
 
--- The other file is selected. It is the checkpoint of the need alone, and all of it is in use.
+-- The other file is selected, and the one before stays as it is. The other one is the checkpoint of the need alone, and all of it
+-- is in use.
 pub record IsRewritten (d : Directory) (s : State) (old new : List Call) (used : ℕ) : Type 0 where
   pub other : selected (seen new) ≢ selected (seen old)
+  pub stays : seen new (selected (seen old)) ≡ seen old (selected (seen old))
   pub text : seen new (selected (seen new)) ≡ checkpoint_file d.mark (need d s)
   pub size : used ≡ compacted_size (need d s)
 
