@@ -2,7 +2,6 @@ use Rattle.std.proofs.Common.{length, sym, ◌∙◌, arith}
 use Rattle.std.proofs.lemmas.Result.{err_from_is_err_and}
 use Rattle.gts_recovery.specs.Wider.{widened}
 use Rattle.gts_recovery.proofs.LawLemmas.{due_counted as due_waiting}
-use Rattle.gts_migrate.specs.declared.fault.MigrateFault.TheVariants.{Full}
 use Rattle.gts_migrate.proofs.MigratingLemmas.{due-widened}
 use Rattle.gts_migrate.proofs.migrating.check_room.Goals as goal
 
