@@ -51,7 +51,7 @@ reads-entries at file (e ∷ rest) place f =
 
 -- ---- the first byte that no head has there
 
-found_here : (p : ℕ → Bool) (start count k : ℕ) → find p (range_with_len start count) ≡ Some k → p k ≡ true
+pub found_here : (p : ℕ → Bool) (start count k : ℕ) → find p (range_with_len start count) ≡ Some k → p k ≡ true
 found_here p start zero k found = absurd (cc)
 found_here p start (suc count) k found = go (p start) refl (λ later. found_here p (start + 1) count k later)
   where
@@ -59,7 +59,7 @@ found_here p start (suc count) k found = go (p start) refl (λ later. found_here
     go true here later = let same : start ≡ k = (let e = rw here at found in cc) in ap p (sym same) ∙ here
     go false other later = later (rw other at found)
 
-found_first : (p : ℕ → Bool) (start count k j : ℕ) → find p (range_with_len start count) ≡ Some k → start ≤ j → j < k → p j ≡ false
+pub found_first : (p : ℕ → Bool) (start count k j : ℕ) → find p (range_with_len start count) ≡ Some k → start ≤ j → j < k → p j ≡ false
 found_first p start zero k j found low high = absurd (cc)
 found_first p start (suc count) k j found low high = go (p start) refl (cases_lt start j) (λ later more. found_first p (start + 1) count k j later more high)
   where
