@@ -10,6 +10,7 @@ use Rattle.std.proofs.lemmas.List.Sums.{sum_by-cons}
 use Rattle.std.proofs.lemmas.List.Elements.{All-append}
 use Rattle.std.proofs.lemmas.Option.{get_or_from_slice_get, slice_get_within}
 use Rattle.circular_buffer.specs.Buffer.{Buffer, buffer, keep_last}
+use Rattle.gts_directory.specs.declared.limits.TheConstants.{MOST_KEPT, MOST_KEPT_OF_FIVE}
 use Rattle.gts_directory.specs.Directory.{Directory, Circuit}
 use Rattle.gts_event.specs.State.{Bulletin, is_recent}
 use Rattle.gts_event.specs.Need.{is_bulletin}
@@ -34,7 +35,7 @@ row_more {Y} f rows c row ys y at so_far is =
     ∙ sym (map-append f (take c rows) (get_or rows c row ∷ []))
     ∙ ap (map f) (sym (take-suc rows c row (slice_get_within rows c row at)) ∙ ap (λ (k : ℕ). take k rows) next)
 
-pub few_kept : (b : Bool) (n : ℕ) → n ≤ cond b 65536 1000 → n < 2 ^ 32
+pub few_kept : (b : Bool) (n : ℕ) → n ≤ cond b MOST_KEPT_OF_FIVE MOST_KEPT → n < 2 ^ 32
 few_kept true n few = omega (arith, few)
 few_kept false n few = omega (arith, few)
 

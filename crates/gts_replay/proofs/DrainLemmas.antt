@@ -205,7 +205,7 @@ drained_breaks meanings first now later o h c i result fault drained called is =
 -- no circuit has so much to give
 pub drained_few : {O W : Type 0} (meanings : Standing O W) (first now : W) (o : O) (h : List Entry) (c i : ℕ) → StandsFor meanings o h first → Drained meanings first o h c i now → i < 2 ^ 128 - 1
 drained_few meanings first now o h c i start drained =
-    let owed : length (on_circuit (state_at meanings first o h) c).owed ≤ 4096 = few_on (state_at meanings first o h).circuits c (start_on (meanings.directory first) (meanings.begin o) h start.start).few in
+    let owed : length (on_circuit (state_at meanings first o h) c).owed ≤ most_owed = few_on (state_at meanings first o h).circuits c (start_on (meanings.directory first) (meanings.begin o) h start.start).few in
     elim drained.few as (λ _. i < 2 ^ 128 - 1) [
       | inl same ↦ omega (arith, same, owed, drained.counted)
       | inr small ↦ omega (arith, small, owed, drained.counted)
