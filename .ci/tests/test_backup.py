@@ -12,7 +12,7 @@ import time
 from gate import Folder, feed
 from loopback import Neighbour, directory, frame, free_ports
 
-BULLETINS, ROUNDS, SECONDS = 900, 6, 60
+BULLETINS, ROUNDS, SECONDS = 300, 6, 60
 HEADING = b'SMVG01 TVSV 280000'
 
 
