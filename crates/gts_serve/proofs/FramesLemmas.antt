@@ -6,6 +6,7 @@ use Rattle.gts_event.specs.State.{State}
 use Rattle.gts_event.specs.Need.{begun}
 use Rattle.gts_event.specs.History.{outcome, after, after_all}
 use Rattle.gts_event.specs.Said.{line}
+use Rattle.gts_event.specs.Drain.{all_done}
 use Rattle.gts_event.specs.declared.event.Event.TheVariants.{Taken}
 use Rattle.gts_event.specs.declared.event.Entry.{Entry}
 use Rattle.gts_event.specs.declared.event.Entry.TheVariants.{Done, Idle}
