@@ -30,6 +30,13 @@ const COMPACTED: &[u8] =
 \0\0\0\0\0\0\0\0\x01\0\0\0\0\0\0\0\x01\0\0\0\0\0\0\0\0Y!M\xa29\xd3\x89\xd7\xd2\0\x07&;.K\xe9\
 \x1b@\x08\xf48\xf5\xcf\x91\x95ML~\x8e\xd8\x17DC";
 
+/// The feed of the journal that has the checkpoint of the first one before its draw.
+const BEFORE: &[u8] =
+    b"GTSJ0002the mark of this small directoryC\0\0\0\0\0\0\x02\0\0\0\0\0\0\0\x01\0\0\0\x01\0\0\0\
+\0\0\0\0\0\0A\0\0\0\0\0\x1dSMVG01 TVSV 280000\r\r\nNIL=\r\r\n\x03\0\0\0\0\0\0\0\0\0\0\0\0\0\0\0\0\
+\0\0\0\0\0\0\0\0\0\0\0\x01\0\0\0\0\0\0\0\0\0\0\0\0z\xbc\xb07\x1e\xaf\xa7uz1\x04\x22\x1a\x818\xfe\
+\x03\xeb\xad\xf0h^-8\x194[u\x95\xa0$D";
+
 /// What a crash may leave in each place that was touched.
 const CHOICES: [Touched; 5] = [
     Touched::Old,
@@ -245,9 +252,8 @@ fn a_standby_goes_on_behind_a_compaction_whenever_the_machine_stops(
 #[test]
 fn a_checkpoint_that_is_behind_is_of_another_history(rt: HostRuntime) -> Result<(), Fail> {
     let directory = two_circuits(rt.alloc())?;
-    let feed = feed_of_compacted(rt.alloc())?;
     let station = standby(rt.alloc(), BOTH)?;
-    let (station, end) = followed(rt.alloc(), station, &directory, &feed)?;
+    let (station, end) = followed(rt.alloc(), station, &directory, BEFORE)?;
     let is_other = matches!(end, FollowEnd::Diverged { index: 0, .. });
     assert!(rt; is_other);
     assert!(rt; is_same(station.file(0), BOTH) && station.file(1).is_empty());

@@ -2,7 +2,7 @@
 pub use Rattle.std.specs.Cmp.Lexicographic.{pointwise}
 pub use Rattle.gts_traits.specs.{Files}
 pub use Rattle.gts_directory.specs.Directory.{Directory}
-pub use Rattle.gts_event.specs.State.{State, empty}
+pub use Rattle.gts_event.specs.State.{State}
 pub use Rattle.gts_event.specs.Items.{need_of, circuit_need_of}
 pub use Rattle.gts_event.specs.Need.{begun, is_sound}
 pub use Rattle.gts_record.specs.Format.{held, first_seal, written}

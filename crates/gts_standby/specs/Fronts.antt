@@ -6,12 +6,12 @@ use Rattle.gts_directory.specs.Directory.{Directory}
 use Rattle.gts_event.specs.State.{State, empty}
 use Rattle.gts_event.specs.Need.{need}
 use Rattle.gts_record.specs.Record.{Record}
-use Rattle.gts_record.specs.Format.{written}
+use Rattle.gts_record.specs.Format.{first_seal, written}
 use Rattle.gts_opening.specs.Journal.{after_records, need_in, files_read}
 use Rattle.gts_journal.specs.{is_checkpoint, selected_bytes}
 use Rattle.gts_standby.specs.Feed.{feed}
 use Rattle.gts_standby.specs.Taking.{Taken, Ends, is_behind}
-use Rattle.gts_standby.specs.Following.{own_seals, read_after}
+use Rattle.gts_standby.specs.Following.{own_seals, read_after, comes_to}
 
 -- Nothing is added; or the journal begins as with the whole feed, and a first part of its records is added.
 pub data AddsFront (part whole : Taken) : Type 0 where
@@ -48,6 +48,14 @@ pub record BringsTo (d : Directory) (from : State × ℕ × List ℕ) (what : Ta
   pub end : what.end ≡ Ends
   pub reads : read_after d from what ≡ read
 
+-- whatever a feed comes to beside the journal in these files, it brings that from what it reads to on to this
+abbrev pub FeedBrings : Directory → Files → List ℕ → State × ℕ × List ℕ → State × ℕ × List ℕ → Type 0
+FeedBrings d own fed from read = (whole : Taken) → comes_to d own fed ≡ Ok whole → BringsTo d from whole read
+
+-- what a journal without records reads to
+abbrev pub nothing_read : Directory → State × ℕ × List ℕ
+nothing_read d = (empty d, 41, first_seal written d.mark)
+
 -- The journal in the first files reads to this, and has another record 0 than the one in the other files, which begins with a
 -- checkpoint that isn't behind it.
 pub record IsOvertaken (d : Directory) (own files : Files) (from : State × ℕ × List ℕ) : Type 0 where
@@ -56,7 +64,8 @@ pub record IsOvertaken (d : Directory) (own files : Files) (from : State × ℕ 
   pub more : List (List ℕ)
   pub seals : own_seals d (selected_bytes own) ≡ first ∷ more
   pub packed : is_checkpoint (selected_bytes files) ≡ true
-  pub other : (fed : List ℕ) (further : List (List ℕ)) → own_seals d (selected_bytes files) ≡ fed ∷ further → pointwise nat_eq first fed ≡ false
+  pub other : (fed : List ℕ) (further : List (List ℕ)) → own_seals d (selected_bytes files) ≡ fed ∷ further
+      → pointwise nat_eq first fed ≡ false
   pub further : is_behind (need_in (drop 41 (selected_bytes files))) (need d from.0) ≡ false
 
 -- The journal in the first files has records, reads to this, and has this feed; and neither it nor the other one has a checkpoint.

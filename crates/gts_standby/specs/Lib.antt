@@ -15,6 +15,6 @@ pub use Rattle.gts_standby.specs.Feed.{feed}
 pub use Rattle.gts_standby.specs.Shipping.{IsShipFault, IsNamed, ShipsOnly, feed_of}
 pub use Rattle.gts_standby.specs.Taking.{End, Taken, taken}
 pub use Rattle.gts_standby.specs.Whole.{IsNamedEnd}
-pub use Rattle.gts_standby.specs.Following.{comes_to, own_seals, EndsAs, Answers, LeavesAlone, IsEnd, state_after, OpensWithin, EachOpens, read_after, ReadsAllOf, HasAll, LeavesFronts}
-pub use Rattle.gts_standby.specs.Fronts.{AddsFront, HasNoRecord, IsPlainFeed, state_of, LeadsTo, IsFeedOf, BringsTo, IsOvertaken, HasPlainPart}
+pub use Rattle.gts_standby.specs.Following.{comes_to, own_seals, EndsAs, Answers, LeavesAlone, IsEnd, state_after, OpensWithin, EachOpens, read_after, ReadsAllOf, HasAll, AddsAllOf, LeavesFronts}
+pub use Rattle.gts_standby.specs.Fronts.{AddsFront, HasNoRecord, IsPlainFeed, state_of, LeadsTo, IsFeedOf, BringsTo, FeedBrings, nothing_read, IsOvertaken, HasPlainPart}
 pub use Rattle.gts_standby.specs.Counts.{KeepsAllCounts}

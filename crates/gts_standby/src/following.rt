@@ -1,7 +1,7 @@
 ghost use Rattle.std.specs.Prelude.{◌≡◌, true, []};
 ghost use Rattle.gts_traits.specs.{Rose, seen, said_by};
 ghost use Rattle.gts_recovery.specs.{IsOpened};
-ghost use Rattle.gts_standby.specs.Following.{comes_to, Answers, LeavesAlone, HasAll, ReadsAllOf, LeavesFronts};
+ghost use Rattle.gts_standby.specs.Following.{comes_to, Answers, LeavesAlone, AddsAllOf, LeavesFronts};
 ghost use Rattle.gts_standby.specs.Reading.{ReadsAll, is_other};
 ghost use Rattle.gts_standby.specs.Adding.{IsAddEnd};
 ghost use Rattle.gts_standby.specs.Counts.{KeepsAllCounts};
@@ -188,9 +188,7 @@ fn take_feed<P: Station, S: Source>(
 ) -> FollowEnd
     ensures answer { P.tells → S.tells → Answers result
         (comes_to directory.now (seen (P.calls station.old)) (S.left source.old)) }
-    ensures added { P.tells → S.tells → HasAll result directory.now (P.calls station.old)
-        (P.calls station.new) (S.left source.old) }
-    ensures records { P.tells → S.tells → ReadsAllOf result directory.now (P.calls station.old)
+    ensures added { P.tells → S.tells → AddsAllOf result directory.now (P.calls station.old)
         (P.calls station.new) (S.left source.old) }
     ensures moments { P.tells → S.tells → LeavesFronts directory.now (P.calls station.old)
         (P.calls station.new) (S.left source.old) }
@@ -220,8 +218,9 @@ fn take_feed<P: Station, S: Source>(
 
 /// Takes a feed, which is read to its end, into the journal, which is opened first. The records that the journal has are compared
 /// with those of the feed by their seals, in order; what it doesn't have is checked by the rules of the journal, in the state so
-/// far, and appended. A checkpoint can only be the first record of a journal that has none. The feed may end anywhere: what isn't
-/// a whole record with its seal there is dropped.
+/// far, and appended. A checkpoint can only be the first record: of a journal that has none, or of one that begins anew, where its
+/// own record 0 is another one and the checkpoint isn't behind what it has come to. The feed may end anywhere: what isn't a whole
+/// record with its seal there is dropped.
 pub fn follow<P: Station, S: Source>(
     alloc: Global,
     station: P,
@@ -232,12 +231,9 @@ pub fn follow<P: Station, S: Source>(
     ensures answer { P.tells → S.tells → Answers result.1
         (comes_to directory.now (seen (P.calls station)) (S.left source.old)) }
 
-    // At each end of the feed the journal has all that the feed adds.
-    ensures added { P.tells → S.tells → HasAll result.1 directory.now (P.calls station)
-        (P.calls result.0) (S.left source.old) }
-
-    // It is the journal from before with that behind it, each seal chained over the one before: nothing else is done to it.
-    ensures records { P.tells → S.tells → ReadsAllOf result.1 directory.now (P.calls station)
+    // At each end of the feed the journal has all that the feed adds. It is the journal from before with that behind it, each seal
+    // chained over the one before: nothing else is done to it.
+    ensures added { P.tells → S.tells → AddsAllOf result.1 directory.now (P.calls station)
         (P.calls result.0) (S.left source.old) }
 
     // A crash at any moment since the sync of the opening leaves a journal that has what it had, and a first part of that.

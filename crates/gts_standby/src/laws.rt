@@ -1,9 +1,9 @@
 //! Laws over the definitions, each the contract of a function with an empty body.
 ghost use Rattle.std.specs.Prelude.{◌≡◌, ◌++◌, ◌<◌, ◌^◌, ℕ, List, length, Ok};
-ghost use Rattle.gts_standby.specs.Cited.{Files, Directory, State, empty, first_seal, written};
+ghost use Rattle.gts_standby.specs.Cited.{Files, Directory, State};
 ghost use Rattle.gts_standby.specs.Taking.{Taken};
 ghost use Rattle.gts_standby.specs.Following.{comes_to};
-ghost use Rattle.gts_standby.specs.Fronts.{AddsFront, HasNoRecord, IsPlainFeed, state_of, LeadsTo, IsFeedOf, BringsTo, IsOvertaken, HasPlainPart};
+ghost use Rattle.gts_standby.specs.Fronts.{AddsFront, HasNoRecord, IsPlainFeed, state_of, LeadsTo, IsFeedOf, nothing_read, FeedBrings, IsOvertaken, HasPlainPart};
 
 /// A feed that is cut anywhere adds nothing, or a first part of what the whole feed adds: a journal begins with the same
 /// checkpoint, or with none, and has the first of the same records.
@@ -24,24 +24,22 @@ pub fn a_front_of_a_feed_comes_to_a_front_of_the_history()
 /// The whole feed of a station's journal, whether it begins with a checkpoint or not, brings a standby without records to what the
 /// station's journal reads to: the same state, end and last seal.
 pub fn a_whole_feed_brings_a_new_standby_to_the_station()
-    ensures { (d : Directory) (own files : Files) (read : State × ℕ × List ℕ) (fed : List ℕ) (whole : Taken)
-        → length d.mark ≡ 32 → d.limit < 256 ^ 4 → HasNoRecord d own → IsFeedOf d files read fed
-        → comes_to d own fed ≡ Ok whole
-        → BringsTo d (empty d, 41, first_seal written d.mark) whole read }
+    ensures { (d : Directory) (own files : Files) (read : State × ℕ × List ℕ) (fed : List ℕ)
+        → length d.mark ≡ 32 → d.limit < 256 ^ 4 → HasNoRecord d own
+        → IsFeedOf d files read fed → FeedBrings d own fed (nothing_read d) read }
 {}
 
 /// So it brings a standby that has a first part of the station's records, where neither journal has a checkpoint.
 pub fn a_whole_feed_brings_a_standby_that_has_a_part()
     ensures { (d : Directory) (own files : Files) (from read : State × ℕ × List ℕ)
-        (fed more : List ℕ) (whole : Taken) → length d.mark ≡ 32
-        → HasPlainPart d own files from fed → IsFeedOf d files read (fed ++ more)
-        → comes_to d own (fed ++ more) ≡ Ok whole → BringsTo d from whole read }
+        (fed more : List ℕ) → length d.mark ≡ 32 → HasPlainPart d own files from fed
+        → IsFeedOf d files read (fed ++ more) → FeedBrings d own (fed ++ more) from read }
 {}
 
 /// The whole feed of a station that was compacted brings a standby with another record 0 there too, where the checkpoint isn't
 /// behind what the standby has come to.
 pub fn a_whole_feed_brings_a_standby_through_a_compaction()
-    ensures { (d : Directory) (own files : Files) (from read : State × ℕ × List ℕ) (fed : List ℕ) (whole : Taken)
+    ensures { (d : Directory) (own files : Files) (from read : State × ℕ × List ℕ) (fed : List ℕ)
         → length d.mark ≡ 32 → d.limit < 256 ^ 4 → IsOvertaken d own files from
-        → IsFeedOf d files read fed → comes_to d own fed ≡ Ok whole → BringsTo d from whole read }
+        → IsFeedOf d files read fed → FeedBrings d own fed from read }
 {}

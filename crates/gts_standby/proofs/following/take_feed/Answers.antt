@@ -1,9 +1,10 @@
 use Rattle.std.proofs.Common.{refl, drop, sym, subst}
 use Rattle.gts_standby.specs.Ahead.{InFeed}
 use Rattle.gts_standby.specs.Taking.{Ends, stopped}
+use Rattle.gts_standby.specs.Following.{IsEnd}
 use Rattle.gts_standby.specs.Reading.{HasRead, ReadsAll}
 use Rattle.gts_standby.proofs.AddLemmas.{holds_of}
-use Rattle.gts_standby.proofs.TakeLemmas.{all_unread, behind_taken, header_taken, answers_there, added_there, reads_after_there, moments_there, done_stops, open_alone, taken_alone, fed_alone}
+use Rattle.gts_standby.proofs.TakeLemmas.{all_unread, behind_taken, header_taken, answers_there, added_there, reads_after_there, moments_there, done_stops, open_alone, open_no_end, taken_alone, fed_alone}
 use Rattle.gts_standby.specs.declared.end.FollowEnd.{FollowEnd}
 use Rattle.gts_standby.proofs.NamedLemmas.{named_open, named_fed}
 use Rattle.gts_standby.specs.Whole.{IsNamedEnd}
@@ -24,7 +25,7 @@ returns-in-Ok-take_header-clause-answer g c = λ tells told.
     answers_there d _ _ j o.state fed synced f c.take_records.result _ _ whole
 
 pub returns-in-Ok-take_header-clause-added : goal.returns-in-Ok-take_header-clause-added
-returns-in-Ok-take_header-clause-added g c = λ tells told s used last taken reads comes ends.
+returns-in-Ok-take_header-clause-added g c = λ tells told.
     let d = c.args.directory.now in
     let o = c.in-Ok.ensures.opened in
     let j = c.in-Ok.opened.1 in
@@ -35,7 +36,7 @@ returns-in-Ok-take_header-clause-added g c = λ tells told s used last taken rea
     let header = c.in-Ok-take_header.ensures.taken told fed read in
     let has = c.take_records.ensures.taken tells told o.state (drop 40 fed) (holds_of _ d _ _ j o) header.1 in
     let whole = behind_taken d _ _ j o.state fed synced f c.take_records.result c.mark.result _ _ c.mark.ensures header.0 has in
-    added_there d _ _ j o.state fed synced f c.take_records.result _ _ whole s used last taken reads comes ends
+    record { opened = added_there d _ _ j o.state fed synced f c.take_records.result _ _ whole; reads = reads_after_there d _ _ j o.state fed synced f c.take_records.result _ _ whole }
 
 pub returns-in-Ok-take_header-clause-moments : goal.returns-in-Ok-take_header-clause-moments
 returns-in-Ok-take_header-clause-moments g c = λ tells told s used last taken reads comes.
@@ -65,7 +66,7 @@ returns-in-Err-take_header-clause-answer g c = λ tells told.
     answers_there d _ _ j o.state fed synced f c.in-Err-take_header.end _ _ whole
 
 pub returns-in-Err-take_header-clause-added : goal.returns-in-Err-take_header-clause-added
-returns-in-Err-take_header-clause-added g c = λ tells told s used last taken reads comes ends.
+returns-in-Err-take_header-clause-added g c = λ tells told.
     let d = c.args.directory.now in
     let o = c.in-Ok.ensures.opened in
     let j = c.in-Ok.opened.1 in
@@ -75,7 +76,7 @@ returns-in-Err-take_header-clause-added g c = λ tells told s used last taken re
     let f = o.stands tells in
     let header = c.in-Err-take_header.ensures.taken told fed read in
     let whole = header_taken d _ _ j o.state fed synced f c.in-Err-take_header.end c.mark.result _ c.mark.ensures header in
-    added_there d _ _ j o.state fed synced f c.in-Err-take_header.end _ _ whole s used last taken reads comes ends
+    record { opened = added_there d _ _ j o.state fed synced f c.in-Err-take_header.end _ _ whole; reads = reads_after_there d _ _ j o.state fed synced f c.in-Err-take_header.end _ _ whole }
 
 pub returns-in-Err-take_header-clause-done : goal.returns-in-Err-take_header-clause-done
 returns-in-Err-take_header-clause-done g c = λ told is.
@@ -113,29 +114,7 @@ returns-in-Ok-take_header-clause-refused g c = λ tells told.
 pub returns-in-Err-take_header-clause-refused : goal.returns-in-Err-take_header-clause-refused
 returns-in-Err-take_header-clause-refused g c = λ tells told. fed_alone c.in-Err-take_header.end _ _ _ c.in-Err-take_header.ensures.kind
 
-pub returns-in-Ok-take_header-clause-records : goal.returns-in-Ok-take_header-clause-records
-returns-in-Ok-take_header-clause-records g c = λ tells told read_old taken reads comes ends.
-    let d = c.args.directory.now in
-    let o = c.in-Ok.ensures.opened in
-    let j = c.in-Ok.opened.1 in
-    let fed = g.S.Source.left c.args.source.now in
-    let read : HasRead fed c.new-ahead.result fed = subst (λ (a : InFeed). HasRead fed a fed) (sym c.new-ahead.ensures) (all_unread fed) in
-    let synced = c.in-Ok.ensures.synced tells in
-    let f = o.stands tells in
-    let header = c.in-Ok-take_header.ensures.taken told fed read in
-    let has = c.take_records.ensures.taken tells told o.state (drop 40 fed) (holds_of _ d _ _ j o) header.1 in
-    let whole = behind_taken d _ _ j o.state fed synced f c.take_records.result c.mark.result _ _ c.mark.ensures header.0 has in
-    reads_after_there d _ _ j o.state fed synced f c.take_records.result _ _ whole read_old taken reads comes ends
-
-pub returns-in-Err-take_header-clause-records : goal.returns-in-Err-take_header-clause-records
-returns-in-Err-take_header-clause-records g c = λ tells told read_old taken reads comes ends.
-    let d = c.args.directory.now in
-    let o = c.in-Ok.ensures.opened in
-    let j = c.in-Ok.opened.1 in
-    let fed = g.S.Source.left c.args.source.now in
-    let read : HasRead fed c.new-ahead.result fed = subst (λ (a : InFeed). HasRead fed a fed) (sym c.new-ahead.ensures) (all_unread fed) in
-    let synced = c.in-Ok.ensures.synced tells in
-    let f = o.stands tells in
-    let header = c.in-Err-take_header.ensures.taken told fed read in
-    let whole = header_taken d _ _ j o.state fed synced f c.in-Err-take_header.end c.mark.result _ c.mark.ensures header in
-    reads_after_there d _ _ j o.state fed synced f c.in-Err-take_header.end _ _ whole read_old taken reads comes ends
+pub returns-in-Err-clause-added : goal.returns-in-Err-clause-added
+returns-in-Err-clause-added g c = λ tells told.
+    let none : IsEnd c.from.result → ⊥ = λ e. open_no_end c.in-Err.fault (subst IsEnd c.from.ensures e) in
+    record { opened = λ s used last taken reads comes e. absurd (none e); reads = λ read taken reads comes e. absurd (none e) }
