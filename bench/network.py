@@ -1,5 +1,9 @@
-"""A network of five centres on this machine, for scripts: each has the built switch in a folder of its own, and each direction
-of a line between two of them goes through a relay. Python's standard library alone; nothing listens anywhere but on 127.0.0.1.
+"""A network of five centres on this machine, for scripts: each has the built switch in a folder and at an address of its own, and
+names its neighbours by theirs. Python's standard library alone.
+
+Where the machine gives them (bench/hosts.py), each centre is on a host, and two that are neighbours are joined by a cable, which can
+be pulled. A tap looks at each direction of their line, and changes nothing. Lines that a script wants cut in mid-frame, or without
+a frame, go through a relay. Where there are no such hosts, the addresses are 127.0.1.1 and on, and each line goes through a relay.
 
 Barbados, Trinidad and St Vincent are a ring; St Lucia hangs on Barbados, and Grenada on Trinidad. Each centre has a circuit
 for each of its lines, and HOME, on which its own stations and forecasters send, and get what comes from elsewhere."""
@@ -9,11 +13,13 @@ import re
 import select
 import shutil
 import socket
+import struct
 import subprocess
 import threading
 import time
 from collections import Counter
 
+from hosts import Hosts, lacking
 from loopback import EOL, HOST, messages_of
 
 NAMES = {'TBPB': 'BARBADOS', 'TTPP': 'TRINIDAD', 'TVSV': 'VINCENT', 'TLPL': 'LUCIA', 'TGPY': 'GRENADA'}
@@ -23,6 +29,10 @@ LINKS = [('TBPB', 'TTPP'), ('TTPP', 'TVSV'), ('TVSV', 'TBPB'), ('TBPB', 'TLPL'),
 # Over which line a centre sends what is collected in Barbados.
 TOWARDS_BARBADOS = {'TTPP': 'TBPB', 'TVSV': 'TBPB', 'TLPL': 'TBPB', 'TGPY': 'TTPP'}
 HOME = 'HOME'
+# The host on which all cables end, each in a bridge of its own: there they are pulled.
+WIRES = 'wires'
+# How long, in seconds, a line without a relay may be idle.
+IDLE = 1
 DIGITS, KEPT, WINDOW, CONNECTIONS = 5, 20_000, 20_000, 1000
 # The seed of the day of examples/network, and how many stations report there from each centre every hour.
 DAY, STATIONS = 28, 4
@@ -30,6 +40,8 @@ DAY, STATIONS = 28, 4
 POLL = 0.01
 # How many bytes a relay reads at once, and how long it holds them.
 PIECE, DELAY = 4096, 0.002
+# How long a command may take, in seconds.
+CALL = 60
 # How long nothing may have moved before the network counts as at rest.
 QUIET = 0.7
 USAGE = 2
@@ -71,13 +83,13 @@ def reached(heading, code):
     return found
 
 
-def directory_text(code, ports, window):
-    """The directory of a centre; `ports` has the pair of input and output of each of its circuits."""
+def directory_text(code, address, circuits, window):
+    """The directory of a centre; `circuits` has what stands in the row of each of its circuits, but for name and peer."""
     name = {**NAMES, HOME: HOME}
-    rows = [f'centre = "{code}"', f'window = {window}']
-    for place, to in enumerate([*neighbours_of(code), HOME]):
+    rows = [f'centre = "{code}"', f'address = "{address}"', f'window = {window}']
+    for to, more in zip([*neighbours_of(code), HOME], circuits):
         rows += ['[[circuit]]', f'name = "{name[to]}"', f'peer = "{to}"', f'digits = {DIGITS}', f'kept = {KEPT}']
-        rows += [f'input = {ports[place][0]}', f'output = {ports[place][1]}']
+        rows += [f'{key} = "{value}"' if key == 'host' else f'{key} = {value}' for key, value in more.items()]
     for pattern, tos in rules_of(code):
         rows += ['[[rule]]', f'heading = "{pattern}"', 'to = [' + ', '.join(f'"{name[to]}"' for to in tos) + ']']
     for letters, level in (('WW', 1), ('S*', 2)):
@@ -178,12 +190,13 @@ def day_of(*codes):
 
 
 class Stream:
-    """The bytes of a connection, and how far its whole frames go."""
+    """The bytes of a connection, how far its whole frames go, and how many of them have a message: keep-alives have none."""
 
     def __init__(self, run=None):
         self.run = run
         self.bytes = bytearray()
         self.ends = []
+        self.count = 0
 
     def whole(self):
         """Where the last whole frame ends."""
@@ -195,10 +208,11 @@ class Stream:
             end = self.whole() + 10 + int(self.bytes[self.whole():self.whole() + 8])
             if end > len(self.bytes):
                 break
+            self.count += end > self.whole() + 10
             self.ends.append(end)
 
     def messages(self):
-        return messages_of(bytes(self.bytes))[0]
+        return [message for message in messages_of(bytes(self.bytes))[0] if message]
 
 
 def accepted_and_drawn(folder):
@@ -247,18 +261,20 @@ def accepted_and_drawn(folder):
 class Centre:
     """A centre: the switch in a folder of its own, which is started and killed, and what it said in each of its runs."""
 
-    def __init__(self, program, folder, code, text, compacts):
-        self.program, self.folder, self.code, self.compacts = program, folder, code, compacts
+    def __init__(self, program, folder, code, text, compacts, within=(), seconds=CALL):
+        self.program, self.folder, self.code, self.compacts, self.seconds = program, folder, code, compacts, seconds
+        # The words before the program where it serves, which say on which host.
+        self.within = within
         self.circuits = [*neighbours_of(code), HOME]
         self.process = None
         # The number of the present or last run, and that of the last one that has ended.
         self.run = self.ended = 0
-        # Of each run: where its receipts are, how many there are of each word and circuit, and how far they were read.
-        self.receipts, self.counts, self.read_to = {}, {}, {}
+        # Of each run: when it began, where its receipts are, how many there are of each word and circuit, and how far they were read.
+        self.began, self.receipts, self.counts, self.read_to = {}, {}, {}, {}
         self.reading = threading.Lock()
         self.accepted, self.drawn = {}, {}
         self.faults = []
-        make_folder(program, folder, text)
+        make_folder(program, folder, text, seconds)
 
     def start(self):
         """As the unit does: compact, then serve. A program that has no such command is spared the call."""
@@ -267,10 +283,15 @@ class Centre:
         run = self.run + 1
         self.receipts[run] = os.path.join(self.folder, f'receipts.{run}')
         self.counts[run], self.read_to[run] = Counter(), 0
+        self.began[run] = time.time()
         self.run = run
         with open(self.receipts[run], 'wb') as out, open(self.receipts[run] + '.faults', 'wb') as err:
-            words = [self.program, 'serve', str(CONNECTIONS)]
+            words = [*self.within, self.program, 'serve', str(CONNECTIONS)]
             self.process = subprocess.Popen(words, cwd=self.folder, stdin=subprocess.DEVNULL, stdout=out, stderr=err)
+
+    def run_at(self, moment):
+        """The run that had begun last at a moment."""
+        return max(run for run, began in list(self.began.items()) if began <= moment)
 
     def kill(self):
         """Kills the process of this run, and takes down what it had said and what its journal has."""
@@ -318,7 +339,7 @@ class Centre:
                    if said == word and (circuits is None or circuit in circuits))
 
     def call(self, *words):
-        done = subprocess.run([self.program, *words], cwd=self.folder, capture_output=True, timeout=60)
+        done = subprocess.run([self.program, *words], cwd=self.folder, capture_output=True, timeout=self.seconds)
         return done.returncode, done.stdout, done.stderr.decode().partition('\n')[0]
 
     def report(self):
@@ -335,12 +356,12 @@ class Centre:
             self.wants('what the journal said before, and another thing now', other, [])
 
 
-def make_folder(program, folder, text):
+def make_folder(program, folder, text, seconds):
     """A folder with this directory and an empty journal."""
     os.makedirs(folder)
     with open(os.path.join(folder, 'directory.toml'), 'w') as file:
         file.write(text)
-    subprocess.run([program, 'init'], cwd=folder, check=True, timeout=60)
+    subprocess.run([program, 'init'], cwd=folder, check=True, timeout=seconds)
 
 
 class Standby:
@@ -352,10 +373,10 @@ class Standby:
         with open(os.path.join(centre.folder, 'directory.toml')) as file:
             self.text = file.read()
         self.followed = 0
-        make_folder(centre.program, self.folder, self.text)
+        make_folder(centre.program, self.folder, self.text, centre.seconds)
 
     def run(self, word):
-        return subprocess.run([self.centre.program, word], cwd=self.folder, capture_output=True, timeout=60)
+        return subprocess.run([self.centre.program, word], cwd=self.folder, capture_output=True, timeout=self.centre.seconds)
 
     def follow(self):
         """Ships and follows once, also where the centre has compacted its journal."""
@@ -372,12 +393,28 @@ class Standby:
         self.centre.folder = self.folder
 
 
-class Caller(threading.Thread):
-    """Connects to a port `input` of a centre, again and again while there is a network."""
+class Place:
+    """An address and a port, and the host that they belong to, where there are hosts."""
 
-    def __init__(self, to, circuit, port):
+    def __init__(self, hosts, code, address, port=0):
+        self.hosts, self.code, self.address, self.port = hosts, code, address, port
+
+    def inside(self, make):
+        """What `make` makes there."""
+        return self.hosts.inside(self.code, make) if self.hosts else make()
+
+    def enters(self):
+        """The sockets of the calling thread belong there from now on."""
+        if self.hosts:
+            self.hosts.enters(self.code)
+
+
+class Caller(threading.Thread):
+    """Connects to a port `input` of a centre, again and again while there is a network, as from a place of its own."""
+
+    def __init__(self, to, circuit, input_place, source):
         super().__init__(daemon=True)
-        self.to, self.circuit, self.input = to, circuit, port
+        self.to, self.circuit, self.input, self.source = to, circuit, input_place, source
         self.over = False
         self.fault = None
 
@@ -387,7 +424,7 @@ class Caller(threading.Thread):
         while not self.over:
             run = self.to.run
             try:
-                connection = socket.create_connection((HOST, self.input), 5)
+                connection = socket.create_connection((self.input.address, self.input.port), 5, source_address=(self.source.address, 0))
             except OSError:
                 time.sleep(POLL)
                 continue
@@ -400,6 +437,7 @@ class Caller(threading.Thread):
 
     def run(self):
         try:
+            self.source.enters()
             while not self.over:
                 connection, run = self.reach()
                 if connection is not None:
@@ -410,10 +448,11 @@ class Caller(threading.Thread):
 
 
 class Feeder(Caller):
-    """The stations of a centre: they send on HOME, and send again what got no receipt before the centre went down."""
+    """The stations of a centre: they send on HOME, and send again what got no receipt before the centre went down. They are on the
+    centre's own machine, so they call from its address."""
 
-    def __init__(self, to, circuit, port):
-        super().__init__(to, circuit, port)
+    def __init__(self, to, circuit, place):
+        super().__init__(to, circuit, place, place)
         self.frames = []
         # How many were dealt with in the runs that have ended, and how many were sent in this one behind those.
         self.base = self.sent = 0
@@ -445,13 +484,14 @@ class Feeder(Caller):
 class Listener:
     """A port `output` of a centre, where this listens and the centre connects."""
 
-    def __init__(self, port):
-        self.port = port
+    def __init__(self, place):
+        self.place = place
         self.socket = None
         self.open()
 
     def open(self):
-        self.socket = self.socket or socket.create_server((HOST, self.port), backlog=64)
+        self.socket = self.socket or self.place.inside(
+            lambda: socket.create_server((self.place.address, self.place.port), backlog=64))
 
     def close(self):
         if self.socket is not None:
@@ -462,9 +502,9 @@ class Listener:
 class Reader(threading.Thread):
     """Reads all that a centre sends home, over one connection after another. HOME is the last circuit that a centre opens."""
 
-    def __init__(self, port):
+    def __init__(self, place):
         super().__init__(daemon=True)
-        self.listener = Listener(port)
+        self.listener = Listener(place)
         self.came = []
         self.over = self.is_connected = False
 
@@ -490,25 +530,188 @@ class Reader(threading.Thread):
                 stream.add(piece)
 
 
-class Relay(Caller):
-    """One direction of a line. It listens where the one centre connects, connects to the other's input, carries the bytes,
-    and keeps a copy of what it hands on, in a file for each connection. A connection of the one is a connection of the
-    other. It reads nothing while there is nobody to hand it to. It can be cut, and can drop a frame."""
+class Line:
+    """One direction of a line, from one centre to the other: what came from the one and what was handed to the other, by connection."""
 
-    def __init__(self, giver, to, circuit, input_port, output_port, folder):
-        super().__init__(to, circuit, input_port)
+    def is_from(self, giver):
         self.giver = giver
-        self.listener = Listener(output_port)
+        self.came, self.kept = [], []
+        self.cuts = self.mid_frame_cuts = self.swallowed = self.dropped = self.half_open = 0
+
+    def is_dealt_with(self):
+        """Whether each message that was handed over in the present run has its receipt."""
+        run = self.to.run
+        handed = sum(stream.count for stream in list(self.kept) if stream.run == run)
+        return run > self.to.ended and self.to.dealt_with(run, self.circuit) == handed
+
+    def heard(self):
+        """The connections with the messages that the other centre has dealt with: where it was killed, those behind its last
+        receipt are left out, whoever read them."""
+        left = {run: self.to.dealt_with(run, self.circuit) for run in self.to.counts}
+        for stream in list(self.kept):
+            messages = stream.messages()[:left[stream.run]]
+            left[stream.run] -= len(messages)
+            yield messages
+
+
+class Cable:
+    """The cable between the hosts of two centres. It can be pulled."""
+
+    def __init__(self, hosts, one, other, addresses):
+        self.hosts = hosts
+        self.ends = [f'{one}-{other}', f'{other}-{one}']
+        self.pulls = []
+        self.is_down = False
+        bridge = f'{one}{other}'
+        hosts.ip(WIRES, 'link', 'add', 'name', bridge, 'type', 'bridge')
+        hosts.ip(WIRES, 'link', 'set', bridge, 'up')
+        for here, there, end in ((one, other, self.ends[0]), (other, one, self.ends[1])):
+            hosts.lay(here, WIRES, f'to_{there}', end)
+            hosts.ip(WIRES, 'link', 'set', end, 'master', bridge)
+            hosts.ip(here, 'addr', 'add', addresses[here], 'peer', f'{addresses[there]}/32', 'dev', f'to_{there}')
+
+    def pull(self):
+        self.is_down = True
+        for end in self.ends:
+            self.hosts.pull(WIRES, end)
+        self.pulls.append(time.time())
+
+    def mend(self):
+        for end in self.ends:
+            self.hosts.mend(WIRES, end)
+        self.is_down = False
+
+
+class Connection:
+    """A connection that a tap sees: what comes on it, and how far its taker has confirmed that. The number of a byte is that of
+    TCP, which counts round."""
+
+    def __init__(self, first, run, givers_run):
+        self.first, self.givers_run = first, givers_run
+        self.came, self.kept = Stream(), Stream(run)
+        self.early = {}
+        self.was_pulled = False
+
+    def comes(self, number, payload):
+        """A segment comes; it may come once more, or before one in front of it."""
+        at = (number - self.first + (1 << 31)) % (1 << 32) - (1 << 31)
+        if len(payload) > len(self.early.get(at, b'')):
+            self.early[at] = payload
+        while ready := [at for at in self.early if at <= len(self.came.bytes)]:
+            piece = self.early.pop(ready[0])
+            self.came.add(piece[len(self.came.bytes) - ready[0]:])
+
+    def confirms(self, number):
+        """The taker says that it has all before this byte."""
+        self.takes((number - self.first) % (1 << 32))
+
+    def takes(self, upto):
+        self.kept.add(bytes(self.came.bytes[len(self.kept.bytes):upto]))
+
+
+class Tap(Line, threading.Thread):
+    """A line without a relay: the two centres are joined by a cable, and this looks at the packets at the taker's end of it. What
+    the taker's host has confirmed counts as handed over, and what it had when the cable was pulled."""
+    EVERY, IPV4, TCP, OUTGOING = 3, 0x0800, 6, 4
+    FINISH, BEGIN, RESET, CONFIRM = 1, 2, 4, 16
+    # Options of Linux that Python has no names for: a large buffer, the moment of each packet, what didn't fit in.
+    LARGE, MOMENTS, PACKETS, MISSED = 33, 35, 263, 6
+
+    def __init__(self, giver, to, circuit, place, cable):
+        super().__init__(daemon=True)
+        self.is_from(giver)
+        self.to, self.circuit, self.port, self.cable = to, circuit, place.port, cable
+        self.calling, self.connections, self.last = {}, {}, None
+        self.seen_pulls = 0
+        self.over, self.fault = False, None
+        self.socket = place.inside(lambda: self.opened(f'to_{giver.code}'))
+
+    def opened(self, end):
+        opened = socket.socket(socket.AF_PACKET, socket.SOCK_DGRAM, 0)
+        opened.setsockopt(socket.SOL_SOCKET, self.LARGE, 1 << 25)
+        opened.setsockopt(socket.SOL_SOCKET, self.MOMENTS, 1)
+        opened.settimeout(5 * POLL)
+        opened.bind((end, self.EVERY))
+        return opened
+
+    @property
+    def is_down(self):
+        return self.cable.is_down
+
+    def run(self):
+        try:
+            while not self.over:
+                try:
+                    packet, more, _, place = self.socket.recvmsg(1 << 17, 128)
+                except TimeoutError:
+                    self.notes_pulls(time.time())
+                    continue
+                seconds, parts = struct.unpack('qq', more[0][2])
+                moment = seconds + parts / 1e9
+                self.notes_pulls(moment)
+                if place[1] == self.IPV4 and packet[9] == self.TCP:
+                    self.sees(packet, place[2] == self.OUTGOING, moment)
+        except Exception as error:
+            self.fault = f'{type(error).__name__}: {error}'
+
+    def notes_pulls(self, moment):
+        """What came before the cable was pulled was taken, whether or not that could still be confirmed."""
+        while self.seen_pulls < len(self.cable.pulls) and self.cable.pulls[self.seen_pulls] < moment:
+            self.seen_pulls += 1
+            for connection in self.connections.values():
+                connection.takes(len(connection.came.bytes))
+                connection.was_pulled = True
+
+    def sees(self, packet, is_sent, moment):
+        segment = packet[4 * (packet[0] & 15):int.from_bytes(packet[2:4])]
+        source, to, number, confirmed, size, flags = struct.unpack('>HHIIBB', segment[:14])
+        if to == self.port and not is_sent:
+            if flags & self.BEGIN:
+                self.calling[source] = (number + 1) % (1 << 32)
+            elif source in self.connections:
+                self.connections[source].comes(number, segment[4 * (size >> 4):])
+        elif source == self.port and is_sent:
+            if flags & self.BEGIN:
+                self.begins(to, moment)
+            elif flags & self.CONFIRM and to in self.connections:
+                self.connections[to].confirms(confirmed)
+            if flags & (self.FINISH | self.RESET):
+                self.connections.pop(to, None)
+
+    def begins(self, caller, moment):
+        """The taker's host lets in a caller."""
+        first = self.calling.get(caller)
+        if caller in self.connections and self.connections[caller].first == first:
+            return
+        before, self.last = self.last, Connection(first, self.to.run_at(moment), self.giver.run_at(moment))
+        self.connections[caller] = self.last
+        self.came.append(self.last.came)
+        self.kept.append(self.last.kept)
+        if before and before.was_pulled and (before.kept.run, before.givers_run) == (self.last.kept.run, self.last.givers_run):
+            self.half_open += 1
+
+    def missed(self):
+        """How many packets it couldn't look at."""
+        return struct.unpack('II', self.socket.getsockopt(self.PACKETS, self.MISSED, 8))[1]
+
+
+class Relay(Line, Caller):
+    """A line through a relay. It listens where the one centre connects, connects to the other's input, carries the bytes, and keeps
+    a copy of what it hands on, in a file for each connection. A connection of the one is a connection of the other. It reads
+    nothing while there is nobody to hand it to. It can be cut, and can drop a frame. To each of the two it is at the other's
+    address."""
+
+    def __init__(self, giver, to, circuit, input_place, source, output_place, folder):
+        super().__init__(to, circuit, input_place, source)
+        self.is_from(giver)
+        self.listener = Listener(output_place)
         self.folder = folder
         os.makedirs(folder)
-        # What came from the one, and what was handed to the other, by connection.
-        self.came, self.kept = [], []
         # `cut` or `cut in mid-frame`, until it is done, and when it is done in any case; and how many frames to drop.
         self.wish, self.wish_ends = None, 0
         self.to_drop = 0
         self.is_down = False
         self.changing = threading.Lock()
-        self.cuts = self.mid_frame_cuts = self.swallowed = self.dropped = 0
 
     def wants(self, wish, seconds=0.8):
         self.wish_ends = time.monotonic() + seconds
@@ -602,48 +805,77 @@ class Relay(Caller):
         number = text_of(messages_of(frame)[0][0])[1]
         return all(text_of(message)[1] != number for stream in self.kept for message in stream.messages())
 
-    def is_dealt_with(self):
-        """Whether each message that was handed over in the present run has its receipt."""
-        run = self.to.run
-        handed = sum(len(stream.ends) for stream in list(self.kept) if stream.run == run)
-        return run > self.to.ended and self.to.dealt_with(run, self.circuit) == handed
 
-    def heard(self):
-        """The connections with the messages that the other centre has dealt with: where it was killed, those behind its last
-        receipt are left out, whoever read them."""
-        left = {run: self.to.dealt_with(run, self.circuit) for run in self.to.counts}
-        for stream in list(self.kept):
-            messages = stream.messages()[:left[stream.run]]
-            left[stream.run] -= len(messages)
-            yield messages
+def hosts_for_all():
+    """A host for each centre, and one for their cables; or none, and what this machine lacks for it."""
+    lacks = lacking()
+    return (None, lacks) if lacks else (Hosts(*NAMES, WIRES), None)
 
 
 class Network:
-    """The five centres with all their lines and stations, in a folder."""
+    """The five centres with all their lines and stations, in a folder. Where there are `hosts`, each centre is on one, and the lines
+    of these links alone go through relays. `patience` says how many times as long as usual a command may take."""
 
-    def __init__(self, program, folder, windows=None):
-        self.folder, self.program = folder, program
+    def __init__(self, program, folder, windows=None, hosts=None, relayed=(), idle=IDLE, patience=1):
+        self.folder, self.program, self.hosts = folder, program, hosts
+        self.relayed, self.idle = relayed if hosts else LINKS, idle
         os.makedirs(os.path.join(folder, 'empty'))
         self.compacts = knows(program, 'compact', os.path.join(folder, 'empty'))
         self.has_standby = all(knows(program, word, os.path.join(folder, 'empty')) for word in ('ship', 'follow'))
-        self.centres, self.feeders, self.readers, self.relays = {}, {}, {}, {}
-        ports = {}
+        self.addresses = {code: f'10.90.0.{k}' if hosts else f'127.0.1.{k}' for k, code in enumerate(NAMES, 1)}
+        self.centres, self.feeders, self.readers, self.lines = {}, {}, {}, {}
         free = iter(ports_below(2 * sum(len(neighbours_of(code)) + 1 for code in NAMES)))
+        # Where each centre listens for another one, or for its stations, and where they listen for it.
+        inputs = {(code, to): next(free) for code in NAMES for to in [*neighbours_of(code), HOME]}
+        self.outputs = {(code, to): inputs[to, code] if to != HOME and not self.is_relayed(code, to) else next(free)
+                        for code, to in inputs}
         for code in NAMES:
-            ports[code] = [(next(free), next(free)) for _ in [*neighbours_of(code), HOME]]
-            text = directory_text(code, ports[code], (windows or {}).get(code, WINDOW))
-            self.centres[code] = Centre(program, os.path.join(folder, code), code, text, self.compacts)
+            text = directory_text(code, self.addresses[code], [self.row(code, to, inputs) for to in [*neighbours_of(code), HOME]],
+                                  (windows or {}).get(code, WINDOW))
+            within = hosts.within(code) if hosts else ()
+            self.centres[code] = Centre(program, os.path.join(folder, code), code, text, self.compacts, within, CALL * patience)
+        self.cables = {link: Cable(hosts, *link, self.addresses) for link in LINKS if hosts}
         for code, centre in self.centres.items():
-            home = len(centre.circuits) - 1
-            self.feeders[code] = Feeder(centre, home, ports[code][home][0])
-            self.readers[code] = Reader(ports[code][home][1])
+            self.feeders[code] = Feeder(centre, len(centre.circuits) - 1, self.place(code, inputs[code, HOME]))
+            self.readers[code] = Reader(self.place(code, self.outputs[code, HOME]))
             for circuit, other in enumerate(centre.circuits[:-1]):
-                out = ports[other][neighbours_of(other).index(code)][1]
-                kept = os.path.join(folder, 'kept', f'{other}-{code}')
-                self.relays[other, code] = Relay(self.centres[other], centre, circuit, ports[code][circuit][0], out, kept)
-        self.threads = [*self.feeders.values(), *self.readers.values(), *self.relays.values()]
+                self.lines[other, code] = self.line(other, code, circuit, self.place(code, inputs[code, other]))
+        self.threads = [*self.lines.values(), *self.feeders.values(), *self.readers.values()]
+
+    def is_relayed(self, one, other):
+        return (one, other) in self.relayed or (other, one) in self.relayed
+
+    def place(self, code, port=0):
+        return Place(self.hosts, code, self.addresses[code], port)
+
+    def row(self, code, to, inputs):
+        """What stands in a circuit's row. A line without a relay has to find by itself that it was cut."""
+        row = {'host': self.addresses[code if to == HOME else to], 'input': inputs[code, to], 'output': self.outputs[code, to]}
+        if to != HOME and not self.is_relayed(code, to) and self.idle:
+            row['idle'] = self.idle
+        return row
+
+    def line(self, giver, taker, circuit, input_place):
+        """The line from one centre to another."""
+        one, other = self.centres[giver], self.centres[taker]
+        if not self.is_relayed(giver, taker):
+            return Tap(one, other, circuit, input_place, self.cable(giver, taker))
+        kept = os.path.join(self.folder, 'kept', f'{giver}-{taker}')
+        return Relay(one, other, circuit, input_place, self.place(giver), self.place(taker, self.outputs[giver, taker]), kept)
+
+    def cable(self, one, other):
+        return self.cables.get((one, other)) or self.cables[other, one]
+
+    def relays(self):
+        return [line for line in self.lines.values() if isinstance(line, Relay)]
+
+    def taps(self):
+        return [line for line in self.lines.values() if isinstance(line, Tap)]
 
     def start(self):
+        for tap in self.taps():
+            if not tap.is_alive():
+                tap.start()
         for centre in self.centres.values():
             centre.start()
         for thread in self.threads:
@@ -663,8 +895,10 @@ class Network:
         for thread in self.threads:
             if thread.ident is not None:
                 thread.join(5)
-            if not isinstance(thread, Feeder):
+            if isinstance(thread, (Reader, Relay)):
                 thread.listener.close()
+        if self.hosts:
+            self.hosts.remove()
 
     def read_receipts(self):
         for centre in self.centres.values():
@@ -674,8 +908,8 @@ class Network:
         """Numbers of which one changes where something moves."""
         self.read_receipts()
         counts = [sum(centre.counts[centre.run].values()) for centre in self.centres.values()]
-        streams = [stream for there in [*self.readers.values(), *self.relays.values()] for stream in list(there.came)]
-        return counts, sum(len(stream.bytes) for stream in streams), len(streams)
+        streams = [stream for there in [*self.readers.values(), *self.lines.values()] for stream in list(there.came)]
+        return counts, sum(stream.count for stream in streams), len(streams)
 
     def rests(self, seconds):
         """Whether within so many seconds all centres are open, all that was entered and handed over is dealt with, and nothing
@@ -684,7 +918,7 @@ class Network:
         while time.monotonic() < until:
             now = self.moved()
             dealt = all(feeder.is_done() for feeder in self.feeders.values())
-            dealt = dealt and all(relay.is_dealt_with() for relay in self.relays.values())
+            dealt = dealt and all(line.is_dealt_with() for line in self.lines.values())
             if now != last or not dealt or not all(reader.is_connected for reader in self.readers.values()):
                 since, last = time.monotonic(), now
             elif time.monotonic() - since >= QUIET:
@@ -695,13 +929,28 @@ class Network:
     def faults(self):
         """What went wrong in centres and threads."""
         return [fault for centre in self.centres.values() for fault in centre.faults] + [
-            f'a thread of {thread.to.code}: {thread.fault}' for thread in self.threads if getattr(thread, 'fault', None)]
+            f'a thread of {thread.to.code}: {thread.fault}' for thread in self.threads if getattr(thread, 'fault', None)] + [
+            f'the tap before {tap.to.code} missed packets' for tap in self.taps() if tap.missed()]
 
     def drawn(self, code):
         """How many frames of a centre came on its lines and to its home."""
-        streams = [*self.readers[code].came, *(stream for (giver, _), relay in self.relays.items()
-                                               if giver == code for stream in list(relay.came))]
-        return sum(len(stream.ends) for stream in streams)
+        streams = [*self.readers[code].came, *(stream for (giver, _), line in self.lines.items()
+                                               if giver == code for stream in list(line.came))]
+        return sum(stream.count for stream in streams)
+
+
+def otherwise_accepted(network, entered):
+    """The bulletins of these pairs of a centre and what entered there which a centre has in its journal more or less often than the
+    rules want it, once or never: for each centre rows of a bulletin, how often it is there, and how often it is wanted."""
+    wanted = {code: Counter() for code in NAMES}
+    for code, body in entered:
+        for there in reached(body[:18], code):
+            wanted[there][body] = 1
+    rows = {}
+    for code, centre in network.centres.items():
+        got, want = Counter(body[:-4] for _, body in centre.accepted.values()), wanted[code]
+        rows[code] = [(body, got[body], want[body]) for body in {**got, **want} if got[body] != want[body]]
+    return rows
 
 
 def capture_of(network, code):
@@ -711,15 +960,15 @@ def capture_of(network, code):
     for circuit, other in enumerate(network.centres[code].circuits[:-1]):
         before = frame_of(0, b'SMBR01 TBPB 280000' + EOL + b'NIL=', DIGITS)
         connections = [[before], *([frame_of_message(message) for message in messages]
-                                   for messages in network.relays[other, code].heard())]
+                                   for messages in network.lines[other, code].heard())]
         for frames in connections:
             steps.append(b'O %02d\n' % circuit + b''.join(b'F %02d %06d\n' % (circuit, len(one)) + one for one in frames))
     return b''.join(steps) + b'E\n'
 
 
-def numbers_heard(relay):
+def numbers_heard(line):
     """The numbers of all that a centre has dealt with on a line."""
-    return {text_of(message)[1] for messages in relay.heard() for message in messages}
+    return {text_of(message)[1] for messages in line.heard() for message in messages}
 
 
 def frame_of_message(message):
@@ -741,7 +990,7 @@ def gaps_of(network, code, time_of_day):
     shutil.copy(os.path.join(centre.folder, 'directory.toml'), folder)
     with open(os.path.join(folder, 'capture.gts'), 'wb') as file:
         file.write(capture_of(network, code))
-    done = subprocess.run([network.program, 'gaps', time_of_day], cwd=folder, capture_output=True, timeout=60)
+    done = subprocess.run([network.program, 'gaps', time_of_day], cwd=folder, capture_output=True, timeout=centre.seconds)
     centre.wants('gaps', (done.returncode, done.stderr.decode().strip()), (0, ''))
     lines = done.stdout.decode().splitlines()
     missing = {circuit: set() for circuit in range(len(centre.circuits) - 1)}
