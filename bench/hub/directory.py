@@ -1,6 +1,7 @@
 """The directory of a hub: who is joined to it, where, and who gets what."""
 import os
 import random
+import re
 import socket
 
 from journal import Directory
@@ -51,14 +52,19 @@ def ports_at(address, count):
     return found
 
 
-def rules_of(seed, circuits, more=0):
-    """Pairs of a pattern and the circuits that it names; `more` rules stand behind, whose patterns fit few headings."""
+def idle_rules(count, circuits):
+    """So many rules that no bulletin of a hub fits."""
+    return [(f'ZZ{country(place % CIRCUITS)}{place // CIRCUITS:02} ****', [place % circuits]) for place in range(count)]
+
+
+def rules_of(seed, circuits):
+    """Pairs of a pattern and the circuits that it names."""
     chance, every = random.Random(seed), range(circuits)
     rules = [(f'{TSUNAMI}**** ****', list(every)), (f'{WARNING}**** ****', chance.sample(every, min(circuits, BY_WARNING)))]
     for count, patterns in ((BY_COUNTRY, [f'**{country(place)}** ****' for place in range(CIRCUITS)]),
                             (BY_KIND, [f'{kind}**** ****' for kind in SHORT + LONG + BINARY])):
         rules += [(pattern, chance.sample(every, min(circuits, count))) for pattern in patterns]
-    return rules + [(f'ZZ{country(place % CIRCUITS)}{place // CIRCUITS:02} ****', [place % circuits]) for place in range(more)]
+    return rules
 
 
 class HubDirectory(Directory):
@@ -69,6 +75,7 @@ class HubDirectory(Directory):
         super().__init__(CENTRE, window, limit, [f'C{place:02}' for place in range(count)],
                          [peer(place) for place in range(count)], rules, LEVELS, ports=ports)
         self.net, self.repeat, self.closed = net, repeat, set(closed)
+        self.fits = [re.compile(pattern.replace('*', '.').encode()).fullmatch for pattern, _ in rules]
         self.found = {}
 
     def digits(self, circuit):
@@ -105,11 +112,11 @@ class HubDirectory(Directory):
         return HubDirectory(rules, self.window, self.net, ports, self.limit, self.repeat, self.closed if closed is None else closed)
 
     def goes_to(self, circuit, heading):
-        """The circuits that a bulletin goes to which came in on this one, looked up once for each front of a heading."""
-        key = circuit, heading[:11]
-        if key not in self.found:
-            self.found[key] = self.named(circuit, heading.decode())
-        return self.found[key]
+        """The circuits that a bulletin goes to which came in on this one. What its front fits is looked up once, rule by rule."""
+        front = heading[:11]
+        if front not in self.found:
+            self.found[front] = sorted({to for fits, (_, tos) in zip(self.fits, self.rules) if fits(front) for to in tos})
+        return [to for to in self.found[front] if to != circuit and self.peers[to] != self.peers[circuit]]
 
     def level(self, heading):
         return next((level for letters, level in self.levels if all(want in ('*', have) for want, have

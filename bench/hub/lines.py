@@ -12,6 +12,7 @@ PIECE = 1 << 18
 HEAD = 10
 # How long a call of a neighbour may take before the switch counts as gone.
 SECONDS = 60
+PAUSE = 0.02
 
 
 class Line:
@@ -56,6 +57,8 @@ class Lines:
         # Whether the switch is up, so that neighbours call it; and how often something moved.
         self.is_up = False
         self.moved = 0
+        # When the switch is called again, where it doesn't listen yet.
+        self.calls_at = 0.0
 
     def add(self, line):
         self.lines.append(line)
@@ -72,9 +75,12 @@ class Lines:
 
     def calls(self, line):
         """A neighbour connects to the switch, where that listens."""
+        if time.monotonic() < self.calls_at:
+            return
         try:
             out = socket.create_connection((line.switch, line.ports[0]), SECONDS, source_address=(line.own, 0))
         except (ConnectionRefusedError, ConnectionResetError):
+            self.calls_at = time.monotonic() + PAUSE
             return
         out.setblocking(False)
         out.setsockopt(socket.IPPROTO_TCP, socket.TCP_NODELAY, 1)
@@ -196,7 +202,7 @@ class Lines:
     def serves(self, seconds):
         """Sends what waits and reads what comes, for so long at most where nothing does."""
         for line in self.lines:
-            if line.out is None and line.is_present and self.is_up:
+            if line.out is None and line.is_present and self.is_up and line.switch is not None:
                 self.calls(line)
             if line.queue and line.out is not None:
                 self.sends(line)

@@ -5,8 +5,10 @@ import resource
 import shutil
 import signal
 import subprocess
+import tempfile
 import time
 
+from gate import Folder
 from hub.reference import Lost
 from network import Standby, accepted_and_drawn
 
@@ -14,7 +16,7 @@ SECONDS = 600
 CONNECTIONS = 1_000
 DISK_FAULT = 6
 # Where the disk is full, there is room for so many bytes more.
-ROOM = 50_000
+ROOM = 20_000
 
 
 class Station:
@@ -148,15 +150,12 @@ class Station:
 
     def takes_over_from(self, old, new):
         """Whether the program's `migrate` takes a journal over from one directory to another; tried over an empty journal."""
-        with_old = Station.__new__(Station)
-        with_old.program, with_old.folder = self.program, os.path.join(self.top, 'tried')
-        shutil.rmtree(with_old.folder, ignore_errors=True)
-        os.makedirs(with_old.folder)
-        with_old.writes(old)
-        with_old.wants('init', with_old.call('init'), (0, b'', ''))
-        os.replace(with_old.path('directory.toml'), with_old.path('directory.old.toml'))
-        with_old.writes(new)
-        return with_old.call('migrate')[0] == 0
+        with tempfile.TemporaryDirectory(dir=self.top) as at:
+            tried = Folder(self.program, at, old.text())
+            self.wants('init', tried.run('init'), (0, b'', ''))
+            os.replace(tried.path('directory.toml'), tried.path('directory.old.toml'))
+            tried.write('directory.toml', new.text())
+            return tried.run('migrate')[0] == 0
 
     def follows(self):
         """The standby follows, beside the running switch or behind its end. Under a new directory it begins anew."""
