@@ -93,7 +93,8 @@ class HubDirectory(Directory):
         if circuit in self.closed:
             return [*rows, 'closed = true']
         rows += [f'repeat = {self.repeat}'] if self.repeat > 1 else []
-        return [*rows, f'input = {self.ports[circuit][0]}', f'output = {self.ports[circuit][1]}', f'host = "{self.host(circuit)}"']
+        rows += [f'input = {self.ports[circuit][0]}', f'output = {self.ports[circuit][1]}']
+        return [*rows, f'host = "{self.host(circuit)}"']
 
     def text(self):
         rows = [f'centre = "{self.centre}"', f'window = {self.window}', f'limit = {self.limit}', f'address = "{self.net[0]}"']
@@ -105,11 +106,10 @@ class HubDirectory(Directory):
             rows += ['[[level]]', f'tt = "{letters}"', f'level = {level}']
         return '\n'.join(rows).encode() + b'\n'
 
-    def with_rules(self, rules, circuits=None, closed=None):
-        """The same hub under other rules, with so many circuits, and these of them closed."""
-        ports = self.ports if circuits is None else self.ports + [(self.ports[-1][0] + 1 + place, self.ports[-1][1])
-                                                                 for place in range(circuits - len(self.ports))]
-        return HubDirectory(rules, self.window, self.net, ports, self.limit, self.repeat, self.closed if closed is None else closed)
+    def with_rules(self, rules, ports=None, closed=None):
+        """The same hub under other rules, with a circuit for each pair of these ports, and these circuits closed."""
+        return HubDirectory(rules, self.window, self.net, ports or self.ports, self.limit, self.repeat,
+                            self.closed if closed is None else closed)
 
     def goes_to(self, circuit, heading):
         """The circuits that a bulletin goes to which came in on this one. What its front fits is looked up once, rule by rule."""

@@ -79,8 +79,9 @@ class Measures:
         journal, memory = station.journal_bytes(), station.memory()
         self.most_journal, self.most_memory = max(self.most_journal, journal), max(self.most_memory, memory)
         if self.rows:
-            self.rows.writerow([f'{now - self.begun:.2f}', *place, messages, reference.accepted, frames, *(f'{rate:.0f}' for rate in rates),
-                                *shares, journal, memory, station.all_syncs(), starts, station.compactions, f'{1000 * self.pause:.1f}'])
+            self.rows.writerow([
+                f'{now - self.begun:.2f}', *place, messages, reference.accepted, frames, *(f'{rate:.0f}' for rate in rates),
+                *shares, journal, memory, station.all_syncs(), starts, station.compactions, f'{1000 * self.pause:.1f}'])
             self.file.flush()
         self.pause = 0.0
 

@@ -37,7 +37,7 @@ class Ledger:
 
     def __init__(self, name, digits, kept, in_work):
         self.name, self.digits, self.kept, self.in_work = name, digits, kept, in_work
-        # Routed to it, and not known to have been drawn: in order, and those that may have waited at the last draw that was judged.
+        # Routed here and not known to have been drawn: in order, and those that may have waited at the last draw that was judged.
         self.routed, self.waiting = deque(), []
         # Draws from 0 to `next` were judged; `early` stand behind a hole; `top` is behind the greatest that came.
         self.next = self.top = 0

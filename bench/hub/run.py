@@ -19,8 +19,8 @@ BESIDE = 90_000_000
 
 
 class Run:
-    """A switch, its neighbours, and the reference. `words` are those of the call: `seed`, `messages`, `rate`, `patience`, `csv`, `every`
-    and `broken`, which is what is wrong on purpose."""
+    """A switch, its neighbours, and the reference. `words` are those of the call: `seed`, `messages`, `rate`, `patience`, `csv`,
+    `every` and `broken`, which is what is wrong on purpose."""
 
     def __init__(self, words, station, directory):
         self.words, self.messages = words, words.messages
@@ -114,8 +114,9 @@ class Run:
         rows = []
         for line in self.lines.lines:
             ledger = self.reference.ledgers[line.circuit]
-            found = {'receipts': len(line.sent), 'to send': len(line.queue), 'frames': ledger.behind, 'holes': sorted(ledger.holes)[:5],
-                     'asked for': sorted(ledger.wanted)[:5], 'to ask for': sorted(ledger.again)[:5]}
+            found = {'receipts': len(line.sent), 'to send': len(line.queue), 'frames': ledger.behind,
+                     'holes': sorted(ledger.holes)[:5], 'asked for': sorted(ledger.wanted)[:5],
+                     'to ask for': sorted(ledger.again)[:5]}
             if self.is_there(line) and any(found.values()):
                 rows.append(f'{ledger.name}: {({name: value for name, value in found.items() if value})}')
         return '; '.join(rows[:3]) or 'nothing lacks'
@@ -128,7 +129,8 @@ class Run:
 
     def is_done(self):
         """Whether each message has its receipt, each bulletin has come everywhere, and all that was asked for has come."""
-        return self.state() == (0, 0) and not any(ledger.holes or ledger.wanted or ledger.again for ledger in self.reference.ledgers)
+        lack = any(ledger.holes or ledger.wanted or ledger.again for ledger in self.reference.ledgers)
+        return self.state() == (0, 0) and not lack
 
     # Requests.
 

@@ -48,7 +48,8 @@ class Station:
             file.write(directory.text())
 
     def call(self, *words):
-        done = subprocess.run([self.program, *words], cwd=self.folder, stdin=subprocess.DEVNULL, capture_output=True, timeout=SECONDS)
+        done = subprocess.run([self.program, *words], cwd=self.folder, stdin=subprocess.DEVNULL, capture_output=True,
+                              timeout=SECONDS)
         return done.returncode, done.stdout, done.stderr.decode().partition('\n')[0].removeprefix('gts_switch: ')
 
     # Starts and ends.

@@ -1,6 +1,7 @@
-"""What comes to a hub: the same messages for the same seed. A day has bursts on the hour, most at the main hours and fewer at those
-between; six bulletins of ten are short, three have some kilobytes, one is binary and has up to 200. Some come over a second way too;
-some messages have a fault, some lines bring noise, and neighbours ask for repetitions. Now and then comes a warning of a tsunami."""
+"""What comes to a hub: the same messages for the same seed. A day has bursts on the hour, most at the main hours and fewer at
+those between; six bulletins of ten are short, three have some kilobytes, one is binary and has up to 200. Some come over a second
+way too; some messages have a fault, some lines bring noise, and neighbours ask for repetitions. Now and then comes a warning of a
+tsunami."""
 import heapq
 import math
 import random
@@ -111,7 +112,8 @@ class Traffic:
         if sort == 'binary':
             size = int(math.exp(self.chance.uniform(math.log(least), math.log(most))))
             begin = self.chance.randrange(POOL)
-            return b'BUFR%c%c%c\x04%08d' % (size >> 16, size >> 8 & 255, size & 255, self.serial) + self.noise[begin:begin + size - 16]
+            front = b'BUFR' + size.to_bytes(3, 'big') + b'\x04%08d' % self.serial
+            return front + self.noise[begin:begin + size - len(front)]
         size = self.chance.randrange(least, most)
         begin = 6 * self.chance.randrange((POOL - size) // 6)
         return b'%08d ' % self.serial + self.words[begin:begin + size - 10].rstrip(b'\r\n ') + b'='
@@ -125,8 +127,8 @@ class Traffic:
     def warning(self, letters, time_of_day):
         self.serial += 1
         of = self.chance.randrange(CIRCUITS)
-        text = b'%08d WARNING FOR THE COASTS OF THE EASTERN CARIBBEAN=' % self.serial
-        return of, Message(BULLETIN, body_of(b'%s%s01 %s %s' % (letters.encode(), country(of).encode(), peer(of).encode(), time_of_day), text))
+        heading = f'{letters}{country(of)}01 {peer(of)} '.encode() + time_of_day
+        return of, Message(BULLETIN, body_of(heading, b'%08d WARNING FOR THE COASTS OF THE EASTERN CARIBBEAN=' % self.serial))
 
     def refused(self, time_of_day):
         of, heading = self.heading('short', time_of_day)
