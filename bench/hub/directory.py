@@ -12,15 +12,15 @@ SHORT = ['SM', 'SI', 'SN', 'SA', 'SP', 'FT', 'FC', 'US', 'UE', 'SH']
 LONG = ['FA', 'FP', 'NO', 'SX', 'CS', 'FB']
 BINARY = ['IS', 'IU', 'HT', 'HP']
 WARNING, TSUNAMI = 'WW', 'WE'
-LEVELS = [('WE', 1), ('W*', 2), ('I*', 4), ('H*', 4)]
-OBSERVATION = 3
+TSUNAMI_LEVEL, OBSERVATION = 1, 3
+LEVELS = [('WE', TSUNAMI_LEVEL), ('W*', 2), ('I*', 4), ('H*', 4)]
 # To how many circuits a rule leads what comes of a country, and of a kind. Together they name ten or so.
 BY_COUNTRY, BY_KIND, BY_WARNING = 6, 5, 20
 # Every so many circuits has numbers of three digits; the others have five.
 SHORT_NUMBERS = 4
 # What a number of so many digits comes round at, and how many draws are kept.
 ROUND = {3: 1_000, 5: 100_000}
-KEPT = {3: 1_000, 5: 2_000}
+KEPT = {3: 500, 5: 1_000}
 LIMIT = 1 << 30
 
 

@@ -48,7 +48,9 @@ class Ledger:
         self.wanted, self.may_come, self.again = set(), Counter(), set()
         # The draw with which the circuit begins behind an opening; and whether the first frame of a return is still to come.
         self.first, self.returned_at = None, None
-        self.behind = self.repeated = self.overtook = 0
+        self.behind = self.repeated = 0
+        # How many draws of each level went before something that had been accepted before them.
+        self.overtook = Counter()
 
     def lost(self, what):
         raise Lost(f'circuit {self.name}: {what}')
@@ -110,7 +112,7 @@ class Ledger:
             self.lost(f'{self.number_of(index)} is of level {bulletin.level} and position {bulletin.position}; of level and '
                       f'position {self.waiting[:1]} had to go before')
         heapq.heappop(self.waiting)
-        self.overtook += any(key[1] < bulletin.position for key in self.waiting[:3])
+        self.overtook[bulletin.level] += any(position < bulletin.position for _, position in self.waiting[:3])
         self.behind -= 1
 
     def asked(self, indices):
