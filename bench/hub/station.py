@@ -19,6 +19,11 @@ DISK_FAULT = 6
 ROOM = 20_000
 
 
+def serves_always(program):
+    """Whether a program knows a service without an end, which makes room in its journal by itself."""
+    return b'serve always' in subprocess.run([program, '--help'], capture_output=True, timeout=SECONDS).stdout
+
+
 class Station:
     """The built switch of a hub. `is_always` is whether it knows a service without an end."""
 
@@ -30,8 +35,7 @@ class Station:
         # Where a sync is counted, and how far that was read.
         self.trace, self.traced = None, 0
         self.standby = None
-        told = subprocess.run([program, '--help'], capture_output=True, timeout=SECONDS, cwd=folder).stdout
-        self.is_always = b'serve always' in told or b'always]' in told
+        self.is_always = serves_always(program)
         os.makedirs(self.folder)
         self.writes(directory)
         self.wants('init', self.call('init'), (0, b'', ''))
