@@ -171,13 +171,15 @@ class State:
             whole = places == list(range(len(places))) and ends == [len(places) % 26]
             yield f'segments {heading.decode()} {"complete" if whole else "partial"} {len(sets[heading])}'
 
-    def report(self):
+    def report(self, used):
+        """What `show` says, with so many bytes of the journal in use."""
         lines = [f'accepted {self.accepted}']
         for circuit, name in enumerate(self.directory.names):
             draws = self.draws(circuit)
             last = f'{draws % 1000:03}' if draws else '-'
             lines.append(f'circuit {circuit:02} {name} draws {draws} waiting {len(self.waiting[circuit])} last {last}')
-        return '\n'.join([*lines, *self.segments(), 'end']).encode() + b'\n'
+        journal = f'journal used {used} limit {self.directory.limit}'
+        return '\n'.join([*lines, *self.segments(), journal, 'end']).encode() + b'\n'
 
 
 # Records. A record has a size by its bytes alone, and may stand somewhere by the state.
@@ -363,6 +365,10 @@ class Journal:
         self.records.append(record)
         self.seals.append(seal)
         self.gate += 1 + len(record) + SEAL
+
+    def report(self):
+        """What `show` says of it."""
+        return self.state.report(self.gate + 1)
 
     def feed(self):
         """What is shipped of it."""

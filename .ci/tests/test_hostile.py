@@ -43,8 +43,9 @@ class Runs(Folder):
         """What both commands answer to these files."""
         self.lay(files)
         try:
-            state = Journal(DIRECTORY, files).state
-            self.wants(f'{what}, show', self.run('show'), (0, state.report(), ''))
+            journal = Journal(DIRECTORY, files)
+            state = journal.state
+            self.wants(f'{what}, show', self.run('show'), (0, journal.report(), ''))
             self.wants(f'{what}, the journal behind it', self.read('journal.0'), files[0])
             self.wants(f'{what}, replay', self.run('replay'), (0, b'', ''))
             self.wants(f'{what}, its frames', self.all_frames(), [state.drained(circuit) for circuit in CIRCUITS])

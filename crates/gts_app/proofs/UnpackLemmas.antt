@@ -19,6 +19,7 @@ use Rattle.gts_replay.specs.declared.end.ReplayEnd.TheVariants as end
 use Rattle.gts_replay.specs.{HasReplayCause}
 use Rattle.gts_accum.specs.File.{badplace}
 use Rattle.gts_accum.specs.Capture.{captured}
+use Rattle.gts_accum.specs.Traced.{IsLeft}
 use Rattle.gts_unpack.specs.declared.end.UnpackEnd.{UnpackEnd}
 use Rattle.gts_unpack.specs.declared.end.UnpackEnd.TheVariants.{Bad, Ended}
 use Rattle.gts_unpack.specs.{IsEndOf, IsEndAt, Unpacks as Runs, HasUnpackCause}
@@ -67,12 +68,13 @@ IsOther Words r = ⊥
 IsOther (Accum at) r = ⊥
 IsOther (Feed at) r = ⊥
 IsOther (Diverged index own fed) r = ⊥
+IsOther SourceFault r = r ≡ end.SourceFault
 IsOther _ r = Unit {0}
 
 is-other : (r : ReplayEnd) → IsOther (status_of r) r
 is-other end.Done = refl
 is-other (end.Capture at) = tt
-is-other end.SourceFault = tt
+is-other end.SourceFault = refl
 is-other (end.Reopen opening.NoJournal) = tt
 is-other (end.Reopen opening.OldVersion) = tt
 is-other (end.Reopen (opening.NotThis want found)) = tt
@@ -108,6 +110,14 @@ done-is : (result : UnpackEnd) → status_unpacked result ≡ Done → result �
 done-is (Bad p) is = absurd (cc)
 done-is (Ended r) is = ap (λ (x : ReplayEnd). Ended x) (other r Done is)
 
+fault-is : (result : UnpackEnd) → status_unpacked result ≡ SourceFault → result ≡ Ended end.SourceFault
+fault-is (Bad p) is = absurd (cc)
+fault-is (Ended r) is = ap (λ (x : ReplayEnd). Ended x) (other r SourceFault is)
+
+-- nothing was taken of a file
+untouched : (file : List ℕ) (c : ℕ) → IsLeft file file c (captured file c)
+untouched file c = record { taken = []; given = []; due = captured [] c; read = refl; capture = refl; part = refl; short = omega arith }
+
 -- ---- causes
 
 replayed-cause : (r : ReplayEnd) (result : UnpackEnd) (disk disk_now say say_now source source_now : ℕ) → IsEndOf r result
@@ -136,7 +146,7 @@ present d bytes c here read none =
 pub unpacks : {S P : Type 0} (source : SourceMeanings S) (w : StationMeanings P) (c : ℕ) (result : UnpackEnd) (od nd oc nc : S) (old : P) (first last : Engine P)
     → Opens source w (Ok first) od nd old
     → ((n : Need) (es : List Entry) → IsTrue (keeps_one first.directory) → IsTrue (is_sound first.directory n) → KeepsLaws first.directory n es)
-    → Runs (switch_meanings w.tells w.calls) w.tells source.tells result first last (source.left oc) c
+    → Runs (switch_meanings w.tells w.calls) w.tells source.tells result first last (source.left oc) (source.left nc) c
     → length first.directory.circuits ≤ 100 → c < length first.directory.circuits → (source.tells → directory_of_bytes (source.left od) ≡ Ok first.directory)
     → HasUnpackCause result (w.disk_faults first.station) (w.disk_faults last.station) (w.say_faults first.station) (w.say_faults last.station) (source.faults oc) (source.faults nc)
     → (w.tells → last.stopped ≡ None → OpensWith last.directory (seen (w.calls last.station)) last.used)
@@ -153,6 +163,7 @@ unpacks source w c result od nd oc nc old first last opens laws run narrow here 
         replays = replays source (capture_meanings source) w run.replayed od nd (unpacked (captured (source.left oc) c) oc) (unpacked run.left nc) old first last opens laws
             (λ told n stands. run.ends (record { told = told; origin = origin_of w.calls first n }) [] stands) narrow
             (replayed-cause run.replayed result _ _ _ _ (source.faults oc) (source.faults nc) run.is cause) files;
+        source_fault = λ e tells. run.source (fault-is result e) tells;
       };
       accum = λ at is tells told. let P : UnpackEnd → Type 0 = λ e. IsEndAt (badplace (source.left oc)) e in subst P (bad-is result at is) (place tells told);
       done = λ is tells told. let P : UnpackEnd → Type 0 = λ e. IsEndAt (badplace (source.left oc)) e in subst P (done-is result is) (place tells told);
@@ -202,6 +213,7 @@ unbegun source w c status od nd oc old new result is h circuit =
         is = refusal-is status ends;
         left = captured (source.left oc) c;
         replays = refused Journaled source (capture_meanings source) w status od nd file old new result is h;
+        source_fault = λ e tells. inr (untouched (source.left oc) c);
       };
       accum = λ at e. absurd (subst IsRefusal e ends);
       done = λ e. absurd (subst IsRefusal e ends);
@@ -277,6 +289,7 @@ unread source w c od oc old =
         left = captured (source.left oc) c;
         replays = out_of_memory Journaled source (capture_meanings source) w od od file old old (λ told. inr (inl refl)) refl (omega arith)
             (λ tells. ([], refl, omega arith)) (omega arith);
+        source_fault = λ e tells. inr (untouched (source.left oc) c);
       };
       accum = λ at is. absurd (cc);
       done = λ is. absurd (cc);

@@ -1,5 +1,5 @@
 -- What each end of the command `unpack` means for what it works on.
-use Rattle.std.specs.Prelude.{◌≡◌, ◌⊎◌, ℕ, ◌+◌, ◌≤◌, List, ◌++◌, length, Some, None, Ok}
+use Rattle.std.specs.Prelude.{◌≡◌, ◌⊎◌, ℕ, ◌+◌, ◌≤◌, List, [], ◌++◌, length, Some, None, Ok}
 use Rattle.gts_traits.specs.declared.source.Source.{Ghosts as SourceMeanings}
 use Rattle.gts_traits.specs.declared.station.Station.{Ghosts as StationMeanings}
 use Rattle.gts_traits.specs.Counts.{Rose}
@@ -9,10 +9,11 @@ use Rattle.gts_dirfile.specs.{directory_of_bytes}
 use Rattle.gts_connection.specs.declared.kind.CaptureKind.TheVariants.{Journaled}
 use Rattle.gts_accum.specs.File.{badplace}
 use Rattle.gts_accum.specs.Capture.{captured}
+use Rattle.gts_accum.specs.Traced.{IsLeft}
 use Rattle.gts_unpack.specs.declared.end.UnpackEnd.{UnpackEnd}
 use Rattle.gts_unpack.specs.declared.end.UnpackEnd.TheVariants.{Bad, Ended}
 use Rattle.gts_app.specs.declared.status.Status.{Status}
-use Rattle.gts_app.specs.declared.status.Status.TheVariants.{Done, Words, Capture, Accum, NoMemory}
+use Rattle.gts_app.specs.declared.status.Status.TheVariants.{Done, Words, Capture, Accum, SourceFault, NoMemory}
 use Rattle.gts_app.specs.Ending.{status_of}
 use Rattle.gts_app.specs.Replay.{World, world, Replays}
 
@@ -54,6 +55,9 @@ pub record ReplaysFile {S P : Type 0} (source : SourceMeanings S) (station : Sta
   pub replays : Replays Journaled source (capture_meanings source) station replayed
       (world old.directory (unpacked (captured (source.left old.capture) c) old.capture) old.station)
       (world new.directory (unpacked left new.capture) new.station)
+  -- where the source failed, all of it was run, or what the bytes stand for that were taken of the file, but for a few bytes
+  pub source_fault : status ≡ SourceFault → source.tells
+      → (left ≡ []) ⊎ IsLeft (source.left old.capture) (source.left new.capture) c left
 
 -- For each status, what it means for the world before and after, and what holds of every run.
 pub record Unpacks {S P : Type 0} (source : SourceMeanings S) (station : StationMeanings P) (c : ℕ) (status : Status)

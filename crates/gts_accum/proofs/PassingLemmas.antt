@@ -1,0 +1,84 @@
+-- What calls make of a file whose source tells, one after another.
+use Rattle.std.proofs.Common.{◌≡◌, ◌≤◌, List, ℕ, [], ◌∷◌, ◌++◌, length, take, Result, Ok, Err, refl, sym, ap, ◌∙◌, append_assoc, arith}
+use Rattle.std.proofs.lemmas.List.{append-nil, length-append}
+use Rattle.gts_traits.specs.{Takes}
+use Rattle.gts_accum.specs.declared.limits.TheConstants.{MOST_DUE}
+use Rattle.gts_accum.specs.File.{reading}
+use Rattle.gts_accum.specs.Unpacking.{Unpacking, Rest, ahead, ahead_of, behind, capture_left, due, rest_of, Passes}
+use Rattle.gts_accum.specs.Traced.{Covers, IsLeft}
+use Rattle.gts_accum.proofs.UnpackingLemmas.{with_bad}
+
+no-front : (xs ys : List ℕ) → xs ++ ys ≡ [] → (xs ≡ []) × (ys ≡ [])
+no-front [] ys e = (refl, e)
+no-front (x ∷ xs) ys e = absurd (cc)
+
+-- no more is left behind a read than before it
+pub takes_shorter : {E : Type 0} (result : Result ℕ E) (old new into : List ℕ) → Takes result old new into → length new ≤ length old
+takes_shorter (Ok count) old new into is = omega (arith, ap length is.0, length-append (take count into) new)
+takes_shorter (Err e) old new into is = omega (arith, ap length is)
+
+behind-both : (g h : List ℕ) (x : Rest) → behind g (behind h x) ≡ behind (g ++ h) x
+behind-both g h x = ap (λ (t : List ℕ). with_bad t x.bad) (sym (append_assoc g h x.text))
+
+module _ {S : Type 0} (left : S → List ℕ) where
+  -- nothing was taken
+  pub passes-still : (a b : Unpacking S) (given : List ℕ) → left b.source ≡ left a.source
+      → ((more : List ℕ) → ahead_of a more ≡ behind given (ahead_of b more)) → Passes left a b given
+  passes-still a b given same rest = record { taken = []; text = sym same; rest = λ more _. rest more }
+
+  -- the file has ended
+  pub passes-end : (a b : Unpacking S) → left a.source ≡ [] → left b.source ≡ left a.source → ahead left b ≡ ahead left a → Passes left a b []
+  passes-end a b empty same is = record {
+    taken = [];
+    text = sym same;
+    rest = λ more none.
+        let m : more ≡ [] = none (same ∙ empty) in
+        ap (ahead_of a) (m ∙ sym empty) ∙ sym is ∙ ap (ahead_of b) (same ∙ empty ∙ sym m);
+  }
+
+  -- one after another
+  pub passes-both : (a b c : Unpacking S) (g h : List ℕ) → Passes left a b g → Passes left b c h → Passes left a c (g ++ h)
+  passes-both a b c g h first second = record {
+    taken = first.taken ++ second.taken;
+    text = first.text ∙ ap (λ (l : List ℕ). first.taken ++ l) second.text ∙ sym (append_assoc first.taken second.taken (left c.source));
+    rest = λ more none.
+        let later : left b.source ≡ [] → second.taken ++ more ≡ [] = λ e.
+        let parts = no-front second.taken (left c.source) (sym second.text ∙ e) in
+        ap (λ (l : List ℕ). l ++ more) parts.0 ∙ none parts.1 in
+        ap (ahead_of a) (append_assoc first.taken second.taken more) ∙ first.rest (second.taken ++ more) later ∙ ap (behind g) (second.rest more none)
+        ∙ behind-both g h (ahead_of c more);
+  }
+
+  pub passes-then : (a b c : Unpacking S) (given : List ℕ) → Passes left a b [] → Passes left b c given → Passes left a c given
+  passes-then a b c given first second = passes-both a b c [] given first second
+
+  -- ---- a file from its first byte on
+
+  pub covers-fresh : (file : List ℕ) (c : ℕ) (u : Unpacking S) → left u.source ≡ file
+      → ((more : List ℕ) → ahead_of u more ≡ rest_of c (reading more)) → Covers left file c u
+  covers-fresh file c u whole fresh = record { taken = []; given = []; text = sym whole; rest = λ more _. sym (fresh more) }
+
+  pub covers-on : (file : List ℕ) (c : ℕ) (a b : Unpacking S) (g : List ℕ) → Covers left file c a → Passes left a b g → Covers left file c b
+  covers-on file c a b g k p = record {
+    taken = k.taken ++ p.taken;
+    given = k.given ++ g;
+    text = k.text ∙ ap (λ (l : List ℕ). k.taken ++ l) p.text ∙ sym (append_assoc k.taken p.taken (left b.source));
+    rest = λ more none.
+        let later : left a.source ≡ [] → p.taken ++ more ≡ [] = λ e.
+        let parts = no-front p.taken (left b.source) (sym p.text ∙ e) in
+        ap (λ (l : List ℕ). l ++ more) parts.0 ∙ none parts.1 in
+        ap (λ (l : List ℕ). rest_of c (reading l)) (append_assoc k.taken p.taken more) ∙ k.rest (p.taken ++ more) later
+        ∙ ap (behind k.given) (p.rest more none) ∙ behind-both k.given g (ahead_of b more);
+  }
+
+  pub is-left : (file : List ℕ) (c : ℕ) (u : Unpacking S) → Covers left file c u → length (due u) ≤ MOST_DUE
+      → IsLeft file (left u.source) c (capture_left left u)
+  is-left file c u k few = record {
+    taken = k.taken;
+    given = k.given;
+    due = due u;
+    read = k.text;
+    capture = ap (λ (r : Rest). r.text) (ap (λ (l : List ℕ). rest_of c (reading l)) k.text ∙ k.rest (left u.source) (λ e. e));
+    part = ap (λ (r : Rest). r.text) (ap (λ (l : List ℕ). rest_of c (reading l)) (sym (append-nil k.taken)) ∙ k.rest [] (λ _. refl));
+    short = few;
+  }
