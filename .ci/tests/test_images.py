@@ -186,11 +186,11 @@ class Run:
     def read(self, image):
         """What an image opens to by a plain reading; the program is asked once for each."""
         if tuple(image) not in self.known:
-            state = Journal(DIRECTORY, image).state
-            self.known[tuple(image)] = state
+            journal = Journal(DIRECTORY, image)
+            self.known[tuple(image)] = journal.state
             if len(self.known) % self.each == 0:
                 self.folder.lay(image)
-                self.folder.wants(f'{self.what}: an image, show', self.folder.run('show'), (0, state.report(), ''))
+                self.folder.wants(f'{self.what}: an image, show', self.folder.run('show'), (0, journal.report(), ''))
         return self.known[tuple(image)]
 
     def opens(self, at, image, said, moments):
@@ -201,9 +201,9 @@ class Run:
             self.folder.faults.append(f'{self.what}: an image at call {at} does not open: {wrong}')
             return
         if key_of(state) not in moments:
-            self.folder.faults.append(f'{self.what}: an image at call {at} opens to nothing that was: {state.report()!r}')
+            self.folder.faults.append(f'{self.what}: an image at call {at} opens to nothing that was: accepted {state.accepted}')
         if not said.is_in(state):
-            self.folder.faults.append(f'{self.what}: an image at call {at} lacks what was said: {state.report()!r}')
+            self.folder.faults.append(f'{self.what}: an image at call {at} lacks what was said: accepted {state.accepted}')
 
     def goes(self):
         """All images, at each moment between two calls and inside the one behind it."""
