@@ -1,4 +1,3 @@
-use Rattle.std.proofs.Common.{◌≡◌, ℕ, List}
 use Rattle.gts_accum.specs.Parts.{unpacking_of}
 use Rattle.gts_accum.specs.Unpacking.{given_by}
 use Rattle.gts_accum.proofs.PassingLemmas.{passes-then}
