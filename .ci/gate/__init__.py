@@ -1,6 +1,7 @@
 """What the scripts of the gate share: the program that they try, a folder in which it runs, a limit on how long they take, what they
 found, and how they are called. Frames, neighbours and a switch that serves are in bench/loopback.py, the plain reading of the
-formats is in bench/journal.py, and a network of centres in bench/network.py; both folders are on the path behind `import gate`.
+formats is in bench/journal.py, hosts of their own are in bench/hosts.py, and a network of centres is in bench/network.py; these
+folders are on the path behind `import gate`.
 
 A script is called as `NAME [PROGRAM] [--break FAULT] [--seed N] [-k WORDS]`. With `--break` one thing is wrong on purpose, and the
 script must fail: `.ci/sees` tries each of these, and every script with a program that does nothing."""
