@@ -21,6 +21,8 @@ use Rattle.gts_app.specs.declared.status.Status.{Status}
 use Rattle.gts_traits.specs.declared.source.Source.{Ghosts as SourceMeanings}
 use Rattle.gts_traits.specs.declared.station.Station.{Ghosts as StationMeanings}
 use Rattle.gts_missing.specs.declared.moment.Moment.{Moment}
+use Rattle.gts_receiver.specs.declared.limits.TheConstants.{WITHOUT_END}
+use Rattle.gts_serve.specs.{LinesSeen}
 
 -- which commands are built
 abbrev pub IsBuilt : Command → Type 0
@@ -77,3 +79,12 @@ OpensJournal source station command status old new =
     × Compacts source station status old.directory old.station new.directory new.station)
     × (command ≡ Some Ship → (new.capture ≡ old.capture)
     × ShipsFeed source station status old.directory old.station new.directory new.station)
+
+-- what comes of the commands that serve the circuits, each over so many connections: a service over those without end
+abbrev pub ServesCircuits : {S P : Type 0} → SourceMeanings S → StationMeanings P → (source_tells sink_tells : Type 0) → Option Command → Status
+    → (old new : World S S P) → (before now : LinesSeen) → Type 0
+ServesCircuits source station source_tells sink_tells command status old new before now =
+    ((n : ℕ) → command ≡ Some (Serve n) → (new.capture ≡ old.capture)
+    × Serves source station source_tells sink_tells n status old.directory old.station before new.directory new.station now)
+    × (command ≡ Some ServeAlways → (new.capture ≡ old.capture)
+    × Serves source station source_tells sink_tells WITHOUT_END status old.directory old.station before new.directory new.station now)

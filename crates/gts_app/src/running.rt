@@ -1,8 +1,7 @@
 ghost use Rattle.std.specs.Prelude.{◌≡◌, ◌⊎◌, ℕ, Some};
-ghost use Rattle.gts_receiver.specs.declared.limits.TheConstants.{WITHOUT_END};
 ghost use Rattle.gts_words.specs.{command_of};
 ghost use Rattle.gts_serve.specs.{lines_seen as seen};
-ghost use Rattle.gts_app.specs.Commands.{IsCommand, IsSettled, Inits, Replays, world, IsNoCapture, Serves, Generates, OpensJournal, ReadsApart};
+ghost use Rattle.gts_app.specs.Commands.{IsCommand, IsSettled, Inits, Replays, world, IsNoCapture, ServesCircuits, Generates, OpensJournal, ReadsApart};
 
 use crate::Status;
 use crate::commands::compact::compact;
@@ -72,12 +71,9 @@ where
         (world directory.old capture station) (world directory.new result.2 result.1) }
     ensures journal { OpensJournal S.Source P.Station (command_of words.now) result.0
         (world directory.old capture station) (world directory.new result.2 result.1) }
-    ensures serve { (n : ℕ) → command_of words.now ≡ Some (Command.Serve n) → (result.2 ≡ capture)
-        × Serves S.Source P.Station L.In.tells L.Out.tells n result.0 directory.old station
-        (seen L.Lines lines.old) directory.new result.1 (seen L.Lines lines.new) }
-    ensures always { command_of words.now ≡ Some Command.ServeAlways → (result.2 ≡ capture)
-        × Serves S.Source P.Station L.In.tells L.Out.tells WITHOUT_END result.0 directory.old station
-        (seen L.Lines lines.old) directory.new result.1 (seen L.Lines lines.new) }
+    ensures serve { ServesCircuits S.Source P.Station L.In.tells L.Out.tells (command_of words.now)
+        result.0 (world directory.old capture station) (world directory.new result.2 result.1)
+        (seen L.Lines lines.old) (seen L.Lines lines.new) }
     ensures generate { (count : ℕ) → command_of words.now ≡ Some (Command.Generate count)
         → (directory.new ≡ directory.old) × (result.2 ≡ capture)
         × Generates P.Station result.0 count station result.1 }
