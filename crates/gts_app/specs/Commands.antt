@@ -81,8 +81,8 @@ OpensJournal source station command status old new =
     × ShipsFeed source station status old.directory old.station new.directory new.station)
 
 -- what comes of the commands that serve the circuits, each over so many connections: a service over those without end
-abbrev pub ServesCircuits : {S P : Type 0} → SourceMeanings S → StationMeanings P → (source_tells sink_tells : Type 0) → Option Command → Status
-    → (old new : World S S P) → (before now : LinesSeen) → Type 0
+abbrev pub ServesCircuits : {S P : Type 0} → SourceMeanings S → StationMeanings P → (source_tells sink_tells : Type 0)
+    → Option Command → Status → (old new : World S S P) → (before now : LinesSeen) → Type 0
 ServesCircuits source station source_tells sink_tells command status old new before now =
     ((n : ℕ) → command ≡ Some (Serve n) → (new.capture ≡ old.capture)
     × Serves source station source_tells sink_tells n status old.directory old.station before new.directory new.station now)
