@@ -301,8 +301,3 @@ class Switch:
         with open(self.path('capture.gts'), 'wb') as file:
             file.write(capture)
         return self.run('replay', seconds)
-
-
-def knows_serve(program, folder):
-    """Whether the program has the command: an unknown word ends with status 2, and `serve` without a directory doesn't."""
-    return subprocess.run([program, 'serve'], cwd=folder, capture_output=True, timeout=60).returncode != 2

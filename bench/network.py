@@ -44,7 +44,6 @@ PIECE, DELAY = 4096, 0.002
 CALL = 60
 # How long nothing may have moved before the network counts as at rest.
 QUIET = 0.7
-USAGE = 2
 
 
 def neighbours_of(code):
@@ -122,11 +121,6 @@ def ports_below(count):
             continue
         found += [port] if port not in found else []
     return found
-
-
-def knows(program, word, folder):
-    """Whether a program has the command. In a folder without files a command that it has ends with another status."""
-    return subprocess.run([program, word], cwd=folder, capture_output=True, timeout=60).returncode != USAGE
 
 
 class Traffic:
@@ -261,8 +255,8 @@ def accepted_and_drawn(folder):
 class Centre:
     """A centre: the switch in a folder of its own, which is started and killed, and what it said in each of its runs."""
 
-    def __init__(self, program, folder, code, text, compacts, within=(), seconds=CALL):
-        self.program, self.folder, self.code, self.compacts, self.seconds = program, folder, code, compacts, seconds
+    def __init__(self, program, folder, code, text, within=(), seconds=CALL):
+        self.program, self.folder, self.code, self.seconds = program, folder, code, seconds
         # The words before the program where it serves, which say on which host.
         self.within = within
         self.circuits = [*neighbours_of(code), HOME]
@@ -277,9 +271,8 @@ class Centre:
         make_folder(program, folder, text, seconds)
 
     def start(self):
-        """As the unit does: compact, then serve. A program that has no such command is spared the call."""
-        if self.compacts:
-            self.wants('compact', self.call('compact')[0], 0)
+        """As the unit does: compact, then serve."""
+        self.wants('compact', self.call('compact')[0], 0)
         run = self.run + 1
         self.receipts[run] = os.path.join(self.folder, f'receipts.{run}')
         self.counts[run], self.read_to[run] = Counter(), 0
@@ -819,9 +812,7 @@ class Network:
     def __init__(self, program, folder, windows=None, hosts=None, relayed=(), idle=IDLE, patience=1):
         self.folder, self.program, self.hosts = folder, program, hosts
         self.relayed, self.idle = relayed if hosts else LINKS, idle
-        os.makedirs(os.path.join(folder, 'empty'))
-        self.compacts = knows(program, 'compact', os.path.join(folder, 'empty'))
-        self.has_standby = all(knows(program, word, os.path.join(folder, 'empty')) for word in ('ship', 'follow'))
+        os.makedirs(folder)
         self.addresses = {code: f'10.90.0.{k}' if hosts else f'127.0.1.{k}' for k, code in enumerate(NAMES, 1)}
         self.centres, self.feeders, self.readers, self.lines = {}, {}, {}, {}
         free = iter(ports_below(2 * sum(len(neighbours_of(code)) + 1 for code in NAMES)))
@@ -833,7 +824,7 @@ class Network:
             text = directory_text(code, self.addresses[code], [self.row(code, to, inputs) for to in [*neighbours_of(code), HOME]],
                                   (windows or {}).get(code, WINDOW))
             within = hosts.within(code) if hosts else ()
-            self.centres[code] = Centre(program, os.path.join(folder, code), code, text, self.compacts, within, CALL * patience)
+            self.centres[code] = Centre(program, os.path.join(folder, code), code, text, within, CALL * patience)
         self.cables = {link: Cable(hosts, *link, self.addresses) for link in LINKS if hosts}
         for code, centre in self.centres.items():
             self.feeders[code] = Feeder(centre, len(centre.circuits) - 1, self.place(code, inputs[code, HOME]))

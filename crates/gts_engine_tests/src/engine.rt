@@ -252,10 +252,10 @@ fn accepted_of(
     count: u32,
     draws: bool,
 ) -> u32 {
-    let mut accepted = 0;
+    let mut accepted: u32 = 0;
     for number in 0..count {
         if let Some(Outcome::Accepted { .. }) = heard_with_room(alloc, engine, &numbered(number)) {
-            accepted += 1;
+            accepted = accepted.saturating_add(1);
         }
         if draws {
             let _ = taken(engine, out, SayMode::Caller);
