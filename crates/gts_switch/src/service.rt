@@ -1,0 +1,125 @@
+//! The station of a service. A circuit may wait for its neighbour without an end, so a service whose disk or standard output has
+//! failed would stay up and deal with nothing: the process is ended where a call of its station fails.
+use crate::fault::{FaultLine, exit_status};
+use gts_app::Status;
+use gts_real::{Cause, FileStation};
+use gts_traits::{Failed, Station};
+use std::fs::File;
+use std::process::Abort;
+use std::rt::Files;
+
+/// Tells why the last call failed.
+pub trait Causes {
+    /// Of those on a journal file.
+    fn disk_cause(&self) -> Option<Cause>;
+
+    /// Of the says.
+    fn say_cause(&self) -> Option<Cause>;
+}
+
+impl<R: Files<File = File> + Print + AllocGlobal> Causes for FileStation<'_, R> {
+    fn disk_cause(&self) -> Option<Cause> {
+        FileStation::disk_cause(self)
+    }
+
+    fn say_cause(&self) -> Option<Cause> {
+        FileStation::say_cause(self)
+    }
+}
+
+/// Tells the operator of an end with a fault, and why a call on a file failed. Where it can't be told, the exit status still says
+/// the first.
+pub fn tell<R: Eprint>(rt: &R, status: Status, cause: Option<Cause>) {
+    let line = FaultLine(status);
+    let _ = eprintln!(rt; "gts_switch: {line}");
+    if let Some(cause) = cause {
+        let _ = eprintln!(rt; "gts_switch: {cause}");
+    }
+}
+
+/// A station that does what the one in it does. Where it is a service's, a call that fails ends the process, with the lines and the
+/// status of such an end.
+#[derive(Drop)]
+pub struct ServiceStation<'a, R: Eprint + Abort, P> {
+    pub rt: &'a R,
+    pub station: P,
+    pub is_service: bool,
+}
+
+impl<R: Eprint + Abort, P: Station + Causes> ServiceStation<'_, R, P> {
+    /// Ends a service whose disk failed.
+    fn looks_at_disk(&self, failed: bool) {
+        if failed && self.is_service {
+            self.end(Status::DiskFault, self.station.disk_cause());
+        }
+    }
+
+    /// Ends a service whose standard output failed.
+    fn looks_at_output(&self, failed: bool) {
+        if failed && self.is_service {
+            self.end(Status::SayFault, self.station.say_cause());
+        }
+    }
+
+    /// Ends the process.
+    fn end(&self, status: Status, cause: Option<Cause>) {
+        tell(self.rt, status, cause);
+        self.rt.exit(exit_status(status) as i32)
+    }
+}
+
+impl<R: Eprint + Abort, P: Station + Causes> Station for ServiceStation<'_, R, P> {
+    ghost tells = { P.tells };
+
+    ghost calls = { λ s. P.calls s.station };
+
+    ghost disk_faults = { λ s. P.disk_faults s.station };
+
+    ghost say_faults = { λ s. P.say_faults s.station };
+
+    ghost is_kept = { λ s. P.is_kept s.station };
+
+    ghost possible = { λ s told. P.possible s.station told };
+
+    fn size(&mut self, file: u32) -> Result<u64, Failed> {
+        let result = self.station.size(file);
+        self.looks_at_disk(result.is_err());
+        result
+    }
+
+    fn read(&mut self, file: u32, at: u64, into: &mut [u8]) -> Result<usize, Failed> {
+        let result = self.station.read(file, at, into);
+        self.looks_at_disk(result.is_err());
+        result
+    }
+
+    fn write_at(&mut self, file: u32, at: u64, bytes: &[u8]) -> Result<(), Failed> {
+        let result = self.station.write_at(file, at, bytes);
+        self.looks_at_disk(result.is_err());
+        result
+    }
+
+    fn cut(&mut self, file: u32, size: u64) -> Result<(), Failed> {
+        let result = self.station.cut(file, size);
+        self.looks_at_disk(result.is_err());
+        result
+    }
+
+    fn sync(&mut self) -> Result<(), Failed> {
+        let result = self.station.sync();
+        self.looks_at_disk(result.is_err());
+        result
+    }
+
+    fn say(&mut self, channel: u32, bytes: &[u8]) -> Result<(), Failed> {
+        let result = self.station.say(channel, bytes);
+        self.looks_at_output(result.is_err());
+        result
+    }
+
+    fn keep(&mut self) -> Result<(), Failed> {
+        let result = self.station.keep();
+        self.looks_at_output(result.is_err());
+        result
+    }
+}
