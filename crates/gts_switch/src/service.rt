@@ -1,11 +1,12 @@
-//! The station of a service. A circuit may wait for its neighbour without an end, so a service whose disk or standard output has
-//! failed would stay up and deal with nothing: the process is ended where a call of its station fails.
-use crate::fault::{FaultLine, exit_status};
+//! The station of a service. A circuit may wait for its neighbour without an end, and holds the end of the run up then. So where the
+//! disk or standard output of a service fails, that is told at once.
+ghost use Rattle.std.specs.Prelude.{◌≡◌};
+
+use crate::fault::FaultLine;
 use gts_app::Status;
 use gts_real::{Cause, FileStation};
 use gts_traits::{Failed, Station};
 use std::fs::File;
-use std::process::Abort;
 use std::rt::Files;
 
 /// Tells why the last call failed.
@@ -37,38 +38,40 @@ pub fn tell<R: Eprint>(rt: &R, status: Status, cause: Option<Cause>) {
     }
 }
 
-/// A station that does what the one in it does. Where it is a service's, a call that fails ends the process, with the lines and the
-/// status of such an end.
+/// A station that does what the one in it does. Where it is a service's, the first call that fails is told, with the lines of such an
+/// end.
 #[derive(Drop)]
-pub struct ServiceStation<'a, R: Eprint + Abort, P> {
+pub struct ServiceStation<'a, R: Eprint, P> {
     pub rt: &'a R,
     pub station: P,
     pub is_service: bool,
+    /// Whether a call that failed was told.
+    pub told: bool,
 }
 
-impl<R: Eprint + Abort, P: Station + Causes> ServiceStation<'_, R, P> {
-    /// Ends a service whose disk failed.
-    fn looks_at_disk(&self, failed: bool) {
-        if failed && self.is_service {
-            self.end(Status::DiskFault, self.station.disk_cause());
+impl<R: Eprint, P: Station + Causes> ServiceStation<'_, R, P> {
+    /// Tells that the disk of a service failed, unless a failure was told.
+    fn looks_at_disk(&mut self, failed: bool)
+        ensures { self.new.station ≡ self.old.station }
+    {
+        if failed && self.is_service && !self.told {
+            self.told = true;
+            tell(self.rt, Status::DiskFault, self.station.disk_cause());
         }
     }
 
-    /// Ends a service whose standard output failed.
-    fn looks_at_output(&self, failed: bool) {
-        if failed && self.is_service {
-            self.end(Status::SayFault, self.station.say_cause());
+    /// Tells that the standard output of a service failed, unless a failure was told.
+    fn looks_at_output(&mut self, failed: bool)
+        ensures { self.new.station ≡ self.old.station }
+    {
+        if failed && self.is_service && !self.told {
+            self.told = true;
+            tell(self.rt, Status::SayFault, self.station.say_cause());
         }
-    }
-
-    /// Ends the process.
-    fn end(&self, status: Status, cause: Option<Cause>) {
-        tell(self.rt, status, cause);
-        self.rt.exit(exit_status(status) as i32)
     }
 }
 
-impl<R: Eprint + Abort, P: Station + Causes> Station for ServiceStation<'_, R, P> {
+impl<R: Eprint, P: Station + Causes> Station for ServiceStation<'_, R, P> {
     ghost tells = { P.tells };
 
     ghost calls = { λ s. P.calls s.station };
