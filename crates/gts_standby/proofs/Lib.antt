@@ -20,3 +20,4 @@ pub mod HistoryLemmas
 mod ScannedLemmas
 mod StationLemmas
 mod PartLemmas
+pub mod SinceLemmas

@@ -16,6 +16,7 @@ mod piece;
 mod records;
 mod scanning;
 mod shipping;
+mod since;
 
 pub use end::FollowEnd;
 pub use fault::ShipFault;
@@ -26,4 +27,5 @@ pub use laws::{
     a_whole_feed_brings_a_standby_that_has_a_part,
     a_whole_feed_brings_a_standby_through_a_compaction,
 };
-pub use shipping::ship;
+pub use shipping::{ship, ship_since};
+pub use since::Since;
