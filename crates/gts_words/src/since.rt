@@ -10,6 +10,7 @@ use hex::{FromHex, encode_to_slice};
 
 /// The bytes of a seal, and the digits that spell it.
 const SEAL: usize = 32;
+
 const SEAL_DIGITS: usize = 2 * SEAL;
 
 /// The count of bytes that a word spells, in one to ten digits.
