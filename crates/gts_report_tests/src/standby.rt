@@ -1,7 +1,7 @@
 use gts_directory::Directory;
 use gts_fixtures::{is_same, two_circuits};
 use gts_memory::{MemSource, MemStation, Touched};
-use gts_standby::{FollowEnd, ShipFault, follow, ship};
+use gts_standby::{FollowEnd, ShipFault, Since, follow, ship, ship_since};
 use gts_traits::Station;
 use std::alloc::Global;
 use std::process::Abort;
@@ -89,6 +89,24 @@ fn the_header_and_each_record_with_its_seal_are_shipped(rt: HostRuntime) -> Resu
     assert!(rt; shipped(rt.alloc(), &mut station)? == Ok(()));
     let feed = feed_of_both(rt.alloc())?;
     assert!(rt; feed.len() == 172 && is_same(station.said(0), &feed));
+    Ok(())
+}
+
+/// What a standby has behind the first record: so many bytes, and its seal.
+fn behind_one() -> Since {
+    let mut seal = [0u8; 32];
+    for (byte, other) in seal.iter_mut().zip(piece(BOTH, 86, 118)) {
+        *byte = *other;
+    }
+    Since { used: 119, seal }
+}
+
+#[test]
+fn only_what_is_behind_a_standby_is_shipped(rt: HostRuntime) -> Result<(), Fail> {
+    let directory = two_circuits(rt.alloc())?;
+    let mut station = station_of(rt.alloc(), BOTH)?;
+    let shipped = ship_since(rt.alloc(), &mut station, &directory, &behind_one());
+    assert!(rt; shipped == Ok(()) && is_same(station.said(0), piece(BOTH, 119, 174)));
     Ok(())
 }
 
