@@ -21,13 +21,13 @@ use Rattle.gts_standby.specs.Comparing.{Leads}
 
 -- ---- the feed from a gate on
 
-abbrev feed_of_record : Version → ℕ → List ℕ → List ℕ → Option Record → List ℕ
+abbrev pub feed_of_record : Version → ℕ → List ℕ → List ℕ → Option Record → List ℕ
 feed_of_record v n before bytes o = elim o as (λ _. List ℕ) [
   | None ↦ []
   | Some r ↦ sealed v before (record_text r) ++ feed_at v n (seal v before (record_text r)) (drop (record_size v r - 1) bytes)
 ]
 
-abbrev feed_of_gate : Version → ℕ → List ℕ → List ℕ → Bool → List ℕ
+abbrev pub feed_of_gate : Version → ℕ → List ℕ → List ℕ → Bool → List ℕ
 feed_of_gate v n before bytes b = elim b as (λ _. List ℕ) [ false ↦ [] | true ↦ feed_of_record v n before bytes (sealed_at v before bytes) ]
 
 pub feed_one : (v : Version) (n file gate : ℕ) (before bytes : List ℕ) (r : Record) → entry_at v before file gate bytes ≡ Ok (Some r)

@@ -21,3 +21,4 @@ mod ScannedLemmas
 mod StationLemmas
 mod PartLemmas
 pub mod SinceLemmas
+mod BehindLemmas

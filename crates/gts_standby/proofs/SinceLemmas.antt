@@ -34,13 +34,13 @@ use Rattle.gts_standby.proofs.FirstLemmas.{by_admission, same_feed, behind_sync,
 
 -- ---- what is found at a gate
 
-abbrev by_record : Version → ℕ → List ℕ → ℕ → List ℕ → ℕ → List ℕ → Option texts.Record → Option (List ℕ)
+abbrev pub by_record : Version → ℕ → List ℕ → ℕ → List ℕ → ℕ → List ℕ → Option texts.Record → Option (List ℕ)
 by_record v n before gate bytes place last o = elim o as (λ _. Option (List ℕ)) [
   | None ↦ None
   | Some r ↦ behind_at v n (seal v before (record_text r)) (gate + record_size v r) (drop (record_size v r) bytes) place last
 ]
 
-abbrev by_place : Version → ℕ → List ℕ → ℕ → List ℕ → ℕ → List ℕ → Bool → Option (List ℕ)
+abbrev pub by_place : Version → ℕ → List ℕ → ℕ → List ℕ → ℕ → List ℕ → Bool → Option (List ℕ)
 by_place v n before gate bytes place last b =
     cond b (where_so (gate == place && pointwise nat_eq before last) (feed_at v (suc n) before bytes)) (by_record v n before gate bytes place last (record_at v before bytes))
 

@@ -1,5 +1,5 @@
 -- What of a feed is sent to a standby station that has a first part of it (profile).
-use Rattle.std.specs.Prelude.{◌≡◌, ◌<◌, ℕ, zero, suc, ◌+◌, ◌-◌, ◌≤◌, Bool, true, false, ◌==◌, ◌&&◌, nat_le, nat_eq, if◌then◌else◌, List, [], ◌∷◌, length, drop, Option, Some, None, Result, Ok, Err}
+use Rattle.std.specs.Prelude.{◌≡◌, ◌<◌, ℕ, zero, suc, ◌+◌, ◌-◌, ◌≤◌, Bool, true, false, ◌==◌, ◌&&◌, nat_le, nat_eq, if◌then◌else◌, ◌⊎◌, List, [], ◌∷◌, ◌++◌, length, take, drop, Option, Some, None, Result, Ok, Err}
 use Rattle.std.specs.Cmp.Lexicographic.{pointwise}
 use Rattle.gts_traits.specs.{Call, seen}
 use Rattle.gts_directory.specs.Directory.{Directory}
@@ -51,11 +51,29 @@ abbrev pub or_whole : List ℕ → Option (List ℕ) → List ℕ
 or_whole whole None = whole
 or_whole whole (Some left) = left
 
+-- what is behind so many bytes of a file, of which the last one is a closed gate with this seal before it
+abbrev pub found_since : Version → List ℕ → List ℕ → ℕ → List ℕ → Option (List ℕ)
+found_since v mark bytes used last = behind_place v (first_seal v mark) bytes (used - 1) (held v last) (is_checkpoint bytes)
+
 -- What is sent to a standby that has so many bytes of a journal, of which the last one is a closed gate with this seal before it: what
 -- is behind that gate in the file; the whole feed, where no gate is there with that seal.
 abbrev pub feed_since : Version → List ℕ → List ℕ → ℕ → List ℕ → List ℕ
-feed_since v mark bytes used last =
-    or_whole (feed v mark bytes) (behind_place v (first_seal v mark) bytes (used - 1) (held v last) (is_checkpoint bytes))
+feed_since v mark bytes used last = or_whole (feed v mark bytes) (found_since v mark bytes used last)
+
+-- a text ends with these bytes
+abbrev pub EndsWith : List ℕ → List ℕ → Type 0
+EndsWith text last = (records : List ℕ) × (text ≡ records ++ last)
+
+-- The whole is a front, and what is left. The front ends with the last seal; where it has no record, that is the seal before it.
+pub record IsBehindFront (whole before last left : List ℕ) : Type 0 where
+  pub front : List ℕ
+  pub is : whole ≡ front ++ left
+  pub ends : ((front ≡ []) × (before ≡ last)) ⊎ EndsWith front last
+
+-- the same of the feed of a file, behind its header
+abbrev pub HasFront : Version → List ℕ → List ℕ → List ℕ → List ℕ → Type 0
+HasFront v mark bytes last left =
+    (behind : List ℕ) × (feed v mark bytes ≡ take 40 bytes ++ behind) × IsBehindFront behind (first_seal v mark) last left
 
 -- what is to be said of the files to a standby that has this
 abbrev pub since_of : Directory → List Call → Since → List ℕ
