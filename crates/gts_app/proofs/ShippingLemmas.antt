@@ -1,5 +1,5 @@
 -- What `ship` comes to, from the directory and the feed.
-use Rattle.std.proofs.Common.{◌≡◌, ◌≤◌, ℕ, Option, Result, Ok, Err, inl, inr, refl, sym, ap, subst, arith}
+use Rattle.std.proofs.Common.{◌≡◌, ◌≤◌, ℕ, [], Option, Result, Ok, Err, inl, inr, refl, sym, ap, subst, arith}
 use Rattle.std.specs.Prelude.{IfErr, OnOk, IsErrOf}
 use Rattle.gts_traits.specs.declared.source.Source.{Ghosts as SourceMeanings}
 use Rattle.gts_traits.specs.declared.station.Station.{Ghosts as StationMeanings}
@@ -13,9 +13,19 @@ use Rattle.gts_standby.specs.declared.fault.ShipFault.TheVariants as ship
 use Rattle.gts_standby.specs.declared.since.Since.{Since}
 use Rattle.gts_standby.specs.{asked_of, ShipsOnly, IsShipFault, IsNamed}
 use Rattle.gts_app.specs.declared.status.Status.{Status}
+use Rattle.gts_app.specs.declared.status.Status.TheVariants.{NoMemory}
 use Rattle.gts_app.specs.Reading.{ReadsDirectory}
 use Rattle.gts_app.specs.Ship.{status_shipped, ShippedAs, ShipsFeed}
 use Rattle.gts_app.proofs.StreamLemmas.{Ended, ended}
+
+-- nothing was begun
+pub unread : {S P : Type 0} (since : Option Since) (source : SourceMeanings S) (station : StationMeanings P) (od : S) (at : P) → ShipsFeed since source station NoMemory od at od at
+unread since source station od at = record {
+  means = inl refl;
+  files = λ tells k. refl;
+  taken = λ tells. ([], refl, omega arith);
+  counts = (omega arith, omega arith, omega arith);
+}
 
 -- there is no directory
 pub ship_unread : {S P : Type 0} (since : Option Since) (source : SourceMeanings S) (station : StationMeanings P) (status : Status) (od nd : S) (at : P)
