@@ -29,6 +29,6 @@ returns g c =
     let read = subst (λ r. ReadsDirectory g.S.Source r od nd) c.in-Ok.is c.directory_of.ensures in
     let e = c.ship_since.ensures in
     let asked : c.args.since ≡ Some c.in-Some.since = c.in-Some.is in
-    subst (λ (s : Status). ShipsFeed c.args.since g.S.Source g.P.Station s od c.args.station.now nd c.ship_since.new.station) (sym c.status_of.ensures)
+    subst (λ (s : Status). ShipsFeed c.args.since g.S.Source g.P.Station s od c.args.station.now nd c.ship_since.new.station) (sym c.status_of-in-Some.ensures)
     (subst (λ (o : Option Since). ShipsFeed o g.S.Source g.P.Station (status_shipped c.ship_since.result) od c.args.station.now nd c.ship_since.new.station) (sym asked)
     (ship_ends (Some c.in-Some.since) g.S.Source g.P.Station c.in-Ok.accepted c.ship_since.result od nd c.args.station.now c.ship_since.new.station read e.said e.fault e.named e.disk_fault e.say_fault e.later e.say))
