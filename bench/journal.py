@@ -370,6 +370,16 @@ class Journal:
         """What `show` says of it."""
         return self.state.report(self.gate + 1)
 
+    def since(self, used, seal):
+        """What is shipped of it behind so many bytes with this seal; all, where no gate is there with that seal before it."""
+        gate, packed = HEADER, bool(self.records) and self.records[0][:1] == b'C'
+        for count in range(len(self.records) + 1):
+            if gate == used - 1 and self.seals[count] == seal and not (packed and count == 0):
+                return b''.join(record + last for record, last in zip(self.records[count:], self.seals[count + 1:]))
+            if count < len(self.records):
+                gate += 1 + len(self.records[count]) + SEAL
+        return self.feed()
+
     def feed(self):
         """What is shipped of it."""
         return self.file[:HEADER] + b''.join(record + seal for record, seal in zip(self.records, self.seals[1:]))

@@ -140,7 +140,7 @@ def test_what_is_installed(program, broken, tmp_path):
     wants('it tells of neighbours on other hosts', 'IPAddressAllow' in said, True)
     text = page_text(os.path.join(prefix, 'share/man/man1/gts_switch.1'))
     check_page(text.replace('EXIT STATUS', '').split(' 0 All was done')[0] if broken == 'page' else text)
-    for name in ('gts-switch-status', 'gts-switch-follow'):
+    for name in ('gts-switch-status', 'gts-switch-follow', 'gts-switch-ship'):
         wants(f'the page of {name}', f'{name} - ' in page_text(os.path.join(prefix, f'share/man/man1/{name}.1')), True)
     units = os.path.join(prefix, 'lib/systemd/system')
     for name in sorted(os.listdir(units)):

@@ -1,5 +1,5 @@
 -- What `ship` comes to, from the directory and the feed.
-use Rattle.std.proofs.Common.{◌≡◌, ◌≤◌, ℕ, Result, Ok, Err, inl, inr, refl, sym, ap, subst, arith}
+use Rattle.std.proofs.Common.{◌≡◌, ◌≤◌, ℕ, [], Option, Result, Ok, Err, inl, inr, refl, sym, ap, subst, arith}
 use Rattle.std.specs.Prelude.{IfErr, OnOk, IsErrOf}
 use Rattle.gts_traits.specs.declared.source.Source.{Ghosts as SourceMeanings}
 use Rattle.gts_traits.specs.declared.station.Station.{Ghosts as StationMeanings}
@@ -10,37 +10,48 @@ use Rattle.gts_dirfile.specs.{directory_of_bytes}
 use Rattle.gts_record.specs.declared.fault.OpenFault.TheVariants as opening
 use Rattle.gts_standby.specs.declared.fault.ShipFault.{ShipFault}
 use Rattle.gts_standby.specs.declared.fault.ShipFault.TheVariants as ship
-use Rattle.gts_standby.specs.{ShipsOnly, IsShipFault, IsNamed}
+use Rattle.gts_standby.specs.declared.since.Since.{Since}
+use Rattle.gts_standby.specs.{asked_of, ShipsOnly, IsShipFault, IsNamed}
 use Rattle.gts_app.specs.declared.status.Status.{Status}
+use Rattle.gts_app.specs.declared.status.Status.TheVariants.{NoMemory}
 use Rattle.gts_app.specs.Reading.{ReadsDirectory}
 use Rattle.gts_app.specs.Ship.{status_shipped, ShippedAs, ShipsFeed}
 use Rattle.gts_app.proofs.StreamLemmas.{Ended, ended}
 
+-- nothing was begun
+pub unread : {S P : Type 0} (since : Option Since) (source : SourceMeanings S) (station : StationMeanings P) (od : S) (at : P) → ShipsFeed since source station NoMemory od at od at
+unread since source station od at = record {
+  means = inl refl;
+  files = λ tells k. refl;
+  taken = λ tells. ([], refl, omega arith);
+  counts = (omega arith, omega arith, omega arith);
+}
+
 -- there is no directory
-pub ship_unread : {S P : Type 0} (source : SourceMeanings S) (station : StationMeanings P) (status : Status) (od nd : S) (at : P)
-    → ReadsDirectory source (Err status) od nd → ShipsFeed source station status od at nd at
-ship_unread source station status od nd at h = record {
+pub ship_unread : {S P : Type 0} (since : Option Since) (source : SourceMeanings S) (station : StationMeanings P) (status : Status) (od nd : S) (at : P)
+    → ReadsDirectory source (Err status) od nd → ShipsFeed since source station status od at nd at
+ship_unread since source station status od nd at h = record {
   means = go (ended status (h.ends status refl));
   files = λ tells k. refl;
   taken = h.taken;
   counts = (h.cause.later, omega arith, omega arith);
 }
   where
-    go : Ended status → ShippedAs source station status od at nd at
-    go (inl e) = subst (λ (s : Status). ShippedAs source station s od at nd at) (sym e.1) (refl, λ tells. h.fault tells e.0 (ap (λ (s : Status). Err s) e.1))
-    go (inr (inl e)) = subst (λ (s : Status). ShippedAs source station s od at nd at) (sym e) (refl, h.cause.failed (ap (λ (s : Status). Err s) e))
-    go (inr (inr e)) = subst (λ (s : Status). ShippedAs source station s od at nd at) (sym e) (inl refl)
+    go : Ended status → ShippedAs since source station status od at nd at
+    go (inl e) = subst (λ (s : Status). ShippedAs since source station s od at nd at) (sym e.1) (refl, λ tells. h.fault tells e.0 (ap (λ (s : Status). Err s) e.1))
+    go (inr (inl e)) = subst (λ (s : Status). ShippedAs since source station s od at nd at) (sym e) (refl, h.cause.failed (ap (λ (s : Status). Err s) e))
+    go (inr (inr e)) = subst (λ (s : Status). ShippedAs since source station s od at nd at) (sym e) (inl refl)
 
 -- there is one
-pub ship_ends : {S P : Type 0} (source : SourceMeanings S) (station : StationMeanings P) (d : directories.Directory) (result : Result (Unit {0}) ShipFault) (od nd : S) (old new : P)
+pub ship_ends : {S P : Type 0} (since : Option Since) (source : SourceMeanings S) (station : StationMeanings P) (d : directories.Directory) (result : Result (Unit {0}) ShipFault) (od nd : S) (old new : P)
     → ReadsDirectory source (Ok d) od nd
-    → (station.tells → OnOk result (ShipsOnly d (station.calls old) (station.calls new)))
-    → (station.tells → IfErr result (λ e. IsShipFault e d (station.calls old) (station.calls new)))
+    → (station.tells → OnOk result (ShipsOnly d (station.calls old) (station.calls new) (asked_of d (station.calls old) since)))
+    → (station.tells → IfErr result (λ e. IsShipFault e d (station.calls old) (station.calls new) (asked_of d (station.calls old) since)))
     → IfErr result IsNamed → (IsErrOf result ship.DiskFault → Rose (station.disk_faults old) (station.disk_faults new))
     → (IsErrOf result ship.SayFault → Rose (station.say_faults old) (station.say_faults new))
     → station.disk_faults old ≤ station.disk_faults new → station.say_faults old ≤ station.say_faults new
-    → ShipsFeed source station (status_shipped result) od old nd new
-ship_ends source station d result od nd old new h said fault named disk say later more = record {
+    → ShipsFeed since source station (status_shipped result) od old nd new
+ship_ends since source station d result od nd old new h said fault named disk say later more = record {
   means = go result said fault named disk say;
   files = stays result said fault;
   taken = h.taken;
@@ -50,10 +61,10 @@ ship_ends source station d result od nd old new h said fault named disk say late
     read : source.tells → directory_of_bytes (source.left od) ≡ Ok d
     read tells = h.read tells d refl
 
-    go : (r : Result (Unit {0}) ShipFault) → (station.tells → OnOk r (ShipsOnly d (station.calls old) (station.calls new)))
-        → (station.tells → IfErr r (λ e. IsShipFault e d (station.calls old) (station.calls new)))
+    go : (r : Result (Unit {0}) ShipFault) → (station.tells → OnOk r (ShipsOnly d (station.calls old) (station.calls new) (asked_of d (station.calls old) since)))
+        → (station.tells → IfErr r (λ e. IsShipFault e d (station.calls old) (station.calls new) (asked_of d (station.calls old) since)))
         → IfErr r IsNamed → (IsErrOf r ship.DiskFault → Rose (station.disk_faults old) (station.disk_faults new))
-        → (IsErrOf r ship.SayFault → Rose (station.say_faults old) (station.say_faults new)) → ShippedAs source station (status_shipped r) od old nd new
+        → (IsErrOf r ship.SayFault → Rose (station.say_faults old) (station.say_faults new)) → ShippedAs since source station (status_shipped r) od old nd new
     go (Ok x) said fault named disk say = λ tells told. (d, read tells, said told)
     go (Err (ship.Open opening.NoJournal)) said fault named disk say = λ tells told. (d, read tells, fault told)
     go (Err (ship.Open opening.OldVersion)) said fault named disk say = λ tells told. (d, read tells, fault told)
@@ -65,8 +76,8 @@ ship_ends source station d result od nd old new h said fault named disk say late
     go (Err ship.SayFault) said fault named disk say = (say refl, λ tells told. (d, read tells, fault told))
     go (Err ship.NoMemory) said fault named disk say = inr (λ tells told. (d, read tells, fault told))
 
-    stays : (r : Result (Unit {0}) ShipFault) → (station.tells → OnOk r (ShipsOnly d (station.calls old) (station.calls new)))
-        → (station.tells → IfErr r (λ e. IsShipFault e d (station.calls old) (station.calls new)))
+    stays : (r : Result (Unit {0}) ShipFault) → (station.tells → OnOk r (ShipsOnly d (station.calls old) (station.calls new) (asked_of d (station.calls old) since)))
+        → (station.tells → IfErr r (λ e. IsShipFault e d (station.calls old) (station.calls new) (asked_of d (station.calls old) since)))
         → station.tells → (k : ℕ) → seen (station.calls new) k ≡ seen (station.calls old) k
     stays (Ok x) said fault told k = (said told).said.files k
     stays (Err (ship.Open f)) said fault told k = (fault told).1.files k

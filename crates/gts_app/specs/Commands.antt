@@ -1,7 +1,7 @@
 -- The words that name a command which is built, and what each command comes to.
-use Rattle.std.specs.Prelude.{◌≡◌, ℕ, List, Option, Some}
+use Rattle.std.specs.Prelude.{◌≡◌, ℕ, List, Option, None, Some}
 use Rattle.gts_words.specs.declared.command.Command.{Command}
-use Rattle.gts_words.specs.declared.command.Command.TheVariants.{Init, Replay, Serve, ServeAlways, Show, Compact, Generate, Migrate, Unpack, Pack, Gaps, Ship, Follow, Count}
+use Rattle.gts_words.specs.declared.command.Command.TheVariants.{Init, Replay, Serve, ServeAlways, Show, Compact, Generate, Migrate, Unpack, Pack, Gaps, Ship, ShipSince, Follow, Count}
 use Rattle.gts_words.specs.{command_of}
 pub use Rattle.gts_app.specs.Generate.{Generates}
 pub use Rattle.gts_app.specs.Init.{Inits}
@@ -20,6 +20,7 @@ use Rattle.gts_app.specs.Replay.{World}
 use Rattle.gts_app.specs.declared.status.Status.{Status}
 use Rattle.gts_traits.specs.declared.source.Source.{Ghosts as SourceMeanings}
 use Rattle.gts_traits.specs.declared.station.Station.{Ghosts as StationMeanings}
+use Rattle.gts_standby.specs.declared.since.Since.{Since}
 use Rattle.gts_missing.specs.declared.moment.Moment.{Moment}
 use Rattle.gts_receiver.specs.declared.limits.TheConstants.{WITHOUT_END}
 use Rattle.gts_serve.specs.{LinesSeen}
@@ -38,6 +39,7 @@ IsBuilt (Unpack c) = Unit {0}
 IsBuilt Pack = Unit {0}
 IsBuilt (Gaps day hour minute) = Unit {0}
 IsBuilt Ship = Unit {0}
+IsBuilt (ShipSince used seal) = Unit {0}
 IsBuilt Follow = Unit {0}
 IsBuilt Count = Unit {0}
 
@@ -57,6 +59,10 @@ IsSettled words = (command : Command) × (command_of words ≡ Some command) × 
 -- the moment of a request
 abbrev pub moment_at : (day hour minute : ℕ) → Moment
 moment_at day hour minute = record { day = day; hour = hour; minute = minute }
+
+-- what a standby has
+abbrev pub since_at : (used : ℕ) (seal : List ℕ) → Since
+since_at used seal = record { used = used; seal = seal }
 
 -- what comes of the other commands that read something beside the directory: a file, a stream, an old directory, a feed, a capture
 -- alone, or one through a switch that counts
@@ -78,7 +84,9 @@ OpensJournal source station command status old new =
     × (command ≡ Some Compact → (new.capture ≡ old.capture)
     × Compacts source station status old.directory old.station new.directory new.station)
     × (command ≡ Some Ship → (new.capture ≡ old.capture)
-    × ShipsFeed source station status old.directory old.station new.directory new.station)
+    × ShipsFeed None source station status old.directory old.station new.directory new.station)
+    × ((used : ℕ) (seal : List ℕ) → command ≡ Some (ShipSince used seal) → (new.capture ≡ old.capture)
+    × ShipsFeed (Some (since_at used seal)) source station status old.directory old.station new.directory new.station)
 
 -- what comes of the commands that serve the circuits, each over so many connections: a service over those without end
 abbrev pub ServesCircuits : {S P : Type 0} → SourceMeanings S → StationMeanings P → (source_tells sink_tells : Type 0)

@@ -1,5 +1,5 @@
 -- What each end of the command `ship` means for what it works on.
-use Rattle.std.specs.Prelude.{◌≡◌, ◌⊎◌, ℕ, ◌+◌, ◌≤◌, List, ◌++◌, length, Result, Ok, Err}
+use Rattle.std.specs.Prelude.{◌≡◌, ◌⊎◌, ℕ, ◌+◌, ◌≤◌, List, ◌++◌, length, Option, Result, Ok, Err}
 use Rattle.gts_traits.specs.declared.source.Source.{Ghosts as SourceMeanings}
 use Rattle.gts_traits.specs.declared.station.Station.{Ghosts as StationMeanings}
 use Rattle.gts_traits.specs.Counts.{Rose}
@@ -12,7 +12,8 @@ use Rattle.gts_record.specs.declared.fault.OpenFault.{OpenFault}
 use Rattle.gts_record.specs.declared.fault.OpenFault.TheVariants as opening
 use Rattle.gts_standby.specs.declared.fault.ShipFault.{ShipFault}
 use Rattle.gts_standby.specs.declared.fault.ShipFault.TheVariants as ship
-use Rattle.gts_standby.specs.{feed_of, ShipsOnly, IsShipFault}
+use Rattle.gts_standby.specs.declared.since.Since.{Since}
+use Rattle.gts_standby.specs.{asked_of, ShipsOnly, IsShipFault}
 use Rattle.gts_app.specs.declared.status.Status.{Status}
 use Rattle.gts_app.specs.declared.status.Status.TheVariants.{Done, Directory, NoJournal, OldVersion, NotThis, Damaged, DiskFault, SourceFault, SayFault, NoMemory}
 use Rattle.gts_app.specs.Ending.{refusal}
@@ -30,36 +31,39 @@ abbrev pub Under : {S P : Type 0} → SourceMeanings S → StationMeanings P →
 Under source station directory OfIt =
     source.tells → station.tells → (d : directories.Directory) × (directory_of_bytes (source.left directory) ≡ Ok d) × OfIt d
 
--- a front of the feed was said, and nothing else
-abbrev pub SaysSome : {S P : Type 0} → SourceMeanings S → StationMeanings P → S → (old new : P) → Type 0
-SaysSome source station directory old new =
-    Under source station directory (λ d. SaysFront (station.calls old) (station.calls new) (on 0 (feed_of d (station.calls old))))
+-- a front of what was asked for was said, and nothing else
+abbrev pub SaysSome : {S P : Type 0} → Option Since → SourceMeanings S → StationMeanings P → S → (old new : P) → Type 0
+SaysSome since source station directory old new =
+    Under source station directory (λ d. SaysFront (station.calls old) (station.calls new) (on 0 (asked_of d (station.calls old) since)))
 
 -- the files open to this fault, and nothing was said
-abbrev pub RefusedBy : {S P : Type 0} → OpenFault → SourceMeanings S → StationMeanings P → S → (old new : P) → Type 0
-RefusedBy fault source station directory old new =
-    Under source station directory (λ d. IsShipFault (ship.Open fault) d (station.calls old) (station.calls new))
+abbrev pub RefusedBy : {S P : Type 0} → OpenFault → Option Since → SourceMeanings S → StationMeanings P → S → (old new : P) → Type 0
+RefusedBy fault since source station directory old new =
+    Under source station directory
+    (λ d. IsShipFault (ship.Open fault) d (station.calls old) (station.calls new) (asked_of d (station.calls old) since))
 
--- For each status, what it means: the journal opens, and its feed was said on channel 0; or why it was not, or not all of it.
-abbrev pub ShippedAs : {S P : Type 0} → SourceMeanings S → StationMeanings P → Status → S → P → S → P → Type 0
-ShippedAs source station Done od old nd new = Under source station od (λ d. ShipsOnly d (station.calls old) (station.calls new))
-ShippedAs source station (Directory fault) od old nd new = (new ≡ old) × (source.tells → directory_of_bytes (source.left od) ≡ Err fault)
-ShippedAs source station NoJournal od old nd new = RefusedBy opening.NoJournal source station od old new
-ShippedAs source station OldVersion od old nd new = RefusedBy opening.OldVersion source station od old new
-ShippedAs source station (NotThis want found) od old nd new = RefusedBy (opening.NotThis want found) source station od old new
-ShippedAs source station (Damaged file at) od old nd new = RefusedBy (opening.Damaged file at) source station od old new
-ShippedAs source station DiskFault od old nd new =
-    Rose (station.disk_faults old) (station.disk_faults new) × SaysSome source station od old new
-ShippedAs source station SayFault od old nd new =
-    Rose (station.say_faults old) (station.say_faults new) × SaysSome source station od old new
-ShippedAs source station SourceFault od old nd new = (new ≡ old) × Rose (source.faults od) (source.faults nd)
-ShippedAs source station NoMemory od old nd new = (new ≡ old) ⊎ SaysSome source station od old new
-ShippedAs source station _ od old nd new = ⊥
+-- For each status, what it means: the journal opens, and what was asked for of its feed was said on channel 0; or why it was not, or
+-- not all of it.
+abbrev pub ShippedAs : {S P : Type 0} → Option Since → SourceMeanings S → StationMeanings P → Status → S → P → S → P → Type 0
+ShippedAs since source station Done od old nd new =
+    Under source station od (λ d. ShipsOnly d (station.calls old) (station.calls new) (asked_of d (station.calls old) since))
+ShippedAs since source station (Directory fault) od old nd new = (new ≡ old) × (source.tells → directory_of_bytes (source.left od) ≡ Err fault)
+ShippedAs since source station NoJournal od old nd new = RefusedBy opening.NoJournal since source station od old new
+ShippedAs since source station OldVersion od old nd new = RefusedBy opening.OldVersion since source station od old new
+ShippedAs since source station (NotThis want found) od old nd new = RefusedBy (opening.NotThis want found) since source station od old new
+ShippedAs since source station (Damaged file at) od old nd new = RefusedBy (opening.Damaged file at) since source station od old new
+ShippedAs since source station DiskFault od old nd new =
+    Rose (station.disk_faults old) (station.disk_faults new) × SaysSome since source station od old new
+ShippedAs since source station SayFault od old nd new =
+    Rose (station.say_faults old) (station.say_faults new) × SaysSome since source station od old new
+ShippedAs since source station SourceFault od old nd new = (new ≡ old) × Rose (source.faults od) (source.faults nd)
+ShippedAs since source station NoMemory od old nd new = (new ≡ old) ⊎ SaysSome since source station od old new
+ShippedAs since source station _ od old nd new = ⊥
 
 -- what its end means, and what holds of every run
-pub record ShipsFeed {S P : Type 0} (source : SourceMeanings S) (station : StationMeanings P) (status : Status)
+pub record ShipsFeed {S P : Type 0} (since : Option Since) (source : SourceMeanings S) (station : StationMeanings P) (status : Status)
     (old_directory : S) (old : P) (new_directory : S) (new : P) : Type 0 where
-  pub means : ShippedAs source station status old_directory old new_directory new
+  pub means : ShippedAs since source station status old_directory old new_directory new
   -- what reads of the files give stays
   pub files : station.tells → (k : ℕ) → seen (station.calls new) k ≡ seen (station.calls old) k
   -- what is read, and that no count falls

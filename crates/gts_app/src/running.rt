@@ -20,6 +20,7 @@ use crate::commands::unpack::unpack;
 use gts_connection::CaptureKind;
 use gts_missing::Moment;
 use gts_receiver::WITHOUT_END;
+use gts_standby::Since;
 use gts_traits::{Gate, Lines, Source, Station, WordList};
 use gts_words::{Command, WordsFault, a_count_is_within_its_limits, read_words};
 use std::alloc::Global;
@@ -122,7 +123,12 @@ where
             (status, station, capture)
         }
         Command::Unpack { c } => unpack(alloc, c, directory, capture, station),
-        Command::Ship => (ship(alloc, directory, &mut station), station, capture),
+        Command::Ship => (ship(alloc, directory, &mut station, None), station, capture),
+        Command::ShipSince { used, seal } => {
+            let since = Since { used, seal };
+            let status = ship(alloc, directory, &mut station, Some(since));
+            (status, station, capture)
+        }
         Command::Follow => beside(follow(alloc, directory, &mut capture, station), capture),
         Command::Count => beside(count(alloc, directory, &mut capture, station), capture),
     }

@@ -21,13 +21,13 @@ use Rattle.gts_standby.specs.Comparing.{Leads}
 
 -- ---- the feed from a gate on
 
-abbrev feed_of_record : Version → ℕ → List ℕ → List ℕ → Option Record → List ℕ
+abbrev pub feed_of_record : Version → ℕ → List ℕ → List ℕ → Option Record → List ℕ
 feed_of_record v n before bytes o = elim o as (λ _. List ℕ) [
   | None ↦ []
   | Some r ↦ sealed v before (record_text r) ++ feed_at v n (seal v before (record_text r)) (drop (record_size v r - 1) bytes)
 ]
 
-abbrev feed_of_gate : Version → ℕ → List ℕ → List ℕ → Bool → List ℕ
+abbrev pub feed_of_gate : Version → ℕ → List ℕ → List ℕ → Bool → List ℕ
 feed_of_gate v n before bytes b = elim b as (λ _. List ℕ) [ false ↦ [] | true ↦ feed_of_record v n before bytes (sealed_at v before bytes) ]
 
 pub feed_one : (v : Version) (n file gate : ℕ) (before bytes : List ℕ) (r : Record) → entry_at v before file gate bytes ≡ Ok (Some r)
@@ -54,7 +54,7 @@ feed_none v (suc n) file gate before (mark ∷ bytes) is = by_mark (mark == open
 
 -- ---- where records come to an end
 
-some_step : (v : Version) (d : Directory) (n file : ℕ) (before : List ℕ) (s : State) (gate : ℕ) (bytes : List ℕ) (x : State × ℕ × List ℕ) → records_at v d n file before s gate bytes ≡ Ok x → (m : ℕ) × (n ≡ suc m)
+pub some_step : (v : Version) (d : Directory) (n file : ℕ) (before : List ℕ) (s : State) (gate : ℕ) (bytes : List ℕ) (x : State × ℕ × List ℕ) → records_at v d n file before s gate bytes ≡ Ok x → (m : ℕ) × (n ≡ suc m)
 some_step v d zero file before s gate bytes x is = absurd (cc is)
 some_step v d (suc n) file before s gate bytes x is = (n, refl)
 
@@ -79,7 +79,7 @@ at_entry v d n file before s gate bytes x opens = by_entry (entry_at v before fi
     by_entry (Ok (Some r)) is = by_admitted r (admits v d s (gate + 1) r) is refl
 
 -- the end is behind the gate
-end_behind : (v : Version) (d : Directory) (n file : ℕ) (before : List ℕ) (s : State) (gate : ℕ) (bytes : List ℕ) (x : State × ℕ × List ℕ) → records_at v d n file before s gate bytes ≡ Ok x → gate < x.1
+pub end_behind : (v : Version) (d : Directory) (n file : ℕ) (before : List ℕ) (s : State) (gate : ℕ) (bytes : List ℕ) (x : State × ℕ × List ℕ) → records_at v d n file before s gate bytes ≡ Ok x → gate < x.1
 end_behind v d zero file before s gate bytes x opens = absurd (cc opens)
 end_behind v d (suc n) file before s gate bytes x opens = elim (at_entry v d n file before s gate bytes x opens) [
   | IsEnd is same ↦ (let at : x.1 ≡ gate + 1 = ap (λ (y : State × ℕ × List ℕ). y.1) same in omega (arith, at))
@@ -94,10 +94,10 @@ pub record GoesOn (v : Version) (d : Directory) (file : ℕ) (before : List ℕ)
   pub is : left ≡ sealed v before (record_text r) ++ rest
   pub reaches : Reaches v d file (seal v before (record_text r)) (gate + record_size v r) bytes end rest
 
-same_record : (r q : Record) (e : Result (Option Record) OpenFault) → e ≡ Ok (Some r) → e ≡ Ok (Some q) → r ≡ q
+pub same_record : (r q : Record) (e : Result (Option Record) OpenFault) → e ≡ Ok (Some r) → e ≡ Ok (Some q) → r ≡ q
 same_record r q e one two = let first : Result (Option Record) OpenFault = Ok (Some r) in let second : Result (Option Record) OpenFault = Ok (Some q) in let both : first ≡ second = sym one ∙ two in cc both
 
-no_record : (r : Record) (e : Result (Option Record) OpenFault) → e ≡ Ok None → e ≡ Ok (Some r) → ⊥
+pub no_record : (r : Record) (e : Result (Option Record) OpenFault) → e ≡ Ok None → e ≡ Ok (Some r) → ⊥
 no_record r e one two =
     let first : Result (Option Record) OpenFault = Ok None in
     let second : Result (Option Record) OpenFault = Ok (Some r) in

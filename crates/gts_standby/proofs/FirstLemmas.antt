@@ -105,7 +105,7 @@ checkpoint_stands v d bytes n gate is place =
           omega (arith, e, length-append (sealed v before text) (drop (length last) rest), long, place, length-drop 41 bytes, some));
     }
 
-abbrev by_admission : Version → Directory → ℕ → List ℕ → Need → Bool → Read
+abbrev pub by_admission : Version → Directory → ℕ → List ℕ → Need → Bool → Read
 by_admission v d file bytes n b = elim b as (λ _. Read) [
   | false ↦ Err (Damaged file 41)
   | true ↦
@@ -194,13 +194,12 @@ broken_checkpoint d old new j end n last gate first packed read place says =
 -- ---- the opening
 
 -- a journal that was started on files that open stands at its first gate
-pub at_start : (d : Directory) (mid new : List Call) (opened j : InHand) (s : State) (mark : List ℕ) → new ≡ Did Syncs ∷ mid → StandsFor d s mid opened → opened.version ≡ written
+pub at_opened : (d : Directory) (mid new : List Call) (j : InHand) (s : State) (mark : List ℕ) (end : ℕ) (at_end : List ℕ) → new ≡ Did Syncs ∷ mid → files_read written d (seen mid) ≡ Ok (s, end + 1, at_end)
     → mark ≡ d.mark → j.gate ≡ 40 → j.version ≡ written → j.seal ≡ first_seal j.version mark → StandsOn new j → first_fault mark (seen mid) ≡ None → is_checkpoint (file_of new j) ≡ is_at_checkpoint j
-    → IsAtFirst d new j opened.gate
-at_start d mid new opened j s mark second stands current ours gate version last on_it sound letter =
+    → IsAtFirst d new j end
+at_opened d mid new j s mark end at_end second opens_to ours gate version last on_it sound letter =
     let place : selected (seen mid) ≡ j.file = ap (λ (calls : List Call). selected (seen calls)) (sym second) ∙ on_it.selected_is in
     let bytes : file_of new j ≡ selected_bytes (seen mid) = ap (λ (calls : List Call). seen calls j.file) second ∙ ap (seen mid) (sym place) in
-    let opens_to : files_read written d (seen mid) ≡ Ok (s, opened.gate + 1, opened.seal) = ap (λ (v : Version). files_read v d (seen mid)) (sym current) ∙ stands.opens_to in
     record {
       gate = gate;
       seal_is = last ∙ ap (first_seal j.version) ours;
@@ -208,10 +207,20 @@ at_start d mid new opened j s mark second stands current ours gate version last 
           ∙ ap (λ (k : ℕ). header_fault written d.mark k (selected_bytes (seen mid))) (sym place) ∙ ap (λ (l : List ℕ). header_fault written l (selected (seen mid)) (selected_bytes (seen mid))) (sym ours) ∙ sound;
       letter = letter;
       then = s;
-      last = opened.seal;
+      last = at_end;
       opens = ap (λ (v : Version). file_opens v d j.file (file_of new j)) version ∙ ap (file_opens written d j.file) bytes
           ∙ ap (λ (k : ℕ). file_opens written d k (selected_bytes (seen mid))) (sym place) ∙ opens_to;
     }
+
+-- what such files read to
+pub read_to : (d : Directory) (mid : List Call) (opened : InHand) (s : State) → StandsFor d s mid opened → opened.version ≡ written → files_read written d (seen mid) ≡ Ok (s, opened.gate + 1, opened.seal)
+read_to d mid opened s stands current = ap (λ (v : Version). files_read v d (seen mid)) (sym current) ∙ stands.opens_to
+
+pub at_start : (d : Directory) (mid new : List Call) (opened j : InHand) (s : State) (mark : List ℕ) → new ≡ Did Syncs ∷ mid → StandsFor d s mid opened → opened.version ≡ written
+    → mark ≡ d.mark → j.gate ≡ 40 → j.version ≡ written → j.seal ≡ first_seal j.version mark → StandsOn new j → first_fault mark (seen mid) ≡ None → is_checkpoint (file_of new j) ≡ is_at_checkpoint j
+    → IsAtFirst d new j opened.gate
+at_start d mid new opened j s mark second stands current ours gate version last on_it sound letter =
+    at_opened d mid new j s mark opened.gate opened.seal second (read_to d mid opened s stands current) ours gate version last on_it sound letter
 
 pub at_first : (d : Directory) (old mid new : List Call) (opened j : InHand) (s : State) (mark : List ℕ) → mid ≡ Did Syncs ∷ old → new ≡ Did Syncs ∷ mid → StandsFor d s mid opened → opened.version ≡ written
     → mark ≡ d.mark → j.gate ≡ 40 → j.version ≡ written → j.seal ≡ first_seal j.version mark → StandsOn new j → first_fault mark (seen mid) ≡ None → is_checkpoint (file_of new j) ≡ is_at_checkpoint j
@@ -220,15 +229,18 @@ at_first d old mid new opened j s mark first second stands current ours gate ver
     at_start d mid new opened j s mark second stands current ours gate version last on_it sound letter
 
 -- files that open have no fault in the header
-pub no_header_fault : (d : Directory) (mid : List Call) (opened : InHand) (s : State) (mark : List ℕ) (f : OpenFault) → StandsFor d s mid opened → opened.version ≡ written → mark ≡ d.mark
+pub no_fault_where : (d : Directory) (mid : List Call) (x : State × ℕ × List ℕ) (mark : List ℕ) (f : OpenFault) → files_read written d (seen mid) ≡ Ok x → mark ≡ d.mark
     → first_fault mark (seen mid) ≡ Some f → ⊥
-no_header_fault d mid opened s mark f stands current ours is =
+no_fault_where d mid x mark f opens_to ours is =
     let there : header_fault written d.mark (selected (seen mid)) (selected_bytes (seen mid)) ≡ Some f = ap (λ (l : List ℕ). header_fault written l (selected (seen mid)) (selected_bytes (seen mid))) (sym ours) ∙ is in
-    let opens_to : files_read written d (seen mid) ≡ Ok (s, opened.gate + 1, opened.seal) = ap (λ (v : Version). files_read v d (seen mid)) (sym current) ∙ stands.opens_to in
     let one : Read = Err f in
-    let two : Read = Ok (s, opened.gate + 1, opened.seal) in
+    let two : Read = Ok x in
     let e : one ≡ two = sym (faulty_header written d (selected (seen mid)) (selected_bytes (seen mid)) f there) ∙ opens_to in
     absurd (cc e)
+
+pub no_header_fault : (d : Directory) (mid : List Call) (opened : InHand) (s : State) (mark : List ℕ) (f : OpenFault) → StandsFor d s mid opened → opened.version ≡ written → mark ≡ d.mark
+    → first_fault mark (seen mid) ≡ Some f → ⊥
+no_header_fault d mid opened s mark f stands current ours is = no_fault_where d mid (s, opened.gate + 1, opened.seal) mark f (read_to d mid opened s stands current) ours is
 
 pub quiet_start : (e : OpenFault) (found : Option OpenFault) → IsFaultOf e found → ((f : OpenFault) → found ≡ Some f → ⊥) → IsQuiet (ship_fault e)
 quiet_start opening.DiskFault found is none = tt
@@ -247,20 +259,20 @@ syncs_say_nothing old new (inr (inr left)) = subst (λ (calls : List Call). Says
 nothing_front : (old new : List Call) (x : List ℕ) → SaysOnly old new [] → SaysFront old new (on 0 x)
 nothing_front old new x says = record { left = []; front = (on 0 x, refl); said = says }
 
-pub open_answer : (d : Directory) (old new : List Call) (e : OpenFault) → OnlySyncs old new → IsAnswer e (opens d (seen old)) → IsShipFault (ship_fault e) d old new
-open_answer d old new opening.DiskFault syncs is = nothing_front old new (feed_of d old) (syncs_say_nothing old new syncs)
-open_answer d old new opening.NoMemory syncs is = nothing_front old new (feed_of d old) (syncs_say_nothing old new syncs)
-open_answer d old new opening.NoJournal syncs is = (is, syncs_say_nothing old new syncs)
-open_answer d old new opening.OldVersion syncs is = (is, syncs_say_nothing old new syncs)
-open_answer d old new (opening.NotThis want found) syncs is = (is, syncs_say_nothing old new syncs)
-open_answer d old new (opening.Damaged file at) syncs is = (is, syncs_say_nothing old new syncs)
+pub open_answer : (d : Directory) (old new : List Call) (e : OpenFault) (x : List ℕ) → OnlySyncs old new → IsAnswer e (opens d (seen old)) → IsShipFault (ship_fault e) d old new x
+open_answer d old new opening.DiskFault x syncs is = nothing_front old new x (syncs_say_nothing old new syncs)
+open_answer d old new opening.NoMemory x syncs is = nothing_front old new x (syncs_say_nothing old new syncs)
+open_answer d old new opening.NoJournal x syncs is = (is, syncs_say_nothing old new syncs)
+open_answer d old new opening.OldVersion x syncs is = (is, syncs_say_nothing old new syncs)
+open_answer d old new (opening.NotThis want found) x syncs is = (is, syncs_say_nothing old new syncs)
+open_answer d old new (opening.Damaged file at) x syncs is = (is, syncs_say_nothing old new syncs)
 
--- a quiet fault is answered with a front of the feed
-pub quiet_answer : (d : Directory) (old new : List Call) (e : ShipFault) → IsQuiet e → SaysFront old new (on 0 (feed_of d old)) → IsShipFault e d old new
-quiet_answer d old new (fault.Open f) quiet says = absurd quiet
-quiet_answer d old new fault.DiskFault quiet says = says
-quiet_answer d old new fault.SayFault quiet says = says
-quiet_answer d old new fault.NoMemory quiet says = says
+-- a quiet fault is answered with a front of what was to be said
+pub quiet_answer : (d : Directory) (old new : List Call) (e : ShipFault) (x : List ℕ) → IsQuiet e → SaysFront old new (on 0 x) → IsShipFault e d old new x
+quiet_answer d old new (fault.Open f) x quiet says = absurd quiet
+quiet_answer d old new fault.DiskFault x quiet says = says
+quiet_answer d old new fault.SayFault x quiet says = says
+quiet_answer d old new fault.NoMemory x quiet says = says
 
 -- what follows a sync follows what was before it
 pub behind_sync : (old mid new : List Call) (x : List ℕ) → SaysOnly old mid [] → SaysOnly mid new (on 0 x) → SaysOnly old new (on 0 x)
@@ -335,35 +347,43 @@ same_feed d old mid new j first second version stands =
     ap (λ (calls : List Call). seen calls j.file) second ∙ ap (λ (calls : List Call). seen calls j.file) first ∙ ap (seen old) (sym place) in
     ap (λ (v : Version). feed v d.mark (file_of new j)) version ∙ ap (feed written d.mark) bytes
 
-pub ships : (d : Directory) (old mid now new : List Call) (j opened : InHand) (s : State) → mid ≡ Did Syncs ∷ old → now ≡ Did Syncs ∷ mid → j.version ≡ written → StandsOn now j → StandsFor d s mid opened → opened.version ≡ written
-    → SaysHere now new (feed j.version d.mark (file_of now j)) → ShipsOnly d old new
-ships d old mid now new j opened s first second version stands for current says =
-    let quiet : SaysOnly old now [] = subst (λ (calls : List Call). SaysOnly old calls []) (sym (second ∙ ap (λ (l : List Call). Did Syncs ∷ l) first)) (record { said = (said_none old).said; files = λ file. refl }) in
-    record {
-      need = need d (restarted s);
-      opened = ap (λ (calls : List Call). opens d (seen calls)) (sym first) ∙ opens_there d mid opened s for current;
-      said = behind_sync old now new (feed_of d old) quiet (subst (λ (l : List ℕ). SaysOnly now new (on 0 l)) (same_feed d old mid now j first second version stands) says.only);
-    }
+-- one sync said nothing, and neither did two
+pub synced_quiet : (old mid : List Call) → mid ≡ Did Syncs ∷ old → SaysOnly old mid []
+synced_quiet old mid first = subst (λ (calls : List Call). SaysOnly old calls []) (sym first) (record { said = (said_none old).said; files = λ file. refl })
 
-pub breaks_off : (d : Directory) (old mid now new : List Call) (j : InHand) (e : ShipFault) → mid ≡ Did Syncs ∷ old → now ≡ Did Syncs ∷ mid → j.version ≡ written → StandsOn now j → IsQuiet e
-    → SaysFront now new (on 0 (feed j.version d.mark (file_of now j))) → IsShipFault e d old new
-breaks_off d old mid now new j e first second version stands kind says =
-    let quiet : SaysOnly old now [] = subst (λ (calls : List Call). SaysOnly old calls []) (sym (second ∙ ap (λ (l : List Call). Did Syncs ∷ l) first)) (record { said = (said_none old).said; files = λ file. refl }) in
-    quiet_answer d old new e kind (front_behind_sync old now new (feed_of d old) quiet (subst (λ (l : List ℕ). SaysFront now new (on 0 l)) (same_feed d old mid now j first second version stands) says))
+pub twice_quiet : (old mid now : List Call) → mid ≡ Did Syncs ∷ old → now ≡ Did Syncs ∷ mid → SaysOnly old now []
+twice_quiet old mid now first second = behind_sync old mid now [] (synced_quiet old mid first) (synced_quiet mid now second)
+
+-- behind calls that said nothing, this was said of a journal that opens
+pub says_opened : {T : Type 0} (result : Result T ShipFault) (d : Directory) (old now new : List Call) (n : Need) (x : List ℕ) → opens d (seen old) ≡ Ok n → SaysOnly old now [] → SaysRest result now new x
+    → OnOk result (ShipsOnly d old new x)
+says_opened (Ok y) d old now new n x opened quiet says = record { need = n; opened = opened; said = behind_sync old now new x quiet says.only }
+says_opened (Err e) d old now new n x opened quiet says = tt
+
+pub breaks_opened : {T : Type 0} (result : Result T ShipFault) (d : Directory) (old now new : List Call) (x : List ℕ) → SaysOnly old now [] → SaysRest result now new x → IfErr result (λ e. IsShipFault e d old new x)
+breaks_opened (Ok y) d old now new x quiet says = tt
+breaks_opened (Err e) d old now new x quiet says = quiet_answer d old new e x says.0 (front_behind_sync old now new x quiet says.1)
+
+-- nothing was said where a device failed
+pub failed_quietly : (d : Directory) (old new : List Call) (e : ShipFault) (x : List ℕ) → SaysOnly old new [] → IsQuiet e → IsShipFault e d old new x
+failed_quietly d old new e x quiet kind = quiet_answer d old new e x kind (nothing_front old new x quiet)
 
 -- nothing was said where the journal wasn't started
-pub not_started : (d : Directory) (old mid new : List Call) (e : ShipFault) → mid ≡ Did Syncs ∷ old → OnlySyncs mid new → IsQuiet e → IsShipFault e d old new
-not_started d old mid new e first syncs kind =
-    let quiet : SaysOnly old mid [] = subst (λ (calls : List Call). SaysOnly old calls []) (sym first) (record { said = (said_none old).said; files = λ file. refl }) in
-    let more = syncs_say_nothing mid new syncs in
-    quiet_answer d old new e kind (front_behind_sync old mid new (feed_of d old) quiet (nothing_front mid new (feed_of d old) more))
+pub not_started : (d : Directory) (old mid new : List Call) (e : ShipFault) (x : List ℕ) → SaysOnly old mid [] → OnlySyncs mid new → IsQuiet e → IsShipFault e d old new x
+not_started d old mid new e x quiet syncs kind =
+    quiet_answer d old new e x kind (front_behind_sync old mid new x quiet (nothing_front mid new x (syncs_say_nothing mid new syncs)))
+
+-- the need of files that open
+pub opened_to : (d : Directory) (old mid : List Call) (opened : InHand) (s : State) → mid ≡ Did Syncs ∷ old → StandsFor d s mid opened → opened.version ≡ written → opens d (seen old) ≡ Ok (need d (restarted s))
+opened_to d old mid opened s first for current = ap (λ (calls : List Call). opens d (seen calls)) (sym first) ∙ opens_there d mid opened s for current
 
 pub ships_on : {T : Type 0} (result : Result T ShipFault) (d : Directory) (old mid now new : List Call) (j opened : InHand) (s : State) → mid ≡ Did Syncs ∷ old → now ≡ Did Syncs ∷ mid → j.version ≡ written → StandsOn now j
-    → StandsFor d s mid opened → opened.version ≡ written → SaysRest result now new (feed j.version d.mark (file_of now j)) → OnOk result (ShipsOnly d old new)
-ships_on (Ok x) d old mid now new j opened s first second version stands for current says = ships d old mid now new j opened s first second version stands for current says
-ships_on (Err e) d old mid now new j opened s first second version stands for current says = tt
+    → StandsFor d s mid opened → opened.version ≡ written → SaysRest result now new (feed j.version d.mark (file_of now j)) → OnOk result (ShipsOnly d old new (feed_of d old))
+ships_on result d old mid now new j opened s first second version stands for current says =
+    says_opened result d old now new (need d (restarted s)) (feed_of d old) (opened_to d old mid opened s first for current) (twice_quiet old mid now first second)
+    (subst (SaysRest result now new) (same_feed d old mid now j first second version stands) says)
 
 pub breaks_on : {T : Type 0} (result : Result T ShipFault) (d : Directory) (old mid now new : List Call) (j : InHand) → mid ≡ Did Syncs ∷ old → now ≡ Did Syncs ∷ mid → j.version ≡ written → StandsOn now j
-    → SaysRest result now new (feed j.version d.mark (file_of now j)) → IfErr result (λ e. IsShipFault e d old new)
-breaks_on (Ok x) d old mid now new j first second version stands says = tt
-breaks_on (Err e) d old mid now new j first second version stands says = breaks_off d old mid now new j e first second version stands says.0 says.1
+    → SaysRest result now new (feed j.version d.mark (file_of now j)) → IfErr result (λ e. IsShipFault e d old new (feed_of d old))
+breaks_on result d old mid now new j first second version stands says =
+    breaks_opened result d old now new (feed_of d old) (twice_quiet old mid now first second) (subst (SaysRest result now new) (same_feed d old mid now j first second version stands) says)

@@ -20,3 +20,5 @@ pub mod HistoryLemmas
 mod ScannedLemmas
 mod StationLemmas
 mod PartLemmas
+pub mod SinceLemmas
+mod BehindLemmas

@@ -1,5 +1,6 @@
 pub mod Feed
 pub mod Shipping
+pub mod Since
 pub mod Ahead
 pub mod Taking
 pub mod Following
@@ -13,6 +14,7 @@ pub mod Counts
 pub mod Cited
 pub use Rattle.gts_standby.specs.Feed.{feed}
 pub use Rattle.gts_standby.specs.Shipping.{IsShipFault, IsNamed, ShipsOnly, feed_of}
+pub use Rattle.gts_standby.specs.Since.{found_since, feed_since, since_of, asked_of, HasFront}
 pub use Rattle.gts_standby.specs.Taking.{End, Taken, taken}
 pub use Rattle.gts_standby.specs.Whole.{IsNamedEnd}
 pub use Rattle.gts_standby.specs.Following.{comes_to, own_seals, EndsAs, Answers, LeavesAlone, IsEnd, state_after, OpensWithin, EachOpens, read_after, ReadsAllOf, HasAll, AddsAllOf, LeavesFronts}

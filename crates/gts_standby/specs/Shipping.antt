@@ -93,13 +93,13 @@ behind_header d calls j = feed_behind j.version (first_seal j.version d.mark) (f
 abbrev pub feed_of : Directory → List Call → List ℕ
 feed_of d calls = feed written d.mark (selected_bytes (seen calls))
 
--- The journal opens, and its feed was said on channel 0, and nothing else.
-pub record ShipsOnly (d : Directory) (old new : List Call) : Type 0 where
+-- The journal opens, and these bytes were said on channel 0, and nothing else.
+pub record ShipsOnly (d : Directory) (old new : List Call) (bytes : List ℕ) : Type 0 where
   pub need : Need
   pub opened : opens d (seen old) ≡ Ok need
-  pub said : SaysOnly old new (on 0 (feed_of d old))
+  pub said : SaysOnly old new (on 0 bytes)
 
--- A fault of the files is answered where they open to it, and nothing was said. Else a front of the feed was said.
-abbrev pub IsShipFault : ShipFault → Directory → List Call → List Call → Type 0
-IsShipFault (Open fault) d old new = (opens d (seen old) ≡ Err fault) × SaysOnly old new []
-IsShipFault _ d old new = SaysFront old new (on 0 (feed_of d old))
+-- A fault of the files is answered where they open to it, and nothing was said. Else a front of these bytes was said.
+abbrev pub IsShipFault : ShipFault → Directory → List Call → List Call → List ℕ → Type 0
+IsShipFault (Open fault) d old new bytes = (opens d (seen old) ≡ Err fault) × SaysOnly old new []
+IsShipFault _ d old new bytes = SaysFront old new (on 0 bytes)

@@ -19,7 +19,7 @@ use gts_traits::{Source, Station};
 use std::alloc::Global;
 
 /// Whether two seals are the same.
-fn is_same(version: Version, own: &[u8; 32], fed: &[u8; 32]) -> bool
+pub(crate) fn is_same(version: Version, own: &[u8; 32], fed: &[u8; 32]) -> bool
     ensures { result ≡ pointwise nat_eq (held version own.now) (held version fed.now) }
 {
     let count = version.seal_size();

@@ -1,6 +1,9 @@
 //! Laws over the definitions, each the contract of a function with an empty body.
-ghost use Rattle.std.specs.Prelude.{◌≡◌, ◌++◌, ◌<◌, ◌^◌, ℕ, List, length, Ok};
+ghost use Rattle.std.specs.Prelude.{◌≡◌, ◌++◌, ◌<◌, ◌^◌, ℕ, List, length, Ok, Some};
+ghost use Rattle.gts_record.specs.declared.version.Version.{Version};
 ghost use Rattle.gts_standby.specs.Cited.{Files, Directory, State};
+ghost use Rattle.gts_record.specs.Format.{held};
+ghost use Rattle.gts_standby.specs.Since.{found_since, HasFront};
 ghost use Rattle.gts_standby.specs.Taking.{Taken};
 ghost use Rattle.gts_standby.specs.Following.{comes_to};
 ghost use Rattle.gts_standby.specs.Fronts.{AddsFront, HasNoRecord, IsPlainFeed, state_of, LeadsTo, IsFeedOf, nothing_read, FeedBrings, IsOvertaken, HasPlainPart};
@@ -42,4 +45,11 @@ pub fn a_whole_feed_brings_a_standby_through_a_compaction()
     ensures { (d : Directory) (own files : Files) (from read : State × ℕ × List ℕ) (fed : List ℕ)
         → length d.mark ≡ 32 → d.limit < 256 ^ 4 → IsOvertaken d own files from
         → IsFeedOf d files read fed → FeedBrings d own fed from read }
+{}
+
+/// What is said to a standby that has a part of the journal stands in the feed behind a front that ends with that standby's last
+/// seal: the front and what is said are the whole feed.
+pub fn what_a_standby_lacks_ends_the_feed()
+    ensures { (v : Version) (mark bytes last left : List ℕ) (used : ℕ)
+        → found_since v mark bytes used last ≡ Some left → HasFront v mark bytes (held v last) left }
 {}

@@ -2,11 +2,13 @@ ghost use Rattle.std.specs.Prelude.{◌≡◌, ◌≤◌, ◌<◌, ◌^◌, ℕ,
 ghost use Rattle.gts_traits.specs.{Rose};
 ghost use Rattle.gts_journal.specs.{StandsOn, file_of};
 ghost use Rattle.gts_standby.specs.Feed.{feed};
-ghost use Rattle.gts_standby.specs.Shipping.{IsAtFirst, SaysOne, SaysRest, behind_header, ShipsOnly, IsShipFault, IsNamed};
+ghost use Rattle.gts_standby.specs.Shipping.{IsAtFirst, SaysOne, SaysRest, behind_header, feed_of, ShipsOnly, IsShipFault, IsNamed};
+ghost use Rattle.gts_standby.specs.Since.{since_of};
 
 use crate::ShipFault;
 use crate::piece::say_part;
 use crate::records::say_records;
+use crate::since::{Since, look_for};
 use gts_checkpoint::read;
 use gts_directory::Directory;
 use gts_journal::Journal;
@@ -91,11 +93,13 @@ pub fn ship<P: Station>(
 ) -> Result<(), ShipFault>
     // The journal opens, and its feed was said on channel 0, and nothing else.
     ensures said { P.tells → OnOk result
-        (ShipsOnly directory.now (P.calls station.old) (P.calls station.new)) }
+        (ShipsOnly directory.now (P.calls station.old) (P.calls station.new)
+        (feed_of directory.now (P.calls station.old))) }
 
     // A fault of the files is answered exactly where they open to it. Else a front of the feed was said.
     ensures fault { P.tells → IfErr result (λ e.
-        IsShipFault e directory.now (P.calls station.old) (P.calls station.new)) }
+        IsShipFault e directory.now (P.calls station.old) (P.calls station.new)
+        (feed_of directory.now (P.calls station.old))) }
     ensures named { IfErr result IsNamed }
     ensures disk_fault { IsErrOf result ShipFault.DiskFault
         → Rose (P.disk_faults station.old) (P.disk_faults station.new) }
@@ -109,4 +113,41 @@ pub fn ship<P: Station>(
     let end = open_core(alloc, station, directory)?.1.used() - 1;
     let journal = Journal::start(alloc, station, directory.mark())?;
     say_feed(alloc, station, directory, journal, end)
+}
+
+/// Says what of the feed is behind what a standby station has, as `ship` says all of it: the records with their seals, without the
+/// header. Where the journal has no gate there with that station's seal before it, the whole feed is said; that begins with the
+/// magic, as no record does.
+pub fn ship_since<P: Station>(
+    alloc: Global,
+    station: &mut P,
+    directory: &Directory,
+    since: &Since,
+) -> Result<(), ShipFault>
+    // The journal opens, and what is behind the standby's was said on channel 0, or else all, and nothing else.
+    ensures said { P.tells → OnOk result
+        (ShipsOnly directory.now (P.calls station.old) (P.calls station.new)
+        (since_of directory.now (P.calls station.old) since.now)) }
+
+    // A fault of the files is answered exactly where they open to it. Else a front of that was said.
+    ensures fault { P.tells → IfErr result (λ e.
+        IsShipFault e directory.now (P.calls station.old) (P.calls station.new)
+        (since_of directory.now (P.calls station.old) since.now)) }
+    ensures named { IfErr result IsNamed }
+    ensures disk_fault { IsErrOf result ShipFault.DiskFault
+        → Rose (P.disk_faults station.old) (P.disk_faults station.new) }
+    ensures say_fault { IsErrOf result ShipFault.SayFault
+        → Rose (P.say_faults station.old) (P.say_faults station.new) }
+    ensures later { P.disk_faults station.old ≤ P.disk_faults station.new }
+    ensures say { P.say_faults station.old ≤ P.say_faults station.new }
+{
+    // A limit is low enough for the places of gates.
+    let _ = directory.limit();
+    let end = open_core(alloc, station, directory)?.1.used() - 1;
+    let mut journal = Journal::start(alloc, station, directory.mark())?;
+    if look_for(alloc, station, directory, &mut journal, end, since)? {
+        return say_records(station, &mut journal, end);
+    }
+    let whole = Journal::start(alloc, station, directory.mark())?;
+    say_feed(alloc, station, directory, whole, end)
 }

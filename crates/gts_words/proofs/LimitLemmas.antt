@@ -7,8 +7,8 @@ use Rattle.std.specs.Str.Parse.{digits_value}
 use Rattle.std.proofs.lemmas.Bool.{leb-true, and_parts}
 use Rattle.gts_words.specs.declared.count.TheConstants.{MOST_GENERATED, LONGEST_COUNT, MOST_CONNECTIONS, LONGEST_CONNECTIONS}
 use Rattle.gts_words.specs.declared.command.Command.{Command}
-use Rattle.gts_words.specs.declared.command.Command.TheVariants.{Init, Replay, Serve, ServeAlways, Show, Compact, Generate, Migrate, Unpack, Pack, Gaps, Ship, Follow, Count}
-use Rattle.gts_words.specs.Commands.{same, alone, is_count, count_in, number_in, circuit_in, is_moment, gaps_of, moment_in, serving, command_of}
+use Rattle.gts_words.specs.declared.command.Command.TheVariants.{Init, Replay, Serve, ServeAlways, Show, Compact, Generate, Migrate, Unpack, Pack, Gaps, Ship, ShipSince, Follow, Count}
+use Rattle.gts_words.specs.Commands.{same, alone, is_count, count_in, number_in, circuit_in, is_moment, gaps_of, moment_in, serving, used_in, seal_in, ship_behind, command_of}
 
 -- a command has no count, or one within the limits
 abbrev IsWithin : Command → Type 0
@@ -89,12 +89,24 @@ by_name w false false true e = no_count (circuit_in w)
 by_name w false false false true = in_moment w (length w == 6)
 by_name w false false false false = tt
 
+behind_within : (used : Option ℕ) (seal : Option (List ℕ)) → AllWithin (ship_behind used seal)
+behind_within None seal = tt
+behind_within (Some used) None = tt
+behind_within (Some used) (Some seal) = tt
+
+by_since : (b : Bool) (used : Option ℕ) (seal : Option (List ℕ)) → AllWithin (cond b (ship_behind used seal) None)
+by_since true used seal = behind_within used seal
+by_since false used seal = tt
+
 command_within : (words : List (List ℕ)) → AllWithin (command_of words)
 command_within [] = tt
 command_within (name ∷ []) = alone_within name
 command_within (name ∷ count ∷ []) =
     by_name count (same name (codes "generate")) (same name (codes "serve")) (same name (codes "unpack")) (same name (codes "gaps"))
-command_within (name ∷ count ∷ more ∷ words) = tt
+command_within (name ∷ since ∷ used ∷ []) = tt
+command_within (name ∷ since ∷ used ∷ seal ∷ []) =
+    by_since (same name (codes "ship") && same since (codes "since")) (used_in used) (seal_in seal)
+command_within (name ∷ since ∷ used ∷ seal ∷ more ∷ words) = tt
 
 pub within_connections : (words : List (List ℕ)) (connections : ℕ) → command_of words ≡ Some (Serve connections)
     → (1 ≤ connections) × (connections ≤ MOST_CONNECTIONS)

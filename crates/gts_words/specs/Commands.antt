@@ -4,9 +4,11 @@ use Rattle.std.specs.Char.{is_ascii_digit}
 use Rattle.std.specs.Cmp.Lexicographic.{pointwise}
 use Rattle.std.specs.List.{list_all}
 use Rattle.std.specs.Str.Parse.{digits_value}
-use Rattle.gts_words.specs.declared.count.TheConstants.{MOST_GENERATED, LONGEST_COUNT, MOST_CONNECTIONS, LONGEST_CONNECTIONS}
+use Rattle.hex.specs.Hex.{encode_lower, decode_sized}
+use Rattle.hex.specs.declared.error.FromHexError.{FromHexError}
+use Rattle.gts_words.specs.declared.count.TheConstants.{MOST_GENERATED, LONGEST_COUNT, MOST_CONNECTIONS, LONGEST_CONNECTIONS, LONGEST_USED}
 use Rattle.gts_words.specs.declared.command.Command.{Command}
-use Rattle.gts_words.specs.declared.command.Command.TheVariants.{Init, Replay, Serve, ServeAlways, Show, Compact, Generate, Migrate, Unpack, Pack, Gaps, Ship, Follow, Count}
+use Rattle.gts_words.specs.declared.command.Command.TheVariants.{Init, Replay, Serve, ServeAlways, Show, Compact, Generate, Migrate, Unpack, Pack, Gaps, Ship, ShipSince, Follow, Count}
 use Rattle.gts_words.specs.declared.command.WordsFault.{WordsFault}
 use Rattle.gts_words.specs.declared.command.WordsFault.TheVariants as fault
 
@@ -85,10 +87,42 @@ counted name word =
     else (if same name (codes "gaps") then moment_in word
     else None)))
 
+-- a count of bytes is spelled by one to ten digits
+abbrev pub is_used : List ℕ → Bool
+is_used word = nat_le 1 (length word) && nat_le (length word) LONGEST_USED && list_all is_ascii_digit word
+
+abbrev pub used_in : List ℕ → Option ℕ
+used_in word = if is_used word then Some (digits_value 10 word) else None
+
+-- this word is what a seal is spelled by
+abbrev pub is_spelled : List ℕ → List ℕ → Bool
+is_spelled seal word = same (encode_lower seal) word
+
+-- a seal, where the word spells it in lower case
+abbrev pub in_lower_case : List ℕ → Result (List ℕ) FromHexError → Option (List ℕ)
+in_lower_case word (Ok seal) = if is_spelled seal word then Some seal else None
+in_lower_case word (Err _) = None
+
+-- a seal of 32 bytes is spelled by their hexadecimal digits in lower case
+abbrev pub seal_in : List ℕ → Option (List ℕ)
+seal_in word = in_lower_case word (decode_sized word 32)
+
+-- the command to say what is behind so many bytes, with this seal
+abbrev pub ship_behind : Option ℕ → Option (List ℕ) → Option Command
+ship_behind (Some used) (Some seal) = Some (ShipSince used seal)
+ship_behind (Some used) None = None
+ship_behind None _ = None
+
+-- the command that four words are
+abbrev pub shipped : List ℕ → List ℕ → List ℕ → List ℕ → Option Command
+shipped name since used seal =
+    if same name (codes "ship") && same since (codes "since") then ship_behind (used_in used) (seal_in seal) else None
+
 -- the command that a list of words is
 abbrev pub command_of : List (List ℕ) → Option Command
 command_of (name ∷ []) = alone name
 command_of (name ∷ count ∷ []) = counted name count
+command_of (name ∷ since ∷ used ∷ seal ∷ []) = shipped name since used seal
 command_of _ = None
 
 -- a command, or else the fault

@@ -1,6 +1,6 @@
 -- Worked rows: lists of words, and what they are.
 use Rattle.std.specs.Prelude.{◌≡◌, [], ◌∷◌, None, Some, codes}
-use Rattle.gts_words.specs.declared.command.Command.TheVariants.{Init, Replay, Serve, ServeAlways, Show, Compact, Generate, Migrate, Unpack, Pack, Gaps, Ship, Follow, Count}
+use Rattle.gts_words.specs.declared.command.Command.TheVariants.{Init, Replay, Serve, ServeAlways, Show, Compact, Generate, Migrate, Unpack, Pack, Gaps, Ship, ShipSince, Follow, Count}
 use Rattle.gts_words.specs.Commands.{command_of}
 
 -- Each command of one word.
@@ -53,6 +53,17 @@ DigitWords = (command_of (codes "unpack" ∷ codes "00" ∷ []) ≡ Some (Unpack
     × (command_of (codes "gaps" ∷ codes "281060" ∷ []) ≡ None)
     × (command_of (codes "gaps" ∷ codes "28103" ∷ []) ≡ None)
     × (command_of (codes "pack" ∷ codes "00" ∷ []) ≡ None)
+
+-- What a standby has is a count of bytes of one to ten digits, and a seal of 64 hexadecimal digits in lower case.
+abbrev pub SinceWords : Type 0
+SinceWords =
+    (command_of (codes "ship" ∷ codes "since" ∷ codes "41" ∷ codes "000000000000000000000000000000000000000000000000000000000000a0ff" ∷ [])
+    ≡ Some (ShipSince 41 (0 ∷ 0 ∷ 0 ∷ 0 ∷ 0 ∷ 0 ∷ 0 ∷ 0 ∷ 0 ∷ 0 ∷ 0 ∷ 0 ∷ 0 ∷ 0 ∷ 0 ∷ 0 ∷ 0 ∷ 0 ∷ 0 ∷ 0 ∷ 0 ∷ 0 ∷ 0 ∷ 0 ∷ 0 ∷ 0 ∷ 0 ∷ 0 ∷ 0 ∷ 0 ∷ 160 ∷ 255 ∷ [])))
+    × (command_of (codes "ship" ∷ codes "since" ∷ codes "41" ∷ codes "000000000000000000000000000000000000000000000000000000000000A0FF" ∷ []) ≡ None)
+    × (command_of (codes "ship" ∷ codes "since" ∷ codes "41" ∷ codes "000000000000000000000000000000000000000000000000000000000000a0f" ∷ []) ≡ None)
+    × (command_of (codes "ship" ∷ codes "since" ∷ codes "41x" ∷ codes "000000000000000000000000000000000000000000000000000000000000a0ff" ∷ []) ≡ None)
+    × (command_of (codes "ship" ∷ codes "until" ∷ codes "41" ∷ codes "000000000000000000000000000000000000000000000000000000000000a0ff" ∷ []) ≡ None)
+    × (command_of (codes "ship" ∷ codes "since" ∷ codes "41" ∷ []) ≡ None)
 
 -- No words, a word that isn't known, a word too many and one too few.
 abbrev pub NoCommands : Type 0

@@ -30,6 +30,8 @@ pub enum Command {
     Gaps { day: u32, hour: u32, minute: u32 },
     /// To say the feed of the journal, for a standby station.
     Ship,
+    /// To say what of the feed is behind so many bytes of a journal, which end with a closed gate and this seal before it.
+    ShipSince { used: u64, seal: [u8; 32] },
     /// To take a feed into the journal.
     Follow,
     /// To work through a capture, and to say a table of the traffic behind it.

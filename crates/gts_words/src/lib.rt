@@ -7,15 +7,17 @@ mod count;
 mod digits;
 mod laws;
 mod reading;
+mod since;
 mod worked;
 
 pub use command::{Command, WordsFault};
 pub use count::{
-    LONGEST_CONNECTIONS, LONGEST_COUNT, MOST_CONNECTIONS, MOST_GENERATED, limits_are_these_numbers,
+    LONGEST_CONNECTIONS, LONGEST_COUNT, LONGEST_USED, MOST_CONNECTIONS, MOST_GENERATED,
+    limits_are_these_numbers,
 };
 pub use laws::a_count_is_within_its_limits;
 pub use reading::read_words;
 pub use worked::{
     circuits_and_times_of_digits, commands_of_one_word, connections_of_one_to_four_digits,
-    counts_of_one_to_six_digits, other_lists_are_no_command,
+    counts_of_one_to_six_digits, other_lists_are_no_command, what_a_standby_has,
 };

@@ -1,4 +1,4 @@
-ghost use Rattle.std.specs.Prelude.{◌≡◌, IfOk, false, codes};
+ghost use Rattle.std.specs.Prelude.{◌≡◌, IfOk, false, codes, length};
 ghost use Rattle.clap.specs.Words.{app_of, kind_of, found_of, first_value};
 ghost use Rattle.gts_words.specs.Commands as commands;
 ghost use Rattle.gts_words.specs.Grammar.{grammar};
@@ -7,6 +7,7 @@ use crate::count::{
     LONGEST_CONNECTIONS, LONGEST_COUNT, MOST_CONNECTIONS, MOST_GENERATED, count_in,
 };
 use crate::digits::{circuit_in, moment_in};
+use crate::since::since_in;
 use crate::{Command, WordsFault};
 use clap::error::ErrorKind;
 use clap::{Arg, ArgMatches};
@@ -18,6 +19,9 @@ const PROGRAM: &str = "gts_switch";
 
 /// The most words of a command.
 const MOST_WORDS: u64 = 2;
+
+/// The words of the one command that has more: what a standby station has of a journal.
+const SINCE_WORDS: u64 = 4;
 
 /// A command line has the name of a command, and a count behind it or none.
 fn grammar<'a>(alloc: Global) -> Result<clap::Command<'a>, AllocError>
@@ -141,12 +145,26 @@ fn read_two(alloc: Global, name: &str, count: &str) -> Result<Command, WordsFaul
     }
 }
 
+/// Reads a command line of four words.
+fn read_since(words: &WordList) -> Result<Command, WordsFault>
+    requires { length words.now ≡ 4 }
+    ensures { result ≡ commands.or_words (commands.command_of words.now) }
+{
+    match since_in(words) {
+        Some(command) => Ok(command),
+        None => Err(WordsFault::Words),
+    }
+}
+
 /// The command that the words after the program's name are. A word that begins with a hyphen is none of any command's, and is
 /// not handed to the reader of command lines. `Words` exactly where the list is none of those that are defined; `NoMemory`
 /// may come for any list.
 pub fn read_words(alloc: Global, words: &WordList) -> Result<Command, WordsFault>
     ensures { commands.Answers result (commands.command_of words.now) }
 {
+    if words.len() == SINCE_WORDS {
+        return read_since(words);
+    }
     let Some(name) = words.get(0) else {
         return Err(WordsFault::Words);
     };

@@ -1,6 +1,6 @@
 //! Lists of words, each row the contract of a function with an empty body.
 
-ghost use Rattle.gts_words.specs.Worked.{OneWord, Counts, ConnectionCounts, DigitWords, NoCommands};
+ghost use Rattle.gts_words.specs.Worked.{OneWord, Counts, ConnectionCounts, DigitWords, SinceWords, NoCommands};
 
 /// Each command that is one word.
 pub fn commands_of_one_word()
@@ -20,6 +20,11 @@ pub fn connections_of_one_to_four_digits()
 /// `unpack` has a circuit of two digits, and `gaps` a time of six.
 pub fn circuits_and_times_of_digits()
     ensures { DigitWords }
+{}
+
+/// `ship since` has a count of bytes and a seal.
+pub fn what_a_standby_has()
+    ensures { SinceWords }
 {}
 
 /// All other lists are no command.

@@ -1,10 +1,10 @@
 use Rattle.std.proofs.Common.{◌≡◌, ◌+◌, ◌-◌, ℕ, Bool, cond, sym, ap, subst, ◌∙◌, arith}
 use Rattle.gts_traits.specs.{seen}
 use Rattle.gts_journal.specs.{first_fault}
-use Rattle.gts_standby.specs.Shipping.{ship_fault, IsAtFirst}
+use Rattle.gts_standby.specs.Shipping.{ship_fault, IsAtFirst, feed_of}
 use Rattle.gts_standby.proofs.ExitLemmas.{returned}
 use Rattle.gts_standby.proofs.ShipLemmas.{named_opening}
-use Rattle.gts_standby.proofs.FirstLemmas.{at_first, open_answer, ships_on, breaks_on, not_started, quiet_start, no_header_fault}
+use Rattle.gts_standby.proofs.FirstLemmas.{at_first, open_answer, ships_on, breaks_on, synced_quiet, not_started, quiet_start, no_header_fault}
 use Rattle.gts_standby.proofs.shipping.ship.Goals as goal
 
 pub returns-in_err-open_core-clause-fault : goal.returns-in_err-open_core-clause-fault
@@ -12,7 +12,7 @@ returns-in_err-open_core-clause-fault g c = λ tells.
     let d = c.args.directory.now in
     let old = g.P.Station.calls c.args.station.now in
     let new = g.P.Station.calls c.open_core.new.station in
-    rw (returned c.from_residual.result (ship_fault c.in_err-open_core.field-0.0) c.from_residual.ensures.1) (open_answer d old new c.in_err-open_core.field-0.0 (c.in_err-open_core.ensures.told tells) (c.in_err-open_core.ensures.fault tells))
+    rw (returned c.from_residual.result (ship_fault c.in_err-open_core.field-0.0) c.from_residual.ensures.1) (open_answer d old new c.in_err-open_core.field-0.0 (feed_of d old) (c.in_err-open_core.ensures.told tells) (c.in_err-open_core.ensures.fault tells))
 
 pub say_feed-requires-clause-first : goal.say_feed-requires-clause-first
 say_feed-requires-clause-first g c = λ tells.
@@ -56,7 +56,7 @@ returns-in_err-journal-clause-fault g c = λ tells.
     let new = g.P.Station.calls c.start.new.station in
     let o = c.in_ok-open_core.ensures.opened in
     let quiet = quiet_start c.in_err-journal.field-0.0 (first_fault c.mark.result (seen mid)) (c.in_err-journal.ensures.fault tells) (λ f is. no_header_fault d mid c.in_ok-open_core.field-0.1 o.state c.mark.result f (o.stands tells) o.current c.mark.ensures is) in
-    rw (returned c.from_residual-in_err-journal.result (ship_fault c.in_err-journal.field-0.0) c.from_residual-in_err-journal.ensures.1) (not_started d old mid new (ship_fault c.in_err-journal.field-0.0) (c.in_ok-open_core.ensures.synced tells) (c.in_err-journal.ensures.told tells) quiet)
+    rw (returned c.from_residual-in_err-journal.result (ship_fault c.in_err-journal.field-0.0) c.from_residual-in_err-journal.ensures.1) (not_started d old mid new (ship_fault c.in_err-journal.field-0.0) (feed_of d old) (synced_quiet old mid (c.in_ok-open_core.ensures.synced tells)) (c.in_err-journal.ensures.told tells) quiet)
 
 pub returns-in_err-open_core-clause-named : goal.returns-in_err-open_core-clause-named
 returns-in_err-open_core-clause-named g c = rw (returned c.from_residual.result (ship_fault c.in_err-open_core.field-0.0) c.from_residual.ensures.1) (named_opening c.in_err-open_core.field-0.0)
