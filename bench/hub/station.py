@@ -24,6 +24,14 @@ def serves_always(program):
     return b'serve always' in subprocess.run([program, '--help'], capture_output=True, timeout=SECONDS).stdout
 
 
+def is_run_by(pid, program):
+    """Whether a process runs this program."""
+    try:
+        return os.path.samefile(f'/proc/{pid}/exe', program)
+    except (FileNotFoundError, PermissionError):
+        return False
+
+
 class Station:
     """The built switch of a hub. `is_always` is whether it knows a service without an end."""
 
@@ -86,7 +94,7 @@ class Station:
         while time.monotonic() < until:
             with open(f'/proc/{self.process.pid}/task/{self.process.pid}/children') as file:
                 for pid in file.read().split():
-                    if os.path.realpath(f'/proc/{pid}/exe') == os.path.realpath(self.program):
+                    if is_run_by(pid, self.program):
                         return int(pid)
             time.sleep(0.001)
         raise Lost('the switch was not started')
