@@ -40,6 +40,8 @@ class Station:
         self.process, self.pid = None, None
         self.run, self.read_to = 0, 0
         self.selected, self.syncs, self.compactions = 0, 0, 0
+        # How long a command may take.
+        self.seconds = SECONDS
         # Where a sync is counted, and how far that was read.
         self.trace, self.traced = None, 0
         self.standby = None
