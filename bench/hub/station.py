@@ -24,6 +24,14 @@ def serves_always(program):
     return b'serve always' in subprocess.run([program, '--help'], capture_output=True, timeout=SECONDS).stdout
 
 
+def is_run_by(pid, program):
+    """Whether a process runs this program."""
+    try:
+        return os.path.samefile(f'/proc/{pid}/exe', program)
+    except (FileNotFoundError, PermissionError):
+        return False
+
+
 class Station:
     """The built switch of a hub. `is_always` is whether it knows a service without an end."""
 
@@ -32,6 +40,8 @@ class Station:
         self.process, self.pid = None, None
         self.run, self.read_to = 0, 0
         self.selected, self.syncs, self.compactions = 0, 0, 0
+        # How long a command may take.
+        self.seconds = SECONDS
         # Where a sync is counted, and how far that was read.
         self.trace, self.traced = None, 0
         self.standby = None
@@ -86,7 +96,7 @@ class Station:
         while time.monotonic() < until:
             with open(f'/proc/{self.process.pid}/task/{self.process.pid}/children') as file:
                 for pid in file.read().split():
-                    if os.path.realpath(f'/proc/{pid}/exe') == os.path.realpath(self.program):
+                    if is_run_by(pid, self.program):
                         return int(pid)
             time.sleep(0.001)
         raise Lost('the switch was not started')

@@ -5,6 +5,7 @@ tsunami."""
 import heapq
 import math
 import random
+from functools import cache
 from itertools import count
 
 from hub.directory import BINARY, CENTRE, CIRCUITS, LONG, SHORT, TSUNAMI, WARNING, country, peer
@@ -22,7 +23,8 @@ SECOND_WAYS, FAULTS, WARNINGS = 80, 5, 3
 TSUNAMIS_A_DAY = 6
 # So many messages later at most the second way brings its copy.
 LATER = 120
-POOL = 1 << 18
+# How many bytes of words and of noise texts are cut from; a group of five digits with its blank; and a line of eleven groups.
+POOL, GROUP, LINE = 1 << 18, 6, 66
 BULLETIN, REFUSED, NOISE, REQUEST = 'bulletin', 'refused', 'noise', 'request'
 # A fault of a heading, and the field that the receipt names.
 WRONG = [('TT', lambda h: b'1' + h[1:]), ('AA', lambda h: h[:2] + b'1' + h[3:]), ('ii', lambda h: h[:4] + b'O' + h[5:]),
@@ -61,6 +63,7 @@ def request(asker, time_of_day, text, asked, missing=0):
     return Message(REQUEST, body, asked=tuple(asked), missing=missing)
 
 
+@cache
 def all_headings():
     """Ten thousand fronts of headings: each country has one of each kind under each number, as far as they go."""
     found = {'short': [], 'long': [], 'binary': []}
@@ -84,11 +87,8 @@ class Traffic:
     def __init__(self, seed, serial=0):
         self.chance = random.Random(seed)
         self.headings = all_headings()
-        groups = (b'%05d%b' % (self.chance.randrange(100_000), EOL if place % 11 == 10 else b' ') for place in count())
-        pool = bytearray()
-        while len(pool) < POOL:
-            pool += next(groups)
-        self.words, self.noise = bytes(pool), self.chance.randbytes(2 * POOL)
+        numbers = self.chance.choices(range(100_000), k=POOL // GROUP)
+        self.words, self.noise = b' '.join(b'%05d' % number for number in numbers), self.chance.randbytes(2 * POOL)
         self.serial = serial
         self.times = set()
         # Copies that a second way brings later: before which message, in which order, on which circuit.
@@ -115,8 +115,9 @@ class Traffic:
             front = b'BUFR' + size.to_bytes(3, 'big') + b'\x04%08d' % self.serial
             return front + self.noise[begin:begin + size - len(front)]
         size = self.chance.randrange(least, most)
-        begin = 6 * self.chance.randrange((POOL - size) // 6)
-        return b'%08d ' % self.serial + self.words[begin:begin + size - 10].rstrip(b'\r\n ') + b'='
+        begin = GROUP * self.chance.randrange((POOL - size) // GROUP)
+        words = self.words[begin:begin + size].rstrip()
+        return b'%08d ' % self.serial + EOL.join(words[at:at + LINE].rstrip() for at in range(0, len(words), LINE)) + b'='
 
     def bulletin(self, sort, time_of_day):
         """The country whose bulletin it is, and the bulletin. Some are late, corrections or amendments."""
