@@ -105,10 +105,10 @@ follows_taken d s n c here f none =
     follows_on d s (after d s (Taken c)) n f (after d f.state (Taken c)) (after-same d s f.state (Taken c) f.same) (held-all d f.state (Done (Taken c) ∷ []) f.keeps (here_of d (Taken c) here) f.held)
     (quiet_take f.state c (choice d f.state c) (λ i p e. none i (outcome-same d s f.state (Taken c) f.same ∙ ap told_by e)))
 
-pub follows_restarted : (d : Directory) (s : State) (n : Numbers) → Follows d s n → Follows d (restarted s) n
+pub follows_restarted : (d : Directory) (s : State) (n : Numbers) → Follows d s n → Follows d (restarted d s) n
 follows_restarted d s n f =
-    follows_on d s (restarted s) n f (restarted f.state) (restarted-same d s f.state f.keeps f.same) (held-all d f.state (Restarted ∷ []) f.keeps refl f.held)
-    (record { count = refl; accepted = refl; takens = takens-restarted f.state.circuits })
+    follows_on d s (restarted d s) n f (restarted d f.state) (restarted-same d s f.state f.keeps f.same) (held-all d f.state (Restarted ∷ []) f.keeps refl f.held)
+    (record { count = refl; accepted = refl; takens = takens-restarted d.circuits f.state.circuits })
 
 -- ---- a bulletin is accepted
 

@@ -9,7 +9,7 @@ use Rattle.gts_heading.specs.Heading.{HeadingFields}
 use Rattle.gts_directory.specs.Directory.{Directory, Circuit, Rule, matches, is_named, peer_of}
 use Rattle.gts_directory.specs.Extending.{CircuitStays, RuleStays, BeginWith, Extends}
 use Rattle.gts_event.specs.State.{State, CircuitState, Bulletin, idle, has, is_recent, heading_of}
-use Rattle.gts_event.specs.History.{owed_last, restarted, is_request}
+use Rattle.gts_event.specs.History.{owed_last, owed_again, all_owed_last, restarted, is_request}
 use Rattle.gts_event.specs.Need.{Need, CircuitNeed, unused, need, circuit_need, circuit_needs, is_needed, is_bulletin, is_for, is_circuit_sound, is_sound, are_below, owes_kept, recent_positions, positions_of, IsOrdered}
 use Rattle.gts_recovery.specs.Wider.{wider, widened}
 use Rattle.gts_event.proofs.LawLemmas.{circuit-parts, circuit-from, sound-parts, sound-from}
@@ -42,19 +42,26 @@ both_lists f xs ys e h = list_all-append f xs ys ∙ and_from (list_all f xs) (l
 
 -- ---- opened again
 
-idle_restarted : (k : ℕ) → map owed_last (replicate k idle) ≡ replicate k idle
-idle_restarted zero = refl
-idle_restarted (suc k) = ap (λ (qs : List CircuitState). idle ∷ qs) (idle_restarted k)
+-- what was owed before doesn't matter
+again_restarted : (new old : List Circuit) (qs more : List CircuitState) → all_owed_last new (all_owed_last old qs ++ more) ≡ all_owed_last new (qs ++ more)
+again_restarted new [] [] more = refl
+again_restarted new (row ∷ old) [] more = refl
+again_restarted [] [] (q ∷ qs) more = ap (λ (rs : List CircuitState). owed_last 0 q ∷ rs) (again_restarted [] [] qs more)
+again_restarted [] (row ∷ old) (q ∷ qs) more = ap (λ (rs : List CircuitState). owed_last 0 q ∷ rs) (again_restarted [] old qs more)
+again_restarted (next ∷ new) [] (q ∷ qs) more = ap (λ (rs : List CircuitState). owed_last (owed_again next) q ∷ rs) (again_restarted new [] qs more)
+again_restarted (next ∷ new) (row ∷ old) (q ∷ qs) more = ap (λ (rs : List CircuitState). owed_last (owed_again next) q ∷ rs) (again_restarted new old qs more)
 
-circuits_restarted : (qs : List CircuitState) (k : ℕ) → map owed_last (qs ++ replicate k idle) ≡ map owed_last qs ++ replicate k idle
-circuits_restarted [] k = idle_restarted k
-circuits_restarted (q ∷ qs) k = ap (λ (more : List CircuitState). owed_last q ∷ more) (circuits_restarted qs k)
+length-restarted : (rows : List Circuit) (qs : List CircuitState) → length (all_owed_last rows qs) ≡ length qs
+length-restarted [] [] = refl
+length-restarted (row ∷ rows) [] = refl
+length-restarted [] (q ∷ qs) = ap suc (length-restarted [] qs)
+length-restarted (row ∷ rows) (q ∷ qs) = ap suc (length-restarted rows qs)
 
-pub restarted-widened : (k : ℕ) (s : State) → restarted (widened k s) ≡ widened k (restarted s)
-restarted-widened k s =
+pub restarted-widened : (new old : Directory) (k : ℕ) (s : State) → restarted new (widened k (restarted old s)) ≡ restarted new (widened k s)
+restarted-widened new old k s =
     ap (λ (qs : List CircuitState). record s { circuits = qs })
-    (circuits_restarted s.circuits (k - length s.circuits)
-    ∙ ap (λ (n : ℕ). map owed_last s.circuits ++ replicate (k - n) idle) (sym (length-map s.circuits owed_last)))
+    (ap (λ (n : ℕ). all_owed_last new.circuits (all_owed_last old.circuits s.circuits ++ replicate (k - n) idle)) (length-restarted old.circuits s.circuits)
+    ∙ again_restarted new.circuits old.circuits s.circuits (replicate (k - length s.circuits) idle))
 
 -- ---- the need
 

@@ -283,13 +283,13 @@ front_behind_sync old mid new x first second = record {
 }
 
 -- the need that files open to
-pub opens_there : (d : Directory) (mid : List Call) (opened : InHand) (s : State) → StandsFor d s mid opened → opened.version ≡ written → opens d (seen mid) ≡ Ok (need d (restarted s))
+pub opens_there : (d : Directory) (mid : List Call) (opened : InHand) (s : State) → StandsFor d s mid opened → opened.version ≡ written → opens d (seen mid) ≡ Ok (need d (restarted d s))
 opens_there d mid opened s stands current =
     let opens_to : files_read written d (seen mid) ≡ Ok (s, opened.gate + 1, opened.seal) = ap (λ (v : Version). files_read v d (seen mid)) (sym current) ∙ stands.opens_to in
     ap (λ (r : Read). by_opened (opened_of r)) opens_to
   where
     by_opened : Opened → Result Need OpenFault
-    by_opened o = elim o as (λ _. Result Need OpenFault) [ Err f ↦ Err f | Ok x ↦ Ok (need d (restarted x.0)) ]
+    by_opened o = elim o as (λ _. Result Need OpenFault) [ Err f ↦ Err f | Ok x ↦ Ok (need d (restarted d x.0)) ]
 
 -- ---- the whole
 
@@ -340,7 +340,7 @@ pub ships : (d : Directory) (old mid now new : List Call) (j opened : InHand) (s
 ships d old mid now new j opened s first second version stands for current says =
     let quiet : SaysOnly old now [] = subst (λ (calls : List Call). SaysOnly old calls []) (sym (second ∙ ap (λ (l : List Call). Did Syncs ∷ l) first)) (record { said = (said_none old).said; files = λ file. refl }) in
     record {
-      need = need d (restarted s);
+      need = need d (restarted d s);
       opened = ap (λ (calls : List Call). opens d (seen calls)) (sym first) ∙ opens_there d mid opened s for current;
       said = behind_sync old now new (feed_of d old) quiet (subst (λ (l : List ℕ). SaysOnly now new (on 0 l)) (same_feed d old mid now j first second version stands) says.only);
     }
