@@ -7,7 +7,7 @@ use Rattle.std.proofs.lemmas.Bool.{and_parts, and_from, lt-ltb, ltb-true, eq-eqb
 use Rattle.gts_directory.specs.Directory.{Directory, Circuit}
 use Rattle.gts_directory.specs.Extending.{CircuitStays, BeginWith, Extends}
 use Rattle.gts_event.specs.State.{State, CircuitState, Bulletin, idle, on_circuit, has, is_recent, draws, drawn, waiting, heading_of}
-use Rattle.gts_event.specs.History.{owed_last, restarted, is_request}
+use Rattle.gts_event.specs.History.{all_owed_last, restarted, is_request}
 use Rattle.gts_event.specs.Need.{Need, CircuitNeed, unused, need, circuit_need, circuit_needs, begun, begun_circuit, is_needed, is_bulletin, is_circuit_sound, is_sound, are_below, owes_kept, IsOrdered}
 use Rattle.gts_event.specs.Held.{HeldCircuit, IsHeld}
 use Rattle.gts_event.specs.Sound.{SoundCircuit}
@@ -164,7 +164,7 @@ sound-over new old n e h = sound-held new (goes_over new old n) (sound-parts old
 -- ---- opened again
 
 brought_again : (old new : List Circuit) (qs : List CircuitState)
-    → each_brought old new (map (λ row. circuit_need row.0.kept row.1) (zip old (map owed_last qs)))
+    → each_brought old new (map (λ row. circuit_need row.0.kept row.1) (zip old (all_owed_last old qs)))
     ≡ each_brought old new (map (λ row. circuit_need row.0.kept row.1) (zip old qs))
 brought_again old [] qs = refl
 brought_again [] (next ∷ new) qs = refl
@@ -173,7 +173,7 @@ brought_again (row ∷ old) (next ∷ new) (q ∷ qs) =
     ap (λ (cs : List CircuitNeed). brought row next (circuit_need row.kept q) ∷ cs) (brought_again old new qs)
 
 held_again : (rows : List Circuit) (qs : List CircuitState) (p : ℕ)
-    → list_any (λ c. has c.waiting p || has c.kept p) (map (λ row. circuit_need row.0.kept row.1) (zip rows (map owed_last qs)))
+    → list_any (λ c. has c.waiting p || has c.kept p) (map (λ row. circuit_need row.0.kept row.1) (zip rows (all_owed_last rows qs)))
     ≡ list_any (λ c. has c.waiting p || has c.kept p) (map (λ row. circuit_need row.0.kept row.1) (zip rows qs))
 held_again [] qs p = refl
 held_again (row ∷ rows) [] p = refl
@@ -182,10 +182,10 @@ held_again (row ∷ rows) (q ∷ qs) p =
 
 pub over-restarted : (new old : Directory) (s : State) → goes_over new old (need old (restarted old s)) ≡ goes_over new old (need old s)
 over-restarted new old s =
-    ap (λ (cs : List CircuitNeed). begun (record { accepted = s.count; bulletins = (need old (restarted s)).bulletins; circuits = cs }))
+    ap (λ (cs : List CircuitNeed). begun (record { accepted = s.count; bulletins = (need old (restarted old s)).bulletins; circuits = cs }))
     (brought_again old.circuits new.circuits s.circuits)
     ∙ ap (λ (bs : List Bulletin). begun (record { accepted = s.count; bulletins = bs; circuits = each_brought old.circuits new.circuits (circuit_needs old s) }))
-    (filter_same (λ (b : Bulletin). is_needed old s.count (circuit_needs old (restarted s)) b.position) (λ b. is_needed old s.count (circuit_needs old s) b.position) s.accepted
+    (filter_same (λ (b : Bulletin). is_needed old s.count (circuit_needs old (restarted old s)) b.position) (λ b. is_needed old s.count (circuit_needs old s) b.position) s.accepted
     (λ b. ap (λ (t : Bool). is_recent old s.count b.position || t) (held_again old.circuits s.circuits b.position)))
 
 -- ---- what is due
