@@ -1,10 +1,13 @@
 """The built program is killed at some thirty places of a run of some hundred bulletins, in which the journal is compacted now and
 then, and in the command `compact` between the runs. Each time its journal is opened again with the rest of the capture. Every
-bulletin has been sent then, under one number, and no number carries two.
+bulletin has been sent then, under one number, and no number carries two. Each run begins with the last draw, or with the last three
+where the circuit's row has `repeat = 3`.
 
     --break journal    once the journal is put back as it was some bulletins before"""
 import subprocess
 import time
+
+import pytest
 
 import gate
 from gate import feed
@@ -23,6 +26,7 @@ kept = 1000
 name = "B"
 peer = "BBBB"
 kept = 1000
+repeat = %d
 [[rule]]
 heading = "****** ****"
 to = ["B"]
@@ -48,8 +52,8 @@ def capture(start):
 class Day:
     """The run of all bulletins, killed again and again."""
 
-    def __init__(self, folder, chance, puts_back):
-        self.folder, self.chance, self.puts_back = folder, chance, puts_back
+    def __init__(self, folder, chance, puts_back, repeat):
+        self.folder, self.chance, self.puts_back, self.repeat = folder, chance, puts_back, repeat
         self.done = self.kills = self.cut_off = 0
         self.bodies, self.numbers = {}, {}
         # How long `compact` takes, as far as it is known.
@@ -93,6 +97,11 @@ class Day:
             # What was accepted in the moment of a kill is a duplicate at the next beginning.
             fits = line.startswith(b'ACC 0 ') or (line.startswith(b'DUP 0 ') and i == 0)
             self.folder.wants(f'the receipt {line} of bulletin {self.done + i} fits', fits, True)
+        if frames:
+            # The last draw may not have been seen.
+            last = max(map(int, self.numbers), default=0)
+            fits = int(frames[0][4:7]) in (max(1, last - self.repeat + 1), max(1, last - self.repeat + 2))
+            self.folder.wants(f'behind number {last} a run may begin with {frames[0][4:7]}', fits, True)
         for message in frames:
             number, text = message[4:7], message[10:]
             self.folder.wants(f'the text of number {number}', self.numbers.setdefault(number, text), text)
@@ -100,7 +109,7 @@ class Day:
         self.done += len(receipts)
 
     def run(self):
-        self.folder.write('directory.toml', DIRECTORY)
+        self.folder.write('directory.toml', DIRECTORY % self.repeat)
         self.folder.wants('init', self.folder.run('init'), (0, b'', ''))
         killed = True
         while killed:
@@ -116,8 +125,9 @@ class Day:
                 self.older, self.puts_back = None, False
 
 
-def test_each_bulletin_is_sent_once_whenever_the_program_is_killed(folder, chance, broken):
-    day = Day(folder, chance, broken == 'journal')
+@pytest.mark.parametrize('repeat', (1, 3))
+def test_each_bulletin_is_sent_once_whenever_the_program_is_killed(folder, chance, broken, repeat):
+    day = Day(folder, chance, broken == 'journal', repeat)
     day.run()
     while day.cut_off < LEAST and folder.count < 20 * KILLS:
         day.compact()

@@ -84,7 +84,7 @@ module _ (d : directories.Directory) (files : Files) (fed : List ℕ) where
   ]
 
   abbrev need_of_read : Read → Result Need OpenFault
-  need_of_read r = elim (opened_of r) as (λ _. Result Need OpenFault) [ Err f ↦ Err f | Ok opened ↦ Ok (need d (restarted opened.0)) ]
+  need_of_read r = elim (opened_of r) as (λ _. Result Need OpenFault) [ Err f ↦ Err f | Ok opened ↦ Ok (need d (restarted d opened.0)) ]
 
   unopened : (fault : OpenFault) → comes_to d files fed ≡ Err fault → opens d files ≡ Err fault
   unopened fault is = ap need_of_read (go (files_read written d files) refl)
@@ -108,7 +108,7 @@ module _ {S P : Type 0} (source : SourceMeanings S) (station : StationMeanings P
     (answers : station.tells → source.tells → Answers answer (comes_to d (seen (station.calls old)) (source.left oc)))
     (added : station.tells → source.tells → (s : State) (used : ℕ) (last : List ℕ) (t : Taken) → files_read written d (seen (station.calls old)) ≡ Ok (s, used, last)
     → comes_to d (seen (station.calls old)) (source.left oc) ≡ Ok t → IsEnd answer
-    → opens d (seen (station.calls new)) ≡ Ok (need d (restarted (state_after d s t))))
+    → opens d (seen (station.calls new)) ≡ Ok (need d (restarted d (state_after d s t))))
     (records : station.tells → source.tells → (read : State × ℕ × List ℕ) (t : Taken) → files_read written d (seen (station.calls old)) ≡ Ok read
     → comes_to d (seen (station.calls old)) (source.left oc) ≡ Ok t → IsEnd answer → files_read written d (seen (station.calls new)) ≡ Ok (read_after d read t))
     (moments : station.tells → source.tells → (s : State) (used : ℕ) (last : List ℕ) (t : Taken) → files_read written d (seen (station.calls old)) ≡ Ok (s, used, last)

@@ -190,7 +190,7 @@ module _ {S P : Type 0} (source : SourceMeanings S) (station : StationMeanings P
 
 -- what the files of an answer open to
 abbrev need_opened : directories.Directory → Opened → Result Need OpenFault
-need_opened d opened = elim opened as (λ _. Result Need OpenFault) [ Err e ↦ Err e | Ok x ↦ Ok (need d (restarted x.0)) ]
+need_opened d opened = elim opened as (λ _. Result Need OpenFault) [ Err e ↦ Err e | Ok x ↦ Ok (need d (restarted d x.0)) ]
 
 files_of : (d : directories.Directory) (files : Files) (n : Need) → opens_any d files ≡ Ok n → (s : State) × (used : ℕ) × (files_open_any d files ≡ Ok (s, used))
 files_of d files n e = go (files_open_any d files) refl e
@@ -199,7 +199,7 @@ files_of d files n e = go (files_open_any d files) refl e
     go (Ok x) is e = (x.0, x.1, is)
     go (Err f) is e = absurd (let none : Err f ≡ Ok n = e in cc none)
 
-need_of : (d : directories.Directory) (files : Files) (s : State) (used : ℕ) → files_open_any d files ≡ Ok (s, used) → opens_any d files ≡ Ok (need d (restarted s))
+need_of : (d : directories.Directory) (files : Files) (s : State) (used : ℕ) → files_open_any d files ≡ Ok (s, used) → opens_any d files ≡ Ok (need d (restarted d s))
 need_of d files s used e = ap (need_opened d) e
 
 two_answers : (n : Need) (e : OpenFault) (opened : Result Need OpenFault) → opened ≡ Ok n → opened ≡ Err e → ⊥
@@ -294,12 +294,12 @@ module _ {S P : Type 0} (source : SourceMeanings S) (station : StationMeanings P
       → full_compacted d (widened (length d.circuits) s) ≡ None
       → (Rose (station.disk_faults old) (station.disk_faults new) → ⊥) → (status_migrated r ≡ Done) ⊎ (status_migrated r ≡ NoMemory)
   complete (Ok done) x t s used is free quiet = inl refl
-  complete (Err (fault.Open opening.NoJournal)) x t s used is free quiet = absurd (two_answers (need o (restarted s)) opening.NoJournal _ (need_of o (seen (station.calls old)) s used is) (x.answers t).0)
-  complete (Err (fault.Open opening.OldVersion)) x t s used is free quiet = absurd (two_answers (need o (restarted s)) opening.OldVersion _ (need_of o (seen (station.calls old)) s used is) (x.answers t).0)
+  complete (Err (fault.Open opening.NoJournal)) x t s used is free quiet = absurd (two_answers (need o (restarted o s)) opening.NoJournal _ (need_of o (seen (station.calls old)) s used is) (x.answers t).0)
+  complete (Err (fault.Open opening.OldVersion)) x t s used is free quiet = absurd (two_answers (need o (restarted o s)) opening.OldVersion _ (need_of o (seen (station.calls old)) s used is) (x.answers t).0)
   complete (Err (fault.Open (opening.NotThis want found))) x t s used is free quiet =
-      absurd (two_answers (need o (restarted s)) (opening.NotThis want found) _ (need_of o (seen (station.calls old)) s used is) (x.answers t).0)
+      absurd (two_answers (need o (restarted o s)) (opening.NotThis want found) _ (need_of o (seen (station.calls old)) s used is) (x.answers t).0)
   complete (Err (fault.Open (opening.Damaged file at))) x t s used is free quiet =
-      absurd (two_answers (need o (restarted s)) (opening.Damaged file at) _ (need_of o (seen (station.calls old)) s used is) (x.answers t).0)
+      absurd (two_answers (need o (restarted o s)) (opening.Damaged file at) _ (need_of o (seen (station.calls old)) s used is) (x.answers t).0)
   complete (Err (fault.Open opening.DiskFault)) x t s used is free quiet = absurd (quiet (x.disk tt))
   complete (Err (fault.Open opening.NoMemory)) x t s used is free quiet = inr refl
   complete (Err (fault.Full at wanted limit)) x t s used is free quiet = let f = x.full t s used is in absurd (no_room _ _ f.1 free)

@@ -49,7 +49,7 @@ pub record TakesFeed (d : directories.Directory) (old new : List Call) (fed : Li
   pub taken : Taken
   pub comes : comes_to d (seen old) fed ≡ Ok taken
   pub ends : EndsAs answer taken.end
-  pub opened : opens d (seen new) ≡ Ok (need d (restarted (state_after d state taken)))
+  pub opened : opens d (seen new) ≡ Ok (need d (restarted d (state_after d state taken)))
   pub records : files_read written d (seen new) ≡ Ok (read_after d (state, used, last) taken)
 
 -- the feed was taken into the journal of the directory, and this was answered

@@ -46,8 +46,10 @@ RefusedBy fault since source station directory old new =
 -- not all of it.
 abbrev pub ShippedAs : {S P : Type 0} → Option Since → SourceMeanings S → StationMeanings P → Status → S → P → S → P → Type 0
 ShippedAs since source station Done od old nd new =
-    Under source station od (λ d. ShipsOnly d (station.calls old) (station.calls new) (asked_of d (station.calls old) since))
-ShippedAs since source station (Directory fault) od old nd new = (new ≡ old) × (source.tells → directory_of_bytes (source.left od) ≡ Err fault)
+    Under source station od
+    (λ d. ShipsOnly d (station.calls old) (station.calls new) (asked_of d (station.calls old) since))
+ShippedAs since source station (Directory fault) od old nd new =
+    (new ≡ old) × (source.tells → directory_of_bytes (source.left od) ≡ Err fault)
 ShippedAs since source station NoJournal od old nd new = RefusedBy opening.NoJournal since source station od old new
 ShippedAs since source station OldVersion od old nd new = RefusedBy opening.OldVersion since source station od old new
 ShippedAs since source station (NotThis want found) od old nd new = RefusedBy (opening.NotThis want found) since source station od old new

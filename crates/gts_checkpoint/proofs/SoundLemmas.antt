@@ -1,6 +1,6 @@
 -- Numbers that differ, what is held on circuits, and the parts of soundness.
 use Rattle.std.proofs.Common.{◌≡◌, ◌≢◌, ℕ, zero, suc, ◌+◌, ◌-◌, ◌<◌, ◌≤◌, Bool, true, false, not, ◌&&◌, ◌||◌, ◌==◌, ◌⊎◌, inl, inr, nat_lt, nat_le, List, [], ◌∷◌, ◌++◌, length, get_or, map, filter, zip, slice_get, Some, None, Result, Ok, Err, refl, sym, ap, ◌∙◌, arith}
-use Rattle.std.specs.List.{list_all, enumerate_from}
+use Rattle.std.specs.List.{list_all}
 use Rattle.std.specs.List.Sorted.{IsNonDecreasing, IsPermutation}
 use Rattle.std.proofs.Math.Bool.{and-false, and-true}
 use Rattle.std.proofs.lemmas.Bool.{and_parts, and_from, eq-eqb, ne_eqb, eqb-true, leb-true, le-leb, false_from_ne_true, cases_lt}
@@ -11,7 +11,7 @@ use Rattle.std.specs.Result.{IfOk}
 use Rattle.std.proofs.lemmas.List.Sorted.{IsPermutation-sym, All-permutation, sum_by-IsPermutation, list_any-IsPermutation}
 use Rattle.gts_directory.specs.Directory.{Directory, Circuit}
 use Rattle.gts_event.specs.State.{has, is_recent}
-use Rattle.gts_event.specs.Need.{Need, CircuitNeed, ascends, is_distinct, is_needed, is_for, is_kept, has_counts, is_circuit_sound}
+use Rattle.gts_event.specs.Need.{Need, CircuitNeed, ascends, is_distinct, is_needed, is_there, is_kept, has_counts, is_circuit_sound}
 use Rattle.gts_event.specs.History.{most_owed}
 use Rattle.gts_event.specs.Items.{circuit_need_of, need_of}
 use Rattle.gts_event.specs.declared.values.CircuitNeed as values
@@ -155,12 +155,12 @@ positions-pass test waiting kept draws p up a b l = positions-are test waiting k
 pub positions-agree : (f g : ℕ → Bool) (waiting kept : List ℕ) → ((p : ℕ) → f p ≡ g p) → has_positions f waiting kept ≡ has_positions g waiting kept
 positions-agree f g waiting kept h = rw (all-agree f g (waiting ++ kept) h) refl
 
-pub circuit-is : (d : Directory) (n : Need) (circuit kept : ℕ) (c : CircuitNeed) → has_counts n.accepted kept c ≡ true
+pub circuit-is : (n : Need) (kept : ℕ) (c : CircuitNeed) → has_counts n.accepted kept c ≡ true
     → (nat_le (length c.owed) most_owed && list_all (is_kept c) c.owed) ≡ true
-    → is_circuit_sound d n circuit kept c ≡ has_positions (is_for d n.bulletins circuit) c.waiting c.kept
-circuit-is d n circuit kept c counts owes =
+    → is_circuit_sound n kept c ≡ has_positions (is_there n.bulletins) c.waiting c.kept
+circuit-is n kept c counts owes =
     regrouped (has_counts n.accepted kept c) (ascends c.waiting) (is_distinct c.kept) (list_all (λ position. not (has c.kept position)) c.waiting)
-    (list_all (is_for d n.bulletins circuit) (c.waiting ++ c.kept)) (nat_le (length c.owed) most_owed) (list_all (is_kept c) c.owed)
+    (list_all (is_there n.bulletins) (c.waiting ++ c.kept)) (nat_le (length c.owed) most_owed) (list_all (is_kept c) c.owed)
     ∙ rw (counts, owes) refl
 
 -- ---- what is needed
@@ -195,26 +195,26 @@ kept-is draws kept first index e =
 
 -- ---- each circuit beside its row
 
-pub rows-all : (f : ℕ × (Circuit × CircuitNeed) → Bool) (m : ℕ) (rows : List Circuit) (qs : List values.CircuitNeed)
-    → ((k n : ℕ) (row : Circuit) (q : values.CircuitNeed) → n ≡ m + k → slice_get rows k ≡ Some row → slice_get qs k ≡ Some q → f (n, (row, circuit_need_of q)) ≡ true)
-    → list_all f (enumerate_from m (zip rows (map circuit_need_of qs))) ≡ true
-rows-all f m [] qs h = refl
-rows-all f m (row ∷ rows) [] h = refl
-rows-all f m (row ∷ rows) (q ∷ qs) h =
-    and_from (f (m, (row, circuit_need_of q))) (list_all f (enumerate_from (m + 1) (zip rows (map circuit_need_of qs))))
-    (h zero m row q (omega arith) refl refl)
-    (rows-all f (m + 1) rows qs (λ k n row' q' e a b. h (suc k) n row' q' (omega arith) a b))
+pub rows-all : (f : Circuit × CircuitNeed → Bool) (rows : List Circuit) (qs : List values.CircuitNeed)
+    → ((k : ℕ) (row : Circuit) (q : values.CircuitNeed) → slice_get rows k ≡ Some row → slice_get qs k ≡ Some q → f (row, circuit_need_of q) ≡ true)
+    → list_all f (zip rows (map circuit_need_of qs)) ≡ true
+rows-all f [] qs h = refl
+rows-all f (row ∷ rows) [] h = refl
+rows-all f (row ∷ rows) (q ∷ qs) h =
+    and_from (f (row, circuit_need_of q)) (list_all f (zip rows (map circuit_need_of qs)))
+    (h zero row q refl refl)
+    (rows-all f rows qs (λ k row' q' a b. h (suc k) row' q' a b))
 
-pub rows-not : (f : ℕ × (Circuit × CircuitNeed) → Bool) (m : ℕ) (rows : List Circuit) (qs : List values.CircuitNeed)
-    → (k n : ℕ) (row : Circuit) (q : values.CircuitNeed) → n ≡ m + k → slice_get rows k ≡ Some row → slice_get qs k ≡ Some q → f (n, (row, circuit_need_of q)) ≡ false
-    → list_all f (enumerate_from m (zip rows (map circuit_need_of qs))) ≡ false
-rows-not f m [] qs k n row q e a b h = absurd (cc)
-rows-not f m (x ∷ rows) [] k n row q e a b h = absurd (cc)
-rows-not f m (x ∷ rows) (y ∷ qs) zero n row q e a b h =
-    let here : f (m, (x, circuit_need_of y)) ≡ false = let same : n ≡ m = omega arith in cc in
-    ap (λ (t : Bool). t && list_all f (enumerate_from (m + 1) (zip rows (map circuit_need_of qs)))) here
-rows-not f m (x ∷ rows) (y ∷ qs) (suc k) n row q e a b h =
-    ap (λ (t : Bool). f (m, (x, circuit_need_of y)) && t) (rows-not f (m + 1) rows qs k n row q (omega arith) a b h) ∙ and-false (f (m, (x, circuit_need_of y)))
+pub rows-not : (f : Circuit × CircuitNeed → Bool) (rows : List Circuit) (qs : List values.CircuitNeed)
+    → (k : ℕ) (row : Circuit) (q : values.CircuitNeed) → slice_get rows k ≡ Some row → slice_get qs k ≡ Some q → f (row, circuit_need_of q) ≡ false
+    → list_all f (zip rows (map circuit_need_of qs)) ≡ false
+rows-not f [] qs k row q a b h = absurd (cc)
+rows-not f (x ∷ rows) [] k row q a b h = absurd (cc)
+rows-not f (x ∷ rows) (y ∷ qs) zero row q a b h =
+    let here : f (x, circuit_need_of y) ≡ false = cc in
+    ap (λ (t : Bool). t && list_all f (zip rows (map circuit_need_of qs))) here
+rows-not f (x ∷ rows) (y ∷ qs) (suc k) row q a b h =
+    ap (λ (t : Bool). f (x, circuit_need_of y) && t) (rows-not f rows qs k row q a b h) ∙ and-false (f (x, circuit_need_of y))
 
 pub get-below : {X : Type 0} (xs : List X) (k : ℕ) (x : X) → slice_get xs k ≡ Some x → k < length xs
 get-below [] k x e = absurd (cc)
@@ -222,25 +222,25 @@ get-below (y ∷ xs) zero x e = omega arith
 get-below (y ∷ xs) (suc k) x e = let more = get-below xs k x e in omega arith
 
 pub circuits-fail : (d : Directory) (m : value_need.Need) (k : ℕ) (q : values.CircuitNeed) → k < length d.circuits → k < length m.circuits → q ≡ get_or m.circuits k q
-    → ((row : Circuit) → slice_get d.circuits k ≡ Some row → is_circuit_sound d (need_of m) k row.kept (circuit_need_of q) ≡ false)
+    → ((row : Circuit) → slice_get d.circuits k ≡ Some row → is_circuit_sound (need_of m) row.kept (circuit_need_of q) ≡ false)
     → are_circuits_sound d (need_of m) ≡ false
 circuits-fail d m k q l lq is h = go (slice_get_cases d.circuits k).1
   where
     go : ((x : Circuit) × (k < length d.circuits) × (slice_get d.circuits k ≡ Some x) × (get_or d.circuits k x ≡ x)) ⊎ ((length d.circuits ≤ k) × (slice_get d.circuits k ≡ None))
         → are_circuits_sound d (need_of m) ≡ false
     go (inl x) =
-        rows-not (λ row. is_circuit_sound d (need_of m) row.0 row.1.0.kept row.1.1) 0 d.circuits m.circuits k k x.0 q (omega arith) x.2
+        rows-not (λ row. is_circuit_sound (need_of m) row.0.kept row.1) d.circuits m.circuits k x.0 q x.2
         (slice_get_read m.circuits (length m.circuits) k q refl lq is) (h x.0 x.2)
     go (inr n) = absurd (omega (arith, n.0))
 
 -- one circuit more was looked at
-pub circuits-more : (f : ℕ → Circuit → values.CircuitNeed → Bool) (rows : List Circuit) (qs : List values.CircuitNeed) (c : ℕ) (here : values.CircuitNeed)
-    → ((k : ℕ) (row : Circuit) (q : values.CircuitNeed) → k < c → slice_get rows k ≡ Some row → slice_get qs k ≡ Some q → f k row q ≡ true)
-    → slice_get qs c ≡ Some here → ((row : Circuit) → slice_get rows c ≡ Some row → f c row here ≡ true)
-    → (k : ℕ) (row : Circuit) (q : values.CircuitNeed) → k < c + 1 → slice_get rows k ≡ Some row → slice_get qs k ≡ Some q → f k row q ≡ true
+pub circuits-more : (f : Circuit → values.CircuitNeed → Bool) (rows : List Circuit) (qs : List values.CircuitNeed) (c : ℕ) (here : values.CircuitNeed)
+    → ((k : ℕ) (row : Circuit) (q : values.CircuitNeed) → k < c → slice_get rows k ≡ Some row → slice_get qs k ≡ Some q → f row q ≡ true)
+    → slice_get qs c ≡ Some here → ((row : Circuit) → slice_get rows c ≡ Some row → f row here ≡ true)
+    → (k : ℕ) (row : Circuit) (q : values.CircuitNeed) → k < c + 1 → slice_get rows k ≡ Some row → slice_get qs k ≡ Some q → f row q ≡ true
 circuits-more f rows qs c here before is h k row q l a b = go (cases_lt k c)
   where
-    go : (k < c) ⊎ (c ≤ k) → f k row q ≡ true
+    go : (k < c) ⊎ (c ≤ k) → f row q ≡ true
     go (inl t) = before k row q t a b
     go (inr t) =
         let same : k ≡ c = omega arith in

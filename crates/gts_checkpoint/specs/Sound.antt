@@ -1,17 +1,13 @@
 -- Words for the lists of a need whose soundness is judged.
-use Rattle.std.specs.Prelude.{◌≡◌, ℕ, Bool, true, not, ◌&&◌, ◌||◌, ◌==◌, List, ◌++◌, map, zip, slice_get, Some}
-use Rattle.std.specs.List.{list_any, list_all, enumerate_from}
-use Rattle.std.specs.Int.{bit_at}
-use Rattle.gts_directory.specs.Directory.{Directory, named}
-use Rattle.gts_directory.specs.Rows.{mask_of}
+use Rattle.std.specs.Prelude.{◌≡◌, ℕ, Bool, not, ◌&&◌, ◌||◌, List, ◌++◌, map, zip, slice_get, Some}
+use Rattle.std.specs.List.{list_any, list_all}
+use Rattle.gts_directory.specs.Directory.{Directory}
 pub use Rattle.gts_directory.specs.Directory.{Circuit}
-pub use Rattle.gts_heading.specs.Heading.{fields_of}
 pub use Rattle.gts_message.specs.Message.{body_at}
-use Rattle.gts_event.specs.State.{Bulletin}
 pub use Rattle.gts_event.specs.State.{has, heading_of}
 pub use Rattle.gts_event.specs.History.{is_request, most_owed}
 use Rattle.gts_event.specs.Need.{Need, CircuitNeed, is_distinct, positions_of}
-pub use Rattle.gts_event.specs.Need.{ascends, recent_positions, is_bulletin, is_needed, is_kept, has_counts, is_circuit_sound, is_sound}
+pub use Rattle.gts_event.specs.Need.{ascends, recent_positions, is_bulletin, is_there, is_needed, is_kept, has_counts, is_circuit_sound, is_sound}
 pub use Rattle.gts_event.specs.Items.{bulletin_of, circuit_need_of, need_of}
 use Rattle.gts_event.specs.declared.values.Bulletin as values
 
@@ -23,24 +19,6 @@ positions bulletins = positions_of (map bulletin_of bulletins)
 abbrev pub is_held : List CircuitNeed → ℕ → Bool
 is_held circuits position = list_any (λ c. has c.waiting position || has c.kept position) circuits
 
--- each bulletin of a need is one that was accepted, and they stand in the order of their positions
-pub record AreBulletins (d : Directory) (n : Need) : Type 0 where
-  pub each : list_all (is_bulletin d n.accepted) n.bulletins ≡ true
-  pub order : ascends (positions_of n.bulletins) ≡ true
-
--- the circuits on which a bulletin is named, as the bits of a mask
-abbrev pub mask_at : Directory → Bulletin → ℕ
-mask_at d b = mask_of (named d b.from (heading_of b.body))
-
--- the bulletins of a need stand in the order of their positions, and these are their masks
-pub record AreNamed (d : Directory) (n : Need) (masks : List ℕ) : Type 0 where
-  pub order : ascends (positions_of n.bulletins) ≡ true
-  pub masks_are : masks ≡ map (mask_at d) n.bulletins
-
--- a position is there, and the mask beside it has a circuit's bit
-abbrev pub is_marked : List ℕ → List ℕ → ℕ → ℕ → Bool
-is_marked numbers masks circuit position = list_any (λ row. (row.0 == position) && (bit_at row.1 circuit == 1)) (zip numbers masks)
-
 -- Positions that wait on a circuit ascend, those that are kept differ, none is both, and each passes a test.
 abbrev pub has_positions : (ℕ → Bool) → List ℕ → List ℕ → Bool
 has_positions test waiting kept =
@@ -48,8 +26,8 @@ has_positions test waiting kept =
 
 -- whether what is needed of a circuit is sound beside the circuit's row
 abbrev pub IsJudged : Directory → Need → ℕ → CircuitNeed → Bool → Type 0
-IsJudged d n circuit c sound = (row : Circuit) → slice_get d.circuits circuit ≡ Some row → sound ≡ is_circuit_sound d n circuit row.kept c
+IsJudged d n circuit c sound = (row : Circuit) → slice_get d.circuits circuit ≡ Some row → sound ≡ is_circuit_sound n row.kept c
 
 -- what is needed of each circuit is sound
 abbrev pub are_circuits_sound : Directory → Need → Bool
-are_circuits_sound d n = list_all (λ row. is_circuit_sound d n row.0 row.1.0.kept row.1.1) (enumerate_from 0 (zip d.circuits n.circuits))
+are_circuits_sound d n = list_all (λ row. is_circuit_sound n row.0.kept row.1) (zip d.circuits n.circuits)

@@ -1,17 +1,15 @@
-//! Whether the bulletins of a need are those of a history, and on which circuits they are named.
+//! Whether the bulletins of a need are those of a history, and which positions have theirs.
 
-ghost use Rattle.std.specs.Prelude.{◌≡◌, ◌<◌, ◌&&◌, ◌==◌, map, length, not, is_ok, true, IfOk};
-ghost use Rattle.std.specs.Int.{bit_at};
+ghost use Rattle.std.specs.Prelude.{◌≡◌, ◌&&◌, map, not, is_ok, true};
 ghost use Rattle.std.specs.List.{list_all};
 ghost use Rattle.gts_checkpoint.specs.Sound as definitions;
-ghost use Rattle.gts_checkpoint.specs.Sound.{AreBulletins, AreNamed, positions, mask_at, fields_of, body_at, has, heading_of, ascends, recent_positions, bulletin_of, need_of};
+ghost use Rattle.gts_checkpoint.specs.Sound.{positions, body_at, has, heading_of, ascends, recent_positions, bulletin_of};
 
 use crate::ascending::place_of;
-use gts_alphabet::{LONGEST_BODY, NoMemory};
+use gts_alphabet::LONGEST_BODY;
 use gts_directory::Directory;
-use gts_event::{Bulletin, Need, is_request};
+use gts_event::{Bulletin, is_request};
 use gts_message::Body;
-use std::alloc::Global;
 
 /// Whether these are the bytes of a message that is no request.
 fn is_body(directory: &Directory, body: &[u8]) -> bool
@@ -61,63 +59,21 @@ pub(crate) fn has_recent(directory: &Directory, accepted: u64, bulletins: &[Bull
     true
 }
 
-/// Whether a mask has a bit.
-fn has_bit(mask: u64, i: u32) -> bool
-    ensures { result ≡ (bit_at mask i == 1) }
+/// Whether the bulletin of a position is there.
+fn is_there(bulletins: &[Bulletin], position: u64) -> bool
+    requires { ascends (positions bulletins.now) ≡ true }
+    ensures { result ≡ definitions.is_there (map bulletin_of bulletins.now) position }
 {
-    i < u64::BITS && (mask >> i) % 2 == 1
+    place_of(bulletins, position).is_some()
 }
 
-/// The circuits on which a bulletin is named, as the bits of a mask.
-fn named_on(directory: &Directory, bulletin: &Bulletin) -> u64
-    requires from { bulletin.now.from < length directory.now.circuits }
-    requires body { is_ok (body_at bulletin.now.body) ≡ true }
-    ensures { result ≡ mask_at directory.now (bulletin_of bulletin.now) }
-{
-    match Body::split(bulletin.body.as_slice()) {
-        Ok((heading, _)) => directory.names(bulletin.from, &heading),
-        Err(_) => 0,
-    }
-}
-
-/// The circuits on which each bulletin is named, as the bits of a mask for each.
-pub(crate) fn masks(alloc: Global, directory: &Directory, need: &Need) -> Result<Vec<u64>, NoMemory>
-    requires { AreBulletins directory.now (need_of need.now) }
-    ensures { IfOk result (λ masks. AreNamed directory.now (need_of need.now) masks.items) }
-{
-    let mut masks = Vec::new(alloc);
-    for bulletin in need.bulletins.as_slice() {
-        masks.push(named_on(directory, bulletin))?;
-    }
-    Ok(masks)
-}
-
-/// Whether a position has its bulletin, and the mask of that has a circuit's bit.
-fn is_marked(bulletins: &[Bulletin], masks: &[u64], circuit: u32, position: u64) -> bool
-    requires order { ascends (positions bulletins.now) ≡ true }
-    requires each { length masks.now ≡ length bulletins.now }
-    ensures { result ≡ definitions.is_marked (positions bulletins.now) masks.now circuit position }
-{
-    match place_of(bulletins, position) {
-        Some(place) => has_bit(masks[place], circuit),
-        None => false,
-    }
-}
-
-/// Whether each of these positions has its bulletin, and the mask of that has a circuit's bit.
-pub(crate) fn are_marked(
-    bulletins: &[Bulletin],
-    masks: &[u64],
-    circuit: u32,
-    numbers: &[u64],
-) -> bool
-    requires order { ascends (positions bulletins.now) ≡ true }
-    requires each { length masks.now ≡ length bulletins.now }
-    ensures { result
-        ≡ list_all (definitions.is_marked (positions bulletins.now) masks.now circuit) numbers.now }
+/// Whether the bulletin of each of these positions is there.
+pub(crate) fn are_there(bulletins: &[Bulletin], numbers: &[u64]) -> bool
+    requires { ascends (positions bulletins.now) ≡ true }
+    ensures { result ≡ list_all (definitions.is_there (map bulletin_of bulletins.now)) numbers.now }
 {
     for number in numbers {
-        if !is_marked(bulletins, masks, circuit, *number) {
+        if !is_there(bulletins, *number) {
             return false;
         }
     }

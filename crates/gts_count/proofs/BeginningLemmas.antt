@@ -1,7 +1,7 @@
 -- The numbers of a sound need.
 use Rattle.std.proofs.Common.{◌≡◌, ℕ, zero, suc, ◌+◌, ◌-◌, ◌<◌, ◌≤◌, min, Bool, true, false, ◌&&◌, ◌==◌, cond, List, [], ◌∷◌, ◌++◌, length, get_or, drop, map, filter, zip, Option, Some, None, refl, sym, ap, subst, ◌∙◌, arith}
 use Rattle.std.specs.Prelude.{IsTrue, IsSome, option_map, unwrap_or}
-use Rattle.std.specs.List.{All, list_all, enumerate_from, range_with_len}
+use Rattle.std.specs.List.{All, list_all, range_with_len}
 use Rattle.std.specs.Ordering.{nat_cmp}
 use Rattle.std.specs.BTreeMap.{BTreeMap, get}
 use Rattle.std.proofs.lemmas.Bool.{true≢false}
@@ -11,7 +11,7 @@ use Rattle.circular_buffer.specs.Buffer.{Buffer, keep_last}
 use Rattle.gts_directory.specs.Directory as directory
 use Rattle.gts_directory.specs.Directory.{Directory, Circuit}
 use Rattle.gts_event.specs.State.{State, Bulletin, is_recent}
-use Rattle.gts_event.specs.Need.{Need, CircuitNeed, unused, need, begun, keeps_one, is_sound, is_bulletin, is_for, is_circuit_sound, positions_of, IsOrdered}
+use Rattle.gts_event.specs.Need.{Need, CircuitNeed, unused, need, begun, keeps_one, is_sound, is_bulletin, is_there, is_circuit_sound, positions_of, IsOrdered}
 use Rattle.gts_event.specs.Sound.{SoundNeed, SoundCircuit}
 use Rattle.gts_event.proofs.LawLemmas.{sound-parts, circuit-parts, need-begun, held-begun, ordered-begun, bulletin-parts}
 use Rattle.gts_count.specs.declared.numbers.Numbers.{Numbers}
@@ -47,18 +47,14 @@ back_part f (x ∷ xs) ys e = back_part f xs ys (and_true (f x) (list_all f (xs 
 abbrev no_circuit : Circuit
 no_circuit = directory.circuit_of [] []
 
-rows_at : (f : ℕ → Circuit → CircuitNeed → Bool) (m : ℕ) (rows : List Circuit) (cs : List CircuitNeed) → length cs ≡ length rows → list_all (λ r. f r.0 r.1.0 r.1.1) (enumerate_from m (zip rows cs)) ≡ true
-    → (k : ℕ) → k < length cs → f (m + k) (get_or rows k no_circuit) (get_or cs k unused) ≡ true
-rows_at f m [] [] size e k inside = absurd (omega (arith, inside))
-rows_at f m [] (c ∷ cs) size e k inside = absurd (omega (arith, size))
-rows_at f m (row ∷ rows) [] size e k inside = absurd (omega (arith, size))
-rows_at f m (row ∷ rows) (c ∷ cs) size e zero inside =
-    let at : m ≡ m + 0 = omega arith in
-    ap (λ (x : ℕ). f x row c) (sym at) ∙ (and_true (f m row c) (list_all (λ r. f r.0 r.1.0 r.1.1) (enumerate_from (m + 1) (zip rows cs))) e).0
-rows_at f m (row ∷ rows) (c ∷ cs) size e (suc k) inside =
-    let at : m + 1 + k ≡ m + suc k = omega arith in
-    ap (λ (x : ℕ). f x (get_or rows k no_circuit) (get_or cs k unused)) (sym at)
-    ∙ rows_at f (m + 1) rows cs (omega (arith, size)) (and_true (f m row c) (list_all (λ r. f r.0 r.1.0 r.1.1) (enumerate_from (m + 1) (zip rows cs))) e).1 k (omega (arith, inside))
+rows_at : (f : Circuit → CircuitNeed → Bool) (rows : List Circuit) (cs : List CircuitNeed) → length cs ≡ length rows → list_all (λ r. f r.0 r.1) (zip rows cs) ≡ true
+    → (k : ℕ) → k < length cs → f (get_or rows k no_circuit) (get_or cs k unused) ≡ true
+rows_at f [] [] size e k inside = absurd (omega (arith, inside))
+rows_at f [] (c ∷ cs) size e k inside = absurd (omega (arith, size))
+rows_at f (row ∷ rows) [] size e k inside = absurd (omega (arith, size))
+rows_at f (row ∷ rows) (c ∷ cs) size e zero inside = (and_true (f row c) (list_all (λ r. f r.0 r.1) (zip rows cs)) e).0
+rows_at f (row ∷ rows) (c ∷ cs) size e (suc k) inside =
+    rows_at f rows cs (omega (arith, size)) (and_true (f row c) (list_all (λ r. f r.0 r.1) (zip rows cs)) e).1 k (omega (arith, inside))
 
 module _ (d : Directory) (n : Need) (sound : is_sound d n ≡ true) where
   parts : SoundNeed d n
@@ -67,18 +63,17 @@ module _ (d : Directory) (n : Need) (sound : is_sound d n ≡ true) where
   pub bodies_of : AreBodies n.bulletins
   bodies_of k b inside = (bulletin-parts d n.accepted (get_or n.bulletins k b) (all_at (is_bulletin d n.accepted) n.bulletins parts.bodies k b inside)).good
 
-  circuit_at : (k : ℕ) → k < length n.circuits → SoundCircuit d n k (get_or d.circuits k no_circuit).kept (get_or n.circuits k unused)
+  circuit_at : (k : ℕ) → k < length n.circuits → SoundCircuit n (get_or d.circuits k no_circuit).kept (get_or n.circuits k unused)
   circuit_at k inside =
-      let at : 0 + k ≡ k = omega arith in
-      circuit-parts d n k (get_or d.circuits k no_circuit).kept (get_or n.circuits k unused)
-      (ap (λ (x : ℕ). is_circuit_sound d n x (get_or d.circuits k no_circuit).kept (get_or n.circuits k unused)) (sym at) ∙ rows_at (λ c row q. is_circuit_sound d n c row.kept q) 0 d.circuits n.circuits parts.same parts.circuits k inside)
+      circuit-parts n (get_or d.circuits k no_circuit).kept (get_or n.circuits k unused)
+      (rows_at (λ row q. is_circuit_sound n row.kept q) d.circuits n.circuits parts.same parts.circuits k inside)
 
   -- a position that is kept has its bulletin
   kept_there : (k : ℕ) → k < length n.circuits → (i e : ℕ) → i < length (get_or n.circuits k unused).kept → (b : Bulletin) × (at_position (get_or (get_or n.circuits k unused).kept i e) n.bulletins ≡ Some b)
   kept_there k inside i e within =
       let q : CircuitNeed = get_or n.circuits k unused in
-      let known = all_at (is_for d n.bulletins k) q.kept (back_part (is_for d n.bulletins k) q.waiting q.kept (circuit_at k inside).known) i e within in
-      let found = bulletin_there (λ b. Unit {0}) d n.bulletins k (get_or q.kept i e) known (λ j b bound. tt) in
+      let known = all_at (is_there n.bulletins) q.kept (back_part (is_there n.bulletins) q.waiting q.kept (circuit_at k inside).known) i e within in
+      let found = bulletin_there (λ b. Unit {0}) n.bulletins (get_or q.kept i e) known (λ j b bound. tt) in
       (found.0, found.1)
 
   module _ (keys : BTreeMap ℕ (List ℕ)) (has : HasKeys n.bulletins keys) where

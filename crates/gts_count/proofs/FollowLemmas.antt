@@ -7,10 +7,10 @@ use Rattle.std.proofs.lemmas.List.{get_or-map, set-get_or, map-set, length-map}
 use Rattle.std.proofs.lemmas.List.Elements.{All-append}
 use Rattle.circular_buffer.specs.Buffer.{Buffer, keep_last}
 use Rattle.gts_frame.specs.declared.kind.Kind.{Kind}
-use Rattle.gts_directory.specs.Directory.{Directory, Circuit, named, is_named}
-use Rattle.gts_event.specs.State.{State, CircuitState, Bulletin, has, is_recent, recent, on_circuit, heading_of}
+use Rattle.gts_directory.specs.Directory.{Directory, Circuit, named}
+use Rattle.gts_event.specs.State.{State, CircuitState, Bulletin, has, is_recent, recent, on_circuit}
 use Rattle.gts_event.specs.History.{Choice, Repeats, Draws, Nothing_waits, choice, outcome, after, after_heard, after_take, with_bulletin, with_drawn, body_of, heading_of_message, restarted, found, places, items_of}
-use Rattle.gts_event.specs.Need.{need, is_here, is_for, circuit_of_event}
+use Rattle.gts_event.specs.Need.{need, is_here, is_there, circuit_of_event}
 use Rattle.gts_event.specs.Held.{IsHeld}
 use Rattle.gts_event.specs.Stand.{SameNeed}
 use Rattle.gts_event.specs.declared.event.Event.{Event}
@@ -105,10 +105,10 @@ follows_taken d s n c here f none =
     follows_on d s (after d s (Taken c)) n f (after d f.state (Taken c)) (after-same d s f.state (Taken c) f.same) (held-all d f.state (Done (Taken c) ∷ []) f.keeps (here_of d (Taken c) here) f.held)
     (quiet_take f.state c (choice d f.state c) (λ i p e. none i (outcome-same d s f.state (Taken c) f.same ∙ ap told_by e)))
 
-pub follows_restarted : (d : Directory) (s : State) (n : Numbers) → Follows d s n → Follows d (restarted s) n
+pub follows_restarted : (d : Directory) (s : State) (n : Numbers) → Follows d s n → Follows d (restarted d s) n
 follows_restarted d s n f =
-    follows_on d s (restarted s) n f (restarted f.state) (restarted-same d s f.state f.keeps f.same) (held-all d f.state (Restarted ∷ []) f.keeps refl f.held)
-    (record { count = refl; accepted = refl; takens = takens-restarted f.state.circuits })
+    follows_on d s (restarted d s) n f (restarted d f.state) (restarted-same d s f.state f.keeps f.same) (held-all d f.state (Restarted ∷ []) f.keeps refl f.held)
+    (record { count = refl; accepted = refl; takens = takens-restarted d.circuits f.state.circuits })
 
 -- ---- a bulletin is accepted
 
@@ -199,19 +199,19 @@ and_true true b e = (refl, e)
 and_true false b e = absurd (true≢false (sym e))
 
 -- a position for which a bulletin is there has its bulletin, which is one of all
-pub bulletin_there : (P : Bulletin → Type 0) (d : Directory) (bs : List Bulletin) (c p : ℕ) → is_for d bs c p ≡ true → All P bs → (b : Bulletin) × (find (λ x. x.position == p) bs ≡ Some b) × P b
-bulletin_there P d [] c p e all = absurd (true≢false (sym e))
-bulletin_there P d (b ∷ bs) c p e all = go (b.position == p) refl (λ more. bulletin_there P d bs c p more (λ k x inside. all (suc k) x (omega (arith, inside))))
+pub bulletin_there : (P : Bulletin → Type 0) (bs : List Bulletin) (p : ℕ) → is_there bs p ≡ true → All P bs → (b : Bulletin) × (find (λ x. x.position == p) bs ≡ Some b) × P b
+bulletin_there P [] p e all = absurd (true≢false (sym e))
+bulletin_there P (b ∷ bs) p e all = go (b.position == p) refl (λ more. bulletin_there P bs p more (λ k x inside. all (suc k) x (omega (arith, inside))))
   where
     Found : Option Bulletin → Type 0
     Found o = (x : Bulletin) × (o ≡ Some x) × P x
 
-    go : (t : Bool) → (b.position == p) ≡ t → (is_for d bs c p ≡ true → (x : Bulletin) × (find (λ x. x.position == p) bs ≡ Some x) × P x)
+    go : (t : Bool) → (b.position == p) ≡ t → (is_there bs p ≡ true → (x : Bulletin) × (find (λ x. x.position == p) bs ≡ Some x) × P x)
         → (x : Bulletin) × (cond t (Some b) (find (λ x. x.position == p) bs) ≡ Some x) × P x
     go true same rest = (b, refl, all 0 b (omega arith))
     go false other rest =
-        rest (elim (or_cases ((b.position == p) && is_named d b.from (heading_of b.body) c) (is_for d bs c p) e) [
-          | inl here ↦ absurd (true≢false (sym (and_true (b.position == p) (is_named d b.from (heading_of b.body) c) here).0 ∙ other))
+        rest (elim (or_cases (b.position == p) (is_there bs p) e) [
+          | inl here ↦ absurd (true≢false (sym here ∙ other))
           | inr there ↦ there
         ])
 
@@ -221,7 +221,7 @@ pub drawn_there : (P : Bulletin → Type 0) (d : Directory) (t : State) (c i p :
 drawn_there P d t c i p here held is all =
     let q : CircuitState = on_circuit t c in
     let routed : has q.routed p ≡ true = waiting_routed q p (next_waits d t q p (draw_position d t c i p is)) in
-    bulletin_there P d t.accepted c p (list_all-has (is_for d t.accepted c) q.routed p (held.each c here).routed_for routed) all
+    bulletin_there P t.accepted p (list_all-has (is_there t.accepted) q.routed p (held.each c here).routed_there routed) all
 
 pub follows_drawn : (d : Directory) (s : State) (old new : Numbers) (c i p : ℕ) (key : List ℕ) → c < length d.circuits → (f : Follows d s old) → choice d f.state c ≡ Draws i p → key ≡ key_at f.state.accepted p
     → NotesDraw old new c key → Follows d (after d s (Taken c)) new

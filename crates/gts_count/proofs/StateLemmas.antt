@@ -7,7 +7,7 @@ use Rattle.circular_buffer.specs.Buffer.{keep_last}
 use Rattle.gts_directory.specs.Directory.{Directory, Circuit}
 use Rattle.gts_event.specs.State.{State, CircuitState, Bulletin, has, is_recent, last_of, idle}
 use Rattle.gts_event.specs.Need.{need, is_needed, circuit_need, circuit_needs, CircuitNeed, are_below}
-use Rattle.gts_event.specs.History.{with_routed, routed_to, owed_last}
+use Rattle.gts_event.specs.History.{with_routed, routed_to, all_owed_last}
 use Rattle.gts_count.specs.declared.recent.Recent.{Recent}
 use Rattle.gts_count.specs.Tally.{Tally, tally, key_of, key_at}
 use Rattle.gts_count.specs.State.{drawn_of, tally_at}
@@ -126,9 +126,11 @@ takens-same (q ∷ qs) zero r e = ap (λ (t : List ℕ). t ∷ map (λ (q : Circ
 takens-same (q ∷ qs) (suc c) r e = ap (λ (ts : List (List ℕ)). q.taken ∷ ts) (takens-same qs c r e)
 
 -- the journal was opened again
-pub takens-restarted : (qs : List CircuitState) → map (λ (q : CircuitState). q.taken) (map owed_last qs) ≡ map (λ (q : CircuitState). q.taken) qs
-takens-restarted [] = refl
-takens-restarted (q ∷ qs) = ap (λ (ts : List (List ℕ)). q.taken ∷ ts) (takens-restarted qs)
+pub takens-restarted : (rows : List Circuit) (qs : List CircuitState) → map (λ (q : CircuitState). q.taken) (all_owed_last rows qs) ≡ map (λ (q : CircuitState). q.taken) qs
+takens-restarted [] [] = refl
+takens-restarted (row ∷ rows) [] = refl
+takens-restarted [] (q ∷ qs) = ap (λ (ts : List (List ℕ)). q.taken ∷ ts) (takens-restarted [] qs)
+takens-restarted (row ∷ rows) (q ∷ qs) = ap (λ (ts : List (List ℕ)). q.taken ∷ ts) (takens-restarted rows qs)
 
 -- ---- one bulletin more
 

@@ -114,5 +114,5 @@ module _ (d : Directory) (s : State) (h : List Entry) (old new : Counting) where
 
   -- the journal was opened again, or it wasn't
   pub counts_restarted : (result : Result (Unit {0}) OpenFault) → Counts d s h old → Counts d (Rattle.gts_event.specs.History.after_all d s (restart_of result)) (h ++ restart_of result) old
-  counts_restarted (Ok told) counts = carried d s (restarted s) h (Restarted ∷ []) old old (all_rest old) (λ current f. follows_restarted d s old.numbers f) counts
+  counts_restarted (Ok told) counts = carried d s (restarted d s) h (Restarted ∷ []) old old (all_rest old) (λ current f. follows_restarted d s old.numbers f) counts
   counts_restarted (Err fault) counts = idle_after d s h [] old old refl counts

@@ -64,13 +64,13 @@ module _ (tells : Type 0) (d : Directory) (old : List Call) (core : Core) (j : I
     file_here : file_opens j.version d j.file (seen old j.file) ≡ Ok (unowed_state g.state, j.gate + 1, j.seal)
     file_here = ap (λ (k : ℕ). file_opens j.version d k (seen old k)) (sym stood.stands.selected_is) ∙ stood.opens_to
 
-    opens_old : (files : Files) → selected files ≡ j.file → files j.file ≡ seen old j.file → opens d files ≡ Ok (need d (restarted (unowed_state g.state)))
+    opens_old : (files : Files) → selected files ≡ j.file → files j.file ≡ seen old j.file → opens d files ≡ Ok (need d (restarted d (unowed_state g.state)))
     opens_old files at same =
         opens_by d files (unowed_state g.state) (j.gate + 1)
         (ap opened_of (ap (λ (k : ℕ). file_opens written d k (files k)) at ∙ ap (file_opens written d j.file) same
         ∙ ap (λ (v : Version). file_opens v d j.file (seen old j.file)) (sym stood.current) ∙ file_here))
 
-    to_state : (s : State) → Holds d core s → need d (restarted (unowed_state g.state)) ≡ need d (restarted s)
+    to_state : (s : State) → Holds d core s → need d (restarted d (unowed_state g.state)) ≡ need d (restarted d s)
     to_state s holds = opened_same d core g.state s g.holds holds
 
     -- while the other file is written
@@ -94,7 +94,7 @@ module _ (tells : Type 0) (d : Directory) (old : List Call) (core : Core) (j : I
 
       module _ (long : length d.mark ≡ 32) (free : full_compacted d g.state ≡ None) where
         -- files of which the other one is selected
-        opens_new : (files : Files) → selected files ≡ other → files other ≡ seen mid other → opens d files ≡ Ok (need d (restarted g.state))
+        opens_new : (files : Files) → selected files ≡ other → files other ≡ seen mid other → opens d files ≡ Ok (need d (restarted d g.state))
         opens_new files at same =
             compacted_opened d files g.state closed_gate [] long stood.limit g.holds.keeps g.held.ordered (sound-held d g.state g.few g.held) free refl
             (ap files at ∙ same ∙ wrote.text ∙ ap (checkpoint_file d.mark) n_is)
@@ -104,12 +104,12 @@ module _ (tells : Type 0) (d : Directory) (old : List Call) (core : Core) (j : I
         selecting new each s holds = weaker (LeavesBoth mid) (OpensAsBefore d s) mid new
             (λ files outside left. (left.silent, by_choice files left ∙ ap {A = Need} (λ m. Ok m) (to_state s holds))) each
           where
-            by_choice : (files : Files) {outside : Outside} → LeavesBoth mid files outside → opens d files ≡ Ok (need d (restarted (unowed_state g.state)))
-            by_choice files left = elim (cases_eq (selected files) j.file) as (λ _. opens d files ≡ Ok (need d (restarted (unowed_state g.state)))) [
+            by_choice : (files : Files) {outside : Outside} → LeavesBoth mid files outside → opens d files ≡ Ok (need d (restarted d (unowed_state g.state)))
+            by_choice files left = elim (cases_eq (selected files) j.file) as (λ _. opens d files ≡ Ok (need d (restarted d (unowed_state g.state)))) [
               | inl at ↦ opens_old files at (both_left mid files left j.file low ∙ beside.seen j.file not_other)
               | inr elsewhere ↦
                   opens_new files (omega (arith, selected_few files, low, elsewhere)) (both_left mid files left other (omega (arith, low)))
-                  ∙ ap (λ (u : State). Ok (need d u)) (sym (opened_again g.state).1)
+                  ∙ ap (λ (u : State). Ok (need d u)) (sym (opened_again d g.state).1)
             ]
 
         module _ (new : List Call) (place : InHand) (used : ℕ) (size : used ≡ compacted_bytes written n) (last : List ℕ) (last_is : last ≡ need_seal d.mark n) (at : place ≡ selecting_at written other used last j) (stands : StandsOn new place)

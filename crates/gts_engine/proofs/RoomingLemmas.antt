@@ -172,7 +172,7 @@ module _ (tells : Type 0) (mode : SayMode) (o : Origin) (h : List Entry) (event 
                   (subst (IsReading g) (sym (append-nil front.read ∙ only_itself h front.read none.0 front.reading)) (read_not h event))) l.moments;
               now = λ files image.
                   let r = l.now files image in
-                  (h, read_not h event, r.2 ∙ ap (λ (es : List Entry). Ok (need o.directory (restarted (state_at o es)))) (only_itself h r.0 none.0 r.1));
+                  (h, read_not h event, r.2 ∙ ap (λ (es : List Entry). Ok (need o.directory (restarted o.directory (state_at o es)))) (only_itself h r.0 none.0 r.1));
               said = subst Q (sym left.stopped)
                   (l.said ∙ ap (λ (x : Outside). said_by o.calls ++ x) (sym (quiet mode o h (Doubt event) _ (told_more mode o h (Doubt event)) (nothing_said mode))));
             };

@@ -35,7 +35,8 @@ abbrev pub bytes_wanted : Result Outcome SwitchFault → Option ℕ
 bytes_wanted (Err (Full used need limit)) = Some need
 bytes_wanted _ = None
 
-module _ (tells : Type 0) (mode : SayMode) (o : Origin) (h : List Entry) (event : Event) (result : Result Outcome SwitchFault) (e : Shown) where
+module _ (tells : Type 0) (mode : SayMode) (o : Origin) (h : List Entry) (event : Event)
+    (result : Result Outcome SwitchFault) (e : Shown) where
   -- The entry was added behind these, to a journal as it was, which had room for what was done.
   pub record AddsPlain : Type 0 where
     pub keeps : Keeps tells mode o (h ++ entry_of event result) e

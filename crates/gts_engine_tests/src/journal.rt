@@ -1,5 +1,5 @@
 ghost use Rattle.std.specs.Prelude.{◌≡◌, ◌≤◌, ◌^◌, true, length, IfOk};
-ghost use Rattle.gts_journal.specs.{StandsOn};
+ghost use Rattle.gts_journal.specs.{IsCurrent, StandsOn};
 
 use gts_fixtures::is_same;
 use gts_frame::Kind;
@@ -29,6 +29,7 @@ const UNSEALED: &[u8] =
 
 /// A journal at its end, and how many records were read of it.
 fn read_to_end<P: Station>(alloc: Global, station: &mut P) -> Result<(Journal, u64), OpenFault>
+    ensures current { IfOk result (λ x. IsCurrent x.0) }
     ensures end { IfOk result (λ x. x.0.ended ≡ true) }
     ensures stands { P.tells → IfOk result (λ x. StandsOn (P.calls station.new) x.0) }
 {

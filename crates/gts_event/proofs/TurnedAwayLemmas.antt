@@ -1,15 +1,15 @@
 -- What is turned away, and the lines of kept draws.
-use Rattle.std.proofs.Common.{◌≡◌, cond, ◌&&◌, ◌||◌, ℕ, ◌+◌, ◌<◌, ◌≤◌, Bool, true, false, ◌==◌, inl, inr, nat_le, nat_lt, List, [], ◌∷◌, length, Some, refl, ap, arith}
+use Rattle.std.proofs.Common.{◌≡◌, cond, ◌||◌, ℕ, ◌+◌, ◌<◌, ◌≤◌, Bool, true, false, ◌==◌, inl, inr, nat_le, nat_lt, List, [], ◌∷◌, length, Some, refl, ap, arith}
 use Rattle.std.specs.List.{find, enumerate_from}
 use Rattle.std.proofs.lemmas.Bool.{leb-true, ltb-true, eq-eqb, cases_lt}
 use Rattle.gts_traits.specs.Station.{Outside, on}
 use Rattle.gts_frame.specs.declared.kind.Kind.{Kind}
-use Rattle.gts_directory.specs.Directory.{Directory, is_named}
-use Rattle.gts_event.specs.State.{State, CircuitState, Bulletin, on_circuit, has, draws, no_heading, heading_of}
+use Rattle.gts_directory.specs.Directory.{Directory}
+use Rattle.gts_event.specs.State.{State, CircuitState, Bulletin, on_circuit, has, draws, no_heading}
 use Rattle.gts_event.specs.History.{Event, Heard, Lost, Taken, kept_on, Choice, choice, Repeats, Draws, Nothing_waits, outcome, after, after_heard, after_take, heading_of_message}
 use Rattle.gts_event.specs.Receipt.{receipt_text}
 use Rattle.gts_event.specs.Said.{HasLine, IsTurnedAway, line, spoken}
-use Rattle.gts_event.specs.Need.{circuit_need, is_kept, is_for, circuit_of_event}
+use Rattle.gts_event.specs.Need.{circuit_need, is_kept, is_there, circuit_of_event}
 use Rattle.gts_event.specs.Held.{IsHeld}
 use Rattle.gts_event.specs.declared.outcome.Outcome.{Outcome}
 use Rattle.gts_event.specs.declared.outcome.Outcome.TheVariants.{Accepted, Duplicate, Asked, Refused, LineLost, Resend, Draw, Nothing}
@@ -98,12 +98,12 @@ draw_there a i (p ∷ ps) low high = go (a == i) refl (λ more. draw_there (a + 
         (more.0, more.1, or_right (p == more.0.1) (has ps more.0.1) more.2)
 
 -- a position that has its bulletin
-bulletin_there : (d : Directory) (c p : ℕ) (bs : List Bulletin) → is_for d bs c p ≡ true → (b : Bulletin) × (find (λ x. x.position == p) bs ≡ Some b)
-bulletin_there d c p [] h = absurd (cc)
-bulletin_there d c p (b ∷ bs) h = go (b.position == p) (bulletin_there d c p bs) h
+bulletin_there : (p : ℕ) (bs : List Bulletin) → is_there bs p ≡ true → (b : Bulletin) × (find (λ x. x.position == p) bs ≡ Some b)
+bulletin_there p [] h = absurd (cc)
+bulletin_there p (b ∷ bs) h = go (b.position == p) (bulletin_there p bs) h
   where
-    go : (t : Bool) → (is_for d bs c p ≡ true → (x : Bulletin) × (find (λ x. x.position == p) bs ≡ Some x))
-        → ((t && is_named d b.from (heading_of b.body) c) || is_for d bs c p) ≡ true
+    go : (t : Bool) → (is_there bs p ≡ true → (x : Bulletin) × (find (λ x. x.position == p) bs ≡ Some x))
+        → (t || is_there bs p) ≡ true
         → (x : Bulletin) × (cond t (Some b) (find (λ x. x.position == p) bs) ≡ Some x)
     go true rest more = (b, refl)
     go false rest more = rest more
@@ -116,6 +116,6 @@ kept-line d s c i lt held h =
     let low : draws q ≤ i + length (kept_positions k q) = leb-true (draws q) (i + length (kept_positions k q)) both.0 in
     let high : i < draws q = ltb-true i (draws q) both.1 in
     let found = draw_there q.earlier i q.taken (omega (arith, low, length-kept k q)) high in
-    let known : is_for d s.accepted c found.0.1 ≡ true = list_all-has (is_for d s.accepted c) q.taken found.0.1 (held.each c lt).taken_for found.2 in
-    let b = bulletin_there d c found.0.1 s.accepted known in
+    let known : is_there s.accepted found.0.1 ≡ true = list_all-has (is_there s.accepted) q.taken found.0.1 (held.each c lt).taken_there found.2 in
+    let b = bulletin_there found.0.1 s.accepted known in
     (found.0, b.0, found.1, b.1)

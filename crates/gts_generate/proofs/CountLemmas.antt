@@ -15,7 +15,7 @@ use Rattle.gts_request.specs.declared.fault.ReqField.{ReqField}
 use Rattle.gts_event.specs.declared.outcome.Refusal.TheVariants.{Message, Many}
 use Rattle.gts_event.specs.State.{State, Bulletin, duplicate, CircuitState, idle, on_circuit, draws, waiting, has}
 use Rattle.gts_event.specs.Need.{CircuitNeed, need, circuit_need, keeps_one, IsOrdered}
-use Rattle.gts_event.specs.History.{Choice, Repeats, Draws, Nothing_waits, choice, outcome, outcome_of, outcomes, after, after_heard, after_take, after_entry, after_all, with_routed, with_repeated, with_drawn, owed_last, answer, answer_to, verdict, is_request, found, places, items_of, most_owed, heading_of_message}
+use Rattle.gts_event.specs.History.{Choice, Repeats, Draws, Nothing_waits, choice, outcome, outcome_of, outcomes, after, after_heard, after_take, after_entry, after_all, with_routed, with_repeated, with_drawn, owed_last, owed_again, all_owed_last, answer, answer_to, verdict, is_request, found, places, items_of, most_owed, heading_of_message}
 use Rattle.gts_event.specs.declared.event.Event.{Event}
 use Rattle.gts_event.specs.declared.event.Event.TheVariants.{Heard, Lost, Taken}
 use Rattle.gts_event.specs.declared.event.Entry.{Entry}
@@ -84,6 +84,14 @@ drawn-map : (f : CircuitState → CircuitState) (qs : List CircuitState) → ((q
 drawn-map f [] same = refl
 drawn-map f (q ∷ qs) same =
     omega (arith, sum_by-cons draws (f q) (map f qs), sum_by-cons draws q qs, same q, drawn-map f qs same)
+
+drawn-restarted : (rows : List Circuit) (qs : List CircuitState) → drawn_in (all_owed_last rows qs) ≡ drawn_in qs
+drawn-restarted [] qs = drawn-map (owed_last 0) qs (λ q. refl)
+drawn-restarted (row ∷ rows) [] = refl
+drawn-restarted (row ∷ rows) (q ∷ qs) =
+    let again : CircuitState = owed_last (owed_again row) q in
+    let same : draws again ≡ draws q = refl in
+    omega (arith, sum_by-cons draws again (all_owed_last rows qs), sum_by-cons draws q qs, same, drawn-restarted rows qs)
 
 routed-one : (b : Bool) (p : ℕ) (q : CircuitState) → draws (cond b (with_routed p q) q) ≡ draws q
 routed-one true p q = refl
@@ -198,7 +206,7 @@ drawn-entry d s (Done event) = drawn-event d s event
 drawn-entry d s (Unsaid event) = drawn-event d s event
 drawn-entry d s (Idle event fault) = omega arith
 drawn-entry d s (Doubt event) = omega arith
-drawn-entry d s Restarted = omega (arith, drawn-map owed_last s.circuits (λ q. refl))
+drawn-entry d s Restarted = omega (arith, drawn-restarted d.circuits s.circuits)
 
 drawn-all : (d : Directory) (s : State) (entries : List Entry)
     → drawn_in (after_all d s entries).circuits ≡ drawn_in s.circuits + count_by is_draw (outcomes d s entries)

@@ -108,12 +108,12 @@ new-files files first third =
     let none : selected files ≡ 0 = ap (λ (b : List ℕ). if starts_with nat_eq b (1 ∷ []) then 1 else 0) third in
     ap (λ (k : ℕ). opened_of (file_opens written directory k (files k))) none ∙ ap (λ (b : List ℕ). opened_of (file_opens written directory 0 b)) first ∙ new-file written
 
-nothing-is : need directory (restarted (empty directory)) ≡ nothing directory
+nothing-is : need directory (restarted directory (empty directory)) ≡ nothing directory
 nothing-is = refl
 
 pub new-need : (files : Files) → files_open directory files ≡ Ok (empty directory, 41) → opens directory files ≡ Ok (nothing directory)
 new-need files is =
-    ap (λ (r : Opened). elim r as (λ _. Result Need OpenFault) [ Err fault ↦ Err fault | Ok opened ↦ Ok (need directory (restarted opened.0)) ]) is
+    ap (λ (r : Opened). elim r as (λ _. Result Need OpenFault) [ Err fault ↦ Err fault | Ok opened ↦ Ok (need directory (restarted directory opened.0)) ]) is
     ∙ ap (λ (n : Need). Ok n) nothing-is
 
 pub used-there : (files : Files) (s : State) (used : ℕ) → files_open directory files ≡ Ok (empty directory, 41) → files_open directory files ≡ Ok (s, used) → used ≡ 41

@@ -175,7 +175,7 @@ same_open v d files others same =
     ∙ ap (file_opens v d (selected others)) (same (selected others))
 
 abbrev opened_need : Directory → Read → Result Need OpenFault
-opened_need d read = elim (opened_of read) as (λ _. Result Need OpenFault) [ Err fault ↦ Err fault | Ok x ↦ Ok (need d (restarted x.0)) ]
+opened_need d read = elim (opened_of read) as (λ _. Result Need OpenFault) [ Err fault ↦ Err fault | Ok x ↦ Ok (need d (restarted d x.0)) ]
 
 -- the file that is selected is the first or the second
 pub file_low : (calls : List Call) (j : InHand) → StandsOn calls j → j.file < 2
@@ -326,7 +326,7 @@ module _ (d : Directory) (s : State) (calls : List Call) (j : InHand) (f : Stand
   -- ---- another file
 
   module _ (t : State) (o used : ℕ) (last : List ℕ) (holds : HoldsState written d t calls o used last) where
-    pub select_moments : (new : List Call) → o < 2 → (o ≡ j.file → ⊥) → need d (restarted t) ≡ need d (restarted s) → EachSince calls new (LeavesBoth calls) → EachSince calls new (OpensAsBefore d s)
+    pub select_moments : (new : List Call) → o < 2 → (o ≡ j.file → ⊥) → need d (restarted d t) ≡ need d (restarted d s) → EachSince calls new (LeavesBoth calls) → EachSince calls new (OpensAsBefore d s)
     select_moments new low other same each = weaker _ (OpensAsBefore d s) calls new (λ files outside left. (left.silent, by_file files outside left)) each
       where
         this_low : j.file < 2

@@ -63,7 +63,8 @@ pub record AreNext (d : Directory) (s : State) (j : InHand) (rs : List Record) (
   pub admitted : AreAdmitted written d s j.gate rs
 
 -- one record more was gathered, which may stand behind those of a batch
-pub record GathersMore (d : Directory) (s : State) (j : InHand) (rs : List Record) (b : Gathered) (r : Record) (next : Gathered) : Type 0 where
+pub record GathersMore (d : Directory) (s : State) (j : InHand) (rs : List Record) (b : Gathered) (r : Record) (next : Gathered)
+    : Type 0 where
   pub version : next.version ≡ b.version
   pub gathers : Gathers j.seal (rs ++ r ∷ []) next
   pub may : MayStand written d (after_records d s rs) (j.gate + length b.text) r

@@ -16,6 +16,13 @@ impl Journal {
         if self.ended { self.gate + 1 } else { self.gate }
     }
 
+    /// The place behind the gate at which the journal stands, whether or not that is known to be its end.
+    pub fn behind_gate(&self) -> u64
+        ensures { result ≡ self.now.gate + 1 }
+    {
+        self.gate + 1
+    }
+
     /// The selected file.
     pub fn file(&self) -> u32
         ensures file { result ≡ self.now.file }

@@ -21,7 +21,7 @@ use Rattle.gts_event.specs.declared.values.Need as values
 use Rattle.gts_event.specs.Need.{Need, CircuitNeed, unused, IsOrdered, need, begun, begun_circuit, is_sound}
 use Rattle.gts_recovery.specs.Wider.{wider, widened}
 use Rattle.gts_event.specs.declared.event.Entry.TheVariants.{Restarted}
-use Rattle.gts_event.proofs.LawLemmas.{ordered-begun, ordered-all, restarted-left, sound-held}
+use Rattle.gts_event.proofs.LawLemmas.{ordered-begun, ordered-all, restarted-again, sound-held}
 use Rattle.gts_recovery.proofs.LawLemmas.{ordered-widened, need-widened, restarted-widened, sound-wider}
 use Rattle.gts_record.specs.Record.{closed_gate}
 use Rattle.gts_record.specs.declared.version.Version.{Version}
@@ -38,7 +38,7 @@ use Rattle.gts_core.specs.Core.{Core, Holds, Needs}
 use Rattle.gts_recovery.specs.Opened.{IsOpenedAny, opens_any, files_open_any}
 use Rattle.gts_migrate.specs.declared.fault.MigrateFault.{MigrateFault}
 use Rattle.gts_migrate.specs.declared.fault.MigrateFault.TheVariants.{Open, Full, DiskFault, NoMemory}
-use Rattle.gts_migrate.specs.Migrating.{OpensEither, GivesRoomFor, AnswersOpening, LeavesFiles, IsDiskFaultOf, IsWriteFaultOf, IsMigrated, HasFewDue, IsWide, CanMigrate, FitsFor}
+use Rattle.gts_migrate.specs.Migrating.{opened_wider, OpensEither, GivesRoomFor, AnswersOpening, LeavesFiles, IsDiskFaultOf, IsWriteFaultOf, IsMigrated, HasFewDue, IsWide, CanMigrate, FitsFor}
 
 -- ---- needs and states with further circuits
 
@@ -100,12 +100,12 @@ one_more start k old new c more is pushed =
 
 -- ---- what files open to
 
-opens_from : (v : Version) (d : Directory) (files : Files) (s : State) (used : ℕ) → files_open_in v d files ≡ Ok (s, used) → opens_in v d files ≡ Ok (need d (restarted s))
+opens_from : (v : Version) (d : Directory) (files : Files) (s : State) (used : ℕ) → files_open_in v d files ≡ Ok (s, used) → opens_in v d files ≡ Ok (need d (restarted d s))
 opens_from v d files s used e =
-    ap (λ (o : Opened). elim o as (λ _. Result Need OpenFault) [ Err fault ↦ Err fault | Ok opened ↦ Ok (need d (restarted opened.0)) ]) e
+    ap (λ (o : Opened). elim o as (λ _. Result Need OpenFault) [ Err fault ↦ Err fault | Ok opened ↦ Ok (need d (restarted d opened.0)) ]) e
 
 -- a state and the need that the files open to are of one another
-pub opens_to_need : (d : Directory) (files : Files) (s : State) (used : ℕ) → files_open_any d files ≡ Ok (s, used) → opens_any d files ≡ Ok (need d (restarted s))
+pub opens_to_need : (d : Directory) (files : Files) (s : State) (used : ℕ) → files_open_any d files ≡ Ok (s, used) → opens_any d files ≡ Ok (need d (restarted d s))
 opens_to_need d files s used e = opens_from (version_of (selected_bytes files)) d files s used e
 
 -- ---- while the journal is taken over
@@ -115,7 +115,7 @@ module _ (old new : Directory) (s : State) (n : Need) (calls : List Call) (j : I
   count = length new.circuits
 
   abbrev wide_need : Need
-  wide_need = wider count (need old (restarted s))
+  wide_need = opened_wider new (need old (restarted old s))
 
   -- the other file
   abbrev other : ℕ
@@ -137,7 +137,7 @@ module _ (old new : Directory) (s : State) (n : Need) (calls : List Call) (j : I
   file_here = ap (λ (k : ℕ). file_opens j.version old k (seen calls k)) (sym stands.selected_is) ∙ g.stands.opens_to
 
   -- files of which the old one is selected
-  opens_old : (files : Files) → selected files ≡ j.file → files j.file ≡ seen calls j.file → opens_any old files ≡ Ok (need old (restarted s))
+  opens_old : (files : Files) → selected files ≡ j.file → files j.file ≡ seen calls j.file → opens_any old files ≡ Ok (need old (restarted old s))
   opens_old files at same =
       let bytes : selected_bytes files ≡ seen calls j.file = ap files at ∙ same in
       let version : version_of (selected_bytes files) ≡ j.version = ap version_of bytes ∙ version_here in
@@ -146,8 +146,8 @@ module _ (old new : Directory) (s : State) (n : Need) (calls : List Call) (j : I
       ap (λ (v : Version). opens_in v old files) version ∙ opens_from j.version old files s (j.gate + 1) (ap opened_of read)
 
   -- while the other file is written
-  pub writing : (mid : List Call) → WorksBeside other calls mid → EachSince calls mid (OpensEither old new (need old (restarted s)))
-  writing mid beside = weaker (LeavesOthers other calls) (OpensEither old new (need old (restarted s))) calls mid
+  pub writing : (mid : List Call) → WorksBeside other calls mid → EachSince calls mid (OpensEither old new (need old (restarted old s)))
+  writing mid beside = weaker (LeavesOthers other calls) (OpensEither old new (need old (restarted old s))) calls mid
       (λ files outside left. (
         left.silent,
         inl (opens_old files
@@ -159,16 +159,17 @@ module _ (old new : Directory) (s : State) (n : Need) (calls : List Call) (j : I
   order : IsOrdered new (widened count s)
   order = ordered-widened new old s g.extends g.ordered
 
-  -- opened again, the wider need is the wider one of what the files open to
-  again : need new (restarted (begun (unowed n))) ≡ wide_need
+  -- opened again, the wider need is the wider one of what the files open to, opened again
+  again : need new (restarted new (begun (unowed n))) ≡ wide_need
   again =
       let m : Need = need old s in
-      ap (need new) (restarted-unowed n)
-      ∙ ap (λ (x : Need). need new (restarted (begun x))) g.wide
-      ∙ ap (λ (x : State). need new (restarted x)) (begun-wider count m)
-      ∙ ap (need new) (restarted-widened count (begun m))
-      ∙ need-widened new old (restarted (begun m)) g.extends (ordered-all old (begun m) (Restarted ∷ []) g.keeps (ordered-begun old m g.sound))
-      ∙ ap (wider count) (restarted-left old s g.keeps)
+      ap (need new) (restarted-unowed new n)
+      ∙ ap (λ (x : Need). need new (restarted new (begun x))) g.wide
+      ∙ ap (λ (x : State). need new (restarted new x)) (begun-wider count m)
+      ∙ ap (need new) (sym (restarted-widened new old count (begun m)))
+      ∙ ap (λ (x : State). need new (restarted new (widened count x))) (sym (restarted-again old s))
+      ∙ ap (need new) (restarted-widened new old count (begun (need old (restarted old s))))
+      ∙ ap (λ (x : State). need new (restarted new x)) (sym (begun-wider count (need old (restarted old s))))
 
   module _ (mid : List Call) (beside : WorksBeside other calls mid) (wrote : HasWritten new.mark n other mid) (fits : FitsFor new n) (long : length new.mark ≡ 32) (limit : new.limit < 256 ^ 4) where
     -- files of which the other one is selected
@@ -178,10 +179,10 @@ module _ (old new : Directory) (s : State) (n : Need) (calls : List Call) (j : I
         ∙ ap {A = Need} (λ m. Ok m) again
 
     -- while it is selected
-    choosing : (last : List Call) → EachSince mid last (LeavesBoth mid) → EachSince mid last (OpensEither old new (need old (restarted s)))
-    choosing last each = weaker (LeavesBoth mid) (OpensEither old new (need old (restarted s))) mid last (λ files outside left. (left.silent, by_choice files outside left)) each
+    choosing : (last : List Call) → EachSince mid last (LeavesBoth mid) → EachSince mid last (OpensEither old new (need old (restarted old s)))
+    choosing last each = weaker (LeavesBoth mid) (OpensEither old new (need old (restarted old s))) mid last (λ files outside left. (left.silent, by_choice files outside left)) each
       where
-        by_choice : (files : Files) (outside : Outside) → LeavesBoth mid files outside → (opens_any old files ≡ Ok (need old (restarted s))) ⊎ (opens new files ≡ Ok wide_need)
+        by_choice : (files : Files) (outside : Outside) → LeavesBoth mid files outside → (opens_any old files ≡ Ok (need old (restarted old s))) ⊎ (opens new files ≡ Ok wide_need)
         by_choice files outside left = elim (cases_eq (selected files) j.file) [
           | inl at ↦ inl (opens_old files at (both_left mid files left j.file low ∙ beside.seen j.file not_other))
           | inr elsewhere ↦
@@ -189,9 +190,9 @@ module _ (old new : Directory) (s : State) (n : Need) (calls : List Call) (j : I
         ]
 
     -- all of it
-    pub all_moments : (last : List Call) → EachSince mid last (LeavesBoth mid) → EachSince calls last (OpensEither old new (need old (restarted s)))
+    pub all_moments : (last : List Call) → EachSince mid last (LeavesBoth mid) → EachSince calls last (OpensEither old new (need old (restarted old s)))
     all_moments last each =
-        joined (OpensEither old new (need old (restarted s))) (OpensEither old new (need old (restarted s))) calls mid last []
+        joined (OpensEither old new (need old (restarted old s))) (OpensEither old new (need old (restarted old s))) calls mid last []
         (writing mid beside) (beside.silent ∙ sym (append-nil (said_by calls))) (choosing last each)
         (λ files later left. (left.0, left.1))
 
@@ -268,18 +269,18 @@ module _ (tells : Type 0) (old new : Directory) (extends : Extends new old) (mid
     pub state_is : (t : State) (used : ℕ) → files_open_any old (seen before) ≡ Ok (t, used) → t ≡ g.state
     state_is t used there = ap state_of (sym there ∙ files_here)
 
-    pub opens_so : opens_any old (seen before) ≡ Ok (need old (restarted g.state))
+    pub opens_so : opens_any old (seen before) ≡ Ok (need old (restarted old g.state))
     opens_so = opens_to_need old (seen before) g.state (j.gate + 1) files_here
 
     abbrev need_of_result : Result Need OpenFault → Need
     need_of_result (Ok n) = n
-    need_of_result (Err fault) = need old (restarted g.state)
+    need_of_result (Err fault) = need old (restarted old g.state)
 
-    pub need_is : (n : Need) → opens_any old (seen before) ≡ Ok n → need old (restarted g.state) ≡ n
+    pub need_is : (n : Need) → opens_any old (seen before) ≡ Ok n → need old (restarted old g.state) ≡ n
     need_is n there = ap need_of_result (sym opens_so ∙ there)
 
     -- nothing more was done
-    pub at_rest : EachSince (Did Syncs ∷ before) mid (OpensEither old new (need old (restarted g.state)))
+    pub at_rest : EachSince (Did Syncs ∷ before) mid (OpensEither old new (need old (restarted old g.state)))
     at_rest =
         let stands : StandsOn mid j = (g.stands tell).stands in
         let n : Need = wider (length new.circuits) (need old g.state) in
@@ -291,8 +292,8 @@ module _ (tells : Type 0) (old new : Directory) (extends : Extends new old) (mid
           sound = sound_need;
           wide = refl;
         } in
-        subst (λ (calls : List Call). EachSince calls mid (OpensEither old new (need old (restarted g.state)))) synced
-        (started mid (OpensEither old new (need old (restarted g.state))) (λ files image. (
+        subst (λ (calls : List Call). EachSince calls mid (OpensEither old new (need old (restarted old g.state)))) synced
+        (started mid (OpensEither old new (need old (restarted old g.state))) (λ files image. (
           refl,
           inl (opens_old old new g.state n mid j can (file_low mid j stands) files
               (ap (λ (l : List ℕ). selected (λ _. l)) (synced_image mid 2 files stands.selector_synced image) ∙ stands.selected_is)

@@ -36,15 +36,20 @@ abbrev pub write_fault : WriteFault → MigrateFault
 write_fault writes.DiskFault = DiskFault
 write_fault writes.NoMemory = NoMemory
 
+-- what files that opened to a need open to under a directory that extends theirs: the wider need, opened again, so that each
+-- circuit is owed its last draws as its new row says
+abbrev pub opened_wider : Directory → Need → Need
+opened_wider new n = need new (restarted new (begun (wider (length new.circuits) n)))
+
 -- Nothing is said; and the files open under the old directory, in either version, to this need, or under the new one to the
--- wider need.
+-- wider need, opened again.
 abbrev pub OpensEither : Directory → Directory → Need → Files → Outside → Type 0
 OpensEither old new n files outside =
-    (outside ≡ []) × ((opens_any old files ≡ Ok n) ⊎ (opens new files ≡ Ok (wider (length new.circuits) n)))
+    (outside ≡ []) × ((opens_any old files ≡ Ok n) ⊎ (opens new files ≡ Ok (opened_wider new n)))
 
 -- Nothing is said; and the files open to the need of this state, opened again.
 abbrev pub OpensEitherAt : Directory → Directory → State → Files → Outside → Type 0
-OpensEitherAt old new s = OpensEither old new (need old (restarted s))
+OpensEitherAt old new s = OpensEither old new (need old (restarted old s))
 
 -- Where the files opened under the old directory to this need, a crash at any moment since the sync of the opening leaves files
 -- that open so, or wider.
@@ -53,12 +58,12 @@ StaysEither old new n before after =
     opens_any old (seen before) ≡ Ok n → EachSince (Did Syncs ∷ before) after (OpensEither old new n)
 
 -- The other file is selected, and the one before stays as it is. The other one is the checkpoint of the wider need alone, under the
--- mark of the new directory; and whatever a crash leaves opens under that to what the old files opened to, opened again, and wider.
+-- mark of the new directory; and whatever a crash leaves opens under that to what the old files opened to, wider and opened again.
 pub record IsMigrated (old new : Directory) (s : State) (before after : List Call) : Type 0 where
   pub other : selected (seen after) ≢ selected (seen before)
   pub stays : seen after (selected (seen before)) ≡ seen before (selected (seen before))
   pub text : seen after (selected (seen after)) ≡ checkpoint_file new.mark (wider (length new.circuits) (need old s))
-  pub opened : (files : Files) → IsImage after files → opens new files ≡ Ok (wider (length new.circuits) (need old (restarted s)))
+  pub opened : (files : Files) → IsImage after files → opens new files ≡ Ok (opened_wider new (need old (restarted old s)))
 
 -- The journal would be full under the new directory, and that is answered, with the numbers of a compaction; or it would not be.
 abbrev pub IsRoomAnswer : MigrateFault → Directory → State → Type 0

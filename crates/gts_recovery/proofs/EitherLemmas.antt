@@ -109,7 +109,7 @@ file_not d file bytes = by_none (length bytes == 0)
     by_none true = tt
     by_none false = by_age (is_older (version_of bytes) bytes) (own_version bytes)
 
-of_read : (d : Directory) (r : Read) → NotOlder r → NotOlder (elim (opened_of r) as (λ _. Result Need OpenFault) [ Err fault ↦ Err fault | Ok opened ↦ Ok (need d (restarted opened.0)) ])
+of_read : (d : Directory) (r : Read) → NotOlder r → NotOlder (elim (opened_of r) as (λ _. Result Need OpenFault) [ Err fault ↦ Err fault | Ok opened ↦ Ok (need d (restarted d opened.0)) ])
 of_read d (Ok read) h = tt
 of_read d (Err NoJournal) h = tt
 of_read d (Err OldVersion) h = absurd h

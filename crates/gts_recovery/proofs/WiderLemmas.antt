@@ -1,16 +1,14 @@
 -- A state and a need under a directory that extends theirs.
-use Rattle.std.proofs.Common.{◌≡◌, ℕ, zero, suc, ◌+◌, ◌-◌, ◌<◌, ◌≤◌, Bool, true, false, not, cond, ◌⊎◌, ◌&&◌, ◌||◌, ◌==◌, nat_eq, nat_lt, nat_le, List, [], ◌∷◌, ◌++◌, length, map, filter, replicate, get_or, zip, refl, sym, ap, ◌∙◌, arith, length-append, inl, inr}
-use Rattle.std.specs.List.{list_any, list_all, enumerate_from}
-use Rattle.std.specs.Cmp.Lexicographic.{pointwise}
+use Rattle.std.proofs.Common.{◌≡◌, ℕ, zero, suc, ◌+◌, ◌-◌, ◌<◌, ◌≤◌, Bool, true, false, not, cond, ◌⊎◌, ◌&&◌, ◌||◌, nat_lt, nat_le, List, [], ◌∷◌, ◌++◌, length, map, filter, replicate, zip, refl, sym, ap, ◌∙◌, arith, length-append, inl, inr}
+use Rattle.std.specs.List.{list_any, list_all}
 use Rattle.std.proofs.lemmas.List.{length-map}
-use Rattle.std.proofs.lemmas.Bool.{and_parts, and_from, lt-ltb, ltb-true, eqb-true}
+use Rattle.std.proofs.lemmas.Bool.{and_parts, and_from, lt-ltb, ltb-true}
 use Rattle.std.proofs.lemmas.List.Folds.{list_all-append}
-use Rattle.gts_heading.specs.Heading.{HeadingFields}
-use Rattle.gts_directory.specs.Directory.{Directory, Circuit, Rule, matches, is_named, peer_of}
-use Rattle.gts_directory.specs.Extending.{CircuitStays, RuleStays, BeginWith, Extends}
+use Rattle.gts_directory.specs.Directory.{Directory, Circuit}
+use Rattle.gts_directory.specs.Extending.{CircuitStays, BeginWith, Extends}
 use Rattle.gts_event.specs.State.{State, CircuitState, Bulletin, idle, has, is_recent, heading_of}
-use Rattle.gts_event.specs.History.{owed_last, restarted, is_request}
-use Rattle.gts_event.specs.Need.{Need, CircuitNeed, unused, need, circuit_need, circuit_needs, is_needed, is_bulletin, is_for, is_circuit_sound, is_sound, are_below, owes_kept, recent_positions, positions_of, IsOrdered}
+use Rattle.gts_event.specs.History.{owed_last, owed_again, all_owed_last, restarted, is_request}
+use Rattle.gts_event.specs.Need.{Need, CircuitNeed, unused, need, circuit_need, circuit_needs, is_needed, is_bulletin, is_circuit_sound, is_sound, are_below, owes_kept, recent_positions, positions_of, IsOrdered}
 use Rattle.gts_recovery.specs.Wider.{wider, widened}
 use Rattle.gts_event.proofs.LawLemmas.{circuit-parts, circuit-from, sound-parts, sound-from}
 
@@ -42,19 +40,26 @@ both_lists f xs ys e h = list_all-append f xs ys ∙ and_from (list_all f xs) (l
 
 -- ---- opened again
 
-idle_restarted : (k : ℕ) → map owed_last (replicate k idle) ≡ replicate k idle
-idle_restarted zero = refl
-idle_restarted (suc k) = ap (λ (qs : List CircuitState). idle ∷ qs) (idle_restarted k)
+-- what was owed before doesn't matter
+again_restarted : (new old : List Circuit) (qs more : List CircuitState) → all_owed_last new (all_owed_last old qs ++ more) ≡ all_owed_last new (qs ++ more)
+again_restarted new [] [] more = refl
+again_restarted new (row ∷ old) [] more = refl
+again_restarted [] [] (q ∷ qs) more = ap (λ (rs : List CircuitState). owed_last 0 q ∷ rs) (again_restarted [] [] qs more)
+again_restarted [] (row ∷ old) (q ∷ qs) more = ap (λ (rs : List CircuitState). owed_last 0 q ∷ rs) (again_restarted [] old qs more)
+again_restarted (next ∷ new) [] (q ∷ qs) more = ap (λ (rs : List CircuitState). owed_last (owed_again next) q ∷ rs) (again_restarted new [] qs more)
+again_restarted (next ∷ new) (row ∷ old) (q ∷ qs) more = ap (λ (rs : List CircuitState). owed_last (owed_again next) q ∷ rs) (again_restarted new old qs more)
 
-circuits_restarted : (qs : List CircuitState) (k : ℕ) → map owed_last (qs ++ replicate k idle) ≡ map owed_last qs ++ replicate k idle
-circuits_restarted [] k = idle_restarted k
-circuits_restarted (q ∷ qs) k = ap (λ (more : List CircuitState). owed_last q ∷ more) (circuits_restarted qs k)
+length-restarted : (rows : List Circuit) (qs : List CircuitState) → length (all_owed_last rows qs) ≡ length qs
+length-restarted [] [] = refl
+length-restarted (row ∷ rows) [] = refl
+length-restarted [] (q ∷ qs) = ap suc (length-restarted [] qs)
+length-restarted (row ∷ rows) (q ∷ qs) = ap suc (length-restarted rows qs)
 
-pub restarted-widened : (k : ℕ) (s : State) → restarted (widened k s) ≡ widened k (restarted s)
-restarted-widened k s =
+pub restarted-widened : (new old : Directory) (k : ℕ) (s : State) → restarted new (widened k (restarted old s)) ≡ restarted new (widened k s)
+restarted-widened new old k s =
     ap (λ (qs : List CircuitState). record s { circuits = qs })
-    (circuits_restarted s.circuits (k - length s.circuits)
-    ∙ ap (λ (n : ℕ). map owed_last s.circuits ++ replicate (k - n) idle) (sym (length-map s.circuits owed_last)))
+    (ap (λ (n : ℕ). all_owed_last new.circuits (all_owed_last old.circuits s.circuits ++ replicate (k - n) idle)) (length-restarted old.circuits s.circuits)
+    ∙ again_restarted new.circuits old.circuits s.circuits (replicate (k - length s.circuits) idle))
 
 -- ---- the need
 
@@ -139,49 +144,6 @@ ordered-widened new old s e o =
 
 -- ---- soundness
 
--- all of a rule's circuits are named
-each_named : (P : ℕ → Bool) (tos : List ℕ) (c : ℕ) → list_all P tos ≡ true → list_any (λ to. to == c) tos ≡ true → P c ≡ true
-each_named P [] c all here = absurd (cc)
-each_named P (to ∷ tos) c all here =
-    let both = and_true (P to) (list_all P tos) all in
-    elim (or_cases (to == c) (list_any (λ t. t == c) tos) here) [
-      | inl same ↦ ap P (sym (eqb-true to c same)) ∙ both.0
-      | inr there ↦ each_named P tos c both.1 there
-    ]
-
-rules_name : (old new : List Rule) (h : HeadingFields) (c : ℕ) → BeginWith RuleStays old new
-    → list_any (λ rule. matches rule.heading h && list_any (λ to. to == c) rule.to) old ≡ true
-    → list_any (λ rule. matches rule.heading h && list_any (λ to. to == c) rule.to) new ≡ true
-rules_name [] new h c stays here = absurd (cc)
-rules_name (rule ∷ old) [] h c stays here = absurd stays
-rules_name (rule ∷ old) (next ∷ new) h c stays here =
-    elim (or_cases (matches rule.heading h && list_any (λ to. to == c) rule.to) _ here) [
-      | inl first ↦
-          let both = and_true (matches rule.heading h) (list_any (λ to. to == c) rule.to) first in
-          or_left (matches next.heading h && list_any (λ to. to == c) next.to) _
-          (both_true (matches next.heading h) (list_any (λ to. to == c) next.to) (ap (λ (p : List ℕ). matches p h) stays.0.heading ∙ both.0)
-          (each_named (λ k. list_any (λ to. to == k) next.to) rule.to c stays.0.to both.1))
-      | inr rest ↦ or_right (matches next.heading h && list_any (λ to. to == c) next.to) _ (rules_name old new h c stays.1 rest)
-    ]
-
-peers_stay : (old new : List Circuit) (c : ℕ) → BeginWith CircuitStays old new → c < length old
-    → get_or (map (λ (row : Circuit). row.peer) new) c [] ≡ get_or (map (λ (row : Circuit). row.peer) old) c []
-peers_stay [] new c stays low = absurd (omega (arith, low))
-peers_stay (row ∷ old) [] c stays low = absurd stays
-peers_stay (row ∷ old) (next ∷ new) zero stays low = stays.0.peer
-peers_stay (row ∷ old) (next ∷ new) (suc c) stays low = peers_stay old new c stays.1 (omega (arith, low))
-
--- what is named stays named
-named-wider : (new old : Directory) (from : ℕ) (h : HeadingFields) (c : ℕ) → Extends new old → from < length old.circuits → c < length old.circuits
-    → is_named old from h c ≡ true → is_named new from h c ≡ true
-named-wider new old from h c e from_low c_low named =
-    let (first, peers) = and_true _ (not (pointwise nat_eq (peer_of old c) (peer_of old from))) named in
-    let (rule, other) = and_true (list_any (λ rule. matches rule.heading h && list_any (λ to. to == c) rule.to) old.rules) (not (c == from)) first in
-    both_true _ (not (pointwise nat_eq (peer_of new c) (peer_of new from)))
-    (both_true (list_any (λ rule. matches rule.heading h && list_any (λ to. to == c) rule.to) new.rules) (not (c == from)) (rules_name old.rules new.rules h c e.rules rule) other)
-    (ap (λ (peer : List ℕ). not (pointwise nat_eq peer (peer_of new from))) (peers_stay old.circuits new.circuits c e.circuits c_low)
-    ∙ ap (λ (peer : List ℕ). not (pointwise nat_eq (peer_of old c) peer)) (peers_stay old.circuits new.circuits from e.circuits from_low) ∙ peers)
-
 -- a bulletin stays one
 bulletin_from : (d : Directory) (accepted : ℕ) (b : Bulletin) → is_bulletin d accepted b ≡ true → nat_lt b.from (length d.circuits) ≡ true
 bulletin_from d accepted b h = (and_true (nat_lt b.from (length d.circuits)) _ (and_true _ _ (and_true _ _ (and_true _ _ h).0).0).0).0
@@ -204,44 +166,23 @@ bulletins-wider new old accepted (b ∷ bs) e h =
     let both = and_true (is_bulletin old accepted b) (list_all (is_bulletin old accepted) bs) h in
     both_true (is_bulletin new accepted b) (list_all (is_bulletin new accepted) bs) (bulletin-wider new old accepted b e both.0) (bulletins-wider new old accepted bs e both.1)
 
--- and goes to where it went
-for-wider : (new old : Directory) (accepted : ℕ) (bs : List Bulletin) (c p : ℕ) → Extends new old → list_all (is_bulletin old accepted) bs ≡ true → c < length old.circuits
-    → is_for old bs c p ≡ true → is_for new bs c p ≡ true
-for-wider new old accepted [] c p e all low h = absurd (cc)
-for-wider new old accepted (b ∷ bs) c p e all low h =
-    let both = and_true (is_bulletin old accepted b) (list_all (is_bulletin old accepted) bs) all in
-    elim (or_cases ((b.position == p) && is_named old b.from (heading_of b.body) c) (is_for old bs c p) h) [
-      | inl here ↦
-          let (at, named) = and_true (b.position == p) (is_named old b.from (heading_of b.body) c) here in
-          or_left ((b.position == p) && is_named new b.from (heading_of b.body) c) (is_for new bs c p)
-          (both_true (b.position == p) (is_named new b.from (heading_of b.body) c) at
-          (named-wider new old b.from (heading_of b.body) c e (ltb-true _ _ (bulletin_from old accepted b both.0)) low named))
-      | inr there ↦
-          or_right ((b.position == p) && is_named new b.from (heading_of b.body) c) (is_for new bs c p) (for-wider new old accepted bs c p e both.1 low there)
-    ]
-
-all_pass : (f g : ℕ → Bool) (ps : List ℕ) → ((p : ℕ) → f p ≡ true → g p ≡ true) → list_all f ps ≡ true → list_all g ps ≡ true
-all_pass f g [] each h = refl
-all_pass f g (p ∷ ps) each h = let both = and_true (f p) (list_all f ps) h in both_true (g p) (list_all g ps) (each p both.0) (all_pass f g ps each both.1)
-
-circuit-wider : (new old : Directory) (n : Need) (k c kept : ℕ) (q : CircuitNeed) → Extends new old → list_all (is_bulletin old n.accepted) n.bulletins ≡ true → c < length old.circuits
-    → is_circuit_sound old n c kept q ≡ true → is_circuit_sound new (wider k n) c kept q ≡ true
-circuit-wider new old n k c kept q e all low h =
-    let p = circuit-parts old n c kept q h in
-    circuit-from new (wider k n) c kept q (record {
+circuit-wider : (n : Need) (k kept : ℕ) (q : CircuitNeed) → is_circuit_sound n kept q ≡ true → is_circuit_sound (wider k n) kept q ≡ true
+circuit-wider n k kept q h =
+    let p = circuit-parts n kept q h in
+    circuit-from (wider k n) kept q (record {
       few = p.few;
       size = p.size;
       up = p.up;
       distinct = p.distinct;
       apart = p.apart;
-      known = all_pass (is_for old n.bulletins c) (is_for new n.bulletins c) (q.waiting ++ q.kept) (λ position. for-wider new old n.accepted n.bulletins c position e all low) p.known;
+      known = p.known;
       owes_few = p.owes_few;
       owes = p.owes;
     })
 
 -- a circuit of which nothing is needed is sound
-unused-sound : (d : Directory) (n : Need) (c kept : ℕ) → is_circuit_sound d n c kept unused ≡ true
-unused-sound d n c kept = circuit-from d n c kept unused (record {
+unused-sound : (n : Need) (kept : ℕ) → is_circuit_sound n kept unused ≡ true
+unused-sound n kept = circuit-from n kept unused (record {
   few = omega arith;
   size = omega arith;
   up = refl;
@@ -252,27 +193,26 @@ unused-sound d n c kept = circuit-from d n c kept unused (record {
   owes = refl;
 })
 
-added-sound : (d : Directory) (n : Need) (c : ℕ) (rows : List Circuit)
-    → list_all (λ row. is_circuit_sound d n row.0 row.1.0.kept row.1.1) (enumerate_from c (zip rows (replicate (length rows) unused))) ≡ true
-added-sound d n c [] = refl
-added-sound d n c (row ∷ rows) = both_true (is_circuit_sound d n c row.kept unused) _ (unused-sound d n c row.kept) (added-sound d n (c + 1) rows)
+added-sound : (n : Need) (rows : List Circuit)
+    → list_all (λ row. is_circuit_sound n row.0.kept row.1) (zip rows (replicate (length rows) unused)) ≡ true
+added-sound n [] = refl
+added-sound n (row ∷ rows) = both_true (is_circuit_sound n row.kept unused) _ (unused-sound n row.kept) (added-sound n rows)
 
-rows-sound : (new old : Directory) (n : Need) (k c : ℕ) (rows more : List Circuit) (qs : List CircuitNeed) → Extends new old → list_all (is_bulletin old n.accepted) n.bulletins ≡ true
-    → BeginWith CircuitStays rows more → length qs ≡ length rows → c + length rows ≤ length old.circuits
-    → list_all (λ row. is_circuit_sound old n row.0 row.1.0.kept row.1.1) (enumerate_from c (zip rows qs)) ≡ true
-    → list_all (λ row. is_circuit_sound new (wider k n) row.0 row.1.0.kept row.1.1) (enumerate_from c (zip more (qs ++ replicate (length more - length qs) unused))) ≡ true
-rows-sound new old n k c [] more [] e all stays same low h =
+rows-sound : (n : Need) (k : ℕ) (rows more : List Circuit) (qs : List CircuitNeed) → BeginWith CircuitStays rows more → length qs ≡ length rows
+    → list_all (λ row. is_circuit_sound n row.0.kept row.1) (zip rows qs) ≡ true
+    → list_all (λ row. is_circuit_sound (wider k n) row.0.kept row.1) (zip more (qs ++ replicate (length more - length qs) unused)) ≡ true
+rows-sound n k [] more [] stays same h =
     let whole : length more - 0 ≡ length more = omega arith in
-    rw whole (added-sound new (wider k n) c more)
-rows-sound new old n k c [] more (q ∷ qs) e all stays same low h = absurd (omega (arith, same))
-rows-sound new old n k c (row ∷ rows) more [] e all stays same low h = absurd (omega (arith, same))
-rows-sound new old n k c (row ∷ rows) [] (q ∷ qs) e all stays same low h = absurd stays
-rows-sound new old n k c (row ∷ rows) (next ∷ more) (q ∷ qs) e all stays same low h =
-    let both = and_true (is_circuit_sound old n c row.kept q) (list_all (λ row. is_circuit_sound old n row.0 row.1.0.kept row.1.1) (enumerate_from (c + 1) (zip rows qs))) h in
+    rw whole (added-sound (wider k n) more)
+rows-sound n k [] more (q ∷ qs) stays same h = absurd (omega (arith, same))
+rows-sound n k (row ∷ rows) more [] stays same h = absurd (omega (arith, same))
+rows-sound n k (row ∷ rows) [] (q ∷ qs) stays same h = absurd stays
+rows-sound n k (row ∷ rows) (next ∷ more) (q ∷ qs) stays same h =
+    let both = and_true (is_circuit_sound n row.kept q) (list_all (λ row. is_circuit_sound n row.0.kept row.1) (zip rows qs)) h in
     let left : suc (length more) - suc (length qs) ≡ length more - length qs = omega arith in
-    let here : is_circuit_sound new (wider k n) c next.kept q ≡ true =
-    ap (λ (kept : ℕ). is_circuit_sound new (wider k n) c kept q) stays.0.kept ∙ circuit-wider new old n k c row.kept q e all (omega (arith, low)) both.0 in
-    rw left (both_true (is_circuit_sound new (wider k n) c next.kept q) _ here (rows-sound new old n k (c + 1) rows more qs e all stays.1 (omega (arith, same)) (omega (arith, low)) both.1))
+    let here : is_circuit_sound (wider k n) next.kept q ≡ true =
+    ap (λ (kept : ℕ). is_circuit_sound (wider k n) kept q) stays.0.kept ∙ circuit-wider n k row.kept q both.0 in
+    rw left (both_true (is_circuit_sound (wider k n) next.kept q) _ here (rows-sound n k rows more qs stays.1 (omega (arith, same)) both.1))
 
 needed_stay : (new old : Directory) (n : Need) (k : ℕ) (bs : List Bulletin) → new.window ≡ old.window → list_all (λ b. is_needed old n.accepted n.circuits b.position) bs ≡ true
     → list_all (λ b. is_needed new n.accepted (n.circuits ++ replicate k unused) b.position) bs ≡ true
@@ -295,5 +235,5 @@ sound-wider new old n e h =
       order = p.order;
       recent = ap (λ (w : ℕ). list_all (has (positions_of n.bulletins)) (recent_positions record old { window = w } n.accepted)) e.window ∙ p.recent;
       needed = needed_stay new old n k n.bulletins e.window p.needed;
-      circuits = rows-sound new old n (length new.circuits) 0 old.circuits new.circuits n.circuits e p.bodies e.circuits p.same (omega arith) p.circuits;
+      circuits = rows-sound n (length new.circuits) old.circuits new.circuits n.circuits e.circuits p.same p.circuits;
     })

@@ -8,14 +8,15 @@ ghost use Rattle.gts_event.specs.Cited.{Directory, Need, IsOrdered, need, is_sou
 ghost use Rattle.gts_recovery.specs.Wider.{wider, widened};
 
 /// Under a directory that extends its own, a state goes on: with the further circuits, on which nothing waits and nothing was
-/// drawn, it is ordered and has the wider need; it is opened again as it was; and a wider need is sound where the need is.
+/// drawn, it is ordered and has the wider need; opened again it owes what the new rows say, whatever was owed before; and a wider
+/// need is sound where the need is.
 pub fn a_state_goes_on_under_a_wider_directory()
     ensures ordered { (new old : Directory) (s : State) → Extends new old → IsOrdered old s
         → IsOrdered new (widened (length new.circuits) s) }
     ensures need { (new old : Directory) (s : State) → Extends new old → IsOrdered old s
         → need new (widened (length new.circuits) s) ≡ wider (length new.circuits) (need old s) }
-    ensures restarted { (count : ℕ) (s : State)
-        → restarted (widened count s) ≡ widened count (restarted s) }
+    ensures restarted { (new old : Directory) (count : ℕ) (s : State)
+        → restarted new (widened count (restarted old s)) ≡ restarted new (widened count s) }
     ensures sound { (new old : Directory) (n : Need) → Extends new old → IsTrue (is_sound old n)
         → IsTrue (is_sound new (wider (length new.circuits) n)) }
 {}

@@ -216,7 +216,7 @@ pred_is : (n k : ℕ) → 1 ≤ k → k ≤ n → suc (n - 1) ≡ n
 pred_is n k some low = omega (arith, some, low)
 
 abbrev pub opened_need : Directory → Read → Result Need OpenFault
-opened_need d read = elim (opened_of read) as (λ _. Result Need OpenFault) [ Err fault ↦ Err fault | Ok x ↦ Ok (need d (restarted x.0)) ]
+opened_need d read = elim (opened_of read) as (λ _. Result Need OpenFault) [ Err fault ↦ Err fault | Ok x ↦ Ok (need d (restarted d x.0)) ]
 
 pub opened_now : (d : Directory) (s : State) (calls : List Call) (j : InHand) → StandsFor d s calls j → OpensTo d s (seen calls)
 opened_now d s calls j f = ap (λ (v : Version). opened_need d (files_read v d (seen calls))) (sym f.current) ∙ ap (opened_need d) f.opens_to

@@ -295,7 +295,7 @@ front_behind_sync old mid new x first second = record {
 }
 
 -- the need that files open to
-pub opens_there : (d : Directory) (mid : List Call) (opened : InHand) (s : State) → StandsFor d s mid opened → opened.version ≡ written → opens d (seen mid) ≡ Ok (need d (restarted s))
+pub opens_there : (d : Directory) (mid : List Call) (opened : InHand) (s : State) → StandsFor d s mid opened → opened.version ≡ written → opens d (seen mid) ≡ Ok (need d (restarted d s))
 opens_there d mid opened s stands current =
     let opens_to : files_read written d (seen mid) ≡ Ok (s, opened.gate + 1, opened.seal) = ap (λ (v : Version). files_read v d (seen mid)) (sym current) ∙ stands.opens_to in
     ap (λ (r : Read). by_opened (opened_of r)) opens_to
@@ -374,13 +374,13 @@ not_started d old mid new e x quiet syncs kind =
     quiet_answer d old new e x kind (front_behind_sync old mid new x quiet (nothing_front mid new x (syncs_say_nothing mid new syncs)))
 
 -- the need of files that open
-pub opened_to : (d : Directory) (old mid : List Call) (opened : InHand) (s : State) → mid ≡ Did Syncs ∷ old → StandsFor d s mid opened → opened.version ≡ written → opens d (seen old) ≡ Ok (need d (restarted s))
+pub opened_to : (d : Directory) (old mid : List Call) (opened : InHand) (s : State) → mid ≡ Did Syncs ∷ old → StandsFor d s mid opened → opened.version ≡ written → opens d (seen old) ≡ Ok (need d (restarted d s))
 opened_to d old mid opened s first for current = ap (λ (calls : List Call). opens d (seen calls)) (sym first) ∙ opens_there d mid opened s for current
 
 pub ships_on : {T : Type 0} (result : Result T ShipFault) (d : Directory) (old mid now new : List Call) (j opened : InHand) (s : State) → mid ≡ Did Syncs ∷ old → now ≡ Did Syncs ∷ mid → j.version ≡ written → StandsOn now j
     → StandsFor d s mid opened → opened.version ≡ written → SaysRest result now new (feed j.version d.mark (file_of now j)) → OnOk result (ShipsOnly d old new (feed_of d old))
 ships_on result d old mid now new j opened s first second version stands for current says =
-    says_opened result d old now new (need d (restarted s)) (feed_of d old) (opened_to d old mid opened s first for current) (twice_quiet old mid now first second)
+    says_opened result d old now new (need d (restarted d s)) (feed_of d old) (opened_to d old mid opened s first for current) (twice_quiet old mid now first second)
     (subst (SaysRest result now new) (same_feed d old mid now j first second version stands) says)
 
 pub breaks_on : {T : Type 0} (result : Result T ShipFault) (d : Directory) (old mid now new : List Call) (j : InHand) → mid ≡ Did Syncs ∷ old → now ≡ Did Syncs ∷ mid → j.version ≡ written → StandsOn now j

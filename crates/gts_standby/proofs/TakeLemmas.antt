@@ -509,7 +509,7 @@ all_unread left = record { is = refl; all = λ is. absurd (cc is) }
 
 -- what is answered where the journal doesn't open
 abbrev opened_need : Directory → Read → Result Need OpenFault
-opened_need d read = elim (opened_of read) as (λ _. Result Need OpenFault) [ Err fault ↦ Err fault | Ok x ↦ Ok (need d (restarted x.0)) ]
+opened_need d read = elim (opened_of read) as (λ _. Result Need OpenFault) [ Err fault ↦ Err fault | Ok x ↦ Ok (need d (restarted d x.0)) ]
 
 abbrev come_by : Directory → Files → List ℕ → Read → Result Taken OpenFault
 come_by d files fed r = elim r as (λ _. Result Taken OpenFault) [
@@ -650,7 +650,7 @@ module _ (d : Directory) (old mid : List Call) (j : InHand) (s : State) (fed : L
     same_taken other comes = let e : Ok all_taken ≡ Ok other = sym comes_there ∙ comes in cc e
 
     pub added_there : (t : State) (used : ℕ) (last : List ℕ) (other : Taken) → files_read written d (seen old) ≡ Ok (t, used, last) → comes_to d (seen old) fed ≡ Ok other → IsEnd answer
-        → opens d (seen new) ≡ Ok (need d (restarted (state_after d t other)))
+        → opens d (seen new) ≡ Ok (need d (restarted d (state_after d t other)))
     added_there t used last other reads comes ends =
         let by_state : OpensTo d (state_after d t all_taken) (seen new) = subst (λ (q : State). OpensTo d (state_after d q all_taken) (seen new)) (same_state t used last reads) (has.added.opened ends) in
         subst (λ (x : Taken). OpensTo d (state_after d t x) (seen new)) (same_taken other comes) by_state

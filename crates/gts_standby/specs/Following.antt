@@ -108,7 +108,7 @@ ReadsAllOf answer d old new fed =
 abbrev pub HasAll : FollowEnd → Directory → List Call → List Call → List ℕ → Type 0
 HasAll answer d old new fed =
     (s : State) (used : ℕ) (last : List ℕ) (taken : Taken) → files_read written d (seen old) ≡ Ok (s, used, last)
-    → comes_to d (seen old) fed ≡ Ok taken → IsEnd answer → opens d (seen new) ≡ Ok (need d (restarted (state_after d s taken)))
+    → comes_to d (seen old) fed ≡ Ok taken → IsEnd answer → opens d (seen new) ≡ Ok (need d (restarted d (state_after d s taken)))
 
 -- At each end of the feed the journal has all that the feed adds: it is what it was, with that behind it.
 pub record AddsAllOf (answer : FollowEnd) (d : Directory) (old new : List Call) (fed : List ℕ) : Type 0 where

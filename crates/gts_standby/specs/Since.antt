@@ -39,7 +39,8 @@ behind_at v (suc n) before gate bytes place last =
 -- the same from the gate behind the checkpoint of this need on
 abbrev pub behind_checkpoint : Version → List ℕ → List ℕ → ℕ → List ℕ → Need → Option (List ℕ)
 behind_checkpoint v before bytes place last n =
-    behind_at v (length bytes) (seal v before (checkpoint_text n)) (compacted_bytes v n - 1) (drop (compacted_bytes v n - 1) bytes) place last
+    behind_at v (length bytes) (seal v before (checkpoint_text n)) (compacted_bytes v n - 1)
+    (drop (compacted_bytes v n - 1) bytes) place last
 
 -- the same of a whole file, by whether it begins with a checkpoint
 abbrev pub behind_place : Version → List ℕ → List ℕ → ℕ → List ℕ → Bool → Option (List ℕ)
@@ -106,8 +107,8 @@ Passes (Ok _) d calls j end place last found = IsBefore d calls j end place last
 Passes (Err e) d calls j end place last found = IsQuiet e
 
 -- So it is of each journal that stands in front of these places, whatever is behind the last one.
-abbrev pub PassesUnder : {T : Type 0} → Result T ShipFault → (tells : Type 0) → (InHand → (end place : ℕ) → Type 0) → List Call → InHand → List Call
-    → InHand → Type 0
+abbrev pub PassesUnder : {T : Type 0} → Result T ShipFault → (tells : Type 0) → (InHand → (end place : ℕ) → Type 0)
+    → List Call → InHand → List Call → InHand → Type 0
 PassesUnder result tells Low old j new next =
     tells → (d : Directory) (end place : ℕ) (last : List ℕ) (found : Option (List ℕ))
     → IsBefore d old j end place last found → Low j end place → Passes result d new next end place last found

@@ -51,5 +51,6 @@ pub fn a_whole_feed_brings_a_standby_through_a_compaction()
 /// seal: the front and what is said are the whole feed.
 pub fn what_a_standby_lacks_ends_the_feed()
     ensures { (v : Version) (mark bytes last left : List ℕ) (used : ℕ)
-        → found_since v mark bytes used last ≡ Some left → HasFront v mark bytes (held v last) left }
+        → found_since v mark bytes used last ≡ Some left
+        → HasFront v mark bytes (held v last) left }
 {}

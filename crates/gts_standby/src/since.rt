@@ -32,10 +32,9 @@ fn pass_checkpoint<P: Station>(
 ) -> Result<(), ShipFault>
     requires going { journal.old.ended ≡ false }
     requires stands { P.tells → StandsOn (P.calls station.old) journal.old }
-    ensures passed { P.tells → (end place : ℕ) (last : List ℕ)
-        → IsAtFirst directory.now (P.calls station.old) journal.old end
-        → Passes result directory.now (P.calls station.new) journal.new end place last
-        (behind_here directory.now (P.calls station.old) journal.old place last) }
+    ensures passed { P.tells → (end place : ℕ) (last : List ℕ) → IsAtFirst directory.now (P.calls
+        station.old) journal.old end → Passes result directory.now (P.calls station.new) journal.new
+        end place last (behind_here directory.now (P.calls station.old) journal.old place last) }
     ensures going { OnOk result (journal.new.ended ≡ false) }
     ensures stands { P.tells → OnOk result (StandsOn (P.calls station.new) journal.new) }
     ensures version { OnOk result (journal.new.version ≡ journal.old.version) }

@@ -58,11 +58,16 @@ DigitWords = (command_of (codes "unpack" ∷ codes "00" ∷ []) ≡ Some (Unpack
 abbrev pub SinceWords : Type 0
 SinceWords =
     (command_of (codes "ship" ∷ codes "since" ∷ codes "41" ∷ codes "000000000000000000000000000000000000000000000000000000000000a0ff" ∷ [])
-    ≡ Some (ShipSince 41 (0 ∷ 0 ∷ 0 ∷ 0 ∷ 0 ∷ 0 ∷ 0 ∷ 0 ∷ 0 ∷ 0 ∷ 0 ∷ 0 ∷ 0 ∷ 0 ∷ 0 ∷ 0 ∷ 0 ∷ 0 ∷ 0 ∷ 0 ∷ 0 ∷ 0 ∷ 0 ∷ 0 ∷ 0 ∷ 0 ∷ 0 ∷ 0 ∷ 0 ∷ 0 ∷ 160 ∷ 255 ∷ [])))
-    × (command_of (codes "ship" ∷ codes "since" ∷ codes "41" ∷ codes "000000000000000000000000000000000000000000000000000000000000A0FF" ∷ []) ≡ None)
-    × (command_of (codes "ship" ∷ codes "since" ∷ codes "41" ∷ codes "000000000000000000000000000000000000000000000000000000000000a0f" ∷ []) ≡ None)
-    × (command_of (codes "ship" ∷ codes "since" ∷ codes "41x" ∷ codes "000000000000000000000000000000000000000000000000000000000000a0ff" ∷ []) ≡ None)
-    × (command_of (codes "ship" ∷ codes "until" ∷ codes "41" ∷ codes "000000000000000000000000000000000000000000000000000000000000a0ff" ∷ []) ≡ None)
+    ≡ Some (ShipSince 41 (0 ∷ 0 ∷ 0 ∷ 0 ∷ 0 ∷ 0 ∷ 0 ∷ 0 ∷ 0 ∷ 0 ∷ 0 ∷ 0 ∷ 0 ∷ 0 ∷ 0 ∷ 0
+    ∷ 0 ∷ 0 ∷ 0 ∷ 0 ∷ 0 ∷ 0 ∷ 0 ∷ 0 ∷ 0 ∷ 0 ∷ 0 ∷ 0 ∷ 0 ∷ 0 ∷ 160 ∷ 255 ∷ [])))
+    × (command_of (codes "ship" ∷ codes "since" ∷ codes "41"
+    ∷ codes "000000000000000000000000000000000000000000000000000000000000A0FF" ∷ []) ≡ None)
+    × (command_of (codes "ship" ∷ codes "since" ∷ codes "41"
+    ∷ codes "000000000000000000000000000000000000000000000000000000000000a0f" ∷ []) ≡ None)
+    × (command_of (codes "ship" ∷ codes "since" ∷ codes "41x"
+    ∷ codes "000000000000000000000000000000000000000000000000000000000000a0ff" ∷ []) ≡ None)
+    × (command_of (codes "ship" ∷ codes "until" ∷ codes "41"
+    ∷ codes "000000000000000000000000000000000000000000000000000000000000a0ff" ∷ []) ≡ None)
     × (command_of (codes "ship" ∷ codes "since" ∷ codes "41" ∷ []) ≡ None)
 
 -- No words, a word that isn't known, a word too many and one too few.

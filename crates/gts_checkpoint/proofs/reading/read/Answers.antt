@@ -65,7 +65,7 @@ returns-in_default-2-clause-fault g c = λ tells.
     let bytes = bytes_from (g.P.Station.calls c.args.station.now) c.args.file 41 in
     let stands = stands_there bytes c.circuits.result c.in_ok-need.field-0 n at c.in-Some.is (c.in_ok-need.ensures.found tells) c.in_ok-need.ensures.fits c.in_ok-need.ensures.unowed in
     let compared = compares v d (g.P.Station.calls c.args.station.now) (g.P.Station.calls c.need_at.new.station) c.args.file n at c.in_ok-need.field-0 c.first_seal-before.result c.mark.result c.in_ok-seal.field-0 c.in-Some.is
-    c.in_ok-need.ensures.place (c.in_ok-need.ensures.told tells) c.first_seal-before.ensures c.mark.ensures (c.in_ok-seal.ensures.stands tells) in
+    c.in_ok-need.ensures.place (c.in_ok-need.ensures.told tells) c.first_seal-before.ensures.held c.mark.ensures (c.in_ok-seal.ensures.stands tells) in
     (refl, no_seal v d bytes (need_of n) c.first_seal-before.result (at - 41) c.in_ok-seal.field-0 stands compared c.in_default-2.is)
 
 pub returns-clause-begins : goal.returns-clause-begins
@@ -91,7 +91,7 @@ returns-clause-found g c = λ tells.
     let bytes = bytes_from (g.P.Station.calls c.args.station.now) c.args.file 41 in
     let stands = stands_there bytes c.circuits.result c.in_ok-need.field-0 n at c.in-Some.is (c.in_ok-need.ensures.found tells) c.in_ok-need.ensures.fits c.in_ok-need.ensures.unowed in
     let compared = compares v d (g.P.Station.calls c.args.station.now) (g.P.Station.calls c.need_at.new.station) c.args.file n at c.in_ok-need.field-0 c.first_seal-before.result c.mark.result c.in_ok-seal.field-0 c.in-Some.is
-    c.in_ok-need.ensures.place (c.in_ok-need.ensures.told tells) c.first_seal-before.ensures c.mark.ensures (c.in_ok-seal.ensures.stands tells) in
+    c.in_ok-need.ensures.place (c.in_ok-need.ensures.told tells) c.first_seal-before.ensures.held c.mark.ensures (c.in_ok-seal.ensures.stands tells) in
     let can : CanBegin v d (need_of n) c.in-Some-gate_behind.gate = returns-clause-begins g c in
     has_read v d bytes (need_of n) c.first_seal-before.result (at - 41) c.in-Some-gate_behind.gate c.in_ok-seal.field-0 c.in-Some-2.seal stands compared can c.in-Some-2.is
     (last_is v (g.P.Station.calls c.args.station.now) (g.P.Station.calls c.need_at.new.station) c.args.file (at - 41) c.first_seal-before.result c.in_ok-seal.field-0 c.in-Some-2.seal c.in-Some-2.is (c.in_ok-need.ensures.told tells)

@@ -45,4 +45,4 @@ returns-clause-found g c = λ tells.
     let before : List ℕ = held c.args.version c.args.before.now in
     let all : List ℕ = bytes_from (g.P.Station.calls c.args.station.now) c.args.file 41 in
     let all_done : c.loop-done.done ≡ c.args.size = omega (arith, inv.inside, c.loop-done-test.false) in
-    c.seal.ensures c.args.version before (take c.loop-done.done all) (inv.seals tells) ∙ ap (λ (k : ℕ). seal c.args.version before (take k all)) all_done
+    c.seal.ensures.held c.args.version before (take c.loop-done.done all) (inv.seals tells) ∙ ap (λ (k : ℕ). seal c.args.version before (take k all)) all_done

@@ -1,4 +1,4 @@
-use Rattle.std.proofs.Common.{◌≡◌, ℕ, List, length, get_or, slice_get, Some, refl, sym, ap, ◌∙◌, arith}
+use Rattle.std.proofs.Common.{◌≡◌, List, length, get_or, slice_get, Some, refl, sym, ap, ◌∙◌, arith}
 use Rattle.std.proofs.lemmas.Option.{slice_get_read}
 use Rattle.gts_event.specs.declared.values.CircuitNeed as values
 use Rattle.gts_checkpoint.specs.Sound.{is_circuit_sound, circuit_need_of, need_of}
@@ -20,7 +20,7 @@ loop-c-preserved c =
     let d = c.args.directory.now in
     let qs = c.as_slice-circuits.result.now in
     let size : length qs ≡ length c.args.need.now.circuits = ap (λ (l : List values.CircuitNeed). length l) c.as_slice-circuits.ensures in
-    circuits-more (λ k row q. is_circuit_sound d (need_of c.args.need.now) k row.kept (circuit_need_of q)) d.circuits qs k q c.loop-c.invariant
+    circuits-more (λ row q. is_circuit_sound (need_of c.args.need.now) row.kept (circuit_need_of q)) d.circuits qs k q c.loop-c.invariant
     (slice_get_read qs (length qs) k q refl (omega arith) c.index-circuits-c.is)
     (λ row at. sym (c.in_ok-is_circuit_sound.ensures row at) ∙ c.if-not-branch.false)
 
@@ -28,9 +28,8 @@ pub returns : goal.returns
 returns c =
     let d = c.args.directory.now in
     let n = c.args.need.now in
-    sym (rows-all (λ row. is_circuit_sound d (need_of n) row.0 row.1.0.kept row.1.1) 0 d.circuits n.circuits
-    (λ k m row q e a b.
+    sym (rows-all (λ row. is_circuit_sound (need_of n) row.0.kept row.1) d.circuits n.circuits
+    (λ k row q a b.
     let below = get-below d.circuits k row a in
     let there : slice_get c.as_slice-circuits.result.now k ≡ Some q = ap (λ (qs : List values.CircuitNeed). slice_get qs k) c.as_slice-circuits.ensures ∙ b in
-    let same : m ≡ k = omega arith in
-    ap (λ (i : ℕ). is_circuit_sound d (need_of n) i row.kept (circuit_need_of q)) same ∙ c.loop-c.invariant k row q (omega arith) a there))
+    c.loop-c.invariant k row q (omega arith) a there))

@@ -6,4 +6,4 @@ use Rattle.gts_checkpoint.proofs.sound.are_circuits_sound.Given as goal
 abbrev pub invariant-loop-c : goal.invariant-loop-c
 invariant-loop-c l =
     (k : ℕ) (row : Circuit) (q : CircuitNeed) → k < l.c → slice_get l.directory.circuits k ≡ Some row → slice_get l.circuits k ≡ Some q
-    → is_circuit_sound l.directory (need_of l.need) k row.kept (circuit_need_of q) ≡ true
+    → is_circuit_sound (need_of l.need) row.kept (circuit_need_of q) ≡ true

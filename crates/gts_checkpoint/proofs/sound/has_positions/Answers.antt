@@ -1,13 +1,13 @@
-use Rattle.std.proofs.Common.{◌≡◌, ℕ, true, false, not, List, refl, sym, ap, ◌∙◌, inl, inr}
+use Rattle.std.proofs.Common.{◌≡◌, ℕ, true, false, not, List, map, refl, sym, ap, ◌∙◌, inl, inr}
 use Rattle.std.specs.List.{list_all}
-use Rattle.gts_checkpoint.specs.Sound.{ascends, has, positions, is_marked}
+use Rattle.gts_checkpoint.specs.Sound.{ascends, has, is_there, bulletin_of}
 use Rattle.gts_checkpoint.proofs.SoundLemmas.{positions-fail, positions-pass}
 use Rattle.gts_checkpoint.proofs.sound.has_positions.Goals.{then-not-ascend-via-then-not-ascend, then-not-ascend-via-else-not-ascend+then-not-ascend-2, then-not-ascend-via-else-not-ascend+else-not-ascend-2+then-not-are_apart}
 use Rattle.gts_checkpoint.proofs.sound.has_positions.Goals as goal
 
 pub returns-then-not-ascend : goal.returns-then-not-ascend
 returns-then-not-ascend c =
-    let test = is_marked (positions c.args.bulletins.now) c.args.masks.now c.args.circuit in
+    let test = is_there (map bulletin_of c.args.bulletins.now) in
     let waiting = c.args.waiting.now in
     let draws = c.in_ok-draws in
     let fail = positions-fail test waiting c.args.kept.now draws.draws.items draws.ensures.same draws.ensures.order in
@@ -20,9 +20,9 @@ returns-then-not-ascend c =
           ∙ sym w.are_apart.ensures ∙ w.if-not-are_apart.true)))
     ]
 
-pub returns-then-not-are_marked : goal.returns-then-not-are_marked
-returns-then-not-are_marked c =
-    let test = is_marked (positions c.args.bulletins.now) c.args.masks.now c.args.circuit in
+pub returns-then-not-are_there : goal.returns-then-not-are_there
+returns-then-not-are_there c =
+    let test = is_there (map bulletin_of c.args.bulletins.now) in
     let waiting = c.args.waiting.now in
     let draws = c.in_ok-draws in
     let pass = positions-pass test waiting c.args.kept.now draws.draws.items draws.ensures.same draws.ensures.order
@@ -30,12 +30,12 @@ returns-then-not-are_marked c =
     (ap ascends (sym c.deref.ensures.value) ∙ sym c.ascend-else-not-ascend.ensures ∙ c.if-not-ascend-2.false)
     (ap (λ (ds : List ℕ). list_all (λ n. not (has ds n)) waiting) (sym c.deref-else-not-ascend-2.ensures.value)
     ∙ sym c.are_apart.ensures ∙ c.if-not-are_apart.false) in
-    let not-marked : list_all test waiting ≡ false = sym c.are_marked.ensures ∙ c.if-not-are_marked.true in
-    sym (pass ∙ rw not-marked refl)
+    let none-there : list_all test waiting ≡ false = sym c.are_there.ensures ∙ c.if-not-are_there.true in
+    sym (pass ∙ rw none-there refl)
 
 pub returns : goal.returns
 returns c =
-    let test = is_marked (positions c.args.bulletins.now) c.args.masks.now c.args.circuit in
+    let test = is_there (map bulletin_of c.args.bulletins.now) in
     let waiting = c.args.waiting.now in
     let draws = c.in_ok-draws in
     let pass = positions-pass test waiting c.args.kept.now draws.draws.items draws.ensures.same draws.ensures.order
@@ -43,5 +43,5 @@ returns c =
     (ap ascends (sym c.deref.ensures.value) ∙ sym c.ascend-else-not-ascend.ensures ∙ c.if-not-ascend-2.false)
     (ap (λ (ds : List ℕ). list_all (λ n. not (has ds n)) waiting) (sym c.deref-else-not-ascend-2.ensures.value)
     ∙ sym c.are_apart.ensures ∙ c.if-not-are_apart.false) in
-    let each : list_all test waiting ≡ true = sym c.are_marked.ensures ∙ c.if-not-are_marked.false in
-    c.are_marked-2.ensures ∙ sym (pass ∙ rw each refl)
+    let each : list_all test waiting ≡ true = sym c.are_there.ensures ∙ c.if-not-are_there.false in
+    c.are_there-2.ensures ∙ sym (pass ∙ rw each refl)

@@ -44,7 +44,7 @@ returns-clause-moments g c = λ tell k was is.
     let after = g.P.Station.calls c.rewrite.new.station in
     let can = can_migrate g.P.Station.tells old new c.requires mid core j o n wide tell in
     let each = c.rewrite.ensures.moments tell old o.state can in
-    let here = subst (λ (calls : List Call). EachSince calls after (OpensEither old new (need old (restarted o.state)))) synced each in
+    let here = subst (λ (calls : List Call). EachSince calls after (OpensEither old new (need old (restarted old o.state)))) synced each in
     subst (λ (m : Need). EachSince (Did Syncs ∷ before) after (OpensEither old new m)) (need_is g.P.Station.tells old new c.requires mid core j o tell before synced k is) here
 
 pub returns-clause-migrated : goal.returns-clause-migrated
@@ -88,7 +88,7 @@ returns-clause-opening g c = λ tell.
     let o = c.in_ok-core.ensures.opened in
     let before = g.P.Station.calls c.args.station.now in
     let synced = c.in_ok-core.ensures.synced tell in
-    opening_after c.rewrite.result (opens_any old (seen before)) (need old (restarted o.state)) c.rewrite.ensures.kind
+    opening_after c.rewrite.result (opens_any old (seen before)) (need old (restarted old o.state)) c.rewrite.ensures.kind
     (opens_so g.P.Station.tells old new c.requires mid core j o tell before synced)
 
 pub returns-clause-told : goal.returns-clause-told
@@ -148,5 +148,5 @@ returns-in_err-need-clause-opening g c = λ tell.
     let synced = c.in_ok-core.ensures.synced tell in
     let p = err_from_is_err_and c.from_residual-in_err-need.result c.from_residual-in_err-need.ensures.1 in
     rw (p.1, p.2)
-    (opening_before c.in_err-need.field-0.0 (opens_any old (seen before)) (need old (restarted o.state)) c.in_err-need.ensures.kind
+    (opening_before c.in_err-need.field-0.0 (opens_any old (seen before)) (need old (restarted old o.state)) c.in_err-need.ensures.kind
     (opens_so g.P.Station.tells old new c.requires mid core j o tell before synced))

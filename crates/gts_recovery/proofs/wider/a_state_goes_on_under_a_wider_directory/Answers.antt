@@ -8,7 +8,7 @@ pub returns-clause-need : goal.returns-clause-need
 returns-clause-need c new old s e ordered = need-widened new old s e ordered
 
 pub returns-clause-restarted : goal.returns-clause-restarted
-returns-clause-restarted c count s = restarted-widened count s
+returns-clause-restarted c new old count s = restarted-widened new old count s
 
 pub returns-clause-sound : goal.returns-clause-sound
 returns-clause-sound c new old n e sound = sound-wider new old n e sound

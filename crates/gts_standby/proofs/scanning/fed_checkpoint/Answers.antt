@@ -41,7 +41,7 @@ returns-then-not-starts_with-clause-piece g c = λ told fed read next.
     let text : c.split_at.result.0.now ≡ take size ahead.bytes = c.split_at.ensures.front ∙ ap (take size) c.bytes-bytes.ensures in
     let behind : c.split_at.result.1.now ≡ drop size ahead.bytes = c.split_at.ensures.back ∙ ap (drop size) c.bytes-bytes.ensures in
     let last : take c.seal_size-count.result c.seal-seal.result ≡ seal v before (take size ahead.bytes) =
-    ap (λ (k : ℕ). take k c.seal-seal.result) count ∙ c.seal-seal.ensures ∙ ap (seal v before) text in
+    ap (λ (k : ℕ). take k c.seal-seal.result) count ∙ c.seal-seal.ensures.held ∙ ap (seal v before) text in
     let is : starts_with nat_eq (drop size ahead.bytes) (seal v before (take size ahead.bytes)) ≡ false =
     ap (λ (l : List ℕ). starts_with nat_eq l (seal v before (take size ahead.bytes))) (sym behind)
     ∙ ap (starts_with nat_eq c.split_at.result.1.now) (sym last) ∙ sym c.starts_with.ensures.value ∙ other in
@@ -65,7 +65,7 @@ returns-clause-piece g c = λ told fed read.
     let same : c.starts_with.result ≡ true = search rules in
     let text : c.split_at.result.0.now ≡ take size ahead.bytes = c.split_at.ensures.front ∙ ap (take size) c.bytes-bytes.ensures in
     let behind : c.split_at.result.1.now ≡ drop size ahead.bytes = c.split_at.ensures.back ∙ ap (drop size) c.bytes-bytes.ensures in
-    let seal_is : held v c.seal-seal.result ≡ seal v before (take size ahead.bytes) = c.seal-seal.ensures ∙ ap (seal v before) text in
+    let seal_is : held v c.seal-seal.result ≡ seal v before (take size ahead.bytes) = c.seal-seal.ensures.held ∙ ap (seal v before) text in
     let last : take c.seal_size-count.result c.seal-seal.result ≡ seal v before (take size ahead.bytes) = ap (λ (k : ℕ). take k c.seal-seal.result) count ∙ seal_is in
     let is : starts_with nat_eq (drop size ahead.bytes) (seal v before (take size ahead.bytes)) ≡ true =
     ap (λ (l : List ℕ). starts_with nat_eq l (seal v before (take size ahead.bytes))) (sym behind)

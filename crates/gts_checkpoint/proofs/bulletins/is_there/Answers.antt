@@ -1,0 +1,12 @@
+use Rattle.std.proofs.Common.{map, sym, ◌∙◌}
+use Rattle.gts_checkpoint.specs.Sound.{positions, bulletin_of}
+use Rattle.gts_checkpoint.proofs.NamedLemmas.{has-found, there-has}
+use Rattle.gts_checkpoint.proofs.bulletins.is_there.Goals as goal
+
+pub returns : goal.returns
+returns c =
+    let bs = c.args.bulletins.now in
+    let p = c.args.position in
+    c.is_some.ensures
+    ∙ sym (has-found (positions bs) p c.place_of.result c.place_of.ensures.found c.place_of.ensures.none)
+    ∙ sym (there-has (map bulletin_of bs) p)

@@ -1,0 +1,41 @@
+-- Which directory takes over from another one, and what a need comes to under it (profile).
+use Rattle.std.specs.Prelude.{◌≡◌, ◌≤◌, ◌==◌, List, [], ◌∷◌, if◌then◌else◌}
+use Rattle.gts_directory.specs.Directory.{Directory, Circuit}
+use Rattle.gts_directory.specs.Extending.{BeginWith}
+use Rattle.gts_event.specs.State.{State}
+use Rattle.gts_event.specs.History.{restarted}
+use Rattle.gts_event.specs.Need.{Need, CircuitNeed, unused, need, begun}
+
+-- a circuit stays in its place: it has its name, and the same neighbour
+pub record KeepsPlace (old new : Circuit) : Type 0 where
+  pub name : new.name ≡ old.name
+  pub peer : new.peer ≡ old.peer
+
+-- A directory takes over from an old one: a need of the old one can go on under it. The circuits stay in their places, circuits
+-- may be added behind them, and the window is no greater. All else may be other: rules, levels and the limit, and of a circuit
+-- what it keeps, its digits and its ports.
+pub record TakesOver (new old : Directory) : Type 0 where
+  pub centre : new.centre ≡ old.centre
+  pub window : new.window ≤ old.window
+  pub circuits : BeginWith KeepsPlace old.circuits new.circuits
+
+-- What is brought along of a circuit under its old and its new row: what waits, and how many were drawn. The kept draws can be
+-- asked for unless the numbers have other digits, since a number would then mean another's bytes. Nothing is owed.
+abbrev pub brought : Circuit → Circuit → CircuitNeed → CircuitNeed
+brought old new c = record c { kept = if new.digits == old.digits then c.kept else []; owed = [] }
+
+-- of each circuit of the new rows; nothing of a further one
+abbrev pub each_brought : List Circuit → List Circuit → List CircuitNeed → List CircuitNeed
+each_brought old [] cs = []
+each_brought [] (next ∷ new) cs = unused ∷ each_brought [] new []
+each_brought (row ∷ old) (next ∷ new) [] = unused ∷ each_brought old new []
+each_brought (row ∷ old) (next ∷ new) (c ∷ cs) = brought row next c ∷ each_brought old new cs
+
+-- the state in which a need of the old directory goes on under the new one
+abbrev pub goes_over : Directory → Directory → Need → State
+goes_over new old n = begun (record n { circuits = each_brought old.circuits new.circuits n.circuits })
+
+-- The need to which a journal of this need opens once it was taken over: what the new directory keeps of the draws, and the
+-- bulletins that are needed under it.
+abbrev pub taken_over : Directory → Directory → Need → Need
+taken_over new old n = need new (restarted new (goes_over new old n))

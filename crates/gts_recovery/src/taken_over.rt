@@ -1,0 +1,49 @@
+//! What a need comes to under a directory that takes over from its own: laws, the contracts of functions with an empty body.
+
+ghost use Rattle.std.specs.Prelude.{◌≡◌, ◌<◌, [], ℕ, length, slice_get, Some, IsTrue};
+ghost use Rattle.gts_directory.specs.Directory.{Circuit};
+ghost use Rattle.gts_directory.specs.Extending.{Extends};
+ghost use Rattle.gts_event.specs.State.{State, on_circuit, draws, drawn, waiting};
+ghost use Rattle.gts_event.specs.History.{restarted};
+ghost use Rattle.gts_event.specs.Cited.{Directory, Need, IsOrdered, IsHeld, need, begun, is_sound};
+ghost use Rattle.gts_opening.specs.Journal.{due};
+ghost use Rattle.gts_recovery.specs.TakenOver.{TakesOver, goes_over};
+
+/// A directory that extends an old one takes over from it.
+pub fn a_directory_that_extends_takes_over()
+    ensures { (new old : Directory) → Extends new old → TakesOver new old }
+{}
+
+/// Under a directory that takes over from its own, a sound need goes on: it begins a state that a history can have, so that its
+/// need there is sound; the state is the same where the journal was opened again before; and as many draws are due.
+pub fn a_need_goes_on_under_a_new_directory()
+    ensures held { (new old : Directory) (n : Need) → TakesOver new old → IsTrue (is_sound old n)
+        → IsHeld new (goes_over new old n) }
+    ensures sound { (new old : Directory) (n : Need) → TakesOver new old → IsTrue (is_sound old n)
+        → IsTrue (is_sound new (need new (goes_over new old n))) }
+    ensures restarted { (new old : Directory) (s : State)
+        → goes_over new old (need old (restarted old s)) ≡ goes_over new old (need old s) }
+    ensures due { (new old : Directory) (s : State) → TakesOver new old → IsOrdered old s
+        → due (goes_over new old (need old s)) ≡ due s }
+{}
+
+/// What stays of each circuit of the old directory under one that takes over: what waits, waits, in its order, by whatever rules
+/// it came there; as many were drawn; where numbers have the same digits, each draw that was known keeps its index and its
+/// position, and else none is known; and nothing is owed until the journal is opened.
+pub fn what_a_circuit_had_goes_on()
+    ensures waiting { (new old : Directory) (n : Need) (c : ℕ) → TakesOver new old
+        → IsTrue (is_sound old n) → c < length old.circuits
+        → waiting (on_circuit (goes_over new old n) c) ≡ waiting (on_circuit (begun n) c) }
+    ensures draws { (new old : Directory) (n : Need) (c : ℕ) → TakesOver new old
+        → IsTrue (is_sound old n) → c < length old.circuits
+        → draws (on_circuit (goes_over new old n) c) ≡ draws (on_circuit (begun n) c) }
+    ensures same_digits { (new old : Directory) (n : Need) (c : ℕ) (row next : Circuit) → slice_get
+        old.circuits c ≡ Some row → slice_get new.circuits c ≡ Some next → next.digits ≡ row.digits
+        → IsTrue (is_sound old n) → drawn (on_circuit (goes_over new old n) c) ≡ drawn (on_circuit
+        (begun n) c) }
+    ensures other_digits { (new old : Directory) (n : Need) (c : ℕ) (row next : Circuit) → slice_get
+        old.circuits c ≡ Some row → slice_get new.circuits c ≡ Some next → (next.digits ≡ row.digits
+        → ⊥) → IsTrue (is_sound old n) → drawn (on_circuit (goes_over new old n) c) ≡ [] }
+    ensures unowed { (new old : Directory) (n : Need) (c : ℕ)
+        → (on_circuit (goes_over new old n) c).owed ≡ [] }
+{}

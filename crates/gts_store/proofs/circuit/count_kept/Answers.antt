@@ -1,0 +1,7 @@
+use Rattle.std.proofs.Common.{arith}
+use Rattle.std.proofs.lemmas.List.{length-map}
+use Rattle.gts_store.specs.Entries.{position_in}
+use Rattle.gts_store.proofs.circuit.count_kept.Goals as goal
+
+pub returns : goal.returns
+returns c = omega (arith, length-map c.args.circuit.now.kept.items position_in)
