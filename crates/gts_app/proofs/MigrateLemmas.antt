@@ -7,8 +7,8 @@ use Rattle.gts_traits.specs.Counts.{Rose}
 use Rattle.gts_traits.specs.Station.{Call, Did, Syncs, Files, seen, said_by}
 use Rattle.gts_traits.specs.Moments.{EachSince}
 use Rattle.gts_directory.specs.Directory as directories
-use Rattle.gts_directory.specs.Extending.{Extends, first_change}
-use Rattle.gts_directory.specs.declared.extending.Change.{Change}
+use Rattle.gts_directory.specs.TakingOver.{TakesOver, first_change}
+use Rattle.gts_directory.specs.declared.taking_over.Change.{Change}
 use Rattle.gts_directory.specs.declared.fault.DirFault.{DirFault}
 use Rattle.gts_dirfile.specs.{directory_of_bytes}
 use Rattle.gts_event.specs.State.{State}
@@ -20,7 +20,7 @@ use Rattle.gts_record.specs.declared.fault.OpenFault.TheVariants as opening
 use Rattle.gts_journal.specs.{OnlySyncs}
 use Rattle.gts_opening.specs.Journal.{Opened}
 use Rattle.gts_opening.specs.Room.{full_compacted}
-use Rattle.gts_recovery.specs.Wider.{widened}
+use Rattle.gts_recovery.specs.TakenOver.{goes_over}
 use Rattle.gts_recovery.specs.Opened.{opens_any, files_open_any}
 use Rattle.gts_migrate.specs.Migrating.{OpensEither, IsMigrated, GivesRoomFor, AnswersOpening, WasOpened, LeavesFiles, IsDiskFaultOf}
 use Rattle.gts_migrate.specs.declared.fault.MigrateFault.{MigrateFault}
@@ -78,8 +78,8 @@ new_unread {S} {P} source station status od nd oc at h =
       silent = λ told. refl;
       old_refused = λ tells new e read bad calm. inr (only_memory tells new read calm.0 end);
       changed = λ tells new old c read first calm. inr (only_memory tells new read.0 calm.0 end);
-      answered = λ tells told new old e read extends bad calm quiet. inr (only_memory tells new read.0 calm.0 end);
-      complete = λ tells told new old s used read extends is free calm quiet. inr (only_memory tells new read.0 calm.0 end);
+      answered = λ tells told new old e read takes bad calm quiet. inr (only_memory tells new read.0 calm.0 end);
+      complete = λ tells told new old s used read takes is free calm quiet. inr (only_memory tells new read.0 calm.0 end);
       taken = h.taken;
       old_taken = none_taken source oc;
       counts = (h.cause.later, omega arith, omega arith, refl);
@@ -111,8 +111,8 @@ old_unread {S} {P} source station status d od nd oc nc at first h =
       silent = λ told. refl;
       old_refused = λ tells new e read bad calm. refused tells e bad calm.1 end;
       changed = λ tells new old c read first calm. inr (only_memory tells old read.1 calm.1 end);
-      answered = λ tells told new old e read extends bad calm quiet. inr (only_memory tells old read.1 calm.1 end);
-      complete = λ tells told new old s used read extends is free calm quiet. inr (only_memory tells old read.1 calm.1 end);
+      answered = λ tells told new old e read takes bad calm quiet. inr (only_memory tells old read.1 calm.1 end);
+      complete = λ tells told new old s used read takes is free calm quiet. inr (only_memory tells old read.1 calm.1 end);
       taken = first.taken;
       old_taken = h.taken;
       counts = (first.cause.later, h.cause.later, omega arith, refl);
@@ -161,7 +161,7 @@ module _ {S P : Type 0} (source : SourceMeanings S) (station : StationMeanings P
   never_refused tells e bad = no_fault o e (directory_of_bytes (source.left oc)) (both tells).1 bad
 
   -- a row doesn't stay
-  pub row_changed : (c : Change) (at : P) → first_change d o ≡ Some c → (Extends d o → ⊥) → Migrates source station (Changed c.part c.row) (world od oc at) (world nd nc at)
+  pub row_changed : (c : Change) (at : P) → first_change d o ≡ Some c → (TakesOver d o → ⊥) → Migrates source station (Changed c.part c.row) (world od oc at) (world nd nc at)
   row_changed c at is apart =
       let both_read : UnderBoth source (world od oc at) (λ new old. first_change new old ≡ Some (record { part = c.part; row = c.row })) =
       record { new = d; old = o; read = both; holds = is } in
@@ -175,16 +175,16 @@ module _ {S P : Type 0} (source : SourceMeanings S) (station : StationMeanings P
             ap (λ (x : directories.Directory). first_change x o) (new_is tells new read.0) ∙ ap (first_change new) (old_is tells old read.1) ∙ there in
             let one : c ≡ other = one_change c other (first_change d o) is same in
             inl (ap (λ (x : Change). Changed x.part x.row) one);
-        answered = λ tells told new old e read extends bad calm quiet. absurd (apart_from tells new old read extends);
-        complete = λ tells told new old s used read extends opened free calm quiet. absurd (apart_from tells new old read extends);
+        answered = λ tells told new old e read takes bad calm quiet. absurd (apart_from tells new old read takes);
+        complete = λ tells told new old s used read takes opened free calm quiet. absurd (apart_from tells new old read takes);
         taken = first.taken;
         old_taken = second.taken;
         counts = (first.cause.later, second.cause.later, omega arith, refl);
       }
     where
-      apart_from : source.tells → (new old : directories.Directory) → AreRead source (world od oc at) new old → Extends new old → ⊥
-      apart_from tells new old read extends =
-          apart (subst (λ (x : directories.Directory). Extends d x) (sym (old_is tells old read.1)) (subst (λ (x : directories.Directory). Extends x old) (sym (new_is tells new read.0)) extends))
+      apart_from : source.tells → (new old : directories.Directory) → AreRead source (world od oc at) new old → TakesOver new old → ⊥
+      apart_from tells new old read takes =
+          apart (subst (λ (x : directories.Directory). TakesOver d x) (sym (old_is tells old read.1)) (subst (λ (x : directories.Directory). TakesOver x old) (sym (new_is tells new read.0)) takes))
 
 -- ---- the journal was to be taken over
 
@@ -223,13 +223,13 @@ opened_or_left (Err fault.NoMemory) = inl tt
 pub record Known (tells : Type 0) (d o : directories.Directory) (r : Result (Unit {0}) MigrateFault) (before after : List Call) (disk_before disk_after : ℕ) : Type 0 where
   pub moments : tells → (n : Need) → WasOpened r → opens_any o (seen before) ≡ Ok n → EachSince (Did Syncs ∷ before) after (OpensEither o d n)
   pub migrated : tells → (s : State) (used : ℕ) → files_open_any o (seen before) ≡ Ok (s, used) → OnOk r (IsMigrated o d s before after)
-  pub full : tells → (s : State) (used : ℕ) → files_open_any o (seen before) ≡ Ok (s, used) → GivesRoomFor r d (widened (length d.circuits) s)
+  pub full : tells → (s : State) (used : ℕ) → files_open_any o (seen before) ≡ Ok (s, used) → GivesRoomFor r d (goes_over d o (need o s))
   pub answers : tells → AnswersOpening r (opens_any o (seen before))
   pub told : tells → LeavesFiles r → OnlySyncs before after
   pub disk : IsDiskFaultOf r → Rose disk_before disk_after
 
 module _ {S P : Type 0} (source : SourceMeanings S) (station : StationMeanings P) (d o : directories.Directory) (od nd oc nc : S) (first : ReadsDirectory source (Ok d) od nd) (second : ReadsOldDirectory source (Ok o) oc nc)
-    (extends : Extends d o) (stays : (c : Change) → first_change d o ≡ Some c → ⊥) (old new : P) where
+    (takes : TakesOver d o) (stays : (c : Change) → first_change d o ≡ Some c → ⊥) (old new : P) where
   abbrev Ends : Result (Unit {0}) MigrateFault → Type 0
   Ends r = Known station.tells d o r (station.calls old) (station.calls new) (station.disk_faults old) (station.disk_faults new)
 
@@ -238,7 +238,7 @@ module _ {S P : Type 0} (source : SourceMeanings S) (station : StationMeanings P
 
   refused_by : (e : OpenFault) → (station.tells → opens_any o (seen (station.calls old)) ≡ Err e) → (station.tells → OnlySyncs (station.calls old) (station.calls new))
       → IsRefusedBy source station (world od oc old) (world nd nc new) e
-  refused_by e is told = (record { new = d; old = o; read = read_both; holds = (extends, is) }, told)
+  refused_by e is told = (record { new = d; old = o; read = read_both; holds = (takes, is) }, told)
 
   means : (r : Result (Unit {0}) MigrateFault) → Ends r → MigratedAs source station (status_migrated r) (world od oc old) (world nd nc new)
   means (Ok done) e = record {
@@ -246,7 +246,7 @@ module _ {S P : Type 0} (source : SourceMeanings S) (station : StationMeanings P
     old = o;
     read = read_both;
     holds = record {
-      extends = extends;
+      takes = takes;
       opened = λ t.
           let x = files_of o (seen (station.calls old)) (e.answers t).0 (e.answers t).1 in
           (x.0, x.1, x.2, e.migrated t x.0 x.1 x.2);
@@ -264,7 +264,7 @@ module _ {S P : Type 0} (source : SourceMeanings S) (station : StationMeanings P
       old = o;
       read = read_both;
       holds = record {
-        extends = extends;
+        takes = takes;
         opened = λ t.
             let x = files_of o (seen (station.calls old)) (e.answers t).0 (e.answers t).1 in
             (x.0, x.1, x.2, e.full t x.0 x.1 x.2);
@@ -291,7 +291,7 @@ module _ {S P : Type 0} (source : SourceMeanings S) (station : StationMeanings P
 
   -- with room and without faults it is done
   complete : (r : Result (Unit {0}) MigrateFault) → Ends r → station.tells → (s : State) (used : ℕ) → files_open_any o (seen (station.calls old)) ≡ Ok (s, used)
-      → full_compacted d (widened (length d.circuits) s) ≡ None
+      → full_compacted d (goes_over d o (need o s)) ≡ None
       → (Rose (station.disk_faults old) (station.disk_faults new) → ⊥) → (status_migrated r ≡ Done) ⊎ (status_migrated r ≡ NoMemory)
   complete (Ok done) x t s used is free quiet = inl refl
   complete (Err (fault.Open opening.NoJournal)) x t s used is free quiet = absurd (two_answers (need o (restarted o s)) opening.NoJournal _ (need_of o (seen (station.calls old)) s used is) (x.answers t).0)
@@ -337,7 +337,8 @@ module _ {S P : Type 0} (source : SourceMeanings S) (station : StationMeanings P
             let same = new_is source station d o od nd oc nc first second tells other read.0 in
             let so = old_is source station d o od nd oc nc first second tells under read.1 in
             complete r x t s used (subst (λ (y : directories.Directory). files_open_any y (seen (station.calls old)) ≡ Ok (s, used)) (sym so) opened)
-            (subst (λ (y : directories.Directory). full_compacted y (widened (length y.circuits) s) ≡ None) (sym same) free) quiet;
+            (subst (λ (y : directories.Directory). full_compacted d (goes_over d y (need y s)) ≡ None) (sym so)
+            (subst (λ (y : directories.Directory). full_compacted y (goes_over y under (need under s)) ≡ None) (sym same) free)) quiet;
         taken = first.taken;
         old_taken = second.taken;
         counts = (first.cause.later, second.cause.later, later, say);

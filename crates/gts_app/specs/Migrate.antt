@@ -6,19 +6,19 @@ use Rattle.gts_traits.specs.declared.station.Station.{Ghosts as StationMeanings}
 use Rattle.gts_traits.specs.Counts.{Rose}
 use Rattle.gts_traits.specs.{Did, Syncs, seen, said_by, EachSince}
 use Rattle.gts_directory.specs.Directory as directories
-use Rattle.gts_directory.specs.Extending.{Extends, first_change}
-use Rattle.gts_directory.specs.declared.extending.Change.{Change}
+use Rattle.gts_directory.specs.TakingOver.{TakesOver, first_change}
+use Rattle.gts_directory.specs.declared.taking_over.Change.{Change}
 use Rattle.gts_directory.specs.declared.fault.DirFault.{DirFault}
 use Rattle.gts_dirfile.specs.declared.limits.TheConstants.{LONGEST_DIRECTORY}
 use Rattle.gts_dirfile.specs.{directory_of_bytes}
 use Rattle.gts_event.specs.State.{State}
-use Rattle.gts_event.specs.Need.{Need}
+use Rattle.gts_event.specs.Need.{Need, need}
 use Rattle.gts_event.specs.declared.fault.SwitchFault.TheVariants as switch
 use Rattle.gts_record.specs.declared.fault.OpenFault.{OpenFault}
 use Rattle.gts_record.specs.declared.fault.OpenFault.TheVariants as opening
 use Rattle.gts_journal.specs.{OnlySyncs}
 use Rattle.gts_opening.specs.Room.{full_compacted}
-use Rattle.gts_recovery.specs.Wider.{widened}
+use Rattle.gts_recovery.specs.TakenOver.{goes_over}
 use Rattle.gts_recovery.specs.Opened.{opens_any, files_open_any}
 use Rattle.gts_engine.specs.Keeping.{IsFullCompacted}
 use Rattle.gts_migrate.specs.Migrating.{OpensEither, IsMigrated}
@@ -50,20 +50,21 @@ pub record UnderBoth {S P : Type 0} (source : SourceMeanings S) (w : World S S P
   pub read : source.tells → AreRead source w new old
   pub holds : OfThem new old
 
--- The new directory extends the old one, and where the station tells, the files open to a state under that, of which this holds.
+-- The new directory takes over from the old one, and where the station tells, the files open to a state under that, of which
+-- this holds.
 pub record OpensUnder {S P : Type 0} (station : StationMeanings P) (w : World S S P) (new old : directories.Directory)
     (OfIt : State → Type 0) : Type 0 where
-  pub extends : Extends new old
+  pub takes : TakesOver new old
   pub opened : station.tells → (s : State) × (used : ℕ) × (files_open_any old (seen (station.calls w.station)) ≡ Ok (s, used)) × OfIt s
 
 -- the files are left alone, but for a sync that was tried
 abbrev pub IsLeftAlone : {S P : Type 0} → StationMeanings P → World S S P → World S S P → Type 0
 IsLeftAlone station w v = station.tells → OnlySyncs (station.calls w.station) (station.calls v.station)
 
--- Under the old directory, which the new one extends, the files open to this fault, and are left alone.
+-- Under the old directory, from which the new one takes over, the files open to this fault, and are left alone.
 abbrev pub IsRefusedBy : {S P : Type 0} → SourceMeanings S → StationMeanings P → World S S P → World S S P → OpenFault → Type 0
 IsRefusedBy source station w v e =
-    UnderBoth source w (λ new old. Extends new old × (station.tells → opens_any old (seen (station.calls w.station)) ≡ Err e))
+    UnderBoth source w (λ new old. TakesOver new old × (station.tells → opens_any old (seen (station.calls w.station)) ≡ Err e))
     × IsLeftAlone station w v
 
 -- the station was not touched, and the old directory's bytes have this fault
@@ -88,7 +89,7 @@ MigratedAs source station (NotThis want found) w v = IsRefusedBy source station 
 MigratedAs source station (Damaged file at) w v = IsRefusedBy source station w v (opening.Damaged file at)
 MigratedAs source station (Full used need limit) w v =
     UnderBoth source w (λ new old. OpensUnder station w new old
-    (λ s. IsFullCompacted new (widened (length new.circuits) s) (switch.Full used need limit)))
+    (λ s. IsFullCompacted new (goes_over new old (need old s)) (switch.Full used need limit)))
     × IsLeftAlone station w v
 MigratedAs source station DiskFault w v = Rose (station.disk_faults w.station) (station.disk_faults v.station)
 MigratedAs source station SourceFault w v =
@@ -97,7 +98,8 @@ MigratedAs source station SourceFault w v =
 MigratedAs source station NoMemory w v = IsLeftAlone station w v
 MigratedAs source station _ w v = ⊥
 
--- at most a sync was tried; or since a sync that was done each moment opens under the old directory or, wider, under the new one
+-- at most a sync was tried; or since a sync that was done each moment opens under the old directory, or under the new one to
+-- what that takes over
 abbrev pub LeavesJournal : {S P : Type 0} → StationMeanings P → World S S P → World S S P
     → directories.Directory → directories.Directory → Need → Type 0
 LeavesJournal station w v new old n =
@@ -129,12 +131,12 @@ pub record Migrates {S P : Type 0} (source : SourceMeanings S) (station : Statio
   pub changed : source.tells → (new old : directories.Directory) (c : Change) → AreRead source w new old → first_change new old ≡ Some c
       → IsCalm source w v → (status ≡ Changed c.part c.row) ⊎ (status ≡ NoMemory)
   pub answered : source.tells → station.tells → (new old : directories.Directory) (e : OpenFault) → AreRead source w new old
-      → Extends new old → opens_any old (seen (station.calls w.station)) ≡ Err e → IsCalm source w v
+      → TakesOver new old → opens_any old (seen (station.calls w.station)) ≡ Err e → IsCalm source w v
       → (Rose (station.disk_faults w.station) (station.disk_faults v.station) → ⊥) → (status ≡ refusal e) ⊎ (status ≡ NoMemory)
   -- where the files open, and there is room, and no device fails, it is done, but for memory
   pub complete : source.tells → station.tells → (new old : directories.Directory) (s : State) (used : ℕ) → AreRead source w new old
-      → Extends new old → files_open_any old (seen (station.calls w.station)) ≡ Ok (s, used)
-      → full_compacted new (widened (length new.circuits) s) ≡ None → IsCalm source w v
+      → TakesOver new old → files_open_any old (seen (station.calls w.station)) ≡ Ok (s, used)
+      → full_compacted new (goes_over new old (need old s)) ≡ None → IsCalm source w v
       → (Rose (station.disk_faults w.station) (station.disk_faults v.station) → ⊥) → (status ≡ Done) ⊎ (status ≡ NoMemory)
   -- what is read, and that no count falls
   pub taken : ReadsFew source w.directory v.directory

@@ -93,7 +93,7 @@ fn a_directory_gives_its_rows(rt: HostRuntime) -> Result<(), Fail> {
 }
 
 /// The same with a circuit more, and a rule for it.
-fn extended(alloc: Global) -> Result<DirRows, Fail> {
+fn grown(alloc: Global) -> Result<DirRows, Fail> {
     let mut rows = three_circuits(alloc)?;
     rows.add_circuit(circuit(b'D', *b"DDDD", 3))?;
     rows.add_rule(RuleRow {
@@ -104,15 +104,15 @@ fn extended(alloc: Global) -> Result<DirRows, Fail> {
 }
 
 #[test]
-fn a_directory_extends_what_it_goes_on_from(rt: HostRuntime) -> Result<(), Fail> {
+fn a_directory_takes_over_from_what_it_goes_on_from(rt: HostRuntime) -> Result<(), Fail> {
     let old = Directory::check(three_circuits(rt.alloc())?)?;
-    let new = Directory::check(extended(rt.alloc())?)?;
-    assert_eq!(rt; new.extends(&old), Ok(()));
+    let new = Directory::check(grown(rt.alloc())?)?;
+    assert_eq!(rt; new.takes_over(&old), Ok(()));
     let change = Change {
         part: Part::Circuit,
         row: 3,
     };
-    assert_eq!(rt; old.extends(&new), Err(change));
+    assert_eq!(rt; old.takes_over(&new), Err(change));
     let said = change.to_string(rt.alloc())?;
     assert_eq!(rt; said.as_str(), "changed in circuit row 3");
     Ok(())

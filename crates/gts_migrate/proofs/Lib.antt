@@ -1,1 +1,2 @@
+mod BringingLemmas
 mod MigratingLemmas

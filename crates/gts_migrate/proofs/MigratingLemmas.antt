@@ -1,28 +1,22 @@
 -- A journal is taken over: what a crash leaves meanwhile, and what the files open to then.
 use Rattle.std.proofs.Common.{◌≡◌, ◌≢◌, ◌⊎◌, inl, inr, ℕ, zero, suc, ◌+◌, ◌-◌, ◌*◌, ◌^◌, ◌<◌, ◌≤◌, true, List, [], ◌∷◌, ◌++◌, length, map, replicate, None, Result, Ok, Err, refl, sym, ap, subst, ◌∙◌, arith}
 use Rattle.std.specs.Prelude.{OnOk, IfErr, IsErrOf}
-use Rattle.std.specs.List.{sum_by}
 use Rattle.std.proofs.lemmas.Bool.{cases_eq}
 use Rattle.std.proofs.Math.Nat.{add-mul}
-use Rattle.std.proofs.lemmas.List.Sums.{sum_by-cons}
-use Rattle.std.proofs.lemmas.List.{length-map, append-nil, append_assoc, map-append}
+use Rattle.std.proofs.lemmas.List.{append-nil}
 use Rattle.gts_traits.specs.Calls.{Call, Did, Syncs, Outside, said_by}
 use Rattle.gts_traits.specs.Disk.{Files, seen}
 use Rattle.gts_traits.specs.Counts.{Rose}
 use Rattle.gts_traits.specs.Moments.{EachSince}
 use Rattle.gts_traits.proofs.LawLemmas.{weaker, started, joined, synced_image}
 use Rattle.gts_directory.specs.Directory.{Directory}
-use Rattle.gts_directory.specs.Extending.{Extends}
-use Rattle.gts_event.specs.State.{State, CircuitState, idle, waiting}
+use Rattle.gts_directory.specs.TakingOver.{TakesOver}
+use Rattle.gts_event.specs.State.{State}
 use Rattle.gts_event.specs.History.{restarted}
-use Rattle.gts_event.specs.Items.{circuit_need_of, need_of}
-use Rattle.gts_event.specs.declared.values.CircuitNeed as value_circuit
-use Rattle.gts_event.specs.declared.values.Need as values
-use Rattle.gts_event.specs.Need.{Need, CircuitNeed, unused, IsOrdered, need, begun, begun_circuit, is_sound}
-use Rattle.gts_recovery.specs.Wider.{wider, widened}
-use Rattle.gts_event.specs.declared.event.Entry.TheVariants.{Restarted}
-use Rattle.gts_event.proofs.LawLemmas.{ordered-begun, ordered-all, restarted-again, sound-held}
-use Rattle.gts_recovery.proofs.LawLemmas.{ordered-widened, need-widened, restarted-widened, sound-wider}
+use Rattle.gts_event.specs.Need.{Need, keeps_one, need, begun, is_sound}
+use Rattle.gts_recovery.specs.TakenOver.{goes_over, taken_over}
+use Rattle.gts_event.proofs.LawLemmas.{restarted-left, sound-held}
+use Rattle.gts_recovery.proofs.LawLemmas.{held-over, sound-over, over-restarted}
 use Rattle.gts_record.specs.Record.{closed_gate}
 use Rattle.gts_record.specs.declared.version.Version.{Version}
 use Rattle.gts_record.specs.declared.fault.OpenFault.{OpenFault}
@@ -34,69 +28,11 @@ use Rattle.gts_checkpoint.specs.Alone.{LeavesOthers, WorksBeside}
 use Rattle.gts_checkpoint.specs.Writing.{HasWritten, checkpoint_file}
 use Rattle.gts_journal.specs.{InHand, StandsOn, LeavesBoth, OnlySyncs, version_of, selected_bytes, selecting as selecting_at}
 use Rattle.gts_journal.proofs.LawLemmas.{both_left, file_low}
-use Rattle.gts_core.specs.Core.{Core, Holds, Needs}
-use Rattle.gts_recovery.specs.Opened.{IsOpenedAny, opens_any, files_open_any}
+use Rattle.gts_core.specs.Core.{Core, Needs}
+use Rattle.gts_recovery.specs.Opened.{IsOpenedAny, StandsForAny, opens_any, files_open_any}
 use Rattle.gts_migrate.specs.declared.fault.MigrateFault.{MigrateFault}
 use Rattle.gts_migrate.specs.declared.fault.MigrateFault.TheVariants.{Open, Full, DiskFault, NoMemory}
-use Rattle.gts_migrate.specs.Migrating.{opened_wider, OpensEither, GivesRoomFor, AnswersOpening, LeavesFiles, IsDiskFaultOf, IsWriteFaultOf, IsMigrated, HasFewDue, IsWide, CanMigrate, FitsFor}
-
--- ---- needs and states with further circuits
-
-idle_begun : (k : ℕ) → map begun_circuit (replicate k unused) ≡ replicate k idle
-idle_begun zero = refl
-idle_begun (suc k) = ap (λ (qs : List CircuitState). idle ∷ qs) (idle_begun k)
-
-circuits_begun : (cs : List CircuitNeed) (k : ℕ) → map begun_circuit (cs ++ replicate k unused) ≡ map begun_circuit cs ++ replicate k idle
-circuits_begun [] k = idle_begun k
-circuits_begun (c ∷ cs) k = ap (λ (qs : List CircuitState). begun_circuit c ∷ qs) (circuits_begun cs k)
-
-begun-wider : (k : ℕ) (n : Need) → begun (wider k n) ≡ widened k (begun n)
-begun-wider k n =
-    ap (λ (qs : List CircuitState). record { count = n.accepted; accepted = n.bulletins; circuits = qs })
-    (circuits_begun n.circuits (k - length n.circuits)
-    ∙ ap (λ (m : ℕ). map begun_circuit n.circuits ++ replicate (k - m) idle) (sym (length-map n.circuits begun_circuit)))
-
--- nothing is due on the further circuits
-due_idle : (k : ℕ) → sum_by (λ (q : CircuitState). length (waiting q)) (replicate k idle) ≡ 0
-due_idle zero = refl
-due_idle (suc k) = due_idle k
-
-due_more : (qs : List CircuitState) (k : ℕ) → sum_by (λ (q : CircuitState). length (waiting q)) (qs ++ replicate k idle) ≡ sum_by (λ (q : CircuitState). length (waiting q)) qs
-due_more [] k = due_idle k
-due_more (q ∷ qs) k =
-    let f : CircuitState → ℕ = λ x. length (waiting x) in
-    sum_by-cons f q (qs ++ replicate k idle) ∙ ap (λ (m : ℕ). length (waiting q) + m) (due_more qs k) ∙ sym (sum_by-cons f q qs)
-
-pub due-widened : (k : ℕ) (s : State) → due (widened k s) ≡ due s
-due-widened k s = due_more s.circuits (k - length s.circuits)
-
--- ---- circuits are added, one by one
-
--- a need with so many further circuits
-pub record HasMore (start : Need) (k : ℕ) (n : Need) : Type 0 where
-  pub is : n ≡ record start { circuits = start.circuits ++ replicate k unused }
-
-pub none_more : (n : Need) → HasMore n 0 n
-none_more n = record { is = ap (λ (cs : List CircuitNeed). record n { circuits = cs }) (sym (append-nil n.circuits)) }
-
-one_behind : (k : ℕ) → replicate k unused ++ unused ∷ [] ≡ replicate (k + 1) unused
-one_behind zero = refl
-one_behind (suc k) =
-    let next : suc (k + 1) ≡ suc k + 1 = omega arith in
-    ap (λ (cs : List CircuitNeed). unused ∷ cs) (one_behind k) ∙ ap (λ (m : ℕ). replicate m unused) next
-
-pub one_more : (start : Need) (k : ℕ) (old new : values.Need) (c : value_circuit.CircuitNeed) → HasMore start k (need_of old) → circuit_need_of c ≡ unused
-    → new ≡ record old { circuits = old.circuits ++ c ∷ [] } → HasMore start (k + 1) (need_of new)
-one_more start k old new c more is pushed =
-    let grown : map circuit_need_of (old.circuits ++ c ∷ []) ≡ map circuit_need_of old.circuits ++ unused ∷ [] =
-    map-append circuit_need_of old.circuits (c ∷ []) ∙ ap (λ (u : CircuitNeed). map circuit_need_of old.circuits ++ u ∷ []) is in
-    record {
-      is = ap need_of pushed
-          ∙ ap (λ (cs : List CircuitNeed). record (need_of old) { circuits = cs }) grown
-          ∙ ap (λ (n : Need). record n { circuits = n.circuits ++ unused ∷ [] }) more.is
-          ∙ ap (λ (cs : List CircuitNeed). record start { circuits = cs })
-          (append_assoc start.circuits (replicate k unused) (unused ∷ []) ∙ ap (λ (cs : List CircuitNeed). start.circuits ++ cs) (one_behind k));
-    }
+use Rattle.gts_migrate.specs.Migrating.{OpensEither, GivesRoomFor, AnswersOpening, LeavesFiles, IsDiskFaultOf, IsWriteFaultOf, IsMigrated, HasFewDue, IsBrought, CanMigrate, FitsFor}
 
 -- ---- what files open to
 
@@ -108,14 +44,25 @@ opens_from v d files s used e =
 pub opens_to_need : (d : Directory) (files : Files) (s : State) (used : ℕ) → files_open_any d files ≡ Ok (s, used) → opens_any d files ≡ Ok (need d (restarted d s))
 opens_to_need d files s used e = opens_from (version_of (selected_bytes files)) d files s used e
 
+-- files of which the old one is selected
+opens_old_at : (old : Directory) (s : State) (calls : List Call) (j : InHand) → StandsForAny old s calls j
+    → (files : Files) → selected files ≡ j.file → files j.file ≡ seen calls j.file → opens_any old files ≡ Ok (need old (restarted old s))
+opens_old_at old s calls j g files at same =
+    let version_here : version_of (seen calls j.file) ≡ j.version =
+    ap (λ (k : ℕ). version_of (seen calls k)) (sym g.stands.selected_is) ∙ sym g.version_is in
+    let file_here : file_opens j.version old j.file (seen calls j.file) ≡ Ok (s, j.gate + 1, j.seal) =
+    ap (λ (k : ℕ). file_opens j.version old k (seen calls k)) (sym g.stands.selected_is) ∙ g.opens_to in
+    let bytes : selected_bytes files ≡ seen calls j.file = ap files at ∙ same in
+    let version : version_of (selected_bytes files) ≡ j.version = ap version_of bytes ∙ version_here in
+    let read : files_read j.version old files ≡ Ok (s, j.gate + 1, j.seal) =
+    ap (λ (k : ℕ). file_opens j.version old k (files k)) at ∙ ap (file_opens j.version old j.file) same ∙ file_here in
+    ap (λ (v : Version). opens_in v old files) version ∙ opens_from j.version old files s (j.gate + 1) (ap opened_of read)
+
 -- ---- while the journal is taken over
 
 module _ (old new : Directory) (s : State) (n : Need) (calls : List Call) (j : InHand) (g : CanMigrate old new s n calls j) (low : j.file < 2) where
-  abbrev count : ℕ
-  count = length new.circuits
-
-  abbrev wide_need : Need
-  wide_need = opened_wider new (need old (restarted old s))
+  abbrev over : Need
+  over = taken_over new old (need old (restarted old s))
 
   -- the other file
   abbrev other : ℕ
@@ -130,20 +77,8 @@ module _ (old new : Directory) (s : State) (n : Need) (calls : List Call) (j : I
   stands : StandsOn calls j
   stands = g.stands.stands
 
-  version_here : version_of (seen calls j.file) ≡ j.version
-  version_here = ap (λ (k : ℕ). version_of (seen calls k)) (sym stands.selected_is) ∙ sym g.stands.version_is
-
-  file_here : file_opens j.version old j.file (seen calls j.file) ≡ Ok (s, j.gate + 1, j.seal)
-  file_here = ap (λ (k : ℕ). file_opens j.version old k (seen calls k)) (sym stands.selected_is) ∙ g.stands.opens_to
-
-  -- files of which the old one is selected
   opens_old : (files : Files) → selected files ≡ j.file → files j.file ≡ seen calls j.file → opens_any old files ≡ Ok (need old (restarted old s))
-  opens_old files at same =
-      let bytes : selected_bytes files ≡ seen calls j.file = ap files at ∙ same in
-      let version : version_of (selected_bytes files) ≡ j.version = ap version_of bytes ∙ version_here in
-      let read : files_read j.version old files ≡ Ok (s, j.gate + 1, j.seal) =
-      ap (λ (k : ℕ). file_opens j.version old k (files k)) at ∙ ap (file_opens j.version old j.file) same ∙ file_here in
-      ap (λ (v : Version). opens_in v old files) version ∙ opens_from j.version old files s (j.gate + 1) (ap opened_of read)
+  opens_old = opens_old_at old s calls j g.stands
 
   -- while the other file is written
   pub writing : (mid : List Call) → WorksBeside other calls mid → EachSince calls mid (OpensEither old new (need old (restarted old s)))
@@ -155,25 +90,17 @@ module _ (old new : Directory) (s : State) (n : Need) (calls : List Call) (j : I
             (left.others j.file not_other stands.file_synced)),
       )) beside.moments
 
-  -- the state under the new directory
-  order : IsOrdered new (widened count s)
-  order = ordered-widened new old s g.extends g.ordered
-
-  -- opened again, the wider need is the wider one of what the files open to, opened again
-  again : need new (restarted new (begun (unowed n))) ≡ wide_need
+  -- opened again, the need under the new directory is what that takes over of what the files open to
+  again : need new (restarted (begun (unowed n))) ≡ over
   again =
-      let m : Need = need old s in
-      ap (need new) (restarted-unowed new n)
-      ∙ ap (λ (x : Need). need new (restarted new (begun x))) g.wide
-      ∙ ap (λ (x : State). need new (restarted new x)) (begun-wider count m)
-      ∙ ap (need new) (sym (restarted-widened new old count (begun m)))
-      ∙ ap (λ (x : State). need new (restarted new (widened count x))) (sym (restarted-again old s))
-      ∙ ap (need new) (restarted-widened new old count (begun (need old (restarted old s))))
-      ∙ ap (λ (x : State). need new (restarted new x)) (sym (begun-wider count (need old (restarted old s))))
+      ap (need new) (restarted-unowed n)
+      ∙ ap (λ (x : Need). need new (restarted (begun x))) g.brought
+      ∙ restarted-left new (goes_over new old (need old s)) g.keeps
+      ∙ ap (λ (x : State). need new (restarted x)) (sym (over-restarted new old s))
 
   module _ (mid : List Call) (beside : WorksBeside other calls mid) (wrote : HasWritten new.mark n other mid) (fits : FitsFor new n) (long : length new.mark ≡ 32) (limit : new.limit < 256 ^ 4) where
     -- files of which the other one is selected
-    opens_new : (files : Files) → selected files ≡ other → files other ≡ seen mid other → opens new files ≡ Ok wide_need
+    opens_new : (files : Files) → selected files ≡ other → files other ≡ seen mid other → opens new files ≡ Ok over
     opens_new files at same =
         checkpoint_opened written new files n [] closed_gate [] long limit fits.sound fits.room tt refl (ap files at ∙ same ∙ wrote.text)
         ∙ ap {A = Need} (λ m. Ok m) again
@@ -182,7 +109,7 @@ module _ (old new : Directory) (s : State) (n : Need) (calls : List Call) (j : I
     choosing : (last : List Call) → EachSince mid last (LeavesBoth mid) → EachSince mid last (OpensEither old new (need old (restarted old s)))
     choosing last each = weaker (LeavesBoth mid) (OpensEither old new (need old (restarted old s))) mid last (λ files outside left. (left.silent, by_choice files outside left)) each
       where
-        by_choice : (files : Files) (outside : Outside) → LeavesBoth mid files outside → (opens_any old files ≡ Ok (need old (restarted old s))) ⊎ (opens new files ≡ Ok wide_need)
+        by_choice : (files : Files) (outside : Outside) → LeavesBoth mid files outside → (opens_any old files ≡ Ok (need old (restarted old s))) ⊎ (opens new files ≡ Ok over)
         by_choice files outside left = elim (cases_eq (selected files) j.file) [
           | inl at ↦ inl (opens_old files at (both_left mid files left j.file low ∙ beside.seen j.file not_other))
           | inr elsewhere ↦
@@ -205,10 +132,7 @@ module _ (old new : Directory) (s : State) (n : Need) (calls : List Call) (j : I
         let other_not : other ≢ 2 = λ e. omega (arith, e) in
         record {
           other = λ e. not_other (sym stands.selected_is ∙ sym e ∙ chosen);
-          stays =
-              ap (seen last) stands.selected_is ∙ files j.file (λ e. omega (arith, e, low)) ∙ beside.seen j.file not_other
-              ∙ sym (ap (seen calls) stands.selected_is);
-          text = ap (seen last) chosen ∙ files other other_not ∙ wrote.text ∙ ap (checkpoint_file new.mark) g.wide;
+          text = ap (seen last) chosen ∙ files other other_not ∙ wrote.text ∙ ap (checkpoint_file new.mark) g.brought;
           opened = λ image left.
               let selector : image 2 ≡ seen last 2 = synced_image last 2 image there.selector_synced left in
               let bytes : image place.file ≡ seen last place.file = synced_image last place.file image there.file_synced left in
@@ -218,7 +142,7 @@ module _ (old new : Directory) (s : State) (n : Need) (calls : List Call) (j : I
 
 -- ---- once the journal was opened
 
-module _ (tells : Type 0) (old new : Directory) (extends : Extends new old) (mid : List Call) (core : Core) (j : InHand) (g : IsOpenedAny tells old mid core j) where
+module _ (tells : Type 0) (old new : Directory) (takes : TakesOver new old) (mid : List Call) (core : Core) (j : InHand) (g : IsOpenedAny tells old mid core j) where
   sound_need : is_sound old (need old g.state) ≡ true
   sound_need = sound-held old g.state g.kept.few g.kept.held
 
@@ -227,31 +151,29 @@ module _ (tells : Type 0) (old new : Directory) (extends : Extends new old) (mid
     state = g.state;
     holds = g.kept.holds;
     few = omega (arith, limit, g.kept.room, add-mul 24 (seal_size j.version) (due g.state));
+    sound = sound_need;
   }
 
-  pub fits_for : (n : Need) → IsWide old new core n → full_compacted new (widened (length new.circuits) g.state) ≡ None → FitsFor new n
-  fits_for n wide free =
-      let s : State = g.state in
-      let count : ℕ = length new.circuits in
-      let order : IsOrdered old s = g.kept.held.ordered in
-      let is : need new (widened count s) ≡ n = need-widened new old s extends order ∙ sym (wide s g.kept.holds) in
-      let room : compacted_bytes written (need new (widened count s)) + draw_size written * due (widened count s) ≤ new.limit = room_for new (widened count s) free in
-      let same : due (begun (need new (widened count s))) ≡ due (widened count s) = due-left new (widened count s) (ordered-widened new old s extends order).circuits in
-      let fits : compacted_bytes written (need new (widened count s)) + draw_size written * due (begun (need new (widened count s))) ≤ new.limit =
+  pub fits_for : (n : Need) → IsBrought old new core n → full_compacted new (goes_over new old (need old g.state)) ≡ None → FitsFor new n
+  fits_for n brought free =
+      let t : State = goes_over new old (need old g.state) in
+      let is : need new t ≡ n = sym (brought g.state g.kept.holds) in
+      let room : compacted_bytes written (need new t) + draw_size written * due t ≤ new.limit = room_for new t free in
+      let same : due (begun (need new t)) ≡ due t = due-left new t (held-over new old (need old g.state) takes sound_need).ordered.circuits in
+      let fits : compacted_bytes written (need new t) + draw_size written * due (begun (need new t)) ≤ new.limit =
       omega (arith, room, ap (λ (k : ℕ). draw_size written * k) same) in
       record {
-        sound = ap (is_sound new) (wide s g.kept.holds) ∙ sound-wider new old (need old s) extends sound_need;
+        sound = ap (is_sound new) (sym is) ∙ sound-over new old (need old g.state) takes sound_need;
         room = subst (λ (m : Need). compacted_bytes written m + draw_size written * due (begun m) ≤ new.limit) is fits;
       }
 
-  pub can_migrate : (n : Need) → IsWide old new core n → tells → CanMigrate old new g.state n mid j
-  can_migrate n wide tell = record {
-    extends = extends;
+  pub can_migrate : (n : Need) → IsBrought old new core n → keeps_one new ≡ true → tells → CanMigrate old new g.state n mid j
+  can_migrate n brought keeps tell = record {
+    takes = takes;
     stands = g.stands tell;
-    keeps = g.kept.holds.keeps;
-    ordered = g.kept.held.ordered;
+    keeps = keeps;
     sound = sound_need;
-    wide = wide g.state g.kept.holds;
+    brought = brought g.state g.kept.holds;
   }
 
   module _ (tell : tells) (before : List Call) (synced : mid ≡ Did Syncs ∷ before) where
@@ -283,31 +205,17 @@ module _ (tells : Type 0) (old new : Directory) (extends : Extends new old) (mid
     pub at_rest : EachSince (Did Syncs ∷ before) mid (OpensEither old new (need old (restarted old g.state)))
     at_rest =
         let stands : StandsOn mid j = (g.stands tell).stands in
-        let n : Need = wider (length new.circuits) (need old g.state) in
-        let can : CanMigrate old new g.state n mid j = record {
-          extends = extends;
-          stands = g.stands tell;
-          keeps = g.kept.holds.keeps;
-          ordered = g.kept.held.ordered;
-          sound = sound_need;
-          wide = refl;
-        } in
-        subst (λ (calls : List Call). EachSince calls mid (OpensEither old new (need old (restarted old g.state)))) synced
-        (started mid (OpensEither old new (need old (restarted old g.state))) (λ files image. (
+        subst (λ (calls : List Call). EachSince calls mid (OpensEither old new (need old (restarted g.state)))) synced
+        (started mid (OpensEither old new (need old (restarted g.state))) (λ files image. (
           refl,
-          inl (opens_old old new g.state n mid j can (file_low mid j stands) files
+          inl (opens_old_at old g.state mid j (g.stands tell) files
               (ap (λ (l : List ℕ). selected (λ _. l)) (synced_image mid 2 files stands.selector_synced image) ∙ stands.selected_is)
               (synced_image mid j.file files stands.file_synced image)),
         )))
 
--- the wider need is that of the state under the new directory
-pub wide_is : (old new : Directory) (core : Core) (s : State) (n : Need) → Extends new old → Holds old core s → n ≡ wider (length new.circuits) (need old s) → n ≡ need new (widened (length new.circuits) s)
-wide_is old new core s n extends holds wide = wide ∙ sym (need-widened new old s extends holds.need.second)
-
--- a need that was made wider is the wide one of each state
-pub wide_from : (old new : Directory) (core : Core) (narrow wide : Need) (circuits : ℕ) → Needs core narrow → circuits ≡ length new.circuits → wide ≡ wider circuits narrow → IsWide old new core wide
-wide_from old new core narrow wide circuits needs counted made s holds =
-    made ∙ ap (λ (k : ℕ). wider k narrow) counted ∙ ap (wider (length new.circuits)) (needs old s holds)
+-- what was brought of the need of a core is brought of each state that it holds
+pub brought_from : (old new : Directory) (core : Core) (n over : Need) → Needs core n → over ≡ need new (goes_over new old n) → IsBrought old new core over
+brought_from old new core n over needs made s holds = made ∙ ap (λ (m : Need). need new (goes_over new old m)) (needs old s holds)
 
 -- ---- by the answer, once the checkpoint was to be written
 

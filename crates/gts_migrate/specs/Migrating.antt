@@ -1,14 +1,14 @@
--- A journal is taken over: it goes on under a directory that extends its own.
+-- A journal is taken over: it goes on under a directory that takes over from its own.
 use Rattle.std.specs.Prelude.{◌≡◌, ◌≢◌, ◌⊎◌, ◌+◌, ◌*◌, ◌^◌, ◌<◌, ◌≤◌, List, [], ◌∷◌, length, None, Result, Ok, Err, IsTrue}
 use Rattle.gts_traits.specs.{Did, Syncs, EachSince}
 use Rattle.gts_traits.specs.Calls.{Call, Outside}
 use Rattle.gts_traits.specs.Disk.{Files, IsImage, seen}
 use Rattle.gts_directory.specs.Directory.{Directory}
-pub use Rattle.gts_directory.specs.Extending.{Extends}
+pub use Rattle.gts_directory.specs.TakingOver.{TakesOver}
 pub use Rattle.gts_event.specs.State.{State}
 pub use Rattle.gts_event.specs.History.{restarted}
 use Rattle.gts_event.specs.Need.{Need, IsOrdered, begun, need, is_sound, keeps_one}
-pub use Rattle.gts_recovery.specs.Wider.{wider, widened}
+pub use Rattle.gts_recovery.specs.TakenOver.{goes_over, taken_over}
 use Rattle.gts_event.specs.declared.fault.SwitchFault.TheVariants as switch
 use Rattle.gts_core.specs.Core.{Core, Holds}
 use Rattle.gts_record.specs.Format.{draw_size, written}
@@ -36,34 +36,30 @@ abbrev pub write_fault : WriteFault → MigrateFault
 write_fault writes.DiskFault = DiskFault
 write_fault writes.NoMemory = NoMemory
 
--- what files that opened to a need open to under a directory that extends theirs: the wider need, opened again, so that each
--- circuit is owed its last draws as its new row says
-abbrev pub opened_wider : Directory → Need → Need
-opened_wider new n = need new (restarted new (begun (wider (length new.circuits) n)))
-
--- Nothing is said; and the files open under the old directory, in either version, to this need, or under the new one to the
--- wider need, opened again.
+-- Nothing is said; and the files open under the old directory, in either version, to this need, or under the new one to what
+-- that takes over of it.
 abbrev pub OpensEither : Directory → Directory → Need → Files → Outside → Type 0
 OpensEither old new n files outside =
-    (outside ≡ []) × ((opens_any old files ≡ Ok n) ⊎ (opens new files ≡ Ok (opened_wider new n)))
+    (outside ≡ []) × ((opens_any old files ≡ Ok n) ⊎ (opens new files ≡ Ok (taken_over new old n)))
 
 -- Nothing is said; and the files open to the need of this state, opened again.
 abbrev pub OpensEitherAt : Directory → Directory → State → Files → Outside → Type 0
 OpensEitherAt old new s = OpensEither old new (need old (restarted old s))
 
 -- Where the files opened under the old directory to this need, a crash at any moment since the sync of the opening leaves files
--- that open so, or wider.
+-- that open so, or to what the new directory takes over of it.
 abbrev pub StaysEither : Directory → Directory → Need → (before after : List Call) → Type 0
 StaysEither old new n before after =
     opens_any old (seen before) ≡ Ok n → EachSince (Did Syncs ∷ before) after (OpensEither old new n)
 
--- The other file is selected, and the one before stays as it is. The other one is the checkpoint of the wider need alone, under the
--- mark of the new directory; and whatever a crash leaves opens under that to what the old files opened to, wider and opened again.
+-- The other file is selected, and the one before stays as it is. The other one is the checkpoint of the need under the new
+-- directory alone, under the mark of that; and whatever a crash leaves opens under that to what it takes over of what the old
+-- files opened to.
 pub record IsMigrated (old new : Directory) (s : State) (before after : List Call) : Type 0 where
   pub other : selected (seen after) ≢ selected (seen before)
   pub stays : seen after (selected (seen before)) ≡ seen before (selected (seen before))
-  pub text : seen after (selected (seen after)) ≡ checkpoint_file new.mark (wider (length new.circuits) (need old s))
-  pub opened : (files : Files) → IsImage after files → opens new files ≡ Ok (opened_wider new (need old (restarted old s)))
+  pub text : seen after (selected (seen after)) ≡ checkpoint_file new.mark (need new (goes_over new old (need old s)))
+  pub opened : (files : Files) → IsImage after files → opens new files ≡ Ok (taken_over new old (need old (restarted old s)))
 
 -- The journal would be full under the new directory, and that is answered, with the numbers of a compaction; or it would not be.
 abbrev pub IsRoomAnswer : MigrateFault → Directory → State → Type 0
@@ -111,26 +107,27 @@ IsWriteFaultOf DiskFault = Unit {0}
 IsWriteFaultOf NoMemory = Unit {0}
 IsWriteFaultOf fault = ⊥
 
--- The core holds a state whose draws due are few.
+-- The core holds a state whose need is sound, and whose draws due are few.
 pub record HasFewDue (d : Directory) (core : Core) : Type 0 where
   pub state : State
   pub holds : Holds d core state
   pub few : due state < 2 ^ 32
+  pub sound : IsTrue (is_sound d (need d state))
 
--- This need is the wider one of whatever state the core holds.
-abbrev pub IsWide : Directory → Directory → Core → Need → Type 0
-IsWide old new core n = (s : State) → Holds old core s → n ≡ wider (length new.circuits) (need old s)
+-- This need is that of whatever state the core holds, under the new directory.
+abbrev pub IsBrought : Directory → Directory → Core → Need → Type 0
+IsBrought old new core n = (s : State) → Holds old core s → n ≡ need new (goes_over new old (need old s))
 
--- The journal stands for a state of the old directory, which the new one extends, and the need is its wider one.
+-- The journal stands for a state of the old directory, from which the new one takes over, and the need is that of the state
+-- under the new one.
 pub record CanMigrate (old new : Directory) (s : State) (n : Need) (calls : List Call) (j : InHand) : Type 0 where
-  pub extends : Extends new old
+  pub takes : TakesOver new old
   pub stands : StandsForAny old s calls j
-  pub keeps : IsTrue (keeps_one old)
-  pub ordered : IsOrdered old s
+  pub keeps : IsTrue (keeps_one new)
   pub sound : IsTrue (is_sound old (need old s))
-  pub wide : n ≡ wider (length new.circuits) (need old s)
+  pub brought : n ≡ need new (goes_over new old (need old s))
 
--- the wider need is sound, and there is room for its checkpoint and all draws due
+-- the need is sound under the new directory, and there is room for its checkpoint and all draws due
 pub record FitsFor (new : Directory) (n : Need) : Type 0 where
   pub sound : IsTrue (is_sound new n)
   pub room : compacted_bytes written n + draw_size written * due (begun n) ≤ new.limit

@@ -1,52 +1,31 @@
-ghost use Rattle.std.specs.Prelude.{◌≡◌, ◌-◌, ◌^◌, ◌≤◌, ℕ, min, length, Ok, IfOk, IfErr, OnOk, IsErrOf};
+ghost use Rattle.std.specs.Prelude.{◌≡◌, ◌-◌, ◌^◌, ◌≤◌, ℕ, min, length, Ok, IfOk, IfErr, OnOk, IsErrOf, IsTrue};
+ghost use Rattle.gts_event.specs.Need.{keeps_one};
 ghost use Rattle.gts_traits.specs.{seen, said_by, Rose, EachSince};
 ghost use Rattle.gts_core.specs.Core.{Holds};
 ghost use Rattle.gts_journal.specs.{StandsOn, OnlySyncs};
 ghost use Rattle.gts_engine.specs.Compacting.{IsSizeAt};
-ghost use Rattle.gts_migrate.specs.Migrating.{DirectoryOf, Extends, State, NeedOf, circuit_need_of, need_of, unused_of, wider, widened, checkpoint_text};
+ghost use Rattle.gts_migrate.specs.Migrating.{DirectoryOf, TakesOver, State, NeedOf, need_of, need_at, goes_over, checkpoint_text};
 ghost use Rattle.gts_migrate.specs.Migrating.{opens_any, files_open_any, OpensEitherAt, StaysEither, IsMigrated, GivesRoomFor, AnswersOpening, WasOpened, LeavesFiles, IsDiskFaultOf};
-ghost use Rattle.gts_migrate.specs.Migrating.{IsRoomFaultOf, IsWriteFaultOf, HasFewDue, IsWide, CanMigrate, FitsFor};
+ghost use Rattle.gts_migrate.specs.Migrating.{IsRoomFaultOf, IsWriteFaultOf, HasFewDue, IsBrought, CanMigrate, FitsFor};
 
 use crate::MigrateFault;
+use crate::bringing::bring_over;
 use gts_checkpoint::{size, write};
 use gts_core::{Core, a_core_has_the_waiting_draws_of_its_state};
 use gts_directory::Directory;
 use gts_engine::{check_checkpoint, compacted_size};
-use gts_event::{CircuitNeed, Need, Places};
+use gts_event::Need;
 use gts_journal::Journal;
 use gts_recovery::open_core_any;
-use gts_traits::{NoMemory, Station};
+use gts_traits::Station;
 use std::alloc::Global;
-
-/// What is needed of a circuit on which nothing was drawn and nothing waits.
-fn unused() -> CircuitNeed
-    ensures { circuit_need_of result ≡ unused_of }
-{
-    CircuitNeed {
-        draws: 0,
-        waiting: Places::new(),
-        kept: Places::new(),
-        owed: Places::new(),
-    }
-}
-
-/// A need with further circuits of which nothing is needed, up to so many.
-fn widen(alloc: Global, need: Need, circuits: u32) -> Result<Need, NoMemory>
-    ensures { IfOk result (λ wide. need_of wide ≡ wider circuits (need_of need)) }
-{
-    let mut wide = need;
-    let further = u64::from(circuits).saturating_sub(wide.circuits.len());
-    for _ in 0..further {
-        wide.circuits.push(alloc, unused())?;
-    }
-    Ok(wide)
-}
 
 /// Whether a checkpoint of this size leaves room for all draws that are due, under the limit of the new directory.
 fn check_room(core: &Core, old: &Directory, new: &Directory, size: u64) -> Result<(), MigrateFault>
-    requires { HasFewDue old.now core.now }
+    requires takes { TakesOver new.now old.now }
+    requires due { HasFewDue old.now core.now }
     ensures room { (s : State) → Holds old.now core.now s
-        → let t = widened (length new.now.circuits) s in
+        → let t = goes_over new.now old.now (need_at old.now s) in
         IsSizeAt new.now t size → GivesRoomFor result new.now t }
     ensures kind { IfErr result IsRoomFaultOf }
 {
@@ -63,23 +42,25 @@ fn prepare(
     old: &Directory,
     new: &Directory,
 ) -> Result<(Need, u64), MigrateFault>
-    requires extends { Extends new.now old.now }
+    requires takes { TakesOver new.now old.now }
     requires due { HasFewDue old.now core.now }
-    ensures wide { IfOk result (λ found. IsWide old.now new.now core.now (need_of found.0)) }
+    ensures brought { IfOk result (λ found.
+        IsBrought old.now new.now core.now (need_of found.0)) }
+    ensures keeps { OnOk result (IsTrue (keeps_one new.now)) }
     ensures size { IfOk result (λ found.
         found.1 ≡ min (length (checkpoint_text (need_of found.0))) (2 ^ 64 - 1)) }
     ensures room { (s : State) → Holds old.now core.now s
-        → GivesRoomFor result new.now (widened (length new.now.circuits) s) }
+        → GivesRoomFor result new.now (goes_over new.now old.now (need_at old.now s)) }
     ensures kind { IfErr result IsRoomFaultOf }
 {
     let need = core.need(alloc)?;
-    let wide = widen(alloc, need, new.circuits())?;
-    let size = size(&wide);
+    let brought = bring_over(alloc, need, old, new)?;
+    let size = size(&brought);
     check_room(core, old, new, size)?;
-    Ok((wide, size))
+    Ok((brought, size))
 }
 
-/// Writes the checkpoint of the wider need under the new directory to the file that isn't selected, and selects that.
+/// Writes the checkpoint of the need under the new directory to the file that isn't selected, and selects that.
 fn rewrite<P: Station>(
     alloc: Global,
     station: &mut P,
@@ -122,7 +103,7 @@ fn take_over<P: Station>(
     old: &Directory,
     new: &Directory,
 ) -> Result<(), MigrateFault>
-    requires { Extends new.now old.now }
+    requires { TakesOver new.now old.now }
     ensures moments { P.tells → (n : NeedOf) → WasOpened result
         → StaysEither old.now new.now n (P.calls station.old) (P.calls station.new) }
     ensures migrated { P.tells → (s : State) (used : ℕ)
@@ -130,7 +111,7 @@ fn take_over<P: Station>(
         → OnOk result (IsMigrated old.now new.now s (P.calls station.old) (P.calls station.new)) }
     ensures full { P.tells → (s : State) (used : ℕ)
         → files_open_any old.now (seen (P.calls station.old)) ≡ Ok (s, used)
-        → GivesRoomFor result new.now (widened (length new.now.circuits) s) }
+        → GivesRoomFor result new.now (goes_over new.now old.now (need_at old.now s)) }
     ensures opening { P.tells
         → AnswersOpening result (opens_any old.now (seen (P.calls station.old))) }
     ensures silent { P.tells → said_by (P.calls station.new) ≡ said_by (P.calls station.old) }
@@ -148,9 +129,8 @@ fn take_over<P: Station>(
     rewrite(alloc, station, journal, new, &need, size)
 }
 
-/// Takes a journal over under a directory that extends its own. The journal, of either version, is opened under the old
-/// directory; its other file gets a checkpoint of all that later answers depend on, with the further circuits, under the new
-/// directory, and is selected. Nothing is said. `Full` where that and all draws that are due would pass the new limit; nothing
+/// Takes a journal over under a directory that takes over from its own. The journal, of either version, is opened under the old
+/// directory; its other file gets a checkpoint of all that later answers depend on under the new directory, and is selected. Nothing is said. `Full` where that and all draws that are due would pass the new limit; nothing
 /// is written then.
 pub fn migrate<P: Station>(
     alloc: Global,
@@ -158,10 +138,10 @@ pub fn migrate<P: Station>(
     old: &Directory,
     new: Directory,
 ) -> (P, Result<(), MigrateFault>)
-    requires { Extends new old.now }
+    requires { TakesOver new old.now }
 
     // A crash at any moment since the sync of the opening leaves files that open under the old directory to what they opened to,
-    // or under the new one to that and the further circuits.
+    // or under the new one to what that takes over of it.
     ensures moments { P.tells → (n : NeedOf) → WasOpened result.1
         → StaysEither old.now new n (P.calls station) (P.calls result.0) }
     ensures migrated { P.tells → (s : State) (used : ℕ)
@@ -169,7 +149,7 @@ pub fn migrate<P: Station>(
         → OnOk result.1 (IsMigrated old.now new s (P.calls station) (P.calls result.0)) }
     ensures full { P.tells → (s : State) (used : ℕ)
         → files_open_any old.now (seen (P.calls station)) ≡ Ok (s, used)
-        → GivesRoomFor result.1 new (widened (length new.circuits) s) }
+        → GivesRoomFor result.1 new (goes_over new old.now (need_at old.now s)) }
 
     // A fault of the files is answered exactly where they open to it, in the version that they have.
     ensures opening { P.tells

@@ -5,14 +5,14 @@ use Rattle.std.proofs.lemmas.List.{length-map}
 use Rattle.std.proofs.lemmas.List.Sums.{sum_by-cons}
 use Rattle.std.proofs.lemmas.Bool.{and_parts, and_from, lt-ltb, ltb-true, eq-eqb, ne_eqb}
 use Rattle.gts_directory.specs.Directory.{Directory, Circuit}
-use Rattle.gts_directory.specs.Extending.{CircuitStays, BeginWith, Extends}
+use Rattle.gts_directory.specs.TakingOver.{KeepsPlace, BeginWith, TakesOver}
 use Rattle.gts_event.specs.State.{State, CircuitState, Bulletin, idle, on_circuit, has, is_recent, draws, drawn, waiting, heading_of}
 use Rattle.gts_event.specs.History.{all_owed_last, restarted, is_request}
 use Rattle.gts_event.specs.Need.{Need, CircuitNeed, unused, need, circuit_need, circuit_needs, begun, begun_circuit, is_needed, is_bulletin, is_circuit_sound, is_sound, are_below, owes_kept, IsOrdered}
 use Rattle.gts_event.specs.Held.{HeldCircuit, IsHeld}
 use Rattle.gts_event.specs.Sound.{SoundCircuit}
 use Rattle.gts_opening.specs.Journal.{due}
-use Rattle.gts_recovery.specs.TakenOver.{KeepsPlace, TakesOver, brought, each_brought, goes_over}
+use Rattle.gts_recovery.specs.TakenOver.{brought, each_brought, goes_over}
 use Rattle.gts_event.proofs.LawLemmas.{circuit-parts, sound-parts, held-begun, sound-held, waiting-left}
 
 -- ---- tests
@@ -221,14 +221,6 @@ pub due-over : (new old : Directory) (s : State) → TakesOver new old → IsOrd
 due-over new old s e o = due_each old.circuits new.circuits s.circuits o.circuits e.circuits
 
 -- ---- by circuit
-
-keep_places : (old new : List Circuit) → BeginWith CircuitStays old new → BeginWith KeepsPlace old new
-keep_places [] new h = tt
-keep_places (row ∷ old) [] h = absurd h
-keep_places (row ∷ old) (next ∷ new) h = (record { name = h.0.name; peer = h.0.peer }, keep_places old new h.1)
-
-pub extends-over : (new old : Directory) → Extends new old → TakesOver new old
-extends-over new old e = record { centre = e.centre; window = (let same = e.window in omega (arith, same)); circuits = keep_places old.circuits new.circuits e.circuits }
 
 -- what waits and how many were drawn, under any two rows
 waits_same : (row next : Circuit) (c : CircuitNeed) → list_all (λ position. not (has c.kept position)) c.waiting ≡ true → waiting (begun_circuit (brought row next c)) ≡ waiting (begun_circuit c)

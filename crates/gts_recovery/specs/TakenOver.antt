@@ -1,23 +1,9 @@
--- Which directory takes over from another one, and what a need comes to under it (profile).
-use Rattle.std.specs.Prelude.{◌≡◌, ◌≤◌, ◌==◌, List, [], ◌∷◌, if◌then◌else◌}
+-- What a need comes to under a directory that takes over from its own (profile).
+use Rattle.std.specs.Prelude.{◌==◌, List, [], ◌∷◌, if◌then◌else◌}
 use Rattle.gts_directory.specs.Directory.{Directory, Circuit}
-use Rattle.gts_directory.specs.Extending.{BeginWith}
 use Rattle.gts_event.specs.State.{State}
 use Rattle.gts_event.specs.History.{restarted}
 use Rattle.gts_event.specs.Need.{Need, CircuitNeed, unused, need, begun}
-
--- a circuit stays in its place: it has its name, and the same neighbour
-pub record KeepsPlace (old new : Circuit) : Type 0 where
-  pub name : new.name ≡ old.name
-  pub peer : new.peer ≡ old.peer
-
--- A directory takes over from an old one: a need of the old one can go on under it. The circuits stay in their places, circuits
--- may be added behind them, and the window is no greater. All else may be other: rules, levels and the limit, and of a circuit
--- what it keeps, its digits and its ports.
-pub record TakesOver (new old : Directory) : Type 0 where
-  pub centre : new.centre ≡ old.centre
-  pub window : new.window ≤ old.window
-  pub circuits : BeginWith KeepsPlace old.circuits new.circuits
 
 -- What is brought along of a circuit under its old and its new row: what waits, and how many were drawn. The kept draws can be
 -- asked for unless the numbers have other digits, since a number would then mean another's bytes. Nothing is owed.

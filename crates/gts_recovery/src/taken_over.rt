@@ -2,17 +2,12 @@
 
 ghost use Rattle.std.specs.Prelude.{◌≡◌, ◌<◌, [], ℕ, length, slice_get, Some, IsTrue};
 ghost use Rattle.gts_directory.specs.Directory.{Circuit};
-ghost use Rattle.gts_directory.specs.Extending.{Extends};
+ghost use Rattle.gts_directory.specs.TakingOver.{TakesOver};
 ghost use Rattle.gts_event.specs.State.{State, on_circuit, draws, drawn, waiting};
 ghost use Rattle.gts_event.specs.History.{restarted};
 ghost use Rattle.gts_event.specs.Cited.{Directory, Need, IsOrdered, IsHeld, need, begun, is_sound};
 ghost use Rattle.gts_opening.specs.Journal.{due};
-ghost use Rattle.gts_recovery.specs.TakenOver.{TakesOver, goes_over};
-
-/// A directory that extends an old one takes over from it.
-pub fn a_directory_that_extends_takes_over()
-    ensures { (new old : Directory) → Extends new old → TakesOver new old }
-{}
+ghost use Rattle.gts_recovery.specs.TakenOver.{goes_over};
 
 /// Under a directory that takes over from its own, a sound need goes on: it begins a state that a history can have, so that its
 /// need there is sound; the state is the same where the journal was opened again before; and as many draws are due.

@@ -20,7 +20,7 @@ pub enum Command {
     Compact,
     /// To work through so many messages that it makes itself.
     Generate { count: u32 },
-    /// To take the journal over under a directory that extends its own.
+    /// To take the journal over under a directory that takes over from its own.
     Migrate,
     /// To work through a file of accumulated bulletins, with its messages on this circuit.
     Unpack { c: u32 },

@@ -44,7 +44,7 @@ pub fn migrate<S: Source, P: Station>(
         Ok(directory) => directory,
         Err(status) => return (status, station),
     };
-    match new.extends(&old) {
+    match new.takes_over(&old) {
         Ok(()) => {
             let (station, migrated) = take_over(alloc, station, &old, new);
             (status_of(migrated), station)

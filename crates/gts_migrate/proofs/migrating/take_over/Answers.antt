@@ -7,7 +7,7 @@ use Rattle.gts_event.specs.History.{restarted}
 use Rattle.gts_event.specs.Need.{Need, need}
 use Rattle.gts_event.specs.Items.{need_of}
 use Rattle.gts_opening.specs.Room.{full_compacted}
-use Rattle.gts_recovery.specs.Wider.{widened}
+use Rattle.gts_recovery.specs.TakenOver.{goes_over}
 use Rattle.gts_recovery.specs.Opened.{opens_any}
 use Rattle.gts_traits.specs.Disk.{seen}
 use Rattle.gts_record.specs.declared.fault.OpenFault.{OpenFault}
@@ -26,8 +26,8 @@ rewrite-requires-clause-fits g c =
     let j = c.in_ok-core.journal in
     let o = c.in_ok-core.ensures.opened in
     let n = need_of c.in_ok-need.need in
-    let wide = c.in_ok-need.ensures.wide in
-    fits_for g.P.Station.tells old new c.requires mid core j o n wide (c.in_ok-need.ensures.room o.state o.kept.holds)
+    let brought = c.in_ok-need.ensures.brought in
+    fits_for g.P.Station.tells old new c.requires mid core j o n brought (c.in_ok-need.ensures.room o.state o.kept.holds)
 
 pub returns-clause-moments : goal.returns-clause-moments
 returns-clause-moments g c = λ tell k was is.
@@ -38,11 +38,11 @@ returns-clause-moments g c = λ tell k was is.
     let j = c.in_ok-core.journal in
     let o = c.in_ok-core.ensures.opened in
     let n = need_of c.in_ok-need.need in
-    let wide = c.in_ok-need.ensures.wide in
+    let brought = c.in_ok-need.ensures.brought in
     let before = g.P.Station.calls c.args.station.now in
     let synced = c.in_ok-core.ensures.synced tell in
     let after = g.P.Station.calls c.rewrite.new.station in
-    let can = can_migrate g.P.Station.tells old new c.requires mid core j o n wide tell in
+    let can = can_migrate g.P.Station.tells old new c.requires mid core j o n brought c.in_ok-need.ensures.keeps tell in
     let each = c.rewrite.ensures.moments tell old o.state can in
     let here = subst (λ (calls : List Call). EachSince calls after (OpensEither old new (need old (restarted old o.state)))) synced each in
     subst (λ (m : Need). EachSince (Did Syncs ∷ before) after (OpensEither old new m)) (need_is g.P.Station.tells old new c.requires mid core j o tell before synced k is) here
@@ -56,10 +56,10 @@ returns-clause-migrated g c = λ tell s used is.
     let j = c.in_ok-core.journal in
     let o = c.in_ok-core.ensures.opened in
     let n = need_of c.in_ok-need.need in
-    let wide = c.in_ok-need.ensures.wide in
+    let brought = c.in_ok-need.ensures.brought in
     let before = g.P.Station.calls c.args.station.now in
     let synced = c.in_ok-core.ensures.synced tell in
-    let can = can_migrate g.P.Station.tells old new c.requires mid core j o n wide tell in
+    let can = can_migrate g.P.Station.tells old new c.requires mid core j o n brought c.in_ok-need.ensures.keeps tell in
     migrated_after c.rewrite.result old new o.state s n before mid (g.P.Station.calls c.rewrite.new.station) j synced
     (state_is g.P.Station.tells old new c.requires mid core j o tell before synced s used is) can (c.rewrite.ensures.written tell)
 
@@ -74,9 +74,9 @@ returns-clause-full g c = λ tell s used is.
     let before = g.P.Station.calls c.args.station.now in
     let synced = c.in_ok-core.ensures.synced tell in
     let same = state_is g.P.Station.tells old new c.requires mid core j o tell before synced s used is in
-    let free : full_compacted new (widened (length new.circuits) o.state) ≡ None = c.in_ok-need.ensures.room o.state o.kept.holds in
-    room_after c.rewrite.result new (widened (length new.circuits) s) c.rewrite.ensures.kind
-    (subst (λ (t : State). full_compacted new (widened (length new.circuits) t) ≡ None) (sym same) free)
+    let free : full_compacted new (goes_over new old (need old o.state)) ≡ None = c.in_ok-need.ensures.room o.state o.kept.holds in
+    room_after c.rewrite.result new (goes_over new old (need old s)) c.rewrite.ensures.kind
+    (subst (λ (t : State). full_compacted new (goes_over new old (need old t)) ≡ None) (sym same) free)
 
 pub returns-clause-opening : goal.returns-clause-opening
 returns-clause-opening g c = λ tell.
@@ -126,7 +126,7 @@ returns-in_err-need-clause-full g c = λ tell s used is.
     let synced = c.in_ok-core.ensures.synced tell in
     let p = err_from_is_err_and c.from_residual-in_err-need.result c.from_residual-in_err-need.ensures.1 in
     rw (p.1, p.2)
-    (subst (λ (t : State). IsRoomAnswer c.in_err-need.field-0.0 new (widened (length new.circuits) t)) (sym (state_is g.P.Station.tells old new c.requires mid core j o tell before synced s used is))
+    (subst (λ (t : State). IsRoomAnswer c.in_err-need.field-0.0 new (goes_over new old (need old t))) (sym (state_is g.P.Station.tells old new c.requires mid core j o tell before synced s used is))
     (c.in_err-need.ensures.room o.state o.kept.holds))
 
 -- where there was no room or no memory, the files opened

@@ -1,6 +1,6 @@
 use Rattle.std.proofs.Common.{refl, sym, subst, ◌∙◌}
 use Rattle.std.proofs.lemmas.Option.{none-some}
-use Rattle.gts_directory.proofs.ExtendingLemmas.{none_from}
+use Rattle.gts_directory.proofs.TakingOverLemmas.{none_from}
 use Rattle.gts_app.specs.Reading.{ReadsDirectory, ReadsOldDirectory}
 use Rattle.gts_app.proofs.MigrateLemmas.{new_unread, old_unread, taken_over}
 use Rattle.gts_app.proofs.commands.migrate.migrate.Goals as goal
@@ -20,8 +20,8 @@ returns-in-Err-old_directory_of g c =
     (subst (λ r. ReadsDirectory g.S.Source r od nd) c.in-Ok.is c.directory_of.ensures)
     (subst (λ r. ReadsOldDirectory g.S.Source r oc nc) c.in-Err-old_directory_of.is c.old_directory_of.ensures)
 
-pub returns-in-Ok-extends : goal.returns-in-Ok-extends
-returns-in-Ok-extends g c =
+pub returns-in-Ok-takes_over : goal.returns-in-Ok-takes_over
+returns-in-Ok-takes_over g c =
     let od = c.args.directory.now in
     let nd = c.directory_of.new.source in
     let oc = c.args.old_directory.now in
@@ -30,10 +30,10 @@ returns-in-Ok-extends g c =
     let o = c.in-Ok-old_directory_of.directory in
     let first = subst (λ r. ReadsDirectory g.S.Source r od nd) c.in-Ok.is c.directory_of.ensures in
     let second = subst (λ r. ReadsOldDirectory g.S.Source r oc nc) c.in-Ok-old_directory_of.is c.old_directory_of.ensures in
-    let extends = c.in-Ok-extends.ensures.extends.0 refl in
+    let takes = c.in-Ok-takes_over.ensures.takes_over.0 refl in
     let m = c.migrate-station in
-    taken_over g.S.Source g.P.Station d o od nd oc nc first second extends
-    (λ change is. none-some change (sym (none_from d o extends) ∙ is)) c.args.station m.result.0 m.result.1 c.status_of.result c.status_of.ensures
+    taken_over g.S.Source g.P.Station d o od nd oc nc first second takes
+    (λ change is. none-some change (sym (none_from d o takes) ∙ is)) c.args.station m.result.0 m.result.1 c.status_of.result c.status_of.ensures
     (record {
       moments = m.ensures.moments;
       migrated = m.ensures.migrated;

@@ -1,19 +1,19 @@
 use Rattle.std.proofs.Common.{◌≡◌, refl, sym, ◌∙◌, ap}
 use Rattle.std.proofs.lemmas.Option.{none-some}
 use Rattle.gts_directory.specs.Directory.{Directory}
-use Rattle.gts_directory.specs.Extending.{first_change}
+use Rattle.gts_directory.specs.TakingOver.{first_change}
 use Rattle.gts_directory.specs.Rows.{directory_of_rows}
-use Rattle.gts_directory.proofs.ExtendingLemmas.{extends_from, none_from}
-use Rattle.gts_directory.proofs.directory.Directory.extends.Goals as goal
+use Rattle.gts_directory.proofs.TakingOverLemmas.{takes_over_from, none_from}
+use Rattle.gts_directory.proofs.directory.Directory.takes_over.Goals as goal
 
-pub returns-in-Some-clause-extends : goal.returns-in-Some-clause-extends
-returns-in-Some-clause-extends c =
+pub returns-in-Some-clause-takes_over : goal.returns-in-Some-clause-takes_over
+returns-in-Some-clause-takes_over c =
     let told : c.first_change.result ≡ first_change c.args.self.now c.args.old.now =
     c.first_change.ensures ∙ ap (λ (d : Directory). first_change d (directory_of_rows c.old.inside.rows)) c.self.view_is ∙ ap (first_change c.args.self.now) c.old.view_is in
     (λ h. absurd (cc), λ e. absurd (none-some _ (sym (none_from c.args.self.now c.args.old.now e) ∙ sym told ∙ c.in-Some.is)))
 
-pub returns-in-None-clause-extends : goal.returns-in-None-clause-extends
-returns-in-None-clause-extends c =
+pub returns-in-None-clause-takes_over : goal.returns-in-None-clause-takes_over
+returns-in-None-clause-takes_over c =
     let told : c.first_change.result ≡ first_change c.args.self.now c.args.old.now =
     c.first_change.ensures ∙ ap (λ (d : Directory). first_change d (directory_of_rows c.old.inside.rows)) c.self.view_is ∙ ap (first_change c.args.self.now) c.old.view_is in
-    (λ h. extends_from c.args.self.now c.args.old.now (sym told ∙ c.in-None.is), λ e. refl)
+    (λ h. takes_over_from c.args.self.now c.args.old.now (sym told ∙ c.in-None.is), λ e. refl)

@@ -1,0 +1,121 @@
+-- What is needed of each circuit under a directory that takes over, by the circuit's number.
+use Rattle.std.proofs.Common.{◌≡◌, ℕ, zero, suc, ◌+◌, ◌-◌, ◌<◌, ◌≤◌, min, Bool, true, false, not, cond, ◌&&◌, ◌||◌, ◌==◌, nat_le, List, [], ◌∷◌, length, map, filter, get_or, drop, zip, slice_get, Some, refl, sym, ap, ◌∙◌, arith}
+use Rattle.std.specs.List.{list_any, list_all, enumerate_from}
+use Rattle.std.proofs.lemmas.Bool.{and_parts}
+use Rattle.std.proofs.lemmas.List.{length-map}
+use Rattle.std.proofs.lemmas.List.FromFn.{length-enumerate_from}
+use Rattle.gts_directory.specs.Directory.{Directory, Circuit}
+use Rattle.gts_event.specs.State.{CircuitState, Bulletin, has, last_of, draws, drawn, kept_draws, waiting}
+use Rattle.gts_event.specs.Need.{Need, CircuitNeed, unused, circuit_need, begun_circuit, is_circuit_sound, is_sound}
+use Rattle.gts_event.specs.Sound.{SoundCircuit}
+use Rattle.gts_event.specs.Items.{bulletin_of}
+use Rattle.gts_event.specs.declared.values.Bulletin as values
+use Rattle.gts_event.proofs.LawLemmas.{circuit-parts, sound-parts}
+use Rattle.gts_recovery.specs.TakenOver.{brought, each_brought}
+use Rattle.gts_migrate.specs.Bringing.{circuits_under}
+
+-- ---- lists
+
+pub none_dropped : (n : ℕ) → drop {A = ℕ} n [] ≡ []
+none_dropped zero = refl
+none_dropped (suc n) = refl
+
+all_stay : (f : ℕ → Bool) (xs : List ℕ) → list_all f xs ≡ true → filter f xs ≡ xs
+all_stay f [] h = refl
+all_stay f (x ∷ xs) h =
+    let both = and_parts (f x) (list_all f xs) h in
+    ap (λ (b : Bool). cond b (x ∷ filter f xs) (filter f xs)) both.0 ∙ ap (λ (ys : List ℕ). x ∷ ys) (all_stay f xs both.1)
+
+positions_drawn : (e : ℕ) (xs : List ℕ) → map (λ draw. draw.1) (enumerate_from e xs) ≡ xs
+positions_drawn e [] = refl
+positions_drawn e (x ∷ xs) = ap (λ (ys : List ℕ). x ∷ ys) (positions_drawn (e + 1) xs)
+
+positions_left : (n e : ℕ) (xs : List ℕ) → map (λ draw. draw.1) (drop n (enumerate_from e xs)) ≡ drop n xs
+positions_left zero e xs = positions_drawn e xs
+positions_left (suc n) e [] = refl
+positions_left (suc n) e (x ∷ xs) = positions_left n (e + 1) xs
+
+-- the bulletins that pass a test
+pub passing : (f : values.Bulletin → Bool) (g : Bulletin → Bool) (bs : List values.Bulletin) → ((b : values.Bulletin) → f b ≡ g (bulletin_of b))
+    → map bulletin_of (filter f bs) ≡ filter g (map bulletin_of bs)
+passing f g [] h = refl
+passing f g (b ∷ bs) h = go (f b) (h b) (passing f g bs h)
+  where
+    go : (t : Bool) → t ≡ g (bulletin_of b) → map bulletin_of (filter f bs) ≡ filter g (map bulletin_of bs)
+        → map bulletin_of (cond t (b ∷ filter f bs) (filter f bs)) ≡ cond (g (bulletin_of b)) (bulletin_of b ∷ filter g (map bulletin_of bs)) (filter g (map bulletin_of bs))
+    go true e more = ap (λ (xs : List Bulletin). bulletin_of b ∷ xs) more ∙ ap (λ (t : Bool). cond t (bulletin_of b ∷ filter g (map bulletin_of bs)) (filter g (map bulletin_of bs))) e
+    go false e more = more ∙ ap (λ (t : Bool). cond t (bulletin_of b ∷ filter g (map bulletin_of bs)) (filter g (map bulletin_of bs))) e
+
+-- ---- one circuit
+
+-- the need of a circuit under a row that keeps so many draws
+need_under : (count : ℕ) (c : CircuitNeed) → length c.kept ≤ c.draws → list_all (λ position. not (has c.kept position)) c.waiting ≡ true
+    → circuit_need count (begun_circuit c) ≡ record c { kept = last_of count c.kept }
+need_under count c few apart =
+    let q : CircuitState = begun_circuit c in
+    let n : draws q ≡ c.draws = omega (arith, few) in
+    let w : waiting q ≡ c.waiting = all_stay (λ position. not (has c.kept position)) c.waiting apart in
+    let p : map (λ draw. draw.1) (kept_draws count q) ≡ last_of count c.kept =
+    ap (λ (m : ℕ). map (λ draw. draw.1) (drop (m - count) (drawn q))) (length-enumerate_from (c.draws - length c.kept) c.kept)
+    ∙ positions_left (length c.kept - count) (c.draws - length c.kept) c.kept in
+    ap (λ (m : ℕ). record { draws = m; waiting = waiting q; kept = map (λ draw. draw.1) (kept_draws count q); owed = c.owed }) n
+    ∙ ap (λ (ws : List ℕ). record { draws = c.draws; waiting = ws; kept = map (λ draw. draw.1) (kept_draws count q); owed = c.owed }) w
+    ∙ ap (λ (ps : List ℕ). record { draws = c.draws; waiting = c.waiting; kept = ps; owed = c.owed }) p
+
+none_apart : (ps : List ℕ) → list_all (λ position. not (has [] position)) ps ≡ true
+none_apart [] = refl
+none_apart (p ∷ ps) = none_apart ps
+
+pub brought_under : (count : ℕ) (same : Bool) (c : CircuitNeed) → length c.kept ≤ c.draws → list_all (λ position. not (has c.kept position)) c.waiting ≡ true
+    → circuit_need count (begun_circuit (record c { kept = cond same c.kept []; owed = [] })) ≡ record c { kept = last_of count (cond same c.kept []); owed = [] }
+brought_under count true c few apart = need_under count (record c { owed = [] }) few apart
+brought_under count false c few apart = need_under count (record c { kept = []; owed = [] }) (omega arith) (none_apart c.waiting)
+
+-- ---- by number
+
+unused_under : (k : ℕ) → circuit_need k (begun_circuit unused) ≡ unused
+unused_under k = let none : 0 - k ≡ 0 = omega arith in rw none refl
+
+further_at : (old new : List Circuit) (cs : List CircuitNeed) (c : ℕ) → length cs ≡ length old → length old ≤ c → c < length new
+    → get_or (map (λ row. circuit_need row.0.kept row.1) (zip new (map begun_circuit (each_brought old new cs)))) c unused ≡ unused
+further_at old [] cs c e high low = absurd (omega (arith, low))
+further_at [] (next ∷ new) cs zero e high low = unused_under next.kept
+further_at [] (next ∷ new) cs (suc c) e high low = further_at [] new [] c refl (omega arith) (omega (arith, low))
+further_at (row ∷ old) (next ∷ new) [] c e high low = absurd (omega (arith, e))
+further_at (row ∷ old) (next ∷ new) (q ∷ cs) zero e high low = absurd (omega (arith, high))
+further_at (row ∷ old) (next ∷ new) (q ∷ cs) (suc c) e high low = further_at old new cs c (omega (arith, e)) (omega (arith, high)) (omega (arith, low))
+
+brought_at : (old new : List Circuit) (cs : List CircuitNeed) (c : ℕ) (row next : Circuit) → length cs ≡ length old → slice_get old c ≡ Some row → slice_get new c ≡ Some next
+    → get_or (map (λ row. circuit_need row.0.kept row.1) (zip new (map begun_circuit (each_brought old new cs)))) c unused
+    ≡ circuit_need next.kept (begun_circuit (brought row next (get_or cs c unused)))
+brought_at [] new cs c row next e at there = absurd (cc)
+brought_at (r ∷ old) [] cs c row next e at there = absurd (cc)
+brought_at (r ∷ old) (s ∷ new) [] c row next e at there = absurd (omega (arith, e))
+brought_at (r ∷ old) (s ∷ new) (q ∷ cs) zero row next e at there = let same : r ≡ row = cc in let too : s ≡ next = cc in cc
+brought_at (r ∷ old) (s ∷ new) (q ∷ cs) (suc c) row next e at there = brought_at old new cs c row next (omega (arith, e)) at there
+
+sound_at : (n : Need) (old : List Circuit) (cs : List CircuitNeed) (c : ℕ) (row : Circuit) → length cs ≡ length old → slice_get old c ≡ Some row
+    → list_all (λ row. is_circuit_sound n row.0.kept row.1) (zip old cs) ≡ true → is_circuit_sound n row.kept (get_or cs c unused) ≡ true
+sound_at n [] cs c row e at h = absurd (cc)
+sound_at n (r ∷ old) [] c row e at h = absurd (omega (arith, e))
+sound_at n (r ∷ old) (q ∷ cs) zero row e at h =
+    let same : r ≡ row = cc in
+    ap (λ (x : Circuit). is_circuit_sound n x.kept q) (sym same) ∙ (and_parts (is_circuit_sound n r.kept q) (list_all (λ r. is_circuit_sound n r.0.kept r.1) (zip old cs)) h).0
+sound_at n (r ∷ old) (q ∷ cs) (suc c) row e at h =
+    sound_at n old cs c row (omega (arith, e)) at (and_parts (is_circuit_sound n r.kept q) (list_all (λ r. is_circuit_sound n r.0.kept r.1) (zip old cs)) h).1
+
+-- a circuit of the old directory, under its new row
+pub under_at : (new old : Directory) (n : Need) (c : ℕ) (row next : Circuit) → is_sound old n ≡ true → slice_get old.circuits c ≡ Some row → slice_get new.circuits c ≡ Some next
+    → get_or (circuits_under new old n) c unused
+    ≡ record (get_or n.circuits c unused) { kept = last_of next.kept (cond (next.digits == row.digits) (get_or n.circuits c unused).kept []); owed = [] }
+under_at new old n c row next sound at there =
+    let p = sound-parts old n sound in
+    let s = circuit-parts n row.kept (get_or n.circuits c unused) (sound_at n old.circuits n.circuits c row p.same at p.circuits) in
+    let size = s.size in
+    brought_at old.circuits new.circuits n.circuits c row next p.same at there
+    ∙ brought_under next.kept (next.digits == row.digits) (get_or n.circuits c unused) (omega (arith, size)) s.apart
+
+-- a further one
+pub under_further : (new old : Directory) (n : Need) (c : ℕ) → is_sound old n ≡ true → length old.circuits ≤ c → c < length new.circuits
+    → unused ≡ get_or (circuits_under new old n) c unused
+under_further new old n c sound high low = sym (further_at old.circuits new.circuits n.circuits c (sound-parts old n sound).same high low)

@@ -1,0 +1,145 @@
+//! What a need brings under a directory that takes over from its own.
+
+ghost use Rattle.std.specs.Prelude.{◌≡◌, ◌<◌, ◌||◌, [], length, filter, get_or, map, nat_le, OnOk, IfOk, IsTrue, if◌then◌else◌};
+ghost use Rattle.std.specs.List.Sorted.{IsNonDecreasing};
+ghost use Rattle.gts_event.specs.State.{has, last_of};
+ghost use Rattle.gts_event.specs.Need.{is_sound, keeps_one};
+ghost use Rattle.gts_event.specs.Items.{bulletin_of};
+ghost use Rattle.gts_migrate.specs.Migrating.{TakesOver, goes_over, circuit_need_of, need_of, need_at, unused_of};
+ghost use Rattle.gts_migrate.specs.Bringing.{circuits_under};
+
+use gts_checkpoint::{held_positions, is_among};
+use gts_directory::Directory;
+use gts_event::{Bulletins, CircuitNeed, CircuitNeeds, Need, Places};
+use gts_traits::NoMemory;
+use std::alloc::Global;
+
+/// What is needed of a circuit on which nothing was drawn and nothing waits.
+fn unused() -> CircuitNeed
+    ensures { circuit_need_of result ≡ unused_of }
+{
+    CircuitNeed {
+        draws: 0,
+        waiting: Places::new(),
+        kept: Places::new(),
+        owed: Places::new(),
+    }
+}
+
+/// The last of the draws that are kept, as many as a row keeps; none where its numbers have other digits.
+fn still_kept(alloc: Global, kept: &[u64], same: bool, count: u32) -> Result<Places, NoMemory>
+    ensures { IfOk result (λ still. still ≡ last_of count (if same then kept.now else [])) }
+{
+    if !same {
+        return Ok(Places::new());
+    }
+    let first = kept.len().saturating_sub(count as usize);
+    let still = Vec::from_slice(alloc, &kept[first..])?;
+    Ok(Places::from_vec(still))
+}
+
+/// What a circuit brings along: what waits, and the draws that can still be asked for. Nothing is owed.
+fn bring(
+    alloc: Global,
+    circuit: &CircuitNeed,
+    same: bool,
+    count: u32,
+) -> Result<CircuitNeed, NoMemory>
+    ensures { IfOk result (λ found.
+        circuit_need_of found ≡ record (circuit_need_of circuit.now) {
+          kept = last_of count (if same then circuit.now.kept else []);
+          owed = [];
+        }) }
+{
+    let waiting = Vec::from_slice(alloc, circuit.waiting.as_slice())?;
+    let kept = still_kept(alloc, circuit.kept.as_slice(), same, count)?;
+    Ok(CircuitNeed {
+        draws: circuit.draws,
+        waiting: Places::from_vec(waiting),
+        kept,
+        owed: Places::new(),
+    })
+}
+
+/// What is needed of a circuit of the new directory.
+fn bring_at(
+    alloc: Global,
+    need: &Need,
+    old: &Directory,
+    new: &Directory,
+    c: u32,
+) -> Result<CircuitNeed, NoMemory>
+    requires takes { TakesOver new.now old.now }
+    requires sound { IsTrue (is_sound old.now (need_of need.now)) }
+    requires inside { c < length new.now.circuits }
+    ensures { IfOk result (λ found. circuit_need_of found
+        ≡ get_or (circuits_under new.now old.now (need_of need.now)) c unused_of) }
+{
+    if c >= old.circuits() {
+        return Ok(unused());
+    }
+    let circuits = need.circuits.as_slice();
+    let row = new.circuit(c);
+    let same = row.digits == old.circuit(c).digits;
+    bring(alloc, &circuits[c as usize], same, row.kept)
+}
+
+/// What is needed of each circuit of the new directory.
+fn bring_each(
+    alloc: Global,
+    need: &Need,
+    old: &Directory,
+    new: &Directory,
+) -> Result<CircuitNeeds, NoMemory>
+    requires takes { TakesOver new.now old.now }
+    requires sound { IsTrue (is_sound old.now (need_of need.now)) }
+    ensures circuits { IfOk result (λ found. map circuit_need_of found
+        ≡ circuits_under new.now old.now (need_of need.now)) }
+    ensures keeps { OnOk result (IsTrue (keeps_one new.now)) }
+{
+    let mut circuits = CircuitNeeds::new();
+    for c in 0..new.circuits() {
+        let _ = new.circuit(c);
+        let circuit = bring_at(alloc, need, old, new, c)?;
+        circuits.push(alloc, circuit)?;
+    }
+    Ok(circuits)
+}
+
+/// The bulletins from a position on, and those among positions that are held.
+fn keep_needed(alloc: Global, bulletins: Bulletins, first: u64, held: &[u64]) -> Bulletins
+    requires { IsNonDecreasing held.now }
+    ensures { map bulletin_of result
+        ≡ filter (λ b. nat_le first b.position || has held.now b.position)
+        (map bulletin_of bulletins) }
+{
+    let mut bulletins = bulletins.into_vec(alloc);
+    bulletins.retain(|bulletin| {
+        first <= bulletin.position || is_among(held, bulletin.position)
+    });
+    Bulletins::from_vec(bulletins)
+}
+
+/// The need under the new directory: of each circuit what it brings, and the bulletins that are still needed.
+pub(crate) fn bring_over(
+    alloc: Global,
+    need: Need,
+    old: &Directory,
+    new: &Directory,
+) -> Result<Need, NoMemory>
+    requires takes { TakesOver new.now old.now }
+    requires sound { IsTrue (is_sound old.now (need_of need)) }
+    ensures need { IfOk result (λ found. need_of found
+        ≡ need_at new.now (goes_over new.now old.now (need_of need))) }
+    ensures keeps { OnOk result (IsTrue (keeps_one new.now)) }
+{
+    let circuits = bring_each(alloc, &need, old, new)?;
+    let held = held_positions(alloc, circuits.as_slice())?;
+    let first = need.accepted.saturating_sub(u64::from(new.window()));
+    let bulletins = keep_needed(alloc, need.bulletins, first, &held);
+    Ok(Need {
+        accepted: need.accepted,
+        bulletins,
+        circuits,
+    })
+}
