@@ -12,6 +12,7 @@ use Rattle.gts_event.specs.Items.{bulletin_of}
 use Rattle.gts_event.specs.declared.values.Bulletin as values
 use Rattle.gts_event.proofs.LawLemmas.{circuit-parts, sound-parts}
 use Rattle.gts_recovery.specs.TakenOver.{brought, each_brought}
+use Rattle.gts_migrate.specs.LettingGo.{emptied, each_let_go, goes_on}
 use Rattle.gts_migrate.specs.Bringing.{circuits_under}
 
 -- ---- lists
@@ -66,28 +67,36 @@ none_apart : (ps : List ℕ) → list_all (λ position. not (has [] position)) p
 none_apart [] = refl
 none_apart (p ∷ ps) = none_apart ps
 
-pub brought_under : (count : ℕ) (same : Bool) (c : CircuitNeed) → length c.kept ≤ c.draws → list_all (λ position. not (has c.kept position)) c.waiting ≡ true
-    → circuit_need count (begun_circuit (record c { kept = cond same c.kept []; owed = [] })) ≡ record c { kept = last_of count (cond same c.kept []); owed = [] }
-brought_under count true c few apart = need_under count (record c { owed = [] }) few apart
-brought_under count false c few apart = need_under count (record c { kept = []; owed = [] }) (omega arith) (none_apart c.waiting)
+-- a circuit as it is brought along
+abbrev under_row : Bool → CircuitNeed → CircuitState
+under_row same c = begun_circuit (record c { kept = cond same c.kept []; owed = [] })
+
+pub brought_under : (count : ℕ) (closed same : Bool) (c : CircuitNeed) → length c.kept ≤ c.draws → list_all (λ position. not (has c.kept position)) c.waiting ≡ true
+    → circuit_need count (cond closed (emptied (under_row same c)) (under_row same c))
+    ≡ record c { waiting = cond closed [] c.waiting; kept = last_of count (cond same c.kept []); owed = [] }
+brought_under count false true c few apart = need_under count (record c { owed = [] }) few apart
+brought_under count false false c few apart = need_under count (record c { kept = []; owed = [] }) (omega arith) (none_apart c.waiting)
+brought_under count true true c few apart = need_under count (record c { waiting = []; owed = [] }) few refl
+brought_under count true false c few apart = need_under count (record c { waiting = []; kept = []; owed = [] }) (omega arith) refl
 
 -- ---- by number
 
-unused_under : (k : ℕ) → circuit_need k (begun_circuit unused) ≡ unused
-unused_under k = let none : 0 - k ≡ 0 = omega arith in rw none refl
+unused_under : (closed : Bool) (k : ℕ) → circuit_need k (cond closed (emptied (begun_circuit unused)) (begun_circuit unused)) ≡ unused
+unused_under false k = let none : 0 - k ≡ 0 = omega arith in rw none refl
+unused_under true k = let none : 0 - k ≡ 0 = omega arith in rw none refl
 
 further_at : (old new : List Circuit) (cs : List CircuitNeed) (c : ℕ) → length cs ≡ length old → length old ≤ c → c < length new
-    → get_or (map (λ row. circuit_need row.0.kept row.1) (zip new (map begun_circuit (each_brought old new cs)))) c unused ≡ unused
+    → get_or (map (λ row. circuit_need row.0.kept row.1) (zip new (each_let_go new (map begun_circuit (each_brought old new cs))))) c unused ≡ unused
 further_at old [] cs c e high low = absurd (omega (arith, low))
-further_at [] (next ∷ new) cs zero e high low = unused_under next.kept
+further_at [] (next ∷ new) cs zero e high low = unused_under next.closed next.kept
 further_at [] (next ∷ new) cs (suc c) e high low = further_at [] new [] c refl (omega arith) (omega (arith, low))
 further_at (row ∷ old) (next ∷ new) [] c e high low = absurd (omega (arith, e))
 further_at (row ∷ old) (next ∷ new) (q ∷ cs) zero e high low = absurd (omega (arith, high))
 further_at (row ∷ old) (next ∷ new) (q ∷ cs) (suc c) e high low = further_at old new cs c (omega (arith, e)) (omega (arith, high)) (omega (arith, low))
 
 brought_at : (old new : List Circuit) (cs : List CircuitNeed) (c : ℕ) (row next : Circuit) → length cs ≡ length old → slice_get old c ≡ Some row → slice_get new c ≡ Some next
-    → get_or (map (λ row. circuit_need row.0.kept row.1) (zip new (map begun_circuit (each_brought old new cs)))) c unused
-    ≡ circuit_need next.kept (begun_circuit (brought row next (get_or cs c unused)))
+    → get_or (map (λ row. circuit_need row.0.kept row.1) (zip new (each_let_go new (map begun_circuit (each_brought old new cs))))) c unused
+    ≡ circuit_need next.kept (cond next.closed (emptied (begun_circuit (brought row next (get_or cs c unused)))) (begun_circuit (brought row next (get_or cs c unused))))
 brought_at [] new cs c row next e at there = absurd (cc)
 brought_at (r ∷ old) [] cs c row next e at there = absurd (cc)
 brought_at (r ∷ old) (s ∷ new) [] c row next e at there = absurd (omega (arith, e))
@@ -107,13 +116,17 @@ sound_at n (r ∷ old) (q ∷ cs) (suc c) row e at h =
 -- a circuit of the old directory, under its new row
 pub under_at : (new old : Directory) (n : Need) (c : ℕ) (row next : Circuit) → is_sound old n ≡ true → slice_get old.circuits c ≡ Some row → slice_get new.circuits c ≡ Some next
     → get_or (circuits_under new old n) c unused
-    ≡ record (get_or n.circuits c unused) { kept = last_of next.kept (cond (next.digits == row.digits) (get_or n.circuits c unused).kept []); owed = [] }
+    ≡ record (get_or n.circuits c unused) {
+      waiting = cond next.closed [] (get_or n.circuits c unused).waiting;
+      kept = last_of next.kept (cond (next.digits == row.digits) (get_or n.circuits c unused).kept []);
+      owed = [];
+    }
 under_at new old n c row next sound at there =
     let p = sound-parts old n sound in
     let s = circuit-parts n row.kept (get_or n.circuits c unused) (sound_at n old.circuits n.circuits c row p.same at p.circuits) in
     let size = s.size in
     brought_at old.circuits new.circuits n.circuits c row next p.same at there
-    ∙ brought_under next.kept (next.digits == row.digits) (get_or n.circuits c unused) (omega (arith, size)) s.apart
+    ∙ brought_under next.kept next.closed (next.digits == row.digits) (get_or n.circuits c unused) (omega (arith, size)) s.apart
 
 -- a further one
 pub under_further : (new old : Directory) (n : Need) (c : ℕ) → is_sound old n ≡ true → length old.circuits ≤ c → c < length new.circuits

@@ -1,2 +1,3 @@
+mod LettingGoLemmas
 mod BringingLemmas
 mod MigratingLemmas

@@ -1,5 +1,5 @@
 -- A journal is taken over: what a crash leaves meanwhile, and what the files open to then.
-use Rattle.std.proofs.Common.{◌≡◌, ◌≢◌, ◌⊎◌, inl, inr, ℕ, zero, suc, ◌+◌, ◌-◌, ◌*◌, ◌^◌, ◌<◌, ◌≤◌, true, List, [], ◌∷◌, ◌++◌, length, map, replicate, None, Result, Ok, Err, refl, sym, ap, subst, ◌∙◌, arith}
+use Rattle.std.proofs.Common.{◌≡◌, ◌≢◌, ◌⊎◌, inl, inr, ℕ, zero, suc, ◌+◌, ◌-◌, ◌*◌, ◌^◌, ◌<◌, ◌≤◌, true, List, [], ◌∷◌, ◌++◌, length, Option, None, Result, Ok, Err, refl, sym, ap, subst, ◌∙◌, arith}
 use Rattle.std.specs.Prelude.{OnOk, IfErr, IsErrOf}
 use Rattle.std.proofs.lemmas.Bool.{cases_eq}
 use Rattle.std.proofs.Math.Nat.{add-mul}
@@ -14,9 +14,9 @@ use Rattle.gts_directory.specs.TakingOver.{TakesOver}
 use Rattle.gts_event.specs.State.{State}
 use Rattle.gts_event.specs.History.{restarted}
 use Rattle.gts_event.specs.Need.{Need, keeps_one, need, begun, is_sound}
-use Rattle.gts_recovery.specs.TakenOver.{goes_over, taken_over}
+use Rattle.gts_migrate.specs.LettingGo.{goes_on, opened_on}
 use Rattle.gts_event.proofs.LawLemmas.{restarted-left, sound-held}
-use Rattle.gts_recovery.proofs.LawLemmas.{held-over, sound-over, over-restarted}
+use Rattle.gts_migrate.proofs.LettingGoLemmas.{held-on, sound-on, on-restarted}
 use Rattle.gts_record.specs.Record.{closed_gate}
 use Rattle.gts_record.specs.declared.version.Version.{Version}
 use Rattle.gts_record.specs.declared.fault.OpenFault.{OpenFault}
@@ -31,8 +31,8 @@ use Rattle.gts_journal.proofs.LawLemmas.{both_left, file_low}
 use Rattle.gts_core.specs.Core.{Core, Needs}
 use Rattle.gts_recovery.specs.Opened.{IsOpenedAny, StandsForAny, opens_any, files_open_any}
 use Rattle.gts_migrate.specs.declared.fault.MigrateFault.{MigrateFault}
-use Rattle.gts_migrate.specs.declared.fault.MigrateFault.TheVariants.{Open, Full, DiskFault, NoMemory}
-use Rattle.gts_migrate.specs.Migrating.{OpensEither, GivesRoomFor, AnswersOpening, LeavesFiles, IsDiskFaultOf, IsWriteFaultOf, IsMigrated, HasFewDue, IsBrought, CanMigrate, FitsFor}
+use Rattle.gts_migrate.specs.declared.fault.MigrateFault.TheVariants.{Open, Waits, Full, DiskFault, NoMemory}
+use Rattle.gts_migrate.specs.Migrating.{OpensEither, GivesRoomFor, AnswersWaiting, AnswersOpening, LeavesFiles, IsDiskFaultOf, IsWriteFaultOf, IsMigrated, HasFewDue, IsBrought, CanMigrate, FitsFor}
 
 -- ---- what files open to
 
@@ -62,7 +62,7 @@ opens_old_at old s calls j g files at same =
 
 module _ (old new : Directory) (s : State) (n : Need) (calls : List Call) (j : InHand) (g : CanMigrate old new s n calls j) (low : j.file < 2) where
   abbrev over : Need
-  over = taken_over new old (need old (restarted old s))
+  over = opened_on new old (need old (restarted old s))
 
   -- the other file
   abbrev other : ℕ
@@ -91,12 +91,12 @@ module _ (old new : Directory) (s : State) (n : Need) (calls : List Call) (j : I
       )) beside.moments
 
   -- opened again, the need under the new directory is what that takes over of what the files open to
-  again : need new (restarted (begun (unowed n))) ≡ over
+  again : need new (restarted new (begun (unowed n))) ≡ over
   again =
-      ap (need new) (restarted-unowed n)
-      ∙ ap (λ (x : Need). need new (restarted (begun x))) g.brought
-      ∙ restarted-left new (goes_over new old (need old s)) g.keeps
-      ∙ ap (λ (x : State). need new (restarted x)) (sym (over-restarted new old s))
+      ap (need new) (restarted-unowed new n)
+      ∙ ap (λ (x : Need). need new (restarted new (begun x))) g.brought
+      ∙ restarted-left new (goes_on new old (need old s)) g.keeps
+      ∙ ap (λ (x : State). need new (restarted new x)) (sym (on-restarted new old s))
 
   module _ (mid : List Call) (beside : WorksBeside other calls mid) (wrote : HasWritten new.mark n other mid) (fits : FitsFor new n) (long : length new.mark ≡ 32) (limit : new.limit < 256 ^ 4) where
     -- files of which the other one is selected
@@ -132,6 +132,9 @@ module _ (old new : Directory) (s : State) (n : Need) (calls : List Call) (j : I
         let other_not : other ≢ 2 = λ e. omega (arith, e) in
         record {
           other = λ e. not_other (sym stands.selected_is ∙ sym e ∙ chosen);
+          stays =
+              ap (seen last) stands.selected_is ∙ files j.file (λ e. omega (arith, e, low)) ∙ beside.seen j.file not_other
+              ∙ sym (ap (seen calls) stands.selected_is);
           text = ap (seen last) chosen ∙ files other other_not ∙ wrote.text ∙ ap (checkpoint_file new.mark) g.brought;
           opened = λ image left.
               let selector : image 2 ≡ seen last 2 = synced_image last 2 image there.selector_synced left in
@@ -154,16 +157,16 @@ module _ (tells : Type 0) (old new : Directory) (takes : TakesOver new old) (mid
     sound = sound_need;
   }
 
-  pub fits_for : (n : Need) → IsBrought old new core n → full_compacted new (goes_over new old (need old g.state)) ≡ None → FitsFor new n
+  pub fits_for : (n : Need) → IsBrought old new core n → full_compacted new (goes_on new old (need old g.state)) ≡ None → FitsFor new n
   fits_for n brought free =
-      let t : State = goes_over new old (need old g.state) in
+      let t : State = goes_on new old (need old g.state) in
       let is : need new t ≡ n = sym (brought g.state g.kept.holds) in
       let room : compacted_bytes written (need new t) + draw_size written * due t ≤ new.limit = room_for new t free in
-      let same : due (begun (need new t)) ≡ due t = due-left new t (held-over new old (need old g.state) takes sound_need).ordered.circuits in
+      let same : due (begun (need new t)) ≡ due t = due-left new t (held-on new old (need old g.state) takes sound_need).ordered.circuits in
       let fits : compacted_bytes written (need new t) + draw_size written * due (begun (need new t)) ≤ new.limit =
       omega (arith, room, ap (λ (k : ℕ). draw_size written * k) same) in
       record {
-        sound = ap (is_sound new) (sym is) ∙ sound-over new old (need old g.state) takes sound_need;
+        sound = ap (is_sound new) (sym is) ∙ sound-on new old (need old g.state) takes sound_need;
         room = subst (λ (m : Need). compacted_bytes written m + draw_size written * due (begun m) ≤ new.limit) is fits;
       }
 
@@ -205,8 +208,8 @@ module _ (tells : Type 0) (old new : Directory) (takes : TakesOver new old) (mid
     pub at_rest : EachSince (Did Syncs ∷ before) mid (OpensEither old new (need old (restarted old g.state)))
     at_rest =
         let stands : StandsOn mid j = (g.stands tell).stands in
-        subst (λ (calls : List Call). EachSince calls mid (OpensEither old new (need old (restarted g.state)))) synced
-        (started mid (OpensEither old new (need old (restarted g.state))) (λ files image. (
+        subst (λ (calls : List Call). EachSince calls mid (OpensEither old new (need old (restarted old g.state)))) synced
+        (started mid (OpensEither old new (need old (restarted old g.state))) (λ files image. (
           refl,
           inl (opens_old_at old g.state mid j (g.stands tell) files
               (ap (λ (l : List ℕ). selected (λ _. l)) (synced_image mid 2 files stands.selector_synced image) ∙ stands.selected_is)
@@ -214,8 +217,8 @@ module _ (tells : Type 0) (old new : Directory) (takes : TakesOver new old) (mid
         )))
 
 -- what was brought of the need of a core is brought of each state that it holds
-pub brought_from : (old new : Directory) (core : Core) (n over : Need) → Needs core n → over ≡ need new (goes_over new old n) → IsBrought old new core over
-brought_from old new core n over needs made s holds = made ∙ ap (λ (m : Need). need new (goes_over new old m)) (needs old s holds)
+pub brought_from : (old new : Directory) (core : Core) (n over : Need) → Needs core n → over ≡ need new (goes_on new old n) → IsBrought old new core over
+brought_from old new core n over needs made s holds = made ∙ ap (λ (m : Need). need new (goes_on new old m)) (needs old s holds)
 
 -- ---- by the answer, once the checkpoint was to be written
 
@@ -223,14 +226,25 @@ brought_from old new core n over needs made s holds = made ∙ ap (λ (m : Need)
 pub room_after : (result : Result (Unit {0}) MigrateFault) (d : Directory) (t : State) → IfErr result IsWriteFaultOf → full_compacted d t ≡ None → GivesRoomFor result d t
 room_after (Ok done) d t kind free = free
 room_after (Err (Open e)) d t kind free = absurd kind
+room_after (Err (Waits c count)) d t kind free = absurd kind
 room_after (Err (Full at wanted limit)) d t kind free = absurd kind
 room_after (Err DiskFault) d t kind free = free
 room_after (Err NoMemory) d t kind free = tt
+
+-- nothing waited on closed circuits
+pub waiting_after : (result : Result (Unit {0}) MigrateFault) (found : Option (ℕ × ℕ)) → IfErr result IsWriteFaultOf → found ≡ None → AnswersWaiting result found
+waiting_after (Ok done) found kind none = none
+waiting_after (Err (Open e)) found kind none = absurd kind
+waiting_after (Err (Waits c count)) found kind none = absurd kind
+waiting_after (Err (Full at wanted limit)) found kind none = absurd kind
+waiting_after (Err DiskFault) found kind none = none
+waiting_after (Err NoMemory) found kind none = tt
 
 -- the files opened
 pub opening_after : (result : Result (Unit {0}) MigrateFault) (opened : Result Need OpenFault) (n : Need) → IfErr result IsWriteFaultOf → opened ≡ Ok n → AnswersOpening result opened
 opening_after (Ok done) opened n kind is = (n, is)
 opening_after (Err (Open e)) opened n kind is = absurd kind
+opening_after (Err (Waits c count)) opened n kind is = absurd kind
 opening_after (Err (Full at wanted limit)) opened n kind is = absurd kind
 opening_after (Err DiskFault) opened n kind is = (n, is)
 opening_after (Err NoMemory) opened n kind is = (n, is)
@@ -240,6 +254,7 @@ pub told_after : {P : Type 0} (calls : P → List Call) (result : Result (Unit {
     → OnlySyncs (calls old) (calls mid) → LeavesFiles result → OnlySyncs (calls old) (calls new)
 told_after calls (Ok done) old mid new kind same told leaves = absurd leaves
 told_after calls (Err (Open e)) old mid new kind same told leaves = absurd kind
+told_after calls (Err (Waits c count)) old mid new kind same told leaves = absurd kind
 told_after calls (Err (Full at wanted limit)) old mid new kind same told leaves = absurd kind
 told_after calls (Err DiskFault) old mid new kind same told leaves = absurd leaves
 told_after calls (Err NoMemory) old mid new kind same told leaves = subst (λ p. OnlySyncs (calls old) (calls p)) (sym (same refl)) told
@@ -248,6 +263,7 @@ told_after calls (Err NoMemory) old mid new kind same told leaves = subst (λ p.
 pub disk_after : (result : Result (Unit {0}) MigrateFault) (before mid now : ℕ) → IfErr result IsWriteFaultOf → (IsErrOf result DiskFault → Rose mid now) → before ≤ mid → IsDiskFaultOf result → Rose before now
 disk_after (Ok done) before mid now kind rose later is = absurd is
 disk_after (Err (Open e)) before mid now kind rose later is = absurd kind
+disk_after (Err (Waits c count)) before mid now kind rose later is = absurd kind
 disk_after (Err (Full at wanted limit)) before mid now kind rose later is = absurd kind
 disk_after (Err DiskFault) before mid now kind rose later is = omega (arith, rose refl, later)
 disk_after (Err NoMemory) before mid now kind rose later is = absurd is

@@ -1,2 +1,3 @@
+pub mod LettingGo
 pub mod Bringing
 pub mod Migrating

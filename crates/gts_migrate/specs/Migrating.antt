@@ -1,5 +1,5 @@
 -- A journal is taken over: it goes on under a directory that takes over from its own.
-use Rattle.std.specs.Prelude.{◌≡◌, ◌≢◌, ◌⊎◌, ◌+◌, ◌*◌, ◌^◌, ◌<◌, ◌≤◌, List, [], ◌∷◌, length, None, Result, Ok, Err, IsTrue}
+use Rattle.std.specs.Prelude.{◌≡◌, ◌≢◌, ◌⊎◌, ℕ, ◌+◌, ◌*◌, ◌^◌, ◌<◌, ◌≤◌, List, [], ◌∷◌, Option, None, Some, Result, Ok, Err, IsTrue}
 use Rattle.gts_traits.specs.{Did, Syncs, EachSince}
 use Rattle.gts_traits.specs.Calls.{Call, Outside}
 use Rattle.gts_traits.specs.Disk.{Files, IsImage, seen}
@@ -8,7 +8,7 @@ pub use Rattle.gts_directory.specs.TakingOver.{TakesOver}
 pub use Rattle.gts_event.specs.State.{State}
 pub use Rattle.gts_event.specs.History.{restarted}
 use Rattle.gts_event.specs.Need.{Need, IsOrdered, begun, need, is_sound, keeps_one}
-pub use Rattle.gts_recovery.specs.TakenOver.{goes_over, taken_over}
+pub use Rattle.gts_migrate.specs.LettingGo.{goes_on, opened_on, left_behind, waits_on_closed}
 use Rattle.gts_event.specs.declared.fault.SwitchFault.TheVariants as switch
 use Rattle.gts_core.specs.Core.{Core, Holds}
 use Rattle.gts_record.specs.Format.{draw_size, written}
@@ -29,7 +29,7 @@ use Rattle.gts_engine.specs.Keeping.{IsFullCompacted}
 use Rattle.gts_checkpoint.specs.declared.fault.WriteFault.{WriteFault}
 use Rattle.gts_checkpoint.specs.declared.fault.WriteFault.TheVariants as writes
 use Rattle.gts_migrate.specs.declared.fault.MigrateFault.{MigrateFault}
-use Rattle.gts_migrate.specs.declared.fault.MigrateFault.TheVariants.{Open, Full, DiskFault, NoMemory}
+use Rattle.gts_migrate.specs.declared.fault.MigrateFault.TheVariants.{Open, Waits, Full, DiskFault, NoMemory}
 
 -- a fault of the writing of a checkpoint, as a migration is answered with it
 abbrev pub write_fault : WriteFault → MigrateFault
@@ -40,7 +40,7 @@ write_fault writes.NoMemory = NoMemory
 -- that takes over of it.
 abbrev pub OpensEither : Directory → Directory → Need → Files → Outside → Type 0
 OpensEither old new n files outside =
-    (outside ≡ []) × ((opens_any old files ≡ Ok n) ⊎ (opens new files ≡ Ok (taken_over new old n)))
+    (outside ≡ []) × ((opens_any old files ≡ Ok n) ⊎ (opens new files ≡ Ok (opened_on new old n)))
 
 -- Nothing is said; and the files open to the need of this state, opened again.
 abbrev pub OpensEitherAt : Directory → Directory → State → Files → Outside → Type 0
@@ -58,14 +58,15 @@ StaysEither old new n before after =
 pub record IsMigrated (old new : Directory) (s : State) (before after : List Call) : Type 0 where
   pub other : selected (seen after) ≢ selected (seen before)
   pub stays : seen after (selected (seen before)) ≡ seen before (selected (seen before))
-  pub text : seen after (selected (seen after)) ≡ checkpoint_file new.mark (need new (goes_over new old (need old s)))
-  pub opened : (files : Files) → IsImage after files → opens new files ≡ Ok (taken_over new old (need old (restarted old s)))
+  pub text : seen after (selected (seen after)) ≡ checkpoint_file new.mark (need new (goes_on new old (need old s)))
+  pub opened : (files : Files) → IsImage after files → opens new files ≡ Ok (opened_on new old (need old (restarted old s)))
 
 -- The journal would be full under the new directory, and that is answered, with the numbers of a compaction; or it would not be.
 abbrev pub IsRoomAnswer : MigrateFault → Directory → State → Type 0
 IsRoomAnswer (Full at wanted limit) d s = IsFullCompacted d s (switch.Full at wanted limit)
 IsRoomAnswer DiskFault d s = full_compacted d s ≡ None
 IsRoomAnswer (Open fault) d s = Unit {0}
+IsRoomAnswer (Waits circuit count) d s = Unit {0}
 IsRoomAnswer NoMemory d s = Unit {0}
 
 abbrev pub GivesRoomFor : {T : Type 0} → Result T MigrateFault → Directory → State → Type 0
@@ -91,15 +92,30 @@ WasOpened result = Unit {0}
 -- an answer with which no file was touched but by the sync of the opening
 abbrev pub LeavesFiles : Result (Unit {0}) MigrateFault → Type 0
 LeavesFiles (Err (Open fault)) = Unit {0}
+LeavesFiles (Err (Waits circuit count)) = Unit {0}
 LeavesFiles (Err (Full at wanted limit)) = Unit {0}
 LeavesFiles (Err NoMemory) = Unit {0}
 LeavesFiles result = ⊥
+
+-- Where something waits on a circuit that is closed in the new directory, the first such circuit is answered, with how many wait;
+-- else nothing waits there.
+abbrev pub AnswersWaiting : {T : Type 0} → Result T MigrateFault → Option (ℕ × ℕ) → Type 0
+AnswersWaiting (Ok done) found = found ≡ None
+AnswersWaiting (Err (Waits circuit count)) found = found ≡ Some (circuit, count)
+AnswersWaiting (Err (Full at wanted limit)) found = found ≡ None
+AnswersWaiting (Err DiskFault) found = found ≡ None
+AnswersWaiting (Err fault) found = Unit {0}
 
 -- what may be answered where the room is looked at
 abbrev pub IsRoomFaultOf : MigrateFault → Type 0
 IsRoomFaultOf (Full at wanted limit) = Unit {0}
 IsRoomFaultOf NoMemory = Unit {0}
 IsRoomFaultOf fault = ⊥
+
+-- what may be answered before anything is written
+abbrev pub IsPreparedFaultOf : MigrateFault → Type 0
+IsPreparedFaultOf (Waits circuit count) = Unit {0}
+IsPreparedFaultOf fault = IsRoomFaultOf fault
 
 -- what may be answered where the checkpoint is written
 abbrev pub IsWriteFaultOf : MigrateFault → Type 0
@@ -116,7 +132,7 @@ pub record HasFewDue (d : Directory) (core : Core) : Type 0 where
 
 -- This need is that of whatever state the core holds, under the new directory.
 abbrev pub IsBrought : Directory → Directory → Core → Need → Type 0
-IsBrought old new core n = (s : State) → Holds old core s → n ≡ need new (goes_over new old (need old s))
+IsBrought old new core n = (s : State) → Holds old core s → n ≡ need new (goes_on new old (need old s))
 
 -- The journal stands for a state of the old directory, from which the new one takes over, and the need is that of the state
 -- under the new one.
@@ -125,7 +141,7 @@ pub record CanMigrate (old new : Directory) (s : State) (n : Need) (calls : List
   pub stands : StandsForAny old s calls j
   pub keeps : IsTrue (keeps_one new)
   pub sound : IsTrue (is_sound old (need old s))
-  pub brought : n ≡ need new (goes_over new old (need old s))
+  pub brought : n ≡ need new (goes_on new old (need old s))
 
 -- the need is sound under the new directory, and there is room for its checkpoint and all draws due
 pub record FitsFor (new : Directory) (n : Need) : Type 0 where

@@ -1,15 +1,15 @@
 //! What a need brings under a directory that takes over from its own.
 
-ghost use Rattle.std.specs.Prelude.{◌≡◌, ◌<◌, ◌||◌, [], length, filter, get_or, map, nat_le, OnOk, IfOk, IsTrue, if◌then◌else◌};
+ghost use Rattle.std.specs.Prelude.{◌≡◌, ◌<◌, ◌||◌, ℕ, [], length, filter, get_or, map, nat_le, OnOk, IfOk, IsTrue, if◌then◌else◌};
 ghost use Rattle.std.specs.List.Sorted.{IsNonDecreasing};
+ghost use Rattle.gts_checkpoint.specs.Sound.{is_held};
 ghost use Rattle.gts_event.specs.State.{has, last_of};
 ghost use Rattle.gts_event.specs.Need.{is_sound, keeps_one};
 ghost use Rattle.gts_event.specs.Items.{bulletin_of};
-ghost use Rattle.gts_migrate.specs.Migrating.{TakesOver, goes_over, circuit_need_of, need_of, need_at, unused_of};
+ghost use Rattle.gts_migrate.specs.Migrating.{TakesOver, goes_on, circuit_need_of, need_of, need_at, unused_of};
 ghost use Rattle.gts_migrate.specs.Bringing.{circuits_under};
 
-use gts_checkpoint::{held_positions, is_among};
-use gts_directory::Directory;
+use gts_directory::{CircuitRow, Directory};
 use gts_event::{Bulletins, CircuitNeed, CircuitNeeds, Need, Places};
 use gts_traits::NoMemory;
 use std::alloc::Global;
@@ -26,6 +26,17 @@ fn unused() -> CircuitNeed
     }
 }
 
+/// What waits, and nothing where the circuit is closed.
+fn still_waiting(alloc: Global, waiting: &[u64], closed: bool) -> Result<Places, NoMemory>
+    ensures { IfOk result (λ still. still ≡ if closed then [] else waiting.now) }
+{
+    if closed {
+        return Ok(Places::new());
+    }
+    let still = Vec::from_slice(alloc, waiting)?;
+    Ok(Places::from_vec(still))
+}
+
 /// The last of the draws that are kept, as many as a row keeps; none where its numbers have other digits.
 fn still_kept(alloc: Global, kept: &[u64], same: bool, count: u32) -> Result<Places, NoMemory>
     ensures { IfOk result (λ still. still ≡ last_of count (if same then kept.now else [])) }
@@ -38,24 +49,25 @@ fn still_kept(alloc: Global, kept: &[u64], same: bool, count: u32) -> Result<Pla
     Ok(Places::from_vec(still))
 }
 
-/// What a circuit brings along: what waits, and the draws that can still be asked for. Nothing is owed.
+/// What a circuit brings along under its new row: what waits, and the draws that can still be asked for. Nothing is owed.
 fn bring(
     alloc: Global,
     circuit: &CircuitNeed,
+    row: &CircuitRow,
     same: bool,
-    count: u32,
 ) -> Result<CircuitNeed, NoMemory>
     ensures { IfOk result (λ found.
         circuit_need_of found ≡ record (circuit_need_of circuit.now) {
-          kept = last_of count (if same then circuit.now.kept else []);
+          waiting = if row.now.closed then [] else circuit.now.waiting;
+          kept = last_of row.now.kept (if same then circuit.now.kept else []);
           owed = [];
         }) }
 {
-    let waiting = Vec::from_slice(alloc, circuit.waiting.as_slice())?;
-    let kept = still_kept(alloc, circuit.kept.as_slice(), same, count)?;
+    let waiting = still_waiting(alloc, circuit.waiting.as_slice(), row.closed)?;
+    let kept = still_kept(alloc, circuit.kept.as_slice(), same, row.kept)?;
     Ok(CircuitNeed {
         draws: circuit.draws,
-        waiting: Places::from_vec(waiting),
+        waiting,
         kept,
         owed: Places::new(),
     })
@@ -81,7 +93,7 @@ fn bring_at(
     let circuits = need.circuits.as_slice();
     let row = new.circuit(c);
     let same = row.digits == old.circuit(c).digits;
-    bring(alloc, &circuits[c as usize], same, row.kept)
+    bring(alloc, &circuits[c as usize], row, same)
 }
 
 /// What is needed of each circuit of the new directory.
@@ -104,6 +116,29 @@ fn bring_each(
         circuits.push(alloc, circuit)?;
     }
     Ok(circuits)
+}
+
+/// What waits on circuits and what is kept there, in ascending order.
+fn held(alloc: Global, circuits: &[CircuitNeed]) -> Result<Vec<u64>, NoMemory>
+    ensures order { IfOk result (λ held. IsNonDecreasing held.items) }
+    ensures each { IfOk result (λ held. (position : ℕ) → has held.items position
+        ≡ is_held (map circuit_need_of circuits.now) position) }
+{
+    let mut held = Vec::new(alloc);
+    for circuit in circuits {
+        held.extend_from_slice(circuit.waiting.as_slice())?;
+        held.extend_from_slice(circuit.kept.as_slice())?;
+    }
+    held.sort_unstable();
+    Ok(held)
+}
+
+/// Whether a number is among numbers in ascending order.
+fn is_among(numbers: &[u64], number: u64) -> bool
+    requires { IsNonDecreasing numbers.now }
+    ensures { result ≡ has numbers.now number }
+{
+    numbers.binary_search(&number).is_ok()
 }
 
 /// The bulletins from a position on, and those among positions that are held.
@@ -130,11 +165,11 @@ pub(crate) fn bring_over(
     requires takes { TakesOver new.now old.now }
     requires sound { IsTrue (is_sound old.now (need_of need)) }
     ensures need { IfOk result (λ found. need_of found
-        ≡ need_at new.now (goes_over new.now old.now (need_of need))) }
+        ≡ need_at new.now (goes_on new.now old.now (need_of need))) }
     ensures keeps { OnOk result (IsTrue (keeps_one new.now)) }
 {
     let circuits = bring_each(alloc, &need, old, new)?;
-    let held = held_positions(alloc, circuits.as_slice())?;
+    let held = held(alloc, circuits.as_slice())?;
     let first = need.accepted.saturating_sub(u64::from(new.window()));
     let bulletins = keep_needed(alloc, need.bulletins, first, &held);
     Ok(Need {

@@ -12,6 +12,13 @@ use gts_traits::{Failed, NoMemory};
 pub enum MigrateFault {
     /// The journal could not be opened under the old directory.
     Open(OpenFault),
+    /// Something waits on a circuit that is closed in the new directory.
+    Waits {
+        /// The first such circuit.
+        circuit: u32,
+        /// How many bulletins wait there.
+        count: u64,
+    },
     /// The checkpoint and all draws that are due would pass the limit of the new directory.
     Full {
         /// The bytes of the journal beside them.

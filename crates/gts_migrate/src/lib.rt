@@ -4,6 +4,7 @@
 
 mod bringing;
 mod fault;
+mod leaving;
 mod migrating;
 
 pub use fault::MigrateFault;

@@ -4,12 +4,13 @@ ghost use Rattle.gts_traits.specs.{seen, said_by, Rose, EachSince};
 ghost use Rattle.gts_core.specs.Core.{Holds};
 ghost use Rattle.gts_journal.specs.{StandsOn, OnlySyncs};
 ghost use Rattle.gts_engine.specs.Compacting.{IsSizeAt};
-ghost use Rattle.gts_migrate.specs.Migrating.{DirectoryOf, TakesOver, State, NeedOf, need_of, need_at, goes_over, checkpoint_text};
+ghost use Rattle.gts_migrate.specs.Migrating.{DirectoryOf, TakesOver, State, NeedOf, need_of, need_at, goes_on, left_behind, waits_on_closed, checkpoint_text};
 ghost use Rattle.gts_migrate.specs.Migrating.{opens_any, files_open_any, OpensEitherAt, StaysEither, IsMigrated, GivesRoomFor, AnswersOpening, WasOpened, LeavesFiles, IsDiskFaultOf};
-ghost use Rattle.gts_migrate.specs.Migrating.{IsRoomFaultOf, IsWriteFaultOf, HasFewDue, IsBrought, CanMigrate, FitsFor};
+ghost use Rattle.gts_migrate.specs.Migrating.{IsRoomFaultOf, IsPreparedFaultOf, IsWriteFaultOf, AnswersWaiting, HasFewDue, IsBrought, CanMigrate, FitsFor};
 
 use crate::MigrateFault;
 use crate::bringing::bring_over;
+use crate::leaving::{check_waiting, count_waiting};
 use gts_checkpoint::{size, write};
 use gts_core::{Core, a_core_has_the_waiting_draws_of_its_state};
 use gts_directory::Directory;
@@ -20,22 +21,32 @@ use gts_recovery::open_core_any;
 use gts_traits::Station;
 use std::alloc::Global;
 
-/// Whether a checkpoint of this size leaves room for all draws that are due, under the limit of the new directory.
-fn check_room(core: &Core, old: &Directory, new: &Directory, size: u64) -> Result<(), MigrateFault>
+/// Whether a checkpoint of this size leaves room for all draws that are due, but for so many that are let go, under the limit of
+/// the new directory.
+fn check_room(
+    core: &Core,
+    old: &Directory,
+    new: &Directory,
+    size: u64,
+    left: u64,
+) -> Result<(), MigrateFault>
     requires takes { TakesOver new.now old.now }
     requires due { HasFewDue old.now core.now }
+    requires left { (s : State) → Holds old.now core.now s
+        → left ≡ left_behind new.now (need_at old.now s) }
     ensures room { (s : State) → Holds old.now core.now s
-        → let t = goes_over new.now old.now (need_at old.now s) in
+        → let t = goes_on new.now old.now (need_at old.now s) in
         IsSizeAt new.now t size → GivesRoomFor result new.now t }
     ensures kind { IfErr result IsRoomFaultOf }
 {
     let _ = old;
     a_core_has_the_waiting_draws_of_its_state();
-    check_checkpoint(new, size, core.waiting())?;
+    check_checkpoint(new, size, core.waiting() - left)?;
     Ok(())
 }
 
-/// The need that a core has under the new directory, with the size of its checkpoint, for which there is room.
+/// The need that a core has under the new directory, with the size of its checkpoint, for which there is room. Refused where
+/// something waits on a circuit that is closed there.
 fn prepare(
     alloc: Global,
     core: &Core,
@@ -49,14 +60,18 @@ fn prepare(
     ensures keeps { OnOk result (IsTrue (keeps_one new.now)) }
     ensures size { IfOk result (λ found.
         found.1 ≡ min (length (checkpoint_text (need_of found.0))) (2 ^ 64 - 1)) }
+    ensures waiting { (s : State) → Holds old.now core.now s
+        → AnswersWaiting result (waits_on_closed new.now (need_at old.now s)) }
     ensures room { (s : State) → Holds old.now core.now s
-        → GivesRoomFor result new.now (goes_over new.now old.now (need_at old.now s)) }
-    ensures kind { IfErr result IsRoomFaultOf }
+        → GivesRoomFor result new.now (goes_on new.now old.now (need_at old.now s)) }
+    ensures kind { IfErr result IsPreparedFaultOf }
 {
     let need = core.need(alloc)?;
+    check_waiting(&need, new)?;
+    let left = count_waiting(&need, new);
     let brought = bring_over(alloc, need, old, new)?;
     let size = size(&brought);
-    check_room(core, old, new, size)?;
+    check_room(core, old, new, size, left)?;
     Ok((brought, size))
 }
 
@@ -111,7 +126,10 @@ fn take_over<P: Station>(
         → OnOk result (IsMigrated old.now new.now s (P.calls station.old) (P.calls station.new)) }
     ensures full { P.tells → (s : State) (used : ℕ)
         → files_open_any old.now (seen (P.calls station.old)) ≡ Ok (s, used)
-        → GivesRoomFor result new.now (goes_over new.now old.now (need_at old.now s)) }
+        → GivesRoomFor result new.now (goes_on new.now old.now (need_at old.now s)) }
+    ensures waiting { P.tells → (s : State) (used : ℕ)
+        → files_open_any old.now (seen (P.calls station.old)) ≡ Ok (s, used)
+        → AnswersWaiting result (waits_on_closed new.now (need_at old.now s)) }
     ensures opening { P.tells
         → AnswersOpening result (opens_any old.now (seen (P.calls station.old))) }
     ensures silent { P.tells → said_by (P.calls station.new) ≡ said_by (P.calls station.old) }
@@ -130,8 +148,9 @@ fn take_over<P: Station>(
 }
 
 /// Takes a journal over under a directory that takes over from its own. The journal, of either version, is opened under the old
-/// directory; its other file gets a checkpoint of all that later answers depend on under the new directory, and is selected. Nothing is said. `Full` where that and all draws that are due would pass the new limit; nothing
-/// is written then.
+/// directory; its other file gets a checkpoint of all that later answers depend on under the new directory, and is selected.
+/// Nothing is said. `Waits` where something waits on a circuit that is closed in the new directory, `Full` where the checkpoint
+/// and all draws that are due would pass the new limit; nothing is written then.
 pub fn migrate<P: Station>(
     alloc: Global,
     station: P,
@@ -149,7 +168,12 @@ pub fn migrate<P: Station>(
         → OnOk result.1 (IsMigrated old.now new s (P.calls station) (P.calls result.0)) }
     ensures full { P.tells → (s : State) (used : ℕ)
         → files_open_any old.now (seen (P.calls station)) ≡ Ok (s, used)
-        → GivesRoomFor result.1 new (goes_over new old.now (need_at old.now s)) }
+        → GivesRoomFor result.1 new (goes_on new old.now (need_at old.now s)) }
+
+    // What waits on a circuit that is closed in the new directory is told, and refused.
+    ensures waiting { P.tells → (s : State) (used : ℕ)
+        → files_open_any old.now (seen (P.calls station)) ≡ Ok (s, used)
+        → AnswersWaiting result.1 (waits_on_closed new (need_at old.now s)) }
 
     // A fault of the files is answered exactly where they open to it, in the version that they have.
     ensures opening { P.tells

@@ -7,14 +7,14 @@ use Rattle.gts_event.specs.History.{restarted}
 use Rattle.gts_event.specs.Need.{Need, need}
 use Rattle.gts_event.specs.Items.{need_of}
 use Rattle.gts_opening.specs.Room.{full_compacted}
-use Rattle.gts_recovery.specs.TakenOver.{goes_over}
+use Rattle.gts_migrate.specs.LettingGo.{goes_on, waits_on_closed}
 use Rattle.gts_recovery.specs.Opened.{opens_any}
 use Rattle.gts_traits.specs.Disk.{seen}
 use Rattle.gts_record.specs.declared.fault.OpenFault.{OpenFault}
 use Rattle.gts_migrate.specs.declared.fault.MigrateFault.{MigrateFault}
-use Rattle.gts_migrate.specs.declared.fault.MigrateFault.TheVariants.{Open, Full, DiskFault, NoMemory}
-use Rattle.gts_migrate.specs.Migrating.{OpensEither, IsRoomAnswer, IsRoomFaultOf, AnswersOpening}
-use Rattle.gts_migrate.proofs.MigratingLemmas.{fits_for, can_migrate, state_is, need_is, opens_so, at_rest, room_after, opening_after, told_after, disk_after, migrated_after}
+use Rattle.gts_migrate.specs.declared.fault.MigrateFault.TheVariants.{Open, Waits, Full, DiskFault, NoMemory}
+use Rattle.gts_migrate.specs.Migrating.{OpensEither, IsRoomAnswer, AnswersWaiting, IsPreparedFaultOf, AnswersOpening}
+use Rattle.gts_migrate.proofs.MigratingLemmas.{fits_for, can_migrate, state_is, need_is, opens_so, at_rest, room_after, waiting_after, opening_after, told_after, disk_after, migrated_after}
 use Rattle.gts_migrate.proofs.migrating.take_over.Goals as goal
 
 pub rewrite-requires-clause-fits : goal.rewrite-requires-clause-fits
@@ -74,9 +74,24 @@ returns-clause-full g c = λ tell s used is.
     let before = g.P.Station.calls c.args.station.now in
     let synced = c.in_ok-core.ensures.synced tell in
     let same = state_is g.P.Station.tells old new c.requires mid core j o tell before synced s used is in
-    let free : full_compacted new (goes_over new old (need old o.state)) ≡ None = c.in_ok-need.ensures.room o.state o.kept.holds in
-    room_after c.rewrite.result new (goes_over new old (need old s)) c.rewrite.ensures.kind
-    (subst (λ (t : State). full_compacted new (goes_over new old (need old t)) ≡ None) (sym same) free)
+    let free : full_compacted new (goes_on new old (need old o.state)) ≡ None = c.in_ok-need.ensures.room o.state o.kept.holds in
+    room_after c.rewrite.result new (goes_on new old (need old s)) c.rewrite.ensures.kind
+    (subst (λ (t : State). full_compacted new (goes_on new old (need old t)) ≡ None) (sym same) free)
+
+pub returns-clause-waiting : goal.returns-clause-waiting
+returns-clause-waiting g c = λ tell s used is.
+    let old = c.args.old.now in
+    let new = c.args.new.now in
+    let mid = g.P.Station.calls c.open_core_any.new.station in
+    let core = c.in_ok-core.core in
+    let j = c.in_ok-core.journal in
+    let o = c.in_ok-core.ensures.opened in
+    let before = g.P.Station.calls c.args.station.now in
+    let synced = c.in_ok-core.ensures.synced tell in
+    let same = state_is g.P.Station.tells old new c.requires mid core j o tell before synced s used is in
+    let none : waits_on_closed new (need old o.state) ≡ None = c.in_ok-need.ensures.waiting o.state o.kept.holds in
+    waiting_after c.rewrite.result (waits_on_closed new (need old s)) c.rewrite.ensures.kind
+    (subst (λ (t : State). waits_on_closed new (need old t) ≡ None) (sym same) none)
 
 pub returns-clause-opening : goal.returns-clause-opening
 returns-clause-opening g c = λ tell.
@@ -126,11 +141,12 @@ returns-in_err-need-clause-full g c = λ tell s used is.
     let synced = c.in_ok-core.ensures.synced tell in
     let p = err_from_is_err_and c.from_residual-in_err-need.result c.from_residual-in_err-need.ensures.1 in
     rw (p.1, p.2)
-    (subst (λ (t : State). IsRoomAnswer c.in_err-need.field-0.0 new (goes_over new old (need old t))) (sym (state_is g.P.Station.tells old new c.requires mid core j o tell before synced s used is))
+    (subst (λ (t : State). IsRoomAnswer c.in_err-need.field-0.0 new (goes_on new old (need old t))) (sym (state_is g.P.Station.tells old new c.requires mid core j o tell before synced s used is))
     (c.in_err-need.ensures.room o.state o.kept.holds))
 
--- where there was no room or no memory, the files opened
-opening_before : (fault : MigrateFault) (opened : Result Need OpenFault) (n : Need) → IsRoomFaultOf fault → opened ≡ Ok n → AnswersOpening (Err fault) opened
+-- where it was refused before anything was written, the files opened
+opening_before : (fault : MigrateFault) (opened : Result Need OpenFault) (n : Need) → IsPreparedFaultOf fault → opened ≡ Ok n → AnswersOpening (Err fault) opened
+opening_before (Waits circuit count) opened n kind is = (n, is)
 opening_before (Full at wanted limit) opened n kind is = (n, is)
 opening_before NoMemory opened n kind is = (n, is)
 opening_before (Open e) opened n kind is = absurd kind
@@ -150,3 +166,19 @@ returns-in_err-need-clause-opening g c = λ tell.
     rw (p.1, p.2)
     (opening_before c.in_err-need.field-0.0 (opens_any old (seen before)) (need old (restarted old o.state)) c.in_err-need.ensures.kind
     (opens_so g.P.Station.tells old new c.requires mid core j o tell before synced))
+
+pub returns-in_err-need-clause-waiting : goal.returns-in_err-need-clause-waiting
+returns-in_err-need-clause-waiting g c = λ tell s used is.
+    let old = c.args.old.now in
+    let new = c.args.new.now in
+    let mid = g.P.Station.calls c.open_core_any.new.station in
+    let core = c.in_ok-core.core in
+    let j = c.in_ok-core.journal in
+    let o = c.in_ok-core.ensures.opened in
+    let before = g.P.Station.calls c.args.station.now in
+    let synced = c.in_ok-core.ensures.synced tell in
+    let p = err_from_is_err_and c.from_residual-in_err-need.result c.from_residual-in_err-need.ensures.1 in
+    rw (p.1, p.2)
+    (subst (λ (t : State). AnswersWaiting (Err c.in_err-need.field-0.0) (waits_on_closed new (need old t)))
+    (sym (state_is g.P.Station.tells old new c.requires mid core j o tell before synced s used is))
+    (c.in_err-need.ensures.waiting o.state o.kept.holds))

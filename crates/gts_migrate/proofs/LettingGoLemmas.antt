@@ -1,0 +1,216 @@
+-- What is let go under a directory in which circuits are closed: the state stays one that a history can have.
+use Rattle.std.proofs.Common.{◌≡◌, ℕ, zero, suc, ◌+◌, ◌<◌, ◌≤◌, Bool, true, false, not, cond, ◌&&◌, ◌==◌, nat_lt, List, [], ◌∷◌, length, map, filter, get_or, drop, zip, slice_get, None, Some, refl, sym, ap, ◌∙◌, arith}
+use Rattle.std.specs.List.{list_all, sum_by}
+use Rattle.std.proofs.lemmas.Bool.{and_parts}
+use Rattle.std.proofs.lemmas.List.Sums.{sum_by-cons}
+use Rattle.gts_directory.specs.Directory.{Directory, Circuit}
+use Rattle.gts_directory.specs.TakingOver.{KeepsPlace, BeginWith, TakesOver}
+use Rattle.gts_event.specs.State.{State, CircuitState, idle, has, draws, waiting, on_circuit}
+use Rattle.gts_event.specs.History.{restarted}
+use Rattle.gts_event.specs.Need.{Need, CircuitNeed, unused, need, circuit_need, begun, begun_circuit, is_sound, are_below, owes_kept, IsOrdered}
+use Rattle.gts_event.specs.Held.{HeldCircuit, IsHeld}
+use Rattle.gts_event.proofs.LawLemmas.{sound-parts, sound-held, waiting-left}
+use Rattle.gts_opening.specs.Journal.{due}
+use Rattle.gts_recovery.specs.TakenOver.{brought, each_brought, goes_over}
+use Rattle.gts_recovery.proofs.LawLemmas.{held-over, over-restarted}
+use Rattle.gts_migrate.specs.LettingGo.{emptied, each_let_go, let_go, goes_on, waits_closed, waiting_closed, left_behind, first_waiting}
+
+-- ---- the state
+
+length-let_go : (rows : List Circuit) (qs : List CircuitState) → length qs ≡ length rows → length (each_let_go rows qs) ≡ length rows
+length-let_go [] qs e = e
+length-let_go (row ∷ rows) [] e = absurd (omega (arith, e))
+length-let_go (row ∷ rows) (q ∷ qs) e = ap suc (length-let_go rows qs (omega (arith, e)))
+
+both_true : (a b : Bool) → a ≡ true → b ≡ true → (a && b) ≡ true
+both_true a b e f = rw e f
+
+below_let_go : (count : ℕ) (rows : List Circuit) (qs : List CircuitState) → list_all (are_below count) qs ≡ true → list_all (are_below count) (each_let_go rows qs) ≡ true
+below_let_go count [] qs h = h
+below_let_go count (row ∷ rows) [] h = refl
+below_let_go count (row ∷ rows) (q ∷ qs) h =
+    let both = and_parts (are_below count q) (list_all (are_below count) qs) h in
+    both_true (are_below count (cond row.closed (emptied q) q)) (list_all (are_below count) (each_let_go rows qs)) (here row.closed both.0) (below_let_go count rows qs both.1)
+  where
+    here : (closed : Bool) → are_below count q ≡ true → are_below count (cond closed (emptied q) q) ≡ true
+    here false e = e
+    here true e = (and_parts (list_all (λ p. nat_lt p count) q.routed) (list_all (λ p. nat_lt p count) q.taken) e).1
+
+-- what is owed is kept as before
+owes_let_go : (rows gone : List Circuit) (qs : List CircuitState) → list_all owes_kept (map (λ row. circuit_need row.0.kept row.1) (zip rows qs)) ≡ true
+    → list_all owes_kept (map (λ row. circuit_need row.0.kept row.1) (zip rows (each_let_go gone qs))) ≡ true
+owes_let_go rows [] qs h = h
+owes_let_go [] (row ∷ gone) [] h = refl
+owes_let_go (r ∷ rows) (row ∷ gone) [] h = refl
+owes_let_go [] (row ∷ gone) (q ∷ qs) h = refl
+owes_let_go (r ∷ rows) (row ∷ gone) (q ∷ qs) h =
+    let both = and_parts (owes_kept (circuit_need r.kept q)) (list_all owes_kept (map (λ row. circuit_need row.0.kept row.1) (zip rows qs))) h in
+    both_true (owes_kept (circuit_need r.kept (cond row.closed (emptied q) q))) (list_all owes_kept (map (λ row. circuit_need row.0.kept row.1) (zip rows (each_let_go gone qs))))
+    (here row.closed both.0) (owes_let_go rows gone qs both.1)
+  where
+    here : (closed : Bool) → owes_kept (circuit_need r.kept q) ≡ true → owes_kept (circuit_need r.kept (cond closed (emptied q) q)) ≡ true
+    here false e = e
+    here true e = e
+
+-- a circuit that is emptied is held as before
+held_emptied : (s : State) (q : CircuitState) → HeldCircuit s.accepted s.count q → HeldCircuit s.accepted s.count (emptied q)
+held_emptied s q h = record {
+  few = let few = h.few in omega (arith, few);
+  up = tt;
+  once = h.once;
+  routed_there = refl;
+  taken_there = h.taken_there;
+  owes_few = h.owes_few;
+}
+
+held_each : (s : State) (rows : List Circuit) (qs : List CircuitState)
+    → ((c : ℕ) → c < length qs → HeldCircuit s.accepted s.count (get_or qs c idle))
+    → (c : ℕ) → c < length qs → HeldCircuit s.accepted s.count (get_or (each_let_go rows qs) c idle)
+held_each s [] qs all c lt = all c lt
+held_each s (row ∷ rows) [] all c lt = absurd (omega (arith, lt))
+held_each s (row ∷ rows) (q ∷ qs) all zero lt = here row.closed (all 0 (omega arith))
+  where
+    here : (closed : Bool) → HeldCircuit s.accepted s.count q → HeldCircuit s.accepted s.count (cond closed (emptied q) q)
+    here false e = e
+    here true e = held_emptied s q e
+held_each s (row ∷ rows) (q ∷ qs) all (suc c) lt = held_each s rows qs (λ d low. all (suc d) (omega (arith, low))) c (omega (arith, lt))
+
+held-let_go : (d : Directory) (s : State) → IsHeld d s → IsHeld d (let_go d s)
+held-let_go d s h =
+    let same = h.ordered.circuits in
+    record {
+      ordered = record {
+        circuits = length-let_go d.circuits s.circuits same;
+        below = below_let_go s.count d.circuits s.circuits h.ordered.below;
+        owed = owes_let_go d.circuits d.circuits s.circuits h.ordered.owed;
+      };
+      bodies = h.bodies;
+      order = h.order;
+      recent = h.recent;
+      each = λ c lt. held_each s d.circuits s.circuits (λ k low. h.each k (omega (arith, low, same))) c (omega (arith, lt, same));
+    }
+
+-- ---- the state in which a need goes on
+
+pub held-on : (new old : Directory) (n : Need) → TakesOver new old → is_sound old n ≡ true → IsHeld new (goes_on new old n)
+held-on new old n e h = held-let_go new (goes_over new old n) (held-over new old n e h)
+
+pub sound-on : (new old : Directory) (n : Need) → TakesOver new old → is_sound old n ≡ true → is_sound new (need new (goes_on new old n)) ≡ true
+sound-on new old n e h = sound-held new (goes_on new old n) (sound-parts old n h).few (held-on new old n e h)
+
+pub on-restarted : (new old : Directory) (s : State) → goes_on new old (need old (restarted old s)) ≡ goes_on new old (need old s)
+on-restarted new old s = ap (let_go new) (over-restarted new old s)
+
+-- ---- what is due
+
+all_left : (xs : List ℕ) → filter (λ p. not (has [] p)) xs ≡ xs
+all_left [] = refl
+all_left (x ∷ xs) = ap (λ (ys : List ℕ). x ∷ ys) (all_left xs)
+
+-- what waits on a circuit is brought along or let go
+waits_brought : (row next : Circuit) (k : ℕ) (q : CircuitState)
+    → length (waiting (cond next.closed (emptied (begun_circuit (brought row next (circuit_need k q)))) (begun_circuit (brought row next (circuit_need k q)))))
+    + waits_closed next (circuit_need k q)
+    ≡ length (waiting q)
+waits_brought row next k q = go next.closed (next.digits == row.digits)
+  where
+    abbrev here : Bool → CircuitState
+    here same = begun_circuit (record (circuit_need k q) { kept = cond same (circuit_need k q).kept []; owed = [] })
+
+    go : (closed same : Bool) → length (waiting (cond closed (emptied (here same)) (here same))) + cond closed (length (waiting q)) 0 ≡ length (waiting q)
+    go false true = let same = ap (λ (ps : List ℕ). length ps) (waiting-left k q) in omega (arith, same)
+    go false false = let same = ap (λ (ps : List ℕ). length ps) (all_left (waiting q)) in omega (arith, same)
+    go true same = refl
+
+none_closed : (rows : List Circuit) → waiting_closed rows [] ≡ 0
+none_closed [] = refl
+none_closed (row ∷ rows) = refl
+
+due_none : (new : List Circuit) → sum_by (λ (q : CircuitState). length (waiting q)) (each_let_go new (map begun_circuit (each_brought [] new []))) ≡ 0
+due_none [] = refl
+due_none (next ∷ new) =
+    let f : CircuitState → ℕ = λ q. length (waiting q) in
+    let here : CircuitState = cond next.closed (emptied (begun_circuit unused)) (begun_circuit unused) in
+    let first = sum_by-cons f here (each_let_go new (map begun_circuit (each_brought [] new []))) in
+    let none = nothing next.closed in
+    let rest = due_none new in
+    omega (arith, first, none, rest)
+  where
+    nothing : (closed : Bool) → length (waiting (cond closed (emptied (begun_circuit unused)) (begun_circuit unused))) ≡ 0
+    nothing false = refl
+    nothing true = refl
+
+due_each : (old new : List Circuit) (qs : List CircuitState) → length qs ≡ length old → BeginWith KeepsPlace old new
+    → sum_by (λ (q : CircuitState). length (waiting q)) (each_let_go new (map begun_circuit (each_brought old new (map (λ row. circuit_need row.0.kept row.1) (zip old qs)))))
+    + waiting_closed new (map (λ row. circuit_need row.0.kept row.1) (zip old qs))
+    ≡ sum_by (λ (q : CircuitState). length (waiting q)) qs
+due_each [] new [] e stays = let none = due_none new in let left = none_closed new in omega (arith, none, left)
+due_each [] new (q ∷ qs) e stays = absurd (omega (arith, e))
+due_each (row ∷ old) new [] e stays = absurd (omega (arith, e))
+due_each (row ∷ old) [] (q ∷ qs) e stays = absurd stays
+due_each (row ∷ old) (next ∷ new) (q ∷ qs) e stays =
+    let f : CircuitState → ℕ = λ x. length (waiting x) in
+    let c : CircuitNeed = circuit_need row.kept q in
+    let cs : List CircuitNeed = map (λ row. circuit_need row.0.kept row.1) (zip old qs) in
+    let brought_here : CircuitState = begun_circuit (brought row next c) in
+    let here : CircuitState = cond next.closed (emptied brought_here) brought_here in
+    let first = sum_by-cons f here (each_let_go new (map begun_circuit (each_brought old new cs))) in
+    let all = sum_by-cons f q qs in
+    let one = waits_brought row next row.kept q in
+    let rest = due_each old new qs (omega (arith, e)) stays.1 in
+    omega (arith, first, all, one, rest)
+
+pub due-on : (new old : Directory) (s : State) → TakesOver new old → IsOrdered old s → due (goes_on new old (need old s)) + left_behind new (need old s) ≡ due s
+due-on new old s e o = due_each old.circuits new.circuits s.circuits o.circuits e.circuits
+
+-- ---- the loops over what waits on closed circuits
+
+at_least : (old new : List Circuit) → BeginWith KeepsPlace old new → length old ≤ length new
+at_least [] new h = omega arith
+at_least (row ∷ old) [] h = absurd h
+at_least (row ∷ old) (next ∷ new) h = let rest = at_least old new h.1 in omega (arith, rest)
+
+pub no_more : (new old : Directory) (n : Need) → TakesOver new old → is_sound old n ≡ true → length n.circuits ≤ length new.circuits
+no_more new old n e h = let few = at_least old.circuits new.circuits e.circuits in let same = (sound-parts old n h).same in omega (arith, few, same)
+
+-- one circuit more was looked at
+pub closed_at : (rows : List Circuit) (cs : List CircuitNeed) (c : ℕ) (row : Circuit) → slice_get rows c ≡ Some row → c < length cs
+    → waiting_closed (drop c rows) (drop c cs) ≡ waits_closed row (get_or cs c unused) + waiting_closed (drop (suc c) rows) (drop (suc c) cs)
+closed_at [] cs c row there lt = absurd (cc)
+closed_at (r ∷ rows) [] c row there lt = absurd (omega (arith, lt))
+closed_at (r ∷ rows) (q ∷ cs) zero row there lt = let same : r ≡ row = cc in ap (λ (x : Circuit). waits_closed x q + waiting_closed rows cs) same
+closed_at (r ∷ rows) (q ∷ cs) (suc c) row there lt = closed_at rows cs c row there (omega (arith, lt))
+
+pub first_at : (k : ℕ) (rows : List Circuit) (cs : List CircuitNeed) (c : ℕ) (row : Circuit) → slice_get rows c ≡ Some row → c < length cs
+    → first_waiting k (drop c rows) (drop c cs)
+    ≡ cond (row.closed && nat_lt 0 (length (get_or cs c unused).waiting)) (Some (k, length (get_or cs c unused).waiting)) (first_waiting (k + 1) (drop (suc c) rows) (drop (suc c) cs))
+first_at k [] cs c row there lt = absurd (cc)
+first_at k (r ∷ rows) [] c row there lt = absurd (omega (arith, lt))
+first_at k (r ∷ rows) (q ∷ cs) zero row there lt =
+    let same : r ≡ row = cc in
+    ap (λ (x : Circuit). cond (x.closed && nat_lt 0 (length q.waiting)) (Some (k, length q.waiting)) (first_waiting (k + 1) rows cs)) same
+first_at k (r ∷ rows) (q ∷ cs) (suc c) row there lt = first_at k rows cs c row there (omega (arith, lt))
+
+-- all were looked at
+pub closed_end : (rows : List Circuit) (cs : List CircuitNeed) (c : ℕ) → length cs ≤ c → waiting_closed (drop c rows) (drop c cs) ≡ 0
+closed_end rows [] zero le = none_closed rows
+closed_end rows (q ∷ cs) zero le = absurd (omega (arith, le))
+closed_end [] [] (suc c) le = refl
+closed_end [] (q ∷ cs) (suc c) le = refl
+closed_end (row ∷ rows) [] (suc c) le = closed_none rows c
+  where
+    closed_none : (rows : List Circuit) (c : ℕ) → waiting_closed (drop c rows) [] ≡ 0
+    closed_none rows c = none_closed (drop c rows)
+closed_end (row ∷ rows) (q ∷ cs) (suc c) le = closed_end rows cs c (omega (arith, le))
+
+none_first : (k : ℕ) (rows : List Circuit) → first_waiting k rows [] ≡ None
+none_first k [] = refl
+none_first k (row ∷ rows) = refl
+
+pub first_end : (k : ℕ) (rows : List Circuit) (cs : List CircuitNeed) (c : ℕ) → length cs ≤ c → first_waiting k (drop c rows) (drop c cs) ≡ None
+first_end k rows [] zero le = none_first k rows
+first_end k rows (q ∷ cs) zero le = absurd (omega (arith, le))
+first_end k [] [] (suc c) le = refl
+first_end k [] (q ∷ cs) (suc c) le = refl
+first_end k (row ∷ rows) [] (suc c) le = none_first k (drop c rows)
+first_end k (row ∷ rows) (q ∷ cs) (suc c) le = first_end k rows cs c (omega (arith, le))
