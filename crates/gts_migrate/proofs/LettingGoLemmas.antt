@@ -107,6 +107,10 @@ all_left : (xs : List ℕ) → filter (λ p. not (has [] p)) xs ≡ xs
 all_left [] = refl
 all_left (x ∷ xs) = ap (λ (ys : List ℕ). x ∷ ys) (all_left xs)
 
+-- a circuit as it is brought along
+abbrev under_row : ℕ → CircuitState → Bool → CircuitState
+under_row k q same = begun_circuit (record (circuit_need k q) { kept = cond same (circuit_need k q).kept []; owed = [] })
+
 -- what waits on a circuit is brought along or let go
 waits_brought : (row next : Circuit) (k : ℕ) (q : CircuitState)
     → length (waiting (cond next.closed (emptied (begun_circuit (brought row next (circuit_need k q)))) (begun_circuit (brought row next (circuit_need k q)))))
@@ -114,10 +118,7 @@ waits_brought : (row next : Circuit) (k : ℕ) (q : CircuitState)
     ≡ length (waiting q)
 waits_brought row next k q = go next.closed (next.digits == row.digits)
   where
-    abbrev here : Bool → CircuitState
-    here same = begun_circuit (record (circuit_need k q) { kept = cond same (circuit_need k q).kept []; owed = [] })
-
-    go : (closed same : Bool) → length (waiting (cond closed (emptied (here same)) (here same))) + cond closed (length (waiting q)) 0 ≡ length (waiting q)
+    go : (closed same : Bool) → length (waiting (cond closed (emptied (under_row k q same)) (under_row k q same))) + cond closed (length (waiting q)) 0 ≡ length (waiting q)
     go false true = let same = ap (λ (ps : List ℕ). length ps) (waiting-left k q) in omega (arith, same)
     go false false = let same = ap (λ (ps : List ℕ). length ps) (all_left (waiting q)) in omega (arith, same)
     go true same = refl
