@@ -19,6 +19,7 @@ fn a_bulletin_is_put_drawn_and_freed(rt: HostRuntime) -> Result<(), Fail> {
     store.release(0);
     store.drew(1, 0);
     assert_eq!(rt; store.position_of(1, 0), Some(0));
+    assert_eq!(rt; store.count_kept(1), 1);
     assert_eq!(rt; store.index_of_number(1, 1, 5), Some(0));
     assert_eq!(rt; store.index_of_heading(1, &heading), Some(0));
     store.skip(0, 1000);

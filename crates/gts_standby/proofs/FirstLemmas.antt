@@ -301,7 +301,7 @@ opens_there d mid opened s stands current =
     ap (λ (r : Read). by_opened (opened_of r)) opens_to
   where
     by_opened : Opened → Result Need OpenFault
-    by_opened o = elim o as (λ _. Result Need OpenFault) [ Err f ↦ Err f | Ok x ↦ Ok (need d (restarted x.0)) ]
+    by_opened o = elim o as (λ _. Result Need OpenFault) [ Err f ↦ Err f | Ok x ↦ Ok (need d (restarted d x.0)) ]
 
 -- ---- the whole
 

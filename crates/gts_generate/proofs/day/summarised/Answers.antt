@@ -14,4 +14,4 @@ returns c =
     let ends = c.requires.ends in
     let text : List ℕ = summary_text c.args.count (said_by (calls_on station)) n used in
     c.in_ok-summary.ensures ∙ ap (λ (t : List ℕ). t ++ text) c.new-text.ensures
-    ∙ summed c.args.count e station n used ends c.in_ok-need.ensures (c.used-used.ensures.used ends.going) c.into_parts-station.ensures.station
+    ∙ summed c.args.count e station n used ends c.in_ok-need.ensures c.used-used.ensures.used c.into_parts-station.ensures.station

@@ -79,6 +79,9 @@ returns-in-Err-clause-added g c = λ tells told s fed h read.
       moments = moments_open d s _ j (h.stands tells) r (record { sound = c.in-Some.ensures.sound; admitted = sym ok }) _ (c.append.ensures.moments tells);
     }
 
+pub append-requires-clause-version : goal.append-requires-clause-version
+append-requires-clause-version g c = c.requires.current
+
 pub pass-requires : goal.pass-requires
 pass-requires g c =
     let r : texts.Record = record_of c.in-Some.found.0 in

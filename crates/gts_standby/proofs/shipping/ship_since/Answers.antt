@@ -67,7 +67,7 @@ returns-then-branch-clause-said g c = λ tells.
     let first = c.in_ok-open_core.ensures.synced tells in
     let second = c.in_ok-journal.ensures.synced tells in
     let on : c.in_ok-look_for.field-0 ≡ true = search rules in
-    says_opened c.say_records.result d old now new (need d (restarted o.state)) (since_of d old c.args.since.now) (opened_to d old mid c.in_ok-open_core.field-0.1 o.state first (o.stands tells) o.current) (twice_quiet old mid now first second)
+    says_opened c.say_records.result d old now new (need d (restarted d o.state)) (since_of d old c.args.since.now) (opened_to d old mid c.in_ok-open_core.field-0.1 o.state first (o.stands tells) o.current) (twice_quiet old mid now first second)
     (rest_since c.say_records.result d old mid now look new c.in_ok-journal.journal c.look_for.new.journal c.args.since.now (c.used-end.result - 1) c.in_ok-look_for.field-0 first second c.in_ok-journal.ensures.version
     (c.in_ok-journal.ensures.stands tells) (c.in_ok-look_for.ensures.told tells) on (c.in_ok-look_for.ensures.found tells) (c.say_records.ensures.said tells d))
 
@@ -136,7 +136,7 @@ returns-clause-said g c = λ tells.
     let told = c.in_ok-look_for.ensures.told tells in
     let third = c.in_ok-whole.ensures.synced tells in
     let off : c.in_ok-look_for.field-0 ≡ false = search rules in
-    says_opened c.say_feed.result d old again new (need d (restarted o.state)) (since_of d old c.args.since.now) (opened_to d old mid c.in_ok-open_core.field-0.1 o.state first (o.stands tells) o.current)
+    says_opened c.say_feed.result d old again new (need d (restarted d o.state)) (since_of d old c.args.since.now) (opened_to d old mid c.in_ok-open_core.field-0.1 o.state first (o.stands tells) o.current)
     (again_quietly old mid now look again first second told third)
     (rest_whole c.say_feed.result d old mid now look again new c.in_ok-journal.journal c.look_for.new.journal c.in_ok-whole.whole c.args.since.now (c.used-end.result - 1) c.in_ok-look_for.field-0 first second c.in_ok-journal.ensures.version
     (c.in_ok-journal.ensures.stands tells) told off (c.in_ok-look_for.ensures.found tells) third c.in_ok-whole.ensures.version (c.in_ok-whole.ensures.stands tells) (c.say_feed.ensures.said tells))
