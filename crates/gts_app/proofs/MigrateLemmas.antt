@@ -20,13 +20,13 @@ use Rattle.gts_record.specs.declared.fault.OpenFault.TheVariants as opening
 use Rattle.gts_journal.specs.{OnlySyncs}
 use Rattle.gts_opening.specs.Journal.{Opened}
 use Rattle.gts_opening.specs.Room.{full_compacted}
-use Rattle.gts_recovery.specs.TakenOver.{goes_over}
 use Rattle.gts_recovery.specs.Opened.{opens_any, files_open_any}
-use Rattle.gts_migrate.specs.Migrating.{OpensEither, IsMigrated, GivesRoomFor, AnswersOpening, WasOpened, LeavesFiles, IsDiskFaultOf}
+use Rattle.gts_migrate.specs.LettingGo.{goes_on, waits_on_closed}
+use Rattle.gts_migrate.specs.Migrating.{OpensEither, IsMigrated, GivesRoomFor, AnswersWaiting, AnswersOpening, WasOpened, LeavesFiles, IsDiskFaultOf}
 use Rattle.gts_migrate.specs.declared.fault.MigrateFault.{MigrateFault}
 use Rattle.gts_migrate.specs.declared.fault.MigrateFault.TheVariants as fault
 use Rattle.gts_app.specs.declared.status.Status.{Status}
-use Rattle.gts_app.specs.declared.status.Status.TheVariants.{Done, Words, Directory, OldDirectory, Changed, Capture, NoJournal, OldVersion, NotThis, Damaged, Exists, Accum, Feed, Diverged, DiskFault, SourceFault, SayFault, Full, LineFault, LongSession, Spent, NoMemory}
+use Rattle.gts_app.specs.declared.status.Status.TheVariants.{Done, Words, Directory, OldDirectory, Changed, Waits, Capture, NoJournal, OldVersion, NotThis, Damaged, Exists, Accum, Feed, Diverged, DiskFault, SourceFault, SayFault, Full, LineFault, LongSession, Spent, NoMemory}
 use Rattle.gts_app.specs.Ending.{refusal}
 use Rattle.gts_app.specs.Reading.{IsOldReadEnd, ReadsDirectory, ReadsOldDirectory}
 use Rattle.gts_app.specs.Replay.{world}
@@ -50,6 +50,7 @@ old_ended Done h = absurd h
 old_ended Words h = absurd h
 old_ended (Directory _) h = absurd h
 old_ended (Changed _ _) h = absurd h
+old_ended (Waits _ _) h = absurd h
 old_ended (Capture _) h = absurd h
 old_ended NoJournal h = absurd h
 old_ended OldVersion h = absurd h
@@ -79,7 +80,9 @@ new_unread {S} {P} source station status od nd oc at h =
       old_refused = λ tells new e read bad calm. inr (only_memory tells new read calm.0 end);
       changed = λ tells new old c read first calm. inr (only_memory tells new read.0 calm.0 end);
       answered = λ tells told new old e read takes bad calm quiet. inr (only_memory tells new read.0 calm.0 end);
-      complete = λ tells told new old s used read takes is free calm quiet. inr (only_memory tells new read.0 calm.0 end);
+      waiting = λ tells told new old s used found read takes is waits calm quiet. inr (only_memory tells new read.0 calm.0 end);
+      complete = λ tells told new old s used read takes is none free calm quiet. inr (only_memory tells new read.0 calm.0 end);
+      unread = λ tells e bad. refl;
       taken = h.taken;
       old_taken = none_taken source oc;
       counts = (h.cause.later, omega arith, omega arith, refl);
@@ -112,7 +115,9 @@ old_unread {S} {P} source station status d od nd oc nc at first h =
       old_refused = λ tells new e read bad calm. refused tells e bad calm.1 end;
       changed = λ tells new old c read first calm. inr (only_memory tells old read.1 calm.1 end);
       answered = λ tells told new old e read takes bad calm quiet. inr (only_memory tells old read.1 calm.1 end);
-      complete = λ tells told new old s used read takes is free calm quiet. inr (only_memory tells old read.1 calm.1 end);
+      waiting = λ tells told new old s used found read takes is waits calm quiet. inr (only_memory tells old read.1 calm.1 end);
+      complete = λ tells told new old s used read takes is none free calm quiet. inr (only_memory tells old read.1 calm.1 end);
+      unread = λ tells e bad. absurd (no_fault d e (directory_of_bytes (source.left od)) (first.read tells d refl) bad);
       taken = first.taken;
       old_taken = h.taken;
       counts = (first.cause.later, h.cause.later, omega arith, refl);
@@ -157,6 +162,9 @@ module _ {S P : Type 0} (source : SourceMeanings S) (station : StationMeanings P
   old_is : source.tells → (old : directories.Directory) → directory_of_bytes (source.left oc) ≡ Ok old → o ≡ old
   old_is tells old read = same_directory o old (directory_of_bytes (source.left oc)) (both tells).1 read
 
+  never_unread : source.tells → (e : DirFault) → directory_of_bytes (source.left od) ≡ Err e → ⊥
+  never_unread tells e bad = no_fault d e (directory_of_bytes (source.left od)) (both tells).0 bad
+
   never_refused : source.tells → (e : DirFault) → directory_of_bytes (source.left oc) ≡ Err e → ⊥
   never_refused tells e bad = no_fault o e (directory_of_bytes (source.left oc)) (both tells).1 bad
 
@@ -176,7 +184,9 @@ module _ {S P : Type 0} (source : SourceMeanings S) (station : StationMeanings P
             let one : c ≡ other = one_change c other (first_change d o) is same in
             inl (ap (λ (x : Change). Changed x.part x.row) one);
         answered = λ tells told new old e read takes bad calm quiet. absurd (apart_from tells new old read takes);
-        complete = λ tells told new old s used read takes opened free calm quiet. absurd (apart_from tells new old read takes);
+        waiting = λ tells told new old s used found read takes opened waits calm quiet. absurd (apart_from tells new old read takes);
+        complete = λ tells told new old s used read takes opened none free calm quiet. absurd (apart_from tells new old read takes);
+        unread = λ tells e bad. absurd (never_unread tells e bad);
         taken = first.taken;
         old_taken = second.taken;
         counts = (first.cause.later, second.cause.later, omega arith, refl);
@@ -208,6 +218,12 @@ two_answers n e opened one other = cc
 one_open : (a b : OpenFault) (opened : Result Need OpenFault) → opened ≡ Err a → opened ≡ Err b → a ≡ b
 one_open a b opened one other = cc
 
+two_found : (x : ℕ × ℕ) (r : Option (ℕ × ℕ)) → r ≡ Some x → r ≡ None → ⊥
+two_found x r one other = cc
+
+one_found : (x y : ℕ × ℕ) (r : Option (ℕ × ℕ)) → r ≡ Some x → r ≡ Some y → x ≡ y
+one_found x y r one other = cc
+
 no_room : (x : SwitchFault) (r : Option SwitchFault) → r ≡ Some x → r ≡ None → ⊥
 no_room x r one other = cc
 
@@ -215,6 +231,7 @@ no_room x r one other = cc
 opened_or_left : (r : Result (Unit {0}) MigrateFault) → WasOpened r ⊎ LeavesFiles r
 opened_or_left (Ok done) = inl tt
 opened_or_left (Err (fault.Open e)) = inr tt
+opened_or_left (Err (fault.Waits circuit count)) = inl tt
 opened_or_left (Err (fault.Full used need limit)) = inl tt
 opened_or_left (Err fault.DiskFault) = inl tt
 opened_or_left (Err fault.NoMemory) = inl tt
@@ -223,7 +240,8 @@ opened_or_left (Err fault.NoMemory) = inl tt
 pub record Known (tells : Type 0) (d o : directories.Directory) (r : Result (Unit {0}) MigrateFault) (before after : List Call) (disk_before disk_after : ℕ) : Type 0 where
   pub moments : tells → (n : Need) → WasOpened r → opens_any o (seen before) ≡ Ok n → EachSince (Did Syncs ∷ before) after (OpensEither o d n)
   pub migrated : tells → (s : State) (used : ℕ) → files_open_any o (seen before) ≡ Ok (s, used) → OnOk r (IsMigrated o d s before after)
-  pub full : tells → (s : State) (used : ℕ) → files_open_any o (seen before) ≡ Ok (s, used) → GivesRoomFor r d (goes_over d o (need o s))
+  pub full : tells → (s : State) (used : ℕ) → files_open_any o (seen before) ≡ Ok (s, used) → GivesRoomFor r d (goes_on d o (need o s))
+  pub waiting : tells → (s : State) (used : ℕ) → files_open_any o (seen before) ≡ Ok (s, used) → AnswersWaiting r (waits_on_closed d (need o s))
   pub answers : tells → AnswersOpening r (opens_any o (seen before))
   pub told : tells → LeavesFiles r → OnlySyncs before after
   pub disk : IsDiskFaultOf r → Rose disk_before disk_after
@@ -258,6 +276,20 @@ module _ {S P : Type 0} (source : SourceMeanings S) (station : StationMeanings P
   means (Err (fault.Open (opening.Damaged file at))) e = refused_by (opening.Damaged file at) (λ t. (e.answers t).0) (λ t. e.told t tt)
   means (Err (fault.Open opening.DiskFault)) e = e.disk tt
   means (Err (fault.Open opening.NoMemory)) e = λ t. e.told t tt
+  means (Err (fault.Waits circuit count)) e = (
+    record {
+      new = d;
+      old = o;
+      read = read_both;
+      holds = record {
+        takes = takes;
+        opened = λ t.
+            let x = files_of o (seen (station.calls old)) (e.answers t).0 (e.answers t).1 in
+            (x.0, x.1, x.2, e.waiting t x.0 x.1 x.2);
+      };
+    },
+    λ t. e.told t tt,
+  )
   means (Err (fault.Full used need limit)) e = (
     record {
       new = d;
@@ -285,26 +317,49 @@ module _ {S P : Type 0} (source : SourceMeanings S) (station : StationMeanings P
   answered (Err (fault.Open (opening.Damaged file at))) x t e bad quiet = inl (ap refusal (one_open (opening.Damaged file at) e _ (x.answers t).0 bad))
   answered (Err (fault.Open opening.DiskFault)) x t e bad quiet = absurd (quiet (x.disk tt))
   answered (Err (fault.Open opening.NoMemory)) x t e bad quiet = inr refl
+  answered (Err (fault.Waits circuit count)) x t e bad quiet = absurd (two_answers (x.answers t).0 e _ (x.answers t).1 bad)
   answered (Err (fault.Full used need limit)) x t e bad quiet = absurd (two_answers (x.answers t).0 e _ (x.answers t).1 bad)
   answered (Err fault.DiskFault) x t e bad quiet = absurd (quiet (x.disk tt))
   answered (Err fault.NoMemory) x t e bad quiet = inr refl
 
+  -- what waits on a closed circuit is told
+  waits : (r : Result (Unit {0}) MigrateFault) → Ends r → station.tells → (s : State) (used : ℕ) (found : ℕ × ℕ) → files_open_any o (seen (station.calls old)) ≡ Ok (s, used)
+      → waits_on_closed d (need o s) ≡ Some found
+      → (Rose (station.disk_faults old) (station.disk_faults new) → ⊥) → (status_migrated r ≡ Waits found.0 found.1) ⊎ (status_migrated r ≡ NoMemory)
+  waits (Ok done) x t s used found is there quiet = absurd (two_found found _ there (x.waiting t s used is))
+  waits (Err (fault.Open opening.NoJournal)) x t s used found is there quiet =
+      absurd (two_answers (need o (restarted o s)) opening.NoJournal _ (need_of o (seen (station.calls old)) s used is) (x.answers t).0)
+  waits (Err (fault.Open opening.OldVersion)) x t s used found is there quiet =
+      absurd (two_answers (need o (restarted o s)) opening.OldVersion _ (need_of o (seen (station.calls old)) s used is) (x.answers t).0)
+  waits (Err (fault.Open (opening.NotThis want mark))) x t s used found is there quiet =
+      absurd (two_answers (need o (restarted o s)) (opening.NotThis want mark) _ (need_of o (seen (station.calls old)) s used is) (x.answers t).0)
+  waits (Err (fault.Open (opening.Damaged file at))) x t s used found is there quiet =
+      absurd (two_answers (need o (restarted o s)) (opening.Damaged file at) _ (need_of o (seen (station.calls old)) s used is) (x.answers t).0)
+  waits (Err (fault.Open opening.DiskFault)) x t s used found is there quiet = absurd (quiet (x.disk tt))
+  waits (Err (fault.Open opening.NoMemory)) x t s used found is there quiet = inr refl
+  waits (Err (fault.Waits circuit count)) x t s used found is there quiet =
+      inl (ap (λ (f : ℕ × ℕ). Waits f.0 f.1) (one_found (circuit, count) found _ (x.waiting t s used is) there))
+  waits (Err (fault.Full at wanted limit)) x t s used found is there quiet = absurd (two_found found _ there (x.waiting t s used is))
+  waits (Err fault.DiskFault) x t s used found is there quiet = absurd (quiet (x.disk tt))
+  waits (Err fault.NoMemory) x t s used found is there quiet = inr refl
+
   -- with room and without faults it is done
   complete : (r : Result (Unit {0}) MigrateFault) → Ends r → station.tells → (s : State) (used : ℕ) → files_open_any o (seen (station.calls old)) ≡ Ok (s, used)
-      → full_compacted d (goes_over d o (need o s)) ≡ None
+      → waits_on_closed d (need o s) ≡ None → full_compacted d (goes_on d o (need o s)) ≡ None
       → (Rose (station.disk_faults old) (station.disk_faults new) → ⊥) → (status_migrated r ≡ Done) ⊎ (status_migrated r ≡ NoMemory)
-  complete (Ok done) x t s used is free quiet = inl refl
-  complete (Err (fault.Open opening.NoJournal)) x t s used is free quiet = absurd (two_answers (need o (restarted o s)) opening.NoJournal _ (need_of o (seen (station.calls old)) s used is) (x.answers t).0)
-  complete (Err (fault.Open opening.OldVersion)) x t s used is free quiet = absurd (two_answers (need o (restarted o s)) opening.OldVersion _ (need_of o (seen (station.calls old)) s used is) (x.answers t).0)
-  complete (Err (fault.Open (opening.NotThis want found))) x t s used is free quiet =
+  complete (Ok done) x t s used is none free quiet = inl refl
+  complete (Err (fault.Open opening.NoJournal)) x t s used is none free quiet = absurd (two_answers (need o (restarted o s)) opening.NoJournal _ (need_of o (seen (station.calls old)) s used is) (x.answers t).0)
+  complete (Err (fault.Open opening.OldVersion)) x t s used is none free quiet = absurd (two_answers (need o (restarted o s)) opening.OldVersion _ (need_of o (seen (station.calls old)) s used is) (x.answers t).0)
+  complete (Err (fault.Open (opening.NotThis want found))) x t s used is none free quiet =
       absurd (two_answers (need o (restarted o s)) (opening.NotThis want found) _ (need_of o (seen (station.calls old)) s used is) (x.answers t).0)
-  complete (Err (fault.Open (opening.Damaged file at))) x t s used is free quiet =
+  complete (Err (fault.Open (opening.Damaged file at))) x t s used is none free quiet =
       absurd (two_answers (need o (restarted o s)) (opening.Damaged file at) _ (need_of o (seen (station.calls old)) s used is) (x.answers t).0)
-  complete (Err (fault.Open opening.DiskFault)) x t s used is free quiet = absurd (quiet (x.disk tt))
-  complete (Err (fault.Open opening.NoMemory)) x t s used is free quiet = inr refl
-  complete (Err (fault.Full at wanted limit)) x t s used is free quiet = let f = x.full t s used is in absurd (no_room _ _ f.1 free)
-  complete (Err fault.DiskFault) x t s used is free quiet = absurd (quiet (x.disk tt))
-  complete (Err fault.NoMemory) x t s used is free quiet = inr refl
+  complete (Err (fault.Open opening.DiskFault)) x t s used is none free quiet = absurd (quiet (x.disk tt))
+  complete (Err (fault.Open opening.NoMemory)) x t s used is none free quiet = inr refl
+  complete (Err (fault.Waits circuit count)) x t s used is none free quiet = absurd (two_found (circuit, count) _ (x.waiting t s used is) none)
+  complete (Err (fault.Full at wanted limit)) x t s used is none free quiet = let f = x.full t s used is in absurd (no_room _ _ f.1 free)
+  complete (Err fault.DiskFault) x t s used is none free quiet = absurd (quiet (x.disk tt))
+  complete (Err fault.NoMemory) x t s used is none free quiet = inr refl
 
   leaves : (r : Result (Unit {0}) MigrateFault) → Ends r → station.tells → (n : Need) → opens_any o (seen (station.calls old)) ≡ Ok n → LeavesJournal station (world od oc old) (world nd nc new) d o n
   leaves r x t n is = elim (opened_or_left r) [
@@ -333,12 +388,21 @@ module _ {S P : Type 0} (source : SourceMeanings S) (station : StationMeanings P
         answered = λ tells t other under e read more bad calm quiet.
             let so = old_is source station d o od nd oc nc first second tells under read.1 in
             answered r x t e (subst (λ (y : directories.Directory). opens_any y (seen (station.calls old)) ≡ Err e) (sym so) bad) quiet;
-        complete = λ tells t other under s used read more opened free calm quiet.
+        waiting = λ tells t other under s used found read more opened there calm quiet.
+            let same = new_is source station d o od nd oc nc first second tells other read.0 in
+            let so = old_is source station d o od nd oc nc first second tells under read.1 in
+            waits r x t s used found (subst (λ (y : directories.Directory). files_open_any y (seen (station.calls old)) ≡ Ok (s, used)) (sym so) opened)
+            (subst (λ (y : directories.Directory). waits_on_closed d (need y s) ≡ Some found) (sym so)
+            (subst (λ (y : directories.Directory). waits_on_closed y (need under s) ≡ Some found) (sym same) there)) quiet;
+        complete = λ tells t other under s used read more opened none free calm quiet.
             let same = new_is source station d o od nd oc nc first second tells other read.0 in
             let so = old_is source station d o od nd oc nc first second tells under read.1 in
             complete r x t s used (subst (λ (y : directories.Directory). files_open_any y (seen (station.calls old)) ≡ Ok (s, used)) (sym so) opened)
-            (subst (λ (y : directories.Directory). full_compacted d (goes_over d y (need y s)) ≡ None) (sym so)
-            (subst (λ (y : directories.Directory). full_compacted y (goes_over y under (need under s)) ≡ None) (sym same) free)) quiet;
+            (subst (λ (y : directories.Directory). waits_on_closed d (need y s) ≡ None) (sym so)
+            (subst (λ (y : directories.Directory). waits_on_closed y (need under s) ≡ None) (sym same) none))
+            (subst (λ (y : directories.Directory). full_compacted d (goes_on d y (need y s)) ≡ None) (sym so)
+            (subst (λ (y : directories.Directory). full_compacted y (goes_on y under (need under s)) ≡ None) (sym same) free)) quiet;
+        unread = λ tells e bad. absurd (never_unread source station d o od nd oc nc first second tells e bad);
         taken = first.taken;
         old_taken = second.taken;
         counts = (first.cause.later, second.cause.later, later, say);

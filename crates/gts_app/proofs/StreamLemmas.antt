@@ -15,7 +15,7 @@ use Rattle.gts_missing.specs.declared.moment.Moment.{Moment}
 use Rattle.gts_missing.specs.declared.fault.GapsEnd.{GapsEnd}
 use Rattle.gts_missing.specs.declared.fault.GapsEnd.TheVariants as gaps
 use Rattle.gts_app.specs.declared.status.Status.{Status}
-use Rattle.gts_app.specs.declared.status.Status.TheVariants.{Done, Words, Directory, OldDirectory, Changed, Capture, NoJournal, OldVersion, NotThis, Damaged, Exists, Accum, Feed, Diverged, DiskFault, SourceFault, SayFault, Full, LineFault, LongSession, Spent, NoMemory}
+use Rattle.gts_app.specs.declared.status.Status.TheVariants.{Done, Words, Directory, OldDirectory, Changed, Waits, Capture, NoJournal, OldVersion, NotThis, Damaged, Exists, Accum, Feed, Diverged, DiskFault, SourceFault, SayFault, Full, LineFault, LongSession, Spent, NoMemory}
 use Rattle.gts_app.specs.Reading.{IsReadEnd, ReadsDirectory}
 use Rattle.gts_app.specs.Replay.{world}
 use Rattle.gts_app.specs.Pack.{status_packed, PackedAs, KeepsFiles, PacksStream}
@@ -35,6 +35,7 @@ ended Done e = absurd e
 ended Words e = absurd e
 ended (OldDirectory _) e = absurd e
 ended (Changed _ _) e = absurd e
+ended (Waits _ _) e = absurd e
 ended (Capture _) e = absurd e
 ended NoJournal e = absurd e
 ended OldVersion e = absurd e

@@ -24,7 +24,7 @@ use Rattle.gts_unpack.specs.declared.end.UnpackEnd.{UnpackEnd}
 use Rattle.gts_unpack.specs.declared.end.UnpackEnd.TheVariants.{Bad, Ended}
 use Rattle.gts_unpack.specs.{IsEndOf, IsEndAt, Unpacks as Runs, HasUnpackCause}
 use Rattle.gts_app.specs.declared.status.Status.{Status}
-use Rattle.gts_app.specs.declared.status.Status.TheVariants.{Done, Words, Directory, OldDirectory, Changed, Capture, NoJournal, OldVersion, NotThis, Damaged, Exists, Accum, Feed, Diverged, DiskFault, SourceFault, SayFault, Full, LineFault, LongSession, Spent, NoMemory}
+use Rattle.gts_app.specs.declared.status.Status.TheVariants.{Done, Words, Directory, OldDirectory, Changed, Waits, Capture, NoJournal, OldVersion, NotThis, Damaged, Exists, Accum, Feed, Diverged, DiskFault, SourceFault, SayFault, Full, LineFault, LongSession, Spent, NoMemory}
 use Rattle.gts_app.specs.Laws.{KeepsLaws}
 use Rattle.gts_app.specs.Ending.{status_of}
 use Rattle.gts_app.specs.Opening.{IsRefusal, Opens}
@@ -180,6 +180,7 @@ refusal-is Words ends = refl
 refusal-is (Directory fault) ends = refl
 refusal-is (OldDirectory fault) ends = absurd ends
 refusal-is (Changed part row) ends = absurd ends
+refusal-is (Waits row count) ends = absurd ends
 refusal-is (Capture at) ends = absurd ends
 refusal-is NoJournal ends = refl
 refusal-is OldVersion ends = refl
@@ -238,6 +239,7 @@ unaccepted source w c status od nd oc old h =
     go Words is ends tells none kept = absurd ends
     go (OldDirectory fault) is ends tells none kept = absurd ends
     go (Changed part row) is ends tells none kept = absurd ends
+    go (Waits row count) is ends tells none kept = absurd ends
     go (Capture at) is ends tells none kept = absurd ends
     go NoJournal is ends tells none kept = absurd ends
     go OldVersion is ends tells none kept = absurd ends

@@ -18,14 +18,14 @@ use Rattle.gts_record.specs.declared.fault.OpenFault.{OpenFault}
 use Rattle.gts_record.specs.declared.fault.OpenFault.TheVariants as opening
 use Rattle.gts_journal.specs.{OnlySyncs}
 use Rattle.gts_opening.specs.Room.{full_compacted}
-use Rattle.gts_recovery.specs.TakenOver.{goes_over}
 use Rattle.gts_recovery.specs.Opened.{opens_any, files_open_any}
 use Rattle.gts_engine.specs.Keeping.{IsFullCompacted}
+use Rattle.gts_migrate.specs.LettingGo.{goes_on, waits_on_closed}
 use Rattle.gts_migrate.specs.Migrating.{OpensEither, IsMigrated}
 use Rattle.gts_migrate.specs.declared.fault.MigrateFault.{MigrateFault}
 use Rattle.gts_migrate.specs.declared.fault.MigrateFault.TheVariants as fault
 use Rattle.gts_app.specs.declared.status.Status.{Status}
-use Rattle.gts_app.specs.declared.status.Status.TheVariants.{Done, Directory, OldDirectory, Changed, NoJournal, OldVersion, NotThis, Damaged, DiskFault, SourceFault, Full, NoMemory}
+use Rattle.gts_app.specs.declared.status.Status.TheVariants.{Done, Directory, OldDirectory, Changed, Waits, NoJournal, OldVersion, NotThis, Damaged, DiskFault, SourceFault, Full, NoMemory}
 use Rattle.gts_app.specs.Ending.{refusal}
 use Rattle.gts_app.specs.Pack.{IsTurnedAway}
 use Rattle.gts_app.specs.Replay.{World}
@@ -34,6 +34,7 @@ use Rattle.gts_app.specs.Replay.{World}
 abbrev pub status_migrated : Result (Unit {0}) MigrateFault → Status
 status_migrated (Ok done) = Done
 status_migrated (Err (fault.Open e)) = refusal e
+status_migrated (Err (fault.Waits circuit count)) = Waits circuit count
 status_migrated (Err (fault.Full used need limit)) = Full used need limit
 status_migrated (Err fault.DiskFault) = DiskFault
 status_migrated (Err fault.NoMemory) = NoMemory
@@ -87,9 +88,13 @@ MigratedAs source station NoJournal w v = IsRefusedBy source station w v opening
 MigratedAs source station OldVersion w v = station.tells → ⊥
 MigratedAs source station (NotThis want found) w v = IsRefusedBy source station w v (opening.NotThis want found)
 MigratedAs source station (Damaged file at) w v = IsRefusedBy source station w v (opening.Damaged file at)
+MigratedAs source station (Waits row count) w v =
+    UnderBoth source w (λ new old. OpensUnder station w new old
+    (λ s. waits_on_closed new (need old s) ≡ Some (row, count)))
+    × IsLeftAlone station w v
 MigratedAs source station (Full used need limit) w v =
     UnderBoth source w (λ new old. OpensUnder station w new old
-    (λ s. IsFullCompacted new (goes_over new old (need old s)) (switch.Full used need limit)))
+    (λ s. IsFullCompacted new (goes_on new old (need old s)) (switch.Full used need limit)))
     × IsLeftAlone station w v
 MigratedAs source station DiskFault w v = Rose (station.disk_faults w.station) (station.disk_faults v.station)
 MigratedAs source station SourceFault w v =
@@ -133,11 +138,19 @@ pub record Migrates {S P : Type 0} (source : SourceMeanings S) (station : Statio
   pub answered : source.tells → station.tells → (new old : directories.Directory) (e : OpenFault) → AreRead source w new old
       → TakesOver new old → opens_any old (seen (station.calls w.station)) ≡ Err e → IsCalm source w v
       → (Rose (station.disk_faults w.station) (station.disk_faults v.station) → ⊥) → (status ≡ refusal e) ⊎ (status ≡ NoMemory)
-  -- where the files open, and there is room, and no device fails, it is done, but for memory
+  -- what waits on a circuit that is closed in the new directory is told
+  pub waiting : source.tells → station.tells → (new old : directories.Directory) (s : State) (used : ℕ) (found : ℕ × ℕ)
+      → AreRead source w new old → TakesOver new old → files_open_any old (seen (station.calls w.station)) ≡ Ok (s, used)
+      → waits_on_closed new (need old s) ≡ Some found → IsCalm source w v
+      → (Rose (station.disk_faults w.station) (station.disk_faults v.station) → ⊥) → (status ≡ Waits found.0 found.1) ⊎ (status ≡ NoMemory)
+  -- where the files open, and nothing waits on a closed circuit, and there is room, and no device fails, it is done, but for memory
   pub complete : source.tells → station.tells → (new old : directories.Directory) (s : State) (used : ℕ) → AreRead source w new old
       → TakesOver new old → files_open_any old (seen (station.calls w.station)) ≡ Ok (s, used)
-      → full_compacted new (goes_over new old (need old s)) ≡ None → IsCalm source w v
+      → waits_on_closed new (need old s) ≡ None
+      → full_compacted new (goes_on new old (need old s)) ≡ None → IsCalm source w v
       → (Rose (station.disk_faults w.station) (station.disk_faults v.station) → ⊥) → (status ≡ Done) ⊎ (status ≡ NoMemory)
+  -- where the directory can't be read, the old one isn't
+  pub unread : source.tells → (e : DirFault) → directory_of_bytes (source.left w.directory) ≡ Err e → v.capture ≡ w.capture
   -- what is read, and that no count falls
   pub taken : ReadsFew source w.directory v.directory
   pub old_taken : ReadsFew source w.capture v.capture

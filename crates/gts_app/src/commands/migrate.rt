@@ -18,13 +18,18 @@ fn status_of(migrated: Result<(), MigrateFault>) -> Status
     match migrated {
         Ok(()) => Status::Done,
         Err(MigrateFault::Open(fault)) => refusal(fault),
+        Err(MigrateFault::Waits { circuit, count }) => Status::Waits {
+            row: circuit,
+            count,
+        },
         Err(MigrateFault::Full { used, need, limit }) => Status::Full { used, need, limit },
         Err(MigrateFault::DiskFault) => Status::DiskFault,
         Err(MigrateFault::NoMemory) => Status::NoMemory,
     }
 }
 
-/// Reads the directory, and then the old one, which it has to extend, and takes the journal of that one over. Nothing is said.
+/// Reads the directory, and then the old one, from which it has to take over, and takes the journal of that one over. Nothing is
+/// said. Where the directory is at fault, the old one isn't read.
 /// The station is handed back.
 pub fn migrate<S: Source, P: Station>(
     alloc: Global,

@@ -38,6 +38,7 @@ returns-in-Ok-takes_over g c =
       moments = m.ensures.moments;
       migrated = m.ensures.migrated;
       full = m.ensures.full;
+      waiting = m.ensures.waiting;
       answers = m.ensures.opening;
       told = m.ensures.told;
       disk = m.ensures.disk;
