@@ -1,8 +1,10 @@
 -- What is needed of each circuit under a directory that takes over, by the circuit's number.
 use Rattle.std.specs.Prelude.{IfOk}
-use Rattle.std.proofs.Common.{◌≡◌, ℕ, zero, suc, ◌+◌, ◌-◌, ◌<◌, ◌≤◌, min, Bool, true, false, not, cond, ◌&&◌, ◌||◌, ◌==◌, nat_le, List, [], ◌∷◌, length, map, filter, get_or, take, drop, zip, ◌++◌, slice_get, Some, Result, Ok, Err, refl, sym, ap, ◌∙◌, arith}
+use Rattle.std.proofs.Common.{◌≡◌, ℕ, zero, suc, ◌+◌, ◌-◌, ◌<◌, ◌≤◌, min, Bool, true, false, not, cond, ◌&&◌, ◌||◌, ◌==◌, nat_le, nat_lt, List, [], ◌∷◌, length, map, filter, get_or, take, drop, zip, ◌++◌, slice_get, Some, Result, Ok, Err, refl, sym, ap, ◌∙◌, arith}
 use Rattle.std.specs.List.{list_any, list_all, enumerate_from}
-use Rattle.std.proofs.lemmas.Bool.{and_parts}
+use Rattle.std.proofs.lemmas.Bool.{and_parts, lt-ltb}
+use Rattle.std.proofs.lemmas.List.Folds.{list_all_more}
+use Rattle.std.proofs.lemmas.Option.{slice_get-get_or}
 use Rattle.std.proofs.lemmas.List.{length-map, map-append}
 use Rattle.std.proofs.lemmas.Grind.{take_at_read}
 use Rattle.std.proofs.lemmas.List.FromFn.{length-enumerate_from}
@@ -158,3 +160,10 @@ pub one_more : (found : List values_circuit.CircuitNeed) (made : values_circuit.
 one_more found made xs c is low at =
     map-append circuit_need_of found (made ∷ []) ∙ ap (λ (ys : List CircuitNeed). ys ++ circuit_need_of made ∷ []) is
     ∙ ap (λ (x : CircuitNeed). take c xs ++ x ∷ []) at ∙ sym (take_at_read xs c unused low).1
+
+pub keep_more : (rows : List Circuit) (c : ℕ) (row : Circuit) → slice_get rows c ≡ Some row → c < length rows → 0 < row.kept
+    → list_all (λ r. nat_lt 0 r.kept) (take c rows) ≡ true → list_all (λ r. nat_lt 0 r.kept) (take (c + 1) rows) ≡ true
+keep_more rows c row there low some all =
+    let found = slice_get-get_or rows c row low in
+    let here : get_or rows c row ≡ row = cc in
+    list_all_more (λ r. nat_lt 0 r.kept) rows c row low ∙ rw (all, here, lt-ltb 0 row.kept some) refl

@@ -1,7 +1,7 @@
 -- What is let go under a directory in which circuits are closed: the state stays one that a history can have.
 use Rattle.std.proofs.Common.{◌≡◌, ℕ, zero, suc, ◌+◌, ◌<◌, ◌≤◌, Bool, true, false, not, cond, ◌&&◌, ◌==◌, nat_lt, List, [], ◌∷◌, length, map, filter, get_or, drop, zip, slice_get, None, Some, refl, sym, ap, ◌∙◌, arith}
 use Rattle.std.specs.List.{list_all, sum_by}
-use Rattle.std.proofs.lemmas.Bool.{and_parts}
+use Rattle.std.proofs.lemmas.Bool.{and_parts, lt-ltb}
 use Rattle.std.proofs.lemmas.List.Sums.{sum_by-cons}
 use Rattle.gts_directory.specs.Directory.{Directory, Circuit}
 use Rattle.gts_directory.specs.TakingOver.{KeepsPlace, BeginWith, TakesOver}
@@ -9,8 +9,9 @@ use Rattle.gts_event.specs.State.{State, CircuitState, idle, has, draws, waiting
 use Rattle.gts_event.specs.History.{restarted}
 use Rattle.gts_event.specs.Need.{Need, CircuitNeed, unused, need, circuit_need, begun, begun_circuit, is_sound, are_below, owes_kept, IsOrdered}
 use Rattle.gts_event.specs.Held.{HeldCircuit, IsHeld}
-use Rattle.gts_event.specs.Items.{circuit_need_of}
+use Rattle.gts_event.specs.Items.{circuit_need_of, need_of}
 use Rattle.gts_event.specs.declared.values.CircuitNeed as values
+use Rattle.gts_event.specs.declared.values.Need as need_values
 use Rattle.gts_event.proofs.LawLemmas.{sound-parts, sound-held, waiting-left}
 use Rattle.gts_opening.specs.Journal.{due}
 use Rattle.gts_recovery.specs.TakenOver.{brought, each_brought, goes_over}
@@ -168,6 +169,18 @@ due-on new old s e o = due_each old.circuits new.circuits s.circuits o.circuits 
 
 -- ---- the loops over what waits on closed circuits
 
+none_closed_at : (rows : List Circuit) (c : ℕ) (row : Circuit) → slice_get rows c ≡ Some row
+    → waiting_closed (drop c rows) [] ≡ waits_closed row unused + waiting_closed (drop (suc c) rows) []
+none_closed_at rows c row there =
+    let here = none_closed (drop c rows) in
+    let next = none_closed (drop (suc c) rows) in
+    let none : waits_closed row unused ≡ 0 = nothing row.closed in
+    omega (arith, here, next, none)
+  where
+    nothing : (closed : Bool) → cond {A = ℕ} closed 0 0 ≡ 0
+    nothing false = refl
+    nothing true = refl
+
 -- one circuit more was looked at
 pub closed_at : (rows : List Circuit) (cs : List CircuitNeed) (c : ℕ) (row : Circuit) → slice_get rows c ≡ Some row
     → waiting_closed (drop c rows) (drop c cs) ≡ waits_closed row (get_or cs c unused) + waiting_closed (drop (suc c) rows) (drop (suc c) cs)
@@ -175,15 +188,23 @@ closed_at [] cs c row there = absurd (cc)
 closed_at (r ∷ rows) [] zero row there = none_there row.closed (none_closed rows)
   where
     none_there : (closed : Bool) → waiting_closed rows [] ≡ 0 → 0 ≡ cond closed 0 0 + waiting_closed rows []
-    none_there false e = sym e
-    none_there true e = sym e
-closed_at (r ∷ rows) [] (suc c) row there = closed_at rows [] c row there
+    none_there false e = omega (arith, e)
+    none_there true e = omega (arith, e)
+closed_at (r ∷ rows) [] (suc c) row there = none_closed_at rows c row there
 closed_at (r ∷ rows) (q ∷ cs) zero row there = let same : r ≡ row = cc in ap (λ (x : Circuit). waits_closed x q + waiting_closed rows cs) same
 closed_at (r ∷ rows) (q ∷ cs) (suc c) row there = closed_at rows cs c row there
 
 none_first : (k : ℕ) (rows : List Circuit) → first_waiting k rows [] ≡ None
 none_first k [] = refl
 none_first k (row ∷ rows) = refl
+
+none_first_at : (k : ℕ) (rows : List Circuit) (c : ℕ) (row : Circuit)
+    → first_waiting k (drop c rows) [] ≡ cond (row.closed && nat_lt 0 0) (Some (k, 0)) (first_waiting (k + 1) (drop (suc c) rows) [])
+none_first_at k rows c row = none_first k (drop c rows) ∙ nothing row.closed (none_first (k + 1) (drop (suc c) rows))
+  where
+    nothing : (closed : Bool) → first_waiting (k + 1) (drop (suc c) rows) [] ≡ None → None ≡ cond (closed && nat_lt 0 0) (Some (k, 0)) (first_waiting (k + 1) (drop (suc c) rows) [])
+    nothing false e = sym e
+    nothing true e = sym e
 
 pub first_at : (k : ℕ) (rows : List Circuit) (cs : List CircuitNeed) (c : ℕ) (row : Circuit) → slice_get rows c ≡ Some row
     → first_waiting k (drop c rows) (drop c cs)
@@ -194,11 +215,53 @@ first_at k (r ∷ rows) [] zero row there = none_there row.closed (none_first (k
     none_there : (closed : Bool) → first_waiting (k + 1) rows [] ≡ None → None ≡ cond (closed && nat_lt 0 0) (Some (k, 0)) (first_waiting (k + 1) rows [])
     none_there false e = sym e
     none_there true e = sym e
-first_at k (r ∷ rows) [] (suc c) row there = first_at k rows [] c row there
+first_at k (r ∷ rows) [] (suc c) row there = none_first_at k rows c row
 first_at k (r ∷ rows) (q ∷ cs) zero row there =
     let same : r ≡ row = cc in
     ap (λ (x : Circuit). cond (x.closed && nat_lt 0 (length q.waiting)) (Some (k, length q.waiting)) (first_waiting (k + 1) rows cs)) same
 first_at k (r ∷ rows) (q ∷ cs) (suc c) row there = first_at k rows cs c row there
+
+-- something waits there
+pub found_here : (rows : List Circuit) (cs : List CircuitNeed) (c : ℕ) (row : Circuit) → slice_get rows c ≡ Some row → row.closed ≡ true
+    → 0 < length (get_or cs c unused).waiting → first_waiting c (drop c rows) (drop c cs) ≡ Some (c, length (get_or cs c unused).waiting)
+found_here rows cs c row there closed some = first_at c rows cs c row there ∙ rw (closed, lt-ltb 0 (length (get_or cs c unused).waiting) some) refl
+
+-- the circuit is open
+pub found_open : (rows : List Circuit) (cs : List CircuitNeed) (c : ℕ) (row : Circuit) → slice_get rows c ≡ Some row → row.closed ≡ false
+    → first_waiting c (drop c rows) (drop c cs) ≡ first_waiting (c + 1) (drop (c + 1) rows) (drop (c + 1) cs)
+found_open rows cs c row there shut =
+    let one : c + 1 ≡ suc c = omega arith in
+    first_at c rows cs c row there ∙ rw shut (ap (λ (k : ℕ). first_waiting (c + 1) (drop k rows) (drop k cs)) (sym one))
+
+-- nothing waits there
+pub found_none : (rows : List Circuit) (cs : List CircuitNeed) (c : ℕ) (row : Circuit) → slice_get rows c ≡ Some row → length (get_or cs c unused).waiting ≡ 0
+    → first_waiting c (drop c rows) (drop c cs) ≡ first_waiting (c + 1) (drop (c + 1) rows) (drop (c + 1) cs)
+found_none rows cs c row there none =
+    let one : c + 1 ≡ suc c = omega arith in
+    first_at c rows cs c row there ∙ nothing row.closed (length (get_or cs c unused).waiting) none
+    ∙ ap (λ (k : ℕ). first_waiting (c + 1) (drop k rows) (drop k cs)) (sym one)
+  where
+    nothing : (closed : Bool) (n : ℕ) → n ≡ 0
+        → cond (closed && nat_lt 0 n) (Some (c, n)) (first_waiting (c + 1) (drop (suc c) rows) (drop (suc c) cs)) ≡ first_waiting (c + 1) (drop (suc c) rows) (drop (suc c) cs)
+    nothing false n e = refl
+    nothing true n e = rw e refl
+
+-- as many wait there
+pub closed_here : (rows : List Circuit) (cs : List CircuitNeed) (c : ℕ) (row : Circuit) → slice_get rows c ≡ Some row → row.closed ≡ true
+    → waiting_closed (drop c rows) (drop c cs) ≡ length (get_or cs c unused).waiting + waiting_closed (drop (c + 1) rows) (drop (c + 1) cs)
+closed_here rows cs c row there closed =
+    let one : c + 1 ≡ suc c = omega arith in
+    closed_at rows cs c row there
+    ∙ ap (λ (b : Bool). cond b (length (get_or cs c unused).waiting) 0 + waiting_closed (drop (suc c) rows) (drop (suc c) cs)) closed
+    ∙ ap (λ (k : ℕ). length (get_or cs c unused).waiting + waiting_closed (drop k rows) (drop k cs)) (sym one)
+
+pub closed_open : (rows : List Circuit) (cs : List CircuitNeed) (c : ℕ) (row : Circuit) → slice_get rows c ≡ Some row → row.closed ≡ false
+    → waiting_closed (drop c rows) (drop c cs) ≡ 0 + waiting_closed (drop (c + 1) rows) (drop (c + 1) cs)
+closed_open rows cs c row there shut =
+    let one : c + 1 ≡ suc c = omega arith in
+    closed_at rows cs c row there
+    ∙ ap (λ (b : Bool). cond b (length (get_or cs c unused).waiting) 0 + waiting_closed (drop (suc c) rows) (drop (suc c) cs)) shut
+    ∙ ap (λ (k : ℕ). 0 + waiting_closed (drop k rows) (drop k cs)) (sym one)
 
 -- all were looked at
 pub closed_end : (rows : List Circuit) (cs : List CircuitNeed) (c : ℕ) → length rows ≤ c → waiting_closed (drop c rows) cs ≡ 0
@@ -223,3 +286,8 @@ pub need_past : (cs : List values.CircuitNeed) (c : ℕ) → length cs ≤ c →
 need_past [] c le = refl
 need_past (x ∷ cs) zero le = absurd (omega (arith, le))
 need_past (x ∷ cs) (suc c) le = need_past cs c (omega (arith, le))
+
+-- how many wait on a circuit of a need
+pub waiting_there : (n : need_values.Need) (cs : List values.CircuitNeed) (c count : ℕ) → cs ≡ n.circuits → count ≡ length (get_or (map circuit_need_of cs) c unused).waiting
+    → count ≡ length (get_or (need_of n).circuits c unused).waiting
+waiting_there n cs c count same is = is ∙ ap (λ (xs : List values.CircuitNeed). length (get_or (map circuit_need_of xs) c unused).waiting) same

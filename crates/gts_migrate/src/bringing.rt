@@ -142,17 +142,24 @@ fn is_among(numbers: &[u64], number: u64) -> bool
 }
 
 /// The bulletins from a position on, and those among positions that are held.
-fn keep_needed(alloc: Global, bulletins: Bulletins, first: u64, held: &[u64]) -> Bulletins
+fn keep_needed(
+    alloc: Global,
+    bulletins: Bulletins,
+    first: u64,
+    held: &[u64],
+) -> Result<Bulletins, NoMemory>
     requires { IsNonDecreasing held.now }
-    ensures { map bulletin_of result
+    ensures { IfOk result (λ kept. map bulletin_of kept
         ≡ filter (λ b. nat_le first b.position || has held.now b.position)
-        (map bulletin_of bulletins) }
+        (map bulletin_of bulletins)) }
 {
-    let mut bulletins = bulletins.into_vec(alloc);
-    bulletins.retain(|bulletin| {
-        first <= bulletin.position || is_among(held, bulletin.position)
-    });
-    Bulletins::from_vec(bulletins)
+    let mut kept = Bulletins::new();
+    for bulletin in bulletins.into_vec(alloc) {
+        if first <= bulletin.position || is_among(held, bulletin.position) {
+            kept.push(alloc, bulletin)?;
+        }
+    }
+    Ok(kept)
 }
 
 /// The need under the new directory: of each circuit what it brings, and the bulletins that are still needed.
@@ -171,7 +178,7 @@ pub(crate) fn bring_over(
     let circuits = bring_each(alloc, &need, old, new)?;
     let held = held(alloc, circuits.as_slice())?;
     let first = need.accepted.saturating_sub(u64::from(new.window()));
-    let bulletins = keep_needed(alloc, need.bulletins, first, &held);
+    let bulletins = keep_needed(alloc, need.bulletins, first, &held)?;
     Ok(Need {
         accepted: need.accepted,
         bulletins,

@@ -1,0 +1,7 @@
+use Rattle.std.proofs.Common.{◌≡◌, ◌||◌, nat_le, map, filter}
+use Rattle.gts_event.specs.State.{has}
+use Rattle.gts_event.specs.Items.{bulletin_of}
+use Rattle.gts_migrate.proofs.bringing.keep_needed.Given as goal
+
+abbrev pub invariant-loop-bulletin : goal.invariant-loop-bulletin
+invariant-loop-bulletin l = map bulletin_of l.kept ≡ filter (λ b. nat_le l.first b.position || has l.held b.position) (map bulletin_of l.yielded)
