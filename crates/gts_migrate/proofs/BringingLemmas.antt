@@ -1,14 +1,17 @@
 -- What is needed of each circuit under a directory that takes over, by the circuit's number.
-use Rattle.std.proofs.Common.{◌≡◌, ℕ, zero, suc, ◌+◌, ◌-◌, ◌<◌, ◌≤◌, min, Bool, true, false, not, cond, ◌&&◌, ◌||◌, ◌==◌, nat_le, List, [], ◌∷◌, length, map, filter, get_or, drop, zip, slice_get, Some, refl, sym, ap, ◌∙◌, arith}
+use Rattle.std.specs.Prelude.{IfOk}
+use Rattle.std.proofs.Common.{◌≡◌, ℕ, zero, suc, ◌+◌, ◌-◌, ◌<◌, ◌≤◌, min, Bool, true, false, not, cond, ◌&&◌, ◌||◌, ◌==◌, nat_le, List, [], ◌∷◌, length, map, filter, get_or, take, drop, zip, ◌++◌, slice_get, Some, Result, Ok, Err, refl, sym, ap, ◌∙◌, arith}
 use Rattle.std.specs.List.{list_any, list_all, enumerate_from}
 use Rattle.std.proofs.lemmas.Bool.{and_parts}
-use Rattle.std.proofs.lemmas.List.{length-map}
+use Rattle.std.proofs.lemmas.List.{length-map, map-append}
+use Rattle.std.proofs.lemmas.Grind.{take_at_read}
 use Rattle.std.proofs.lemmas.List.FromFn.{length-enumerate_from}
 use Rattle.gts_directory.specs.Directory.{Directory, Circuit}
 use Rattle.gts_event.specs.State.{CircuitState, Bulletin, has, last_of, draws, drawn, kept_draws, waiting}
 use Rattle.gts_event.specs.Need.{Need, CircuitNeed, unused, circuit_need, begun_circuit, is_circuit_sound, is_sound}
 use Rattle.gts_event.specs.Sound.{SoundCircuit}
-use Rattle.gts_event.specs.Items.{bulletin_of}
+use Rattle.gts_event.specs.Items.{bulletin_of, circuit_need_of}
+use Rattle.gts_event.specs.declared.values.CircuitNeed as values_circuit
 use Rattle.gts_event.specs.declared.values.Bulletin as values
 use Rattle.gts_event.proofs.LawLemmas.{circuit-parts, sound-parts}
 use Rattle.gts_recovery.specs.TakenOver.{brought, each_brought}
@@ -132,3 +135,26 @@ under_at new old n c row next sound at there =
 pub under_further : (new old : Directory) (n : Need) (c : ℕ) → is_sound old n ≡ true → length old.circuits ≤ c → c < length new.circuits
     → unused ≡ get_or (circuits_under new old n) c unused
 under_further new old n c sound high low = sym (further_at old.circuits new.circuits n.circuits c (sound-parts old n sound).same high low)
+
+-- ---- all circuits
+
+pub if_ok : {A E : Type 0} (P Q : A → Type 0) (r : Result A E) → ((x : A) → P x → Q x) → IfOk r P → IfOk r Q
+if_ok P Q (Ok x) more h = more x h
+if_ok P Q (Err e) more h = tt
+
+pub length-under : (new old : Directory) (n : Need) → length (circuits_under new old n) ≡ length new.circuits
+length-under new old n = under_each new.circuits old.circuits n.circuits
+  where
+    under_each : (new old : List Circuit) (cs : List CircuitNeed)
+        → length (map (λ row. circuit_need row.0.kept row.1) (zip new (each_let_go new (map begun_circuit (each_brought old new cs))))) ≡ length new
+    under_each [] old cs = refl
+    under_each (next ∷ new) [] cs = ap suc (under_each new [] [])
+    under_each (next ∷ new) (row ∷ old) [] = ap suc (under_each new old [])
+    under_each (next ∷ new) (row ∷ old) (q ∷ cs) = ap suc (under_each new old cs)
+
+-- one circuit more was brought
+pub one_more : (found : List values_circuit.CircuitNeed) (made : values_circuit.CircuitNeed) (xs : List CircuitNeed) (c : ℕ) → map circuit_need_of found ≡ take c xs → c < length xs
+    → circuit_need_of made ≡ get_or xs c unused → map circuit_need_of (found ++ made ∷ []) ≡ take (c + 1) xs
+one_more found made xs c is low at =
+    map-append circuit_need_of found (made ∷ []) ∙ ap (λ (ys : List CircuitNeed). ys ++ circuit_need_of made ∷ []) is
+    ∙ ap (λ (x : CircuitNeed). take c xs ++ x ∷ []) at ∙ sym (take_at_read xs c unused low).1

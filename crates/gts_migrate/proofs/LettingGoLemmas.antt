@@ -9,6 +9,8 @@ use Rattle.gts_event.specs.State.{State, CircuitState, idle, has, draws, waiting
 use Rattle.gts_event.specs.History.{restarted}
 use Rattle.gts_event.specs.Need.{Need, CircuitNeed, unused, need, circuit_need, begun, begun_circuit, is_sound, are_below, owes_kept, IsOrdered}
 use Rattle.gts_event.specs.Held.{HeldCircuit, IsHeld}
+use Rattle.gts_event.specs.Items.{circuit_need_of}
+use Rattle.gts_event.specs.declared.values.CircuitNeed as values
 use Rattle.gts_event.proofs.LawLemmas.{sound-parts, sound-held, waiting-left}
 use Rattle.gts_opening.specs.Journal.{due}
 use Rattle.gts_recovery.specs.TakenOver.{brought, each_brought, goes_over}
@@ -121,7 +123,7 @@ waits_brought row next k q = go next.closed (next.digits == row.digits)
     go : (closed same : Bool) → length (waiting (cond closed (emptied (under_row k q same)) (under_row k q same))) + cond closed (length (waiting q)) 0 ≡ length (waiting q)
     go false true = let same = ap (λ (ps : List ℕ). length ps) (waiting-left k q) in omega (arith, same)
     go false false = let same = ap (λ (ps : List ℕ). length ps) (all_left (waiting q)) in omega (arith, same)
-    go true same = refl
+    go true same = omega arith
 
 none_closed : (rows : List Circuit) → waiting_closed rows [] ≡ 0
 none_closed [] = refl
@@ -166,52 +168,58 @@ due-on new old s e o = due_each old.circuits new.circuits s.circuits o.circuits 
 
 -- ---- the loops over what waits on closed circuits
 
-at_least : (old new : List Circuit) → BeginWith KeepsPlace old new → length old ≤ length new
-at_least [] new h = omega arith
-at_least (row ∷ old) [] h = absurd h
-at_least (row ∷ old) (next ∷ new) h = let rest = at_least old new h.1 in omega (arith, rest)
-
-pub no_more : (new old : Directory) (n : Need) → TakesOver new old → is_sound old n ≡ true → length n.circuits ≤ length new.circuits
-no_more new old n e h = let few = at_least old.circuits new.circuits e.circuits in let same = (sound-parts old n h).same in omega (arith, few, same)
-
 -- one circuit more was looked at
-pub closed_at : (rows : List Circuit) (cs : List CircuitNeed) (c : ℕ) (row : Circuit) → slice_get rows c ≡ Some row → c < length cs
+pub closed_at : (rows : List Circuit) (cs : List CircuitNeed) (c : ℕ) (row : Circuit) → slice_get rows c ≡ Some row
     → waiting_closed (drop c rows) (drop c cs) ≡ waits_closed row (get_or cs c unused) + waiting_closed (drop (suc c) rows) (drop (suc c) cs)
-closed_at [] cs c row there lt = absurd (cc)
-closed_at (r ∷ rows) [] c row there lt = absurd (omega (arith, lt))
-closed_at (r ∷ rows) (q ∷ cs) zero row there lt = let same : r ≡ row = cc in ap (λ (x : Circuit). waits_closed x q + waiting_closed rows cs) same
-closed_at (r ∷ rows) (q ∷ cs) (suc c) row there lt = closed_at rows cs c row there (omega (arith, lt))
-
-pub first_at : (k : ℕ) (rows : List Circuit) (cs : List CircuitNeed) (c : ℕ) (row : Circuit) → slice_get rows c ≡ Some row → c < length cs
-    → first_waiting k (drop c rows) (drop c cs)
-    ≡ cond (row.closed && nat_lt 0 (length (get_or cs c unused).waiting)) (Some (k, length (get_or cs c unused).waiting)) (first_waiting (k + 1) (drop (suc c) rows) (drop (suc c) cs))
-first_at k [] cs c row there lt = absurd (cc)
-first_at k (r ∷ rows) [] c row there lt = absurd (omega (arith, lt))
-first_at k (r ∷ rows) (q ∷ cs) zero row there lt =
-    let same : r ≡ row = cc in
-    ap (λ (x : Circuit). cond (x.closed && nat_lt 0 (length q.waiting)) (Some (k, length q.waiting)) (first_waiting (k + 1) rows cs)) same
-first_at k (r ∷ rows) (q ∷ cs) (suc c) row there lt = first_at k rows cs c row there (omega (arith, lt))
-
--- all were looked at
-pub closed_end : (rows : List Circuit) (cs : List CircuitNeed) (c : ℕ) → length cs ≤ c → waiting_closed (drop c rows) (drop c cs) ≡ 0
-closed_end rows [] zero le = none_closed rows
-closed_end rows (q ∷ cs) zero le = absurd (omega (arith, le))
-closed_end [] [] (suc c) le = refl
-closed_end [] (q ∷ cs) (suc c) le = refl
-closed_end (row ∷ rows) [] (suc c) le = closed_none rows c
+closed_at [] cs c row there = absurd (cc)
+closed_at (r ∷ rows) [] zero row there = none_there row.closed (none_closed rows)
   where
-    closed_none : (rows : List Circuit) (c : ℕ) → waiting_closed (drop c rows) [] ≡ 0
-    closed_none rows c = none_closed (drop c rows)
-closed_end (row ∷ rows) (q ∷ cs) (suc c) le = closed_end rows cs c (omega (arith, le))
+    none_there : (closed : Bool) → waiting_closed rows [] ≡ 0 → 0 ≡ cond closed 0 0 + waiting_closed rows []
+    none_there false e = sym e
+    none_there true e = sym e
+closed_at (r ∷ rows) [] (suc c) row there = closed_at rows [] c row there
+closed_at (r ∷ rows) (q ∷ cs) zero row there = let same : r ≡ row = cc in ap (λ (x : Circuit). waits_closed x q + waiting_closed rows cs) same
+closed_at (r ∷ rows) (q ∷ cs) (suc c) row there = closed_at rows cs c row there
 
 none_first : (k : ℕ) (rows : List Circuit) → first_waiting k rows [] ≡ None
 none_first k [] = refl
 none_first k (row ∷ rows) = refl
 
-pub first_end : (k : ℕ) (rows : List Circuit) (cs : List CircuitNeed) (c : ℕ) → length cs ≤ c → first_waiting k (drop c rows) (drop c cs) ≡ None
-first_end k rows [] zero le = none_first k rows
-first_end k rows (q ∷ cs) zero le = absurd (omega (arith, le))
-first_end k [] [] (suc c) le = refl
-first_end k [] (q ∷ cs) (suc c) le = refl
-first_end k (row ∷ rows) [] (suc c) le = none_first k (drop c rows)
-first_end k (row ∷ rows) (q ∷ cs) (suc c) le = first_end k rows cs c (omega (arith, le))
+pub first_at : (k : ℕ) (rows : List Circuit) (cs : List CircuitNeed) (c : ℕ) (row : Circuit) → slice_get rows c ≡ Some row
+    → first_waiting k (drop c rows) (drop c cs)
+    ≡ cond (row.closed && nat_lt 0 (length (get_or cs c unused).waiting)) (Some (k, length (get_or cs c unused).waiting)) (first_waiting (k + 1) (drop (suc c) rows) (drop (suc c) cs))
+first_at k [] cs c row there = absurd (cc)
+first_at k (r ∷ rows) [] zero row there = none_there row.closed (none_first (k + 1) rows)
+  where
+    none_there : (closed : Bool) → first_waiting (k + 1) rows [] ≡ None → None ≡ cond (closed && nat_lt 0 0) (Some (k, 0)) (first_waiting (k + 1) rows [])
+    none_there false e = sym e
+    none_there true e = sym e
+first_at k (r ∷ rows) [] (suc c) row there = first_at k rows [] c row there
+first_at k (r ∷ rows) (q ∷ cs) zero row there =
+    let same : r ≡ row = cc in
+    ap (λ (x : Circuit). cond (x.closed && nat_lt 0 (length q.waiting)) (Some (k, length q.waiting)) (first_waiting (k + 1) rows cs)) same
+first_at k (r ∷ rows) (q ∷ cs) (suc c) row there = first_at k rows cs c row there
+
+-- all were looked at
+pub closed_end : (rows : List Circuit) (cs : List CircuitNeed) (c : ℕ) → length rows ≤ c → waiting_closed (drop c rows) cs ≡ 0
+closed_end [] cs zero le = refl
+closed_end [] cs (suc c) le = refl
+closed_end (row ∷ rows) cs zero le = absurd (omega (arith, le))
+closed_end (row ∷ rows) cs (suc c) le = closed_end rows cs c (omega (arith, le))
+
+pub first_end : (k : ℕ) (rows : List Circuit) (cs : List CircuitNeed) (c : ℕ) → length rows ≤ c → first_waiting k (drop c rows) cs ≡ None
+first_end k [] cs zero le = refl
+first_end k [] cs (suc c) le = refl
+first_end k (row ∷ rows) cs zero le = absurd (omega (arith, le))
+first_end k (row ∷ rows) cs (suc c) le = first_end k rows cs c (omega (arith, le))
+
+-- what is needed of a circuit, by its number
+pub need_at : (cs : List values.CircuitNeed) (c : ℕ) (q : values.CircuitNeed) → c < length cs → q ≡ get_or cs c q → circuit_need_of q ≡ get_or (map circuit_need_of cs) c unused
+need_at [] c q lt is = absurd (omega (arith, lt))
+need_at (x ∷ cs) zero q lt is = ap circuit_need_of is
+need_at (x ∷ cs) (suc c) q lt is = need_at cs c q (omega (arith, lt)) is
+
+pub need_past : (cs : List values.CircuitNeed) (c : ℕ) → length cs ≤ c → get_or (map circuit_need_of cs) c unused ≡ unused
+need_past [] c le = refl
+need_past (x ∷ cs) zero le = absurd (omega (arith, le))
+need_past (x ∷ cs) (suc c) le = need_past cs c (omega (arith, le))

@@ -1,16 +1,13 @@
-use Rattle.std.proofs.Common.{◌≡◌, ℕ, ◌-◌, ◌^◌, ◌≤◌, true, length, min, ap, sym, ◌∙◌, arith}
-use Rattle.std.proofs.lemmas.List.{length-map}
+use Rattle.std.proofs.Common.{◌≡◌, ℕ, ◌-◌, ◌^◌, true, length, min, ap, sym, ◌∙◌, arith}
 use Rattle.std.proofs.lemmas.Result.{err_from_is_err_and}
 use Rattle.gts_event.specs.Need.{Need, need, is_sound}
-use Rattle.gts_directory.specs.TakingOver.{TakesOver}
 use Rattle.gts_event.specs.State.{State}
-use Rattle.gts_event.specs.declared.values.Need as values
-use Rattle.gts_event.specs.Items.{circuit_need_of, need_of}
+use Rattle.gts_event.specs.Items.{need_of}
 use Rattle.gts_core.specs.Core.{Core, Holds, Needs}
 use Rattle.gts_opening.specs.Journal.{checkpoint_text}
 use Rattle.gts_migrate.specs.LettingGo.{left_behind}
 use Rattle.gts_migrate.specs.Migrating.{DirectoryOf, HasFewDue}
-use Rattle.gts_migrate.proofs.LettingGoLemmas.{due-on, no_more}
+use Rattle.gts_migrate.proofs.LettingGoLemmas.{due-on}
 use Rattle.gts_migrate.proofs.MigratingLemmas.{brought_from}
 use Rattle.gts_migrate.proofs.migrating.prepare.Goals as goal
 
@@ -18,25 +15,12 @@ use Rattle.gts_migrate.proofs.migrating.prepare.Goals as goal
 sound_here : (old : DirectoryOf) (core : Core) (n : Need) → Needs core n → HasFewDue old core → is_sound old n ≡ true
 sound_here old core n needs due = ap (is_sound old) (needs old due.state due.holds) ∙ due.sound
 
--- no circuit is more than the new directory has
-few_here : (old new : DirectoryOf) (core : Core) (n : values.Need) → Needs core (need_of n) → HasFewDue old core → TakesOver new old → length n.circuits ≤ length new.circuits
-few_here old new core n needs due takes =
-    let few = no_more new old (need_of n) takes (sound_here old core (need_of n) needs due) in
-    let same = length-map n.circuits circuit_need_of in
-    omega (arith, few, same)
-
 -- as many are let go as of each state that the core holds
 left_here : (old new : DirectoryOf) (core : Core) (n : Need) (left : ℕ) → Needs core n → left ≡ left_behind new n → (s : State) → Holds old core s → left ≡ left_behind new (need old s)
 left_here old new core n left needs is s holds = is ∙ ap (left_behind new) (needs old s holds)
 
-pub check_waiting-requires : goal.check_waiting-requires
-check_waiting-requires c = few_here c.args.old.now c.args.new.now c.args.core.now c.in_ok-need.need c.in_ok-need.ensures c.requires.due c.requires.takes
-
-pub count_waiting-left-requires-clause-circuits : goal.count_waiting-left-requires-clause-circuits
-count_waiting-left-requires-clause-circuits c = few_here c.args.old.now c.args.new.now c.args.core.now c.in_ok-need.need c.in_ok-need.ensures c.requires.due c.requires.takes
-
-pub count_waiting-left-requires-clause-few : goal.count_waiting-left-requires-clause-few
-count_waiting-left-requires-clause-few c =
+pub count_waiting-left-requires : goal.count_waiting-left-requires
+count_waiting-left-requires c =
     let due = c.requires.due in
     let all = due-on c.args.new.now c.args.old.now due.state c.requires.takes due.holds.need.second in
     let same = ap (left_behind c.args.new.now) (c.in_ok-need.ensures c.args.old.now due.state due.holds) in

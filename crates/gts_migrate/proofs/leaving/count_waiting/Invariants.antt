@@ -1,0 +1,7 @@
+use Rattle.std.proofs.Common.{◌≡◌, ◌+◌, drop}
+use Rattle.gts_event.specs.Items.{need_of}
+use Rattle.gts_migrate.specs.LettingGo.{waiting_closed, left_behind}
+use Rattle.gts_migrate.proofs.leaving.count_waiting.Given as goal
+
+abbrev pub invariant-loop-c : goal.invariant-loop-c
+invariant-loop-c l = l.count + waiting_closed (drop l.c l.new.circuits) (drop l.c (need_of l.need).circuits) ≡ left_behind l.new (need_of l.need)
