@@ -63,11 +63,7 @@ fn heard_in(centre: &[u8; 4], c: u32, message: &[u8]) -> Option<Arrival>
 
 /// What is to be noted of a message where it is accepted, with a row for its key. `None` where it won't be, or the numbers
 /// aren't current. Want of memory comes only for a bulletin that would be accepted, and nothing that is counted changes.
-pub fn ready(
-    counting: &mut Counting,
-    c: u32,
-    message: &[u8],
-) -> Result<Option<Arrival>, NoMemory>
+pub fn ready(counting: &mut Counting, c: u32, message: &[u8]) -> Result<Option<Arrival>, NoMemory>
     requires { IsSound counting.old.numbers }
     ensures prepares { Prepares counting.old.numbers counting.new.numbers }
     ensures rest { KeepsRest counting.old counting.new }

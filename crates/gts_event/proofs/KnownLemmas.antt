@@ -48,7 +48,7 @@ known_at d t front b rest h x there near heading text =
     let same : is_same_heading (heading_of b.body) h ≡ true = ap (λ (g : HeadingFields). is_same_heading g h) heading ∙ equal (heading_text h) in
     let alike : pointwise nat_eq (text_of b.body) x ≡ true = ap (λ (y : List ℕ). pointwise nat_eq y x) text ∙ equal x in
     let passes : f b ≡ true = and_from (is_recent d t.count b.position && is_same_heading (heading_of b.body) h) (pointwise nat_eq (text_of b.body) x)
-        (and_from (is_recent d t.count b.position) (is_same_heading (heading_of b.body) h) near same) alike in
+    (and_from (is_recent d t.count b.position) (is_same_heading (heading_of b.body) h) near same) alike in
     ap (λ (bs : List Bulletin). is_some (find f bs)) (ap reverse there ∙ turned front b rest) ∙ find_there f (reverse rest) b (reverse front) passes
 
 -- a bulletin of a state is known in each state that follows
@@ -75,7 +75,7 @@ again d t c kind m w known =
     let r = as_duplicate (duplicate d t w.parts.heading w.parts.text) new known in (
       r.0,
       ap (λ (x : Result MessageParts Field). elim x as (λ _. Outcome) [ Err field ↦ Refused (Message field) | Ok parts ↦ verdict d t c parts ]) w.read
-      ∙ ap (λ b. cond b (answer_to d t c (request_at w.parts.text)) found) w.other ∙ r.1,
+          ∙ ap (λ b. cond b (answer_to d t c (request_at w.parts.text)) found) w.other ∙ r.1,
     )
 
 pub knows_message : (d : Directory) (s : State) (c p n : ℕ) (kind : Kind) (m : List ℕ) (entries : List Entry) → outcome d s (Heard c kind m) ≡ Accepted p n
