@@ -29,9 +29,10 @@ pub struct Arrival {
 pub fn arrived(arrival: Arrival, position: u64) -> Recent
     ensures { result ≡ tallies.arrived position arrival }
 {
+    let key = arrival.key;
     Recent {
         position,
-        key: arrival.key,
+        key,
         from: arrival.from,
         bytes: arrival.bytes,
     }
