@@ -17,7 +17,7 @@ use Rattle.gts_standby.proofs.FeedLemmas.{feed_of_record, feed_of_gate}
 use Rattle.gts_standby.proofs.SinceLemmas.{by_place}
 
 -- a record behind an open gate is the next one of the feed
-feed_on : (v : Version) (n : ℕ) (before bytes : List ℕ) (r : Record) → record_at v before bytes ≡ Some r
+pub feed_on : (v : Version) (n : ℕ) (before bytes : List ℕ) (r : Record) → record_at v before bytes ≡ Some r
     → feed_at v (suc n) before bytes ≡ sealed v before (record_text r) ++ feed_at v n (seal v before (record_text r)) (drop (record_size v r) bytes)
 feed_on v n before [] r is = absurd (let none : Option Record = None in let f : none ≡ Some r = is in cc f)
 feed_on v n before (mark ∷ bytes) r is = by_mark (mark == open_gate) is

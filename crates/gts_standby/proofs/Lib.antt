@@ -22,3 +22,4 @@ mod StationLemmas
 mod PartLemmas
 pub mod SinceLemmas
 mod BehindLemmas
+mod BetweenLemmas

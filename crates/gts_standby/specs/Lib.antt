@@ -10,6 +10,7 @@ pub mod Comparing
 pub mod Beginning
 pub mod Whole
 pub mod Fronts
+pub mod Between
 pub mod Counts
 pub mod Cited
 pub use Rattle.gts_standby.specs.Feed.{feed}
@@ -19,4 +20,5 @@ pub use Rattle.gts_standby.specs.Taking.{End, Taken, taken}
 pub use Rattle.gts_standby.specs.Whole.{IsNamedEnd}
 pub use Rattle.gts_standby.specs.Following.{comes_to, own_seals, EndsAs, Answers, LeavesAlone, IsEnd, state_after, OpensWithin, EachOpens, read_after, ReadsAllOf, HasAll, AddsAllOf, LeavesFronts}
 pub use Rattle.gts_standby.specs.Fronts.{AddsFront, HasNoRecord, IsPlainFeed, state_of, LeadsTo, IsFeedOf, BringsTo, FeedBrings, nothing_read, IsOvertaken, HasPlainPart}
+pub use Rattle.gts_standby.specs.Between.{StandsFed, AreOneBySeal, IsFoundBehind}
 pub use Rattle.gts_standby.specs.Counts.{KeepsAllCounts}

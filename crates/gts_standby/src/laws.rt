@@ -1,9 +1,9 @@
 //! Laws over the definitions, each the contract of a function with an empty body.
 ghost use Rattle.std.specs.Prelude.{◌≡◌, ◌++◌, ◌<◌, ◌^◌, ℕ, List, length, Ok, Some};
 ghost use Rattle.gts_record.specs.declared.version.Version.{Version};
-ghost use Rattle.gts_standby.specs.Cited.{Files, Directory, State};
-ghost use Rattle.gts_record.specs.Format.{held};
+ghost use Rattle.gts_standby.specs.Cited.{Files, Directory, State, held};
 ghost use Rattle.gts_standby.specs.Since.{found_since, HasFront};
+ghost use Rattle.gts_standby.specs.Between.{IsFoundBehind};
 ghost use Rattle.gts_standby.specs.Taking.{Taken};
 ghost use Rattle.gts_standby.specs.Following.{comes_to};
 ghost use Rattle.gts_standby.specs.Fronts.{AddsFront, HasNoRecord, IsPlainFeed, state_of, LeadsTo, IsFeedOf, nothing_read, FeedBrings, IsOvertaken, HasPlainPart};
@@ -53,4 +53,11 @@ pub fn what_a_standby_lacks_ends_the_feed()
     ensures { (v : Version) (mark bytes last left : List ℕ) (used : ℕ)
         → found_since v mark bytes used last ≡ Some left
         → HasFront v mark bytes (held v last) left }
+{}
+
+/// What a standby has of a journal and what is said to it are the station's feed: what `ship` would give of the standby's own
+/// journal is the front in front of what is said. No two records that aren't the same may have one seal.
+pub fn what_a_standby_has_and_what_it_lacks_are_the_feed()
+    ensures { (d : Directory) (own files : Files) (fed whole left : List ℕ)
+        → IsFoundBehind d own files fed whole left → whole ≡ fed ++ left }
 {}

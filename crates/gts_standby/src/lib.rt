@@ -25,7 +25,8 @@ pub use laws::{
     a_front_of_a_feed_adds_a_front, a_front_of_a_feed_comes_to_a_front_of_the_history,
     a_whole_feed_brings_a_new_standby_to_the_station,
     a_whole_feed_brings_a_standby_that_has_a_part,
-    a_whole_feed_brings_a_standby_through_a_compaction, what_a_standby_lacks_ends_the_feed,
+    a_whole_feed_brings_a_standby_through_a_compaction,
+    what_a_standby_has_and_what_it_lacks_are_the_feed, what_a_standby_lacks_ends_the_feed,
 };
 pub use shipping::{ship, ship_since};
 pub use since::Since;
