@@ -269,11 +269,12 @@ class Switch:
         done = subprocess.run([self.program, word], cwd=self.folder, capture_output=True, timeout=seconds)
         return done.returncode, done.stdout, done.stderr.decode().partition('\n')[0]
 
-    def serve(self, connections=None, before=None):
-        """Serves one incoming connection of each circuit, or so many, with this done before it."""
+    def serve(self, connections=None, before=None, out=None):
+        """Serves one incoming connection of each circuit, or so many, with this done before it. Receipts go to `out`, if given."""
         words = ['serve'] if connections is None else ['serve', str(connections)]
-        with open(self.path('receipts'), 'wb') as out, open(self.path('faults'), 'wb') as err:
-            self.process = subprocess.Popen([self.program, *words], cwd=self.folder, stdout=out, stderr=err, preexec_fn=before)
+        with open(self.path('receipts'), 'wb') as receipts, open(self.path('faults'), 'wb') as err:
+            self.process = subprocess.Popen([self.program, *words], cwd=self.folder, stdout=out or receipts, stderr=err,
+                                            preexec_fn=before)
 
     def descriptors(self):
         """How many descriptors the process has open now."""
