@@ -52,6 +52,13 @@ def free_ports(count):
     return ports
 
 
+def listening():
+    """The ports on which somebody listens now."""
+    with open('/proc/net/tcp') as file:
+        rows = [line.split() for line in list(file)[1:]]
+    return {int(row[1].partition(':')[2], 16) for row in rows if row[3] == '0A'}
+
+
 def directory(names, receivers, ports):
     """The directory of circuits with these names, each with two ports; every heading goes to the receivers."""
     rows = ['centre = "TVSV"']
@@ -273,6 +280,10 @@ class Switch:
         """How many descriptors the process has open now."""
         return len(os.listdir(f'/proc/{self.process.pid}/fd'))
 
+    def highest_descriptor(self):
+        """The highest descriptor that the process has open now."""
+        return max(map(int, os.listdir(f'/proc/{self.process.pid}/fd')))
+
     def memory(self):
         """How many kibibytes of memory the process has in use now."""
         with open(f'/proc/{self.process.pid}/status') as file:
@@ -280,6 +291,11 @@ class Switch:
 
     def receipts(self):
         with open(self.path('receipts'), 'rb') as file:
+            return file.read().decode().splitlines()
+
+    def faults(self):
+        """The lines that it wrote on standard error."""
+        with open(self.path('faults'), 'rb') as file:
             return file.read().decode().splitlines()
 
     def end(self, seconds):
