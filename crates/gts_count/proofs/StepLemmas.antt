@@ -39,14 +39,14 @@ above_in d n m (b ∷ bs) e =
 -- those that are counted are so
 pub counted_window : (d : Directory) (n : ℕ) (bs : List Bulletin) → Climbs (positions_of bs) → list_all (is_bulletin d n) bs ≡ true → InWindow d.window n (recent_in d n bs)
 counted_window d n [] up all = tt
-counted_window d n (b ∷ bs) up all = go (is_recent d n b.position) refl
+counted_window d n (b ∷ bs) up all =
+    let both = and_both (is_bulletin d n b) (list_all (is_bulletin d n) bs) all in
+    go (ltb-true b.position n (bulletin-parts d n b both.0).below) (counted_window d n bs up.1 both.1) (is_recent d n b.position) refl
   where
-    both : (is_bulletin d n b ≡ true) × (list_all (is_bulletin d n) bs ≡ true)
-    both = and_both (is_bulletin d n b) (list_all (is_bulletin d n) bs) all
-
-    go : (t : Bool) → is_recent d n b.position ≡ t → InWindow d.window n (map recent_of (cond t (b ∷ filter (λ (x : Bulletin). is_recent d n x.position) bs) (filter (λ (x : Bulletin). is_recent d n x.position) bs)))
-    go true near = (ltb-true b.position n (bulletin-parts d n b both.0).below, leb-true n (b.position + d.window) near, above_in d n b.position bs up.0, counted_window d n bs up.1 both.1)
-    go false far = counted_window d n bs up.1 both.1
+    go : b.position < n → InWindow d.window n (recent_in d n bs) → (t : Bool) → is_recent d n b.position ≡ t
+        → InWindow d.window n (map recent_of (cond t (b ∷ filter (λ (x : Bulletin). is_recent d n x.position) bs) (filter (λ (x : Bulletin). is_recent d n x.position) bs)))
+    go below rest true near = (below, leb-true n (b.position + d.window) near, above_in d n b.position bs up.0, rest)
+    go below rest false far = rest
 
 -- from the first on there are no more than positions
 span : (w n : ℕ) (r : Recent) (rs : List Recent) → InWindow w n (r ∷ rs) → length (r ∷ rs) + r.position ≤ n

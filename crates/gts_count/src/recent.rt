@@ -29,10 +29,11 @@ pub struct Arrival {
 pub fn arrived(arrival: Arrival, position: u64) -> Recent
     ensures { result ≡ tallies.arrived position arrival }
 {
+    let Arrival { key, from, bytes } = arrival;
     Recent {
         position,
-        key: arrival.key,
-        from: arrival.from,
-        bytes: arrival.bytes,
+        key,
+        from,
+        bytes,
     }
 }
