@@ -2,7 +2,6 @@
 use Rattle.std.specs.Prelude.{◌==◌, List, [], ◌∷◌, if◌then◌else◌}
 use Rattle.gts_directory.specs.Directory.{Directory, Circuit}
 use Rattle.gts_event.specs.State.{State}
-pub use Rattle.gts_event.specs.declared.event.Entry.{Entry}
 use Rattle.gts_event.specs.History.{restarted}
 use Rattle.gts_event.specs.Need.{Need, CircuitNeed, unused, need, begun}
 

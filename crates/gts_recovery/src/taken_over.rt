@@ -8,7 +8,7 @@ ghost use Rattle.gts_event.specs.History.{after_all, restarted};
 ghost use Rattle.gts_event.specs.declared.event.Entry.{Entry};
 ghost use Rattle.gts_event.specs.Cited.{Directory, Need, IsOrdered, IsHeld, Knows, need, begun, is_sound};
 ghost use Rattle.gts_opening.specs.Journal.{due};
-ghost use Rattle.gts_recovery.specs.TakenOver.{Entry, goes_over};
+ghost use Rattle.gts_recovery.specs.TakenOver.{goes_over};
 
 /// Under a directory that takes over from its own, a sound need goes on: it begins a state that a history can have, so that its
 /// need there is sound; the state is the same where the journal was opened again before; and as many draws are due.
