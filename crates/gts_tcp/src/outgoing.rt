@@ -1,4 +1,4 @@
-ghost use Rattle.std.specs.Prelude.{◌≡◌, []};
+ghost use Rattle.std.specs.Prelude.{◌≡◌, ◌≤◌, [], length, IfOk};
 
 use crate::cause::{named, note};
 use crate::dialing::{LONGEST_TRY, dial_once};
@@ -45,6 +45,8 @@ impl<R: Net<Listener = TcpListener, Stream = TcpStream> + Clock> Way<'_, R> {
         let stream = dial_once(self.rt, self.place.host, self.place.output, milliseconds)?;
         stream.set_nodelay(true)?;
         stream.set_write_timeout(Some(Duration::from_millis(u64::from(LONGEST_WAIT))))?;
+        // A look before each frame then costs one call.
+        stream.set_nonblocking(true)?;
         self.stream = Some(stream);
         self.has_stood = true;
         Ok(())
@@ -73,7 +75,7 @@ impl<R: Net<Listener = TcpListener, Stream = TcpStream> + Clock> Way<'_, R> {
     /// Gives up a connection that the neighbour has ended.
     fn look(&mut self) {
         if let Some(stream) = &mut self.stream
-            && has_ended(stream)
+            && reads_an_end(stream)
         {
             self.stream = None;
         }
@@ -146,7 +148,22 @@ impl<R: Net<Listener = TcpListener, Stream = TcpStream> + Clock> Way<'_, R> {
     }
 }
 
-/// Writes all of a piece on a connection, whose writes wait for a short time each. Where one takes a part, the next goes on behind it.
+/// Writes some of a piece on a connection that doesn't wait; where it takes none now, waits for a short time for some.
+fn write_some(stream: &mut TcpStream, piece: &[u8]) -> io::Result<usize>
+    ensures { IfOk result (λ count. count ≤ length piece.now) }
+{
+    let first = stream.write(piece);
+    match &first {
+        Err(error) if has_waited(error) => {}
+        _ => return first,
+    }
+    stream.set_nonblocking(false)?;
+    let second = stream.write(piece);
+    stream.set_nonblocking(true)?;
+    second
+}
+
+/// Writes all of a piece on a connection. Where a write takes a part, the next goes on behind it.
 fn write_on(stream: &mut TcpStream, piece: &[u8], stop: Option<&Stop>) -> io::Result<()> {
     let mut rest = piece;
     for _ in 0..u64::MAX {
@@ -154,7 +171,7 @@ fn write_on(stream: &mut TcpStream, piece: &[u8], stop: Option<&Stop>) -> io::Re
             return Ok(());
         }
         goes_on(stop)?;
-        match stream.write(rest) {
+        match write_some(stream, rest) {
             Ok(0) => return Err(io::Error::from(ErrorKind::WriteZero)),
             Ok(count) => rest = &rest[count..],
             Err(error) if has_waited(&error) => {}
@@ -169,16 +186,8 @@ fn milliseconds_of(time: Duration) -> u32 {
     u32::try_from(time.as_millis()).unwrap_or(u32::MAX)
 }
 
-/// Whether the neighbour has ended a connection, or it broke. What the neighbour sends on it is read away, and is no end.
-fn has_ended(stream: &mut TcpStream) -> bool {
-    if stream.set_nonblocking(true).is_err() {
-        return true;
-    }
-    let is_ended = reads_an_end(stream);
-    stream.set_nonblocking(false).is_err() || is_ended
-}
-
-/// Whether a connection that doesn't wait has come to its end.
+/// Whether the neighbour has ended a connection, which doesn't wait, or it broke. What the neighbour sends on it is read away, and is
+/// no end.
 fn reads_an_end(stream: &mut TcpStream) -> bool {
     let mut piece = [0u8; 64];
     for _ in 0..MOST_LOOKS {
