@@ -232,7 +232,7 @@ opened_or_left : (r : Result (Unit {0}) MigrateFault) → WasOpened r ⊎ Leaves
 opened_or_left (Ok done) = inl tt
 opened_or_left (Err (fault.Open e)) = inr tt
 opened_or_left (Err (fault.Waits circuit count)) = inl tt
-opened_or_left (Err (fault.Full used need limit)) = inl tt
+opened_or_left (Err (fault.Full used wanted limit)) = inl tt
 opened_or_left (Err fault.DiskFault) = inl tt
 opened_or_left (Err fault.NoMemory) = inl tt
 
@@ -290,7 +290,7 @@ module _ {S P : Type 0} (source : SourceMeanings S) (station : StationMeanings P
     },
     λ t. e.told t tt,
   )
-  means (Err (fault.Full used need limit)) e = (
+  means (Err (fault.Full used wanted limit)) e = (
     record {
       new = d;
       old = o;
@@ -318,7 +318,7 @@ module _ {S P : Type 0} (source : SourceMeanings S) (station : StationMeanings P
   answered (Err (fault.Open opening.DiskFault)) x t e bad quiet = absurd (quiet (x.disk tt))
   answered (Err (fault.Open opening.NoMemory)) x t e bad quiet = inr refl
   answered (Err (fault.Waits circuit count)) x t e bad quiet = absurd (two_answers (x.answers t).0 e _ (x.answers t).1 bad)
-  answered (Err (fault.Full used need limit)) x t e bad quiet = absurd (two_answers (x.answers t).0 e _ (x.answers t).1 bad)
+  answered (Err (fault.Full used wanted limit)) x t e bad quiet = absurd (two_answers (x.answers t).0 e _ (x.answers t).1 bad)
   answered (Err fault.DiskFault) x t e bad quiet = absurd (quiet (x.disk tt))
   answered (Err fault.NoMemory) x t e bad quiet = inr refl
 

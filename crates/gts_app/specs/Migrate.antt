@@ -92,9 +92,9 @@ MigratedAs source station (Waits row count) w v =
     UnderBoth source w (λ new old. OpensUnder station w new old
     (λ s. waits_on_closed new (need old s) ≡ Some (row, count)))
     × IsLeftAlone station w v
-MigratedAs source station (Full used need limit) w v =
+MigratedAs source station (Full used wanted limit) w v =
     UnderBoth source w (λ new old. OpensUnder station w new old
-    (λ s. IsFullCompacted new (goes_on new old (need old s)) (switch.Full used need limit)))
+    (λ s. IsFullCompacted new (goes_on new old (need old s)) (switch.Full used wanted limit)))
     × IsLeftAlone station w v
 MigratedAs source station DiskFault w v = Rose (station.disk_faults w.station) (station.disk_faults v.station)
 MigratedAs source station SourceFault w v =

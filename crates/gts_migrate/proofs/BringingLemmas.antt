@@ -1,23 +1,22 @@
 -- What is needed of each circuit under a directory that takes over, by the circuit's number.
 use Rattle.std.specs.Prelude.{IfOk}
-use Rattle.std.proofs.Common.{◌≡◌, ℕ, zero, suc, ◌+◌, ◌-◌, ◌<◌, ◌≤◌, min, Bool, true, false, not, cond, ◌&&◌, ◌||◌, ◌==◌, nat_le, nat_lt, List, [], ◌∷◌, length, map, filter, get_or, take, drop, zip, ◌++◌, slice_get, Some, Result, Ok, Err, refl, sym, ap, ◌∙◌, arith}
-use Rattle.std.specs.List.{list_any, list_all, enumerate_from}
+use Rattle.std.proofs.Common.{◌≡◌, ℕ, zero, suc, ◌+◌, ◌-◌, ◌<◌, ◌≤◌, Bool, true, false, not, cond, ◌==◌, nat_lt, List, [], ◌∷◌, length, map, filter, get_or, take, drop, zip, ◌++◌, slice_get, Some, Result, Ok, Err, refl, sym, ap, ◌∙◌, arith}
+use Rattle.std.specs.List.{list_all, enumerate_from}
 use Rattle.std.proofs.lemmas.Bool.{and_parts, lt-ltb}
 use Rattle.std.proofs.lemmas.List.Folds.{list_all_more}
 use Rattle.std.proofs.lemmas.Option.{slice_get-get_or}
-use Rattle.std.proofs.lemmas.List.{length-map, map-append}
+use Rattle.std.proofs.lemmas.List.{map-append}
 use Rattle.std.proofs.lemmas.Grind.{take_at_read}
 use Rattle.std.proofs.lemmas.List.FromFn.{length-enumerate_from}
 use Rattle.gts_directory.specs.Directory.{Directory, Circuit}
 use Rattle.gts_event.specs.State.{CircuitState, Bulletin, has, last_of, draws, drawn, kept_draws, waiting}
 use Rattle.gts_event.specs.Need.{Need, CircuitNeed, unused, circuit_need, begun_circuit, is_circuit_sound, is_sound}
-use Rattle.gts_event.specs.Sound.{SoundCircuit}
 use Rattle.gts_event.specs.Items.{bulletin_of, circuit_need_of}
 use Rattle.gts_event.specs.declared.values.CircuitNeed as values_circuit
 use Rattle.gts_event.specs.declared.values.Bulletin as values
 use Rattle.gts_event.proofs.LawLemmas.{circuit-parts, sound-parts}
 use Rattle.gts_recovery.specs.TakenOver.{brought, each_brought}
-use Rattle.gts_migrate.specs.LettingGo.{emptied, each_let_go, goes_on}
+use Rattle.gts_migrate.specs.LettingGo.{emptied, each_let_go}
 use Rattle.gts_migrate.specs.Bringing.{circuits_under}
 
 -- ---- lists

@@ -5,9 +5,9 @@ use Rattle.std.proofs.lemmas.Bool.{and_parts, lt-ltb}
 use Rattle.std.proofs.lemmas.List.Sums.{sum_by-cons}
 use Rattle.gts_directory.specs.Directory.{Directory, Circuit}
 use Rattle.gts_directory.specs.TakingOver.{KeepsPlace, BeginWith, TakesOver}
-use Rattle.gts_event.specs.State.{State, CircuitState, idle, has, draws, waiting, on_circuit}
+use Rattle.gts_event.specs.State.{State, CircuitState, idle, has, waiting}
 use Rattle.gts_event.specs.History.{restarted}
-use Rattle.gts_event.specs.Need.{Need, CircuitNeed, unused, need, circuit_need, begun, begun_circuit, is_sound, are_below, owes_kept, IsOrdered}
+use Rattle.gts_event.specs.Need.{Need, CircuitNeed, unused, need, circuit_need, begun_circuit, is_sound, are_below, owes_kept, IsOrdered}
 use Rattle.gts_event.specs.Held.{HeldCircuit, IsHeld}
 use Rattle.gts_event.specs.Items.{circuit_need_of, need_of}
 use Rattle.gts_event.specs.declared.values.CircuitNeed as values

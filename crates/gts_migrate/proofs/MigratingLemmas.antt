@@ -1,5 +1,5 @@
 -- A journal is taken over: what a crash leaves meanwhile, and what the files open to then.
-use Rattle.std.proofs.Common.{◌≡◌, ◌≢◌, ◌⊎◌, inl, inr, ℕ, zero, suc, ◌+◌, ◌-◌, ◌*◌, ◌^◌, ◌<◌, ◌≤◌, true, List, [], ◌∷◌, ◌++◌, length, Option, None, Result, Ok, Err, refl, sym, ap, subst, ◌∙◌, arith}
+use Rattle.std.proofs.Common.{◌≡◌, ◌≢◌, ◌⊎◌, inl, inr, ℕ, ◌+◌, ◌-◌, ◌*◌, ◌^◌, ◌<◌, ◌≤◌, true, List, [], ◌∷◌, length, Option, None, Result, Ok, Err, refl, sym, ap, subst, ◌∙◌, arith}
 use Rattle.std.specs.Prelude.{OnOk, IfErr, IsErrOf}
 use Rattle.std.proofs.lemmas.Bool.{cases_eq}
 use Rattle.std.proofs.Math.Nat.{add-mul}
@@ -27,7 +27,7 @@ use Rattle.gts_opening.proofs.LawLemmas.{checkpoint_opened, room_for, due-left, 
 use Rattle.gts_checkpoint.specs.Alone.{LeavesOthers, WorksBeside}
 use Rattle.gts_checkpoint.specs.Writing.{HasWritten, checkpoint_file}
 use Rattle.gts_journal.specs.{InHand, StandsOn, LeavesBoth, OnlySyncs, version_of, selected_bytes, selecting as selecting_at}
-use Rattle.gts_journal.proofs.LawLemmas.{both_left, file_low}
+use Rattle.gts_journal.proofs.LawLemmas.{both_left}
 use Rattle.gts_core.specs.Core.{Core, Needs}
 use Rattle.gts_recovery.specs.Opened.{IsOpenedAny, StandsForAny, opens_any, files_open_any}
 use Rattle.gts_migrate.specs.declared.fault.MigrateFault.{MigrateFault}

@@ -7,7 +7,7 @@ use Rattle.gts_directory.specs.Directory.{Directory}
 pub use Rattle.gts_directory.specs.TakingOver.{TakesOver}
 pub use Rattle.gts_event.specs.State.{State}
 pub use Rattle.gts_event.specs.History.{restarted}
-use Rattle.gts_event.specs.Need.{Need, IsOrdered, begun, need, is_sound, keeps_one}
+use Rattle.gts_event.specs.Need.{Need, begun, need, is_sound, keeps_one}
 pub use Rattle.gts_migrate.specs.LettingGo.{goes_on, opened_on, left_behind, waits_on_closed}
 use Rattle.gts_event.specs.declared.fault.SwitchFault.TheVariants as switch
 use Rattle.gts_core.specs.Core.{Core, Holds}

@@ -1,8 +1,7 @@
-use Rattle.std.proofs.Common.{◌≡◌, ◌<◌, Option, Some, ℕ, Result, Err, length, get_or, refl, sym, ap, subst, ◌∙◌, arith}
+use Rattle.std.proofs.Common.{◌≡◌, ◌<◌, Option, Some, ℕ, Err, length, get_or, refl, sym, ap, subst, ◌∙◌, arith}
 use Rattle.gts_directory.specs.Rows.{circuit_of_row}
 use Rattle.gts_event.specs.Need.{unused}
 use Rattle.gts_event.specs.Items.{need_of}
-use Rattle.gts_event.specs.declared.values.CircuitNeed as values
 use Rattle.gts_migrate.specs.declared.fault.MigrateFault.TheVariants.{Waits}
 use Rattle.gts_migrate.specs.LettingGo.{waits_on_closed}
 use Rattle.gts_migrate.specs.Bringing.{TellsWaiting}

@@ -1,4 +1,4 @@
-use Rattle.std.proofs.Common.{◌≡◌, ◌-◌, ℕ, ap, sym, arith}
+use Rattle.std.proofs.Common.{◌≡◌, ◌-◌, ℕ, arith}
 use Rattle.std.proofs.lemmas.Result.{err_from_is_err_and}
 use Rattle.gts_directory.specs.Directory.{Directory}
 use Rattle.gts_directory.specs.TakingOver.{TakesOver}
@@ -24,8 +24,8 @@ due_here new old s waiting left takes order count is =
     let each = due_waiting s.circuits in
     omega (arith, all, each, count, is)
 
-pub sub-requires : goal.sub-requires
-sub-requires c =
+pub overflow_sub-waiting : goal.overflow_sub-waiting
+overflow_sub-waiting c =
     let s0 = c.requires.due in
     let all = due-on c.args.new.now c.args.old.now s0.state c.requires.takes s0.holds.need.second in
     let each = due_waiting s0.state.circuits in

@@ -1,4 +1,4 @@
-use Rattle.std.proofs.Common.{◌≡◌, ◌∷◌, List, None, Result, Ok, Err, length, sym, subst}
+use Rattle.std.proofs.Common.{◌≡◌, ◌∷◌, List, None, Result, Ok, Err, sym, subst, arith}
 use Rattle.std.proofs.lemmas.Result.{err_from_is_err_and}
 use Rattle.gts_traits.specs.Calls.{Call, Did, Syncs}
 use Rattle.gts_traits.specs.Moments.{EachSince}
@@ -14,8 +14,13 @@ use Rattle.gts_record.specs.declared.fault.OpenFault.{OpenFault}
 use Rattle.gts_migrate.specs.declared.fault.MigrateFault.{MigrateFault}
 use Rattle.gts_migrate.specs.declared.fault.MigrateFault.TheVariants.{Open, Waits, Full, DiskFault, NoMemory}
 use Rattle.gts_migrate.specs.Migrating.{OpensEither, IsRoomAnswer, AnswersWaiting, IsPreparedFaultOf, AnswersOpening}
-use Rattle.gts_migrate.proofs.MigratingLemmas.{fits_for, can_migrate, state_is, need_is, opens_so, at_rest, room_after, waiting_after, opening_after, told_after, disk_after, migrated_after}
+use Rattle.gts_migrate.proofs.MigratingLemmas.{few_due, fits_for, can_migrate, state_is, need_is, opens_so, at_rest, room_after, waiting_after, opening_after, told_after, disk_after, migrated_after}
 use Rattle.gts_migrate.proofs.migrating.take_over.Goals as goal
+
+pub prepare-requires-clause-due : goal.prepare-requires-clause-due
+prepare-requires-clause-due g c =
+    few_due g.P.Station.tells c.args.old.now c.args.new.now c.requires (g.P.Station.calls c.open_core_any.new.station) c.in_ok-core.core c.in_ok-core.journal c.in_ok-core.ensures.opened
+    (omega (arith, c.limit.ensures.value, c.limit.ensures.range.1))
 
 pub rewrite-requires-clause-fits : goal.rewrite-requires-clause-fits
 rewrite-requires-clause-fits g c =
@@ -179,6 +184,6 @@ returns-in_err-need-clause-waiting g c = λ tell s used is.
     let synced = c.in_ok-core.ensures.synced tell in
     let p = err_from_is_err_and c.from_residual-in_err-need.result c.from_residual-in_err-need.ensures.1 in
     rw (p.1, p.2)
-    (subst (λ (t : State). AnswersWaiting (Err c.in_err-need.field-0.0) (waits_on_closed new (need old t)))
+    (subst (λ (t : State). AnswersWaiting {T = Unit {0}} (Err c.in_err-need.field-0.0) (waits_on_closed new (need old t)))
     (sym (state_is g.P.Station.tells old new c.requires mid core j o tell before synced s used is))
     (c.in_err-need.ensures.waiting o.state o.kept.holds))
