@@ -1,0 +1,184 @@
+-- What an engine has gathered that isn't in its journal yet, what bringing it there leaves, and what a call leaves that gathers.
+use Rattle.std.specs.Prelude.{◌≡◌, ◌⊎◌, ℕ, ◌≤◌, true, false, List, [], ◌∷◌, ◌++◌, None, Result, Ok, Err, OnOk, IfErr}
+use Rattle.gts_traits.specs.Calls.{Call, Says, Outside, on, said_by, SaidSince}
+use Rattle.gts_traits.specs.Counts.{Rose}
+use Rattle.gts_traits.specs.Disk.{Files}
+use Rattle.gts_traits.specs.Station.{Tries, IsFront}
+use Rattle.gts_traits.specs.Moments.{EachSince}
+use Rattle.gts_directory.specs.Directory.{Directory}
+use Rattle.gts_event.specs.State.{State}
+use Rattle.gts_event.specs.Drain.{all_done, all_unsaid}
+use Rattle.gts_event.specs.declared.event.Event.{Event}
+use Rattle.gts_event.specs.declared.event.Entry.{Entry}
+use Rattle.gts_event.specs.declared.event.Entry.TheVariants.{Done, Unsaid, Idle, Doubt}
+use Rattle.gts_event.specs.declared.outcome.Outcome.{Outcome}
+use Rattle.gts_event.specs.declared.fault.SwitchFault.{SwitchFault}
+use Rattle.gts_event.specs.declared.fault.SwitchFault.TheVariants.{DiskFault, SayFault, Spent}
+use Rattle.gts_record.specs.Record.{Record}
+use Rattle.gts_journal.specs.{InHand, StandsFor}
+use Rattle.gts_journal.specs.Batch.{Gathered, AreNext, OpensToOneOf}
+use Rattle.gts_journal.specs.Law.{OpensTo}
+use Rattle.gts_opening.specs.Journal.{after_records}
+use Rattle.gts_calls.specs.Calls.{HasCallCause}
+use Rattle.gts_engine.specs.declared.mode.SayMode.{SayMode}
+use Rattle.gts_engine.specs.declared.parts.Parts.{Parts}
+use Rattle.gts_engine.specs.Sayings.{held_outside}
+use Rattle.gts_engine.specs.Engine.{Shown, engine_of}
+use Rattle.gts_engine.specs.Origin.{Origin}
+use Rattle.gts_engine.specs.Keeping.{Gathers, Keeps}
+use Rattle.gts_engine.specs.Going.{stopped_after}
+use Rattle.gts_engine.specs.Parts.{IsSound, shows, OnlySaid}
+
+-- whatever state the journal stood for, and whatever records were gathered, a crash since leaves that state, or the one with all
+-- of them
+abbrev pub MayBring : Directory → List Call → InHand → Gathered → List Call → Type 0
+MayBring d old j b new =
+    (s : State) (rs : List Record) → StandsFor d s old j → AreNext d s j rs b → EachSince old new (OpensToOneOf d s (after_records d s rs))
+
+-- and now the journal stands for the one with all of them
+abbrev pub HasBrought : Directory → List Call → InHand → Gathered → List Call → InHand → Type 0
+HasBrought d old j b new next =
+    (s : State) (rs : List Record) → StandsFor d s old j → AreNext d s j rs b → StandsFor d (after_records d s rs) new next
+
+-- only the station, the journal, what was gathered and what stopped it are other ones
+abbrev pub OnlyBrought : {P : Type 0} → (old new : Parts P) → Type 0
+OnlyBrought old new = new ≡ record old { station = new.station; journal = new.journal; batch = new.batch; stopped = new.stopped }
+
+-- and what is held, and the counts of draws
+abbrev pub OnlySettled : {P : Type 0} → (old new : Parts P) → Type 0
+OnlySettled old new =
+    new ≡ record old {
+      station = new.station;
+      journal = new.journal;
+      batch = new.batch;
+      held = new.held;
+      drawn = new.drawn;
+      stopped = new.stopped;
+    }
+
+-- the files open to a state, and a front of this got outside
+abbrev pub OpensAlong : Directory → State → Outside → Files → Outside → Type 0
+OpensAlong d s outside files out = IsFront out outside × OpensTo d s files
+
+-- what was said, by the answer: all, or where saying failed a front
+abbrev pub SaysBy : Outside → Result (Unit {0}) SwitchFault → List Call → List Call → Type 0
+SaysBy outside (Ok _) old new = SaidSince old new outside
+SaysBy outside (Err _) old new = (part : Outside) × IsFront part outside × SaidSince old new part
+
+-- This was to be said, over a journal: whatever state that stands for, it stays at each moment.
+pub record SaysHeld (d : Directory) (outside : Outside) (result : Result (Unit {0}) SwitchFault) (old new : List Call) (j : InHand)
+    : Type 0 where
+  pub moments : (s : State) → StandsFor d s old j → EachSince old new (OpensAlong d s outside)
+  pub stands : (s : State) → StandsFor d s old j → StandsFor d s new j
+  pub said : SaysBy outside result old new
+
+-- nothing was said and the files open to the first of two states; or they open to the second, and a front of this got outside
+abbrev pub OpensBetween : Directory → State → State → Outside → Files → Outside → Type 0
+OpensBetween d s t outside files out = ((out ≡ []) × OpensTo d s files) ⊎ OpensAlong d t outside files out
+
+-- what was brought and said, by the answer
+abbrev pub HasCome : Directory → State → Outside → Result (Unit {0}) SwitchFault → List Call → List Call → InHand → Type 0
+HasCome d t outside (Ok _) old new next = StandsFor d t new next × SaidSince old new outside
+HasCome d t outside (Err SayFault) old new next =
+    StandsFor d t new next × ((part : Outside) × IsFront part outside × SaidSince old new part)
+HasCome d t outside (Err _) old new next = said_by new ≡ said_by old
+
+-- Records were to be brought into the journal, that lead from one state to another, and then this was to be said.
+pub record Brings (d : Directory) (s t : State) (outside : Outside) (result : Result (Unit {0}) SwitchFault) (old new : List Call)
+    (next : InHand) : Type 0 where
+  pub moments : EachSince old new (OpensBetween d s t outside)
+  pub comes : HasCome d t outside result old new next
+
+-- whatever state the journal of these parts stood for, and whatever records were gathered
+abbrev pub BringsAndSays : {P : Type 0} → Result (Unit {0}) SwitchFault → (old new : List Call) → Parts P → InHand → Type 0
+BringsAndSays result old new parts next =
+    (s : State) (rs : List Record) → StandsFor parts.directory s old parts.journal → AreNext parts.directory s parts.journal rs parts.batch
+    → Brings parts.directory s (after_records parts.directory s rs) (held_outside parts.held) result old new next
+
+-- a device failed
+abbrev pub IsDeviceFault : SwitchFault → Type 0
+IsDeviceFault DiskFault = Unit {0}
+IsDeviceFault SayFault = Unit {0}
+IsDeviceFault _ = ⊥
+
+-- only what is held is another one
+abbrev pub OnlyHeld : {P : Type 0} → (old new : Parts P) → Type 0
+OnlyHeld old new = new ≡ record old { held = new.held }
+
+-- Bytes were to be said on a channel, with this answer: at once, where nothing was gathered; else they are held behind what is held.
+pub record HasTold {P : Type 0} (tells : Type 0) (calls : P → List Call) (disk say : P → ℕ) (channel : ℕ) (bytes : List ℕ)
+    (result : Result (Unit {0}) SwitchFault) (old new : Parts P) : Type 0 where
+  pub told : (engine_of old).gathered ≡ false → tells → Tries (Says channel bytes) result (calls old.station) (calls new.station)
+  pub rest : (engine_of old).gathered ≡ false → OnlySaid old new
+  pub held : (engine_of old).gathered ≡ true
+      → (result ≡ Ok tt) × OnlyHeld old new × ((engine_of new).held ≡ (engine_of old).held ++ on channel bytes)
+  pub stops : new.stopped ≡ stopped_after old.stopped result
+  pub fault : IfErr result (λ fault. (fault ≡ SayFault) × Rose (say old.station) (say new.station))
+  pub later : say old.station ≤ say new.station
+  pub disk : disk new.station ≡ disk old.station
+
+-- Saying failed at one of these events, behind these entries: those before it were said, of it a front, of those behind it nothing.
+pub record IsCutShort (tells : Type 0) (mode : SayMode) (o : Origin) (entries : List Entry) (events : List Event) (e : Shown) : Type 0 where
+  pub said : List Event
+  pub first : Event
+  pub rest : List Event
+  pub is : events ≡ said ++ first ∷ rest
+  pub keeps : Keeps tells mode o (entries ++ all_done said ++ all_unsaid (first ∷ rest)) e
+
+-- What settling leaves of an engine that stood for these entries and had gathered these events: all of them were brought into the
+-- journal and said; or they are in doubt, all together; or saying failed at one of them. Nothing is gathered any more.
+abbrev pub AfterSettling : Type 0 → SayMode → Origin → List Entry → List Event → Result (Unit {0}) SwitchFault → Shown → Type 0
+AfterSettling tells mode o entries events (Ok _) e = Keeps tells mode o (entries ++ all_done events) e
+AfterSettling tells mode o entries events (Err DiskFault) e = Keeps tells mode o (entries ++ Doubt events ∷ []) e
+AfterSettling tells mode o entries events (Err SayFault) e = IsCutShort tells mode o entries events e
+AfterSettling tells mode o entries events (Err fault) e = ⊥
+
+-- What was gathered in an engine that goes on was to be brought into the journal and said, with this answer.
+pub record HasSettled {P : Type 0} (tells : Type 0) (calls : P → List Call) (disk say : P → ℕ)
+    (result : Result (Unit {0}) SwitchFault) (old new : Parts P) : Type 0 where
+  pub settles : (mode : SayMode) (o : Origin) (entries : List Entry) (events : List Event)
+      → Gathers tells mode o entries events (shows calls old) → AfterSettling tells mode o entries events result (shows calls new)
+  pub sound : IsSound tells calls new
+  pub stops : new.stopped ≡ stopped_after old.stopped result
+  pub rest : OnlySettled old new
+  pub used : OnOk result ((engine_of new).used ≡ (engine_of old).used)
+  pub emptied : (engine_of new).gathered ≡ false
+  pub silent : (engine_of new).held ≡ []
+  pub nothing : (engine_of old).gathered ≡ false → (result ≡ Ok tt) × (new ≡ old)
+  pub cause : HasCallCause result (disk old.station) (disk new.station) (say old.station) (say new.station)
+
+-- the parts stay as they are, or what was gathered was settled
+abbrev pub MayHaveSettled : {P : Type 0} → Type 0 → (P → List Call) → (disk say : P → ℕ) → Result (Unit {0}) SwitchFault → (old new : Parts P) → Type 0
+MayHaveSettled tells calls disk say result old new = ((result ≡ Ok tt) × (new ≡ old)) ⊎ HasSettled tells calls disk say result old new
+
+-- How these entries and gathered events go on with an event: it is gathered behind these; or these were settled, and it is gathered
+-- alone; or it was said at once, with nothing gathered.
+pub data IsOneMore (entries : List Entry) (events : List Event) (event : Event) (front : List Entry) (more : List Event) : Type 0 where
+  Behind : front ≡ entries → more ≡ events ++ event ∷ [] → IsOneMore entries events event front more
+  Alone : front ≡ entries ++ all_done events → more ≡ event ∷ [] → IsOneMore entries events event front more
+  AtOnce : front ≡ (entries ++ all_done events) ++ Done event ∷ [] → more ≡ [] → IsOneMore entries events event front more
+
+-- it stands for these entries and gathered events with an event more
+pub record GathersOne (tells : Type 0) (mode : SayMode) (o : Origin) (entries : List Entry) (events : List Event) (event : Event) (e : Shown)
+    : Type 0 where
+  pub front : List Entry
+  pub more : List Event
+  pub one : IsOneMore entries events event front more
+  pub gathers : Gathers tells mode o front more e
+
+-- What a call for an event leaves of an engine that stood for these entries and had gathered these events. Where there was no room
+-- for it, these were settled first, and so they are where it changes nothing. Saying failed at one of them; or at the event, which
+-- was said at once.
+abbrev pub AfterCall : Type 0 → SayMode → Origin → List Entry → List Event → Event → Result Outcome SwitchFault → Shown → Type 0
+AfterCall tells mode o entries events event (Ok _) e = GathersOne tells mode o entries events event e
+AfterCall tells mode o entries events event (Err DiskFault) e = Keeps tells mode o (entries ++ Doubt events ∷ []) e
+AfterCall tells mode o entries events event (Err SayFault) e =
+    IsCutShort tells mode o entries events e ⊎ Keeps tells mode o ((entries ++ all_done events) ++ Unsaid event ∷ []) e
+AfterCall tells mode o entries events event (Err Spent) e = ⊥
+AfterCall tells mode o entries events event (Err fault) e = Keeps tells mode o ((entries ++ all_done events) ++ Idle event fault ∷ []) e
+
+-- whatever entries it stood for and whatever events were gathered
+abbrev pub LeavesCall : Type 0 → SayMode → Event → Result Outcome SwitchFault → (old new : Shown) → Type 0
+LeavesCall tells mode event result old new =
+    (o : Origin) (entries : List Entry) (events : List Event) → Gathers tells mode o entries events old
+    → AfterCall tells mode o entries events event result new
