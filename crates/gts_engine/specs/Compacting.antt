@@ -66,9 +66,9 @@ IsIdleFault (Err (Stopped by)) = Unit {0}
 IsIdleFault (Err NoMemory) = Unit {0}
 IsIdleFault _ = ⊥
 
--- only the station, the journal and what stopped it are other ones
+-- only the station, the journal, what is gathered for it and what stopped it are other ones
 abbrev pub IsBehind : {P : Type 0} → (old new : Parts P) → Type 0
-IsBehind old new = new ≡ record old { station = new.station; journal = new.journal; stopped = new.stopped }
+IsBehind old new = new ≡ record old { station = new.station; journal = new.journal; batch = new.batch; stopped = new.stopped }
 
 -- each moment opens to the state that the core holds, and nothing is said
 abbrev pub StaysAt : Directory → Core → List Call → List Call → Type 0

@@ -1,5 +1,5 @@
 -- What an engine has gathered that isn't in its journal yet, what bringing it there leaves, and what a call leaves that gathers.
-use Rattle.std.specs.Prelude.{◌≡◌, ◌⊎◌, ℕ, ◌≤◌, true, false, List, [], ◌∷◌, ◌++◌, None, Result, Ok, Err, OnOk, IfErr}
+use Rattle.std.specs.Prelude.{◌≡◌, ◌⊎◌, ℕ, ◌≤◌, true, false, List, [], ◌∷◌, ◌++◌, None, Result, Ok, Err, OnOk, IfOk, IfErr}
 use Rattle.gts_traits.specs.Calls.{Call, Says, Outside, on, said_by, SaidSince}
 use Rattle.gts_traits.specs.Counts.{Rose}
 use Rattle.gts_traits.specs.Disk.{Files}
@@ -7,6 +7,7 @@ use Rattle.gts_traits.specs.Station.{Tries, IsFront}
 use Rattle.gts_traits.specs.Moments.{EachSince}
 use Rattle.gts_directory.specs.Directory.{Directory}
 use Rattle.gts_event.specs.State.{State}
+use Rattle.gts_event.specs.History.{outcome as outcome_of}
 use Rattle.gts_event.specs.Drain.{all_done, all_unsaid}
 use Rattle.gts_event.specs.declared.event.Event.{Event}
 use Rattle.gts_event.specs.declared.event.Entry.{Entry}
@@ -18,12 +19,13 @@ use Rattle.gts_record.specs.Record.{Record}
 use Rattle.gts_journal.specs.{InHand, StandsFor}
 use Rattle.gts_journal.specs.Batch.{Gathered, AreNext, OpensToOneOf}
 use Rattle.gts_journal.specs.Law.{OpensTo}
+use Rattle.gts_core.specs.Core.{Holds}
 use Rattle.gts_opening.specs.Journal.{after_records}
 use Rattle.gts_calls.specs.Calls.{HasCallCause}
 use Rattle.gts_engine.specs.declared.mode.SayMode.{SayMode}
 use Rattle.gts_engine.specs.declared.parts.Parts.{Parts}
 use Rattle.gts_engine.specs.Sayings.{held_outside}
-use Rattle.gts_engine.specs.Engine.{Shown, engine_of}
+use Rattle.gts_engine.specs.Engine.{Engine, Shown, engine_of, shown}
 use Rattle.gts_engine.specs.Origin.{Origin}
 use Rattle.gts_engine.specs.Keeping.{Gathers, Keeps}
 use Rattle.gts_engine.specs.Going.{stopped_after}
@@ -182,3 +184,34 @@ abbrev pub LeavesCall : Type 0 → SayMode → Event → Result Outcome SwitchFa
 LeavesCall tells mode event result old new =
     (o : Origin) (entries : List Entry) (events : List Event) → Gathers tells mode o entries events old
     → AfterCall tells mode o entries events event result new
+
+-- A call over the parts was answered so, and by the way in which frames are said leaves what a call leaves. The answer is the
+-- outcome; the parts are sound again; and a device that failed stopped them, and was counted.
+pub record AnswersIn {P : Type 0} (tells : Type 0) (calls : P → List Call) (disk say : P → ℕ) (mode : SayMode) (event : Event)
+    (result : Result Outcome SwitchFault) (old new : Parts P) : Type 0 where
+  pub called : LeavesCall tells mode event result (shows calls old) (shows calls new)
+  pub outcome : IfOk result (λ answer. (s : State) → Holds old.directory old.core s → answer ≡ outcome_of old.directory s event)
+  pub directory : new.directory ≡ old.directory
+  pub sound : IsSound tells calls new
+  pub stops : new.stopped ≡ stopped_after old.stopped result
+  pub cause : HasCallCause result (disk old.station) (disk new.station) (say old.station) (say new.station)
+
+-- whoever says the frames
+abbrev pub Answers : {P : Type 0} → Type 0 → (P → List Call) → (disk say : P → ℕ) → Event → Result Outcome SwitchFault → (old new : Parts P) → Type 0
+Answers tells calls disk say event result old new = (mode : SayMode) → AnswersIn tells calls disk say mode event result old new
+
+-- what a call on an engine that goes on or has stopped was answered, and leaves
+pub record GathersEntry {P : Type 0} (tells : Type 0) (calls : P → List Call) (mode : SayMode) (event : Event)
+    (result : Result Outcome SwitchFault) (old new : Engine P) : Type 0 where
+  pub called : LeavesCall tells mode event result (shown calls old) (shown calls new)
+  pub outcome : IfOk result (λ answer. (s : State) → Holds old.directory old.core s → answer ≡ outcome_of old.directory s event)
+  pub directory : new.directory ≡ old.directory
+
+-- What was gathered was to be settled: whatever entries the engine stood for, and whatever events were gathered.
+pub record SettlesEngine {P : Type 0} (tells : Type 0) (calls : P → List Call) (result : Result (Unit {0}) SwitchFault)
+    (old new : Engine P) : Type 0 where
+  pub settles : (mode : SayMode) (o : Origin) (entries : List Entry) (events : List Event)
+      → Gathers tells mode o entries events (shown calls old) → AfterSettling tells mode o entries events result (shown calls new)
+  pub directory : new.directory ≡ old.directory
+  pub emptied : new.gathered ≡ false
+  pub nothing : old.gathered ≡ false → (result ≡ Ok tt) × (new ≡ old)

@@ -53,7 +53,8 @@ impl Batch {
 
     /// How many bytes the records that were gathered take in the journal.
     pub fn used(&self) -> u64
-        ensures { result ≡ length self.now.text - 1 }
+        ensures value { result ≡ length self.now.text - 1 }
+        ensures closed { 0 < length self.now.text }
     {
         self.size as u64 - 1
     }
