@@ -121,11 +121,11 @@ pub record HasTold {P : Type 0} (tells : Type 0) (calls : P → List Call) (disk
 
 -- Saying failed at one of these events, behind these entries: those before it were said, of it a front, of those behind it nothing.
 pub record IsCutShort (tells : Type 0) (mode : SayMode) (o : Origin) (entries : List Entry) (events : List Event) (e : Shown) : Type 0 where
-  pub said : List Event
+  pub before : List Event
   pub first : Event
   pub rest : List Event
-  pub is : events ≡ said ++ first ∷ rest
-  pub keeps : Keeps tells mode o (entries ++ all_done said ++ all_unsaid (first ∷ rest)) e
+  pub is : events ≡ before ++ first ∷ rest
+  pub keeps : Keeps tells mode o (entries ++ all_done before ++ all_unsaid (first ∷ rest)) e
 
 -- What settling leaves of an engine that stood for these entries and had gathered these events: all of them were brought into the
 -- journal and said; or they are in doubt, all together; or saying failed at one of them. Nothing is gathered any more.
