@@ -1,5 +1,6 @@
 -- What an engine has gathered that isn't in its journal yet, what bringing it there leaves, and what a call leaves that gathers.
-use Rattle.std.specs.Prelude.{◌≡◌, ◌⊎◌, ℕ, ◌≤◌, true, false, List, [], ◌∷◌, ◌++◌, None, Result, Ok, Err, OnOk, IfOk, IfErr}
+use Rattle.std.specs.Prelude.{◌≡◌, ◌⊎◌, ℕ, ◌<◌, ◌≤◌, length, take, true, false, List, [], ◌∷◌, ◌++◌, None, Result, Ok, Err, OnOk, IfOk, IfErr}
+use Rattle.std.specs.List.{slice_index_or}
 use Rattle.gts_traits.specs.Calls.{Call, Says, Outside, on, said_by, SaidSince}
 use Rattle.gts_traits.specs.Counts.{Rose}
 use Rattle.gts_traits.specs.Disk.{Files}
@@ -24,7 +25,7 @@ use Rattle.gts_opening.specs.Journal.{after_records}
 use Rattle.gts_calls.specs.Calls.{HasCallCause}
 use Rattle.gts_engine.specs.declared.mode.SayMode.{SayMode}
 use Rattle.gts_engine.specs.declared.parts.Parts.{Parts}
-use Rattle.gts_engine.specs.Sayings.{held_outside}
+use Rattle.gts_engine.specs.Sayings.{held_pieces, joined}
 use Rattle.gts_engine.specs.Engine.{Engine, Shown, engine_of, shown}
 use Rattle.gts_engine.specs.Origin.{Origin}
 use Rattle.gts_engine.specs.Keeping.{Gathers, Keeps}
@@ -62,40 +63,52 @@ OnlySettled old new =
 abbrev pub OpensAlong : Directory → State → Outside → Files → Outside → Type 0
 OpensAlong d s outside files out = IsFront out outside × OpensTo d s files
 
--- what was said, by the answer: all, or where saying failed a front
-abbrev pub SaysBy : Outside → Result (Unit {0}) SwitchFault → List Call → List Call → Type 0
-SaysBy outside (Ok _) old new = SaidSince old new outside
-SaysBy outside (Err _) old new = (part : Outside) × IsFront part outside × SaidSince old new part
-
--- This was to be said, over a journal: whatever state that stands for, it stays at each moment.
-pub record SaysHeld (d : Directory) (outside : Outside) (result : Result (Unit {0}) SwitchFault) (old new : List Call) (j : InHand)
-    : Type 0 where
-  pub moments : (s : State) → StandsFor d s old j → EachSince old new (OpensAlong d s outside)
-  pub stands : (s : State) → StandsFor d s old j → StandsFor d s new j
-  pub said : SaysBy outside result old new
-
 -- nothing was said and the files open to the first of two states; or they open to the second, and a front of this got outside
 abbrev pub OpensBetween : Directory → State → State → Outside → Files → Outside → Type 0
 OpensBetween d s t outside files out = ((out ≡ []) × OpensTo d s files) ⊎ OpensAlong d t outside files out
 
--- what was brought and said, by the answer
-abbrev pub HasCome : Directory → State → Outside → Result (Unit {0}) SwitchFault → List Call → List Call → InHand → Type 0
-HasCome d t outside (Ok _) old new next = StandsFor d t new next × SaidSince old new outside
-HasCome d t outside (Err SayFault) old new next =
-    StandsFor d t new next × ((part : Outside) × IsFront part outside × SaidSince old new part)
-HasCome d t outside (Err _) old new next = said_by new ≡ said_by old
+-- These pieces were to be said, over a journal: whatever state that stands for, it stays at each moment.
+pub record SaysHeld (d : Directory) (pieces : List Outside) (old new : List Call) (j : InHand) : Type 0 where
+  pub moments : (s : State) → StandsFor d s old j → EachSince old new (OpensAlong d s (joined pieces))
+  pub stands : (s : State) → StandsFor d s old j → StandsFor d s new j
 
--- Records were to be brought into the journal, that lead from one state to another, and then this was to be said.
-pub record Brings (d : Directory) (s t : State) (outside : Outside) (result : Result (Unit {0}) SwitchFault) (old new : List Call)
+-- a piece was to be said: it was, or a front of it
+abbrev pub TriesPiece : {T E : Type 0} → Outside → Result T E → List Call → List Call → Type 0
+TriesPiece piece result old new =
+    (channel : ℕ) × (bytes : List ℕ) × (piece ≡ on channel bytes) × (Tries (Says channel bytes) result old new ⊎ ((bytes ≡ []) × (new ≡ old)))
+
+-- saying failed at this one of these pieces: those before it were said, and of it a front
+pub record FailsAt (tells : Type 0) (pieces : List Outside) (i : ℕ) (old new : List Call) : Type 0 where
+  pub within : i < length pieces
+  pub said : tells → (part : Outside) × IsFront part (slice_index_or pieces i []) × SaidSince old new (joined (take i pieces) ++ part)
+
+-- all of them were said, or saying failed at one of them
+abbrev pub SaysAll : Type 0 → List Outside → Result (Unit {0}) ℕ → List Call → List Call → Type 0
+SaysAll tells pieces (Ok _) old new = tells → SaidSince old new (joined pieces)
+SaysAll tells pieces (Err i) old new = FailsAt tells pieces i old new
+
+-- what was said of them, by the answer
+abbrev pub SaysBy : Type 0 → List Outside → Result (Unit {0}) SwitchFault → List Call → List Call → Type 0
+SaysBy tells pieces (Ok _) old new = tells → SaidSince old new (joined pieces)
+SaysBy tells pieces (Err SayFault) old new = (i : ℕ) × FailsAt tells pieces i old new
+SaysBy tells pieces (Err _) old new = tells → said_by new ≡ said_by old
+
+-- the journal stands for a state, unless the disk failed
+abbrev pub StandsUnlessDisk : Directory → State → Result (Unit {0}) SwitchFault → List Call → InHand → Type 0
+StandsUnlessDisk d t (Err DiskFault) new next = Unit {0}
+StandsUnlessDisk d t result new next = StandsFor d t new next
+
+-- Records were to be brought into the journal, that lead from one state to another, and then these pieces were to be said.
+pub record Brings (d : Directory) (s t : State) (pieces : List Outside) (result : Result (Unit {0}) SwitchFault) (old new : List Call)
     (next : InHand) : Type 0 where
-  pub moments : EachSince old new (OpensBetween d s t outside)
-  pub comes : HasCome d t outside result old new next
+  pub moments : EachSince old new (OpensBetween d s t (joined pieces))
+  pub stands : StandsUnlessDisk d t result new next
 
 -- whatever state the journal of these parts stood for, and whatever records were gathered
 abbrev pub BringsAndSays : {P : Type 0} → Result (Unit {0}) SwitchFault → (old new : List Call) → Parts P → InHand → Type 0
 BringsAndSays result old new parts next =
     (s : State) (rs : List Record) → StandsFor parts.directory s old parts.journal → AreNext parts.directory s parts.journal rs parts.batch
-    → Brings parts.directory s (after_records parts.directory s rs) (held_outside parts.held) result old new next
+    → Brings parts.directory s (after_records parts.directory s rs) (held_pieces parts.held) result old new next
 
 -- a device failed
 abbrev pub IsDeviceFault : SwitchFault → Type 0
@@ -113,7 +126,7 @@ pub record HasTold {P : Type 0} (tells : Type 0) (calls : P → List Call) (disk
   pub told : (engine_of old).gathered ≡ false → tells → Tries (Says channel bytes) result (calls old.station) (calls new.station)
   pub rest : (engine_of old).gathered ≡ false → OnlySaid old new
   pub held : (engine_of old).gathered ≡ true
-      → (result ≡ Ok tt) × OnlyHeld old new × ((engine_of new).held ≡ (engine_of old).held ++ on channel bytes)
+      → (result ≡ Ok tt) × OnlyHeld old new × ((engine_of new).held ≡ (engine_of old).held ++ on channel bytes ∷ [])
   pub stops : new.stopped ≡ stopped_after old.stopped result
   pub fault : IfErr result (λ fault. (fault ≡ SayFault) × Rose (say old.station) (say new.station))
   pub later : say old.station ≤ say new.station

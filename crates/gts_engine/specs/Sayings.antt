@@ -11,14 +11,19 @@ pub record Sayings : Type 0 where
   pub each : List Saying
   pub bytes : List ℕ
 
--- what they say
-abbrev pub outside_of : List Saying → List ℕ → Outside
-outside_of [] bytes = []
-outside_of (saying ∷ sayings) bytes = on saying.channel (take saying.size bytes) ++ outside_of sayings (drop saying.size bytes)
+-- what each of them says
+abbrev pub pieces_of : List Saying → List ℕ → List Outside
+pieces_of [] bytes = []
+pieces_of (saying ∷ sayings) bytes = on saying.channel (take saying.size bytes) ∷ pieces_of sayings (drop saying.size bytes)
 
--- what is held
-abbrev pub held_outside : Sayings → Outside
-held_outside held = outside_of held.each held.bytes
+-- what is held: one piece for each event that was gathered
+abbrev pub held_pieces : Sayings → List Outside
+held_pieces held = pieces_of held.each held.bytes
+
+-- one piece behind the other
+abbrev pub joined : List Outside → Outside
+joined [] = []
+joined (piece ∷ pieces) = piece ++ joined pieces
 
 -- how many bytes they have
 abbrev pub sizes_of : List Saying → ℕ
