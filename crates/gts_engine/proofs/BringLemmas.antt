@@ -1,5 +1,6 @@
 -- What was gathered is brought into the journal: what that leaves of the parts of an engine.
-use Rattle.std.proofs.Common.{◌≡◌, ◌⊎◌, ◌≤◌, ◌+◌, ◌-◌, ◌*◌, true, false, inl, inr, ⊎_elim, ℕ, List, [], ◌∷◌, ◌++◌, length, Option, Some, None, Result, Ok, Err, IfErr, refl, sym, ap, subst, ◌∙◌, arith, length-append}
+use Rattle.std.proofs.Common.{◌≡◌, ◌<◌, true, false, inl, inr, ⊎_elim, ℕ, List, [], ◌∷◌, ◌++◌, length, take, Option, Some, None, Result, Ok, Err, OnOk, IfErr, refl, sym, ap, subst, ◌∙◌}
+use Rattle.std.specs.List.{slice_index_or}
 use Rattle.gts_traits.specs.Calls.{Call, Outside, said_by, SaidSince}
 use Rattle.gts_traits.specs.Disk.{Files, stable, IsImage}
 use Rattle.gts_traits.specs.Station.{IsFront}
@@ -26,12 +27,13 @@ use Rattle.gts_opening.specs.Journal.{opens, unowed_state, after_records}
 use Rattle.gts_engine.specs.declared.mode.SayMode.{SayMode}
 use Rattle.gts_engine.specs.Engine.{Shown}
 use Rattle.gts_engine.specs.Origin.{Origin, state_at, by_station}
-use Rattle.gts_engine.specs.Keeping.{HasFailed, Gathers, Keeps, state_behind}
+use Rattle.gts_engine.specs.Keeping.{HasFailed, Gathers, Keeps, state_behind, pieces}
 use Rattle.gts_engine.specs.Going.{IsGathering, stopped_after}
-use Rattle.gts_engine.specs.Gathering.{OpensBetween, HasCome, Brings, IsCutShort, AfterSettling, IsDeviceFault}
+use Rattle.gts_engine.specs.Sayings.{joined}
+use Rattle.gts_engine.specs.Gathering.{OpensBetween, FailsAt, SaysBy, Brings, IsCutShort, AfterSettling, IsDeviceFault}
 use Rattle.gts_engine.proofs.EntryLemmas.{only_itself}
 use Rattle.gts_engine.proofs.GoingLemmas.{opened_same}
-use Rattle.gts_engine.proofs.SettleLemmas.{cuts_at, doubted, settled_all, cut_at}
+use Rattle.gts_engine.proofs.SettleLemmas.{pieces_join, cuts_at, doubted, settled_all, cut_keeps}
 
 -- what was on the disk at the last sync is an image
 pub stable_image : (calls : List Call) → IsImage calls (stable calls)
@@ -42,11 +44,17 @@ module _ (tells : Type 0) (mode : SayMode) (o : Origin) (h : List Entry) (event 
   abbrev events : List Event
   events = event ∷ more
 
+  abbrev s : State
+  s = state_at o h
+
+  abbrev all : Outside
+  all = by_station mode (said o.directory s (all_done events))
+
   going : old.stopped ≡ None
   going = kept.gathered.1
 
   -- what the journal stands for is what the entries come to
-  first_same : tells → need o.directory (restarted o.directory g.settled) ≡ need o.directory (restarted o.directory (state_at o h))
+  first_same : tells → need o.directory (restarted o.directory g.settled) ≡ need o.directory (restarted o.directory s)
   first_same tell =
       let F : Option Device → Type 0 = λ x. HasFailed x h in
       let none : HasFailed None h = subst F going kept.failed in
@@ -57,46 +65,67 @@ module _ (tells : Type 0) (mode : SayMode) (o : Origin) (h : List Entry) (event 
       let same : need o.directory (restarted o.directory g.settled) ≡ need o.directory (restarted o.directory (state_at o left.0)) = cc here in
       same ∙ ap (λ (l : List Entry). need o.directory (restarted o.directory (state_at o l))) (only_itself h left.0 none.0 left.1)
 
+  abbrev led : State
+  led = after_records o.directory g.settled g.records
+
   -- and what the records lead to is what the events do
-  second_same : need o.directory (restarted o.directory (after_records o.directory g.settled g.records)) ≡ need o.directory (restarted o.directory (state_behind o h events))
+  second_same : need o.directory (restarted o.directory led) ≡ need o.directory (restarted o.directory (state_behind o h events))
   second_same =
       ap (λ (x : State). need o.directory (restarted o.directory x)) g.leads
       ∙ opened_same o.directory old.core g.state (state_behind o h events) g.holds (kept.core going)
 
-  abbrev outside : Outside
-  outside = by_station mode (said o.directory (state_at o h) (all_done events))
+  said_whole : joined old.held ≡ all
+  said_whole = ap joined kept.held ∙ pieces_join mode o.directory s events
 
-  module _ (result : Result (Unit {0}) SwitchFault) (new : Shown) (next : InHand) (directory : new.directory ≡ old.directory) (core : new.core ≡ old.core)
-      (gathered : new.gathered ≡ false) (held : new.held ≡ []) (stops : new.stopped ≡ stopped_after old.stopped result)
-      (brings : tells → Brings o.directory g.settled (after_records o.directory g.settled g.records) old.held result old.calls new.calls next) where
-    between : tells → EachSince old.calls new.calls (OpensBetween o.directory (state_at o h) (state_behind o h events) outside)
-    between tell =
-        weaker (OpensBetween o.directory g.settled (after_records o.directory g.settled g.records) old.held) (OpensBetween o.directory (state_at o h) (state_behind o h events) outside) old.calls new.calls
-        (λ files out left. ⊎_elim
-        (λ this. inl (this.0, this.1 ∙ ap {A = Need} (λ n. Ok n) (first_same tell)))
-        (λ then. let F : Outside → Type 0 = λ l. IsFront out l in inr (subst F kept.held then.0, then.1 ∙ ap {A = Need} (λ n. Ok n) second_same)) left)
-        (brings tell).moments
+  between : (new : List Call) → EachSince old.calls new (OpensBetween o.directory g.settled led (joined old.held)) → tells → EachSince old.calls new (OpensBetween o.directory s (state_behind o h events) all)
+  between new each tell =
+      weaker (OpensBetween o.directory g.settled led (joined old.held)) (OpensBetween o.directory s (state_behind o h events) all) old.calls new
+      (λ files out left. ⊎_elim
+      (λ this. inl (this.0, this.1 ∙ ap {A = Need} (λ n. Ok n) (first_same tell)))
+      (λ then. let F : Outside → Type 0 = λ l. IsFront out l in inr (subst F said_whole then.0, then.1 ∙ ap {A = Need} (λ n. Ok n) second_same)) left)
+      each
 
-    -- each image opens to what the events lead to
-    images : (tell : tells) → StandsFor o.directory (after_records o.directory g.settled g.records) new.calls next → (files : Files) → IsImage new.calls files
-        → opens o.directory files ≡ Ok (need o.directory (restarted o.directory (state_behind o h events)))
-    images tell stands files image =
-        images_open o.directory (after_records o.directory g.settled g.records) new.calls next stands files image ∙ ap {A = Need} (λ n. Ok n) second_same
+  -- each image opens to what the events lead to
+  images : (calls : List Call) (next : InHand) → StandsFor o.directory led calls next → (files : Files) → IsImage calls files
+      → opens o.directory files ≡ Ok (need o.directory (restarted o.directory (state_behind o h events)))
+  images calls next stands files image =
+      images_open o.directory led calls next stands files image ∙ ap {A = Need} (λ n. Ok n) second_same
+
+  -- saying failed at one of the pieces
+  failed_at : (new : Shown) (next : InHand) (i : ℕ) → FailsAt tells old.held i old.calls new.calls → new.directory ≡ old.directory → new.gathered ≡ false → new.held ≡ [] → new.stopped ≡ Some Say
+      → (tells → Brings o.directory g.settled led old.held (Err SayFault) old.calls new.calls next) → IsCutShort tells mode o h events new
+  failed_at new next i fails directory gathered held stopped brings =
+      let W : List Outside → Type 0 = λ ps. i < length ps in
+      let cut = cuts_at mode o.directory s events i (subst W kept.held fails.within) in
+      let N : List Outside → Type 0 = λ ps. tells → (part : Outside) × IsFront part (slice_index_or ps i []) × SaidSince old.calls new.calls (joined (take i ps) ++ part) in
+      let said_so : N (pieces mode o.directory s events) = subst N kept.held fails.said in
+      record {
+        before = cut.before;
+        first = cut.first;
+        rest = cut.rest;
+        is = cut.is;
+        keeps = cut_keeps tells mode o h events old kept going new directory gathered held (λ tell. between new.calls (brings tell).moments tell) cut.before cut.first cut.rest cut.is
+            stopped (λ tell. images new.calls next (brings tell).stands)
+            (λ tell. let p = said_so tell in
+            let F : Outside → Type 0 = λ l. IsFront p.0 l in
+            (p.0, subst F cut.here p.1, p.2 ∙ ap (λ (l : Outside). said_by old.calls ++ (l ++ p.0)) cut.earlier));
+      }
 
   -- what settling leaves, by its answer
   pub settles : (result : Result (Unit {0}) SwitchFault) (new : Shown) (next : InHand) → new.directory ≡ old.directory → new.core ≡ old.core → new.gathered ≡ false → new.held ≡ [] → new.stopped ≡ stopped_after old.stopped result
-      → (tells → Brings o.directory g.settled (after_records o.directory g.settled g.records) old.held result old.calls new.calls next) → OnOk result (new.used ≡ old.used) → IfErr result IsDeviceFault
+      → (tells → Brings o.directory g.settled led old.held result old.calls new.calls next) → SaysBy tells old.held result old.calls new.calls → OnOk result (new.used ≡ old.used) → IfErr result IsDeviceFault
       → AfterSettling tells mode o h events result new
-  settles (Ok x) new next directory core gathered held stops brings used kind =
-      settled_all tells mode o h events old kept going new directory gathered held (between (Ok x) new next directory core gathered held stops brings)
+  settles (Ok x) new next directory core gathered held stops brings says used kind =
+      settled_all tells mode o h events old kept going new directory gathered held (λ tell. between new.calls (brings tell).moments tell)
       (stops ∙ going) core used
-      (λ tell. images (Ok x) new next directory core gathered held stops brings tell (brings tell).comes.0)
-      (λ tell. (brings tell).comes.1 ∙ ap (λ (l : Outside). said_by old.calls ++ l) kept.held)
-  settles (Err DiskFault) new next directory core gathered held stops brings used kind =
-      doubted tells mode o h events old kept going new directory gathered held (between (Err DiskFault) new next directory core gathered held stops brings)
-      stops kept.gathered.2 (λ tell. (brings tell).comes)
-  settles (Err SayFault) new next directory core gathered held stops brings used kind = ?
-  settles (Err (Full at wanted limit)) new next directory core gathered held stops brings used kind = absurd kind
-  settles (Err (Stopped by)) new next directory core gathered held stops brings used kind = absurd kind
-  settles (Err Spent) new next directory core gathered held stops brings used kind = absurd kind
-  settles (Err NoMemory) new next directory core gathered held stops brings used kind = absurd kind
+      (λ tell. images new.calls next (brings tell).stands)
+      (λ tell. says tell ∙ ap (λ (l : Outside). said_by old.calls ++ l) said_whole)
+  settles (Err DiskFault) new next directory core gathered held stops brings says used kind =
+      doubted tells mode o h events old kept going new directory gathered held (λ tell. between new.calls (brings tell).moments tell)
+      stops kept.gathered.2 says
+  settles (Err SayFault) new next directory core gathered held stops brings says used kind =
+      failed_at new next says.0 says.1 directory gathered held stops brings
+  settles (Err (Full at wanted limit)) new next directory core gathered held stops brings says used kind = absurd kind
+  settles (Err (Stopped by)) new next directory core gathered held stops brings says used kind = absurd kind
+  settles (Err Spent) new next directory core gathered held stops brings says used kind = absurd kind
+  settles (Err NoMemory) new next directory core gathered held stops brings says used kind = absurd kind

@@ -1,8 +1,7 @@
 -- What was gathered is brought into the journal, and what was held is said: what an engine keeps then.
-use Rattle.std.proofs.Common.{◌≡◌, ◌⊎◌, ◌≤◌, ◌+◌, true, false, inl, inr, ⊎_elim, ℕ, List, [], ◌∷◌, ◌++◌, length, take, drop, Option, Some, None, Result, Ok, Err, refl, sym, ap, subst, ◌∙◌, arith, append_assoc}
-use Rattle.std.proofs.lemmas.Bool.{cases_lt}
-use Rattle.std.proofs.lemmas.List.{append-nil, take-append-drop, take-append-le, drop-append-le}
-use Rattle.std.proofs.Math.Seq.{take-append_seam, drop-append_seam}
+use Rattle.std.proofs.Common.{◌≡◌, ◌<◌, true, false, ⊎_elim, ℕ, zero, suc, List, [], ◌∷◌, ◌++◌, length, take, Option, Some, None, Result, Ok, Err, refl, sym, ap, subst, ◌∙◌, arith, append_assoc}
+use Rattle.std.specs.List.{list_all, slice_index_or}
+use Rattle.std.proofs.lemmas.List.{append-nil}
 use Rattle.gts_traits.specs.Calls.{Call, Outside, said_by, SaidSince}
 use Rattle.gts_traits.specs.Disk.{Files, IsImage}
 use Rattle.gts_traits.specs.Station.{IsFront}
@@ -22,83 +21,49 @@ use Rattle.gts_event.specs.declared.fault.Device.TheVariants.{Disk, Say}
 use Rattle.gts_core.specs.Core.{Core, Holds}
 use Rattle.gts_opening.specs.Journal.{opens}
 use Rattle.gts_opening.specs.Room.{IsReading, HasDoubt, HasUnsaid, BeginsWithRecord, StopsOnce, stops, may_follow}
-use Rattle.std.specs.List.{list_all}
 use Rattle.gts_engine.specs.declared.mode.SayMode.{SayMode}
 use Rattle.gts_engine.specs.Engine.{Shown}
 use Rattle.gts_engine.specs.Origin.{Origin, history_of, state_at, used_at, by_station, told}
-use Rattle.gts_engine.specs.Keeping.{LeavesFront, OpensToReading, HasSaid, HasFailed, Leaving, Gathers, Keeps, state_behind, used_behind}
-use Rattle.gts_engine.specs.Gathering.{OpensBetween, IsCutShort}
+use Rattle.gts_engine.specs.Keeping.{LeavesFront, OpensToReading, HasSaid, HasFailed, Leaving, Gathers, Keeps, state_behind, pieces}
+use Rattle.gts_engine.specs.Sayings.{joined}
+use Rattle.gts_engine.specs.Gathering.{OpensBetween}
 use Rattle.gts_engine.proofs.EntryLemmas.{split_last, all_more, nothing_behind, no_doubt, anchors_more, caused_more, told_more, nothing_said, stops_now, stops_never, only_itself, read_itself, read_done, read_not, by_station-append}
 use Rattle.gts_engine.proofs.MarkedLemmas.{marked, state_behind_marked, told_marked, anchors_marked, caused_marked, used_marked, no_doubt_marked, no_unsaid_done, still_going}
 use Rattle.gts_engine.proofs.LeavingLemmas.{at_end, brought}
 use Rattle.gts_engine.proofs.TurnLemmas.{goes_on, quiet, settle_keeps}
 
--- ---- where saying failed
+-- ---- the pieces of what events say
 
--- of two fronts of one list the shorter is a front of the longer
-shorter_front : (a x b y : Outside) → a ++ x ≡ b ++ y → length a ≤ length b → (z : Outside) × (b ≡ a ++ z) × (x ≡ z ++ y)
-shorter_front a x b y e h =
-    let n = length a in (
-      drop n b,
-      sym (take-append-drop n b) ∙ ap (λ (f : Outside). f ++ drop n b) (sym (take-append-le n b y h) ∙ ap (take n) (sym e) ∙ take-append_seam a x),
-      sym (drop-append_seam a x) ∙ ap (drop n) e ∙ drop-append-le n b y h,
-    )
+pub pieces_join : (mode : SayMode) (d : Directory) (s : State) (events : List Event) → joined (pieces mode d s events) ≡ by_station mode (said d s (all_done events))
+pieces_join mode d s [] = sym (nothing_said mode)
+pieces_join mode d s (event ∷ events) =
+    ap (λ (l : Outside). by_station mode (spoken d s event) ++ l) (pieces_join mode d (after d s event) events)
+    ∙ sym (by_station-append mode (spoken d s event) (said d (after d s event) (all_done events)))
 
--- a front of two parts is one of the first, or all of that and one of the second
-front_split : (p rest x y : Outside) → x ++ y ≡ p ++ rest → IsFront p x ⊎ ((q : Outside) × (p ≡ x ++ q) × IsFront q y)
-front_split p rest x y e = elim (cases_lt (length x) (length p)) as (λ _. IsFront p x ⊎ ((q : Outside) × (p ≡ x ++ q) × IsFront q y)) [
-  | inl longer ↦ let z = shorter_front x y p rest e (omega (arith, longer)) in inr (z.0, z.1, (rest, z.2))
-  | inr shorter ↦ let z = shorter_front p rest x y (sym e) shorter in inl (z.0, z.1)
-]
-
--- a front of what these events say: all of what the first of them say, and a front of what the next says
-pub record CutsAt (mode : SayMode) (d : Directory) (s : State) (events : List Event) (p : Outside) : Type 0 where
+-- the event of a piece, those before it, and those behind it
+pub record CutsAt (mode : SayMode) (d : Directory) (s : State) (events : List Event) (i : ℕ) : Type 0 where
   pub before : List Event
   pub first : Event
   pub rest : List Event
   pub is : events ≡ before ++ first ∷ rest
-  pub part : Outside
-  pub begins : IsFront part (by_station mode (spoken d (after_all d s (all_done before)) first))
-  pub all : p ≡ by_station mode (said d s (all_done before)) ++ part
+  pub earlier : joined (take i (pieces mode d s events)) ≡ by_station mode (said d s (all_done before))
+  pub here : slice_index_or (pieces mode d s events) i [] ≡ by_station mode (spoken d (after_all d s (all_done before)) first)
 
--- it is the first, or a later one
-cut_here : (mode : SayMode) (d : Directory) (s : State) (event : Event) (events : List Event) (p : Outside) → IsFront p (by_station mode (spoken d s event)) → CutsAt mode d s (event ∷ events) p
-cut_here mode d s event events p front = record {
-  before = [];
-  first = event;
-  rest = events;
-  is = refl;
-  part = p;
-  begins = front;
-  all = ap (λ (l : Outside). l ++ p) (sym (nothing_said mode));
-}
-
-cut_later : (mode : SayMode) (d : Directory) (s : State) (event : Event) (events : List Event) (p q : Outside) → p ≡ by_station mode (spoken d s event) ++ q → CutsAt mode d (after d s event) events q → CutsAt mode d s (event ∷ events) p
-cut_later mode d s event events p q is cut = record {
+cut_later : (mode : SayMode) (d : Directory) (s : State) (event : Event) (events : List Event) (i : ℕ) → CutsAt mode d (after d s event) events i → CutsAt mode d s (event ∷ events) (suc i)
+cut_later mode d s event events i cut = record {
   before = event ∷ cut.before;
   first = cut.first;
   rest = cut.rest;
   is = ap (λ (es : List Event). event ∷ es) cut.is;
-  part = cut.part;
-  begins = cut.begins;
-  all = is ∙ ap (λ (l : Outside). by_station mode (spoken d s event) ++ l) cut.all
-      ∙ sym (append_assoc (by_station mode (spoken d s event)) (by_station mode (said d (after d s event) (all_done cut.before))) cut.part)
-      ∙ ap (λ (l : Outside). l ++ cut.part) (sym (by_station-append mode (spoken d s event) (said d (after d s event) (all_done cut.before))));
+  earlier = ap (λ (l : Outside). by_station mode (spoken d s event) ++ l) cut.earlier
+      ∙ sym (by_station-append mode (spoken d s event) (said d (after d s event) (all_done cut.before)));
+  here = cut.here;
 }
 
--- each front of what events say, of which there is one, is so
-pub cuts_at : (mode : SayMode) (d : Directory) (s : State) (event : Event) (events : List Event) (p : Outside) → IsFront p (by_station mode (said d s (all_done (event ∷ events)))) → CutsAt mode d s (event ∷ events) p
-cuts_at mode d s event [] p front =
-    cut_here mode d s event [] p (front.0, ap (by_station mode) (sym (append-nil (spoken d s event))) ∙ front.1)
-cuts_at mode d s event (next ∷ events) p front =
-    let t : State = after d s event in
-    let more : List Event = next ∷ events in
-    let split = front_split p front.0 (by_station mode (spoken d s event)) (by_station mode (said d t (all_done more)))
-        (sym (by_station-append mode (spoken d s event) (said d t (all_done more))) ∙ front.1) in
-    elim split as (λ _. CutsAt mode d s (event ∷ more) p) [
-      | inl here ↦ cut_here mode d s event more p here
-      | inr later ↦ cut_later mode d s event more p later.0 later.1 (cuts_at mode d t next events later.0 later.2)
-    ]
+pub cuts_at : (mode : SayMode) (d : Directory) (s : State) (events : List Event) (i : ℕ) → i < length (pieces mode d s events) → CutsAt mode d s events i
+cuts_at mode d s [] i within = absurd (omega (arith, within))
+cuts_at mode d s (event ∷ events) zero within = record { before = []; first = event; rest = events; is = refl; earlier = sym (nothing_said mode); here = refl }
+cuts_at mode d s (event ∷ events) (suc i) within = cut_later mode d s event events i (cuts_at mode d (after d s event) events i (omega (arith, within)))
 
 -- ---- events that were not said
 
@@ -251,15 +216,15 @@ module _ (tells : Type 0) (mode : SayMode) (o : Origin) (h : List Entry) (events
       no_doubt_cut : HasDoubt g → ⊥
       no_doubt_cut = no_doubt_marked false front behind (no_doubt_marked true h before none.0)
 
-      pub cut_at : (part : Outside) → IsFront part (by_station mode (spoken o.directory (after_all o.directory s (all_done before)) first)) → new.stopped ≡ Some Say → (tells → Images)
-          → (tells → SaidSince old.calls new.calls (by_station mode (said o.directory s (all_done before)) ++ part)) → Keeps tells mode o g new
-      cut_at part begins stopped images heard =
+      pub cut_keeps : new.stopped ≡ Some Say → (tells → Images)
+          → (tells → (part : Outside) × IsFront part (by_station mode (spoken o.directory (after_all o.directory s (all_done before)) first)) × SaidSince old.calls new.calls (by_station mode (said o.directory s (all_done before)) ++ part))
+          → Keeps tells mode o g new
+      cut_keeps stopped images heard =
           let P : Option Device → Type 0 = λ x. HasFailed x g in
           let own : IsReading g g = read_itself g no_doubt_cut in
           let going_on : HasFailed None front = still_going h before none in
           let more : List Entry = all_done before ++ all_unsaid behind in
-          let joined : g ≡ h ++ more = append_assoc h (all_done before) (all_unsaid behind) in
-          let N : State → Type 0 = λ x. IsFront part (by_station mode (spoken o.directory x first)) in
+          let joint : g ≡ h ++ more = append_assoc h (all_done before) (all_unsaid behind) in
           settle_keeps tells mode o g new (directory ∙ kept.directory)
           (λ e. absurd (goes_on new.stopped Say stopped e))
           (λ e. absurd (goes_on new.stopped Say stopped e))
@@ -270,10 +235,12 @@ module _ (tells : Type 0) (mode : SayMode) (o : Origin) (h : List Entry) (events
           (caused_marked false o front behind (anchors_marked true o h before kept.anchors) (caused_marked true o h before kept.anchors kept.caused))
           (λ tell.
           let R : Option Device → Type 0 = λ x. HasSaid mode o g x new.calls in
+          let p = heard tell in
+          let N : State → Type 0 = λ x. IsFront p.0 (by_station mode (spoken o.directory x first)) in
           record {
             moments = moments_in g g more
-                (λ r reading. (more, subst (λ (l : List Entry). IsReading g (l ++ more)) (sym (only_itself h r none.0 reading)) (subst (IsReading g) joined own)))
-                joined own state_cut told_cut tell;
+                (λ r reading. (more, subst (λ (l : List Entry). IsReading g (l ++ more)) (sym (only_itself h r none.0 reading)) (subst (IsReading g) joint own)))
+                joint own state_cut told_cut tell;
             now = λ files image. (g, own, images tell files image ∙ ap (λ (x : State). Ok (need o.directory (restarted o.directory x))) (sym state_cut));
             said = subst R (sym stopped) (record {
               front = front;
@@ -281,12 +248,12 @@ module _ (tells : Type 0) (mode : SayMode) (o : Origin) (h : List Entry) (events
               back = all_unsaid rest;
               is = refl;
               first = going_on.1;
-              part = part;
-              begins = subst N (sym there) begins;
-              said = heard tell ∙ ap (λ (l : Outside). l ++ (by_station mode (said o.directory s (all_done before)) ++ part)) (said_so_far tell)
-                  ∙ append_assoc (said_by o.calls) (told mode o h) (by_station mode (said o.directory s (all_done before)) ++ part)
+              part = p.0;
+              begins = subst N (sym there) p.1;
+              said = p.2 ∙ ap (λ (l : Outside). l ++ (by_station mode (said o.directory s (all_done before)) ++ p.0)) (said_so_far tell)
+                  ∙ append_assoc (said_by o.calls) (told mode o h) (by_station mode (said o.directory s (all_done before)) ++ p.0)
                   ∙ ap (λ (l : Outside). said_by o.calls ++ l)
-                  (sym (append_assoc (told mode o h) (by_station mode (said o.directory s (all_done before))) part)
-                  ∙ ap (λ (l : Outside). l ++ part) (sym (told_marked true mode o h before)));
+                  (sym (append_assoc (told mode o h) (by_station mode (said o.directory s (all_done before))) p.0)
+                  ∙ ap (λ (l : Outside). l ++ p.0) (sym (told_marked true mode o h before)));
             });
           })
