@@ -9,26 +9,24 @@ use Rattle.gts_traits.specs.Moments.{EachSince}
 use Rattle.gts_directory.specs.Directory.{Directory}
 use Rattle.gts_event.specs.State.{State}
 use Rattle.gts_event.specs.History.{outcome as outcome_of}
-use Rattle.gts_event.specs.Drain.{all_done, all_unsaid}
 use Rattle.gts_event.specs.declared.event.Event.{Event}
 use Rattle.gts_event.specs.declared.event.Entry.{Entry}
-use Rattle.gts_event.specs.declared.event.Entry.TheVariants.{Done, Unsaid, Idle, Doubt}
 use Rattle.gts_event.specs.declared.outcome.Outcome.{Outcome}
 use Rattle.gts_event.specs.declared.fault.SwitchFault.{SwitchFault}
-use Rattle.gts_event.specs.declared.fault.SwitchFault.TheVariants.{DiskFault, SayFault, Spent}
+use Rattle.gts_event.specs.declared.fault.SwitchFault.TheVariants.{DiskFault, SayFault}
 use Rattle.gts_record.specs.Record.{Record}
 use Rattle.gts_journal.specs.{InHand, StandsFor}
 use Rattle.gts_journal.specs.Batch.{Gathered, AreNext, OpensToOneOf}
 use Rattle.gts_journal.specs.Law.{OpensTo}
 use Rattle.gts_core.specs.Core.{Holds}
 use Rattle.gts_opening.specs.Journal.{after_records}
-use Rattle.gts_calls.specs.Calls.{HasCallCause}
+use Rattle.gts_calls.specs.Calls.{HasCallCause, AfterSettling, AfterCall, IsAnswered, IsSettling}
 use Rattle.gts_engine.specs.declared.mode.SayMode.{SayMode}
 use Rattle.gts_engine.specs.declared.parts.Parts.{Parts}
 use Rattle.gts_engine.specs.Sayings.{held_pieces, joined}
 use Rattle.gts_engine.specs.Engine.{Engine, Shown, engine_of, shown}
 use Rattle.gts_engine.specs.Origin.{Origin}
-use Rattle.gts_engine.specs.Keeping.{Gathers, Keeps}
+use Rattle.gts_engine.specs.Keeping.{Gathers, meanings_of}
 use Rattle.gts_engine.specs.Going.{stopped_after}
 use Rattle.gts_engine.specs.Parts.{IsSound, shows, OnlySaid}
 
@@ -132,27 +130,11 @@ pub record HasTold {P : Type 0} (tells : Type 0) (calls : P → List Call) (disk
   pub later : say old.station ≤ say new.station
   pub disk : disk new.station ≡ disk old.station
 
--- Saying failed at one of these events, behind these entries: those before it were said, of it a front, of those behind it nothing.
-pub record IsCutShort (tells : Type 0) (mode : SayMode) (o : Origin) (entries : List Entry) (events : List Event) (e : Shown) : Type 0 where
-  pub before : List Event
-  pub first : Event
-  pub rest : List Event
-  pub is : events ≡ before ++ first ∷ rest
-  pub keeps : Keeps tells mode o (entries ++ all_done before ++ all_unsaid (first ∷ rest)) e
-
--- What settling leaves of an engine that stood for these entries and had gathered these events: all of them were brought into the
--- journal and said; or they are in doubt, all together; or saying failed at one of them. Nothing is gathered any more.
-abbrev pub AfterSettling : Type 0 → SayMode → Origin → List Entry → List Event → Result (Unit {0}) SwitchFault → Shown → Type 0
-AfterSettling tells mode o entries events (Ok _) e = Keeps tells mode o (entries ++ all_done events) e
-AfterSettling tells mode o entries events (Err DiskFault) e = Keeps tells mode o (entries ++ Doubt events ∷ []) e
-AfterSettling tells mode o entries events (Err SayFault) e = IsCutShort tells mode o entries events e
-AfterSettling tells mode o entries events (Err fault) e = ⊥
-
 -- What was gathered in an engine that goes on was to be brought into the journal and said, with this answer.
 pub record HasSettled {P : Type 0} (tells : Type 0) (calls : P → List Call) (disk say : P → ℕ)
     (result : Result (Unit {0}) SwitchFault) (old new : Parts P) : Type 0 where
   pub settles : (mode : SayMode) (o : Origin) (entries : List Entry) (events : List Event)
-      → Gathers tells mode o entries events (shows calls old) → AfterSettling tells mode o entries events result (shows calls new)
+      → Gathers tells mode o entries events (shows calls old) → AfterSettling (meanings_of tells calls mode) o entries events result (engine_of new)
   pub sound : IsSound tells calls new
   pub stops : new.stopped ≡ stopped_after old.stopped result
   pub rest : OnlySettled old new
@@ -166,43 +148,17 @@ pub record HasSettled {P : Type 0} (tells : Type 0) (calls : P → List Call) (d
 abbrev pub MayHaveSettled : {P : Type 0} → Type 0 → (P → List Call) → (disk say : P → ℕ) → Result (Unit {0}) SwitchFault → (old new : Parts P) → Type 0
 MayHaveSettled tells calls disk say result old new = ((result ≡ Ok tt) × (new ≡ old)) ⊎ HasSettled tells calls disk say result old new
 
--- How these entries and gathered events go on with an event: it is gathered behind these; or these were settled, and it is gathered
--- alone; or it was said at once, with nothing gathered.
-pub data IsOneMore (entries : List Entry) (events : List Event) (event : Event) (front : List Entry) (more : List Event) : Type 0 where
-  Behind : front ≡ entries → more ≡ events ++ event ∷ [] → IsOneMore entries events event front more
-  Alone : front ≡ entries ++ all_done events → more ≡ event ∷ [] → IsOneMore entries events event front more
-  AtOnce : front ≡ (entries ++ all_done events) ++ Done event ∷ [] → more ≡ [] → IsOneMore entries events event front more
+-- What a call for an event leaves, whatever entries the engine stood for and whatever events were gathered.
+abbrev pub LeavesCall : {P : Type 0} → Type 0 → (P → List Call) → SayMode → Event → Result Outcome SwitchFault → (old new : Engine P) → Type 0
+LeavesCall tells calls mode event result old new =
+    (o : Origin) (entries : List Entry) (events : List Event) → Gathers tells mode o entries events (shown calls old)
+    → AfterCall (meanings_of tells calls mode) o entries events event result new
 
--- it stands for these entries and gathered events with an event more
-pub record GathersOne (tells : Type 0) (mode : SayMode) (o : Origin) (entries : List Entry) (events : List Event) (event : Event) (e : Shown)
-    : Type 0 where
-  pub front : List Entry
-  pub more : List Event
-  pub one : IsOneMore entries events event front more
-  pub gathers : Gathers tells mode o front more e
-
--- What a call for an event leaves of an engine that stood for these entries and had gathered these events. Where there was no room
--- for it, these were settled first, and so they are where it changes nothing. Saying failed at one of them; or at the event, which
--- was said at once.
-abbrev pub AfterCall : Type 0 → SayMode → Origin → List Entry → List Event → Event → Result Outcome SwitchFault → Shown → Type 0
-AfterCall tells mode o entries events event (Ok _) e = GathersOne tells mode o entries events event e
-AfterCall tells mode o entries events event (Err DiskFault) e = Keeps tells mode o (entries ++ Doubt events ∷ []) e
-AfterCall tells mode o entries events event (Err SayFault) e =
-    IsCutShort tells mode o entries events e ⊎ Keeps tells mode o ((entries ++ all_done events) ++ Unsaid event ∷ []) e
-AfterCall tells mode o entries events event (Err Spent) e = ⊥
-AfterCall tells mode o entries events event (Err fault) e = Keeps tells mode o ((entries ++ all_done events) ++ Idle event fault ∷ []) e
-
--- whatever entries it stood for and whatever events were gathered
-abbrev pub LeavesCall : Type 0 → SayMode → Event → Result Outcome SwitchFault → (old new : Shown) → Type 0
-LeavesCall tells mode event result old new =
-    (o : Origin) (entries : List Entry) (events : List Event) → Gathers tells mode o entries events old
-    → AfterCall tells mode o entries events event result new
-
--- A call over the parts was answered so, and by the way in which frames are said leaves what a call leaves. The answer is the
+-- A call over the parts was answered so, and leaves by the way in which frames are said what a call leaves. The answer is the
 -- outcome; the parts are sound again; and a device that failed stopped them, and was counted.
 pub record AnswersIn {P : Type 0} (tells : Type 0) (calls : P → List Call) (disk say : P → ℕ) (mode : SayMode) (event : Event)
     (result : Result Outcome SwitchFault) (old new : Parts P) : Type 0 where
-  pub called : LeavesCall tells mode event result (shows calls old) (shows calls new)
+  pub called : LeavesCall tells calls mode event result (engine_of old) (engine_of new)
   pub outcome : IfOk result (λ answer. (s : State) → Holds old.directory old.core s → answer ≡ outcome_of old.directory s event)
   pub directory : new.directory ≡ old.directory
   pub sound : IsSound tells calls new
@@ -213,18 +169,13 @@ pub record AnswersIn {P : Type 0} (tells : Type 0) (calls : P → List Call) (di
 abbrev pub Answers : {P : Type 0} → Type 0 → (P → List Call) → (disk say : P → ℕ) → Event → Result Outcome SwitchFault → (old new : Parts P) → Type 0
 Answers tells calls disk say event result old new = (mode : SayMode) → AnswersIn tells calls disk say mode event result old new
 
--- what a call on an engine that goes on or has stopped was answered, and leaves
-pub record GathersEntry {P : Type 0} (tells : Type 0) (calls : P → List Call) (mode : SayMode) (event : Event)
-    (result : Result Outcome SwitchFault) (old new : Engine P) : Type 0 where
-  pub called : LeavesCall tells mode event result (shown calls old) (shown calls new)
-  pub outcome : IfOk result (λ answer. (s : State) → Holds old.directory old.core s → answer ≡ outcome_of old.directory s event)
-  pub directory : new.directory ≡ old.directory
+-- what a call on an engine was answered, and leaves, as an engine that gathers
+abbrev pub GathersEntry : {P : Type 0} → Type 0 → (P → List Call) → SayMode → Event → Result Outcome SwitchFault → (old new : Engine P) → Type 0
+GathersEntry tells calls mode event result old new = IsAnswered (meanings_of tells calls mode) event result old new
 
--- What was gathered was to be settled: whatever entries the engine stood for, and whatever events were gathered.
+-- What was gathered was to be settled, whoever says the frames. Nothing is gathered any more.
 pub record SettlesEngine {P : Type 0} (tells : Type 0) (calls : P → List Call) (result : Result (Unit {0}) SwitchFault)
     (old new : Engine P) : Type 0 where
-  pub settles : (mode : SayMode) (o : Origin) (entries : List Entry) (events : List Event)
-      → Gathers tells mode o entries events (shown calls old) → AfterSettling tells mode o entries events result (shown calls new)
-  pub directory : new.directory ≡ old.directory
+  pub settling : (mode : SayMode) → IsSettling (meanings_of tells calls mode) result old new
   pub emptied : new.gathered ≡ false
   pub nothing : old.gathered ≡ false → (result ≡ Ok tt) × (new ≡ old)
