@@ -25,12 +25,13 @@ use Rattle.gts_journal.specs.Batch.{Gathered, AreNext}
 use Rattle.gts_journal.proofs.LawLemmas.{images_open}
 use Rattle.gts_opening.specs.Journal.{opens, unowed_state, after_records}
 use Rattle.gts_engine.specs.declared.mode.SayMode.{SayMode}
-use Rattle.gts_engine.specs.Engine.{Shown}
+use Rattle.gts_engine.specs.Engine.{Engine, Shown, shown}
 use Rattle.gts_engine.specs.Origin.{Origin, state_at, by_station}
-use Rattle.gts_engine.specs.Keeping.{HasFailed, Gathers, Keeps, state_behind, pieces}
+use Rattle.gts_engine.specs.Keeping.{HasFailed, Gathers, state_behind, pieces, meanings_of}
 use Rattle.gts_engine.specs.Going.{IsGathering, stopped_after}
 use Rattle.gts_engine.specs.Sayings.{joined}
-use Rattle.gts_engine.specs.Gathering.{OpensBetween, FailsAt, SaysBy, Brings, IsCutShort, AfterSettling, IsDeviceFault}
+use Rattle.gts_engine.specs.Gathering.{OpensBetween, FailsAt, SaysBy, Brings, IsDeviceFault}
+use Rattle.gts_calls.specs.Calls.{Standing, IsCutShort, AfterSettling}
 use Rattle.gts_engine.proofs.EntryLemmas.{only_itself}
 use Rattle.gts_engine.proofs.GoingLemmas.{opened_same}
 use Rattle.gts_engine.proofs.SettleLemmas.{pieces_join, cuts_at, doubted, settled_all, cut_keeps}
@@ -39,8 +40,14 @@ use Rattle.gts_engine.proofs.SettleLemmas.{pieces_join, cuts_at, doubted, settle
 pub stable_image : (calls : List Call) → IsImage calls (stable calls)
 stable_image calls k = record { size = λ untouched. refl; byte = λ p untouched. refl }
 
-module _ (tells : Type 0) (mode : SayMode) (o : Origin) (h : List Entry) (event : Event) (more : List Event) (old : Shown) (j : InHand) (b : Gathered)
-    (kept : Gathers tells mode o h (event ∷ more) old) (g : IsGathering tells o.directory old.calls old.core j b) where
+module _ {P : Type 0} (tells : Type 0) (calls : P → List Call) (mode : SayMode) (o : Origin) (h : List Entry) (event : Event) (more : List Event) (first : Engine P) (j : InHand) (b : Gathered)
+    (kept : Gathers tells mode o h (event ∷ more) (shown calls first)) (g : IsGathering tells o.directory (calls first.station) first.core j b) where
+  abbrev old : Shown
+  old = shown calls first
+
+  abbrev meanings : Standing Origin (Engine P)
+  meanings = meanings_of tells calls mode
+
   abbrev events : List Event
   events = event ∷ more
 
@@ -92,9 +99,10 @@ module _ (tells : Type 0) (mode : SayMode) (o : Origin) (h : List Entry) (event 
       images_open o.directory led calls next stands files image ∙ ap {A = Need} (λ n. Ok n) second_same
 
   -- saying failed at one of the pieces
-  failed_at : (new : Shown) (next : InHand) (i : ℕ) → FailsAt tells old.held i old.calls new.calls → new.directory ≡ old.directory → new.gathered ≡ false → new.held ≡ [] → new.stopped ≡ Some Say
-      → (tells → Brings o.directory g.settled led old.held (Err SayFault) old.calls new.calls next) → IsCutShort tells mode o h events new
-  failed_at new next i fails directory gathered held stopped brings =
+  failed_at : (last : Engine P) (next : InHand) (i : ℕ) → FailsAt tells old.held i old.calls (calls last.station) → last.directory ≡ old.directory → last.gathered ≡ false → last.held ≡ [] → last.stopped ≡ Some Say
+      → (tells → Brings o.directory g.settled led old.held (Err SayFault) old.calls (calls last.station) next) → IsCutShort meanings o h events last
+  failed_at last next i fails directory gathered held stopped brings =
+      let new : Shown = shown calls last in
       let W : List Outside → Type 0 = λ ps. i < length ps in
       let cut = cuts_at mode o.directory s events i (subst W kept.held fails.within) in
       let N : List Outside → Type 0 = λ ps. tells → (part : Outside) × IsFront part (slice_index_or ps i []) × SaidSince old.calls new.calls (joined (take i ps) ++ part) in
@@ -104,7 +112,7 @@ module _ (tells : Type 0) (mode : SayMode) (o : Origin) (h : List Entry) (event 
         first = cut.first;
         rest = cut.rest;
         is = cut.is;
-        keeps = cut_keeps tells mode o h events old kept going new directory gathered held (λ tell. between new.calls (brings tell).moments tell) cut.before cut.first cut.rest cut.is
+        leaves = cut_keeps tells mode o h events old kept going new directory gathered held (λ tell. between new.calls (brings tell).moments tell) cut.before cut.first cut.rest cut.is
             stopped (λ tell. images new.calls next (brings tell).stands)
             (λ tell. let p = said_so tell in
             let F : Outside → Type 0 = λ l. IsFront p.0 l in
@@ -112,17 +120,20 @@ module _ (tells : Type 0) (mode : SayMode) (o : Origin) (h : List Entry) (event 
       }
 
   -- what settling leaves, by its answer
-  pub settles : (result : Result (Unit {0}) SwitchFault) (new : Shown) (next : InHand) → new.directory ≡ old.directory → new.core ≡ old.core → new.gathered ≡ false → new.held ≡ [] → new.stopped ≡ stopped_after old.stopped result
-      → (tells → Brings o.directory g.settled led old.held result old.calls new.calls next) → SaysBy tells old.held result old.calls new.calls → OnOk result (new.used ≡ old.used) → IfErr result IsDeviceFault
-      → AfterSettling tells mode o h events result new
+  pub settles : (result : Result (Unit {0}) SwitchFault) (new : Engine P) (next : InHand) → new.directory ≡ old.directory → new.core ≡ old.core → new.gathered ≡ false → new.held ≡ [] → new.stopped ≡ stopped_after old.stopped result
+      → (tells → Brings o.directory g.settled led old.held result old.calls (calls new.station) next) → SaysBy tells old.held result old.calls (calls new.station) → OnOk result (new.used ≡ old.used) → IfErr result IsDeviceFault
+      → AfterSettling meanings o h events result new
   settles (Ok x) new next directory core gathered held stops brings says used kind =
-      settled_all tells mode o h events old kept going new directory gathered held (λ tell. between new.calls (brings tell).moments tell)
+      settled_all tells mode o h events old kept going (shown calls new) directory gathered held (λ tell. between (calls new.station) (brings tell).moments tell)
       (stops ∙ going) core used
-      (λ tell. images new.calls next (brings tell).stands)
+      (λ tell. images (calls new.station) next (brings tell).stands)
       (λ tell. says tell ∙ ap (λ (l : Outside). said_by old.calls ++ l) said_whole)
   settles (Err DiskFault) new next directory core gathered held stops brings says used kind =
-      doubted tells mode o h events old kept going new directory gathered held (λ tell. between new.calls (brings tell).moments tell)
-      stops kept.gathered.2 says
+      record {
+        some = λ none. absurd (let no : ◌≡◌ {A = List Event} (event ∷ more) [] = none in cc no);
+        leaves = doubted tells mode o h events old kept going (shown calls new) directory gathered held (λ tell. between (calls new.station) (brings tell).moments tell)
+            stops kept.gathered.2 says;
+      }
   settles (Err SayFault) new next directory core gathered held stops brings says used kind =
       failed_at new next says.0 says.1 directory gathered held stops brings
   settles (Err (Full at wanted limit)) new next directory core gathered held stops brings says used kind = absurd kind

@@ -22,12 +22,13 @@ use Rattle.gts_core.specs.Core.{Core, Holds}
 use Rattle.gts_opening.specs.Room.{record_bytes, HasRecord}
 use Rattle.gts_engine.specs.declared.mode.SayMode.{SayMode}
 use Rattle.gts_engine.specs.declared.parts.Parts.{Parts}
-use Rattle.gts_engine.specs.Engine.{Shown}
+use Rattle.gts_engine.specs.Engine.{Engine, Shown, engine_of, shown}
 use Rattle.gts_engine.specs.Origin.{Origin, state_at, used_at, by_station}
-use Rattle.gts_engine.specs.Keeping.{HasFailed, Leaving, AreGathered, Gathers, Keeps, state_behind, used_behind, pieces, draw_count, draws_among, most_drawn}
+use Rattle.gts_engine.specs.Keeping.{HasFailed, Leaving, AreGathered, Gathers, Keeps, state_behind, used_behind, pieces, draw_count, draws_among, most_drawn, meanings_of}
 use Rattle.gts_engine.specs.Going.{Enters, HasFewDraws, gathered_after}
 use Rattle.gts_engine.specs.Parts.{shows}
-use Rattle.gts_engine.specs.Gathering.{AfterSettling, AfterCall, MayHaveSettled, IsOneMore, Behind, Alone, AtOnce, GathersOne}
+use Rattle.gts_calls.specs.Calls.{Standing, AfterSettling, AfterCall, IsOneMore, Behind, Alone, AtOnce, GathersOne}
+use Rattle.gts_engine.specs.Gathering.{MayHaveSettled}
 use Rattle.gts_engine.proofs.SettleLemmas.{done_append}
 
 -- ---- one event more
@@ -110,70 +111,76 @@ module _ (tells : Type 0) (mode : SayMode) (o : Origin) (h : List Entry) (events
 
 -- ---- what a call leaves
 
--- an engine that may have settled what it gathered stands for the same: with what was gathered, or with that settled
-pub record Starts (tells : Type 0) (mode : SayMode) (o : Origin) (entries : List Entry) (events : List Event) (e : Shown) : Type 0 where
-  pub front : List Entry
-  pub more : List Event
-  pub is : ((front ≡ entries) × (more ≡ events)) ⊎ ((front ≡ entries ++ all_done events) × (more ≡ []))
-  pub gathers : Gathers tells mode o front more e
-
--- it begins with what was gathered and an event more, where that is gathered
-one_behind : (entries : List Entry) (events : List Event) (event : Event) (front : List Entry) (more : List Event)
-    → ((front ≡ entries) × (more ≡ events)) ⊎ ((front ≡ entries ++ all_done events) × (more ≡ [])) → IsOneMore entries events event front (more ++ event ∷ [])
-one_behind entries events event front more (inl same) = Behind same.0 (ap (λ (es : List Event). es ++ event ∷ []) same.1)
-one_behind entries events event front more (inr settled) = Alone settled.0 (ap (λ (es : List Event). es ++ event ∷ []) settled.1)
-
-pub gathered_call : (tells : Type 0) (mode : SayMode) (o : Origin) (entries : List Entry) (events : List Event) (event : Event) (mid new : Shown) (starts : Starts tells mode o entries events mid)
-    → Gathers tells mode o starts.front (starts.more ++ event ∷ []) new → GathersOne tells mode o entries events event new
-gathered_call tells mode o entries events event mid new starts gathers =
-    record { front = starts.front; more = starts.more ++ event ∷ []; one = one_behind entries events event starts.front starts.more starts.is; gathers = gathers }
-
--- the history so far is one, settled or not
-all_so_far : (entries : List Entry) (events : List Event) (front : List Entry) (more : List Event) → ((front ≡ entries) × (more ≡ events)) ⊎ ((front ≡ entries ++ all_done events) × (more ≡ [])) → more ≡ [] → front ≡ entries ++ all_done events
-all_so_far entries events front more (inl same) none =
-    same.0 ∙ sym (append-nil entries) ∙ ap (λ (es : List Event). entries ++ all_done es) (sym none ∙ same.1)
-all_so_far entries events front more (inr settled) none = settled.0
-
-pub so_far : (tells : Type 0) (mode : SayMode) (o : Origin) (entries : List Entry) (events : List Event) (mid : Shown) (starts : Starts tells mode o entries events mid) → starts.more ≡ [] → starts.front ≡ entries ++ all_done events
-so_far tells mode o entries events mid starts none = all_so_far entries events starts.front starts.more starts.is none
-
 -- nothing is gathered where no record is
 pub none_gathered : (tells : Type 0) (mode : SayMode) (o : Origin) (h : List Entry) (events : List Event) (e : Shown) → Gathers tells mode o h events e → e.gathered ≡ false → events ≡ []
 none_gathered tells mode o h [] e kept none = refl
 none_gathered tells mode o h (x ∷ events) e kept none = absurd (let yes : e.gathered ≡ true = kept.gathered.0 in cc (yes, none))
 
--- it was said at once
-pub said_call : (tells : Type 0) (mode : SayMode) (o : Origin) (entries : List Entry) (events : List Event) (event : Event) (mid new : Shown) (starts : Starts tells mode o entries events mid) → starts.more ≡ []
-    → Keeps tells mode o (starts.front ++ Done event ∷ []) new → GathersOne tells mode o entries events event new
-said_call tells mode o entries events event mid new starts none keeps = record {
-  front = starts.front ++ Done event ∷ [];
-  more = [];
-  one = AtOnce (ap (λ (l : List Entry). l ++ Done event ∷ []) (so_far tells mode o entries events mid starts none)) refl;
-  gathers = keeps;
-}
+-- with what was gathered, or with that settled
+abbrev pub MayBeSettled : (entries : List Entry) (events : List Event) (front : List Entry) (more : List Event) → Type 0
+MayBeSettled entries events front more = ((front ≡ entries) × (more ≡ events)) ⊎ ((front ≡ entries ++ all_done events) × (more ≡ []))
 
--- what may have settled begins it
-pub starts_after : {P : Type 0} (tells : Type 0) (calls : P → List Call) (disk say : P → ℕ) (mode : SayMode) (o : Origin) (entries : List Entry) (events : List Event) (result : Result (Unit {0}) SwitchFault) (old mid : Parts P)
-    → result ≡ Ok tt → MayHaveSettled tells calls disk say result old mid → Gathers tells mode o entries events (shows calls old) → Starts tells mode o entries events (shows calls mid)
-starts_after {P} tells calls disk say mode o entries events result old mid done (inl same) kept =
-    let G : Parts P → Type 0 = λ p. Gathers tells mode o entries events (shows calls p) in
-    record { front = entries; more = events; is = inl (refl, refl); gathers = subst G (sym same.1) kept }
-starts_after tells calls disk say mode o entries events result old mid done (inr settled) kept =
-    let A : Result (Unit {0}) SwitchFault → Type 0 = λ r. AfterSettling tells mode o entries events r (shows calls mid) in
-    record { front = entries ++ all_done events; more = []; is = inr (refl, refl); gathers = subst A done (settled.settles mode o entries events kept) }
+-- it begins with what was gathered and an event more, where that is gathered
+one_behind : (entries : List Entry) (events : List Event) (event : Event) (front : List Entry) (more : List Event) → MayBeSettled entries events front more → IsOneMore entries events event front (more ++ event ∷ [])
+one_behind entries events event front more (inl same) = Behind same.0 (ap (λ (es : List Event). es ++ event ∷ []) same.1)
+one_behind entries events event front more (inr settled) = Alone settled.0 (ap (λ (es : List Event). es ++ event ∷ []) settled.1)
 
--- and where that failed, the call is answered with its fault
-fails_by : (tells : Type 0) (mode : SayMode) (o : Origin) (entries : List Entry) (events : List Event) (event : Event) (fault : SwitchFault) (e : Shown) → AfterSettling tells mode o entries events (Err fault) e → AfterCall tells mode o entries events event (Err fault) e
-fails_by tells mode o entries events event DiskFault e after = after
-fails_by tells mode o entries events event SayFault e after = inl after
-fails_by tells mode o entries events event (Full at wanted limit) e after = absurd after
-fails_by tells mode o entries events event (Stopped by) e after = absurd after
-fails_by tells mode o entries events event Spent e after = absurd after
-fails_by tells mode o entries events event NoMemory e after = absurd after
+-- the history so far is one, settled or not
+all_so_far : (entries : List Entry) (events : List Event) (front : List Entry) (more : List Event) → MayBeSettled entries events front more → more ≡ [] → front ≡ entries ++ all_done events
+all_so_far entries events front more (inl same) none =
+    same.0 ∙ sym (append-nil entries) ∙ ap (λ (es : List Event). entries ++ all_done es) (sym none ∙ same.1)
+all_so_far entries events front more (inr settled) none = settled.0
 
-pub fails_after : {P : Type 0} (tells : Type 0) (calls : P → List Call) (disk say : P → ℕ) (mode : SayMode) (o : Origin) (entries : List Entry) (events : List Event) (event : Event) (result : Result (Unit {0}) SwitchFault) (fault : SwitchFault) (old mid : Parts P)
-    → result ≡ Err fault → MayHaveSettled tells calls disk say result old mid → Gathers tells mode o entries events (shows calls old) → AfterCall tells mode o entries events event (Err fault) (shows calls mid)
-fails_after tells calls disk say mode o entries events event result fault old mid failed (inl same) kept = absurd (let no : ◌≡◌ {A = Result (Unit {0}) SwitchFault} (Ok tt) (Err fault) = sym same.0 ∙ failed in cc no)
-fails_after tells calls disk say mode o entries events event result fault old mid failed (inr settled) kept =
-    let A : Result (Unit {0}) SwitchFault → Type 0 = λ r. AfterSettling tells mode o entries events r (shows calls mid) in
-    fails_by tells mode o entries events event fault (shows calls mid) (subst A failed (settled.settles mode o entries events kept))
+module _ {P : Type 0} (tells : Type 0) (calls : P → List Call) (mode : SayMode) (o : Origin) (entries : List Entry) (events : List Event) (event : Event) where
+  abbrev meanings : Standing Origin (Engine P)
+  meanings = meanings_of tells calls mode
+
+  -- an engine that may have settled what it gathered stands for the same
+  pub record Starts (e : Engine P) : Type 0 where
+    pub front : List Entry
+    pub more : List Event
+    pub is : MayBeSettled entries events front more
+    pub gathers : Gathers tells mode o front more (shown calls e)
+
+  -- it was gathered
+  pub gathered_call : (mid new : Engine P) (starts : Starts mid) → Gathers tells mode o starts.front (starts.more ++ event ∷ []) (shown calls new) → GathersOne meanings o entries events event new
+  gathered_call mid new starts gathers =
+      record { front = starts.front; more = starts.more ++ event ∷ []; one = one_behind entries events event starts.front starts.more starts.is; gathers = gathers }
+
+  pub so_far : (mid : Engine P) (starts : Starts mid) → starts.more ≡ [] → starts.front ≡ entries ++ all_done events
+  so_far mid starts none = all_so_far entries events starts.front starts.more starts.is none
+
+  -- it was said at once
+  pub said_call : (mid new : Engine P) (starts : Starts mid) → starts.more ≡ [] → Keeps tells mode o (starts.front ++ Done event ∷ []) (shown calls new) → GathersOne meanings o entries events event new
+  said_call mid new starts none keeps = record {
+    front = starts.front ++ Done event ∷ [];
+    more = [];
+    one = AtOnce (ap (λ (l : List Entry). l ++ Done event ∷ []) (so_far mid starts none)) refl;
+    gathers = keeps;
+  }
+
+  -- what may have settled begins it
+  pub starts_after : (disk say : P → ℕ) (result : Result (Unit {0}) SwitchFault) (old mid : Parts P) → result ≡ Ok tt → MayHaveSettled tells calls disk say result old mid
+      → Gathers tells mode o entries events (shows calls old) → Starts (engine_of mid)
+  starts_after disk say result old mid done (inl same) kept =
+      let G : Parts P → Type 0 = λ p. Gathers tells mode o entries events (shows calls p) in
+      record { front = entries; more = events; is = inl (refl, refl); gathers = subst G (sym same.1) kept }
+  starts_after disk say result old mid done (inr settled) kept =
+      let A : Result (Unit {0}) SwitchFault → Type 0 = λ r. AfterSettling meanings o entries events r (engine_of mid) in
+      record { front = entries ++ all_done events; more = []; is = inr (refl, refl); gathers = subst A done (settled.settles mode o entries events kept) }
+
+  -- and where that failed, the call is answered with its fault
+  fails_by : (fault : SwitchFault) (e : Engine P) → AfterSettling meanings o entries events (Err fault) e → AfterCall meanings o entries events event (Err fault) e
+  fails_by DiskFault e after = after
+  fails_by SayFault e after = inl after
+  fails_by (Full at wanted limit) e after = absurd after
+  fails_by (Stopped by) e after = absurd after
+  fails_by Spent e after = absurd after
+  fails_by NoMemory e after = absurd after
+
+  pub fails_after : (disk say : P → ℕ) (result : Result (Unit {0}) SwitchFault) (fault : SwitchFault) (old mid : Parts P) → result ≡ Err fault → MayHaveSettled tells calls disk say result old mid
+      → Gathers tells mode o entries events (shows calls old) → AfterCall meanings o entries events event (Err fault) (engine_of mid)
+  fails_after disk say result fault old mid failed (inl same) kept = absurd (let no : ◌≡◌ {A = Result (Unit {0}) SwitchFault} (Ok tt) (Err fault) = sym same.0 ∙ failed in cc no)
+  fails_after disk say result fault old mid failed (inr settled) kept =
+      let A : Result (Unit {0}) SwitchFault → Type 0 = λ r. AfterSettling meanings o entries events r (engine_of mid) in
+      fails_by fault (engine_of mid) (subst A failed (settled.settles mode o entries events kept))
