@@ -8,11 +8,15 @@ use Rattle.gts_traits.specs.Moments.{EachSince}
 use Rattle.gts_traits.proofs.LawLemmas.{weaker}
 use Rattle.gts_directory.specs.Directory.{Directory}
 use Rattle.gts_event.specs.State.{State}
-use Rattle.gts_event.specs.History.{after_all, restarted}
+use Rattle.gts_event.specs.History.{Choice, Repeats, Draws, Nothing_waits, choice, outcome, restarted}
 use Rattle.gts_event.specs.Need.{Need, need}
 use Rattle.gts_event.specs.Said.{said}
 use Rattle.gts_event.specs.Drain.{all_done}
+use Rattle.gts_frame.specs.declared.kind.Kind.{Kind}
+use Rattle.gts_event.specs.declared.outcome.Outcome.{Outcome}
+use Rattle.gts_event.specs.declared.outcome.Outcome.TheVariants.{Accepted, Duplicate, Asked, Refused, LineLost, Resend, Draw, Nothing}
 use Rattle.gts_event.specs.declared.event.Event.{Event}
+use Rattle.gts_event.specs.declared.event.Event.TheVariants.{Heard, Lost, Taken}
 use Rattle.gts_event.specs.declared.event.Entry.{Entry}
 use Rattle.gts_event.specs.declared.fault.Device.{Device}
 use Rattle.gts_event.specs.declared.fault.Device.TheVariants.{Disk, Say}
@@ -24,6 +28,7 @@ use Rattle.gts_journal.specs.{InHand, StandsFor}
 use Rattle.gts_journal.specs.Batch.{Gathered, AreNext}
 use Rattle.gts_journal.proofs.LawLemmas.{images_open}
 use Rattle.gts_opening.specs.Journal.{opens, unowed_state, after_records}
+use Rattle.gts_opening.specs.Room.{HasRecord, event_record, heard_record, taken_record}
 use Rattle.gts_engine.specs.declared.mode.SayMode.{SayMode}
 use Rattle.gts_engine.specs.Engine.{Engine, Shown, shown}
 use Rattle.gts_engine.specs.Origin.{Origin, state_at, by_station}
@@ -34,7 +39,29 @@ use Rattle.gts_engine.specs.Gathering.{OpensBetween, FailsAt, SaysBy, Brings, Is
 use Rattle.gts_calls.specs.Calls.{Standing, IsCutShort, AfterSettling}
 use Rattle.gts_engine.proofs.EntryLemmas.{only_itself}
 use Rattle.gts_engine.proofs.GoingLemmas.{opened_same}
+use Rattle.gts_engine.proofs.TakingLemmas.{outcome_by}
 use Rattle.gts_engine.proofs.SettleLemmas.{pieces_join, cuts_at, doubted, settled_all, cut_keeps}
+
+-- an event that has a record leads to an outcome that has one
+heard_has : (circuit : ℕ) (kind : Kind) (message : List ℕ) (x : Outcome) → (heard_record circuit kind message x ≡ [] → ⊥) → HasRecord x
+heard_has circuit kind message (Accepted position circuits) some = tt
+heard_has circuit kind message (Duplicate position) some = absurd (some refl)
+heard_has circuit kind message (Asked found missing) some = absurd (some refl)
+heard_has circuit kind message (Refused refusal) some = absurd (some refl)
+heard_has circuit kind message (LineLost field) some = absurd (some refl)
+heard_has circuit kind message (Resend index) some = absurd (some refl)
+heard_has circuit kind message (Draw index) some = tt
+heard_has circuit kind message Nothing some = absurd (some refl)
+
+taken_has : (circuit : ℕ) (ch : Choice) → (taken_record circuit ch ≡ [] → ⊥) → HasRecord (outcome_by ch)
+taken_has circuit (Repeats index) some = absurd (some refl)
+taken_has circuit (Draws index position) some = tt
+taken_has circuit Nothing_waits some = absurd (some refl)
+
+pub record_has : (d : Directory) (s : State) (event : Event) → (event_record d s event ≡ [] → ⊥) → HasRecord (outcome d s event)
+record_has d s (Heard circuit kind message) some = heard_has circuit kind message (outcome d s (Heard circuit kind message)) some
+record_has d s (Lost circuit field) some = absurd (some refl)
+record_has d s (Taken circuit) some = taken_has circuit (choice d s circuit) some
 
 -- what was on the disk at the last sync is an image
 pub stable_image : (calls : List Call) → IsImage calls (stable calls)
@@ -132,7 +159,7 @@ module _ {P : Type 0} (tells : Type 0) (calls : P → List Call) (mode : SayMode
       record {
         some = λ none. absurd (let no : ◌≡◌ {A = List Event} (event ∷ more) [] = none in cc no);
         leaves = doubted tells mode o h events old kept going (shown calls new) directory gathered held (λ tell. between (calls new.station) (brings tell).moments tell)
-            stops kept.gathered.2 says;
+            stops (record_has o.directory s event kept.gathered.2) says;
       }
   settles (Err SayFault) new next directory core gathered held stops brings says used kind =
       failed_at new next says.0 says.1 directory gathered held stops brings

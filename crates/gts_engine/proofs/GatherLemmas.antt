@@ -13,18 +13,18 @@ use Rattle.gts_event.specs.declared.event.Event.{Event}
 use Rattle.gts_event.specs.declared.event.Entry.{Entry}
 use Rattle.gts_event.specs.declared.event.Entry.TheVariants.{Done, Unsaid, Idle, Doubt}
 use Rattle.gts_event.specs.declared.outcome.Outcome.{Outcome}
-use Rattle.gts_event.specs.declared.outcome.Outcome.TheVariants.{Accepted, Duplicate, Asked, Refused, LineLost, Resend, Draw, Nothing}
 use Rattle.gts_event.specs.declared.fault.Device.{Device}
 use Rattle.gts_event.specs.declared.fault.SwitchFault.{SwitchFault}
 use Rattle.gts_event.specs.declared.fault.SwitchFault.TheVariants.{DiskFault, SayFault, Full, Stopped, Spent, NoMemory}
 use Rattle.gts_event.proofs.LawLemmas.{after_all-append}
 use Rattle.gts_core.specs.Core.{Core, Holds}
-use Rattle.gts_opening.specs.Room.{record_bytes, HasRecord}
+use Rattle.gts_record.specs.Record.{Record}
+use Rattle.gts_opening.specs.Room.{record_bytes, event_record}
 use Rattle.gts_engine.specs.declared.mode.SayMode.{SayMode}
 use Rattle.gts_engine.specs.declared.parts.Parts.{Parts}
 use Rattle.gts_engine.specs.Engine.{Engine, Shown, engine_of, shown}
 use Rattle.gts_engine.specs.Origin.{Origin, state_at, used_at, by_station}
-use Rattle.gts_engine.specs.Keeping.{HasFailed, Leaving, AreGathered, Gathers, Keeps, state_behind, used_behind, pieces, draw_count, draws_among, most_drawn, meanings_of}
+use Rattle.gts_engine.specs.Keeping.{HasFailed, Leaving, AreGathered, Gathers, Keeps, state_behind, used_behind, pieces, draws_in, draws_among, most_drawn, meanings_of}
 use Rattle.gts_engine.specs.Going.{Enters, HasFewDraws, gathered_after}
 use Rattle.gts_engine.specs.Parts.{shows}
 use Rattle.gts_calls.specs.Calls.{Standing, AfterSettling, AfterCall, IsOneMore, Behind, Alone, AtOnce, GathersOne}
@@ -41,7 +41,7 @@ pieces_append : (mode : SayMode) (d : Directory) (s : State) (es : List Event) (
 pieces_append mode d s [] e = refl
 pieces_append mode d s (x ∷ es) e = ap (λ (ps : List Outside). by_station mode (spoken d s x) ∷ ps) (pieces_append mode d (after d s x) es e)
 
-draws_append : (d : Directory) (s : State) (c : ℕ) (es : List Event) (e : Event) → draws_among d s c (es ++ e ∷ []) ≡ draws_among d s c es + draw_count c e (outcome d (after_all d s (all_done es)) e)
+draws_append : (d : Directory) (s : State) (c : ℕ) (es : List Event) (e : Event) → draws_among d s c (es ++ e ∷ []) ≡ draws_among d s c es + draws_in c (event_record d (after_all d s (all_done es)) e)
 draws_append d s c [] e = omega arith
 draws_append d s c (x ∷ es) e = omega (arith, draws_append d (after d s x) c es e)
 
@@ -50,31 +50,19 @@ behind_append o h es e =
     ap (after_all o.directory (state_at o h)) (done_append es (e ∷ [])) ∙ after_all-append o.directory (state_at o h) (all_done es) (Done e ∷ [])
 
 -- records are gathered where they were, or where the event has one
-has_record : (x : Outcome) → gathered_after false x ≡ true → HasRecord x
-has_record (Accepted position circuits) e = tt
-has_record (Draw index) e = tt
-has_record (Duplicate position) e = absurd (cc e)
-has_record (Asked found missing) e = absurd (cc e)
-has_record (Refused refusal) e = absurd (cc e)
-has_record (LineLost field) e = absurd (cc e)
-has_record (Resend index) e = absurd (cc e)
-has_record Nothing e = absurd (cc e)
+some_record : (rs : List Record) → gathered_after false rs ≡ true → rs ≡ [] → ⊥
+some_record [] e none = cc e
+some_record (r ∷ rs) e none = cc none
 
-pub still_gathered : (x : Outcome) → gathered_after true x ≡ true
-still_gathered (Accepted position circuits) = refl
-still_gathered (Draw index) = refl
-still_gathered (Duplicate position) = refl
-still_gathered (Asked found missing) = refl
-still_gathered (Refused refusal) = refl
-still_gathered (LineLost field) = refl
-still_gathered (Resend index) = refl
-still_gathered Nothing = refl
+pub still_gathered : (rs : List Record) → gathered_after true rs ≡ true
+still_gathered [] = refl
+still_gathered (r ∷ rs) = refl
 
 -- what is gathered with an event more
-gathered_one : (old new : Shown) (d : Directory) (s : State) (es : List Event) (e : Event) → AreGathered old d s es → new.gathered ≡ gathered_after old.gathered (outcome d (after_all d s (all_done es)) e) → new.gathered ≡ true → new.stopped ≡ None
+gathered_one : (old new : Shown) (d : Directory) (s : State) (es : List Event) (e : Event) → AreGathered old d s es → new.gathered ≡ gathered_after old.gathered (event_record d (after_all d s (all_done es)) e) → new.gathered ≡ true → new.stopped ≡ None
     → AreGathered new d s (es ++ e ∷ [])
 gathered_one old new d s [] e are after is going =
-    (is, going, has_record (outcome d s e) (ap (λ (b : Bool). gathered_after b (outcome d s e)) (sym are) ∙ sym after ∙ is))
+    (is, going, some_record (event_record d s e) (ap (λ (b : Bool). gathered_after b (event_record d s e)) (sym are) ∙ sym after ∙ is))
 gathered_one old new d s (x ∷ es) e are after is going = (is, going, are.2)
 
 module _ (tells : Type 0) (mode : SayMode) (o : Origin) (h : List Entry) (events : List Event) (event : Event) (old mid : Shown) (kept : Gathers tells mode o h events old) (going : old.stopped ≡ None)
