@@ -87,7 +87,7 @@ pub record Rewrites {P : Type 0} (tells : Type 0) (calls : P → List Call) (dis
   pub sound : IsSound tells calls new
   pub moments : tells → StaysAt old.directory old.core (calls old.station) (calls new.station)
   pub written : tells → OnOk result ((s : State) → Holds old.directory old.core s
-      → IsRewritten old.directory s (calls old.station) (calls new.station) (new.journal.gate + 1))
+      → IsRewritten old.directory s (calls old.station) (calls new.station) (engine_of new).used)
   pub stops : new.stopped ≡ stopped_after old.stopped result
   pub kind : IfErr result IsWriteFault
   pub unchanged : IsIdleFault result → new ≡ old
