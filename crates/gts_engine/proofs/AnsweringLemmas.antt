@@ -113,6 +113,26 @@ told_cause (Err f) a b x y fault later same = record {
   say_failed = λ e. fault.1;
 }
 
+module _ {P : Type 0} (tells : Type 0) (calls : P → List Call) (disk say : P → ℕ) (first old : Parts P) (cleared : Result (Unit {0}) SwitchFault)
+    (clears : MayHaveSettled tells calls disk say cleared first old) (ok : cleared ≡ Ok tt) (going : first.stopped ≡ None) where
+  -- the engine goes on behind what was cleared
+  pub goes_cleared : old.stopped ≡ None
+  goes_cleared = may_stops tells calls disk say cleared first old clears ∙ ap (stopped_after first.stopped) ok ∙ going
+
+  -- what holds of the core behind what was cleared, held of it before
+  pub each_before : (Q : Directory → State → Type 0) → ((s : State) → Holds old.directory old.core s → Q old.directory s) → (s : State) → Holds first.directory first.core s → Q first.directory s
+  each_before Q each s holds =
+      let H : Core → Type 0 = λ k. Holds first.directory k s in
+      let D : Directory → Type 0 = λ d. Holds d old.core s → Q d s in
+      subst D (may_directory tells calls disk say cleared first old clears) (each s) (subst H (sym (may_core tells calls disk say cleared first old clears)) holds)
+
+  -- and what held of it before holds still
+  pub each_behind : (Q : Directory → State → Type 0) → ((s : State) → Holds first.directory first.core s → Q first.directory s) → (s : State) → Holds old.directory old.core s → Q old.directory s
+  each_behind Q each s holds =
+      let H : Core → Type 0 = λ k. Holds old.directory k s in
+      let D : Directory → Type 0 = λ d. Holds d first.core s → Q d s in
+      subst D (sym (may_directory tells calls disk say cleared first old clears)) (each s) (subst H (may_core tells calls disk say cleared first old clears) holds)
+
 module _ {P : Type 0} (tells : Type 0) (calls : P → List Call) (disk say : P → ℕ) (mode : SayMode) (event : Event) (first old : Parts P) (cleared : Result (Unit {0}) SwitchFault)
     (clears : MayHaveSettled tells calls disk say cleared first old) where
   -- no room could be made
@@ -127,27 +147,12 @@ module _ {P : Type 0} (tells : Type 0) (calls : P → List Call) (disk say : P �
   }
 
   module _ (ok : cleared ≡ Ok tt) (going : first.stopped ≡ None) where
-    -- the engine goes on behind what was cleared
-    pub goes_cleared : old.stopped ≡ None
-    goes_cleared = may_stops tells calls disk say cleared first old clears ∙ ap (stopped_after first.stopped) ok ∙ going
-
-    -- what holds of the core behind what was cleared, held of it before
-    pub each_before : (Q : Directory → State → Type 0) → ((s : State) → Holds old.directory old.core s → Q old.directory s) → (s : State) → Holds first.directory first.core s → Q first.directory s
-    each_before Q each s holds =
-        let H : Core → Type 0 = λ k. Holds first.directory k s in
-        let D : Directory → Type 0 = λ d. Holds d old.core s → Q d s in
-        subst D (may_directory tells calls disk say cleared first old clears) (each s) (subst H (sym (may_core tells calls disk say cleared first old clears)) holds)
-
-    -- and what held of it before holds still
-    pub each_behind : (Q : Directory → State → Type 0) → ((s : State) → Holds first.directory first.core s → Q first.directory s) → (s : State) → Holds old.directory old.core s → Q old.directory s
-    each_behind Q each s holds =
-        let H : Core → Type 0 = λ k. Holds old.directory k s in
-        let D : Directory → Type 0 = λ d. Holds d first.core s → Q d s in
-        subst D (sym (may_directory tells calls disk say cleared first old clears)) (each s) (subst H (may_core tells calls disk say cleared first old clears) holds)
+    going_old : old.stopped ≡ None
+    going_old = goes_cleared tells calls disk say first old cleared clears ok going
 
     module _ (mid : Parts P) (result : Outcome) (enters : HasEntered tells calls event result old mid) where
       outcome_first : (s : State) → Holds first.directory first.core s → result ≡ outcome first.directory s event
-      outcome_first = each_before (λ d s. result ≡ outcome d s event) enters.entered.step.outcome
+      outcome_first = each_before tells calls disk say first old cleared clears ok going (λ d s. result ≡ outcome d s event) enters.entered.step.outcome
 
       directory_all : mid.directory ≡ first.directory
       directory_all = enters.entered.directory ∙ may_directory tells calls disk say cleared first old clears
@@ -173,10 +178,10 @@ module _ {P : Type 0} (tells : Type 0) (calls : P → List Call) (disk say : P �
 
         pub answers_told : r ≡ Ok tt → AnswersIn tells calls disk say mode event (Ok result) first new
         answers_told done = record {
-          called = told_well tells calls disk say mode event first old mid new goes_cleared cleared ok clears result enters enters.entered.stopped channel bytes r told says done;
+          called = told_well tells calls disk say mode event first old mid new going_old cleared ok clears result enters enters.entered.stopped channel bytes r told says done;
           outcome = outcome_first;
           directory = told_directory;
-          sound = told_sound tells calls disk say mode event first old mid new goes_cleared cleared ok clears result enters enters.entered.stopped channel bytes r told says;
+          sound = told_sound tells calls disk say mode event first old mid new going_old cleared ok clears result enters enters.entered.stopped channel bytes r told says;
           stops = told.stops ∙ ap (stopped_after mid.stopped) done ∙ enters.entered.stopped ∙ sym going;
           cause = cause_none r tt result (disk first.station) (disk new.station) (say first.station) (say new.station) done cause_all;
         }
@@ -185,10 +190,10 @@ module _ {P : Type 0} (tells : Type 0) (calls : P → List Call) (disk say : P �
         answers_choked fault failed = record {
           called =
               let L : SwitchFault → Type 0 = λ f. LeavesCall tells calls mode event (Err f) (engine_of first) (engine_of new) in
-              subst L (sym is_say) (told_badly tells calls disk say mode event first old mid new goes_cleared cleared ok clears result enters enters.entered.stopped channel bytes r told says fault failed);
+              subst L (sym is_say) (told_badly tells calls disk say mode event first old mid new going_old cleared ok clears result enters enters.entered.stopped channel bytes r told says fault failed);
           outcome = tt;
           directory = told_directory;
-          sound = told_sound tells calls disk say mode event first old mid new goes_cleared cleared ok clears result enters enters.entered.stopped channel bytes r told says;
+          sound = told_sound tells calls disk say mode event first old mid new going_old cleared ok clears result enters enters.entered.stopped channel bytes r told says;
           stops = told.stops ∙ ap (stopped_after mid.stopped) failed ∙ stops_by fault is_say;
           cause = cause_alike r fault (disk first.station) (disk new.station) (say first.station) (say new.station) failed cause_all;
         }
@@ -206,7 +211,7 @@ module _ {P : Type 0} (tells : Type 0) (calls : P → List Call) (disk say : P �
           (silent : EachHeld tells calls mode event (engine_of old) (λ d s. by_station mode (spoken d s event) ≡ [])) where
         pub answers_untold : AnswersIn tells calls disk say mode event (Ok result) first new
         answers_untold = record {
-          called = untold tells calls disk say mode event first old mid new goes_cleared cleared ok clears result enters enters.entered.stopped rest held silent;
+          called = untold tells calls disk say mode event first old mid new going_old cleared ok clears result enters enters.entered.stopped rest held silent;
           outcome = outcome_first;
           directory = ap part_directory rest ∙ directory_all;
           sound = sound_untold (engine_of mid).gathered refl;
