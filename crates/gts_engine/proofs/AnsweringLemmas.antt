@@ -1,5 +1,5 @@
 -- Calls over the parts of an engine: room is made, an event enters, and it is told.
-use Rattle.std.proofs.Common.{◌≡◌, ◌⊎◌, ◌≤◌, ◌++◌, ◌∷◌, if◌then◌else◌, Bool, true, false, inl, inr, ℕ, List, [], Option, None, Result, Ok, Err, refl, sym, ap, subst, ◌∙◌, arith}
+use Rattle.std.proofs.Common.{◌≡◌, ◌⊎◌, ◌≤◌, ◌++◌, ◌∷◌, if◌then◌else◌, Bool, true, false, inl, inr, ℕ, List, [], Option, Some, None, Result, Ok, Err, refl, sym, ap, subst, ◌∙◌, arith}
 use Rattle.gts_traits.specs.Calls.{Call, Outside, on}
 use Rattle.gts_traits.specs.Counts.{Rose}
 use Rattle.gts_directory.specs.Directory.{Directory}
@@ -13,18 +13,19 @@ use Rattle.gts_event.specs.declared.fault.SwitchFault.{SwitchFault}
 use Rattle.gts_event.specs.declared.fault.SwitchFault.TheVariants.{DiskFault, SayFault, Full, Stopped, Spent, NoMemory}
 use Rattle.gts_event.specs.declared.fault.Device.TheVariants.{Disk, Say}
 use Rattle.gts_core.specs.Core.{Core, Holds}
-use Rattle.gts_calls.specs.Calls.{HasCallCause}
+use Rattle.gts_calls.specs.Calls.{HasCallCause, IsAnswered}
 use Rattle.gts_engine.specs.declared.mode.SayMode.{SayMode}
 use Rattle.gts_engine.specs.declared.parts.Parts.{Parts}
-use Rattle.gts_engine.specs.Engine.{engine_of}
+use Rattle.gts_engine.specs.Engine.{Engine, engine_of}
+use Rattle.gts_engine.specs.Keeping.{meanings_of}
 use Rattle.gts_engine.specs.Origin.{by_station}
 use Rattle.gts_engine.specs.Going.{IsGathering, HasFewDraws, stopped_after}
 use Rattle.gts_engine.proofs.TurnLemmas.{goes_on}
 use Rattle.gts_engine.specs.Parts.{IsSound, HasEntered}
 use Rattle.gts_engine.specs.Gathering.{HasTold, MayHaveSettled, AnswersIn, LeavesCall}
-use Rattle.gts_engine.proofs.AnswerLemmas.{EachHeld}
+use Rattle.gts_engine.proofs.AnswerLemmas.{EachHeld, answered, stopped_leaves}
 use Rattle.gts_engine.proofs.GatherLemmas.{fails_after}
-use Rattle.std.specs.Prelude.{IfErr}
+use Rattle.std.specs.Prelude.{IfErr, IfOk}
 use Rattle.gts_engine.proofs.StepLemmas.{part_directory, part_station, part_core, part_stopped, told_well, told_badly, told_sound, untold}
 
 -- the causes of two calls, one after another, of which the first was done
@@ -240,3 +241,16 @@ module _ {P : Type 0} (tells : Type 0) (calls : P → List Call) (disk say : P �
                   rests = λ still. here ∙ enters.sound.rests none;
                   idle = λ by is. subst G (sym rest) none;
                 }
+
+-- ---- the same in the words of a switch
+
+pub in_words : {P : Type 0} (tells : Type 0) (calls : P → List Call) (disk say : P → ℕ) (mode : SayMode) (event : Event) (result : Result Outcome SwitchFault) (old new : Parts P) → old.stopped ≡ None
+    → AnswersIn tells calls disk say mode event result old new → IsAnswered (meanings_of tells calls mode) event result (engine_of old) (engine_of new)
+in_words tells calls disk say mode event result old new going a =
+    answered tells calls mode event result (engine_of old) (engine_of new) a.directory
+    (λ answer is. (going, let R : Result Outcome SwitchFault → Type 0 = λ r. IfOk r (λ x. (s : State) → Holds old.directory old.core s → x ≡ outcome old.directory s event) in subst R is a.outcome))
+    a.called
+
+-- one that stopped answers that alone
+pub stopped_answer : {P : Type 0} (tells : Type 0) (calls : P → List Call) (mode : SayMode) (event : Event) (by : Device) (e : Engine P) → e.stopped ≡ Some by → IsAnswered (meanings_of tells calls mode) event (Err (Stopped by)) e e
+stopped_answer tells calls mode event by e is = answered tells calls mode event (Err (Stopped by)) e e refl (λ answer no. absurd (cc no)) (stopped_leaves tells calls mode event by e is)
