@@ -55,7 +55,7 @@ module _ {P : Type 0} (tells : Type 0) (calls : P → List Call) (disk say : P �
   may_stops (inr settled) = settled.stops
 
   -- nothing failed
-  unfailed : result ≡ Ok tt → HasCallCause result (disk old.station) (disk old.station) (say old.station) (say old.station)
+  pub unfailed : result ≡ Ok tt → HasCallCause result (disk old.station) (disk old.station) (say old.station) (say old.station)
   unfailed ok = record {
     disk_later = omega arith;
     disk_failed = λ e. absurd (let no : ◌≡◌ {A = Result (Unit {0}) SwitchFault} (Ok tt) (Err DiskFault) = sym ok ∙ e in cc no);

@@ -1,6 +1,7 @@
 -- Settling, over the parts of an engine.
 use Rattle.std.proofs.Common.{◌≡◌, ◌<◌, ◌≤◌, ◌+◌, ◌-◌, ◌*◌, true, false, nat_lt, ℕ, zero, suc, Bool, List, [], ◌∷◌, ◌++◌, length, Option, Some, None, Result, Ok, Err, OnOk, IfErr, refl, sym, ap, subst, ◌∙◌, arith}
-use Rattle.std.specs.Prelude.{replicate}
+use Rattle.std.specs.Prelude.{replicate, ◌==◌}
+use Rattle.std.proofs.lemmas.Bool.{eqb-true, eqb-false, lt-ltb}
 use Rattle.std.specs.List.{slice_index_or}
 use Rattle.gts_alphabet.specs.declared.limits.TheConstants.{MOST_CIRCUITS}
 use Rattle.std.proofs.lemmas.List.{append-nil}
@@ -190,3 +191,11 @@ none_at (suc n) (suc c) = none_at n c
 
 pub few_none : (d : Directory) → HasFewDraws d none_drawn
 few_none d c = omega (arith, none_at MOST_CIRCUITS c)
+
+-- ---- whether something is gathered, as a batch tells it
+
+pub none_told : (n : ℕ) (told : Bool) → told ≡ (n == 1) → told ≡ true → nat_lt 1 n ≡ false
+none_told n told e yes = let one : n ≡ 1 = eqb-true n 1 (sym e ∙ yes) in ap (nat_lt 1) one
+
+pub some_told : (n : ℕ) (told : Bool) → told ≡ (n == 1) → 0 < n → told ≡ false → nat_lt 1 n ≡ true
+some_told n told e closed no = let other = eqb-false n 1 (sym e ∙ no) in lt-ltb 1 n (omega (arith, closed, other))

@@ -1,6 +1,7 @@
-ghost use Rattle.std.specs.Prelude.{◌≡◌, ◌+◌, ◌<◌, ◌≤◌, IsTrue, length, slice_get, Some, ◌∷◌, [], ◌++◌, take, drop, IfOk};
+ghost use Rattle.std.specs.Prelude.{◌≡◌, ◌+◌, ◌<◌, ◌≤◌, IsTrue, length, ◌∷◌, [], ◌++◌, take, IfOk, slice_index_or};
+ghost use Rattle.gts_traits.specs.Calls.{on};
 ghost use Rattle.gts_traits.specs.{CHANNELS};
-ghost use Rattle.gts_engine.specs.Sayings.{HasRoom, no_sayings, sizes_of};
+ghost use Rattle.gts_engine.specs.Sayings.{HasRoom, held_pieces, no_sayings, sizes_of};
 
 use gts_alphabet::NoMemory;
 use std::alloc::Global;
@@ -80,9 +81,7 @@ impl Held {
     pub fn hold(&mut self, channel: u32, bytes: &[u8])
         requires channel { channel < CHANNELS }
         requires room { HasRoom self.old (length bytes.now) }
-        ensures each { self.new.each
-            ≡ self.old.each ++ (record { channel = channel; size = length bytes.now }) ∷ [] }
-        ensures bytes { self.new.bytes ≡ self.old.bytes ++ bytes.now }
+        ensures { held_pieces self.new ≡ held_pieces self.old ++ on channel bytes.now ∷ [] }
     {
         let next = self.size + bytes.len();
         self.bytes[self.size..next].copy_from_slice(bytes);
@@ -99,9 +98,9 @@ impl Held {
         requires there { i < length self.now.each }
         requires place { at ≡ sizes_of (take i self.now.each) }
         ensures channel { result.0 < CHANNELS }
-        ensures is { slice_get self.now.each i
-            ≡ Some (record { channel = result.0; size = length result.1.now }) }
-        ensures bytes { result.1.now ≡ take (length result.1.now) (drop at self.now.bytes) }
+        ensures piece { slice_index_or (held_pieces self.now) i [] ≡ on result.0 result.1.now }
+        ensures next { at + length result.1.now ≡ sizes_of (take (i + 1) self.now.each) }
+        ensures end { at + length result.1.now ≤ MOST_BYTES }
     {
         let saying = self.sayings[i];
         (saying.channel, &self.bytes[at..at + saying.size])

@@ -46,7 +46,8 @@ impl Model for Batch {
 impl Batch {
     /// Whether no record was gathered.
     pub fn is_empty(&self) -> bool
-        ensures { result ≡ (length self.now.text == 1) }
+        ensures value { result ≡ (length self.now.text == 1) }
+        ensures closed { 0 < length self.now.text }
     {
         self.size == 1
     }
