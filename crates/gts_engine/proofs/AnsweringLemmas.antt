@@ -25,8 +25,8 @@ use Rattle.gts_engine.specs.Parts.{IsSound, HasEntered}
 use Rattle.gts_engine.specs.Gathering.{HasTold, MayHaveSettled, AnswersIn, LeavesCall}
 use Rattle.gts_engine.proofs.AnswerLemmas.{EachHeld, answered, stopped_leaves}
 use Rattle.gts_engine.proofs.GatherLemmas.{fails_after}
-use Rattle.std.specs.Prelude.{IfErr, IfOk}
-use Rattle.gts_engine.proofs.StepLemmas.{part_directory, part_station, part_core, part_stopped, told_well, told_badly, told_sound, untold}
+use Rattle.std.specs.Prelude.{IfErr, IfOk, OnOk}
+use Rattle.gts_engine.proofs.StepLemmas.{part_directory, part_station, part_core, part_stopped, part_used, told_well, told_badly, told_sound, untold}
 
 -- the causes of two calls, one after another, of which the first was done
 pub cause_then : {S T : Type 0} (first : Result S SwitchFault) (result : Result T SwitchFault) (a b c x y z : ℕ) → HasCallCause first a b x y → HasCallCause result b c y z → HasCallCause result a c x z
@@ -66,6 +66,12 @@ module _ {P : Type 0} (tells : Type 0) (calls : P → List Call) (disk say : P �
   pub may_cause : MayHaveSettled tells calls disk say result old mid → HasCallCause result (disk old.station) (disk mid.station) (say old.station) (say mid.station)
   may_cause (inl same) = subst (λ (p : P). HasCallCause result (disk old.station) (disk p) (say old.station) (say p)) (sym (ap part_station same.1)) (unfailed same.0)
   may_cause (inr settled) = settled.cause
+
+-- as many bytes are in use, where room could be made
+pub may_used : {P : Type 0} (tells : Type 0) (calls : P → List Call) (disk say : P → ℕ) (result : Result (Unit {0}) SwitchFault) (old mid : Parts P) → MayHaveSettled tells calls disk say result old mid → result ≡ Ok tt
+    → (engine_of mid).used ≡ (engine_of old).used
+may_used tells calls disk say result old mid (inl same) ok = ap part_used same.1
+may_used tells calls disk say result old mid (inr settled) ok = subst (λ (r : Result (Unit {0}) SwitchFault). OnOk r ((engine_of mid).used ≡ (engine_of old).used)) ok settled.used
 
 -- ---- answers with the same fault
 
