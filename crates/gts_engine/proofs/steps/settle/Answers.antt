@@ -10,17 +10,17 @@ use Rattle.gts_engine.proofs.SettlingLemmas.{none_told, some_told, block_of, not
 use Rattle.gts_engine.proofs.AnsweringLemmas.{unfailed}
 use Rattle.gts_engine.proofs.steps.settle.Goals as goal
 
-pub returns-in_true-clause-settles : goal.returns-in_true-clause-settles
-returns-in_true-clause-settles g c =
+pub returns-then-is_empty-clause-settles : goal.returns-then-is_empty-clause-settles
+returns-then-is_empty-clause-settles g c =
     let old = c.args.parts.now in
-    let none : (engine_of old).gathered ≡ false = none_told _ c.is_empty.result c.is_empty.ensures.value c.in_true.is in
+    let none : (engine_of old).gathered ≡ false = none_told _ c.is_empty.result c.is_empty.ensures.value c.if-is_empty.true in
     nothing_settled g.P.Station.tells g.P.Station.calls g.P.Station.disk_faults g.P.Station.say_faults old c.requires.sound none (unfailed g.P.Station.tells g.P.Station.calls g.P.Station.disk_faults g.P.Station.say_faults (Ok tt) old old refl)
 
 pub bring_and_say-result-requires-clause-some : goal.bring_and_say-result-requires-clause-some
 bring_and_say-result-requires-clause-some g c =
     let old = c.args.parts.now in
     let s0 = c.requires.sound.goes c.requires.going in
-    let other = eqb-false _ 1 (sym c.is_empty.ensures.value ∙ c.in_false.is) in
+    let other = eqb-false _ 1 (sym c.is_empty.ensures.value ∙ c.if-is_empty.false) in
     block_of g.P.Station.tells old.directory (g.P.Station.calls old.station) old.core old.journal old.batch s0 (omega (arith, c.is_empty.ensures.closed, other))
 
 pub bring_and_say-result-requires-clause-version : goal.bring_and_say-result-requires-clause-version
@@ -41,7 +41,7 @@ returns-clause-settles g c =
     let mid = c.bring_and_say-result.new.parts in
     let result = c.bring_and_say-result.result in
     let b = c.bring_and_say-result.ensures in
-    let some : (engine_of old).gathered ≡ true = some_told _ c.is_empty.result c.is_empty.ensures.value c.is_empty.ensures.closed c.in_false.is in
+    let some : (engine_of old).gathered ≡ true = some_told _ c.is_empty.result c.is_empty.ensures.value c.is_empty.ensures.closed c.if-is_empty.false in
     let H : Parts g.row.P.Denot → Type 0 = λ p. HasSettled g.P.Station.tells g.P.Station.calls g.P.Station.disk_faults g.P.Station.say_faults result old p in
     let D : List ℕ → Parts g.row.P.Denot = λ drawn. record mid { batch = no_records mid.journal; held = no_sayings; drawn = drawn } in
     subst H (sym (c.clear.ensures.rest ∙ ap D c.clear.ensures.drawn))

@@ -4,10 +4,10 @@ use Rattle.gts_engine.specs.Engine.{engine_of}
 use Rattle.gts_engine.proofs.SettlingLemmas.{none_told, some_told}
 use Rattle.gts_engine.proofs.steps.tell.Goals as goal
 
-pub returns-in_true : goal.returns-in_true
-returns-in_true g c =
+pub returns-then-is_empty : goal.returns-then-is_empty
+returns-then-is_empty g c =
     let old = c.args.parts.now in
-    let none : (engine_of old).gathered ≡ false = none_told _ c.is_empty.result c.is_empty.ensures.value c.in_true.is in
+    let none : (engine_of old).gathered ≡ false = none_told _ c.is_empty.result c.is_empty.ensures.value c.if-is_empty.true in
     record {
       told = λ same. c.say_on.ensures.told;
       rest = λ same. c.say_on.ensures.rest;
@@ -21,7 +21,7 @@ returns-in_true g c =
 pub returns : goal.returns
 returns g c =
     let old = c.args.parts.now in
-    let some : (engine_of old).gathered ≡ true = some_told _ c.is_empty.result c.is_empty.ensures.value c.is_empty.ensures.closed c.in_false.is in
+    let some : (engine_of old).gathered ≡ true = some_told _ c.is_empty.result c.is_empty.ensures.value c.is_empty.ensures.closed c.if-is_empty.false in
     record {
       told = λ none. absurd (cc (none, some));
       rest = λ none. absurd (cc (none, some));
