@@ -1,0 +1,116 @@
+-- A call that changes nothing, behind what was settled.
+use Rattle.std.proofs.Common.{◌≡◌, ℕ, List, [], ◌∷◌, ◌++◌, true, Option, Some, None, Result, Ok, Err, refl, sym, ap, subst, ◌∙◌, arith}
+use Rattle.gts_traits.specs.Calls.{Call}
+use Rattle.gts_directory.specs.Directory.{Directory}
+use Rattle.gts_event.specs.State.{State}
+use Rattle.gts_event.specs.History.{outcome}
+use Rattle.gts_event.specs.Drain.{all_done}
+use Rattle.gts_event.specs.declared.event.Event.{Event}
+use Rattle.gts_event.specs.declared.event.Entry.{Entry}
+use Rattle.gts_event.specs.declared.event.Entry.TheVariants.{Idle}
+use Rattle.gts_event.specs.declared.outcome.Outcome.{Outcome}
+use Rattle.gts_event.specs.declared.fault.Device.{Device}
+use Rattle.gts_event.specs.declared.fault.SwitchFault.{SwitchFault}
+use Rattle.gts_event.specs.declared.fault.SwitchFault.TheVariants.{DiskFault, SayFault, Full, Stopped, Spent, NoMemory}
+use Rattle.gts_core.specs.Core.{Core, Holds, Keeps as KeepsCore}
+use Rattle.gts_opening.specs.Room.{IsAccepted, full}
+use Rattle.gts_calls.specs.Calls.{Standing, AfterCall}
+use Rattle.gts_engine.specs.declared.mode.SayMode.{SayMode}
+use Rattle.gts_engine.specs.declared.parts.Parts.{Parts}
+use Rattle.gts_engine.specs.Engine.{Engine, Shown, engine_of, shown}
+use Rattle.gts_engine.specs.Origin.{Origin, state_at, used_at}
+use Rattle.gts_engine.specs.Keeping.{Gathers, Keeps, state_behind, meanings_of}
+use Rattle.gts_engine.specs.Going.{IsGathering}
+use Rattle.gts_engine.specs.Parts.{IsSound, GivesOrMemory, IsRoomFault, shows}
+use Rattle.gts_engine.specs.Gathering.{HasSettled, LeavesCall}
+use Rattle.gts_engine.proofs.TurnLemmas.{idle}
+use Rattle.gts_engine.proofs.MarkedLemmas.{state_behind_marked}
+use Rattle.gts_engine.proofs.AnswerLemmas.{EachHeld, at_state}
+use Rattle.gts_engine.proofs.StepLemmas.{part_used}
+
+-- a core that keeps what another holds
+pub gathers_kept : (tells : Type 0) (mode : SayMode) (o : Origin) (h : List Entry) (events : List Event) (e : Shown) (core : Core) → KeepsCore e.core core → Gathers tells mode o h events e → Gathers tells mode o h events (record e { core = core })
+gathers_kept tells mode o h events e core keeps kept = record {
+  directory = kept.directory;
+  core = λ going. keeps o.directory (state_behind o h events) (kept.core going);
+  used = kept.used;
+  gathered = kept.gathered;
+  held = kept.held;
+  drawn = kept.drawn;
+  few = kept.few;
+  failed = kept.failed;
+  once = kept.once;
+  anchors = kept.anchors;
+  caused = kept.caused;
+  leaves = kept.leaves;
+}
+
+pub kept_sound : {P : Type 0} (tells : Type 0) (calls : P → List Call) (old : Parts P) → IsSound tells calls old → (core : Core) → KeepsCore old.core core → IsSound tells calls (record old { core = core })
+kept_sound tells calls old sound core keeps = record {
+  goes = λ going.
+      let g : IsGathering tells old.directory (calls old.station) old.core old.journal old.batch = sound.goes going in
+      record {
+        state = g.state;
+        holds = keeps old.directory g.state g.holds;
+        once = g.once;
+        few = g.few;
+        held = g.held;
+        settled = g.settled;
+        records = g.records;
+        next = g.next;
+        leads = g.leads;
+        ended = g.ended;
+        current = g.current;
+        room = g.room;
+        stands = g.stands;
+      };
+  few = sound.few;
+  rests = sound.rests;
+  idle = sound.idle;
+}
+
+module _ {P : Type 0} (tells : Type 0) (calls : P → List Call) (mode : SayMode) (event : Event) where
+  abbrev meanings : Standing Origin (Engine P)
+  meanings = meanings_of tells calls mode
+
+  -- there was no room, or no memory
+  pub idle_behind : (o : Origin) (h : List Entry) (fault : SwitchFault) (e : Engine P) → IsRoomFault fault → Keeps tells mode o h (shown calls e) → GivesOrMemory (Err fault) (full o.directory (state_at o h) (used_at o h) event)
+      → IsAccepted (outcome o.directory (state_at o h) event) → Keeps tells mode o (h ++ Idle event fault ∷ []) (shown calls e)
+  idle_behind o h (Full at wanted limit) e is kept gives accepted = idle mode o h event tells (Full at wanted limit) (shown calls e) gives kept
+  idle_behind o h NoMemory e is kept gives accepted = idle mode o h event tells NoMemory (shown calls e) accepted kept
+  idle_behind o h DiskFault e is kept gives accepted = absurd is
+  idle_behind o h SayFault e is kept gives accepted = absurd is
+  idle_behind o h (Stopped by) e is kept gives accepted = absurd is
+  idle_behind o h Spent e is kept gives accepted = absurd is
+
+  as_answered : (o : Origin) (entries : List Entry) (events : List Event) (fault : SwitchFault) (e : Engine P) → IsRoomFault fault → Keeps tells mode o ((entries ++ all_done events) ++ Idle event fault ∷ []) (shown calls e) → AfterCall meanings o entries events event (Err fault) e
+  as_answered o entries events (Full at wanted limit) e is kept = kept
+  as_answered o entries events NoMemory e is kept = kept
+  as_answered o entries events DiskFault e is kept = absurd is
+  as_answered o entries events SayFault e is kept = absurd is
+  as_answered o entries events (Stopped by) e is kept = absurd is
+  as_answered o entries events Spent e is kept = absurd is
+
+  module _ (disk say : P → ℕ) (old mid new : Parts P) (rest : mid ≡ record old { core = mid.core }) (keeps : KeepsCore old.core mid.core) (going : old.stopped ≡ None) (settles : HasSettled tells calls disk say (Ok tt) mid new) (fault : SwitchFault) (is : IsRoomFault fault)
+      (gives : EachHeld tells calls mode event (engine_of old) (λ d s. GivesOrMemory (Err fault) (full d s (engine_of old).used event))) (accepted : EachHeld tells calls mode event (engine_of old) (λ d s. IsAccepted (outcome d s event))) where
+    kept_mid : (o : Origin) (entries : List Entry) (events : List Event) → Gathers tells mode o entries events (shows calls old) → Gathers tells mode o entries events (shows calls mid)
+    kept_mid o entries events kept =
+        let S : Shown → Type 0 = λ e. Gathers tells mode o entries events e in
+        subst S (sym (ap (shows calls) rest)) (gathers_kept tells mode o entries events (shows calls old) mid.core keeps kept)
+
+    goes_new : new.stopped ≡ None
+    goes_new = settles.stops ∙ ap (λ (p : Parts P). p.stopped) rest ∙ going
+
+    -- what was gathered is settled, and the call is idle behind it
+    pub room_leaves : LeavesCall tells calls mode event (Err fault) (engine_of old) (engine_of new)
+    room_leaves o entries events kept =
+        let h : List Entry = entries ++ all_done events in
+        let settled : Keeps tells mode o h (shown calls (engine_of new)) = settles.settles mode o entries events (kept_mid o entries events kept) in
+        let used : (engine_of old).used ≡ used_at o h = sym (ap part_used rest) ∙ sym settles.used ∙ settled.used goes_new in
+        let F : State → Type 0 = λ s. GivesOrMemory (Err fault) (full o.directory s (engine_of old).used event) in
+        let U : ℕ → Type 0 = λ n. GivesOrMemory (Err fault) (full o.directory (state_at o h) n event) in
+        let A : State → Type 0 = λ s. IsAccepted (outcome o.directory s event) in
+        as_answered o entries events fault (engine_of new) is
+        (idle_behind o h fault (engine_of new) is settled
+        (subst U used (subst F (sym (state_behind_marked true o entries events)) (at_state tells calls mode event o entries events (engine_of old) (λ d s. GivesOrMemory (Err fault) (full d s (engine_of old).used event)) kept going gives)))
+        (subst A (sym (state_behind_marked true o entries events)) (at_state tells calls mode event o entries events (engine_of old) (λ d s. IsAccepted (outcome d s event)) kept going accepted)))
