@@ -1,5 +1,5 @@
 -- A call that changes nothing, behind what was settled.
-use Rattle.std.proofs.Common.{◌≡◌, ℕ, List, [], ◌∷◌, ◌++◌, true, Option, Some, None, Result, Ok, Err, refl, sym, ap, subst, ◌∙◌, arith}
+use Rattle.std.proofs.Common.{◌≡◌, inr, ℕ, List, [], ◌∷◌, ◌++◌, true, Option, Some, None, Result, Ok, Err, refl, sym, ap, subst, ◌∙◌, arith}
 use Rattle.gts_traits.specs.Calls.{Call}
 use Rattle.gts_directory.specs.Directory.{Directory}
 use Rattle.gts_event.specs.State.{State}
@@ -14,19 +14,22 @@ use Rattle.gts_event.specs.declared.fault.SwitchFault.{SwitchFault}
 use Rattle.gts_event.specs.declared.fault.SwitchFault.TheVariants.{DiskFault, SayFault, Full, Stopped, Spent, NoMemory}
 use Rattle.gts_core.specs.Core.{Core, Holds, Keeps as KeepsCore}
 use Rattle.gts_opening.specs.Room.{IsAccepted, full}
-use Rattle.gts_calls.specs.Calls.{Standing, AfterCall}
+use Rattle.gts_calls.specs.Calls.{Standing, AfterCall, HasCallCause}
 use Rattle.gts_engine.specs.declared.mode.SayMode.{SayMode}
 use Rattle.gts_engine.specs.declared.parts.Parts.{Parts}
 use Rattle.gts_engine.specs.Engine.{Engine, Shown, engine_of, shown}
 use Rattle.gts_engine.specs.Origin.{Origin, state_at, used_at}
 use Rattle.gts_engine.specs.Keeping.{Gathers, Keeps, state_behind, meanings_of}
-use Rattle.gts_engine.specs.Going.{IsGathering}
+use Rattle.gts_engine.specs.Going.{IsGathering, stopped_after}
+use Rattle.std.specs.Prelude.{IfOk}
 use Rattle.gts_engine.specs.Parts.{IsSound, GivesOrMemory, IsRoomFault, shows}
-use Rattle.gts_engine.specs.Gathering.{HasSettled, LeavesCall}
+use Rattle.gts_engine.specs.Gathering.{HasSettled, LeavesCall, AnswersIn}
 use Rattle.gts_engine.proofs.TurnLemmas.{idle}
 use Rattle.gts_engine.proofs.MarkedLemmas.{state_behind_marked}
 use Rattle.gts_engine.proofs.AnswerLemmas.{EachHeld, at_state}
-use Rattle.gts_engine.proofs.StepLemmas.{part_used}
+use Rattle.gts_engine.proofs.StepLemmas.{part_directory, part_station, part_stopped, part_used}
+use Rattle.gts_engine.proofs.AnsweringLemmas.{answers_uncleared}
+use Rattle.gts_engine.proofs.HearingLemmas.{room_stops}
 
 -- a core that keeps what another holds
 pub gathers_kept : (tells : Type 0) (mode : SayMode) (o : Origin) (h : List Entry) (events : List Event) (e : Shown) (core : Core) → KeepsCore e.core core → Gathers tells mode o h events e → Gathers tells mode o h events (record e { core = core })
@@ -114,3 +117,63 @@ module _ {P : Type 0} (tells : Type 0) (calls : P → List Call) (mode : SayMode
         (idle_behind o h fault (engine_of new) is settled
         (subst U used (subst F (sym (state_behind_marked true o entries events)) (at_state tells calls mode event o entries events (engine_of old) (λ d s. GivesOrMemory (Err fault) (full d s (engine_of old).used event)) kept going gives)))
         (subst A (sym (state_behind_marked true o entries events)) (at_state tells calls mode event o entries events (engine_of old) (λ d s. IsAccepted (outcome d s event)) kept going accepted)))
+
+-- ---- calls behind a core for which all is prepared
+
+pub prepared_sound : {P : Type 0} (tells : Type 0) (calls : P → List Call) (old mid : Parts P) → mid ≡ record old { core = mid.core } → KeepsCore old.core mid.core → IsSound tells calls old → IsSound tells calls mid
+prepared_sound {P} tells calls old mid rest keeps sound = subst (λ (p : Parts P). IsSound tells calls p) (sym rest) (kept_sound tells calls old sound mid.core keeps)
+
+each_ok : {T E : Type 0} (r : Result T E) (A B : T → Type 0) → ((x : T) → A x → B x) → IfOk r A → IfOk r B
+each_ok (Ok x) A B f a = f x a
+each_ok (Err e) A B f a = tt
+
+-- a fault that tells of no device has no cause there
+no_device : (fault : SwitchFault) (r : Result (Unit {0}) SwitchFault) (a b x y : ℕ) → IsRoomFault fault → HasCallCause r a b x y → HasCallCause (let e : Result Outcome SwitchFault = Err fault in e) a b x y
+no_device (Full at wanted limit) r a b x y is c = record { disk_later = c.disk_later; disk_failed = λ e. absurd (cc e); say_later = c.say_later; say_failed = λ e. absurd (cc e) }
+no_device NoMemory r a b x y is c = record { disk_later = c.disk_later; disk_failed = λ e. absurd (cc e); say_later = c.say_later; say_failed = λ e. absurd (cc e) }
+no_device DiskFault r a b x y is c = absurd is
+no_device SayFault r a b x y is c = absurd is
+no_device (Stopped by) r a b x y is c = absurd is
+no_device Spent r a b x y is c = absurd is
+
+module _ {P : Type 0} (tells : Type 0) (calls : P → List Call) (disk say : P → ℕ) (mode : SayMode) (event : Event) (old mid new : Parts P) (rest : mid ≡ record old { core = mid.core }) (keeps : KeepsCore old.core mid.core) where
+  behind_prepared : (o : Origin) (entries : List Entry) (events : List Event) → Gathers tells mode o entries events (shows calls old) → Gathers tells mode o entries events (shows calls mid)
+  behind_prepared o entries events kept =
+      let S : Shown → Type 0 = λ e. Gathers tells mode o entries events e in
+      subst S (sym (ap (shows calls) rest)) (gathers_kept tells mode o entries events (shows calls old) mid.core keeps kept)
+
+  -- what is answered behind it is answered
+  pub answers_prepared : (result : Result Outcome SwitchFault) → AnswersIn tells calls disk say mode event result mid new → AnswersIn tells calls disk say mode event result old new
+  answers_prepared result a = record {
+    called = λ o entries events kept. a.called o entries events (behind_prepared o entries events kept);
+    outcome = each_ok result (λ x. (s : State) → Holds mid.directory mid.core s → x ≡ outcome mid.directory s event) (λ x. (s : State) → Holds old.directory old.core s → x ≡ outcome old.directory s event)
+        (λ x each s holds. let D : Directory → Type 0 = λ d. Holds d mid.core s → x ≡ outcome d s event in subst D (ap part_directory rest) (each s) (keeps old.directory s holds))
+        a.outcome;
+    directory = a.directory ∙ ap part_directory rest;
+    sound = a.sound;
+    stops = a.stops ∙ ap (λ (by : Option Device). stopped_after by result) (ap part_stopped rest);
+    cause = subst (λ (p : P). HasCallCause result (disk p) (disk new.station) (say p) (say new.station)) (ap part_station rest) a.cause;
+  }
+
+  module _ (settled : Result (Unit {0}) SwitchFault) (settles : HasSettled tells calls disk say settled mid new) where
+    -- settling failed
+    pub answers_unidled : IsSound tells calls old → (fault : SwitchFault) → settled ≡ Err fault → AnswersIn tells calls disk say mode event (Err fault) old new
+    answers_unidled sound fault failed =
+        answers_prepared (Err fault) (answers_uncleared tells calls disk say mode event mid new settled (inr settles) fault failed (prepared_sound tells calls old mid rest keeps sound))
+
+    -- or all was settled, and there is no room, or no memory
+    pub answers_idle : settled ≡ Ok tt → old.stopped ≡ None → (fault : SwitchFault) → IsRoomFault fault
+        → EachHeld tells calls mode event (engine_of old) (λ d s. GivesOrMemory (Err fault) (full d s (engine_of old).used event)) → EachHeld tells calls mode event (engine_of old) (λ d s. IsAccepted (outcome d s event))
+        → AnswersIn tells calls disk say mode event (Err fault) old new
+    answers_idle ok going fault is gives accepted = record {
+      called =
+          let H : Result (Unit {0}) SwitchFault → Type 0 = λ r. HasSettled tells calls disk say r mid new in
+          room_leaves tells calls mode event disk say old mid new rest keeps going (subst H ok settles) fault is gives accepted;
+      outcome = tt;
+      directory = ap part_directory settles.rest ∙ ap part_directory rest;
+      sound = settles.sound;
+      stops = settles.stops ∙ ap (stopped_after mid.stopped) ok ∙ ap part_stopped rest ∙ sym (room_stops fault old.stopped is);
+      cause =
+          subst (λ (p : P). HasCallCause (let e : Result Outcome SwitchFault = Err fault in e) (disk p) (disk new.station) (say p) (say new.station)) (ap part_station rest)
+          (no_device fault settled (disk mid.station) (disk new.station) (say mid.station) (say new.station) is settles.cause);
+    }
