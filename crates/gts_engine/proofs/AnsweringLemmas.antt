@@ -16,6 +16,7 @@ use Rattle.gts_core.specs.Core.{Core, Holds}
 use Rattle.gts_calls.specs.Calls.{HasCallCause, IsAnswered}
 use Rattle.gts_engine.specs.declared.mode.SayMode.{SayMode}
 use Rattle.gts_engine.specs.declared.parts.Parts.{Parts}
+use Rattle.gts_engine.specs.Sayings.{held_pieces, joined}
 use Rattle.gts_engine.specs.Engine.{Engine, engine_of}
 use Rattle.gts_engine.specs.Keeping.{meanings_of}
 use Rattle.gts_engine.specs.Origin.{by_station}
@@ -26,7 +27,7 @@ use Rattle.gts_engine.specs.Gathering.{HasTold, MayHaveSettled, AnswersIn, Leave
 use Rattle.gts_engine.proofs.AnswerLemmas.{EachHeld, answered, stopped_leaves}
 use Rattle.gts_engine.proofs.GatherLemmas.{fails_after}
 use Rattle.std.specs.Prelude.{IfErr, IfOk, OnOk}
-use Rattle.gts_engine.proofs.StepLemmas.{part_directory, part_station, part_core, part_stopped, part_used, told_well, told_badly, told_sound, untold}
+use Rattle.gts_engine.proofs.StepLemmas.{part_directory, part_station, part_core, part_stopped, part_used, part_held, told_well, told_badly, told_sound, untold}
 
 -- the causes of two calls, one after another, of which the first was done
 pub cause_then : {S T : Type 0} (first : Result S SwitchFault) (result : Result T SwitchFault) (a b c x y z : ℕ) → HasCallCause first a b x y → HasCallCause result b c y z → HasCallCause result a c x z
@@ -49,6 +50,11 @@ module _ {P : Type 0} (tells : Type 0) (calls : P → List Call) (disk say : P �
   pub may_sound : MayHaveSettled tells calls disk say result old mid → IsSound tells calls old → IsSound tells calls mid
   may_sound (inl same) sound = subst (λ (p : Parts P). IsSound tells calls p) (sym same.1) sound
   may_sound (inr settled) sound = settled.sound
+
+  -- where nothing was gathered, nothing is held
+  pub may_quiet : MayHaveSettled tells calls disk say result old mid → IsSound tells calls old → (engine_of old).gathered ≡ false → (engine_of mid).held ≡ []
+  may_quiet (inl same) sound none = ap part_held same.1 ∙ ap held_pieces (sound.rests none)
+  may_quiet (inr settled) sound none = ap held_pieces settled.silent
 
   pub may_stops : MayHaveSettled tells calls disk say result old mid → mid.stopped ≡ stopped_after old.stopped result
   may_stops (inl same) = ap part_stopped same.1 ∙ sym (ap (stopped_after old.stopped) same.0)
@@ -214,7 +220,7 @@ module _ {P : Type 0} (tells : Type 0) (calls : P → List Call) (disk say : P �
                 subst S (sym is) refl
 
       -- or nothing is said of it
-      module _ (new : Parts P) (rest : new ≡ record mid { held = new.held }) (held : (engine_of new).held ≡ (if (engine_of mid).gathered then (engine_of mid).held ++ [] ∷ [] else (engine_of mid).held))
+      module _ (new : Parts P) (rest : new ≡ record mid { held = new.held }) (same : (engine_of mid).gathered ≡ false → new ≡ mid) (held : (engine_of new).held ≡ (if (engine_of mid).gathered then (engine_of mid).held ++ [] ∷ [] else (engine_of mid).held))
           (silent : EachHeld tells calls mode event (engine_of old) (λ d s. by_station mode (spoken d s event) ≡ [])) where
         pub answers_untold : AnswersIn tells calls disk say mode event (Ok result) first new
         answers_untold = record {
@@ -232,21 +238,26 @@ module _ {P : Type 0} (tells : Type 0) (calls : P → List Call) (disk say : P �
             sound_untold true gathered =
                 let S : Parts P → Type 0 = λ x. IsSound tells calls x in
                 subst S (sym rest) (record {
-                  goes = λ same. enters.sound.goes enters.entered.stopped;
+                  goes = λ going_still. enters.sound.goes enters.entered.stopped;
                   few = enters.sound.few;
                   rests = λ none. absurd (cc (gathered, none));
                   idle = λ by is. absurd (goes_on mid.stopped by is enters.entered.stopped);
                 })
-            sound_untold false none =
-                let H : Bool → Type 0 = λ b. (engine_of new).held ≡ (if b then (engine_of mid).held ++ [] ∷ [] else (engine_of mid).held) in
-                let here : (engine_of new).held ≡ (engine_of mid).held = subst H none held in
-                let G : Parts P → Type 0 = λ p. (engine_of p).gathered ≡ false in
-                record {
-                  goes = λ same. let D : Parts P → Type 0 = λ p. IsGathering tells p.directory (calls p.station) p.core p.journal p.batch in subst D (sym rest) (enters.sound.goes enters.entered.stopped);
-                  few = let F : Parts P → Type 0 = λ p. HasFewDraws p.directory p.drawn in subst F (sym rest) enters.sound.few;
-                  rests = λ still. here ∙ enters.sound.rests none;
-                  idle = λ by is. subst G (sym rest) none;
-                }
+            sound_untold false none = let S : Parts P → Type 0 = λ x. IsSound tells calls x in subst S (sym (same none)) enters.sound
+
+        -- where nothing was gathered before it, nothing is to be said
+        pub quiet_untold : (engine_of old).held ≡ [] → joined (engine_of new).held ≡ []
+        quiet_untold quiet = by_cases (engine_of mid).gathered refl
+          where
+            none_held : (engine_of mid).held ≡ []
+            none_held = enters.entered.held ∙ quiet
+
+            by_cases : (b : Bool) → (engine_of mid).gathered ≡ b → joined (engine_of new).held ≡ []
+            by_cases true gathered =
+                let H : Bool → Type 0 = λ x. (engine_of new).held ≡ (if x then (engine_of mid).held ++ [] ∷ [] else (engine_of mid).held) in
+                let here : (engine_of new).held ≡ (engine_of mid).held ++ [] ∷ [] = subst H gathered held in
+                ap joined (here ∙ ap (λ (l : List Outside). l ++ [] ∷ []) none_held)
+            by_cases false none = ap joined (ap part_held (same none) ∙ none_held)
 
 -- ---- the same in the words of a switch
 

@@ -22,6 +22,7 @@ use Rattle.gts_checkpoint.specs.Writing.{HasWritten, checkpoint_file, need_seal}
 use Rattle.gts_journal.specs.{InHand, StandsOn, StandsFor, IsClosedAt, LeavesBoth, selecting as selecting_at}
 use Rattle.gts_journal.specs.Law.{OpensAsBefore}
 use Rattle.gts_engine.specs.declared.parts.Parts.{Parts}
+use Rattle.gts_engine.specs.Sayings.{held_pieces, no_sayings}
 use Rattle.gts_engine.specs.Engine.{engine_of}
 use Rattle.gts_journal.specs.Batch.{Gathered, no_records}
 use Rattle.gts_engine.specs.Going.{IsGoing, HasFewDraws, stopped_after}
@@ -60,8 +61,11 @@ module _ {P : Type 0} (tells : Type 0) (calls : P → List Call) (p : Parts P) (
     none_put : (engine_of q).gathered ≡ false
     none_put = ap (λ (x : Parts P). (engine_of x).gathered) rest ∙ none
 
+    unheld_put : q.held ≡ no_sayings
+    unheld_put = ap (λ (x : Parts P). x.held) rest ∙ sound_p.rests none
+
     quiet_put : (engine_of q).held ≡ []
-    quiet_put = ap (λ (x : Parts P). (engine_of x).held) rest ∙ sound_p.rests none
+    quiet_put = ap held_pieces unheld_put
 
     few_put : HasFewDraws p.directory q.drawn
     few_put = subst (HasFewDraws p.directory) (sym (ap (λ (x : Parts P). x.drawn) rest)) sound_p.few
@@ -74,7 +78,7 @@ module _ {P : Type 0} (tells : Type 0) (calls : P → List Call) (p : Parts P) (
     sound_put DiskFault may stops same = record {
       goes = λ none. absurd (goes_on q.stopped Disk stops none);
       few = subst (λ (d : Directory). HasFewDraws d q.drawn) (sym directory_put) few_put;
-      rests = λ none. quiet_put;
+      rests = λ none. unheld_put;
       idle = λ by is. none_put;
     }
     sound_put NoMemory may stops same = subst (λ (x : Parts P). IsSound tells calls x) (sym (same refl)) sound_p
@@ -129,8 +133,11 @@ module _ {P : Type 0} (tells : Type 0) (calls : P → List Call) (p : Parts P) (
         core_all : r.core ≡ p.core
         core_all = ap (λ (x : Parts P). x.core) behind ∙ ap (λ (x : Parts P). x.core) rest
 
+        unheld_all : r.held ≡ no_sayings
+        unheld_all = ap (λ (x : Parts P). x.held) behind ∙ unheld_put
+
         quiet_all : (engine_of r).held ≡ []
-        quiet_all = ap (λ (x : Parts P). (engine_of x).held) behind ∙ quiet_put
+        quiet_all = ap held_pieces unheld_all
 
         few_all : HasFewDraws r.directory r.drawn
         few_all =
@@ -165,7 +172,7 @@ module _ {P : Type 0} (tells : Type 0) (calls : P → List Call) (p : Parts P) (
               record {
                 goes = λ same. gathering_of tells r.directory (calls r.station) r.core r.journal r.batch goes batch;
                 few = few_all;
-                rests = λ none. quiet_all;
+                rests = λ none. unheld_all;
                 idle = λ by is. none_all;
               }
 
@@ -211,7 +218,7 @@ module _ {P : Type 0} (tells : Type 0) (calls : P → List Call) (p : Parts P) (
             record {
               goes = λ same. absurd (goes_on r.stopped Disk stopped same);
               few = few_all;
-              rests = λ none. quiet_all;
+              rests = λ none. unheld_all;
               idle = λ by is. none_left batch;
             }
 

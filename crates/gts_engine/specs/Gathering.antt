@@ -23,7 +23,7 @@ use Rattle.gts_opening.specs.Journal.{after_records}
 use Rattle.gts_calls.specs.Calls.{HasCallCause, AfterSettling, AfterCall, IsAnswered, IsSettling}
 use Rattle.gts_engine.specs.declared.mode.SayMode.{SayMode}
 use Rattle.gts_engine.specs.declared.parts.Parts.{Parts}
-use Rattle.gts_engine.specs.Sayings.{held_pieces, joined}
+use Rattle.gts_engine.specs.Sayings.{held_pieces, joined, no_sayings}
 use Rattle.gts_engine.specs.Engine.{Engine, Shown, engine_of, shown}
 use Rattle.gts_engine.specs.Origin.{Origin}
 use Rattle.gts_engine.specs.Keeping.{Gathers, meanings_of}
@@ -140,7 +140,7 @@ pub record HasSettled {P : Type 0} (tells : Type 0) (calls : P → List Call) (d
   pub rest : OnlySettled old new
   pub used : OnOk result ((engine_of new).used ≡ (engine_of old).used)
   pub emptied : (engine_of new).gathered ≡ false
-  pub silent : (engine_of new).held ≡ []
+  pub silent : new.held ≡ no_sayings
   pub nothing : (engine_of old).gathered ≡ false → (result ≡ Ok tt) × (new ≡ old)
   pub cause : HasCallCause result (disk old.station) (disk new.station) (say old.station) (say new.station)
 
