@@ -62,7 +62,7 @@ impl Batch {
 
     /// How many bytes more may be gathered.
     pub fn room(&self) -> usize
-        ensures { result ≡ MOST_GATHERED - length self.now.text }
+        ensures { length self.now.text + result ≡ MOST_GATHERED }
     {
         MOST_GATHERED - self.size
     }
