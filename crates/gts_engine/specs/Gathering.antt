@@ -73,7 +73,8 @@ pub record SaysHeld (d : Directory) (pieces : List Outside) (old new : List Call
 -- a piece was to be said: it was, or a front of it
 abbrev pub TriesPiece : {T E : Type 0} → Outside → Result T E → List Call → List Call → Type 0
 TriesPiece piece result old new =
-    (channel : ℕ) × (bytes : List ℕ) × (piece ≡ on channel bytes) × (Tries (Says channel bytes) result old new ⊎ ((bytes ≡ []) × (new ≡ old)))
+    (channel : ℕ) × (bytes : List ℕ) × (piece ≡ on channel bytes)
+    × (Tries (Says channel bytes) result old new ⊎ ((bytes ≡ []) × (new ≡ old)))
 
 -- saying failed at this one of these pieces: those before it were said, and of it a front
 pub record FailsAt (tells : Type 0) (pieces : List Outside) (i : ℕ) (old new : List Call) : Type 0 where
@@ -134,7 +135,8 @@ pub record HasTold {P : Type 0} (tells : Type 0) (calls : P → List Call) (disk
 pub record HasSettled {P : Type 0} (tells : Type 0) (calls : P → List Call) (disk say : P → ℕ)
     (result : Result (Unit {0}) SwitchFault) (old new : Parts P) : Type 0 where
   pub settles : (mode : SayMode) (o : Origin) (entries : List Entry) (events : List Event)
-      → Gathers tells mode o entries events (shows calls old) → AfterSettling (meanings_of tells calls mode) o entries events result (engine_of new)
+      → Gathers tells mode o entries events (shows calls old)
+      → AfterSettling (meanings_of tells calls mode) o entries events result (engine_of new)
   pub sound : IsSound tells calls new
   pub stops : new.stopped ≡ stopped_after old.stopped result
   pub rest : OnlySettled old new
@@ -145,11 +147,13 @@ pub record HasSettled {P : Type 0} (tells : Type 0) (calls : P → List Call) (d
   pub cause : HasCallCause result (disk old.station) (disk new.station) (say old.station) (say new.station)
 
 -- the parts stay as they are, or what was gathered was settled
-abbrev pub MayHaveSettled : {P : Type 0} → Type 0 → (P → List Call) → (disk say : P → ℕ) → Result (Unit {0}) SwitchFault → (old new : Parts P) → Type 0
+abbrev pub MayHaveSettled : {P : Type 0} → Type 0 → (P → List Call) → (disk say : P → ℕ) → Result (Unit {0}) SwitchFault → (old new : Parts P)
+    → Type 0
 MayHaveSettled tells calls disk say result old new = ((result ≡ Ok tt) × (new ≡ old)) ⊎ HasSettled tells calls disk say result old new
 
 -- What a call for an event leaves, whatever entries the engine stood for and whatever events were gathered.
-abbrev pub LeavesCall : {P : Type 0} → Type 0 → (P → List Call) → SayMode → Event → Result Outcome SwitchFault → (old new : Engine P) → Type 0
+abbrev pub LeavesCall : {P : Type 0} → Type 0 → (P → List Call) → SayMode → Event → Result Outcome SwitchFault → (old new : Engine P)
+    → Type 0
 LeavesCall tells calls mode event result old new =
     (o : Origin) (entries : List Entry) (events : List Event) → Gathers tells mode o entries events (shown calls old)
     → AfterCall (meanings_of tells calls mode) o entries events event result new
@@ -166,11 +170,13 @@ pub record AnswersIn {P : Type 0} (tells : Type 0) (calls : P → List Call) (di
   pub cause : HasCallCause result (disk old.station) (disk new.station) (say old.station) (say new.station)
 
 -- whoever says the frames
-abbrev pub Answers : {P : Type 0} → Type 0 → (P → List Call) → (disk say : P → ℕ) → Event → Result Outcome SwitchFault → (old new : Parts P) → Type 0
+abbrev pub Answers : {P : Type 0} → Type 0 → (P → List Call) → (disk say : P → ℕ) → Event → Result Outcome SwitchFault
+    → (old new : Parts P) → Type 0
 Answers tells calls disk say event result old new = (mode : SayMode) → AnswersIn tells calls disk say mode event result old new
 
 -- what a call on an engine was answered, and leaves, as an engine that gathers
-abbrev pub GathersEntry : {P : Type 0} → Type 0 → (P → List Call) → SayMode → Event → Result Outcome SwitchFault → (old new : Engine P) → Type 0
+abbrev pub GathersEntry : {P : Type 0} → Type 0 → (P → List Call) → SayMode → Event → Result Outcome SwitchFault → (old new : Engine P)
+    → Type 0
 GathersEntry tells calls mode event result old new = IsAnswered (meanings_of tells calls mode) event result old new
 
 -- What was gathered was to be settled, whoever says the frames. Nothing is gathered any more.
