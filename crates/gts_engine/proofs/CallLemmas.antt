@@ -1,0 +1,83 @@
+-- Calls that gather, and settle behind it.
+use Rattle.std.proofs.Common.{◌≡◌, ℕ, List, Option, Some, None, Result, Ok, Err, refl, sym, ap, subst, ◌∙◌}
+use Rattle.std.specs.Prelude.{IfErr, IfSome, false}
+use Rattle.gts_traits.specs.Calls.{Call}
+use Rattle.gts_event.specs.declared.event.Event.{Event}
+use Rattle.gts_event.specs.declared.outcome.Outcome.{Outcome}
+use Rattle.gts_event.specs.declared.fault.Device.{Device}
+use Rattle.gts_event.specs.declared.fault.SwitchFault.{SwitchFault}
+use Rattle.gts_event.specs.declared.fault.SwitchFault.TheVariants.{DiskFault, SayFault, Full, Stopped, Spent, NoMemory}
+use Rattle.gts_calls.specs.Calls.{IsCalled, IsAnswered, IsSettling, HasCallCause}
+use Rattle.gts_engine.specs.declared.mode.SayMode.{SayMode}
+use Rattle.gts_engine.specs.Engine.{Engine}
+use Rattle.gts_engine.specs.Keeping.{meanings_of}
+use Rattle.gts_engine.specs.Going.{stopped_after}
+use Rattle.gts_engine.specs.Parts.{IsIdleAnswer}
+use Rattle.gts_engine.specs.Gathering.{IsDeviceFault}
+use Rattle.gts_engine.proofs.AnswerLemmas.{called_failed, called_unsettled, called_done}
+use Rattle.gts_engine.proofs.AnsweringLemmas.{cause_then, cause_alike, cause_none}
+
+-- the fault of a device stops by whatever call it was answered, whatever stopped before
+pub device_stops : {S T : Type 0} (fault : SwitchFault) (before other : Option Device) → IsDeviceFault fault → stopped_after before (let r : Result S SwitchFault = Err fault in r) ≡ stopped_after other (let r : Result T SwitchFault = Err fault in r)
+device_stops DiskFault before other is = refl
+device_stops SayFault before other is = refl
+device_stops (Full used need limit) before other is = absurd is
+device_stops (Stopped by) before other is = absurd is
+device_stops Spent before other is = absurd is
+device_stops NoMemory before other is = absurd is
+
+-- and is no answer with which nothing changed
+pub device_active : (fault : SwitchFault) → IsDeviceFault fault → IsIdleAnswer (Err fault) → ⊥
+device_active DiskFault is idle = idle
+device_active SayFault is idle = idle
+device_active (Full used need limit) is idle = is
+device_active (Stopped by) is idle = is
+device_active Spent is idle = is
+device_active NoMemory is idle = is
+
+-- one that stopped answers no outcome
+pub never_stopped : {A : Type 0} (stopped : Option Device) (first : Result Outcome SwitchFault) (answer : Outcome) (B : Device → Type 0) → first ≡ Ok answer → IfSome stopped (λ by. (first ≡ Err (Stopped by)) × A) → IfSome stopped B
+never_stopped None first answer B ok none = tt
+never_stopped (Some by) first answer B ok told = absurd (let no : ◌≡◌ {A = Result Outcome SwitchFault} (Ok answer) (Err (Stopped by)) = sym ok ∙ told.0 in cc no)
+
+-- what holds of a fault holds of the one that was answered
+pub of_fault : {T : Type 0} (r : Result T SwitchFault) (fault : SwitchFault) (A : SwitchFault → Type 0) → r ≡ Err fault → IfErr r A → A fault
+of_fault r fault A is all = subst (λ (x : Result T SwitchFault). IfErr x A) is all
+
+module _ {P : Type 0} (tells : Type 0) (calls : P → List Call) (mode : SayMode) (event : Event) (old mid : Engine P) (first : Result Outcome SwitchFault) (answered : IsAnswered (meanings_of tells calls mode) event first old mid) where
+  -- the call failed
+  pub fails_first : (fault : SwitchFault) → first ≡ Err fault → IsCalled (meanings_of tells calls mode) event (Err fault) old mid
+  fails_first fault is =
+      let A : Result Outcome SwitchFault → Type 0 = λ r. IsAnswered (meanings_of tells calls mode) event r old mid in
+      called_failed tells calls mode event fault old mid (subst A is answered)
+
+  module _ (answer : Outcome) (ok : first ≡ Ok answer) (new : Engine P) (settled : Result (Unit {0}) SwitchFault) (settles : IsSettling (meanings_of tells calls mode) settled mid new) where
+    answered_so : IsAnswered (meanings_of tells calls mode) event (Ok answer) old mid
+    answered_so = let A : Result Outcome SwitchFault → Type 0 = λ r. IsAnswered (meanings_of tells calls mode) event r old mid in subst A ok answered
+
+    -- settling failed behind it
+    pub fails_behind : (fault : SwitchFault) → settled ≡ Err fault → IfErr settled IsDeviceFault → IsCalled (meanings_of tells calls mode) event (Err fault) old new
+    fails_behind fault is device =
+        let S : Result (Unit {0}) SwitchFault → Type 0 = λ r. IsSettling (meanings_of tells calls mode) r mid new in
+        called_unsettled tells calls mode event answer fault old mid new answered_so (subst S is settles) (of_fault settled fault IsDeviceFault is device)
+
+    -- all was done
+    pub done_behind : settled ≡ Ok tt → IsCalled (meanings_of tells calls mode) event (Ok answer) old new
+    done_behind is =
+        let S : Result (Unit {0}) SwitchFault → Type 0 = λ r. IsSettling (meanings_of tells calls mode) r mid new in
+        called_done tells calls mode event answer old mid new answered_so (subst S is settles)
+
+-- what stopped it, and the counts of faults
+module _ (before between after : Option Device) (first : Result Outcome SwitchFault) (settled : Result (Unit {0}) SwitchFault) (one : between ≡ stopped_after before first) (two : after ≡ stopped_after between settled) where
+  pub stops_behind : (fault : SwitchFault) → settled ≡ Err fault → IfErr settled IsDeviceFault → after ≡ stopped_after before (let r : Result Outcome SwitchFault = Err fault in r)
+  stops_behind fault is device = two ∙ ap (stopped_after between) is ∙ device_stops fault between before (of_fault settled fault IsDeviceFault is device)
+
+  pub stops_done : (answer : Outcome) → first ≡ Ok answer → settled ≡ Ok tt → after ≡ stopped_after before (let r : Result Outcome SwitchFault = Ok answer in r)
+  stops_done answer ok is = two ∙ ap (stopped_after between) is ∙ one ∙ ap (stopped_after before) ok
+
+module _ (first : Result Outcome SwitchFault) (settled : Result (Unit {0}) SwitchFault) (a b c x y z : ℕ) (one : HasCallCause first a b x y) (two : HasCallCause settled b c y z) where
+  pub cause_behind : (fault : SwitchFault) → settled ≡ Err fault → HasCallCause (let r : Result Outcome SwitchFault = Err fault in r) a c x z
+  cause_behind fault is = cause_alike settled fault a c x z is (cause_then first settled a b c x y z one two)
+
+  pub cause_done : (answer : Outcome) → settled ≡ Ok tt → HasCallCause (let r : Result Outcome SwitchFault = Ok answer in r) a c x z
+  cause_done answer is = cause_none settled tt answer a c x z is (cause_then first settled a b c x y z one two)
