@@ -51,6 +51,11 @@ module _ {P : Type 0} (tells : Type 0) (calls : P → List Call) (disk say : P �
   may_sound (inl same) sound = subst (λ (p : Parts P). IsSound tells calls p) (sym same.1) sound
   may_sound (inr settled) sound = settled.sound
 
+  -- where nothing was gathered, nothing failed
+  pub may_ok : MayHaveSettled tells calls disk say result old mid → (engine_of old).gathered ≡ false → result ≡ Ok tt
+  may_ok (inl same) none = same.0
+  may_ok (inr settled) none = (settled.nothing none).0
+
   -- where nothing was gathered, nothing is held
   pub may_quiet : MayHaveSettled tells calls disk say result old mid → IsSound tells calls old → (engine_of old).gathered ≡ false → (engine_of mid).held ≡ []
   may_quiet (inl same) sound none = ap part_held same.1 ∙ ap held_pieces (sound.rests none)

@@ -52,3 +52,8 @@ pub returns-in_err-settle-clause-caller : goal.returns-in_err-settle-clause-call
 returns-in_err-settle-clause-caller g c =
     let p = err_from_is_err_and c.from_residual-in_err-settle.result c.from_residual-in_err-settle.ensures.1 in
     rw (p.1, p.2) (λ caller none e. c.settle.ensures.silent (c.gather_take-outcome.ensures.silent caller none) (let same : c.in_err-settle.field-0.0 ≡ SayFault = cc e in c.in_err-settle.was ∙ ap Err same))
+
+pub returns-in_err-outcome-clause-caller : goal.returns-in_err-outcome-clause-caller
+returns-in_err-outcome-clause-caller g c =
+    let p = err_from_is_err_and c.from_residual.result c.from_residual.ensures.1 in
+    rw (p.1, p.2) (λ caller none e. c.gather_take-outcome.ensures.caller caller none (let same : c.in_err-outcome.field-0.0 ≡ SayFault = cc e in c.in_err-outcome.was ∙ ap Err same))
