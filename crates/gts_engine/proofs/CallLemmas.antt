@@ -81,3 +81,31 @@ module _ (first : Result Outcome SwitchFault) (settled : Result (Unit {0}) Switc
 
   pub cause_done : (answer : Outcome) → settled ≡ Ok tt → HasCallCause (let r : Result Outcome SwitchFault = Ok answer in r) a c x z
   cause_done answer is = cause_none settled tt answer a c x z is (cause_then first settled a b c x y z one two)
+
+-- ---- one that stopped
+
+pub if_some : (stopped : Option Device) {A : Device → Type 0} → ((by : Device) → A by) → IfSome stopped A
+if_some None all = tt
+if_some (Some by) all = all by
+
+pub none_some : (stopped : Option Device) {A : Device → Type 0} → stopped ≡ None → IfSome stopped A
+none_some None none = tt
+none_some (Some by) none = absurd (cc none)
+
+-- it isn't settled, so that settling doesn't fail
+pub never_settled : {A : Type 0} (stopped : Option Device) (settled : Result (Unit {0}) SwitchFault) (fault : SwitchFault) (B : Device → Type 0) → settled ≡ Err fault → IfSome stopped (λ by. (settled ≡ Ok tt) × A) → IfSome stopped B
+never_settled None settled fault B failed told = tt
+never_settled (Some by) settled fault B failed told = absurd (let no : ◌≡◌ {A = Result (Unit {0}) SwitchFault} (Ok tt) (Err fault) = sym told.0 ∙ failed in cc no)
+
+-- and answers that alone
+pub then_stopped : {P T : Type 0} (stopped : Option Device) (settled : Result (Unit {0}) SwitchFault) (result : Result T SwitchFault) (old mid new : Engine P) → old.stopped ≡ stopped → IfSome stopped (λ by. (settled ≡ Ok tt) × (mid ≡ old))
+    → IfSome mid.stopped (λ by. (result ≡ Err (Stopped by)) × (new ≡ mid)) → IfSome stopped (λ by. (result ≡ Err (Stopped by)) × (new ≡ old))
+then_stopped None settled result old mid new is first told = tt
+then_stopped {P} (Some by) settled result old mid new is first told =
+    let S : Option Device → Type 0 = λ s. IfSome s (λ b. (result ≡ Err (Stopped b)) × (new ≡ mid)) in
+    let t = subst S (ap (λ (e : Engine P). e.stopped) first.1 ∙ is) told in
+    (t.0, t.1 ∙ first.1)
+
+-- where nothing was gathered, settling doesn't fail
+pub nothing_failed : {A : Type 0} (settled : Result (Unit {0}) SwitchFault) (fault : SwitchFault) {B : Type 0} → settled ≡ Err fault → (settled ≡ Ok tt) × A → B
+nothing_failed settled fault failed told = absurd (let no : ◌≡◌ {A = Result (Unit {0}) SwitchFault} (Ok tt) (Err fault) = sym told.0 ∙ failed in cc no)

@@ -1,4 +1,12 @@
-use Rattle.std.proofs.Common.{◌≡◌, Ok, Err, sym, ap, subst, ◌∙◌}
+use Rattle.std.proofs.Common.{◌≡◌, Option, None, Ok, Err, refl, sym, ap, subst, ◌∙◌}
+use Rattle.std.specs.Prelude.{OnOk}
+use Rattle.gts_event.specs.State.{State}
+use Rattle.gts_event.specs.declared.fault.Device.{Device}
+use Rattle.gts_core.specs.Core.{Holds}
+use Rattle.gts_engine.specs.Engine.{Engine}
+use Rattle.gts_engine.specs.Going.{stopped_after}
+use Rattle.gts_engine.specs.Compacting.{IsRewritten, StaysAt, GivesRoom, IsIdleFault}
+use Rattle.gts_engine.proofs.CallLemmas.{never_settled, then_stopped, nothing_failed}
 use Rattle.std.proofs.lemmas.Result.{err_from_is_err_and}
 use Rattle.gts_engine.proofs.FirstLemmas.{compacts_settled, compacts_unsettled}
 use Rattle.gts_engine.proofs.AnsweringLemmas.{cause_then}
@@ -17,3 +25,55 @@ returns-clause-compaction g c = compacts_settled g.P.Station.tells g.P.Station.c
 
 pub returns-clause-cause : goal.returns-clause-cause
 returns-clause-cause g c = cause_then c.settle.result c.compact_settled.result _ _ _ _ _ _ c.settle.ensures.cause c.compact_settled.ensures.cause
+
+pub returns-in_err-settle-clause-stopped : goal.returns-in_err-settle-clause-stopped
+returns-in_err-settle-clause-stopped g c = never_settled c.args.self.now.stopped c.settle.result c.in_err-settle.field-0.0 _ c.in_err-settle.was c.settle.ensures.stopped
+
+pub returns-clause-stopped : goal.returns-clause-stopped
+returns-clause-stopped g c =
+    then_stopped c.args.self.now.stopped c.settle.result c.compact_settled.result c.args.self.now c.settle.new.self c.compact_settled.new.self refl c.settle.ensures.stopped c.compact_settled.ensures.stopped
+
+pub returns-in_err-settle-clause-moments : goal.returns-in_err-settle-clause-moments
+returns-in_err-settle-clause-moments g c = λ tell going none. nothing_failed c.settle.result c.in_err-settle.field-0.0 c.in_err-settle.was (c.settle.ensures.settles.nothing none)
+
+pub returns-in_err-settle-clause-written : goal.returns-in_err-settle-clause-written
+returns-in_err-settle-clause-written g c = λ tell none. nothing_failed c.settle.result c.in_err-settle.field-0.0 c.in_err-settle.was (c.settle.ensures.settles.nothing none)
+
+pub returns-in_err-settle-clause-full : goal.returns-in_err-settle-clause-full
+returns-in_err-settle-clause-full g c = λ s going none holds. nothing_failed c.settle.result c.in_err-settle.field-0.0 c.in_err-settle.was (c.settle.ensures.settles.nothing none)
+
+pub returns-in_err-settle-clause-kind : goal.returns-in_err-settle-clause-kind
+returns-in_err-settle-clause-kind g c = λ none. nothing_failed c.settle.result c.in_err-settle.field-0.0 c.in_err-settle.was (c.settle.ensures.settles.nothing none)
+
+pub returns-in_err-settle-clause-unchanged : goal.returns-in_err-settle-clause-unchanged
+returns-in_err-settle-clause-unchanged g c = λ none. nothing_failed c.settle.result c.in_err-settle.field-0.0 c.in_err-settle.was (c.settle.ensures.settles.nothing none)
+
+pub returns-clause-moments : goal.returns-clause-moments
+returns-clause-moments g c = λ tell going none.
+    let same = (c.settle.ensures.settles.nothing none).1 in
+    let T : Engine g.row.P.Denot → Type 0 = λ e. e.stopped ≡ None → StaysAt e.directory e.core (g.P.Station.calls e.station) (g.P.Station.calls c.compact_settled.new.self.station) in
+    subst T same (c.compact_settled.ensures.moments tell) going
+
+pub returns-clause-written : goal.returns-clause-written
+returns-clause-written g c = λ tell none.
+    let same = (c.settle.ensures.settles.nothing none).1 in
+    let T : Engine g.row.P.Denot → Type 0 = λ e. OnOk c.compact_settled.result ((s : State) → Holds e.directory e.core s → IsRewritten e.directory s (g.P.Station.calls e.station) (g.P.Station.calls c.compact_settled.new.self.station) c.compact_settled.new.self.used) in
+    subst T same (c.compact_settled.ensures.written tell)
+
+pub returns-clause-full : goal.returns-clause-full
+returns-clause-full g c = λ s going none holds.
+    let same = (c.settle.ensures.settles.nothing none).1 in
+    let T : Engine g.row.P.Denot → Type 0 = λ e. (s : State) → e.stopped ≡ None → Holds e.directory e.core s → GivesRoom c.compact_settled.result e.directory s in
+    subst T same c.compact_settled.ensures.full s going holds
+
+pub returns-clause-unchanged : goal.returns-clause-unchanged
+returns-clause-unchanged g c = λ none.
+    let same = (c.settle.ensures.settles.nothing none).1 in
+    let T : Engine g.row.P.Denot → Type 0 = λ e. IsIdleFault c.compact_settled.result → c.compact_settled.new.self ≡ e in
+    subst T same c.compact_settled.ensures.unchanged
+
+pub returns-clause-kind : goal.returns-clause-kind
+returns-clause-kind g c = λ none. c.compact_settled.ensures.kind
+
+pub returns-clause-stops : goal.returns-clause-stops
+returns-clause-stops g c = c.compact_settled.ensures.stops ∙ ap (λ (by : Option Device). stopped_after by c.compact_settled.result) (c.settle.ensures.stops ∙ ap (stopped_after c.args.self.now.stopped) c.in_ok-settle.was)
