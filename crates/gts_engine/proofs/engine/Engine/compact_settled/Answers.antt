@@ -1,4 +1,4 @@
-use Rattle.std.proofs.Common.{rules, ◌≡◌, ◌+◌, ◌-◌, ◌^◌, None, Ok, Err, Result, length, subst, ap, ◌∙◌}
+use Rattle.std.proofs.Common.{rules, Bool, ◌≡◌, ◌+◌, ◌-◌, ◌^◌, None, Ok, Err, Result, length, subst, ap, ◌∙◌}
 use Rattle.std.specs.Prelude.{OnOk, IfErr, min}
 use Rattle.std.proofs.lemmas.Result.{IfOk-at_ok}
 use Rattle.gts_event.specs.State.{State}
@@ -10,22 +10,26 @@ use Rattle.gts_event.specs.declared.fault.SwitchFault.TheVariants.{DiskFault, Sa
 use Rattle.gts_opening.specs.Journal.{checkpoint_text}
 use Rattle.gts_opening.specs.Room.{full_compacted}
 use Rattle.gts_core.specs.Core.{Holds, Needs}
-use Rattle.gts_engine.specs.Engine.{Engine}
+use Rattle.gts_engine.specs.Engine.{Engine, engine_of}
+use Rattle.gts_engine.proofs.StepLemmas.{idle_going}
 use Rattle.gts_engine.specs.Compacting.{IsRewritten, StaysAt, GivesRoom, IsWriteFault}
 use Rattle.gts_engine.proofs.CompactLemmas.{stays_at}
 use Rattle.gts_engine.proofs.engine.Engine.compact_settled.Goals as goal
+
+abbrev gathered_of : {P : Type 0} → Engine P → Bool
+gathered_of e = e.gathered
 
 pub returns-in_err-need-clause-moments : goal.returns-in_err-need-clause-moments
 returns-in_err-need-clause-moments g c = λ tell.
     let p = c.self.inside.parts in
     let T : Engine g.row.P.Denot → Type 0 = λ e. e.stopped ≡ None → StaysAt e.directory e.core (g.P.Station.calls e.station) (g.P.Station.calls p.station) in
-    subst T c.self.view_is (λ going s holds. stays_at g.P.Station.tells p.directory (g.P.Station.calls p.station) p.core p.journal (c.self.invariant going) tell s holds)
+    subst T c.self.view_is (λ going s holds. stays_at g.P.Station.tells p.directory (g.P.Station.calls p.station) p.core p.journal (idle_going g.P.Station.tells g.P.Station.calls p c.self.invariant going (ap gathered_of c.self.view_is ∙ c.requires)) tell s holds)
 
 pub returns-in_err-check_room-clause-moments : goal.returns-in_err-check_room-clause-moments
 returns-in_err-check_room-clause-moments g c = λ tell.
     let p = c.self.inside.parts in
     let T : Engine g.row.P.Denot → Type 0 = λ e. e.stopped ≡ None → StaysAt e.directory e.core (g.P.Station.calls e.station) (g.P.Station.calls p.station) in
-    subst T c.self.view_is (λ going s holds. stays_at g.P.Station.tells p.directory (g.P.Station.calls p.station) p.core p.journal (c.self.invariant going) tell s holds)
+    subst T c.self.view_is (λ going s holds. stays_at g.P.Station.tells p.directory (g.P.Station.calls p.station) p.core p.journal (idle_going g.P.Station.tells g.P.Station.calls p c.self.invariant going (ap gathered_of c.self.view_is ∙ c.requires)) tell s holds)
 
 pub returns-clause-moments : goal.returns-clause-moments
 returns-clause-moments g c = λ tell.
@@ -36,7 +40,7 @@ pub returns-clause-written : goal.returns-clause-written
 returns-clause-written g c = λ tell.
     let last = c.rewrite.new.parts in
     let T : Engine g.row.P.Denot → Type 0 = λ e. OnOk c.rewrite.result ((s : State) → Holds e.directory e.core s
-    → IsRewritten e.directory s (g.P.Station.calls e.station) (g.P.Station.calls last.station) (last.journal.gate + 1)) in
+    → IsRewritten e.directory s (g.P.Station.calls e.station) (g.P.Station.calls last.station) (engine_of last).used) in
     subst T c.self.view_is (c.rewrite.ensures.written tell)
 
 -- there was room
