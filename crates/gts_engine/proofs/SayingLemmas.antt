@@ -1,24 +1,33 @@
 -- Pieces that are held, said one behind the other, over the parts of an engine.
-use Rattle.std.proofs.Common.{◌≡◌, ◌<◌, ◌≤◌, ◌+◌, ℕ, zero, suc, List, [], ◌∷◌, length, take, Option, Some, Result, Ok, Err, refl, sym, ap, subst, ◌∙◌, arith, take_all}
+use Rattle.std.proofs.Common.{◌≡◌, ◌<◌, ◌≤◌, ◌+◌, ℕ, zero, suc, List, [], ◌∷◌, ◌++◌, length, take, Option, Some, Result, Ok, Err, refl, sym, ap, subst, ◌∙◌, arith, take_all}
 use Rattle.std.specs.List.{slice_index_or}
-use Rattle.gts_traits.specs.Calls.{Call, Outside, SaidSince}
+use Rattle.gts_traits.specs.Calls.{Call, Outside, said_by, SaidSince}
 use Rattle.gts_traits.specs.Moments.{EachSince}
 use Rattle.gts_directory.specs.Directory.{Directory}
 use Rattle.gts_event.specs.State.{State}
 use Rattle.gts_event.specs.declared.fault.Device.{Device}
 use Rattle.gts_event.specs.declared.fault.SwitchFault.{SwitchFault}
+use Rattle.gts_event.specs.declared.fault.SwitchFault.TheVariants.{DiskFault}
 use Rattle.gts_journal.specs.{InHand, StandsFor}
+use Rattle.gts_journal.specs.Batch.{Gathered}
+use Rattle.gts_opening.specs.Journal.{after_records}
 use Rattle.gts_engine.specs.declared.held.Saying.{Saying}
 use Rattle.gts_engine.specs.declared.parts.Parts.{Parts}
 use Rattle.gts_engine.specs.Sayings.{Sayings, pieces_of, held_pieces, joined}
 use Rattle.gts_engine.specs.Going.{stopped_after}
 use Rattle.gts_engine.specs.Parts.{OnlySaid}
-use Rattle.gts_engine.specs.Gathering.{OpensAlong, SaysHeld, TriesPiece, FailsAt}
-use Rattle.gts_engine.proofs.PieceLemmas.{piece_stands, piece_moments, failed_part, piece_said, nothing_yet}
+use Rattle.gts_engine.specs.Gathering.{OnlyBrought, MayBring, HasBrought, BringsAndSays, StandsUnlessDisk, OpensAlong, SaysHeld, TriesPiece, FailsAt}
+use Rattle.gts_engine.proofs.PieceLemmas.{piece_stands, piece_moments, failed_part, piece_said, nothing_yet, brought_only, brought_then}
 use Rattle.gts_traits.proofs.LawLemmas.{SaidSince-refl}
 
-abbrev sayings_in : {P : Type 0} → Parts P → Sayings
+abbrev pub sayings_in : {P : Type 0} → Parts P → Sayings
 sayings_in p = p.held
+
+abbrev pub journal_in : {P : Type 0} → Parts P → InHand
+journal_in p = p.journal
+
+abbrev pub batch_in : {P : Type 0} → Parts P → Gathered
+batch_in p = p.batch
 
 -- one piece for each of them
 pub pieces_length : (each : List Saying) (bytes : List ℕ) → length (pieces_of each bytes) ≡ length each
@@ -111,3 +120,57 @@ module _ {P : Type 0} (tells : Type 0) (calls : P → List Call) (disk say : P �
 
     pub only_said : OnlySaid first new
     only_said = only
+
+-- ---- behind what was brought into the journal
+
+module _ {P : Type 0} (tells : Type 0) (calls : P → List Call) (old mid new : Parts P) (rest : OnlyBrought old mid) where
+  says_there : SaysHeld mid.directory (held_pieces mid.held) (calls mid.station) (calls new.station) mid.journal → SaysHeld old.directory (held_pieces old.held) (calls mid.station) (calls new.station) mid.journal
+  says_there says =
+      let H : Parts P → Type 0 = λ p. SaysHeld p.directory (held_pieces p.held) (calls mid.station) (calls new.station) mid.journal in
+      subst H rest says
+
+  pub only_brought : OnlySaid mid new → OnlyBrought old new
+  only_brought said =
+      let N : Parts P → Type 0 = λ p. new ≡ record p { station = new.station; stopped = new.stopped } in
+      let J : InHand → Gathered → Parts P = λ j b. record old { station = new.station; journal = j; batch = b; stopped = new.stopped } in
+      subst N rest said ∙ ap (λ (j : InHand). J j mid.batch) (sym (ap journal_in said)) ∙ ap (λ (b : Gathered). J new.journal b) (sym (ap batch_in said))
+
+  module _ (silent : tells → said_by (calls mid.station) ≡ said_by (calls old.station)) (moments : tells → MayBring old.directory (calls old.station) old.journal old.batch (calls mid.station)) where
+    -- the disk failed
+    pub brings_nothing : tells → BringsAndSays (Err DiskFault) (calls old.station) (calls mid.station) old mid.journal
+    brings_nothing tell s rs stands next = record {
+      moments = brought_only old.directory s (after_records old.directory s rs) (joined (held_pieces old.held)) (calls old.station) (calls mid.station) (moments tell s rs stands next);
+      stands = tt;
+    }
+
+    -- or all was brought, and then pieces were said
+    module _ (brought : tells → HasBrought old.directory (calls old.station) old.journal old.batch (calls mid.station) mid.journal) (said : OnlySaid mid new)
+        (says : tells → SaysHeld mid.directory (held_pieces mid.held) (calls mid.station) (calls new.station) mid.journal) where
+      pub brings_all : (r : Result (Unit {0}) SwitchFault) → ((d : Directory) (t : State) (cs : List Call) (j : InHand) → StandsFor d t cs j → StandsUnlessDisk d t r cs j) → tells
+          → BringsAndSays r (calls old.station) (calls new.station) old new.journal
+      brings_all r unless tell s rs stands next =
+          let t : State = after_records old.directory s rs in
+          let here = brought tell s rs stands next in
+          let h = says_there (says tell) in
+          let J : InHand → Type 0 = λ j. StandsFor old.directory t (calls new.station) j in
+          record {
+            moments = brought_then old.directory s t (joined (held_pieces old.held)) (calls old.station) (calls mid.station) (calls new.station) (moments tell s rs stands next) (silent tell) (h.moments t here);
+            stands = unless old.directory t (calls new.station) new.journal (subst J (sym (ap journal_in said)) (h.stands t here));
+          }
+
+      -- what was said
+      since_old : (outside : Outside) → tells → SaidSince (calls mid.station) (calls new.station) outside → SaidSince (calls old.station) (calls new.station) outside
+      since_old outside tell since = since ∙ ap (λ (l : Outside). l ++ outside) (silent tell)
+
+      pub said_behind : (tells → SaidSince (calls mid.station) (calls new.station) (joined (held_pieces mid.held))) → tells → SaidSince (calls old.station) (calls new.station) (joined (held_pieces old.held))
+      said_behind since tell =
+          let H : Parts P → Type 0 = λ p. SaidSince (calls old.station) (calls new.station) (joined (held_pieces p.held)) in
+          subst H rest (since_old (joined (held_pieces mid.held)) tell (since tell))
+
+      pub fails_behind : (i : ℕ) → FailsAt tells (held_pieces mid.held) i (calls mid.station) (calls new.station) → FailsAt tells (held_pieces old.held) i (calls old.station) (calls new.station)
+      fails_behind i failed =
+          let H : Parts P → Type 0 = λ p. FailsAt tells (held_pieces p.held) i (calls old.station) (calls new.station) in
+          subst H rest (record {
+            within = failed.within;
+            said = λ tell. let f = failed.said tell in (f.0, (f.1, since_old (joined (take i (held_pieces mid.held)) ++ f.0) tell f.2));
+          })
