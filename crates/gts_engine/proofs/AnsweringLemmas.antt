@@ -18,7 +18,7 @@ use Rattle.gts_engine.specs.declared.mode.SayMode.{SayMode}
 use Rattle.gts_engine.specs.declared.parts.Parts.{Parts}
 use Rattle.gts_engine.specs.Sayings.{held_pieces, joined}
 use Rattle.gts_engine.specs.Engine.{Engine, engine_of}
-use Rattle.gts_engine.specs.Keeping.{meanings_of}
+use Rattle.gts_engine.specs.Keeping.{most_drawn, meanings_of}
 use Rattle.gts_engine.specs.Origin.{by_station}
 use Rattle.gts_engine.specs.Going.{IsGathering, HasFewDraws, stopped_after}
 use Rattle.gts_engine.proofs.TurnLemmas.{goes_on}
@@ -26,7 +26,8 @@ use Rattle.gts_engine.specs.Parts.{IsSound, HasEntered}
 use Rattle.gts_engine.specs.Gathering.{HasTold, MayHaveSettled, AnswersIn, LeavesCall}
 use Rattle.gts_engine.proofs.AnswerLemmas.{EachHeld, answered, stopped_leaves}
 use Rattle.gts_engine.proofs.GatherLemmas.{fails_after}
-use Rattle.std.specs.Prelude.{IfErr, IfOk, OnOk}
+use Rattle.std.specs.Prelude.{IfErr, IfOk, OnOk, slice_index_or, ◌<◌}
+use Rattle.gts_engine.proofs.SettlingLemmas.{drawn_settled}
 use Rattle.gts_engine.proofs.StepLemmas.{part_directory, part_station, part_core, part_stopped, part_used, part_held, told_well, told_badly, told_sound, untold}
 
 -- the causes of two calls, one after another, of which the first was done
@@ -83,6 +84,14 @@ pub may_used : {P : Type 0} (tells : Type 0) (calls : P → List Call) (disk say
     → (engine_of mid).used ≡ (engine_of old).used
 may_used tells calls disk say result old mid (inl same) ok = ap part_used same.1
 may_used tells calls disk say result old mid (inr settled) ok = subst (λ (r : Result (Unit {0}) SwitchFault). OnOk r ((engine_of mid).used ≡ (engine_of old).used)) ok settled.used
+
+-- as many draws are counted where room could be made, or none
+pub draws_still : {P : Type 0} (tells : Type 0) (calls : P → List Call) (disk say : P → ℕ) (result : Result (Unit {0}) SwitchFault) (old mid : Parts P) (c : ℕ) → MayHaveSettled tells calls disk say result old mid
+    → slice_index_or old.drawn c 0 < most_drawn old.directory c → slice_index_or mid.drawn c 0 < most_drawn mid.directory c
+draws_still {P} tells calls disk say result old mid c (inl same) few = subst (λ (p : Parts P). slice_index_or p.drawn c 0 < most_drawn p.directory c) (sym same.1) few
+draws_still tells calls disk say result old mid c (inr settled) few =
+    let D : Directory → Type 0 = λ d. slice_index_or mid.drawn c 0 < most_drawn d c in
+    subst D (sym (ap part_directory settled.rest)) (omega (arith, few, drawn_settled tells calls disk say result old mid settled c))
 
 -- ---- answers with the same fault
 
@@ -246,6 +255,7 @@ module _ {P : Type 0} (tells : Type 0) (calls : P → List Call) (disk say : P �
                   goes = λ going_still. enters.sound.goes enters.entered.stopped;
                   few = enters.sound.few;
                   rests = λ none. absurd (cc (gathered, none));
+                  undrawn = λ none. absurd (cc (gathered, none));
                   idle = λ by is. absurd (goes_on mid.stopped by is enters.entered.stopped);
                 })
             sound_untold false none = let S : Parts P → Type 0 = λ x. IsSound tells calls x in subst S (sym (same none)) enters.sound

@@ -69,6 +69,7 @@ kept_sound tells calls old sound core keeps = record {
       };
   few = sound.few;
   rests = sound.rests;
+  undrawn = sound.undrawn;
   idle = sound.idle;
 }
 

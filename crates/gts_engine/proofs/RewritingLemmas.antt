@@ -25,6 +25,7 @@ use Rattle.gts_engine.specs.declared.parts.Parts.{Parts}
 use Rattle.gts_engine.specs.Sayings.{held_pieces, no_sayings}
 use Rattle.gts_engine.specs.Engine.{engine_of}
 use Rattle.gts_journal.specs.Batch.{Gathered, no_records}
+use Rattle.gts_engine.specs.Keeping.{none_drawn}
 use Rattle.gts_engine.specs.Going.{IsGoing, HasFewDraws, stopped_after}
 use Rattle.gts_engine.specs.Parts.{IsSound}
 use Rattle.gts_engine.specs.Compacting.{IsCompaction, IsRewritten, IsBehind, StaysAt, IsWriteFault}
@@ -64,6 +65,9 @@ module _ {P : Type 0} (tells : Type 0) (calls : P → List Call) (p : Parts P) (
     unheld_put : q.held ≡ no_sayings
     unheld_put = ap (λ (x : Parts P). x.held) rest ∙ sound_p.rests none
 
+    undrawn_put : q.drawn ≡ none_drawn
+    undrawn_put = ap (λ (x : Parts P). x.drawn) rest ∙ sound_p.undrawn none
+
     quiet_put : (engine_of q).held ≡ []
     quiet_put = ap held_pieces unheld_put
 
@@ -79,6 +83,7 @@ module _ {P : Type 0} (tells : Type 0) (calls : P → List Call) (p : Parts P) (
       goes = λ none. absurd (goes_on q.stopped Disk stops none);
       few = subst (λ (d : Directory). HasFewDraws d q.drawn) (sym directory_put) few_put;
       rests = λ none. unheld_put;
+      undrawn = λ none. undrawn_put;
       idle = λ by is. none_put;
     }
     sound_put NoMemory may stops same = subst (λ (x : Parts P). IsSound tells calls x) (sym (same refl)) sound_p
@@ -136,6 +141,9 @@ module _ {P : Type 0} (tells : Type 0) (calls : P → List Call) (p : Parts P) (
         unheld_all : r.held ≡ no_sayings
         unheld_all = ap (λ (x : Parts P). x.held) behind ∙ unheld_put
 
+        undrawn_all : r.drawn ≡ none_drawn
+        undrawn_all = ap (λ (x : Parts P). x.drawn) behind ∙ undrawn_put
+
         quiet_all : (engine_of r).held ≡ []
         quiet_all = ap held_pieces unheld_all
 
@@ -173,6 +181,7 @@ module _ {P : Type 0} (tells : Type 0) (calls : P → List Call) (p : Parts P) (
                 goes = λ same. gathering_of tells r.directory (calls r.station) r.core r.journal r.batch goes batch;
                 few = few_all;
                 rests = λ none. unheld_all;
+                undrawn = λ none. undrawn_all;
                 idle = λ by is. none_all;
               }
 
@@ -219,6 +228,7 @@ module _ {P : Type 0} (tells : Type 0) (calls : P → List Call) (p : Parts P) (
               goes = λ same. absurd (goes_on r.stopped Disk stopped same);
               few = few_all;
               rests = λ none. unheld_all;
+              undrawn = λ none. undrawn_all;
               idle = λ by is. none_left batch;
             }
 

@@ -1,7 +1,7 @@
 -- Settling, over the parts of an engine.
 use Rattle.std.proofs.Common.{◌≡◌, ◌<◌, ◌≤◌, ◌+◌, ◌-◌, ◌*◌, true, false, nat_lt, ℕ, zero, suc, Bool, List, [], ◌∷◌, ◌++◌, length, Option, Some, None, Result, Ok, Err, OnOk, IfErr, refl, sym, ap, subst, ◌∙◌, arith}
 use Rattle.std.specs.Prelude.{replicate, ◌==◌}
-use Rattle.std.proofs.lemmas.Bool.{eqb-true, eqb-false, lt-ltb}
+use Rattle.std.proofs.lemmas.Bool.{eqb-true, eqb-false, ltb-false, lt-ltb}
 use Rattle.std.specs.List.{slice_index_or}
 use Rattle.gts_alphabet.specs.declared.limits.TheConstants.{MOST_CIRCUITS}
 use Rattle.std.proofs.lemmas.List.{append-nil}
@@ -24,7 +24,9 @@ use Rattle.gts_opening.specs.Journal.{after_records}
 use Rattle.gts_calls.specs.Calls.{Standing, settled, AfterSettling, IsSettling, HasCallCause}
 use Rattle.gts_engine.specs.declared.mode.SayMode.{SayMode}
 use Rattle.gts_engine.specs.declared.parts.Parts.{Parts}
-use Rattle.gts_engine.specs.Sayings.{held_pieces, no_sayings}
+use Rattle.gts_engine.specs.Sayings.{Sayings, HasRoom, held_pieces, no_sayings}
+use Rattle.gts_journal.specs.declared.batch.TheConstants.{MOST_GATHERED}
+use Rattle.gts_alphabet.specs.declared.limits.TheConstants.{LONGEST_FRAME}
 use Rattle.gts_engine.specs.Engine.{Engine, engine_of, shown}
 use Rattle.gts_engine.specs.Origin.{Origin}
 use Rattle.gts_engine.specs.Keeping.{Gathers, Keeps, none_drawn, meanings_of}
@@ -90,6 +92,7 @@ module _ {P : Type 0} (tells : Type 0) (calls : P → List Call) where
     used = refl;
     emptied = none;
     silent = sound.rests none;
+    undrawn = sound.undrawn none;
     nothing = λ still. (refl, refl);
     cause = cause;
   }
@@ -169,6 +172,7 @@ module _ {P : Type 0} (tells : Type 0) (calls : P → List Call) (disk say : P �
           subst D (sym directory) (subst K (sym core) (goes_by result stops kind place (λ tell. brings_at old.directory refl g tell) none));
       few = subst (λ (d : Directory). HasFewDraws d none_drawn) (sym directory) few;
       rests = λ none. refl;
+      undrawn = λ none. refl;
       idle = λ by is. refl;
     };
     stops = stops;
@@ -176,6 +180,7 @@ module _ {P : Type 0} (tells : Type 0) (calls : P → List Call) (disk say : P �
     used = used_by result place;
     emptied = refl;
     silent = refl;
+    undrawn = refl;
     nothing = λ none. absurd (cc (none, some));
     cause = cause;
   }
@@ -184,7 +189,7 @@ module _ {P : Type 0} (tells : Type 0) (calls : P → List Call) (disk say : P �
       only is = ap (λ (p : Parts P). record p { batch = no_records mid.journal; held = no_sayings; drawn = none_drawn }) is
 
 -- no circuit has a draw that is gathered
-none_at : (n c : ℕ) → slice_index_or (replicate n 0) c 0 ≡ 0
+pub none_at : (n c : ℕ) → slice_index_or (replicate n 0) c 0 ≡ 0
 none_at zero c = refl
 none_at (suc n) zero = refl
 none_at (suc n) (suc c) = none_at n c
@@ -199,3 +204,19 @@ none_told n told e yes = let one : n ≡ 1 = eqb-true n 1 (sym e ∙ yes) in ap 
 
 pub some_told : (n : ℕ) (told : Bool) → told ≡ (n == 1) → 0 < n → told ≡ false → nat_lt 1 n ≡ true
 some_told n told e closed no = let other = eqb-false n 1 (sym e ∙ no) in lt-ltb 1 n (omega (arith, closed, other))
+
+-- ---- room behind what was settled
+
+pub whenever : {T E : Type 0} {A : Type 0} (r : Result T E) → A → OnOk r A
+whenever (Ok x) a = a
+whenever (Err e) a = tt
+
+module _ {P : Type 0} (tells : Type 0) (calls : P → List Call) (disk say : P → ℕ) (result : Result (Unit {0}) SwitchFault) (old new : Parts P) (s : HasSettled tells calls disk say result old new) where
+  pub room_settled : (bytes : ℕ) → bytes < MOST_GATHERED → length new.batch.text + bytes ≤ MOST_GATHERED
+  room_settled bytes few = omega (arith, few, ltb-false 1 (length new.batch.text) s.emptied)
+
+  pub held_settled : (n : ℕ) → n ≤ LONGEST_FRAME → HasRoom new.held n
+  held_settled n short = subst (λ (h : Sayings). HasRoom h n) (sym s.silent) (omega arith, omega (arith, short))
+
+  pub drawn_settled : (c : ℕ) → slice_index_or new.drawn c 0 ≡ 0
+  drawn_settled c = ap (λ (l : List ℕ). slice_index_or l c 0) s.undrawn ∙ none_at MOST_CIRCUITS c

@@ -26,7 +26,7 @@ use Rattle.gts_engine.specs.declared.parts.Parts.{Parts}
 use Rattle.gts_engine.specs.Sayings.{held_pieces, joined, no_sayings}
 use Rattle.gts_engine.specs.Engine.{Engine, Shown, engine_of, shown}
 use Rattle.gts_engine.specs.Origin.{Origin}
-use Rattle.gts_engine.specs.Keeping.{Gathers, meanings_of}
+use Rattle.gts_engine.specs.Keeping.{Gathers, meanings_of, none_drawn}
 use Rattle.gts_engine.specs.Going.{stopped_after}
 use Rattle.gts_engine.specs.Parts.{IsSound, shows, OnlySaid}
 
@@ -143,6 +143,7 @@ pub record HasSettled {P : Type 0} (tells : Type 0) (calls : P → List Call) (d
   pub used : OnOk result ((engine_of new).used ≡ (engine_of old).used)
   pub emptied : (engine_of new).gathered ≡ false
   pub silent : new.held ≡ no_sayings
+  pub undrawn : new.drawn ≡ none_drawn
   pub nothing : (engine_of old).gathered ≡ false → (result ≡ Ok tt) × (new ≡ old)
   pub cause : HasCallCause result (disk old.station) (disk new.station) (say old.station) (say new.station)
 

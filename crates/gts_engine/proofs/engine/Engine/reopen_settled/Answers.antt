@@ -63,6 +63,7 @@ invariant_of-self-2 g c =
           (opened_on g.P.Station.tells p.directory (g.P.Station.calls c.open_core.new.station) c.in_ok-core.core c.restart.new.self c.in_ok-core.journal c.in_ok-core.ensures.opened c.restart.ensures) refl;
       few = few_none p.directory;
       rests = λ none. refl;
+      undrawn = λ none. refl;
       idle = λ by is. refl;
     })
 
@@ -91,6 +92,7 @@ invariant_of-self-in_err-core g c =
       goes = λ same. tried_on g.P.Station.tells p.directory (g.P.Station.calls p.station) (g.P.Station.calls c.open_core.new.station) p.core p.journal p.batch c.open_core.ensures.told (c.self.invariant.goes c.in_default.is);
       few = c.self.invariant.few;
       rests = c.self.invariant.rests;
+      undrawn = c.self.invariant.undrawn;
       idle = c.self.invariant.idle;
     }
 
