@@ -112,8 +112,9 @@ class State:
         self.waiting = [[] for _ in directory.names]
 
     def recent(self):
-        """The last bulletins that were accepted, as many as the window has."""
-        return [self.bulletins[position] for position in range(max(0, self.accepted - self.directory.window), self.accepted)]
+        """Those of the last bulletins that were accepted, as many as the window has, that are known."""
+        places = range(max(0, self.accepted - self.directory.window), self.accepted)
+        return [self.bulletins[position] for position in places if position in self.bulletins]
 
     def draws(self, circuit):
         return self.before[circuit] + len(self.drawn[circuit])
@@ -154,7 +155,7 @@ class State:
 
     def drained(self, circuit):
         """What comes on a circuit behind an opening: its last draw once more, and all that waits."""
-        first = max(0, self.draws(circuit) - 1)
+        first = self.draws(circuit) - min(1, len(self.drawn[circuit]))
         while self.waiting[circuit]:
             self.draw(circuit)
         return b''.join(self.frame(circuit, index) for index in range(first, self.draws(circuit)))
@@ -290,11 +291,10 @@ def read_circuit(state, circuit, cursor):
     """Takes what a checkpoint says of a circuit into the state."""
     draws, waiting, kept = cursor.number(8), cursor.number(4), cursor.number(4)
     waits, keeps = ([cursor.number(8) for _ in range(count)] for count in (waiting, kept))
-    is_named = all(position in state.bulletins and circuit in state.directory.named(
-        state.bulletins[position].circuit, state.bulletins[position].heading.decode()) for position in waits + keeps)
-    if not is_named or not ascends(waits) or len(set(waits + keeps)) < waiting + kept:
+    is_there = all(position in state.bulletins for position in waits + keeps)
+    if not is_there or not ascends(waits) or len(set(waits + keeps)) < waiting + kept:
         raise Bad
-    if draws + waiting > state.accepted or kept != min(draws, state.directory.kept):
+    if draws + waiting > state.accepted or kept > min(draws, state.directory.kept):
         raise Bad
     state.before[circuit], state.drawn[circuit], state.waiting[circuit] = draws - kept, keeps, waits
 
@@ -312,7 +312,7 @@ def state_of_checkpoint(directory, record):
         read_circuit(state, circuit, cursor)
     recent = set(range(max(0, state.accepted - directory.window), state.accepted))
     listed = {position for lists in (state.waiting, state.drawn) for positions in lists for position in positions}
-    if set(state.bulletins) != recent | listed:
+    if not set(state.bulletins) <= recent | listed:
         raise Bad
     if HEADER + 2 + len(record) + SEAL + DRAW_BYTES * state.due() > directory.limit:
         raise Bad

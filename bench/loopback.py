@@ -52,6 +52,13 @@ def free_ports(count):
     return ports
 
 
+def listening():
+    """The ports on which somebody listens now."""
+    with open('/proc/net/tcp') as file:
+        rows = [line.split() for line in list(file)[1:]]
+    return {int(row[1].partition(':')[2], 16) for row in rows if row[3] == '0A'}
+
+
 def directory(names, receivers, ports):
     """The directory of circuits with these names, each with two ports; every heading goes to the receivers."""
     rows = ['centre = "TVSV"']
@@ -262,15 +269,20 @@ class Switch:
         done = subprocess.run([self.program, word], cwd=self.folder, capture_output=True, timeout=seconds)
         return done.returncode, done.stdout, done.stderr.decode().partition('\n')[0]
 
-    def serve(self, connections=None, before=None):
-        """Serves one incoming connection of each circuit, or so many, with this done before it."""
+    def serve(self, connections=None, before=None, out=None):
+        """Serves one incoming connection of each circuit, or so many, with this done before it. Receipts go to `out`, if given."""
         words = ['serve'] if connections is None else ['serve', str(connections)]
-        with open(self.path('receipts'), 'wb') as out, open(self.path('faults'), 'wb') as err:
-            self.process = subprocess.Popen([self.program, *words], cwd=self.folder, stdout=out, stderr=err, preexec_fn=before)
+        with open(self.path('receipts'), 'wb') as receipts, open(self.path('faults'), 'wb') as err:
+            self.process = subprocess.Popen([self.program, *words], cwd=self.folder, stdout=out or receipts, stderr=err,
+                                            preexec_fn=before)
 
     def descriptors(self):
         """How many descriptors the process has open now."""
         return len(os.listdir(f'/proc/{self.process.pid}/fd'))
+
+    def highest_descriptor(self):
+        """The highest descriptor that the process has open now."""
+        return max(map(int, os.listdir(f'/proc/{self.process.pid}/fd')))
 
     def memory(self):
         """How many kibibytes of memory the process has in use now."""
@@ -279,6 +291,11 @@ class Switch:
 
     def receipts(self):
         with open(self.path('receipts'), 'rb') as file:
+            return file.read().decode().splitlines()
+
+    def faults(self):
+        """The lines that it wrote on standard error."""
+        with open(self.path('faults'), 'rb') as file:
             return file.read().decode().splitlines()
 
     def end(self, seconds):

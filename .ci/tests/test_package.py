@@ -216,7 +216,7 @@ def git(folder, *words):
 @pytest.mark.skipif(not os.path.isdir(os.path.join(TOP, '.git')), reason='a release is made of a commit')
 def test_a_release_is_of_a_clean_commit_over_which_the_gate_has_passed(program, broken, tmp_path):
     clone, log, to = (str(tmp_path / name) for name in ('clone', 'log', 'to'))
-    git(TOP, 'clone', '-q', TOP, clone)
+    git(TOP, '-c', 'advice.detachedHead=false', 'clone', '-q', TOP, clone)
     os.makedirs(os.path.join(clone, 'crates/gts_switch/out'))
     shutil.copy(program, os.path.join(clone, 'crates/gts_switch/out/gts_switch'))
     commit, version = git(clone, 'rev-parse', 'HEAD'), run([os.path.join(clone, 'packaging/version')])[1].strip()

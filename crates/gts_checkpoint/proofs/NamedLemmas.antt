@@ -21,24 +21,6 @@ all-not f xs i x l is e = list_all_at f xs i x l (sym (ap f is) ∙ e)
 pub all-end : {X : Type 0} (f : X → Bool) (xs : List X) (i : ℕ) → length xs ≤ i → list_all f (take i xs) ≡ true → list_all f xs ≡ true
 all-end f xs i l h = sym (ap (list_all f) (take_all i xs l)) ∙ h
 
-pub range-all : (f : ℕ → Bool) (a n : ℕ) → ((p : ℕ) → a ≤ p → p < a + n → f p ≡ true) → list_all f (range_with_len a n) ≡ true
-range-all f a zero h = refl
-range-all f a (suc n) h =
-    and_from (f a) (list_all f (range_with_len (a + 1) n)) (h a (omega arith) (omega arith)) (range-all f (a + 1) n (λ p l m. h p (omega arith) (omega arith)))
-
-pub range-not : (f : ℕ → Bool) (a n p : ℕ) → a ≤ p → p < a + n → f p ≡ false → list_all f (range_with_len a n) ≡ false
-range-not f a n p l m e =
-    let is : get_or (range_with_len a n) (p - a) 0 ≡ p = get_or-range_with_len a n (p - a) 0 (omega arith) ∙ (omega arith) in
-    list_all_at f (range_with_len a n) (p - a) 0 (omega (arith, length-range_with_len a n)) (ap f is ∙ e)
-
--- from one place up to another, and one more
-pub all-below-more : (f : ℕ → Bool) (a n : ℕ) → ((p : ℕ) → a ≤ p → p < n → f p ≡ true) → f n ≡ true → (p : ℕ) → a ≤ p → p < n + 1 → f p ≡ true
-all-below-more f a n h e p l m = go (cases_lt p n)
-  where
-    go : (p < n) ⊎ (n ≤ p) → f p ≡ true
-    go (inl t) = h p l t
-    go (inr t) = let same : p ≡ n = omega arith in rw same e
-
 -- ---- what is found at a place
 
 pub get-bounds : (xs : List ℕ) (i n : ℕ) → slice_get xs i ≡ Some n → (i < length xs) × (get_or xs i 0 ≡ n)

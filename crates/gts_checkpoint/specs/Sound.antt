@@ -7,7 +7,7 @@ pub use Rattle.gts_message.specs.Message.{body_at}
 pub use Rattle.gts_event.specs.State.{has, heading_of}
 pub use Rattle.gts_event.specs.History.{is_request, most_owed}
 use Rattle.gts_event.specs.Need.{Need, CircuitNeed, is_distinct, positions_of}
-pub use Rattle.gts_event.specs.Need.{ascends, recent_positions, is_bulletin, is_there, is_needed, is_kept, has_counts, is_circuit_sound, is_sound}
+pub use Rattle.gts_event.specs.Need.{ascends, is_bulletin, is_there, is_needed, is_kept, has_counts, is_circuit_sound, is_sound}
 pub use Rattle.gts_event.specs.Items.{bulletin_of, circuit_need_of, need_of}
 use Rattle.gts_event.specs.declared.values.Bulletin as values
 

@@ -3,7 +3,7 @@
 ghost use Rattle.std.specs.Prelude.{◌≡◌, ◌&&◌, map, not, is_ok, true};
 ghost use Rattle.std.specs.List.{list_all};
 ghost use Rattle.gts_checkpoint.specs.Sound as definitions;
-ghost use Rattle.gts_checkpoint.specs.Sound.{positions, body_at, has, heading_of, ascends, recent_positions, bulletin_of};
+ghost use Rattle.gts_checkpoint.specs.Sound.{positions, body_at, heading_of, ascends, bulletin_of};
 
 use crate::ascending::place_of;
 use gts_alphabet::LONGEST_BODY;
@@ -42,21 +42,6 @@ pub(crate) fn are_bulletins(directory: &Directory, accepted: u64, bulletins: &[B
     bulletins
         .iter()
         .all(|bulletin| is_bulletin(directory, accepted, bulletin))
-}
-
-/// Whether the bulletins of the last positions are there.
-pub(crate) fn has_recent(directory: &Directory, accepted: u64, bulletins: &[Bulletin]) -> bool
-    requires { ascends (positions bulletins.now) ≡ true }
-    ensures { result ≡ list_all (has (positions bulletins.now))
-        (recent_positions directory.now accepted) }
-{
-    let first = accepted.saturating_sub(u64::from(directory.window()));
-    for position in first..accepted {
-        if place_of(bulletins, position).is_none() {
-            return false;
-        }
-    }
-    true
 }
 
 /// Whether the bulletin of a position is there.

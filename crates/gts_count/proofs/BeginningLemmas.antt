@@ -20,7 +20,7 @@ use Rattle.gts_count.specs.Rows.{has_row}
 use Rattle.gts_count.specs.Numbers.{tally_of, no_ring, ring_at}
 use Rattle.gts_count.specs.Counting.{Follows}
 use Rattle.gts_count.specs.Start.{Begins, HaveRows, NotesAll, NotesDraws, HasKeys, at_position, AreBodies, HasEachRow, key_by, Starts}
-use Rattle.gts_count.proofs.StepLemmas.{window_whole}
+use Rattle.gts_count.proofs.StepLemmas.{held_window, starts_window}
 use Rattle.gts_count.proofs.StateLemmas.{tally_is}
 use Rattle.gts_count.proofs.FollowLemmas.{bulletin_there}
 
@@ -113,16 +113,10 @@ module _ (d : Directory) (n : Need) (sound : is_sound d n ≡ true) where
             ∙ ap (λ (xs : List (List ℕ)). key_at n.bulletins p ∷ xs) (go ps (λ i e within. there (suc i) e (omega (arith, within))))
 
     module _ (none mid new : Numbers) (begins : Begins d none) (all : NotesAll d n.accepted n.bulletins none mid) (draws : NotesDraws keys n.circuits mid new) where
-      recent_few : length (recent_in d n.accepted n.bulletins) ≤ d.window
-      recent_few =
-          let window : List Bulletin = filter (λ b. is_recent d n.accepted b.position) n.bulletins in
-          let whole : positions_of window ≡ range_with_len (n.accepted - d.window) (min d.window n.accepted) = window_whole d (begun n) (held-begun d n sound) in
-          omega (arith, length-map window recent_of, length-map window (λ (b : Bulletin). b.position), ap length whole, length-range_with_len (n.accepted - d.window) (min d.window n.accepted))
-
       recent_now : new.recent.items ≡ recent_in d n.accepted n.bulletins
       recent_now =
-          let none_left : length (recent_in d n.accepted n.bulletins) - d.window ≡ 0 = omega (arith, recent_few) in
-          ap (λ b. b.items) draws.recent ∙ all.recent ∙ ap (λ (j : ℕ). drop j (recent_in d n.accepted n.bulletins)) none_left
+          ap (λ b. b.items) draws.recent ∙ all.recent
+          ∙ starts_window d.window n.accepted [] (recent_in d n.accepted n.bulletins) (held_window d (begun n) (held-begun d n sound))
 
       count : length new.drawn.items ≡ length n.circuits
       count =

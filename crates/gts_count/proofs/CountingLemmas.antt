@@ -26,12 +26,12 @@ use Rattle.gts_event.specs.declared.fault.SwitchFault.TheVariants.{DiskFault, Sa
 use Rattle.gts_event.proofs.LawLemmas.{outcome-same}
 use Rattle.gts_opening.specs.Room.{HasUnsaid, IsAccepted}
 use Rattle.circular_buffer.specs.Buffer.{Buffer}
-use Rattle.gts_count.specs.declared.recent.Recent.{Recent}
+use Rattle.gts_count.specs.declared.recent.Arrival.{Arrival}
 use Rattle.gts_count.specs.declared.numbers.Numbers.{Numbers}
 use Rattle.gts_count.specs.declared.counting.Counting.{Counting}
 use Rattle.gts_count.specs.Tally.{key_of}
 use Rattle.gts_count.specs.Rows.{has_row}
-use Rattle.gts_count.specs.Going.{heard_of}
+use Rattle.gts_count.specs.Going.{heard_of, arrived}
 use Rattle.gts_count.specs.Counting.{Follows, Knows, Counts, CountsIf, CanNote, IsReady, IsTold, GoesOn, Prepares, KeepsRest, Notes, AfterAccepted, AfterHeard, outdated}
 use Rattle.gts_count.proofs.SoundLemmas.{single}
 use Rattle.gts_count.proofs.KeyLemmas.{key_message}
@@ -141,15 +141,15 @@ pub idle_after : (d : Directory) (s : State) (h xs : List Entry) (old new : Coun
 idle_after d s h xs old new is counts = same_after d s (h ++ xs) old new is (counts_more d s h xs old counts)
 
 module _ (d : Directory) (s : State) (h : List Entry) where
-  accepted_after : (old new : Counting) (c : ℕ) (kind : Kind) (m : List ℕ) (ready : Option Recent) (p n : ℕ) → c < length d.circuits → outcome d s (Heard c kind m) ≡ Accepted p n → (old.current ≡ true → IsReady c m ready d s) → CanNote old ready
-      → AfterAccepted ready old new → Counts d s h old → Counts d (after d s (Heard c kind m)) (h ++ Done (Heard c kind m) ∷ []) new
+  accepted_after : (old new : Counting) (c : ℕ) (kind : Kind) (m : List ℕ) (ready : Option Arrival) (p n : ℕ) → c < length d.circuits → outcome d s (Heard c kind m) ≡ Accepted p n → (old.current ≡ true → IsReady c m ready d s) → CanNote old ready
+      → AfterAccepted ready p old new → Counts d s h old → Counts d (after d s (Heard c kind m)) (h ++ Done (Heard c kind m) ∷ []) new
   accepted_after old new c kind m (Some b) p n here is readies note noted counts =
       carried d s (after d s (Heard c kind m)) h (Done (Heard c kind m) ∷ []) old new noted.0
       (λ current f.
       let same : b ≡ heard_of c m = let e = readies current kind p n is in cc in
       follows_accepted d s old.numbers new.numbers c kind m p n here f is
-      (subst (λ (r : Recent). Notes old.numbers new.numbers r) same noted.1)
-      (sym (ap (λ (r : Recent). has_row old.numbers.rows r.key) same) ∙ note.0))
+      (subst (λ (r : Arrival). Notes old.numbers new.numbers (arrived p r)) same noted.1)
+      (sym (ap (λ (r : Arrival). has_row old.numbers.rows r.key) same) ∙ note.0))
       counts
   accepted_after old new c kind m None p n here is readies note noted counts =
       subst (λ (x : Counting). Counts d (after d s (Heard c kind m)) (h ++ Done (Heard c kind m) ∷ []) x) (sym noted)
@@ -164,7 +164,7 @@ module _ (d : Directory) (s : State) (h : List Entry) where
       (carried d s (after d s (Heard c kind m)) h (Done (Heard c kind m) ∷ []) old old (all_rest old)
       (λ current f. follows_heard d s old.numbers c kind m here f (λ p n e. none p n (is ∙ e))) counts)
 
-  pub counts_heard : (old new : Counting) (c : ℕ) (kind : Kind) (m : List ℕ) (ready : Option Recent) (result : Result Outcome SwitchFault) → c < length d.circuits → (old.current ≡ true → IsReady c m ready d s) → CanNote old ready
+  pub counts_heard : (old new : Counting) (c : ℕ) (kind : Kind) (m : List ℕ) (ready : Option Arrival) (result : Result Outcome SwitchFault) → c < length d.circuits → (old.current ≡ true → IsReady c m ready d s) → CanNote old ready
       → IsTold result d s (Heard c kind m) → AfterHeard ready result old new → Counts d s h old → GoesOn d s h (Heard c kind m) result new
   counts_heard old new c kind m ready (Ok (Accepted p n)) here readies note told noted counts = accepted_after old new c kind m ready p n here (sym (told (Accepted p n) refl)) readies note noted counts
   counts_heard old new c kind m ready (Ok (Duplicate p)) here readies note told noted counts = unaccepted_after old new c kind m (Duplicate p) here (told (Duplicate p) refl) (λ q k e. cc e) noted counts

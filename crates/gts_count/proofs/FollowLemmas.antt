@@ -1,5 +1,5 @@
 -- The running numbers follow a history, entry by entry.
-use Rattle.std.proofs.Common.{◌≡◌, ℕ, suc, ◌<◌, ◌≤◌, Bool, true, false, ◌&&◌, ◌||◌, ◌==◌, cond, ◌⊎◌, inl, inr, List, [], ◌∷◌, ◌++◌, length, get_or, set, drop, map, filter, Option, Some, refl, sym, ap, subst, ◌∙◌, arith}
+use Rattle.std.proofs.Common.{◌≡◌, ℕ, suc, ◌+◌, ◌<◌, ◌≤◌, Bool, true, false, ◌&&◌, ◌||◌, ◌==◌, cond, ◌⊎◌, inl, inr, List, [], ◌∷◌, ◌++◌, length, get_or, set, drop, map, filter, Option, Some, refl, sym, ap, subst, ◌∙◌, arith}
 use Rattle.std.specs.Prelude.{IsTrue}
 use Rattle.std.specs.List.{All, list_all, find}
 use Rattle.std.proofs.lemmas.Bool.{true≢false, lt-ltb}
@@ -18,18 +18,18 @@ use Rattle.gts_event.specs.declared.event.Event.TheVariants.{Heard, Taken}
 use Rattle.gts_event.specs.declared.event.Entry.TheVariants.{Done, Restarted}
 use Rattle.gts_event.specs.declared.outcome.Outcome.{Outcome}
 use Rattle.gts_event.specs.declared.outcome.Outcome.TheVariants.{Accepted, Duplicate, Asked, Refused, LineLost, Resend, Draw, Nothing}
-use Rattle.gts_event.proofs.LawLemmas.{after-same, outcome-same, restarted-same, held-all, list_all-has, draw_position, next_waits, waiting_routed}
+use Rattle.gts_event.proofs.LawLemmas.{after-same, outcome-same, restarted-same, held-all, list_all-has, draw_position, next_waits, waiting_routed, accepted_position}
 use Rattle.gts_count.specs.declared.recent.Recent.{Recent}
 use Rattle.gts_count.specs.declared.numbers.Numbers.{Numbers}
-use Rattle.gts_count.specs.Tally.{Tally, tally, recent_of, key_of, key_at}
+use Rattle.gts_count.specs.Tally.{Tally, tally, recent_of, recent_in, arrived, key_of, key_at}
 use Rattle.gts_count.specs.Rows.{has_row}
-use Rattle.gts_count.specs.Numbers.{tally_of, no_ring, ring_at, kept_with}
-use Rattle.gts_count.specs.Going.{heard_of}
+use Rattle.gts_count.specs.Numbers.{joined, tally_of, no_ring, ring_at, kept_with}
+use Rattle.gts_count.specs.Going.{heard_of, last_counted}
 use Rattle.gts_count.specs.State.{takens_of, drawn_of, tally_at}
 use Rattle.gts_count.specs.Counting.{Follows, Notes, NotesDraw, Prepares}
-use Rattle.gts_count.proofs.WindowLemmas.{joins_window}
+use Rattle.gts_count.proofs.WindowLemmas.{counts_window, joins_window}
 use Rattle.gts_count.proofs.StateLemmas.{tally-need, tally_is, takens-routed, takens-same, takens-restarted, drawn-accepted, drawn-drew}
-use Rattle.gts_count.proofs.StepLemmas.{window_whole}
+use Rattle.gts_count.proofs.StepLemmas.{held_window, joined_last}
 use Rattle.gts_count.proofs.SoundLemmas.{single}
 
 -- what is counted of a state depends on these alone
@@ -129,7 +129,7 @@ follows_prepared d s old new f p = record {
 }
 
 pub follows_accepted : (d : Directory) (s : State) (old new : Numbers) (c : ℕ) (kind : Kind) (m : List ℕ) (p n : ℕ) → c < length d.circuits → Follows d s old → outcome d s (Heard c kind m) ≡ Accepted p n
-    → Notes old new (heard_of c m) → IsTrue (has_row old.rows (key_of (body_of m))) → Follows d (after d s (Heard c kind m)) new
+    → Notes old new (arrived p (heard_of c m)) → IsTrue (has_row old.rows (key_of (body_of m))) → Follows d (after d s (Heard c kind m)) new
 follows_accepted d s old new c kind m p n here f is noted has = record {
   sound = noted.sound;
   numbers = now ∙ sym (ap (tally d) same.same);
@@ -171,9 +171,11 @@ follows_accepted d s old new c kind m p n here f is noted has = record {
     recent : new.recent.items ≡ (tally d (need d (after d t event))).recent
     recent =
         noted.recent
-        ∙ ap (λ (k : ℕ). keep_last k (old.recent.items ++ heard_of c m ∷ [])) f.window
-        ∙ ap (λ (rs : List Recent). keep_last d.window (rs ++ heard_of c m ∷ [])) (ap (λ (x : Tally). x.recent) at)
-        ∙ sym (joins_window d t c kind m p n wide (window_whole d t f.held) now_is)
+        ∙ ap (λ (k : ℕ). joined k old.recent.items (arrived p (heard_of c m))) f.window
+        ∙ ap (λ (rs : List Recent). joined d.window rs (arrived p (heard_of c m))) (ap (λ (x : Tally). x.recent) at ∙ counts_window d t)
+        ∙ joined_last d.window t.count (recent_in d t.count t.accepted) (arrived p (heard_of c m)) wide (held_window d t f.held) (accepted_position d t c kind m p n now_is)
+        ∙ ap (λ (rs : List Recent). last_counted d (t.count + 1) (rs ++ arrived p (heard_of c m) ∷ [])) (sym (counts_window d t))
+        ∙ sym (joins_window d t c kind m p n now_is)
 
     drawn : map (λ q. q.items) new.drawn.items ≡ (tally d (need d (after d t event))).drawn
     drawn =

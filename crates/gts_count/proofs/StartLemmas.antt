@@ -9,7 +9,7 @@ use Rattle.std.proofs.lemmas.List.{append-nil, length-map, length-replicate, map
 use Rattle.std.proofs.lemmas.List.Sums.{sum_by-cons}
 use Rattle.std.proofs.lemmas.List.Elements.{All-append}
 use Rattle.std.proofs.lemmas.Option.{get_or_from_slice_get, slice_get_within}
-use Rattle.circular_buffer.specs.Buffer.{Buffer, buffer, keep_last}
+use Rattle.circular_buffer.specs.Buffer.{Buffer, buffer}
 use Rattle.gts_directory.specs.declared.limits.TheConstants.{MOST_KEPT, MOST_KEPT_OF_FIVE}
 use Rattle.gts_directory.specs.Directory.{Directory, Circuit}
 use Rattle.gts_event.specs.State.{Bulletin, is_recent}
@@ -20,7 +20,7 @@ use Rattle.gts_count.specs.declared.rows.Row.{Row}
 use Rattle.gts_count.specs.declared.numbers.Numbers.{Numbers}
 use Rattle.gts_count.specs.Tally.{came, draws_among, key_of, recent_of, recent_in}
 use Rattle.gts_count.specs.Rows.{row_in, has_row, no_row, counted}
-use Rattle.gts_count.specs.Numbers.{IsSound, IsRing, IsSmall, tally_of}
+use Rattle.gts_count.specs.Numbers.{IsSound, IsRing, IsSmall, joined, all_joined, tally_of}
 use Rattle.gts_count.specs.Counting.{Notes, Prepares}
 use Rattle.gts_count.specs.Start.{HasRings, Begins, NotesStart, nothing_drawn}
 use Rattle.gts_count.proofs.SoundLemmas.{single}
@@ -128,16 +128,12 @@ rings_noted d old new r p h = record {
 pub start_key : (d : Directory) (accepted : ℕ) (b : Bulletin) (key : List ℕ) → is_bulletin d accepted b ≡ true → (11 ≤ length b.body → key ≡ take 11 b.body) → key ≡ key_of b.body
 start_key d accepted b key is read = let k = key_body b.body (bulletin-parts d accepted b is).good in read k.0 ∙ k.1
 
-within_keep : (k : ℕ) (xs : List Recent) → length xs ≤ k → keep_last k xs ≡ xs
-within_keep k xs few = let none : length xs - k ≡ 0 = omega (arith, few) in ap (λ (j : ℕ). drop j xs) none
-
-pub start_passed : (d : Directory) (accepted : ℕ) (b : Bulletin) (key : List ℕ) (old new : Numbers) → key ≡ key_of b.body → is_recent d accepted b.position ≡ false → Prepares old new → IsTrue (has_row new.rows key) → IsSound old → NotesStart d accepted b old new
-start_passed d accepted b key old new is far p has sound = record {
+pub start_passed : (d : Directory) (accepted : ℕ) (b : Bulletin) (key : List ℕ) (old new : Numbers) → key ≡ key_of b.body → is_recent d accepted b.position ≡ false → Prepares old new → IsTrue (has_row new.rows key) → NotesStart d accepted b old new
+start_passed d accepted b key old new is far p has = record {
   rings = rings_prepared d old new p;
   recent =
       ap (λ (x : Buffer Recent). x.items) p.recent
-      ∙ sym (within_keep old.recent.capacity old.recent.items sound.window.0)
-      ∙ ap (keep_last old.recent.capacity) (sym (append-nil old.recent.items) ∙ ap (λ (rs : List Recent). old.recent.items ++ rs) (sym none));
+      ∙ ap (all_joined old.recent.capacity old.recent.items) (sym none);
   window = ap (λ (x : Buffer Recent). x.capacity) p.recent;
   drawn = p.drawn;
   has = subst (λ (k : List ℕ). IsTrue (has_row new.rows k)) is has;
@@ -148,14 +144,14 @@ start_passed d accepted b key old new is far p has sound = record {
     none = ap (λ (t : Bool). map recent_of (cond t (b ∷ []) [])) far
 
 pub start_joined : (d : Directory) (accepted : ℕ) (b : Bulletin) (key : List ℕ) (old mid new : Numbers) → key ≡ key_of b.body → is_recent d accepted b.position ≡ true → Prepares old mid → IsTrue (has_row mid.rows key)
-    → Notes mid new (record { key = key; from = b.from; bytes = length b.body }) → NotesStart d accepted b old new
+    → Notes mid new (record { position = b.position; key = key; from = b.from; bytes = length b.body }) → NotesStart d accepted b old new
 start_joined d accepted b key old mid new is near p has noted = record {
-  rings = λ h. rings_noted d mid new (record { key = key; from = b.from; bytes = length b.body }) noted (rings_prepared d old mid p h);
+  rings = λ h. rings_noted d mid new (record { position = b.position; key = key; from = b.from; bytes = length b.body }) noted (rings_prepared d old mid p h);
   recent =
       noted.recent
-      ∙ ap (λ (x : Buffer Recent). keep_last x.capacity (x.items ++ record { key = key; from = b.from; bytes = length b.body } ∷ [])) p.recent
-      ∙ ap (λ (k : List ℕ). keep_last old.recent.capacity (old.recent.items ++ record { key = k; from = b.from; bytes = length b.body } ∷ [])) is
-      ∙ ap (λ (rs : List Recent). keep_last old.recent.capacity (old.recent.items ++ rs)) (sym one);
+      ∙ ap (λ (x : Buffer Recent). joined x.capacity x.items (record { position = b.position; key = key; from = b.from; bytes = length b.body })) p.recent
+      ∙ ap (λ (k : List ℕ). joined old.recent.capacity old.recent.items (record { position = b.position; key = k; from = b.from; bytes = length b.body })) is
+      ∙ ap (all_joined old.recent.capacity old.recent.items) (sym one);
   window = noted.window ∙ ap (λ (x : Buffer Recent). x.capacity) p.recent;
   drawn = noted.drawn ∙ p.drawn;
   has = noted.rows (key_of b.body) ∙ subst (λ (k : List ℕ). IsTrue (has_row mid.rows k)) is has;

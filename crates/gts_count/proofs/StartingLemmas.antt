@@ -19,11 +19,12 @@ use Rattle.gts_count.specs.declared.recent.Recent.{Recent}
 use Rattle.gts_count.specs.declared.numbers.Numbers.{Numbers}
 use Rattle.gts_count.specs.Tally.{key_of, recent_of, recent_in}
 use Rattle.gts_count.specs.Rows.{has_row}
-use Rattle.gts_count.specs.Numbers.{IsSound, no_ring, ring_at, kept_with}
+use Rattle.gts_count.specs.Numbers.{IsSound, all_joined, no_ring, ring_at, kept_with}
 use Rattle.gts_count.specs.Counting.{NotesDraw}
 use Rattle.gts_count.specs.Start.{NotesStart, NotesAll, HasKeys, at_position, key_by, ring_with, NotesKept, NotesDraws}
 use Rattle.gts_count.proofs.StateLemmas.{last-more}
 use Rattle.gts_count.proofs.SoundLemmas.{single}
+use Rattle.gts_count.proofs.StepLemmas.{all_joined-append}
 
 -- one item more
 pub item_more : {A B : Type 0} (f : A → B) (xs : List A) (i : ℕ) (x : A) → i < length xs → x ≡ get_or xs i x → take (i + 1) (map f xs) ≡ take i (map f xs) ++ f x ∷ []
@@ -52,10 +53,10 @@ all_more d accepted bs b old mid new all one = record {
   rings = one.rings all.rings;
   recent =
       one.recent
-      ∙ ap (λ (k : ℕ). keep_last k (mid.recent.items ++ recent_in d accepted (b ∷ []))) all.rings.window
-      ∙ ap (λ (rs : List Recent). keep_last d.window (rs ++ recent_in d accepted (b ∷ []))) all.recent
-      ∙ last-more d.window (recent_in d accepted bs) (recent_in d accepted (b ∷ []))
-      ∙ ap (keep_last d.window) (sym joined);
+      ∙ ap (λ (k : ℕ). all_joined k mid.recent.items (recent_in d accepted (b ∷ []))) all.rings.window
+      ∙ ap (λ (rs : List Recent). all_joined d.window rs (recent_in d accepted (b ∷ []))) all.recent
+      ∙ all_joined-append d.window [] (recent_in d accepted bs) (recent_in d accepted (b ∷ []))
+      ∙ ap (all_joined d.window []) (sym joined);
   drawn = one.drawn ∙ all.drawn;
   rows = All-append (λ (x : Bulletin). IsTrue (has_row new.rows (key_of x.body))) bs (b ∷ [])
       (λ k x inside. one.rows (key_of (get_or bs k x).body) (all.rows k x inside))

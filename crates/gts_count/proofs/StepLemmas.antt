@@ -1,163 +1,130 @@
--- The running numbers of a state, when an entry is added.
-use Rattle.std.proofs.Common.{◌≡◌, ℕ, zero, suc, ◌+◌, ◌-◌, ◌<◌, ◌≤◌, min, Bool, true, false, ◌&&◌, ◌||◌, ◌==◌, nat_lt, nat_le, cond, inl, inr, List, [], ◌∷◌, filter, refl, sym, ap, ◌∙◌, arith}
-use Rattle.std.specs.List.{AllByRecursion, list_all, range_with_len}
-use Rattle.std.proofs.lemmas.Bool.{true≢false, eqb-true, eq-eqb, ne_eqb, lt-ltb, ltb-true, le-leb, leb-true, cases_lt, cases_eq}
+-- The bulletins of the window, when one more joins them.
+use Rattle.std.proofs.Common.{◌≡◌, ℕ, ◌+◌, ◌-◌, ◌<◌, ◌≤◌, Bool, true, false, ◌&&◌, ◌||◌, ◌==◌, nat_lt, nat_le, cond, inl, inr, List, [], ◌∷◌, ◌++◌, length, map, filter, drop, refl, sym, ap, subst, ◌∙◌, arith}
+use Rattle.std.specs.List.{list_all}
+use Rattle.std.proofs.lemmas.Bool.{true≢false, ne_eqb, lt-ltb, ltb-true, le-leb, leb-true, lt-leb, cases_lt}
+use Rattle.std.proofs.lemmas.List.{append-nil, append_assoc, length-append}
+use Rattle.std.proofs.lemmas.List.Elements.{filter-append}
 use Rattle.gts_directory.specs.Directory.{Directory}
-use Rattle.gts_event.specs.State.{State, Bulletin, has}
+use Rattle.gts_event.specs.State.{State, Bulletin, is_recent}
 use Rattle.gts_event.specs.Need.{positions_of, is_bulletin}
 use Rattle.gts_event.specs.Held.{IsHeld, Climbs}
-use Rattle.gts_event.proofs.LawLemmas.{list_all-has, bulletin-parts}
-use Rattle.gts_count.specs.Going.{HasWindow}
-use Rattle.gts_count.proofs.OrderedLemmas.{Up, one_list}
-
--- ---- the window of a held state
-
--- a number below another
-abbrev Low : ℕ → ℕ → Type 0
-Low a b = nat_lt a b ≡ true
-
-abbrev up_of : List ℕ → Type 0
-up_of xs = Up Low xs
+use Rattle.gts_event.proofs.LawLemmas.{bulletin-parts}
+use Rattle.gts_count.specs.declared.recent.Recent.{Recent}
+use Rattle.gts_count.specs.Tally.{recent_of, recent_in}
+use Rattle.gts_count.specs.Numbers.{leaves, joined, all_joined}
 
 and_both : (a b : Bool) → (a && b) ≡ true → (a ≡ true) × (b ≡ true)
 and_both true b e = (refl, e)
 and_both false b e = absurd (true≢false (sym e))
 
-all_low : (x : ℕ) (xs : List ℕ) → list_all (nat_lt x) xs ≡ true → AllByRecursion (Low x) xs
-all_low x [] e = tt
-all_low x (y ∷ ys) e = let both = and_both (nat_lt x y) (list_all (nat_lt x) ys) e in (both.0, all_low x ys both.1)
+-- ---- bulletins in the order of their positions, among the last ones of so many
 
-climbs_up : (xs : List ℕ) → Climbs xs → up_of xs
-climbs_up [] c = tt
-climbs_up (x ∷ xs) c = (all_low x xs c.0, climbs_up xs c.1)
+abbrev AllAbove : ℕ → List Recent → Type 0
+AllAbove m [] = Unit {0}
+AllAbove m (r ∷ rs) = (m < r.position) × AllAbove m rs
 
-range_above : (x a n : ℕ) → x < a → AllByRecursion (Low x) (range_with_len a n)
-range_above x a zero less = tt
-range_above x a (suc n) less = (lt-ltb x a less, range_above x (a + 1) n (omega (arith, less)))
+abbrev pub InWindow : ℕ → ℕ → List Recent → Type 0
+InWindow w n [] = Unit {0}
+InWindow w n (r ∷ rs) = (r.position < n) × (n ≤ r.position + w) × AllAbove r.position rs × InWindow w n rs
 
-range_up : (a n : ℕ) → up_of (range_with_len a n)
-range_up a zero = tt
-range_up a (suc n) = (range_above a (a + 1) n (omega arith), range_up (a + 1) n)
+above_in : (d : Directory) (n m : ℕ) (bs : List Bulletin) → list_all (nat_lt m) (positions_of bs) ≡ true → AllAbove m (recent_in d n bs)
+above_in d n m [] e = tt
+above_in d n m (b ∷ bs) e =
+    let both = and_both (nat_lt m b.position) (list_all (nat_lt m) (positions_of bs)) e in
+    elim (is_recent d n b.position) as (λ t. AllAbove m (map recent_of (cond t (b ∷ filter (λ (x : Bulletin). is_recent d n x.position) bs) (filter (λ (x : Bulletin). is_recent d n x.position) bs)))) [
+      | true ↦ (ltb-true m b.position both.0, above_in d n m bs both.1)
+      | false ↦ above_in d n m bs both.1
+    ]
 
--- a filter keeps the order
-low_filter : (x : ℕ) (f : ℕ → Bool) (xs : List ℕ) → AllByRecursion (Low x) xs → AllByRecursion (Low x) (filter f xs)
-low_filter x f [] all = tt
-low_filter x f (y ∷ ys) all = go (f y) (low_filter x f ys all.1)
+-- those that are counted are so
+pub counted_window : (d : Directory) (n : ℕ) (bs : List Bulletin) → Climbs (positions_of bs) → list_all (is_bulletin d n) bs ≡ true → InWindow d.window n (recent_in d n bs)
+counted_window d n [] up all = tt
+counted_window d n (b ∷ bs) up all =
+    let both : (is_bulletin d n b ≡ true) × (list_all (is_bulletin d n) bs ≡ true) = and_both (is_bulletin d n b) (list_all (is_bulletin d n) bs) all in
+    go both.0 (counted_window d n bs up.1 both.1) (is_recent d n b.position) refl
   where
-    go : (b : Bool) → AllByRecursion (Low x) (filter f ys) → AllByRecursion (Low x) (cond b (y ∷ filter f ys) (filter f ys))
-    go true rest = (all.0, rest)
-    go false rest = rest
+    go : is_bulletin d n b ≡ true → InWindow d.window n (recent_in d n bs) → (t : Bool) → is_recent d n b.position ≡ t → InWindow d.window n (map recent_of (cond t (b ∷ filter (λ (x : Bulletin). is_recent d n x.position) bs) (filter (λ (x : Bulletin). is_recent d n x.position) bs)))
+    go here rest true near = (ltb-true b.position n (bulletin-parts d n b here).below, leb-true n (b.position + d.window) near, above_in d n b.position bs up.0, rest)
+    go here rest false far = rest
 
-up_filter : (f : ℕ → Bool) (xs : List ℕ) → up_of xs → up_of (filter f xs)
-up_filter f [] up = tt
-up_filter f (x ∷ xs) up = go (f x) (up_filter f xs up.1)
+-- from the first on there are no more than positions
+span : (w n : ℕ) (r : Recent) (rs : List Recent) → InWindow w n (r ∷ rs) → length (r ∷ rs) + r.position ≤ n
+span w n r [] is = omega (arith, is.0)
+span w n r (x ∷ xs) is = let rest : length (x ∷ xs) + x.position ≤ n = span w n x xs is.3 in omega (arith, rest, is.2.0)
+
+window_front : (w n : ℕ) (xs ys : List Recent) → InWindow w n (xs ++ ys) → InWindow w n xs
+window_front w n [] ys is = tt
+window_front w n (x ∷ xs) ys is = (is.0, is.1, above_front xs is.2, window_front w n xs ys is.3)
   where
-    go : (b : Bool) → up_of (filter f xs) → up_of (cond b (x ∷ filter f xs) (filter f xs))
-    go true rest = (low_filter x f xs up.0, rest)
-    go false rest = rest
+    above_front : (zs : List Recent) → AllAbove x.position (zs ++ ys) → AllAbove x.position zs
+    above_front [] all = tt
+    above_front (z ∷ zs) all = (all.0, above_front zs all.1)
 
-positions_filter : (f : ℕ → Bool) (bs : List Bulletin) → positions_of (filter (λ (b : Bulletin). f b.position) bs) ≡ filter f (positions_of bs)
-positions_filter f [] = refl
-positions_filter f (b ∷ bs) = go (f b.position) (positions_filter f bs)
-  where
-    go : (t : Bool) → positions_of (filter (λ (b : Bulletin). f b.position) bs) ≡ filter f (positions_of bs) → positions_of (cond t (b ∷ filter (λ (b : Bulletin). f b.position) bs) (filter (λ (b : Bulletin). f b.position) bs)) ≡ cond t (b.position ∷ filter f (positions_of bs)) (filter f (positions_of bs))
-    go true rest = ap (λ (ps : List ℕ). b.position ∷ ps) rest
-    go false rest = rest
+-- ---- one joins those of a state
 
-has_filtered : (f : ℕ → Bool) (xs : List ℕ) (q : ℕ) → has (filter f xs) q ≡ (has xs q && f q)
-has_filtered f [] q = refl
-has_filtered f (x ∷ xs) q = go (f x) refl (x == q) refl (has_filtered f xs q)
-  where
-    and_none : (b : Bool) → (b && false) ≡ false
-    and_none true = refl
-    and_none false = refl
+abbrev last_ones : ℕ → ℕ → List Recent → List Recent
+last_ones w n rs = filter (λ (r : Recent). nat_le n (r.position + w)) rs
 
-    go : (t : Bool) → f x ≡ t → (e : Bool) → (x == q) ≡ e → has (filter f xs) q ≡ (has xs q && f q) → has (cond t (x ∷ filter f xs) (filter f xs)) q ≡ ((e || has xs q) && f q)
-    go true k true same rest = ap (λ (b : Bool). b || has (filter f xs) q) same ∙ sym (ap f (sym (eqb-true x q same)) ∙ k)
-    go true k false same rest = ap (λ (b : Bool). b || has (filter f xs) q) same ∙ rest
-    go false k true same rest =
-        let no : f q ≡ false = ap f (sym (eqb-true x q same)) ∙ k in
-        rest ∙ ap (λ (b : Bool). has xs q && b) no ∙ and_none (has xs q) ∙ sym no
-    go false k false same rest = rest
+stay : (w n m : ℕ) (rs : List Recent) → AllAbove m rs → n ≤ m + w → last_ones w (n + 1) rs ≡ rs
+stay w n m [] above near = refl
+stay w n m (r ∷ rs) above near =
+    ap (λ b. cond b (r ∷ last_ones w (n + 1) rs) (last_ones w (n + 1) rs)) (le-leb (n + 1) (r.position + w) (omega (arith, above.0, near)))
+    ∙ ap (λ (xs : List Recent). r ∷ xs) (stay w n m rs above.1 near)
 
-not_le : (x y : ℕ) → y < x → nat_le x y ≡ false
-not_le x y less = elim (nat_le x y) as (λ t. nat_le x y ≡ t → t ≡ false) [ true ↦ λ k. absurd (omega (arith, less, leb-true x y k)) | false ↦ λ k. refl ] refl
-
-not_lt : (x y : ℕ) → y ≤ x → nat_lt x y ≡ false
-not_lt x y less = elim (nat_lt x y) as (λ t. nat_lt x y ≡ t → t ≡ false) [ true ↦ λ k. absurd (omega (arith, less, ltb-true x y k)) | false ↦ λ k. refl ] refl
-
-and_is : (a b c : Bool) → a ≡ c → (a && b) ≡ (c && b)
-and_is a b c e = ap (λ (x : Bool). x && b) e
-
-and_false : (b : Bool) → (b && false) ≡ false
-and_false true = refl
-and_false false = refl
-
-has_range : (a n q : ℕ) → has (range_with_len a n) q ≡ (nat_le a q && nat_lt q (a + n))
-has_range a zero q = elim (cases_lt q a) [
-  | inl low ↦ sym (and_is (nat_le a q) (nat_lt q (a + 0)) false (not_le a q low))
-  | inr high ↦ sym (ap (λ (b : Bool). nat_le a q && b) (not_lt q (a + 0) (omega (arith, high))) ∙ and_false (nat_le a q))
+pub joined_last : (w n : ℕ) (rs : List Recent) (b : Recent) → 1 ≤ w → InWindow w n rs → b.position ≡ n → joined w rs b ≡ last_ones w (n + 1) (rs ++ b ∷ [])
+joined_last w n [] b one is at = sym (ap (λ t. cond t (b ∷ []) []) (le-leb (n + 1) (b.position + w) (omega (arith, one, at))))
+joined_last w n (r ∷ rs) b one is at = elim (cases_lt (n - r.position) w) [
+  | inr gone ↦
+      let due : leaves w (r ∷ rs) b.position ≡ true =
+      ap (λ (p : ℕ). leaves w (r ∷ rs) p) at ∙ ap (λ t. t || (length (r ∷ rs) == w)) (le-leb w (n - r.position) gone) in
+      let out : nat_le (n + 1) (r.position + w) ≡ false = lt-leb (n + 1) (r.position + w) (omega (arith, gone, is.0)) in
+      ap (λ t. cond t rs (r ∷ rs) ++ b ∷ []) due
+      ∙ ap (λ (xs : List Recent). xs ++ b ∷ []) (sym (ap (λ t. cond t (r ∷ last_ones w (n + 1) rs) (last_ones w (n + 1) rs)) out ∙ stay w n r.position rs is.2 is.1))
+      ∙ sym (with_last)
+  | inl near ↦
+      let size : length (r ∷ rs) + r.position ≤ n = span w n r rs is in
+      let low : nat_le w (n - r.position) ≡ false = lt-leb w (n - r.position) near in
+      let room : (length (r ∷ rs) == w) ≡ false = ne_eqb (length (r ∷ rs)) w (λ e. omega (arith, e, size, near)) in
+      let due : leaves w (r ∷ rs) b.position ≡ false =
+      ap (λ (p : ℕ). leaves w (r ∷ rs) p) at ∙ ap (λ t. t || (length (r ∷ rs) == w)) low ∙ room in
+      let here : nat_le (n + 1) (r.position + w) ≡ true = le-leb (n + 1) (r.position + w) (omega (arith, near)) in
+      ap (λ t. cond t rs (r ∷ rs) ++ b ∷ []) due
+      ∙ ap (λ (xs : List Recent). xs ++ b ∷ []) (sym (ap (λ t. cond t (r ∷ last_ones w (n + 1) rs) (last_ones w (n + 1) rs)) here ∙ ap (λ (xs : List Recent). r ∷ xs) (stay w n r.position rs is.2 is.1)))
+      ∙ sym (with_last)
 ]
-has_range a (suc n) q = elim (cases_lt q a) [
-  | inl low ↦
-      ap (λ (b : Bool). b || has (range_with_len (a + 1) n) q) (ne_eqb a q (λ e. omega (arith, low, e)))
-      ∙ has_range (a + 1) n q
-      ∙ and_is (nat_le (a + 1) q) (nat_lt q (a + 1 + n)) false (not_le (a + 1) q (omega (arith, low)))
-      ∙ sym (and_is (nat_le a q) (nat_lt q (a + suc n)) false (not_le a q low))
-  | inr high ↦
-      elim (cases_eq a q) [
-        | inl same ↦
-            ap (λ (b : Bool). b || has (range_with_len (a + 1) n) q) (eq-eqb a q same)
-            ∙ sym (ap (λ (b : Bool). nat_le a q && b) (lt-ltb q (a + suc n) (omega (arith, same))) ∙ and_is (nat_le a q) true true (le-leb a q high))
-        | inr other ↦
-            let end : a + 1 + n ≡ a + suc n = omega arith in
-            ap (λ (b : Bool). b || has (range_with_len (a + 1) n) q) (ne_eqb a q other)
-            ∙ has_range (a + 1) n q
-            ∙ and_is (nat_le (a + 1) q) (nat_lt q (a + 1 + n)) true (le-leb (a + 1) q (omega (arith, high, other)))
-            ∙ ap (λ (m : ℕ). nat_lt q m) end
-            ∙ sym (and_is (nat_le a q) (nat_lt q (a + suc n)) true (le-leb a q high))
-      ]
-]
-
--- each position that a state has is below its count
-positions_low : (d : Directory) (n : ℕ) (bs : List Bulletin) → list_all (is_bulletin d n) bs ≡ true → list_all (λ p. nat_lt p n) (positions_of bs) ≡ true
-positions_low d n [] e = refl
-positions_low d n (b ∷ bs) e =
-    let both = and_both (is_bulletin d n b) (list_all (is_bulletin d n) bs) e in
-    ap (λ (t : Bool). t && list_all (λ p. nat_lt p n) (positions_of bs)) (bulletin-parts d n b both.0).below ∙ positions_low d n bs both.1
-
-both_same : (a b : Bool) → (a ≡ true → b ≡ true) → (b ≡ true → a ≡ true) → a ≡ b
-both_same true b f g = sym (f refl)
-both_same false true f g = g refl
-both_same false false f g = refl
-
--- the window of a state is whole
-pub window_whole : (d : Directory) (t : State) → IsHeld d t → HasWindow d t
-window_whole d t held =
-    let n : ℕ = t.count in
-    let w : ℕ = d.window in
-    let near : ℕ → Bool = λ p. nat_le n (p + w) in
-    let ps : List ℕ = positions_of t.accepted in
-    positions_filter near t.accepted
-    ∙ one_list (λ (a b : ℕ). b == a) Low (λ a b e. sym (eqb-true b a e)) (λ a. eq-eqb a a refl) (λ a b l m. omega (arith, ltb-true a b l, ltb-true b a m))
-    (filter near ps) (range_with_len (n - w) (min w n)) (up_filter near ps (climbs_up ps held.order)) (range_up (n - w) (min w n)) members
   where
-    members : (q : ℕ) → has (filter (λ p. nat_le t.count (p + d.window)) (positions_of t.accepted)) q ≡ has (range_with_len (t.count - d.window) (min d.window t.count)) q
-    members q =
-        let near : ℕ → Bool = λ p. nat_le t.count (p + d.window) in
-        let ps : List ℕ = positions_of t.accepted in
-        both_same (has (filter near ps) q) (has (range_with_len (t.count - d.window) (min d.window t.count)) q)
-        (λ there.
-        let both = and_both (has ps q) (near q) (sym (has_filtered near ps q) ∙ there) in
-        let low : q < t.count = ltb-true q t.count (list_all-has (λ p. nat_lt p t.count) ps q (positions_low d t.count t.accepted held.bodies) both.0) in
-        let high : t.count ≤ q + d.window = leb-true t.count (q + d.window) both.1 in
-        has_range (t.count - d.window) (min d.window t.count) q
-        ∙ ap (λ (b : Bool). nat_le (t.count - d.window) q && b) (lt-ltb q (t.count - d.window + min d.window t.count) (omega (arith, low, high)))
-        ∙ and_is (nat_le (t.count - d.window) q) true true (le-leb (t.count - d.window) q (omega (arith, low, high))))
-        (λ there.
-        let both = and_both (nat_le (t.count - d.window) q) (nat_lt q (t.count - d.window + min d.window t.count)) (sym (has_range (t.count - d.window) (min d.window t.count) q) ∙ there) in
-        let low = leb-true (t.count - d.window) q both.0 in
-        let high = ltb-true q (t.count - d.window + min d.window t.count) both.1 in
-        let below : q < t.count = omega (arith, low, high) in
-        let recent : t.count ≤ q + d.window = omega (arith, low, high) in
-        has_filtered near ps q ∙ ap (λ (b : Bool). b && near q) (held.recent q below recent) ∙ le-leb t.count (q + d.window) recent)
+    with_last : last_ones w (n + 1) (r ∷ rs ++ b ∷ []) ≡ last_ones w (n + 1) (r ∷ rs) ++ b ∷ []
+    with_last =
+        filter-append (λ (x : Recent). nat_le (n + 1) (x.position + w)) (r ∷ rs) (b ∷ [])
+        ∙ ap (λ t. last_ones w (n + 1) (r ∷ rs) ++ cond t (b ∷ []) []) (le-leb (n + 1) (b.position + w) (omega (arith, one, at)))
+
+-- ---- those of a start join, one after another
+
+pub all_joined-append : (w : ℕ) (rs xs ys : List Recent) → all_joined w (all_joined w rs xs) ys ≡ all_joined w rs (xs ++ ys)
+all_joined-append w rs [] ys = refl
+all_joined-append w rs (x ∷ xs) ys = all_joined-append w (joined w rs x) xs ys
+
+joins_start : (w n : ℕ) (rs : List Recent) (b : Recent) → InWindow w n (rs ++ b ∷ []) → joined w rs b ≡ rs ++ b ∷ []
+joins_start w n [] b is = refl
+joins_start w n (r ∷ rs) b is =
+    let size : length (r ∷ rs ++ b ∷ []) + r.position ≤ n = span w n r (rs ++ b ∷ []) is in
+    let more : length (r ∷ rs ++ b ∷ []) ≡ length (r ∷ rs) + 1 = length-append (r ∷ rs) (b ∷ []) in
+    let low : nat_le w (b.position - r.position) ≡ false = lt-leb w (b.position - r.position) (omega (arith, is.1, last_low (r ∷ rs) is)) in
+    let room : (length (r ∷ rs) == w) ≡ false = ne_eqb (length (r ∷ rs)) w (λ e. omega (arith, e, size, more, is.1)) in
+    ap (λ t. cond t rs (r ∷ rs) ++ b ∷ []) (ap (λ t. t || (length (r ∷ rs) == w)) low ∙ room)
+  where
+    last_low : (xs : List Recent) → InWindow w n (xs ++ b ∷ []) → b.position < n
+    last_low [] at = at.0
+    last_low (x ∷ xs) at = last_low xs at.3
+
+pub starts_window : (w n : ℕ) (front rs : List Recent) → InWindow w n (front ++ rs) → all_joined w front rs ≡ front ++ rs
+starts_window w n front [] is = sym (append-nil front)
+starts_window w n front (r ∷ rs) is =
+    let more : (front ++ r ∷ []) ++ rs ≡ front ++ r ∷ rs = append_assoc front (r ∷ []) rs in
+    let whole : InWindow w n ((front ++ r ∷ []) ++ rs) = subst (λ (xs : List Recent). InWindow w n xs) (sym more) is in
+    ap (λ (xs : List Recent). all_joined w xs rs) (joins_start w n front r (window_front w n (front ++ r ∷ []) rs whole))
+    ∙ starts_window w n (front ++ r ∷ []) rs whole ∙ more
+
+-- the bulletins that are counted of a held state
+pub held_window : (d : Directory) (t : State) → IsHeld d t → InWindow d.window t.count (recent_in d t.count t.accepted)
+held_window d t held = counted_window d t.count t.accepted held.order held.bodies

@@ -1,8 +1,7 @@
 -- The bulletins of the window, when one more is accepted.
-use Rattle.std.proofs.Common.{◌≡◌, ℕ, ◌-◌, ◌≤◌, Bool, ◌||◌, List, [], ◌∷◌, ◌++◌, length, map, drop, refl, sym, ap, ◌∙◌}
+use Rattle.std.proofs.Common.{◌≡◌, ℕ, ◌+◌, ◌≤◌, Bool, true, false, ◌||◌, nat_le, cond, List, [], ◌∷◌, ◌++◌, map, filter, refl, sym, ap, ◌∙◌}
 use Rattle.std.specs.List.{list_any}
-use Rattle.std.proofs.lemmas.List.{drop-map, length-map, map-append}
-use Rattle.circular_buffer.specs.Buffer.{keep_last}
+use Rattle.std.proofs.lemmas.List.{map-append}
 use Rattle.gts_frame.specs.declared.kind.Kind.{Kind}
 use Rattle.gts_directory.specs.Directory.{Directory, named}
 use Rattle.gts_event.specs.State.{State, Bulletin, has, is_recent, recent}
@@ -11,10 +10,10 @@ use Rattle.gts_event.specs.Need.{need, is_needed, circuit_needs, positions_of, r
 use Rattle.gts_event.specs.declared.event.Event.TheVariants.{Heard}
 use Rattle.gts_event.specs.declared.outcome.Outcome.{Outcome}
 use Rattle.gts_event.specs.declared.outcome.Outcome.TheVariants.{Accepted}
-use Rattle.gts_event.proofs.LawLemmas.{filter_first, recent_next, recent_all}
+use Rattle.gts_event.proofs.LawLemmas.{filter_first, recent_more, recent_all, accepted_position}
 use Rattle.gts_count.specs.declared.recent.Recent.{Recent}
-use Rattle.gts_count.specs.Tally.{tally, recent_of}
-use Rattle.gts_count.specs.Going.{HasWindow, heard_of}
+use Rattle.gts_count.specs.Tally.{tally, recent_of, arrived}
+use Rattle.gts_count.specs.Going.{HasWindow, heard_of, last_counted, counted_with}
 
 -- what is counted is what the window has, though a need has fewer bulletins than a state
 pub counts_window : (d : Directory) (t : State) → (tally d (need d t)).recent ≡ map recent_of (recent d t)
@@ -24,11 +23,14 @@ counts_window d t =
     (λ x k. ap (λ r. r || others x.position) k))
 
 -- what is counted of the last ones
-counts_last : (w : ℕ) (bs : List Bulletin) (b : Bulletin) → map recent_of (keep_last w (bs ++ b ∷ [])) ≡ keep_last w (map recent_of bs ++ recent_of b ∷ [])
-counts_last w bs b =
-    sym (drop-map recent_of (length (bs ++ b ∷ []) - w) (bs ++ b ∷ []))
-    ∙ ap (λ (n : ℕ). drop (n - w) (map recent_of (bs ++ b ∷ []))) (sym (length-map (bs ++ b ∷ []) recent_of))
-    ∙ ap (keep_last w) (map-append recent_of bs (b ∷ []))
+counts_last : (w n : ℕ) (bs : List Bulletin) → map recent_of (filter (λ (b : Bulletin). nat_le n (b.position + w)) bs) ≡ filter (λ (r : Recent). nat_le n (r.position + w)) (map recent_of bs)
+counts_last w n [] = refl
+counts_last w n (b ∷ bs) =
+    elim (nat_le n (b.position + w)) as (λ t. map recent_of (cond t (b ∷ filter (λ (b : Bulletin). nat_le n (b.position + w)) bs) (filter (λ (b : Bulletin). nat_le n (b.position + w)) bs))
+    ≡ cond t (recent_of b ∷ filter (λ (r : Recent). nat_le n (r.position + w)) (map recent_of bs)) (filter (λ (r : Recent). nat_le n (r.position + w)) (map recent_of bs))) [
+      | true ↦ ap (λ (rs : List Recent). recent_of b ∷ rs) (counts_last w n bs)
+      | false ↦ counts_last w n bs
+    ]
 
 -- the bulletin that a message is accepted as
 abbrev new_bulletin : State → ℕ → Kind → List ℕ → Bulletin
@@ -40,16 +42,18 @@ then d s c kind m = with_bulletin s c kind (body_of m) (named d c (heading_of_me
 is_then : (d : Directory) (s : State) (c : ℕ) (kind : Kind) (m : List ℕ) (p n : ℕ) → outcome d s (Heard c kind m) ≡ Accepted p n → after d s (Heard c kind m) ≡ then d s c kind m
 is_then d s c kind m p n is = ap (λ (o : Outcome). after_heard d s c kind m o) is
 
-pub joins_window : (d : Directory) (s : State) (c : ℕ) (kind : Kind) (m : List ℕ) (p n : ℕ) → 1 ≤ d.window → HasWindow d s → outcome d s (Heard c kind m) ≡ Accepted p n
-    → (tally d (need d (after d s (Heard c kind m)))).recent ≡ keep_last d.window ((tally d (need d s)).recent ++ heard_of c m ∷ [])
-joins_window d s c kind m p n one has is =
+pub joins_window : (d : Directory) (s : State) (c : ℕ) (kind : Kind) (m : List ℕ) (p n : ℕ) → outcome d s (Heard c kind m) ≡ Accepted p n
+    → (tally d (need d (after d s (Heard c kind m)))).recent ≡ counted_with d s (arrived p (heard_of c m))
+joins_window d s c kind m p n is =
     let b : Bulletin = new_bulletin s c kind m in
     let t : State = then d s c kind m in
     ap (λ (x : State). (tally d (need d x)).recent) (is_then d s c kind m p n is)
     ∙ counts_window d t
-    ∙ ap (map recent_of) (recent_next d s b t one has refl refl refl)
-    ∙ counts_last d.window (recent d s) b
-    ∙ ap (λ (rs : List Recent). keep_last d.window (rs ++ recent_of b ∷ [])) (sym (counts_window d s))
+    ∙ ap (map recent_of) (recent_more d s b t refl refl)
+    ∙ counts_last d.window (s.count + 1) (recent d s ++ b ∷ [])
+    ∙ ap (last_counted d (s.count + 1)) (map-append recent_of (recent d s) (b ∷ []))
+    ∙ ap (λ (rs : List Recent). last_counted d (s.count + 1) (rs ++ recent_of b ∷ [])) (sym (counts_window d s))
+    ∙ ap (λ (q : ℕ). counted_with d s (arrived q (heard_of c m))) (sym (accepted_position d s c kind m p n is))
 
 pub window_goes_on : (d : Directory) (s : State) (c : ℕ) (kind : Kind) (m : List ℕ) (p n : ℕ) → 1 ≤ d.window → HasWindow d s → outcome d s (Heard c kind m) ≡ Accepted p n → HasWindow d (after d s (Heard c kind m))
 window_goes_on d s c kind m p n one has is =

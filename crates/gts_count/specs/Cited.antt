@@ -13,5 +13,5 @@ pub use Rattle.gts_event.specs.declared.event.Event.TheVariants.{Heard}
 pub use Rattle.gts_event.specs.declared.event.Entry.{Entry}
 pub use Rattle.gts_event.specs.declared.outcome.Outcome.TheVariants.{Accepted}
 pub use Rattle.gts_opening.specs.Room.{IsAccepted}
-pub use Rattle.gts_count.specs.Going.{HasWindow, heard_of, counted_in, counted_with}
+pub use Rattle.gts_count.specs.Going.{HasWindow, heard_of, arrived, counted_in, counted_with}
 pub use Rattle.gts_count.specs.Numbers.{IsSound, IsRing}

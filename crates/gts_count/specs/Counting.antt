@@ -18,13 +18,13 @@ use Rattle.gts_event.specs.declared.fault.SwitchFault.TheVariants.{SayFault}
 use Rattle.gts_opening.specs.Room.{HasUnsaid}
 use Rattle.gts_calls.specs.Calls.{entry_of}
 use Rattle.gts_count.specs.declared.recent.Recent.{Recent}
+use Rattle.gts_count.specs.declared.recent.Arrival.{Arrival}
 use Rattle.gts_count.specs.declared.numbers.Numbers.{Numbers}
 use Rattle.gts_count.specs.declared.counting.Counting.{Counting}
 use Rattle.gts_count.specs.Tally.{tally, key_of}
 use Rattle.gts_count.specs.Rows.{has_row}
-use Rattle.circular_buffer.specs.Buffer.{keep_last}
-use Rattle.gts_count.specs.Numbers.{IsSound, tally_of, ring_at, kept_with}
-use Rattle.gts_count.specs.Going.{heard_of}
+use Rattle.gts_count.specs.Numbers.{IsSound, joined, tally_of, ring_at, kept_with}
+use Rattle.gts_count.specs.Going.{heard_of, arrived}
 
 -- The running numbers are those of the need of a state, counted from scratch. So that no later step wants memory for them but
 -- that of an accepted bulletin with a new key: a state of the same need is known in which each bulletin has its row.
@@ -54,13 +54,13 @@ CountsIf false d s h c = HasUnsaid h
 abbrev pub Counts : Directory → State → List Entry → Counting → Type 0
 Counts d s h c = CountsIf c.current d s h c
 
--- a bulletin can be noted: its key has a row, and it came in on a circuit that is there
-abbrev pub CanNote : Counting → Option Recent → Type 0
+-- a message can be noted: its key has a row, and it came in on a circuit that is there
+abbrev pub CanNote : Counting → Option Arrival → Type 0
 CanNote c None = Unit {0}
-CanNote c (Some bulletin) = IsTrue (has_row c.numbers.rows bulletin.key) × (bulletin.from < length c.numbers.came.items)
+CanNote c (Some arrival) = IsTrue (has_row c.numbers.rows arrival.key) × (arrival.from < length c.numbers.came.items)
 
 -- what is noted of a message, where it will be accepted
-abbrev pub IsReady : ℕ → List ℕ → Option Recent → Directory → State → Type 0
+abbrev pub IsReady : ℕ → List ℕ → Option Arrival → Directory → State → Type 0
 IsReady circuit message ready d s =
     (kind : Kind) (position circuits : ℕ) → outcome d s (Heard circuit kind message) ≡ Accepted position circuits
     → ready ≡ Some (heard_of circuit message)
@@ -76,7 +76,7 @@ GoesOn d s h event result c = Counts d (after_all d s (entry_of event result)) (
 -- a bulletin joined the numbers
 pub record Notes (old new : Numbers) (bulletin : Recent) : Type 0 where
   pub sound : IsSound new
-  pub recent : new.recent.items ≡ keep_last old.recent.capacity (old.recent.items ++ bulletin ∷ [])
+  pub recent : new.recent.items ≡ joined old.recent.capacity old.recent.items bulletin
   pub window : new.recent.capacity ≡ old.recent.capacity
   pub drawn : new.drawn ≡ old.drawn
   pub rows : (key : List ℕ) → has_row new.rows key ≡ has_row old.rows key
@@ -108,18 +108,18 @@ pub record Prepares (old new : Numbers) : Type 0 where
 abbrev pub key_of_frame : ℕ → List ℕ → List ℕ
 key_of_frame digits frame = take 11 (drop (17 + digits) frame)
 
--- a bulletin that was accepted is noted, where it was ready
-abbrev pub AfterAccepted : Option Recent → Counting → Counting → Type 0
-AfterAccepted (Some bulletin) old new = KeepsRest old new × Notes old.numbers new.numbers bulletin
-AfterAccepted None old new = new ≡ old
+-- a message that was accepted at a position is noted, where it was ready
+abbrev pub AfterAccepted : Option Arrival → ℕ → Counting → Counting → Type 0
+AfterAccepted (Some arrival) position old new = KeepsRest old new × Notes old.numbers new.numbers (arrived position arrival)
+AfterAccepted None position old new = new ≡ old
 
 -- the numbers aren't current any more
 abbrev pub outdated : Counting → Counting
 outdated c = record c { current = false }
 
 -- what is noted of an answer to a message: only an accepted bulletin is counted
-abbrev pub AfterHeard : Option Recent → Result Outcome SwitchFault → Counting → Counting → Type 0
-AfterHeard ready (Ok (Accepted position circuits)) old new = AfterAccepted ready old new
+abbrev pub AfterHeard : Option Arrival → Result Outcome SwitchFault → Counting → Counting → Type 0
+AfterHeard ready (Ok (Accepted position circuits)) old new = AfterAccepted ready position old new
 AfterHeard ready (Err SayFault) old new = new ≡ outdated old
 AfterHeard ready _ old new = new ≡ old
 

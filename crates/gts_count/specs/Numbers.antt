@@ -1,5 +1,5 @@
 -- The running numbers beside what they count.
-use Rattle.std.specs.Prelude.{◌≡◌, ℕ, ◌<◌, ◌≤◌, ◌^◌, List, [], ◌∷◌, ◌++◌, length, drop, map, slice_index_or}
+use Rattle.std.specs.Prelude.{◌≡◌, ℕ, ◌-◌, ◌<◌, ◌≤◌, ◌^◌, ◌==◌, ◌||◌, nat_le, Bool, false, if◌then◌else◌, List, [], ◌∷◌, ◌++◌, length, drop, map, slice_index_or}
 use Rattle.std.specs.List.{All}
 use Rattle.circular_buffer.specs.Buffer.{Buffer, buffer, keep_last}
 use Rattle.gts_count.specs.declared.recent.Recent.{Recent}
@@ -31,6 +31,21 @@ pub record IsSound (n : Numbers) : Type 0 where
   pub window : IsRing n.recent
   pub kept : All IsRing n.drawn.items
   pub circuits : (length n.drawn.items ≡ length n.came.items) × (length n.drawn.items < 2 ^ 31)
+
+-- The oldest bulletin leaves the window when one of this position joins it: its own position is then no longer among the last
+-- ones, or there is no room.
+abbrev pub leaves : ℕ → List Recent → ℕ → Bool
+leaves width [] position = false
+leaves width (oldest ∷ rest) position = nat_le width (position - oldest.position) || (length (oldest ∷ rest) == width)
+
+-- the bulletins of the window with one more
+abbrev pub joined : ℕ → List Recent → Recent → List Recent
+joined width recents bulletin = (if leaves width recents bulletin.position then drop 1 recents else recents) ++ bulletin ∷ []
+
+-- with more, one after another
+abbrev pub all_joined : ℕ → List Recent → List Recent → List Recent
+all_joined width recents [] = recents
+all_joined width recents (bulletin ∷ more) = all_joined width (joined width recents bulletin) more
 
 -- a circuit that keeps nothing
 abbrev pub no_ring : Buffer (List ℕ)

@@ -11,7 +11,7 @@ use Rattle.gts_event.specs.Need.{Need, CircuitNeed, unused}
 use Rattle.gts_count.specs.declared.numbers.Numbers.{Numbers}
 use Rattle.gts_count.specs.Tally.{tally, key_of, recent_in}
 use Rattle.gts_count.specs.Rows.{has_row}
-use Rattle.gts_count.specs.Numbers.{IsSound, tally_of, ring_at}
+use Rattle.gts_count.specs.Numbers.{IsSound, all_joined, tally_of, ring_at}
 
 -- the capacities of the rings are those of the directory
 pub record HasRings (d : Directory) (n : Numbers) : Type 0 where
@@ -36,7 +36,7 @@ HaveRows n bulletins = All (λ b. IsTrue (has_row n.rows (key_of b.body))) bulle
 -- one bulletin of a start was noted: its key has a row, and where it is recent it joined the window
 pub record NotesStart (d : Directory) (accepted : ℕ) (bulletin : Bulletin) (old new : Numbers) : Type 0 where
   pub rings : HasRings d old → HasRings d new
-  pub recent : new.recent.items ≡ keep_last old.recent.capacity (old.recent.items ++ recent_in d accepted (bulletin ∷ []))
+  pub recent : new.recent.items ≡ all_joined old.recent.capacity old.recent.items (recent_in d accepted (bulletin ∷ []))
   pub window : new.recent.capacity ≡ old.recent.capacity
   pub drawn : new.drawn ≡ old.drawn
   pub has : IsTrue (has_row new.rows (key_of bulletin.body))
@@ -77,7 +77,7 @@ pub record NotesKept (keys : BTreeMap ℕ (List ℕ)) (circuit : ℕ) (kept : Li
 -- the bulletins of a start were noted
 pub record NotesAll (d : Directory) (accepted : ℕ) (bulletins : List Bulletin) (old new : Numbers) : Type 0 where
   pub rings : HasRings d new
-  pub recent : new.recent.items ≡ keep_last d.window (recent_in d accepted bulletins)
+  pub recent : new.recent.items ≡ all_joined d.window [] (recent_in d accepted bulletins)
   pub drawn : new.drawn ≡ old.drawn
   pub rows : HaveRows new bulletins
 

@@ -7,6 +7,7 @@ use Rattle.gts_directory.specs.Directory.{Directory}
 use Rattle.gts_event.specs.State.{Bulletin, is_recent, heading_of}
 use Rattle.gts_event.specs.Need.{Need}
 use Rattle.gts_count.specs.declared.recent.Recent.{Recent}
+use Rattle.gts_count.specs.declared.recent.Arrival.{Arrival}
 
 -- TTAAii CCCC: the first 11 bytes of a heading
 abbrev pub key_of : List ℕ → List ℕ
@@ -19,7 +20,11 @@ pub record Tally : Type 0 where
 
 -- what is counted of a bulletin
 abbrev pub recent_of : Bulletin → Recent
-recent_of b = record { key = key_of b.body; from = b.from; bytes = length b.body }
+recent_of b = record { position = b.position; key = key_of b.body; from = b.from; bytes = length b.body }
+
+-- the bulletin that a message is at a position
+abbrev pub arrived : ℕ → Arrival → Recent
+arrived position arrival = record { position = position; key = arrival.key; from = arrival.from; bytes = arrival.bytes }
 
 -- the key of the bulletin at a position
 abbrev pub key_at : List Bulletin → ℕ → List ℕ

@@ -4,8 +4,8 @@ use Rattle.gts_directory.specs.Directory.{Directory}
 use Rattle.gts_event.specs.State.{empty}
 use Rattle.gts_event.specs.declared.event.Entry.{Entry}
 use Rattle.gts_event.specs.History.{after_all}
-use Rattle.gts_event.specs.Need.{need, nothing}
-use Rattle.gts_event.specs.Worked.{two, keeping, heard, first, second, report, take_on}
+use Rattle.gts_event.specs.Need.{Need, need, begun, nothing}
+use Rattle.gts_event.specs.Worked.{two, keeping, heard, first, second, report, take_on, reported, start_of, with_draws}
 use Rattle.gts_count.specs.Table.{table}
 
 -- lines, each ended by LF
@@ -29,6 +29,14 @@ DuplicateNotCounted = table_behind two four_messages ≡ lines (codes "key SMVG0
 abbrev pub WindowOfOne : Type 0
 WindowOfOne = table_behind (keeping 1000 1) four_messages ≡ lines (codes "key SMVG01 TVSV bulletins 1 bytes 33 draws 3"
     ∷ codes "circuit 00 came 1 drew 0" ∷ codes "circuit 01 came 0 drew 3" ∷ codes "end" ∷ [])
+
+-- Behind a start of three bulletins of which only the first is known, a fourth one is accepted, with a window of three.
+abbrev pub GapInWindow : Type 0
+GapInWindow =
+    let start : Need = start_of 3 (reported 0 (codes "NIL=") ∷ []) (with_draws 0 [] []) in
+    table (keeping 1000 3) (need (keeping 1000 3) (after_all (keeping 1000 3) (begun start) (second ∷ [])))
+    ≡ lines (codes "key SMVG01 TVSV bulletins 1 bytes 29 draws 0" ∷ codes "circuit 00 came 1 drew 0"
+    ∷ codes "circuit 01 came 0 drew 0" ∷ codes "end" ∷ [])
 
 abbrev pub NothingYet : Type 0
 NothingYet = table two (nothing two) ≡ lines (codes "circuit 00 came 0 drew 0" ∷ codes "circuit 01 came 0 drew 0" ∷ codes "end" ∷ [])

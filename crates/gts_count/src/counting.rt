@@ -3,7 +3,7 @@ ghost use Rattle.gts_count.specs.Cited.{Directory, State, Entry, Kind, Heard, Ac
 ghost use Rattle.gts_count.specs.Counting.{Counts, CanNote, IsReady, Prepares, KeepsRest, AfterAccepted, AfterHeard, AfterTaken, IsDrawn};
 
 use crate::rows::has_row;
-use crate::{Numbers, Recent};
+use crate::{Arrival, Numbers, arrived};
 use gts_alphabet::NoMemory;
 use gts_event::{Outcome, SwitchFault};
 use gts_heading::Heading;
@@ -40,9 +40,9 @@ fn is_request(centre: &[u8; 4], heading: &Heading) -> bool
 }
 
 /// What is noted of a message that can be read and is no request. `None` where it is none such, and so isn't accepted.
-fn heard_in(centre: &[u8; 4], c: u32, message: &[u8]) -> Option<Recent>
-    ensures some { IfSome result (λ bulletin. bulletin ≡ heard_of c message.now) }
-    ensures read { IfSome result (λ bulletin. (d : Directory) → centre.now ≡ d.centre
+fn heard_in(centre: &[u8; 4], c: u32, message: &[u8]) -> Option<Arrival>
+    ensures some { IfSome result (λ arrival. arrival ≡ heard_of c message.now) }
+    ensures read { IfSome result (λ arrival. (d : Directory) → centre.now ≡ d.centre
         → WasRead d message.now) }
     ensures none { (d : Directory) (s : State) (kind : Kind) (p n : ℕ) → result ≡ None
         → centre.now ≡ d.centre → outcome d s (Heard c kind message.now)
@@ -54,7 +54,7 @@ fn heard_in(centre: &[u8; 4], c: u32, message: &[u8]) -> Option<Recent>
     if is_request(centre, &parts.heading) {
         return None;
     }
-    Some(Recent {
+    Some(Arrival {
         key: key_in(parts.body, 0),
         from: c,
         bytes: parts.body.len() as u32,
@@ -63,7 +63,7 @@ fn heard_in(centre: &[u8; 4], c: u32, message: &[u8]) -> Option<Recent>
 
 /// What is to be noted of a message where it is accepted, with a row for its key. `None` where it won't be, or the numbers
 /// aren't current. Want of memory comes only for a bulletin that would be accepted, and nothing that is counted changes.
-pub fn ready(counting: &mut Counting, c: u32, message: &[u8]) -> Result<Option<Recent>, NoMemory>
+pub fn ready(counting: &mut Counting, c: u32, message: &[u8]) -> Result<Option<Arrival>, NoMemory>
     requires { IsSound counting.old.numbers }
     ensures prepares { Prepares counting.old.numbers counting.new.numbers }
     ensures rest { KeepsRest counting.old counting.new }
@@ -78,29 +78,29 @@ pub fn ready(counting: &mut Counting, c: u32, message: &[u8]) -> Result<Option<R
     if !counting.current || c as usize >= counting.numbers.came.len() {
         return Ok(None);
     }
-    let Some(bulletin) = heard_in(&counting.centre, c, message) else {
+    let Some(arrival) = heard_in(&counting.centre, c, message) else {
         return Ok(None);
     };
-    counting.numbers.prepare(bulletin.key)?;
-    Ok(Some(bulletin))
+    counting.numbers.prepare(arrival.key)?;
+    Ok(Some(arrival))
 }
 
-/// Notes a bulletin that was accepted. Takes no memory.
-fn accept(counting: &mut Counting, ready: Option<Recent>)
+/// Notes a bulletin that was accepted at a position. Takes no memory.
+fn accept(counting: &mut Counting, ready: Option<Arrival>, position: u64)
     requires sound { IsSound counting.old.numbers }
     requires note { CanNote counting.old ready }
     ensures sound { IsSound counting.new.numbers }
-    ensures noted { AfterAccepted ready counting.old counting.new }
+    ensures noted { AfterAccepted ready position counting.old counting.new }
 {
-    if let Some(bulletin) = ready {
-        counting.numbers.note_accepted(bulletin);
+    if let Some(arrival) = ready {
+        counting.numbers.note_accepted(arrived(arrival, position));
     }
 }
 
 /// Notes what a message led to. Takes no memory.
 pub fn note_heard(
     counting: &mut Counting,
-    ready: Option<Recent>,
+    ready: Option<Arrival>,
     answer: Result<Outcome, SwitchFault>,
 )
     requires sound { IsSound counting.old.numbers }
@@ -109,7 +109,7 @@ pub fn note_heard(
     ensures noted { AfterHeard ready answer counting.old counting.new }
 {
     match answer {
-        Ok(Outcome::Accepted { .. }) => accept(counting, ready),
+        Ok(Outcome::Accepted { position, .. }) => accept(counting, ready, position),
         Err(SwitchFault::SayFault) => counting.current = false,
         _ => {}
     }

@@ -19,10 +19,11 @@ pub use counting::{Counting, key_in, note_heard, note_taken, ready};
 pub use laws::an_accepted_message_joins_the_window;
 pub use numbers::Numbers;
 pub use parts::Parts;
-pub use recent::Recent;
+pub use recent::{Arrival, Recent, arrived};
 pub use rows::{Row, add_row, has_row, join, join_draw, leave, leave_draw};
 pub use start::counting_of;
 pub use text::table;
 pub use worked::{
-    a_duplicate_is_not_counted, nothing_is_counted_of_nothing, the_window_bounds_what_is_counted,
+    a_bulletin_leaves_by_its_position, a_duplicate_is_not_counted, nothing_is_counted_of_nothing,
+    the_window_bounds_what_is_counted,
 };

@@ -1,6 +1,6 @@
 ghost use Rattle.std.specs.Prelude.{◌≡◌, ◌<◌, ◌++◌, [], ◌∷◌, ℕ, List, drop, length, slice_set, IsTrue, OnOk, OnErr, false};
-ghost use Rattle.circular_buffer.specs.Buffer.{buffer, keep_last};
-ghost use Rattle.gts_count.specs.Numbers.{IsSound, ring_at, without_oldest, with_newest, kept_with};
+ghost use Rattle.circular_buffer.specs.Buffer.{buffer};
+ghost use Rattle.gts_count.specs.Numbers.{IsSound, leaves, joined, ring_at, without_oldest, with_newest, kept_with};
 ghost use Rattle.gts_count.specs.Rows.{has_row};
 
 use crate::Recent;
@@ -58,20 +58,31 @@ impl Numbers {
         let _ = self.recent.push_back(bulletin);
     }
 
-    /// A bulletin was accepted: it joins the window, and the oldest one leaves it where it is full. Takes no memory.
+    /// Whether the oldest bulletin leaves the window when one of this position joins it. Takes no memory.
+    fn is_due(&self, position: u64) -> bool
+        ensures { result ≡ leaves self.now.recent.capacity self.now.recent.items position }
+    {
+        let Some(oldest) = self.recent.front() else {
+            return false;
+        };
+        let far = position.saturating_sub(oldest.position);
+        self.recent.capacity() as u64 <= far || self.recent.is_full()
+    }
+
+    /// A bulletin was accepted: it joins the window, and the oldest one goes whose position has left it. Takes no memory.
     pub fn note_accepted(&mut self, bulletin: Recent)
         requires sound { IsSound self.old }
         requires row { IsTrue (has_row self.old.rows bulletin.key) }
         requires circuit { bulletin.from < length self.old.came.items }
         ensures sound { IsSound self.new }
         ensures recent { self.new.recent.items
-            ≡ keep_last self.old.recent.capacity (self.old.recent.items ++ bulletin ∷ []) }
+            ≡ joined self.old.recent.capacity self.old.recent.items bulletin }
         ensures window { self.new.recent.capacity ≡ self.old.recent.capacity }
         ensures drawn { self.new.drawn ≡ self.old.drawn }
         ensures rows { (key : List ℕ) → has_row self.new.rows key ≡ has_row self.old.rows key }
         ensures circuits { length self.new.came.items ≡ length self.old.came.items }
     {
-        if self.recent.is_full() {
+        if self.is_due(bulletin.position) {
             self.forget_oldest();
         }
         self.push(bulletin);

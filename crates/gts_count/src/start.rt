@@ -96,6 +96,7 @@ fn note_bulletin(
     numbers.prepare(key)?;
     if is_recent(directory, accepted, bulletin.position) {
         numbers.note_accepted(Recent {
+            position: bulletin.position,
             key,
             from: bulletin.from,
             bytes: body.len() as u32,

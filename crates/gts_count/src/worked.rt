@@ -1,6 +1,6 @@
 //! Tables of literal histories, each row the contract of a function with an empty body.
 
-ghost use Rattle.gts_count.specs.Worked.{DuplicateNotCounted, WindowOfOne, NothingYet};
+ghost use Rattle.gts_count.specs.Worked.{DuplicateNotCounted, WindowOfOne, GapInWindow, NothingYet};
 
 /// Three bulletins came in and were drawn on the other circuit. The duplicate between them isn't counted.
 pub fn a_duplicate_is_not_counted()
@@ -10,6 +10,11 @@ pub fn a_duplicate_is_not_counted()
 /// With a window of one only the last bulletin is counted. All draws are kept, and counted.
 pub fn the_window_bounds_what_is_counted()
     ensures { WindowOfOne }
+{}
+
+/// A bulletin leaves when its position does, also where those between it and the new one are missing.
+pub fn a_bulletin_leaves_by_its_position()
+    ensures { GapInWindow }
 {}
 
 /// Where nothing was accepted, each circuit has its line.

@@ -2,7 +2,7 @@
 use Rattle.std.proofs.Common.{◌≡◌, ℕ, zero, suc, ◌+◌, ◌<◌, ◌≤◌, Bool, true, false, nat_eq, nat_le, List, [], ◌∷◌, length, map, get_or, drop, Option, None, Some, cond, refl, sym, ◌∙◌, ap, arith, inl, inr}
 use Rattle.std.specs.Cmp.Lexicographic.{pointwise}
 use Rattle.std.specs.Option.{option_or}
-use Rattle.std.proofs.lemmas.Bool.{cases_Bool, eqb-true, leb-true, le-leb, and_parts}
+use Rattle.std.proofs.lemmas.Bool.{cases_Bool, eqb-true, and_parts}
 use Rattle.gts_directory.specs.declared.fault.Part as part
 use Rattle.gts_directory.specs.declared.fault.Part.TheVariants as parts
 use Rattle.gts_directory.specs.declared.taking_over.Change.{Change}
@@ -116,13 +116,11 @@ none_changed stays Stays to n (row ∷ old) [] h = absurd h
 none_changed stays Stays to n (row ∷ old) (new ∷ rows) h = rw (to row new h.0) (none_changed stays Stays to (n + 1) old rows h.1)
 
 -- what stands once
-top_from : (old new : Directory) → top_stays old new ≡ true → (new.centre ≡ old.centre) × (new.window ≤ old.window)
-top_from old new h =
-    let (centre, window) = and_parts (pointwise nat_eq old.centre new.centre) (nat_le new.window old.window) h in
-    (same_text _ _ centre, leb-true _ _ window)
+top_from : (old new : Directory) → top_stays old new ≡ true → new.centre ≡ old.centre
+top_from old new h = same_text _ _ h
 
-from_top : (old new : Directory) → new.centre ≡ old.centre → new.window ≤ old.window → top_stays old new ≡ true
-from_top old new centre window = rw (text_same _ _ centre, le-leb _ _ window) refl
+from_top : (old new : Directory) → new.centre ≡ old.centre → top_stays old new ≡ true
+from_top old new centre = text_same _ _ centre
 
 no_change : (p : part.Part) (row : Option ℕ) → change_in p row ≡ None → row ≡ None
 no_change p None h = refl
@@ -141,16 +139,14 @@ top_none false h = absurd (cc)
 pub takes_over_from : (new old : Directory) → first_change new old ≡ None → TakesOver new old
 takes_over_from new old h =
     let (top, circuits) = join_none _ _ h in
-    let (centre, window) = top_from old new (top_none _ top) in
     record {
-      centre = centre;
-      window = window;
+      centre = top_from old new (top_none _ top);
       circuits = begin_with keeps_place KeepsPlace circuit_from 0 _ _ (no_change _ _ circuits);
     }
 
 pub none_from : (new old : Directory) → TakesOver new old → first_change new old ≡ None
 none_from new old e =
-    rw (from_top old new e.centre e.window)
+    rw (from_top old new e.centre)
     (rw (none_changed keeps_place KeepsPlace from_circuit 0 _ _ e.circuits) refl)
 
 -- a circuit is the first row that doesn't stay, or none is

@@ -1,6 +1,6 @@
 -- Which directory takes over from another one, and the first row that doesn't stay where it doesn't: the circuits stay in
 -- their places, with their neighbours, and circuits may be added behind them (profile).
-use Rattle.std.specs.Prelude.{◌≡◌, ℕ, ◌+◌, ◌≤◌, Bool, ◌&&◌, nat_eq, nat_le, List, [], ◌∷◌, Option, None, Some, if◌then◌else◌}
+use Rattle.std.specs.Prelude.{◌≡◌, ℕ, ◌+◌, Bool, ◌&&◌, nat_eq, List, [], ◌∷◌, Option, None, Some, if◌then◌else◌}
 use Rattle.std.specs.Cmp.Lexicographic.{pointwise}
 use Rattle.std.specs.Option.{option_or, option_map}
 use Rattle.gts_directory.specs.declared.fault.Part.TheVariants as part
@@ -20,12 +20,11 @@ BeginWith Stays (row ∷ old) [] = ⊥
 BeginWith Stays (row ∷ old) (new ∷ rows) = Stays row new × BeginWith Stays old rows
 
 -- A directory takes over from an old one: what a journal of the old one has come to can go on under it. The circuits keep their
--- places, circuits may be added behind them, and the window is no greater. All else may be other: the rules, the level rows, the
--- limit and the address, and of a circuit what it keeps, its digits, its ports and host, its idle time and repeat, and whether
+-- places, and circuits may be added behind them. All else may be other: the rules, the level rows, the window, the limit and the
+-- address, and of a circuit what it keeps, its digits, its ports and host, its idle time and repeat, and whether
 -- it is closed.
 pub record TakesOver (new old : Directory) : Type 0 where
   pub centre : new.centre ≡ old.centre
-  pub window : new.window ≤ old.window
   pub circuits : BeginWith KeepsPlace old.circuits new.circuits
 
 -- the same as tests
@@ -33,7 +32,7 @@ abbrev pub keeps_place : Circuit → Circuit → Bool
 keeps_place old new = pointwise nat_eq old.name new.name && pointwise nat_eq old.peer new.peer
 
 abbrev pub top_stays : Directory → Directory → Bool
-top_stays old new = pointwise nat_eq old.centre new.centre && nat_le new.window old.window
+top_stays old new = pointwise nat_eq old.centre new.centre
 
 -- the first of the old rows, counted from n, that isn't there in its place or doesn't stay
 abbrev pub first_changed : {A : Type 0} → (A → A → Bool) → ℕ → List A → List A → Option ℕ

@@ -42,11 +42,11 @@ pub(crate) fn first_change(new: &DirRows, old: &DirRows) -> Option<Change>
     None
 }
 
-/// Whether the own centre stays, and the window is no greater.
+/// Whether the own centre stays.
 fn top_stays(old: &DirRows, new: &DirRows) -> bool
     ensures { result ≡ takes_over.top_stays (directory_of_rows old.now) (directory_of_rows new.now) }
 {
-    old.centre == new.centre && new.window <= old.window
+    old.centre == new.centre
 }
 
 /// The first circuit that doesn't stay.

@@ -10,3 +10,7 @@ eights = 8 ∷ 8 ∷ []
 -- two bulletins of one digest, and then one of another
 abbrev pub three_noted : List (List ℕ × ℕ)
 three_noted = (sevens, 0) ∷ (sevens, 1) ∷ (eights, 2) ∷ []
+
+-- between two bulletins some are missing
+abbrev pub with_a_gap : List (List ℕ × ℕ)
+with_a_gap = (sevens, 0) ∷ (eights, 5) ∷ []

@@ -1,9 +1,9 @@
-ghost use Rattle.std.specs.Prelude.{◌≡◌, ◌<◌, ◌≤◌, ◌+◌, ◌++◌, [], ◌∷◌, slice_get, IfSome, IfNone, IfOk, OnOk};
+ghost use Rattle.std.specs.Prelude.{◌≡◌, ◌<◌, ◌≤◌, ◌+◌, ◌++◌, [], ◌∷◌, length, slice_get, IfSome, IfNone, IfOk, OnOk};
 ghost use Rattle.std.specs.HashMap.{spare};
-ghost use Rattle.circular_buffer.specs.Buffer.{keep_last};
+ghost use Rattle.circular_buffer.specs.Buffer.{buffer};
 ghost use Rattle.gts_heading.specs.Heading.{fields_of};
-ghost use Rattle.gts_dup.specs.Window.{latest_below, AllBelow, IsGreatestBelow, NoneBelow, digest_of};
-ghost use Rattle.gts_dup.specs.Index.{Forgets};
+ghost use Rattle.gts_dup.specs.Window.{latest_below, recent_pairs, AllBelow, AllRecent, IsGreatestBelow, NoneBelow, digest_of};
+ghost use Rattle.gts_dup.specs.Index.{Forgets, IsSound};
 
 use circular_buffer::HeapCircularBuffer;
 use gts_alphabet::{EOL, NoMemory};
@@ -13,9 +13,9 @@ use std::alloc::Global;
 use std::collections::HashMap;
 use std::marker::Model;
 
-/// The digests of the last bulletins that were noted, with their positions. Equal digests alone decide nothing: the
-/// caller compares the bytes. Contracts see the pairs in order. A hashed index leads from a digest to its latest
-/// position, so that a look-up goes over the pairs only where that position is too high.
+/// The digests of the bulletins that are known among the last positions, with these. Bulletins may be missing there. Equal
+/// digests alone decide nothing: the caller compares the bytes. Contracts see the pairs in order. A hashed index leads from
+/// a digest to its latest position, so that a look-up goes over the pairs only where that position is too high.
 #[derive(Drop)]
 pub struct DupTable {
     ring: HeapCircularBuffer<([u8; 32], u64)>,
@@ -47,7 +47,7 @@ impl DupTable {
         hasher.finalize()
     }
 
-    /// A table that notes the last `window` bulletins.
+    /// A table for the bulletins of the last `window` positions.
     pub fn new(alloc: Global, window: u32) -> Result<DupTable, NoMemory>
         requires { 1 ≤ window }
         ensures noted { IfOk result (λ table. table.noted ≡ []) }
@@ -70,18 +70,17 @@ impl DupTable {
         Ok(())
     }
 
-    /// Notes a digest and its position. Where the window is full, the oldest pair goes. It takes no memory.
+    /// Notes a digest and its position. The pair whose position has then left the window goes. It takes no memory.
     pub fn put(&mut self, digest: [u8; 32], position: u64)
         requires room { 1 ≤ self.old.spare }
         requires above { AllBelow position self.old.noted }
-        ensures noted { self.new.noted
-            ≡ keep_last self.old.width (self.old.noted ++ (digest, position) ∷ []) }
+        requires recent { AllRecent self.old.width position self.old.noted }
+        ensures noted { self.new.noted ≡ recent_pairs self.old.width (position + 1)
+            (self.old.noted ++ (digest, position) ∷ []) }
         ensures width { self.new.width ≡ self.old.width }
         ensures spare { self.old.spare ≤ self.new.spare + 1 }
     {
-        if self.ring.is_full() {
-            forget_oldest(&self.ring, &mut self.index);
-        }
+        forget_oldest(&mut self.ring, &mut self.index, position);
         self.ring.push_back((digest, position));
         let _ = self.index.insert(digest, position);
     }
@@ -101,8 +100,32 @@ impl DupTable {
     }
 }
 
+/// The oldest pair goes, where its position has left the window with this one. The positions of all others are above it.
+fn forget_oldest(
+    ring: &mut HeapCircularBuffer<([u8; 32], u64)>,
+    index: &mut HashMap<[u8; 32], u64>,
+    position: u64,
+)
+    requires sound { IsSound ring.old index.old }
+    requires above { AllBelow position ring.old.items }
+    requires recent { AllRecent ring.old.capacity position ring.old.items }
+    ensures left { ring.new ≡ buffer (recent_pairs ring.old.capacity (position + 1) ring.old.items)
+        ring.old.capacity }
+    ensures sound { IsSound ring.new index.new }
+    ensures room { length ring.new.items < ring.new.capacity }
+    ensures spare { spare index.old ≤ spare index.new }
+{
+    let Some(oldest) = ring.front() else {
+        return;
+    };
+    if position.saturating_sub(oldest.1) >= ring.capacity() as u64 {
+        take_out_oldest(ring, index);
+        ring.pop_front();
+    }
+}
+
 /// Takes the oldest pair out of the index, where no later one has its digest.
-fn forget_oldest(ring: &HeapCircularBuffer<([u8; 32], u64)>, index: &mut HashMap<[u8; 32], u64>)
+fn take_out_oldest(ring: &HeapCircularBuffer<([u8; 32], u64)>, index: &mut HashMap<[u8; 32], u64>)
     ensures forgets { IfSome (slice_get ring.now.items 0) (Forgets index.old index.new) }
     ensures spare { spare index.old ≤ spare index.new }
 {

@@ -1,9 +1,8 @@
 //! Rows computed on literal pairs, each the contract of a function with an empty body.
 
 ghost use Rattle.std.specs.Prelude.{◌≡◌, true, false, [], ◌∷◌, Some, None};
-ghost use Rattle.circular_buffer.specs.Buffer.{keep_last};
-ghost use Rattle.gts_dup.specs.Window.{latest_below, is_noted};
-ghost use Rattle.gts_dup.specs.Worked.{sevens, eights, three_noted};
+ghost use Rattle.gts_dup.specs.Window.{latest_below, is_noted, recent_pairs};
+ghost use Rattle.gts_dup.specs.Worked.{sevens, eights, three_noted, with_a_gap};
 
 /// Of three pairs two have the first digest: the later one is found, unless its position is too high.
 pub fn worked_latest()
@@ -16,8 +15,10 @@ pub fn worked_latest()
     ensures not_noted { is_noted three_noted sevens 2 ≡ false }
 {}
 
-/// A window of two keeps the last two pairs.
+/// A window of two keeps the pairs of the last two positions, however many these are.
 pub fn worked_window()
-    ensures kept { keep_last 2 three_noted ≡ (sevens, 1) ∷ (eights, 2) ∷ [] }
-    ensures gone { latest_below sevens 1 (keep_last 2 three_noted) ≡ None }
+    ensures kept { recent_pairs 2 3 three_noted ≡ (sevens, 1) ∷ (eights, 2) ∷ [] }
+    ensures gone { latest_below sevens 1 (recent_pairs 2 3 three_noted) ≡ None }
+    ensures gap { recent_pairs 2 6 with_a_gap ≡ (eights, 5) ∷ [] }
+    ensures wider { recent_pairs 6 6 with_a_gap ≡ with_a_gap }
 {}

@@ -6,7 +6,7 @@ use Rattle.std.proofs.lemmas.List.FromFn.{length-range_with_len}
 use Rattle.std.proofs.lemmas.List.Elements.{filter-append}
 use Rattle.std.proofs.lemmas.Bool.{cases_lt, le-leb, leb-true}
 use Rattle.gts_directory.specs.Directory.{Directory}
-use Rattle.gts_event.specs.State.{State, Bulletin, recent}
+use Rattle.gts_event.specs.State.{State, Bulletin, recent, recent_among}
 use Rattle.gts_event.specs.Need.{positions_of, recent_positions}
 use Rattle.gts_event.proofs.ListLemmas.{filter_first}
 
@@ -47,7 +47,18 @@ old_goes w count bs one e =
         not_le : (a b : ℕ) → b < a → nat_le a b ≡ false
         not_le a b less = elim (nat_le a b) as (λ t. nat_le a b ≡ t → t ≡ false) [ true ↦ λ k. absurd (omega (arith, leb-true a b k)) | false ↦ λ k. refl ] refl
 
--- one bulletin more: as many of the last ones as the window has stay
+-- one bulletin more: those that are then among the last positions stay
+pub recent_more : (d : Directory) (t : State) (b : Bulletin) (new : State) → new.count ≡ t.count + 1 → new.accepted ≡ t.accepted ++ b ∷ []
+    → recent d new ≡ recent_among d new.count (recent d t ++ b ∷ [])
+recent_more d t b new count accepted =
+    let p : Bulletin → Bool = λ x. nat_le t.count (x.position + d.window) in
+    let q : Bulletin → Bool = λ x. nat_le new.count (x.position + d.window) in
+    ap (filter q) accepted
+    ∙ filter-append q t.accepted (b ∷ [])
+    ∙ ap (λ (xs : List Bulletin). xs ++ filter q (b ∷ [])) (sym (filter_first p q t.accepted (λ x k. le-leb t.count (x.position + d.window) (let big = leb-true new.count (x.position + d.window) k in omega (arith, big, count)))))
+    ∙ sym (filter-append q (recent d t) (b ∷ []))
+
+-- where each recent position has its bulletin, as many of the last ones as the window has stay
 pub recent_next : (d : Directory) (t : State) (b : Bulletin) (new : State) → 1 ≤ d.window → positions_of (recent d t) ≡ recent_positions d t.count → b.position ≡ t.count
     → new.count ≡ t.count + 1 → new.accepted ≡ t.accepted ++ b ∷ [] → recent d new ≡ drop (length (recent d t ++ b ∷ []) - d.window) (recent d t ++ b ∷ [])
 recent_next d t b new one e at count accepted =

@@ -16,7 +16,8 @@ use std::marker::Model;
 use std::sync::Wait;
 
 /// The desk of a circuit's receiver or sender at a hall: each call is one turn of its pass. After a turn for what came in, the
-/// bell is rung, since there may be something to send; after a draw the one for room, where somebody waits for that.
+/// bell is rung, since there may be something to send; after a draw, or a fault behind which nothing is dealt with, the one for room,
+/// where somebody waits for that.
 pub struct HallDesk<'a, R: Wait, P: Station, B: Began> {
     rt: &'a R,
     alloc: Global,
@@ -79,6 +80,15 @@ impl<'a, R: Wait, P: Station, B: Began> HallDesk<'a, R, P, B> {
         }
     }
 
+    /// Wakes those who wait for room, where a draw has gone out, or behind a fault nothing is dealt with any more.
+    fn wakes(&self, answer: Result<Outcome, SwitchFault>) {
+        match answer {
+            Err(SwitchFault::Full { .. } | SwitchFault::NoMemory) => {}
+            Ok(Outcome::Draw { .. }) | Err(_) => self.room.wake(),
+            Ok(_) => {}
+        }
+    }
+
     /// The pass, which has seen what the desk has.
     pub fn into_pass(self) -> Pass<Housed<P, B>>
         ensures pass { result ≡ self.entry }
@@ -111,6 +121,7 @@ impl<'a, R: Wait, P: Station, B: Began> Desk for HallDesk<'a, R, P, B> {
         self.pass = Some(pass);
         self.bell.ring();
         self.waits_on(answer);
+        self.wakes(answer);
         answer
     }
 
@@ -129,6 +140,7 @@ impl<'a, R: Wait, P: Station, B: Began> Desk for HallDesk<'a, R, P, B> {
         let (pass, answer) = turns::lost(self.rt, self.hall, pass, c, field);
         self.pass = Some(pass);
         self.bell.ring();
+        self.wakes(answer);
         answer
     }
 
@@ -138,9 +150,7 @@ impl<'a, R: Wait, P: Station, B: Began> Desk for HallDesk<'a, R, P, B> {
         };
         let (pass, answer) = turns::take(self.rt, self.hall, pass, c, out);
         self.pass = Some(pass);
-        if let Ok(Outcome::Draw { .. }) = answer {
-            self.room.drew();
-        }
+        self.wakes(answer);
         answer
     }
 }

@@ -2,7 +2,8 @@ use gts_bell::{Bell, Look};
 use std::sync::Wait;
 use std::sync::atomic::{AtomicU64, Ordering};
 
-/// Where receivers sleep that have a message for which there is no room, until draws have gone out. Nothing is claimed of it.
+/// Where receivers sleep that have a message for which there is no room, until draws have gone out, or the engine has stopped. Nothing
+/// is claimed of it.
 #[derive(Drop)]
 pub struct RoomBell {
     bell: Bell,
@@ -34,13 +35,13 @@ impl RoomBell {
         self.bell.look()
     }
 
-    /// Sleeps until a draw has gone out that wasn't seen. It may also return for no reason.
+    /// Sleeps until it was rung since it was looked at. It may also return for no reason.
     pub fn wait<R: Wait>(&self, rt: &R, seen: Look) {
         self.bell.wait(rt, seen);
     }
 
-    /// A draw has gone out. Wakes those who wait.
-    pub fn drew(&self) {
+    /// There may be room, or there never will be. Wakes those who wait.
+    pub fn wake(&self) {
         if self.waiting.load(Ordering::SeqCst) > 0 {
             self.bell.ring();
         }

@@ -89,7 +89,6 @@ held-let_go d s h =
       };
       bodies = h.bodies;
       order = h.order;
-      recent = h.recent;
       each = λ c lt. held_each s d.circuits s.circuits (λ k low. h.each k (omega (arith, low, same))) c (omega (arith, lt, same));
     }
 

@@ -1,4 +1,4 @@
-ghost use Rattle.std.specs.Prelude.{◌≤◌, length, IfOk, IfSome};
+ghost use Rattle.std.specs.Prelude.{◌≡◌, ◌≤◌, None, length, IfOk, IfSome};
 
 use std::alloc::{AllocError, Global};
 use std::fs::File;
@@ -52,13 +52,16 @@ impl Ahead {
     }
 
     /// Drops what was read ahead: the files change.
-    pub(crate) fn forget(&mut self) {
+    pub(crate) fn forget(&mut self)
+        ensures { self.new.bytes ≡ None }
+    {
         self.bytes = None;
     }
 
     /// Gives so many bytes of a file from a place on, where all of them were read ahead.
     fn give(&self, number: u32, at: u64, into: &mut [u8]) -> Option<usize>
-        ensures { IfSome result (λ count. count ≤ length into.old) }
+        ensures count { IfSome result (λ count. count ≤ length into.old) }
+        ensures own { IfSome result (λ _. number ≡ self.now.file) }
     {
         let bytes = self.bytes.as_ref()?;
         if number != self.file || at < self.at {

@@ -1,4 +1,4 @@
-ghost use Rattle.std.specs.Prelude.{◌≡◌, ◌≤◌, ◌<◌, true, None, length, IfOk, IsErr, is_err, is_some};
+ghost use Rattle.std.specs.Prelude.{◌≡◌, ◌≤◌, ◌<◌, true, None, length, IfOk, OnOk, IsErr, is_err, is_some};
 ghost use Rattle.gts_real.specs.{FailsWhere};
 
 use crate::ahead::Ahead;
@@ -166,6 +166,7 @@ impl Disk {
         act: Act,
     ) -> Result<(), Cause>
         requires { file < 3 }
+        ensures forgotten { OnOk result (self.new.ahead.bytes ≡ None) }
         ensures reader { FailsWhere result self.old.is_reader self.new.is_reader }
         ensures lost { FailsWhere result (is_some self.old.lost) (is_some self.new.lost) }
     {

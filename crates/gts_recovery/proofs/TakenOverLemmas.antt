@@ -154,7 +154,6 @@ held-over new old n e h =
       };
       bodies = bulletins-over new old n.accepted n.bulletins e p.bodies;
       order = start.order;
-      recent = λ q lt near. start.recent q lt (let window = e.window in omega (arith, near, window));
       each = held_each n old.circuits new.circuits n.circuits p.same p.circuits (λ c low. start.each c (let same = p.same in omega (arith, low, same)));
     }
 

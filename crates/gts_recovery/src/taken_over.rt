@@ -1,11 +1,12 @@
 //! What a need comes to under a directory that takes over from its own: laws, the contracts of functions with an empty body.
 
-ghost use Rattle.std.specs.Prelude.{◌≡◌, ◌<◌, [], ℕ, length, slice_get, Some, IsTrue};
+ghost use Rattle.std.specs.Prelude.{◌≡◌, ◌<◌, [], ℕ, List, length, slice_get, Some, IsTrue};
 ghost use Rattle.gts_directory.specs.Directory.{Circuit};
 ghost use Rattle.gts_directory.specs.TakingOver.{TakesOver};
-ghost use Rattle.gts_event.specs.State.{State, on_circuit, draws, drawn, waiting};
-ghost use Rattle.gts_event.specs.History.{restarted};
-ghost use Rattle.gts_event.specs.Cited.{Directory, Need, IsOrdered, IsHeld, need, begun, is_sound};
+ghost use Rattle.gts_event.specs.State.{State, Bulletin, on_circuit, draws, drawn, waiting};
+ghost use Rattle.gts_event.specs.History.{after_all, restarted};
+ghost use Rattle.gts_event.specs.declared.event.Entry.{Entry};
+ghost use Rattle.gts_event.specs.Cited.{Directory, Need, IsOrdered, IsHeld, Knows, need, begun, is_sound};
 ghost use Rattle.gts_opening.specs.Journal.{due};
 ghost use Rattle.gts_recovery.specs.TakenOver.{goes_over};
 
@@ -41,4 +42,12 @@ pub fn what_a_circuit_had_goes_on()
         → ⊥) → IsTrue (is_sound old n) → drawn (on_circuit (goes_over new old n) c) ≡ [] }
     ensures unowed { (new old : Directory) (n : Need) (c : ℕ)
         → (on_circuit (goes_over new old n) c).owed ≡ [] }
+{}
+
+/// What was known as a duplicate is one under the new directory too, whatever follows, as long as its position is among the last
+/// `window` of that one: where that is greater, what is known stays known.
+pub fn what_was_known_stays_known()
+    ensures { (new old : Directory) (n : Need) (entries : List Entry) (b : Bulletin) (i : ℕ)
+        → slice_get n.bulletins i ≡ Some b
+        → Knows new (after_all new (goes_over new old n) entries) b }
 {}

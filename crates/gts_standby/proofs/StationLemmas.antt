@@ -110,8 +110,7 @@ module _ (d : Directory) (file : ℕ) (bytes : List ℕ) (x : State × ℕ × Li
       let a = and_parts _ _ h2.1 in
       let b = and_parts _ _ a.0 in
       let c = and_parts _ _ b.0 in
-      let e = and_parts _ _ c.0 in
-      (and_parts _ (list_all (is_bulletin d n.accepted) n.bulletins) e.0).1
+      (and_parts _ (list_all (is_bulletin d n.accepted) n.bulletins) c.0).1
 
   -- it is found, with its seal
   abbrev whole : ℕ

@@ -1,10 +1,11 @@
 //! The station of a service. A circuit may wait for its neighbour without an end, and holds the end of the run up then. So where the
-//! disk or standard output of a service fails, that is told at once.
+//! disk or standard output of a service fails, that is told at once, and the lines of all circuits come to their ends.
 ghost use Rattle.std.specs.Prelude.{◌≡◌};
 
-use crate::fault::FaultLine;
+use crate::telling::tell;
 use gts_app::Status;
 use gts_real::{Cause, FileStation};
+use gts_tcp::Stop;
 use gts_traits::{Failed, Station};
 use std::fs::File;
 use std::rt::Files;
@@ -28,25 +29,17 @@ impl<R: Files<File = File> + Print + AllocGlobal> Causes for FileStation<'_, R> 
     }
 }
 
-/// Tells the operator of an end with a fault, and why a call on a file failed. Where it can't be told, the exit status still says
-/// the first.
-pub fn tell<R: Eprint>(rt: &R, status: Status, cause: Option<Cause>) {
-    let line = FaultLine(status);
-    let _ = eprintln!(rt; "gts_switch: {line}");
-    if let Some(cause) = cause {
-        let _ = eprintln!(rt; "gts_switch: {cause}");
-    }
-}
-
 /// A station that does what the one in it does. Where it is a service's, the first call that fails is told, with the lines of such an
 /// end.
 #[derive(Drop)]
 pub struct ServiceStation<'a, R: Eprint, P> {
     pub rt: &'a R,
     pub station: P,
+    /// Lets the lines come to their ends.
+    pub stop: &'a Stop,
     pub is_service: bool,
-    /// Whether a call that failed was told.
-    pub told: bool,
+    /// The end that was told.
+    pub told: Option<Status>,
 }
 
 impl<R: Eprint, P: Station + Causes> ServiceStation<'_, R, P> {
@@ -54,9 +47,10 @@ impl<R: Eprint, P: Station + Causes> ServiceStation<'_, R, P> {
     fn looks_at_disk(&mut self, failed: bool)
         ensures { self.new.station ≡ self.old.station }
     {
-        if failed && self.is_service && !self.told {
-            self.told = true;
+        if failed && self.is_service && self.told.is_none() {
+            self.told = Some(Status::DiskFault);
             tell(self.rt, Status::DiskFault, self.station.disk_cause());
+            self.stop.set();
         }
     }
 
@@ -64,9 +58,10 @@ impl<R: Eprint, P: Station + Causes> ServiceStation<'_, R, P> {
     fn looks_at_output(&mut self, failed: bool)
         ensures { self.new.station ≡ self.old.station }
     {
-        if failed && self.is_service && !self.told {
-            self.told = true;
+        if failed && self.is_service && self.told.is_none() {
+            self.told = Some(Status::SayFault);
             tell(self.rt, Status::SayFault, self.station.say_cause());
+            self.stop.set();
         }
     }
 }

@@ -2,12 +2,16 @@ ghost use Rattle.std.specs.Prelude.{◌≡◌, ◌≤◌, [], length, IfOk};
 
 use crate::cause::{named, note};
 use crate::pausing::Pauses;
-use crate::{LineCall, LineCause};
+use crate::stop::{LONGEST_WAIT, Patience, goes_on, has_waited};
+use crate::{LineCall, LineCause, Stop};
 use gts_traits::{Failed, Line, Place, Source, counted};
 use std::io;
 use std::io::{ErrorKind, Read};
 use std::net::{IpAddr, Ipv4Addr, TcpListener, TcpStream};
 use std::time::{Clock, Duration, Instant};
+
+/// How often a connection that is waited for without an end is read in a second.
+const LOOKS_A_SECOND: u64 = 1_000 / LONGEST_WAIT as u64;
 
 /// For how many seconds a circuit tells of no further callers that it turns away, once it has told of one.
 const A_MINUTE: u64 = 60;
@@ -19,8 +23,7 @@ pub struct TcpIn<'a, R: Clock + Eprint> {
     circuit: u32,
     listener: TcpListener,
     place: Place,
-    /// Whether a failure to accept is answered. A service accepts again.
-    gives_up: bool,
+    patience: Patience<'a>,
     /// The present connection. None where it isn't accepted yet.
     stream: Option<TcpStream>,
     faults: u64,
@@ -30,14 +33,14 @@ pub struct TcpIn<'a, R: Clock + Eprint> {
 }
 
 impl<'a, R: Clock + Eprint> TcpIn<'a, R> {
-    /// The connections of this listener, of which none was accepted yet, and none has failed. Where accepting fails, that is
-    /// answered, or it is tried again and again.
+    /// The connections of this listener, which doesn't wait; none was accepted yet, and none has failed. Where accepting fails, that
+    /// is answered, or it is tried again and again.
     pub(crate) fn new(
         rt: &'a R,
         circuit: u32,
         listener: TcpListener,
         at: &Place,
-        gives_up: bool,
+        patience: Patience<'a>,
     ) -> TcpIn<'a, R>
         ensures { result.faults ≡ 0 }
     {
@@ -46,7 +49,7 @@ impl<'a, R: Clock + Eprint> TcpIn<'a, R> {
             circuit,
             listener,
             place: *at,
-            gives_up,
+            patience,
             stream: None,
             faults: 0,
             cause: None,
@@ -83,13 +86,15 @@ impl<'a, R: Clock + Eprint> TcpIn<'a, R> {
         let _ = eprintln!(rt; "gts_switch: circuit {circuit}: turned away {caller}");
     }
 
-    /// The neighbour's next connection. A caller that was gone before it was accepted is passed over. One from another address is
-    /// closed, and told of.
+    /// The neighbour's next connection, which is looked for again and again. A caller that was gone before it was accepted is passed
+    /// over. One from another address is closed, and told of.
     fn next_caller(&mut self) -> io::Result<TcpStream>
         ensures { self.new.faults ≡ self.old.faults }
     {
+        let mut looks = Pauses::of_looks();
         let mut pauses = Pauses::new();
         for _ in 0..u64::MAX {
+            goes_on(self.patience.stop)?;
             match self.listener.accept() {
                 Ok((stream, from)) if is_neighbour(self.place.host, from.ip()) => {
                     if is_there(&stream) {
@@ -100,23 +105,22 @@ impl<'a, R: Clock + Eprint> TcpIn<'a, R> {
                     drop(stream);
                     self.tell(from.ip());
                 }
+                Err(error) if has_waited(&error) => looks.make(self.rt, self.patience.stop),
                 Err(error) if error.kind() == ErrorKind::ConnectionAborted => {}
-                Err(error) if self.gives_up => return Err(error),
+                Err(error) if self.patience.tries.is_some() => return Err(error),
                 // There may be no descriptor left for a while.
-                Err(_) => pauses.make(self.rt),
+                Err(_) => pauses.make(self.rt, self.patience.stop),
             }
         }
         Err(io::Error::from(ErrorKind::ConnectionAborted))
     }
 
-    /// Accepts the next connection, which counts as broken where no byte comes on it for the circuit's `idle` seconds.
+    /// Accepts the next connection.
     fn accept(&mut self) -> io::Result<()>
         ensures { self.new.faults ≡ self.old.faults }
     {
         let stream = self.next_caller()?;
-        if let Some(seconds) = self.place.idle {
-            stream.set_read_timeout(Some(Duration::from_secs(u64::from(seconds))))?;
-        }
+        stream.set_read_timeout(Some(Duration::from_millis(u64::from(LONGEST_WAIT))))?;
         self.stream = Some(stream);
         Ok(())
     }
@@ -130,11 +134,35 @@ impl<'a, R: Clock + Eprint> TcpIn<'a, R> {
         if self.stream.is_none() {
             named(self.accept(), LineCall::Accept, port)?;
         }
+        let idle = self.place.idle;
+        let stop = self.patience.stop;
         match &mut self.stream {
-            Some(stream) => named(stream.read(into), LineCall::Read, port),
+            Some(stream) => named(read_within(stream, into, idle, stop), LineCall::Read, port),
             None => named(Err(not_connected()), LineCall::Read, port),
         }
     }
+}
+
+/// Reads some bytes of a connection, whose reads wait for a short time each. One on which no byte comes for so many seconds is broken;
+/// without a number it is waited for without an end.
+fn read_within(
+    stream: &mut TcpStream,
+    into: &mut [u8],
+    idle: Option<u16>,
+    stop: Option<&Stop>,
+) -> io::Result<usize>
+    ensures { IfOk result (λ count. count ≤ length into.new) }
+{
+    let looks = idle.map_or(u64::MAX, |seconds| u64::from(seconds) * LOOKS_A_SECOND);
+    let mut last = not_connected();
+    for _ in 0..looks {
+        goes_on(stop)?;
+        match stream.read(into) {
+            Err(error) if has_waited(&error) => last = error,
+            answer => return answer,
+        }
+    }
+    Err(last)
 }
 
 /// Whether a caller from this address is the neighbour at that host. On the machine itself the system lets callers come from

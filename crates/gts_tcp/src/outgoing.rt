@@ -1,10 +1,11 @@
-ghost use Rattle.std.specs.Prelude.{◌≡◌, []};
+ghost use Rattle.std.specs.Prelude.{◌≡◌, ◌≤◌, [], length, IfOk};
 
 use crate::cause::{named, note};
 use crate::dialing::{LONGEST_TRY, dial_once};
 use crate::incoming::not_connected;
 use crate::pausing::Pauses;
-use crate::{LineCall, LineCause};
+use crate::stop::{LONGEST_WAIT, Patience, goes_on, has_waited};
+use crate::{LineCall, LineCause, Stop};
 use gts_traits::{Failed, Place, Sink, counted};
 use std::io;
 use std::io::{ErrorKind, Read, Write};
@@ -25,7 +26,7 @@ const MOST_LOOKS: u32 = 64;
 struct Way<'a, R: Net<Listener = TcpListener, Stream = TcpStream> + Clock> {
     rt: &'a R,
     place: Place,
-    tries: Option<u32>,
+    patience: Patience<'a>,
     /// None where none came yet, or the last one broke.
     stream: Option<TcpStream>,
     /// Whether a connection has stood.
@@ -40,8 +41,12 @@ impl<R: Net<Listener = TcpListener, Stream = TcpStream> + Clock> Way<'_, R> {
     /// Connects anew, with one try that takes so many milliseconds at most.
     fn connect(&mut self, milliseconds: u32) -> io::Result<()> {
         self.stream = None;
+        goes_on(self.patience.stop)?;
         let stream = dial_once(self.rt, self.place.host, self.place.output, milliseconds)?;
         stream.set_nodelay(true)?;
+        stream.set_write_timeout(Some(Duration::from_millis(u64::from(LONGEST_WAIT))))?;
+        // A look before each frame then costs one call.
+        stream.set_nonblocking(true)?;
         self.stream = Some(stream);
         self.has_stood = true;
         Ok(())
@@ -49,8 +54,9 @@ impl<R: Net<Listener = TcpListener, Stream = TcpStream> + Clock> Way<'_, R> {
 
     /// Writes all of a piece on the connection that stands.
     fn write_whole(&mut self, piece: &[u8]) -> io::Result<()> {
+        let stop = self.patience.stop;
         match &mut self.stream {
-            Some(stream) => stream.write_all(piece)?,
+            Some(stream) => write_on(stream, piece, stop)?,
             None => return Err(not_connected()),
         }
         if self.place.idle.is_some() {
@@ -69,7 +75,7 @@ impl<R: Net<Listener = TcpListener, Stream = TcpStream> + Clock> Way<'_, R> {
     /// Gives up a connection that the neighbour has ended.
     fn look(&mut self) {
         if let Some(stream) = &mut self.stream
-            && has_ended(stream)
+            && reads_an_end(stream)
         {
             self.stream = None;
         }
@@ -77,7 +83,7 @@ impl<R: Net<Listener = TcpListener, Stream = TcpStream> + Clock> Way<'_, R> {
 
     /// Writes all of a piece. Where the neighbour has ended the connection, or that breaks, the port is tried so many times at most,
     /// or without an end, and each connection that comes of it begins with the first byte of the piece. The answer is the last
-    /// failure where none of them takes all of it.
+    /// failure where none of them takes all of it, or the run is to end.
     fn deliver(&mut self, piece: &[u8]) -> Result<(), LineCause> {
         self.look();
         let first = named(self.write_whole(piece), LineCall::Write, self.place.output);
@@ -85,12 +91,15 @@ impl<R: Net<Listener = TcpListener, Stream = TcpStream> + Clock> Way<'_, R> {
             return Ok(());
         };
         let mut pauses = Pauses::new();
-        for _ in 0..self.tries.map_or(u64::MAX, u64::from) {
+        for _ in 0..self.patience.tries.map_or(u64::MAX, u64::from) {
             match self.write_anew(piece) {
                 Ok(()) => return Ok(()),
                 Err(cause) => last = cause,
             }
-            pauses.make(self.rt);
+            if goes_on(self.patience.stop).is_err() {
+                break;
+            }
+            pauses.make(self.rt, self.patience.stop);
         }
         Err(last)
     }
@@ -139,21 +148,46 @@ impl<R: Net<Listener = TcpListener, Stream = TcpStream> + Clock> Way<'_, R> {
     }
 }
 
+/// Writes some of a piece on a connection that doesn't wait; where it takes none now, waits for a short time for some.
+fn write_some(stream: &mut TcpStream, piece: &[u8]) -> io::Result<usize>
+    ensures { IfOk result (λ count. count ≤ length piece.now) }
+{
+    let first = stream.write(piece);
+    match &first {
+        Err(error) if has_waited(error) => {}
+        _ => return first,
+    }
+    stream.set_nonblocking(false)?;
+    let second = stream.write(piece);
+    stream.set_nonblocking(true)?;
+    second
+}
+
+/// Writes all of a piece on a connection. Where a write takes a part, the next goes on behind it.
+fn write_on(stream: &mut TcpStream, piece: &[u8], stop: Option<&Stop>) -> io::Result<()> {
+    let mut rest = piece;
+    for _ in 0..u64::MAX {
+        if rest.is_empty() {
+            return Ok(());
+        }
+        goes_on(stop)?;
+        match write_some(stream, rest) {
+            Ok(0) => return Err(io::Error::from(ErrorKind::WriteZero)),
+            Ok(count) => rest = &rest[count..],
+            Err(error) if has_waited(&error) => {}
+            Err(error) => return Err(error),
+        }
+    }
+    Err(not_connected())
+}
+
 /// A time in milliseconds.
 fn milliseconds_of(time: Duration) -> u32 {
     u32::try_from(time.as_millis()).unwrap_or(u32::MAX)
 }
 
-/// Whether the neighbour has ended a connection, or it broke. What the neighbour sends on it is read away, and is no end.
-fn has_ended(stream: &mut TcpStream) -> bool {
-    if stream.set_nonblocking(true).is_err() {
-        return true;
-    }
-    let is_ended = reads_an_end(stream);
-    stream.set_nonblocking(false).is_err() || is_ended
-}
-
-/// Whether a connection that doesn't wait has come to its end.
+/// Whether the neighbour has ended a connection, which doesn't wait, or it broke. What the neighbour sends on it is read away, and is
+/// no end.
 fn reads_an_end(stream: &mut TcpStream) -> bool {
     let mut piece = [0u8; 64];
     for _ in 0..MOST_LOOKS {
@@ -179,13 +213,13 @@ pub struct TcpOut<'a, R: Net<Listener = TcpListener, Stream = TcpStream> + Clock
 impl<'a, R: Net<Listener = TcpListener, Stream = TcpStream> + Clock> TcpOut<'a, R> {
     /// The way to a neighbour, whose port is tried once now, without waiting. Where something is to be written and no connection
     /// stands, it is tried so many times at most, or without an end.
-    pub(crate) fn new(rt: &'a R, at: &Place, tries: Option<u32>) -> TcpOut<'a, R>
+    pub(crate) fn new(rt: &'a R, at: &Place, patience: Patience<'a>) -> TcpOut<'a, R>
         ensures { result.faults ≡ 0 }
     {
         let mut way = Way {
             rt,
             place: *at,
-            tries,
+            patience,
             stream: None,
             has_stood: false,
             pauses: Pauses::new(),
@@ -226,7 +260,7 @@ impl<R: Net<Listener = TcpListener, Stream = TcpStream> + Clock> Sink for TcpOut
 
     ghost faults = { λ s. s.faults };
 
-    /// Takes all of the piece. Fails where the connection broke and no other took it within the tries.
+    /// Takes all of the piece. Fails where the connection broke and no other took it within the tries, or the run is to end.
     fn write(&mut self, piece: &[u8]) -> Result<usize, Failed> {
         let answer = self.way.deliver(piece);
         note(&answer, &mut self.cause);

@@ -1,6 +1,6 @@
 use Rattle.std.proofs.Common.{ap, sym, ◌∙◌}
 use Rattle.std.proofs.lemmas.Result.{err_from_is_err_and}
-use Rattle.gts_count.specs.declared.recent.Recent.{Recent}
+use Rattle.gts_count.specs.declared.recent.Arrival.{Arrival}
 use Rattle.gts_count.specs.Rows.{has_row}
 use Rattle.gts_count.proofs.CountingLemmas.{current_counts, left_accepted}
 use Rattle.gts_count.proofs.counting.ready.Goals as goal
@@ -15,4 +15,4 @@ returns-in_err-prepare-clause-left c =
     rw p.1 (λ d s h kind counts.
     let known = current_counts d s h c.args.counting.now c.if-not-counting.false counts in
     left_accepted d s c.args.counting.now.numbers c.args.c kind c.args.message.now known.1 (c.in-Some.ensures.read d known.0.centre)
-    (sym (ap (λ (r : Recent). has_row c.args.counting.now.numbers.rows r.key) c.in-Some.ensures.some) ∙ c.in_err-prepare.ensures.none))
+    (sym (ap (λ (r : Arrival). has_row c.args.counting.now.numbers.rows r.key) c.in-Some.ensures.some) ∙ c.in_err-prepare.ensures.none))

@@ -9,7 +9,7 @@ returns-clause-empty c = λ d.
     ap (λ (n : ℕ). range_with_len (0 - d.window) n) none
 
 pub returns-clause-joins : goal.returns-clause-joins
-returns-clause-joins c = λ d s circuit kind m p n one has is. joins_window d s circuit kind m p n one has is
+returns-clause-joins c = joins_window
 
 pub returns-clause-goes_on : goal.returns-clause-goes_on
 returns-clause-goes_on c = λ d s circuit kind m p n one has is. window_goes_on d s circuit kind m p n one has is

@@ -16,7 +16,7 @@ returns-then-is_recent c =
       notes = start_joined c.args.directory.now c.args.accepted b c.key_in-key.result c.args.numbers.now c.prepare.new.self c.note_accepted.new.self key (sym c.is_recent.ensures ∙ c.if-is_recent.true)
           (record { sound = c.in_ok-prepare.ensures.sound; recent = c.in_ok-prepare.ensures.recent; drawn = c.in_ok-prepare.ensures.drawn; came = c.in_ok-prepare.ensures.came; rows = c.in_ok-prepare.ensures.rows })
           c.in_ok-prepare.ensures.row
-          (subst (λ (n : ℕ). Notes c.prepare.new.self c.note_accepted.new.self (record { key = c.key_in-key.result; from = c.args.bulletin.now.from; bytes = n })) (ap length c.as_slice-body.ensures)
+          (subst (λ (n : ℕ). Notes c.prepare.new.self c.note_accepted.new.self (record { position = c.args.bulletin.now.position; key = c.key_in-key.result; from = c.args.bulletin.now.from; bytes = n })) (ap length c.as_slice-body.ensures)
           (record { sound = c.note_accepted.ensures.sound; recent = c.note_accepted.ensures.recent; window = c.note_accepted.ensures.window; drawn = c.note_accepted.ensures.drawn; rows = c.note_accepted.ensures.rows; circuits = c.note_accepted.ensures.circuits }));
     }
 
@@ -27,5 +27,5 @@ returns-else-is_recent c =
     record {
       notes = start_passed c.args.directory.now c.args.accepted b c.key_in-key.result c.args.numbers.now c.prepare.new.self key (sym c.is_recent.ensures ∙ c.if-is_recent.false)
           (record { sound = c.in_ok-prepare.ensures.sound; recent = c.in_ok-prepare.ensures.recent; drawn = c.in_ok-prepare.ensures.drawn; came = c.in_ok-prepare.ensures.came; rows = c.in_ok-prepare.ensures.rows })
-          c.in_ok-prepare.ensures.row c.requires.sound;
+          c.in_ok-prepare.ensures.row;
     }
