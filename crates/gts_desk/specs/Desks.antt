@@ -80,7 +80,7 @@ pub record IsUntold (old new : Seen) : Type 0 where
 abbrev pub Answers : Seen → Event → (Outcome → State → Type 0) → Result Outcome SwitchFault → Seen → Type 0
 Answers old event Holds (Ok o) new = Adds old (Done event) (λ s. (o ≡ outcome old.directory s event) × Holds o s) new
 Answers old event Holds (Err SayFault) new = AddsJust old (Unsaid event) new
-Answers old event Holds (Err DiskFault) new = AddsJust old (Doubt event) new
+Answers old event Holds (Err DiskFault) new = AddsJust old (Doubt (event ∷ [])) new
 Answers old event Holds (Err (Full used need limit)) new = AddsJust old (Idle event (Full used need limit)) new
 Answers old event Holds (Err (Stopped by)) new = AddsJust old (Idle event (Stopped by)) new
 Answers old event Holds (Err NoMemory) new = AddsJust old (Idle event NoMemory) new ⊎ IsUntold old new

@@ -75,14 +75,14 @@ is_one event (Err (Stopped by)) some = refl
 is_one event (Err Spent) some = absurd (some refl)
 is_one event (Err NoMemory) some = refl
 
-doubt_of : (event other : Event) (result : Result Outcome SwitchFault) → entry_by event result ≡ Doubt other → IsErrOf result DiskFault
-doubt_of event other (Ok o) e = cc
-doubt_of event other (Err DiskFault) e = refl
-doubt_of event other (Err SayFault) e = cc
-doubt_of event other (Err (Full used need limit)) e = cc
-doubt_of event other (Err (Stopped by)) e = cc
-doubt_of event other (Err Spent) e = cc
-doubt_of event other (Err NoMemory) e = cc
+doubt_of : (event : Event) (others : List Event) (result : Result Outcome SwitchFault) → entry_by event result ≡ Doubt others → IsErrOf result DiskFault
+doubt_of event others (Ok o) e = cc
+doubt_of event others (Err DiskFault) e = refl
+doubt_of event others (Err SayFault) e = cc
+doubt_of event others (Err (Full used need limit)) e = cc
+doubt_of event others (Err (Stopped by)) e = cc
+doubt_of event others (Err Spent) e = cc
+doubt_of event others (Err NoMemory) e = cc
 
 unsaid_of : (event other : Event) (result : Result Outcome SwitchFault) → entry_by event result ≡ Unsaid other → IsErrOf result SayFault
 unsaid_of event other (Ok o) e = cc

@@ -80,7 +80,7 @@ module _ {P : Type 0} (tells : Type 0) (calls : P → List Call) (disk say : P �
   pub answers : (result : Result Outcome SwitchFault) → housed.Adds tells calls disk say b (entries h) event Holds result new
       → q ≡ after_adding (after_seeing p h) (entry_by event result) → Answers (seen_by b p) event Holds result (seen_by b q)
   answers (Ok o) adds is = added (Done event) _ is adds.stands (adds.answers o refl)
-  answers (Err DiskFault) adds is = added (Doubt event) _ is adds.stands tt
+  answers (Err DiskFault) adds is = added (Doubt (event ∷ [])) _ is adds.stands tt
   answers (Err SayFault) adds is = added (Unsaid event) _ is adds.stands tt
   answers (Err (Full used need limit)) adds is = added (Idle event (Full used need limit)) _ is adds.stands tt
   answers (Err (Stopped by)) adds is = added (Idle event (Stopped by)) _ is adds.stands tt

@@ -56,7 +56,7 @@ AreCramped b entries =
 abbrev pub entry_by : Event → Result Outcome SwitchFault → Entry
 entry_by event (Ok _) = Done event
 entry_by event (Err SayFault) = Unsaid event
-entry_by event (Err DiskFault) = Doubt event
+entry_by event (Err DiskFault) = Doubt (event ∷ [])
 entry_by event (Err fault) = Idle event fault
 
 -- an answer behind these entries is the event's outcome, and what is said of it holds

@@ -114,7 +114,7 @@ at_once w asked answer old new answers = record { before = old; desk = stays old
 -- with any answer a desk goes on
 pub answers_go : (asked : Event) (answer : Result Outcome SwitchFault) (old new : Seen) → Answers old asked SaysNoMore answer new → GoesOn old new
 answers_go asked (Ok o) old new adds = goes_on old new (Done asked) (just old new (Done asked) (λ (s : State). (o ≡ outcome old.directory s asked) × SaysNoMore o s) adds)
-answers_go asked (Err DiskFault) old new adds = goes_on old new (Doubt asked) adds
+answers_go asked (Err DiskFault) old new adds = goes_on old new (Doubt (asked ∷ [])) adds
 answers_go asked (Err SayFault) old new adds = goes_on old new (Unsaid asked) adds
 answers_go asked (Err (Full used need limit)) old new adds = goes_on old new (Idle asked (Full used need limit)) adds
 answers_go asked (Err (Stopped by)) old new adds = goes_on old new (Idle asked (Stopped by)) adds

@@ -163,7 +163,7 @@ module _ (c : ℕ) (first old new : Seen) (sent : List ℕ) (so_far : Sending c 
           → Answers old (Taken c) (LeavesFrame old.directory c out) (Err f) new → Fails c f first new (sent ++ [])
       by SayFault silent memory adds = absurd (silent refl)
       by NoMemory silent memory adds = absurd (memory refl)
-      by DiskFault silent memory adds = entered DiskFault (Doubt (Taken c)) refl (λ d s. refl) (λ e. cc e) silent memory adds
+      by DiskFault silent memory adds = entered DiskFault (Doubt (Taken c ∷ [])) refl (λ d s. refl) (λ e. cc e) silent memory adds
       by (Full used need limit) silent memory adds = entered (Full used need limit) (Idle (Taken c) (Full used need limit)) refl (λ d s. refl) (λ e. cc e) silent memory adds
       by (Stopped device) silent memory adds = entered (Stopped device) (Idle (Taken c) (Stopped device)) refl (λ d s. refl) (λ e. cc e) silent memory adds
       by Spent silent memory spent = record {

@@ -224,7 +224,7 @@ abbrev pub IsTake : ℕ → Entry → Type 0
 IsTake c (of_entry.Done event) = event ≡ Taken c
 IsTake c (of_entry.Unsaid event) = event ≡ Taken c
 IsTake c (of_entry.Idle event fault) = event ≡ Taken c
-IsTake c (of_entry.Doubt event) = event ≡ Taken c
+IsTake c (of_entry.Doubt events) = events ≡ Taken c ∷ []
 IsTake c of_entry.Restarted = ⊥
 
 -- an entry was done, or it is a try of a service (w)
