@@ -4,6 +4,7 @@ use Rattle.gts_frame.specs.Decoder.{Decoding}
 use Rattle.gts_replay.specs.Going.{Decode}
 use Rattle.gts_replay.proofs.DecoderLemmas.{decode_fresh}
 use Rattle.gts_replay.proofs.EndLemmas.{ends_unmade}
+use Rattle.gts_replay.proofs.CauseLemmas.{caused_settled}
 use Rattle.gts_replay.proofs.replaying.replay.Goals as goal
 
 pub returns-in_default-clause-ends : goal.returns-in_default-clause-ends
@@ -13,6 +14,15 @@ returns-in_default-clause-ends g c = λ o h start.
 pub returns-in_default-new-clause-ends : goal.returns-in_default-new-clause-ends
 returns-in_default-new-clause-ends g c = λ o h start.
     ends_unmade g.W.Switch.meanings g.W.Switch.tells c.args.kind o h g.S.Source.tells c.args.switch.now (g.S.Source.left c.args.capture.now) (g.S.Source.left c.args.capture.now) start
+
+pub returns-clause-ends : goal.returns-clause-ends
+returns-clause-ends g c = λ o h start. c.run-end.ensures.ends o h start c.settle_behind.result c.settle_behind.new.switch c.settle_behind.ensures.settles
+
+pub returns-clause-cause : goal.returns-clause-cause
+returns-clause-cause g c =
+    caused_settled c.run-end.result c.settle_behind.result (g.W.Switch.disk_faults c.args.switch.now) (g.W.Switch.disk_faults c.run-end.new.switch) (g.W.Switch.disk_faults c.settle_behind.new.switch)
+    (g.W.Switch.say_faults c.args.switch.now) (g.W.Switch.say_faults c.run-end.new.switch) (g.W.Switch.say_faults c.settle_behind.new.switch) (g.S.Source.faults c.args.capture.now) (g.S.Source.faults c.run-end.new.capture)
+    c.run-end.ensures.cause c.settle_behind.ensures.cause
 
 pub run-requires-clause-decode : goal.run-requires-clause-decode
 run-requires-clause-decode g c =
