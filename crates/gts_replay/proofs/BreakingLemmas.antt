@@ -12,11 +12,11 @@ use Rattle.gts_event.specs.Drain.{all_done, all_unsaid}
 use Rattle.gts_record.specs.declared.fault.OpenFault.{OpenFault}
 use Rattle.gts_connection.specs.declared.kind.CaptureKind.{CaptureKind}
 use Rattle.gts_connection.specs.Capture.{Step, Feed, Take, Reopen, Drain, Restart, Compact, Connections, no_bytes, entries_of_step, connections_after, count_at}
-use Rattle.gts_calls.specs.{Standing, Stands, settled, IsSettling, AfterSettling, IsCause, outcome_at}
+use Rattle.gts_calls.specs.{Standing, settled, IsSettling, AfterSettling, IsCause, outcome_at}
 use Rattle.gts_replay.specs.Going.{state_at, origin_behind, BreaksOff, BreaksTogether, BreaksIdle, BreaksAtRestart}
 use Rattle.gts_replay.specs.Replay.{IsLasting, StoppedBefore, StopsAtFault, origin_at, entries_at, compactions_at}
 use Rattle.gts_replay.proofs.GoingLemmas.{within_all, settles_not}
-use Rattle.gts_replay.proofs.OriginLemmas.{AllWithin, AllBehind, wider, behind_append, origin_is, counts_within, counts_more}
+use Rattle.gts_replay.proofs.OriginLemmas.{AllBehind, wider, behind_append, origin_is, counts_within, counts_more}
 use Rattle.gts_replay.proofs.RunLemmas.{Gathered, origin_done, added_by}
 use Rattle.gts_replay.proofs.FollowLemmas.{AllFrom, Continues, Follows}
 

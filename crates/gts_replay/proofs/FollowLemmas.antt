@@ -73,7 +73,7 @@ lost_in kind d bytes steps old mid before left after tells EndHead step t read r
 abbrev pub AllFrom : ℕ → List ℕ → Type 0
 AllFrom n ks = AllByRecursion (λ k. n ≤ k) ks
 
-from_between : (n all m : ℕ) (ks : List ℕ) → m ≤ n → AllByRecursion (λ k. (n ≤ k) × (k ≤ n + all)) ks → AllFrom m ks
+pub from_between : (n all m : ℕ) (ks : List ℕ) → m ≤ n → AllByRecursion (λ k. (n ≤ k) × (k ≤ n + all)) ks → AllFrom m ks
 from_between n all m [] le each = tt
 from_between n all m (k ∷ ks) le each = (omega (arith, le, each.0.0), from_between n all m ks le each.1)
 

@@ -51,21 +51,21 @@ returns-in-Err-restart-clause-does g c =
     subst P (sym c.in-Restart.is) (fails_restart g.W.Switch.meanings g.W.Switch.tells g.S.Source.tells c.args.steps.now left c.args.decoders.now c.args.switch.now c.settle.new.self c.restart.new.self c.settle.result c.in_default-settle.field-0
     c.settle.ensures.settling c.in_default-settle.is c.restart.result c.in-Err-restart.fault c.restart.ensures.reopening c.in-Err-restart.is)
 
-pub returns-in-Err-settle-in-Compact-clause-does : goal.returns-in-Err-settle-in-Compact-clause-does
-returns-in-Err-settle-in-Compact-clause-does g c =
+pub returns-in-Err-settle-2-clause-does : goal.returns-in-Err-settle-2-clause-does
+returns-in-Err-settle-2-clause-does g c =
     let left : List ℕ = g.S.Source.left c.args.capture.now in
-    let P : Head → Type 0 = λ head. DoesStep g.W.Switch.meanings g.W.Switch.tells g.S.Source.tells (head_of head) (Err (step.Switch c.in-Err-settle-in-Compact.fault)) c.args.steps.now c.args.steps.now left left
+    let P : Head → Type 0 = λ head. DoesStep g.W.Switch.meanings g.W.Switch.tells g.S.Source.tells (head_of head) (Err (step.Switch c.in-Err-settle-2.fault)) c.args.steps.now c.args.steps.now left left
     c.args.decoders.now c.args.decoders.now c.args.switch.now c.settle-in-Compact.new.self in
-    subst P (sym c.in-Compact.is) (unsettled_compact g.W.Switch.meanings g.W.Switch.tells g.S.Source.tells c.args.steps.now left c.args.decoders.now c.args.switch.now c.settle-in-Compact.new.self c.settle-in-Compact.result c.in-Err-settle-in-Compact.fault
-    c.settle-in-Compact.ensures.settling c.in-Err-settle-in-Compact.is)
+    subst P (sym c.in-Compact.is) (unsettled_compact g.W.Switch.meanings g.W.Switch.tells g.S.Source.tells c.args.steps.now left c.args.decoders.now c.args.switch.now c.settle-in-Compact.new.self c.settle-in-Compact.result c.in-Err-settle-2.fault
+    c.settle-in-Compact.ensures.settling c.in-Err-settle-2.is)
 
 pub returns-in-Err-compact-clause-does : goal.returns-in-Err-compact-clause-does
 returns-in-Err-compact-clause-does g c =
     let left : List ℕ = g.S.Source.left c.args.capture.now in
     let P : Head → Type 0 = λ head. DoesStep g.W.Switch.meanings g.W.Switch.tells g.S.Source.tells (head_of head) (Err (step.Compaction c.in-Err-compact.fault)) c.args.steps.now c.args.steps.now left left
     c.args.decoders.now c.args.decoders.now c.args.switch.now c.compact.new.self in
-    subst P (sym c.in-Compact.is) (fails_compact g.W.Switch.meanings g.W.Switch.tells g.S.Source.tells c.args.steps.now left c.args.decoders.now c.args.switch.now c.settle-in-Compact.new.self c.compact.new.self c.settle-in-Compact.result c.in_default-settle-in-Compact.field-0
-    c.settle-in-Compact.ensures.settling c.in_default-settle-in-Compact.is c.compact.result c.in-Err-compact.fault c.compact.ensures.compacting c.in-Err-compact.is)
+    subst P (sym c.in-Compact.is) (fails_compact g.W.Switch.meanings g.W.Switch.tells g.S.Source.tells c.args.steps.now left c.args.decoders.now c.args.switch.now c.settle-in-Compact.new.self c.compact.new.self c.settle-in-Compact.result c.in_default-settle-2.field-0
+    c.settle-in-Compact.ensures.settling c.in_default-settle-2.is c.compact.result c.in-Err-compact.fault c.compact.ensures.compacting c.in-Err-compact.is)
 
 pub returns-in_default-clause-does : goal.returns-in_default-clause-does
 returns-in_default-clause-does g c =
@@ -109,5 +109,5 @@ returns-in_default-compact-clause-does g c =
     let none = subst (λ (head : Head). c.args.steps.now.feed ≡ bytes_announced (head_of head)) c.in-Compact.is c.requires.feed in
     let P : Head → Type 0 = λ head. DoesStep g.W.Switch.meanings g.W.Switch.tells g.S.Source.tells (head_of head) (Ok tt) c.args.steps.now c.args.steps.now left left
     c.args.decoders.now c.args.decoders.now c.args.switch.now c.compact.new.self in
-    subst P (sym c.in-Compact.is) (does_compact g.W.Switch.meanings g.W.Switch.tells g.S.Source.tells c.args.steps.now left c.args.decoders.now c.args.switch.now c.settle-in-Compact.new.self c.compact.new.self c.settle-in-Compact.result c.in_default-settle-in-Compact.field-0
-    c.settle-in-Compact.ensures.settling c.in_default-settle-in-Compact.is c.compact.result c.in_default-compact.field-0 c.compact.ensures.compacting c.in_default-compact.is none)
+    subst P (sym c.in-Compact.is) (does_compact g.W.Switch.meanings g.W.Switch.tells g.S.Source.tells c.args.steps.now left c.args.decoders.now c.args.switch.now c.settle-in-Compact.new.self c.compact.new.self c.settle-in-Compact.result c.in_default-settle-2.field-0
+    c.settle-in-Compact.ensures.settling c.in_default-settle-2.is c.compact.result c.in_default-compact.field-0 c.compact.ensures.compacting c.in_default-compact.is none)

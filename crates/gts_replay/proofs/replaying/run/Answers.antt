@@ -1,4 +1,4 @@
-use Rattle.std.proofs.Common.{◌≡◌, ◌+◌, ◌≤◌, ℕ, List, [], ◌∷◌, ◌++◌, length, Result, Err, sym, ap, subst, ◌∙◌, arith, length-append}
+use Rattle.std.proofs.Common.{◌≡◌, ◌+◌, ◌≤◌, ℕ, List, [], ◌∷◌, ◌++◌, length, Result, Err, refl, sym, ap, subst, ◌∙◌, arith, length-append}
 use Rattle.gts_capture.specs.{head_of, line_of}
 use Rattle.gts_capture.specs.declared.capture_fault.CaptureFault.{CaptureFault}
 use Rattle.gts_capture.specs.declared.capture_fault.CaptureFault.TheVariants.{Bad, SourceFault}
@@ -9,10 +9,23 @@ use Rattle.gts_replay.specs.declared.fault.StepFault.{StepFault}
 use Rattle.gts_replay.specs.declared.fault.StepFault.TheVariants as step
 use Rattle.gts_replay.specs.Replay.{Ends, HasReplayCause}
 use Rattle.gts_replay.specs.Ending.{end_of, DoesStep, SettlesBehind}
-use Rattle.gts_replay.proofs.RunLemmas.{ReadsHead, runs_more}
+use Rattle.gts_replay.proofs.RunLemmas.{ReadsHead, runs_none, runs_more}
 use Rattle.gts_replay.proofs.EndLemmas.{ends_done, ends_bad, ends_source, ends_never, ends_step}
 use Rattle.gts_replay.proofs.CauseLemmas.{caused_step}
 use Rattle.gts_replay.proofs.replaying.run.Goals as goal
+
+pub loop-init : goal.loop-init
+loop-init g c = record {
+  done = (
+    [],
+    refl,
+    runs_none g.W.Switch.meanings c.args.steps.now.kind g.S.Source.tells (g.S.Source.left c.args.capture.now) c.args.switch.now c.args.steps.now c.args.decoders.now c.requires.begins c.requires.decode,
+  );
+  directory = refl;
+  disk_later = omega arith;
+  say_later = omega arith;
+  source_later = omega arith;
+}
 
 pub returns-in-Ok-End-clause-ends : goal.returns-in-Ok-End-clause-ends
 returns-in-Ok-End-clause-ends g c = λ o h start result now settles.
