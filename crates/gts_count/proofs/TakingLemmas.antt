@@ -6,7 +6,7 @@ use Rattle.std.proofs.lemmas.Bool.{true≢false}
 use Rattle.std.proofs.lemmas.List.{length-map}
 use Rattle.gts_directory.specs.Directory.{Directory, Circuit}
 use Rattle.gts_event.specs.State.{State, Bulletin}
-use Rattle.gts_event.specs.History.{outcome, choice, after, after_all, Draws, digits_on, restarted}
+use Rattle.gts_event.specs.History.{outcome, choice, after, after_all, digits_on, restarted}
 use Rattle.gts_event.specs.Need.{is_bulletin}
 use Rattle.gts_event.specs.Said.{spoken, numbered_frame}
 use Rattle.gts_event.specs.declared.event.Event.TheVariants.{Lost, Taken}

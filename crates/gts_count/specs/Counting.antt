@@ -1,5 +1,5 @@
 -- The running numbers beside the history for which a switch stands.
-use Rattle.std.specs.Prelude.{◌≡◌, ◌⊎◌, ℕ, ◌+◌, ◌<◌, ◌≤◌, slice_get, Bool, true, false, List, [], ◌∷◌, ◌++◌, slice_set, length, map, take, drop, Option, Some, None, Result, Ok, Err, IsTrue}
+use Rattle.std.specs.Prelude.{◌≡◌, ◌⊎◌, ℕ, ◌+◌, ◌<◌, ◌≤◌, slice_get, Bool, true, false, List, slice_set, length, map, take, drop, Option, Some, None, Result, Ok, Err, IsTrue}
 use Rattle.std.specs.List.{All}
 use Rattle.gts_frame.specs.declared.kind.Kind.{Kind}
 use Rattle.gts_directory.specs.Directory.{Directory}

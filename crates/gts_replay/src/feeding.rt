@@ -81,8 +81,8 @@ fn deal<W: Switch>(
 ) -> Result<(), SwitchFault>
     requires circuit { c < length (W.meanings.directory switch.old).circuits }
     requires message { HasMessage step message.now }
-    ensures goes { (o : W.Origin) (first : ℕ) (h : List Entry) → Stands W.meanings o first h switch.old
-        → Goes W.meanings o first h
+    ensures goes { (o : W.Origin) (first : ℕ) (h : List Entry)
+        → Stands W.meanings o first h switch.old → Goes W.meanings o first h
         (all_done (events_of_signs c (signs_of_step step message.now))) result switch.new }
     ensures directory { W.meanings.directory switch.new ≡ W.meanings.directory switch.old }
     ensures cause { HasCallCause result (W.disk_faults switch.old) (W.disk_faults switch.new)
