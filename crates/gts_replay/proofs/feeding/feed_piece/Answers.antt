@@ -6,6 +6,7 @@ use Rattle.gts_event.specs.declared.fault.SwitchFault.{SwitchFault}
 use Rattle.gts_frame.specs.Decoder.{signs_of_step}
 use Rattle.gts_connection.specs.Connection.{events_added}
 use Rattle.gts_connection.specs.Steps.{events_of_signs}
+use Rattle.gts_calls.specs.{Stands}
 use Rattle.gts_replay.specs.Going.{Goes}
 use Rattle.gts_replay.proofs.FeedingLemmas.{fed_none, fed_more, fed_breaks, slice_from}
 use Rattle.gts_replay.proofs.feeding.feed_piece.Goals as goal
@@ -28,10 +29,10 @@ loop-rest-preserved g c =
     let next = c.take-count.new.self in
     let x : List ℕ = take n rest in
     let behind : List ℕ = drop n rest in
-    let G : List ℕ → Result (Unit {0}) SwitchFault → (o : g.W.Switch.Origin) (h : List Entry) → Type 0 = λ message r o h.
-    Goes meanings o h (all_done (events_of_signs circuit (signs_of_step c.take-count.result.1 message))) r c.deal.new.switch in
-    let goes : (o : g.W.Switch.Origin) (h : List Entry) → meanings.stands o h c.loop-rest.switch → G next.message (Ok tt) o h = λ o h stands.
-    subst (λ (r : Result (Unit {0}) SwitchFault). G next.message r o h) c.in_ok-deal.was (subst (λ (m : List ℕ). G m c.deal.result o h) c.message.ensures (c.deal.ensures.goes o h stands)) in
+    let G : List ℕ → Result (Unit {0}) SwitchFault → (o : g.W.Switch.Origin) (first : ℕ) (h : List Entry) → Type 0 = λ message r o first h.
+    Goes meanings o first h (all_done (events_of_signs circuit (signs_of_step c.take-count.result.1 message))) r c.deal.new.switch in
+    let goes : (o : g.W.Switch.Origin) (first : ℕ) (h : List Entry) → Stands meanings o first h c.loop-rest.switch → G next.message (Ok tt) o first h = λ o first h stands.
+    subst (λ (r : Result (Unit {0}) SwitchFault). G next.message r o first h) c.in_ok-deal.was (subst (λ (m : List ℕ). G m c.deal.result o first h) c.message.ensures (c.deal.ensures.goes o first h stands)) in
     record {
       fed = (
         fed.0 ++ x,
@@ -44,7 +45,7 @@ loop-rest-preserved g c =
     }
 
 pub returns-in_err-deal-clause-goes : goal.returns-in_err-deal-clause-goes
-returns-in_err-deal-clause-goes g c = λ before o h held stands.
+returns-in_err-deal-clause-goes g c = λ before o first h held stands.
     let meanings = g.W.Switch.meanings in
     let circuit : ℕ = c.args.c in
     let fed = c.loop-rest.invariant.fed in
@@ -54,11 +55,11 @@ returns-in_err-deal-clause-goes g c = λ before o h held stands.
     let x : List ℕ = take n rest in
     let behind : List ℕ = drop n rest in
     let result = c.from_residual.result in
-    let G : List ℕ → (o : g.W.Switch.Origin) (h : List Entry) → Type 0 = λ message o h.
-    Goes meanings o h (all_done (events_of_signs circuit (signs_of_step c.take-count.result.1 message))) c.deal.result c.deal.new.switch in
-    let goes : (o : g.W.Switch.Origin) (h : List Entry) → meanings.stands o h c.loop-rest.switch → G next.message o h = λ o h stands.
-    subst (λ (m : List ℕ). G m o h) c.message.ensures (c.deal.ensures.goes o h stands) in
+    let G : List ℕ → (o : g.W.Switch.Origin) (first : ℕ) (h : List Entry) → Type 0 = λ message o first h.
+    Goes meanings o first h (all_done (events_of_signs circuit (signs_of_step c.take-count.result.1 message))) c.deal.result c.deal.new.switch in
+    let goes : (o : g.W.Switch.Origin) (first : ℕ) (h : List Entry) → Stands meanings o first h c.loop-rest.switch → G next.message o first h = λ o first h stands.
+    subst (λ (m : List ℕ). G m o first h) c.message.ensures (c.deal.ensures.goes o first h stands) in
     let same : fed.0 ++ (x ++ behind) ≡ c.args.piece.now = ap (λ (e : List ℕ). fed.0 ++ e) (take-append-drop n rest) ∙ sym fed.1 in
-    subst (λ (e : List ℕ). Goes meanings o h (all_done (events_added circuit before e)) result c.deal.new.switch) same
+    subst (λ (e : List ℕ). Goes meanings o first h (all_done (events_added circuit before e)) result c.deal.new.switch) same
     (fed_breaks meanings circuit c.args.decoder.now c.args.switch.now fed.0 x behind c.take-count.result.1 c.loop-rest.decoder next c.loop-rest.switch c.deal.new.switch
-    c.deal.result result c.in_err-deal.field-0.0 c.in_err-deal.was c.from_residual.ensures.1 fed.2 c.take-count.ensures.reads goes before o h held stands)
+    c.deal.result result c.in_err-deal.field-0.0 c.in_err-deal.was c.from_residual.ensures.1 fed.2 c.take-count.ensures.reads goes before o first h held stands)
