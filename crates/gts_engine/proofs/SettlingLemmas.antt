@@ -88,6 +88,7 @@ module _ {P : Type 0} (tells : Type 0) (calls : P → List Call) where
     settles = λ mode o entries events kept. rests_settled mode o entries events (engine_of p) kept (none_here mode o entries events (engine_of p) none kept);
     sound = sound;
     stops = refl;
+    kind = tt;
     rest = refl;
     used = refl;
     emptied = none;
@@ -176,6 +177,7 @@ module _ {P : Type 0} (tells : Type 0) (calls : P → List Call) (disk say : P �
       idle = λ by is. refl;
     };
     stops = stops;
+    kind = kind;
     rest = only rest;
     used = used_by result place;
     emptied = refl;

@@ -139,6 +139,7 @@ pub record HasSettled {P : Type 0} (tells : Type 0) (calls : P → List Call) (d
       → AfterSettling (meanings_of tells calls mode) o entries events result (engine_of new)
   pub sound : IsSound tells calls new
   pub stops : new.stopped ≡ stopped_after old.stopped result
+  pub kind : IfErr result IsDeviceFault
   pub rest : OnlySettled old new
   pub used : OnOk result ((engine_of new).used ≡ (engine_of old).used)
   pub emptied : (engine_of new).gathered ≡ false
