@@ -23,7 +23,7 @@ use Rattle.gts_engine.specs.Origin.{by_station}
 use Rattle.gts_engine.specs.Going.{IsGathering, HasFewDraws, stopped_after}
 use Rattle.gts_engine.proofs.TurnLemmas.{goes_on}
 use Rattle.gts_engine.specs.Parts.{IsSound, HasEntered}
-use Rattle.gts_engine.specs.Gathering.{HasTold, MayHaveSettled, AnswersIn, LeavesCall}
+use Rattle.gts_engine.specs.Gathering.{HasTold, IsDeviceFault, MayHaveSettled, AnswersIn, LeavesCall}
 use Rattle.gts_engine.proofs.AnswerLemmas.{EachHeld, answered, stopped_leaves}
 use Rattle.gts_engine.proofs.GatherLemmas.{fails_after}
 use Rattle.std.specs.Prelude.{IfErr, IfOk, OnOk, slice_index_or, ◌<◌}
@@ -61,6 +61,11 @@ module _ {P : Type 0} (tells : Type 0) (calls : P → List Call) (disk say : P �
   pub may_quiet : MayHaveSettled tells calls disk say result old mid → IsSound tells calls old → (engine_of old).gathered ≡ false → (engine_of mid).held ≡ []
   may_quiet (inl same) sound none = ap part_held same.1 ∙ ap held_pieces (sound.rests none)
   may_quiet (inr settled) sound none = ap held_pieces settled.silent
+
+  -- only a device fails
+  pub may_kind : MayHaveSettled tells calls disk say result old mid → IfErr result IsDeviceFault
+  may_kind (inl same) = subst (λ (r : Result (Unit {0}) SwitchFault). IfErr r IsDeviceFault) (sym same.0) tt
+  may_kind (inr settled) = settled.kind
 
   pub may_stops : MayHaveSettled tells calls disk say result old mid → mid.stopped ≡ stopped_after old.stopped result
   may_stops (inl same) = ap part_stopped same.1 ∙ sym (ap (stopped_after old.stopped) same.0)

@@ -44,6 +44,14 @@ never_stopped (Some by) first answer B ok told = absurd (let no : ◌≡◌ {A =
 pub of_fault : {T : Type 0} (r : Result T SwitchFault) (fault : SwitchFault) (A : SwitchFault → Type 0) → r ≡ Err fault → IfErr r A → A fault
 of_fault r fault A is all = subst (λ (x : Result T SwitchFault). IfErr x A) is all
 
+-- a fault of a device, or of saying, is no answer with which nothing changed
+pub failed_active : {T : Type 0} (r : Result T SwitchFault) (fault : SwitchFault) → r ≡ Err fault → IfErr r IsDeviceFault → IsIdleAnswer (Err fault) → ⊥
+failed_active r fault is device = device_active fault (of_fault r fault IsDeviceFault is device)
+
+pub unsaid_active : {T A : Type 0} (r : Result T SwitchFault) (fault : SwitchFault) → r ≡ Err fault → IfErr r (λ f. (f ≡ SayFault) × A) → IsIdleAnswer (Err fault) → ⊥
+unsaid_active {T} {A} r fault is say =
+    device_active fault (subst IsDeviceFault (sym (of_fault r fault (λ f. (f ≡ SayFault) × A) is say).0) tt)
+
 module _ {P : Type 0} (tells : Type 0) (calls : P → List Call) (mode : SayMode) (event : Event) (old mid : Engine P) (first : Result Outcome SwitchFault) (answered : IsAnswered (meanings_of tells calls mode) event first old mid) where
   -- the call failed
   pub fails_first : (fault : SwitchFault) → first ≡ Err fault → IsCalled (meanings_of tells calls mode) event (Err fault) old mid

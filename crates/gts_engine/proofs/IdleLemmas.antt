@@ -1,5 +1,5 @@
 -- A call that changes nothing, behind what was settled.
-use Rattle.std.proofs.Common.{◌≡◌, inr, ℕ, List, [], ◌∷◌, ◌++◌, true, Option, Some, None, Result, Ok, Err, refl, sym, ap, subst, ◌∙◌, arith}
+use Rattle.std.proofs.Common.{◌≡◌, inr, ℕ, List, [], ◌∷◌, ◌++◌, true, false, Option, Some, None, Result, Ok, Err, refl, sym, ap, subst, ◌∙◌, arith}
 use Rattle.gts_traits.specs.Calls.{Call}
 use Rattle.gts_directory.specs.Directory.{Directory}
 use Rattle.gts_event.specs.State.{State}
@@ -22,12 +22,12 @@ use Rattle.gts_engine.specs.Origin.{Origin, state_at, used_at}
 use Rattle.gts_engine.specs.Keeping.{Gathers, Keeps, state_behind, meanings_of}
 use Rattle.gts_engine.specs.Going.{IsGathering, stopped_after}
 use Rattle.std.specs.Prelude.{IfOk}
-use Rattle.gts_engine.specs.Parts.{IsSound, GivesOrMemory, IsRoomFault, shows}
+use Rattle.gts_engine.specs.Parts.{IsSound, IsUnchanged, GivesOrMemory, IsRoomFault, shows}
 use Rattle.gts_engine.specs.Gathering.{HasSettled, LeavesCall, AnswersIn}
 use Rattle.gts_engine.proofs.TurnLemmas.{idle}
 use Rattle.gts_engine.proofs.MarkedLemmas.{state_behind_marked}
 use Rattle.gts_engine.proofs.AnswerLemmas.{EachHeld, at_state}
-use Rattle.gts_engine.proofs.StepLemmas.{part_directory, part_station, part_stopped, part_used}
+use Rattle.gts_engine.proofs.StepLemmas.{part_directory, part_station, part_stopped, part_used, part_gathered}
 use Rattle.gts_engine.proofs.AnsweringLemmas.{answers_uncleared}
 use Rattle.gts_engine.proofs.HearingLemmas.{room_stops}
 
@@ -157,6 +157,13 @@ module _ {P : Type 0} (tells : Type 0) (calls : P → List Call) (disk say : P �
   }
 
   module _ (settled : Result (Unit {0}) SwitchFault) (settles : HasSettled tells calls disk say settled mid new) where
+    -- where nothing was gathered, nothing changed but how the core holds what it held
+    pub unchanged_idle : (engine_of old).gathered ≡ false → IsUnchanged (engine_of old) (engine_of new)
+    unchanged_idle none =
+        let U : Parts P → Type 0 = λ p. IsUnchanged (engine_of old) (engine_of p) in
+        subst U (sym ((settles.nothing (ap part_gathered rest ∙ none)).1 ∙ rest))
+        (record { station = refl; directory = refl; core = keeps; used = refl; stopped = refl; gathered = refl; held = refl; drawn = refl })
+
     -- settling failed
     pub answers_unidled : IsSound tells calls old → (fault : SwitchFault) → settled ≡ Err fault → AnswersIn tells calls disk say mode event (Err fault) old new
     answers_unidled sound fault failed =

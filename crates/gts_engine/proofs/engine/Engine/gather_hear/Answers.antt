@@ -1,10 +1,13 @@
-use Rattle.std.proofs.Common.{rules, Err, subst, sym}
+use Rattle.std.proofs.Common.{rules, ℕ, List, Err, subst, sym}
+use Rattle.gts_event.specs.History.{outcome}
 use Rattle.gts_event.specs.declared.event.Event.TheVariants.{Heard, Lost, Taken}
 use Rattle.gts_event.specs.declared.fault.SwitchFault.TheVariants.{Stopped}
 use Rattle.gts_calls.specs.Calls.{IsAnswered}
 use Rattle.gts_engine.specs.declared.mode.SayMode.{SayMode}
 use Rattle.gts_engine.specs.Engine.{Engine, engine_of}
 use Rattle.gts_engine.specs.Keeping.{meanings_of}
+use Rattle.gts_engine.specs.Parts.{AnswersFull}
+use Rattle.gts_engine.proofs.HearingLemmas.{told_other, never_full, not_told, new_is}
 use Rattle.gts_engine.proofs.AnsweringLemmas.{in_words, stopped_answer}
 use Rattle.gts_engine.proofs.engine.Engine.gather_hear.Goals as goal
 
@@ -14,14 +17,41 @@ returns-in-Some-clause-called g c =
     let T : Engine g.row.P.Denot → Type 0 = λ e. (mode : SayMode) → IsAnswered (meanings_of g.P.Station.tells g.P.Station.calls mode) (Heard c.args.c c.args.kind c.args.message.now) (Err (Stopped c.in-Some.by)) e (engine_of old) in
     subst T c.self.view_is (λ mode. stopped_answer g.P.Station.tells g.P.Station.calls mode (Heard c.args.c c.args.kind c.args.message.now) c.in-Some.by (engine_of old) c.in-Some.is)
 
-pub returns-in-New-clause-called : goal.returns-in-New-clause-called
-returns-in-New-clause-called g c =
-    let old = c.self.inside.parts in
-    let T : Engine g.row.P.Denot → Type 0 = λ e. (mode : SayMode) → IsAnswered (meanings_of g.P.Station.tells g.P.Station.calls mode) (Heard c.args.c c.args.kind c.args.message.now) c.accept_new.result e (engine_of c.accept_new.new.parts) in
-    subst T c.self.view_is (λ mode. in_words g.P.Station.tells g.P.Station.calls g.P.Station.disk_faults g.P.Station.say_faults mode (Heard c.args.c c.args.kind c.args.message.now) c.accept_new.result old c.accept_new.new.parts c.in_default.is (c.accept_new.ensures.answered mode))
+pub answer-requires-clause-none : goal.answer-requires-clause-none
+answer-requires-clause-none g c = λ s h.
+    told_other (outcome c.self.inside.parts.directory s (Heard c.args.c c.args.kind c.args.message.now)) _ (c.weigh-judged.ensures.verdict s c.args.kind h) (not_told s.count c.weigh-judged.result c.in_default-judged.not-New)
 
 pub returns-clause-called : goal.returns-clause-called
 returns-clause-called g c =
     let old = c.self.inside.parts in
     let T : Engine g.row.P.Denot → Type 0 = λ e. (mode : SayMode) → IsAnswered (meanings_of g.P.Station.tells g.P.Station.calls mode) (Heard c.args.c c.args.kind c.args.message.now) c.answer.result e (engine_of c.answer.new.parts) in
     subst T c.self.view_is (λ mode. in_words g.P.Station.tells g.P.Station.calls g.P.Station.disk_faults g.P.Station.say_faults mode (Heard c.args.c c.args.kind c.args.message.now) c.answer.result old c.answer.new.parts c.in_default.is (c.answer.ensures.answered mode))
+
+pub returns-clause-full : goal.returns-clause-full
+returns-clause-full g c =
+    let old = c.self.inside.parts in
+    let event = Heard c.args.c c.args.kind c.args.message.now in
+    let F : Engine g.row.P.Denot → Type 0 = λ e. AnswersFull e event c.answer.result in
+    subst F c.self.view_is
+    (λ s fault holds going none e. absurd (never_full old.directory s (engine_of old).used c.args.c c.args.kind c.args.message.now _ fault (c.weigh-judged.ensures.verdict s c.args.kind holds) (not_told s.count c.weigh-judged.result c.in_default-judged.not-New) e))
+
+pub accept_new-requires-clause-new : goal.accept_new-requires-clause-new
+accept_new-requires-clause-new g c =
+    let old = c.self.inside.parts in
+    (new_is old.directory old.core c.args.c c.args.message.now c.weigh-judged.result c.in-New.bulletin c.in-New.is c.weigh-judged.ensures).1
+
+pub returns-in-New-clause-called : goal.returns-in-New-clause-called
+returns-in-New-clause-called g c =
+    let old = c.self.inside.parts in
+    let is = new_is old.directory old.core c.args.c c.args.message.now c.weigh-judged.result c.in-New.bulletin c.in-New.is c.weigh-judged.ensures in
+    let M : List ℕ → Type 0 = λ m. (mode : SayMode) → IsAnswered (meanings_of g.P.Station.tells g.P.Station.calls mode) (Heard c.args.c c.args.kind m) c.accept_new.result (engine_of old) (engine_of c.accept_new.new.parts) in
+    let T : Engine g.row.P.Denot → Type 0 = λ e. (mode : SayMode) → IsAnswered (meanings_of g.P.Station.tells g.P.Station.calls mode) (Heard c.args.c c.args.kind c.args.message.now) c.accept_new.result e (engine_of c.accept_new.new.parts) in
+    subst T c.self.view_is
+    (subst M is.0 (λ mode. in_words g.P.Station.tells g.P.Station.calls g.P.Station.disk_faults g.P.Station.say_faults mode (Heard c.args.c c.args.kind c.in-New.bulletin.message) c.accept_new.result old c.accept_new.new.parts c.in_default.is (c.accept_new.ensures.answered mode)))
+
+pub returns-in-New-clause-full : goal.returns-in-New-clause-full
+returns-in-New-clause-full g c =
+    let old = c.self.inside.parts in
+    let is = new_is old.directory old.core c.args.c c.args.message.now c.weigh-judged.result c.in-New.bulletin c.in-New.is c.weigh-judged.ensures in
+    let F : Engine g.row.P.Denot → Type 0 = λ e. AnswersFull e (Heard c.args.c c.args.kind c.args.message.now) c.accept_new.result in
+    subst F c.self.view_is (subst (λ (m : List ℕ). AnswersFull (engine_of old) (Heard c.args.c c.args.kind m) c.accept_new.result) is.0 c.accept_new.ensures.full)
