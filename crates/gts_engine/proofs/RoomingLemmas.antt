@@ -180,7 +180,7 @@ module _ (tells : Type 0) (mode : SayMode) (o : Origin) (h : List Entry) (event 
 -- ---- the call
 
 -- the fault that was answered tells the bytes that are wanted
-full_is : (result : Result Outcome SwitchFault) (bytes : ℕ) → bytes_wanted result ≡ Some bytes → (used : ℕ) × (limit : ℕ) × (result ≡ Err (Full used bytes limit))
+pub full_is : (result : Result Outcome SwitchFault) (bytes : ℕ) → bytes_wanted result ≡ Some bytes → (used : ℕ) × (limit : ℕ) × (result ≡ Err (Full used bytes limit))
 full_is (Ok o) bytes is = absurd (let e : None ≡ Some bytes = is in cc e)
 full_is (Err (Full used need limit)) bytes is =
     let there : Some need ≡ Some bytes = is in
@@ -203,7 +203,7 @@ idle_full (Err Spent) bytes is = absurd (let e : None ≡ Some bytes = is in cc 
 idle_full (Err NoMemory) bytes is = tt
 
 -- an accepted bulletin has a record
-recorded : (o : Outcome) → IsAccepted o → HasRecord o
+pub recorded : (o : Outcome) → IsAccepted o → HasRecord o
 recorded (Accepted p n) accepted = tt
 recorded (Duplicate position) accepted = absurd accepted
 recorded (Asked n m) accepted = absurd accepted
@@ -214,7 +214,7 @@ recorded (Draw index) accepted = absurd accepted
 recorded Nothing accepted = absurd accepted
 
 -- an engine that answers so had not stopped
-went_on : (E : Type 0) (result : Result Outcome SwitchFault) (before : Option Device) → IfSome before (λ by. (result ≡ Err (Stopped by)) × E)
+pub went_on : (E : Type 0) (result : Result Outcome SwitchFault) (before : Option Device) → IfSome before (λ by. (result ≡ Err (Stopped by)) × E)
     → ((by : Device) → result ≡ Err (Stopped by) → ⊥) → before ≡ None
 went_on E result None stopped other = refl
 went_on E result (Some by) stopped other = absurd (other by stopped.0)

@@ -28,7 +28,7 @@ use Rattle.gts_engine.specs.Engine.{Engine, Shown, engine_of, shown}
 use Rattle.gts_engine.specs.Origin.{Origin}
 use Rattle.gts_engine.specs.Keeping.{Gathers, meanings_of, none_drawn}
 use Rattle.gts_engine.specs.Going.{stopped_after}
-use Rattle.gts_engine.specs.Parts.{IsSound, shows, OnlySaid}
+use Rattle.gts_engine.specs.Parts.{IsSound, IsIdleAnswer, shows, OnlySaid}
 
 -- whatever state the journal stood for, and whatever records were gathered, a crash since leaves that state, or the one with all
 -- of them
@@ -180,6 +180,15 @@ Answers tells calls disk say event result old new = (mode : SayMode) → Answers
 abbrev pub GathersEntry : {P : Type 0} → Type 0 → (P → List Call) → SayMode → Event → Result Outcome SwitchFault → (old new : Engine P)
     → Type 0
 GathersEntry tells calls mode event result old new = IsAnswered (meanings_of tells calls mode) event result old new
+
+-- A call changed nothing: what was gathered before it is settled, and nothing is gathered.
+pub record HasOnlySettled {P : Type 0} (tells : Type 0) (calls : P → List Call) (old new : Engine P) : Type 0 where
+  pub settling : (mode : SayMode) → IsSettling (meanings_of tells calls mode) (Ok tt) old new
+  pub emptied : new.gathered ≡ false
+
+-- where nothing changed
+abbrev pub OnIdle : {P : Type 0} → Type 0 → (P → List Call) → Result Outcome SwitchFault → (old new : Engine P) → Type 0
+OnIdle tells calls result old new = IsIdleAnswer result → HasOnlySettled tells calls old new
 
 -- What was gathered was to be settled, whoever says the frames. Nothing is gathered any more.
 pub record SettlesEngine {P : Type 0} (tells : Type 0) (calls : P → List Call) (result : Result (Unit {0}) SwitchFault)
