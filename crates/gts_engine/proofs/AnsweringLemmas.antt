@@ -206,7 +206,7 @@ module _ {P : Type 0} (tells : Type 0) (calls : P → List Call) (disk say : P �
         cause_all : HasCallCause r (disk first.station) (disk new.station) (say first.station) (say new.station)
         cause_all =
             cause_then cleared r (disk first.station) (disk mid.station) (disk new.station) (say first.station) (say mid.station) (say new.station) cause_mid
-            (told_cause r (disk mid.station) (disk new.station) (say mid.station) (say new.station) told.fault told.later told.disk)
+            (told_cause r (disk mid.station) (disk new.station) (say mid.station) (say new.station) told.fault told.later told.disk_stays)
 
         pub answers_told : r ≡ Ok tt → AnswersIn tells calls disk say mode event (Ok result) first new
         answers_told done = record {

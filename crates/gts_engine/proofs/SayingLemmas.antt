@@ -43,7 +43,7 @@ pub record SaysUpTo {P : Type 0} (tells : Type 0) (calls : P → List Call) (dis
       → EachSince (calls first.station) (calls now.station) (OpensAlong first.directory s (joined (held_pieces first.held)))
   pub stands : tells → (s : State) → StandsFor first.directory s (calls first.station) first.journal → StandsFor first.directory s (calls now.station) first.journal
   pub later : say first.station ≤ say now.station
-  pub disk : disk now.station ≡ disk first.station
+  pub disk_stays : disk now.station ≡ disk first.station
 
 module _ {P : Type 0} (tells : Type 0) (calls : P → List Call) (disk say : P → ℕ) (first : Parts P) where
   abbrev pieces : List Outside
@@ -57,7 +57,7 @@ module _ {P : Type 0} (tells : Type 0) (calls : P → List Call) (disk say : P �
     moments = λ tell s stands. nothing_yet first.directory (held_pieces first.held) (calls first.station) first.journal s stands;
     stands = λ tell s stands. stands;
     later = omega arith;
-    disk = refl;
+    disk_stays = refl;
   }
 
   -- all of them
@@ -105,7 +105,7 @@ module _ {P : Type 0} (tells : Type 0) (calls : P → List Call) (disk say : P �
       moments = moments_now;
       stands = stands_now;
       later = omega (arith, up.later, later);
-      disk = same_disk ∙ up.disk;
+      disk_stays = same_disk ∙ up.disk_stays;
     }
 
     -- or saying failed there

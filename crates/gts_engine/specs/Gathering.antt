@@ -129,7 +129,7 @@ pub record HasTold {P : Type 0} (tells : Type 0) (calls : P → List Call) (disk
   pub stops : new.stopped ≡ stopped_after old.stopped result
   pub fault : IfErr result (λ fault. (fault ≡ SayFault) × Rose (say old.station) (say new.station))
   pub later : say old.station ≤ say new.station
-  pub disk : disk new.station ≡ disk old.station
+  pub disk_stays : disk new.station ≡ disk old.station
 
 -- What was gathered in an engine that goes on was to be brought into the journal and said, with this answer.
 pub record HasSettled {P : Type 0} (tells : Type 0) (calls : P → List Call) (disk say : P → ℕ)

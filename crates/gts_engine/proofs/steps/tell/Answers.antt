@@ -15,7 +15,7 @@ returns-then-is_empty g c =
       stops = c.say_on.ensures.stops;
       fault = c.say_on.ensures.fault;
       later = c.say_on.ensures.later;
-      disk = c.say_on.ensures.disk;
+      disk_stays = c.say_on.ensures.disk;
     }
 
 pub returns : goal.returns
@@ -29,5 +29,5 @@ returns g c =
       stops = refl;
       fault = tt;
       later = omega arith;
-      disk = refl;
+      disk_stays = refl;
     }
