@@ -101,17 +101,17 @@ draws_still tells calls disk say result old mid c (inr settled) few =
 -- ---- answers with the same fault
 
 -- a fault stops the engine by whatever call it was answered
-pub stops_alike : {S T : Type 0} (before : Option Device) (f : SwitchFault) → stopped_after before (let r : Result S SwitchFault = Err f in r) ≡ stopped_after before (let r : Result T SwitchFault = Err f in r)
-stops_alike before DiskFault = refl
-stops_alike before SayFault = refl
-stops_alike before (Full used need limit) = refl
-stops_alike before (Stopped by) = refl
-stops_alike before Spent = refl
-stops_alike before NoMemory = refl
+pub stops_alike : (S T : Type 0) (before : Option Device) (f : SwitchFault) → stopped_after before (let r : Result S SwitchFault = Err f in r) ≡ stopped_after before (let r : Result T SwitchFault = Err f in r)
+stops_alike S T before DiskFault = refl
+stops_alike S T before SayFault = refl
+stops_alike S T before (Full used need limit) = refl
+stops_alike S T before (Stopped by) = refl
+stops_alike S T before Spent = refl
+stops_alike S T before NoMemory = refl
 
 -- and has the same cause
 pub cause_alike : {S T : Type 0} (result : Result S SwitchFault) (f : SwitchFault) (a b x y : ℕ) → result ≡ Err f → HasCallCause result a b x y → HasCallCause (let r : Result T SwitchFault = Err f in r) a b x y
-cause_alike result f a b x y failed c = record {
+cause_alike {S} {T} result f a b x y failed c = record {
   disk_later = c.disk_later;
   disk_failed = λ e. c.disk_failed (failed ∙ by_fault DiskFault e);
   say_later = c.say_later;
@@ -174,7 +174,7 @@ module _ {P : Type 0} (tells : Type 0) (calls : P → List Call) (disk say : P �
     outcome = tt;
     directory = may_directory tells calls disk say cleared first old clears;
     sound = may_sound tells calls disk say cleared first old clears sound;
-    stops = may_stops tells calls disk say cleared first old clears ∙ ap (stopped_after first.stopped) failed ∙ stops_alike first.stopped fault;
+    stops = may_stops tells calls disk say cleared first old clears ∙ ap (stopped_after first.stopped) failed ∙ stops_alike (Unit {0}) Outcome first.stopped fault;
     cause = cause_alike cleared fault (disk first.station) (disk old.station) (say first.station) (say old.station) failed (may_cause tells calls disk say cleared first old clears);
   }
 

@@ -191,7 +191,7 @@ module _ {P : Type 0} (tells : Type 0) (calls : P → List Call) (disk say : P �
       only is = ap (λ (p : Parts P). record p { batch = no_records mid.journal; held = no_sayings; drawn = none_drawn }) is
 
 -- no circuit has a draw that is gathered
-pub none_at : (n c : ℕ) → slice_index_or (replicate n 0) c 0 ≡ 0
+pub none_at : (n c : ℕ) → ◌≡◌ {A = ℕ} (slice_index_or (replicate n 0) c 0) 0
 none_at zero c = refl
 none_at (suc n) zero = refl
 none_at (suc n) (suc c) = none_at n c
@@ -202,10 +202,10 @@ few_none d c = omega (arith, none_at MOST_CIRCUITS c)
 -- ---- whether something is gathered, as a batch tells it
 
 pub none_told : (n : ℕ) (told : Bool) → told ≡ (n == 1) → told ≡ true → nat_lt 1 n ≡ false
-none_told n told e yes = let one : n ≡ 1 = eqb-true n 1 (sym e ∙ yes) in ap (nat_lt 1) one
+none_told n told e closed = let one : n ≡ 1 = eqb-true n 1 (sym e ∙ closed) in ap (nat_lt 1) one
 
 pub some_told : (n : ℕ) (told : Bool) → told ≡ (n == 1) → 0 < n → told ≡ false → nat_lt 1 n ≡ true
-some_told n told e closed no = let other = eqb-false n 1 (sym e ∙ no) in lt-ltb 1 n (omega (arith, closed, other))
+some_told n told e closed several = let other = eqb-false n 1 (sym e ∙ several) in lt-ltb 1 n (omega (arith, closed, other))
 
 -- ---- room behind what was settled
 

@@ -60,4 +60,4 @@ returns-in_err-make_room-clause-active g c =
 pub returns-in_err-say_receipt-clause-active : goal.returns-in_err-say_receipt-clause-active
 returns-in_err-say_receipt-clause-active g c =
     let p = err_from_is_err_and c.from_residual-in_err-say_receipt.result c.from_residual-in_err-say_receipt.ensures.1 in
-    rw (p.1, p.2) (unsaid_active c.say_receipt.result c.in_err-say_receipt.field-0.0 c.in_err-say_receipt.was c.say_receipt.ensures.fault)
+    rw (p.1, p.2) (unsaid_active _ c.say_receipt.result c.in_err-say_receipt.field-0.0 c.in_err-say_receipt.was c.say_receipt.ensures.fault)

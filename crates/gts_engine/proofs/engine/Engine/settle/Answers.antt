@@ -43,4 +43,4 @@ returns-clause-stopped g c =
     let old = c.self.inside.parts in
     let new = c.settle.new.parts in
     let T : Engine g.row.P.Denot → Type 0 = λ e. IfSome e.stopped (λ by. (c.settle.result ≡ Ok tt) × (engine_of new ≡ e)) in
-    subst T c.self.view_is (none_some old.stopped c.in_default.is)
+    subst T c.self.view_is (none_some old.stopped _ c.in_default.is)

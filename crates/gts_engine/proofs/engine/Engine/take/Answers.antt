@@ -38,10 +38,10 @@ pub returns-clause-cause : goal.returns-clause-cause
 returns-clause-cause g c = cause_done c.gather_take-outcome.result c.settle.result _ _ _ _ _ _ c.gather_take-outcome.ensures.cause c.settle.ensures.cause c.in_ok-outcome.outcome c.in_ok-settle.was
 
 pub returns-in_err-settle-clause-stopped : goal.returns-in_err-settle-clause-stopped
-returns-in_err-settle-clause-stopped g c = never_stopped c.args.self.now.stopped c.gather_take-outcome.result c.in_ok-outcome.outcome _ c.in_ok-outcome.was c.gather_take-outcome.ensures.stopped
+returns-in_err-settle-clause-stopped g c = never_stopped _ c.args.self.now.stopped c.gather_take-outcome.result c.in_ok-outcome.outcome _ c.in_ok-outcome.was c.gather_take-outcome.ensures.stopped
 
 pub returns-clause-stopped : goal.returns-clause-stopped
-returns-clause-stopped g c = never_stopped c.args.self.now.stopped c.gather_take-outcome.result c.in_ok-outcome.outcome _ c.in_ok-outcome.was c.gather_take-outcome.ensures.stopped
+returns-clause-stopped g c = never_stopped _ c.args.self.now.stopped c.gather_take-outcome.result c.in_ok-outcome.outcome _ c.in_ok-outcome.was c.gather_take-outcome.ensures.stopped
 
 pub returns-in_err-settle-clause-unchanged : goal.returns-in_err-settle-clause-unchanged
 returns-in_err-settle-clause-unchanged g c =
