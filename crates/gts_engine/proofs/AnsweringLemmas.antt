@@ -192,7 +192,7 @@ module _ {P : Type 0} (tells : Type 0) (calls : P → List Call) (disk say : P �
       cause_mid : HasCallCause cleared (disk first.station) (disk mid.station) (say first.station) (say mid.station)
       cause_mid =
           let C : P → Type 0 = λ p. HasCallCause cleared (disk first.station) (disk p) (say first.station) (say p) in
-          subst C (sym (ap part_station enters.rest)) (may_cause tells calls disk say cleared first old clears)
+          subst C (sym enters.station) (may_cause tells calls disk say cleared first old clears)
 
       module _ (new : Parts P) (channel : ℕ) (bytes : List ℕ) (r : Result (Unit {0}) SwitchFault) (told : HasTold tells calls disk say channel bytes r mid new)
           (says : EachHeld tells calls mode event (engine_of old) (λ d s. by_station mode (spoken d s event) ≡ on channel bytes)) where
