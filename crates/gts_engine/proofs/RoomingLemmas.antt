@@ -164,18 +164,18 @@ module _ (tells : Type 0) (mode : SayMode) (o : Origin) (h : List Entry) (event 
       (anchors_more o h (Doubt (event ∷ [])) kept.anchors)
       (caused_more o h (Doubt (event ∷ [])) kept.anchors kept.caused records)
       (λ tell.
-            let Q : Option Device → Type 0 = λ x. HasSaid mode o g x new.calls in
-            let l = left.leaves tell in
-            record {
-              moments = weaker (LeavesFront mode o h) (LeavesFront mode o g) o.calls new.calls
-                  (λ files outside front. longer mode o h g [] files outside front
-                  (subst (IsReading g) (sym (append-nil front.read ∙ only_itself h front.read none.0 front.reading)) (read_not h (event ∷ [])))) l.moments;
-              now = λ files image.
-                  let r = l.now files image in
-                  (h, read_not h (event ∷ []), r.2 ∙ ap (λ (es : List Entry). Ok (need o.directory (restarted o.directory (state_at o es)))) (only_itself h r.0 none.0 r.1));
-              said = subst Q (sym left.stopped)
-                  (l.said ∙ ap (λ (x : Outside). said_by o.calls ++ x) (sym (quiet mode o h (Doubt (event ∷ [])) _ (told_more mode o h (Doubt (event ∷ []))) (nothing_said mode))));
-            })
+      let Q : Option Device → Type 0 = λ x. HasSaid mode o g x new.calls in
+      let l = left.leaves tell in
+      record {
+        moments = weaker (LeavesFront mode o h) (LeavesFront mode o g) o.calls new.calls
+            (λ files outside front. longer mode o h g [] files outside front
+            (subst (IsReading g) (sym (append-nil front.read ∙ only_itself h front.read none.0 front.reading)) (read_not h (event ∷ [])))) l.moments;
+        now = λ files image.
+            let r = l.now files image in
+            (h, read_not h (event ∷ []), r.2 ∙ ap (λ (es : List Entry). Ok (need o.directory (restarted o.directory (state_at o es)))) (only_itself h r.0 none.0 r.1));
+        said = subst Q (sym left.stopped)
+            (l.said ∙ ap (λ (x : Outside). said_by o.calls ++ x) (sym (quiet mode o h (Doubt (event ∷ [])) _ (told_more mode o h (Doubt (event ∷ []))) (nothing_said mode))));
+      })
 
 -- ---- the call
 
