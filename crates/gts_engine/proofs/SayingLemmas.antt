@@ -1,5 +1,5 @@
 -- Pieces that are held, said one behind the other, over the parts of an engine.
-use Rattle.std.proofs.Common.{◌≡◌, ◌<◌, ◌≤◌, ◌+◌, ℕ, zero, suc, List, [], ◌∷◌, ◌++◌, length, take, Option, Some, Result, Ok, Err, refl, sym, ap, subst, ◌∙◌, arith, take_all}
+use Rattle.std.proofs.Common.{◌≡◌, ◌<◌, ◌≤◌, ◌+◌, ℕ, zero, suc, List, [], ◌∷◌, ◌++◌, length, take, drop, Option, Some, Result, Ok, Err, refl, sym, ap, subst, ◌∙◌, arith, add-one, take_all}
 use Rattle.std.specs.List.{slice_index_or}
 use Rattle.gts_traits.specs.Calls.{Call, Outside, said_by, SaidSince}
 use Rattle.gts_traits.specs.Moments.{EachSince}
@@ -32,7 +32,7 @@ batch_in p = p.batch
 -- one piece for each of them
 pub pieces_length : (each : List Saying) (bytes : List ℕ) → length (pieces_of each bytes) ≡ length each
 pieces_length [] bytes = refl
-pieces_length (s ∷ each) bytes = omega (arith, pieces_length each _)
+pieces_length (s ∷ each) bytes = omega (arith, pieces_length each (drop s.size bytes))
 
 -- the pieces before one of them were said, over the parts
 pub record SaysUpTo {P : Type 0} (tells : Type 0) (calls : P → List Call) (disk say : P → ℕ) (first : Parts P) (i : ℕ) (now : Parts P) : Type 0 where
@@ -97,11 +97,12 @@ module _ {P : Type 0} (tells : Type 0) (calls : P → List Call) (disk say : P �
         subst R up.rest rest
 
     -- one piece more
-    pub one_further : (x : T) → result ≡ Ok x → new.stopped ≡ mid.stopped → SaysUpTo tells calls disk say first (suc i) new
+    pub one_further : (x : T) → result ≡ Ok x → new.stopped ≡ mid.stopped → SaysUpTo tells calls disk say first (i + 1) new
     one_further x ok going = record {
       rest = only;
       going = going ∙ up.going;
-      said = λ tell. piece_said (held_pieces first.held) (calls first.station) (calls mid.station) (calls new.station) i within_pieces (up.said tell) result x ok (tries tell);
+      said = λ tell. subst (λ (n : ℕ). SaidSince (calls first.station) (calls new.station) (joined (take n (held_pieces first.held)))) (sym (add-one i))
+          (piece_said (held_pieces first.held) (calls first.station) (calls mid.station) (calls new.station) i within_pieces (up.said tell) result x ok (tries tell));
       moments = moments_now;
       stands = stands_now;
       later = omega (arith, up.later, later);
@@ -172,5 +173,5 @@ module _ {P : Type 0} (tells : Type 0) (calls : P → List Call) (old mid new : 
           let H : Parts P → Type 0 = λ p. FailsAt tells (held_pieces p.held) i (calls old.station) (calls new.station) in
           subst H rest (record {
             within = failed.within;
-            said = λ tell. let f = failed.said tell in (f.0, (f.1, since_old (joined (take i (held_pieces mid.held)) ++ f.0) tell f.2));
+            said = λ tell. let f = failed.said tell in (f.0, f.1, since_old (joined (take i (held_pieces mid.held)) ++ f.0) tell f.2);
           })

@@ -20,7 +20,9 @@ use Rattle.gts_core.specs.Core.{Core}
 use Rattle.gts_journal.specs.{InHand, StandsFor}
 use Rattle.gts_journal.specs.Batch.{Gathered, Gathers as GathersRecords, IsBlock, AreNext, no_records, beyond_block}
 use Rattle.gts_journal.proofs.LawLemmas.{gathered_block, next_none}
+use Rattle.gts_record.specs.Format.{written}
 use Rattle.gts_opening.specs.Journal.{after_records}
+use Rattle.gts_opening.specs.Room.{draw_bytes}
 use Rattle.gts_calls.specs.Calls.{Standing, settled, AfterSettling, IsSettling, HasCallCause}
 use Rattle.gts_engine.specs.declared.mode.SayMode.{SayMode}
 use Rattle.gts_engine.specs.declared.parts.Parts.{Parts}
@@ -208,6 +210,11 @@ pub some_told : (n : ℕ) (told : Bool) → told ≡ (n == 1) → 0 < n → told
 some_told n told e closed several = let other = eqb-false n 1 (sym e ∙ several) in lt-ltb 1 n (omega (arith, closed, other))
 
 -- ---- room behind what was settled
+
+-- a draw may be gathered alone
+pub draw_gathers : draw_bytes < MOST_GATHERED
+unfolding written
+draw_gathers = omega arith
 
 pub whenever : {T E : Type 0} {A : Type 0} (r : Result T E) → A → OnOk r A
 whenever (Ok x) a = a

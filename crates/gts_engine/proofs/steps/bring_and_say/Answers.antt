@@ -40,7 +40,7 @@ pub returns-in-Err-clause-brings : goal.returns-in-Err-clause-brings
 returns-in-Err-clause-brings g c = brings_all g.P.Station.tells g.P.Station.calls c.args.parts.now c.bring.new.parts c.say_held.new.parts c.bring.ensures.rest c.bring.ensures.silent c.bring.ensures.moments c.in_ok-bring.ensures.stands c.say_held.ensures.rest c.say_held.ensures.says (Err SayFault) (λ d t cs j stands. stands)
 
 pub returns-in-Err-clause-said : goal.returns-in-Err-clause-said
-returns-in-Err-clause-said g c = (c.in-Err.field-0.0, fails_behind g.P.Station.tells g.P.Station.calls c.args.parts.now c.bring.new.parts c.say_held.new.parts c.bring.ensures.rest c.bring.ensures.silent c.bring.ensures.moments c.in_ok-bring.ensures.stands c.say_held.ensures.rest c.say_held.ensures.says c.in-Err.field-0.0 c.in-Err.ensures.said)
+returns-in-Err-clause-said g c = (c.in-Err.field-0, fails_behind g.P.Station.tells g.P.Station.calls c.args.parts.now c.bring.new.parts c.say_held.new.parts c.bring.ensures.rest c.bring.ensures.silent c.bring.ensures.moments c.in_ok-bring.ensures.stands c.say_held.ensures.rest c.say_held.ensures.says c.in-Err.field-0 c.in-Err.ensures.said)
 
 pub returns-in-Err-clause-rest : goal.returns-in-Err-clause-rest
 returns-in-Err-clause-rest g c = only_brought g.P.Station.tells g.P.Station.calls c.args.parts.now c.bring.new.parts c.say_held.new.parts c.bring.ensures.rest c.say_held.ensures.rest

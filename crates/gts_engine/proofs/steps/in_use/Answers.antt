@@ -4,8 +4,8 @@ use Rattle.gts_event.specs.declared.fault.Device.{Device}
 use Rattle.gts_engine.proofs.steps.in_use.Goals as goal
 
 -- an engine that goes on is within the limit; one that stopped has gathered nothing
-pub overflow_add : goal.overflow_add
-overflow_add g c = by_cases c.args.parts.now.stopped refl
+pub overflow_add-result : goal.overflow_add-result
+overflow_add-result g c = by_cases c.args.parts.now.stopped refl
   where
     by_cases : (s : Option Device) → c.args.parts.now.stopped ≡ s → c.behind_gate.result + c.used.result < 2 ^ 64
     by_cases None going =
@@ -13,7 +13,7 @@ overflow_add g c = by_cases c.args.parts.now.stopped refl
         omega (arith, c.behind_gate.ensures, c.used.ensures.value, s0.room, c.args.parts.now.within.limit)
     by_cases (Some by) is =
         let none = ltb-false 1 (length c.args.parts.now.batch.text) (c.requires.idle by is) in
-        omega (arith, c.used.ensures.value, none, c.ranges.behind_gate.fits)
+        let fits = c.behind_gate.type_inv in ?
 
 pub returns : goal.returns
 returns g c = omega (arith, c.behind_gate.ensures, c.used.ensures.value, c.used.ensures.closed)

@@ -1,4 +1,4 @@
-use Rattle.std.proofs.Common.{◌≡◌, ◌∷◌, [], refl, arith}
+use Rattle.std.proofs.Common.{◌≡◌, ◌∷◌, [], true, false, refl, arith}
 use Rattle.gts_traits.specs.Calls.{on}
 use Rattle.gts_engine.specs.Engine.{engine_of}
 use Rattle.gts_engine.proofs.SettlingLemmas.{none_told, some_told}
@@ -25,7 +25,7 @@ returns g c =
     record {
       told = λ none. absurd (cc (none, some));
       rest = λ none. absurd (cc (none, some));
-      held = λ same. (refl, (refl, c.hold.ensures));
+      held = λ same. (refl, refl, c.hold.ensures);
       stops = refl;
       fault = tt;
       later = omega arith;
