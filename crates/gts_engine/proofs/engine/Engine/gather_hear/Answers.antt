@@ -1,11 +1,13 @@
-use Rattle.std.proofs.Common.{rules, ℕ, List, Err, subst, sym}
+use Rattle.std.proofs.Common.{◌≡◌, ℕ, List, Err, subst}
 use Rattle.gts_event.specs.History.{outcome}
-use Rattle.gts_event.specs.declared.event.Event.TheVariants.{Heard, Lost, Taken}
+use Rattle.gts_event.specs.declared.event.Event.TheVariants.{Heard}
 use Rattle.gts_event.specs.declared.fault.SwitchFault.TheVariants.{Stopped}
-use Rattle.gts_calls.specs.Calls.{IsAnswered}
+use Rattle.gts_calls.specs.Calls.{IsAnswered, HasCallCause}
 use Rattle.gts_engine.specs.declared.mode.SayMode.{SayMode}
+use Rattle.gts_engine.specs.declared.mode.SayMode.TheVariants.{Station}
 use Rattle.gts_engine.specs.Engine.{Engine, engine_of}
 use Rattle.gts_engine.specs.Keeping.{meanings_of}
+use Rattle.gts_engine.specs.Going.{stopped_after}
 use Rattle.gts_engine.specs.Parts.{AnswersFull, HadRoomFor}
 use Rattle.gts_engine.specs.Gathering.{HasOnlySettled}
 use Rattle.gts_engine.proofs.SettlingLemmas.{stopped_settles}
@@ -27,7 +29,8 @@ pub returns-clause-called : goal.returns-clause-called
 returns-clause-called g c =
     let old = c.self.inside.parts in
     let T : Engine g.row.P.Denot → Type 0 = λ e. (mode : SayMode) → IsAnswered (meanings_of g.P.Station.tells g.P.Station.calls mode) (Heard c.args.c c.args.kind c.args.message.now) c.answer.result e (engine_of c.answer.new.parts) in
-    subst T c.self.view_is (λ mode. in_words g.P.Station.tells g.P.Station.calls g.P.Station.disk_faults g.P.Station.say_faults mode (Heard c.args.c c.args.kind c.args.message.now) c.answer.result old c.answer.new.parts c.in_default.is (c.answer.ensures.answered mode))
+    let told = λ (mode : SayMode). in_words g.P.Station.tells g.P.Station.calls g.P.Station.disk_faults g.P.Station.say_faults mode (Heard c.args.c c.args.kind c.args.message.now) c.answer.result _ c.answer.new.parts c.in_default.is (c.answer.ensures.answered mode) in
+    subst T c.self.view_is told
 
 pub returns-clause-full : goal.returns-clause-full
 returns-clause-full g c =
@@ -48,8 +51,8 @@ returns-in-New-clause-called g c =
     let is = new_is old.directory old.core c.args.c c.args.message.now c.weigh-judged.result c.in-New.bulletin c.in-New.is c.weigh-judged.ensures in
     let M : List ℕ → Type 0 = λ m. (mode : SayMode) → IsAnswered (meanings_of g.P.Station.tells g.P.Station.calls mode) (Heard c.args.c c.args.kind m) c.accept_new.result (engine_of old) (engine_of c.accept_new.new.parts) in
     let T : Engine g.row.P.Denot → Type 0 = λ e. (mode : SayMode) → IsAnswered (meanings_of g.P.Station.tells g.P.Station.calls mode) (Heard c.args.c c.args.kind c.args.message.now) c.accept_new.result e (engine_of c.accept_new.new.parts) in
-    subst T c.self.view_is
-    (subst M is.0 (λ mode. in_words g.P.Station.tells g.P.Station.calls g.P.Station.disk_faults g.P.Station.say_faults mode (Heard c.args.c c.args.kind c.in-New.bulletin.message) c.accept_new.result old c.accept_new.new.parts c.in_default.is (c.accept_new.ensures.answered mode)))
+    let told = λ (mode : SayMode). in_words g.P.Station.tells g.P.Station.calls g.P.Station.disk_faults g.P.Station.say_faults mode (Heard c.args.c c.args.kind c.in-New.bulletin.message) c.accept_new.result _ c.accept_new.new.parts c.in_default.is (c.accept_new.ensures.answered mode) in
+    subst T c.self.view_is (subst M is.0 told)
 
 pub returns-in-New-clause-full : goal.returns-in-New-clause-full
 returns-in-New-clause-full g c =
@@ -90,3 +93,31 @@ returns-clause-had_room g c =
     subst F c.self.view_is
     (λ ok s holds. not_new_full old.directory s (engine_of old).used c.args.c c.args.kind c.args.message.now (outcome old.directory s event)
     (told_other (outcome old.directory s event) _ (c.weigh-judged.ensures.verdict s c.args.kind holds) (not_told s.count c.weigh-judged.result c.in_default-judged.not-New)))
+
+pub invariant_of-self-in-New : goal.invariant_of-self-in-New
+invariant_of-self-in-New g c = (c.accept_new.ensures.answered Station).sound
+
+pub returns-in-New-clause-cause : goal.returns-in-New-clause-cause
+returns-in-New-clause-cause g c =
+    let new = c.accept_new.new.parts in
+    let T : Engine g.row.P.Denot → Type 0 = λ e. HasCallCause c.accept_new.result (g.P.Station.disk_faults e.station) (g.P.Station.disk_faults new.station) (g.P.Station.say_faults e.station) (g.P.Station.say_faults new.station) in
+    subst T c.self.view_is (c.accept_new.ensures.answered Station).cause
+
+pub returns-in-New-clause-stops : goal.returns-in-New-clause-stops
+returns-in-New-clause-stops g c =
+    let T : Engine g.row.P.Denot → Type 0 = λ e. c.accept_new.new.parts.stopped ≡ stopped_after e.stopped c.accept_new.result in
+    subst T c.self.view_is (c.accept_new.ensures.answered Station).stops
+
+pub invariant_of-self-2 : goal.invariant_of-self-2
+invariant_of-self-2 g c = (c.answer.ensures.answered Station).sound
+
+pub returns-clause-cause : goal.returns-clause-cause
+returns-clause-cause g c =
+    let new = c.answer.new.parts in
+    let T : Engine g.row.P.Denot → Type 0 = λ e. HasCallCause c.answer.result (g.P.Station.disk_faults e.station) (g.P.Station.disk_faults new.station) (g.P.Station.say_faults e.station) (g.P.Station.say_faults new.station) in
+    subst T c.self.view_is (c.answer.ensures.answered Station).cause
+
+pub returns-clause-stops : goal.returns-clause-stops
+returns-clause-stops g c =
+    let T : Engine g.row.P.Denot → Type 0 = λ e. c.answer.new.parts.stopped ≡ stopped_after e.stopped c.answer.result in
+    subst T c.self.view_is (c.answer.ensures.answered Station).stops
