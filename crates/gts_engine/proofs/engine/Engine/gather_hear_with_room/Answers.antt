@@ -1,5 +1,7 @@
-use Rattle.std.proofs.Common.{refl, sym, ◌∙◌}
+use Rattle.std.proofs.Common.{◌<◌, length, refl, sym, subst, ◌∙◌}
 use Rattle.std.proofs.lemmas.Result.{err_from_is_err_and}
+use Rattle.gts_directory.specs.Directory.{Directory}
+use Rattle.gts_engine.specs.declared.mode.SayMode.TheVariants.{Station}
 use Rattle.gts_engine.proofs.RoomingLemmas.{idle_full}
 use Rattle.gts_engine.proofs.RoomGatherLemmas.{gathers_plain, gathers_nothing, gathers_full, gathers_left, gathers_made}
 use Rattle.gts_engine.proofs.engine.Engine.gather_hear_with_room.Goals as goal
@@ -51,3 +53,7 @@ compact_settled-requires g c =
     let first = c.gather_hear-answer.result in
     let wanted = sym c.bytes_wanted.ensures ∙ c.in-Some.is in
     (c.gather_hear-answer.ensures.idle (idle_full first c.in-Some.bytes wanted)).emptied
+
+pub gather_hear-requires : goal.gather_hear-requires
+gather_hear-requires g c =
+    subst (λ (d : Directory). c.args.c < length d.circuits) (sym (c.in_ok-compact_settled.ensures.compaction.directory ∙ (c.gather_hear-answer.ensures.called Station).directory)) c.requires
