@@ -1,5 +1,5 @@
 -- Calls over the parts of an engine: room is made, an event enters, and it is told.
-use Rattle.std.proofs.Common.{◌≡◌, ◌⊎◌, ◌≤◌, ◌++◌, ◌∷◌, if◌then◌else◌, Bool, true, false, inl, inr, ℕ, List, [], Option, Some, None, Result, Ok, Err, refl, sym, ap, subst, ◌∙◌, arith}
+use Rattle.std.proofs.Common.{◌≡◌, ◌≤◌, ◌++◌, ◌∷◌, if◌then◌else◌, Bool, true, false, inl, inr, ℕ, List, [], Option, Some, None, Result, Ok, Err, refl, sym, ap, subst, ◌∙◌, arith}
 use Rattle.gts_traits.specs.Calls.{Call, Outside, on}
 use Rattle.gts_traits.specs.Counts.{Rose}
 use Rattle.gts_directory.specs.Directory.{Directory}
@@ -11,7 +11,6 @@ use Rattle.gts_event.specs.declared.outcome.Outcome.{Outcome}
 use Rattle.gts_event.specs.declared.fault.Device.{Device}
 use Rattle.gts_event.specs.declared.fault.SwitchFault.{SwitchFault}
 use Rattle.gts_event.specs.declared.fault.SwitchFault.TheVariants.{DiskFault, SayFault, Full, Stopped, Spent, NoMemory}
-use Rattle.gts_event.specs.declared.fault.Device.TheVariants.{Disk, Say}
 use Rattle.gts_core.specs.Core.{Core, Holds}
 use Rattle.gts_calls.specs.Calls.{HasCallCause, IsAnswered}
 use Rattle.gts_engine.specs.declared.mode.SayMode.{SayMode}
@@ -20,7 +19,7 @@ use Rattle.gts_engine.specs.Sayings.{held_pieces, joined}
 use Rattle.gts_engine.specs.Engine.{Engine, engine_of}
 use Rattle.gts_engine.specs.Keeping.{most_drawn, meanings_of}
 use Rattle.gts_engine.specs.Origin.{by_station}
-use Rattle.gts_engine.specs.Going.{IsGathering, HasFewDraws, stopped_after}
+use Rattle.gts_engine.specs.Going.{stopped_after}
 use Rattle.gts_engine.proofs.TurnLemmas.{goes_on}
 use Rattle.gts_engine.specs.Parts.{IsSound, HasEntered}
 use Rattle.gts_engine.specs.Gathering.{HasTold, IsDeviceFault, MayHaveSettled, AnswersIn, LeavesCall}

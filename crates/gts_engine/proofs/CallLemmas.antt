@@ -1,6 +1,6 @@
 -- Calls that gather, and settle behind it.
 use Rattle.std.proofs.Common.{◌≡◌, ℕ, List, Option, Some, None, Result, Ok, Err, refl, sym, ap, subst, ◌∙◌}
-use Rattle.std.specs.Prelude.{IfErr, IfSome, false}
+use Rattle.std.specs.Prelude.{IfErr, IfSome}
 use Rattle.gts_traits.specs.Calls.{Call}
 use Rattle.gts_event.specs.declared.event.Event.{Event}
 use Rattle.gts_event.specs.declared.outcome.Outcome.{Outcome}

@@ -1,5 +1,5 @@
 -- Room is made for a bulletin that may be gathered.
-use Rattle.std.proofs.Common.{◌≡◌, ◌⊎◌, inl, inr, ℕ, Bool, true, false, List, [], ◌∷◌, ◌++◌, Option, Some, None, Result, Ok, Err, refl, sym, ap, subst, ◌∙◌}
+use Rattle.std.proofs.Common.{◌≡◌, inl, inr, ℕ, Bool, true, false, List, [], ◌∷◌, ◌++◌, Some, None, Result, Ok, Err, refl, sym, ap, subst, ◌∙◌}
 use Rattle.std.specs.Prelude.{IsOk, IsSome, IfSome, is_ok}
 use Rattle.std.proofs.lemmas.List.{append-nil}
 use Rattle.gts_traits.specs.Calls.{Call}
@@ -14,13 +14,12 @@ use Rattle.gts_event.specs.declared.event.Event.TheVariants.{Heard}
 use Rattle.gts_event.specs.declared.event.Entry.{Entry}
 use Rattle.gts_event.specs.declared.event.Entry.TheVariants.{Idle}
 use Rattle.gts_event.specs.declared.outcome.Outcome.{Outcome}
-use Rattle.gts_event.specs.declared.fault.Device.{Device}
 use Rattle.gts_event.specs.declared.fault.Device.TheVariants.{Disk, Say}
 use Rattle.gts_event.specs.declared.fault.SwitchFault.{SwitchFault}
 use Rattle.gts_event.specs.declared.fault.SwitchFault.TheVariants.{DiskFault, SayFault, Full, Stopped, Spent, NoMemory}
 use Rattle.gts_core.specs.Core.{Holds}
 use Rattle.gts_opening.specs.Room.{IsAccepted, full}
-use Rattle.gts_calls.specs.Calls.{Standing, IsAnswered, IsAnswerCause, settled}
+use Rattle.gts_calls.specs.Calls.{Standing, IsAnswered, IsAnswerCause}
 use Rattle.gts_engine.specs.declared.mode.SayMode.{SayMode}
 use Rattle.gts_engine.specs.Engine.{Engine, shown}
 use Rattle.gts_engine.specs.Origin.{Origin, compacted_after, state_at, used_at}
@@ -29,7 +28,7 @@ use Rattle.gts_engine.specs.Compacting.{IsCompaction, GivesRoom, IsIdleFault, Is
 use Rattle.gts_engine.specs.Going.{stopped_after}
 use Rattle.gts_engine.specs.Parts.{HadRoomFor}
 use Rattle.gts_engine.specs.Gathering.{HasOnlySettled}
-use Rattle.gts_engine.specs.Rooming.{full_with_spare, TellsSpare, bytes_wanted, IsFullEither, IsGatheredWithRoom}
+use Rattle.gts_engine.specs.Rooming.{TellsSpare, bytes_wanted, IsFullEither, IsGatheredWithRoom}
 use Rattle.gts_engine.proofs.MarkedLemmas.{state_behind_marked, used_marked}
 use Rattle.gts_engine.proofs.TurnLemmas.{idle}
 use Rattle.gts_engine.proofs.CompactingLemmas.{used_compacted}

@@ -1,11 +1,11 @@
 -- Settling, over the parts of an engine.
-use Rattle.std.proofs.Common.{◌≡◌, ◌<◌, ◌≤◌, ◌+◌, ◌-◌, ◌*◌, true, false, nat_lt, ℕ, zero, suc, Bool, List, [], ◌∷◌, ◌++◌, length, Option, Some, None, Result, Ok, Err, OnOk, IfErr, refl, sym, ap, subst, ◌∙◌, arith}
+use Rattle.std.proofs.Common.{◌≡◌, ◌<◌, ◌≤◌, ◌+◌, true, false, nat_lt, ℕ, zero, suc, Bool, List, [], ◌∷◌, ◌++◌, length, Some, None, Result, Ok, Err, OnOk, IfErr, refl, sym, ap, subst, ◌∙◌, arith}
 use Rattle.std.specs.Prelude.{replicate, ◌==◌}
 use Rattle.std.proofs.lemmas.Bool.{eqb-true, eqb-false, ltb-false, lt-ltb}
 use Rattle.std.specs.List.{slice_index_or}
 use Rattle.gts_alphabet.specs.declared.limits.TheConstants.{MOST_CIRCUITS}
 use Rattle.std.proofs.lemmas.List.{append-nil}
-use Rattle.gts_traits.specs.Calls.{Call, Outside}
+use Rattle.gts_traits.specs.Calls.{Call}
 use Rattle.gts_directory.specs.Directory.{Directory}
 use Rattle.gts_event.specs.State.{State}
 use Rattle.gts_event.specs.Drain.{all_done}
@@ -23,7 +23,7 @@ use Rattle.gts_journal.proofs.LawLemmas.{gathered_block, next_none}
 use Rattle.gts_record.specs.Format.{written}
 use Rattle.gts_opening.specs.Journal.{after_records}
 use Rattle.gts_opening.specs.Room.{draw_bytes}
-use Rattle.gts_calls.specs.Calls.{Standing, settled, AfterSettling, IsSettling, HasCallCause}
+use Rattle.gts_calls.specs.Calls.{AfterSettling, IsSettling, HasCallCause}
 use Rattle.gts_engine.specs.declared.mode.SayMode.{SayMode}
 use Rattle.gts_engine.specs.declared.parts.Parts.{Parts}
 use Rattle.gts_engine.specs.Sayings.{Sayings, HasRoom, held_pieces, no_sayings}

@@ -1,5 +1,5 @@
 -- What an engine has gathered that isn't in its journal yet, what bringing it there leaves, and what a call leaves that gathers.
-use Rattle.std.specs.Prelude.{◌≡◌, ◌⊎◌, ℕ, ◌<◌, ◌≤◌, length, take, true, false, List, [], ◌∷◌, ◌++◌, None, Result, Ok, Err, OnOk, IfOk, IfErr}
+use Rattle.std.specs.Prelude.{◌≡◌, ◌⊎◌, ℕ, ◌<◌, ◌≤◌, length, take, true, false, List, [], ◌∷◌, ◌++◌, Result, Ok, Err, OnOk, IfOk, IfErr}
 use Rattle.std.specs.List.{slice_index_or}
 use Rattle.gts_traits.specs.Calls.{Call, Says, Outside, on, said_by, SaidSince}
 use Rattle.gts_traits.specs.Counts.{Rose}
@@ -24,7 +24,7 @@ use Rattle.gts_calls.specs.Calls.{HasCallCause, AfterSettling, AfterCall, IsAnsw
 use Rattle.gts_engine.specs.declared.mode.SayMode.{SayMode}
 use Rattle.gts_engine.specs.declared.parts.Parts.{Parts}
 use Rattle.gts_engine.specs.Sayings.{held_pieces, joined, no_sayings}
-use Rattle.gts_engine.specs.Engine.{Engine, Shown, engine_of, shown}
+use Rattle.gts_engine.specs.Engine.{Engine, engine_of, shown}
 use Rattle.gts_engine.specs.Origin.{Origin}
 use Rattle.gts_engine.specs.Keeping.{Gathers, meanings_of, none_drawn}
 use Rattle.gts_engine.specs.Going.{stopped_after}

@@ -1,8 +1,7 @@
-use Rattle.std.proofs.Common.{◌≡◌, Result, Ok, Err, sym, ap, subst, ◌∙◌}
+use Rattle.std.proofs.Common.{Ok, Err, sym, ap, subst, ◌∙◌}
 use Rattle.std.proofs.lemmas.Result.{err_from_is_err_and}
-use Rattle.gts_traits.specs.Calls.{said_by}
 use Rattle.gts_event.specs.declared.fault.SwitchFault.{SwitchFault}
-use Rattle.gts_event.specs.declared.fault.SwitchFault.TheVariants.{DiskFault, SayFault}
+use Rattle.gts_event.specs.declared.fault.SwitchFault.TheVariants.{SayFault}
 use Rattle.gts_engine.specs.Sayings.{held_pieces}
 use Rattle.gts_engine.specs.Gathering.{BringsAndSays, SaysBy}
 use Rattle.gts_engine.proofs.SayingLemmas.{brings_nothing, brings_all, only_brought, said_behind, fails_behind, journal_in}

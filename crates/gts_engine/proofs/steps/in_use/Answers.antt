@@ -1,4 +1,4 @@
-use Rattle.std.proofs.Common.{◌≡◌, ◌+◌, ◌<◌, ◌^◌, Option, Some, None, length, Fits, w64, refl, arith}
+use Rattle.std.proofs.Common.{◌≡◌, ◌+◌, Option, Some, None, length, Fits, w64, refl, arith}
 use Rattle.std.proofs.lemmas.Bool.{ltb-false}
 use Rattle.gts_event.specs.declared.fault.Device.{Device}
 use Rattle.gts_engine.proofs.steps.in_use.Goals as goal

@@ -1,5 +1,4 @@
-use Rattle.std.proofs.Common.{◌≡◌, ◌+◌, ◌≤◌, length, inl, inr, refl, arith}
-use Rattle.gts_journal.specs.declared.batch.TheConstants.{MOST_GATHERED}
+use Rattle.std.proofs.Common.{inl, inr, refl}
 use Rattle.gts_engine.proofs.SettlingLemmas.{whenever, room_settled, held_settled}
 use Rattle.gts_engine.proofs.steps.make_room.Goals as goal
 

@@ -1,5 +1,5 @@
-use Rattle.std.proofs.Common.{◌≡◌, ◌<◌, ◌≤◌, inl, inr, refl, sym, ap, subst, ◌∙◌, arith}
-use Rattle.std.specs.Prelude.{OnOk, slice_index_or}
+use Rattle.std.proofs.Common.{◌<◌, ◌≤◌, inr, sym, ap, subst, arith}
+use Rattle.std.specs.Prelude.{slice_index_or}
 use Rattle.gts_directory.specs.Directory.{Directory}
 use Rattle.gts_directory.specs.Rows.{circuit_of_row}
 use Rattle.gts_directory.specs.declared.limits.TheConstants.{MOST_REPEAT}

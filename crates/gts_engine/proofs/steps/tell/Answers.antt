@@ -1,6 +1,5 @@
-use Rattle.std.proofs.Common.{◌≡◌, ◌∷◌, [], true, false, refl, ap, arith}
+use Rattle.std.proofs.Common.{◌≡◌, true, false, refl, ap, arith}
 use Rattle.std.proofs.Props.{props}
-use Rattle.gts_traits.specs.Calls.{on}
 use Rattle.gts_engine.specs.declared.parts.Parts.{Parts}
 use Rattle.gts_engine.specs.Bounds.{IsWithin}
 use Rattle.gts_engine.specs.Sayings.{Sayings}

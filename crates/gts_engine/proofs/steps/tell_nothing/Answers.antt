@@ -1,4 +1,4 @@
-use Rattle.std.proofs.Common.{◌≡◌, ◌∷◌, ◌++◌, [], if◌then◌else◌, true, false, Bool, List, refl, sym, ap, subst, ◌∙◌}
+use Rattle.std.proofs.Common.{◌≡◌, ◌∷◌, ◌++◌, [], if◌then◌else◌, true, false, Bool, List, sym, ap, ◌∙◌}
 use Rattle.gts_traits.specs.Calls.{Outside}
 use Rattle.gts_engine.specs.Engine.{engine_of}
 use Rattle.gts_engine.proofs.SettlingLemmas.{none_told, some_told}

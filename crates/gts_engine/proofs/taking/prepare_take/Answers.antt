@@ -1,7 +1,4 @@
-use Rattle.std.proofs.Common.{◌≡◌, refl, sym, ap, subst}
-use Rattle.gts_directory.specs.Directory.{Directory}
-use Rattle.gts_event.specs.State.{State}
-use Rattle.gts_event.specs.History.{choice}
+use Rattle.std.proofs.Common.{subst}
 use Rattle.gts_core.specs.Core.{Core, Holds}
 use Rattle.gts_engine.proofs.TakingLemmas.{takes_draw, takes_none, repeat_unrecorded, nothing_unrecorded}
 use Rattle.gts_engine.proofs.AnsweringLemmas.{may_core}
@@ -19,8 +16,8 @@ returns-in-Resend-clause-ready g c =
     let mid = m.new.parts in
     let core = may_core g.P.Station.tells g.P.Station.calls g.P.Station.disk_faults g.P.Station.say_faults m.result old mid m.ensures.settles in
     takes_none mid c.args.c m.result m.ensures.saying
-    (λ s holds. repeat_unrecorded mid.directory s c.args.c c.in-Resend.index 
-        (c.in-Resend.ensures mid.directory s (subst (λ (k : Core). Holds mid.directory k s) core holds)))
+    (λ s holds. repeat_unrecorded mid.directory s c.args.c c.in-Resend.index
+    (c.in-Resend.ensures mid.directory s (subst (λ (k : Core). Holds mid.directory k s) core holds)))
 
 pub returns-in-Nothing-clause-ready : goal.returns-in-Nothing-clause-ready
 returns-in-Nothing-clause-ready g c =
@@ -29,5 +26,5 @@ returns-in-Nothing-clause-ready g c =
     let mid = m.new.parts in
     let core = may_core g.P.Station.tells g.P.Station.calls g.P.Station.disk_faults g.P.Station.say_faults m.result old mid m.ensures.settles in
     takes_none mid c.args.c m.result m.ensures.saying
-    (λ s holds. nothing_unrecorded mid.directory s c.args.c 
-        (c.in-Nothing.ensures mid.directory s (subst (λ (k : Core). Holds mid.directory k s) core holds)))
+    (λ s holds. nothing_unrecorded mid.directory s c.args.c
+    (c.in-Nothing.ensures mid.directory s (subst (λ (k : Core). Holds mid.directory k s) core holds)))

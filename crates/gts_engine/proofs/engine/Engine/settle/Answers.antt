@@ -1,10 +1,6 @@
-use Rattle.std.proofs.Common.{rules, ◌≡◌, Result, Ok, false, refl, ap, subst, sym}
+use Rattle.std.proofs.Common.{◌≡◌, Ok, refl, ap, subst}
 use Rattle.std.specs.Prelude.{IfSome}
-use Rattle.gts_event.specs.declared.fault.SwitchFault.{SwitchFault}
-use Rattle.gts_calls.specs.Calls.{IsSettling}
-use Rattle.gts_engine.specs.declared.mode.SayMode.{SayMode}
 use Rattle.gts_engine.specs.Engine.{Engine, engine_of}
-use Rattle.gts_engine.specs.Keeping.{meanings_of}
 use Rattle.gts_engine.specs.Gathering.{SettlesEngine}
 use Rattle.gts_engine.proofs.SettlingLemmas.{stopped_settles, parts_settle}
 use Rattle.gts_engine.proofs.CallLemmas.{if_some, none_some}
