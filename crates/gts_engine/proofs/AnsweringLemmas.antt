@@ -1,5 +1,5 @@
 -- Calls over the parts of an engine: room is made, an event enters, and it is told.
-use Rattle.std.proofs.Common.{◌≡◌, ◌⊎◌, ◌≤◌, ◌++◌, ◌∷◌, if◌then◌else◌, Bool, true, false, inl, inr, ℕ, List, [], Option, Some, None, Result, Ok, Err, refl, sym, ap, subst, ◌∙◌, arith}
+use Rattle.std.proofs.Common.{◌≡◌, ◌≤◌, ◌++◌, ◌∷◌, if◌then◌else◌, Bool, true, false, inl, inr, ℕ, List, [], Option, Some, None, Result, Ok, Err, refl, sym, ap, subst, ◌∙◌, arith}
 use Rattle.gts_traits.specs.Calls.{Call, Outside, on}
 use Rattle.gts_traits.specs.Counts.{Rose}
 use Rattle.gts_directory.specs.Directory.{Directory}
@@ -11,7 +11,6 @@ use Rattle.gts_event.specs.declared.outcome.Outcome.{Outcome}
 use Rattle.gts_event.specs.declared.fault.Device.{Device}
 use Rattle.gts_event.specs.declared.fault.SwitchFault.{SwitchFault}
 use Rattle.gts_event.specs.declared.fault.SwitchFault.TheVariants.{DiskFault, SayFault, Full, Stopped, Spent, NoMemory}
-use Rattle.gts_event.specs.declared.fault.Device.TheVariants.{Disk, Say}
 use Rattle.gts_core.specs.Core.{Core, Holds}
 use Rattle.gts_calls.specs.Calls.{HasCallCause, IsAnswered}
 use Rattle.gts_engine.specs.declared.mode.SayMode.{SayMode}
@@ -20,10 +19,10 @@ use Rattle.gts_engine.specs.Sayings.{held_pieces, joined}
 use Rattle.gts_engine.specs.Engine.{Engine, engine_of}
 use Rattle.gts_engine.specs.Keeping.{most_drawn, meanings_of}
 use Rattle.gts_engine.specs.Origin.{by_station}
-use Rattle.gts_engine.specs.Going.{IsGathering, HasFewDraws, stopped_after}
+use Rattle.gts_engine.specs.Going.{stopped_after}
 use Rattle.gts_engine.proofs.TurnLemmas.{goes_on}
 use Rattle.gts_engine.specs.Parts.{IsSound, HasEntered}
-use Rattle.gts_engine.specs.Gathering.{HasTold, MayHaveSettled, AnswersIn, LeavesCall}
+use Rattle.gts_engine.specs.Gathering.{HasTold, IsDeviceFault, MayHaveSettled, AnswersIn, LeavesCall}
 use Rattle.gts_engine.proofs.AnswerLemmas.{EachHeld, answered, stopped_leaves}
 use Rattle.gts_engine.proofs.GatherLemmas.{fails_after}
 use Rattle.std.specs.Prelude.{IfErr, IfOk, OnOk, slice_index_or, ◌<◌}
@@ -62,6 +61,11 @@ module _ {P : Type 0} (tells : Type 0) (calls : P → List Call) (disk say : P �
   may_quiet (inl same) sound none = ap part_held same.1 ∙ ap held_pieces (sound.rests none)
   may_quiet (inr settled) sound none = ap held_pieces settled.silent
 
+  -- only a device fails
+  pub may_kind : MayHaveSettled tells calls disk say result old mid → IfErr result IsDeviceFault
+  may_kind (inl same) = subst (λ (r : Result (Unit {0}) SwitchFault). IfErr r IsDeviceFault) (sym same.0) tt
+  may_kind (inr settled) = settled.kind
+
   pub may_stops : MayHaveSettled tells calls disk say result old mid → mid.stopped ≡ stopped_after old.stopped result
   may_stops (inl same) = ap part_stopped same.1 ∙ sym (ap (stopped_after old.stopped) same.0)
   may_stops (inr settled) = settled.stops
@@ -96,17 +100,17 @@ draws_still tells calls disk say result old mid c (inr settled) few =
 -- ---- answers with the same fault
 
 -- a fault stops the engine by whatever call it was answered
-pub stops_alike : {S T : Type 0} (before : Option Device) (f : SwitchFault) → stopped_after before (let r : Result S SwitchFault = Err f in r) ≡ stopped_after before (let r : Result T SwitchFault = Err f in r)
-stops_alike before DiskFault = refl
-stops_alike before SayFault = refl
-stops_alike before (Full used need limit) = refl
-stops_alike before (Stopped by) = refl
-stops_alike before Spent = refl
-stops_alike before NoMemory = refl
+pub stops_alike : (S T : Type 0) (before : Option Device) (f : SwitchFault) → stopped_after before (let r : Result S SwitchFault = Err f in r) ≡ stopped_after before (let r : Result T SwitchFault = Err f in r)
+stops_alike S T before DiskFault = refl
+stops_alike S T before SayFault = refl
+stops_alike S T before (Full used need limit) = refl
+stops_alike S T before (Stopped by) = refl
+stops_alike S T before Spent = refl
+stops_alike S T before NoMemory = refl
 
 -- and has the same cause
 pub cause_alike : {S T : Type 0} (result : Result S SwitchFault) (f : SwitchFault) (a b x y : ℕ) → result ≡ Err f → HasCallCause result a b x y → HasCallCause (let r : Result T SwitchFault = Err f in r) a b x y
-cause_alike result f a b x y failed c = record {
+cause_alike {S} {T} result f a b x y failed c = record {
   disk_later = c.disk_later;
   disk_failed = λ e. c.disk_failed (failed ∙ by_fault DiskFault e);
   say_later = c.say_later;
@@ -169,7 +173,7 @@ module _ {P : Type 0} (tells : Type 0) (calls : P → List Call) (disk say : P �
     outcome = tt;
     directory = may_directory tells calls disk say cleared first old clears;
     sound = may_sound tells calls disk say cleared first old clears sound;
-    stops = may_stops tells calls disk say cleared first old clears ∙ ap (stopped_after first.stopped) failed ∙ stops_alike first.stopped fault;
+    stops = may_stops tells calls disk say cleared first old clears ∙ ap (stopped_after first.stopped) failed ∙ stops_alike (Unit {0}) Outcome first.stopped fault;
     cause = cause_alike cleared fault (disk first.station) (disk old.station) (say first.station) (say old.station) failed (may_cause tells calls disk say cleared first old clears);
   }
 
@@ -187,7 +191,7 @@ module _ {P : Type 0} (tells : Type 0) (calls : P → List Call) (disk say : P �
       cause_mid : HasCallCause cleared (disk first.station) (disk mid.station) (say first.station) (say mid.station)
       cause_mid =
           let C : P → Type 0 = λ p. HasCallCause cleared (disk first.station) (disk p) (say first.station) (say p) in
-          subst C (sym (ap part_station enters.rest)) (may_cause tells calls disk say cleared first old clears)
+          subst C (sym enters.station) (may_cause tells calls disk say cleared first old clears)
 
       module _ (new : Parts P) (channel : ℕ) (bytes : List ℕ) (r : Result (Unit {0}) SwitchFault) (told : HasTold tells calls disk say channel bytes r mid new)
           (says : EachHeld tells calls mode event (engine_of old) (λ d s. by_station mode (spoken d s event) ≡ on channel bytes)) where
@@ -201,7 +205,7 @@ module _ {P : Type 0} (tells : Type 0) (calls : P → List Call) (disk say : P �
         cause_all : HasCallCause r (disk first.station) (disk new.station) (say first.station) (say new.station)
         cause_all =
             cause_then cleared r (disk first.station) (disk mid.station) (disk new.station) (say first.station) (say mid.station) (say new.station) cause_mid
-            (told_cause r (disk mid.station) (disk new.station) (say mid.station) (say new.station) told.fault told.later told.disk)
+            (told_cause r (disk mid.station) (disk new.station) (say mid.station) (say new.station) told.fault told.later told.disk_stays)
 
         pub answers_told : r ≡ Ok tt → AnswersIn tells calls disk say mode event (Ok result) first new
         answers_told done = record {

@@ -1,5 +1,5 @@
 -- What was gathered is brought into the journal: what that leaves of the parts of an engine.
-use Rattle.std.proofs.Common.{◌≡◌, ◌<◌, true, false, inl, inr, ⊎_elim, ℕ, List, [], ◌∷◌, ◌++◌, length, take, Option, Some, None, Result, Ok, Err, OnOk, IfErr, refl, sym, ap, subst, ◌∙◌}
+use Rattle.std.proofs.Common.{◌≡◌, ◌<◌, false, inl, inr, ⊎_elim, ℕ, List, [], ◌∷◌, ◌++◌, length, take, Option, Some, None, Result, Ok, Err, OnOk, IfErr, refl, sym, ap, subst, ◌∙◌}
 use Rattle.std.specs.List.{slice_index_or}
 use Rattle.gts_traits.specs.Calls.{Call, Outside, said_by, SaidSince}
 use Rattle.gts_traits.specs.Disk.{Files, stable, IsImage}
@@ -19,15 +19,14 @@ use Rattle.gts_event.specs.declared.event.Event.{Event}
 use Rattle.gts_event.specs.declared.event.Event.TheVariants.{Heard, Lost, Taken}
 use Rattle.gts_event.specs.declared.event.Entry.{Entry}
 use Rattle.gts_event.specs.declared.fault.Device.{Device}
-use Rattle.gts_event.specs.declared.fault.Device.TheVariants.{Disk, Say}
+use Rattle.gts_event.specs.declared.fault.Device.TheVariants.{Say}
 use Rattle.gts_event.specs.declared.fault.SwitchFault.{SwitchFault}
 use Rattle.gts_event.specs.declared.fault.SwitchFault.TheVariants.{DiskFault, SayFault, Full, Stopped, Spent, NoMemory}
 use Rattle.gts_record.specs.declared.fault.OpenFault.{OpenFault}
-use Rattle.gts_core.specs.Core.{Core, Holds}
 use Rattle.gts_journal.specs.{InHand, StandsFor}
-use Rattle.gts_journal.specs.Batch.{Gathered, AreNext}
+use Rattle.gts_journal.specs.Batch.{Gathered}
 use Rattle.gts_journal.proofs.LawLemmas.{images_open}
-use Rattle.gts_opening.specs.Journal.{opens, unowed_state, after_records}
+use Rattle.gts_opening.specs.Journal.{opens, after_records}
 use Rattle.gts_opening.specs.Room.{HasRecord, event_record, heard_record, taken_record}
 use Rattle.gts_engine.specs.declared.mode.SayMode.{SayMode}
 use Rattle.gts_engine.specs.Engine.{Engine, Shown, shown}

@@ -1,6 +1,6 @@
 -- Calls that gather, and settle behind it.
 use Rattle.std.proofs.Common.{◌≡◌, ℕ, List, Option, Some, None, Result, Ok, Err, refl, sym, ap, subst, ◌∙◌}
-use Rattle.std.specs.Prelude.{IfErr, IfSome, false}
+use Rattle.std.specs.Prelude.{IfErr, IfSome}
 use Rattle.gts_traits.specs.Calls.{Call}
 use Rattle.gts_event.specs.declared.event.Event.{Event}
 use Rattle.gts_event.specs.declared.outcome.Outcome.{Outcome}
@@ -18,13 +18,13 @@ use Rattle.gts_engine.proofs.AnswerLemmas.{called_failed, called_unsettled, call
 use Rattle.gts_engine.proofs.AnsweringLemmas.{cause_then, cause_alike, cause_none}
 
 -- the fault of a device stops by whatever call it was answered, whatever stopped before
-pub device_stops : {S T : Type 0} (fault : SwitchFault) (before other : Option Device) → IsDeviceFault fault → stopped_after before (let r : Result S SwitchFault = Err fault in r) ≡ stopped_after other (let r : Result T SwitchFault = Err fault in r)
-device_stops DiskFault before other is = refl
-device_stops SayFault before other is = refl
-device_stops (Full used need limit) before other is = absurd is
-device_stops (Stopped by) before other is = absurd is
-device_stops Spent before other is = absurd is
-device_stops NoMemory before other is = absurd is
+pub device_stops : (S T : Type 0) (fault : SwitchFault) (before other : Option Device) → IsDeviceFault fault → stopped_after before (let r : Result S SwitchFault = Err fault in r) ≡ stopped_after other (let r : Result T SwitchFault = Err fault in r)
+device_stops S T DiskFault before other is = refl
+device_stops S T SayFault before other is = refl
+device_stops S T (Full used need limit) before other is = absurd is
+device_stops S T (Stopped by) before other is = absurd is
+device_stops S T Spent before other is = absurd is
+device_stops S T NoMemory before other is = absurd is
 
 -- and is no answer with which nothing changed
 pub device_active : (fault : SwitchFault) → IsDeviceFault fault → IsIdleAnswer (Err fault) → ⊥
@@ -36,13 +36,21 @@ device_active Spent is idle = is
 device_active NoMemory is idle = is
 
 -- one that stopped answers no outcome
-pub never_stopped : {A : Type 0} (stopped : Option Device) (first : Result Outcome SwitchFault) (answer : Outcome) (B : Device → Type 0) → first ≡ Ok answer → IfSome stopped (λ by. (first ≡ Err (Stopped by)) × A) → IfSome stopped B
-never_stopped None first answer B ok none = tt
-never_stopped (Some by) first answer B ok told = absurd (let no : ◌≡◌ {A = Result Outcome SwitchFault} (Ok answer) (Err (Stopped by)) = sym ok ∙ told.0 in cc no)
+pub never_stopped : (A : Type 0) (stopped : Option Device) (first : Result Outcome SwitchFault) (answer : Outcome) (B : Device → Type 0) → first ≡ Ok answer → IfSome stopped (λ by. (first ≡ Err (Stopped by)) × A) → IfSome stopped B
+never_stopped A None first answer B ok none = tt
+never_stopped A (Some by) first answer B ok told = absurd (let no : ◌≡◌ {A = Result Outcome SwitchFault} (Ok answer) (Err (Stopped by)) = sym ok ∙ told.0 in cc no)
 
 -- what holds of a fault holds of the one that was answered
 pub of_fault : {T : Type 0} (r : Result T SwitchFault) (fault : SwitchFault) (A : SwitchFault → Type 0) → r ≡ Err fault → IfErr r A → A fault
-of_fault r fault A is all = subst (λ (x : Result T SwitchFault). IfErr x A) is all
+of_fault {T} r fault A is all = subst (λ (x : Result T SwitchFault). IfErr x A) is all
+
+-- a fault of a device, or of saying, is no answer with which nothing changed
+pub failed_active : {T : Type 0} (r : Result T SwitchFault) (fault : SwitchFault) → r ≡ Err fault → IfErr r IsDeviceFault → IsIdleAnswer (Err fault) → ⊥
+failed_active r fault is device = device_active fault (of_fault r fault IsDeviceFault is device)
+
+pub unsaid_active : {T : Type 0} (A : Type 0) (r : Result T SwitchFault) (fault : SwitchFault) → r ≡ Err fault → IfErr r (λ f. (f ≡ SayFault) × A) → IsIdleAnswer (Err fault) → ⊥
+unsaid_active A r fault is say =
+    device_active fault (subst IsDeviceFault (sym (of_fault r fault (λ f. (f ≡ SayFault) × A) is say).0) tt)
 
 module _ {P : Type 0} (tells : Type 0) (calls : P → List Call) (mode : SayMode) (event : Event) (old mid : Engine P) (first : Result Outcome SwitchFault) (answered : IsAnswered (meanings_of tells calls mode) event first old mid) where
   -- the call failed
@@ -70,7 +78,7 @@ module _ {P : Type 0} (tells : Type 0) (calls : P → List Call) (mode : SayMode
 -- what stopped it, and the counts of faults
 module _ (before between after : Option Device) (first : Result Outcome SwitchFault) (settled : Result (Unit {0}) SwitchFault) (one : between ≡ stopped_after before first) (two : after ≡ stopped_after between settled) where
   pub stops_behind : (fault : SwitchFault) → settled ≡ Err fault → IfErr settled IsDeviceFault → after ≡ stopped_after before (let r : Result Outcome SwitchFault = Err fault in r)
-  stops_behind fault is device = two ∙ ap (stopped_after between) is ∙ device_stops fault between before (of_fault settled fault IsDeviceFault is device)
+  stops_behind fault is device = two ∙ ap (stopped_after between) is ∙ device_stops (Unit {0}) Outcome fault between before (of_fault settled fault IsDeviceFault is device)
 
   pub stops_done : (answer : Outcome) → first ≡ Ok answer → settled ≡ Ok tt → after ≡ stopped_after before (let r : Result Outcome SwitchFault = Ok answer in r)
   stops_done answer ok is = two ∙ ap (stopped_after between) is ∙ one ∙ ap (stopped_after before) ok
@@ -88,14 +96,14 @@ pub if_some : (stopped : Option Device) {A : Device → Type 0} → ((by : Devic
 if_some None all = tt
 if_some (Some by) all = all by
 
-pub none_some : (stopped : Option Device) {A : Device → Type 0} → stopped ≡ None → IfSome stopped A
-none_some None none = tt
-none_some (Some by) none = absurd (cc none)
+pub none_some : (stopped : Option Device) (A : Device → Type 0) → stopped ≡ None → IfSome stopped A
+none_some None A none = tt
+none_some (Some by) A none = absurd (cc none)
 
 -- it isn't settled, so that settling doesn't fail
-pub never_settled : {A : Type 0} (stopped : Option Device) (settled : Result (Unit {0}) SwitchFault) (fault : SwitchFault) (B : Device → Type 0) → settled ≡ Err fault → IfSome stopped (λ by. (settled ≡ Ok tt) × A) → IfSome stopped B
-never_settled None settled fault B failed told = tt
-never_settled (Some by) settled fault B failed told = absurd (let no : ◌≡◌ {A = Result (Unit {0}) SwitchFault} (Ok tt) (Err fault) = sym told.0 ∙ failed in cc no)
+pub never_settled : (A : Type 0) (stopped : Option Device) (settled : Result (Unit {0}) SwitchFault) (fault : SwitchFault) (B : Device → Type 0) → settled ≡ Err fault → IfSome stopped (λ by. (settled ≡ Ok tt) × A) → IfSome stopped B
+never_settled A None settled fault B failed told = tt
+never_settled A (Some by) settled fault B failed told = absurd (let no : ◌≡◌ {A = Result (Unit {0}) SwitchFault} (Ok tt) (Err fault) = sym told.0 ∙ failed in cc no)
 
 -- and answers that alone
 pub then_stopped : {P T : Type 0} (stopped : Option Device) (settled : Result (Unit {0}) SwitchFault) (result : Result T SwitchFault) (old mid new : Engine P) → old.stopped ≡ stopped → IfSome stopped (λ by. (settled ≡ Ok tt) × (mid ≡ old))

@@ -1,30 +1,29 @@
 -- One event more is gathered: what an engine keeps then, and what a call leaves.
-use Rattle.std.proofs.Common.{◌≡◌, ◌⊎◌, ◌+◌, ◌≤◌, true, false, inl, inr, ⊎_elim, ℕ, Bool, List, [], ◌∷◌, ◌++◌, Option, Some, None, Result, Ok, Err, refl, sym, ap, subst, ◌∙◌, arith}
+use Rattle.std.proofs.Common.{◌≡◌, ◌⊎◌, ◌+◌, ◌≤◌, true, false, inl, inr, ℕ, Bool, List, [], ◌∷◌, ◌++◌, Option, None, Result, Ok, Err, refl, sym, ap, subst, ◌∙◌, arith}
 use Rattle.std.specs.List.{slice_index_or}
 use Rattle.std.proofs.lemmas.List.{append-nil}
 use Rattle.gts_traits.specs.Calls.{Call, Outside}
 use Rattle.gts_directory.specs.Directory.{Directory}
 use Rattle.gts_event.specs.State.{State}
 use Rattle.gts_event.specs.History.{outcome, after, after_all}
-use Rattle.gts_event.specs.Need.{begun}
 use Rattle.gts_event.specs.Said.{spoken}
 use Rattle.gts_event.specs.Drain.{all_done}
 use Rattle.gts_event.specs.declared.event.Event.{Event}
 use Rattle.gts_event.specs.declared.event.Entry.{Entry}
-use Rattle.gts_event.specs.declared.event.Entry.TheVariants.{Done, Unsaid, Idle, Doubt}
+use Rattle.gts_event.specs.declared.event.Entry.TheVariants.{Done}
 use Rattle.gts_event.specs.declared.outcome.Outcome.{Outcome}
 use Rattle.gts_event.specs.declared.fault.Device.{Device}
 use Rattle.gts_event.specs.declared.fault.SwitchFault.{SwitchFault}
 use Rattle.gts_event.specs.declared.fault.SwitchFault.TheVariants.{DiskFault, SayFault, Full, Stopped, Spent, NoMemory}
 use Rattle.gts_event.proofs.LawLemmas.{after_all-append}
-use Rattle.gts_core.specs.Core.{Core, Holds}
+use Rattle.gts_core.specs.Core.{Holds}
 use Rattle.gts_record.specs.Record.{Record}
 use Rattle.gts_opening.specs.Room.{record_bytes, event_record}
 use Rattle.gts_engine.specs.declared.mode.SayMode.{SayMode}
 use Rattle.gts_engine.specs.declared.parts.Parts.{Parts}
 use Rattle.gts_engine.specs.Engine.{Engine, Shown, engine_of, shown}
 use Rattle.gts_engine.specs.Origin.{Origin, state_at, used_at, by_station}
-use Rattle.gts_engine.specs.Keeping.{HasFailed, Leaving, AreGathered, Gathers, Keeps, state_behind, used_behind, pieces, draws_in, draws_among, most_drawn, meanings_of}
+use Rattle.gts_engine.specs.Keeping.{HasFailed, Leaving, AreGathered, Gathers, Keeps, state_behind, used_behind, pieces, draws_in, draws_among, meanings_of}
 use Rattle.gts_engine.specs.Going.{Enters, HasFewDraws, gathered_after}
 use Rattle.gts_engine.specs.Parts.{shows}
 use Rattle.gts_calls.specs.Calls.{Standing, AfterSettling, AfterCall, IsOneMore, Behind, Alone, AtOnce, GathersOne}

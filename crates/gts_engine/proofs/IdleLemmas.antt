@@ -1,5 +1,5 @@
 -- A call that changes nothing, behind what was settled.
-use Rattle.std.proofs.Common.{◌≡◌, inr, ℕ, List, [], ◌∷◌, ◌++◌, true, Option, Some, None, Result, Ok, Err, refl, sym, ap, subst, ◌∙◌, arith}
+use Rattle.std.proofs.Common.{◌≡◌, inr, ℕ, List, [], ◌∷◌, ◌++◌, true, false, Option, None, Result, Ok, Err, refl, sym, ap, subst, ◌∙◌}
 use Rattle.gts_traits.specs.Calls.{Call}
 use Rattle.gts_directory.specs.Directory.{Directory}
 use Rattle.gts_event.specs.State.{State}
@@ -14,7 +14,7 @@ use Rattle.gts_event.specs.declared.fault.SwitchFault.{SwitchFault}
 use Rattle.gts_event.specs.declared.fault.SwitchFault.TheVariants.{DiskFault, SayFault, Full, Stopped, Spent, NoMemory}
 use Rattle.gts_core.specs.Core.{Core, Holds, Keeps as KeepsCore}
 use Rattle.gts_opening.specs.Room.{IsAccepted, full}
-use Rattle.gts_calls.specs.Calls.{Standing, AfterCall, HasCallCause}
+use Rattle.gts_calls.specs.Calls.{Standing, AfterCall, IsSettling, HasCallCause}
 use Rattle.gts_engine.specs.declared.mode.SayMode.{SayMode}
 use Rattle.gts_engine.specs.declared.parts.Parts.{Parts}
 use Rattle.gts_engine.specs.Engine.{Engine, Shown, engine_of, shown}
@@ -22,12 +22,13 @@ use Rattle.gts_engine.specs.Origin.{Origin, state_at, used_at}
 use Rattle.gts_engine.specs.Keeping.{Gathers, Keeps, state_behind, meanings_of}
 use Rattle.gts_engine.specs.Going.{IsGathering, stopped_after}
 use Rattle.std.specs.Prelude.{IfOk}
-use Rattle.gts_engine.specs.Parts.{IsSound, GivesOrMemory, IsRoomFault, shows}
-use Rattle.gts_engine.specs.Gathering.{HasSettled, LeavesCall, AnswersIn}
+use Rattle.gts_engine.specs.Parts.{IsSound, IsUnchanged, GivesOrMemory, IsRoomFault, shows}
+use Rattle.gts_engine.specs.Gathering.{HasSettled, HasOnlySettled, LeavesCall, AnswersIn}
+use Rattle.gts_engine.proofs.SettlingLemmas.{parts_settle}
 use Rattle.gts_engine.proofs.TurnLemmas.{idle}
 use Rattle.gts_engine.proofs.MarkedLemmas.{state_behind_marked}
 use Rattle.gts_engine.proofs.AnswerLemmas.{EachHeld, at_state}
-use Rattle.gts_engine.proofs.StepLemmas.{part_directory, part_station, part_stopped, part_used}
+use Rattle.gts_engine.proofs.StepLemmas.{part_directory, part_station, part_stopped, part_used, part_gathered}
 use Rattle.gts_engine.proofs.AnsweringLemmas.{answers_uncleared}
 use Rattle.gts_engine.proofs.HearingLemmas.{room_stops}
 
@@ -73,6 +74,13 @@ kept_sound tells calls old sound core keeps = record {
   idle = sound.idle;
 }
 
+-- parts whose core keeps what it holds stand for what they stood for
+pub prepared_keeps : {P : Type 0} (tells : Type 0) (calls : P → List Call) (mode : SayMode) (old mid : Parts P) → mid ≡ record old { core = mid.core } → KeepsCore old.core mid.core → (o : Origin) (entries : List Entry) (events : List Event)
+    → Gathers tells mode o entries events (shows calls old) → Gathers tells mode o entries events (shows calls mid)
+prepared_keeps tells calls mode old mid rest keeps o entries events kept =
+    let S : Shown → Type 0 = λ e. Gathers tells mode o entries events e in
+    subst S (sym (ap (shows calls) rest)) (gathers_kept tells mode o entries events (shows calls old) mid.core keeps kept)
+
 module _ {P : Type 0} (tells : Type 0) (calls : P → List Call) (mode : SayMode) (event : Event) where
   abbrev meanings : Standing Origin (Engine P)
   meanings = meanings_of tells calls mode
@@ -97,11 +105,6 @@ module _ {P : Type 0} (tells : Type 0) (calls : P → List Call) (mode : SayMode
 
   module _ (disk say : P → ℕ) (old mid new : Parts P) (rest : mid ≡ record old { core = mid.core }) (keeps : KeepsCore old.core mid.core) (going : old.stopped ≡ None) (settles : HasSettled tells calls disk say (Ok tt) mid new) (fault : SwitchFault) (is : IsRoomFault fault)
       (gives : EachHeld tells calls mode event (engine_of old) (λ d s. GivesOrMemory (Err fault) (full d s (engine_of old).used event))) (accepted : EachHeld tells calls mode event (engine_of old) (λ d s. IsAccepted (outcome d s event))) where
-    kept_mid : (o : Origin) (entries : List Entry) (events : List Event) → Gathers tells mode o entries events (shows calls old) → Gathers tells mode o entries events (shows calls mid)
-    kept_mid o entries events kept =
-        let S : Shown → Type 0 = λ e. Gathers tells mode o entries events e in
-        subst S (sym (ap (shows calls) rest)) (gathers_kept tells mode o entries events (shows calls old) mid.core keeps kept)
-
     goes_new : new.stopped ≡ None
     goes_new = settles.stops ∙ ap (λ (p : Parts P). p.stopped) rest ∙ going
 
@@ -109,7 +112,7 @@ module _ {P : Type 0} (tells : Type 0) (calls : P → List Call) (mode : SayMode
     pub room_leaves : LeavesCall tells calls mode event (Err fault) (engine_of old) (engine_of new)
     room_leaves o entries events kept =
         let h : List Entry = entries ++ all_done events in
-        let settled : Keeps tells mode o h (shown calls (engine_of new)) = settles.settles mode o entries events (kept_mid o entries events kept) in
+        let settled : Keeps tells mode o h (shown calls (engine_of new)) = settles.settles mode o entries events (prepared_keeps tells calls mode old mid rest keeps o entries events kept) in
         let used : (engine_of old).used ≡ used_at o h = sym (ap part_used rest) ∙ sym settles.used ∙ settled.used goes_new in
         let F : State → Type 0 = λ s. GivesOrMemory (Err fault) (full o.directory s (engine_of old).used event) in
         let U : ℕ → Type 0 = λ n. GivesOrMemory (Err fault) (full o.directory (state_at o h) n event) in
@@ -128,6 +131,21 @@ each_ok : {T E : Type 0} (r : Result T E) (A B : T → Type 0) → ((x : T) → 
 each_ok (Ok x) A B f a = f x a
 each_ok (Err e) A B f a = tt
 
+-- what was gathered was settled behind a core for which all is prepared
+pub only_settled : {P : Type 0} (tells : Type 0) (calls : P → List Call) (disk say : P → ℕ) (old mid new : Parts P) → mid ≡ record old { core = mid.core } → KeepsCore old.core mid.core → (settled : Result (Unit {0}) SwitchFault)
+    → HasSettled tells calls disk say settled mid new → settled ≡ Ok tt → HasOnlySettled tells calls (engine_of old) (engine_of new)
+only_settled tells calls disk say old mid new rest keeps settled settles ok = record {
+  settling = λ mode.
+      let S : Result (Unit {0}) SwitchFault → Type 0 = λ r. IsSettling (meanings_of tells calls mode) r (engine_of mid) (engine_of new) in
+      let p = subst S ok (parts_settle tells calls disk say mode settled mid new settles) in
+      record {
+        directory = p.directory ∙ ap part_directory rest;
+        settles = λ o entries events kept. p.settles o entries events (prepared_keeps tells calls mode old mid rest keeps o entries events kept);
+        rests = λ o h kept. p.rests o h (prepared_keeps tells calls mode old mid rest keeps o h [] kept);
+      };
+  emptied = settles.emptied;
+}
+
 -- a fault that tells of no device has no cause there
 no_device : (fault : SwitchFault) (r : Result (Unit {0}) SwitchFault) (a b x y : ℕ) → IsRoomFault fault → HasCallCause r a b x y → HasCallCause (let e : Result Outcome SwitchFault = Err fault in e) a b x y
 no_device (Full at wanted limit) r a b x y is c = record { disk_later = c.disk_later; disk_failed = λ e. absurd (cc e); say_later = c.say_later; say_failed = λ e. absurd (cc e) }
@@ -138,15 +156,10 @@ no_device (Stopped by) r a b x y is c = absurd is
 no_device Spent r a b x y is c = absurd is
 
 module _ {P : Type 0} (tells : Type 0) (calls : P → List Call) (disk say : P → ℕ) (mode : SayMode) (event : Event) (old mid new : Parts P) (rest : mid ≡ record old { core = mid.core }) (keeps : KeepsCore old.core mid.core) where
-  behind_prepared : (o : Origin) (entries : List Entry) (events : List Event) → Gathers tells mode o entries events (shows calls old) → Gathers tells mode o entries events (shows calls mid)
-  behind_prepared o entries events kept =
-      let S : Shown → Type 0 = λ e. Gathers tells mode o entries events e in
-      subst S (sym (ap (shows calls) rest)) (gathers_kept tells mode o entries events (shows calls old) mid.core keeps kept)
-
   -- what is answered behind it is answered
   pub answers_prepared : (result : Result Outcome SwitchFault) → AnswersIn tells calls disk say mode event result mid new → AnswersIn tells calls disk say mode event result old new
   answers_prepared result a = record {
-    called = λ o entries events kept. a.called o entries events (behind_prepared o entries events kept);
+    called = λ o entries events kept. a.called o entries events (prepared_keeps tells calls mode old mid rest keeps o entries events kept);
     outcome = each_ok result (λ x. (s : State) → Holds mid.directory mid.core s → x ≡ outcome mid.directory s event) (λ x. (s : State) → Holds old.directory old.core s → x ≡ outcome old.directory s event)
         (λ x each s holds. let D : Directory → Type 0 = λ d. Holds d mid.core s → x ≡ outcome d s event in subst D (ap part_directory rest) (each s) (keeps old.directory s holds))
         a.outcome;
@@ -157,6 +170,13 @@ module _ {P : Type 0} (tells : Type 0) (calls : P → List Call) (disk say : P �
   }
 
   module _ (settled : Result (Unit {0}) SwitchFault) (settles : HasSettled tells calls disk say settled mid new) where
+    -- where nothing was gathered, nothing changed but how the core holds what it held
+    pub unchanged_idle : (engine_of old).gathered ≡ false → IsUnchanged (engine_of old) (engine_of new)
+    unchanged_idle none =
+        let U : Parts P → Type 0 = λ p. IsUnchanged (engine_of old) (engine_of p) in
+        subst U (sym ((settles.nothing (ap part_gathered rest ∙ none)).1 ∙ rest))
+        (record { station = refl; directory = refl; core = keeps; used = refl; stopped = refl; gathered = refl; held = refl; drawn = refl })
+
     -- settling failed
     pub answers_unidled : IsSound tells calls old → (fault : SwitchFault) → settled ≡ Err fault → AnswersIn tells calls disk say mode event (Err fault) old new
     answers_unidled sound fault failed =

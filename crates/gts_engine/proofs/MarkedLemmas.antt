@@ -7,7 +7,7 @@ use Rattle.gts_event.specs.State.{State}
 use Rattle.gts_event.specs.History.{outcome, after, after_entry, after_all}
 use Rattle.gts_event.specs.Need.{keeps_one, begun}
 use Rattle.gts_event.specs.Said.{said, spoken, spoken_of}
-use Rattle.gts_event.specs.Drain.{all_done, all_unsaid}
+use Rattle.gts_event.specs.Drain.{all_done}
 use Rattle.gts_event.specs.declared.event.Event.{Event}
 use Rattle.gts_event.specs.declared.event.Entry.{Entry}
 use Rattle.gts_event.specs.declared.event.Entry.TheVariants.{Done, Unsaid, Doubt}

@@ -1,9 +1,8 @@
 -- Pieces that are held, said one behind the other.
-use Rattle.std.proofs.Common.{◌≡◌, ◌⊎◌, ◌<◌, ◌+◌, inl, inr, ⊎_elim, ℕ, zero, suc, List, [], ◌∷◌, ◌++◌, length, take, drop, Result, Ok, Err, refl, sym, ap, subst, ◌∙◌, arith, append_assoc, take-append-drop}
+use Rattle.std.proofs.Common.{◌≡◌, ◌<◌, inl, inr, ⊎_elim, ℕ, zero, suc, List, [], ◌∷◌, ◌++◌, length, take, drop, Result, Ok, refl, sym, ap, subst, ◌∙◌, arith, append_assoc, take-append-drop}
 use Rattle.std.specs.List.{slice_index_or}
 use Rattle.std.proofs.lemmas.List.{append-nil}
 use Rattle.gts_traits.specs.Calls.{Call, Outside, Says, on, said_by, SaidSince}
-use Rattle.gts_traits.specs.Disk.{Files, IsImage}
 use Rattle.gts_traits.specs.Station.{Tries, IsFront}
 use Rattle.gts_traits.specs.Moments.{EachSince}
 use Rattle.gts_traits.proofs.LawLemmas.{started, weaker, said_is, joined as one_by_one, told as say_told}

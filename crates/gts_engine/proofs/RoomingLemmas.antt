@@ -164,23 +164,23 @@ module _ (tells : Type 0) (mode : SayMode) (o : Origin) (h : List Entry) (event 
       (anchors_more o h (Doubt (event ∷ [])) kept.anchors)
       (caused_more o h (Doubt (event ∷ [])) kept.anchors kept.caused records)
       (λ tell.
-            let Q : Option Device → Type 0 = λ x. HasSaid mode o g x new.calls in
-            let l = left.leaves tell in
-            record {
-              moments = weaker (LeavesFront mode o h) (LeavesFront mode o g) o.calls new.calls
-                  (λ files outside front. longer mode o h g [] files outside front
-                  (subst (IsReading g) (sym (append-nil front.read ∙ only_itself h front.read none.0 front.reading)) (read_not h (event ∷ [])))) l.moments;
-              now = λ files image.
-                  let r = l.now files image in
-                  (h, read_not h (event ∷ []), r.2 ∙ ap (λ (es : List Entry). Ok (need o.directory (restarted o.directory (state_at o es)))) (only_itself h r.0 none.0 r.1));
-              said = subst Q (sym left.stopped)
-                  (l.said ∙ ap (λ (x : Outside). said_by o.calls ++ x) (sym (quiet mode o h (Doubt (event ∷ [])) _ (told_more mode o h (Doubt (event ∷ []))) (nothing_said mode))));
-            })
+      let Q : Option Device → Type 0 = λ x. HasSaid mode o g x new.calls in
+      let l = left.leaves tell in
+      record {
+        moments = weaker (LeavesFront mode o h) (LeavesFront mode o g) o.calls new.calls
+            (λ files outside front. longer mode o h g [] files outside front
+            (subst (IsReading g) (sym (append-nil front.read ∙ only_itself h front.read none.0 front.reading)) (read_not h (event ∷ [])))) l.moments;
+        now = λ files image.
+            let r = l.now files image in
+            (h, read_not h (event ∷ []), r.2 ∙ ap (λ (es : List Entry). Ok (need o.directory (restarted o.directory (state_at o es)))) (only_itself h r.0 none.0 r.1));
+        said = subst Q (sym left.stopped)
+            (l.said ∙ ap (λ (x : Outside). said_by o.calls ++ x) (sym (quiet mode o h (Doubt (event ∷ [])) _ (told_more mode o h (Doubt (event ∷ []))) (nothing_said mode))));
+      })
 
 -- ---- the call
 
 -- the fault that was answered tells the bytes that are wanted
-full_is : (result : Result Outcome SwitchFault) (bytes : ℕ) → bytes_wanted result ≡ Some bytes → (used : ℕ) × (limit : ℕ) × (result ≡ Err (Full used bytes limit))
+pub full_is : (result : Result Outcome SwitchFault) (bytes : ℕ) → bytes_wanted result ≡ Some bytes → (used : ℕ) × (limit : ℕ) × (result ≡ Err (Full used bytes limit))
 full_is (Ok o) bytes is = absurd (let e : None ≡ Some bytes = is in cc e)
 full_is (Err (Full used need limit)) bytes is =
     let there : Some need ≡ Some bytes = is in
@@ -203,7 +203,7 @@ idle_full (Err Spent) bytes is = absurd (let e : None ≡ Some bytes = is in cc 
 idle_full (Err NoMemory) bytes is = tt
 
 -- an accepted bulletin has a record
-recorded : (o : Outcome) → IsAccepted o → HasRecord o
+pub recorded : (o : Outcome) → IsAccepted o → HasRecord o
 recorded (Accepted p n) accepted = tt
 recorded (Duplicate position) accepted = absurd accepted
 recorded (Asked n m) accepted = absurd accepted
@@ -214,7 +214,7 @@ recorded (Draw index) accepted = absurd accepted
 recorded Nothing accepted = absurd accepted
 
 -- an engine that answers so had not stopped
-went_on : (E : Type 0) (result : Result Outcome SwitchFault) (before : Option Device) → IfSome before (λ by. (result ≡ Err (Stopped by)) × E)
+pub went_on : (E : Type 0) (result : Result Outcome SwitchFault) (before : Option Device) → IfSome before (λ by. (result ≡ Err (Stopped by)) × E)
     → ((by : Device) → result ≡ Err (Stopped by) → ⊥) → before ≡ None
 went_on E result None stopped other = refl
 went_on E result (Some by) stopped other = absurd (other by stopped.0)

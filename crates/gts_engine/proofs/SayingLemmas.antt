@@ -1,11 +1,10 @@
 -- Pieces that are held, said one behind the other, over the parts of an engine.
-use Rattle.std.proofs.Common.{◌≡◌, ◌<◌, ◌≤◌, ◌+◌, ℕ, zero, suc, List, [], ◌∷◌, ◌++◌, length, take, Option, Some, Result, Ok, Err, refl, sym, ap, subst, ◌∙◌, arith, take_all}
+use Rattle.std.proofs.Common.{◌≡◌, ◌<◌, ◌≤◌, ◌+◌, ℕ, List, [], ◌∷◌, ◌++◌, length, take, drop, Result, Ok, Err, refl, sym, ap, subst, ◌∙◌, arith, add-one, take_all}
 use Rattle.std.specs.List.{slice_index_or}
 use Rattle.gts_traits.specs.Calls.{Call, Outside, said_by, SaidSince}
 use Rattle.gts_traits.specs.Moments.{EachSince}
 use Rattle.gts_directory.specs.Directory.{Directory}
 use Rattle.gts_event.specs.State.{State}
-use Rattle.gts_event.specs.declared.fault.Device.{Device}
 use Rattle.gts_event.specs.declared.fault.SwitchFault.{SwitchFault}
 use Rattle.gts_event.specs.declared.fault.SwitchFault.TheVariants.{DiskFault}
 use Rattle.gts_journal.specs.{InHand, StandsFor}
@@ -14,7 +13,6 @@ use Rattle.gts_opening.specs.Journal.{after_records}
 use Rattle.gts_engine.specs.declared.held.Saying.{Saying}
 use Rattle.gts_engine.specs.declared.parts.Parts.{Parts}
 use Rattle.gts_engine.specs.Sayings.{Sayings, pieces_of, held_pieces, joined}
-use Rattle.gts_engine.specs.Going.{stopped_after}
 use Rattle.gts_engine.specs.Parts.{OnlySaid}
 use Rattle.gts_engine.specs.Gathering.{OnlyBrought, MayBring, HasBrought, BringsAndSays, StandsUnlessDisk, OpensAlong, SaysHeld, TriesPiece, FailsAt}
 use Rattle.gts_engine.proofs.PieceLemmas.{piece_stands, piece_moments, failed_part, piece_said, nothing_yet, brought_only, brought_then}
@@ -32,7 +30,7 @@ batch_in p = p.batch
 -- one piece for each of them
 pub pieces_length : (each : List Saying) (bytes : List ℕ) → length (pieces_of each bytes) ≡ length each
 pieces_length [] bytes = refl
-pieces_length (s ∷ each) bytes = omega (arith, pieces_length each _)
+pieces_length (s ∷ each) bytes = omega (arith, pieces_length each (drop s.size bytes))
 
 -- the pieces before one of them were said, over the parts
 pub record SaysUpTo {P : Type 0} (tells : Type 0) (calls : P → List Call) (disk say : P → ℕ) (first : Parts P) (i : ℕ) (now : Parts P) : Type 0 where
@@ -43,7 +41,7 @@ pub record SaysUpTo {P : Type 0} (tells : Type 0) (calls : P → List Call) (dis
       → EachSince (calls first.station) (calls now.station) (OpensAlong first.directory s (joined (held_pieces first.held)))
   pub stands : tells → (s : State) → StandsFor first.directory s (calls first.station) first.journal → StandsFor first.directory s (calls now.station) first.journal
   pub later : say first.station ≤ say now.station
-  pub disk : disk now.station ≡ disk first.station
+  pub disk_stays : disk now.station ≡ disk first.station
 
 module _ {P : Type 0} (tells : Type 0) (calls : P → List Call) (disk say : P → ℕ) (first : Parts P) where
   abbrev pieces : List Outside
@@ -57,7 +55,7 @@ module _ {P : Type 0} (tells : Type 0) (calls : P → List Call) (disk say : P �
     moments = λ tell s stands. nothing_yet first.directory (held_pieces first.held) (calls first.station) first.journal s stands;
     stands = λ tell s stands. stands;
     later = omega arith;
-    disk = refl;
+    disk_stays = refl;
   }
 
   -- all of them
@@ -97,15 +95,16 @@ module _ {P : Type 0} (tells : Type 0) (calls : P → List Call) (disk say : P �
         subst R up.rest rest
 
     -- one piece more
-    pub one_further : (x : T) → result ≡ Ok x → new.stopped ≡ mid.stopped → SaysUpTo tells calls disk say first (suc i) new
+    pub one_further : (x : T) → result ≡ Ok x → new.stopped ≡ mid.stopped → SaysUpTo tells calls disk say first (i + 1) new
     one_further x ok going = record {
       rest = only;
       going = going ∙ up.going;
-      said = λ tell. piece_said (held_pieces first.held) (calls first.station) (calls mid.station) (calls new.station) i within_pieces (up.said tell) result x ok (tries tell);
+      said = λ tell. subst (λ (n : ℕ). SaidSince (calls first.station) (calls new.station) (joined (take n (held_pieces first.held)))) (sym (add-one i))
+          (piece_said (held_pieces first.held) (calls first.station) (calls mid.station) (calls new.station) i within_pieces (up.said tell) result x ok (tries tell));
       moments = moments_now;
       stands = stands_now;
       later = omega (arith, up.later, later);
-      disk = same_disk ∙ up.disk;
+      disk_stays = same_disk ∙ up.disk_stays;
     }
 
     -- or saying failed there
@@ -172,5 +171,5 @@ module _ {P : Type 0} (tells : Type 0) (calls : P → List Call) (old mid new : 
           let H : Parts P → Type 0 = λ p. FailsAt tells (held_pieces p.held) i (calls old.station) (calls new.station) in
           subst H rest (record {
             within = failed.within;
-            said = λ tell. let f = failed.said tell in (f.0, (f.1, since_old (joined (take i (held_pieces mid.held)) ++ f.0) tell f.2));
+            said = λ tell. let f = failed.said tell in (f.0, f.1, since_old (joined (take i (held_pieces mid.held)) ++ f.0) tell f.2);
           })

@@ -1,11 +1,11 @@
 -- Settling, over the parts of an engine.
-use Rattle.std.proofs.Common.{◌≡◌, ◌<◌, ◌≤◌, ◌+◌, ◌-◌, ◌*◌, true, false, nat_lt, ℕ, zero, suc, Bool, List, [], ◌∷◌, ◌++◌, length, Option, Some, None, Result, Ok, Err, OnOk, IfErr, refl, sym, ap, subst, ◌∙◌, arith}
+use Rattle.std.proofs.Common.{◌≡◌, ◌<◌, ◌≤◌, ◌+◌, true, false, nat_lt, ℕ, zero, suc, Bool, List, [], ◌∷◌, ◌++◌, length, Some, None, Result, Ok, Err, OnOk, IfErr, refl, sym, ap, subst, ◌∙◌, arith}
 use Rattle.std.specs.Prelude.{replicate, ◌==◌}
 use Rattle.std.proofs.lemmas.Bool.{eqb-true, eqb-false, ltb-false, lt-ltb}
 use Rattle.std.specs.List.{slice_index_or}
 use Rattle.gts_alphabet.specs.declared.limits.TheConstants.{MOST_CIRCUITS}
 use Rattle.std.proofs.lemmas.List.{append-nil}
-use Rattle.gts_traits.specs.Calls.{Call, Outside}
+use Rattle.gts_traits.specs.Calls.{Call}
 use Rattle.gts_directory.specs.Directory.{Directory}
 use Rattle.gts_event.specs.State.{State}
 use Rattle.gts_event.specs.Drain.{all_done}
@@ -20,8 +20,10 @@ use Rattle.gts_core.specs.Core.{Core}
 use Rattle.gts_journal.specs.{InHand, StandsFor}
 use Rattle.gts_journal.specs.Batch.{Gathered, Gathers as GathersRecords, IsBlock, AreNext, no_records, beyond_block}
 use Rattle.gts_journal.proofs.LawLemmas.{gathered_block, next_none}
+use Rattle.gts_record.specs.Format.{written}
 use Rattle.gts_opening.specs.Journal.{after_records}
-use Rattle.gts_calls.specs.Calls.{Standing, settled, AfterSettling, IsSettling, HasCallCause}
+use Rattle.gts_opening.specs.Room.{draw_bytes}
+use Rattle.gts_calls.specs.Calls.{AfterSettling, IsSettling, HasCallCause}
 use Rattle.gts_engine.specs.declared.mode.SayMode.{SayMode}
 use Rattle.gts_engine.specs.declared.parts.Parts.{Parts}
 use Rattle.gts_engine.specs.Sayings.{Sayings, HasRoom, held_pieces, no_sayings}
@@ -88,6 +90,7 @@ module _ {P : Type 0} (tells : Type 0) (calls : P → List Call) where
     settles = λ mode o entries events kept. rests_settled mode o entries events (engine_of p) kept (none_here mode o entries events (engine_of p) none kept);
     sound = sound;
     stops = refl;
+    kind = tt;
     rest = refl;
     used = refl;
     emptied = none;
@@ -176,6 +179,7 @@ module _ {P : Type 0} (tells : Type 0) (calls : P → List Call) (disk say : P �
       idle = λ by is. refl;
     };
     stops = stops;
+    kind = kind;
     rest = only rest;
     used = used_by result place;
     emptied = refl;
@@ -189,7 +193,7 @@ module _ {P : Type 0} (tells : Type 0) (calls : P → List Call) (disk say : P �
       only is = ap (λ (p : Parts P). record p { batch = no_records mid.journal; held = no_sayings; drawn = none_drawn }) is
 
 -- no circuit has a draw that is gathered
-pub none_at : (n c : ℕ) → slice_index_or (replicate n 0) c 0 ≡ 0
+pub none_at : (n c : ℕ) → ◌≡◌ {A = ℕ} (slice_index_or (replicate n 0) c 0) 0
 none_at zero c = refl
 none_at (suc n) zero = refl
 none_at (suc n) (suc c) = none_at n c
@@ -200,12 +204,17 @@ few_none d c = omega (arith, none_at MOST_CIRCUITS c)
 -- ---- whether something is gathered, as a batch tells it
 
 pub none_told : (n : ℕ) (told : Bool) → told ≡ (n == 1) → told ≡ true → nat_lt 1 n ≡ false
-none_told n told e yes = let one : n ≡ 1 = eqb-true n 1 (sym e ∙ yes) in ap (nat_lt 1) one
+none_told n told e closed = let one : n ≡ 1 = eqb-true n 1 (sym e ∙ closed) in ap (nat_lt 1) one
 
 pub some_told : (n : ℕ) (told : Bool) → told ≡ (n == 1) → 0 < n → told ≡ false → nat_lt 1 n ≡ true
-some_told n told e closed no = let other = eqb-false n 1 (sym e ∙ no) in lt-ltb 1 n (omega (arith, closed, other))
+some_told n told e closed several = let other = eqb-false n 1 (sym e ∙ several) in lt-ltb 1 n (omega (arith, closed, other))
 
 -- ---- room behind what was settled
+
+-- a draw may be gathered alone
+pub draw_gathers : draw_bytes < MOST_GATHERED
+unfolding written
+draw_gathers = omega arith
 
 pub whenever : {T E : Type 0} {A : Type 0} (r : Result T E) → A → OnOk r A
 whenever (Ok x) a = a

@@ -1,5 +1,5 @@
 -- The journal is compacted.
-use Rattle.std.specs.Prelude.{◌≡◌, ◌≢◌, ◌+◌, ◌-◌, ◌^◌, ℕ, min, List, length, None, Result, Ok, Err, IfErr, OnOk}
+use Rattle.std.specs.Prelude.{◌≡◌, ◌≢◌, ◌-◌, ◌^◌, ℕ, min, List, length, None, Result, Ok, Err, IfErr, OnOk}
 use Rattle.gts_traits.specs.Calls.{Call}
 use Rattle.gts_traits.specs.Disk.{seen}
 use Rattle.gts_traits.specs.Moments.{EachSince}

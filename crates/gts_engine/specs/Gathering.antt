@@ -1,5 +1,5 @@
 -- What an engine has gathered that isn't in its journal yet, what bringing it there leaves, and what a call leaves that gathers.
-use Rattle.std.specs.Prelude.{◌≡◌, ◌⊎◌, ℕ, ◌<◌, ◌≤◌, length, take, true, false, List, [], ◌∷◌, ◌++◌, None, Result, Ok, Err, OnOk, IfOk, IfErr}
+use Rattle.std.specs.Prelude.{◌≡◌, ◌⊎◌, ℕ, ◌<◌, ◌≤◌, length, take, true, false, List, [], ◌∷◌, ◌++◌, Result, Ok, Err, OnOk, IfOk, IfErr}
 use Rattle.std.specs.List.{slice_index_or}
 use Rattle.gts_traits.specs.Calls.{Call, Says, Outside, on, said_by, SaidSince}
 use Rattle.gts_traits.specs.Counts.{Rose}
@@ -24,11 +24,11 @@ use Rattle.gts_calls.specs.Calls.{HasCallCause, AfterSettling, AfterCall, IsAnsw
 use Rattle.gts_engine.specs.declared.mode.SayMode.{SayMode}
 use Rattle.gts_engine.specs.declared.parts.Parts.{Parts}
 use Rattle.gts_engine.specs.Sayings.{held_pieces, joined, no_sayings}
-use Rattle.gts_engine.specs.Engine.{Engine, Shown, engine_of, shown}
+use Rattle.gts_engine.specs.Engine.{Engine, engine_of, shown}
 use Rattle.gts_engine.specs.Origin.{Origin}
 use Rattle.gts_engine.specs.Keeping.{Gathers, meanings_of, none_drawn}
 use Rattle.gts_engine.specs.Going.{stopped_after}
-use Rattle.gts_engine.specs.Parts.{IsSound, shows, OnlySaid}
+use Rattle.gts_engine.specs.Parts.{IsSound, IsIdleAnswer, shows, OnlySaid}
 
 -- whatever state the journal stood for, and whatever records were gathered, a crash since leaves that state, or the one with all
 -- of them
@@ -129,7 +129,7 @@ pub record HasTold {P : Type 0} (tells : Type 0) (calls : P → List Call) (disk
   pub stops : new.stopped ≡ stopped_after old.stopped result
   pub fault : IfErr result (λ fault. (fault ≡ SayFault) × Rose (say old.station) (say new.station))
   pub later : say old.station ≤ say new.station
-  pub disk : disk new.station ≡ disk old.station
+  pub disk_stays : disk new.station ≡ disk old.station
 
 -- What was gathered in an engine that goes on was to be brought into the journal and said, with this answer.
 pub record HasSettled {P : Type 0} (tells : Type 0) (calls : P → List Call) (disk say : P → ℕ)
@@ -139,6 +139,7 @@ pub record HasSettled {P : Type 0} (tells : Type 0) (calls : P → List Call) (d
       → AfterSettling (meanings_of tells calls mode) o entries events result (engine_of new)
   pub sound : IsSound tells calls new
   pub stops : new.stopped ≡ stopped_after old.stopped result
+  pub kind : IfErr result IsDeviceFault
   pub rest : OnlySettled old new
   pub used : OnOk result ((engine_of new).used ≡ (engine_of old).used)
   pub emptied : (engine_of new).gathered ≡ false
@@ -179,6 +180,15 @@ Answers tells calls disk say event result old new = (mode : SayMode) → Answers
 abbrev pub GathersEntry : {P : Type 0} → Type 0 → (P → List Call) → SayMode → Event → Result Outcome SwitchFault → (old new : Engine P)
     → Type 0
 GathersEntry tells calls mode event result old new = IsAnswered (meanings_of tells calls mode) event result old new
+
+-- A call changed nothing: what was gathered before it is settled, and nothing is gathered.
+pub record HasOnlySettled {P : Type 0} (tells : Type 0) (calls : P → List Call) (old new : Engine P) : Type 0 where
+  pub settling : (mode : SayMode) → IsSettling (meanings_of tells calls mode) (Ok tt) old new
+  pub emptied : new.gathered ≡ false
+
+-- where nothing changed
+abbrev pub OnIdle : {P : Type 0} → Type 0 → (P → List Call) → Result Outcome SwitchFault → (old new : Engine P) → Type 0
+OnIdle tells calls result old new = IsIdleAnswer result → HasOnlySettled tells calls old new
 
 -- What was gathered was to be settled, whoever says the frames. Nothing is gathered any more.
 pub record SettlesEngine {P : Type 0} (tells : Type 0) (calls : P → List Call) (result : Result (Unit {0}) SwitchFault)

@@ -8,8 +8,7 @@ use Rattle.gts_record.specs.Format.{held, written}
 use Rattle.gts_opening.specs.Journal.{compacted_bytes}
 use Rattle.gts_checkpoint.proofs.LawLemmas.{fit_bytes}
 use Rattle.gts_engine.proofs.CompactLemmas.{sound, size_free, size_few}
-use Rattle.gts_engine.proofs.GoingLemmas.{ends_closed, going_of}
-use Rattle.gts_engine.proofs.StepLemmas.{one_gate}
+use Rattle.gts_engine.proofs.StepLemmas.{idle_going}
 use Rattle.gts_engine.proofs.RewritingLemmas.{sound_put, moments_put, failed_put, whole_put, moments_all, compaction_by, sound_by, written_by}
 use Rattle.gts_engine.proofs.compacting.rewrite.Goals as goal
 
@@ -21,23 +20,20 @@ fault_of P result e is h =
 pub put-requires-clause-fits : goal.put-requires-clause-fits
 put-requires-clause-fits g c =
     let p = c.args.parts.now in
-    let s0 = c.requires.sound.goes c.requires.going in
-    let g0 = going_of g.P.Station.tells p.directory (g.P.Station.calls p.station) p.core p.journal p.batch s0 (one_gate (length p.batch.text) (ends_closed p.journal.seal s0.records p.batch s0.next.gathers) c.requires.rests) in
+    let g0 = idle_going g.P.Station.tells g.P.Station.calls p c.requires.sound c.requires.going c.requires.rests in
     let n_is = c.requires.need p.directory g0.state g0.holds in
     fit_bytes p.directory _ p.within.circuits (sound g.P.Station.tells p.directory (g.P.Station.calls p.station) p.core p.journal g0 _ n_is)
 
 pub compacted_size-used-requires : goal.compacted_size-used-requires
 compacted_size-used-requires g c =
     let p = c.args.parts.now in
-    let s0 = c.requires.sound.goes c.requires.going in
-    let g0 = going_of g.P.Station.tells p.directory (g.P.Station.calls p.station) p.core p.journal p.batch s0 (one_gate (length p.batch.text) (ends_closed p.journal.seal s0.records p.batch s0.next.gathers) c.requires.rests) in
+    let g0 = idle_going g.P.Station.tells g.P.Station.calls p c.requires.sound c.requires.going c.requires.rests in
     size_few p.directory g0.state (need_of c.args.need.now) c.args.size (c.requires.need p.directory g0.state g0.holds) c.requires.size (c.requires.free g0.state g0.holds) (omega (arith, p.within.limit))
 
 pub choose-requires-clause-whole : goal.choose-requires-clause-whole
 choose-requires-clause-whole g c =
     let p = c.args.parts.now in
-    let s0 = c.requires.sound.goes c.requires.going in
-    let g0 = going_of g.P.Station.tells p.directory (g.P.Station.calls p.station) p.core p.journal p.batch s0 (one_gate (length p.batch.text) (ends_closed p.journal.seal s0.records p.batch s0.next.gathers) c.requires.rests) in
+    let g0 = idle_going g.P.Station.tells g.P.Station.calls p c.requires.sound c.requires.going c.requires.rests in
     let n = need_of c.args.need.now in
     let low : p.journal.file < 2 = omega (arith, c.file-other.ensures.file, c.file-other.ensures.below) in
     let file : ℕ = 1 - c.file-other.result in
@@ -53,8 +49,7 @@ choose-requires-clause-whole g c =
 pub returns : goal.returns
 returns g c =
     let p = c.args.parts.now in
-    let s0 = c.requires.sound.goes c.requires.going in
-    let g0 = going_of g.P.Station.tells p.directory (g.P.Station.calls p.station) p.core p.journal p.batch s0 (one_gate (length p.batch.text) (ends_closed p.journal.seal s0.records p.batch s0.next.gathers) c.requires.rests) in
+    let g0 = idle_going g.P.Station.tells g.P.Station.calls p c.requires.sound c.requires.going c.requires.rests in
     let n = need_of c.args.need.now in
     let low : p.journal.file < 2 = omega (arith, c.file-other.ensures.file, c.file-other.ensures.below) in
     let file : ℕ = 1 - c.file-other.result in
@@ -81,8 +76,7 @@ pub returns-in_err-seal : goal.returns-in_err-seal
 returns-in_err-seal g c =
     let p = c.args.parts.now in
     let x = err_from_is_err_and c.from_residual.result c.from_residual.ensures.1 in
-    let s0 = c.requires.sound.goes c.requires.going in
-    let g0 = going_of g.P.Station.tells p.directory (g.P.Station.calls p.station) p.core p.journal p.batch s0 (one_gate (length p.batch.text) (ends_closed p.journal.seal s0.records p.batch s0.next.gathers) c.requires.rests) in
+    let g0 = idle_going g.P.Station.tells g.P.Station.calls p c.requires.sound c.requires.going c.requires.rests in
     let n = need_of c.args.need.now in
     let low : p.journal.file < 2 = omega (arith, c.file-other.ensures.file, c.file-other.ensures.below) in
     let file : ℕ = 1 - c.file-other.result in
@@ -96,7 +90,7 @@ returns-in_err-seal g c =
     rw (x.1, x.2) (record {
       compaction = failed_put g.P.Station.tells g.P.Station.calls p c.requires.going c.requires.sound c.requires.rests g0 n c.requires.need c.requires.free low file file_is mark c.mark-mark.ensures long used used_is q c.put.ensures.rest c.put.ensures.beside c.in_err-seal.field-0.0 c.in_err-seal.ensures.fault c.in_err-seal.ensures.stops;
       sound = sound_put g.P.Station.tells g.P.Station.calls p c.requires.going c.requires.sound c.requires.rests g0 n c.requires.need c.requires.free low file file_is mark c.mark-mark.ensures long used used_is q c.put.ensures.rest c.put.ensures.beside c.in_err-seal.field-0.0 c.in_err-seal.ensures.fault c.in_err-seal.ensures.stops
-          (λ none. ?);
+          (λ none. c.put.ensures.no_memory (c.in_err-seal.was ∙ ap {A = SwitchFault} (λ e. Err e) none));
       moments = moments_put g.P.Station.tells g.P.Station.calls p c.requires.going c.requires.sound c.requires.rests g0 n c.requires.need c.requires.free low file file_is mark c.mark-mark.ensures long used used_is q c.put.ensures.rest c.put.ensures.beside;
       written = λ tell. tt;
       stops = search rules;

@@ -1,5 +1,4 @@
-use Rattle.std.proofs.Common.{◌≡◌, ◌≤◌, ℕ, List, length, take, sym, ap, subst, arith}
-use Rattle.gts_event.specs.Receipt.{receipt_of}
+use Rattle.std.proofs.Common.{ℕ, List, subst}
 use Rattle.gts_engine.specs.Gathering.{HasTold}
 use Rattle.gts_engine.proofs.receipts.say_receipt.Goals as goal
 

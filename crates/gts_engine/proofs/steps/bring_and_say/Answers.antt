@@ -1,8 +1,7 @@
-use Rattle.std.proofs.Common.{◌≡◌, Result, Ok, Err, sym, ap, subst, ◌∙◌}
+use Rattle.std.proofs.Common.{Ok, Err, sym, ap, subst, ◌∙◌}
 use Rattle.std.proofs.lemmas.Result.{err_from_is_err_and}
-use Rattle.gts_traits.specs.Calls.{said_by}
 use Rattle.gts_event.specs.declared.fault.SwitchFault.{SwitchFault}
-use Rattle.gts_event.specs.declared.fault.SwitchFault.TheVariants.{DiskFault, SayFault}
+use Rattle.gts_event.specs.declared.fault.SwitchFault.TheVariants.{SayFault}
 use Rattle.gts_engine.specs.Sayings.{held_pieces}
 use Rattle.gts_engine.specs.Gathering.{BringsAndSays, SaysBy}
 use Rattle.gts_engine.proofs.SayingLemmas.{brings_nothing, brings_all, only_brought, said_behind, fails_behind, journal_in}
@@ -40,7 +39,7 @@ pub returns-in-Err-clause-brings : goal.returns-in-Err-clause-brings
 returns-in-Err-clause-brings g c = brings_all g.P.Station.tells g.P.Station.calls c.args.parts.now c.bring.new.parts c.say_held.new.parts c.bring.ensures.rest c.bring.ensures.silent c.bring.ensures.moments c.in_ok-bring.ensures.stands c.say_held.ensures.rest c.say_held.ensures.says (Err SayFault) (λ d t cs j stands. stands)
 
 pub returns-in-Err-clause-said : goal.returns-in-Err-clause-said
-returns-in-Err-clause-said g c = (c.in-Err.field-0.0, fails_behind g.P.Station.tells g.P.Station.calls c.args.parts.now c.bring.new.parts c.say_held.new.parts c.bring.ensures.rest c.bring.ensures.silent c.bring.ensures.moments c.in_ok-bring.ensures.stands c.say_held.ensures.rest c.say_held.ensures.says c.in-Err.field-0.0 c.in-Err.ensures.said)
+returns-in-Err-clause-said g c = (c.in-Err.field-0, fails_behind g.P.Station.tells g.P.Station.calls c.args.parts.now c.bring.new.parts c.say_held.new.parts c.bring.ensures.rest c.bring.ensures.silent c.bring.ensures.moments c.in_ok-bring.ensures.stands c.say_held.ensures.rest c.say_held.ensures.says c.in-Err.field-0 c.in-Err.ensures.said)
 
 pub returns-in-Err-clause-rest : goal.returns-in-Err-clause-rest
 returns-in-Err-clause-rest g c = only_brought g.P.Station.tells g.P.Station.calls c.args.parts.now c.bring.new.parts c.say_held.new.parts c.bring.ensures.rest c.say_held.ensures.rest

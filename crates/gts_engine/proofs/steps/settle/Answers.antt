@@ -1,7 +1,6 @@
-use Rattle.std.proofs.Common.{◌≡◌, ℕ, List, rules, refl, sym, ap, subst, ◌∙◌, arith, true, false, Ok}
+use Rattle.std.proofs.Common.{◌≡◌, ℕ, List, refl, sym, subst, ◌∙◌, arith, true, false, Ok}
 use Rattle.gts_engine.specs.declared.parts.Parts.{Parts}
 use Rattle.gts_engine.specs.Engine.{engine_of}
-use Rattle.gts_engine.specs.Keeping.{none_drawn}
 use Rattle.gts_engine.specs.Sayings.{no_sayings}
 use Rattle.gts_journal.specs.Batch.{no_records}
 use Rattle.gts_engine.specs.Gathering.{HasSettled}
@@ -44,5 +43,5 @@ returns-clause-settles g c =
     let some : (engine_of old).gathered ≡ true = some_told _ c.is_empty.result c.is_empty.ensures.value c.is_empty.ensures.closed c.if-is_empty.false in
     let H : Parts g.row.P.Denot → Type 0 = λ p. HasSettled g.P.Station.tells g.P.Station.calls g.P.Station.disk_faults g.P.Station.say_faults result old p in
     let D : List ℕ → Parts g.row.P.Denot = λ drawn. record mid { batch = no_records mid.journal; held = no_sayings; drawn = drawn } in
-    subst H (sym (c.clear.ensures.rest ∙ ap D c.clear.ensures.drawn))
-    (all_settled g.P.Station.tells g.P.Station.calls g.P.Station.disk_faults g.P.Station.say_faults old mid c.requires.going c.requires.sound some result b.brings b.said b.place b.rest b.stops b.kind b.cause (few_none old.directory))
+    let S : List ℕ → Type 0 = λ drawn. H (D drawn) in
+    subst H (sym c.clear.ensures.rest) (subst S (sym c.clear.ensures.drawn) (all_settled g.P.Station.tells g.P.Station.calls g.P.Station.disk_faults g.P.Station.say_faults old mid c.requires.going c.requires.sound some result b.brings b.said b.place b.rest b.stops b.kind b.cause (few_none old.directory)))

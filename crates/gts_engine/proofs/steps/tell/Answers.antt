@@ -1,8 +1,17 @@
-use Rattle.std.proofs.Common.{◌≡◌, ◌∷◌, [], refl, arith}
-use Rattle.gts_traits.specs.Calls.{on}
+use Rattle.std.proofs.Common.{◌≡◌, true, false, refl, ap, arith}
+use Rattle.std.proofs.Props.{props}
+use Rattle.gts_engine.specs.declared.parts.Parts.{Parts}
+use Rattle.gts_engine.specs.Bounds.{IsWithin}
+use Rattle.gts_engine.specs.Sayings.{Sayings}
 use Rattle.gts_engine.specs.Engine.{engine_of}
 use Rattle.gts_engine.proofs.SettlingLemmas.{none_told, some_told}
 use Rattle.gts_engine.proofs.steps.tell.Goals as goal
+
+-- what a directory says of itself has one proof
+held_alone : {P : Type 0} (p : Parts P) (h : Sayings) (within : IsWithin p.directory) → record p { held = h; within = within } ≡ record p { held = h }
+held_alone p h within =
+    let one : within ≡ p.within = hlevel props in
+    ap (λ (w : IsWithin p.directory). record p { held = h; within = w }) one
 
 pub returns-then-is_empty : goal.returns-then-is_empty
 returns-then-is_empty g c =
@@ -15,7 +24,7 @@ returns-then-is_empty g c =
       stops = c.say_on.ensures.stops;
       fault = c.say_on.ensures.fault;
       later = c.say_on.ensures.later;
-      disk = c.say_on.ensures.disk;
+      disk_stays = c.say_on.ensures.disk;
     }
 
 pub returns : goal.returns
@@ -25,9 +34,9 @@ returns g c =
     record {
       told = λ none. absurd (cc (none, some));
       rest = λ none. absurd (cc (none, some));
-      held = λ same. (refl, (refl, c.hold.ensures));
+      held = λ same. (refl, held_alone c.args.parts.now c.hold.new.self _, c.hold.ensures);
       stops = refl;
       fault = tt;
       later = omega arith;
-      disk = refl;
+      disk_stays = refl;
     }

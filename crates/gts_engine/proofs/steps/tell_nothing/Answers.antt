@@ -1,4 +1,4 @@
-use Rattle.std.proofs.Common.{◌≡◌, ◌∷◌, ◌++◌, [], if◌then◌else◌, true, false, Bool, List, refl, sym, ap, subst, ◌∙◌}
+use Rattle.std.proofs.Common.{◌≡◌, ◌∷◌, ◌++◌, [], if◌then◌else◌, true, false, Bool, List, sym, ap, ◌∙◌}
 use Rattle.gts_traits.specs.Calls.{Outside}
 use Rattle.gts_engine.specs.Engine.{engine_of}
 use Rattle.gts_engine.proofs.SettlingLemmas.{none_told, some_told}
@@ -16,8 +16,8 @@ returns-then-not-is_empty-clause-same g c = λ none.
     let some : (engine_of c.args.parts.now).gathered ≡ true = some_told _ c.is_empty.result c.is_empty.ensures.value c.is_empty.ensures.closed c.if-not-is_empty.true in
     absurd (cc (none, some))
 
-pub returns-clause-held : goal.returns-clause-held
-returns-clause-held g c =
+pub returns-else-not-is_empty-clause-held : goal.returns-else-not-is_empty-clause-held
+returns-else-not-is_empty-clause-held g c =
     let old = c.args.parts.now in
     let none : (engine_of old).gathered ≡ false = none_told _ c.is_empty.result c.is_empty.ensures.value c.if-not-is_empty.false in
     let H : Bool → List Outside = λ b. if b then (engine_of old).held ++ [] ∷ [] else (engine_of old).held in

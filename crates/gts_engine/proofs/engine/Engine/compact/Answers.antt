@@ -1,4 +1,4 @@
-use Rattle.std.proofs.Common.{◌≡◌, Option, None, Ok, Err, refl, sym, ap, subst, ◌∙◌}
+use Rattle.std.proofs.Common.{◌≡◌, Option, None, refl, ap, subst, ◌∙◌}
 use Rattle.std.specs.Prelude.{OnOk}
 use Rattle.gts_event.specs.State.{State}
 use Rattle.gts_event.specs.declared.fault.Device.{Device}
@@ -27,7 +27,7 @@ pub returns-clause-cause : goal.returns-clause-cause
 returns-clause-cause g c = cause_then c.settle.result c.compact_settled.result _ _ _ _ _ _ c.settle.ensures.cause c.compact_settled.ensures.cause
 
 pub returns-in_err-settle-clause-stopped : goal.returns-in_err-settle-clause-stopped
-returns-in_err-settle-clause-stopped g c = never_settled c.args.self.now.stopped c.settle.result c.in_err-settle.field-0.0 _ c.in_err-settle.was c.settle.ensures.stopped
+returns-in_err-settle-clause-stopped g c = never_settled _ c.args.self.now.stopped c.settle.result c.in_err-settle.field-0.0 _ c.in_err-settle.was c.settle.ensures.stopped
 
 pub returns-clause-stopped : goal.returns-clause-stopped
 returns-clause-stopped g c =

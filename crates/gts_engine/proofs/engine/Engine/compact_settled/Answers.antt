@@ -1,4 +1,4 @@
-use Rattle.std.proofs.Common.{rules, Bool, ◌≡◌, ◌+◌, ◌-◌, ◌^◌, None, Ok, Err, Result, length, subst, ap, ◌∙◌}
+use Rattle.std.proofs.Common.{rules, Bool, ◌≡◌, ◌-◌, ◌^◌, None, Ok, Err, Result, length, subst, ap, ◌∙◌}
 use Rattle.std.specs.Prelude.{OnOk, IfErr, min}
 use Rattle.std.proofs.lemmas.Result.{IfOk-at_ok}
 use Rattle.gts_event.specs.State.{State}

@@ -1,9 +1,14 @@
-use Rattle.std.proofs.Common.{◌≡◌, Ok, Err, sym, ap, subst, ◌∙◌}
+use Rattle.std.proofs.Common.{◌<◌, length, sym, subst}
 use Rattle.std.proofs.lemmas.Result.{err_from_is_err_and}
+use Rattle.gts_directory.specs.Directory.{Directory}
 use Rattle.gts_event.specs.declared.event.Event.TheVariants.{Heard}
+use Rattle.gts_engine.specs.declared.mode.SayMode.TheVariants.{Station}
 use Rattle.gts_engine.proofs.FirstLemmas.{heard_settled, heard_unsettled}
 use Rattle.gts_engine.proofs.AnsweringLemmas.{cause_then}
 use Rattle.gts_engine.proofs.engine.Engine.hear_with_room.Goals as goal
+
+pub hear_with_room_settled-requires-clause-circuit : goal.hear_with_room_settled-requires-clause-circuit
+hear_with_room_settled-requires-clause-circuit g c = subst (λ (d : Directory). c.args.c < length d.circuits) (sym (c.settle.ensures.settles.settling Station).directory) c.requires
 
 pub hear_with_room_settled-requires-clause-settled : goal.hear_with_room_settled-requires-clause-settled
 hear_with_room_settled-requires-clause-settled g c = c.settle.ensures.settles.emptied

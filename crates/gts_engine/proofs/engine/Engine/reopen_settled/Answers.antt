@@ -1,4 +1,4 @@
-use Rattle.std.proofs.Common.{◌≡◌, ◌+◌, Bool, false, length, ℕ, List, Ok, Err, refl, sym, ap, subst, ◌∙◌, arith}
+use Rattle.std.proofs.Common.{◌≡◌, ◌+◌, Bool, false, List, Ok, Err, refl, sym, ap, subst, ◌∙◌, arith}
 use Rattle.std.proofs.lemmas.Result.{err_from_is_err_and}
 use Rattle.gts_traits.specs.Calls.{Call}
 use Rattle.gts_recovery.specs.{IsOpened}
@@ -6,9 +6,9 @@ use Rattle.gts_record.specs.declared.fault.OpenFault.TheVariants.{NoMemory}
 use Rattle.gts_journal.specs.Batch.{no_records}
 use Rattle.gts_calls.specs.Calls.{IsReopening}
 use Rattle.gts_engine.specs.declared.parts.Parts.{Parts}
-use Rattle.gts_engine.specs.Sayings.{held_pieces, no_sayings}
+use Rattle.gts_engine.specs.Sayings.{held_pieces}
 use Rattle.gts_engine.specs.Engine.{Engine, engine_of}
-use Rattle.gts_engine.specs.Keeping.{none_drawn}
+use Rattle.gts_engine.specs.Going.{HasFewDraws}
 use Rattle.gts_engine.specs.Parts.{IsSound}
 use Rattle.gts_engine.specs.Switching.{switch_meanings}
 use Rattle.gts_engine.proofs.GoingLemmas.{gathering_of, opened_on}
@@ -35,15 +35,12 @@ returns-clause-reopening g c =
     let g0 = idle_going g.P.Station.tells g.P.Station.calls p c.self.invariant c.in_default.is none in
     let old = g.P.Station.calls p.station in
     let O : List Call → Type 0 = λ l. IsOpened g.P.Station.tells p.directory l c.in_ok-core.core c.in_ok-core.journal in
-    let at : Parts g.row.P.Denot = record p { station = c.open_core.new.station; core = c.restart.new.self; journal = c.in_ok-core.journal; batch = no_records c.in_ok-core.journal; held = no_sayings; drawn = none_drawn } in
-    let D : List ℕ → Parts g.row.P.Denot = λ drawn. record at { drawn = drawn } in
-    let cleared : c.clear.new.parts ≡ at = c.clear.ensures.rest ∙ ap D c.clear.ensures.drawn in
     let E : Parts g.row.P.Denot → Type 0 = λ q. IsReopening (switch_meanings g.P.Station.tells g.P.Station.calls) g.P.Station.tells (Ok tt) (engine_of p) (engine_of q) in
     let T : Engine g.row.P.Denot → Type 0 = λ e. IsReopening (switch_meanings g.P.Station.tells g.P.Station.calls) g.P.Station.tells (Ok tt) e (engine_of c.clear.new.parts) in
-    let place = λ tell. same_place g.P.Station.tells p.directory old p.core p.journal g0 tell c.in_ok-core.core c.in_ok-core.journal (subst O (c.in_ok-core.ensures.synced tell) c.in_ok-core.ensures.opened) in
+    let place : g.P.Station.tells → c.in_ok-core.journal.gate + 1 ≡ p.journal.gate + 1 = λ tell. same_place g.P.Station.tells p.directory old p.core p.journal g0 tell c.in_ok-core.core c.in_ok-core.journal (subst O (c.in_ok-core.ensures.synced tell) c.in_ok-core.ensures.opened) in
     subst T c.self.view_is
-    (subst E (sym cleared)
-    (done_reopening g.P.Station.tells g.P.Station.calls (engine_of p) (engine_of at) c.in_default.is refl refl
+    (subst E (sym c.clear.ensures.rest)
+    (done_reopening g.P.Station.tells g.P.Station.calls (engine_of p) _ c.in_default.is refl refl
     (λ tell s h. syncing g.P.Station.tells p.directory old p.core p.journal g0 tell (g.P.Station.calls c.open_core.new.station) (c.open_core.ensures.told tell) s h)
     refl refl
     (λ tell. syncs_silent old (g.P.Station.calls c.open_core.new.station) (c.open_core.ensures.told tell))
@@ -54,16 +51,13 @@ returns-clause-reopening g c =
 pub invariant_of-self-2 : goal.invariant_of-self-2
 invariant_of-self-2 g c =
     let p = c.self.inside.parts in
-    let at : Parts g.row.P.Denot = record p { station = c.open_core.new.station; core = c.restart.new.self; journal = c.in_ok-core.journal; batch = no_records c.in_ok-core.journal; held = no_sayings; drawn = none_drawn } in
-    let D : List ℕ → Parts g.row.P.Denot = λ drawn. record at { drawn = drawn } in
-    let cleared : c.clear.new.parts ≡ at = c.clear.ensures.rest ∙ ap D c.clear.ensures.drawn in
     let S : Parts g.row.P.Denot → Type 0 = λ q. IsSound g.P.Station.tells g.P.Station.calls q in
-    subst S (sym cleared) (record {
+    subst S (sym c.clear.ensures.rest) (record {
       goes = λ same. gathering_of g.P.Station.tells p.directory (g.P.Station.calls c.open_core.new.station) c.restart.new.self c.in_ok-core.journal (no_records c.in_ok-core.journal)
           (opened_on g.P.Station.tells p.directory (g.P.Station.calls c.open_core.new.station) c.in_ok-core.core c.restart.new.self c.in_ok-core.journal c.in_ok-core.ensures.opened c.restart.ensures) refl;
-      few = few_none p.directory;
+      few = subst (HasFewDraws p.directory) (sym c.clear.ensures.drawn) (few_none p.directory);
       rests = λ none. refl;
-      undrawn = λ none. refl;
+      undrawn = λ none. c.clear.ensures.drawn;
       idle = λ by is. refl;
     })
 

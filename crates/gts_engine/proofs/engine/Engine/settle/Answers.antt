@@ -1,10 +1,6 @@
-use Rattle.std.proofs.Common.{rules, ◌≡◌, Result, Ok, false, refl, ap, subst, sym}
+use Rattle.std.proofs.Common.{◌≡◌, Ok, refl, ap, subst}
 use Rattle.std.specs.Prelude.{IfSome}
-use Rattle.gts_event.specs.declared.fault.SwitchFault.{SwitchFault}
-use Rattle.gts_calls.specs.Calls.{IsSettling}
-use Rattle.gts_engine.specs.declared.mode.SayMode.{SayMode}
 use Rattle.gts_engine.specs.Engine.{Engine, engine_of}
-use Rattle.gts_engine.specs.Keeping.{meanings_of}
 use Rattle.gts_engine.specs.Gathering.{SettlesEngine}
 use Rattle.gts_engine.proofs.SettlingLemmas.{stopped_settles, parts_settle}
 use Rattle.gts_engine.proofs.CallLemmas.{if_some, none_some}
@@ -13,10 +9,10 @@ use Rattle.gts_engine.proofs.engine.Engine.settle.Goals as goal
 pub returns-in-Some-clause-settles : goal.returns-in-Some-clause-settles
 returns-in-Some-clause-settles g c =
     let old = c.self.inside.parts in
-    let S : Engine g.row.P.Denot → Type 0 = λ e. SettlesEngine g.P.Station.tells g.P.Station.calls (Ok tt) e (engine_of old) in
+    let S : Engine g.row.P.Denot → Type 0 = λ e. SettlesEngine g.P.Station.tells g.P.Station.calls (Ok tt) e e in
     subst S c.self.view_is (record {
-      settling = λ mode. stopped_settles g.P.Station.tells g.P.Station.calls mode c.in-Some.is.0 (engine_of old) c.in-Some.is;
-      emptied = c.self.invariant.idle c.in-Some.is.0 c.in-Some.is;
+      settling = λ mode. stopped_settles g.P.Station.tells g.P.Station.calls mode c.in-Some.field-0 (engine_of old) c.in-Some.is;
+      emptied = c.self.invariant.idle c.in-Some.field-0 c.in-Some.is;
       nothing = λ none. (refl, refl);
     })
 
@@ -33,14 +29,11 @@ returns-clause-settles g c =
     })
 
 pub returns-in-Some-clause-stopped : goal.returns-in-Some-clause-stopped
-returns-in-Some-clause-stopped g c =
-    let old = c.self.inside.parts in
-    let T : Engine g.row.P.Denot → Type 0 = λ e. IfSome e.stopped (λ by. (◌≡◌ {A = Result (Unit {0}) SwitchFault} (Ok tt) (Ok tt)) × (engine_of old ≡ e)) in
-    subst T c.self.view_is (if_some old.stopped (λ by. (refl, refl)))
+returns-in-Some-clause-stopped g c = if_some c.args.self.now.stopped (λ by. (refl, refl))
 
 pub returns-clause-stopped : goal.returns-clause-stopped
 returns-clause-stopped g c =
     let old = c.self.inside.parts in
     let new = c.settle.new.parts in
     let T : Engine g.row.P.Denot → Type 0 = λ e. IfSome e.stopped (λ by. (c.settle.result ≡ Ok tt) × (engine_of new ≡ e)) in
-    subst T c.self.view_is (none_some old.stopped c.in_default.is)
+    subst T c.self.view_is (none_some old.stopped _ c.in_default.is)

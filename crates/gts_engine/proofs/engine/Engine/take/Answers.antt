@@ -1,8 +1,6 @@
-use Rattle.std.proofs.Common.{◌≡◌, Some, Result, Ok, Err, refl, sym, ap, subst, ◌∙◌}
+use Rattle.std.proofs.Common.{◌≡◌, Err, ap, ◌∙◌}
 use Rattle.std.proofs.lemmas.Result.{err_from_is_err_and}
-use Rattle.gts_event.specs.declared.event.Event.TheVariants.{Heard, Lost, Taken}
-use Rattle.gts_event.specs.declared.outcome.Outcome.{Outcome}
-use Rattle.gts_event.specs.declared.fault.SwitchFault.{SwitchFault}
+use Rattle.gts_event.specs.declared.event.Event.TheVariants.{Taken}
 use Rattle.gts_event.specs.declared.fault.SwitchFault.TheVariants.{SayFault}
 use Rattle.gts_engine.specs.Gathering.{IsDeviceFault}
 use Rattle.gts_engine.proofs.CallLemmas.{fails_first, fails_behind, done_behind, stops_behind, stops_done, cause_behind, cause_done, never_stopped, device_active, of_fault}
@@ -11,37 +9,37 @@ use Rattle.gts_engine.proofs.engine.Engine.take.Goals as goal
 pub returns-in_err-outcome-clause-called : goal.returns-in_err-outcome-clause-called
 returns-in_err-outcome-clause-called g c =
     let p = err_from_is_err_and c.from_residual.result c.from_residual.ensures.1 in
-    rw (p.1, p.2) (fails_first g.P.Station.tells g.P.Station.calls c.args.mode (Taken c.args.c) c.args.self.now c.gather_take-outcome.new.self c.gather_take-outcome.result (c.gather_take-outcome.ensures.called) c.in_err-outcome.field-0.0 c.in_err-outcome.was)
+    rw (p.1, p.2) (fails_first g.P.Station.tells g.P.Station.calls c.args.mode (Taken c.args.c) c.args.self.now c.gather_take.new.self c.gather_take.result (c.gather_take.ensures.called) c.in_err-outcome.field-0.0 c.in_err-outcome.was)
 
 pub returns-in_err-settle-clause-called : goal.returns-in_err-settle-clause-called
 returns-in_err-settle-clause-called g c =
     let p = err_from_is_err_and c.from_residual-in_err-settle.result c.from_residual-in_err-settle.ensures.1 in
-    rw (p.1, p.2) (fails_behind g.P.Station.tells g.P.Station.calls c.args.mode (Taken c.args.c) c.args.self.now c.gather_take-outcome.new.self c.gather_take-outcome.result (c.gather_take-outcome.ensures.called) c.in_ok-outcome.outcome c.in_ok-outcome.was c.settle.new.self c.settle.result (c.settle.ensures.settles.settling c.args.mode) c.in_err-settle.field-0.0 c.in_err-settle.was c.settle.ensures.kind)
+    rw (p.1, p.2) (fails_behind g.P.Station.tells g.P.Station.calls c.args.mode (Taken c.args.c) c.args.self.now c.gather_take.new.self c.gather_take.result (c.gather_take.ensures.called) c.in_ok-outcome.outcome c.in_ok-outcome.was c.settle.new.self c.settle.result (c.settle.ensures.settles.settling c.args.mode) c.in_err-settle.field-0.0 c.in_err-settle.was c.settle.ensures.kind)
 
 pub returns-clause-called : goal.returns-clause-called
-returns-clause-called g c = done_behind g.P.Station.tells g.P.Station.calls c.args.mode (Taken c.args.c) c.args.self.now c.gather_take-outcome.new.self c.gather_take-outcome.result (c.gather_take-outcome.ensures.called) c.in_ok-outcome.outcome c.in_ok-outcome.was c.settle.new.self c.settle.result (c.settle.ensures.settles.settling c.args.mode) c.in_ok-settle.was
+returns-clause-called g c = done_behind g.P.Station.tells g.P.Station.calls c.args.mode (Taken c.args.c) c.args.self.now c.gather_take.new.self c.gather_take.result (c.gather_take.ensures.called) c.in_ok-outcome.outcome c.in_ok-outcome.was c.settle.new.self c.settle.result (c.settle.ensures.settles.settling c.args.mode) c.in_ok-settle.was
 
 pub returns-in_err-settle-clause-stops : goal.returns-in_err-settle-clause-stops
 returns-in_err-settle-clause-stops g c =
     let p = err_from_is_err_and c.from_residual-in_err-settle.result c.from_residual-in_err-settle.ensures.1 in
-    rw (p.1, p.2) (stops_behind c.args.self.now.stopped c.gather_take-outcome.new.self.stopped c.settle.new.self.stopped c.gather_take-outcome.result c.settle.result c.gather_take-outcome.ensures.stops c.settle.ensures.stops c.in_err-settle.field-0.0 c.in_err-settle.was c.settle.ensures.kind)
+    rw (p.1, p.2) (stops_behind c.args.self.now.stopped c.gather_take.new.self.stopped c.settle.new.self.stopped c.gather_take.result c.settle.result c.gather_take.ensures.stops c.settle.ensures.stops c.in_err-settle.field-0.0 c.in_err-settle.was c.settle.ensures.kind)
 
 pub returns-clause-stops : goal.returns-clause-stops
-returns-clause-stops g c = stops_done c.args.self.now.stopped c.gather_take-outcome.new.self.stopped c.settle.new.self.stopped c.gather_take-outcome.result c.settle.result c.gather_take-outcome.ensures.stops c.settle.ensures.stops c.in_ok-outcome.outcome c.in_ok-outcome.was c.in_ok-settle.was
+returns-clause-stops g c = stops_done c.args.self.now.stopped c.gather_take.new.self.stopped c.settle.new.self.stopped c.gather_take.result c.settle.result c.gather_take.ensures.stops c.settle.ensures.stops c.in_ok-outcome.outcome c.in_ok-outcome.was c.in_ok-settle.was
 
 pub returns-in_err-settle-clause-cause : goal.returns-in_err-settle-clause-cause
 returns-in_err-settle-clause-cause g c =
     let p = err_from_is_err_and c.from_residual-in_err-settle.result c.from_residual-in_err-settle.ensures.1 in
-    rw (p.1, p.2) (cause_behind c.gather_take-outcome.result c.settle.result _ _ _ _ _ _ c.gather_take-outcome.ensures.cause c.settle.ensures.cause c.in_err-settle.field-0.0 c.in_err-settle.was)
+    rw (p.1, p.2) (cause_behind c.gather_take.result c.settle.result _ _ _ _ _ _ c.gather_take.ensures.cause c.settle.ensures.cause c.in_err-settle.field-0.0 c.in_err-settle.was)
 
 pub returns-clause-cause : goal.returns-clause-cause
-returns-clause-cause g c = cause_done c.gather_take-outcome.result c.settle.result _ _ _ _ _ _ c.gather_take-outcome.ensures.cause c.settle.ensures.cause c.in_ok-outcome.outcome c.in_ok-settle.was
+returns-clause-cause g c = cause_done c.gather_take.result c.settle.result _ _ _ _ _ _ c.gather_take.ensures.cause c.settle.ensures.cause c.in_ok-outcome.outcome c.in_ok-settle.was
 
 pub returns-in_err-settle-clause-stopped : goal.returns-in_err-settle-clause-stopped
-returns-in_err-settle-clause-stopped g c = never_stopped c.args.self.now.stopped c.gather_take-outcome.result c.in_ok-outcome.outcome _ c.in_ok-outcome.was c.gather_take-outcome.ensures.stopped
+returns-in_err-settle-clause-stopped g c = never_stopped _ c.args.self.now.stopped c.gather_take.result c.in_ok-outcome.outcome _ c.in_ok-outcome.was c.gather_take.ensures.stopped
 
 pub returns-clause-stopped : goal.returns-clause-stopped
-returns-clause-stopped g c = never_stopped c.args.self.now.stopped c.gather_take-outcome.result c.in_ok-outcome.outcome _ c.in_ok-outcome.was c.gather_take-outcome.ensures.stopped
+returns-clause-stopped g c = never_stopped _ c.args.self.now.stopped c.gather_take.result c.in_ok-outcome.outcome _ c.in_ok-outcome.was c.gather_take.ensures.stopped
 
 pub returns-in_err-settle-clause-unchanged : goal.returns-in_err-settle-clause-unchanged
 returns-in_err-settle-clause-unchanged g c =
@@ -51,9 +49,9 @@ returns-in_err-settle-clause-unchanged g c =
 pub returns-in_err-settle-clause-caller : goal.returns-in_err-settle-clause-caller
 returns-in_err-settle-clause-caller g c =
     let p = err_from_is_err_and c.from_residual-in_err-settle.result c.from_residual-in_err-settle.ensures.1 in
-    rw (p.1, p.2) (λ caller none e. c.settle.ensures.silent (c.gather_take-outcome.ensures.silent caller none) (let same : c.in_err-settle.field-0.0 ≡ SayFault = cc e in c.in_err-settle.was ∙ ap Err same))
+    rw (p.1, p.2) (λ caller none e. c.settle.ensures.silent (c.gather_take.ensures.silent caller none) (let same : c.in_err-settle.field-0.0 ≡ SayFault = cc e in c.in_err-settle.was ∙ ap Err same))
 
 pub returns-in_err-outcome-clause-caller : goal.returns-in_err-outcome-clause-caller
 returns-in_err-outcome-clause-caller g c =
     let p = err_from_is_err_and c.from_residual.result c.from_residual.ensures.1 in
-    rw (p.1, p.2) (λ caller none e. c.gather_take-outcome.ensures.caller caller none (let same : c.in_err-outcome.field-0.0 ≡ SayFault = cc e in c.in_err-outcome.was ∙ ap Err same))
+    rw (p.1, p.2) (λ caller none e. c.gather_take.ensures.caller caller none (let same : c.in_err-outcome.field-0.0 ≡ SayFault = cc e in c.in_err-outcome.was ∙ ap Err same))
