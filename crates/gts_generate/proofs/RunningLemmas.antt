@@ -30,7 +30,6 @@ use Rattle.gts_connection.proofs.LawLemmas.{reads_once, whole_is_read}
 use Rattle.gts_opening.specs.Journal.{Opened, opens, files_open, file_opens, opened_of, selected}
 use Rattle.gts_opening.specs.Room.{full, new_journal}
 use Rattle.gts_core.specs.Core.{Holds, Needs}
-use Rattle.gts_calls.specs.Calls.{settled}
 use Rattle.gts_engine.specs.declared.mode.SayMode.{SayMode}
 use Rattle.gts_engine.specs.declared.mode.SayMode.TheVariants.{Station}
 use Rattle.gts_engine.specs.Engine.{Engine, shown}
