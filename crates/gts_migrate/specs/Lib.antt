@@ -1,3 +1,5 @@
 pub mod LettingGo
+pub mod Dropping
 pub mod Bringing
+pub mod Answers
 pub mod Migrating

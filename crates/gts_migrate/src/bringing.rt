@@ -134,7 +134,7 @@ fn held(alloc: Global, circuits: &[CircuitNeed]) -> Result<Vec<u64>, NoMemory>
 }
 
 /// Whether a number is among numbers in ascending order.
-fn is_among(numbers: &[u64], number: u64) -> bool
+pub(crate) fn is_among(numbers: &[u64], number: u64) -> bool
     requires { IsNonDecreasing numbers.now }
     ensures { result ≡ has numbers.now number }
 {

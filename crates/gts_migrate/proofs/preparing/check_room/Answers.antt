@@ -9,7 +9,7 @@ use Rattle.gts_opening.specs.Journal.{due}
 use Rattle.gts_recovery.proofs.LawLemmas.{due_counted as due_waiting}
 use Rattle.gts_migrate.specs.LettingGo.{goes_on, left_behind}
 use Rattle.gts_migrate.proofs.LettingGoLemmas.{due-on}
-use Rattle.gts_migrate.proofs.migrating.check_room.Goals as goal
+use Rattle.gts_migrate.proofs.preparing.check_room.Goals as goal
 
 pub waiting-requires : goal.waiting-requires
 waiting-requires c =
