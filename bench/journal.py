@@ -55,16 +55,18 @@ def frame_of(kind, count, body):
 
 class Directory:
     """A directory as its file says it, with numbers of three digits. Rules are pairs of a pattern and the places of circuits,
-    levels pairs of a pattern of two letters and a level, ports pairs of `input` and `output`."""
+    levels pairs of a pattern of two letters and a level, ports pairs of `input` and `output`. Each row has the same `repeat`, which
+    isn't written where it is 1."""
 
-    def __init__(self, centre, window, limit, names, peers, rules, levels=(), kept=1000, ports=None):
-        self.centre, self.window, self.limit, self.kept = centre, window, limit, kept
+    def __init__(self, centre, window, limit, names, peers, rules, levels=(), kept=1000, ports=None, repeat=1):
+        self.centre, self.window, self.limit, self.kept, self.repeat = centre, window, limit, kept, repeat
         self.names, self.peers, self.rules, self.levels, self.ports = names, peers, rules, levels, ports
 
     def text(self):
         rows = [f'centre = "{self.centre}"', f'window = {self.window}', f'limit = {self.limit}']
         for place, (name, peer) in enumerate(zip(self.names, self.peers)):
             rows += ['[[circuit]]', f'name = "{name}"', f'peer = "{peer}"', f'kept = {self.kept}']
+            rows += [f'repeat = {self.repeat}'] if self.repeat > 1 else []
             rows += [f'input = {self.ports[place][0]}', f'output = {self.ports[place][1]}'] if self.ports else []
         for pattern, to in self.rules:
             names = ', '.join(f'"{self.names[circuit]}"' for circuit in to)
