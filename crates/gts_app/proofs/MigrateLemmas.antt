@@ -286,7 +286,7 @@ says_later (Err (fault.Open e)) before after same = omega (arith, same)
 says_later (Err (fault.Waits circuit count)) before after same = omega (arith, same)
 says_later (Err (fault.Full used wanted limit)) before after same = omega (arith, same)
 says_later (Err fault.DiskFault) before after same = omega (arith, same)
-says_later (Err fault.SayFault) before after rose = omega (arith, rose)
+says_later (Err fault.SayFault) before after rose = rose.0
 says_later (Err fault.NoMemory) before after same = omega (arith, same)
 
 says_never : (r : Result (Unit {0}) MigrateFault) (before after : ℕ) → (IsSayFaultOf r → ⊥) → CountsSays r before after → after ≡ before
@@ -370,7 +370,7 @@ module _ {S P : Type 0} (w : Waiting) (source : SourceMeanings S) (station : Sta
     λ t. e.told t tt,
   )
   means (Err fault.DiskFault) e = e.disk tt
-  means (Err fault.SayFault) e = (only_dropped w (λ refused. e.unsaid refused tt), e.says)
+  means (Err fault.SayFault) e = (only_dropped w (λ refused. e.unsaid refused tt), e.says.1)
   means (Err fault.NoMemory) e = λ t. e.told t tt
 
   -- a fault of the files is answered
@@ -427,7 +427,7 @@ module _ {S P : Type 0} (w : Waiting) (source : SourceMeanings S) (station : Sta
   complete (Err (fault.Waits circuit count)) x t s used is none free quiet sound = absurd (never_waits d w (need o s) circuit count none (x.waiting t s used is))
   complete (Err (fault.Full at wanted limit)) x t s used is none free quiet sound = let f = x.full t s used is in absurd (no_room _ _ f.1 free)
   complete (Err fault.DiskFault) x t s used is none free quiet sound = absurd (quiet (x.disk tt))
-  complete (Err fault.SayFault) x t s used is none free quiet sound = absurd (sound x.says)
+  complete (Err fault.SayFault) x t s used is none free quiet sound = absurd (sound x.says.1)
   complete (Err fault.NoMemory) x t s used is none free quiet sound = inr refl
 
   leaves : (r : Result (Unit {0}) MigrateFault) → Ends r → station.tells → (n : Need) → opens_any o (seen (station.calls old)) ≡ Ok n → LeavesJournal w station (world od oc old) (world nd nc new) d o n
