@@ -10,11 +10,11 @@ mod leaving;
 mod migrating;
 mod preparing;
 mod rewriting;
-mod waiting;
 mod trial;
+mod waiting;
 
 pub use fault::MigrateFault;
 pub use laws::a_circuit_goes_on;
 pub use migrating::migrate;
-pub use waiting::Waiting;
 pub use trial::{Trial, try_over};
+pub use waiting::Waiting;

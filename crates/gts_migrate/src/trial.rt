@@ -7,8 +7,8 @@ ghost use Rattle.gts_journal.specs.{OnlySyncs};
 ghost use Rattle.gts_migrate.specs.Migrating.{TakesOver, State, need_at, opens_any, HasFewDue};
 ghost use Rattle.gts_migrate.specs.Trial.{refusal, IsAnswer, IsTried, OpensTo};
 
-use crate::{MigrateFault, Waiting};
 use crate::preparing::prepare;
+use crate::{MigrateFault, Waiting};
 use gts_core::Core;
 use gts_directory::Directory;
 use gts_event::Need;
