@@ -18,6 +18,7 @@ use crate::commands::ship::ship;
 use crate::commands::show::show;
 use crate::commands::unpack::unpack;
 use gts_connection::CaptureKind;
+use gts_migrate::Waiting;
 use gts_missing::Moment;
 use gts_receiver::WITHOUT_END;
 use gts_standby::Since;
@@ -37,8 +38,8 @@ fn beside<P, S>(ended: (Status, P), capture: S) -> (Status, P, S)
     (status, station, capture)
 }
 
-/// Runs the command that the words name: `init`, `replay`, `serve`, `show`, `compact`, `generate`, `migrate`, `unpack`, `pack`,
-/// `gaps`, `ship`, `follow` or `count`. The station and the capture are handed back.
+/// Runs the command that the words name: `init`, `replay`, `serve`, `show`, `compact`, `generate`, `migrate`, `migrate drop`, `unpack`,
+/// `pack`, `gaps`, `ship`, `follow` or `count`. The station and the capture are handed back.
 pub fn run<R, S, P, L, G>(
     rt: &R,
     alloc: Global,
@@ -112,7 +113,16 @@ where
             beside(served, capture)
         }
         Command::Generate { count } => (generate(alloc, count, &mut station), station, capture),
-        Command::Migrate => beside(migrate(alloc, directory, &mut capture, station), capture),
+        Command::Migrate => {
+            let waiting = Waiting::Refused;
+            beside(migrate(alloc, directory, &mut capture, station, waiting), capture)
+        }
+        Command::MigrateDrop => {
+            let waiting = Waiting::Dropped;
+            beside(migrate(alloc, directory, &mut capture, station, waiting), capture)
+        }
+        // It isn't built yet.
+        Command::MigrateCheck => (Status::Words, station, capture),
         Command::Pack => {
             let status = pack(alloc, directory, &mut capture, &mut station);
             (status, station, capture)

@@ -249,7 +249,7 @@ said_part bytes fault calls mid spoken same (inr (inr broke)) =
 -- ---- once the journal was opened
 
 module _ (tells : Type 0) (old new : Directory) (takes : TakesOver new old) (mid : List Call) (core : Core) (j : InHand) (g : IsOpenedAny tells old mid core j) where
-  sound_need : is_sound old (need old g.state) ≡ true
+  pub sound_need : is_sound old (need old g.state) ≡ true
   sound_need = sound-held old g.state g.kept.few g.kept.held
 
   pub few_due : old.limit < 256 ^ 4 → HasFewDue old core
@@ -283,7 +283,7 @@ module _ (tells : Type 0) (old new : Directory) (takes : TakesOver new old) (mid
   }
 
   module _ (tell : tells) (before : List Call) (synced : mid ≡ Did Syncs ∷ before) where
-    files_here : files_open_any old (seen before) ≡ Ok (g.state, j.gate + 1)
+    pub files_here : files_open_any old (seen before) ≡ Ok (g.state, j.gate + 1)
     files_here =
         let here : files_open_any old (seen mid) ≡ Ok (g.state, j.gate + 1) =
         ap (λ (v : Version). files_open_in v old (seen mid)) (sym (g.stands tell).version_is) ∙ ap opened_of (g.stands tell).opens_to in

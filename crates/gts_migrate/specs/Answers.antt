@@ -1,5 +1,5 @@
 -- What is answered where a journal is to be taken over.
-use Rattle.std.specs.Prelude.{◌≡◌, ◌≢◌, ◌⊎◌, ℕ, List, [], Option, None, Some, Result, Ok, Err}
+use Rattle.std.specs.Prelude.{◌≡◌, ◌≢◌, ◌⊎◌, ◌≤◌, ℕ, List, [], Option, None, Some, Result, Ok, Err}
 use Rattle.gts_traits.specs.Calls.{Call, Outside, SaidSince}
 use Rattle.gts_traits.specs.Counts.{Rose}
 use Rattle.gts_traits.specs.Station.{IsFront}
@@ -92,7 +92,7 @@ SaysFor (Err fault) text before after = SaidSince before after []
 
 -- saying failed, and the count of that rose; else the count stays
 abbrev pub CountsSays : Result (Unit {0}) MigrateFault → ℕ → ℕ → Type 0
-CountsSays (Err SayFault) before after = Rose before after
+CountsSays (Err SayFault) before after = (before ≤ after) × Rose before after
 CountsSays result before after = after ≡ before
 
 -- saying failed

@@ -3,3 +3,4 @@ pub mod Dropping
 pub mod Bringing
 pub mod Answers
 pub mod Migrating
+pub mod Trial

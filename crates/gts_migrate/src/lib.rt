@@ -5,12 +5,16 @@
 mod bringing;
 mod dropping;
 mod fault;
+mod laws;
 mod leaving;
 mod migrating;
 mod preparing;
 mod rewriting;
+mod trial;
 mod waiting;
 
 pub use fault::MigrateFault;
+pub use laws::a_circuit_goes_on;
 pub use migrating::migrate;
+pub use trial::{Trial, try_over};
 pub use waiting::Waiting;

@@ -1,5 +1,5 @@
 -- What a run of all circuits leaves: the history of all threads and the takes behind it, the bytes of each circuit, and its end.
-use Rattle.std.specs.Prelude.{◌≡◌, ◌⊎◌, ℕ, ◌+◌, ◌*◌, ◌<◌, ◌≤◌, Bool, true, false, List, [], ◌∷◌, ◌++◌, length, map, Option, Some, None, Err}
+use Rattle.std.specs.Prelude.{◌≡◌, ◌⊎◌, ℕ, ◌+◌, ◌*◌, ◌<◌, ◌≤◌, Bool, true, false, List, [], ◌∷◌, ◌++◌, length, map, Option, Some, None, Err, if◌then◌else◌}
 use mathlib.Core.Option.{some}
 use lib.ListN.{get_elem?}
 use Rattle.atomic_table.specs.Seated.{TableId}
@@ -57,14 +57,28 @@ seen_lines is_open faults place bytes lines =
 abbrev pub lines_seen : {L In Out : Type 0} → LinesMeanings L In Out → L → LinesSeen
 lines_seen m lines = seen_lines m.is_open m.faults m.place m.bytes lines
 
--- where the lines of a circuit are by the directory
-abbrev pub place_of : Directory → Circuit → PlaceSeen
-place_of d row =
+-- where the lines of a circuit would be by the directory, were it open
+abbrev pub place_open : Directory → Circuit → PlaceSeen
+place_open d row =
     record { address = ipv4_octets d.address; input = row.input; host = ipv4_octets row.host; output = row.output; idle = row.idle }
+
+-- Where they are. A circuit that is closed has no ports, and no second is waited for a byte: nobody can call there, and nobody is
+-- called.
+abbrev pub place_of : Directory → Circuit → PlaceSeen
+place_of d row = if row.closed then record (place_open d row) { input = 0; output = 0; idle = Some 0 } else place_open d row
 
 -- circuit c was opened, or was to be, at the place that the directory has for it
 abbrev pub HasPlace : Directory → LinesSeen → ℕ → Type 0
 HasPlace d now c = get_elem? (map (place_of d) d.circuits) c ≡ some (now.place c)
+
+-- a place at which no line can be: it has no ports
+pub record HasNoPorts (place : PlaceSeen) : Type 0 where
+  pub input : place.input ≡ 0
+  pub output : place.output ≡ 0
+
+-- where the row of circuit c is closed, it was opened at no port: no line came in there, and none went out
+abbrev pub IsShutIfClosed : Directory → LinesSeen → ℕ → Type 0
+IsShutIfClosed d now c = (row : Circuit) → get_elem? d.circuits c ≡ some row → row.closed ≡ true → HasNoPorts (now.place c)
 
 -- circuit c is as it was
 pub record IsSame (before now : LinesSeen) (c : ℕ) : Type 0 where
@@ -201,6 +215,7 @@ pub record ServesCircuit (b : Beginning) (source_tells sink_tells : Type 0) (con
   pub receives : IsReceived b threads history c connections earlier last received
   pub sends : IsSent b threads history c written sent
   pub place : HasPlace b.origin.directory now c
+  pub shut : IsShutIfClosed b.origin.directory now c
   -- its source began these connections, at most as many as it might
   pub parts : source_tells → (now.bytes c).parts ≡ earlier ++ last ∷ []
   pub few : length (earlier ++ last ∷ []) ≤ connections
