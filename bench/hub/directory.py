@@ -20,7 +20,7 @@ BY_COUNTRY, BY_KIND, BY_WARNING = 6, 5, 20
 SHORT_NUMBERS = 4
 # What a number of so many digits comes round at, and how many draws are kept.
 ROUND = {3: 1_000, 5: 100_000}
-KEPT = {3: 500, 5: 1_000}
+KEPT = {3: 300, 5: 400}
 LIMIT = 1 << 30
 
 
@@ -90,8 +90,7 @@ class HubDirectory(Directory):
     def row(self, circuit):
         rows = ['[[circuit]]', f'name = "{self.names[circuit]}"', f'peer = "{self.peers[circuit]}"']
         rows += [f'digits = {self.digits(circuit)}', f'kept = {self.kept_of(circuit)}']
-        if circuit in self.closed:
-            return [*rows, 'closed = true']
+        rows += ['closed = true'] if circuit in self.closed else []
         rows += [f'repeat = {self.repeat}'] if self.repeat > 1 else []
         rows += [f'input = {self.ports[circuit][0]}', f'output = {self.ports[circuit][1]}']
         return [*rows, f'host = "{self.host(circuit)}"']

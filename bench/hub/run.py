@@ -190,8 +190,9 @@ class Run:
         self.lines.drains()
         self.judges()
         accepted, rows = self.station.report()
-        if accepted == self.reference.accepted + IN_DOUBT:
-            self.reference.is_unsaid(*self.station.last_accepted())
+        if 0 < accepted - self.reference.accepted <= IN_DOUBT:
+            for bulletin in self.station.accepted_from(self.reference.accepted):
+                self.reference.is_unsaid(*bulletin)
         if accepted != self.reference.accepted:
             raise Lost(f'{accepted} are accepted behind an end, and {self.reference.accepted} were acknowledged')
         self.lines.hangs_up()
