@@ -586,6 +586,16 @@ class Line:
                 at = behind + 1
         return found
 
+    def left_unread(self):
+        """How many messages were handed over, and have no receipt, though one behind them in the same run has."""
+        count = 0
+        for run in self.to.counts:
+            streams = [stream for stream in list(self.kept) if stream.run == run]
+            found = self.found(run, streams)
+            last = max((place for place, heard in enumerate(found) if heard), default=0)
+            count += sum(stream.count - len(heard) for stream, heard in zip(streams[:last], found))
+        return count
+
     def heard(self):
         """The connections with the messages that the other centre has dealt with."""
         streams = list(self.kept)

@@ -189,14 +189,16 @@ class Run:
         bulletin at most that it had no time to acknowledge."""
         self.lines.drains()
         self.judges()
-        accepted, rows = self.station.report()
+        bulletins, draws = self.station.reads()
+        accepted = max(bulletins, default=-1) + 1
         if 0 < accepted - self.reference.accepted <= IN_DOUBT:
-            for bulletin in self.station.accepted_from(self.reference.accepted):
-                self.reference.is_unsaid(*bulletin)
+            for position in range(self.reference.accepted, accepted):
+                self.reference.is_unsaid(*bulletins[position])
         if accepted != self.reference.accepted:
             raise Lost(f'{accepted} are accepted behind an end, and {self.reference.accepted} were acknowledged')
         self.lines.hangs_up()
-        for ledger, (draws, _) in zip(self.reference.ledgers, rows):
-            if draws < ledger.top:
-                ledger.lost(f'behind an end it has {draws} draws, and {ledger.number_of(ledger.top - 1)} has come')
-            ledger.opened(draws, self.reference.accepted)
+        for circuit, ledger in enumerate(self.reference.ledgers):
+            had = draws.get(circuit, 0)
+            if had < ledger.top:
+                ledger.lost(f'behind an end it has {had} draws, and {ledger.number_of(ledger.top - 1)} has come')
+            ledger.opened(had, self.reference.accepted)

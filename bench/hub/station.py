@@ -121,10 +121,14 @@ class Station:
         rows = re.findall(r'^circuit \d\d \S+ draws (\d+) waiting (\d+) ', out.decode(), re.M)
         return int(re.search(rb'^accepted (\d+)$', out, re.M)[1]), [(int(draws), int(waiting)) for draws, waiting in rows]
 
-    def accepted_from(self, first):
-        """The circuits and the bodies of the bulletins that the journal has from a position on."""
-        accepted, _ = accepted_and_drawn(self.folder)
-        return [(circuit, bytes(body)) for position, (circuit, body) in sorted(accepted.items()) if position >= first]
+    def reads(self):
+        """What the journal of the stopped switch says, by a plain reading: the circuit and the body of each bulletin that it has, by
+        its position, and how many draws each circuit had that has one. So it costs less than `show`."""
+        accepted, drawn = accepted_and_drawn(self.folder)
+        draws = {}
+        for circuit, index in drawn:
+            draws[circuit] = max(index + 1, draws.get(circuit, 0))
+        return accepted, draws
 
     # The directory, and the standby.
 
