@@ -102,7 +102,8 @@ class Run:
         while not holds():
             self.looks()
             self.asks_for_holes()
-            if self.station.process.poll() is not None:
+            # It may be the end that is waited for.
+            if self.station.process.poll() is not None and not holds():
                 raise Lost(f'the switch ended with {self.station.process.returncode}: {self.station.says()!r}')
             if self.lines.moved != moved:
                 moved, since = self.lines.moved, time.monotonic()
