@@ -500,13 +500,17 @@ def brought(old, new, state):
         found.drawn[circuit] = state.drawn[circuit][-new.kept:] if is_kept else []
         found.before[circuit] = state.draws(circuit) - len(found.drawn[circuit])
         found.waiting[circuit] = sorted(state.waiting[circuit])
-    # What may be asked for under the old directory is needed; of that, what is needed under the new one.
-    old_need = {position for lists in (state.waiting, [drawn[-old.kept:] for drawn in state.drawn]) for of in lists for position in of}
-    old_need |= set(range(max(0, state.accepted - old.window), state.accepted))
-    need = {position for lists in (found.waiting, found.drawn) for of in lists for position in of}
-    need |= set(range(max(0, state.accepted - new.window), state.accepted))
-    found.bulletins = {position: bulletin for position, bulletin in state.bulletins.items() if position in need & old_need}
+    # Of what was needed under the old directory, what is needed under the new one.
+    kept = [drawn[-old.kept:] for drawn in state.drawn]
+    needed = needed_of(old, state, state.waiting, kept) & needed_of(new, state, found.waiting, found.drawn)
+    found.bulletins = {position: bulletin for position, bulletin in state.bulletins.items() if position in needed}
     return found
+
+
+def needed_of(directory, state, waiting, kept):
+    """The positions of the last bulletins, as many as the window has, of those that wait, and of the kept draws."""
+    listed = {position for lists in (waiting, kept) for positions in lists for position in positions}
+    return listed | set(range(max(0, state.accepted - directory.window), state.accepted))
 
 
 def checkpoint_of(state):
@@ -516,7 +520,8 @@ def checkpoint_of(state):
     circuits = range(len(state.directory.names))
     text = b'C\0\0\0' + numbers(4, len(circuits)) + numbers(8, state.accepted) + numbers(4, len(state.bulletins))
     for position, bulletin in sorted(state.bulletins.items()):
-        text += numbers(8, position) + bytes([bulletin.circuit]) + bulletin.kind + bytes(2) + numbers(4, len(bulletin.body)) + bulletin.body
+        text += numbers(8, position) + bytes([bulletin.circuit]) + bulletin.kind + bytes(2)
+        text += numbers(4, len(bulletin.body)) + bulletin.body
     for circuit in circuits:
         waits, keeps = state.waiting[circuit], state.drawn[circuit]
         text += numbers(8, state.draws(circuit)) + numbers(4, len(waits), len(keeps)) + numbers(8, *waits, *keeps)

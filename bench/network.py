@@ -338,8 +338,8 @@ class Centre:
         return len(self.said[run, circuit])
 
     def texts_said(self, run, circuit):
-        """Of each of these receipts the bulletin that it was said of; none of a request's. It ends before the first of which the journal
-        hasn't told yet."""
+        """Of each of these receipts the bulletin that it was said of; none of a request's. It ends before the first of which the
+        journal hasn't told yet."""
         receipts = self.said[run, circuit]
         if any(position is not None and position not in self.accepted for _, position in receipts):
             self.read_journal()
@@ -573,9 +573,9 @@ class Line:
             len(heard) == stream.count or stream.is_over or place < last for place, (heard, stream) in enumerate(zip(found, streams)))
 
     def found(self, run, streams):
-        """Of each of these connections, which are all of a run, the messages that have their receipts: each receipt is that of the first
-        message behind the one before which has its text. So what stood unread on a connection when the other centre gave that up, or
-        was killed, is left out, whatever came behind it."""
+        """Of each of these connections, which are all of a run, the messages that have their receipts: each receipt is that of the
+        first message behind the one before which has its text. So what stood unread on a connection when the other centre gave that
+        up, or was killed, is left out, whatever came behind it."""
         every = [(place, message) for place, stream in enumerate(streams) for message in stream.messages()]
         texts = [text_of(message)[0] for _, message in every]
         found, at = [[] for _ in streams], 0

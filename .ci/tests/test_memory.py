@@ -1,6 +1,6 @@
 """Runs the built program with one allocation refused, each of a run in turn: `init`, a replay, a replay with repetitions,
-`compact`, `migrate` and `serve`. Each time the program ends as if nothing had been refused, or tells of it; and then the journal opens, what is
-left is done, and each number has one text. It needs gcc for the library that refuses.
+`compact`, `migrate` and `serve`. Each time the program ends as if nothing had been refused, or tells of it; and then the journal
+opens, what is left is done, and each number has one text. It needs gcc for the library that refuses.
 
     --break refused    the library refuses nothing"""
 import os

@@ -1,5 +1,5 @@
-"""A loss of power: a library before the switch (power.c) keeps what was written to the journal and isn't synced, and it is taken back when
-the switch was killed. It counts the syncs too."""
+"""A loss of power: a library before the switch (power.c) keeps what was written to the journal and isn't synced, and it is taken back
+when the switch was killed. It counts the syncs too."""
 import os
 import struct
 import subprocess

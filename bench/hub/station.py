@@ -23,8 +23,8 @@ def serves_always(program):
 
 
 class Station:
-    """The built switch of a hub. `is_always` is whether it knows a service without an end; `power`, where there is one, counts its syncs,
-    and makes a kill a loss of power."""
+    """The built switch of a hub. `is_always` is whether it knows a service without an end; `power`, where there is one, counts its
+    syncs, and makes a kill a loss of power."""
 
     def __init__(self, program, folder, directory, power=None):
         self.program, self.top, self.folder, self.power = program, folder, os.path.join(folder, 'station'), power
