@@ -56,10 +56,11 @@ def frame_of(kind, count, body, digits=3):
 
 class Directory:
     """A directory as its file says it. Rules are pairs of a pattern and the places of circuits, levels pairs of a pattern of two
-    letters and a level, ports pairs of `input` and `output`; `five` are the circuits with numbers of five digits."""
+    letters and a level, ports pairs of `input` and `output`; `five` are the circuits with numbers of five digits. Each row has the
+    same `repeat`, which isn't written where it is 1."""
 
-    def __init__(self, centre, window, limit, names, peers, rules, levels=(), kept=1000, ports=None, five=(), closed=()):
-        self.centre, self.window, self.limit, self.kept = centre, window, limit, kept
+    def __init__(self, centre, window, limit, names, peers, rules, levels=(), kept=1000, ports=None, five=(), closed=(), repeat=1):
+        self.centre, self.window, self.limit, self.kept, self.repeat = centre, window, limit, kept, repeat
         self.names, self.peers, self.rules, self.levels, self.ports = names, peers, rules, levels, ports
         self.five, self.closed = set(five), set(closed)
 
@@ -67,6 +68,7 @@ class Directory:
         rows = [f'centre = "{self.centre}"', f'window = {self.window}', f'limit = {self.limit}']
         for place, (name, peer) in enumerate(zip(self.names, self.peers)):
             rows += ['[[circuit]]', f'name = "{name}"', f'peer = "{peer}"', f'kept = {self.kept}']
+            rows += [f'repeat = {self.repeat}'] if self.repeat > 1 else []
             rows += [f'input = {self.ports[place][0]}', f'output = {self.ports[place][1]}'] if self.ports else []
             rows += ['digits = 5'] if place in self.five else []
             rows += ['closed = true'] if place in self.closed else []
