@@ -1,5 +1,6 @@
-"""A plain reading of docs/FORMATS.md, for scripts: what the files of a journal open to, what of them is shipped, and what becomes
-of a feed that a standby follows. Python's standard library alone; it knows no index, queue or window of digests."""
+"""A plain reading of docs/FORMATS.md, for scripts: what the files of a journal open to, what of them is shipped, what becomes of a feed
+that a standby follows, and what another directory takes over of them. Python's standard library alone; it knows no index, queue or
+window of digests."""
 import hashlib
 import re
 
@@ -48,19 +49,20 @@ def sealed(seal, record):
     return hashlib.sha256(seal + record).digest()
 
 
-def frame_of(kind, count, body):
-    message = b'\x01' + EOL + b'%03d' % count + EOL + body
+def frame_of(kind, count, body, digits=3):
+    message = b'\x01' + EOL + b'%0*d' % (digits, count) + EOL + body
     return b'%08d' % len(message) + kind + message
 
 
 class Directory:
-    """A directory as its file says it, with numbers of three digits. Rules are pairs of a pattern and the places of circuits,
-    levels pairs of a pattern of two letters and a level, ports pairs of `input` and `output`. Each row has the same `repeat`, which
-    isn't written where it is 1."""
+    """A directory as its file says it. Rules are pairs of a pattern and the places of circuits, levels pairs of a pattern of two
+    letters and a level, ports pairs of `input` and `output`; `five` are the circuits with numbers of five digits. Each row has the
+    same `repeat`, which isn't written where it is 1."""
 
-    def __init__(self, centre, window, limit, names, peers, rules, levels=(), kept=1000, ports=None, repeat=1):
+    def __init__(self, centre, window, limit, names, peers, rules, levels=(), kept=1000, ports=None, five=(), closed=(), repeat=1):
         self.centre, self.window, self.limit, self.kept, self.repeat = centre, window, limit, kept, repeat
         self.names, self.peers, self.rules, self.levels, self.ports = names, peers, rules, levels, ports
+        self.five, self.closed = set(five), set(closed)
 
     def text(self):
         rows = [f'centre = "{self.centre}"', f'window = {self.window}', f'limit = {self.limit}']
@@ -68,12 +70,19 @@ class Directory:
             rows += ['[[circuit]]', f'name = "{name}"', f'peer = "{peer}"', f'kept = {self.kept}']
             rows += [f'repeat = {self.repeat}'] if self.repeat > 1 else []
             rows += [f'input = {self.ports[place][0]}', f'output = {self.ports[place][1]}'] if self.ports else []
+            rows += ['digits = 5'] if place in self.five else []
+            rows += ['closed = true'] if place in self.closed else []
         for pattern, to in self.rules:
             names = ', '.join(f'"{self.names[circuit]}"' for circuit in to)
             rows += ['[[rule]]', f'heading = "{pattern}"', f'to = [{names}]']
         for letters, level in self.levels:
             rows += ['[[level]]', f'tt = "{letters}"', f'level = {level}']
         return '\n'.join(rows).encode() + b'\n'
+
+    def number(self, circuit, draws):
+        """The number of the last of so many draws, in how many digits."""
+        digits = 5 if circuit in self.five else 3
+        return draws % 10 ** digits, digits
 
     def mark(self):
         return hashlib.sha256(self.text()).digest()
@@ -153,7 +162,8 @@ class State:
 
     def frame(self, circuit, index):
         bulletin = self.bulletins[self.drawn[circuit][index - self.before[circuit]]]
-        return frame_of(KINDS[bulletin.kind], (index + 1) % 1000, bulletin.body)
+        count, digits = self.directory.number(circuit, index + 1)
+        return frame_of(KINDS[bulletin.kind], count, bulletin.body, digits)
 
     def drained(self, circuit):
         """What comes on a circuit behind an opening: its last draw once more, and all that waits."""
@@ -179,7 +189,8 @@ class State:
         lines = [f'accepted {self.accepted}']
         for circuit, name in enumerate(self.directory.names):
             draws = self.draws(circuit)
-            last = f'{draws % 1000:03}' if draws else '-'
+            count, digits = self.directory.number(circuit, draws)
+            last = f'{count:0{digits}}' if draws else '-'
             lines.append(f'circuit {circuit:02} {name} draws {draws} waiting {len(self.waiting[circuit])} last {last}')
         journal = f'journal used {used} limit {self.directory.limit}'
         return '\n'.join([*lines, *self.segments(), journal, 'end']).encode() + b'\n'
@@ -478,6 +489,70 @@ class Following:
         behind = bytes([OPEN]) + record + seal + bytes([CLOSED])
         self.files[journal.selected] = file[:gate] + behind + file[gate + len(behind):]
         journal.note(record, seal)
+
+
+# Another directory.
+
+def brought(old, new, state):
+    """What a state under the old directory comes to under a new one that takes over from it."""
+    found = State(new)
+    found.accepted = state.accepted
+    for circuit in range(len(old.names)):
+        is_kept = (circuit in old.five) == (circuit in new.five)
+        found.drawn[circuit] = state.drawn[circuit][-new.kept:] if is_kept else []
+        found.before[circuit] = state.draws(circuit) - len(found.drawn[circuit])
+        found.waiting[circuit] = sorted(state.waiting[circuit])
+    # Of what was needed under the old directory, what is needed under the new one.
+    kept = [drawn[-old.kept:] for drawn in state.drawn]
+    needed = needed_of(old, state, state.waiting, kept) & needed_of(new, state, found.waiting, found.drawn)
+    found.bulletins = {position: bulletin for position, bulletin in state.bulletins.items() if position in needed}
+    return found
+
+
+def needed_of(directory, state, waiting, kept):
+    """The positions of the last bulletins, as many as the window has, of those that wait, and of the kept draws."""
+    listed = {position for lists in (waiting, kept) for positions in lists for position in positions}
+    return listed | set(range(max(0, state.accepted - directory.window), state.accepted))
+
+
+def checkpoint_of(state):
+    """The record of a checkpoint that stands for a state."""
+    def numbers(size, *values):
+        return b''.join(value.to_bytes(size, 'big') for value in values)
+    circuits = range(len(state.directory.names))
+    text = b'C\0\0\0' + numbers(4, len(circuits)) + numbers(8, state.accepted) + numbers(4, len(state.bulletins))
+    for position, bulletin in sorted(state.bulletins.items()):
+        text += numbers(8, position) + bytes([bulletin.circuit]) + bulletin.kind + bytes(2)
+        text += numbers(4, len(bulletin.body)) + bulletin.body
+    for circuit in circuits:
+        waits, keeps = state.waiting[circuit], state.drawn[circuit]
+        text += numbers(8, state.draws(circuit)) + numbers(4, len(waits), len(keeps)) + numbers(8, *waits, *keeps)
+    return text
+
+
+class TakingOver:
+    """A journal that is taken over under another directory: what its files become, how `migrate` ends, and its line."""
+
+    def __init__(self, old, new, files):
+        self.status, self.line, self.files = 0, '', list(files)
+        try:
+            journal = Journal(old, files)
+        except Wrong as wrong:
+            self.status, self.line = 5, str(wrong)
+            return
+        state = brought(old, new, journal.state)
+        record = checkpoint_of(state)
+        need = len(record) + SEAL + DRAW_BYTES * state.due()
+        row = next((circuit for circuit in sorted(new.closed) if circuit < len(old.names) and state.waiting[circuit]), None)
+        if row is not None:
+            self.status, self.line = 3, f'directory: closed in circuit row {row}, {len(state.waiting[row])} wait'
+        elif HEADER + 2 + need > new.limit:
+            self.status, self.line = 9, f'journal: full, used {HEADER + 2} need {need} limit {new.limit}'
+        else:
+            other = 1 - journal.selected
+            seal = sealed(sealed(b'', new.header()), record)
+            self.files[other] = new.header() + bytes([OPEN]) + record + seal + bytes([CLOSED])
+            self.files[2] = bytes([other]) + files[2][1:]
 
 
 # Journals and feeds that are broken on purpose.

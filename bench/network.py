@@ -17,7 +17,7 @@ import struct
 import subprocess
 import threading
 import time
-from collections import Counter
+from collections import Counter, defaultdict
 
 from hosts import Hosts, lacking
 from loopback import EOL, HOST, messages_of
@@ -78,8 +78,13 @@ def reached(heading, code):
         found.add(here)
         named = {to for pattern, tos in rules_of(here) if fits(heading, pattern) for to in tos if to != HOME}
         # A request that has come to the centre that it is addressed to is answered there, and not accepted.
-        new += [to for to in named if not (heading.startswith(b'BMRR') and heading[7:11] == to.encode())]
+        new += [to for to in named if not is_request_to(heading, to)]
     return found
+
+
+def is_request_to(text, code):
+    """Whether a text is that of a request to a centre."""
+    return text.startswith(b'BMRR') and text[7:11] == code.encode()
 
 
 def directory_text(code, address, circuits, window):
@@ -191,6 +196,8 @@ class Stream:
         self.bytes = bytearray()
         self.ends = []
         self.count = 0
+        # Whether the taker reads no more of it, as far as that is seen.
+        self.is_over = False
 
     def whole(self):
         """Where the last whole frame ends."""
@@ -265,6 +272,8 @@ class Centre:
         self.run = self.ended = 0
         # Of each run: when it began, where its receipts are, how many there are of each word and circuit, and how far they were read.
         self.began, self.receipts, self.counts, self.read_to = {}, {}, {}, {}
+        # Of each run and circuit the receipts of its messages, in order: each a word, and a position where it tells one.
+        self.said = defaultdict(list)
         self.reading = threading.Lock()
         self.accepted, self.drawn = {}, {}
         self.faults = []
@@ -316,6 +325,8 @@ class Centre:
             self.read_to[self.run] += sum(len(line) + 1 for line in lines[:-1])
             for words in map(bytes.split, lines[:-1]):
                 self.counts[self.run][words[0].decode(), int(words[1])] += 1
+                if words[0] in (b'ACC', b'DUP', b'ASK', b'REF'):
+                    self.said[self.run, int(words[1])].append((words[0], int(words[2]) if words[0] in (b'ACC', b'DUP') else None))
                 self.note(words)
 
     def note(self, words):
@@ -324,7 +335,18 @@ class Centre:
 
     def dealt_with(self, run, circuit):
         """How many messages of a circuit have had their receipts in a run."""
-        return sum(self.counts[run][word, circuit] for word in ('ACC', 'DUP', 'ASK', 'REF'))
+        return len(self.said[run, circuit])
+
+    def texts_said(self, run, circuit):
+        """Of each of these receipts the bulletin that it was said of; none of a request's. It ends before the first of which the
+        journal hasn't told yet."""
+        receipts = self.said[run, circuit]
+        if any(position is not None and position not in self.accepted for _, position in receipts):
+            self.read_journal()
+        for _, position in receipts:
+            if position is not None and position not in self.accepted:
+                return
+            yield None if position is None else self.accepted[position][1][:-4]
 
     def total(self, word, circuits=None):
         """How many receipts have this word, over all runs, on these circuits or on all."""
@@ -523,6 +545,12 @@ class Reader(threading.Thread):
                 stream.add(piece)
 
 
+def is_said_of(said, text, code):
+    """Whether a receipt of this bulletin, or of a request where there is none, may be that of a message with a text which came to a
+    centre."""
+    return is_request_to(text, code) if said is None else said == text
+
+
 class Line:
     """One direction of a line, from one centre to the other: what came from the one and what was handed to the other, by connection."""
 
@@ -532,19 +560,48 @@ class Line:
         self.cuts = self.mid_frame_cuts = self.swallowed = self.dropped = self.half_open = 0
 
     def is_dealt_with(self):
-        """Whether each message that was handed over in the present run has its receipt."""
+        """Whether each message that was handed over in the present run has its receipt, or stood unread on a connection when the other
+        centre ended that, or went on with a later one."""
         run = self.to.run
-        handed = sum(stream.count for stream in list(self.kept) if stream.run == run)
-        return run > self.to.ended and self.to.dealt_with(run, self.circuit) == handed
+        streams = [stream for stream in list(self.kept) if stream.run == run]
+        dealt, handed = self.to.dealt_with(run, self.circuit), sum(stream.count for stream in streams)
+        if run <= self.to.ended or dealt >= handed:
+            return run > self.to.ended and dealt == handed
+        found = self.found(run, streams)
+        last = max((place for place, heard in enumerate(found) if heard), default=0)
+        return sum(map(len, found)) == dealt and all(
+            len(heard) == stream.count or stream.is_over or place < last for place, (heard, stream) in enumerate(zip(found, streams)))
+
+    def found(self, run, streams):
+        """Of each of these connections, which are all of a run, the messages that have their receipts: each receipt is that of the
+        first message behind the one before which has its text. So what stood unread on a connection when the other centre gave that
+        up, or was killed, is left out, whatever came behind it."""
+        every = [(place, message) for place, stream in enumerate(streams) for message in stream.messages()]
+        texts = [text_of(message)[0] for _, message in every]
+        found, at = [[] for _ in streams], 0
+        for said in self.to.texts_said(run, self.circuit):
+            behind = next((behind for behind in range(at, len(every)) if is_said_of(said, texts[behind], self.to.code)), None)
+            if behind is not None:
+                found[every[behind][0]].append(every[behind][1])
+                at = behind + 1
+        return found
+
+    def left_unread(self):
+        """How many messages were handed over, and have no receipt, though one behind them in the same run has."""
+        count = 0
+        for run in self.to.counts:
+            streams = [stream for stream in list(self.kept) if stream.run == run]
+            found = self.found(run, streams)
+            last = max((place for place, heard in enumerate(found) if heard), default=0)
+            count += sum(stream.count - len(heard) for stream, heard in zip(streams[:last], found))
+        return count
 
     def heard(self):
-        """The connections with the messages that the other centre has dealt with: where it was killed, those behind its last
-        receipt are left out, whoever read them."""
-        left = {run: self.to.dealt_with(run, self.circuit) for run in self.to.counts}
-        for stream in list(self.kept):
-            messages = stream.messages()[:left[stream.run]]
-            left[stream.run] -= len(messages)
-            yield messages
+        """The connections with the messages that the other centre has dealt with."""
+        streams = list(self.kept)
+        found = {run: iter(self.found(run, [stream for stream in streams if stream.run == run])) for run in self.to.counts}
+        for stream in streams:
+            yield next(found[stream.run])
 
 
 class Cable:
@@ -668,8 +725,8 @@ class Tap(Line, threading.Thread):
                 self.begins(to, moment)
             elif flags & self.CONFIRM and to in self.connections:
                 self.connections[to].confirms(confirmed)
-            if flags & (self.FINISH | self.RESET):
-                self.connections.pop(to, None)
+            if flags & (self.FINISH | self.RESET) and to in self.connections:
+                self.connections.pop(to).kept.is_over = True
 
     def begins(self, caller, moment):
         """The taker's host lets in a caller."""
@@ -680,8 +737,9 @@ class Tap(Line, threading.Thread):
         self.connections[caller] = self.last
         self.came.append(self.last.came)
         self.kept.append(self.last.kept)
-        if before and before.was_pulled and (before.kept.run, before.givers_run) == (self.last.kept.run, self.last.givers_run):
-            self.half_open += 1
+        if before and before.was_pulled:
+            before.kept.is_over = True
+            self.half_open += (before.kept.run, before.givers_run) == (self.last.kept.run, self.last.givers_run)
 
     def missed(self):
         """How many packets it couldn't look at."""
@@ -761,7 +819,10 @@ class Relay(Line, Caller):
         cuts = self.cuts
         while not self.over and self.cuts == cuts:
             ready = select.select([giver, taker], [], [], POLL)[0]
-            if taker in ready or self.is_due():
+            if taker in ready:
+                self.kept[-1].is_over = True
+                return
+            if self.is_due():
                 return
             if giver in ready:
                 piece = giver.recv(PIECE)

@@ -1,6 +1,7 @@
 """Gives the built program a journal that was cut or changed by one byte, at each of its places, and a capture that was cut at
 each place, and compares what `show` and `replay` answer with a plain reading of docs/FORMATS.md: the fault and its place, or
-the report and the frames of the front that is left.
+the report and the frames of the front that is left. So with `migrate`: what it answers to such a journal, and what each byte of the
+files is behind it, under directories that take over from the journal's; and of what it writes each front and each byte changed.
 
     --break byte    once the program is given another journal than the one that is read"""
 import tempfile
@@ -8,11 +9,19 @@ from concurrent.futures import ThreadPoolExecutor
 
 import pytest
 from gate import IN_MEMORY, SIDE_BY_SIDE, Folder
-from journal import EOL, Directory, Journal, Wrong, frame_of, places_of, resealed
+from journal import EOL, Directory, Journal, TakingOver, Wrong, frame_of, places_of, resealed
 
 DIRECTORY = Directory('TVSV', window=3, limit=600, names=['ALPHA', 'B', 'C'], peers=['AAAA', 'BBBB', 'CCCC'],
                       rules=[('S***** ****', [1, 2]), ('W***** ****', [1])], levels=[('W*', 1)])
 CIRCUITS = range(len(DIRECTORY.names))
+# What `migrate` is tried with: rules, levels and kept draws that are fewer, and a circuit more; other digits and a greater window; a
+# circuit that is closed, on which something may wait; and a limit under which there is no room for all.
+FEWER = Directory('TVSV', window=2, limit=900, names=['ALPHA', 'B', 'C', 'D'], peers=['AAAA', 'BBBB', 'CCCC', 'DDDD'],
+                  rules=[('S***** ****', [1, 3])], kept=1)
+DIGITS = Directory('TVSV', window=9, limit=900, names=DIRECTORY.names, peers=DIRECTORY.peers, rules=DIRECTORY.rules, five=[1])
+CLOSED = Directory('TVSV', window=3, limit=900, names=DIRECTORY.names, peers=DIRECTORY.peers, rules=[('S***** ****', [1])], closed=[2])
+NO_ROOM = Directory('TVSV', window=3, limit=240, names=DIRECTORY.names, peers=DIRECTORY.peers, rules=DIRECTORY.rules)
+TAKING_OVER = {'fewer': FEWER, 'digits': DIGITS, 'closed': CLOSED, 'no room': NO_ROOM}
 # Each byte is changed by these: all its bits, and its lowest one; what may be a gate to an open one and to none; and a byte of
 # a record, with the seals made anew, to some more.
 CHANGES = [lambda byte: byte ^ 0xFF, lambda byte: byte ^ 1]
@@ -39,8 +48,33 @@ class Runs(Folder):
     def all_frames(self):
         return [self.frames(circuit) for circuit in CIRCUITS]
 
+    def migrates(self, what, files):
+        """What `migrate` answers to these files, and what they are behind it; under each directory where the journal opens."""
+        opens = TakingOver(DIRECTORY, FEWER, files).status == 0
+        self.write('directory.old.toml', DIRECTORY.text())
+        for name in TAKING_OVER if opens else ['fewer']:
+            want = TakingOver(DIRECTORY, TAKING_OVER[name], files)
+            self.lay(files)
+            self.write('directory.toml', TAKING_OVER[name].text())
+            self.wants(f'{what}, migrate, {name}', self.run('migrate'), (want.status, b'', want.line))
+            self.wants(f'{what}, the files behind a migrate, {name}', self.journal(), want.files)
+            if want.status == 0:
+                report = Journal(TAKING_OVER[name], want.files).report()
+                self.wants(f'{what}, show behind a migrate, {name}', self.run('show'), (0, report, ''))
+        self.write('directory.toml', DIRECTORY.text())
+
+    def shows(self, what, directory, files):
+        """What `show` answers to these files under a directory."""
+        self.write('directory.toml', directory.text())
+        self.lay(files)
+        try:
+            self.wants(f'{what}, show', self.run('show'), (0, Journal(directory, files).report(), ''))
+        except Wrong as wrong:
+            self.wants(f'{what}, show', self.run('show'), (5, b'', str(wrong)))
+
     def compare(self, what, files):
-        """What both commands answer to these files."""
+        """What the commands answer to these files."""
+        self.migrates(what, files)
         self.lay(files)
         try:
             journal = Journal(DIRECTORY, files)
@@ -101,6 +135,20 @@ def broken_journals(journal):
         yield f'selector {selector.hex()} and file 1', [b'X', journal, selector]
 
 
+def taken_over_journals(journal):
+    """Names, directories and files: what a `migrate` was stopped in, each front of its new file beside the old one, under the old
+    directory; and each byte of the new file changed, where that is selected, under the new directory."""
+    files = [journal, b'', b'']
+    new = TakingOver(DIRECTORY, FEWER, files).files[1]
+    for length in range(len(new) + 1):
+        yield f'a migrate stopped at byte {length}', DIRECTORY, [journal, new[:length], b'']
+        yield f'the first {length} bytes of what a migrate wrote', FEWER, [journal, new[:length], b'\x01']
+    for place, byte in enumerate(new):
+        for other in sorted({change(byte) for change in CHANGES} - {byte}):
+            changed = new[:place] + bytes([other]) + new[place + 1:]
+            yield f'byte {place} of what a migrate wrote changed to {other:02x}', FEWER, [journal, changed, b'\x01']
+
+
 def whole_run(runs):
     """An empty journal, the journal behind the whole capture, and the receipts of that."""
     runs.wants('init', runs.run('init'), (0, b'', ''))
@@ -119,6 +167,9 @@ def share(runs, number, each, empty, journal, receipts):
     runs.write('capture.gts', b'D 00\nD 01\nD 02\nE\n')
     for what, files in [*broken_journals(journal), *falsified_journals(journal)][number::SIDE_BY_SIDE * each]:
         runs.compare(what, files)
+    for what, directory, files in [*taken_over_journals(journal)][number::SIDE_BY_SIDE * each]:
+        runs.shows(what, directory, files)
+        runs.migrates(what, files)
 
 
 @pytest.fixture

@@ -1,6 +1,6 @@
 """Runs the built program with one allocation refused, each of a run in turn: `init`, a replay, a replay with repetitions,
-`compact` and `serve`. Each time the program ends as if nothing had been refused, or tells of it; and then the journal opens, what is
-left is done, and each number has one text. It needs gcc for the library that refuses.
+`compact`, `migrate` and `serve`. Each time the program ends as if nothing had been refused, or tells of it; and then the journal
+opens, what is left is done, and each number has one text. It needs gcc for the library that refuses.
 
     --break refused    the library refuses nothing"""
 import os
@@ -172,6 +172,36 @@ class Compaction(Case):
         folder.keeps()
 
 
+class Migration(Case):
+    """A journal in which one bulletin was drawn and one waits is taken over under a directory with a circuit more and a smaller
+    window, whose rule no longer names the circuit on which it waits. Where `migrate` has told of want of memory, the journal is as
+    it was, and the next one takes it over."""
+    name, words = 'migrate', ['migrate']
+    bulletins = [FIRST, SECOND]
+    capture = b'D 01\nE\n'
+    new = directory(['A', 'B', 'C'], ['C'], [4001, 4002, 4003, 4004, 4005, 4006]).replace('centre', 'window = 10\ncentre', 1)
+
+    def prepare(self, folder):
+        folder.run('init')
+        folder.run('replay', capture=feed(0, FIRST) + b'T 01\n' + feed(0, SECOND) + b'E\n')
+        folder.keeps()
+        folder.write('directory.old.toml', self.text.encode())
+        folder.write('directory.toml', self.new.encode())
+
+    def refused(self, folder, number, counts=None):
+        folder.status, line = super().refused(folder, number, counts)
+        return folder.status, line
+
+    def rest(self, folder):
+        faults = []
+        if folder.status == NO_MEMORY and any(folder.read(name) != text for name, text in folder.laid.items()):
+            faults.append('the journal is not as it was')
+        if not faults and folder.run('show')[0] != 0:
+            status, _, line = folder.run('migrate')
+            faults = [f'then migrate: {line.decode().strip()}'] if status != 0 else []
+        return faults + super().rest(folder)
+
+
 class Init(Case):
     name, words = 'init', ['init']
     bulletins = [FIRST]
@@ -313,7 +343,7 @@ def library(tmp_path_factory, broken):
     return made
 
 
-@pytest.mark.parametrize('kind', [Init, Replay, Repetition, Compaction, Serve], ids=lambda kind: kind.name.replace(' ', '_'))
+@pytest.mark.parametrize('kind', [Init, Replay, Repetition, Compaction, Migration, Serve], ids=lambda kind: kind.name.replace(' ', '_'))
 def test_each_allocation_of_a_run_is_refused(kind, program, library):
     with tempfile.TemporaryDirectory(dir=IN_MEMORY) as top:
         count, exits, faults = tried(kind(), program, top, library)

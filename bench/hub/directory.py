@@ -18,10 +18,22 @@ LEVELS = [('WE', TSUNAMI_LEVEL), ('W*', 2), ('I*', 4), ('H*', 4)]
 BY_COUNTRY, BY_KIND, BY_WARNING = 6, 5, 20
 # Every so many circuits has numbers of three digits; the others have five.
 SHORT_NUMBERS = 4
-# What a number of so many digits comes round at, and how many draws are kept.
+# What a number of so many digits comes round at.
 ROUND = {3: 1_000, 5: 100_000}
-KEPT = {3: 500, 5: 1_000}
-LIMIT = 1 << 30
+
+
+class Size:
+    """How much a hub remembers: the bytes of its journal, among how many bulletins it looks for duplicates, and how many draws it keeps
+    on a circuit with numbers of so many digits."""
+
+    def __init__(self, limit, window, kept):
+        self.limit, self.window, self.kept = limit, window, kept
+
+
+# For a run in which nobody is away for long: all of it is read and written at each start.
+SMALL = Size(1 << 25, 1_000, {3: 200, 5: 250})
+LARGE = Size(1 << 27, 2_000, {3: 500, 5: 1_000})
+LARGEST_LIMIT = 1 << 30
 
 
 def country(circuit):
@@ -70,11 +82,11 @@ def rules_of(seed, circuits):
 class HubDirectory(Directory):
     """A directory whose circuits have addresses and numbers of their own."""
 
-    def __init__(self, rules, window, net, ports, limit=LIMIT, repeat=1, closed=()):
+    def __init__(self, rules, size, net, ports, repeat=1, closed=()):
         count = len(ports)
-        super().__init__(CENTRE, window, limit, [f'C{place:02}' for place in range(count)],
-                         [peer(place) for place in range(count)], rules, LEVELS, ports=ports)
-        self.net, self.repeat, self.closed = net, repeat, set(closed)
+        super().__init__(CENTRE, size.window, size.limit, [f'C{place:02}' for place in range(count)],
+                         [peer(place) for place in range(count)], rules, LEVELS, ports=ports, closed=closed)
+        self.size, self.net, self.repeat = size, net, repeat
         self.fits = [re.compile(pattern.replace('*', '.').encode()).fullmatch for pattern, _ in rules]
         self.found = {}
 
@@ -82,7 +94,7 @@ class HubDirectory(Directory):
         return 3 if circuit % SHORT_NUMBERS == SHORT_NUMBERS - 1 else 5
 
     def kept_of(self, circuit):
-        return KEPT[self.digits(circuit)]
+        return self.size.kept[self.digits(circuit)]
 
     def host(self, circuit):
         return self.net[circuit + 1]
@@ -90,8 +102,7 @@ class HubDirectory(Directory):
     def row(self, circuit):
         rows = ['[[circuit]]', f'name = "{self.names[circuit]}"', f'peer = "{self.peers[circuit]}"']
         rows += [f'digits = {self.digits(circuit)}', f'kept = {self.kept_of(circuit)}']
-        if circuit in self.closed:
-            return [*rows, 'closed = true']
+        rows += ['closed = true'] if circuit in self.closed else []
         rows += [f'repeat = {self.repeat}'] if self.repeat > 1 else []
         rows += [f'input = {self.ports[circuit][0]}', f'output = {self.ports[circuit][1]}']
         return [*rows, f'host = "{self.host(circuit)}"']
@@ -108,8 +119,7 @@ class HubDirectory(Directory):
 
     def with_rules(self, rules, ports=None, closed=None):
         """The same hub under other rules, with a circuit for each pair of these ports, and these circuits closed."""
-        return HubDirectory(rules, self.window, self.net, ports or self.ports, self.limit, self.repeat,
-                            self.closed if closed is None else closed)
+        return HubDirectory(rules, self.size, self.net, ports or self.ports, self.repeat, self.closed if closed is None else closed)
 
     def goes_to(self, circuit, heading):
         """The circuits that a bulletin goes to which came in on this one. What its front fits is looked up once, rule by rule."""

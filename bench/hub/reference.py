@@ -1,7 +1,7 @@
 """What must come of what a hub is sent, told by dicts: each receipt, and each frame on each circuit. It reads the rules of the
 directory one by one and knows nothing of how the switch works. `Lost` is raised at the first thing that isn't as it must be."""
 import heapq
-from collections import Counter, deque
+from collections import Counter, defaultdict, deque
 
 from hub.directory import ROUND
 from hub.traffic import BULLETIN, NOISE, REFUSED, REQUEST
@@ -89,7 +89,7 @@ class Ledger:
         return True
 
     def came_again(self, index, bulletin):
-        if self.recent[index] is not bulletin:
+        if self.recent[index].body != bulletin.body:
             self.lost(f'{self.number_of(index)} came with two texts')
         if self.first is None and self.may_come[index] == 0:
             self.lost(f'{self.number_of(index)} came twice, and nobody asked for it')
@@ -144,7 +144,7 @@ class Reference:
         self.accepted = 0
         # The last bulletins that were accepted, as many as the window has, by their bodies; and those that may still come.
         self.window, self.order = {}, deque()
-        self.fronts, self.bulletins = {}, deque()
+        self.fronts, self.bulletins = defaultdict(list), deque()
         self.sent = [deque() for _ in directory.names]
         self.ledgers = [self.ledger(circuit) for circuit in range(len(directory.names))]
         self.counts = Counter()
@@ -172,7 +172,7 @@ class Reference:
             old = self.order.popleft()
             if self.window[old] == self.accepted - self.directory.window:
                 del self.window[old]
-        self.fronts[message.body[:FRONT]] = bulletin
+        self.fronts[message.body[:FRONT]].append(bulletin)
         self.bulletins.append(bulletin)
         for to in named:
             self.ledgers[to].routed.append(bulletin)
@@ -183,7 +183,10 @@ class Reference:
 
     def forget(self):
         while self.bulletins and not self.bulletins[0].left and self.bulletins[0].position < self.accepted - REMEMBERED:
-            self.fronts.pop(self.bulletins.popleft().body[:FRONT], None)
+            old = self.bulletins.popleft()
+            self.fronts[old.body[:FRONT]].remove(old)
+            if not self.fronts[old.body[:FRONT]]:
+                del self.fronts[old.body[:FRONT]]
 
     def wanted_receipt(self, circuit, message):
         """The receipt that this message has to get now; where it is a bulletin that is new, it is accepted."""
@@ -221,13 +224,19 @@ class Reference:
 
     # Frames.
 
+    def bulletin_of(self, circuit, body):
+        """The first bulletin with this body that has still to come on a circuit, or else the last one. One that fell out of the window
+        may have been accepted again."""
+        found = [bulletin for bulletin in self.fronts.get(body[:FRONT], ()) if bulletin.body == body]
+        return next((bulletin for bulletin in found if circuit in bulletin.left), found[-1] if found else None)
+
     def frame(self, circuit, letters, message):
         """A frame that came on a circuit. Gives the bulletin where it is new there."""
         ledger = self.ledgers[circuit]
         digits = message[4:4 + ledger.digits]
         body = message[4 + ledger.digits + len(EOL):]
-        bulletin = self.fronts.get(body[:FRONT])
-        if bulletin is None or bulletin.body != body or bulletin.letters != letters:
+        bulletin = self.bulletin_of(circuit, body)
+        if bulletin is None or bulletin.letters != letters:
             ledger.lost(f'a frame of something else than was accepted: {message[:80]!r}')
         if not digits.isdigit() or message[:4] != b'\x01' + EOL or message[4 + ledger.digits:7 + ledger.digits] != EOL:
             ledger.lost(f'a frame begins with {message[:16]!r}')

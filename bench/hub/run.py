@@ -102,7 +102,8 @@ class Run:
         while not holds():
             self.looks()
             self.asks_for_holes()
-            if self.station.process.poll() is not None:
+            # It may be the end that is waited for.
+            if self.station.process.poll() is not None and not holds():
                 raise Lost(f'the switch ended with {self.station.process.returncode}: {self.station.says()!r}')
             if self.lines.moved != moved:
                 moved, since = self.lines.moved, time.monotonic()
@@ -189,13 +190,16 @@ class Run:
         bulletin at most that it had no time to acknowledge."""
         self.lines.drains()
         self.judges()
-        accepted, rows = self.station.report()
-        if accepted == self.reference.accepted + IN_DOUBT:
-            self.reference.is_unsaid(*self.station.last_accepted())
+        bulletins, draws = self.station.reads()
+        accepted = max(bulletins, default=-1) + 1
+        if 0 < accepted - self.reference.accepted <= IN_DOUBT:
+            for position in range(self.reference.accepted, accepted):
+                self.reference.is_unsaid(*bulletins[position])
         if accepted != self.reference.accepted:
             raise Lost(f'{accepted} are accepted behind an end, and {self.reference.accepted} were acknowledged')
         self.lines.hangs_up()
-        for ledger, (draws, _) in zip(self.reference.ledgers, rows):
-            if draws < ledger.top:
-                ledger.lost(f'behind an end it has {draws} draws, and {ledger.number_of(ledger.top - 1)} has come')
-            ledger.opened(draws, self.reference.accepted)
+        for circuit, ledger in enumerate(self.reference.ledgers):
+            had = draws.get(circuit, 0)
+            if had < ledger.top:
+                ledger.lost(f'behind an end it has {had} draws, and {ledger.number_of(ledger.top - 1)} has come')
+            ledger.opened(had, self.reference.accepted)

@@ -5,10 +5,8 @@ import resource
 import shutil
 import signal
 import subprocess
-import tempfile
 import time
 
-from gate import Folder
 from hub.reference import Lost
 from network import Standby, accepted_and_drawn
 
@@ -24,26 +22,17 @@ def serves_always(program):
     return b'serve always' in subprocess.run([program, '--help'], capture_output=True, timeout=SECONDS).stdout
 
 
-def is_run_by(pid, program):
-    """Whether a process runs this program."""
-    try:
-        return os.path.samefile(f'/proc/{pid}/exe', program)
-    except (FileNotFoundError, PermissionError):
-        return False
-
-
 class Station:
-    """The built switch of a hub. `is_always` is whether it knows a service without an end."""
+    """The built switch of a hub. `is_always` is whether it knows a service without an end; `power`, where there is one, counts its
+    syncs, and makes a kill a loss of power."""
 
-    def __init__(self, program, folder, directory, counts_syncs=False):
-        self.program, self.top, self.folder, self.counts_syncs = program, folder, os.path.join(folder, 'station'), counts_syncs
-        self.process, self.pid = None, None
+    def __init__(self, program, folder, directory, power=None):
+        self.program, self.top, self.folder, self.power = program, folder, os.path.join(folder, 'station'), power
+        self.process = None
         self.run, self.read_to = 0, 0
-        self.selected, self.syncs, self.compactions = 0, 0, 0
+        self.selected, self.compactions, self.taken_back = 0, 0, 0
         # How long a command may take.
         self.seconds = SECONDS
-        # Where a sync is counted, and how far that was read.
-        self.trace, self.traced = None, 0
         self.standby = None
         self.is_always = serves_always(program)
         os.makedirs(self.folder)
@@ -77,46 +66,29 @@ class Station:
         took = time.monotonic() - begun
         self.run, self.read_to = self.run + 1, 0
         words = [self.program, 'serve', 'always' if self.is_always else str(CONNECTIONS)]
-        if self.counts_syncs:
-            self.trace, self.traced = os.path.join(self.top, f'syncs.{self.run}'), 0
-            words = ['strace', '-f', '-qq', '--seccomp-bpf', '-e', 'trace=fsync,fdatasync', '-o', self.trace, *words]
+        settings = self.power.settings() if self.power else None
         with open(self.receipts_path(), 'wb') as out, open(self.receipts_path() + '.faults', 'wb') as err:
             # So a write over the limit of a file fails, and is no signal.
-            self.process = subprocess.Popen(words, cwd=self.folder, stdin=subprocess.DEVNULL, stdout=out, stderr=err,
+            self.process = subprocess.Popen(words, cwd=self.folder, stdin=subprocess.DEVNULL, stdout=out, stderr=err, env=settings,
                                             restore_signals=False)
-        self.pid = self.pid_of_program()
         self.selected = self.selects()
         return took
-
-    def pid_of_program(self):
-        """The process of the switch, which may be a child of the one that was started."""
-        if not self.counts_syncs:
-            return self.process.pid
-        until = time.monotonic() + SECONDS
-        while time.monotonic() < until:
-            with open(f'/proc/{self.process.pid}/task/{self.process.pid}/children') as file:
-                for pid in file.read().split():
-                    if is_run_by(pid, self.program):
-                        return int(pid)
-            time.sleep(0.001)
-        raise Lost('the switch was not started')
 
     def receipts_path(self):
         return os.path.join(self.top, f'receipts.{self.run}')
 
     def ends(self, number):
-        """Ends the switch by a signal; it must have run until then."""
+        """Ends the switch by a signal; it must have run until then. A kill is a loss of power: what wasn't synced is gone."""
         self.wants(f'it runs until it is ended; it said {self.says()!r}', self.process.poll(), None)
-        os.kill(self.pid, number)
+        self.process.send_signal(number)
         self.process.wait(SECONDS)
+        if self.power and number == signal.SIGKILL:
+            self.taken_back += self.power.takes_back(self.folder)
 
     def stop(self):
         """Ends the process, and no other."""
         if self.process is not None and self.process.poll() is None:
-            try:
-                os.kill(self.pid or self.process.pid, signal.SIGKILL)
-            except ProcessLookupError:
-                pass
+            self.process.kill()
             self.process.wait()
 
     def says(self):
@@ -126,7 +98,7 @@ class Station:
     def fills_the_disk(self):
         """From now on there is room for few bytes more."""
         limit = os.path.getsize(self.path(f'journal.{self.selects()}')) + ROOM
-        resource.prlimit(self.pid, resource.RLIMIT_FSIZE, (limit, limit))
+        resource.prlimit(self.process.pid, resource.RLIMIT_FSIZE, (limit, limit))
 
     # What it says.
 
@@ -149,11 +121,14 @@ class Station:
         rows = re.findall(r'^circuit \d\d \S+ draws (\d+) waiting (\d+) ', out.decode(), re.M)
         return int(re.search(rb'^accepted (\d+)$', out, re.M)[1]), [(int(draws), int(waiting)) for draws, waiting in rows]
 
-    def last_accepted(self):
-        """The circuit and the body of the last bulletin that the journal has."""
-        accepted, _ = accepted_and_drawn(self.folder)
-        circuit, body = accepted[max(accepted)]
-        return circuit, bytes(body)
+    def reads(self):
+        """What the journal of the stopped switch says, by a plain reading: the circuit and the body of each bulletin that it has, by
+        its position, and how many draws each circuit had that has one. So it costs less than `show`."""
+        accepted, drawn = accepted_and_drawn(self.folder)
+        draws = {}
+        for circuit, index in drawn:
+            draws[circuit] = max(index + 1, draws.get(circuit, 0))
+        return accepted, draws
 
     # The directory, and the standby.
 
@@ -162,15 +137,6 @@ class Station:
         self.writes(directory)
         self.wants('migrate', self.call('migrate'), (0, b'', ''))
         self.standby = None
-
-    def takes_over_from(self, old, new):
-        """Whether the program's `migrate` takes a journal over from one directory to another; tried over an empty journal."""
-        with tempfile.TemporaryDirectory(dir=self.top) as at:
-            tried = Folder(self.program, at, old.text())
-            self.wants('init', tried.run('init'), (0, b'', ''))
-            os.replace(tried.path('directory.toml'), tried.path('directory.old.toml'))
-            tried.write('directory.toml', new.text())
-            return tried.run('migrate')[0] == 0
 
     def follows(self):
         """The standby follows, beside the running switch or behind its end. Under a new directory it begins anew."""
@@ -210,17 +176,11 @@ class Station:
     def memory(self):
         """How many kibibytes of memory it has in use now."""
         try:
-            with open(f'/proc/{self.pid}/status') as file:
+            with open(f'/proc/{self.process.pid}/status') as file:
                 return next((int(line.split()[1]) for line in file if line.startswith('VmRSS:')), 0)
         except (FileNotFoundError, ProcessLookupError):
             return 0
 
     def all_syncs(self):
         """How many syncs there were, where they are counted."""
-        if self.trace is not None and os.path.exists(self.trace):
-            with open(self.trace, 'rb') as file:
-                file.seek(self.traced)
-                piece = file.read()
-            self.traced += len(piece)
-            self.syncs += piece.count(b'sync(')
-        return self.syncs
+        return self.power.syncs() if self.power else 0

@@ -39,14 +39,14 @@ use Rattle.gts_app.proofs.RefusalLemmas.{same_directory, no_fault}
 use Rattle.gts_app.proofs.StreamLemmas.{Ended, ended}
 
 -- nothing of a source was read
-none_taken : {S : Type 0} (source : SourceMeanings S) (at : S) → ReadsFew source at at
+pub none_taken : {S : Type 0} (source : SourceMeanings S) (at : S) → ReadsFew source at at
 none_taken source at tells = ([], refl, omega arith)
 
 -- the ends that reading the old directory has
-abbrev OldEnded : Status → Type 0
+abbrev pub OldEnded : Status → Type 0
 OldEnded status = ((e : DirFault) × (status ≡ OldDirectory e)) ⊎ ((status ≡ SourceFault) ⊎ (status ≡ NoMemory))
 
-old_ended : (status : Status) → IsOldReadEnd status → OldEnded status
+pub old_ended : (status : Status) → IsOldReadEnd status → OldEnded status
 old_ended (OldDirectory e) h = inl (e, refl)
 old_ended SourceFault h = inr (inl refl)
 old_ended NoMemory h = inr (inr refl)
@@ -109,6 +109,9 @@ new_unread {S} {P} w source station status od nd oc at h =
 
 -- ---- the old directory was not read
 
+pub one_fault : (a b : DirFault) (r : Result directories.Directory DirFault) → r ≡ Err a → r ≡ Err b → a ≡ b
+one_fault a b r one other = cc
+
 pub old_unread : {S P : Type 0} (w : Waiting) (source : SourceMeanings S) (station : StationMeanings P) (status : Status) (d : directories.Directory) (od nd oc nc : S) (at : P)
     → ReadsDirectory source (Ok d) od nd → ReadsOldDirectory source (Err status) oc nc → Migrates w source station status (world od oc at) (world nd nc at)
 old_unread {S} {P} w source station status d od nd oc nc at first h =
@@ -143,9 +146,6 @@ old_unread {S} {P} w source station status d od nd oc nc at first h =
     only_memory tells old read calm (inr (inl e)) = absurd (calm (h.cause.failed (ap (λ (s : Status). Err s) e)))
     only_memory tells old read calm (inr (inr e)) = e
 
-    one_fault : (a b : DirFault) (r : Result directories.Directory DirFault) → r ≡ Err a → r ≡ Err b → a ≡ b
-    one_fault a b r one other = cc
-
     refused : source.tells → (e : DirFault) → directory_of_bytes (source.left oc) ≡ Err e → (Rose (source.faults oc) (source.faults nc) → ⊥) → OldEnded status
         → (status ≡ OldDirectory e) ⊎ (status ≡ NoMemory)
     refused tells e bad calm (inl x) =
@@ -155,23 +155,23 @@ old_unread {S} {P} w source station status d od nd oc nc at first h =
 
 -- ---- both were read
 
-one_change : (a b : Change) (r : Option Change) → r ≡ Some a → r ≡ Some b → a ≡ b
+pub one_change : (a b : Change) (r : Option Change) → r ≡ Some a → r ≡ Some b → a ≡ b
 one_change a b r one other = cc
 
 module _ {S P : Type 0} (source : SourceMeanings S) (station : StationMeanings P) (d o : directories.Directory) (od nd oc nc : S) (first : ReadsDirectory source (Ok d) od nd) (second : ReadsOldDirectory source (Ok o) oc nc) where
   both : source.tells → (directory_of_bytes (source.left od) ≡ Ok d) × (directory_of_bytes (source.left oc) ≡ Ok o)
   both tells = (first.read tells d refl, second.read tells o refl)
 
-  new_is : source.tells → (new : directories.Directory) → directory_of_bytes (source.left od) ≡ Ok new → d ≡ new
+  pub new_is : source.tells → (new : directories.Directory) → directory_of_bytes (source.left od) ≡ Ok new → d ≡ new
   new_is tells new read = same_directory d new (directory_of_bytes (source.left od)) (both tells).0 read
 
-  old_is : source.tells → (old : directories.Directory) → directory_of_bytes (source.left oc) ≡ Ok old → o ≡ old
+  pub old_is : source.tells → (old : directories.Directory) → directory_of_bytes (source.left oc) ≡ Ok old → o ≡ old
   old_is tells old read = same_directory o old (directory_of_bytes (source.left oc)) (both tells).1 read
 
-  never_unread : source.tells → (e : DirFault) → directory_of_bytes (source.left od) ≡ Err e → ⊥
+  pub never_unread : source.tells → (e : DirFault) → directory_of_bytes (source.left od) ≡ Err e → ⊥
   never_unread tells e bad = no_fault d e (directory_of_bytes (source.left od)) (both tells).0 bad
 
-  never_refused : source.tells → (e : DirFault) → directory_of_bytes (source.left oc) ≡ Err e → ⊥
+  pub never_refused : source.tells → (e : DirFault) → directory_of_bytes (source.left oc) ≡ Err e → ⊥
   never_refused tells e bad = no_fault o e (directory_of_bytes (source.left oc)) (both tells).1 bad
 
   -- a row doesn't stay
@@ -216,13 +216,13 @@ files_of d files n e = go (files_open_any d files) refl e
     go (Ok x) is e = (x.0, x.1, is)
     go (Err f) is e = absurd (let none : Err f ≡ Ok n = e in cc none)
 
-need_of : (d : directories.Directory) (files : Files) (s : State) (used : ℕ) → files_open_any d files ≡ Ok (s, used) → opens_any d files ≡ Ok (need d (restarted d s))
+pub need_of : (d : directories.Directory) (files : Files) (s : State) (used : ℕ) → files_open_any d files ≡ Ok (s, used) → opens_any d files ≡ Ok (need d (restarted d s))
 need_of d files s used e = ap (need_opened d) e
 
-two_answers : (n : Need) (e : OpenFault) (opened : Result Need OpenFault) → opened ≡ Ok n → opened ≡ Err e → ⊥
+pub two_answers : (n : Need) (e : OpenFault) (opened : Result Need OpenFault) → opened ≡ Ok n → opened ≡ Err e → ⊥
 two_answers n e opened one other = cc
 
-one_open : (a b : OpenFault) (opened : Result Need OpenFault) → opened ≡ Err a → opened ≡ Err b → a ≡ b
+pub one_open : (a b : OpenFault) (opened : Result Need OpenFault) → opened ≡ Err a → opened ≡ Err b → a ≡ b
 one_open a b opened one other = cc
 
 two_found : (x : ℕ × ℕ) (r : Option (ℕ × ℕ)) → r ≡ Some x → r ≡ None → ⊥

@@ -15,6 +15,7 @@ use Rattle.gts_app.specs.Gaps.{NamesGaps}
 use Rattle.gts_app.specs.Unpack.{Unpacks}
 use Rattle.gts_app.specs.Compact.{Compacts}
 use Rattle.gts_app.specs.Migrate.{Migrates}
+use Rattle.gts_app.specs.Trying.{TriesMigration}
 use Rattle.gts_migrate.specs.declared.waiting.Waiting.TheVariants.{Refused, Dropped}
 use Rattle.gts_app.specs.Follow.{FollowsFeed}
 use Rattle.gts_app.specs.Replay.{World}
@@ -37,7 +38,7 @@ IsBuilt Compact = Unit {0}
 IsBuilt (Generate count) = Unit {0}
 IsBuilt Migrate = Unit {0}
 IsBuilt MigrateDrop = Unit {0}
-IsBuilt MigrateCheck = ⊥
+IsBuilt MigrateCheck = Unit {0}
 IsBuilt (Unpack c) = Unit {0}
 IsBuilt Pack = Unit {0}
 IsBuilt (Gaps day hour minute) = Unit {0}
@@ -75,6 +76,7 @@ ReadsApart source station command status old new =
     × (command ≡ Some Pack → PacksStream source station status old new)
     × (command ≡ Some Migrate → Migrates Refused source station status old new)
     × (command ≡ Some MigrateDrop → Migrates Dropped source station status old new)
+    × (command ≡ Some MigrateCheck → TriesMigration source station status old new)
     × (command ≡ Some Follow → FollowsFeed source station status old new)
     × ((day hour minute : ℕ) → command ≡ Some (Gaps day hour minute)
     → NamesGaps source station (moment_at day hour minute) status old new)

@@ -1,5 +1,5 @@
 -- What is known behind a takeover is what is recent under the new directory.
-use Rattle.std.proofs.Common.{◌≡◌, ℕ, Bool, true, false, cond, ◌||◌, List, [], ◌∷◌, filter, refl, sym, ap, ◌∙◌}
+use Rattle.std.proofs.Common.{◌≡◌, Bool, true, false, cond, ◌||◌, List, [], ◌∷◌, filter, refl, sym, ap, ◌∙◌}
 use Rattle.gts_directory.specs.Directory.{Directory}
 use Rattle.gts_event.specs.State.{State, Bulletin, is_recent, recent_among}
 use Rattle.gts_event.specs.Need.{Need, is_needed, circuit_needs}

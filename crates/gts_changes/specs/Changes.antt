@@ -114,10 +114,13 @@ both_rule_lines new old = rule_lines (codes "out") old new.rules ++ rule_lines (
 abbrev pub behind : Directory → Directory → Need → Need
 behind new old n = need new (goes_on new old n)
 
--- What changes where a journal of this need is taken over: the rules that go and those that come, each circuit, how many bulletins
--- are forgotten whose duplicates were known, what refuses it, and the end.
-abbrev pub changes : Directory → Directory → Need → List ℕ
-changes new old n =
-    both_rule_lines new old ++ all_circuit_lines new old n (behind new old n)
+-- each circuit, how many bulletins are forgotten whose duplicates were known, what refuses it, and the end
+abbrev pub beside_rules : Directory → Directory → Need → List ℕ
+beside_rules new old n =
+    all_circuit_lines new old n (behind new old n)
     ++ duplicates_line (length (known old n) - length (known new (behind new old n))) ++ refused_line (refusal new old n)
     ++ codes "end" ++ 10 ∷ []
+
+-- What changes where a journal of this need is taken over: the rules that go and those that come, and what changes beside them.
+abbrev pub changes : Directory → Directory → Need → List ℕ
+changes new old n = both_rule_lines new old ++ beside_rules new old n

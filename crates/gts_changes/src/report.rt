@@ -14,6 +14,7 @@ use crate::duplicates::forgotten_duplicates;
 use crate::lines::{duplicates_line, refused_line};
 use crate::rules::rule_lines;
 use gts_alphabet::NoMemory;
+use gts_directory::Directory;
 use gts_dirfile::DirectoryFile;
 use gts_migrate::{Trial, try_over};
 use gts_recovery::OpenFault;
@@ -35,6 +36,30 @@ fn both_rule_lines(
     Ok(lines)
 }
 
+/// What changes beside the rules, and the end.
+fn beside_rules(
+    alloc: Global,
+    old: &Directory,
+    new: &Directory,
+    trial: &Trial,
+) -> Result<ReportText, NoMemory>
+    requires sound { IsTrue (is_sound old.now (need_of trial.now.need)) }
+    requires refused { trial.now.refusal ≡ refusal new.now old.now (need_of trial.now.need) }
+    ensures { IfOk result (λ text.
+        text ≡ report.beside_rules new.now old.now (need_of trial.now.need)) }
+{
+    let need = &trial.need;
+    let mut text = all_circuit_lines(alloc, need, old, new)?;
+    let forgotten = forgotten_duplicates(need, old, new);
+    let duplicates = duplicates_line(alloc, forgotten)?;
+    text.add(alloc, duplicates.bytes())?;
+    let refused = refused_line(alloc, trial.refusal)?;
+    text.add(alloc, refused.bytes())?;
+    text.add(alloc, b"end")?;
+    text.add(alloc, b"\n")?;
+    Ok(text)
+}
+
 /// The whole report of a trial.
 fn whole(
     alloc: Global,
@@ -47,17 +72,9 @@ fn whole(
     ensures { IfOk result (λ text.
         text ≡ report.changes new.now old.now (need_of trial.now.need)) }
 {
-    let need = &trial.need;
     let mut text = both_rule_lines(alloc, old, new)?;
-    let circuits = all_circuit_lines(alloc, need, old.directory(), new.directory())?;
-    text.add(alloc, circuits.bytes())?;
-    let forgotten = forgotten_duplicates(need, old.directory(), new.directory());
-    let duplicates = duplicates_line(alloc, forgotten)?;
-    text.add(alloc, duplicates.bytes())?;
-    let refused = refused_line(alloc, trial.refusal)?;
-    text.add(alloc, refused.bytes())?;
-    text.add(alloc, b"end")?;
-    text.add(alloc, b"\n")?;
+    let rest = beside_rules(alloc, old.directory(), new.directory(), trial)?;
+    text.add(alloc, rest.bytes())?;
     Ok(text)
 }
 

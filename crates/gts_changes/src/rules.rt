@@ -21,9 +21,7 @@ fn is_among(rule: &RuleRow, rules: &[RuleRow]) -> bool
     ensures { result ≡ list_any (λ other.
         pointwise nat_eq rule.now.heading other.heading && (rule.now.to == other.to)) rules.now }
 {
-    rules
-        .iter()
-        .any(|other| rule.heading == other.heading && rule.to == other.to)
+    rules.iter().any(|other| rule.heading == other.heading && rule.to == other.to)
 }
 
 /// Whether a mask has a bit.
@@ -110,6 +108,27 @@ fn rule_change(
     rule_line(alloc, word, directory, rule)
 }
 
+/// The line of each of a directory's rules, which are these, that another one doesn't have.
+fn lines_of(
+    alloc: Global,
+    word: &[u8],
+    directory: &Directory,
+    rules: &[RuleRow],
+    other: &DirectoryFile,
+) -> Result<ReportText, NoMemory>
+    requires { AreRulesOf rules.now directory.now }
+    ensures { IfOk result (λ lines. lines
+        ≡ changes.rule_lines word.now directory.now other.now.rules) }
+{
+    let others = other.rules();
+    let mut lines = ReportText::new();
+    for rule in rules {
+        let line = rule_change(alloc, word, directory, rule, others)?;
+        lines.add(alloc, line.bytes())?;
+    }
+    Ok(lines)
+}
+
 /// The line of each rule of a directory that another one doesn't have.
 pub(crate) fn rule_lines(
     alloc: Global,
@@ -120,12 +139,5 @@ pub(crate) fn rule_lines(
     ensures { IfOk result (λ lines. lines
         ≡ changes.rule_lines word.now file.now other.now.rules) }
 {
-    let directory = file.directory();
-    let others = other.rules();
-    let mut lines = ReportText::new();
-    for rule in file.rules() {
-        let line = rule_change(alloc, word, directory, rule, others)?;
-        lines.add(alloc, line.bytes())?;
-    }
-    Ok(lines)
+    lines_of(alloc, word, file.directory(), file.rules(), other)
 }

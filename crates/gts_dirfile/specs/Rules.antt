@@ -1,5 +1,5 @@
 -- The rows of a directory's rules, each of which names circuits that are there.
-use Rattle.std.specs.Prelude.{◌≡◌, ℕ, ◌^◌, ◌<◌, List, length, map}
+use Rattle.std.specs.Prelude.{◌≡◌, ◌^◌, ◌<◌, List, length, map}
 use Rattle.std.specs.List.{All}
 use Rattle.gts_directory.specs.declared.rows.RuleRow.{RuleRow}
 use Rattle.gts_directory.specs.Directory.{Directory}

@@ -73,7 +73,8 @@ impl<P: Station, B: Began> Housed<P, B> {
             result self.old.engine self.new.engine }
         ensures directory { self.new.engine.directory ≡ self.old.engine.directory }
         ensures mode { self.new.makes_room ≡ self.old.makes_room }
-        ensures silent { result ≢ Err SwitchFault.SayFault }
+        ensures silent { Never P.tells P.calls P.disk_faults P.say_faults B.beginning
+            SwitchFault.SayFault result self.old.engine }
         ensures no_memory { Never P.tells P.calls P.disk_faults P.say_faults B.beginning
             SwitchFault.NoMemory result self.old.engine }
     {

@@ -1,5 +1,4 @@
-use Rattle.std.proofs.Common.{◌≡◌, ℕ, List, length, flat_map, ◌++◌, sym, ap, ◌∙◌, arith}
-use Rattle.std.specs.List.{range_with_len}
+use Rattle.std.proofs.Common.{ℕ, List, ◌++◌, sym, ap, ◌∙◌}
 use Rattle.gts_event.specs.Items.{need_of}
 use Rattle.gts_changes.specs.Changes.{circuit_lines, behind}
 use Rattle.gts_changes.proofs.CircuitLemmas.{circuits_more}

@@ -1,5 +1,5 @@
 use Rattle.std.specs.Prelude.{IfOk}
-use Rattle.std.proofs.Common.{◌≡◌, ℕ, ◌<◌, ◌==◌, Bool, true, false, cond, nat_lt, List, [], length, map, get_or, codes, Result, Ok, Err, sym, ap, ◌∙◌, arith}
+use Rattle.std.proofs.Common.{◌≡◌, ℕ, ◌<◌, ◌==◌, Bool, true, false, cond, nat_lt, List, [], length, get_or, codes, Result, Ok, Err, sym, ap, ◌∙◌, arith}
 use Rattle.std.proofs.lemmas.Bool.{lt-ltb, le-ltb}
 use Rattle.std.proofs.lemmas.List.{get_or-map, length-map}
 use Rattle.std.proofs.lemmas.Option.{get_or_from_slice_get}
@@ -62,7 +62,7 @@ returns c =
     ∙ ap (λ (r : Circuit). stays_lines k was r (need_of_circuit n k) (need_of_circuit m k)) is_row
     ∙ ap (λ (x : CircuitNeed). stays_lines k was is x (need_of_circuit m k)) here in
     if_ok (λ (text : List ℕ). (x : CircuitNeed) → x.kept ≡ last_of is.kept (cond (is.digits == was.digits) q.kept [])
-        → text ≡ stays_lines k was is (circuit_need_of q) x)
+    → text ≡ stays_lines k was is (circuit_need_of q) x)
     (λ (text : List ℕ). text ≡ circuit_lines new old n m k) c.stays_lines.result
     (λ text made. made (need_of_circuit m k) kept ∙ sym lines)
     c.stays_lines.ensures

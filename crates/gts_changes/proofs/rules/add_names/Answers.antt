@@ -1,4 +1,4 @@
-use Rattle.std.proofs.Common.{ℕ, ◌+◌, List, ◌++◌, append_assoc, sym, ap, ◌∙◌}
+use Rattle.std.proofs.Common.{ℕ, List, ◌++◌, append_assoc, sym, ap, ◌∙◌}
 use Rattle.gts_directory.specs.Rows.{circuits_in}
 use Rattle.gts_changes.specs.Changes.{names_text, name_text}
 use Rattle.gts_changes.proofs.RuleLemmas.{names_more}

@@ -1,6 +1,6 @@
 use Rattle.std.specs.Prelude.{IfOk}
 use Rattle.std.proofs.Common.{◌≡◌, ℕ, Bool, true, false, cond, List, [], length, Result, Ok, Err, sym, ap, ◌∙◌}
-use Rattle.gts_directory.specs.Directory.{Directory as DirectoryOf, Rule}
+use Rattle.gts_directory.specs.Directory.{Directory as DirectoryOf}
 use Rattle.gts_directory.specs.Rows.{rule_of_row}
 use Rattle.gts_dirfile.specs.Rules.{AreRulesOf}
 use Rattle.gts_changes.specs.Changes as changes
@@ -28,7 +28,7 @@ returns c =
     let line : List ℕ = changes.rule_line c.args.word.now d (rule_of_row n row) in
     if_ok (λ (text : List ℕ). text ≡ line)
     (λ (text : List ℕ). (other : DirectoryOf) → AreRulesOf c.args.others.now other
-        → text ≡ changes.rule_change c.args.word.now d other.rules (rule_of_row n row))
+    → text ≡ changes.rule_change c.args.word.now d other.rules (rule_of_row n row))
     c.rule_line.result
     (λ text made other are.
     let hasnt : changes.has_rule other.rules (rule_of_row n row) ≡ false =

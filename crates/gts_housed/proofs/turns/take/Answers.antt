@@ -44,3 +44,10 @@ returns-clause-no_memory g c =
     let S : Engine _ → Type 0 = λ e. Stands g.P.Station.tells g.P.Station.calls g.P.Station.disk_faults g.P.Station.say_faults g.B.Began.beginning (entries h) e in
     let stands = subst S (ap (λ (v : _). v.engine) (sym c.value.ensures.value)) c.in-Ok.ensures.value.0 in
     c.take-answer.ensures.no_memory (entries h) stands
+
+pub returns-clause-silent : goal.returns-clause-silent
+returns-clause-silent g c =
+    let h = c.in-Ok.turn.pass.seen in
+    let S : Engine _ → Type 0 = λ e. Stands g.P.Station.tells g.P.Station.calls g.P.Station.disk_faults g.P.Station.say_faults g.B.Began.beginning (entries h) e in
+    let stands = subst S (ap (λ (v : _). v.engine) (sym c.value.ensures.value)) c.in-Ok.ensures.value.0 in
+    c.take-answer.ensures.silent (entries h) stands
