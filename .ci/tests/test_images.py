@@ -20,13 +20,14 @@ from journal import CLOSED, EOL, OPEN, SEAL, Directory, Journal, State, Wrong, f
 SHIM = os.path.join(TOP, '.ci/watching.c')
 DIRECTORY = Directory('TVSV', window=6, limit=60000, names=['A', 'B', 'C'], peers=['AAAA', 'BBBB', 'CCCC'],
                       rules=[('S***** ****', [1, 2]), ('W***** ****', [1])], levels=[('W*', 1)], kept=4)
-# Ten circuits that get all, whose rows have so many draws repeated. With so many bulletins some batches are full.
-READERS, REPEATS = 10, ((1, 12), (50, 60))
 FILES = ('journal.0', 'journal.1', 'journal.2')
 SECTOR = 512
 # How many images are made at each moment, how many random runs there are, and how many steps each has.
 IMAGES, RUNS, STEPS = 12, 3, 40
 LONGEST_TAIL = 80
+# Ten circuits that get all, whose rows have so many draws repeated, with so many bulletins, and so many images at each moment. Where
+# fifty are repeated some batches are full, and there are few moments.
+READERS, REPEATS = 10, ((1, 12, IMAGES), (50, 60, 3 * IMAGES))
 CALL = re.compile(rb'(\w+) (\S+) (-?\d+) (\d+)\n')
 
 
@@ -191,12 +192,12 @@ class Said:
 
 
 class Run:
-    """The calls of a run, and the images that a loss of power may leave in it."""
+    """The calls of a run, and the images that a loss of power may leave in it, so many at each moment."""
 
-    def __init__(self, what, start, calls, folder, chance, each):
+    def __init__(self, what, start, calls, folder, chance, each, count):
         self.what, self.start, self.calls, self.folder, self.chance, self.each = what, start, calls, folder, chance, each
         self.known = {}
-        self.images = 0
+        self.images, self.count = 0, count
 
     def came_to(self):
         """What the journal had come to between the calls of the run. Between two of these something was said."""
@@ -254,7 +255,7 @@ class Run:
                 files[call.name].does(call)
             if any(files[name].is_touched() for name in FILES):
                 self.opens(at, [files[name].whole() for name in FILES], said, moments)
-                for _ in range(IMAGES):
+                for _ in range(self.count):
                     self.opens(at, [files[name].image(self.chance) for name in FILES], said, moments)
             if call.kind == 'sync':
                 files[call.name].does(call)
@@ -342,13 +343,13 @@ def watched(program):
         assert not folder.faults, '\n'.join(folder.faults[:20])
 
 
-def images_of(what, folder, shim, words, steps, chance, each, broken=None):
+def images_of(what, folder, shim, words, steps, chance, each, broken=None, count=IMAGES):
     """A run behind what stands in the folder, and all its images. How many they were."""
     start = folder.journal()
     calls = folder.changes(shim, words, b''.join(steps) + b'E\n')
     after = folder.journal()
     calls = BREAKS.get(broken, lambda calls: calls)(calls)
-    run = Run(what, start, calls, folder, chance, each)
+    run = Run(what, start, calls, folder, chance, each, count)
     run.goes()
     folder.lay(after)
     print(f'images: {what}: {len(calls)} calls, {run.images} images, {len(run.known)} of them different')
@@ -374,7 +375,7 @@ def test_each_image_of_a_compaction_opens_to_what_was(watched, shim, chance, eac
     images_of('count', watched, shim, ('count',), [feed(0, bulletin(30)), b'T 01\n'], chance, each)
 
 
-@pytest.mark.parametrize(('repeat', 'bulletins'), REPEATS)
-def test_each_image_of_batches_opens_to_a_moment_of_them(watched, shim, chance, each, broken, repeat, bulletins):
+@pytest.mark.parametrize(('repeat', 'bulletins', 'count'), REPEATS)
+def test_each_image_of_batches_opens_to_a_moment_of_them(watched, shim, chance, each, broken, repeat, bulletins, count):
     watched.begins_with(of_ten(repeat))
-    images_of(f'batches with repeat {repeat}', watched, shim, ('replay',), in_batches(bulletins), chance, each, broken)
+    images_of(f'batches with repeat {repeat}', watched, shim, ('replay',), in_batches(bulletins), chance, each, broken, count)
