@@ -1,6 +1,7 @@
 //! Events that are gathered: what they do is settled behind one gate, and what is said of them comes behind it, in order.
 
 use crate::engine::{engine, numbered, small, station_in};
+use crate::journal::crashed;
 use gts_engine::{Engine, SayMode};
 use gts_event::{Device, SwitchFault};
 use gts_fixtures::is_same;
@@ -236,7 +237,7 @@ fn used_behind(
     call: u64,
     choice: Touched,
 ) -> Result<Option<u64>, Fail> {
-    used_by(alloc, station.crashed(call, choice)?)
+    used_by(alloc, crashed(station, call, choice)?)
 }
 
 #[test]
