@@ -1,5 +1,5 @@
--- What each end of the commands `migrate` and `migrate drop` means for what they work on: the directory, the old directory in the place of a capture,
--- and the station.
+-- What each end of the commands `migrate` and `migrate drop` means for what they work on: the directory, the old directory in the
+-- place of a capture, and the station.
 use Rattle.std.specs.Prelude.{◌≡◌, ◌⊎◌, ℕ, ◌+◌, ◌≤◌, List, ◌∷◌, ◌++◌, length, None, Some, Result, Ok, Err}
 use Rattle.gts_traits.specs.declared.source.Source.{Ghosts as SourceMeanings}
 use Rattle.gts_traits.specs.declared.station.Station.{Ghosts as StationMeanings}

@@ -18,7 +18,8 @@ fn is_recent(directory: &Directory, accepted: u64, position: u64) -> bool
 
 /// How many of some bulletins are recent.
 fn count_recent(directory: &Directory, accepted: u64, bulletins: &[Bulletin]) -> u64
-    ensures { result ≡ length (recent_among directory.now accepted (map bulletin_of bulletins.now)) }
+    ensures { result
+        ≡ length (recent_among directory.now accepted (map bulletin_of bulletins.now)) }
 {
     let mut count = 0;
     for bulletin in bulletins {

@@ -149,8 +149,8 @@ pub record HasSettled {P : Type 0} (tells : Type 0) (calls : P → List Call) (d
   pub cause : HasCallCause result (disk old.station) (disk new.station) (say old.station) (say new.station)
 
 -- the parts stay as they are, or what was gathered was settled
-abbrev pub MayHaveSettled : {P : Type 0} → Type 0 → (P → List Call) → (disk say : P → ℕ) → Result (Unit {0}) SwitchFault → (old new : Parts P)
-    → Type 0
+abbrev pub MayHaveSettled : {P : Type 0} → Type 0 → (P → List Call) → (disk say : P → ℕ) → Result (Unit {0}) SwitchFault
+    → (old new : Parts P) → Type 0
 MayHaveSettled tells calls disk say result old new = ((result ≡ Ok tt) × (new ≡ old)) ⊎ HasSettled tells calls disk say result old new
 
 -- What a call for an event leaves, whatever entries the engine stood for and whatever events were gathered.

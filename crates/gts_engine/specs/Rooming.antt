@@ -110,7 +110,8 @@ pub record IsGatheredWithRoom {P : Type 0} (tells : Type 0) (calls : P → List 
   pub directory : new.directory ≡ old.directory
   pub adds : (o : Origin) (entries : List Entry) (events : List Event) → Gathers tells mode o entries events (shown calls old)
       → GathersPlain tells calls mode o entries events event result new
-      ⊎ (GathersCompacted tells calls mode o entries events event result new ⊎ GathersNone tells calls mode o entries events event result new)
+      ⊎ (GathersCompacted tells calls mode o entries events event result new
+      ⊎ GathersNone tells calls mode o entries events event result new)
   pub outcome : (o : Origin) (entries : List Entry) (events : List Event) → Gathers tells mode o entries events (shown calls old)
       → (answer : Outcome) → result ≡ Ok answer → answer ≡ outcome_behind o (entries ++ all_done events) event
   pub caused : (o : Origin) (entries : List Entry) (events : List Event) → Gathers tells mode o entries events (shown calls old)

@@ -158,7 +158,8 @@ SettlesBehind meanings e result old new = (result ≡ e) × (new ≡ old)
 abbrev pub EndsSettled : {O W : Type 0} → Standing O W → Type 0 → CaptureKind → O → List Entry → Type 0 → ReplayEnd → (old new : W)
     → (bytes left : List ℕ) → Type 0
 EndsSettled {O} {W} meanings station kind o h tells e old new bytes left =
-    (result : ReplayEnd) (now : W) → SettlesBehind meanings e result new now → Ends meanings station kind o h tells result old now bytes left
+    (result : ReplayEnd) (now : W) → SettlesBehind meanings e result new now
+    → Ends meanings station kind o h tells result old now bytes left
 
 -- a fault of a device that the run didn't end with is answered only where its count rose, and no count falls
 pub record HasSettleCause (e result : ReplayEnd) (disk disk_now say say_now : ℕ) : Type 0 where
