@@ -121,3 +121,11 @@ pub record GoesOn (old new : Seen) : Type 0 where
   pub makes_room : new.makes_room ≡ old.makes_room
   pub name : new.name ≡ old.name
   pub later : StartsWith new.history old.history
+
+-- What a desk would have seen between two turns that add these entries, of which the first adds those in front.
+pub record PassesBetween (old : Seen) (front back : List Entry) (new : Seen) : Type 0 where
+  pub mid : Seen
+  pub desk : GoesOn old mid
+  pub own_is : own mid ≡ own old ++ front
+  pub full : mid.full ≡ old.full
+  pub adds : AddsEntries mid back new
