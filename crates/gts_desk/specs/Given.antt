@@ -1,6 +1,5 @@
 -- The frames that the takes of one turn gave, and what such a turn adds.
 use Rattle.std.specs.Prelude.{◌≡◌, ℕ, zero, suc, ◌+◌, ◌<◌, ◌≤◌, Bool, true, false, List, [], ◌∷◌, length, take, drop, map, replicate, slice_index_or, sum_by, Option, Some, None, Result, Ok, Err}
-use Rattle.std.specs.List.{AllByRecursion}
 use Rattle.gts_alphabet.specs.declared.limits.TheConstants.{LONGEST_FRAME}
 use Rattle.gts_directory.specs.Directory.{Directory}
 use Rattle.gts_event.specs.State.{State}

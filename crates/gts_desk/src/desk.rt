@@ -32,7 +32,8 @@ pub trait Desk {
             result.end (seen self.old) (seen self.new) }
         ensures short { (kind : KindType) (fault : FaultType)
             → result.end ≡ FeedEnd.Wanting kind fault
-            → length decoder.new.message ≤ LONGEST_MESSAGE };
+            → length decoder.new.message ≤ LONGEST_MESSAGE }
+        ensures directory { (seen self.new).directory ≡ (seen self.old).directory };
 
     /// A message came whole on circuit `c`, for which there was no room or no memory: it is tried again.
     fn hear(&mut self, c: u32, kind: Kind, message: &[u8]) -> Result<Outcome, SwitchFault>
