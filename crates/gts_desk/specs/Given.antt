@@ -1,5 +1,5 @@
 -- The frames that the takes of one turn gave, and what such a turn adds.
-use Rattle.std.specs.Prelude.{◌≡◌, ℕ, zero, suc, ◌+◌, ◌<◌, ◌≤◌, Bool, true, false, List, [], ◌∷◌, length, take, drop, map, replicate, slice_index_or, sum_by, Option, Some, None, Result, Ok, Err}
+use Rattle.std.specs.Prelude.{◌≡◌, ℕ, zero, suc, ◌+◌, ◌-◌, ◌<◌, ◌≤◌, Bool, true, false, List, [], ◌∷◌, length, take, drop, map, replicate, slice_index_or, sum_by, Option, Some, None, Result, Ok, Err}
 use Rattle.gts_alphabet.specs.declared.limits.TheConstants.{LONGEST_FRAME}
 use Rattle.gts_directory.specs.Directory.{Directory}
 use Rattle.gts_event.specs.State.{State}
@@ -84,24 +84,24 @@ pub record GaveNoMore (d : Directory) (s : State) (c : ℕ) (frames : List Frame
   pub gave : GaveAll d s c frames
   pub nothing : outcome d (after_takes d s c (length frames)) (Taken c) ≡ Nothing
 
--- the most takes of a turn: as many draws of the circuit as an opening owes it again
-abbrev pub most_taken : Directory → ℕ → ℕ
-most_taken d c = slice_index_or (map (λ row. row.repeat) d.circuits) c 0
+-- how many takes come with another one in a turn at most: with it, as many as draws of the circuit an opening owes again
+abbrev pub most_beside : Directory → ℕ → ℕ
+most_beside d c = slice_index_or (map (λ row. row.repeat) d.circuits) c 0 - 1
 
 -- The disk failed in a turn for takes on c: all of them are in doubt together.
 pub record TakesInDoubt (c : ℕ) (old new : Seen) : Type 0 where
-  pub count : ℕ
-  pub few : count < most_taken old.directory c
-  pub added : AddsEntries old (Doubt (replicate (count + 1) (Taken c)) ∷ []) new
+  pub beside : ℕ
+  pub few : beside ≤ most_beside old.directory c
+  pub added : AddsEntries old (Doubt (Taken c ∷ replicate beside (Taken c)) ∷ []) new
 
 -- What a turn adds for takes on c, one after another, that gave these frames, by its answer: whether there may be more. Where it is a
 -- fault, nothing was given. Saying never fails, and memory is never wanted.
 abbrev pub TakesSome : ℕ → List Frame → Result Bool SwitchFault → (old new : Seen) → Type 0
 TakesSome c frames (Ok true) old new =
     AddsAll old (takes c (length frames)) (λ s. GaveAll old.directory s c frames) new
-    × (1 ≤ length frames) × (length frames ≤ most_taken old.directory c)
+    × (1 ≤ length frames) × (length frames ≤ most_beside old.directory c + 1)
 TakesSome c frames (Ok false) old new =
-    AddsAll old (takes c (length frames + 1)) (λ s. GaveNoMore old.directory s c frames) new × (length frames < most_taken old.directory c)
+    AddsAll old (takes c (length frames + 1)) (λ s. GaveNoMore old.directory s c frames) new × (length frames ≤ most_beside old.directory c)
 TakesSome c frames (Err DiskFault) old new = (frames ≡ []) × TakesInDoubt c old new
 TakesSome c frames (Err SayFault) old new = ⊥
 TakesSome c frames (Err NoMemory) old new = ⊥

@@ -18,7 +18,7 @@ use Rattle.gts_frame.specs.declared.lost.LostField.{LostField}
 use Rattle.gts_frame.proofs.LawLemmas.{front-open}
 use Rattle.gts_connection.specs.Connection.{events_added}
 use Rattle.gts_feed.specs.Fed as feeding
-use Rattle.gts_feed.specs.Fed.{Takes, EndsPiece, KeepsOn, EndsWith, IsWanting, LeavesLast, TurnsTogether, AddsAtFault, AddsFed}
+use Rattle.gts_feed.specs.Fed.{Takes, EndsOver, EndsWith, IsWanting, LeavesLast, TurnsTogether, AddsAtFault, AddsFed}
 use Rattle.gts_feed.specs.declared.fed.Fed.{Fed}
 use Rattle.gts_feed.specs.declared.fed.FeedEnd.{FeedEnd}
 use Rattle.gts_feed.specs.declared.fed.FeedEnd.TheVariants as fed_ends
@@ -57,7 +57,7 @@ module _ (w : Bool) (c : ℕ) (first now later : Seen) (given piece : List ℕ) 
   -- all of it was told
   pub fed_all : fed.end ≡ fed_ends.All → desks.Feeds c more decoder.message fed.end now later → Feeds w c first later given piece decoder (Ok fed.taken)
   fed_all is added =
-      let keeps : IsSome (held_in given) → IsSome (held_in (given ++ x)) = subst (KeepsOn given x) is takes.keeps in
+      let keeps : IsSome (held_in given) → IsSome (held_in (given ++ x)) = subst (EndsOver given x) is takes.ends in
       let a : desks.Feeds c more decoder.message fed_ends.All now later = subst (λ (e : FeedEnd). desks.Feeds c more decoder.message e now later) is added in
       (told w c first now later given x so_far (goes_any now later a.0 a.2) (settles a.0 a.2 a.1) (keeps open_before), takes.held)
 
@@ -65,7 +65,7 @@ module _ (w : Bool) (c : ℕ) (first now later : Seen) (given piece : List ℕ) 
   pub fed_lost : (field : LostField) (at : ℕ) → fed.end ≡ fed_ends.Lost field → desks.Feeds c more decoder.message fed.end now later
       → fed.taken ≤ length piece → at ≡ length given + fed.taken → Reads w c first later (given ++ piece) (LostSync field at)
   fed_lost field at is added within place =
-      let loses : feeding.LosesLast given x = subst (EndsPiece given piece x) is takes.ends in
+      let loses : feeding.LosesLast given x = subst (EndsOver given x) is takes.ends in
       let a : desks.Feeds c more decoder.message (fed_ends.Lost field) now later = subst (λ (e : FeedEnd). desks.Feeds c more decoder.message e now later) is added in
       let long : length x ≡ fed.taken = length-take-le fed.taken piece within in
       subst (λ (l : List ℕ). Reads w c first later l (LostSync field at)) whole
@@ -170,7 +170,7 @@ module _ (w : Bool) (c : ℕ) (first now later new : Seen) (given piece : List �
   pub heard_at_last : (o : Outcome) → Hears w heard (Ok o) mid new → Feeds w c first new given piece decoder (Ok fed.taken)
   heard_at_last o h =
       let x : List ℕ = take fed.taken piece in
-      let keeps : IsSome (held_in given) → IsSome (held_in (given ++ x)) = subst (KeepsOn given x) is_so takes.keeps in
+      let keeps : IsSome (held_in given) → IsSome (held_in (given ++ x)) = subst (EndsOver given x) is_so takes.ends in
       let is : settled_own w new ≡ settled_own w now ++ all_done (events_added c given x) =
       done_settles w heard o mid new h ∙ ap (λ (es : List Entry). es ++ all_done (heard ∷ [])) wanted.done
       ∙ append_assoc (settled_own w now) (all_done wanted.front) (all_done (heard ∷ []))
