@@ -36,7 +36,7 @@ under_all n (e ∷ more) =
     let P : Bool → Type 0 = λ b. entries (cond b ((n, e) ∷ behind) behind) ≡ e ∷ more in
     subst P (sym (same_name n)) (ap (λ (l : List Entry). e ∷ l) (under_all n more))
 
-frames_append : (d : Directory) (s : State) (name : ℕ) (xs ys : History)
+pub frames_append : (d : Directory) (s : State) (name : ℕ) (xs ys : History)
     → frames d s name (xs ++ ys) ≡ frames d s name xs ++ frames d (after_all d s (entries xs)) name ys
 frames_append d s name [] ys = refl
 frames_append d s name (x ∷ xs) ys =
@@ -66,6 +66,21 @@ frames_one d s name e =
     let Q : Bool → Type 0 = λ b. cond b (frame_of d s e) [] ++ [] ≡ frame_of d s e in
     subst Q (sym (same_name name)) (append-nil (frame_of d s e))
 
+-- the frames of the desk's own draws over a history that goes on, by entries of others and then by its own
+pub frames_behind : (old : Seen) (others : History) (more : List Entry) → entries_under old.name others ≡ []
+    → frames old.directory (begun old.start) old.name ((old.history ++ others) ++ under old.name more)
+    ≡ own_frames old ++ frames old.directory (state_at old (old.history ++ others)) old.name (under old.name more)
+frames_behind old others more strange =
+    let d : Directory = old.directory in
+    let s : State = begun old.start in
+    let n : ℕ = old.name in
+    let before : History = old.history ++ others in
+    frames_append d s n before (under n more)
+    ∙ ap (λ (l : List ℕ). l ++ frames d (after_all d s (entries before)) n (under n more))
+    (frames_append d s n old.history others
+    ∙ ap (λ (l : List ℕ). frames d s n old.history ++ l) (frames_none d (after_all d s (entries old.history)) n others strange)
+    ∙ append-nil (frames d s n old.history))
+
 module _ (old new : Seen) (more : List Entry) (adds : AddsEntries old more new) where
   -- the desk's own entries get these
   pub own_added : own new ≡ own old ++ more
@@ -89,17 +104,7 @@ module _ (old new : Seen) (more : List Entry) (adds : AddsEntries old more new) 
 
   -- and the frames of its own draws get those of these
   pub frames_added : own_frames new ≡ own_frames old ++ frames old.directory (state_at old (old.history ++ adds.others)) old.name (under old.name more)
-  frames_added =
-      let d : Directory = old.directory in
-      let s : State = begun old.start in
-      let n : ℕ = old.name in
-      let before : History = old.history ++ adds.others in
-      ap own_frames adds.is
-      ∙ frames_append d s n before (under n more)
-      ∙ ap (λ (l : List ℕ). l ++ frames d (after_all d s (entries before)) n (under n more))
-      (frames_append d s n old.history adds.others
-      ∙ ap (λ (l : List ℕ). frames d s n old.history ++ l) (frames_none d (after_all d s (entries old.history)) n adds.others adds.strange)
-      ∙ append-nil (frames d s n old.history))
+  frames_added = ap own_frames adds.is ∙ frames_behind old adds.others more adds.strange
 
 module _ (old new : Seen) (spent : IsSpent old new) where
   pub own_spent : own new ≡ own old
