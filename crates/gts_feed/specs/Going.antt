@@ -1,5 +1,8 @@
 -- Entries that were to be added to those for which a switch stands, and those that were.
-use Rattle.std.specs.Prelude.{◌≡◌, ℕ, ◌≤◌, List, [], ◌∷◌, ◌++◌, length, Result, Ok, Err}
+use Rattle.std.specs.Prelude.{◌≡◌, ◌⊎◌, ℕ, ◌≤◌, List, [], ◌∷◌, ◌++◌, length, Result, Ok, Err}
+use Rattle.gts_frame.specs.Decoder.{Decoding}
+use Rattle.gts_frame.specs.declared.step.Step.{Step}
+use Rattle.gts_frame.specs.declared.kind.Kind.{Kind}
 use Rattle.gts_frame.specs.declared.lost.LostField.{LostField}
 use Rattle.gts_event.specs.Drain.{all_done, all_unsaid}
 use Rattle.gts_event.specs.declared.event.Event.{Event}
@@ -8,10 +11,37 @@ use Rattle.gts_event.specs.declared.event.Entry.{Entry}
 use Rattle.gts_event.specs.declared.event.Entry.TheVariants.{Done, Idle, Doubt}
 use Rattle.gts_event.specs.declared.fault.SwitchFault.{SwitchFault}
 use Rattle.gts_event.specs.declared.fault.SwitchFault.TheVariants.{DiskFault, SayFault, Full, Stopped, Spent, NoMemory}
-use Rattle.gts_calls.specs.{Standing, Stands, settled, IsCause, outcome_at}
-use Rattle.gts_feed.specs.Fed.{EndsWith, IsWanting}
+use Rattle.gts_event.specs.declared.outcome.Outcome.{Outcome}
+use Rattle.gts_connection.specs.Connection.{events_added}
+use Rattle.gts_calls.specs.{Standing, Stands, settled, AfterCall, IsInDoubt, IsCause, IsAnswerCause, outcome_at}
+use Rattle.gts_feed.specs.Fed.{EndsWith, IsWanting, AddsFed, EndsOver}
+use Rattle.gts_feed.specs.Reading.{Reads}
 use Rattle.gts_feed.specs.declared.fed.FeedEnd.{FeedEnd}
 use Rattle.gts_feed.specs.declared.fed.FeedEnd.TheVariants.{All, Lost, Wanting, Fault}
+
+-- ---- one message
+
+-- What hearing a message leaves of a switch that stood for these entries and had gathered these events: what a call leaves; or these
+-- events were settled, and the disk failed before the message was gathered behind them, which is in doubt alone.
+abbrev pub AfterHearing : {O W : Type 0} → Standing O W → O → List Entry → List Event → Event → Result Outcome SwitchFault → W → Type 0
+AfterHearing meanings o entries events event (Err DiskFault) new =
+    IsInDoubt meanings o entries events new ⊎ settled meanings o ((entries ++ all_done events) ++ Doubt (event ∷ []) ∷ []) new
+AfterHearing meanings o entries events event result new = AfterCall meanings o entries events event result new
+
+-- A message was heard, with this answer: whatever entries the switch stood for, and whatever events it had gathered, it stands for
+-- these and the event, which may be gathered; the answer is the event's outcome, and a fault has its cause.
+pub record IsHeard {O W : Type 0} (meanings : Standing O W) (event : Event) (result : Result Outcome SwitchFault)
+    (old new : W) : Type 0 where
+  pub directory : meanings.directory new ≡ meanings.directory old
+  pub adds : (o : O) (entries : List Entry) (events : List Event) → meanings.gathers o entries events old
+      → AfterHearing meanings o entries events event result new
+  pub outcome : (o : O) (entries : List Entry) (events : List Event) → meanings.gathers o entries events old
+      → (answer : Outcome) → result ≡ Ok answer → answer ≡ outcome_at meanings old o (entries ++ all_done events) event
+  pub caused : (o : O) (entries : List Entry) (events : List Event) → meanings.gathers o entries events old
+      → (fault : SwitchFault) → result ≡ Err fault → let h : List Entry = entries ++ all_done events in
+      IsAnswerCause (meanings.is_full o h event) h (outcome_at meanings old o h event) fault
+
+-- ---- entries that were to be added
 
 -- A device failed. Of the entries that there were, and that were to be added, the first stand, at least so many, and some events
 -- behind them became these entries together. So the switch stands since the origin that it has behind the first.
@@ -50,6 +80,8 @@ abbrev pub Goes : {O W : Type 0} → Standing O W → O → (first : ℕ) → (h
 Goes meanings o first h more (Ok _) now = Stands meanings o first (h ++ more) now
 Goes meanings o first h more (Err fault) now = BreaksOff meanings (λ _. o) first h more fault now
 
+-- ---- a feed
+
 -- All but the last of these events were done, and that one was left idle with this fault, which has its cause. Nothing is gathered.
 pub record BreaksLast {O W : Type 0} (meanings : Standing O W) (o : O) (h : List Entry) (events : List Event) (last : Event)
     (fault : SwitchFault) (now : W) : Type 0 where
@@ -79,3 +111,20 @@ GoesFed meanings o first h c events message (Lost field) now =
 GoesFed meanings o first h c events message (Wanting kind fault) now =
     BreaksLast meanings o h events (event.Heard c kind message) fault now × IsWanting fault
 GoesFed meanings o first h c events message (Fault fault) now = BreaksFed meanings o first h c events fault now
+
+-- Bytes were taken that ended with this step, and then more, all of which are these: they have some events, which were to be added
+-- behind whatever entries the switch stood for, and it ended so.
+pub record GoesOver {O W : Type 0} (meanings : Standing O W) (c : ℕ) (begun : List ℕ) (step : Step) (decoder : Decoding) (old : W)
+    (taken message : List ℕ) (end : FeedEnd) (new : W) : Type 0 where
+  pub events : List Event
+  pub are : (before : List ℕ) → Reads before begun step decoder → events_added c before taken ≡ events
+  pub goes : (o : O) (first : ℕ) (h : List Entry) → Stands meanings o first h old → GoesFed meanings o first h c events message end new
+
+-- What a feed gathered that ended so was settled, behind whatever entries nothing was gathered: then it ended so.
+pub record SettlesFed {O W : Type 0} (meanings : Standing O W) (end settled_end : FeedEnd) (old new : W) : Type 0 where
+  pub adds : (o : O) (h : List Entry) (c : ℕ) (events : List Event) (message : List ℕ)
+      → GoesFed meanings o (length h) h c events message end old
+      → (more : List Entry) × AddsFed c events message settled_end more × settled meanings o (h ++ more) new
+  pub ends : (before taken : List ℕ) → EndsOver before taken end → EndsOver before taken settled_end
+  pub all : settled_end ≡ All → end ≡ All
+  pub wanting : (kind : Kind) (fault : SwitchFault) → settled_end ≡ Wanting kind fault → end ≡ Wanting kind fault

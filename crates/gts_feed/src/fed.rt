@@ -1,5 +1,5 @@
 ghost use Rattle.std.specs.Prelude.{◌≡◌};
-ghost use Rattle.gts_feed.specs.Fed.{answer_of};
+ghost use Rattle.gts_feed.specs.Fed.{answer_of, is_all, is_done};
 
 use gts_event::SwitchFault;
 use gts_frame::{Kind, LostField};
@@ -14,7 +14,7 @@ pub enum FeedEnd {
     /// There was no room, or no memory, for the message that the decoder holds, which came in a frame of this type and ends with
     /// the last byte that was taken.
     Wanting { kind: Kind, fault: SwitchFault },
-    /// An event was answered with this fault: the one that the last byte ended, or, where a device failed, earlier ones too.
+    /// An event was answered with this fault: the one that the last byte ended; or, where a device failed, earlier ones too.
     Fault(SwitchFault),
 }
 
@@ -26,7 +26,28 @@ pub struct Fed {
 }
 
 impl FeedEnd {
-    /// Whether all was dealt with that the bytes ended, or with which fault not.
+    /// Whether all was dealt with, and synchronisation kept.
+    pub fn is_all(self) -> bool
+        ensures { result ≡ is_all self }
+    {
+        match self {
+            FeedEnd::All => true,
+            _ => false,
+        }
+    }
+
+    /// Whether all was dealt with that the bytes ended.
+    pub fn is_done(self) -> bool
+        ensures { result ≡ is_done self }
+    {
+        match self {
+            FeedEnd::All => true,
+            FeedEnd::Lost { field: _field } => true,
+            _ => false,
+        }
+    }
+
+    /// Whether all was dealt with that the bytes ended, or the fault by which it wasn't.
     pub fn answer(self) -> Result<(), SwitchFault>
         ensures { result ≡ answer_of self }
     {
