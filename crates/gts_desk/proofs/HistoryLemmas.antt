@@ -1,5 +1,5 @@
 -- Entries under a name, their frames, and a desk's calls one after another.
-use Rattle.std.proofs.Common.{◌≡◌, ℕ, ◌==◌, List, [], ◌∷◌, ◌++◌, inl, inr, Bool, true, false, cond, refl, sym, ap, ◌∙◌, subst, arith, append_assoc}
+use Rattle.std.proofs.Common.{◌≡◌, ℕ, ◌+◌, ◌==◌, List, [], ◌∷◌, ◌++◌, inl, inr, Bool, true, false, cond, refl, sym, ap, ◌∙◌, subst, arith, append_assoc}
 use Rattle.std.specs.List.{filter}
 use Rattle.std.proofs.lemmas.List.{append-nil}
 use Rattle.std.proofs.lemmas.List.Elements.{filter-append}
@@ -141,6 +141,10 @@ goes_further a b c s t = record {
 pub stays : (d : Seen) → GoesOn d d
 stays d = record { hall = refl; directory = refl; start = refl; used = refl; makes_room = refl; name = refl; later = ([], sym (append-nil d.history)) }
 
+-- a turn counts
+pub turned : (old new : Seen) (more : List Entry) → AddsEntries old more new → new.turns ≡ old.turns + 1
+turned old new more adds = ap (λ (d : Seen). d.turns) adds.is
+
 -- ---- entries that were added, or none
 
 pub own_any : (old new : Seen) (more : List Entry) → AddsAny old more new → own new ≡ own old ++ more
@@ -174,11 +178,11 @@ halfway_of old new front back adds =
           ∙ ap (λ (l : List Entry). entries_under n before ++ l) (under_all n front)
           ∙ ap (λ (l : List Entry). l ++ front)
           (under_append n old.history adds.others ∙ ap (λ (l : List Entry). own old ++ l) adds.strange ∙ append-nil (own old));
-      full = refl;
+      turns = refl;
       adds = record {
         others = [];
         is = adds.is
-            ∙ ap (λ (l : History). record old { history = l })
+            ∙ ap (λ (l : History). record old { turns = old.turns + 1; history = l })
             (ap (λ (l : History). before ++ l) split
             ∙ sym (append_assoc before (under n front) (under n back))
             ∙ ap (λ (l : History). l ++ under n back) (sym (append-nil (before ++ under n front))));

@@ -1,5 +1,5 @@
 -- What a desk has seen, and what a call on it adds.
-use Rattle.std.specs.Prelude.{◌≡◌, ◌⊎◌, ℕ, Bool, true, false, List, [], ◌∷◌, ◌++◌, map, Result, Ok, Err, Option}
+use Rattle.std.specs.Prelude.{◌≡◌, ◌⊎◌, ℕ, ◌+◌, Bool, true, false, List, [], ◌∷◌, ◌++◌, map, Result, Ok, Err, Option}
 use Rattle.atomic_table.specs.Seated.{TableId}
 use Rattle.gts_directory.specs.Directory.{Directory}
 use Rattle.gts_event.specs.State.{State}
@@ -21,8 +21,8 @@ use Rattle.gts_feed.specs.declared.fed.FeedEnd.TheVariants.{Fault}
 use Rattle.gts_lock.specs.History.{entries, entries_under, StartsWith}
 
 -- What a desk has seen: the hall that it is at, or none; the directory; what the history starts from, and the bytes of the
--- journal there; whether the journal may be compacted meanwhile, to make room; the desk's own name; whether no turn was left; and
--- the history so far, each entry with the name of the desk that added it.
+-- journal there; whether the journal may be compacted meanwhile, to make room; the desk's own name; how many turns it has had;
+-- whether no turn was left; and the history so far, each entry with the name of the desk that added it.
 pub record Seen : Type 0 where
   pub hall : Option TableId
   pub directory : Directory
@@ -30,6 +30,7 @@ pub record Seen : Type 0 where
   pub used : ℕ
   pub makes_room : Bool
   pub name : ℕ
+  pub turns : ℕ
   pub full : Bool
   pub history : List (ℕ × Entry)
 
@@ -60,7 +61,7 @@ under name more = map (λ entry. (name, entry)) more
 -- holds. Each entry has its cause.
 pub record AddsAll (old : Seen) (more : List Entry) (Holds : State → Type 0) (new : Seen) : Type 0 where
   pub others : List (ℕ × Entry)
-  pub is : new ≡ record old { history = (old.history ++ others) ++ under old.name more }
+  pub is : new ≡ record old { turns = old.turns + 1; history = (old.history ++ others) ++ under old.name more }
   pub strange : entries_under old.name others ≡ []
   pub holds : Holds (state_at old (old.history ++ others))
   pub caused : HasCauses new
@@ -127,5 +128,5 @@ pub record PassesBetween (old : Seen) (front back : List Entry) (new : Seen) : T
   pub mid : Seen
   pub desk : GoesOn old mid
   pub own_is : own mid ≡ own old ++ front
-  pub full : mid.full ≡ old.full
+  pub turns : mid.turns ≡ old.turns
   pub adds : AddsEntries mid back new

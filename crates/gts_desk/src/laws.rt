@@ -1,15 +1,17 @@
 //! Laws of what a desk has seen, each the contract of a function with an empty body.
-ghost use Rattle.std.specs.Prelude.{◌≡◌, List, ◌∷◌, ◌++◌};
+ghost use Rattle.std.specs.Prelude.{◌≡◌, List, ◌+◌, ◌∷◌, ◌++◌};
 ghost use Rattle.gts_event.specs.declared.event.Entry.{Entry};
 ghost use Rattle.gts_desk.specs.Desks.{Seen, own, state_at, under, AddsEntries, AddsAny, PassesBetween, IsSpent, GoesOn};
 ghost use Rattle.gts_desk.specs.Frames.{own_frames, frames};
 
-/// What a turn adds are entries of the desk's own.
+/// What a turn adds are entries of the desk's own, and it counts as one.
 pub fn each_turn_adds_own_entries()
     ensures adds { (old new : Seen) (more : List Entry)
         → AddsEntries old more new → own new ≡ own old ++ more }
     ensures any { (old new : Seen) (more : List Entry)
         → AddsAny old more new → own new ≡ own old ++ more }
+    ensures counts { (old new : Seen) (more : List Entry)
+        → AddsEntries old more new → new.turns ≡ old.turns + 1 }
 {}
 
 /// The frames of a desk's own draws get those of the entries that it adds, from the state before these on, whatever entries of

@@ -33,7 +33,7 @@ hears_go w event answer old new h = goes_further old h.before new h.desk (answer
 module _ (w : Bool) (event : Event) (beside : List Event) (mid new : Seen) where
   -- what a turn added for them
   pub entered : (f : SwitchFault) → AddsEntries mid (fault_entries event beside f) new → ((f ≡ DiskFault → ⊥) → (f ≡ SayFault → ⊥) → beside ≡ [])
-      → TriesOn w event f (own new) → (f ≡ Spent → ⊥) → AddsFault w event beside f new.full (settled_own w mid) (settled_own w new) (own new)
+      → TriesOn w event f new.turns → (f ≡ Spent → ⊥) → AddsFault w event beside f new.full new.turns (settled_own w mid) (settled_own w new) (own new)
   entered f adds apart kept never = record {
     apart = apart;
     added = own_settled w mid new (fault_entries event beside f) adds;
@@ -43,8 +43,8 @@ module _ (w : Bool) (event : Event) (beside : List Event) (mid new : Seen) where
   }
 
 -- no turn was left
-pub spent : (w : Bool) (event : Event) (mid new : Seen) → IsSpent mid new → TriesOn w event Spent (own new)
-    → AddsFault w event [] Spent new.full (settled_own w mid) (settled_own w new) (own new)
+pub spent : (w : Bool) (event : Event) (mid new : Seen) → IsSpent mid new → TriesOn w event Spent new.turns
+    → AddsFault w event [] Spent new.full new.turns (settled_own w mid) (settled_own w new) (own new)
 spent w event mid new is kept = record {
   apart = λ no_disk no_say. refl;
   added = ap (settled w) (own_spent mid new is) ∙ sym (append-nil (settled_own w mid)) ∙ ap (λ (l : List Entry). settled_own w mid ++ l) (sym (none_settled w));
@@ -54,15 +54,15 @@ spent w event mid new is kept = record {
 }
 
 -- a message was answered with a fault, maybe behind tries
-pub failed : (w : Bool) (event : Event) (f : SwitchFault) (old new : Seen) → Hears w event (Err f) old new → TriesOn w event f (own new)
-    → AddsFault w event [] f new.full (settled_own w old) (settled_own w new) (own new)
-failed w event f old new h kept = subst (λ (l : List Entry). AddsFault w event [] f new.full l (settled_own w new) (own new)) h.tried (by f h.answers kept)
+pub failed : (w : Bool) (event : Event) (f : SwitchFault) (old new : Seen) → Hears w event (Err f) old new → TriesOn w event f new.turns
+    → AddsFault w event [] f new.full new.turns (settled_own w old) (settled_own w new) (own new)
+failed w event f old new h kept = subst (λ (l : List Entry). AddsFault w event [] f new.full new.turns l (settled_own w new) (own new)) h.tried (by f h.answers kept)
   where
     mid : Seen
     mid = h.before
 
-    by : (f : SwitchFault) → Answers mid event SaysNoMore (Err f) new → TriesOn w event f (own new)
-        → AddsFault w event [] f new.full (settled_own w mid) (settled_own w new) (own new)
+    by : (f : SwitchFault) → Answers mid event SaysNoMore (Err f) new → TriesOn w event f new.turns
+        → AddsFault w event [] f new.full new.turns (settled_own w mid) (settled_own w new) (own new)
     by DiskFault adds kept = entered w event [] mid new DiskFault adds (λ no_disk no_say. refl) kept (λ e. cc e)
     by SayFault adds kept = entered w event [] mid new SayFault adds (λ no_disk no_say. refl) kept (λ e. cc e)
     by (Full used need limit) adds kept = entered w event [] mid new (Full used need limit) adds (λ no_disk no_say. refl) kept (λ e. cc e)

@@ -76,14 +76,14 @@ module _ (w : Bool) (c : ℕ) (first now later : Seen) (given piece : List ℕ) 
   Ends fault = Reads w c first later (given ++ piece) (Fault fault)
 
   ends : (fault : SwitchFault) (front : List Event) (event : Event) (beside back : List Event) → more ≡ front ++ (event ∷ beside) ++ back → GoesOn now later
-      → AddsFault w event beside fault later.full (settled_own w now ++ all_done front) (settled_own w later) (own later) → Ends fault
+      → AddsFault w event beside fault later.full later.turns (settled_own w now ++ all_done front) (settled_own w later) (own later) → Ends fault
   ends fault front event beside back is on adds =
       subst (λ (l : List ℕ). Reads w c first later l (Fault fault)) whole (failed w c first now later given x so_far behind fault front event beside back is on adds)
 
   in_turn : (fault : SwitchFault) (front : List Event) (event : Event) (beside : List Event) (entry : Entry) (others entries : List Entry)
       → AddsAny now entries later → entries ≡ all_done front ++ entry ∷ others → fault_entries event beside fault ≡ entry ∷ others
-      → ((fault ≡ DiskFault → ⊥) → (fault ≡ SayFault → ⊥) → beside ≡ []) → TriesOn w event fault (own later) → (fault ≡ Spent → ⊥)
-      → AddsFault w event beside fault later.full (settled_own w now ++ all_done front) (settled_own w later) (own later)
+      → ((fault ≡ DiskFault → ⊥) → (fault ≡ SayFault → ⊥) → beside ≡ []) → TriesOn w event fault later.turns → (fault ≡ Spent → ⊥)
+      → AddsFault w event beside fault later.full later.turns (settled_own w now ++ all_done front) (settled_own w later) (own later)
   in_turn fault front event beside entry others entries adds is shape apart kept never =
       let between : PassesBetween now (all_done front) (entry ∷ others) later =
       halfway now later (all_done front) others entry (subst (λ (l : List Entry). AddsAny now l later) is adds) in
@@ -91,11 +91,11 @@ module _ (w : Bool) (c : ℕ) (first now later : Seen) (given piece : List ℕ) 
       let done : settled_own w mid ≡ settled_own w now ++ all_done front =
       ap (settled w) between.own_is ∙ settled-append w (own now) (all_done front) ∙ ap (λ (l : List Entry). settled_own w now ++ l) (settled_all w front) in
       let added : AddsEntries mid (fault_entries event beside fault) later = subst (λ (l : List Entry). AddsEntries mid l later) (sym shape) between.adds in
-      subst (λ (l : List Entry). AddsFault w event beside fault later.full l (settled_own w later) (own later)) done
+      subst (λ (l : List Entry). AddsFault w event beside fault later.full later.turns l (settled_own w later) (own later)) done
       (faults.entered w event beside mid later fault added apart kept never)
 
   idle : (fault : SwitchFault) (last : Event) (entries : List Entry) → AddsAny now entries later → LeavesLast more last fault entries
-      → fault_entries last [] fault ≡ Idle last fault ∷ [] → TriesOn w last fault (own later) → (fault ≡ Spent → ⊥) → Ends fault
+      → fault_entries last [] fault ≡ Idle last fault ∷ [] → TriesOn w last fault later.turns → (fault ≡ Spent → ⊥) → Ends fault
   idle fault last entries adds leaves shape kept never =
       ends fault leaves.front last [] [] leaves.is (goes_any now later entries adds)
       (in_turn fault leaves.front last [] (Idle last fault) [] entries adds leaves.added shape (λ no_disk no_say. refl) kept never)
@@ -107,18 +107,18 @@ module _ (w : Bool) (c : ℕ) (first now later : Seen) (given piece : List ℕ) 
       by DiskFault a =
           let t = a.1 in
           ends DiskFault t.front t.first t.others t.behind t.is (goes_any now later a.0 a.2)
-          (in_turn DiskFault t.front t.first t.others (Doubt (t.first ∷ t.others)) [] a.0 a.2 t.added refl (λ no_disk no_say. absurd (no_disk refl)) (disk_tries w t.first (own later)) (λ e. cc e))
+          (in_turn DiskFault t.front t.first t.others (Doubt (t.first ∷ t.others)) [] a.0 a.2 t.added refl (λ no_disk no_say. absurd (no_disk refl)) (disk_tries w t.first later.turns) (λ e. cc e))
       by SayFault a =
           let t = a.1 in
           ends SayFault t.front t.first t.others t.behind t.is (goes_any now later a.0 a.2)
-          (in_turn SayFault t.front t.first t.others (Unsaid t.first) (all_unsaid t.others) a.0 a.2 t.added refl (λ no_disk no_say. absurd (no_say refl)) (say_tries w t.first (own later)) (λ e. cc e))
-      by (Stopped device) a = idle (Stopped device) a.1.0 a.0 a.2 a.1.1 refl (stopped_tries w a.1.0 device (own later)) (λ e. cc e)
+          (in_turn SayFault t.front t.first t.others (Unsaid t.first) (all_unsaid t.others) a.0 a.2 t.added refl (λ no_disk no_say. absurd (no_say refl)) (say_tries w t.first later.turns) (λ e. cc e))
+      by (Stopped device) a = idle (Stopped device) a.1.0 a.0 a.2 a.1.1 refl (stopped_tries w a.1.0 device later.turns) (λ e. cc e)
       by (Full used need limit) a =
-          idle (Full used need limit) (events.Lost c a.1.0) a.0 a.2 a.1.1 refl (no_try w c a.1.0 (Full used need limit) (own later)) (λ e. cc e)
-      by NoMemory a = idle NoMemory (events.Lost c a.1.0) a.0 a.2 a.1.1 refl (no_try w c a.1.0 NoMemory (own later)) (λ e. cc e)
+          idle (Full used need limit) (events.Lost c a.1.0) a.0 a.2 a.1.1 refl (no_try w c a.1.0 (Full used need limit) later.turns) (λ e. cc e)
+      by NoMemory a = idle NoMemory (events.Lost c a.1.0) a.0 a.2 a.1.1 refl (no_try w c a.1.0 NoMemory later.turns) (λ e. cc e)
       by Spent a =
           ends Spent [] a.0.0 [] [] a.0.1 (goes_on_spent now later a.1)
-          (subst (λ (l : List Entry). AddsFault w a.0.0 [] Spent later.full l (settled_own w later) (own later)) none (faults.spent w a.0.0 now later a.1 (spent_tries w a.0.0 (own later))))
+          (subst (λ (l : List Entry). AddsFault w a.0.0 [] Spent later.full later.turns l (settled_own w later) (own later)) none (faults.spent w a.0.0 now later a.1 (spent_tries w a.0.0 later.turns)))
         where
           none : settled_own w now ≡ settled_own w now ++ all_done []
           none = sym (append-nil (settled_own w now))
@@ -179,7 +179,7 @@ module _ (w : Bool) (c : ℕ) (first now later new : Seen) (given piece : List �
       (told w c first now new given x so_far (on (Ok o) h) is (keeps (front-open given so_far.kept)), takes.held)
 
   -- or it was answered with a fault
-  pub never_heard : (f : SwitchFault) → Hears w heard (Err f) mid new → TriesOn w heard f (own new) → Reads w c first new (given ++ piece) (Fault f)
+  pub never_heard : (f : SwitchFault) → Hears w heard (Err f) mid new → TriesOn w heard f new.turns → Reads w c first new (given ++ piece) (Fault f)
   never_heard f h kept =
       ends w c first now new given piece fed decoder so_far takes f wanted.front heard [] [] wanted.is (on (Err f) h)
-      (subst (λ (l : List Entry). AddsFault w heard [] f new.full l (settled_own w new) (own new)) wanted.done (faults.failed w heard f mid new h kept))
+      (subst (λ (l : List Entry). AddsFault w heard [] f new.full new.turns l (settled_own w new) (own new)) wanted.done (faults.failed w heard f mid new h kept))

@@ -1,5 +1,5 @@
 -- The entries of a service without its tries.
-use Rattle.std.proofs.Common.{◌≡◌, ℕ, ◌+◌, ◌≤◌, length, length-append, arith, Bool, true, false, not, List, [], ◌∷◌, ◌++◌, Result, Ok, Err, refl, sym, ap, ◌∙◌, subst}
+use Rattle.std.proofs.Common.{◌≡◌, ℕ, ◌+◌, ◌≤◌, arith, Bool, true, false, not, List, [], ◌∷◌, ◌++◌, Result, Ok, Err, refl, sym, ap, ◌∙◌, subst}
 use Rattle.std.proofs.lemmas.List.{append-nil}
 use Rattle.std.proofs.lemmas.List.Elements.{filter-append}
 use Rattle.gts_frame.specs.declared.kind.Kind.{Kind}
@@ -16,7 +16,7 @@ use Rattle.gts_event.specs.declared.fault.Device.{Device}
 use Rattle.gts_event.specs.declared.fault.SwitchFault.{SwitchFault}
 use Rattle.gts_event.specs.declared.fault.SwitchFault.TheVariants.{DiskFault, SayFault, Full, Stopped, Spent, NoMemory}
 use Rattle.gts_desk.specs.Desks.{Seen, own, Answers, SaysNoMore, AddsEntries, AddsJust, AddsAny, GoesOn}
-use Rattle.gts_desk.proofs.LawLemmas.{just, own_added, own_any, goes_on, goes_on_spent, goes_further, stays}
+use Rattle.gts_desk.proofs.LawLemmas.{just, own_added, turned, own_any, goes_on, goes_on_spent, goes_further, stays}
 use Rattle.gts_receiver.specs.Service.{is_try, is_wanting, settled, settled_own, AreMost, TriesOn, Hears}
 
 pub settled-append : (w : Bool) (xs ys : List Entry) → settled w (xs ++ ys) ≡ settled w xs ++ settled w ys
@@ -48,42 +48,42 @@ one_try before now entry is adds =
     left_out : (e : Entry) → is_try e ≡ true → settled true (e ∷ []) ≡ []
     left_out e is = rw is refl
 
-one_added : (before now : Seen) (entry : Entry) (tries : ℕ) → AddsJust before entry now → tries ≤ length (own before) → tries + 1 ≤ length (own now)
-one_added before now entry tries adds few = omega (arith, few, ap length (own_added before now (entry ∷ []) adds), length-append (own before) (entry ∷ []))
+one_added : (before now : Seen) (entry : Entry) (tries : ℕ) → AddsJust before entry now → tries ≤ before.turns → tries + 1 ≤ now.turns
+one_added before now entry tries adds few = omega (arith, few, turned before now (entry ∷ []) adds)
 
 -- an event of a message is tried again at these answers, and a loss at none
-pub tries_on : (w : Bool) (c : ℕ) (kind : Kind) (message : List ℕ) (fault : SwitchFault) (entries : List Entry)
-    → (w ≡ true → is_wanting (Err fault) ≡ true → AreMost entries) → TriesOn w (Heard c kind message) fault entries
-tries_on w c kind message (Full used need limit) entries kept = kept
-tries_on w c kind message NoMemory entries kept = kept
-tries_on w c kind message DiskFault entries kept = λ yes is. absurd (cc is)
-tries_on w c kind message SayFault entries kept = λ yes is. absurd (cc is)
-tries_on w c kind message (Stopped by) entries kept = λ yes is. absurd (cc is)
-tries_on w c kind message Spent entries kept = λ yes is. absurd (cc is)
+pub tries_on : (w : Bool) (c : ℕ) (kind : Kind) (message : List ℕ) (fault : SwitchFault) (turns : ℕ)
+    → (w ≡ true → is_wanting (Err fault) ≡ true → AreMost turns) → TriesOn w (Heard c kind message) fault turns
+tries_on w c kind message (Full used need limit) turns kept = kept
+tries_on w c kind message NoMemory turns kept = kept
+tries_on w c kind message DiskFault turns kept = λ yes is. absurd (cc is)
+tries_on w c kind message SayFault turns kept = λ yes is. absurd (cc is)
+tries_on w c kind message (Stopped by) turns kept = λ yes is. absurd (cc is)
+tries_on w c kind message Spent turns kept = λ yes is. absurd (cc is)
 
-pub no_try : (w : Bool) (c : ℕ) (field : LostField) (fault : SwitchFault) (entries : List Entry) → TriesOn w (Lost c field) fault entries
-no_try w c field fault entries = λ yes is. absurd (cc is)
+pub no_try : (w : Bool) (c : ℕ) (field : LostField) (fault : SwitchFault) (turns : ℕ) → TriesOn w (Lost c field) fault turns
+no_try w c field fault turns = λ yes is. absurd (cc is)
 
 -- at other answers no event is tried again
-pub stopped_tries : (w : Bool) (event : Event) (by : Device) (entries : List Entry) → TriesOn w event (Stopped by) entries
-stopped_tries w (Heard c kind message) by entries = λ yes is. absurd (cc is)
-stopped_tries w (Lost c field) by entries = λ yes is. absurd (cc is)
-stopped_tries w (Taken c) by entries = λ yes is. absurd (cc is)
+pub stopped_tries : (w : Bool) (event : Event) (by : Device) (turns : ℕ) → TriesOn w event (Stopped by) turns
+stopped_tries w (Heard c kind message) by turns = λ yes is. absurd (cc is)
+stopped_tries w (Lost c field) by turns = λ yes is. absurd (cc is)
+stopped_tries w (Taken c) by turns = λ yes is. absurd (cc is)
 
-pub disk_tries : (w : Bool) (event : Event) (entries : List Entry) → TriesOn w event DiskFault entries
-disk_tries w (Heard c kind message) entries = λ yes is. absurd (cc is)
-disk_tries w (Lost c field) entries = λ yes is. absurd (cc is)
-disk_tries w (Taken c) entries = λ yes is. absurd (cc is)
+pub disk_tries : (w : Bool) (event : Event) (turns : ℕ) → TriesOn w event DiskFault turns
+disk_tries w (Heard c kind message) turns = λ yes is. absurd (cc is)
+disk_tries w (Lost c field) turns = λ yes is. absurd (cc is)
+disk_tries w (Taken c) turns = λ yes is. absurd (cc is)
 
-pub say_tries : (w : Bool) (event : Event) (entries : List Entry) → TriesOn w event SayFault entries
-say_tries w (Heard c kind message) entries = λ yes is. absurd (cc is)
-say_tries w (Lost c field) entries = λ yes is. absurd (cc is)
-say_tries w (Taken c) entries = λ yes is. absurd (cc is)
+pub say_tries : (w : Bool) (event : Event) (turns : ℕ) → TriesOn w event SayFault turns
+say_tries w (Heard c kind message) turns = λ yes is. absurd (cc is)
+say_tries w (Lost c field) turns = λ yes is. absurd (cc is)
+say_tries w (Taken c) turns = λ yes is. absurd (cc is)
 
-pub spent_tries : (w : Bool) (event : Event) (entries : List Entry) → TriesOn w event Spent entries
-spent_tries w (Heard c kind message) entries = λ yes is. absurd (cc is)
-spent_tries w (Lost c field) entries = λ yes is. absurd (cc is)
-spent_tries w (Taken c) entries = λ yes is. absurd (cc is)
+pub spent_tries : (w : Bool) (event : Event) (turns : ℕ) → TriesOn w event Spent turns
+spent_tries w (Heard c kind message) turns = λ yes is. absurd (cc is)
+spent_tries w (Lost c field) turns = λ yes is. absurd (cc is)
+spent_tries w (Taken c) turns = λ yes is. absurd (cc is)
 
 module _ (c : ℕ) (kind : Kind) (message : List ℕ) where
   abbrev heard : Event
@@ -108,9 +108,9 @@ module _ (c : ℕ) (kind : Kind) (message : List ℕ) where
   went_on (Err (Stopped by)) before now is adds = absurd (cc is)
   went_on (Err Spent) before now is adds = absurd (cc is)
 
-  -- a try adds one of the desk's own
+  -- a try takes a turn
   pub one_more : (answer : Result Outcome SwitchFault) (before now : Seen) (tries : ℕ) → is_wanting answer ≡ true → Answers before heard SaysNoMore answer now
-      → tries ≤ length (own before) → tries + 1 ≤ length (own now)
+      → tries ≤ before.turns → tries + 1 ≤ now.turns
   one_more (Err (Full used need limit)) before now tries is adds so_far = one_added before now (Idle heard (Full used need limit)) tries adds so_far
   one_more (Err NoMemory) before now tries is adds so_far = one_added before now (Idle heard NoMemory) tries adds so_far
   one_more (Ok o) before now tries is adds so_far = absurd (cc is)
