@@ -75,7 +75,7 @@ module _ (w : Bool) (c : ℕ) (first now later : Seen) (given piece : List ℕ) 
   abbrev Ends : SwitchFault → Type 0
   Ends fault = Reads w c first later (given ++ piece) (Fault fault)
 
-  ends : (fault : SwitchFault) (front : List Event) (event : Event) (beside back : List Event) → more ≡ front ++ (event ∷ beside) ++ back → GoesOn now later
+  ends : (fault : SwitchFault) (front : List Event) (event : Event) (beside back : List Event) → more ≡ (front ++ event ∷ beside) ++ back → GoesOn now later
       → AddsFault w event beside fault later.full later.turns (settled_own w now ++ all_done front) (settled_own w later) (own later) → Ends fault
   ends fault front event beside back is on adds =
       subst (λ (l : List ℕ). Reads w c first later l (Fault fault)) whole (failed w c first now later given x so_far behind fault front event beside back is on adds)
@@ -97,7 +97,7 @@ module _ (w : Bool) (c : ℕ) (first now later : Seen) (given piece : List ℕ) 
   idle : (fault : SwitchFault) (last : Event) (entries : List Entry) → AddsAny now entries later → LeavesLast more last fault entries
       → fault_entries last [] fault ≡ Idle last fault ∷ [] → TriesOn w last fault later.turns → (fault ≡ Spent → ⊥) → Ends fault
   idle fault last entries adds leaves shape kept never =
-      ends fault leaves.front last [] [] leaves.is (goes_any now later entries adds)
+      ends fault leaves.front last [] [] (leaves.is ∙ sym (append-nil (leaves.front ++ last ∷ []))) (goes_any now later entries adds)
       (in_turn fault leaves.front last [] (Idle last fault) [] entries adds leaves.added shape (λ no_disk no_say. refl) kept never)
 
   pub fed_fault : (fault : SwitchFault) → fed.end ≡ fed_ends.Fault fault → desks.Feeds c more decoder.message fed.end now later → Ends fault
@@ -181,5 +181,5 @@ module _ (w : Bool) (c : ℕ) (first now later new : Seen) (given piece : List �
   -- or it was answered with a fault
   pub never_heard : (f : SwitchFault) → Hears w heard (Err f) mid new → TriesOn w heard f new.turns → Reads w c first new (given ++ piece) (Fault f)
   never_heard f h kept =
-      ends w c first now new given piece fed decoder so_far takes f wanted.front heard [] [] wanted.is (on (Err f) h)
+      ends w c first now new given piece fed decoder so_far takes f wanted.front heard [] [] (wanted.is ∙ sym (append-nil (wanted.front ++ heard ∷ []))) (on (Err f) h)
       (subst (λ (l : List Entry). AddsFault w heard [] f new.full new.turns l (settled_own w new) (own new)) wanted.done (faults.failed w heard f mid new h kept))

@@ -183,7 +183,7 @@ pub record EntersUpTo (w : Bool) (events : List Event) (fault : SwitchFault) (ow
   pub event : Event
   pub beside : List Event
   pub behind : List Event
-  pub parts : events ≡ front ++ (event ∷ beside) ++ behind
+  pub parts : events ≡ (front ++ event ∷ beside) ++ behind
   pub apart : (fault ≡ DiskFault → ⊥) → (fault ≡ SayFault → ⊥) → beside ≡ []
   pub is : settled w own ≡ all_done front ++ settled w (fault_entries event beside fault)
   pub kept : w ≡ true → is_try (of_entry.Idle event fault) ≡ false
