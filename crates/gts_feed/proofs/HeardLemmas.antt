@@ -49,7 +49,7 @@ module _ {O W : Type 0} (meanings : Standing O W) where
     after : AfterHearing meanings o s.front s.events e result new
     after = heard.adds o s.front s.events s.gathers
 
-    all : List Entry
+    abbrev all : List Entry
     all = s.front ++ all_done s.events
 
     done : (answer : Outcome) → result ≡ Ok answer → Stands meanings o first (h ++ all_done (e ∷ [])) new

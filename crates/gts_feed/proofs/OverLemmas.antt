@@ -1,6 +1,7 @@
 -- A feed goes on, step by step.
-use Rattle.std.proofs.Common.{◌≡◌, ℕ, List, [], ◌∷◌, ◌++◌, length, Result, Ok, Err, refl, sym, ap, subst, ◌∙◌, arith, append_assoc}
+use Rattle.std.proofs.Common.{◌≡◌, ℕ, ◌<◌, ◌≤◌, Bool, true, false, nat_lt, List, [], ◌∷◌, ◌++◌, length, Result, Ok, Err, refl, sym, ap, subst, ◌∙◌, arith, append_assoc}
 use Rattle.std.specs.Prelude.{IsErrOf}
+use Rattle.std.proofs.lemmas.Bool.{ltb-true, ltb-false}
 use Rattle.gts_traits.specs.Counts.{Rose}
 use Rattle.gts_frame.specs.Decoder.{Decoding, signs_of_step}
 use Rattle.gts_frame.specs.Signs.{held_in}
@@ -17,7 +18,7 @@ use Rattle.gts_connection.proofs.LawLemmas.{added-twice}
 use Rattle.gts_calls.specs.{Standing, Stands, HasCallCause}
 use Rattle.gts_feed.specs.declared.fed.FeedEnd.{FeedEnd}
 use Rattle.gts_feed.specs.declared.fed.FeedEnd.TheVariants.{All, Lost, Wanting, Fault}
-use Rattle.gts_feed.specs.Fed.{KeepsOver, EndsOver}
+use Rattle.gts_feed.specs.Fed.{is_all, KeepsOver, EndsOver}
 use Rattle.gts_feed.specs.Reading.{EndsAt, IsNoLoss, EndsStep, Reads}
 use Rattle.gts_feed.specs.Going.{GoesFed, GoesOver}
 use Rattle.gts_feed.proofs.FedLemmas.{fed_behind}
@@ -92,3 +93,18 @@ caused_later before result disk mid disk_now say heard say_now a b = record {
   say_later = omega (arith, a.say_later, b.say_later);
   say_failed = λ e. rose_from say heard say_now a.say_later (b.say_failed e);
 }
+
+-- ---- ends
+
+pub is_that : (end : FeedEnd) → is_all end ≡ true → end ≡ All
+is_that All is = refl
+is_that (Lost field) is = absurd (cc is)
+is_that (Wanting kind fault) is = absurd (cc is)
+is_that (Fault fault) is = absurd (cc is)
+
+pub all_taken : (n m : ℕ) (end : FeedEnd) → n ≤ m → (n < m → is_all end ≡ false) → end ≡ All → n ≡ m
+all_taken n m end most stops is = go (nat_lt n m) refl
+  where
+    go : (b : Bool) → nat_lt n m ≡ b → n ≡ m
+    go true less = absurd (let no : true ≡ false = sym (ap is_all is) ∙ stops (ltb-true n m less) in cc no)
+    go false less = omega (arith, most, ltb-false n m less)
