@@ -17,7 +17,7 @@ use Rattle.gts_feed.specs.Going.{AfterHearing, IsHeard, BreaksOff, BreaksLast, G
 use Rattle.gts_feed.proofs.GoingLemmas.{within_all, cause_at, one_more, in_doubt, cut_short}
 
 module _ {O W : Type 0} (meanings : Standing O W) where
-  as_hearing : (o : O) (entries : List Entry) (events : List Event) (e : Event) (result : Result Outcome SwitchFault) (new : W)
+  pub as_hearing : (o : O) (entries : List Entry) (events : List Event) (e : Event) (result : Result Outcome SwitchFault) (new : W)
       → AfterCall meanings o entries events e result new → AfterHearing meanings o entries events e result new
   as_hearing o entries events e (Ok answer) new a = a
   as_hearing o entries events e (Err DiskFault) new a = inl a

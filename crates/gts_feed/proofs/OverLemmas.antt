@@ -1,7 +1,6 @@
 -- A feed goes on, step by step.
-use Rattle.std.proofs.Common.{◌≡◌, ℕ, ◌<◌, ◌≤◌, Bool, true, false, nat_lt, List, [], ◌∷◌, ◌++◌, length, Result, Ok, Err, refl, sym, ap, subst, ◌∙◌, arith, append_assoc}
+use Rattle.std.proofs.Common.{◌≡◌, ℕ, ◌≤◌, true, List, [], ◌∷◌, ◌++◌, length, Result, Ok, Err, refl, sym, ap, subst, ◌∙◌, arith, append_assoc}
 use Rattle.std.specs.Prelude.{IsErrOf}
-use Rattle.std.proofs.lemmas.Bool.{ltb-true, ltb-false}
 use Rattle.gts_traits.specs.Counts.{Rose}
 use Rattle.gts_frame.specs.Decoder.{Decoding, signs_of_step}
 use Rattle.gts_frame.specs.Signs.{held_in}
@@ -101,10 +100,3 @@ is_that All is = refl
 is_that (Lost field) is = absurd (cc is)
 is_that (Wanting kind fault) is = absurd (cc is)
 is_that (Fault fault) is = absurd (cc is)
-
-pub all_taken : (n m : ℕ) (end : FeedEnd) → n ≤ m → (n < m → is_all end ≡ false) → end ≡ All → n ≡ m
-all_taken n m end most stops is = go (nat_lt n m) refl
-  where
-    go : (b : Bool) → nat_lt n m ≡ b → n ≡ m
-    go true less = absurd (let no : true ≡ false = sym (ap is_all is) ∙ stops (ltb-true n m less) in cc no)
-    go false less = omega (arith, most, ltb-false n m less)
