@@ -1,9 +1,9 @@
 -- One message or loss more, behind what a switch stands for.
-use Rattle.std.proofs.Common.{◌≡◌, ℕ, ◌⊎◌, inl, inr, List, [], ◌∷◌, ◌++◌, length, Result, Ok, Err, refl, sym, ap, subst, ◌∙◌}
+use Rattle.std.proofs.Common.{◌≡◌, ℕ, ◌⊎◌, inl, inr, List, [], ◌∷◌, ◌++◌, Result, Ok, Err, refl, sym, subst, ◌∙◌}
 use Rattle.std.proofs.lemmas.List.{append-nil}
 use Rattle.gts_frame.specs.declared.kind.Kind.{Kind}
 use Rattle.gts_frame.specs.declared.lost.LostField.{LostField}
-use Rattle.gts_event.specs.Drain.{all_done, all_unsaid}
+use Rattle.gts_event.specs.Drain.{all_done}
 use Rattle.gts_event.specs.declared.event.Event.{Event}
 use Rattle.gts_event.specs.declared.event.Event.TheVariants as event
 use Rattle.gts_event.specs.declared.event.Entry.{Entry}

@@ -1,6 +1,5 @@
 -- A feed goes on, step by step.
-use Rattle.std.proofs.Common.{◌≡◌, ℕ, ◌≤◌, true, List, [], ◌∷◌, ◌++◌, length, Result, Ok, Err, refl, sym, ap, subst, ◌∙◌, arith, append_assoc}
-use Rattle.std.specs.Prelude.{IsErrOf}
+use Rattle.std.proofs.Common.{◌≡◌, ℕ, ◌≤◌, true, List, ◌++◌, Result, refl, ap, subst, ◌∙◌, arith, append_assoc}
 use Rattle.gts_traits.specs.Counts.{Rose}
 use Rattle.gts_frame.specs.Decoder.{Decoding, signs_of_step}
 use Rattle.gts_frame.specs.Signs.{held_in}
@@ -10,7 +9,6 @@ use Rattle.gts_event.specs.Drain.{all_done}
 use Rattle.gts_event.specs.declared.event.Event.{Event}
 use Rattle.gts_event.specs.declared.event.Entry.{Entry}
 use Rattle.gts_event.specs.declared.fault.SwitchFault.{SwitchFault}
-use Rattle.gts_event.specs.declared.fault.SwitchFault.TheVariants.{DiskFault, SayFault}
 use Rattle.gts_connection.specs.Connection.{events_added}
 use Rattle.gts_connection.specs.Steps.{events_of_signs}
 use Rattle.gts_connection.proofs.LawLemmas.{added-twice}

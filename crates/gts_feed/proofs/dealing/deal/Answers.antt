@@ -1,5 +1,4 @@
-use Rattle.std.proofs.Common.{◌≡◌, List, ℕ, sym, subst}
-use Rattle.gts_event.specs.declared.event.Entry.{Entry}
+use Rattle.std.proofs.Common.{List, ℕ, sym, subst}
 use Rattle.gts_frame.specs.Decoder.{signs_of_step}
 use Rattle.gts_frame.specs.declared.step.Step.{Step}
 use Rattle.gts_connection.specs.Steps.{events_of_signs}

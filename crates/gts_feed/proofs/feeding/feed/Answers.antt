@@ -1,6 +1,5 @@
-use Rattle.std.proofs.Common.{◌≡◌, ℕ, List, take, subst}
+use Rattle.std.proofs.Common.{List, subst}
 use Rattle.gts_event.specs.declared.event.Event.{Event}
-use Rattle.gts_event.specs.declared.event.Entry.{Entry}
 use Rattle.std.proofs.Common.{sym}
 use Rattle.gts_feed.specs.Going.{GoesFed}
 use Rattle.gts_feed.proofs.feeding.feed.Goals as goal

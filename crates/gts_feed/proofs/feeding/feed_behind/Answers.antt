@@ -1,8 +1,7 @@
-use Rattle.std.proofs.Common.{◌≡◌, ◌<◌, ◌≤◌, ◌+◌, ◌-◌, ◌++◌, ℕ, true, false, List, length, take, drop, refl, sym, ap, subst, ◌∙◌, arith, length-drop}
+use Rattle.std.proofs.Common.{◌≡◌, ◌-◌, ℕ, true, false, List, length, take, drop, sym, ap, subst, ◌∙◌, arith, length-drop}
 use Rattle.gts_event.specs.declared.event.Entry.{Entry}
 use Rattle.gts_frame.specs.Decoder.{signs_of_step}
 use Rattle.gts_connection.specs.Steps.{events_of_signs}
-use Rattle.gts_calls.specs.{Stands}
 use Rattle.gts_feed.specs.declared.fed.FeedEnd.{FeedEnd}
 use Rattle.gts_feed.specs.declared.fed.FeedEnd.TheVariants.{All}
 use Rattle.gts_feed.specs.Fed.{answer_of, is_all, IsShortAt}

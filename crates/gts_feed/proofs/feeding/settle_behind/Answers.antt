@@ -1,4 +1,4 @@
-use Rattle.std.proofs.Common.{◌≡◌, sym, ◌∙◌}
+use Rattle.std.proofs.Common.{sym, ◌∙◌}
 use Rattle.gts_feed.proofs.SettlingLemmas.{settles_none, settles_done, settles_failed}
 use Rattle.gts_feed.proofs.feeding.settle_behind.Goals as goal
 

@@ -1,4 +1,4 @@
-use Rattle.std.proofs.Common.{◌≡◌, ◌<◌, ◌≤◌, ◌+◌, ◌-◌, ◌++◌, ℕ, false, List, length, take, drop, sym, ap, subst, ◌∙◌, arith, length-drop}
+use Rattle.std.proofs.Common.{◌≡◌, ◌<◌, ◌-◌, ◌++◌, ℕ, false, List, length, take, drop, sym, ap, subst, ◌∙◌, arith, length-drop}
 use Rattle.gts_feed.specs.Reading.{is_event as shows_event, Reads}
 use Rattle.gts_feed.proofs.ReadingLemmas.{reads_taken, reads_more, slice_from, taken_more}
 use Rattle.gts_feed.proofs.reading.next_step.Goals as goal
