@@ -1,18 +1,17 @@
 -- Several messages of a feed, one behind another.
-use Rattle.std.proofs.Common.{◌≡◌, ℕ, ◌≤◌, List, [], ◌∷◌, ◌++◌, length, Result, Ok, Err, refl, sym, ap, subst, ◌∙◌}
+use Rattle.std.proofs.Common.{◌≡◌, ℕ, List, [], ◌∷◌, ◌++◌, sym, ap, subst, ◌∙◌}
 use Rattle.std.proofs.lemmas.List.{append-nil, append_assoc}
-use Rattle.gts_frame.specs.declared.lost.LostField.{LostField}
 use Rattle.gts_event.specs.Drain.{all_done}
 use Rattle.gts_event.specs.declared.event.Event.{Event}
 use Rattle.gts_event.specs.declared.event.Event.TheVariants as event
 use Rattle.gts_event.specs.declared.event.Entry.{Entry}
-use Rattle.gts_event.specs.declared.event.Entry.TheVariants.{Done, Idle}
+use Rattle.gts_event.specs.declared.event.Entry.TheVariants.{Idle}
 use Rattle.gts_event.specs.declared.fault.SwitchFault.{SwitchFault}
 use Rattle.gts_event.specs.declared.fault.SwitchFault.TheVariants.{DiskFault, SayFault, Full, Stopped, Spent, NoMemory}
 use Rattle.gts_calls.specs.{Standing, Stands, settled, IsCause, outcome_at}
 use Rattle.gts_feed.specs.declared.fed.FeedEnd.{FeedEnd}
 use Rattle.gts_feed.specs.declared.fed.FeedEnd.TheVariants.{All, Lost, Wanting, Fault}
-use Rattle.gts_feed.specs.Fed.{EndsWith, answer_of}
+use Rattle.gts_feed.specs.Fed.{answer_of}
 use Rattle.gts_feed.specs.Going.{BreaksOff, BreaksIdle, BreaksLast, BreaksFed, Goes, GoesFed}
 use Rattle.gts_feed.proofs.GoingLemmas.{all_done-append, stands_same, then_breaks}
 

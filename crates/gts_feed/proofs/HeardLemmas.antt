@@ -1,9 +1,9 @@
 -- One message or loss more, behind what a switch stands for.
-use Rattle.std.proofs.Common.{◌≡◌, ℕ, ◌⊎◌, inl, inr, List, [], ◌∷◌, ◌++◌, length, Result, Ok, Err, refl, sym, ap, subst, ◌∙◌}
+use Rattle.std.proofs.Common.{◌≡◌, ℕ, ◌⊎◌, inl, inr, List, [], ◌∷◌, ◌++◌, Result, Ok, Err, refl, sym, subst, ◌∙◌}
 use Rattle.std.proofs.lemmas.List.{append-nil}
 use Rattle.gts_frame.specs.declared.kind.Kind.{Kind}
 use Rattle.gts_frame.specs.declared.lost.LostField.{LostField}
-use Rattle.gts_event.specs.Drain.{all_done, all_unsaid}
+use Rattle.gts_event.specs.Drain.{all_done}
 use Rattle.gts_event.specs.declared.event.Event.{Event}
 use Rattle.gts_event.specs.declared.event.Event.TheVariants as event
 use Rattle.gts_event.specs.declared.event.Entry.{Entry}
@@ -17,7 +17,7 @@ use Rattle.gts_feed.specs.Going.{AfterHearing, IsHeard, BreaksOff, BreaksLast, G
 use Rattle.gts_feed.proofs.GoingLemmas.{within_all, cause_at, one_more, in_doubt, cut_short}
 
 module _ {O W : Type 0} (meanings : Standing O W) where
-  as_hearing : (o : O) (entries : List Entry) (events : List Event) (e : Event) (result : Result Outcome SwitchFault) (new : W)
+  pub as_hearing : (o : O) (entries : List Entry) (events : List Event) (e : Event) (result : Result Outcome SwitchFault) (new : W)
       → AfterCall meanings o entries events e result new → AfterHearing meanings o entries events e result new
   as_hearing o entries events e (Ok answer) new a = a
   as_hearing o entries events e (Err DiskFault) new a = inl a
@@ -49,7 +49,7 @@ module _ {O W : Type 0} (meanings : Standing O W) where
     after : AfterHearing meanings o s.front s.events e result new
     after = heard.adds o s.front s.events s.gathers
 
-    all : List Entry
+    abbrev all : List Entry
     all = s.front ++ all_done s.events
 
     done : (answer : Outcome) → result ≡ Ok answer → Stands meanings o first (h ++ all_done (e ∷ [])) new

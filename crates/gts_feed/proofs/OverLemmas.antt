@@ -1,6 +1,5 @@
 -- A feed goes on, step by step.
-use Rattle.std.proofs.Common.{◌≡◌, ℕ, List, [], ◌∷◌, ◌++◌, length, Result, Ok, Err, refl, sym, ap, subst, ◌∙◌, arith, append_assoc}
-use Rattle.std.specs.Prelude.{IsErrOf}
+use Rattle.std.proofs.Common.{◌≡◌, ℕ, ◌≤◌, true, List, ◌++◌, Result, refl, ap, subst, ◌∙◌, arith, append_assoc}
 use Rattle.gts_traits.specs.Counts.{Rose}
 use Rattle.gts_frame.specs.Decoder.{Decoding, signs_of_step}
 use Rattle.gts_frame.specs.Signs.{held_in}
@@ -10,14 +9,13 @@ use Rattle.gts_event.specs.Drain.{all_done}
 use Rattle.gts_event.specs.declared.event.Event.{Event}
 use Rattle.gts_event.specs.declared.event.Entry.{Entry}
 use Rattle.gts_event.specs.declared.fault.SwitchFault.{SwitchFault}
-use Rattle.gts_event.specs.declared.fault.SwitchFault.TheVariants.{DiskFault, SayFault}
 use Rattle.gts_connection.specs.Connection.{events_added}
 use Rattle.gts_connection.specs.Steps.{events_of_signs}
 use Rattle.gts_connection.proofs.LawLemmas.{added-twice}
 use Rattle.gts_calls.specs.{Standing, Stands, HasCallCause}
 use Rattle.gts_feed.specs.declared.fed.FeedEnd.{FeedEnd}
 use Rattle.gts_feed.specs.declared.fed.FeedEnd.TheVariants.{All, Lost, Wanting, Fault}
-use Rattle.gts_feed.specs.Fed.{KeepsOver, EndsOver}
+use Rattle.gts_feed.specs.Fed.{is_all, KeepsOver, EndsOver}
 use Rattle.gts_feed.specs.Reading.{EndsAt, IsNoLoss, EndsStep, Reads}
 use Rattle.gts_feed.specs.Going.{GoesFed, GoesOver}
 use Rattle.gts_feed.proofs.FedLemmas.{fed_behind}
@@ -92,3 +90,11 @@ caused_later before result disk mid disk_now say heard say_now a b = record {
   say_later = omega (arith, a.say_later, b.say_later);
   say_failed = λ e. rose_from say heard say_now a.say_later (b.say_failed e);
 }
+
+-- ---- ends
+
+pub is_that : (end : FeedEnd) → is_all end ≡ true → end ≡ All
+is_that All is = refl
+is_that (Lost field) is = absurd (cc is)
+is_that (Wanting kind fault) is = absurd (cc is)
+is_that (Fault fault) is = absurd (cc is)

@@ -1,7 +1,7 @@
 -- The steps of a decoder up to the next event.
 use Rattle.std.proofs.Common.{◌≡◌, ℕ, ◌+◌, ◌-◌, ◌<◌, ◌≤◌, Bool, true, false, ◌&&◌, not, List, [], ◌∷◌, ◌++◌, length, take, drop, Option, Some, None, refl, sym, ap, ◌∙◌, subst, arith, append_assoc, length-append, length-drop}
 use Rattle.std.specs.Prelude.{IsSome, IfSome, IfNone}
-use Rattle.std.proofs.lemmas.List.{append-nil, take_all}
+use Rattle.std.proofs.lemmas.List.{append-nil, take_all, length-take-le}
 use Rattle.std.proofs.Math.Seq.{take-append_seam, take-add}
 use Rattle.gts_frame.specs.Frame.{piece_text}
 use Rattle.gts_frame.specs.Stream.{is_front, IsPartial, IsStreamFront}
@@ -99,6 +99,17 @@ module _ (before x : List ℕ) (step : Step) (decoder next : Decoding) (held : d
       by : (o : Option (List ℕ)) → decoder.held ≡ o → EndsAt before x step
       by None is = closed is
       by (Some h) is = opened h is
+
+-- the answer of a decoder that takes some bytes of a piece
+pub reads_taken : (before piece : List ℕ) (r : ℕ × Step) (decoder next : Decoding) → decoder.held ≡ held_in before → r.0 ≤ length piece → 0 < r.0
+    → IfSome decoder.held (λ held. Makes (held ++ take r.0 piece) r.1) → IfSome decoder.held (λ held. next ≡ after_step (held ++ take r.0 piece) r.1)
+    → IfNone decoder.held (r ≡ record { 0 = length piece; 1 = steps.Dropped }) → ReadsOn before (take r.0 piece) r.1 next → Reads before (take r.0 piece) r.1 next
+reads_taken before piece r decoder next held most some makes after dropped reads =
+    reads_one before (take r.0 piece) r.1 decoder next held (omega (arith, some, length-take-le r.0 piece most)) makes after (drops decoder.held dropped) reads
+  where
+    drops : (o : Option (List ℕ)) → IfNone o (r ≡ record { 0 = length piece; 1 = steps.Dropped }) → IfNone o (r.1 ≡ steps.Dropped)
+    drops None is = ap (λ (x : ℕ × Step). x.1) is
+    drops (Some h) is = tt
 
 -- ---- more steps
 

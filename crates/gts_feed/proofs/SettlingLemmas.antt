@@ -1,7 +1,6 @@
 -- What a feed gathered is settled.
-use Rattle.std.proofs.Common.{◌≡◌, ℕ, ◌≤◌, Bool, true, false, List, [], ◌∷◌, ◌++◌, length, Result, Ok, Err, refl, sym, ap, subst, ◌∙◌, arith, length-append}
+use Rattle.std.proofs.Common.{◌≡◌, ℕ, ◌≤◌, true, false, List, [], ◌∷◌, ◌++◌, length, Ok, Err, refl, sym, ap, subst, ◌∙◌, arith}
 use Rattle.std.proofs.lemmas.List.{append-nil, append_assoc}
-use Rattle.gts_frame.specs.declared.kind.Kind.{Kind}
 use Rattle.gts_event.specs.Drain.{all_done, all_unsaid}
 use Rattle.gts_event.specs.declared.event.Event.{Event}
 use Rattle.gts_event.specs.declared.event.Event.TheVariants as event
@@ -12,7 +11,7 @@ use Rattle.gts_event.specs.declared.fault.SwitchFault.TheVariants.{DiskFault, Sa
 use Rattle.gts_calls.specs.{Standing, Stands, settled, IsSettling, AfterSettling}
 use Rattle.gts_feed.specs.declared.fed.FeedEnd.{FeedEnd}
 use Rattle.gts_feed.specs.declared.fed.FeedEnd.TheVariants.{All, Lost, Wanting, Fault}
-use Rattle.gts_feed.specs.Fed.{is_done, EndsOver, EndsWith, LeavesLast, TurnsTogether, AddsAtFault, AddsFed}
+use Rattle.gts_feed.specs.Fed.{is_done, LeavesLast, TurnsTogether, AddsAtFault, AddsFed}
 use Rattle.gts_feed.specs.Going.{BreaksOff, BreaksTogether, BreaksLast, BreaksFed, GoesFed, SettlesFed}
 use Rattle.gts_feed.proofs.GoingLemmas.{settles_all, settles_not, then_breaks}
 

@@ -1,5 +1,5 @@
 -- What became of a piece of a connection: what the decoder holds by then, and which entries were added for its events.
-use Rattle.std.specs.Prelude.{◌≡◌, ℕ, ◌≤◌, Bool, true, false, List, [], ◌∷◌, ◌++◌, length, take, Option, None, Result, Ok, Err, IsSome}
+use Rattle.std.specs.Prelude.{◌≡◌, ℕ, ◌≤◌, Bool, true, false, List, [], ◌∷◌, ◌++◌, length, take, None, Result, Ok, Err, IsSome}
 use Rattle.gts_alphabet.specs.declared.limits.TheConstants.{LONGEST_MESSAGE}
 use Rattle.gts_frame.specs.Decoder.{Decoding}
 use Rattle.gts_frame.specs.Signs.{held_in}

@@ -1,4 +1,4 @@
-use Rattle.std.proofs.Common.{◌≡◌, ◌≤◌, ◌-◌, ℕ, List, length, take}
+use Rattle.std.proofs.Common.{◌≡◌, ◌≤◌, ◌-◌, length, take}
 use Rattle.gts_calls.specs.{HasCallCause}
 use Rattle.gts_feed.specs.Fed.{answer_of, IsShortAt}
 use Rattle.gts_feed.specs.Going.{GoesOver}
