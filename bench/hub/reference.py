@@ -11,8 +11,8 @@ from journal import EOL
 FRONT = 48
 # How many bulletins stay known behind their last arrival, for frames that come once more.
 REMEMBERED = 20_000
-# How many bulletins may have been accepted without a receipt when the program is killed.
-IN_DOUBT = 1
+# How many bulletins may have been accepted without a receipt when the program is killed: as many as go behind one gate.
+IN_DOUBT = 256
 
 
 class Lost(Exception):

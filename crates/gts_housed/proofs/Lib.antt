@@ -1,3 +1,5 @@
+pub mod FlatLemmas
 mod StandingLemmas
+mod GatheringLemmas
 pub mod TurningLemmas
 pub mod LawLemmas

@@ -18,6 +18,7 @@ use Rattle.gts_connection.specs.Capture.{Connections}
 use Rattle.gts_connection.specs.Connection.{events_added}
 use Rattle.gts_calls.specs.{Standing, Stands, settled, IsCause, IsReopenFault, outcome_at}
 use Rattle.std.specs.Prelude.{IsTrue}
+pub use Rattle.gts_feed.specs.Going.{BreaksTogether, BreaksIdle, BreaksOff, Goes}
 
 -- A state from which a drain ends: each circuit keeps a draw, and what each state of a history keeps is there; no position
 -- was routed twice to a circuit, and no circuit is owed more than it may be.
@@ -45,38 +46,6 @@ compacted_at meanings o entries (k ∷ ks) = compacted_at meanings (meanings.com
 abbrev pub origin_behind : {O W : Type 0} → Standing O W → O → List ℕ → List Entry → O
 origin_behind meanings o ks entries = compacted_at meanings o entries (done_by (length entries) ks)
 
--- A device failed. Of the entries that there were, and that were to be added, the first stand, at least so many, and some events
--- behind them became these entries together. So the switch stands since the origin that it has behind the first.
-pub record BreaksTogether {O W : Type 0} (meanings : Standing O W) (at : List Entry → O) (first : ℕ) (h more : List Entry)
-    (became : List Event → List Entry) (now : W) : Type 0 where
-  pub front : List Entry
-  pub event : Event
-  pub events : List Event
-  pub behind : List Entry
-  pub parts : h ++ more ≡ front ++ all_done (event ∷ events) ++ behind
-  pub within : first ≤ length front
-  pub stands : settled meanings (at front) (front ++ became (event ∷ events)) now
-
--- Of the entries that were to be added, those before one were, and that was left idle with this fault, which has its cause. So
--- the switch stands since the origin that it has behind them.
-pub record BreaksIdle {O W : Type 0} (meanings : Standing O W) (at : List Entry → O) (h more : List Entry)
-    (fault : SwitchFault) (now : W) : Type 0 where
-  pub front : List Entry
-  pub event : Event
-  pub behind : List Entry
-  pub parts : more ≡ front ++ Done event ∷ behind
-  pub stands : settled meanings (at (h ++ front)) ((h ++ front) ++ Idle event fault ∷ []) now
-  pub cause : IsCause (meanings.is_full (at (h ++ front)) (h ++ front) event) (h ++ front)
-      (outcome_at meanings now (at (h ++ front)) (h ++ front) event) fault
-
--- Entries were to be added behind these, of which none of the first so many is gathered, and broke off at this fault: the disk
--- failed, and what was brought into the journal together is in doubt; or saying failed, at the first of what was to be said; or an
--- event changed nothing.
-abbrev pub BreaksOff : {O W : Type 0} → Standing O W → (List Entry → O) → (first : ℕ) → (h more : List Entry) → SwitchFault → W → Type 0
-BreaksOff meanings at first h more DiskFault now = BreaksTogether meanings at first h more (λ events. Doubt events ∷ []) now
-BreaksOff meanings at first h more SayFault now = BreaksTogether meanings at first h more all_unsaid now
-BreaksOff meanings at first h more fault now = BreaksIdle meanings at h more fault now
-
 -- Of the entries that were to be added, those before one were: the journal was not opened again there. Over a station that
 -- tells, only the disk and want of memory prevent that.
 pub record BreaksAtRestart {O W : Type 0} (meanings : Standing O W) (station : Type 0)
@@ -86,11 +55,6 @@ pub record BreaksAtRestart {O W : Type 0} (meanings : Standing O W) (station : T
   pub parts : more ≡ front ++ Restarted ∷ behind
   pub stands : settled meanings (at (h ++ front)) (h ++ front) now
   pub fault_is : station → IsReopenFault fault
-
--- these entries were to be added: all were, or they broke off
-abbrev pub Goes : {O W : Type 0} → Standing O W → O → (first : ℕ) → (h more : List Entry) → Result (Unit {0}) SwitchFault → W → Type 0
-Goes meanings o first h more (Ok _) now = Stands meanings o first (h ++ more) now
-Goes meanings o first h more (Err fault) now = BreaksOff meanings (λ _. o) first h more fault now
 
 -- What stays of a switch whose journal was to be compacted: it was left by the disk, or nothing changed.
 abbrev pub Remains : {O W : Type 0} → Standing O W → O → List Entry → SwitchFault → W → Type 0
