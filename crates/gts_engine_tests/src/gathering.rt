@@ -168,14 +168,21 @@ fn used_by(alloc: Global, station: MemStation) -> Result<Option<u64>, Fail> {
     }
 }
 
-/// The pieces that were said, one behind the other, of which the listed call was to fail, and the bytes in use behind that.
+/// How many pieces of the events a station said, one behind the other.
+fn pieces_said(station: &MemStation) -> u64 {
+    for piece in 0..PIECES {
+        if station.saying(piece).is_none() {
+            return piece;
+        }
+    }
+    PIECES
+}
+
+/// The pieces that were said where the listed call was to fail, and the bytes in use behind that.
 fn said_until(alloc: Global, call: u64) -> Result<(u64, Option<u64>), Fail> {
     let (engine, _) = settled(alloc, 2, &[call], &EVENTS)?;
     let station = station_in(engine);
-    let mut pieces: u64 = 0;
-    while pieces < PIECES && station.saying(pieces).is_some() {
-        pieces += 1;
-    }
+    let pieces = pieces_said(&station);
     Ok((pieces, used_by(alloc, station)?))
 }
 
