@@ -43,6 +43,7 @@ impl Desk for OwedDesk {
 
     fn rest(&mut self) {}
 
+    #[tactic(auto, using(crate::proofs::OwedDeskLemmas::spent_on))]
     fn take_some(&mut self, c: u32, given: &mut Given) -> Result<bool, SwitchFault> {
         given.frames.clear();
         if c != 0 || self.takes == u64::MAX {

@@ -140,7 +140,7 @@ module _ (c : ℕ) (first old new : Seen) (sent : List ℕ) (so_far : Sending c 
 
   -- the turn was answered with a fault
   pub turn_fails : (f : SwitchFault) (given : List Frame) → TakesSome c given (Err f) old new → Fails c f first new (sent ++ [])
-  turn_fails f given takes = by f takes
+  turn_fails f given took = by f took
     where
       entered : (f : SwitchFault) (beside : ℕ) (entry : Entry) → fault_takes c beside f ≡ entry ∷ [] → beside ≤ most_beside old.directory c
           → ((d : Directory) (s : State) → frames d s old.name (under old.name (entry ∷ [])) ≡ [])
@@ -151,44 +151,38 @@ module _ (c : ℕ) (first old new : Seen) (sent : List ℕ) (so_far : Sending c 
         beside = beside;
         few = subst (λ (d : Directory). beside ≤ most_beside d c) (sym (ap (λ (d : Seen). d.directory) adds.is)) few;
         added = own_added old new (entry ∷ []) adds ∙ ap (λ (l : List Entry). l ++ entry ∷ []) so_far.added
-            ∙ append_assoc (own first) takes_so_far (entry ∷ []) ∙ ap (λ (l : List Entry). own first ++ (takes_so_far ++ l)) (sym shape);
+            ∙ append_assoc (own first) (takes c so_far.count) (entry ∷ []) ∙ ap (λ (l : List Entry). own first ++ (takes c so_far.count ++ l)) (sym shape);
         written = frames_added old new (entry ∷ []) adds ∙ ap (λ (l : List ℕ). own_frames old ++ l) (none old.directory (state_at old (old.history ++ adds.others)))
             ∙ ap (λ (l : List ℕ). l ++ []) so_far.written ∙ append_assoc (own_frames first) sent [];
         spent = λ e. absurd (unspent e);
         silent = silent;
         memory = memory;
       }
-        where
-          abbrev takes_so_far : List Entry
-          takes_so_far = takes c so_far.count
 
       by : (f : SwitchFault) → TakesSome c given (Err f) old new → Fails c f first new (sent ++ [])
-      by SayFault takes = absurd takes
-      by NoMemory takes = absurd takes
-      by DiskFault takes =
-          let t = takes.1 in
+      by SayFault took = absurd took
+      by NoMemory took = absurd took
+      by DiskFault took =
+          let t = took.1 in
           let entry : Entry = Doubt (Taken c ∷ replicate t.beside (Taken c)) in
           entered DiskFault t.beside entry refl t.few (λ d s. frames_one d s old.name entry) (λ e. cc e) (λ e. cc e) (λ e. cc e) t.added
-      by (Full used need limit) takes =
+      by (Full used need limit) took =
           let entry : Entry = Idle (Taken c) (Full used need limit) in
-          entered (Full used need limit) 0 entry refl (omega arith) (λ d s. frames_one d s old.name entry) (λ e. cc e) (λ e. cc e) (λ e. cc e) takes.1
-      by (Stopped device) takes =
+          entered (Full used need limit) 0 entry refl (omega arith) (λ d s. frames_one d s old.name entry) (λ e. cc e) (λ e. cc e) (λ e. cc e) took.1
+      by (Stopped device) took =
           let entry : Entry = Idle (Taken c) (Stopped device) in
-          entered (Stopped device) 0 entry refl (omega arith) (λ d s. frames_one d s old.name entry) (λ e. cc e) (λ e. cc e) (λ e. cc e) takes.1
-      by Spent takes = record {
-        desk = goes_further first old new so_far.desk (goes_on_spent old new takes.1);
+          entered (Stopped device) 0 entry refl (omega arith) (λ d s. frames_one d s old.name entry) (λ e. cc e) (λ e. cc e) (λ e. cc e) took.1
+      by Spent took = record {
+        desk = goes_further first old new so_far.desk (goes_on_spent old new took.1);
         count = so_far.count;
         beside = 0;
         few = omega arith;
-        added = own_spent old new takes.1 ∙ so_far.added ∙ ap (λ (l : List Entry). own first ++ l) (sym (append-nil (takes_of so_far.count)));
-        written = frames_spent old new takes.1 ∙ so_far.written ∙ ap (λ (l : List ℕ). own_frames first ++ l) (sym (append-nil sent));
-        spent = λ e. ap (λ (d : Seen). d.full) takes.1.is;
+        added = own_spent old new took.1 ∙ so_far.added ∙ ap (λ (l : List Entry). own first ++ l) (sym (append-nil (takes c so_far.count)));
+        written = frames_spent old new took.1 ∙ so_far.written ∙ ap (λ (l : List ℕ). own_frames first ++ l) (sym (append-nil sent));
+        spent = λ e. ap (λ (d : Seen). d.full) took.1.is;
         silent = λ e. cc e;
         memory = λ e. cc e;
       }
-        where
-          abbrev takes_of : ℕ → List Entry
-          takes_of n = replicate n (taken c)
 
 -- ---- what a turn sends, whatever was sent before
 

@@ -19,7 +19,7 @@ use Rattle.gts_desk.specs.Given.{Frame, takes, given_index, Gave, GaveAll, after
 use Rattle.gts_desk.proofs.LawLemmas.{frames_append, frames_one}
 use Rattle.gts_sender.specs.Sender.{texts}
 
-abbrev taken : ℕ → Entry
+abbrev pub taken : ℕ → Entry
 taken c = Done (Taken c)
 
 -- ---- so many takes

@@ -1,12 +1,12 @@
 -- Frames that are written one after another.
-use Rattle.std.proofs.Common.{◌≡◌, ◌<◌, ◌≤◌, ◌+◌, ℕ, suc, List, [], ◌∷◌, ◌++◌, length, take, drop, refl, sym, ap, ◌∙◌, subst, arith, append_assoc, add-one, length-drop}
+use Rattle.std.proofs.Common.{◌≡◌, ◌<◌, ◌≤◌, ◌+◌, ℕ, suc, List, [], ◌∷◌, ◌++◌, length, take, drop, Result, Ok, Err, refl, sym, ap, ◌∙◌, subst, arith, append_assoc, add-one, length-drop}
 use Rattle.std.specs.List.{slice_index_or}
 use Rattle.std.proofs.Math.Seq.{take-suc, split_at}
 use Rattle.std.proofs.lemmas.List.{append-nil, take_all}
 use Rattle.gts_traits.specs.Station.{IsFront}
 use Rattle.gts_desk.specs.declared.given.Placed.{Placed}
 use Rattle.gts_desk.specs.Given.{Frame, Laid, frames_in, frames_of, no_frame}
-use Rattle.gts_sender.specs.Sender.{texts, WroteUpTo}
+use Rattle.gts_sender.specs.Sender.{texts, Wrote, WroteUpTo}
 
 texts-append : (xs ys : List Frame) → texts (xs ++ ys) ≡ texts xs ++ texts ys
 texts-append [] ys = refl
@@ -45,3 +45,8 @@ up_to given i frame part within is front = record {
   within = front;
   is = refl;
 }
+
+-- what was written of a piece is a front of it
+pub front_of : {T E : Type 0} (result : Result T E) (piece bytes : List ℕ) → Wrote result piece bytes → IsFront bytes piece
+front_of (Ok x) piece bytes wrote = ([], sym wrote ∙ sym (append-nil bytes))
+front_of (Err e) piece bytes wrote = wrote
