@@ -5,6 +5,7 @@ version 1: what they answer to such a journal, and what each byte of the files i
 the journal's; and of what `migrate` writes each front and each byte changed.
 
     --break byte    once the program is given another journal than the one that is read"""
+import itertools
 import tempfile
 from concurrent.futures import ThreadPoolExecutor
 
@@ -36,6 +37,7 @@ class Runs(Folder):
     def __init__(self, program, at):
         super().__init__(program, at, DIRECTORY.text())
         self.falsifies = False
+        self.turn = itertools.cycle(TAKING_OVER)
 
     def lay(self, files):
         super().lay(files)
@@ -50,11 +52,13 @@ class Runs(Folder):
         return [self.frames(circuit) for circuit in CIRCUITS]
 
     def migrates(self, what, files):
-        """What `migrate check` and `migrate` answer to these files, and `migrate drop` where a circuit is closed; under each directory
-        where the journal opens."""
+        """What `migrate check` and `migrate` answer to these files, and `migrate drop` where a circuit is closed: where the journal
+        opens, under each directory, or under the next one in turn where it is of version 1."""
         opens = TakingOver(DIRECTORY, FEWER, files).status == 0
+        in_turn = [next(self.turn)] if opens and what.startswith('version 1') else TAKING_OVER
         self.write('directory.old.toml', DIRECTORY.text())
-        for name, new in TAKING_OVER.items() if opens else [('fewer', FEWER)]:
+        for name in in_turn if opens else ['fewer']:
+            new = TAKING_OVER[name]
             self.write('directory.toml', new.text())
             self.lay(files)
             want = TakingOver(DIRECTORY, new, files)
@@ -125,13 +129,13 @@ def cut_capture(runs, whole, length, empty, receipts):
 
 def older_journals(journal):
     """Names and files of journals of version 1 that were broken: each front, and each byte changed, which no seal tells; the same of
-    one that begins with a checkpoint."""
+    one that begins with a checkpoint. Most of them open."""
     compacted = TakingOver(DIRECTORY, DIRECTORY, [journal, b'', b'']).files[1]
     for front, file in (('version 1', older(journal)), ('version 1 with a checkpoint', older(compacted))):
         for length in range(len(file) + 1):
             yield f'{front}, {length} bytes', [file[:length], b'', b'']
         for place, byte in enumerate(file):
-            changes = SEALED_CHANGES + (GATES if byte in b'OC' else [])
+            changes = CHANGES + (GATES if byte in b'OC' else [])
             for other in sorted({change(byte) for change in changes} - {byte}):
                 yield f'{front}, byte {place} changed to {other:02x}', [file[:place] + bytes([other]) + file[place + 1:], b'', b'']
 
