@@ -10,9 +10,10 @@ use Rattle.gts_event.specs.declared.event.Entry.{Entry}
 use Rattle.gts_event.specs.declared.fault.SwitchFault.TheVariants.{Spent}
 use Rattle.gts_connection.specs.Connection.{events_added}
 use Rattle.gts_connection.specs.Steps.{events_of_signs}
-use Rattle.gts_calls.specs.{settled}
+use Rattle.gts_calls.specs.{Standing, settled}
 use Rattle.gts_feed.specs.declared.fed.FeedEnd.{FeedEnd}
-use Rattle.gts_feed.specs.declared.fed.FeedEnd.TheVariants.{Fault}
+use Rattle.gts_feed.specs.declared.fed.FeedEnd.TheVariants.{All, Lost, Wanting, Fault}
+use Rattle.gts_feed.specs.Fed.{IsShortAt}
 use Rattle.gts_feed.specs.Reading.{is_event, Reads}
 use Rattle.gts_feed.specs.Going.{GoesOver, GoesFed, SettlesFed}
 use Rattle.gts_feed.proofs.GoingLemmas.{stands_settled}
@@ -25,7 +26,7 @@ use Rattle.gts_housed.specs.Turning.{Feeding, AddsFor}
 use Rattle.gts_housed.proofs.GatheringLemmas.{M}
 
 module _ {P W : Type 0} (engine : W → Engine P) (makes : W → Bool) (tells : Type 0) (calls : P → List Call) (disk say : P → ℕ) (b : Beginning) where
-  abbrev N : _
+  abbrev pub N : Standing Beginning W
   N = M engine makes tells calls disk say
 
   -- it was fed, and then settled
@@ -41,6 +42,13 @@ module _ {P W : Type 0} (engine : W → Engine P) (makes : W → Bool) (tells : 
         record { events = goes.events; are = goes.are; added = all.1; stands = all.2.0 },
         all.2.1,
       )
+
+-- a message that was wanting stays so
+pub short_settled : {O W : Type 0} (meanings : Standing O W) (end settled_end : FeedEnd) (old new : W) (message : List ℕ) → SettlesFed meanings end settled_end old new → IsShortAt end message → IsShortAt settled_end message
+short_settled meanings end All old new message settles short = tt
+short_settled meanings end (Lost field) old new message settles short = tt
+short_settled meanings end (Wanting kind fault) old new message settles short = subst (λ (e : FeedEnd). IsShortAt e message) (settles.wanting kind fault refl) short
+short_settled meanings end (Fault fault) old new message settles short = tt
 
 -- no turn was left for a step that is an event
 pub one_event : (c : ℕ) (step : Step) (message : List ℕ) → is_event step ≡ true → (e : Event) × (events_of_signs c (signs_of_step step message) ≡ e ∷ [])
