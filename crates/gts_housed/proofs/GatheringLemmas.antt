@@ -33,13 +33,13 @@ module _ (b : Beginning) where
   -- ---- what is told of entries
 
   -- Full was answered only where it might be, and a device failed only where the count of its faults had risen to these
-  record Facts (entries : List Entry) (disk say : ℕ) : Type 0 where
+  pub record Facts (entries : List Entry) (disk say : ℕ) : Type 0 where
     pub cramped : b.makes_room ≡ true → AreCramped b entries
     pub disk_failed : HasDoubt entries → Rose b.disk disk
     pub say_failed : HasUnsaid entries → Rose b.say say
 
   -- so it is of an entry behind these
-  record Allowed (entries : List Entry) (entry : Entry) (disk say : ℕ) : Type 0 where
+  pub record Allowed (entries : List Entry) (entry : Entry) (disk say : ℕ) : Type 0 where
     pub full : b.makes_room ≡ true → (event : Event) (used need limit : ℕ) → entry ≡ Idle event (Full used need limit) → IsCrampedFor b entries event
     pub doubt : (events : List Event) → entry ≡ Doubt events → Rose b.disk disk
     pub unsaid : (event : Event) → entry ≡ Unsaid event → Rose b.say say
@@ -111,16 +111,16 @@ module _ (b : Beginning) where
       subst (λ (l : List Entry). Facts l disk say) (append_assoc entries (Unsaid e ∷ []) (all_unsaid events)) (facts_unsaid (entries ++ Unsaid e ∷ []) events disk say rose one)
 
 module _ {P W : Type 0} (engine : W → Engine P) (makes : W → Bool) (tells : Type 0) (calls : P → List Call) (disk say : P → ℕ) where
-  abbrev M : Standing Beginning W
+  abbrev pub M : Standing Beginning W
   M = housed_meanings engine makes tells calls disk say
 
-  abbrev E : Standing Origin (Engine P)
+  abbrev pub E : Standing Origin (Engine P)
   E = meanings_of tells calls Caller
 
-  abbrev disk_of : W → ℕ
+  abbrev pub disk_of : W → ℕ
   disk_of w = disk (engine w).station
 
-  abbrev say_of : W → ℕ
+  abbrev pub say_of : W → ℕ
   say_of w = say (engine w).station
 
   module _ (b : Beginning) (old new : W) (same : makes new ≡ makes old) where
@@ -305,13 +305,13 @@ module _ {P W : Type 0} (engine : W → Engine P) (makes : W → Bool) (tells : 
 
   -- a cause, where fullness is told in other words
   cause_as : (F G : SwitchFault → Type 0) → ((fault : SwitchFault) → F fault → G fault) → (h : List Entry) (o : Outcome) (fault : SwitchFault) → IsAnswerCause F h o fault → IsAnswerCause G h o fault
-  cause_as F G as h o DiskFault c = c
-  cause_as F G as h o SayFault c = c
-  cause_as F G as h o (Full used need limit) c = as (Full used need limit) c
-  cause_as F G as h o (Stopped Disk) c = c
-  cause_as F G as h o (Stopped Say) c = c
-  cause_as F G as h o Spent c = c
-  cause_as F G as h o NoMemory c = c
+  cause_as F G turns h o DiskFault c = c
+  cause_as F G turns h o SayFault c = c
+  cause_as F G turns h o (Full used need limit) c = turns (Full used need limit) c
+  cause_as F G turns h o (Stopped Disk) c = c
+  cause_as F G turns h o (Stopped Say) c = c
+  cause_as F G turns h o Spent c = c
+  cause_as F G turns h o NoMemory c = c
 
   -- a call that compacts nothing, for an event that is never accepted where room is made
   pub answered : (event : Event) (result : Result Outcome SwitchFault) (old new : W) → makes new ≡ makes old → HasCallCause result (disk_of old) (disk_of new) (say_of old) (say_of new)

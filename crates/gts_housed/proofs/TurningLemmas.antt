@@ -42,9 +42,10 @@ within_both κ P B p b =
 
 -- ---- a turn
 
--- entries that are in one turn's list
-one_more : (xs : List (List Entry)) (entry : Entry) → all_of xs ++ entry ∷ [] ≡ all_of (xs ++ (entry ∷ []) ∷ [])
-one_more xs entry = sym (all_of_one xs (entry ∷ []))
+-- the entries of one turn more
+pub stood : {P : Type 0} (tells : Type 0) (calls : P → List Call) (disk say : P → ℕ) (b : Beginning) (turns : List (List Entry)) (more : List Entry) (e : Engine P)
+    → Stands tells calls disk say b (all_of turns ++ more) e → Stands tells calls disk say b (all_of (turns ++ more ∷ [])) e
+stood tells calls disk say b turns more e s = subst (λ (l : List Entry). Stands tells calls disk say b l e) (sym (all_of_one turns more)) s
 
 module _ {P : Type 0} (tells : Type 0) (calls : P → List Call) (disk say : P → ℕ) (b : Beginning)
     (p q : Known (List Entry)) (h : List (ℕ × List Entry)) (new : Engine P) (later : StartsWith h p.seen) (knows : KnowsOwn p) (same : p.own ≡ entries_under p.name h) where

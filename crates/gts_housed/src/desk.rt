@@ -168,6 +168,7 @@ impl<'a, R: Wait, P: Station, B: Began> Desk for HallDesk<'a, R, P, B> {
         self.wakes(answer);
         match answer? {
             Outcome::Resend { index } | Outcome::Draw { index } => {
+                given.one.holds_a_frame_at_most();
                 given.frames.add(index, given.one.bytes());
                 Ok(true)
             }
