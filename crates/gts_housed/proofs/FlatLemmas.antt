@@ -59,13 +59,10 @@ named_others name other (x ∷ more) same = rw same (named_others name other mor
 -- the entries under a name are those of the lists under it
 pub under_flat : (name : ℕ) (h : List (ℕ × List Entry)) → entries_under name (flat h) ≡ all_of (entries_under name h)
 under_flat name [] = refl
-under_flat name (x ∷ h) = go (x.0 == name) refl
+under_flat name (x ∷ h) = go (under_flat name h) (x.0 == name) refl
   where
     parts : entries_under name (flat (x ∷ h)) ≡ entries_under name (under x.0 x.1) ++ entries_under name (flat h)
     parts = under-append name (under x.0 x.1) (flat h)
-
-    rest : (front : List Entry) → front ++ entries_under name (flat h) ≡ front ++ all_of (entries_under name h)
-    rest front = ap (λ (l : List Entry). front ++ l) (under_flat name h)
 
     mine : (x.0 == name) ≡ true → entries_under name (x ∷ h) ≡ x.1 ∷ entries_under name h
     mine e = rw e refl
@@ -73,12 +70,12 @@ under_flat name (x ∷ h) = go (x.0 == name) refl
     others : (x.0 == name) ≡ false → entries_under name (x ∷ h) ≡ entries_under name h
     others e = rw e refl
 
-    go : (b : Bool) → (x.0 == name) ≡ b → entries_under name (flat (x ∷ h)) ≡ all_of (entries_under name (x ∷ h))
-    go true e =
-        parts ∙ ap (λ (l : List Entry). l ++ entries_under name (flat h)) (named_mine name x.0 x.1 e) ∙ rest x.1
+    go : entries_under name (flat h) ≡ all_of (entries_under name h) → (b : Bool) → (x.0 == name) ≡ b → entries_under name (flat (x ∷ h)) ≡ all_of (entries_under name (x ∷ h))
+    go rest true e =
+        parts ∙ ap (λ (l : List Entry). l ++ entries_under name (flat h)) (named_mine name x.0 x.1 e) ∙ ap (λ (l : List Entry). x.1 ++ l) rest
         ∙ sym (ap all_of (mine e))
-    go false e =
-        parts ∙ ap (λ (l : List Entry). l ++ entries_under name (flat h)) (named_others name x.0 x.1 e) ∙ under_flat name h
+    go rest false e =
+        parts ∙ ap (λ (l : List Entry). l ++ entries_under name (flat h)) (named_others name x.0 x.1 e) ∙ rest
         ∙ sym (ap all_of (others e))
 
 pub starts_flat : (h g : List (ℕ × List Entry)) → StartsWith h g → StartsWith (flat h) (flat g)

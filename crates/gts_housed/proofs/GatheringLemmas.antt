@@ -305,13 +305,13 @@ module _ {P W : Type 0} (engine : W → Engine P) (makes : W → Bool) (tells : 
 
   -- a cause, where fullness is told in other words
   cause_as : (F G : SwitchFault → Type 0) → ((fault : SwitchFault) → F fault → G fault) → (h : List Entry) (o : Outcome) (fault : SwitchFault) → IsAnswerCause F h o fault → IsAnswerCause G h o fault
-  cause_as F G as h o DiskFault c = c
-  cause_as F G as h o SayFault c = c
-  cause_as F G as h o (Full used need limit) c = as (Full used need limit) c
-  cause_as F G as h o (Stopped Disk) c = c
-  cause_as F G as h o (Stopped Say) c = c
-  cause_as F G as h o Spent c = c
-  cause_as F G as h o NoMemory c = c
+  cause_as F G turns h o DiskFault c = c
+  cause_as F G turns h o SayFault c = c
+  cause_as F G turns h o (Full used need limit) c = turns (Full used need limit) c
+  cause_as F G turns h o (Stopped Disk) c = c
+  cause_as F G turns h o (Stopped Say) c = c
+  cause_as F G turns h o Spent c = c
+  cause_as F G turns h o NoMemory c = c
 
   -- a call that compacts nothing, for an event that is never accepted where room is made
   pub answered : (event : Event) (result : Result Outcome SwitchFault) (old new : W) → makes new ≡ makes old → HasCallCause result (disk_of old) (disk_of new) (say_of old) (say_of new)

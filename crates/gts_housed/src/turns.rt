@@ -6,7 +6,7 @@ ghost use Rattle.gts_event.specs.declared.event.Event.TheVariants.{Heard, Taken}
 ghost use Rattle.gts_frame.specs.{Decoding, HasMessage};
 ghost use Rattle.gts_connection.specs.Cited.{events_added};
 ghost use Rattle.gts_feed.specs.{Reads, is_event, Takes, IsShortAt};
-ghost use Rattle.gts_desk.specs.{Answers, Feeds, SaysNoMore, LeavesFrame, most_taken};
+ghost use Rattle.gts_desk.specs.{Answers, Feeds, SaysNoMore, LeavesFrame};
 ghost use Rattle.gts_housed.specs.Housed.{Stands, entry_by};
 ghost use Rattle.gts_housed.specs.Flat.{all_of};
 ghost use Rattle.gts_housed.specs.Turning.{KnowsOwn, seen_by, Feeding, AddsFor};
