@@ -1,5 +1,5 @@
 -- What a turn adds in which a connection is fed.
-use Rattle.std.proofs.Common.{◌≡◌, ℕ, ◌≤◌, Bool, true, List, [], ◌∷◌, ◌++◌, length, refl, sym, ap, subst, ◌∙◌, arith}
+use Rattle.std.proofs.Common.{◌≡◌, ℕ, Bool, true, List, [], ◌∷◌, length, refl, sym, subst, ◌∙◌, arith}
 use Rattle.gts_traits.specs.Calls.{Call}
 use Rattle.gts_frame.specs.Decoder.{Decoding, signs_of_step}
 use Rattle.gts_frame.specs.declared.step.Step.{Step}
@@ -21,7 +21,7 @@ use Rattle.gts_lock.specs.{entries}
 use Rattle.gts_engine.specs.Engine.{Engine}
 use Rattle.gts_desk.specs.Desks.{Seen, IsSpent, Feeds}
 use Rattle.gts_housed.specs.Flat.{all_of}
-use Rattle.gts_housed.specs.Housed.{Beginning, Stands, housed_meanings}
+use Rattle.gts_housed.specs.Housed.{Beginning}
 use Rattle.gts_housed.specs.Turning.{Feeding, AddsFor}
 use Rattle.gts_housed.proofs.GatheringLemmas.{M}
 

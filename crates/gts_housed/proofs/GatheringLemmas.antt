@@ -1,5 +1,5 @@
 -- An engine in a hall gathers what a feed asks of it, whatever compactions are done meanwhile.
-use Rattle.std.proofs.Common.{◌≡◌, ℕ, ◌+◌, ◌≤◌, ◌⊎◌, inl, inr, ⊎_elim, Bool, true, false, List, [], ◌∷◌, ◌++◌, length, Result, Ok, Err, Some, refl, sym, ap, subst, ◌∙◌, arith}
+use Rattle.std.proofs.Common.{◌≡◌, ℕ, ◌≤◌, ◌⊎◌, inl, inr, ⊎_elim, Bool, true, false, List, [], ◌∷◌, ◌++◌, length, Result, Ok, Err, refl, sym, ap, subst, ◌∙◌, arith}
 use Rattle.std.specs.Prelude.{IsErrOf}
 use Rattle.std.proofs.lemmas.List.{append-nil, append_assoc}
 use Rattle.gts_traits.specs.Calls.{Call}
@@ -17,16 +17,16 @@ use Rattle.gts_event.specs.declared.fault.Device.TheVariants.{Disk, Say}
 use Rattle.gts_event.specs.declared.fault.SwitchFault.{SwitchFault}
 use Rattle.gts_event.specs.declared.fault.SwitchFault.TheVariants.{DiskFault, SayFault, Full, Stopped, Spent, NoMemory}
 use Rattle.gts_opening.specs.Room.{HasDoubt, HasUnsaid, IsAccepted}
-use Rattle.gts_calls.specs.{Standing, settled, IsAnswered, IsSettling, AfterCall, AfterSettling, IsOneMore, GathersOne, IsInDoubt, IsCutShort, IsAnswerCause, IsCause, HasCallCause, outcome_at}
+use Rattle.gts_calls.specs.{Standing, settled, IsAnswered, IsSettling, AfterCall, AfterSettling, IsOneMore, GathersOne, IsInDoubt, IsCutShort, IsAnswerCause, HasCallCause, outcome_at}
 use Rattle.gts_calls.specs.Calls.{Behind, Alone, AtOnce}
 use Rattle.gts_feed.specs.Going.{AfterHearing, IsHeard}
 use Rattle.gts_feed.proofs.HeardLemmas.{as_hearing}
 use Rattle.gts_engine.specs.declared.mode.SayMode.TheVariants.{Caller}
-use Rattle.gts_engine.specs.Engine.{Engine, shown}
+use Rattle.gts_engine.specs.Engine.{Engine}
 use Rattle.gts_engine.specs.Origin.{Origin, state_at, used_at}
-use Rattle.gts_engine.specs.Keeping.{Gathers, meanings_of}
+use Rattle.gts_engine.specs.Keeping.{meanings_of}
 use Rattle.gts_engine.specs.Rooming.{IsGatheredWithRoom, GathersPlain, GathersCompacted, GathersNone, IsFullEither, outcome_behind}
-use Rattle.gts_housed.specs.Housed.{Beginning, StandsWith, IsCrampedFor, AreCramped, origin_with, IsFullSince, housed_meanings}
+use Rattle.gts_housed.specs.Housed.{Beginning, IsCrampedFor, AreCramped, origin_with, housed_meanings}
 use Rattle.gts_housed.proofs.StandingLemmas.{split_last, split_end, full_accepts, rose_on, rose_from}
 
 module _ (b : Beginning) where

@@ -2,6 +2,5 @@ pub mod FlatLemmas
 mod StandingLemmas
 mod GatheringLemmas
 mod FeedingLemmas
-mod DeskLemmas
 pub mod TurningLemmas
 pub mod LawLemmas

@@ -1,4 +1,4 @@
-use Rattle.std.proofs.Common.{◌≡◌, ◌++◌, ℕ, List, take, refl, sym, ap, ◌∙◌, subst}
+use Rattle.std.proofs.Common.{◌≡◌, ◌++◌, ℕ, List, take, sym, ap, ◌∙◌, subst}
 use Rattle.gts_lock.specs.{entries, entries_under, Known, after_adding}
 use Rattle.gts_frame.specs.Decoder.{Decoding}
 use Rattle.gts_frame.specs.Signs.{held_in}
