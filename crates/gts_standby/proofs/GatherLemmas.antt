@@ -19,7 +19,6 @@ use Rattle.gts_journal.proofs.LawLemmas.{gathered_block, records_more, next_none
 use Rattle.gts_recovery.specs.{IsJudged, Follows}
 use Rattle.gts_recovery.specs.Reading.{IsKept}
 use Rattle.gts_recovery.proofs.KeptLemmas.{kept_on}
-use Rattle.gts_standby.specs.declared.fed.TheConstants.{LONGEST}
 use Rattle.gts_standby.specs.declared.end.FollowEnd.{FollowEnd}
 use Rattle.gts_standby.specs.declared.end.FollowEnd.TheVariants.{Feed}
 use Rattle.gts_standby.specs.declared.gathering.Gathering.{Gathering}
@@ -29,7 +28,6 @@ use Rattle.gts_standby.specs.Reading.{StopsAs}
 use Rattle.gts_standby.specs.Adding.{HoldsAt}
 use Rattle.gts_standby.specs.Gathering.{gate_behind, StandsBehind, IsGathered, HoldsBehind, IsGathering, CanGather, HasGatheredOne, HasBrought, Brings, MayHaveBrought, MayBring}
 use Rattle.gts_standby.proofs.AddLemmas.{whole_uncut}
-use Rattle.gts_standby.proofs.FedLemmas.{text_length}
 
 -- ---- what was gathered
 
@@ -84,10 +82,6 @@ refused_there at before fed left r found = record {
   ends = refl;
   all = tt;
 }
-
--- there is room for it
-pub fits_room : (v : Version) (before bytes : List ℕ) (r : Record) (most used : ℕ) → sealed_at v before bytes ≡ Some r → used + LONGEST < most → used + length (record_text r) + 33 ≤ most
-fits_room v before bytes r most used found room = omega (arith, room, text_length r (sealed_at-stands v before bytes r found).1)
 
 -- ---- the core holds the state behind the records
 
@@ -162,6 +156,11 @@ gathered_one tells stells d calls core g ahead left size core_now next ahead_now
   records = o.records ++ one.r ∷ [];
   holds = held_one tells stells d o.settled o.records calls core g o.holds ahead left size core_now next ahead_now left_now one;
 }
+
+pub gate_grows : (tells stells : Type 0) (d : Directory) (calls : List Call) (core : Core) (g : Gathering) (ahead : InFeed) (left : List ℕ) (size : ℕ) (core_now : Core) (next : Gathering) (ahead_now : InFeed) (left_now : List ℕ)
+    → IsGathering tells d calls core g → HasGatheredOne stells d core g ahead left size core_now next ahead_now left_now → gate_behind next ≡ gate_behind g + size + 1
+gate_grows tells stells d calls core g ahead left size core_now next ahead_now left_now o one =
+    omega (arith, gate_on tells stells d o.settled o.records calls core g o.holds ahead left size core_now next ahead_now left_now one, one.size_is)
 
 -- ---- what was gathered is brought
 

@@ -217,10 +217,13 @@ module _ (tells stells : Type 0) (tell : tells) (stell : stells) (d : Directory)
 
   -- ---- at the feed's end
 
-  pub broke_off : (answer : FollowEnd) (new : List Call) (left_now : List ℕ) → (IsEnd answer → ⊥) → MayBring tells d mid x new → HasAdded answer d s used last all old new left_now
+  broke_off : (answer : FollowEnd) (new : List Call) (left_now : List ℕ) → (IsEnd answer → ⊥) → MayBring tells d mid x new → HasAdded answer d s used last all old new left_now
   broke_off answer new left_now fault may = record { ends = λ e. absurd (fault e); opened = λ e. absurd (fault e); reads = λ e. absurd (fault e); moments = moments_on new may }
 
-  pub ended : (answer : FollowEnd) (new : List Call) (next : Gathering) (left_now : List ℕ) → HasBrought tells d g.settled g.more x new next → MayBring tells d mid x new
+  pub disk_failed : (answer : FollowEnd) (new : List Call) (left_now : List ℕ) → answer ≡ DiskFault → MayBring tells d mid x new → HasAdded answer d s used last all old new left_now
+  disk_failed answer new left_now is may = subst (λ (e : FollowEnd). HasAdded e d s used last all old new left_now) (sym is) (broke_off DiskFault new left_now (λ e. e) may)
+
+  ended : (answer : FollowEnd) (new : List Call) (next : Gathering) (left_now : List ℕ) → HasBrought tells d g.settled g.more x new next → MayBring tells d mid x new
       → record_behind written d x.batch.seal t (gate_behind x) g.fed ≡ None → StopsAt answer (cond (may_be_cut written g.fed) (stopped Ends) (stopped (Breaks at))) left_now
       → HasAdded answer d s used last all old new left_now
   ended answer new next left_now brought may none stops =
@@ -264,7 +267,7 @@ module _ (tells stells : Type 0) (tell : tells) (stell : stells) (d : Directory)
       by_done : IsFinished answer end tells d mid x new next → HasAdded answer d s used last all old new left_now
       by_done (inl both) =
           subst (λ (e : FollowEnd). HasAdded e d s used last all old new left_now) (sym both.0) (by_end end kind stops (both.1 g.settled g.more g.holds.stands))
-      by_done (inr disk) = subst (λ (e : FollowEnd). HasAdded e d s used last all old new left_now) (sym disk) (broke_off DiskFault new left_now (λ e. e) may_here)
+      by_done (inr disk) = disk_failed answer new left_now disk may_here
 
 -- there was no memory at the beginning
 pub none_added : (tells : Type 0) → tells → (d : Directory) (s : State) (calls : List Call) (core : Core) (j : InHand) (all : Taken) (left : List ℕ) → HoldsAt tells d s calls core j → HasAdded NoMemory d s (j.gate + 1) j.seal all calls calls left

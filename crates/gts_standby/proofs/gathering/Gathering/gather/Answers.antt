@@ -27,8 +27,7 @@ returns-in-None-clause-gathered g c = λ told s fed kept read is_end.
     let version : c.version-version.result ≡ written = c.version-version.ensures ∙ c.requires.going.current in
     let here : sealed_at written x.batch.seal ahead.bytes ≡ None =
     at_gathering c.version-version.result x.seal x.batch.seal c.bytes.result.now ahead.bytes none version c.requires.going.seal_is c.bytes.ensures c.in-None.ensures.found in
-    let unsealed = subst (λ (v : Version). IsUnsealed c.end_at.result v ahead c.args.at) version c.end_at.ensures.end in
-    (
+    let unsealed = subst (λ (v : Version). IsUnsealed c.end_at.result v ahead c.args.at) version c.end_at.ensures.end in (
       next_none d x.batch.seal s (gate_behind x) fed (none_read written x.batch.seal fed left ahead now c.in_ok-fill.ensures.enough here),
       ends_there c.end_at.result written fed left ahead c.args.at now c.in_ok-fill.ensures.enough unsealed (at_end c.end_at.result c.end_at.ensures.kind),
     )
@@ -92,9 +91,10 @@ returns-else-not-branch-clause-gathered g c =
       seal_is = ap (λ (w : Version). held w c.in-Some.found.2) (sym version) ∙ c.in-Some.ensures.seal
           ∙ ap (λ (w : Version). seal w (held w x.seal) (texts.record_text r)) version ∙ ap (λ (l : List ℕ). seal written l (texts.record_text r)) c.requires.going.seal_is;
       read = λ told fed read.
-          let now = c.in_ok-fill.ensures.kept told fed read in
-          (sealed_read written x.batch.seal fed left ahead r now here,
-          subst (λ (a : InFeed). HasRead (drop c.in-Some.found.1 fed) a left) (sym c.pass.ensures) (passed fed left ahead c.in-Some.found.1 now low));
+          let now = c.in_ok-fill.ensures.kept told fed read in (
+            sealed_read written x.batch.seal fed left ahead r now here,
+            subst (λ (a : InFeed). HasRead (drop c.in-Some.found.1 fed) a left) (sym c.pass.ensures) (passed fed left ahead c.in-Some.found.1 now low),
+          );
     }
 
 pub returns-in-None-clause-whole : goal.returns-in-None-clause-whole
