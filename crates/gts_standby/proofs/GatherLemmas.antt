@@ -1,32 +1,30 @@
 -- Records of a feed are gathered behind a journal, and brought into it.
-use Rattle.std.proofs.Common.{◌≡◌, ◌⊎◌, inl, inr, ℕ, ◌+◌, ◌-◌, ◌^◌, ◌<◌, ◌≤◌, Bool, true, false, cond, List, [], ◌∷◌, ◌++◌, length, Option, Some, None, refl, sym, ap, subst, ◌∙◌, arith, length-append}
+use Rattle.std.proofs.Common.{◌≡◌, inl, inr, ℕ, ◌+◌, ◌<◌, ◌≤◌, Bool, true, cond, List, [], ◌∷◌, ◌++◌, length, Option, Some, refl, sym, ap, subst, ◌∙◌, arith, length-append}
 use Rattle.std.proofs.lemmas.List.{map-append}
-use Rattle.gts_traits.specs.{Call, Files, Outside, EachSince}
+use Rattle.gts_traits.specs.{Call}
 use Rattle.gts_traits.proofs.LawLemmas.{started}
 use Rattle.gts_directory.specs.Directory.{Directory}
 use Rattle.gts_event.specs.State.{State}
 use Rattle.gts_event.specs.History.{after}
 use Rattle.gts_record.specs.declared.version.Version.{Version}
-use Rattle.gts_record.specs.Record.{Record, record_text, closed_gate, open_gate, is_short}
-use Rattle.gts_record.specs.Format.{seal, sealed, sealed_at, held, record_size, seal_size, chain_text, last_seal, texts_of, written}
-use Rattle.gts_record.proofs.LawLemmas.{last_seal-append, sealed_at-stands}
+use Rattle.gts_record.specs.Record.{Record, record_text, closed_gate, open_gate}
+use Rattle.gts_record.specs.Format.{seal, sealed, sealed_at, held, record_size, chain_text, last_seal, texts_of, written}
+use Rattle.gts_record.proofs.LawLemmas.{last_seal-append}
 use Rattle.gts_opening.specs.Journal.{admits, event_of_record, after_records}
 use Rattle.gts_core.specs.Core.{Core}
 use Rattle.gts_journal.specs.{InHand, StandsFor}
-use Rattle.gts_journal.specs.Standing.{StandsOn}
-use Rattle.gts_journal.specs.Batch.{Gathered, Gathers, IsBlock, no_records, beyond_block, HasAppendedBlock, LeavesAllOrNone, AreNext, OpensToOneOf}
-use Rattle.gts_journal.proofs.LawLemmas.{gathered_block, records_more, next_none, next_more, batch_opens, batch_stands, images_open}
-use Rattle.gts_recovery.specs.{IsJudged, Follows}
+use Rattle.gts_journal.specs.Batch.{Gathered, Gathers, IsBlock, no_records, beyond_block, HasAppendedBlock, AreNext, OpensToOneOf}
+use Rattle.gts_journal.proofs.LawLemmas.{gathered_block, records_more, next_none, next_more, batch_stands, images_open}
+use Rattle.gts_recovery.specs.{IsJudged}
 use Rattle.gts_recovery.specs.Reading.{IsKept}
 use Rattle.gts_recovery.proofs.KeptLemmas.{kept_on}
-use Rattle.gts_standby.specs.declared.end.FollowEnd.{FollowEnd}
 use Rattle.gts_standby.specs.declared.end.FollowEnd.TheVariants.{Feed}
 use Rattle.gts_standby.specs.declared.gathering.Gathering.{Gathering}
 use Rattle.gts_standby.specs.Ahead.{InFeed}
 use Rattle.gts_standby.specs.Taking.{Ends, Breaks, stopped, may_be_cut}
 use Rattle.gts_standby.specs.Reading.{StopsAs}
 use Rattle.gts_standby.specs.Adding.{HoldsAt}
-use Rattle.gts_standby.specs.Gathering.{gate_behind, StandsBehind, IsGathered, HoldsBehind, IsGathering, CanGather, HasGatheredOne, HasBrought, Brings, MayHaveBrought, MayBring}
+use Rattle.gts_standby.specs.Gathering.{gate_behind, StandsBehind, IsGathered, HoldsBehind, IsGathering, CanGather, HasGatheredOne, HasBrought, MayHaveBrought, MayBring}
 use Rattle.gts_standby.proofs.AddLemmas.{whole_uncut}
 
 -- ---- what was gathered

@@ -1,5 +1,5 @@
 -- So many records of a feed were added to a journal, and so many gathered behind it.
-use Rattle.std.proofs.Common.{◌≡◌, ◌⊎◌, inl, inr, ℕ, ◌+◌, ◌-◌, ◌≤◌, Bool, true, cond, List, [], ◌∷◌, ◌++◌, length, drop, Option, Some, None, Result, Ok, Err, refl, sym, ap, subst, ◌∙◌, arith, length-append, length-drop}
+use Rattle.std.proofs.Common.{◌≡◌, inl, inr, ℕ, ◌+◌, ◌-◌, ◌≤◌, cond, List, [], ◌∷◌, ◌++◌, length, drop, Option, Some, None, Ok, refl, sym, ap, subst, ◌∙◌, arith, length-append, length-drop}
 use Rattle.std.proofs.lemmas.List.{append-nil, append_assoc}
 use Rattle.gts_traits.specs.{Call, Files, Outside, seen, said_by, SaidSince, EachSince}
 use Rattle.gts_traits.proofs.LawLemmas.{started, joined}
@@ -22,11 +22,11 @@ use Rattle.gts_standby.specs.declared.gathering.Gathering.{Gathering}
 use Rattle.gts_standby.specs.Ahead.{InFeed}
 use Rattle.gts_standby.specs.Taking.{Taken, Ends, Breaks, stopped, adding, may_be_cut, add_all}
 use Rattle.gts_standby.specs.Following.{EndsAs, IsEnd, start_of, read_behind, read_begun, read_after, OpensWithin, AsBefore, WithFront}
-use Rattle.gts_standby.specs.Reading.{HasRead, IsFedEnd, StopsAt, StopsAs}
+use Rattle.gts_standby.specs.Reading.{HasRead, IsFedEnd, StopsAt}
 use Rattle.gts_standby.specs.Adding.{HoldsAt, HasAdded}
 use Rattle.gts_standby.specs.Gathering.{gate_behind, HoldsBehind, HasGatheredOne, GathersNone, HasBrought, MayHaveBrought, MayBring, IsFinished}
 use Rattle.gts_standby.proofs.AddLemmas.{next_is, read_now, opened_now, no_begin, not_empty, some_text, one_step, no_step}
-use Rattle.gts_standby.proofs.GatherLemmas.{gate_on, ok, seal_on, state_on, held_one, brought_holds, began}
+use Rattle.gts_standby.proofs.GatherLemmas.{gate_on, ok, seal_on, state_on, held_one, brought_holds}
 
 -- ---- records behind records
 

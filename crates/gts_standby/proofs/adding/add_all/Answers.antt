@@ -1,4 +1,4 @@
-use Rattle.std.proofs.Common.{◌≡◌, ◌+◌, ◌-◌, ◌≤◌, List, [], refl, sym, subst, ◌∙◌, arith}
+use Rattle.std.proofs.Common.{[], refl, sym, subst, ◌∙◌, arith}
 use Rattle.gts_standby.specs.declared.gathering.Gathering.{Gathering}
 use Rattle.gts_standby.specs.Gathering.{IsGathered}
 use Rattle.gts_standby.proofs.AddLemmas.{holds_of}

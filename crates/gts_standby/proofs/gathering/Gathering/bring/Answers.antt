@@ -1,6 +1,5 @@
-use Rattle.std.proofs.Common.{◌≡◌, ◌+◌, sym, ap, ◌∙◌, refl, arith}
+use Rattle.std.proofs.Common.{sym, ◌∙◌, refl, arith}
 use Rattle.std.proofs.lemmas.Bool.{eqb-true, eqb-false}
-use Rattle.gts_journal.specs.Batch.{Gathered}
 use Rattle.gts_journal.proofs.LawLemmas.{batch_opens}
 use Rattle.gts_standby.proofs.GatherLemmas.{block_by, brings_none, brings_all, still_brings}
 use Rattle.gts_standby.proofs.gathering.Gathering.bring.Goals as goal
