@@ -596,7 +596,8 @@ class TakingOver:
         """A receipt for each bulletin that waits on a closed circuit."""
         for circuit in self.closed():
             for position in sorted(self.before.waiting[circuit]):
-                yield f'DRP {circuit} {position} {self.before.bulletins[position].heading.decode()}'
+                bulletin = self.before.bulletins[position]
+                yield f'DRP {circuit} {position} {(bulletin.heading + bulletin.group).decode()}'
 
     def writes(self):
         other = 1 - self.journal.selected

@@ -52,24 +52,30 @@ class Runs(Folder):
         return [self.frames(circuit) for circuit in CIRCUITS]
 
     def migrates(self, what, files):
-        """What `migrate check` and `migrate` answer to these files, and `migrate drop` where a circuit is closed: where the journal
-        opens, under each directory, or under the next one in turn where it is of version 1."""
+        """What `migrate` answers to these files, and `migrate drop` where a circuit is closed: where the journal opens, under each
+        directory, or under the next one in turn where it is of version 1. Under the one in turn also what `migrate check` answers."""
         opens = TakingOver(DIRECTORY, FEWER, files).status == 0
-        in_turn = [next(self.turn)] if opens and what.startswith('version 1') else TAKING_OVER
+        in_turn = next(self.turn) if opens else 'fewer'
         self.write('directory.old.toml', DIRECTORY.text())
-        for name in in_turn if opens else ['fewer']:
+        for name in TAKING_OVER if opens and not what.startswith('version 1') else [in_turn]:
             new = TAKING_OVER[name]
+            want = TakingOver(DIRECTORY, new, files)
             self.write('directory.toml', new.text())
             self.lay(files)
-            want = TakingOver(DIRECTORY, new, files)
-            answer = (0, want.report, '') if opens else (want.status, b'', want.line)
-            self.wants(f'{what}, migrate check, {name}', self.run('migrate', 'check'), answer)
-            self.wants(f'{what}, the files behind a migrate check, {name}', self.journal(), [*files])
+            if name == in_turn:
+                self.checks(f'{what}, {name}', want, opens)
             self.takes_over(f'{what}, {name}', want, ['migrate'])
             if new.closed and opens:
                 self.lay(files)
                 self.takes_over(f'{what}, {name}', TakingOver(DIRECTORY, new, files, drops=True), ['migrate', 'drop'])
         self.write('directory.toml', DIRECTORY.text())
+
+    def checks(self, what, want, opens):
+        """What `migrate check` answers, behind which the files are as they were."""
+        files = self.journal()
+        answer = (0, want.report, '') if opens else (want.status, b'', want.line)
+        self.wants(f'{what}, migrate check', self.run('migrate', 'check'), answer)
+        self.wants(f'{what}, the files behind a migrate check', self.journal(), files)
 
     def takes_over(self, what, want, words):
         """What `migrate` answers, and what the files are behind it."""

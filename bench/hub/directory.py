@@ -30,9 +30,9 @@ class Size:
         self.limit, self.window, self.kept = limit, window, kept
 
 
-# For a run in which nobody is away for long, and for one in which somebody is for a day: all of it is read and written at each start.
-SMALL = Size(1 << 24, 500, {3: 100, 5: 120})
-LARGE = Size(1 << 27, 1_000, {3: 200, 5: 250})
+# For a run in which nobody is away for long: all of it is read and written at each start.
+SMALL = Size(1 << 25, 1_000, {3: 200, 5: 250})
+LARGE = Size(1 << 27, 2_000, {3: 500, 5: 1_000})
 LARGEST_LIMIT = 1 << 30
 
 

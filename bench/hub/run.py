@@ -13,7 +13,7 @@ from hub.traffic import REQUEST, Traffic, request
 # Behind what came at once it goes on once so few messages wait for receipts, and so few frames are still to come.
 WAITING, BEHIND = 32, 600
 # How many numbers a neighbour asks for at once.
-NUMBERS = 40
+NUMBERS = 200
 # From this serial number on are the bulletins that come beside those of the seed.
 BESIDE = 90_000_000
 
