@@ -64,6 +64,11 @@ class Ledger:
     def number_of(self, index):
         return f'{(index + 1) % ROUND[self.digits]:0{self.digits}}'
 
+    def drawn(self, index, body):
+        """The bulletin of a draw that is kept here, where it has this body: on a circuit that no rule names any more it may be old."""
+        bulletin = self.recent.get(index)
+        return bulletin if bulletin is not None and bulletin.body == body else None
+
     def came(self, index, bulletin):
         """A frame came. Gives whether it is new."""
         if self.owed and index != self.owed[0]:
@@ -237,12 +242,12 @@ class Reference:
         ledger = self.ledgers[circuit]
         digits = message[4:4 + ledger.digits]
         body = message[4 + ledger.digits + len(EOL):]
-        bulletin = self.bulletin_of(circuit, body)
-        if bulletin is None or bulletin.letters != letters:
-            ledger.lost(f'a frame of something else than was accepted: {message[:80]!r}')
         if not digits.isdigit() or message[:4] != b'\x01' + EOL or message[4 + ledger.digits:7 + ledger.digits] != EOL:
             ledger.lost(f'a frame begins with {message[:16]!r}')
         index = ledger.index_of(int(digits))
+        bulletin = self.bulletin_of(circuit, body) or ledger.drawn(index, body)
+        if bulletin is None or bulletin.letters != letters:
+            ledger.lost(f'a frame of something else than was accepted: {message[:80]!r}')
         self.counts['frames'] += 1
         if index not in ledger.recent and circuit not in bulletin.left:
             ledger.lost(f'{body[:22]!r} came, which the rules of its time do not lead there, or under two numbers')
