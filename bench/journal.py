@@ -8,9 +8,10 @@ EOL = b'\r\r\n'
 MAGIC, OLDER = b'GTSJ0002', b'GTSJ0001'
 OPEN, CLOSED = 0x4F, 0x43
 HEADER = 40
-# How many bytes a seal has, and how many a draw takes with its seal and its gate.
+# How many bytes a seal has; and how many a draw takes with its gate, and with its seal where there are seals.
 SEAL = 32
-DRAW_BYTES = 56
+UNSEALED_DRAW = 24
+DRAW_BYTES = UNSEALED_DRAW + SEAL
 LONGEST_BODY = 499_988
 KINDS = {b'A': b'AN', b'B': b'BI', b'F': b'FX'}
 BODY = re.compile(rb'([A-Z]{4}[0-9]{2} [A-Z]{4} (?:0[1-9]|[12][0-9]|3[01])(?:[01][0-9]|2[0-3])[0-5][0-9])'
@@ -56,10 +57,11 @@ def frame_of(kind, count, body, digits=3):
 
 class Directory:
     """A directory as its file says it. Rules are pairs of a pattern and the places of circuits, levels pairs of a pattern of two
-    letters and a level, ports pairs of `input` and `output`; `five` are the circuits with numbers of five digits."""
+    letters and a level, ports pairs of `input` and `output`; `five` are the circuits with numbers of five digits. Each row has the
+    same `repeat`, which isn't written where it is 1."""
 
-    def __init__(self, centre, window, limit, names, peers, rules, levels=(), kept=1000, ports=None, five=(), closed=()):
-        self.centre, self.window, self.limit, self.kept = centre, window, limit, kept
+    def __init__(self, centre, window, limit, names, peers, rules, levels=(), kept=1000, ports=None, five=(), closed=(), repeat=1):
+        self.centre, self.window, self.limit, self.kept, self.repeat = centre, window, limit, kept, repeat
         self.names, self.peers, self.rules, self.levels, self.ports = names, peers, rules, levels, ports
         self.five, self.closed = set(five), set(closed)
 
@@ -67,6 +69,7 @@ class Directory:
         rows = [f'centre = "{self.centre}"', f'window = {self.window}', f'limit = {self.limit}']
         for place, (name, peer) in enumerate(zip(self.names, self.peers)):
             rows += ['[[circuit]]', f'name = "{name}"', f'peer = "{peer}"', f'kept = {self.kept}']
+            rows += [f'repeat = {self.repeat}'] if self.repeat > 1 else []
             rows += [f'input = {self.ports[place][0]}', f'output = {self.ports[place][1]}'] if self.ports else []
             rows += ['digits = 5'] if place in self.five else []
             rows += ['closed = true'] if place in self.closed else []
@@ -263,11 +266,16 @@ def admit_draw(state, record):
     state.draw(circuit)
 
 
-def admit(state, record, gate):
+def admit(state, record, gate, seal_size=SEAL):
     """Takes a whole record behind the gate at a place into the state; `Bad` where it may not stand there."""
     (admit_accept if record[:1] == b'A' else admit_draw)(state, record)
-    if gate + 2 + len(record) + SEAL + DRAW_BYTES * state.due() > state.directory.limit:
+    if not has_room(state, record, gate, seal_size):
         raise Bad
+
+
+def has_room(state, record, gate, seal_size):
+    """Whether behind a record, its seal and the next gate there is room for what is due."""
+    return gate + 2 + len(record) + seal_size + (UNSEALED_DRAW + seal_size) * state.due() <= state.directory.limit
 
 
 class Cursor:
@@ -310,7 +318,7 @@ def read_circuit(state, circuit, cursor):
     state.before[circuit], state.drawn[circuit], state.waiting[circuit] = draws - kept, keeps, waits
 
 
-def state_of_checkpoint(directory, record):
+def state_of_checkpoint(directory, record, seal_size=SEAL):
     """What a whole checkpoint stands for; `Bad` where it breaks a rule."""
     state, cursor = State(directory), Cursor(record)
     cursor.piece(4)
@@ -325,7 +333,7 @@ def state_of_checkpoint(directory, record):
     listed = {position for lists in (state.waiting, state.drawn) for positions in lists for position in positions}
     if not set(state.bulletins) <= recent | listed:
         raise Bad
-    if HEADER + 2 + len(record) + SEAL + DRAW_BYTES * state.due() > directory.limit:
+    if not has_room(state, record, HEADER, seal_size):
         raise Bad
     return state
 
@@ -333,12 +341,14 @@ def state_of_checkpoint(directory, record):
 # Journals.
 
 class Journal:
-    """What the files of a journal open to; `Wrong` where they don't."""
+    """What the files of a journal open to; `Wrong` where they don't. One of version 1, which has no seals, opens only where it is
+    said that an older one is read too, as by `migrate`."""
 
-    def __init__(self, directory, files):
+    def __init__(self, directory, files, reads_older=False):
         self.directory, self.files = directory, files
         self.selected = 1 if files[2][:1] == b'\x01' else 0
         self.file = files[self.selected]
+        self.magic, self.seal_size = (OLDER, 0) if reads_older and self.file.startswith(OLDER) else (MAGIC, SEAL)
         self.state = State(directory)
         # The records and their seals, behind the seal that stands for the header, and the place of the closed gate.
         self.records, self.seals, self.gate = [], [sealed(b'', self.file[:HEADER])], HEADER
@@ -354,9 +364,9 @@ class Journal:
     def begins(self):
         if not self.file:
             raise Wrong('journal: none')
-        if self.file.startswith(OLDER):
+        if self.magic == MAGIC and self.file.startswith(OLDER):
             raise Wrong('journal: version 1')
-        for place, byte in enumerate(MAGIC):
+        for place, byte in enumerate(self.magic):
             if self.file[place:place + 1] != bytes([byte]):
                 raise Wrong(f'journal: file {self.selected} damaged at {place}')
         if len(self.file) < HEADER:
@@ -368,14 +378,14 @@ class Journal:
     def goes_on(self):
         """One record more."""
         bytes_left = self.file[self.gate + 1:]
-        record, seal = piece_of(self.directory, bytes_left, self.seals[-1], self.gate == HEADER)
-        self.state = taken(self.state, record, self.gate)
+        record, seal = piece_of(self.directory, bytes_left, self.seals[-1], self.gate == HEADER, self.seal_size)
+        self.state = taken(self.state, record, self.gate, self.seal_size)
         self.note(record, seal)
 
     def note(self, record, seal):
         self.records.append(record)
         self.seals.append(seal)
-        self.gate += 1 + len(record) + SEAL
+        self.gate += 1 + len(record) + self.seal_size
 
     def report(self):
         """What `show` says of it."""
@@ -396,25 +406,25 @@ class Journal:
         return self.file[:HEADER] + b''.join(record + seal for record, seal in zip(self.records, self.seals[1:]))
 
 
-def piece_of(directory, bytes_left, seal, is_first):
+def piece_of(directory, bytes_left, seal, is_first, seal_size=SEAL):
     """The record at the front, and its seal, where this seal stands before it. `Cut` where it isn't whole with its seal; `Bad`
     where no record begins so, or another seal stands behind it."""
     is_checkpoint = is_first and bytes_left[:1] == b'C'
     size = size_of_checkpoint(bytes_left, directory.limit) if is_checkpoint else size_of_record(bytes_left)
-    if len(bytes_left) < size + SEAL:
+    if len(bytes_left) < size + seal_size:
         raise Cut
     record = bytes_left[:size]
-    seal = sealed(seal, record)
-    if bytes_left[size:size + SEAL] != seal:
+    seal = sealed(seal, record)[:seal_size]
+    if bytes_left[size:size + seal_size] != seal:
         raise Bad
     return record, seal
 
 
-def taken(state, record, gate):
+def taken(state, record, gate, seal_size=SEAL):
     """The state behind a whole record, which stands behind the gate at a place; `Bad` where it may not stand there."""
     if record[:1] == b'C':
-        return state_of_checkpoint(state.directory, record)
-    admit(state, record, gate)
+        return state_of_checkpoint(state.directory, record, seal_size)
+    admit(state, record, gate, seal_size)
     return state
 
 
@@ -492,19 +502,24 @@ class Following:
 # Another directory.
 
 def brought(old, new, state):
-    """What a state under the old directory comes to under a new one that takes over from it."""
+    """What a state under the old directory comes to under a new one that takes over from it; what waits on closed circuits is let
+    go."""
     found = State(new)
     found.accepted = state.accepted
     for circuit in range(len(old.names)):
         is_kept = (circuit in old.five) == (circuit in new.five)
         found.drawn[circuit] = state.drawn[circuit][-new.kept:] if is_kept else []
         found.before[circuit] = state.draws(circuit) - len(found.drawn[circuit])
-        found.waiting[circuit] = sorted(state.waiting[circuit])
+        found.waiting[circuit] = [] if circuit in new.closed else sorted(state.waiting[circuit])
     # Of what was needed under the old directory, what is needed under the new one.
-    kept = [drawn[-old.kept:] for drawn in state.drawn]
-    needed = needed_of(old, state, state.waiting, kept) & needed_of(new, state, found.waiting, found.drawn)
+    needed = needed_of(old, state, state.waiting, kept_of(old, state)) & needed_of(new, state, found.waiting, found.drawn)
     found.bulletins = {position: bulletin for position, bulletin in state.bulletins.items() if position in needed}
     return found
+
+
+def kept_of(directory, state):
+    """The draws of each circuit that may be asked for."""
+    return [drawn[-directory.kept:] for drawn in state.drawn]
 
 
 def needed_of(directory, state, waiting, kept):
@@ -528,32 +543,114 @@ def checkpoint_of(state):
     return text
 
 
-class TakingOver:
-    """A journal that is taken over under another directory: what its files become, how `migrate` ends, and its line."""
+def rule_lines(word, directory, other):
+    """The rules of a directory that another one doesn't have."""
+    others = {(pattern, frozenset(to)) for pattern, to in other.rules}
+    for pattern, to in directory.rules:
+        if (pattern, frozenset(to)) not in others:
+            yield ' '.join([f'rule {word} {pattern} to', *(directory.names[circuit] for circuit in sorted(to))])
 
-    def __init__(self, old, new, files):
-        self.status, self.line, self.files = 0, '', list(files)
+
+class TakingOver:
+    """A journal, of either version, that is taken over under another directory: what its files become, how `migrate` ends, its line,
+    and what it says. With `drops` it is `migrate drop`. `report` is what `migrate check` says; where that says nothing, it ends as
+    `migrate` does."""
+
+    def __init__(self, old, new, files, drops=False):
+        self.old, self.new = old, new
+        self.status, self.line, self.said, self.report, self.files = 0, '', b'', b'', list(files)
         try:
-            journal = Journal(old, files)
+            self.journal = Journal(old, files, reads_older=True)
         except Wrong as wrong:
             self.status, self.line = 5, str(wrong)
             return
-        state = brought(old, new, journal.state)
-        record = checkpoint_of(state)
-        need = len(record) + SEAL + DRAW_BYTES * state.due()
-        row = next((circuit for circuit in sorted(new.closed) if circuit < len(old.names) and state.waiting[circuit]), None)
-        if row is not None:
-            self.status, self.line = 3, f'directory: closed in circuit row {row}, {len(state.waiting[row])} wait'
-        elif HEADER + 2 + need > new.limit:
-            self.status, self.line = 9, f'journal: full, used {HEADER + 2} need {need} limit {new.limit}'
+        self.before, self.behind = self.journal.state, brought(old, new, self.journal.state)
+        self.record = checkpoint_of(self.behind)
+        self.report = '\n'.join([*self.changes(), 'end', '']).encode()
+        row = self.first_waiting()
+        if row is not None and not drops:
+            self.status, self.line = 3, f'directory: closed in circuit row {row}, {len(self.before.waiting[row])} wait'
+        elif self.is_full():
+            self.status, self.line = 9, f'journal: full, {self.room()}'
         else:
-            other = 1 - journal.selected
-            seal = sealed(sealed(b'', new.header()), record)
-            self.files[other] = new.header() + bytes([OPEN]) + record + seal + bytes([CLOSED])
-            self.files[2] = bytes([other]) + files[2][1:]
+            self.said = '\n'.join([*self.dropped(), '']).encode()
+            self.writes()
+
+    def closed(self):
+        """The circuits of the old directory that are closed in the new one."""
+        return [circuit for circuit in range(len(self.old.names)) if circuit in self.new.closed]
+
+    def first_waiting(self):
+        return next((circuit for circuit in self.closed() if self.before.waiting[circuit]), None)
+
+    def need(self):
+        return len(self.record) + SEAL + DRAW_BYTES * self.behind.due()
+
+    def is_full(self):
+        return HEADER + 2 + self.need() > self.new.limit
+
+    def room(self):
+        return f'used {HEADER + 2} need {self.need()} limit {self.new.limit}'
+
+    def dropped(self):
+        """A receipt for each bulletin that waits on a closed circuit."""
+        for circuit in self.closed():
+            for position in sorted(self.before.waiting[circuit]):
+                bulletin = self.before.bulletins[position]
+                yield f'DRP {circuit} {position} {(bulletin.heading + bulletin.group).decode()}'
+
+    def writes(self):
+        other = 1 - self.journal.selected
+        seal = sealed(sealed(b'', self.new.header()), self.record)
+        self.files[other] = self.new.header() + bytes([OPEN]) + self.record + seal + bytes([CLOSED])
+        self.files[2] = bytes([other]) + self.files[2][1:]
+
+    # What `migrate check` says.
+
+    def changes(self):
+        yield from rule_lines('out', self.old, self.new)
+        yield from rule_lines('in', self.new, self.old)
+        for circuit in range(len(self.new.names)):
+            yield from self.circuit_lines(circuit, f'circuit {circuit:02} {self.new.names[circuit]}')
+        forgotten = self.known(self.old, self.before) - self.known(self.new, self.behind)
+        if forgotten > 0:
+            yield f'duplicates forgotten {forgotten}'
+        row = self.first_waiting()
+        if row is not None:
+            yield f'refused circuit {row:02} waiting {len(self.before.waiting[row])}'
+        elif self.is_full():
+            yield f'refused full {self.room()}'
+
+    def circuit_lines(self, circuit, front):
+        if circuit >= len(self.old.names):
+            yield f'{front} added'
+            return
+        was, closed = circuit in self.old.closed, circuit in self.new.closed
+        if was != closed:
+            yield f'{front} {"closed" if closed else "opened"}'
+        forgotten = len(kept_of(self.old, self.before)[circuit]) - len(self.behind.drawn[circuit])
+        if forgotten > 0:
+            yield f'{front} forgotten {forgotten}'
+        if closed and self.before.waiting[circuit]:
+            yield f'{front} waiting {len(self.before.waiting[circuit])}'
+
+    def known(self, directory, state):
+        """How many bulletins are known whose duplicates are looked for."""
+        return sum(position >= state.accepted - directory.window for position in state.bulletins)
 
 
-# Journals and feeds that are broken on purpose.
+# Journals and feeds that are made or broken on purpose.
+
+def older(file):
+    """The file of version 1 with the records of one of version 2: another magic, and no seals."""
+    text, at = OLDER + file[len(OLDER):HEADER], HEADER
+    while file[at] == OPEN:
+        record = file[at + 1:]
+        size = size_of_checkpoint(record, len(record)) if record[:1] == b'C' else size_of_record(record)
+        text += file[at:at + 1 + size]
+        at += 1 + size + SEAL
+    return text + file[at:at + 1]
+
 
 def places_of(records, gate):
     """The place and the size of each record in a file, where a gate of one byte stands before each, or in a feed, where none does."""

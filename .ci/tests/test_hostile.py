@@ -1,15 +1,17 @@
 """Gives the built program a journal that was cut or changed by one byte, at each of its places, and a capture that was cut at
 each place, and compares what `show` and `replay` answer with a plain reading of docs/FORMATS.md: the fault and its place, or
-the report and the frames of the front that is left. So with `migrate`: what it answers to such a journal, and what each byte of the
-files is behind it, under directories that take over from the journal's; and of what it writes each front and each byte changed.
+the report and the frames of the front that is left. So with `migrate`, `migrate drop` and `migrate check`, also of a journal of
+version 1: what they answer to such a journal, and what each byte of the files is behind them, under directories that take over from
+the journal's; and of what `migrate` writes each front and each byte changed.
 
     --break byte    once the program is given another journal than the one that is read"""
+import itertools
 import tempfile
 from concurrent.futures import ThreadPoolExecutor
 
 import pytest
 from gate import IN_MEMORY, SIDE_BY_SIDE, Folder
-from journal import EOL, Directory, Journal, TakingOver, Wrong, frame_of, places_of, resealed
+from journal import EOL, Directory, Journal, TakingOver, Wrong, frame_of, older, places_of, resealed
 
 DIRECTORY = Directory('TVSV', window=3, limit=600, names=['ALPHA', 'B', 'C'], peers=['AAAA', 'BBBB', 'CCCC'],
                       rules=[('S***** ****', [1, 2]), ('W***** ****', [1])], levels=[('W*', 1)])
@@ -35,6 +37,7 @@ class Runs(Folder):
     def __init__(self, program, at):
         super().__init__(program, at, DIRECTORY.text())
         self.falsifies = False
+        self.turn = itertools.cycle(TAKING_OVER)
 
     def lay(self, files):
         super().lay(files)
@@ -49,19 +52,38 @@ class Runs(Folder):
         return [self.frames(circuit) for circuit in CIRCUITS]
 
     def migrates(self, what, files):
-        """What `migrate` answers to these files, and what they are behind it; under each directory where the journal opens."""
+        """What `migrate` answers to these files, and `migrate drop` where a circuit is closed: where the journal opens, under each
+        directory, or under the next one in turn where it is of version 1. Under the one in turn also what `migrate check` answers."""
         opens = TakingOver(DIRECTORY, FEWER, files).status == 0
+        in_turn = next(self.turn) if opens else 'fewer'
         self.write('directory.old.toml', DIRECTORY.text())
-        for name in TAKING_OVER if opens else ['fewer']:
-            want = TakingOver(DIRECTORY, TAKING_OVER[name], files)
+        for name in TAKING_OVER if opens and not what.startswith('version 1') else [in_turn]:
+            new = TAKING_OVER[name]
+            want = TakingOver(DIRECTORY, new, files)
+            self.write('directory.toml', new.text())
             self.lay(files)
-            self.write('directory.toml', TAKING_OVER[name].text())
-            self.wants(f'{what}, migrate, {name}', self.run('migrate'), (want.status, b'', want.line))
-            self.wants(f'{what}, the files behind a migrate, {name}', self.journal(), want.files)
-            if want.status == 0:
-                report = Journal(TAKING_OVER[name], want.files).report()
-                self.wants(f'{what}, show behind a migrate, {name}', self.run('show'), (0, report, ''))
+            if name == in_turn:
+                self.checks(f'{what}, {name}', want, opens)
+            self.takes_over(f'{what}, {name}', want, ['migrate'])
+            if new.closed and opens:
+                self.lay(files)
+                self.takes_over(f'{what}, {name}', TakingOver(DIRECTORY, new, files, drops=True), ['migrate', 'drop'])
         self.write('directory.toml', DIRECTORY.text())
+
+    def checks(self, what, want, opens):
+        """What `migrate check` answers, behind which the files are as they were."""
+        files = self.journal()
+        answer = (0, want.report, '') if opens else (want.status, b'', want.line)
+        self.wants(f'{what}, migrate check', self.run('migrate', 'check'), answer)
+        self.wants(f'{what}, the files behind a migrate check', self.journal(), files)
+
+    def takes_over(self, what, want, words):
+        """What `migrate` answers, and what the files are behind it."""
+        self.wants(f'{what}, {" ".join(words)}', self.run(*words), (want.status, want.said if 'drop' in words else b'', want.line))
+        self.wants(f'{what}, the files behind {" ".join(words)}', self.journal(), want.files)
+        if want.status == 0:
+            report = Journal(want.new, want.files).report()
+            self.wants(f'{what}, show behind {" ".join(words)}', self.run('show'), (0, report, ''))
 
     def shows(self, what, directory, files):
         """What `show` answers to these files under a directory."""
@@ -109,6 +131,19 @@ def cut_capture(runs, whole, length, empty, receipts):
     status, said, line = runs.run('replay')
     runs.wants(f'a capture of {length} bytes', (status, line), (4, f'capture: bad at {length}'))
     runs.wants(f'a capture of {length} bytes says a front', receipts.startswith(said), True)
+
+
+def older_journals(journal):
+    """Names and files of journals of version 1 that were broken: each front, and each byte changed, which no seal tells; the same of
+    one that begins with a checkpoint. Most of them open."""
+    compacted = TakingOver(DIRECTORY, DIRECTORY, [journal, b'', b'']).files[1]
+    for front, file in (('version 1', older(journal)), ('version 1 with a checkpoint', older(compacted))):
+        for length in range(len(file) + 1):
+            yield f'{front}, {length} bytes', [file[:length], b'', b'']
+        for place, byte in enumerate(file):
+            changes = CHANGES + (GATES if byte in b'OC' else [])
+            for other in sorted({change(byte) for change in changes} - {byte}):
+                yield f'{front}, byte {place} changed to {other:02x}', [file[:place] + bytes([other]) + file[place + 1:], b'', b'']
 
 
 def falsified_journals(journal):
@@ -165,7 +200,7 @@ def share(runs, number, each, empty, journal, receipts):
     for length in range(number, len(whole), SIDE_BY_SIDE * each):
         cut_capture(runs, whole, length, empty, receipts)
     runs.write('capture.gts', b'D 00\nD 01\nD 02\nE\n')
-    for what, files in [*broken_journals(journal), *falsified_journals(journal)][number::SIDE_BY_SIDE * each]:
+    for what, files in [*broken_journals(journal), *falsified_journals(journal), *older_journals(journal)][number::SIDE_BY_SIDE * each]:
         runs.compare(what, files)
     for what, directory, files in [*taken_over_journals(journal)][number::SIDE_BY_SIDE * each]:
         runs.shows(what, directory, files)

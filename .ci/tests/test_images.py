@@ -1,10 +1,13 @@
 """Makes the disk images that a loss of power may leave in a run of the built program, from the calls that the program made, by the
 sentences of docs/DEFINITIONS.md ("The disk"). Each image must open to what the journal had come to at some moment of the run, and
-hold all that was said before it. A plain reading of docs/FORMATS.md judges every image, and the program opens each that is new, or
-each Nth of these with `--each N`.
+hold all that was said before it, and of each circuit no more than `repeat` draws beyond. What stands behind one gate is there whole
+or not at all: between two changes of what the journal has come to something is said. A plain reading of docs/FORMATS.md judges every
+image, and the program opens each that is new, or each Nth of these with `--each N`.
 
-    --break sync    one sync is left out, so that what is said behind it may be lost
-    --break say     one receipt is taken as said two changes of the journal earlier"""
+    --break sync     one sync is left out, so that what is said behind it may be lost
+    --break say      one receipt is taken as said two changes of the journal earlier
+    --break half     a gate between the records of a batch is opened behind the batch's own
+    --break frame    one frame is taken as not said, so that more draws of its circuit are not said than may be gathered"""
 import os
 import re
 import subprocess
@@ -12,7 +15,7 @@ import tempfile
 
 import pytest
 from gate import IN_MEMORY, TOP, Folder, feed
-from journal import EOL, Directory, Journal, Wrong, frame_of
+from journal import CLOSED, EOL, OPEN, SEAL, Directory, Journal, State, Wrong, frame_of, size_of_record
 
 SHIM = os.path.join(TOP, '.ci/watching.c')
 DIRECTORY = Directory('TVSV', window=6, limit=60000, names=['A', 'B', 'C'], peers=['AAAA', 'BBBB', 'CCCC'],
@@ -22,7 +25,17 @@ SECTOR = 512
 # How many images are made at each moment, how many random runs there are, and how many steps each has.
 IMAGES, RUNS, STEPS = 12, 3, 40
 LONGEST_TAIL = 80
+# Ten circuits that get all, whose rows have so many draws repeated, with so many bulletins, and so many images at each moment. Where
+# fifty are repeated some batches are full, and there are few moments.
+READERS, REPEATS = 10, ((1, 12, IMAGES), (50, 60, 3 * IMAGES))
 CALL = re.compile(rb'(\w+) (\S+) (-?\d+) (\d+)\n')
+
+
+def of_ten(repeat):
+    """A directory of ten circuits that get all that comes on another one."""
+    names = 'ABCDEFGHIJK'[:1 + READERS]
+    return Directory('TVSV', window=20, limit=200000, names=names, peers=[name * 4 for name in names],
+                     rules=[('****** ****', list(range(1, 1 + READERS)))], kept=60, repeat=repeat)
 
 
 def bulletin(number):
@@ -41,6 +54,14 @@ def planned():
     steps = [feed(0, bulletin(number)) for number in range(1, 5)] + [b'T 01\n', b'T 02\n', b'T 01\n']
     steps += [feed(1, request(1, 1, 2)), b'T 01\n', b'C\n', feed(0, bulletin(5)), b'T 01\n', b'C\n', feed(2, bulletin(6))]
     return steps + [b'D 01\n', b'C\n', b'D 02\n']
+
+
+def in_batches(count):
+    """So many bulletins, each of which is drawn ten times, with a request and a compaction between."""
+    takes = [b'T %02d\n' % reader for reader in range(1, 1 + READERS)]
+    steps = [step for number in range(1, 1 + count) for step in (feed(0, bulletin(number)), *takes)]
+    middle = len(steps) // 2
+    return [*steps[:middle], feed(1, request(1, 1, 3)), *takes, b'C\n', *steps[middle:], *takes]
 
 
 def of_chance(chance):
@@ -137,19 +158,21 @@ class File:
 
 def key_of(state):
     """What a state is, as later answers need it."""
-    kept = [drawn[-DIRECTORY.kept:] for drawn in state.drawn]
-    recent = range(max(0, state.accepted - DIRECTORY.window), state.accepted)
+    directory = state.directory
+    kept = [drawn[-directory.kept:] for drawn in state.drawn]
+    recent = range(max(0, state.accepted - directory.window), state.accepted)
     needed = sorted({*recent, *(position for places in kept + state.waiting for position in places)})
     bodies = tuple((position, state.bulletins[position].circuit, state.bulletins[position].body) for position in needed)
-    return (state.accepted, tuple(map(state.draws, range(len(DIRECTORY.names)))), tuple(map(tuple, kept)),
+    return (state.accepted, tuple(map(state.draws, range(len(directory.names)))), tuple(map(tuple, kept)),
             tuple(map(tuple, state.waiting)), bodies)
 
 
 class Said:
-    """What was said: how many bulletins were acknowledged, and the last draw of each circuit that went out."""
+    """What was said: how many bulletins were acknowledged, and the last draw of each circuit that went out. It begins with all that
+    a run begins with."""
 
-    def __init__(self):
-        self.accepted, self.draws = 0, [0] * len(DIRECTORY.names)
+    def __init__(self, state):
+        self.accepted, self.draws = state.accepted, [state.draws(circuit) for circuit in range(len(state.directory.names))]
 
     def hears(self, call):
         if call.name == '-':
@@ -163,30 +186,42 @@ class Said:
     def is_in(self, state):
         return state.accepted >= self.accepted and all(state.draws(circuit) >= draws for circuit, draws in enumerate(self.draws))
 
+    def most_beyond(self, state):
+        """How many draws of one circuit are in a state that were not said."""
+        return max(state.draws(circuit) - draws for circuit, draws in enumerate(self.draws))
+
 
 class Run:
-    """The calls of a run, and the images that a loss of power may leave in it."""
+    """The calls of a run, and the images that a loss of power may leave in it, so many at each moment."""
 
-    def __init__(self, what, start, calls, folder, chance, each):
+    def __init__(self, what, start, calls, folder, chance, each, count):
         self.what, self.start, self.calls, self.folder, self.chance, self.each = what, start, calls, folder, chance, each
         self.known = {}
-        self.images = 0
+        self.images, self.count = 0, count
 
     def came_to(self):
-        """What the journal had come to between the calls of the run."""
-        files, found = dict(zip(FILES, map(File, self.start))), set()
-        found.add(key_of(self.read([files[name].whole() for name in FILES])))
-        for call in self.calls:
-            if call.name in FILES:
-                files[call.name].does(call)
-                if call.kind == 'sync':
-                    found.add(key_of(self.read([files[name].whole() for name in FILES])))
+        """What the journal had come to between the calls of the run. Between two of these something was said."""
+        files = dict(zip(FILES, map(File, self.start)))
+        last = key_of(self.read([files[name].whole() for name in FILES]))
+        found, silent = {last}, False
+        for at, call in enumerate(self.calls):
+            if call.name not in FILES:
+                silent = False
+                continue
+            files[call.name].does(call)
+            if call.kind == 'sync':
+                now = key_of(self.read([files[name].whole() for name in FILES]))
+                if now != last and silent:
+                    self.folder.faults.append(f'{self.what}: what was said behind call {at} came to the journal in two parts')
+                silent = silent or now != last
+                last = now
+                found.add(now)
         return found
 
     def read(self, image):
         """What an image opens to by a plain reading; the program is asked once for each."""
         if tuple(image) not in self.known:
-            journal = Journal(DIRECTORY, image)
+            journal = Journal(self.folder.directory, image)
             self.known[tuple(image)] = journal.state
             if len(self.known) % self.each == 0:
                 self.folder.lay(image)
@@ -204,11 +239,14 @@ class Run:
             self.folder.faults.append(f'{self.what}: an image at call {at} opens to nothing that was: accepted {state.accepted}')
         if not said.is_in(state):
             self.folder.faults.append(f'{self.what}: an image at call {at} lacks what was said: accepted {state.accepted}')
+        beyond = said.most_beyond(state)
+        if beyond > self.folder.directory.repeat:
+            self.folder.faults.append(f'{self.what}: an image at call {at} has {beyond} draws of a circuit that were not said')
 
     def goes(self):
         """All images, at each moment between two calls and inside the one behind it."""
         moments = self.came_to()
-        files, said = dict(zip(FILES, map(File, self.start))), Said()
+        files, said = dict(zip(FILES, map(File, self.start))), Said(self.read(self.start))
         for at, call in enumerate(self.calls):
             if call.name not in FILES:
                 said.hears(call)
@@ -217,7 +255,7 @@ class Run:
                 files[call.name].does(call)
             if any(files[name].is_touched() for name in FILES):
                 self.opens(at, [files[name].whole() for name in FILES], said, moments)
-                for _ in range(IMAGES):
+                for _ in range(self.count):
                     self.opens(at, [files[name].image(self.chance) for name in FILES], said, moments)
             if call.kind == 'sync':
                 files[call.name].does(call)
@@ -237,6 +275,33 @@ def said_early(calls):
     return calls[:changes[-2]] + [calls[last]] + calls[changes[-2]:last] + calls[last + 1:]
 
 
+def in_halves(calls):
+    """The calls with a gate between the records of the last batch of several that is opened behind the batch's own."""
+    for at in range(len(calls) - 1, 1, -1):
+        block, sync, gate = calls[at - 2:at + 1]
+        if gate.written == bytes([OPEN]) and sync.kind == 'sync' and gate.place + 1 == block.place:
+            inner = size_of_record(block.written) + SEAL
+            if inner < len(block.written) - 1:
+                first = block.written[:inner] + bytes([CLOSED]) + block.written[inner + 1:]
+                late = Call('write', block.name, block.place + inner, bytes([OPEN]))
+                return [*calls[:at - 2], Call('write', block.name, block.place, first), sync, gate, calls[at + 1], late, sync,
+                        *calls[at + 2:]]
+    raise AssertionError('there is no batch of several records')
+
+
+def without_a_frame(calls):
+    """The calls without the last frame but one of the circuit that got most."""
+    frames = {}
+    for at, call in enumerate(calls):
+        if call.name.startswith('circuit.'):
+            frames.setdefault(call.name, []).append(at)
+    left_out = max(frames.values(), key=len)[-2]
+    return calls[:left_out] + calls[left_out + 1:]
+
+
+BREAKS = {'sync': without_a_sync, 'say': said_early, 'half': in_halves, 'frame': without_a_frame}
+
+
 @pytest.fixture
 def shim():
     with tempfile.TemporaryDirectory() as room:
@@ -247,6 +312,17 @@ def shim():
 
 class Watched(Folder):
     """A folder in which the changes that the program makes are kept."""
+
+    def __init__(self, program, at, directory):
+        super().__init__(program, at, directory.text())
+        self.directory = directory
+
+    def begins_with(self, directory):
+        """A new journal under this directory."""
+        self.remove(*os.listdir(self.at))
+        self.directory = directory
+        self.write('directory.toml', directory.text())
+        self.wants('init', self.run('init'), (0, b'', ''))
 
     def changes(self, shim, words, capture):
         log = self.at + '.bytes'
@@ -262,18 +338,18 @@ class Watched(Folder):
 @pytest.fixture
 def watched(program):
     with tempfile.TemporaryDirectory(dir=IN_MEMORY) as room:
-        folder = Watched(program, os.path.join(room, 'folder'), DIRECTORY.text())
+        folder = Watched(program, os.path.join(room, 'folder'), DIRECTORY)
         yield folder
         assert not folder.faults, '\n'.join(folder.faults[:20])
 
 
-def images_of(what, folder, shim, words, steps, chance, each, broken=None):
+def images_of(what, folder, shim, words, steps, chance, each, broken=None, count=IMAGES):
     """A run behind what stands in the folder, and all its images. How many they were."""
     start = folder.journal()
     calls = folder.changes(shim, words, b''.join(steps) + b'E\n')
     after = folder.journal()
-    calls = {'sync': without_a_sync, 'say': said_early}.get(broken, lambda calls: calls)(calls)
-    run = Run(what, start, calls, folder, chance, each)
+    calls = BREAKS.get(broken, lambda calls: calls)(calls)
+    run = Run(what, start, calls, folder, chance, each, count)
     run.goes()
     folder.lay(after)
     print(f'images: {what}: {len(calls)} calls, {run.images} images, {len(run.known)} of them different')
@@ -297,3 +373,9 @@ def test_each_image_of_a_compaction_opens_to_what_was(watched, shim, chance, eac
     watched.run('replay', capture=b''.join(planned()) + b'E\n')
     images_of('compact', watched, shim, ('compact',), [], chance, each)
     images_of('count', watched, shim, ('count',), [feed(0, bulletin(30)), b'T 01\n'], chance, each)
+
+
+@pytest.mark.parametrize(('repeat', 'bulletins', 'count'), REPEATS)
+def test_each_image_of_batches_opens_to_a_moment_of_them(watched, shim, chance, each, broken, repeat, bulletins, count):
+    watched.begins_with(of_ten(repeat))
+    images_of(f'batches with repeat {repeat}', watched, shim, ('replay',), in_batches(bulletins), chance, each, broken, count)

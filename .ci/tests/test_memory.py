@@ -1,6 +1,7 @@
 """Runs the built program with one allocation refused, each of a run in turn: `init`, a replay, a replay with repetitions,
-`compact`, `migrate` and `serve`. Each time the program ends as if nothing had been refused, or tells of it; and then the journal
-opens, what is left is done, and each number has one text. It needs gcc for the library that refuses.
+`compact`, `migrate`, also of a journal of version 1, `migrate drop`, `migrate check` and `serve`. Each time the program ends as if
+nothing had been refused, or tells of it; and then the journal opens, what is left is done, and each number has one text. It needs gcc
+for the library that refuses.
 
     --break refused    the library refuses nothing"""
 import os
@@ -17,6 +18,7 @@ from concurrent.futures import ThreadPoolExecutor
 
 import pytest
 from gate import IN_MEMORY, SIDE_BY_SIDE, TOP, feed
+from journal import older
 from loopback import HOST, body_of, directory, frame, messages_of, number_of
 
 MOST_SECONDS = 180
@@ -189,7 +191,7 @@ class Migration(Case):
         folder.write('directory.toml', self.new.encode())
 
     def refused(self, folder, number, counts=None):
-        folder.status, line = super().refused(folder, number, counts)
+        folder.status, folder.said, line = folder.run(*self.words, capture=self.capture, refused=number, counts=counts)
         return folder.status, line
 
     def rest(self, folder):
@@ -197,9 +199,58 @@ class Migration(Case):
         if folder.status == NO_MEMORY and any(folder.read(name) != text for name, text in folder.laid.items()):
             faults.append('the journal is not as it was')
         if not faults and folder.run('show')[0] != 0:
-            status, _, line = folder.run('migrate')
-            faults = [f'then migrate: {line.decode().strip()}'] if status != 0 else []
+            faults = self.once_more(folder)
         return faults + super().rest(folder)
+
+    def once_more(self, folder):
+        status, _, line = folder.run(*self.words)
+        return [f'then {self.name}: {line.decode().strip()}'] if status != 0 else []
+
+
+class OlderMigration(Migration):
+    """The same of a journal of version 1."""
+    name = 'migrate of version 1'
+
+    def prepare(self, folder):
+        super().prepare(folder)
+        folder.laid['journal.0'] = older(folder.laid['journal.0'])
+
+
+class Dropping(Migration):
+    """The circuit is closed on which a bulletin waits, which is dropped. Its receipt is said whenever the journal was taken over."""
+    name, words = 'migrate drop', ['migrate', 'drop']
+    new = directory(['A', 'B'], ['A'], [4001, 4002, 4003, 4004]).replace('name = "B"', 'name = "B"\nclosed = true', 1)
+    receipt = b'DRP 1 1 ' + HEADING + b'\n'
+
+    def rest(self, folder):
+        faults = [] if folder.said == self.receipt or folder.status != 0 else [f'it said {folder.said}']
+        return faults + super().rest(folder)
+
+    def once_more(self, folder):
+        _, said, _ = folder.run(*self.words)
+        return [] if said == self.receipt else [f'then {self.name} said {said}']
+
+    def wrong(self, folder, stream):
+        shown = folder.run('show')[1].decode()
+        fits = stream == b'' and re.search(r'^accepted 2\n.*\n.* draws 1 waiting 0 ', shown)
+        return [] if fits else [f'then show: {shown}, and sent was {stream}']
+
+
+class Checking(Migration):
+    """What would change is told, or nothing is; and nothing is written. Then the journal is taken over."""
+    name, words = 'migrate check', ['migrate', 'check']
+    changes = b'rule out ****** **** to A B\nrule in ****** **** to C\ncircuit 02 C added\nend\n'
+
+    def rest(self, folder):
+        faults = [] if folder.said == (self.changes if folder.status == 0 else b'') else [f'it said {folder.said}']
+        if any(folder.read(name) != text for name, text in folder.laid.items()):
+            faults.append('the journal is not as it was')
+        return faults + super().rest(folder)
+
+    def once_more(self, folder):
+        _, said, _ = folder.run(*self.words)
+        faults = [] if said == self.changes else [f'then {self.name} said {said}']
+        return faults + ([] if folder.run('migrate')[0] == 0 else ['then migrate failed'])
 
 
 class Init(Case):
@@ -343,7 +394,10 @@ def library(tmp_path_factory, broken):
     return made
 
 
-@pytest.mark.parametrize('kind', [Init, Replay, Repetition, Compaction, Migration, Serve], ids=lambda kind: kind.name.replace(' ', '_'))
+KINDS = [Init, Replay, Repetition, Compaction, Migration, OlderMigration, Dropping, Checking, Serve]
+
+
+@pytest.mark.parametrize('kind', KINDS, ids=lambda kind: kind.name.replace(' ', '_'))
 def test_each_allocation_of_a_run_is_refused(kind, program, library):
     with tempfile.TemporaryDirectory(dir=IN_MEMORY) as top:
         count, exits, faults = tried(kind(), program, top, library)

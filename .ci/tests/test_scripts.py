@@ -6,7 +6,7 @@ import subprocess
 import gate
 import pytest
 
-LONG = ['always', 'edge', 'lines', 'network', 'standby']
+LONG = ['always', 'edge', 'lines', 'network', 'standby', 'year']
 
 
 @pytest.mark.parametrize('name', [name for name in LONG if os.path.exists(os.path.join(gate.TOP, '.ci', name))])

@@ -1,6 +1,9 @@
 """What a run of a hub took, by time: rows of a file of comma-separated values."""
 import csv
 import math
+import os
+import platform
+import subprocess
 import time
 from collections import Counter, defaultdict
 
@@ -10,6 +13,18 @@ FIELDS = ['seconds', 'day', 'hour', 'messages', 'accepted', 'frames', 'in_a_seco
           'journal_bytes', 'memory_kib', 'syncs', 'starts', 'compactions', 'pause_ms']
 # Into so many buckets the times from one power of two to the next are put.
 PARTS = 16
+
+
+def origin(note=''):
+    """Of which commit a measurement is, on what machine, and when."""
+    here = os.path.dirname(os.path.abspath(__file__))
+    told = subprocess.run(['git', 'rev-parse', '--short=8', 'HEAD'], cwd=here, capture_output=True, text=True)
+    with open('/proc/cpuinfo') as file:
+        model = next((line.partition(':')[2].strip() for line in file if line.startswith('model name')), platform.machine())
+    memory = os.sysconf('SC_PAGE_SIZE') * os.sysconf('SC_PHYS_PAGES') / (1 << 30)
+    parts = [f'commit {told.stdout.strip() or "unknown"}', note, f'{os.cpu_count()} processors {model}', f'{memory:.0f} GiB',
+             f'Linux {platform.release()}', time.strftime('%-d %B %Y', time.gmtime())]
+    return ', '.join(part for part in parts if part)
 
 
 def share(times, part):
@@ -44,7 +59,7 @@ class Histogram:
 class Measures:
     """Samples of a run, each so many seconds behind the one before."""
 
-    def __init__(self, path, every):
+    def __init__(self, path, every, note=''):
         self.file = open(path, 'w', newline='') if path else None
         self.rows = csv.writer(self.file) if self.file else None
         self.every, self.begun = every, time.monotonic()
@@ -54,6 +69,7 @@ class Measures:
         self.pause, self.pauses = 0.0, []
         self.most_memory = self.most_journal = 0
         if self.rows:
+            self.file.write(f'# {origin(note)}\n')
             self.rows.writerow(FIELDS)
 
     def paused(self, seconds):

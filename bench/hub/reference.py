@@ -11,8 +11,8 @@ from journal import EOL
 FRONT = 48
 # How many bulletins stay known behind their last arrival, for frames that come once more.
 REMEMBERED = 20_000
-# How many bulletins may have been accepted without a receipt when the program is killed.
-IN_DOUBT = 1
+# How many bulletins may have been accepted without a receipt when the program is killed: as many as go behind one gate.
+IN_DOUBT = 256
 
 
 class Lost(Exception):
@@ -35,8 +35,8 @@ class Ledger:
     """A circuit: what goes to it, what has come on it, and under which numbers. A draw is named by its index, from 0 on, which
     doesn't come round as its number does."""
 
-    def __init__(self, name, digits, kept, in_work):
-        self.name, self.digits, self.kept, self.in_work = name, digits, kept, in_work
+    def __init__(self, name, digits, kept, repeat):
+        self.name, self.digits, self.kept, self.repeat = name, digits, kept, repeat
         # Routed here and not known to have been drawn: in order, and those that may have waited at the last draw that was judged.
         self.routed, self.waiting = deque(), []
         # Draws from 0 to `next` were judged; `early` stand behind a hole; `top` is behind the greatest that came.
@@ -46,8 +46,8 @@ class Ledger:
         self.accepted, self.floors = 0, deque()
         # Draws that were asked for and have to come; those that may come once more; those to be asked for again.
         self.wanted, self.may_come, self.again = set(), Counter(), set()
-        # The draw with which the circuit begins behind an opening; and whether the first frame of a return is still to come.
-        self.first, self.returned_at = None, None
+        # The draws with which the circuit begins behind an opening; and whether the first frame of a return is still to come.
+        self.owed, self.returned_at = deque(), None
         self.behind = self.repeated = 0
         # How many draws of each level went before something that had been accepted before them.
         self.overtook = Counter()
@@ -64,19 +64,25 @@ class Ledger:
     def number_of(self, index):
         return f'{(index + 1) % ROUND[self.digits]:0{self.digits}}'
 
+    def drawn(self, index, body):
+        """The bulletin of a draw that is kept here, where it has this body: on a circuit that no rule names any more it may be old."""
+        bulletin = self.recent.get(index)
+        return bulletin if bulletin is not None and bulletin.body == body else None
+
     def came(self, index, bulletin):
         """A frame came. Gives whether it is new."""
-        if self.first is not None and index != self.first:
-            self.lost(f'behind an opening came {self.number_of(index)}, and not the last draw {self.number_of(self.first)}')
+        if self.owed and index != self.owed[0]:
+            self.lost(f'behind an opening came {self.number_of(index)}, where {self.number_of(self.owed[0])} was owed')
         if self.returned_at is not None:
-            self.floors.append((max(index, self.top - 1) + self.in_work, self.returned_at))
+            self.floors.append((max(index, self.top - 1) + self.repeat, self.returned_at))
             self.returned_at = None
         if index in self.recent:
             self.came_again(index, bulletin)
             return False
         if index < self.next or (index < self.top and index not in self.holes):
             self.lost(f'{self.number_of(index)} came again, which nobody asked for')
-        self.first = None
+        if self.owed:
+            self.owed.popleft()
         self.holes |= set(range(self.top, index))
         self.top = max(self.top, index + 1)
         for of in (self.holes, self.wanted, self.again):
@@ -91,10 +97,12 @@ class Ledger:
     def came_again(self, index, bulletin):
         if self.recent[index].body != bulletin.body:
             self.lost(f'{self.number_of(index)} came with two texts')
-        if self.first is None and self.may_come[index] == 0:
+        if not self.owed and self.may_come[index] == 0:
             self.lost(f'{self.number_of(index)} came twice, and nobody asked for it')
-        self.may_come[index] -= self.first is None
-        self.first = None
+        if self.owed:
+            self.owed.popleft()
+        else:
+            self.may_come[index] -= 1
         self.wanted.discard(index)
         self.again.discard(index)
         self.repeated += 1
@@ -123,16 +131,15 @@ class Ledger:
 
     def is_cut(self):
         """Its line was cut: what was asked for and didn't come is asked for again, and the frame in work may be lost."""
-        if self.first is not None:
-            self.may_come[self.first] += 1
-            self.first = None
+        self.may_come.update(self.owed)
+        self.owed.clear()
         self.again |= self.wanted
         self.wanted.clear()
 
     def opened(self, draws, accepted):
-        """The switch was opened again behind so many draws: it owes the last one, and nothing else."""
+        """The switch was opened again behind so many draws: it owes the last ones, as many as are repeated, and nothing else."""
         self.is_cut()
-        self.first = draws - 1 if draws > 0 else None
+        self.owed.extend(range(max(0, draws - self.repeat), draws))
         self.floors.append((draws, accepted))
 
 
@@ -235,12 +242,12 @@ class Reference:
         ledger = self.ledgers[circuit]
         digits = message[4:4 + ledger.digits]
         body = message[4 + ledger.digits + len(EOL):]
-        bulletin = self.bulletin_of(circuit, body)
-        if bulletin is None or bulletin.letters != letters:
-            ledger.lost(f'a frame of something else than was accepted: {message[:80]!r}')
         if not digits.isdigit() or message[:4] != b'\x01' + EOL or message[4 + ledger.digits:7 + ledger.digits] != EOL:
             ledger.lost(f'a frame begins with {message[:16]!r}')
         index = ledger.index_of(int(digits))
+        bulletin = self.bulletin_of(circuit, body) or ledger.drawn(index, body)
+        if bulletin is None or bulletin.letters != letters:
+            ledger.lost(f'a frame of something else than was accepted: {message[:80]!r}')
         self.counts['frames'] += 1
         if index not in ledger.recent and circuit not in bulletin.left:
             ledger.lost(f'{body[:22]!r} came, which the rules of its time do not lead there, or under two numbers')

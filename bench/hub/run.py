@@ -13,14 +13,14 @@ from hub.traffic import REQUEST, Traffic, request
 # Behind what came at once it goes on once so few messages wait for receipts, and so few frames are still to come.
 WAITING, BEHIND = 32, 600
 # How many numbers a neighbour asks for at once.
-NUMBERS = 40
+NUMBERS = 200
 # From this serial number on are the bulletins that come beside those of the seed.
 BESIDE = 90_000_000
 
 
 class Run:
     """A switch, its neighbours, and the reference. `words` are those of the call: `seed`, `messages`, `rate`, `patience`, `csv`,
-    `every` and `broken`, which is what is wrong on purpose."""
+    `note`, `every` and `broken`, which is what is wrong on purpose."""
 
     def __init__(self, words, station, directory):
         self.words, self.messages = words, words.messages
@@ -28,7 +28,7 @@ class Run:
         # What comes beside, when it is wanted, so that the others are the same at each run; and a digest of the others.
         self.traffic, self.beside, self.digest = Traffic(words.seed), Traffic(words.seed + 1, BESIDE), hashlib.sha256()
         self.reference, self.lines = Reference(directory, self.level), Lines()
-        self.measures = Measures(words.csv, words.every)
+        self.measures = Measures(words.csv, words.every, words.note)
         self.number, self.place, self.time_of_day = 0, (0, 0), b'010000'
         self.counts, self.begun = Counter(), time.monotonic()
         self.withheld = None

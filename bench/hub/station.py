@@ -13,6 +13,8 @@ from network import Standby, accepted_and_drawn
 SECONDS = 600
 CONNECTIONS = 1_000
 DISK_FAULT = 6
+# What the unit sets.
+AS_THE_UNIT = {'MALLOC_ARENA_MAX': '1'}
 # Where the disk is full, there is room for so many bytes more.
 ROOM = 20_000
 
@@ -66,7 +68,7 @@ class Station:
         took = time.monotonic() - begun
         self.run, self.read_to = self.run + 1, 0
         words = [self.program, 'serve', 'always' if self.is_always else str(CONNECTIONS)]
-        settings = self.power.settings() if self.power else None
+        settings = {**(self.power.settings() if self.power else os.environ), **AS_THE_UNIT}
         with open(self.receipts_path(), 'wb') as out, open(self.receipts_path() + '.faults', 'wb') as err:
             # So a write over the limit of a file fails, and is no signal.
             self.process = subprocess.Popen(words, cwd=self.folder, stdin=subprocess.DEVNULL, stdout=out, stderr=err, env=settings,

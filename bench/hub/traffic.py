@@ -12,8 +12,8 @@ from hub.directory import BINARY, CENTRE, CIRCUITS, LONG, SHORT, TSUNAMI, WARNIN
 from journal import EOL, frame_of
 
 HEADINGS = 10_000
-# So many messages has a day of the year, and so many stand for a minute that is asked for: 33 a second.
-DAY, MINUTE, YEAR = 8_640, 2_000, 365
+# So many messages has a day of the year, and so many stand for a minute that is asked for: 17 a second.
+DAY, MINUTE, YEAR = 8_640, 1_000, 365
 # The share of a day that comes in a main hour, in one between, and in another; and how much of it on the hour.
 MAIN, BETWEEN, OTHER, BURST = 0.08, 0.05, 0.03, 0.5
 SIZES = {'short': (40, 480), 'long': (1_000, 8_000), 'binary': (2_000, 200_000)}

@@ -18,6 +18,8 @@ usage: gts_switch COMMAND, in a folder with directory.toml
   compact      makes the journal as small as what is needed
   generate N   works through a day of N messages in memory
   migrate      takes the journal over from directory.old.toml
+  migrate drop the same, and drops what waits on closed circuits
+  migrate check tells what would change then, and changes nothing
   unpack cc    takes a file of bulletins in on circuit cc
   pack         makes a file of bulletins of a stream of frames
   gaps DDHHMM  names missing numbers, and asks for them

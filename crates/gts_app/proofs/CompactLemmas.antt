@@ -1,5 +1,5 @@
 -- What `compact` comes to, from the opening and the engine's compaction.
-use Rattle.std.proofs.Common.{◌≡◌, ◌≤◌, ℕ, List, [], ◌∷◌, ◌++◌, Result, Ok, Err, IfErr, OnOk, Option, Some, None, IsTrue, inl, inr, refl, sym, ap, subst, ◌∙◌, arith}
+use Rattle.std.proofs.Common.{◌≡◌, ◌≤◌, ℕ, false, List, [], ◌∷◌, ◌++◌, Result, Ok, Err, IfErr, OnOk, Option, Some, None, IsTrue, inl, inr, refl, sym, ap, subst, ◌∙◌, arith}
 use Rattle.std.proofs.lemmas.List.{append-nil}
 use Rattle.gts_traits.specs.declared.source.Source.{Ghosts as SourceMeanings}
 use Rattle.gts_traits.specs.declared.station.Station.{Ghosts as StationMeanings}
@@ -26,6 +26,7 @@ use Rattle.gts_engine.specs.declared.mode.SayMode.TheVariants as mode
 use Rattle.gts_engine.specs.Engine.{Engine, shown}
 use Rattle.gts_engine.specs.Origin.{compacted_after}
 use Rattle.gts_engine.specs.Keeping.{Keeps, HasSaid, OpensWith, origin_of}
+use Rattle.gts_engine.specs.Switching.{switch_meanings}
 use Rattle.gts_engine.specs.Compacting.{IsCompaction, IsRewritten, GivesRoom, IsIdleFault, StaysAt, IsCompactFault}
 use Rattle.gts_app.specs.declared.status.Status.{Status}
 use Rattle.gts_app.specs.declared.status.Status.TheVariants.{Done, DiskFault, Full, NoMemory}
@@ -33,6 +34,7 @@ use Rattle.gts_app.specs.Opening.{IsOfFiles, IsRefusal, Opens}
 use Rattle.gts_app.specs.Ending.{refusal, status_compacted}
 use Rattle.gts_app.specs.Compact.{Compacts, IsCompacted, IsTooLarge, IsCompactEnd, Over, StaysThere}
 use Rattle.gts_app.proofs.RefusalLemmas.{refused, refusals, no_fault, same_directory, one_answer}
+use Rattle.gts_app.proofs.EndLemmas.{none_gathered}
 use Rattle.gts_app.proofs.ShowLemmas.{goes_on, of_memory, only_synced_says}
 
 -- ---- what refused it
@@ -113,7 +115,7 @@ module _ {S P : Type 0} (source : SourceMeanings S) (w : StationMeanings P) (od 
   known : w.tells → Known
   known told =
       let x = h.opened e is told in
-      record { told = told; n = x.0; read = x.1; opened = x.2.0.opened; synced = x.2.0.synced; keeps = x.2.1.stands; same = starts e.directory x.0 x.2.0.sound }
+      record { told = told; n = x.0; read = x.1; opened = x.2.0.opened; synced = x.2.0.synced; keeps = none_gathered (switch_meanings w.tells w.calls) (record { told = told; origin = origin_of w.calls e x.0 }) e x.2.1.stands; same = starts e.directory x.0 x.2.0.sound }
 
   going : (k : Known) → e.stopped ≡ None
   going k = goes_on e.stopped k.keeps.failed
@@ -162,7 +164,7 @@ module _ {S P : Type 0} (source : SourceMeanings S) (w : StationMeanings P) (od 
       (room : (s : State) → e.stopped ≡ None → Holds e.directory e.core s → GivesRoom r e.directory s)
       (kind : IfErr r IsCompactFault) (unchanged : IsIdleFault r → new ≡ e)
       (cause : HasCallCause r (w.disk_faults e.station) (w.disk_faults new.station) (w.say_faults e.station) (w.say_faults new.station))
-      (files : w.tells → new.stopped ≡ None → OpensWith new.directory (seen (w.calls new.station)) new.used) where
+      (files : w.tells → new.stopped ≡ None → new.gathered ≡ false → OpensWith new.directory (seen (w.calls new.station)) new.used) where
     stays : (k : Known) → StaysThere e.directory k.n (w.calls old) (w.calls new.station)
     stays k =
         subst (λ (calls : List Call). EachSince calls (w.calls new.station) (OpensAsBefore e.directory (begun k.n))) k.synced
@@ -194,7 +196,7 @@ module _ {S P : Type 0} (source : SourceMeanings S) (w : StationMeanings P) (od 
               k.synced rewritten.stays;
           text = rewritten.text ∙ ap (λ (m : Need). checkpoint_file e.directory.mark m) k.same;
           used = subst (λ (d : directories.Directory). OpensWith d (seen (w.calls new.station)) (compacted_size k.n)) compaction.directory
-              (subst (λ (used : ℕ). OpensWith new.directory (seen (w.calls new.station)) used) (rewritten.size ∙ ap compacted_size k.same) (files k.told goes));
+              (subst (λ (used : ℕ). OpensWith new.directory (seen (w.calls new.station)) used) (rewritten.size ∙ ap compacted_size k.same) (files k.told goes (after k ok).gathered));
           room = free;
           moments = stays k;
         }

@@ -1,6 +1,9 @@
 -- What a run of a capture through a switch that counts left, of the switch itself.
-use Rattle.std.proofs.Common.{ℕ, List, ◌++◌, inl, inr, ap}
+use Rattle.std.proofs.Common.{ℕ, List, [], ◌∷◌, ◌++◌, length, inl, inr, ap}
+use Rattle.gts_event.specs.declared.event.Event.{Event}
 use Rattle.gts_event.specs.declared.event.Entry.{Entry}
+use Rattle.gts_event.specs.declared.event.Entry.TheVariants.{Doubt}
+use Rattle.gts_event.specs.Drain.{all_unsaid}
 use Rattle.gts_event.specs.declared.fault.SwitchFault.{SwitchFault}
 use Rattle.gts_event.specs.declared.fault.SwitchFault.TheVariants.{DiskFault, SayFault, Full, Stopped, Spent, NoMemory}
 use Rattle.gts_record.specs.declared.fault.OpenFault.{OpenFault}
@@ -10,7 +13,7 @@ use Rattle.gts_calls.specs.{Standing}
 use Rattle.gts_count.specs.declared.parts.Parts.{Parts}
 use Rattle.gts_count.specs.Counted.{meanings_by}
 use Rattle.gts_replay.specs.declared.end.ReplayEnd.{ReplayEnd}
-use Rattle.gts_replay.specs.{BreaksOff, BreaksAtRestart, BreaksAtCompaction, Remains, IsUnbegun, Ends, origin_at, entries_at, compactions_at, compacted_at}
+use Rattle.gts_replay.specs.{BreaksOff, BreaksTogether, BreaksIdle, BreaksAtRestart, BreaksAtCompaction, Remains, IsUnbegun, Ends, origin_at, entries_at, compactions_at, compacted_at}
 
 module _ {O T W : Type 0} (parts : W → Parts T) (meanings : Standing O T) (station : Type 0) (kind : CaptureKind) (o : O) (h : List Entry) (tells : Type 0) (old new : W) where
   remains : (at : O) (all : List Entry) (fault : SwitchFault) → Remains (meanings_by parts meanings) at all fault new → Remains meanings at all fault (parts new).switch
@@ -21,10 +24,25 @@ module _ {O T W : Type 0} (parts : W → Parts T) (meanings : Standing O T) (sta
   remains at all Spent stands = stands.0
   remains at all NoMemory stands = stands.0
 
+  together : (steps : List Step) (became : List Event → List Entry)
+      → BreaksTogether (meanings_by parts meanings) (origin_at (meanings_by parts meanings) o h steps old) (length h) h (entries_at (meanings_by parts meanings) old o h steps) became new
+      → BreaksTogether meanings (origin_at meanings o h steps (parts old).switch) (length h) h (entries_at meanings (parts old).switch o h steps) became (parts new).switch
+  together steps became b = record { front = b.front; event = b.event; events = b.events; behind = b.behind; parts = b.parts; within = b.within; stands = b.stands.0 }
+
+  idle : (steps : List Step) (fault : SwitchFault)
+      → BreaksIdle (meanings_by parts meanings) (origin_at (meanings_by parts meanings) o h steps old) h (entries_at (meanings_by parts meanings) old o h steps) fault new
+      → BreaksIdle meanings (origin_at meanings o h steps (parts old).switch) h (entries_at meanings (parts old).switch o h steps) fault (parts new).switch
+  idle steps fault b = record { front = b.front; event = b.event; behind = b.behind; parts = b.parts; stands = b.stands.0; cause = b.cause }
+
   breaks_off : (steps : List Step) (fault : SwitchFault)
-      → BreaksOff (meanings_by parts meanings) (origin_at (meanings_by parts meanings) o h steps old) h (entries_at (meanings_by parts meanings) old o h steps) fault new
-      → BreaksOff meanings (origin_at meanings o h steps (parts old).switch) h (entries_at meanings (parts old).switch o h steps) fault (parts new).switch
-  breaks_off steps fault b = record { front = b.front; event = b.event; behind = b.behind; parts = b.parts; stands = b.stands.0; cause = b.cause }
+      → BreaksOff (meanings_by parts meanings) (origin_at (meanings_by parts meanings) o h steps old) (length h) h (entries_at (meanings_by parts meanings) old o h steps) fault new
+      → BreaksOff meanings (origin_at meanings o h steps (parts old).switch) (length h) h (entries_at meanings (parts old).switch o h steps) fault (parts new).switch
+  breaks_off steps DiskFault b = together steps (λ events. Doubt events ∷ []) b
+  breaks_off steps SayFault b = together steps all_unsaid b
+  breaks_off steps (Full used need limit) b = idle steps (Full used need limit) b
+  breaks_off steps (Stopped by) b = idle steps (Stopped by) b
+  breaks_off steps Spent b = idle steps Spent b
+  breaks_off steps NoMemory b = idle steps NoMemory b
 
   breaks_restart : (steps : List Step) (fault : OpenFault)
       → BreaksAtRestart (meanings_by parts meanings) station (origin_at (meanings_by parts meanings) o h steps old) h (entries_at (meanings_by parts meanings) old o h steps) fault new
@@ -83,7 +101,7 @@ module _ {O T W : Type 0} (parts : W → Parts T) (meanings : Standing O T) (sta
           | inl b ↦ inl (breaks_restart x.steps _ b)
           | inr more ↦ inr (elim more [
             | inl b ↦ inl (breaks_compaction x.steps NoMemory b)
-            | inr b ↦ inr (breaks_off x.steps NoMemory b)
+            | inr b ↦ inr (idle x.steps NoMemory b)
           ])
         ])
       ];

@@ -1,5 +1,5 @@
 -- What `count` comes to, from the opening, the run of the capture and the saying of the table.
-use Rattle.std.proofs.Common.{◌≡◌, ℕ, ◌≤◌, List, [], ◌∷◌, length, Result, Ok, Err, None, IsTrue, inl, inr, refl, sym, ap, subst, ◌∙◌, arith}
+use Rattle.std.proofs.Common.{◌≡◌, ℕ, ◌≤◌, false, List, [], ◌∷◌, length, Result, Ok, Err, None, IsTrue, inl, inr, refl, sym, ap, subst, ◌∙◌, arith}
 use Rattle.gts_traits.specs.declared.source.Source.{Ghosts as SourceMeanings}
 use Rattle.gts_traits.specs.declared.station.Station.{Ghosts as StationMeanings}
 use Rattle.gts_traits.specs.Counts.{Rose}
@@ -28,7 +28,7 @@ use Rattle.gts_app.specs.Replay.{World, world, Replays, history, counted}
 use Rattle.gts_app.specs.Count.{CountsEngine, EndsWithoutTable, table_behind, Behind, SaysTable, CountsTraffic}
 use Rattle.gts_app.proofs.CompactedLemmas.{compacted_is, counts, counts_within}
 use Rattle.gts_app.proofs.CountedLemmas.{ends_below}
-use Rattle.gts_app.proofs.EndLemmas.{history_done, none_unsaid}
+use Rattle.gts_app.proofs.EndLemmas.{history_done, none_unsaid, none_doubt, none_gathered}
 use Rattle.gts_app.proofs.RefusalLemmas.{refused, out_of_memory}
 use Rattle.gts_app.proofs.ReplayLemmas.{Run, replays, steps_went, uses, was_done}
 use Rattle.gts_app.proofs.ShowLemmas.{goes_on}
@@ -74,16 +74,16 @@ without_numbers {S} {P} source w od nd oc old e result is h at same =
 
 -- ---- a capture was run through the switch that counts
 
--- what an engine that goes on leaves opens with the bytes that it counts
+-- what an engine that goes on and has gathered nothing leaves opens with the bytes that it counts
 abbrev pub Leaves : {P : Type 0} → StationMeanings P → Engine P → Type 0
-Leaves w e = w.tells → e.stopped ≡ None → OpensWith e.directory (seen (w.calls e.station)) e.used
+Leaves w e = w.tells → e.stopped ≡ None → e.gathered ≡ false → OpensWith e.directory (seen (w.calls e.station)) e.used
 
 module _ {S P W : Type 0} (parts : W → Parts (Engine P)) (source : SourceMeanings S) (w : StationMeanings P) (e : ReplayEnd) (od nd oc nc : S) (old : P) (first last : W)
     (opens : Opens source w (Ok (parts first).switch) od nd old)
     (counts_engine : CountsEngine (parts first))
     (laws : (n : Need) (es : List Entry) → IsTrue (keeps_one (parts first).switch.directory) → IsTrue (is_sound (parts first).switch.directory n)
     → KeepsLaws (parts first).switch.directory n es)
-    (ends : (o : Told w.tells) (h : List Entry) → StandsFor (meanings_by parts (switch_meanings w.tells w.calls)) o h first
+    (ends : (o : Told w.tells) (h : List Entry) → StandsFor (meanings_by parts (switch_meanings w.tells w.calls)) o (length h) h first
     → Ends (meanings_by parts (switch_meanings w.tells w.calls)) w.tells Traffic o h source.tells e first last (source.left oc) (source.left nc))
     (narrow : length (parts first).switch.directory.circuits ≤ 100)
     (cause : HasReplayCause e (w.disk_faults (parts first).switch.station) (w.disk_faults (parts last).switch.station)
@@ -99,14 +99,22 @@ module _ {S P W : Type 0} (parts : W → Parts (Engine P)) (source : SourceMeani
   origin told n = record { told = told; origin = origin_of w.calls engine n }
 
   -- its numbers are those of the need with which the history begins
-  begins : (told : w.tells) (n : Need) → StandsFor (switch_meanings w.tells w.calls) (origin told n) [] engine
-      → StandsFor (meanings_by parts (switch_meanings w.tells w.calls)) (origin told n) [] first
-  begins told n s = record {
-    start = s.start;
-    stands = (s.stands, counts_engine (begun n) [] (s.stands.core (goes_on engine.stopped s.stands.failed)) s.start.ordered);
-  }
+  begins : (told : w.tells) (n : Need) → StandsFor (switch_meanings w.tells w.calls) (origin told n) 0 [] engine
+      → StandsFor (meanings_by parts (switch_meanings w.tells w.calls)) (origin told n) 0 [] first
+  begins told n s =
+      let keeps = none_gathered (switch_meanings w.tells w.calls) (origin told n) engine s.stands in
+      record {
+        start = s.start;
+        stands = record {
+          front = [];
+          events = [];
+          is = refl;
+          within = omega arith;
+          gathers = (keeps, counts_engine (begun n) [] (keeps.core (goes_on engine.stopped keeps.failed)) s.start.ordered);
+        };
+      }
 
-  below : (told : w.tells) (n : Need) → StandsFor (switch_meanings w.tells w.calls) (origin told n) [] engine
+  below : (told : w.tells) (n : Need) → StandsFor (switch_meanings w.tells w.calls) (origin told n) 0 [] engine
       → Ends (switch_meanings w.tells w.calls) w.tells Traffic (origin told n) [] source.tells e engine behind (source.left oc) (source.left nc)
   below told n s =
       ends_below parts (switch_meanings w.tells w.calls) w.tells Traffic (origin told n) [] source.tells first last e (source.left oc) (source.left nc)
@@ -139,7 +147,7 @@ module _ {S P W : Type 0} (parts : W → Parts (Engine P)) (source : SourceMeani
 
   module _ (is : e ≡ end.Done) (text : List ℕ) (shows : ShowsTable (switch_meanings w.tells w.calls) (parts last) text) where
     -- the text is the table of the need where the history ends
-    is_table : (told : w.tells) (n : Need) (s : StandsFor (switch_meanings w.tells w.calls) (origin told n) [] engine)
+    is_table : (told : w.tells) (n : Need) (s : StandsFor (switch_meanings w.tells w.calls) (origin told n) 0 [] engine)
         → let o : Origin = origin_of w.calls engine n in
         text ≡ table_behind o (history o ((ends (origin told n) [] (begins told n s)).done is).steps)
     is_table told n s =
@@ -148,7 +156,7 @@ module _ {S P W : Type 0} (parts : W → Parts (Engine P)) (source : SourceMeani
         let all : List Entry = history o x.steps in
         let at : Told w.tells = compacted_at (switch_meanings w.tells w.calls) (origin told n) all (counts o x.steps) in
         let T : directories.Directory → Need → Type 0 = λ d m. text ≡ table d (need d (after_all d (begun m) all)) in
-        let here : T behind.directory at.origin.start = shows at all x.stands (none_unsaid all (history_done o x.steps)) in
+        let here : T behind.directory at.origin.start = shows at all x.stands (none_unsaid all (history_done o x.steps)) (none_doubt all (history_done o x.steps)) in
         subst (λ (t : Told w.tells). T t.origin.directory t.origin.start)
         (compacted_is w.tells w.calls (origin told n) all (counts o x.steps) (counts_within o x.steps))
         (subst (λ (d : directories.Directory). T d at.origin.start) x.stands.0.directory here)

@@ -1,5 +1,5 @@
 -- What each end of a file's run means for the command.
-use Rattle.std.proofs.Common.{◌≡◌, ◌⊎◌, ℕ, ◌<◌, ◌≤◌, List, [], length, Result, Ok, Err, None, IsTrue, inl, inr, refl, ap, subst, arith}
+use Rattle.std.proofs.Common.{◌≡◌, ◌⊎◌, ℕ, ◌<◌, ◌≤◌, false, List, [], length, Result, Ok, Err, None, IsTrue, inl, inr, refl, ap, subst, arith}
 use Rattle.gts_traits.specs.declared.source.Source.{Ghosts as SourceMeanings}
 use Rattle.gts_traits.specs.declared.station.Station.{Ghosts as StationMeanings}
 use Rattle.gts_traits.specs.Counts.{Rose}
@@ -149,7 +149,7 @@ pub unpacks : {S P : Type 0} (source : SourceMeanings S) (w : StationMeanings P)
     → Runs (switch_meanings w.tells w.calls) w.tells source.tells result first last (source.left oc) (source.left nc) c
     → length first.directory.circuits ≤ 100 → c < length first.directory.circuits → (source.tells → directory_of_bytes (source.left od) ≡ Ok first.directory)
     → HasUnpackCause result (w.disk_faults first.station) (w.disk_faults last.station) (w.say_faults first.station) (w.say_faults last.station) (source.faults oc) (source.faults nc)
-    → (w.tells → last.stopped ≡ None → OpensWith last.directory (seen (w.calls last.station)) last.used)
+    → (w.tells → last.stopped ≡ None → last.gathered ≡ false → OpensWith last.directory (seen (w.calls last.station)) last.used)
     → Unpacks source w c (status_unpacked result) (world od oc old) (world nd nc last.station)
 unpacks source w c result od nd oc nc old first last opens laws run narrow here read cause files =
     let place : source.tells → w.tells → IsEndAt (badplace (source.left oc)) result = λ tells told.

@@ -1,7 +1,7 @@
 -- The words that name a command which is built, and what each command comes to.
 use Rattle.std.specs.Prelude.{◌≡◌, ℕ, List, Option, None, Some}
 use Rattle.gts_words.specs.declared.command.Command.{Command}
-use Rattle.gts_words.specs.declared.command.Command.TheVariants.{Init, Replay, Serve, ServeAlways, Show, Compact, Generate, Migrate, Unpack, Pack, Gaps, Ship, ShipSince, Follow, Count}
+use Rattle.gts_words.specs.declared.command.Command.TheVariants.{Init, Replay, Serve, ServeAlways, Show, Compact, Generate, Migrate, MigrateDrop, MigrateCheck, Unpack, Pack, Gaps, Ship, ShipSince, Follow, Count}
 use Rattle.gts_words.specs.{command_of}
 pub use Rattle.gts_app.specs.Generate.{Generates}
 pub use Rattle.gts_app.specs.Init.{Inits}
@@ -15,6 +15,8 @@ use Rattle.gts_app.specs.Gaps.{NamesGaps}
 use Rattle.gts_app.specs.Unpack.{Unpacks}
 use Rattle.gts_app.specs.Compact.{Compacts}
 use Rattle.gts_app.specs.Migrate.{Migrates}
+use Rattle.gts_app.specs.Trying.{TriesMigration}
+use Rattle.gts_migrate.specs.declared.waiting.Waiting.TheVariants.{Refused, Dropped}
 use Rattle.gts_app.specs.Follow.{FollowsFeed}
 use Rattle.gts_app.specs.Replay.{World}
 use Rattle.gts_app.specs.declared.status.Status.{Status}
@@ -35,6 +37,8 @@ IsBuilt ServeAlways = Unit {0}
 IsBuilt Compact = Unit {0}
 IsBuilt (Generate count) = Unit {0}
 IsBuilt Migrate = Unit {0}
+IsBuilt MigrateDrop = Unit {0}
+IsBuilt MigrateCheck = Unit {0}
 IsBuilt (Unpack c) = Unit {0}
 IsBuilt Pack = Unit {0}
 IsBuilt (Gaps day hour minute) = Unit {0}
@@ -70,7 +74,9 @@ abbrev pub ReadsApart : {S P : Type 0} → SourceMeanings S → StationMeanings 
 ReadsApart source station command status old new =
     ((c : ℕ) → command ≡ Some (Unpack c) → Unpacks source station c status old new)
     × (command ≡ Some Pack → PacksStream source station status old new)
-    × (command ≡ Some Migrate → Migrates source station status old new)
+    × (command ≡ Some Migrate → Migrates Refused source station status old new)
+    × (command ≡ Some MigrateDrop → Migrates Dropped source station status old new)
+    × (command ≡ Some MigrateCheck → TriesMigration source station status old new)
     × (command ≡ Some Follow → FollowsFeed source station status old new)
     × ((day hour minute : ℕ) → command ≡ Some (Gaps day hour minute)
     → NamesGaps source station (moment_at day hour minute) status old new)

@@ -1,10 +1,10 @@
--- What each end of the command `migrate` means for what it works on: the directory, the old directory in the place of a capture,
--- and the station.
+-- What each end of the commands `migrate` and `migrate drop` means for what they work on: the directory, the old directory in the
+-- place of a capture, and the station.
 use Rattle.std.specs.Prelude.{◌≡◌, ◌⊎◌, ℕ, ◌+◌, ◌≤◌, List, ◌∷◌, ◌++◌, length, None, Some, Result, Ok, Err}
 use Rattle.gts_traits.specs.declared.source.Source.{Ghosts as SourceMeanings}
 use Rattle.gts_traits.specs.declared.station.Station.{Ghosts as StationMeanings}
 use Rattle.gts_traits.specs.Counts.{Rose}
-use Rattle.gts_traits.specs.{Did, Syncs, seen, said_by, EachSince}
+use Rattle.gts_traits.specs.{Did, Syncs, seen, said_by, SaidSince, EachSince}
 use Rattle.gts_directory.specs.Directory as directories
 use Rattle.gts_directory.specs.TakingOver.{TakesOver, first_change}
 use Rattle.gts_directory.specs.declared.taking_over.Change.{Change}
@@ -21,11 +21,14 @@ use Rattle.gts_opening.specs.Room.{full_compacted}
 use Rattle.gts_recovery.specs.Opened.{opens_any, files_open_any}
 use Rattle.gts_engine.specs.Keeping.{IsFullCompacted}
 use Rattle.gts_migrate.specs.LettingGo.{goes_on, waits_on_closed}
+use Rattle.gts_migrate.specs.Dropping.{sayings}
+use Rattle.gts_migrate.specs.declared.waiting.Waiting.{Waiting}
+use Rattle.gts_migrate.specs.declared.waiting.Waiting.TheVariants.{Refused, Dropped}
 use Rattle.gts_migrate.specs.Migrating.{OpensEither, IsMigrated}
 use Rattle.gts_migrate.specs.declared.fault.MigrateFault.{MigrateFault}
 use Rattle.gts_migrate.specs.declared.fault.MigrateFault.TheVariants as fault
 use Rattle.gts_app.specs.declared.status.Status.{Status}
-use Rattle.gts_app.specs.declared.status.Status.TheVariants.{Done, Directory, OldDirectory, Changed, Waits, NoJournal, OldVersion, NotThis, Damaged, DiskFault, SourceFault, Full, NoMemory}
+use Rattle.gts_app.specs.declared.status.Status.TheVariants.{Done, Directory, OldDirectory, Changed, Waits, NoJournal, OldVersion, NotThis, Damaged, DiskFault, SourceFault, SayFault, Full, NoMemory}
 use Rattle.gts_app.specs.Ending.{refusal}
 use Rattle.gts_app.specs.Pack.{IsTurnedAway}
 use Rattle.gts_app.specs.Replay.{World}
@@ -37,6 +40,7 @@ status_migrated (Err (fault.Open e)) = refusal e
 status_migrated (Err (fault.Waits circuit count)) = Waits circuit count
 status_migrated (Err (fault.Full used need limit)) = Full used need limit
 status_migrated (Err fault.DiskFault) = DiskFault
+status_migrated (Err fault.SayFault) = SayFault
 status_migrated (Err fault.NoMemory) = NoMemory
 
 -- the bytes of the two sources are these directories, the new one and the old one
@@ -75,41 +79,53 @@ IsOldRefused source w v e =
     × (source.tells → (d : directories.Directory) × (directory_of_bytes (source.left w.directory) ≡ Ok d)
     × (directory_of_bytes (source.left w.capture) ≡ Err e))
 
--- For each status, what it means: the journal was taken over; or what refused it.
-abbrev pub MigratedAs : {S P : Type 0} → SourceMeanings S → StationMeanings P → Status → World S S P → World S S P → Type 0
-MigratedAs source station Done w v =
+-- something waits on a closed circuit, and is refused
+abbrev pub RefusesWaiting : Waiting → directories.Directory → Need → ℕ × ℕ → Type 0
+RefusesWaiting Refused new n found = waits_on_closed new n ≡ Some found
+RefusesWaiting Dropped new n found = ⊥
+
+-- nothing waits on a closed circuit, or what does is dropped
+abbrev pub MayGo : Waiting → directories.Directory → Need → Type 0
+MayGo Refused new n = waits_on_closed new n ≡ None
+MayGo Dropped new n = Unit {0}
+
+-- For each status, what it means: the journal was taken over, and the receipts of all that was dropped were said; or what refused it.
+abbrev pub MigratedAs : {S P : Type 0} → Waiting → SourceMeanings S → StationMeanings P → Status → World S S P → World S S P → Type 0
+MigratedAs waiting source station Done w v =
     UnderBoth source w (λ new old. OpensUnder station w new old
-    (λ s. IsMigrated old new s (station.calls w.station) (station.calls v.station)))
-MigratedAs source station (Directory e) w v = IsTurnedAway source e w v
-MigratedAs source station (OldDirectory e) w v = IsOldRefused source w v e
-MigratedAs source station (Changed part row) w v =
+    (λ s. IsMigrated old new s (station.calls w.station) (station.calls v.station)
+    × SaidSince (station.calls w.station) (station.calls v.station) (sayings waiting new (need old s))))
+MigratedAs waiting source station (Directory e) w v = IsTurnedAway source e w v
+MigratedAs waiting source station (OldDirectory e) w v = IsOldRefused source w v e
+MigratedAs waiting source station (Changed part row) w v =
     (v.station ≡ w.station) × UnderBoth source w (λ new old. first_change new old ≡ Some (record { part = part; row = row }))
-MigratedAs source station NoJournal w v = IsRefusedBy source station w v opening.NoJournal
-MigratedAs source station OldVersion w v = station.tells → ⊥
-MigratedAs source station (NotThis want found) w v = IsRefusedBy source station w v (opening.NotThis want found)
-MigratedAs source station (Damaged file at) w v = IsRefusedBy source station w v (opening.Damaged file at)
-MigratedAs source station (Waits row count) w v =
+MigratedAs waiting source station NoJournal w v = IsRefusedBy source station w v opening.NoJournal
+MigratedAs waiting source station OldVersion w v = station.tells → ⊥
+MigratedAs waiting source station (NotThis want found) w v = IsRefusedBy source station w v (opening.NotThis want found)
+MigratedAs waiting source station (Damaged file at) w v = IsRefusedBy source station w v (opening.Damaged file at)
+MigratedAs waiting source station (Waits row count) w v =
     UnderBoth source w (λ new old. OpensUnder station w new old
-    (λ s. waits_on_closed new (need old s) ≡ Some (row, count)))
+    (λ s. RefusesWaiting waiting new (need old s) (row, count)))
     × IsLeftAlone station w v
-MigratedAs source station (Full used wanted limit) w v =
+MigratedAs waiting source station (Full used wanted limit) w v =
     UnderBoth source w (λ new old. OpensUnder station w new old
     (λ s. IsFullCompacted new (goes_on new old (need old s)) (switch.Full used wanted limit)))
     × IsLeftAlone station w v
-MigratedAs source station DiskFault w v = Rose (station.disk_faults w.station) (station.disk_faults v.station)
-MigratedAs source station SourceFault w v =
+MigratedAs waiting source station DiskFault w v = Rose (station.disk_faults w.station) (station.disk_faults v.station)
+MigratedAs waiting source station SayFault w v = (waiting ≡ Dropped) × Rose (station.say_faults w.station) (station.say_faults v.station)
+MigratedAs waiting source station SourceFault w v =
     (v.station ≡ w.station)
     × (Rose (source.faults w.directory) (source.faults v.directory) ⊎ Rose (source.faults w.capture) (source.faults v.capture))
-MigratedAs source station NoMemory w v = IsLeftAlone station w v
-MigratedAs source station _ w v = ⊥
+MigratedAs waiting source station NoMemory w v = IsLeftAlone station w v
+MigratedAs waiting source station _ w v = ⊥
 
--- at most a sync was tried; or since a sync that was done each moment opens under the old directory, or under the new one to
--- what that takes over
-abbrev pub LeavesJournal : {S P : Type 0} → StationMeanings P → World S S P → World S S P
+-- at most a sync was tried; or since a sync that was done each moment opens under the old directory, with a front of the receipts
+-- said, or under the new one to what that takes over, with all said
+abbrev pub LeavesJournal : {S P : Type 0} → Waiting → StationMeanings P → World S S P → World S S P
     → directories.Directory → directories.Directory → Need → Type 0
-LeavesJournal station w v new old n =
+LeavesJournal waiting station w v new old n =
     OnlySyncs (station.calls w.station) (station.calls v.station)
-    ⊎ EachSince (Did Syncs ∷ station.calls w.station) (station.calls v.station) (OpensEither old new n)
+    ⊎ EachSince (Did Syncs ∷ station.calls w.station) (station.calls v.station) (OpensEither waiting old new n)
 
 -- no read failed
 abbrev pub IsCalm : {S P : Type 0} → SourceMeanings S → World S S P → World S S P → Type 0
@@ -122,14 +138,14 @@ ReadsFew source old new =
     source.tells → (taken : List ℕ) × (source.left old ≡ taken ++ source.left new) × (length taken ≤ LONGEST_DIRECTORY + 1)
 
 -- What its end means, and what holds of every run.
-pub record Migrates {S P : Type 0} (source : SourceMeanings S) (station : StationMeanings P) (status : Status)
+pub record Migrates {S P : Type 0} (waiting : Waiting) (source : SourceMeanings S) (station : StationMeanings P) (status : Status)
     (w v : World S S P) : Type 0 where
-  pub means : MigratedAs source station status w v
+  pub means : MigratedAs waiting source station status w v
   -- a crash at any moment since the sync of the opening leaves a journal under one of the directories
   pub moments : source.tells → station.tells → (new old : directories.Directory) (n : Need) → AreRead source w new old
-      → opens_any old (seen (station.calls w.station)) ≡ Ok n → LeavesJournal station w v new old n
-  -- nothing is said
-  pub silent : station.tells → said_by (station.calls v.station) ≡ said_by (station.calls w.station)
+      → opens_any old (seen (station.calls w.station)) ≡ Ok n → LeavesJournal waiting station w v new old n
+  -- nothing is said where what waits is refused
+  pub silent : station.tells → waiting ≡ Refused → said_by (station.calls v.station) ≡ said_by (station.calls w.station)
   -- an old directory that is refused, a row that doesn't stay, and a fault of the files are answered, but for memory and devices
   pub old_refused : source.tells → (new : directories.Directory) (e : DirFault) → directory_of_bytes (source.left w.directory) ≡ Ok new
       → directory_of_bytes (source.left w.capture) ≡ Err e → IsCalm source w v → (status ≡ OldDirectory e) ⊎ (status ≡ NoMemory)
@@ -138,21 +154,23 @@ pub record Migrates {S P : Type 0} (source : SourceMeanings S) (station : Statio
   pub answered : source.tells → station.tells → (new old : directories.Directory) (e : OpenFault) → AreRead source w new old
       → TakesOver new old → opens_any old (seen (station.calls w.station)) ≡ Err e → IsCalm source w v
       → (Rose (station.disk_faults w.station) (station.disk_faults v.station) → ⊥) → (status ≡ refusal e) ⊎ (status ≡ NoMemory)
-  -- what waits on a circuit that is closed in the new directory is told
-  pub waiting : source.tells → station.tells → (new old : directories.Directory) (s : State) (used : ℕ) (found : ℕ × ℕ)
+  -- what waits on a circuit that is closed in the new directory is told, unless it is to be dropped
+  pub refused : source.tells → station.tells → (new old : directories.Directory) (s : State) (used : ℕ) (found : ℕ × ℕ)
       → AreRead source w new old → TakesOver new old → files_open_any old (seen (station.calls w.station)) ≡ Ok (s, used)
-      → waits_on_closed new (need old s) ≡ Some found → IsCalm source w v
+      → RefusesWaiting waiting new (need old s) found → IsCalm source w v
       → (Rose (station.disk_faults w.station) (station.disk_faults v.station) → ⊥) → (status ≡ Waits found.0 found.1) ⊎ (status ≡ NoMemory)
-  -- where the files open, and nothing waits on a closed circuit, and there is room, and no device fails, it is done, but for memory
+  -- where the files open, and nothing is refused that waits, and there is room, and no device fails, it is done, but for memory
   pub complete : source.tells → station.tells → (new old : directories.Directory) (s : State) (used : ℕ) → AreRead source w new old
       → TakesOver new old → files_open_any old (seen (station.calls w.station)) ≡ Ok (s, used)
-      → waits_on_closed new (need old s) ≡ None
+      → MayGo waiting new (need old s)
       → full_compacted new (goes_on new old (need old s)) ≡ None → IsCalm source w v
-      → (Rose (station.disk_faults w.station) (station.disk_faults v.station) → ⊥) → (status ≡ Done) ⊎ (status ≡ NoMemory)
+      → (Rose (station.disk_faults w.station) (station.disk_faults v.station) → ⊥)
+      → (Rose (station.say_faults w.station) (station.say_faults v.station) → ⊥) → (status ≡ Done) ⊎ (status ≡ NoMemory)
   -- where the directory can't be read, the old one isn't
   pub unread : source.tells → (e : DirFault) → directory_of_bytes (source.left w.directory) ≡ Err e → v.capture ≡ w.capture
   -- what is read, and that no count falls
   pub taken : ReadsFew source w.directory v.directory
   pub old_taken : ReadsFew source w.capture v.capture
   pub counts : (source.faults w.directory ≤ source.faults v.directory) × (source.faults w.capture ≤ source.faults v.capture)
-      × (station.disk_faults w.station ≤ station.disk_faults v.station) × (station.say_faults v.station ≡ station.say_faults w.station)
+      × (station.disk_faults w.station ≤ station.disk_faults v.station) × (station.say_faults w.station ≤ station.say_faults v.station)
+  pub quiet : waiting ≡ Refused → station.say_faults v.station ≡ station.say_faults w.station

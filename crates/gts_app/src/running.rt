@@ -4,6 +4,7 @@ ghost use Rattle.gts_serve.specs.{lines_seen as seen};
 ghost use Rattle.gts_app.specs.Commands.{IsCommand, IsSettled, Inits, Replays, world, IsNoCapture, ServesCircuits, Generates, OpensJournal, ReadsApart};
 
 use crate::Status;
+use crate::commands::check::check;
 use crate::commands::compact::compact;
 use crate::commands::count::count;
 use crate::commands::follow::follow;
@@ -18,6 +19,7 @@ use crate::commands::ship::ship;
 use crate::commands::show::show;
 use crate::commands::unpack::unpack;
 use gts_connection::CaptureKind;
+use gts_migrate::Waiting;
 use gts_missing::Moment;
 use gts_receiver::WITHOUT_END;
 use gts_standby::Since;
@@ -37,8 +39,8 @@ fn beside<P, S>(ended: (Status, P), capture: S) -> (Status, P, S)
     (status, station, capture)
 }
 
-/// Runs the command that the words name: `init`, `replay`, `serve`, `show`, `compact`, `generate`, `migrate`, `unpack`, `pack`,
-/// `gaps`, `ship`, `follow` or `count`. The station and the capture are handed back.
+/// Runs the command that the words name: `init`, `replay`, `serve`, `show`, `compact`, `generate`, `migrate`, `migrate drop`,
+/// `migrate check`, `unpack`, `pack`, `gaps`, `ship`, `follow` or `count`. The station and the capture are handed back.
 pub fn run<R, S, P, L, G>(
     rt: &R,
     alloc: Global,
@@ -112,7 +114,21 @@ where
             beside(served, capture)
         }
         Command::Generate { count } => (generate(alloc, count, &mut station), station, capture),
-        Command::Migrate => beside(migrate(alloc, directory, &mut capture, station), capture),
+        Command::Migrate => {
+            let waiting = Waiting::Refused;
+            beside(
+                migrate(alloc, directory, &mut capture, station, waiting),
+                capture,
+            )
+        }
+        Command::MigrateDrop => {
+            let waiting = Waiting::Dropped;
+            beside(
+                migrate(alloc, directory, &mut capture, station, waiting),
+                capture,
+            )
+        }
+        Command::MigrateCheck => beside(check(alloc, directory, &mut capture, station), capture),
         Command::Pack => {
             let status = pack(alloc, directory, &mut capture, &mut station);
             (status, station, capture)

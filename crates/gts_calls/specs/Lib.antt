@@ -1,2 +1,4 @@
 pub mod Calls
-pub use Rattle.gts_calls.specs.Calls.{Standing, IsCalled, IsReopening, IsCompacting, LeavesFrame, MayLeave, IsCompactCause, IsCause, IsReopenFault, HasCallCause, HasReopenCause, entry_of, restart_of, outcome_at}
+pub use Rattle.gts_calls.specs.Calls.{Standing, Stands, settled, IsCalled, IsAnswered, IsSettling, IsReopening, IsCompacting}
+pub use Rattle.gts_calls.specs.Calls.{AfterSettling, IsOneMore, GathersOne, AfterCall, IsInDoubt, IsCutShort, LeavesFrame, MayLeave}
+pub use Rattle.gts_calls.specs.Calls.{IsCompactCause, IsCause, IsAnswerCause, IsReopenFault, HasCallCause, HasReopenCause, entry_of, restart_of, outcome_at}

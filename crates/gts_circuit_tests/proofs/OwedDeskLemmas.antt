@@ -1,6 +1,6 @@
 -- The desk of a sender's tests.
-use Rattle.std.proofs.Common.{◌≡◌, ℕ, zero, suc, ◌+◌, ◌<◌, arith, List, [], ◌∷◌, ◌++◌, Ok, refl, sym, ap, ◌∙◌, subst, add-one}
-use Rattle.std.proofs.lemmas.List.{append-nil, map-append}
+use Rattle.std.proofs.Common.{◌≡◌, ℕ, zero, suc, ◌+◌, ◌<◌, arith, true, false, List, [], ◌∷◌, ◌++◌, length, drop, Ok, Err, inr, refl, sym, ap, ◌∙◌, subst, add-one}
+use Rattle.std.proofs.lemmas.List.{append-nil, map-append, drop_all}
 use Rattle.gts_frame.specs.Frame.{frame}
 use Rattle.gts_frame.specs.declared.kind.Kind.TheVariants.{An}
 use Rattle.gts_alphabet.specs.Digits.{dec}
@@ -8,18 +8,54 @@ use Rattle.gts_alphabet.specs.Message.{message_of}
 use Rattle.gts_event.specs.State.{State}
 use Rattle.gts_event.specs.Need.{begun}
 use Rattle.gts_event.specs.History.{after, after_all, outcome}
-use Rattle.gts_event.specs.declared.event.Event.TheVariants.{Taken}
+use Rattle.gts_event.specs.Drain.{all_done}
+use Rattle.gts_event.specs.declared.event.Event.{Event}
+use Rattle.gts_event.specs.declared.event.Event.TheVariants.{Heard, Lost, Taken}
+use Rattle.gts_event.specs.declared.fault.SwitchFault.TheVariants.{Spent}
+use Rattle.gts_frame.specs.Decoder.{signs_of_step}
+use Rattle.gts_frame.specs.declared.step.Step.{Step}
+use Rattle.gts_frame.specs.declared.step.Step.TheVariants as steps
+use Rattle.gts_connection.specs.Connection.{connection, events_added}
+use Rattle.gts_connection.specs.Steps.{events_of_signs}
+use Rattle.gts_feed.specs.Reading.{is_event}
+use Rattle.gts_feed.specs.declared.fed.FeedEnd.TheVariants as ends
 use Rattle.gts_event.specs.declared.event.Entry.{Entry}
 use Rattle.gts_event.specs.declared.event.Entry.TheVariants.{Done}
-use Rattle.gts_event.specs.declared.outcome.Outcome.TheVariants.{Resend, Nothing}
+use Rattle.gts_event.specs.declared.outcome.Outcome.TheVariants.{Nothing}
 use Rattle.gts_opening.specs.Room.{IsCaused}
 use Rattle.gts_opening.proofs.LawLemmas.{caused-nothing, caused-entry}
 use Rattle.gts_desk.specs.{entries}
-use Rattle.gts_desk.specs.Desks.{IsSpent, Answers, LeavesFrame, history_of, state_at, HasCauses}
+use Rattle.gts_desk.specs.Desks.{Seen, IsSpent, Feeds, history_of, state_at, HasCauses}
+use Rattle.gts_desk.specs.Given.{Frame, TakesSome}
 use Rattle.gts_circuit_tests.specs.OwedDesk.{one_circuit, one_owed, taken, seen_by}
 
 pub spent : (count : ℕ) → IsSpent (seen_by count) (seen_by count)
-spent count = record { is = refl; among = refl }
+spent count = record { is = refl }
+
+-- no turn is left for a message or a loss
+pub feeds : (count c : ℕ) (events : List Event) (step : Step) (message : List ℕ) → events ≡ events_of_signs c (signs_of_step step message) → is_event step ≡ true
+    → Feeds c events message (ends.Fault Spent) (seen_by count) (seen_by count)
+feeds count c events (steps.Frame kind) message are is = ((Heard c kind message, are), spent count)
+feeds count c events (steps.Lost field) message are is = ((Lost c field, are), spent count)
+feeds count c events steps.More message are is = absurd (cc is)
+feeds count c events steps.KeepAlive message are is = absurd (cc is)
+feeds count c events steps.Dropped message are is = absurd (cc is)
+
+-- and bytes that end neither add nothing
+pub passes : (count c : ℕ) (events : List Event) (step : Step) (message : List ℕ) → events ≡ events_of_signs c (signs_of_step step message) → is_event step ≡ false
+    → Feeds c events message ends.All (seen_by count) (seen_by count)
+passes count c events (steps.Frame kind) message are is = absurd (cc is)
+passes count c events (steps.Lost field) message are is = absurd (cc is)
+passes count c events steps.More message are is = ([], ap all_done (sym are), inr (refl, refl))
+passes count c events steps.KeepAlive message are is = ([], ap all_done (sym are), inr (refl, refl))
+passes count c events steps.Dropped message are is = ([], ap all_done (sym are), inr (refl, refl))
+
+-- no bytes end neither
+pub passes_none : (count c : ℕ) (before message : List ℕ) → Feeds c (events_added c before []) message ends.All (seen_by count) (seen_by count)
+passes_none count c before message =
+    let none : events_added c before [] ≡ [] =
+    ap (λ (l : List ℕ). drop (length (connection c before)) (connection c l)) (append-nil before) ∙ drop_all (length (connection c before)) (connection c before) (omega arith) in
+    ([], ap all_done (sym none), inr (refl, refl))
 
 more : (n : ℕ) → taken (suc n) ≡ taken n ++ (0, Done (Taken 0)) ∷ []
 more zero = refl
@@ -43,37 +79,46 @@ stays : (n : ℕ) → after_all one_circuit given (entries (taken n)) ≡ given
 stays zero = refl
 stays (suc n) = stays n
 
-pub first_take : (out : List ℕ) → out ≡ frame An (message_of (dec 3 1) (3 ∷ [])) → Answers (seen_by 0) (Taken 0) (LeavesFrame one_circuit 0 out) (Ok (Resend 0)) (seen_by 1)
-first_take out is = record { others = []; is = refl; strange = refl; alone = λ e. refl; holds = (refl, is); caused = has_causes 1 }
+pub first_take : (out : List ℕ) → out ≡ frame An (message_of (dec 3 1) (3 ∷ [])) → TakesSome 0 (record { index = 0; text = out } ∷ []) (Ok true) (seen_by 0) (seen_by 1)
+first_take out is = (
+  record { others = []; is = refl; strange = refl; holds = (record { index = refl; text = is }, tt); caused = has_causes 1 },
+  omega arith,
+  omega arith,
+)
 
-pub later_take : (n : ℕ) (out : List ℕ) → Answers (seen_by (suc n)) (Taken 0) (LeavesFrame one_circuit 0 out) (Ok Nothing) (seen_by (suc (suc n)))
-later_take n out =
+pub later_take : (n : ℕ) → TakesSome 0 [] (Ok false) (seen_by (suc n)) (seen_by (suc (suc n)))
+later_take n =
+    let S : ℕ → List (ℕ × Entry) → Seen = λ t l. record (seen_by 0) { turns = t; history = l } in
     let all : taken (suc (suc n)) ≡ (taken (suc n) ++ []) ++ (0, Done (Taken 0)) ∷ [] =
-    more (suc n) ∙ ap (λ (l : List (ℕ × Entry)). l ++ (0, Done (Taken 0)) ∷ []) (sym (append-nil (taken (suc n)))) in
-    record {
-      others = [];
-      is = ap (λ (l : List (ℕ × Entry)). record (seen_by (suc n)) { history = l }) all;
-      strange = refl;
-      alone = λ e. refl;
-      holds = (
-        (let P : State → Type 0 = λ s. Nothing ≡ outcome one_circuit s (Taken 0) in
-            subst P (sym (ap (λ (l : List (ℕ × Entry)). state_at (seen_by (suc n)) l) (append-nil (taken (suc n))) ∙ stays n)) refl),
-        tt,
-      );
-      caused = has_causes (suc (suc n));
-    }
+    more (suc n) ∙ ap (λ (l : List (ℕ × Entry)). l ++ (0, Done (Taken 0)) ∷ []) (sym (append-nil (taken (suc n)))) in (
+      record {
+        others = [];
+        is = ap (λ (t : ℕ). S t (taken (suc (suc n)))) (sym (add-one (suc n))) ∙ ap (S (suc n + 1)) all;
+        strange = refl;
+        holds = record {
+          gave = tt;
+          nothing = let P : State → Type 0 = λ s. outcome one_circuit s (Taken 0) ≡ Nothing in
+              subst P (sym (ap (λ (l : List (ℕ × Entry)). state_at (seen_by (suc n)) l) (append-nil (taken (suc n))) ∙ stays n)) refl;
+        };
+        caused = has_causes (suc (suc n));
+      },
+      omega arith,
+    )
 
 -- the same on the only circuit, by whatever name
-pub first_on : (n c : ℕ) (out : List ℕ) → n ≡ 0 → c ≡ 0 → out ≡ frame An (message_of (dec 3 1) (3 ∷ []))
-    → Answers (seen_by n) (Taken c) (LeavesFrame one_circuit c out) (Ok (Resend 0)) (seen_by 1)
-first_on n c out none zero_is is =
-    let P : ℕ → ℕ → Type 0 = λ m k. Answers (seen_by m) (Taken k) (LeavesFrame one_circuit k out) (Ok (Resend 0)) (seen_by 1) in
-    let here : P n 0 = subst (λ (m : ℕ). P m 0) (sym none) (first_take out is) in
-    subst (λ (k : ℕ). P n k) (sym zero_is) here
+pub first_on : (n c : ℕ) (out : List ℕ) (frames : List Frame) → n ≡ 0 → c ≡ 0 → out ≡ frame An (message_of (dec 3 1) (3 ∷ [])) → frames ≡ record { index = 0; text = out } ∷ []
+    → TakesSome c frames (Ok true) (seen_by n) (seen_by 1)
+first_on n c out frames none zero_is is are =
+    let P : ℕ → ℕ → List Frame → Type 0 = λ m k fs. TakesSome k fs (Ok true) (seen_by m) (seen_by 1) in
+    let here : P n 0 (record { index = 0; text = out } ∷ []) = subst (λ (m : ℕ). P m 0 (record { index = 0; text = out } ∷ [])) (sym none) (first_take out is) in
+    subst (P n c) (sym are) (subst (λ (k : ℕ). P n k (record { index = 0; text = out } ∷ [])) (sym zero_is) here)
 
-pub later_on : (n c : ℕ) (out : List ℕ) → 0 < n → c ≡ 0 → Answers (seen_by n) (Taken c) (LeavesFrame one_circuit c out) (Ok Nothing) (seen_by (n + 1))
-later_on zero c out some zero_is = absurd (omega arith)
-later_on (suc n) c out some zero_is =
-    let P : ℕ → ℕ → Type 0 = λ m k. Answers (seen_by (suc n)) (Taken k) (LeavesFrame one_circuit k out) (Ok Nothing) (seen_by m) in
-    let here : P (suc n + 1) 0 = subst (λ (m : ℕ). P m 0) (sym (add-one (suc n))) (later_take n out) in
-    subst (λ (k : ℕ). P (suc n + 1) k) (sym zero_is) here
+pub later_on : (n c : ℕ) (frames : List Frame) → 0 < n → c ≡ 0 → frames ≡ [] → TakesSome c frames (Ok false) (seen_by n) (seen_by (n + 1))
+later_on zero c frames some zero_is none = absurd (omega arith)
+later_on (suc n) c frames some zero_is none =
+    let P : ℕ → ℕ → List Frame → Type 0 = λ m k fs. TakesSome k fs (Ok false) (seen_by (suc n)) (seen_by m) in
+    let here : P (suc n + 1) 0 [] = subst (λ (m : ℕ). P m 0 []) (sym (add-one (suc n))) (later_take n) in
+    subst (P (suc n + 1) c) (sym none) (subst (λ (k : ℕ). P (suc n + 1) k []) (sym zero_is) here)
+
+pub spent_on : (n c : ℕ) (frames : List Frame) → frames ≡ [] → TakesSome c frames (Err Spent) (seen_by n) (seen_by n)
+spent_on n c frames none = (none, spent n)

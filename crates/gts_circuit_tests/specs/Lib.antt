@@ -1,2 +1,1 @@
-pub mod ShortDesk
 pub mod OwedDesk

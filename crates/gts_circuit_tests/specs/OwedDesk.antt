@@ -42,7 +42,7 @@ seen_by count = record {
   used = 0;
   makes_room = false;
   name = 0;
-  alone = false;
+  turns = count;
   full = true;
   history = taken count;
 }

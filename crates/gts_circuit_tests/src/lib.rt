@@ -4,8 +4,6 @@
 #[cfg(test)]
 mod bell;
 #[cfg(test)]
-mod receiver;
-#[cfg(test)]
 mod sender;
 #[cfg(test)]
 mod serve;

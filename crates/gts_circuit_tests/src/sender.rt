@@ -1,7 +1,8 @@
 use gts_bell::Bell;
-use gts_desk::Desk;
+use gts_desk::{Desk, Given};
 use gts_event::{Outcome, SwitchFault};
-use gts_frame::{FrameBuf, Kind, LostField, write_frame};
+use gts_feed::{Fed, FeedEnd, is_event, next_step};
+use gts_frame::{Decoder, Kind, write_frame};
 use gts_memory::MemSink;
 use gts_sender::{SendEnd, send};
 use gts_traits::{Failed, FreeGate, Sink};
@@ -21,6 +22,20 @@ impl Desk for OwedDesk {
 
     ghost seen = { λ d. seen_by d.takes };
 
+    fn feed(&mut self, _c: u32, decoder: &mut Decoder, piece: &[u8]) -> Fed {
+        if piece.is_empty() {
+            let end = FeedEnd::All;
+            return Fed { taken: 0, end };
+        }
+        let (taken, step) = next_step(decoder, piece);
+        if !is_event(step) {
+            let end = FeedEnd::All;
+            return Fed { taken, end };
+        }
+        let end = FeedEnd::Fault(SwitchFault::Spent);
+        Fed { taken, end }
+    }
+
     #[tactic(auto, using(crate::proofs::OwedDeskLemmas::spent))]
     fn hear(&mut self, _c: u32, _kind: Kind, _message: &[u8]) -> Result<Outcome, SwitchFault> {
         Err(SwitchFault::Spent)
@@ -28,22 +43,21 @@ impl Desk for OwedDesk {
 
     fn rest(&mut self) {}
 
-    #[tactic(auto, using(crate::proofs::OwedDeskLemmas::spent))]
-    fn lost(&mut self, _c: u32, _field: LostField) -> Result<Outcome, SwitchFault> {
-        Err(SwitchFault::Spent)
-    }
-
-    fn take(&mut self, c: u32, out: &mut FrameBuf) -> Result<Outcome, SwitchFault> {
+    #[tactic(auto, using(crate::proofs::OwedDeskLemmas::spent_on))]
+    fn take_some(&mut self, c: u32, given: &mut Given) -> Result<bool, SwitchFault> {
+        given.frames.clear();
         if c != 0 || self.takes == u64::MAX {
             return Err(SwitchFault::Spent);
         }
         if self.takes > 0 {
             self.takes += 1;
-            return Ok(Outcome::Nothing);
+            return Ok(false);
         }
         self.takes = 1;
-        write_frame(Kind::An, 1, &[3], out);
-        Ok(Outcome::Resend { index: 0 })
+        write_frame(Kind::An, 1, &[3], &mut given.one);
+        given.one.holds_a_frame_at_most();
+        given.frames.add(0, given.one.bytes());
+        Ok(true)
     }
 }
 
@@ -80,10 +94,10 @@ impl Sink for NarrowSink {
 /// How a sender ends that sends what is owed to this sink.
 fn end_of<R: AllocGlobal + Wait, K: Sink>(rt: &R, sink: &mut K) -> Result<SendEnd, Fail> {
     let mut desk = OwedDesk { takes: 0 };
-    let mut out = FrameBuf::new(rt.alloc())?;
+    let mut given = Given::new(rt.alloc())?;
     let bell = Bell::new();
     bell.close();
-    Ok(send(rt, &mut desk, 0, sink, &mut out, &bell, &FreeGate))
+    Ok(send(rt, &mut desk, 0, sink, &mut given, &bell, &FreeGate))
 }
 
 #[test]

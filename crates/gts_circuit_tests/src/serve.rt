@@ -19,7 +19,7 @@ use std::sync::Wait;
 use std::test::Fail;
 use std::thread::Threads;
 
-/// A frame, in which the digits at 16 and 24 are to be set.
+/// A frame, in which the digits at 16, 24 and 37 are to be set.
 const FRAME: [u8; 49] = *b"00000039AN\x01\r\r\n000\r\r\nSMVG01 TVSV 280000\r\r\nNIL=\r\r\n\x03";
 
 /// The frame of a number of the bulletin of a circuit. Both are below 10.
@@ -27,6 +27,13 @@ fn frame_of(number: u8, circuit: u8) -> [u8; 49] {
     let mut frame = FRAME;
     frame[16] = b'0'.wrapping_add(number);
     frame[24] = b'0'.wrapping_add(circuit);
+    frame
+}
+
+/// The same, of the bulletin of this minute, which is below 10.
+fn frame_at(number: u8, circuit: u8, minute: u8) -> [u8; 49] {
+    let mut frame = frame_of(number, circuit);
+    frame[37] = b'0'.wrapping_add(minute);
     frame
 }
 
@@ -108,6 +115,36 @@ fn each_circuit_gets_the_bulletin_of_the_other(rt: HostRuntime) -> Result<(), Fa
     assert!(rt; has_pass);
     assert!(rt; lines.sent(0) == frame_of(1, 1).as_slice());
     assert!(rt; lines.sent(1) == frame_of(1, 0).as_slice());
+    Ok(())
+}
+
+/// Lines over which the neighbour on circuit 0 sends three bulletins at once.
+fn fed_three(alloc: Global) -> Result<MemLines, Fail> {
+    let mut lines = MemLines::new(alloc, &[])?;
+    for minute in 0..3u8 {
+        lines.feed(0, frame_at(0, 0, minute).as_slice())?;
+    }
+    Ok(lines)
+}
+
+#[test]
+fn messages_that_come_at_once_go_on_in_their_order(rt: HostRuntime) -> Result<(), Fail> {
+    let mut lines = fed_three(rt.alloc())?;
+    let (_, end, _) = ran(&rt, rt.alloc(), &mut lines)?;
+    assert!(rt; end == ServeEnd::Done);
+    assert!(rt; lines.sent(1).len() == 3 * 49);
+    assert!(rt; lines.sent(1).starts_with(frame_at(1, 0, 0).as_slice()));
+    assert!(rt; lines.sent(1).ends_with(frame_at(3, 0, 2).as_slice()));
+    Ok(())
+}
+
+#[test]
+fn what_came_whole_before_a_loss_is_heard(rt: HostRuntime) -> Result<(), Fail> {
+    let mut lines = fed_three(rt.alloc())?;
+    lines.feed(0, b"0000039 AN".as_slice())?;
+    let (_, end, _) = ran(&rt, rt.alloc(), &mut lines)?;
+    assert!(rt; end == ServeEnd::Done);
+    assert!(rt; lines.sent(1).len() == 3 * 49);
     Ok(())
 }
 

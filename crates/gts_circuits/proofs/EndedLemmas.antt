@@ -15,7 +15,7 @@ use Rattle.gts_circuits.specs.Gathering.{AreGathered, NamesAreUpTo, Ended, Lines
 use Rattle.gts_circuits.proofs.StaffLemmas.{count_works, each_name, each_worker, each_ended}
 use Rattle.gts_circuits.proofs.GatheredLemmas.{all_stand, all_joined, names_up_to}
 
-module _ (b : Beginning) {S K : Type 0} (source : SourceMeanings S) (sink : SinkMeanings K) (hall : TableId) (sockets : List (Sockets S K)) (p : Known Entry) (lines : List (Line S K)) where
+module _ (b : Beginning) {S K : Type 0} (source : SourceMeanings S) (sink : SinkMeanings K) (hall : TableId) (sockets : List (Sockets S K)) (p : Known (List Entry)) (lines : List (Line S K)) where
   abbrev works : List (Work S K)
   works = map ends (works_of hall sockets)
 

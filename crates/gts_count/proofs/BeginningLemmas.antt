@@ -1,21 +1,20 @@
 -- The numbers of a sound need.
-use Rattle.std.proofs.Common.{◌≡◌, ℕ, zero, suc, ◌-◌, ◌<◌, ◌≤◌, min, Bool, true, false, ◌&&◌, ◌==◌, cond, List, [], ◌∷◌, ◌++◌, length, get_or, drop, map, filter, zip, Option, Some, None, refl, sym, ap, subst, ◌∙◌, arith}
+use Rattle.std.proofs.Common.{◌≡◌, ℕ, zero, suc, ◌-◌, ◌<◌, Bool, true, false, ◌&&◌, ◌==◌, cond, List, [], ◌∷◌, ◌++◌, length, get_or, drop, map, zip, Option, Some, None, refl, sym, ap, subst, ◌∙◌, arith}
 use Rattle.std.specs.Prelude.{IsTrue, IsSome, option_map, unwrap_or}
-use Rattle.std.specs.List.{All, list_all, range_with_len}
+use Rattle.std.specs.List.{All, list_all}
 use Rattle.std.specs.Ordering.{nat_cmp}
 use Rattle.std.specs.BTreeMap.{BTreeMap, get}
 use Rattle.std.proofs.lemmas.Bool.{true≢false}
 use Rattle.std.proofs.lemmas.List.{length-map, get_or-map, ext_get_or}
-use Rattle.std.proofs.lemmas.List.FromFn.{length-range_with_len}
 use Rattle.circular_buffer.specs.Buffer.{Buffer, keep_last}
 use Rattle.gts_directory.specs.Directory as directory
 use Rattle.gts_directory.specs.Directory.{Directory, Circuit}
-use Rattle.gts_event.specs.State.{State, Bulletin, is_recent}
-use Rattle.gts_event.specs.Need.{Need, CircuitNeed, unused, need, begun, keeps_one, is_sound, is_bulletin, is_there, is_circuit_sound, positions_of, IsOrdered}
+use Rattle.gts_event.specs.State.{State, Bulletin}
+use Rattle.gts_event.specs.Need.{Need, CircuitNeed, unused, need, begun, keeps_one, is_sound, is_bulletin, is_there, is_circuit_sound, IsOrdered}
 use Rattle.gts_event.specs.Sound.{SoundNeed, SoundCircuit}
 use Rattle.gts_event.proofs.LawLemmas.{sound-parts, circuit-parts, need-begun, held-begun, ordered-begun, bulletin-parts}
 use Rattle.gts_count.specs.declared.numbers.Numbers.{Numbers}
-use Rattle.gts_count.specs.Tally.{tally, key_of, key_at, recent_of, recent_in}
+use Rattle.gts_count.specs.Tally.{tally, key_of, key_at, recent_in}
 use Rattle.gts_count.specs.Rows.{has_row}
 use Rattle.gts_count.specs.Numbers.{tally_of, no_ring, ring_at}
 use Rattle.gts_count.specs.Counting.{Follows}

@@ -1,10 +1,10 @@
 -- What is kept beside a switch, by what the switch answers.
-use Rattle.std.proofs.Common.{◌≡◌, ℕ, suc, ◌<◌, Bool, true, false, ◌&&◌, cond, List, [], ◌∷◌, ◌++◌, length, reverse, Option, Some, None, Result, Ok, Err, refl, sym, ap, subst, ◌∙◌, arith, append_assoc}
+use Rattle.std.proofs.Common.{◌≡◌, ℕ, suc, ◌<◌, ◌⊎◌, inl, inr, Bool, true, false, ◌&&◌, cond, List, [], ◌∷◌, ◌++◌, length, reverse, Option, Some, None, Result, Ok, Err, refl, sym, ap, subst, ◌∙◌, arith, append_assoc}
 use Rattle.std.specs.Prelude.{IsTrue, nat_eq, take}
 use Rattle.std.specs.Cmp.Lexicographic.{pointwise}
 use Rattle.std.specs.List.{All, find}
 use Rattle.std.proofs.lemmas.Bool.{true≢false}
-use Rattle.std.proofs.lemmas.List.{append-nil, length-map, reverse-append}
+use Rattle.std.proofs.lemmas.List.{length-map, reverse-append}
 use Rattle.std.proofs.lemmas.List.Elements.{All-append}
 use Rattle.gts_heading.specs.Heading.{HeadingFields, heading_text}
 use Rattle.gts_heading.specs.declared.field.Field.{Field}
@@ -14,17 +14,16 @@ use Rattle.gts_directory.specs.Directory.{Directory, Circuit, named}
 use Rattle.gts_event.specs.State.{State, Bulletin, is_recent, is_same_heading, heading_of, text_of, duplicate}
 use Rattle.gts_event.specs.History.{answer_to, verdict, outcome, after, body_of}
 use Rattle.gts_event.specs.Held.{WasRead}
-use Rattle.gts_event.specs.declared.event.Event.{Event}
 use Rattle.gts_event.specs.declared.event.Event.TheVariants.{Heard}
 use Rattle.gts_event.specs.declared.event.Entry.{Entry}
-use Rattle.gts_event.specs.declared.event.Entry.TheVariants.{Done, Unsaid, Idle, Doubt}
+use Rattle.gts_event.specs.declared.event.Entry.TheVariants.{Unsaid, Doubt}
 use Rattle.gts_event.specs.declared.outcome.Outcome.{Outcome}
 use Rattle.gts_event.specs.declared.outcome.Outcome.TheVariants.{Accepted, Duplicate, Asked, Refused, LineLost, Resend, Draw, Nothing}
 use Rattle.gts_event.specs.declared.outcome.Refusal.TheVariants.{Message}
 use Rattle.gts_event.specs.declared.fault.SwitchFault.{SwitchFault}
 use Rattle.gts_event.specs.declared.fault.SwitchFault.TheVariants.{DiskFault, SayFault, Full, Stopped, Spent, NoMemory}
 use Rattle.gts_event.proofs.LawLemmas.{outcome-same}
-use Rattle.gts_opening.specs.Room.{HasUnsaid, IsAccepted}
+use Rattle.gts_opening.specs.Room.{HasUnsaid, HasDoubt, IsAccepted}
 use Rattle.circular_buffer.specs.Buffer.{Buffer}
 use Rattle.gts_count.specs.declared.recent.Arrival.{Arrival}
 use Rattle.gts_count.specs.declared.numbers.Numbers.{Numbers}
@@ -98,53 +97,53 @@ left_accepted d s n c kind m f w none =
 
 -- ---- an entry is added
 
--- saying failed before, and so it did before more entries
-unsaid_more : (h xs : List Entry) → HasUnsaid h → HasUnsaid (h ++ xs)
-unsaid_more h xs (front, event, back, e) = (front, event, back ++ xs, ap (λ (l : List Entry). l ++ xs) e ∙ append_assoc front (Unsaid event ∷ back) xs)
+-- a device failed before, and so it did before more entries
+failed_more : (h xs : List Entry) → HasUnsaid h ⊎ HasDoubt h → HasUnsaid (h ++ xs) ⊎ HasDoubt (h ++ xs)
+failed_more h xs (inl (front, event, back, e)) = inl (front, event, back ++ xs, ap (λ (l : List Entry). l ++ xs) e ∙ append_assoc front (Unsaid event ∷ back) xs)
+failed_more h xs (inr (front, events, back, e)) = inr (front, events, back ++ xs, ap (λ (l : List Entry). l ++ xs) e ∙ append_assoc front (Doubt events ∷ back) xs)
 
 -- while they are current they don't depend on the entries
 grown : (b : Bool) (d : Directory) (s : State) (h xs : List Entry) (c : Counting) → CountsIf b d s h c → CountsIf b d s (h ++ xs) c
 grown true d s h xs c counts = counts
-grown false d s h xs c counts = unsaid_more h xs counts
+grown false d s h xs c counts = failed_more h xs counts
 
 pub counts_more : (d : Directory) (s : State) (h xs : List Entry) (c : Counting) → Counts d s h c → Counts d s (h ++ xs) c
 counts_more d s h xs c counts = grown c.current d s h xs c counts
 
--- another state, and other numbers, as long as they are current
-pub carried_by : (d : Directory) (s s' : State) (h xs : List Entry) (old new : Counting) → KeepsRest old new → (old.current ≡ true → Knows d old → Follows d s old.numbers → Follows d s' new.numbers) → Counts d s h old → Counts d s' (h ++ xs) new
-carried_by d s s' h xs old new rest step counts =
-    subst (λ (b : Bool). CountsIf b d s' (h ++ xs) new) (sym rest.current) (go old.current refl counts)
-  where
-    go : (b : Bool) → old.current ≡ b → CountsIf b d s h old → CountsIf b d s' (h ++ xs) new
-    go true is (knows, follows) = (record { centre = rest.centre ∙ knows.centre; digits = ap (λ v. v.items) rest.digits ∙ knows.digits }, step is knows follows)
-    go false is unsaid = unsaid_more h xs unsaid
+-- where they aren't current, a device failed at one of the entries
+pub counts_failed : (d : Directory) (s : State) (h : List Entry) (c : Counting) → c.current ≡ false → HasUnsaid h ⊎ HasDoubt h → Counts d s h c
+counts_failed d s h c is failed = subst (λ (b : Bool). CountsIf b d s h c) (sym is) failed
 
-pub carried : (d : Directory) (s s' : State) (h xs : List Entry) (old new : Counting) → KeepsRest old new → (old.current ≡ true → Follows d s old.numbers → Follows d s' new.numbers) → Counts d s h old → Counts d s' (h ++ xs) new
-carried d s s' h xs old new rest step counts = carried_by d s s' h xs old new rest (λ is knows f. step is f) counts
+-- another state, and other numbers, as long as they are current
+pub carried_by : (d : Directory) (s s' : State) (h : List Entry) (old new : Counting) → KeepsRest old new → (old.current ≡ true → Knows d old → Follows d s old.numbers → Follows d s' new.numbers) → Counts d s h old → Counts d s' h new
+carried_by d s s' h old new rest step counts =
+    subst (λ (b : Bool). CountsIf b d s' h new) (sym rest.current) (go old.current refl counts)
+  where
+    go : (b : Bool) → old.current ≡ b → CountsIf b d s h old → CountsIf b d s' h new
+    go true is (knows, follows) = (record { centre = rest.centre ∙ knows.centre; digits = ap (λ v. v.items) rest.digits ∙ knows.digits }, step is knows follows)
+    go false is failed = failed
+
+pub carried : (d : Directory) (s s' : State) (h : List Entry) (old new : Counting) → KeepsRest old new → (old.current ≡ true → Follows d s old.numbers → Follows d s' new.numbers) → Counts d s h old → Counts d s' h new
+carried d s s' h old new rest step counts = carried_by d s s' h old new rest (λ is knows f. step is f) counts
 
 pub all_rest : (c : Counting) → KeepsRest c c
 all_rest c = record { centre = refl; digits = refl; current = refl }
 
 pub counts_prepared : (d : Directory) (s : State) (h : List Entry) (old new : Counting) → Prepares old.numbers new.numbers → KeepsRest old new → Counts d s h old → Counts d s h new
-counts_prepared d s h old new prepares rest counts =
-    subst (λ (l : List Entry). Counts d s l new) (append-nil h) (carried d s s h [] old new rest (λ is f. follows_prepared d s old.numbers new.numbers f prepares) counts)
+counts_prepared d s h old new prepares rest counts = carried d s s h old new rest (λ is f. follows_prepared d s old.numbers new.numbers f prepares) counts
 
 pub same_after : (d : Directory) (s : State) (h : List Entry) (old new : Counting) → new ≡ old → Counts d s h old → Counts d s h new
 same_after d s h old new is counts = subst (λ (c : Counting). Counts d s h c) (sym is) counts
 
--- saying failed: the numbers aren't current any more
-pub outdated_after : (d : Directory) (s : State) (h : List Entry) (event : Event) (old new : Counting) → new ≡ outdated old → Counts d s (h ++ Unsaid event ∷ []) new
-outdated_after d s h event old new is = subst (λ (c : Counting). Counts d s (h ++ Unsaid event ∷ []) c) (sym is) (h, event, [], refl)
-
--- what was answered with a fault changed no state, but where saying failed
-pub idle_after : (d : Directory) (s : State) (h xs : List Entry) (old new : Counting) → new ≡ old → Counts d s h old → Counts d s (h ++ xs) new
-idle_after d s h xs old new is counts = same_after d s (h ++ xs) old new is (counts_more d s h xs old counts)
+-- a device failed: the numbers aren't current any more
+pub outdated_after : (old new : Counting) → new ≡ outdated old → new.current ≡ false
+outdated_after old new is = ap (λ (c : Counting). c.current) is
 
 module _ (d : Directory) (s : State) (h : List Entry) where
   accepted_after : (old new : Counting) (c : ℕ) (kind : Kind) (m : List ℕ) (ready : Option Arrival) (p n : ℕ) → c < length d.circuits → outcome d s (Heard c kind m) ≡ Accepted p n → (old.current ≡ true → IsReady c m ready d s) → CanNote old ready
-      → AfterAccepted ready p old new → Counts d s h old → Counts d (after d s (Heard c kind m)) (h ++ Done (Heard c kind m) ∷ []) new
+      → AfterAccepted ready p old new → Counts d s h old → Counts d (after d s (Heard c kind m)) h new
   accepted_after old new c kind m (Some b) p n here is readies note noted counts =
-      carried d s (after d s (Heard c kind m)) h (Done (Heard c kind m) ∷ []) old new noted.0
+      carried d s (after d s (Heard c kind m)) h old new noted.0
       (λ current f.
       let same : b ≡ heard_of c m = let e = readies current kind p n is in cc in
       follows_accepted d s old.numbers new.numbers c kind m p n here f is
@@ -152,16 +151,16 @@ module _ (d : Directory) (s : State) (h : List Entry) where
       (sym (ap (λ (r : Arrival). has_row old.numbers.rows r.key) same) ∙ note.0))
       counts
   accepted_after old new c kind m None p n here is readies note noted counts =
-      subst (λ (x : Counting). Counts d (after d s (Heard c kind m)) (h ++ Done (Heard c kind m) ∷ []) x) (sym noted)
-      (carried d s (after d s (Heard c kind m)) h (Done (Heard c kind m) ∷ []) old old (all_rest old)
+      subst (λ (x : Counting). Counts d (after d s (Heard c kind m)) h x) (sym noted)
+      (carried d s (after d s (Heard c kind m)) h old old (all_rest old)
       (λ current f. absurd (let e = readies current kind p n is in cc)) counts)
 
   -- a message that was heard and not accepted
   unaccepted_after : (old new : Counting) (c : ℕ) (kind : Kind) (m : List ℕ) (o : Outcome) → c < length d.circuits → o ≡ outcome d s (Heard c kind m) → ((p n : ℕ) → o ≡ Accepted p n → ⊥) → new ≡ old
-      → Counts d s h old → Counts d (after d s (Heard c kind m)) (h ++ Done (Heard c kind m) ∷ []) new
+      → Counts d s h old → Counts d (after d s (Heard c kind m)) h new
   unaccepted_after old new c kind m o here is none same counts =
-      same_after d (after d s (Heard c kind m)) (h ++ Done (Heard c kind m) ∷ []) old new same
-      (carried d s (after d s (Heard c kind m)) h (Done (Heard c kind m) ∷ []) old old (all_rest old)
+      same_after d (after d s (Heard c kind m)) h old new same
+      (carried d s (after d s (Heard c kind m)) h old old (all_rest old)
       (λ current f. follows_heard d s old.numbers c kind m here f (λ p n e. none p n (is ∙ e))) counts)
 
   pub counts_heard : (old new : Counting) (c : ℕ) (kind : Kind) (m : List ℕ) (ready : Option Arrival) (result : Result Outcome SwitchFault) → c < length d.circuits → (old.current ≡ true → IsReady c m ready d s) → CanNote old ready
@@ -174,9 +173,9 @@ module _ (d : Directory) (s : State) (h : List Entry) where
   counts_heard old new c kind m ready (Ok (Resend i)) here readies note told noted counts = unaccepted_after old new c kind m (Resend i) here (told (Resend i) refl) (λ q k e. cc e) noted counts
   counts_heard old new c kind m ready (Ok (Draw i)) here readies note told noted counts = unaccepted_after old new c kind m (Draw i) here (told (Draw i) refl) (λ q k e. cc e) noted counts
   counts_heard old new c kind m ready (Ok Nothing) here readies note told noted counts = unaccepted_after old new c kind m Nothing here (told Nothing refl) (λ q k e. cc e) noted counts
-  counts_heard old new c kind m ready (Err DiskFault) here readies note told noted counts = idle_after d s h (Doubt (Heard c kind m) ∷ []) old new noted counts
-  counts_heard old new c kind m ready (Err SayFault) here readies note told noted counts = outdated_after d (after d s (Heard c kind m)) h (Heard c kind m) old new noted
-  counts_heard old new c kind m ready (Err (Full a b l)) here readies note told noted counts = idle_after d s h (Idle (Heard c kind m) (Full a b l) ∷ []) old new noted counts
-  counts_heard old new c kind m ready (Err (Stopped by)) here readies note told noted counts = idle_after d s h (Idle (Heard c kind m) (Stopped by) ∷ []) old new noted counts
-  counts_heard old new c kind m ready (Err Spent) here readies note told noted counts = idle_after d s h [] old new noted counts
-  counts_heard old new c kind m ready (Err NoMemory) here readies note told noted counts = idle_after d s h (Idle (Heard c kind m) NoMemory ∷ []) old new noted counts
+  counts_heard old new c kind m ready (Err DiskFault) here readies note told noted counts = outdated_after old new noted
+  counts_heard old new c kind m ready (Err SayFault) here readies note told noted counts = outdated_after old new noted
+  counts_heard old new c kind m ready (Err (Full a b l)) here readies note told noted counts = same_after d s h old new noted counts
+  counts_heard old new c kind m ready (Err (Stopped by)) here readies note told noted counts = same_after d s h old new noted counts
+  counts_heard old new c kind m ready (Err Spent) here readies note told noted counts = same_after d s h old new noted counts
+  counts_heard old new c kind m ready (Err NoMemory) here readies note told noted counts = same_after d s h old new noted counts

@@ -6,12 +6,12 @@ use Rattle.std.proofs.lemmas.Bool.{true≢false}
 use Rattle.std.proofs.lemmas.List.{length-map}
 use Rattle.gts_directory.specs.Directory.{Directory, Circuit}
 use Rattle.gts_event.specs.State.{State, Bulletin}
-use Rattle.gts_event.specs.History.{outcome, choice, after, Draws, digits_on, restarted}
+use Rattle.gts_event.specs.History.{outcome, choice, after, after_all, digits_on, restarted}
 use Rattle.gts_event.specs.Need.{is_bulletin}
 use Rattle.gts_event.specs.Said.{spoken, numbered_frame}
 use Rattle.gts_event.specs.declared.event.Event.TheVariants.{Lost, Taken}
 use Rattle.gts_event.specs.declared.event.Entry.{Entry}
-use Rattle.gts_event.specs.declared.event.Entry.TheVariants.{Done, Idle, Doubt, Restarted}
+use Rattle.gts_event.specs.declared.event.Entry.TheVariants.{Restarted}
 use Rattle.gts_event.specs.declared.outcome.Outcome.{Outcome}
 use Rattle.gts_event.specs.declared.outcome.Outcome.TheVariants.{Accepted, Duplicate, Asked, Refused, LineLost, Resend, Draw, Nothing}
 use Rattle.gts_event.specs.declared.fault.SwitchFault.{SwitchFault}
@@ -27,7 +27,7 @@ use Rattle.gts_count.specs.Rows.{has_row}
 use Rattle.gts_count.specs.Counting.{Follows, Knows, Counts, IsTold, GoesOn, AfterHeard, AfterTaken, IsDrawn, key_of_frame}
 use Rattle.gts_count.proofs.KeyLemmas.{key_frame, draw_says, said_bytes}
 use Rattle.gts_count.proofs.FollowLemmas.{follows_taken, follows_restarted, follows_drawn, drawn_there, choice_is}
-use Rattle.gts_count.proofs.CountingLemmas.{circuits_of, carried, carried_by, all_rest, same_after, outdated_after, idle_after}
+use Rattle.gts_count.proofs.CountingLemmas.{circuits_of, carried, carried_by, all_rest, same_after, outdated_after, counts_more}
 
 all_found : (f g : Bulletin → Bool) (bs : List Bulletin) (b : Bulletin) → list_all f bs ≡ true → find g bs ≡ Some b → f b ≡ true
 all_found f g [] b all e = absurd (cc)
@@ -69,16 +69,16 @@ module _ (d : Directory) (s : State) (h : List Entry) (old new : Counting) (c : 
       follows_drawn d s old.numbers new.numbers c i p (key_of_frame w frame) here f draws.1
       (key_is ∙ sym (ap (λ (o : Option Bulletin). key_of (elim o as (λ _. List ℕ) [ None ↦ [] | Some b ↦ b.body ])) there.1)) noted
 
-  undrawn_after : (o : Outcome) → o ≡ outcome d s (Taken c) → ((i : ℕ) → o ≡ Draw i → ⊥) → new ≡ old → Counts d s h old → Counts d (after d s (Taken c)) (h ++ Done (Taken c) ∷ []) new
+  undrawn_after : (o : Outcome) → o ≡ outcome d s (Taken c) → ((i : ℕ) → o ≡ Draw i → ⊥) → new ≡ old → Counts d s h old → Counts d (after d s (Taken c)) h new
   undrawn_after o is none same counts =
-      same_after d (after d s (Taken c)) (h ++ Done (Taken c) ∷ []) old new same
-      (carried d s (after d s (Taken c)) h (Done (Taken c) ∷ []) old old (all_rest old)
+      same_after d (after d s (Taken c)) h old new same
+      (carried d s (after d s (Taken c)) h old old (all_rest old)
       (λ current f. follows_taken d s old.numbers c here f (λ i e. none i (is ∙ e))) counts)
 
   pub counts_taken : (frame : List ℕ) (result : Result Outcome SwitchFault) → IsTold result d s (Taken c) → ((i : ℕ) → result ≡ Ok (Draw i) → spoken d s (Taken c) ≡ on (c + 1) frame) → AfterTaken c frame result old new
       → Counts d s h old → GoesOn d s h (Taken c) result new
   counts_taken frame (Ok (Draw i)) told says noted counts =
-      carried_by d s (after d s (Taken c)) h (Done (Taken c) ∷ []) old new noted.rest
+      carried_by d s (after d s (Taken c)) h old new noted.rest
       (λ current knows f. drawn_now i frame (sym (told (Draw i) refl)) (says i refl) noted knows f) counts
   counts_taken frame (Ok (Accepted p n)) told says noted counts = undrawn_after (Accepted p n) (told (Accepted p n) refl) (λ i e. cc e) noted counts
   counts_taken frame (Ok (Duplicate p)) told says noted counts = undrawn_after (Duplicate p) (told (Duplicate p) refl) (λ i e. cc e) noted counts
@@ -87,32 +87,32 @@ module _ (d : Directory) (s : State) (h : List Entry) (old new : Counting) (c : 
   counts_taken frame (Ok (LineLost f)) told says noted counts = undrawn_after (LineLost f) (told (LineLost f) refl) (λ i e. cc e) noted counts
   counts_taken frame (Ok (Resend j)) told says noted counts = undrawn_after (Resend j) (told (Resend j) refl) (λ i e. cc e) noted counts
   counts_taken frame (Ok Nothing) told says noted counts = undrawn_after Nothing (told Nothing refl) (λ i e. cc e) noted counts
-  counts_taken frame (Err DiskFault) told says noted counts = idle_after d s h (Doubt (Taken c) ∷ []) old new noted counts
-  counts_taken frame (Err SayFault) told says noted counts = outdated_after d (after d s (Taken c)) h (Taken c) old new noted
-  counts_taken frame (Err (Full a b l)) told says noted counts = idle_after d s h (Idle (Taken c) (Full a b l) ∷ []) old new noted counts
-  counts_taken frame (Err (Stopped by)) told says noted counts = idle_after d s h (Idle (Taken c) (Stopped by) ∷ []) old new noted counts
-  counts_taken frame (Err Spent) told says noted counts = idle_after d s h [] old new noted counts
-  counts_taken frame (Err NoMemory) told says noted counts = idle_after d s h (Idle (Taken c) NoMemory ∷ []) old new noted counts
+  counts_taken frame (Err DiskFault) told says noted counts = outdated_after old new noted
+  counts_taken frame (Err SayFault) told says noted counts = outdated_after old new noted
+  counts_taken frame (Err (Full a b l)) told says noted counts = same_after d s h old new noted counts
+  counts_taken frame (Err (Stopped by)) told says noted counts = same_after d s h old new noted counts
+  counts_taken frame (Err Spent) told says noted counts = same_after d s h old new noted counts
+  counts_taken frame (Err NoMemory) told says noted counts = same_after d s h old new noted counts
 
 module _ (d : Directory) (s : State) (h : List Entry) (old new : Counting) where
   -- a loss changes no state
   pub counts_lost : (c : ℕ) (field : LostField) (result : Result Outcome SwitchFault) → AfterHeard None result old new → Counts d s h old → GoesOn d s h (Lost c field) result new
-  counts_lost c field (Ok (Accepted p n)) noted counts = idle_after d s h (Done (Lost c field) ∷ []) old new noted counts
-  counts_lost c field (Ok (Duplicate p)) noted counts = idle_after d s h (Done (Lost c field) ∷ []) old new noted counts
-  counts_lost c field (Ok (Asked a b)) noted counts = idle_after d s h (Done (Lost c field) ∷ []) old new noted counts
-  counts_lost c field (Ok (Refused r)) noted counts = idle_after d s h (Done (Lost c field) ∷ []) old new noted counts
-  counts_lost c field (Ok (LineLost f)) noted counts = idle_after d s h (Done (Lost c field) ∷ []) old new noted counts
-  counts_lost c field (Ok (Resend i)) noted counts = idle_after d s h (Done (Lost c field) ∷ []) old new noted counts
-  counts_lost c field (Ok (Draw i)) noted counts = idle_after d s h (Done (Lost c field) ∷ []) old new noted counts
-  counts_lost c field (Ok Nothing) noted counts = idle_after d s h (Done (Lost c field) ∷ []) old new noted counts
-  counts_lost c field (Err DiskFault) noted counts = idle_after d s h (Doubt (Lost c field) ∷ []) old new noted counts
-  counts_lost c field (Err SayFault) noted counts = outdated_after d s h (Lost c field) old new noted
-  counts_lost c field (Err (Full a b l)) noted counts = idle_after d s h (Idle (Lost c field) (Full a b l) ∷ []) old new noted counts
-  counts_lost c field (Err (Stopped by)) noted counts = idle_after d s h (Idle (Lost c field) (Stopped by) ∷ []) old new noted counts
-  counts_lost c field (Err Spent) noted counts = idle_after d s h [] old new noted counts
-  counts_lost c field (Err NoMemory) noted counts = idle_after d s h (Idle (Lost c field) NoMemory ∷ []) old new noted counts
+  counts_lost c field (Ok (Accepted p n)) noted counts = same_after d s h old new noted counts
+  counts_lost c field (Ok (Duplicate p)) noted counts = same_after d s h old new noted counts
+  counts_lost c field (Ok (Asked a b)) noted counts = same_after d s h old new noted counts
+  counts_lost c field (Ok (Refused r)) noted counts = same_after d s h old new noted counts
+  counts_lost c field (Ok (LineLost f)) noted counts = same_after d s h old new noted counts
+  counts_lost c field (Ok (Resend i)) noted counts = same_after d s h old new noted counts
+  counts_lost c field (Ok (Draw i)) noted counts = same_after d s h old new noted counts
+  counts_lost c field (Ok Nothing) noted counts = same_after d s h old new noted counts
+  counts_lost c field (Err DiskFault) noted counts = outdated_after old new noted
+  counts_lost c field (Err SayFault) noted counts = outdated_after old new noted
+  counts_lost c field (Err (Full a b l)) noted counts = same_after d s h old new noted counts
+  counts_lost c field (Err (Stopped by)) noted counts = same_after d s h old new noted counts
+  counts_lost c field (Err Spent) noted counts = same_after d s h old new noted counts
+  counts_lost c field (Err NoMemory) noted counts = same_after d s h old new noted counts
 
   -- the journal was opened again, or it wasn't
-  pub counts_restarted : (result : Result (Unit {0}) OpenFault) → Counts d s h old → Counts d (Rattle.gts_event.specs.History.after_all d s (restart_of result)) (h ++ restart_of result) old
-  counts_restarted (Ok told) counts = carried d s (restarted d s) h (Restarted ∷ []) old old (all_rest old) (λ current f. follows_restarted d s old.numbers f) counts
-  counts_restarted (Err fault) counts = idle_after d s h [] old old refl counts
+  pub counts_restarted : (result : Result (Unit {0}) OpenFault) → Counts d s h old → Counts d (after_all d s (restart_of result)) (h ++ restart_of result) old
+  counts_restarted (Ok told) counts = counts_more d (restarted d s) h (Restarted ∷ []) old (carried d s (restarted d s) h old old (all_rest old) (λ current f. follows_restarted d s old.numbers f) counts)
+  counts_restarted (Err fault) counts = counts_more d s h [] old counts

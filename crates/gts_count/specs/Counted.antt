@@ -5,8 +5,9 @@ use Rattle.gts_event.specs.State.{State}
 use Rattle.gts_event.specs.History.{after_all}
 use Rattle.gts_event.specs.Need.{Need, need}
 use Rattle.gts_event.specs.declared.event.Entry.{Entry}
-use Rattle.gts_opening.specs.Room.{HasUnsaid}
-use Rattle.gts_calls.specs.Calls.{Standing}
+use Rattle.gts_event.specs.Drain.{all_done}
+use Rattle.gts_opening.specs.Room.{HasDoubt, HasUnsaid}
+use Rattle.gts_calls.specs.Calls.{Standing, settled}
 use Rattle.gts_count.specs.declared.parts.Parts.{Parts}
 use Rattle.gts_count.specs.Table.{table}
 use Rattle.gts_count.specs.Counting.{Counts, StandsAt}
@@ -15,14 +16,15 @@ use Rattle.gts_count.specs.Counting.{Counts, StandsAt}
 abbrev pub state_at : {O W : Type 0} → Standing O W → W → O → List Entry → State
 state_at meanings now o h = after_all (meanings.directory now) (meanings.begin o) h
 
--- What stands for what its parts do: for what the switch stands for; and the numbers are those of the need there, counted from
--- scratch, until saying failed.
+-- What stands for what its parts do: for what the switch stands for; and the numbers are those of the need there, with the events
+-- that it has gathered, counted from scratch, until a device failed.
 abbrev pub meanings_by : {O T W : Type 0} → (W → Parts T) → Standing O T → Standing O W
 meanings_by parts meanings = record {
   directory = λ w. meanings.directory (parts w).switch;
   begin = meanings.begin;
-  stands = λ o h w. meanings.stands o h (parts w).switch
-      × Counts (meanings.directory (parts w).switch) (state_at meanings (parts w).switch o h) h (parts w).counting;
+  gathers = λ o entries events w. meanings.gathers o entries events (parts w).switch
+      × (let d : Directory = meanings.directory (parts w).switch in
+      Counts d (after_all d (state_at meanings (parts w).switch o entries) (all_done events)) entries (parts w).counting);
   is_full = meanings.is_full;
   compacts = meanings.compacts;
   left = λ o h w. meanings.left o h (parts w).switch;
@@ -36,11 +38,11 @@ counted_meanings meanings = meanings_by (λ parts. parts) meanings
 -- parts stand for what a switch stands for, where that is a state with this need under this directory
 abbrev pub StandsWhere : {O T : Type 0} → Standing O T → Directory → Need → T → Parts T → Type 0
 StandsWhere {O} meanings d n switch parts =
-    (o : O) (h : List Entry) → meanings.stands o h switch → StandsAt d (state_at meanings switch o h) n
-    → (counted_meanings meanings).stands o h parts
+    (o : O) (h : List Entry) → settled meanings o h switch → StandsAt d (state_at meanings switch o h) n
+    → settled (counted_meanings meanings) o h parts
 
--- it is the table of the need where the switch stands, unless saying failed before
+-- it is the table of the need where the switch stands, unless a device failed before
 abbrev pub ShowsTable : {O T : Type 0} → Standing O T → Parts T → List ℕ → Type 0
 ShowsTable {O} meanings parts text =
-    (o : O) (h : List Entry) → (counted_meanings meanings).stands o h parts → (HasUnsaid h → ⊥)
+    (o : O) (h : List Entry) → settled (counted_meanings meanings) o h parts → (HasUnsaid h → ⊥) → (HasDoubt h → ⊥)
     → let d : Directory = meanings.directory parts.switch in text ≡ table d (need d (state_at meanings parts.switch o h))

@@ -1,10 +1,10 @@
 -- The running numbers beside the history for which a switch stands.
-use Rattle.std.specs.Prelude.{◌≡◌, ℕ, ◌+◌, ◌<◌, ◌≤◌, slice_get, Bool, true, false, List, [], ◌∷◌, ◌++◌, slice_set, length, map, take, drop, Option, Some, None, Result, Ok, Err, IsTrue}
+use Rattle.std.specs.Prelude.{◌≡◌, ◌⊎◌, ℕ, ◌+◌, ◌<◌, ◌≤◌, slice_get, Bool, true, false, List, slice_set, length, map, take, drop, Option, Some, None, Result, Ok, Err, IsTrue}
 use Rattle.std.specs.List.{All}
 use Rattle.gts_frame.specs.declared.kind.Kind.{Kind}
 use Rattle.gts_directory.specs.Directory.{Directory}
 use Rattle.gts_event.specs.State.{State}
-use Rattle.gts_event.specs.History.{outcome, after_all}
+use Rattle.gts_event.specs.History.{outcome, after}
 use Rattle.gts_event.specs.Held.{IsHeld}
 use Rattle.gts_event.specs.Need.{Need, need, keeps_one, IsOrdered}
 use Rattle.gts_event.specs.Stand.{SameNeed}
@@ -14,9 +14,8 @@ use Rattle.gts_event.specs.declared.event.Entry.{Entry}
 use Rattle.gts_event.specs.declared.outcome.Outcome.{Outcome}
 use Rattle.gts_event.specs.declared.outcome.Outcome.TheVariants.{Accepted, Draw}
 use Rattle.gts_event.specs.declared.fault.SwitchFault.{SwitchFault}
-use Rattle.gts_event.specs.declared.fault.SwitchFault.TheVariants.{SayFault}
-use Rattle.gts_opening.specs.Room.{HasUnsaid}
-use Rattle.gts_calls.specs.Calls.{entry_of}
+use Rattle.gts_event.specs.declared.fault.SwitchFault.TheVariants.{DiskFault, SayFault}
+use Rattle.gts_opening.specs.Room.{HasDoubt, HasUnsaid}
 use Rattle.gts_count.specs.declared.recent.Recent.{Recent}
 use Rattle.gts_count.specs.declared.recent.Arrival.{Arrival}
 use Rattle.gts_count.specs.declared.numbers.Numbers.{Numbers}
@@ -47,10 +46,10 @@ pub record Knows (d : Directory) (c : Counting) : Type 0 where
 -- by whether they are current
 abbrev pub CountsIf : Bool → Directory → State → List Entry → Counting → Type 0
 CountsIf true d s h c = Knows d c × Follows d s c.numbers
-CountsIf false d s h c = HasUnsaid h
+CountsIf false d s h c = HasUnsaid h ⊎ HasDoubt h
 
--- While they are current, the running numbers are those of the need of the state; and they are until saying failed at one of
--- the entries, of which the outcome wasn't told.
+-- While they are current, the running numbers are those of the need of the state; and they are until a device failed at one of
+-- the entries: saying, where the outcome wasn't told; or the disk, where what was counted already is in doubt.
 abbrev pub Counts : Directory → State → List Entry → Counting → Type 0
 Counts d s h c = CountsIf c.current d s h c
 
@@ -69,9 +68,13 @@ IsReady circuit message ready d s =
 abbrev pub IsTold : Result Outcome SwitchFault → Directory → State → Event → Type 0
 IsTold result d s event = (answer : Outcome) → result ≡ Ok answer → answer ≡ outcome d s event
 
--- the numbers are those of the history with the entry of an event
+-- the numbers go on with an event by its answer: they are those of the state behind it; they aren't current any more, where a device
+-- failed; or nothing changed
 abbrev pub GoesOn : Directory → State → List Entry → Event → Result Outcome SwitchFault → Counting → Type 0
-GoesOn d s h event result c = Counts d (after_all d s (entry_of event result)) (h ++ entry_of event result) c
+GoesOn d s h event (Ok _) c = Counts d (after d s event) h c
+GoesOn d s h event (Err DiskFault) c = c.current ≡ false
+GoesOn d s h event (Err SayFault) c = c.current ≡ false
+GoesOn d s h event (Err _) c = Counts d s h c
 
 -- a bulletin joined the numbers
 pub record Notes (old new : Numbers) (bulletin : Recent) : Type 0 where
@@ -120,6 +123,7 @@ outdated c = record c { current = false }
 -- what is noted of an answer to a message: only an accepted bulletin is counted
 abbrev pub AfterHeard : Option Arrival → Result Outcome SwitchFault → Counting → Counting → Type 0
 AfterHeard ready (Ok (Accepted position circuits)) old new = AfterAccepted ready position old new
+AfterHeard ready (Err DiskFault) old new = new ≡ outdated old
 AfterHeard ready (Err SayFault) old new = new ≡ outdated old
 AfterHeard ready _ old new = new ≡ old
 
@@ -134,8 +138,14 @@ pub record IsDrawn (circuit : ℕ) (frame : List ℕ) (old new : Counting) : Typ
 -- what is noted of an answer to a take: a repetition is no draw
 abbrev pub AfterTaken : ℕ → List ℕ → Result Outcome SwitchFault → Counting → Counting → Type 0
 AfterTaken circuit frame (Ok (Draw index)) old new = IsDrawn circuit frame old new
+AfterTaken circuit frame (Err DiskFault) old new = new ≡ outdated old
 AfterTaken circuit frame (Err SayFault) old new = new ≡ outdated old
 AfterTaken circuit frame _ old new = new ≡ old
+
+-- what is noted of an answer to settling: with a fault of a device the numbers aren't current any more
+abbrev pub AfterSettled : Result (Unit {0}) SwitchFault → Counting → Counting → Type 0
+AfterSettled (Ok _) old new = new ≡ old
+AfterSettled (Err fault) old new = new ≡ outdated old
 
 -- a state that a history has under a directory, with this need
 pub record StandsAt (d : Directory) (s : State) (n : Need) : Type 0 where

@@ -2,7 +2,7 @@ ghost use Rattle.std.specs.Prelude.{◌≡◌};
 ghost use Rattle.gts_count.specs.Numbers.{IsSound};
 
 use crate::start::counting_of;
-use crate::steps::{compact, hear, leave, lose, restart, take};
+use crate::steps::{compact, hear, leave, lose, restart, settle, take};
 use crate::text::table;
 use crate::{Counting, Parts};
 use gts_alphabet::NoMemory;
@@ -14,7 +14,7 @@ use gts_record::OpenFault;
 use std::alloc::Global;
 
 /// A switch whose outcomes are counted. Each call is passed on, and its outcome noted; the numbers afterwards are those of the
-/// need of the history, counted from scratch, until saying failed.
+/// need of the history and of what was gathered, counted from scratch, until a device failed.
 #[derive(Drop)]
 pub struct Counted<T> {
     pub parts: Parts<T>,
@@ -54,6 +54,10 @@ impl<T: Switch> Switch for Counted<T> {
 
     fn take(&mut self, c: u32, out: &mut FrameBuf) -> Result<Outcome, SwitchFault> {
         take(&mut self.parts, c, out)
+    }
+
+    fn settle(&mut self) -> Result<(), SwitchFault> {
+        settle(&mut self.parts)
     }
 
     fn leave(&self) {
@@ -100,7 +104,7 @@ impl<T: Switch> Counted<T> {
     }
 
     /// The table of the need of the history: the numbers of each key of which not all are 0, of each circuit, and the end. Once
-    /// saying failed, the text says nothing of that.
+    /// a device failed, the text says nothing of that.
     pub fn text(&self, alloc: Global) -> Result<Vec<u8>, NoMemory>
         ensures { IfOk result (λ text. ShowsTable T.meanings self.now.parts text.items) }
     {

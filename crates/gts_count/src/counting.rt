@@ -10,7 +10,8 @@ use gts_heading::Heading;
 use gts_message::Message;
 
 /// What is kept beside a switch: the own centre, how many digits the numbers of each circuit have, the running numbers, and
-/// whether these are current. They aren't any more once saying failed, since that doesn't tell what an event led to.
+/// whether these are current. They aren't any more once a device failed: saying doesn't tell what an event led to then, and of
+/// what was counted the disk may have lost the last.
 #[derive(Drop)]
 pub struct Counting {
     pub centre: [u8; 4],
@@ -110,7 +111,7 @@ pub fn note_heard(
 {
     match answer {
         Ok(Outcome::Accepted { position, .. }) => accept(counting, ready, position),
-        Err(SwitchFault::SayFault) => counting.current = false,
+        Err(SwitchFault::DiskFault | SwitchFault::SayFault) => counting.current = false,
         _ => {}
     }
 }
@@ -143,7 +144,7 @@ pub fn note_taken(
 {
     match answer {
         Ok(Outcome::Draw { .. }) => draw(counting, c, frame),
-        Err(SwitchFault::SayFault) => counting.current = false,
+        Err(SwitchFault::DiskFault | SwitchFault::SayFault) => counting.current = false,
         _ => {}
     }
 }

@@ -2,8 +2,9 @@
 ghost use Rattle.std.specs.Prelude.{◌≡◌, ◌<◌, ◌≤◌, length};
 ghost use Rattle.gts_alphabet.specs.declared.limits.TheConstants.{LONGEST_MESSAGE};
 ghost use Rattle.gts_event.specs.declared.event.Event.TheVariants.{Heard, Lost, Taken};
-ghost use Rattle.gts_calls.specs.Calls.{IsCalled, IsReopening, IsCompacting, LeavesFrame, MayLeave, HasCallCause, HasReopenCause};
+ghost use Rattle.gts_calls.specs.Calls.{IsAnswered, IsSettling, IsReopening, IsCompacting, LeavesFrame, MayLeave, HasCallCause, HasReopenCause};
 ghost use Rattle.gts_count.specs.Numbers.{IsSound};
+ghost use Rattle.gts_count.specs.Counting.{AfterSettled};
 ghost use Rattle.gts_count.specs.Counted.{counted_meanings};
 
 use crate::Parts;
@@ -16,7 +17,7 @@ use gts_record::OpenFault;
 use std::alloc::Global;
 
 /// A message came whole. The growth that its numbers want is taken first: where there is no memory for it, the switch isn't
-/// called.
+/// called, and what was gathered is settled.
 pub fn hear<T: Switch>(
     parts: &mut Parts<T>,
     alloc: Global,
@@ -27,7 +28,7 @@ pub fn hear<T: Switch>(
     requires circuit { c < length (T.meanings.directory parts.old.switch).circuits }
     requires short { length message.now ≤ LONGEST_MESSAGE }
     requires sound { IsSound parts.old.counting.numbers }
-    ensures called { IsCalled (counted_meanings T.meanings) (Heard c kind message.now) result
+    ensures called { IsAnswered (counted_meanings T.meanings) (Heard c kind message.now) result
         parts.old parts.new }
     ensures sound { IsSound parts.new.counting.numbers }
     ensures cause { HasCallCause result
@@ -41,6 +42,7 @@ pub fn hear<T: Switch>(
             answer
         }
         Err(NoMemory) => {
+            settle(parts)?;
             parts.switch.leave();
             Err(SwitchFault::NoMemory)
         }
@@ -55,7 +57,7 @@ pub fn lose<T: Switch>(
 ) -> Result<Outcome, SwitchFault>
     requires circuit { c < length (T.meanings.directory parts.old.switch).circuits }
     requires sound { IsSound parts.old.counting.numbers }
-    ensures called { IsCalled (counted_meanings T.meanings) (Lost c field) result
+    ensures called { IsAnswered (counted_meanings T.meanings) (Lost c field) result
         parts.old parts.new }
     ensures sound { IsSound parts.new.counting.numbers }
     ensures cause { HasCallCause result
@@ -75,7 +77,8 @@ pub fn take<T: Switch>(
 ) -> Result<Outcome, SwitchFault>
     requires circuit { c < length (T.meanings.directory parts.old.switch).circuits }
     requires sound { IsSound parts.old.counting.numbers }
-    ensures called { IsCalled (counted_meanings T.meanings) (Taken c) result parts.old parts.new }
+    ensures called { IsAnswered (counted_meanings T.meanings) (Taken c) result
+        parts.old parts.new }
     ensures frame { LeavesFrame (counted_meanings T.meanings) c result parts.old out.new }
     ensures sound { IsSound parts.new.counting.numbers }
     ensures cause { HasCallCause result
@@ -84,6 +87,24 @@ pub fn take<T: Switch>(
 {
     let answer = parts.switch.take(c, out);
     note_taken(&mut parts.counting, c, out.bytes(), answer);
+    answer
+}
+
+/// Settles what was gathered, which was counted already. Takes no memory.
+pub fn settle<T: Switch>(parts: &mut Parts<T>) -> Result<(), SwitchFault>
+    requires sound { IsSound parts.old.counting.numbers }
+    ensures settling { IsSettling (counted_meanings T.meanings) result parts.old parts.new }
+    ensures switch { IsSettling T.meanings result parts.old.switch parts.new.switch }
+    ensures noted { AfterSettled result parts.old.counting parts.new.counting }
+    ensures sound { IsSound parts.new.counting.numbers }
+    ensures cause { HasCallCause result
+        (T.disk_faults parts.old.switch) (T.disk_faults parts.new.switch)
+        (T.say_faults parts.old.switch) (T.say_faults parts.new.switch) }
+{
+    let answer = parts.switch.settle();
+    if answer.is_err() {
+        parts.counting.current = false;
+    }
     answer
 }
 

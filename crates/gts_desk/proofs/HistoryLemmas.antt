@@ -1,5 +1,5 @@
 -- Entries under a name, their frames, and a desk's calls one after another.
-use Rattle.std.proofs.Common.{◌≡◌, ℕ, ◌==◌, List, [], ◌∷◌, ◌++◌, Bool, true, false, cond, refl, sym, ap, ◌∙◌, subst, arith, append_assoc}
+use Rattle.std.proofs.Common.{◌≡◌, ℕ, ◌+◌, ◌==◌, List, [], ◌∷◌, ◌++◌, inl, inr, Bool, true, false, cond, refl, sym, ap, ◌∙◌, subst, arith, append_assoc}
 use Rattle.std.specs.List.{filter}
 use Rattle.std.proofs.lemmas.List.{append-nil}
 use Rattle.std.proofs.lemmas.List.Elements.{filter-append}
@@ -10,15 +10,15 @@ use Rattle.gts_event.specs.Need.{begun}
 use Rattle.gts_event.specs.History.{after_entry, after_all}
 use Rattle.gts_event.specs.declared.event.Entry.{Entry}
 use Rattle.gts_lock.specs.History.{entries, entries_under, StartsWith}
-use Rattle.gts_desk.specs.Desks.{Seen, own, state_at, Adds, AddsJust, IsSpent, GoesOn}
+use Rattle.gts_desk.specs.Desks.{Seen, own, state_at, under, AddsAll, AddsEntries, AddsAny, PassesBetween, IsSpent, GoesOn}
 use Rattle.gts_desk.specs.Frames.{frame_of, frames, own_frames}
 
 abbrev History : Type 0
 History = List (ℕ × Entry)
 
--- no more is said of an entry than that it was added
-pub just : (old new : Seen) (entry : Entry) (Holds : State → Type 0) → Adds old entry Holds new → AddsJust old entry new
-just old new entry Holds adds = record { others = adds.others; is = adds.is; strange = adds.strange; alone = adds.alone; holds = tt; caused = adds.caused }
+-- no more is said of entries than that they were added
+pub just : (old new : Seen) (more : List Entry) (Holds : State → Type 0) → AddsAll old more Holds new → AddsEntries old more new
+just old new more Holds adds = record { others = adds.others; is = adds.is; strange = adds.strange; holds = tt; caused = adds.caused }
 
 under_append : (n : ℕ) (xs ys : History) → entries_under n (xs ++ ys) ≡ entries_under n xs ++ entries_under n ys
 under_append n xs ys =
@@ -28,10 +28,15 @@ under_append n xs ys =
 same_name : (n : ℕ) → (n == n) ≡ true
 same_name n = grind arith
 
-under_one : (n : ℕ) (e : Entry) → entries_under n ((n, e) ∷ []) ≡ e ∷ []
-under_one n e = let P : Bool → Type 0 = λ b. entries (cond b ((n, e) ∷ []) []) ≡ e ∷ [] in subst P (sym (same_name n)) refl
+-- the entries under a name, of some that are all under it
+under_all : (n : ℕ) (more : List Entry) → entries_under n (under n more) ≡ more
+under_all n [] = refl
+under_all n (e ∷ more) =
+    let behind : History = filter (λ (y : ℕ × Entry). y.0 == n) (under n more) in
+    let P : Bool → Type 0 = λ b. entries (cond b ((n, e) ∷ behind) behind) ≡ e ∷ more in
+    subst P (sym (same_name n)) (ap (λ (l : List Entry). e ∷ l) (under_all n more))
 
-frames_append : (d : Directory) (s : State) (name : ℕ) (xs ys : History)
+pub frames_append : (d : Directory) (s : State) (name : ℕ) (xs ys : History)
     → frames d s name (xs ++ ys) ≡ frames d s name xs ++ frames d (after_all d s (entries xs)) name ys
 frames_append d s name [] ys = refl
 frames_append d s name (x ∷ xs) ys =
@@ -56,19 +61,34 @@ frames_none d s name (x ∷ xs) none = choose (frames_none d (after_entry d s x.
         let Q : Bool → Type 0 = λ b. cond b (frame_of d s x.1) [] ++ frames d (after_entry d s x.1) name xs ≡ [] in
         subst Q (sym is) (behind (subst P is none))
 
-frames_one : (d : Directory) (s : State) (name : ℕ) (e : Entry) → frames d s name ((name, e) ∷ []) ≡ frame_of d s e
+pub frames_one : (d : Directory) (s : State) (name : ℕ) (e : Entry) → frames d s name ((name, e) ∷ []) ≡ frame_of d s e
 frames_one d s name e =
     let Q : Bool → Type 0 = λ b. cond b (frame_of d s e) [] ++ [] ≡ frame_of d s e in
     subst Q (sym (same_name name)) (append-nil (frame_of d s e))
 
-module _ (old new : Seen) (entry : Entry) (adds : AddsJust old entry new) where
-  -- the desk's own entries get the one
-  pub own_added : own new ≡ own old ++ entry ∷ []
+-- the frames of the desk's own draws over a history that goes on, by entries of others and then by its own
+pub frames_behind : (old : Seen) (others : History) (more : List Entry) → entries_under old.name others ≡ []
+    → frames old.directory (begun old.start) old.name ((old.history ++ others) ++ under old.name more)
+    ≡ own_frames old ++ frames old.directory (state_at old (old.history ++ others)) old.name (under old.name more)
+frames_behind old others more strange =
+    let d : Directory = old.directory in
+    let s : State = begun old.start in
+    let n : ℕ = old.name in
+    let before : History = old.history ++ others in
+    frames_append d s n before (under n more)
+    ∙ ap (λ (l : List ℕ). l ++ frames d (after_all d s (entries before)) n (under n more))
+    (frames_append d s n old.history others
+    ∙ ap (λ (l : List ℕ). frames d s n old.history ++ l) (frames_none d (after_all d s (entries old.history)) n others strange)
+    ∙ append-nil (frames d s n old.history))
+
+module _ (old new : Seen) (more : List Entry) (adds : AddsEntries old more new) where
+  -- the desk's own entries get these
+  pub own_added : own new ≡ own old ++ more
   own_added =
       ap own adds.is
-      ∙ under_append old.name (old.history ++ adds.others) ((old.name, entry) ∷ [])
-      ∙ ap (λ (l : List Entry). entries_under old.name (old.history ++ adds.others) ++ l) (under_one old.name entry)
-      ∙ ap (λ (l : List Entry). l ++ entry ∷ [])
+      ∙ under_append old.name (old.history ++ adds.others) (under old.name more)
+      ∙ ap (λ (l : List Entry). entries_under old.name (old.history ++ adds.others) ++ l) (under_all old.name more)
+      ∙ ap (λ (l : List Entry). l ++ more)
       (under_append old.name old.history adds.others ∙ ap (λ (l : List Entry). own old ++ l) adds.strange ∙ append-nil (own old))
 
   pub goes_on : GoesOn old new
@@ -79,26 +99,12 @@ module _ (old new : Seen) (entry : Entry) (adds : AddsJust old entry new) where
     used = ap (λ (d : Seen). d.used) adds.is;
     makes_room = ap (λ (d : Seen). d.makes_room) adds.is;
     name = ap (λ (d : Seen). d.name) adds.is;
-    alone = ap (λ (d : Seen). d.alone) adds.is;
-    later = (
-      adds.others ++ (old.name, entry) ∷ [],
-      ap (λ (d : Seen). d.history) adds.is ∙ append_assoc old.history adds.others ((old.name, entry) ∷ []),
-    );
+    later = (adds.others ++ under old.name more, ap (λ (d : Seen). d.history) adds.is ∙ append_assoc old.history adds.others (under old.name more));
   }
 
-  pub frames_added : own_frames new ≡ own_frames old ++ frame_of old.directory (state_at old (old.history ++ adds.others)) entry
-  frames_added =
-      let d : Directory = old.directory in
-      let s : State = begun old.start in
-      let n : ℕ = old.name in
-      let before : History = old.history ++ adds.others in
-      ap own_frames adds.is
-      ∙ frames_append d s n before ((n, entry) ∷ [])
-      ∙ ap (λ (l : List ℕ). l ++ frames d (after_all d s (entries before)) n ((n, entry) ∷ []))
-      (frames_append d s n old.history adds.others
-      ∙ ap (λ (l : List ℕ). frames d s n old.history ++ l) (frames_none d (after_all d s (entries old.history)) n adds.others adds.strange)
-      ∙ append-nil (frames d s n old.history))
-      ∙ ap (λ (l : List ℕ). frames d s n old.history ++ l) (frames_one d (after_all d s (entries before)) n entry)
+  -- and the frames of its own draws get those of these
+  pub frames_added : own_frames new ≡ own_frames old ++ frames old.directory (state_at old (old.history ++ adds.others)) old.name (under old.name more)
+  frames_added = ap own_frames adds.is ∙ frames_behind old adds.others more adds.strange
 
 module _ (old new : Seen) (spent : IsSpent old new) where
   pub own_spent : own new ≡ own old
@@ -115,7 +121,6 @@ module _ (old new : Seen) (spent : IsSpent old new) where
     used = ap (λ (d : Seen). d.used) spent.is;
     makes_room = ap (λ (d : Seen). d.makes_room) spent.is;
     name = ap (λ (d : Seen). d.name) spent.is;
-    alone = ap (λ (d : Seen). d.alone) spent.is;
     later = ([], ap (λ (d : Seen). d.history) spent.is ∙ sym (append-nil old.history));
   }
 
@@ -130,9 +135,64 @@ goes_further a b c s t = record {
   used = t.used ∙ s.used;
   makes_room = t.makes_room ∙ s.makes_room;
   name = t.name ∙ s.name;
-  alone = t.alone ∙ s.alone;
   later = starts_later a.history b.history c.history s.later t.later;
 }
 
 pub stays : (d : Seen) → GoesOn d d
-stays d = record { hall = refl; directory = refl; start = refl; used = refl; makes_room = refl; name = refl; alone = refl; later = ([], sym (append-nil d.history)) }
+stays d = record { hall = refl; directory = refl; start = refl; used = refl; makes_room = refl; name = refl; later = ([], sym (append-nil d.history)) }
+
+-- a turn counts
+pub turned : (old new : Seen) (more : List Entry) → AddsEntries old more new → new.turns ≡ old.turns + 1
+turned old new more adds = ap (λ (d : Seen). d.turns) adds.is
+
+-- ---- entries that were added, or none
+
+pub own_any : (old new : Seen) (more : List Entry) → AddsAny old more new → own new ≡ own old ++ more
+own_any old new more (inl adds) = own_added old new more adds
+own_any old new more (inr none) = ap own none.1 ∙ sym (append-nil (own old)) ∙ ap (λ (l : List Entry). own old ++ l) (sym none.0)
+
+pub goes_any : (old new : Seen) (more : List Entry) → AddsAny old more new → GoesOn old new
+goes_any old new more (inl adds) = goes_on old new more adds
+goes_any old new more (inr none) = subst (λ (d : Seen). GoesOn old d) (sym none.1) (stays old)
+
+-- ---- one turn as two
+
+halfway_of : (old new : Seen) (front back : List Entry) → AddsEntries old (front ++ back) new → PassesBetween old front back new
+halfway_of old new front back adds =
+    let n : ℕ = old.name in
+    let before : History = old.history ++ adds.others in
+    let mid : Seen = record old { history = before ++ under n front } in
+    let split : under n (front ++ back) ≡ under n front ++ under n back = map-append (λ (e : Entry). (n, e)) front back in
+    record {
+      mid = mid;
+      desk = record {
+        hall = refl;
+        directory = refl;
+        start = refl;
+        used = refl;
+        makes_room = refl;
+        name = refl;
+        later = (adds.others ++ under n front, append_assoc old.history adds.others (under n front));
+      };
+      own_is = under_append n before (under n front)
+          ∙ ap (λ (l : List Entry). entries_under n before ++ l) (under_all n front)
+          ∙ ap (λ (l : List Entry). l ++ front)
+          (under_append n old.history adds.others ∙ ap (λ (l : List Entry). own old ++ l) adds.strange ∙ append-nil (own old));
+      turns = refl;
+      adds = record {
+        others = [];
+        is = adds.is
+            ∙ ap (λ (l : History). record old { turns = old.turns + 1; history = l })
+            (ap (λ (l : History). before ++ l) split
+            ∙ sym (append_assoc before (under n front) (under n back))
+            ∙ ap (λ (l : History). l ++ under n back) (sym (append-nil (before ++ under n front))));
+        strange = refl;
+        holds = tt;
+        caused = adds.caused;
+      };
+    }
+
+pub halfway : (old new : Seen) (front back : List Entry) (entry : Entry) → AddsAny old (front ++ entry ∷ back) new → PassesBetween old front (entry ∷ back) new
+halfway old new front back entry (inl adds) = halfway_of old new front (entry ∷ back) adds
+halfway old new [] back entry (inr none) = absurd (cc none.0)
+halfway old new (x ∷ front) back entry (inr none) = absurd (cc none.0)

@@ -1,5 +1,5 @@
 -- What a desk has seen, and what a call on it adds.
-use Rattle.std.specs.Prelude.{◌≡◌, ◌⊎◌, ℕ, Bool, true, false, List, [], ◌∷◌, ◌++◌, Result, Ok, Err, Option}
+use Rattle.std.specs.Prelude.{◌≡◌, ◌⊎◌, ℕ, ◌+◌, Bool, true, false, List, [], ◌∷◌, ◌++◌, map, Result, Ok, Err, Option}
 use Rattle.atomic_table.specs.Seated.{TableId}
 use Rattle.gts_directory.specs.Directory.{Directory}
 use Rattle.gts_event.specs.State.{State}
@@ -15,12 +15,14 @@ use Rattle.gts_event.specs.declared.outcome.Outcome.TheVariants.{Resend, Draw}
 use Rattle.gts_event.specs.declared.fault.SwitchFault.{SwitchFault}
 use Rattle.gts_event.specs.declared.fault.SwitchFault.TheVariants.{DiskFault, SayFault, Full, Stopped, Spent, NoMemory}
 use Rattle.gts_opening.specs.Room.{History, IsCaused}
+use Rattle.gts_feed.specs.Fed.{AddsFed}
+use Rattle.gts_feed.specs.declared.fed.FeedEnd.{FeedEnd}
+use Rattle.gts_feed.specs.declared.fed.FeedEnd.TheVariants.{Fault}
 use Rattle.gts_lock.specs.History.{entries, entries_under, StartsWith}
 
 -- What a desk has seen: the hall that it is at, or none; the directory; what the history starts from, and the bytes of the
--- journal there; whether the journal may be compacted meanwhile, to make room; the desk's own name; whether it is alone, so that
--- there are no entries of others; whether no turn was left; and the history so far, each entry with the name of the desk that
--- added it.
+-- journal there; whether the journal may be compacted meanwhile, to make room; the desk's own name; how many turns it has had;
+-- whether no turn was left; and the history so far, each entry with the name of the desk that added it.
 pub record Seen : Type 0 where
   pub hall : Option TableId
   pub directory : Directory
@@ -28,7 +30,7 @@ pub record Seen : Type 0 where
   pub used : ℕ
   pub makes_room : Bool
   pub name : ℕ
-  pub alone : Bool
+  pub turns : ℕ
   pub full : Bool
   pub history : List (ℕ × Entry)
 
@@ -51,40 +53,55 @@ pub record HasCauses (d : Seen) : Type 0 where
   pub none : d.makes_room ≡ false → compactions ≡ []
   pub caused : IsCaused d.directory (history_of d) compactions
 
--- Entries of others may have come, and then this one, the desk's own. Before it the state was one of which this holds. Each
--- entry has its cause.
-pub record Adds (old : Seen) (entry : Entry) (Holds : State → Type 0) (new : Seen) : Type 0 where
+-- these entries, each under this name
+abbrev pub under : ℕ → List Entry → List (ℕ × Entry)
+under name more = map (λ entry. (name, entry)) more
+
+-- Entries of others may have come, and then these, the desk's own, all in one turn. Before them the state was one of which this
+-- holds. Each entry has its cause.
+pub record AddsAll (old : Seen) (more : List Entry) (Holds : State → Type 0) (new : Seen) : Type 0 where
   pub others : List (ℕ × Entry)
-  pub is : new ≡ record old { history = (old.history ++ others) ++ (old.name, entry) ∷ [] }
+  pub is : new ≡ record old { turns = old.turns + 1; history = (old.history ++ others) ++ under old.name more }
   pub strange : entries_under old.name others ≡ []
-  pub alone : old.alone ≡ true → others ≡ []
   pub holds : Holds (state_at old (old.history ++ others))
   pub caused : HasCauses new
+
+-- entries of which no more is said than that
+abbrev pub AddsEntries : Seen → List Entry → Seen → Type 0
+AddsEntries old more new = AddsAll old more (λ s. Unit {0}) new
+
+-- one entry in a turn
+abbrev pub Adds : Seen → Entry → (State → Type 0) → Seen → Type 0
+Adds old entry Holds new = AddsAll old (entry ∷ []) Holds new
 
 -- an entry of which no more is said than that
 abbrev pub AddsJust : Seen → Entry → Seen → Type 0
 AddsJust old entry new = Adds old entry (λ s. Unit {0}) new
 
--- no turn was left, which a desk that is alone never finds
+-- entries that were added in a turn, or none, with no turn for that
+abbrev pub AddsAny : Seen → List Entry → Seen → Type 0
+AddsAny old more new = AddsEntries old more new ⊎ ((more ≡ []) × (new ≡ old))
+
+-- no turn was left
 pub record IsSpent (old new : Seen) : Type 0 where
   pub is : new ≡ record old { full = true }
-  pub among : old.alone ≡ false
-
--- memory was wanting before anything was asked of the switch, at a desk that is alone
-pub record IsUntold (old new : Seen) : Type 0 where
-  pub is : new ≡ old
-  pub alone : old.alone ≡ true
 
 -- What a call for an event adds, by its answer, where Holds says more of an outcome and the state before. What was done is
 -- the event, and the answer is its outcome.
 abbrev pub Answers : Seen → Event → (Outcome → State → Type 0) → Result Outcome SwitchFault → Seen → Type 0
 Answers old event Holds (Ok o) new = Adds old (Done event) (λ s. (o ≡ outcome old.directory s event) × Holds o s) new
 Answers old event Holds (Err SayFault) new = AddsJust old (Unsaid event) new
-Answers old event Holds (Err DiskFault) new = AddsJust old (Doubt event) new
+Answers old event Holds (Err DiskFault) new = AddsJust old (Doubt (event ∷ [])) new
 Answers old event Holds (Err (Full used need limit)) new = AddsJust old (Idle event (Full used need limit)) new
 Answers old event Holds (Err (Stopped by)) new = AddsJust old (Idle event (Stopped by)) new
-Answers old event Holds (Err NoMemory) new = AddsJust old (Idle event NoMemory) new ⊎ IsUntold old new
+Answers old event Holds (Err NoMemory) new = AddsJust old (Idle event NoMemory) new
 Answers old event Holds (Err Spent) new = IsSpent old new
+
+-- What a call adds that feeds bytes of circuit c, which ended these events, where the last message is this one. No turn is left only
+-- where one was wanted for an event.
+abbrev pub Feeds : ℕ → List Event → (message : List ℕ) → FeedEnd → (old new : Seen) → Type 0
+Feeds c events message (Fault Spent) old new = ((event : Event) × (events ≡ event ∷ [])) × IsSpent old new
+Feeds c events message end old new = (more : List Entry) × AddsFed c events message end more × AddsAny old more new
 
 -- a call of whose outcome no more is said
 abbrev pub SaysNoMore : Outcome → State → Type 0
@@ -104,5 +121,12 @@ pub record GoesOn (old new : Seen) : Type 0 where
   pub used : new.used ≡ old.used
   pub makes_room : new.makes_room ≡ old.makes_room
   pub name : new.name ≡ old.name
-  pub alone : new.alone ≡ old.alone
   pub later : StartsWith new.history old.history
+
+-- What a desk would have seen between two turns that add these entries, of which the first adds those in front.
+pub record PassesBetween (old : Seen) (front back : List Entry) (new : Seen) : Type 0 where
+  pub mid : Seen
+  pub desk : GoesOn old mid
+  pub own_is : own mid ≡ own old ++ front
+  pub turns : mid.turns ≡ old.turns
+  pub adds : AddsEntries mid back new

@@ -30,7 +30,7 @@ abbrev pub frame_of : Directory → State → Entry → List ℕ
 frame_of d s (Done event) = frame_of_event d s event
 frame_of d s (Unsaid event) = frame_of_event d s event
 frame_of d s (Idle event fault) = []
-frame_of d s (Doubt event) = []
+frame_of d s (Doubt events) = []
 frame_of d s Restarted = []
 
 -- of a history that begins at this state

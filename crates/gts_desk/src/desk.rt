@@ -1,19 +1,41 @@
-ghost use Rattle.std.specs.Prelude.{◌≡◌, ◌≢◌, ◌<◌, ◌≤◌, length, Err};
+ghost use Rattle.std.specs.Prelude.{◌≡◌, ◌<◌, ◌≤◌, ℕ, List, length, take};
 ghost use Rattle.gts_alphabet.specs.declared.limits.TheConstants.{LONGEST_MESSAGE};
-ghost use Rattle.gts_event.specs.declared.event.Event.TheVariants.{Heard, Lost, Taken};
-ghost use Rattle.gts_event.specs.declared.fault.SwitchFault.TheVariants.{SayFault, NoMemory};
-ghost use Rattle.gts_desk.specs.Desks.{Seen, Answers, SaysNoMore, LeavesFrame};
+ghost use Rattle.gts_frame.specs.Signs.{held_in};
+ghost use Rattle.gts_connection.specs.Cited.{events_added, Kind as KindType};
+ghost use Rattle.gts_event.specs.declared.event.Event.TheVariants.{Heard};
+ghost use Rattle.gts_event.specs.declared.fault.SwitchFault.{SwitchFault as FaultType};
+ghost use Rattle.gts_feed.specs.{Takes};
+ghost use Rattle.gts_desk.specs.{Seen, Answers, Feeds, SaysNoMore, frames_of, TakesSome};
 
+use crate::given::Given;
 use gts_event::{Outcome, SwitchFault};
-use gts_frame::{FrameBuf, Kind, LostField};
+use gts_feed::{Fed, FeedEnd};
+use gts_frame::{Decoder, Kind};
 
-/// A place at which a circuit tells what came in, and takes what is to go out. Contracts see the history for which it stands,
-/// and its own entries in it. Entries of others may come before the one that a call adds.
+/// A place at which a circuit tells what came in, and takes what is to go out, each in one turn. Contracts see the history for
+/// which it stands, and its own entries in it. Entries of others may come before those that a call adds, but none between them. What
+/// a call answers stands in the journal, and is said.
 pub trait Desk {
     /// What the desk has seen.
     ghost seen: { Self → Seen };
 
-    /// A message came whole on circuit `c`: it is accepted, recognised as a duplicate, answered as a request, or refused.
+    /// The next bytes of the connection on circuit `c` came: the messages that they end are heard, one after another, and a loss
+    /// of synchronisation is entered. It stops behind a loss, and at the first fault. Bytes that end nothing cost no turn.
+    fn feed(&mut self, c: u32, decoder: &mut Decoder, piece: &[u8]) -> Fed
+        requires circuit { c < length (seen self.old).directory.circuits }
+        ensures most { result.taken ≤ length piece.now }
+        ensures some { 0 < length piece.now → 0 < result.taken }
+        ensures takes { (before : List ℕ) → decoder.old.held ≡ held_in before
+            → Takes before piece.now result decoder.new }
+        ensures added { (before : List ℕ) → decoder.old.held ≡ held_in before
+            → Feeds c (events_added c before (take result.taken piece.now)) decoder.new.message
+            result.end (seen self.old) (seen self.new) }
+        ensures short { (kind : KindType) (fault : FaultType)
+            → result.end ≡ FeedEnd.Wanting kind fault
+            → length decoder.new.message ≤ LONGEST_MESSAGE }
+        ensures directory { (seen self.new).directory ≡ (seen self.old).directory };
+
+    /// A message came whole on circuit `c`, for which there was no room or no memory: it is tried again.
     fn hear(&mut self, c: u32, kind: Kind, message: &[u8]) -> Result<Outcome, SwitchFault>
         requires circuit { c < length (seen self.old).directory.circuits }
         requires short { length message.now ≤ LONGEST_MESSAGE }
@@ -25,18 +47,11 @@ pub trait Desk {
     fn rest(&mut self)
         ensures { seen self.new ≡ seen self.old };
 
-    /// Synchronisation was lost on circuit `c`, in this field of a frame. Takes no memory.
-    fn lost(&mut self, c: u32, field: LostField) -> Result<Outcome, SwitchFault>
+    /// Takes on circuit `c`, one after another, at most as many as the circuit's row repeats: the frames that are owed or drawn there
+    /// are left in `given`, and are the caller's to send. Answers whether there may be more. It says nothing, so that no saying
+    /// can fail. Takes no memory.
+    fn take_some(&mut self, c: u32, given: &mut Given) -> Result<bool, SwitchFault>
         requires { c < length (seen self.old).directory.circuits }
-        ensures added { Answers (seen self.old) (Lost c field) SaysNoMore result (seen self.new) }
-        ensures no_memory { result ≢ Err NoMemory };
-
-    /// One take on circuit `c`: the frame that is owed or drawn there is left in `out`, and is the caller's to send. It says
-    /// nothing, so that no saying can fail. Takes no memory.
-    fn take(&mut self, c: u32, out: &mut FrameBuf) -> Result<Outcome, SwitchFault>
-        requires { c < length (seen self.old).directory.circuits }
-        ensures added { Answers (seen self.old) (Taken c)
-            (LeavesFrame (seen self.old).directory c out.new) result (seen self.new) }
-        ensures silent { result ≢ Err SayFault }
-        ensures no_memory { result ≢ Err NoMemory };
+        ensures { TakesSome c (frames_of given.new.frames) result
+            (seen self.old) (seen self.new) };
 }

@@ -3,10 +3,12 @@
 #![tactic(auto)]
 
 mod desk;
+mod given;
 mod laws;
 
 pub use desk::Desk;
+pub use given::{Frames, Given, MOST_BYTES, MOST_FRAMES, Placed};
 pub use laws::{
-    a_desk_goes_on_with_each_call, a_desk_that_is_spent_adds_nothing, each_call_adds_one_own_entry,
-    own_frames_are_those_of_own_entries,
+    a_desk_goes_on_with_each_call, a_desk_that_is_spent_adds_nothing, a_turn_is_like_two,
+    each_turn_adds_own_entries, own_frames_are_those_of_own_entries,
 };

@@ -44,7 +44,8 @@ pub(crate) fn first_change(new: &DirRows, old: &DirRows) -> Option<Change>
 
 /// Whether the own centre stays.
 fn top_stays(old: &DirRows, new: &DirRows) -> bool
-    ensures { result ≡ takes_over.top_stays (directory_of_rows old.now) (directory_of_rows new.now) }
+    ensures { result
+        ≡ takes_over.top_stays (directory_of_rows old.now) (directory_of_rows new.now) }
 {
     old.centre == new.centre
 }

@@ -1,5 +1,5 @@
 -- What an engine stands for whose journal was compacted, or was to be.
-use Rattle.std.proofs.Common.{◌≡◌, true, ℕ, ◌+◌, List, [], ◌∷◌, ◌++◌, length, drop, Option, Some, None, Ok, Err, refl, sym, ap, subst, ◌∙◌, arith}
+use Rattle.std.proofs.Common.{◌≡◌, true, ℕ, ◌+◌, List, [], ◌∷◌, ◌++◌, length, drop, Option, Some, None, Ok, Err, refl, sym, ap, subst, ◌∙◌, arith, false}
 use Rattle.std.specs.List.{last_or, AllByRecursion}
 use Rattle.std.proofs.lemmas.List.{append-nil, take_all, drop_all}
 use Rattle.gts_traits.specs.Calls.{Call, Outside, said_by, SaidSince}
@@ -26,6 +26,7 @@ use Rattle.gts_engine.specs.Origin.{Origin, IsAnchor, compacted_after, history_o
 use Rattle.gts_engine.specs.Keeping.{LeavesFront, OpensToReading, HasSaid, HasFailed, IsLeft, Keeps}
 use Rattle.gts_engine.specs.Compacting.{IsCompaction, StaysAt}
 use Rattle.gts_engine.proofs.EntryLemmas.{used_since, read_itself}
+use Rattle.gts_engine.proofs.TurnLemmas.{settle_keeps}
 use Rattle.gts_engine.proofs.LeavingLemmas.{at_end, whole}
 
 last_end : (first : Option ℕ) (cs : List ℕ) (k : ℕ) → last_or first (cs ++ k ∷ []) ≡ Some k
@@ -58,7 +59,7 @@ all_and_one P [] k all one = (one, tt)
 all_and_one P (c ∷ cs) k all one = (all.0, all_and_one P cs k all.1 one)
 
 module _ (tells : Type 0) (mode : SayMode) (o : Origin) (h : List Entry) (old new : Shown) (kept : Keeps tells mode o h old) (going : old.stopped ≡ None) (directory : new.directory ≡ old.directory)
-    (silent : tells → said_by new.calls ≡ said_by old.calls)
+    (gathered : new.gathered ≡ false) (held : new.held ≡ []) (silent : tells → said_by new.calls ≡ said_by old.calls)
     (moments : tells → EachSince old.calls new.calls (OpensAsBefore o.directory (state_at o h))) where
   free : HasFailed None h
   free = subst (λ (x : Option Device). HasFailed x h) going kept.failed
@@ -91,27 +92,28 @@ module _ (tells : Type 0) (mode : SayMode) (o : Origin) (h : List Entry) (old ne
       let K : Core → Type 0 = λ k. Holds o.directory k (state_at o h) in
       let n : Need = need o.directory (state_at o h) in
       let all : List Entry → Type 0 = λ es. SameNeed o.directory (begun (need o.directory (state_at o es))) (state_at o es) in
-      record {
-        directory = directory ∙ kept.directory;
-        core = λ e. subst K (sym core) holds;
-        used = λ e. used ∙ sym (used_compacted o h);
-        failed = subst F (sym goes) free;
-        once = kept.once;
-        anchors = all_and_one (IsAnchor (compacted_after o h) h) o.compactions (length h) (anchors_on o h h o.compactions kept.anchors) (record {
-          within = omega arith;
-          same = subst all (sym (take_all (length h) h (omega arith))) (record { first = ordered-begun o.directory n sound; second = holds.need.second; same = need-begun o.directory n sound });
-        });
-        caused = caused-compaction o.directory (history_of o h) o.compactions kept.caused;
-        leaves = λ tell.
-            let R : Option Device → Type 0 = λ x. HasSaid mode (compacted_after o h) h x new.calls in
-            record { moments = weaker (LeavesFront mode o h) (LeavesFront mode (compacted_after o h) h) o.calls new.calls (front_on mode o h h) (moments_on tell); now = now_on tell; said = subst R (sym goes) (said_on tell) };
-      }
+      settle_keeps tells mode (compacted_after o h) h new (directory ∙ kept.directory)
+      (λ e. subst K (sym core) holds)
+      (λ e. used ∙ sym (used_compacted o h))
+      gathered held
+      (subst F (sym goes) free)
+      kept.once
+      (all_and_one (IsAnchor (compacted_after o h) h) o.compactions (length h) (anchors_on o h h o.compactions kept.anchors) (record {
+        within = omega arith;
+        same = subst all (sym (take_all (length h) h (omega arith))) (record { first = ordered-begun o.directory n sound; second = holds.need.second; same = need-begun o.directory n sound });
+      }))
+      (caused-compaction o.directory (history_of o h) o.compactions kept.caused)
+      (λ tell.
+      let R : Option Device → Type 0 = λ x. HasSaid mode (compacted_after o h) h x new.calls in
+      record { moments = weaker (LeavesFront mode o h) (LeavesFront mode (compacted_after o h) h) o.calls new.calls (front_on mode o h h) (moments_on tell); now = now_on tell; said = subst R (sym goes) (said_on tell) })
 
   -- the disk failed meanwhile
   pub left_behind : new.stopped ≡ Some Disk → IsLeft tells mode o h new
   left_behind stopped = record {
     directory = directory ∙ kept.directory;
     stopped = stopped;
+    gathered = gathered;
+    held = held;
     failed = free;
     leaves = λ tell. record { moments = moments_on tell; now = now_on tell; said = said_on tell };
   }
@@ -119,7 +121,7 @@ module _ (tells : Type 0) (mode : SayMode) (o : Origin) (h : List Entry) (old ne
 -- ---- the engine
 
 module _ {P : Type 0} (tells : Type 0) (calls : P → List Call) (old new : Engine P) (going : old.stopped ≡ None) (directory : new.directory ≡ old.directory)
-    (silent : tells → said_by (calls new.station) ≡ said_by (calls old.station))
+    (gathered : new.gathered ≡ false) (held : new.held ≡ []) (silent : tells → said_by (calls new.station) ≡ said_by (calls old.station))
     (moments : tells → StaysAt old.directory old.core (calls old.station) (calls new.station)) where
   moments_at : (mode : SayMode) (o : Origin) (h : List Entry) → Keeps tells mode o h (shown calls old) → tells → EachSince (calls old.station) (calls new.station) (OpensAsBefore o.directory (state_at o h))
   moments_at mode o h kept tell =
@@ -134,7 +136,7 @@ module _ {P : Type 0} (tells : Type 0) (calls : P → List Call) (old new : Engi
         let n_is : n ≡ need o.directory (state_at o h) = needs o.directory (state_at o h) (kept.core going) in
         let S : Directory → Type 0 = λ d. is_sound d n ≡ true in
         let T : Need → Type 0 = λ m. is_sound o.directory m ≡ true in
-        compacted_keeps tells mode o h (shown calls old) (shown calls new) kept going directory silent (moments_at mode o h kept) goes core
+        compacted_keeps tells mode o h (shown calls old) (shown calls new) kept going directory gathered held silent (moments_at mode o h kept) goes core
         (subst T n_is (subst S kept.directory sound)) (used ∙ ap (compacted_bytes written) n_is);
     failed = λ e. absurd (cc e);
   }
@@ -143,7 +145,7 @@ module _ {P : Type 0} (tells : Type 0) (calls : P → List Call) (old new : Engi
   left_so stopped = record {
     directory = directory;
     done = λ e. absurd (cc e);
-    failed = λ e mode o h kept. left_behind tells mode o h (shown calls old) (shown calls new) kept going directory silent (moments_at mode o h kept) stopped;
+    failed = λ e mode o h kept. left_behind tells mode o h (shown calls old) (shown calls new) kept going directory gathered held silent (moments_at mode o h kept) stopped;
   }
 
 pub memory_so : {P : Type 0} (tells : Type 0) (calls : P → List Call) (old new : Engine P) → new.directory ≡ old.directory → IsCompaction tells calls (Err NoMemory) old new

@@ -1,5 +1,6 @@
 -- The two steps of a compaction, over an engine's parts.
-use Rattle.std.proofs.Common.{◌≡◌, ◌≢◌, ℕ, ◌+◌, ◌-◌, ◌<◌, true, List, [], length, None, Some, Result, Ok, Err, refl, sym, ap, subst, ◌∙◌, arith}
+use Rattle.std.proofs.Common.{◌≡◌, ◌≢◌, ℕ, ◌+◌, ◌-◌, ◌<◌, true, List, [], length, None, Some, Result, Ok, Err, refl, sym, ap, subst, ◌∙◌, arith, false, nat_lt}
+use Rattle.std.specs.Prelude.{MatchResult}
 use Rattle.std.specs.Prelude.{OnOk}
 use Rattle.std.proofs.lemmas.List.{append-nil}
 use Rattle.gts_traits.specs.Calls.{Call, said_by}
@@ -21,15 +22,19 @@ use Rattle.gts_checkpoint.specs.Writing.{HasWritten, checkpoint_file, need_seal}
 use Rattle.gts_journal.specs.{InHand, StandsOn, StandsFor, IsClosedAt, LeavesBoth, selecting as selecting_at}
 use Rattle.gts_journal.specs.Law.{OpensAsBefore}
 use Rattle.gts_engine.specs.declared.parts.Parts.{Parts}
+use Rattle.gts_engine.specs.Sayings.{held_pieces, no_sayings}
 use Rattle.gts_engine.specs.Engine.{engine_of}
-use Rattle.gts_engine.specs.Going.{IsGoing, stopped_after}
+use Rattle.gts_journal.specs.Batch.{Gathered, no_records}
+use Rattle.gts_engine.specs.Keeping.{none_drawn}
+use Rattle.gts_engine.specs.Going.{IsGoing, HasFewDraws, stopped_after}
 use Rattle.gts_engine.specs.Parts.{IsSound}
 use Rattle.gts_engine.specs.Compacting.{IsCompaction, IsRewritten, IsBehind, StaysAt, IsWriteFault}
 use Rattle.gts_engine.proofs.CompactLemmas.{sound, writing, stands_still, is_journal, selecting, text, apart, left, goes_for, goes_on_compacted}
 use Rattle.gts_engine.proofs.CompactingLemmas.{compacted_so, left_so, memory_so}
-use Rattle.gts_engine.proofs.StepLemmas.{stopped_sound}
+use Rattle.gts_engine.proofs.TurnLemmas.{goes_on}
+use Rattle.gts_engine.proofs.GoingLemmas.{gathering_of}
 
-module _ {P : Type 0} (tells : Type 0) (calls : P → List Call) (p : Parts P) (going : p.stopped ≡ None) (g : IsGoing tells p.directory (calls p.station) p.core p.journal) (n : Need) (needs : Needs p.core n)
+module _ {P : Type 0} (tells : Type 0) (calls : P → List Call) (p : Parts P) (going : p.stopped ≡ None) (sound_p : IsSound tells calls p) (none : (engine_of p).gathered ≡ false) (g : IsGoing tells p.directory (calls p.station) p.core p.journal) (n : Need) (needs : Needs p.core n)
     (free : (s : State) → Holds p.directory p.core s → full_compacted p.directory s ≡ None) (low : p.journal.file < 2) (file : ℕ) (file_is : file ≡ 1 - p.journal.file)
     (mark : List ℕ) (mark_is : mark ≡ p.directory.mark) (long : length mark ≡ 32) (used : ℕ) (used_is : used ≡ compacted_bytes written n) where
   n_is : n ≡ need p.directory g.state
@@ -54,8 +59,38 @@ module _ {P : Type 0} (tells : Type 0) (calls : P → List Call) (p : Parts P) (
     directory_put : q.directory ≡ p.directory
     directory_put = ap (λ (x : Parts P). x.directory) rest
 
+    none_put : (engine_of q).gathered ≡ false
+    none_put = ap (λ (x : Parts P). (engine_of x).gathered) rest ∙ none
+
+    unheld_put : q.held ≡ no_sayings
+    unheld_put = ap (λ (x : Parts P). x.held) rest ∙ sound_p.rests none
+
+    undrawn_put : q.drawn ≡ none_drawn
+    undrawn_put = ap (λ (x : Parts P). x.drawn) rest ∙ sound_p.undrawn none
+
+    quiet_put : (engine_of q).held ≡ []
+    quiet_put = ap held_pieces unheld_put
+
+    few_put : HasFewDraws p.directory q.drawn
+    few_put = subst (HasFewDraws p.directory) (sym (ap (λ (x : Parts P). x.drawn) rest)) sound_p.few
+
     pub left_put : q.stopped ≡ Some Disk → IsCompaction tells calls (Err DiskFault) (engine_of p) (engine_of q)
-    left_put stopped = left_so tells calls (engine_of p) (engine_of q) going directory_put silent_put moments_put stopped
+    left_put stopped = left_so tells calls (engine_of p) (engine_of q) going directory_put none_put quiet_put silent_put moments_put stopped
+
+    -- an engine that stopped, or goes on as it was, is sound
+    pub sound_put : (e : SwitchFault) → IsWriteFault e → q.stopped ≡ stopped_after p.stopped (let r : Result (Unit {0}) SwitchFault = Err e in r) → (e ≡ NoMemory → q ≡ p) → IsSound tells calls q
+    sound_put DiskFault may stops same = record {
+      goes = λ none. absurd (goes_on q.stopped Disk stops none);
+      few = subst (λ (d : Directory). HasFewDraws d q.drawn) (sym directory_put) few_put;
+      rests = λ none. unheld_put;
+      undrawn = λ none. undrawn_put;
+      idle = λ by is. none_put;
+    }
+    sound_put NoMemory may stops same = subst (λ (x : Parts P). IsSound tells calls x) (sym (same refl)) sound_p
+    sound_put SayFault may stops same = absurd may
+    sound_put (Full at wanted limit) may stops same = absurd may
+    sound_put (Stopped by) may stops same = absurd may
+    sound_put Spent may stops same = absurd may
 
     pub failed_put : (e : SwitchFault) → IsWriteFault e → q.stopped ≡ stopped_after p.stopped (let r : Result (Unit {0}) SwitchFault = Err e in r) → IsCompaction tells calls (Err e) (engine_of p) (engine_of q)
     failed_put DiskFault may stops = left_put stops
@@ -103,7 +138,21 @@ module _ {P : Type 0} (tells : Type 0) (calls : P → List Call) (p : Parts P) (
         core_all : r.core ≡ p.core
         core_all = ap (λ (x : Parts P). x.core) behind ∙ ap (λ (x : Parts P). x.core) rest
 
-        module _ (place : r.journal ≡ selecting_at written file used last p.journal) (stands : tells → StandsOn (calls r.station) r.journal)
+        unheld_all : r.held ≡ no_sayings
+        unheld_all = ap (λ (x : Parts P). x.held) behind ∙ unheld_put
+
+        undrawn_all : r.drawn ≡ none_drawn
+        undrawn_all = ap (λ (x : Parts P). x.drawn) behind ∙ undrawn_put
+
+        quiet_all : (engine_of r).held ≡ []
+        quiet_all = ap held_pieces unheld_all
+
+        few_all : HasFewDraws r.directory r.drawn
+        few_all =
+            subst (λ (d : Directory). HasFewDraws d r.drawn) (sym directory_all)
+            (subst (HasFewDraws p.directory) (sym (ap (λ (x : Parts P). x.drawn) behind)) few_put)
+
+        module _ (batch : r.batch ≡ no_records r.journal) (place : r.journal ≡ selecting_at written file used last p.journal) (stands : tells → StandsOn (calls r.station) r.journal)
             (files : tells → (k : ℕ) → k ≢ 2 → seen (calls r.station) k ≡ seen (calls q.station) k) where
           at : r.journal ≡ selecting_at written (1 - p.journal.file) used last p.journal
           at = place ∙ ap (λ (k : ℕ). selecting_at written k used last p.journal) file_is
@@ -111,23 +160,36 @@ module _ {P : Type 0} (tells : Type 0) (calls : P → List Call) (p : Parts P) (
           gate : r.journal.gate + 1 ≡ compacted_bytes written n
           gate = omega (arith, ap (λ (k : InHand). k.gate) at, used_is)
 
+          none_all : (engine_of r).gathered ≡ false
+          none_all = ap (λ (b : Gathered). nat_lt 1 (length b.text)) batch
+
+          used_all : (engine_of r).used ≡ compacted_bytes written n
+          used_all = ap (λ (b : Gathered). r.journal.gate + length b.text) batch ∙ gate
+
           stands_for : tells → StandsFor p.directory (unowed_state (begun n)) (calls r.station) r.journal
           stands_for tell =
               goes_for tells p.directory (calls p.station) p.core p.journal g n n_is low tell (calls q.station) (besides tell) (has_written tell) mark_long (free g.state g.holds) (calls r.station) r.journal used used_is last seal_is at
               (stands tell) (files tell)
 
           pub sound_all : IsSound tells calls r
-          sound_all same =
+          sound_all =
               let G : Directory → Type 0 = λ d. IsGoing tells d (calls r.station) r.core r.journal in
               let K : Core → Type 0 = λ k. IsGoing tells p.directory (calls r.station) k r.journal in
-              subst G (sym directory_all) (subst K (sym core_all)
-              (goes_on_compacted tells p.directory (calls p.station) p.core p.journal g n n_is (calls r.station) r.journal used last used_is at (free g.state g.holds) stands_for))
+              let goes : IsGoing tells r.directory (calls r.station) r.core r.journal = subst G (sym directory_all) (subst K (sym core_all)
+              (goes_on_compacted tells p.directory (calls p.station) p.core p.journal g n n_is (calls r.station) r.journal used last used_is at (free g.state g.holds) stands_for)) in
+              record {
+                goes = λ same. gathering_of tells r.directory (calls r.station) r.core r.journal r.batch goes batch;
+                few = few_all;
+                rests = λ none. unheld_all;
+                undrawn = λ none. undrawn_all;
+                idle = λ by is. none_all;
+              }
 
           pub compaction_all : r.stopped ≡ None → IsCompaction tells calls (Ok tt) (engine_of p) (engine_of r)
           compaction_all goes =
-              compacted_so tells calls (engine_of p) (engine_of r) going directory_all silent_all moments_all n needs goes core_all is_sound_need gate
+              compacted_so tells calls (engine_of p) (engine_of r) going directory_all none_all quiet_all silent_all moments_all n needs goes core_all is_sound_need used_all
 
-          pub written_all : tells → (s : State) → Holds p.directory p.core s → IsRewritten p.directory s (calls p.station) (calls r.station) (r.journal.gate + 1)
+          pub written_all : tells → (s : State) → Holds p.directory p.core s → IsRewritten p.directory s (calls p.station) (calls r.station) (engine_of r).used
           written_all tell s holds =
               let is : n ≡ need p.directory s = needs p.directory s holds in
               record {
@@ -137,31 +199,41 @@ module _ {P : Type 0} (tells : Type 0) (calls : P → List Call) (p : Parts P) (
                     (stands tell) (files tell);
                 text = text tells p.directory (calls p.station) p.core p.journal g n n_is low tell (calls q.station) (besides tell) (has_written tell) mark_long (free g.state g.holds) (calls r.station) r.journal used used_is last seal_is at
                     (stands tell) (files tell) ∙ ap (checkpoint_file p.directory.mark) is;
-                size = gate ∙ ap (compacted_bytes written) is;
+                size = used_all ∙ ap (compacted_bytes written) is;
               }
 
-        pub left_all : r.stopped ≡ Some Disk → IsCompaction tells calls (Err DiskFault) (engine_of p) (engine_of r)
-        left_all stopped = left_so tells calls (engine_of p) (engine_of r) going directory_all silent_all moments_all stopped
+        none_left : r.batch ≡ q.batch → (engine_of r).gathered ≡ false
+        none_left batch = ap (λ (b : Gathered). nat_lt 1 (length b.text)) batch ∙ none_put
+
+        pub left_all : r.batch ≡ q.batch → r.stopped ≡ Some Disk → IsCompaction tells calls (Err DiskFault) (engine_of p) (engine_of r)
+        left_all batch stopped = left_so tells calls (engine_of p) (engine_of r) going directory_all (none_left batch) quiet_all silent_all moments_all stopped
 
         -- by the answer
         pub compaction_by : (result : Result (Unit {0}) SwitchFault) → q.stopped ≡ None → r.stopped ≡ stopped_after q.stopped result
-            → ((e : SwitchFault) → result ≡ Err e → e ≡ DiskFault) → OnOk result (r.journal ≡ selecting_at written file used last p.journal) → (tells → OnOk result (StandsOn (calls r.station) r.journal))
+            → ((e : SwitchFault) → result ≡ Err e → e ≡ DiskFault) → MatchResult result (λ done. r.batch ≡ no_records r.journal) (λ e. r.batch ≡ q.batch) → OnOk result (r.journal ≡ selecting_at written file used last p.journal) → (tells → OnOk result (StandsOn (calls r.station) r.journal))
             → (tells → (k : ℕ) → k ≢ 2 → OnOk result (seen (calls r.station) k ≡ seen (calls q.station) k)) → IsCompaction tells calls result (engine_of p) (engine_of r)
-        compaction_by (Ok done) goes stops fault place stands files = compaction_all place stands files (stops ∙ goes)
-        compaction_by (Err e) goes stops fault place stands files =
+        compaction_by (Ok done) goes stops fault batch place stands files = compaction_all batch place stands files (stops ∙ goes)
+        compaction_by (Err e) goes stops fault batch place stands files =
             let is : e ≡ DiskFault = fault e refl in
             subst (λ (x : SwitchFault). IsCompaction tells calls (Err x) (engine_of p) (engine_of r)) (sym is)
-            (left_all (stops ∙ ap (λ (x : SwitchFault). stopped_after q.stopped (let r : Result (Unit {0}) SwitchFault = Err x in r)) is))
+            (left_all batch (stops ∙ ap (λ (x : SwitchFault). stopped_after q.stopped (let r : Result (Unit {0}) SwitchFault = Err x in r)) is))
 
         pub sound_by : (result : Result (Unit {0}) SwitchFault) → q.stopped ≡ None → r.stopped ≡ stopped_after q.stopped result
-            → ((e : SwitchFault) → result ≡ Err e → e ≡ DiskFault) → OnOk result (r.journal ≡ selecting_at written file used last p.journal) → (tells → OnOk result (StandsOn (calls r.station) r.journal))
+            → ((e : SwitchFault) → result ≡ Err e → e ≡ DiskFault) → MatchResult result (λ done. r.batch ≡ no_records r.journal) (λ e. r.batch ≡ q.batch) → OnOk result (r.journal ≡ selecting_at written file used last p.journal) → (tells → OnOk result (StandsOn (calls r.station) r.journal))
             → (tells → (k : ℕ) → k ≢ 2 → OnOk result (seen (calls r.station) k ≡ seen (calls q.station) k)) → IsSound tells calls r
-        sound_by (Ok done) goes stops fault place stands files = sound_all place stands files
-        sound_by (Err e) goes stops fault place stands files =
-            stopped_sound tells calls r Disk (stops ∙ ap (λ (x : SwitchFault). stopped_after q.stopped (let r : Result (Unit {0}) SwitchFault = Err x in r)) (fault e refl))
+        sound_by (Ok done) goes stops fault batch place stands files = sound_all batch place stands files
+        sound_by (Err e) goes stops fault batch place stands files =
+            let stopped : r.stopped ≡ Some Disk = stops ∙ ap (λ (x : SwitchFault). stopped_after q.stopped (let r : Result (Unit {0}) SwitchFault = Err x in r)) (fault e refl) in
+            record {
+              goes = λ same. absurd (goes_on r.stopped Disk stopped same);
+              few = few_all;
+              rests = λ none. unheld_all;
+              undrawn = λ none. undrawn_all;
+              idle = λ by is. none_left batch;
+            }
 
-        pub written_by : (result : Result (Unit {0}) SwitchFault) → OnOk result (r.journal ≡ selecting_at written file used last p.journal) → (tells → OnOk result (StandsOn (calls r.station) r.journal))
+        pub written_by : (result : Result (Unit {0}) SwitchFault) → MatchResult result (λ done. r.batch ≡ no_records r.journal) (λ e. r.batch ≡ q.batch) → OnOk result (r.journal ≡ selecting_at written file used last p.journal) → (tells → OnOk result (StandsOn (calls r.station) r.journal))
             → (tells → (k : ℕ) → k ≢ 2 → OnOk result (seen (calls r.station) k ≡ seen (calls q.station) k)) → tells
-            → OnOk result ((s : State) → Holds p.directory p.core s → IsRewritten p.directory s (calls p.station) (calls r.station) (r.journal.gate + 1))
-        written_by (Ok done) place stands files tell = written_all place stands files tell
-        written_by (Err e) place stands files tell = tt
+            → OnOk result ((s : State) → Holds p.directory p.core s → IsRewritten p.directory s (calls p.station) (calls r.station) (engine_of r).used)
+        written_by (Ok done) batch place stands files tell = written_all batch place stands files tell
+        written_by (Err e) batch place stands files tell = tt

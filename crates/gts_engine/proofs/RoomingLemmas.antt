@@ -34,7 +34,7 @@ use Rattle.gts_engine.specs.Parts.{AnswersFull, IsUnchanged, IsIdleAnswer}
 use Rattle.gts_engine.specs.Rooming.{spare, full_with_spare, TellsSpare, bytes_wanted, IsFullEither, IsHeardWithRoom}
 use Rattle.gts_engine.proofs.EntryLemmas.{told_more, nothing_said, anchors_more, caused_more, stops_now, only_itself, read_not}
 use Rattle.gts_engine.proofs.LeavingLemmas.{longer}
-use Rattle.gts_engine.proofs.TurnLemmas.{goes_on, quiet, idle, same}
+use Rattle.gts_engine.proofs.TurnLemmas.{goes_on, quiet, settle_keeps, idle, same}
 use Rattle.gts_engine.proofs.CompactingLemmas.{used_compacted}
 use Rattle.gts_engine.proofs.HearingLemmas.{no_room, has_room, last_room}
 
@@ -147,7 +147,7 @@ spare_tells d s size bytes total few size_is total_is low false e = inr (omega (
 module _ (tells : Type 0) (mode : SayMode) (o : Origin) (h : List Entry) (event : Event) (old new : Shown) (kept : Keeps tells mode o h old) (left : IsLeft tells mode o h new)
     (records : HasRecord (outcome o.directory (state_at o h) event)) where
   abbrev g : List Entry
-  g = h ++ Doubt event ∷ []
+  g = h ++ Doubt (event ∷ []) ∷ []
 
   none : HasFailed None h
   none = left.failed
@@ -155,33 +155,32 @@ module _ (tells : Type 0) (mode : SayMode) (o : Origin) (h : List Entry) (event 
   pub doubt_left : Keeps tells mode o g new
   doubt_left =
       let P : Option Device → Type 0 = λ x. HasFailed x g in
+      settle_keeps tells mode o g new left.directory
+      (λ e. absurd (goes_on new.stopped Disk left.stopped e))
+      (λ e. absurd (goes_on new.stopped Disk left.stopped e))
+      left.gathered left.held
+      (subst P (sym left.stopped) (h, event ∷ [], [], refl))
+      (stops_now h (Doubt (event ∷ [])) none)
+      (anchors_more o h (Doubt (event ∷ [])) kept.anchors)
+      (caused_more o h (Doubt (event ∷ [])) kept.anchors kept.caused records)
+      (λ tell.
+      let Q : Option Device → Type 0 = λ x. HasSaid mode o g x new.calls in
+      let l = left.leaves tell in
       record {
-        directory = left.directory;
-        core = λ e. absurd (goes_on new.stopped Disk left.stopped e);
-        used = λ e. absurd (goes_on new.stopped Disk left.stopped e);
-        failed = subst P (sym left.stopped) (h, event, [], refl);
-        once = stops_now h (Doubt event) none;
-        anchors = anchors_more o h (Doubt event) kept.anchors;
-        caused = caused_more o h (Doubt event) kept.anchors kept.caused records;
-        leaves = λ tell.
-            let Q : Option Device → Type 0 = λ x. HasSaid mode o g x new.calls in
-            let l = left.leaves tell in
-            record {
-              moments = weaker (LeavesFront mode o h) (LeavesFront mode o g) o.calls new.calls
-                  (λ files outside front. longer mode o h g [] files outside front
-                  (subst (IsReading g) (sym (append-nil front.read ∙ only_itself h front.read none.0 front.reading)) (read_not h event))) l.moments;
-              now = λ files image.
-                  let r = l.now files image in
-                  (h, read_not h event, r.2 ∙ ap (λ (es : List Entry). Ok (need o.directory (restarted o.directory (state_at o es)))) (only_itself h r.0 none.0 r.1));
-              said = subst Q (sym left.stopped)
-                  (l.said ∙ ap (λ (x : Outside). said_by o.calls ++ x) (sym (quiet mode o h (Doubt event) _ (told_more mode o h (Doubt event)) (nothing_said mode))));
-            };
-      }
+        moments = weaker (LeavesFront mode o h) (LeavesFront mode o g) o.calls new.calls
+            (λ files outside front. longer mode o h g [] files outside front
+            (subst (IsReading g) (sym (append-nil front.read ∙ only_itself h front.read none.0 front.reading)) (read_not h (event ∷ [])))) l.moments;
+        now = λ files image.
+            let r = l.now files image in
+            (h, read_not h (event ∷ []), r.2 ∙ ap (λ (es : List Entry). Ok (need o.directory (restarted o.directory (state_at o es)))) (only_itself h r.0 none.0 r.1));
+        said = subst Q (sym left.stopped)
+            (l.said ∙ ap (λ (x : Outside). said_by o.calls ++ x) (sym (quiet mode o h (Doubt (event ∷ [])) _ (told_more mode o h (Doubt (event ∷ []))) (nothing_said mode))));
+      })
 
 -- ---- the call
 
 -- the fault that was answered tells the bytes that are wanted
-full_is : (result : Result Outcome SwitchFault) (bytes : ℕ) → bytes_wanted result ≡ Some bytes → (used : ℕ) × (limit : ℕ) × (result ≡ Err (Full used bytes limit))
+pub full_is : (result : Result Outcome SwitchFault) (bytes : ℕ) → bytes_wanted result ≡ Some bytes → (used : ℕ) × (limit : ℕ) × (result ≡ Err (Full used bytes limit))
 full_is (Ok o) bytes is = absurd (let e : None ≡ Some bytes = is in cc e)
 full_is (Err (Full used need limit)) bytes is =
     let there : Some need ≡ Some bytes = is in
@@ -204,7 +203,7 @@ idle_full (Err Spent) bytes is = absurd (let e : None ≡ Some bytes = is in cc 
 idle_full (Err NoMemory) bytes is = tt
 
 -- an accepted bulletin has a record
-recorded : (o : Outcome) → IsAccepted o → HasRecord o
+pub recorded : (o : Outcome) → IsAccepted o → HasRecord o
 recorded (Accepted p n) accepted = tt
 recorded (Duplicate position) accepted = absurd accepted
 recorded (Asked n m) accepted = absurd accepted
@@ -215,7 +214,7 @@ recorded (Draw index) accepted = absurd accepted
 recorded Nothing accepted = absurd accepted
 
 -- an engine that answers so had not stopped
-went_on : (E : Type 0) (result : Result Outcome SwitchFault) (before : Option Device) → IfSome before (λ by. (result ≡ Err (Stopped by)) × E)
+pub went_on : (E : Type 0) (result : Result Outcome SwitchFault) (before : Option Device) → IfSome before (λ by. (result ≡ Err (Stopped by)) × E)
     → ((by : Device) → result ≡ Err (Stopped by) → ⊥) → before ≡ None
 went_on E result None stopped other = refl
 went_on E result (Some by) stopped other = absurd (other by stopped.0)
@@ -275,7 +274,7 @@ module _ {P : Type 0} (tells : Type 0) (calls : P → List Call) (mode : SayMode
           let F : ℕ → Directory → Type 0 = λ n d. full d (state_at o h) n heard ≡ Some fault in
           let full_there : full old.directory (state_at o h) old.used heard ≡ Some fault =
           subst (F old.used) (sym kept.directory) (subst (λ (n : ℕ). F n o.directory) (sym (kept.used going)) is) in
-          let x : false ≡ true = sym (ap is_ok (full_answer (state_at o h) fault holds going full_there)) ∙ ok in absurd (cc x)
+          let x : false ≡ true = sym (ap is_ok (full_answer (state_at o h) fault holds going kept.gathered full_there)) ∙ ok in absurd (cc x)
 
   -- ---- the journal was full
 
@@ -298,7 +297,9 @@ module _ {P : Type 0} (tells : Type 0) (calls : P → List Call) (mode : SayMode
 
     module _ (o : Origin) (h : List Entry) (kept : Keeps tells mode o h (shown calls old)) where
       kept_mid : Keeps tells mode o h (shown calls mid)
-      kept_mid = same tells mode o h (shown calls old) (shown calls mid) unchanged.directory unchanged.used unchanged.stopped (ap calls unchanged.station) unchanged.core kept
+      kept_mid =
+          same tells mode o h [] (shown calls old) (shown calls mid) unchanged.directory unchanged.used unchanged.stopped unchanged.gathered unchanged.held unchanged.drawn (ap calls unchanged.station)
+          unchanged.core kept
 
       was_full : full o.directory (state_at o h) (used_at o h) heard ≡ Some (Full used_then bytes limit_then)
       was_full = called.caused o h kept (Full used_then bytes limit_then) first_is

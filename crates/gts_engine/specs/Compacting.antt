@@ -1,5 +1,5 @@
 -- The journal is compacted.
-use Rattle.std.specs.Prelude.{◌≡◌, ◌≢◌, ◌+◌, ◌-◌, ◌^◌, ℕ, min, List, length, None, Result, Ok, Err, IfErr, OnOk}
+use Rattle.std.specs.Prelude.{◌≡◌, ◌≢◌, ◌-◌, ◌^◌, ℕ, min, List, length, None, Result, Ok, Err, IfErr, OnOk}
 use Rattle.gts_traits.specs.Calls.{Call}
 use Rattle.gts_traits.specs.Disk.{seen}
 use Rattle.gts_traits.specs.Moments.{EachSince}
@@ -66,9 +66,9 @@ IsIdleFault (Err (Stopped by)) = Unit {0}
 IsIdleFault (Err NoMemory) = Unit {0}
 IsIdleFault _ = ⊥
 
--- only the station, the journal and what stopped it are other ones
+-- only the station, the journal, what is gathered for it and what stopped it are other ones
 abbrev pub IsBehind : {P : Type 0} → (old new : Parts P) → Type 0
-IsBehind old new = new ≡ record old { station = new.station; journal = new.journal; stopped = new.stopped }
+IsBehind old new = new ≡ record old { station = new.station; journal = new.journal; batch = new.batch; stopped = new.stopped }
 
 -- each moment opens to the state that the core holds, and nothing is said
 abbrev pub StaysAt : Directory → Core → List Call → List Call → Type 0
@@ -87,7 +87,7 @@ pub record Rewrites {P : Type 0} (tells : Type 0) (calls : P → List Call) (dis
   pub sound : IsSound tells calls new
   pub moments : tells → StaysAt old.directory old.core (calls old.station) (calls new.station)
   pub written : tells → OnOk result ((s : State) → Holds old.directory old.core s
-      → IsRewritten old.directory s (calls old.station) (calls new.station) (new.journal.gate + 1))
+      → IsRewritten old.directory s (calls old.station) (calls new.station) (engine_of new).used)
   pub stops : new.stopped ≡ stopped_after old.stopped result
   pub kind : IfErr result IsWriteFault
   pub unchanged : IsIdleFault result → new ≡ old

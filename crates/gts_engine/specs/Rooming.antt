@@ -1,5 +1,5 @@
 -- A message is heard, and room is made for a bulletin for which a journal has none.
-use Rattle.std.specs.Prelude.{◌≡◌, ◌⊎◌, ℕ, ◌+◌, ◌/◌, ◌<◌, ◌≤◌, Bool, true, false, List, ◌++◌, Option, Some, None, Result, Ok, Err, IsOk, IsSome}
+use Rattle.std.specs.Prelude.{◌≡◌, ◌⊎◌, ℕ, ◌+◌, ◌/◌, ◌<◌, ◌≤◌, Bool, true, false, List, [], ◌∷◌, ◌++◌, Option, Some, None, Result, Ok, Err, IsOk, IsSome}
 use Rattle.gts_traits.specs.Calls.{Call}
 use Rattle.gts_directory.specs.Directory.{Directory}
 use Rattle.gts_event.specs.State.{State, most_accepted}
@@ -7,15 +7,17 @@ use Rattle.gts_event.specs.History.{outcome}
 use Rattle.gts_event.specs.Need.{need}
 use Rattle.gts_event.specs.declared.event.Event.{Event}
 use Rattle.gts_event.specs.declared.event.Entry.{Entry}
+use Rattle.gts_event.specs.declared.event.Entry.TheVariants.{Doubt}
+use Rattle.gts_event.specs.Drain.{all_done}
 use Rattle.gts_event.specs.declared.outcome.Outcome.{Outcome}
 use Rattle.gts_event.specs.declared.fault.SwitchFault.{SwitchFault}
-use Rattle.gts_event.specs.declared.fault.SwitchFault.TheVariants.{Full}
+use Rattle.gts_event.specs.declared.fault.SwitchFault.TheVariants.{DiskFault, Full}
 use Rattle.gts_opening.specs.Room.{full, compacted_size}
-use Rattle.gts_calls.specs.Calls.{IsCause, entry_of}
+use Rattle.gts_calls.specs.Calls.{AfterCall, IsAnswerCause, IsCause, entry_of}
 use Rattle.gts_engine.specs.declared.mode.SayMode.{SayMode}
 use Rattle.gts_engine.specs.Engine.{Engine, Shown, shown}
 use Rattle.gts_engine.specs.Origin.{Origin, compacted_after, state_at, used_at}
-use Rattle.gts_engine.specs.Keeping.{Keeps}
+use Rattle.gts_engine.specs.Keeping.{Gathers, Keeps, meanings_of}
 
 -- the bytes that a compaction is to leave free beside all that is due, so that it pays for itself: an eighth of the limit (profile)
 abbrev pub spare : Directory → ℕ
@@ -74,3 +76,48 @@ pub record IsHeardWithRoom {P : Type 0} (tells : Type 0) (calls : P → List Cal
 -- whoever says the frames
 abbrev pub HearsWithRoom : {P : Type 0} → Type 0 → (P → List Call) → Event → Result Outcome SwitchFault → (old new : Engine P) → Type 0
 HearsWithRoom tells calls event result old new = (mode : SayMode) → IsHeardWithRoom tells calls mode event result old new
+
+-- ---- the same, behind what was gathered
+
+module _ {P : Type 0} (tells : Type 0) (calls : P → List Call) (mode : SayMode) (o : Origin) (entries : List Entry) (events : List Event)
+    (event : Event) (result : Result Outcome SwitchFault) (new : Engine P) where
+  -- the entries, with what was gathered behind them
+  abbrev pub so_far : List Entry
+  so_far = entries ++ all_done events
+
+  -- The event came to a journal as it was, which had room for what was done.
+  pub record GathersPlain : Type 0 where
+    pub leaves : AfterCall (meanings_of tells calls mode) o entries events event result new
+    pub had_room : IsOk result → full o.directory (state_at o so_far) (used_at o so_far) event ≡ None
+
+  -- The journal was full for the event, and a compacted one has room with bytes to spare: what was gathered was settled, the
+  -- journal was compacted behind it, and then the event came.
+  pub record GathersCompacted : Type 0 where
+    pub leaves : AfterCall (meanings_of tells calls mode) (compacted_after o so_far) so_far [] event result new
+    pub was_full : IsSome (full o.directory (state_at o so_far) (used_at o so_far) event)
+    pub has_room : full_with_spare o.directory (state_at o so_far) event ≡ None
+
+  -- What was gathered was settled, and the disk failed while the journal was compacted behind it: the event is in doubt.
+  pub record GathersNone : Type 0 where
+    pub fault : result ≡ Err DiskFault
+    pub keeps : Keeps tells mode o (so_far ++ Doubt (event ∷ []) ∷ []) (shown calls new)
+
+-- A message was heard so, which may be gathered, and room was made for it: whatever entries the engine stood for, and whatever
+-- events it had gathered. The answer is the outcome. A fault has its cause: Full is answered only where a compacted journal would be
+-- full, too.
+pub record IsGatheredWithRoom {P : Type 0} (tells : Type 0) (calls : P → List Call) (mode : SayMode) (event : Event)
+    (result : Result Outcome SwitchFault) (old new : Engine P) : Type 0 where
+  pub directory : new.directory ≡ old.directory
+  pub adds : (o : Origin) (entries : List Entry) (events : List Event) → Gathers tells mode o entries events (shown calls old)
+      → GathersPlain tells calls mode o entries events event result new
+      ⊎ (GathersCompacted tells calls mode o entries events event result new
+      ⊎ GathersNone tells calls mode o entries events event result new)
+  pub outcome : (o : Origin) (entries : List Entry) (events : List Event) → Gathers tells mode o entries events (shown calls old)
+      → (answer : Outcome) → result ≡ Ok answer → answer ≡ outcome_behind o (entries ++ all_done events) event
+  pub caused : (o : Origin) (entries : List Entry) (events : List Event) → Gathers tells mode o entries events (shown calls old)
+      → (fault : SwitchFault) → result ≡ Err fault → let h : List Entry = entries ++ all_done events in
+      IsAnswerCause (IsFullEither o h event) h (outcome_behind o h event) fault
+
+-- whoever says the frames
+abbrev pub GathersWithRoom : {P : Type 0} → Type 0 → (P → List Call) → Event → Result Outcome SwitchFault → (old new : Engine P) → Type 0
+GathersWithRoom tells calls event result old new = (mode : SayMode) → IsGatheredWithRoom tells calls mode event result old new

@@ -1,5 +1,6 @@
-ghost use Rattle.std.specs.Prelude.{◌≡◌, ◌≢◌, ◌-◌, ◌^◌, ◌<◌, ◌≤◌, ℕ, min, length, None, IfOk, IfErr, OnOk, IsErrOf};
-ghost use Rattle.gts_engine.specs.Cited.{Rose, State, Holds, Needs, need_of, IsSound, stopped_after, seen, said_by, EachSince};
+ghost use Rattle.std.specs.Prelude.{◌≡◌, ◌≢◌, ◌-◌, ◌^◌, ◌<◌, ◌≤◌, ℕ, min, length, None, false, IfOk, IfErr, OnOk, MatchResult, IsErrOf};
+ghost use Rattle.gts_journal.specs.Batch.{no_records};
+ghost use Rattle.gts_engine.specs.Cited.{engine_of, Rose, State, Holds, Needs, need_of, IsSound, stopped_after, seen, said_by, EachSince};
 ghost use Rattle.gts_engine.specs.Cited.{StandsOn, IsClosedAt, LeavesBoth, selecting, held, written, checkpoint_text, compacted_bytes, full_compacted};
 ghost use Rattle.gts_engine.specs.Cited.{need_seal, FitBytes, HasWritten, WorksBeside};
 ghost use Rattle.gts_engine.specs.Compacting.{Rewrites, GivesRoom, IsBehind, IsSizeAt, IsWriteFault, IsRoomFault};
@@ -16,6 +17,7 @@ use std::alloc::Global;
 pub fn check_room<P: Station>(parts: &Parts<P>, size: u64) -> Result<(), SwitchFault>
     requires going { parts.now.stopped ≡ None }
     requires sound { IsSound P.tells P.calls parts.now }
+    requires rests { (engine_of parts.now).gathered ≡ false }
     ensures room { (s : State) → Holds parts.now.directory parts.now.core s
         → IsSizeAt parts.now.directory s size → GivesRoom result parts.now.directory s }
     ensures kind { IfErr result IsRoomFault }
@@ -82,6 +84,8 @@ fn choose<P: Station>(
         → IsClosedAt (P.calls parts.old.station) parts.old.journal file used }
     ensures place { OnOk result (parts.new.journal
         ≡ selecting written file used (held written seal) parts.old.journal) }
+    ensures batch { MatchResult result (λ done. parts.new.batch ≡ no_records parts.new.journal)
+        (λ fault. parts.new.batch ≡ parts.old.batch) }
     ensures stands { P.tells
         → OnOk result (StandsOn (P.calls parts.new.station) parts.new.journal) }
     ensures files { P.tells → (k : ℕ) → k ≢ 2 → OnOk result
@@ -98,7 +102,10 @@ fn choose<P: Station>(
     ensures say { P.say_faults parts.new.station ≡ P.say_faults parts.old.station }
 {
     match parts.journal.select(&mut parts.station, file, used, seal) {
-        Ok(()) => Ok(()),
+        Ok(()) => {
+            parts.batch.begin(&parts.journal);
+            Ok(())
+        }
         Err(_) => {
             parts.stopped = Some(Device::Disk);
             Err(SwitchFault::DiskFault)
@@ -115,6 +122,7 @@ pub fn rewrite<P: Station>(
 ) -> Result<(), SwitchFault>
     requires going { parts.old.stopped ≡ None }
     requires sound { IsSound P.tells P.calls parts.old }
+    requires rests { (engine_of parts.old).gathered ≡ false }
     requires need { Needs parts.old.core (need_of need.now) }
     requires size { size ≡ min (length (checkpoint_text (need_of need.now))) (2 ^ 64 - 1) }
     requires free { (s : State) → Holds parts.old.directory parts.old.core s

@@ -17,7 +17,7 @@ const RECEIPT: &[u8] = b"ACC 0 0 1 SMVG01 TVSV 280000\n";
 const FRAME: &[u8] = b"00000039AN\x01\r\r\n001\r\r\nSMVG01 TVSV 280000\r\r\nNIL=\r\r\n\x03";
 
 /// An engine over a new journal in memory, or how many calls were made until one failed.
-fn engine(
+pub fn engine(
     alloc: Global,
     directory: Directory,
     failing: &[u64],
@@ -33,7 +33,7 @@ fn engine(
 }
 
 /// An engine over a new journal in memory, none of whose calls fails.
-fn sound_engine(alloc: Global) -> Result<Engine<MemStation>, Fail> {
+pub fn sound_engine(alloc: Global) -> Result<Engine<MemStation>, Fail> {
     match engine(alloc, two_circuits(alloc)?, &[])? {
         Ok(engine) => Ok(engine),
         Err(_) => Err(Fail::from("an engine")),
@@ -68,7 +68,7 @@ const DRAWN: Option<Outcome> = Some(Outcome::Draw { index: 0 });
 const REPEATED: Option<Outcome> = Some(Outcome::Resend { index: 0 });
 
 /// The station of an engine that is done.
-fn station_in(engine: Engine<MemStation>) -> MemStation {
+pub fn station_in(engine: Engine<MemStation>) -> MemStation {
     engine.into_parts().0
 }
 
@@ -199,8 +199,9 @@ fn a_compacted_journal_is_opened_again(rt: HostRuntime) -> Result<(), Fail> {
     Ok(())
 }
 
-/// A directory of two circuits with a small journal, a small window and few kept draws; all goes to the second one.
-fn small(alloc: Global) -> Result<Directory, Fail> {
+/// A directory of two circuits with a small journal, a small window and few kept draws, of which so many are repeated; all goes to
+/// the second one.
+pub fn small(alloc: Global, repeat: u32) -> Result<Directory, Fail> {
     let mut rows = DirRows::new(alloc, *b"TVSV", 10, 30_000, Ipv4Addr::LOCALHOST, MARK);
     for (name, peer) in [(*b"A       ", *b"AAAA"), (*b"B       ", *b"BBBB")] {
         rows.add_circuit(CircuitRow {
@@ -212,7 +213,7 @@ fn small(alloc: Global) -> Result<Directory, Fail> {
             output: 0,
             host: Ipv4Addr::LOCALHOST,
             idle: None,
-            repeat: 1,
+            repeat,
             closed: false,
         })?;
     }
@@ -224,7 +225,7 @@ fn small(alloc: Global) -> Result<Directory, Fail> {
 }
 
 /// The message whose text is this number below 1,000.
-fn numbered(number: u32) -> [u8; 40] {
+pub fn numbered(number: u32) -> [u8; 40] {
     let mut message = *b"\x01\r\r\n123\r\r\nSMVG01 TVSV 280000\r\r\n0000=\r\r\n\x03";
     message[32] = b'0' + (number / 100 % 10) as u8;
     message[33] = b'0' + (number / 10 % 10) as u8;
@@ -268,7 +269,7 @@ fn accepted_of(
 fn room_is_made_for_all_that_is_drawn(rt: HostRuntime) -> Result<(), Fail> {
     let alloc = rt.alloc();
     let mut out = FrameBuf::new(alloc)?;
-    let Ok(mut engine) = engine(alloc, small(alloc)?, &[])? else {
+    let Ok(mut engine) = engine(alloc, small(alloc, 1)?, &[])? else {
         return Err(Fail::from("an engine"));
     };
     assert!(rt; accepted_of(alloc, &mut engine, &mut out, 600, true) == 600);
@@ -280,7 +281,7 @@ fn room_is_made_for_all_that_is_drawn(rt: HostRuntime) -> Result<(), Fail> {
 fn full_waits_until_draws_go_out(rt: HostRuntime) -> Result<(), Fail> {
     let alloc = rt.alloc();
     let mut out = FrameBuf::new(alloc)?;
-    let Ok(mut engine) = engine(alloc, small(alloc)?, &[])? else {
+    let Ok(mut engine) = engine(alloc, small(alloc, 1)?, &[])? else {
         return Err(Fail::from("an engine"));
     };
     let accepted = accepted_of(alloc, &mut engine, &mut out, 600, false);

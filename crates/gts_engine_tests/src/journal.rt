@@ -145,7 +145,11 @@ const CHOICES: [Touched; 5] = [
 ];
 
 /// What a crash in a call leaves, with this in each place that was touched.
-fn crashed(station: &MemStation, call: u64, choice: Touched) -> Result<MemStation, Fail> {
+pub(crate) fn crashed(
+    station: &MemStation,
+    call: u64,
+    choice: Touched,
+) -> Result<MemStation, Fail> {
     if call >= station.calls() {
         return Err(Fail::from("no such call"));
     }

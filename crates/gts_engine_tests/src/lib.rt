@@ -6,6 +6,8 @@ mod checkpoint;
 #[cfg(test)]
 mod engine;
 #[cfg(test)]
+mod gathering;
+#[cfg(test)]
 mod journal;
 #[cfg(test)]
 mod recovery;

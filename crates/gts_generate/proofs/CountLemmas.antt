@@ -54,7 +54,7 @@ accepted-entry : (d : Directory) (s : State) (entry : Entry) → (after_entry d 
 accepted-entry d s (Done event) = accepted-event d s event
 accepted-entry d s (Unsaid event) = accepted-event d s event
 accepted-entry d s (Idle event fault) = omega arith
-accepted-entry d s (Doubt event) = omega arith
+accepted-entry d s (Doubt events) = omega arith
 accepted-entry d s Restarted = omega arith
 
 pub accepted-counted : (d : Directory) (s : State) (entries : List Entry)
@@ -205,7 +205,7 @@ drawn-entry : (d : Directory) (s : State) (entry : Entry)
 drawn-entry d s (Done event) = drawn-event d s event
 drawn-entry d s (Unsaid event) = drawn-event d s event
 drawn-entry d s (Idle event fault) = omega arith
-drawn-entry d s (Doubt event) = omega arith
+drawn-entry d s (Doubt events) = omega arith
 drawn-entry d s Restarted = omega (arith, drawn-restarted d.circuits s.circuits)
 
 drawn-all : (d : Directory) (s : State) (entries : List Entry)

@@ -104,7 +104,7 @@ ends-entry : (d : Directory) (s : State) (entry : Entry) → has_one_end entry �
 ends-entry d s (Done event) one all = ends-event d s event one all
 ends-entry d s (Unsaid event) one all = ends-event d s event one all
 ends-entry d s (Idle event fault) one all = all
-ends-entry d s (Doubt event) one all = all
+ends-entry d s (Doubt events) one all = all
 ends-entry d s Restarted one all = all
 
 -- ---- the line of a draw
@@ -254,7 +254,7 @@ frames-entry : (d : Directory) (s : State) (entry : Entry) → keeps_one d ≡ t
 frames-entry d s (Done event) one few here end held all = frames-event d s event one few here end held all
 frames-entry d s (Unsaid event) one few here end held all = frames-event d s event one few here end held all
 frames-entry d s (Idle event fault) one few here end held all = refl
-frames-entry d s (Doubt event) one few here end held all = refl
+frames-entry d s (Doubt events) one few here end held all = refl
 frames-entry d s Restarted one few here end held all = refl
 
 -- of a history in which each message has one end as many frames are said as were drawn and repeated

@@ -172,7 +172,7 @@ entry-lines : (word : List ℕ) (kind : Outcome → Bool) (counted : Counted wor
 entry-lines word kind counted d s (Done event) rest = event-lines word kind counted d s event rest
 entry-lines word kind counted d s (Unsaid event) rest = event-lines word kind counted d s event rest
 entry-lines word kind counted d s (Idle event fault) rest = omega arith
-entry-lines word kind counted d s (Doubt event) rest = omega arith
+entry-lines word kind counted d s (Doubt events) rest = omega arith
 entry-lines word kind counted d s Restarted rest = omega arith
 
 history-lines : (word : List ℕ) (kind : Outcome → Bool) (counted : Counted word kind) (d : Directory) (s : State) (entries : List Entry)

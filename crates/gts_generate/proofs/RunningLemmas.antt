@@ -34,6 +34,7 @@ use Rattle.gts_engine.specs.declared.mode.SayMode.{SayMode}
 use Rattle.gts_engine.specs.declared.mode.SayMode.TheVariants.{Station}
 use Rattle.gts_engine.specs.Engine.{Engine, shown}
 use Rattle.gts_engine.specs.Keeping.{Keeps, HasFailed, HasRead, HasSaid, origin_of}
+use Rattle.gts_calls.specs.{settled}
 use Rattle.gts_engine.specs.Switching.{Told, switch_meanings}
 use Rattle.gts_replay.specs.declared.end.ReplayEnd.{ReplayEnd}
 use Rattle.gts_replay.specs.declared.end.ReplayEnd.TheVariants as end
@@ -174,7 +175,7 @@ module _ (count : ℕ) (first last : Engine StationInMemory) (b : BeginsDay firs
       let same : x.steps ≡ steps count = one-reading count few x.steps (length (flat_map step_text x.steps ++ head_text EndHead)) read in
       let keeps : Keeps (Unit {0}) Station (day_origin (calls_on first.station)) (history count) (shown calls_on last)
       = subst (λ (es : List Entry). Keeps (Unit {0}) Station (day_origin (calls_on first.station)) es (shown calls_on last)) (entries-are x.steps same)
-      (subst (λ (ks : List ℕ). (switch_meanings (Unit {0}) calls_on).stands (compacted_at (switch_meanings (Unit {0}) calls_on) o (entries first.directory start x.steps) ks)
+      (subst (λ (ks : List ℕ). settled (switch_meanings (Unit {0}) calls_on) (compacted_at (switch_meanings (Unit {0}) calls_on) o (entries first.directory start x.steps) ks)
       (entries first.directory start x.steps) last) (counts-are x.steps same) x.stands) in
       let going : last.stopped ≡ None = goes-on last.stopped (history count) (steps-done directory start (no_bytes directory) (steps count)) keeps.failed in
       let said = subst (λ (stopped : Option Device). HasSaid Station (day_origin (calls_on first.station)) (history count) stopped (calls_on last.station)) going (keeps.leaves tt).said in
@@ -204,11 +205,14 @@ module _ (count : ℕ) (first last : Engine StationInMemory) (b : BeginsDay firs
   day-whole at x =
       x.none tt (steps count) (subst (λ (d : directories.Directory). IsWhole d (capture count) (steps count)) (sym b.under) (read-as-steps count few))
 
-  stands-for : StandsFor (switch_meanings (Unit {0}) calls_on) o [] first
-  stands-for = record { start = subst (λ (d : directories.Directory). IsStart d start) (sym b.under) b.begins; stands = b.stands }
+  stands-for : StandsFor (switch_meanings (Unit {0}) calls_on) o 0 [] first
+  stands-for = record {
+    start = subst (λ (d : directories.Directory). IsStart d start) (sym b.under) b.begins;
+    stands = record { front = []; events = []; is = refl; within = omega arith; gathers = b.stands };
+  }
 
   module _ (e : ReplayEnd) (bytes left : List ℕ) (is : bytes ≡ capture count)
-      (ends : (t : Told (Unit {0})) (h : List Entry) → StandsFor (switch_meanings (Unit {0}) calls_on) t h first
+      (ends : (t : Told (Unit {0})) (h : List Entry) → StandsFor (switch_meanings (Unit {0}) calls_on) t (length h) h first
       → Ends (switch_meanings (Unit {0}) calls_on) (Unit {0}) Journaled t h (Unit {0}) e first last bytes left) where
     all : Ends (switch_meanings (Unit {0}) calls_on) (Unit {0}) Journaled o [] (Unit {0}) e first last (capture count) left
     all = subst (λ (bs : List ℕ). Ends (switch_meanings (Unit {0}) calls_on) (Unit {0}) Journaled o [] (Unit {0}) e first last bs left) is (ends o [] stands-for)

@@ -4,14 +4,13 @@ use Rattle.std.specs.Prelude.{IsErrOf, IfOk, IfSome}
 use Rattle.gts_traits.specs.Calls.{Call, Outside, on, channel_bytes}
 use Rattle.gts_traits.proofs.LawLemmas.{channel_bytes-on}
 use Rattle.gts_traits.specs.Counts.{Rose}
-use Rattle.gts_frame.specs.declared.lost.LostField.{LostField}
 use Rattle.gts_directory.specs.Directory.{Directory}
 use Rattle.gts_event.specs.State.{State}
 use Rattle.gts_event.specs.History.{outcome, after, after_all, choice, Choice, Repeats, Draws, Nothing_waits}
 use Rattle.gts_event.specs.Said.{spoken, line}
 use Rattle.gts_event.specs.Need.{begun}
 use Rattle.gts_event.specs.declared.event.Event.{Event}
-use Rattle.gts_event.specs.declared.event.Event.TheVariants.{Lost, Taken}
+use Rattle.gts_event.specs.declared.event.Event.TheVariants.{Taken}
 use Rattle.gts_event.specs.declared.event.Entry.{Entry}
 use Rattle.gts_event.specs.declared.event.Entry.TheVariants.{Unsaid, Idle, Doubt}
 use Rattle.gts_event.specs.declared.outcome.Outcome.{Outcome}
@@ -32,13 +31,13 @@ use Rattle.gts_housed.specs.Housed.{Beginning, Stands, Adds, entry_by, origin_wi
 
 -- ---- the last of a list
 
-abbrev IsLast : List Entry → Entry → List Entry → Entry → Type 0
+abbrev pub IsLast : List Entry → Entry → List Entry → Entry → Type 0
 IsLast xs x front y = (x ≡ y) ⊎ ((z : List Entry) × (xs ≡ front ++ y ∷ z))
 
 none_behind : (front : List Entry) (y : Entry) (back : List Entry) → [] ≡ front ++ y ∷ back → ⊥
 none_behind front y back e = let n : 0 ≡ length front + length (y ∷ back) = ap length e ∙ length-append front (y ∷ back) in omega (arith, n)
 
-split_last : (xs : List Entry) (x : Entry) (front : List Entry) (y : Entry) (back : List Entry) → xs ++ x ∷ [] ≡ front ++ y ∷ back → IsLast xs x front y
+pub split_last : (xs : List Entry) (x : Entry) (front : List Entry) (y : Entry) (back : List Entry) → xs ++ x ∷ [] ≡ front ++ y ∷ back → IsLast xs x front y
 split_last [] x [] y back e = let same : x ≡ y = cc in inl same
 split_last [] x (f ∷ front) y back e = absurd (none_behind front y back (let r : [] ≡ front ++ y ∷ back = cc in r))
 split_last (a ∷ xs) x [] y back e = let same : a ≡ y = cc in inr (xs, ap (λ (z : Entry). z ∷ xs) same)
@@ -49,11 +48,11 @@ split_last (a ∷ xs) x (f ∷ front) y back e =
       | inr before ↦ inr (before.0, ap (λ (z : Entry). z ∷ xs) same ∙ ap (λ (zs : List Entry). f ∷ zs) before.1)
     ]
 
-abbrev IsEnd : List Entry → Entry → List Entry → Entry → Type 0
+abbrev pub IsEnd : List Entry → Entry → List Entry → Entry → Type 0
 IsEnd xs x front y = ((x ≡ y) × (xs ≡ front)) ⊎ ((z : List Entry) × (xs ≡ front ++ y ∷ z))
 
 -- the last one has all others before it
-split_end : (xs : List Entry) (x : Entry) (front : List Entry) (y : Entry) (back : List Entry) → xs ++ x ∷ [] ≡ front ++ y ∷ back → IsEnd xs x front y
+pub split_end : (xs : List Entry) (x : Entry) (front : List Entry) (y : Entry) (back : List Entry) → xs ++ x ∷ [] ≡ front ++ y ∷ back → IsEnd xs x front y
 split_end [] x [] y back e = let same : x ≡ y = cc in inl (same, refl)
 split_end [] x (f ∷ front) y back e = absurd (none_behind front y back (let r : [] ≡ front ++ y ∷ back = cc in r))
 split_end (a ∷ xs) x [] y back e = let same : a ≡ y = cc in inr (xs, ap (λ (z : Entry). z ∷ xs) same)
@@ -75,14 +74,14 @@ is_one event (Err (Stopped by)) some = refl
 is_one event (Err Spent) some = absurd (some refl)
 is_one event (Err NoMemory) some = refl
 
-doubt_of : (event other : Event) (result : Result Outcome SwitchFault) → entry_by event result ≡ Doubt other → IsErrOf result DiskFault
-doubt_of event other (Ok o) e = cc
-doubt_of event other (Err DiskFault) e = refl
-doubt_of event other (Err SayFault) e = cc
-doubt_of event other (Err (Full used need limit)) e = cc
-doubt_of event other (Err (Stopped by)) e = cc
-doubt_of event other (Err Spent) e = cc
-doubt_of event other (Err NoMemory) e = cc
+doubt_of : (event : Event) (others : List Event) (result : Result Outcome SwitchFault) → entry_by event result ≡ Doubt others → IsErrOf result DiskFault
+doubt_of event others (Ok o) e = cc
+doubt_of event others (Err DiskFault) e = refl
+doubt_of event others (Err SayFault) e = cc
+doubt_of event others (Err (Full used need limit)) e = cc
+doubt_of event others (Err (Stopped by)) e = cc
+doubt_of event others (Err Spent) e = cc
+doubt_of event others (Err NoMemory) e = cc
 
 unsaid_of : (event other : Event) (result : Result Outcome SwitchFault) → entry_by event result ≡ Unsaid other → IsErrOf result SayFault
 unsaid_of event other (Ok o) e = cc
@@ -107,7 +106,7 @@ full_of event (Err Spent) other used need limit e = absurd (cc e)
 full_of event (Err NoMemory) other used need limit e = absurd (cc e)
 
 -- a journal is full for accepted bulletins alone
-full_accepts : (d : Directory) (s : State) (at : ℕ) (event : Event) (o : Outcome) (fault : SwitchFault) → room d s at event o ≡ Some fault → IsAccepted o
+pub full_accepts : (d : Directory) (s : State) (at : ℕ) (event : Event) (o : Outcome) (fault : SwitchFault) → room d s at event o ≡ Some fault → IsAccepted o
 full_accepts d s at event (Accepted p n) fault is = tt
 full_accepts d s at event (Duplicate position) fault is = absurd (let e : None ≡ Some fault = is in cc e)
 full_accepts d s at event (Asked n m) fault is = absurd (let e : None ≡ Some fault = is in cc e)
@@ -119,10 +118,10 @@ full_accepts d s at event Nothing fault is = absurd (let e : None ≡ Some fault
 
 -- ---- counts
 
-rose_on : (a b c : ℕ) → Rose a b → b ≤ c → Rose a c
+pub rose_on : (a b c : ℕ) → Rose a b → b ≤ c → Rose a c
 rose_on a b c rose later = omega (arith, rose, later)
 
-rose_from : (a b c : ℕ) → a ≤ b → Rose b c → Rose a c
+pub rose_from : (a b c : ℕ) → a ≤ b → Rose b c → Rose a c
 rose_from a b c later rose = omega (arith, later, rose)
 
 doubt_rose : (b : ℕ) (h : List Entry) (event : Event) (result : Result Outcome SwitchFault) (old new : ℕ)
@@ -271,10 +270,6 @@ module _ {P : Type 0} (tells : Type 0) (calls : P → List Call) (disk say : P �
       goes_on p (Some d) stopped = absurd (let e : Ok p ≡ Err (Stopped d) = stopped.0 in cc e)
 
   -- ---- memory is wanted only for a bulletin
-
-  pub lost_takes_none : (h : List Entry) (c : ℕ) (field : LostField) (result : Result Outcome SwitchFault) (old new : Engine P)
-      → IsCalled (meanings_of tells calls Caller) (Lost c field) result old new → Stands tells calls disk say b h old → result ≢ Err NoMemory
-  lost_takes_none h c field result old new turn stands e = turn.caused (origin_with b stands.compactions) h stands.keeps NoMemory e
 
   pub takes_accept_nothing : (d : Directory) (s : State) (c : ℕ) → IsAccepted (outcome d s (Taken c)) → ⊥
   takes_accept_nothing d s c accepted = go (choice d s c) refl accepted

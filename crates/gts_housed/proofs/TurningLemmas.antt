@@ -1,7 +1,6 @@
 -- What a turn makes of its pass.
-use Rattle.std.proofs.Common.{◌≡◌, inl, ℕ, List, [], ◌∷◌, ◌++◌, Result, Ok, Err, refl, sym, ap, subst, ◌∙◌}
+use Rattle.std.proofs.Common.{◌≡◌, inl, ℕ, ◌+◌, List, [], ◌∷◌, ◌++◌, length, Result, Ok, Err, refl, sym, ap, subst, ◌∙◌, length-append}
 use Rattle.std.proofs.lemmas.List.{append-nil, append_cancel_left}
-use Rattle.std.specs.Prelude.{◌==◌, Bool, true, false}
 use contract.BorrowLft.{◌⊑◌, ⊑_meet, ⊑_static}
 use Rattle.gts_traits.specs.Calls.{Call}
 use Rattle.gts_lock.specs.{entries, entries_under, Known, StartsWith, after_seeing, after_adding}
@@ -16,10 +15,16 @@ use Rattle.gts_event.specs.declared.fault.SwitchFault.TheVariants.{DiskFault, Sa
 use Rattle.gts_opening.specs.Room.{IsCaused}
 use Rattle.gts_engine.specs.Engine.{Engine}
 use Rattle.gts_engine.specs.Origin.{history_of, state_at}
-use Rattle.gts_desk.specs.{Adds, Answers, LeavesFrame}
+use Rattle.gts_event.specs.History.{outcome}
+use Rattle.gts_feed.specs.Fed.{AddsFed}
+use Rattle.gts_feed.specs.declared.fed.FeedEnd.{FeedEnd}
+use Rattle.gts_feed.specs.declared.fed.FeedEnd.TheVariants.{All, Lost, Wanting, Fault}
+use Rattle.gts_desk.specs.Desks.{Seen, under, AddsAll, AddsAny, Answers, Feeds, LeavesFrame}
 use Rattle.gts_housed.specs.Housed as housed
 use Rattle.gts_housed.specs.Housed.{Beginning, Stands, entry_by}
 use Rattle.gts_housed.specs.Turning.{KnowsOwn, seen_by, IsTurn, DeskTakes}
+use Rattle.gts_housed.specs.Flat.{all_of, flat}
+use Rattle.gts_housed.proofs.FlatLemmas.{entries-append, under-append, all_of_one, flat-append, flat_one, entries_flat, under_flat}
 
 -- a lifetime within those of both types
 pub within_both : (κ P B : List ℕ) → κ ⊑ P → κ ⊑ B
@@ -35,67 +40,90 @@ within_both κ P B p b =
     (⊑_meet κ (P ++ []) (((P ++ []) ++ (P ++ [])) ++ []) p' (⊑_meet κ ((P ++ []) ++ (P ++ [])) [] pp s))
     (⊑_meet κ ((B ++ []) ++ []) [] (⊑_meet κ (B ++ []) [] b' s) s))
 
--- ---- histories
-
-entries-append : (g h : List (ℕ × Entry)) → entries (g ++ h) ≡ entries g ++ entries h
-entries-append [] h = refl
-entries-append (x ∷ g) h = ap (λ (l : List Entry). x.1 ∷ l) (entries-append g h)
-
-under-append : (name : ℕ) (g h : List (ℕ × Entry)) → entries_under name (g ++ h) ≡ entries_under name g ++ entries_under name h
-under-append name [] h = refl
-under-append name (x ∷ g) h = go (under-append name g h) (x.0 == name) refl
-  where
-    go : entries_under name (g ++ h) ≡ entries_under name g ++ entries_under name h → (b : Bool) → (x.0 == name) ≡ b
-        → entries_under name (x ∷ (g ++ h)) ≡ entries_under name (x ∷ g) ++ entries_under name h
-    go rest true e = rw e (ap (λ (l : List Entry). x.1 ∷ l) rest)
-    go rest false e = rw e rest
-
 -- ---- a turn
 
-no_true : false ≡ true → ⊥
-no_true e = cc e
+-- the entries of one turn more
+pub stood : {P : Type 0} (tells : Type 0) (calls : P → List Call) (disk say : P → ℕ) (b : Beginning) (turns : List (List Entry)) (more : List Entry) (e : Engine P)
+    → Stands tells calls disk say b (all_of turns ++ more) e → Stands tells calls disk say b (all_of (turns ++ more ∷ [])) e
+stood tells calls disk say b turns more e s = subst (λ (l : List Entry). Stands tells calls disk say b l e) (sym (all_of_one turns more)) s
 
-module _ {P : Type 0} (tells : Type 0) (calls : P → List Call) (disk say : P → ℕ) (b : Beginning) (event : Event) (Holds : Outcome → State → Type 0)
-    (p q : Known Entry) (h : List (ℕ × Entry)) (new : Engine P) (later : StartsWith h p.seen) (knows : KnowsOwn p) (same : p.own ≡ entries_under p.name h) where
+module _ {P : Type 0} (tells : Type 0) (calls : P → List Call) (disk say : P → ℕ) (b : Beginning)
+    (p q : Known (List Entry)) (h : List (ℕ × List Entry)) (new : Engine P) (later : StartsWith h p.seen) (knows : KnowsOwn p) (same : p.own ≡ entries_under p.name h) where
   none_between : entries_under p.name later.0 ≡ []
   none_between = append_cancel_left (entries_under p.name p.seen) (entries_under p.name later.0) []
       (sym (under-append p.name p.seen later.0) ∙ ap (entries_under p.name) (sym later.1) ∙ sym same ∙ knows ∙ sym (append-nil (entries_under p.name p.seen)))
 
-  added : (entry : Entry) (Says : State → Type 0) → q ≡ after_adding (after_seeing p h) entry → Stands tells calls disk say b (entries h ++ entry ∷ []) new
-      → Says (state_at b.origin (entries h)) → Adds (seen_by b p) entry Says (seen_by b q)
-  added entry Says is stands says =
+  went : flat h ≡ flat p.seen ++ flat later.0
+  went = ap flat later.1 ∙ flat-append p.seen later.0
+
+  -- what is said of the history before the turn
+  said_flat : (Says : State → Type 0) → Says (state_at b.origin (all_of (entries h))) → Says (state_at b.origin (entries (flat p.seen ++ flat later.0)))
+  said_flat Says says =
+      let Q : List Entry → Type 0 = λ es. Says (state_at b.origin es) in
+      subst Q (sym (entries_flat h) ∙ ap (λ (l : List (ℕ × Entry)). entries l) went) says
+
+  pub added : (more : List Entry) (Says : State → Type 0) → q ≡ after_adding (after_seeing p h) more → Stands tells calls disk say b (all_of (entries h) ++ more) new
+      → Says (state_at b.origin (all_of (entries h))) → AddsAll (seen_by b p) more Says (seen_by b q)
+  added more Says is stands says =
+      let R : ℕ → List (ℕ × Entry) → Seen = λ n l. record (seen_by b p) { turns = n; history = l } in
+      let grown : flat (h ++ (p.name, more) ∷ []) ≡ (flat p.seen ++ flat later.0) ++ under p.name more =
+      flat_one h p.name more ∙ ap (λ (l : List (ℕ × Entry)). l ++ under p.name more) went in
+      let C : List Entry → Type 0 = λ es. IsCaused b.origin.directory (history_of b.origin es) stands.compactions in
+      let all : entries (flat q.seen) ≡ all_of (entries h) ++ more =
+      ap (λ (k : Known (List Entry)). entries (flat k.seen)) is ∙ entries_flat (h ++ (p.name, more) ∷ []) ∙ ap all_of (entries-append h ((p.name, more) ∷ [])) ∙ all_of_one (entries h) more in
       record {
-        others = later.0;
-        is = ap (seen_by b) is ∙ ap (λ (l : List (ℕ × Entry)). record (seen_by b p) { history = l ++ (p.name, entry) ∷ [] }) later.1;
-        strange = none_between;
-        alone = λ e. absurd (no_true e);
-        holds = let Q : List (ℕ × Entry) → Type 0 = λ l. Says (state_at b.origin (entries l)) in subst Q later.1 says;
-        caused = let C : List Entry → Type 0 = λ es. IsCaused b.origin.directory (history_of b.origin es) stands.compactions in record {
+        others = flat later.0;
+        is = ap (seen_by b) is ∙ ap (λ (n : ℕ). R n (flat (h ++ (p.name, more) ∷ []))) (length-append p.own (more ∷ [])) ∙ ap (λ (l : List (ℕ × Entry)). R (length p.own + 1) l) grown;
+        strange = under_flat p.name later.0 ∙ ap all_of none_between;
+        holds = said_flat Says says;
+        caused = record {
           compactions = stands.compactions;
           none = stands.none;
-          caused = subst C (sym (ap (λ (k : Known Entry). entries k.seen) is ∙ entries-append h ((p.name, entry) ∷ []))) stands.keeps.caused;
+          caused = subst C (sym all) stands.keeps.caused;
         };
       }
 
-  pub answers : (result : Result Outcome SwitchFault) → housed.Adds tells calls disk say b (entries h) event Holds result new
-      → q ≡ after_adding (after_seeing p h) (entry_by event result) → Answers (seen_by b p) event Holds result (seen_by b q)
-  answers (Ok o) adds is = added (Done event) _ is adds.stands (adds.answers o refl)
-  answers (Err DiskFault) adds is = added (Doubt event) _ is adds.stands tt
-  answers (Err SayFault) adds is = added (Unsaid event) _ is adds.stands tt
-  answers (Err (Full used need limit)) adds is = added (Idle event (Full used need limit)) _ is adds.stands tt
-  answers (Err (Stopped by)) adds is = added (Idle event (Stopped by)) _ is adds.stands tt
-  answers (Err Spent) adds is = absurd (adds.spent refl)
-  answers (Err NoMemory) adds is = inl (added (Idle event NoMemory) _ is adds.stands tt)
+  pub answers : (event : Event) (Holds : Outcome → State → Type 0) (result : Result Outcome SwitchFault) → housed.Adds tells calls disk say b (all_of (entries h)) event Holds result new
+      → q ≡ after_adding (after_seeing p h) (entry_by event result ∷ []) → Answers (seen_by b p) event Holds result (seen_by b q)
+  answers event Holds (Ok o) adds is = added (Done event ∷ []) (λ s. (o ≡ outcome b.origin.directory s event) × Holds o s) is adds.stands (adds.answers o refl)
+  answers event Holds (Err DiskFault) adds is = added (Doubt (event ∷ []) ∷ []) (λ s. Unit {0}) is adds.stands tt
+  answers event Holds (Err SayFault) adds is = added (Unsaid event ∷ []) (λ s. Unit {0}) is adds.stands tt
+  answers event Holds (Err (Full used need limit)) adds is = added (Idle event (Full used need limit) ∷ []) (λ s. Unit {0}) is adds.stands tt
+  answers event Holds (Err (Stopped by)) adds is = added (Idle event (Stopped by) ∷ []) (λ s. Unit {0}) is adds.stands tt
+  answers event Holds (Err Spent) adds is = absurd (adds.spent refl)
+  answers event Holds (Err NoMemory) adds is = added (Idle event NoMemory ∷ []) (λ s. Unit {0}) is adds.stands tt
+
+  -- a feed, whose end is not that no turn was left
+  pub feeds : (c : ℕ) (events : List Event) (message : List ℕ) (end : FeedEnd) (more : List Entry) → AddsFed c events message end more
+      → q ≡ after_adding (after_seeing p h) more → Stands tells calls disk say b (all_of (entries h) ++ more) new → Feeds c events message end (seen_by b p) (seen_by b q)
+  feeds c events message end more fed is stands = go end fed
+    where
+      any : AddsAny (seen_by b p) more (seen_by b q)
+      any = inl (added more (λ s. Unit {0}) is stands tt)
+
+      fault : (f : SwitchFault) → AddsFed c events message (Fault f) more → Feeds c events message (Fault f) (seen_by b p) (seen_by b q)
+      fault DiskFault a = (more, a, any)
+      fault SayFault a = (more, a, any)
+      fault (Full used need limit) a = (more, a, any)
+      fault (Stopped by) a = (more, a, any)
+      fault Spent a = absurd a
+      fault NoMemory a = (more, a, any)
+
+      go : (e : FeedEnd) → AddsFed c events message e more → Feeds c events message e (seen_by b p) (seen_by b q)
+      go All a = (more, a, any)
+      go (Lost field) a = (more, a, any)
+      go (Wanting kind f) a = (more, a, any)
+      go (Fault f) a = fault f a
 
 -- the desk of the pass answers what the turn answered, a take's too
 turned : {P : Type 0} (tells : Type 0) (calls : P → List Call) (disk say : P → ℕ) (b : Beginning) (event : Event)
-    (Holds : Outcome → State → Type 0) (result : Result Outcome SwitchFault) (p q : Known Entry)
+    (Holds : Outcome → State → Type 0) (result : Result Outcome SwitchFault) (p q : Known (List Entry))
     → IsTurn tells calls disk say b event Holds result p q → Answers (seen_by b p) event Holds result (seen_by b q)
 turned tells calls disk say b event Holds result p q t =
-    answers tells calls disk say b event Holds p q t.history t.engine t.later t.knows t.own result t.adds t.is
+    answers tells calls disk say b p q t.history t.engine t.later t.knows t.own event Holds result t.adds t.is
 
 pub taken : {P : Type 0} (tells : Type 0) (calls : P → List Call) (disk say : P → ℕ) (b : Beginning) (c : ℕ) (out : List ℕ)
-    (result : Result Outcome SwitchFault) (p q : Known Entry)
+    (result : Result Outcome SwitchFault) (p q : Known (List Entry))
     → IsTurn tells calls disk say b (Taken c) (LeavesFrame b.origin.directory c out) result p q → DeskTakes b c out result p q
 taken tells calls disk say b c out result p q t =
     turned tells calls disk say b (Taken c) (LeavesFrame b.origin.directory c out) result p q t

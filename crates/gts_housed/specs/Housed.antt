@@ -1,22 +1,23 @@
 -- The engine as a hall's value: what it stands for, and what a call on it adds.
-use Rattle.std.specs.Prelude.{◌≡◌, refl, ◌≢◌, ℕ, ◌≤◌, Bool, true, false, List, [], ◌∷◌, ◌++◌, Result, Ok, Err, IsSome}
+use Rattle.std.specs.Prelude.{◌≡◌, refl, ◌≢◌, ℕ, ◌≤◌, Bool, true, false, List, [], ◌∷◌, ◌++◌, Result, Ok, Err, Some, IsSome}
 use Rattle.gts_traits.specs.Calls.{Call}
 use Rattle.gts_traits.specs.Counts.{Rose}
 use Rattle.gts_directory.specs.Directory.{Directory, directory_of}
 use Rattle.gts_event.specs.State.{State}
 use Rattle.gts_event.specs.History.{outcome}
-use Rattle.gts_event.specs.Need.{nothing}
+use Rattle.gts_event.specs.Need.{nothing, begun}
 use Rattle.gts_event.specs.declared.event.Event.{Event}
 use Rattle.gts_event.specs.declared.event.Entry.{Entry}
 use Rattle.gts_event.specs.declared.event.Entry.TheVariants.{Done, Unsaid, Idle, Doubt}
 use Rattle.gts_event.specs.declared.outcome.Outcome.{Outcome}
 use Rattle.gts_event.specs.declared.fault.SwitchFault.{SwitchFault}
 use Rattle.gts_event.specs.declared.fault.SwitchFault.TheVariants.{DiskFault, SayFault, Full, Spent}
-use Rattle.gts_opening.specs.Room.{HasDoubt, HasUnsaid}
+use Rattle.gts_opening.specs.Room.{HasDoubt, HasUnsaid, full}
+use Rattle.gts_calls.specs.Calls.{Standing}
 use Rattle.gts_engine.specs.declared.mode.SayMode.TheVariants.{Caller}
 use Rattle.gts_engine.specs.Engine.{Engine, shown}
-use Rattle.gts_engine.specs.Origin.{Origin, state_at}
-use Rattle.gts_engine.specs.Keeping.{Keeps}
+use Rattle.gts_engine.specs.Origin.{Origin, state_at, used_at}
+use Rattle.gts_engine.specs.Keeping.{Gathers, IsLeft, IsFullCompacted}
 use Rattle.gts_engine.specs.Rooming.{full_with_spare}
 
 -- What a hall's history begins with: the engine's origin, with no compaction since, the counts of its station's faults by then,
@@ -56,7 +57,7 @@ AreCramped b entries =
 abbrev pub entry_by : Event → Result Outcome SwitchFault → Entry
 entry_by event (Ok _) = Done event
 entry_by event (Err SayFault) = Unsaid event
-entry_by event (Err DiskFault) = Doubt event
+entry_by event (Err DiskFault) = Doubt (event ∷ [])
 entry_by event (Err fault) = Idle event fault
 
 -- an answer behind these entries is the event's outcome, and what is said of it holds
@@ -67,18 +68,23 @@ Answers b entries event Holds result =
     × Holds o (state_at b.origin entries)
 
 module _ {P : Type 0} (tells : Type 0) (calls : P → List Call) (disk say : P → ℕ) (b : Beginning) where
-  -- An engine stands for these entries since the beginning: it keeps what an engine keeps whose caller says the frames, with the
-  -- compactions that were done meanwhile, of which there are none where no room is made. Where it is, Full was answered only where
-  -- a compacted journal would have been full, too. A device failed at an entry only where the count of its faults rose.
-  pub record Stands (entries : List Entry) (e : Engine P) : Type 0 where
+  -- An engine stands for these entries since the beginning, and for these events behind them, which are gathered: it stands for what an
+  -- engine does whose caller says the frames, with the compactions that were done meanwhile, of which there are none where no room is
+  -- made. Where it is, Full was answered only where a compacted journal would have been full, too. A device failed at an entry only
+  -- where the count of its faults rose.
+  pub record StandsWith (entries : List Entry) (events : List Event) (e : Engine P) : Type 0 where
     pub compactions : List ℕ
-    pub keeps : Keeps tells Caller (origin_with b compactions) entries (shown calls e)
+    pub keeps : Gathers tells Caller (origin_with b compactions) entries events (shown calls e)
     pub none : b.makes_room ≡ false → compactions ≡ []
     pub cramped : b.makes_room ≡ true → AreCramped b entries
     pub disk_later : b.disk ≤ disk e.station
     pub disk_failed : HasDoubt entries → Rose b.disk (disk e.station)
     pub say_later : b.say ≤ say e.station
     pub say_failed : HasUnsaid entries → Rose b.say (say e.station)
+
+  -- it stands for these entries, and nothing is gathered
+  abbrev pub Stands : List Entry → Engine P → Type 0
+  Stands entries e = StandsWith entries [] e
 
   -- a call adds its entry to those for which the engine stood
   pub record Adds (entries : List Entry) (event : Event) (Holds : Outcome → State → Type 0)
@@ -94,3 +100,21 @@ module _ {P : Type 0} (tells : Type 0) (calls : P → List Call) (disk say : P �
   -- an answer that never comes, whatever the entries are for which the engine stood
   abbrev pub Never : SwitchFault → Result Outcome SwitchFault → Engine P → Type 0
   Never fault result old = (entries : List Entry) → Stands entries old → result ≢ Err fault
+
+-- the journal was full for an event behind these entries, with this fault, by the compactions that were done meanwhile
+abbrev pub IsFullSince : Beginning → List Entry → Event → SwitchFault → Type 0
+IsFullSince b entries event fault =
+    (compactions : List ℕ)
+    × (full b.origin.directory (state_at b.origin entries) (used_at (origin_with b compactions) entries) event ≡ Some fault)
+
+-- What something stands for that has an engine, and room made for it or not: what the engine does, whatever compactions are done.
+abbrev pub housed_meanings : {P W : Type 0} → (W → Engine P) → (W → Bool) → Type 0 → (P → List Call) → (disk say : P → ℕ) → Standing Beginning W
+housed_meanings engine makes tells calls disk say = record {
+  directory = λ w. (engine w).directory;
+  begin = λ b. begun b.origin.start;
+  gathers = λ b entries events w. StandsWith tells calls disk say b entries events (engine w) × (makes w ≡ b.makes_room);
+  is_full = IsFullSince;
+  compacts = λ b entries. b;
+  left = λ b entries w. (compactions : List ℕ) × IsLeft tells Caller (origin_with b compactions) entries (shown calls (engine w));
+  is_full_compacted = λ b entries fault. IsFullCompacted b.origin.directory (state_at b.origin entries) fault;
+}

@@ -1,24 +1,31 @@
 -- What a pass has seen, as a desk.
-use Rattle.std.specs.Prelude.{◌≡◌, ℕ, false, List, Result}
+use Rattle.std.specs.Prelude.{◌≡◌, ℕ, ◌∷◌, [], ◌++◌, List, length, Result}
 use Rattle.gts_traits.specs.declared.station.Station.{Ghosts as StationMeanings}
 use Rattle.gts_traits.specs.Calls.{Call}
 use Rattle.gts_lock.specs.{entries, entries_under, Known, StartsWith, after_seeing, after_adding}
+use Rattle.gts_frame.specs.Decoder.{Decoding}
+use Rattle.gts_frame.specs.declared.step.Step.{Step}
 use Rattle.gts_event.specs.State.{State}
 use Rattle.gts_event.specs.declared.event.Event.{Event}
 use Rattle.gts_event.specs.declared.event.Event.TheVariants.{Taken}
 use Rattle.gts_event.specs.declared.event.Entry.{Entry}
 use Rattle.gts_event.specs.declared.outcome.Outcome.{Outcome}
 use Rattle.gts_event.specs.declared.fault.SwitchFault.{SwitchFault}
+use Rattle.gts_connection.specs.Connection.{events_added}
+use Rattle.gts_feed.specs.Fed.{AddsFed}
+use Rattle.gts_feed.specs.Reading.{Reads}
+use Rattle.gts_feed.specs.declared.fed.FeedEnd.{FeedEnd}
 use Rattle.gts_engine.specs.Engine.{Engine}
 use Rattle.gts_desk.specs.{Seen, Answers, LeavesFrame}
-use Rattle.gts_housed.specs.Housed.{Beginning, Adds, entry_by}
+use Rattle.gts_housed.specs.Flat.{all_of, flat}
+use Rattle.gts_housed.specs.Housed.{Beginning, Stands, Adds, entry_by}
 
--- the entries of the pass's own turns are those under its name
-abbrev pub KnowsOwn : Known Entry → Type 0
+-- the lists of the pass's own turns are those under its name
+abbrev pub KnowsOwn : Known (List Entry) → Type 0
 KnowsOwn p = p.own ≡ entries_under p.name p.seen
 
 -- what a pass has seen of the history since this beginning
-abbrev pub seen_by : Beginning → Known Entry → Seen
+abbrev pub seen_by : Beginning → Known (List Entry) → Seen
 seen_by b p = record {
   hall = p.hall;
   directory = b.origin.directory;
@@ -26,28 +33,47 @@ seen_by b p = record {
   used = b.origin.used;
   makes_room = b.makes_room;
   name = p.name;
-  alone = false;
+  turns = length p.own;
   full = p.full;
-  history = p.seen;
+  history = flat p.seen;
 }
 
 -- In a turn behind a history that begins with what the pass p had seen, an event was answered so, which added its entry, and p
 -- became q.
 pub record IsTurn {P : Type 0} (tells : Type 0) (calls : P → List Call) (disk say : P → ℕ) (b : Beginning) (event : Event)
-    (Holds : Outcome → State → Type 0) (result : Result Outcome SwitchFault) (p q : Known Entry) : Type 0 where
-  pub history : List (ℕ × Entry)
+    (Holds : Outcome → State → Type 0) (result : Result Outcome SwitchFault) (p q : Known (List Entry)) : Type 0 where
+  pub history : List (ℕ × List Entry)
   pub engine : Engine P
   pub later : StartsWith history p.seen
   pub knows : KnowsOwn p
   pub own : p.own ≡ entries_under p.name history
-  pub adds : Adds tells calls disk say b (entries history) event Holds result engine
-  pub is : q ≡ after_adding (after_seeing p history) (entry_by event result)
+  pub adds : Adds tells calls disk say b (all_of (entries history)) event Holds result engine
+  pub is : q ≡ after_adding (after_seeing p history) (entry_by event result ∷ [])
 
 -- that of a take on c, which leaves its frame in out, in the words of a station
-abbrev pub TakesTurn : {P : Type 0} → StationMeanings P → Beginning → ℕ → List ℕ → Result Outcome SwitchFault → (p q : Known Entry) → Type 0
+abbrev pub TakesTurn : {P : Type 0} → StationMeanings P → Beginning → ℕ → List ℕ → Result Outcome SwitchFault → (p q : Known (List Entry)) → Type 0
 TakesTurn station b c out result p q =
     IsTurn station.tells station.calls station.disk_faults station.say_faults b (Taken c) (LeavesFrame b.origin.directory c out) result p q
 
 -- what the desk of the pass answers for it
-abbrev pub DeskTakes : Beginning → ℕ → List ℕ → Result Outcome SwitchFault → (p q : Known Entry) → Type 0
+abbrev pub DeskTakes : Beginning → ℕ → List ℕ → Result Outcome SwitchFault → (p q : Known (List Entry)) → Type 0
 DeskTakes b c out result p q = Answers (seen_by b p) (Taken c) (LeavesFrame b.origin.directory c out) result (seen_by b q)
+
+-- What was fed in a turn: on which circuit; the bytes that came before the turn to this step of this decoder; all that were taken; the
+-- message that the decoder holds then; and how it ended.
+pub record Feeding : Type 0 where
+  pub c : ℕ
+  pub begun : List ℕ
+  pub step : Step
+  pub start : Decoding
+  pub taken : List ℕ
+  pub message : List ℕ
+  pub end : FeedEnd
+
+-- These entries were added for it, behind a history, and the engine stands for them: those of the events that the bytes ended.
+pub record AddsFor {P : Type 0} (tells : Type 0) (calls : P → List Call) (disk say : P → ℕ) (b : Beginning) (f : Feeding)
+    (history : List (ℕ × List Entry)) (engine : Engine P) (more : List Entry) : Type 0 where
+  pub events : List Event
+  pub are : (before : List ℕ) → Reads before f.begun f.step f.start → events_added f.c before f.taken ≡ events
+  pub added : AddsFed f.c events f.message f.end more
+  pub stands : Stands tells calls disk say b (all_of (entries history) ++ more) engine

@@ -6,9 +6,10 @@ use crate::housed::Housed;
 use crate::room::RoomBell;
 use crate::turns;
 use gts_bell::{Bell, Look};
-use gts_desk::Desk;
+use gts_desk::{Desk, Given};
 use gts_event::{Outcome, SwitchFault};
-use gts_frame::{FrameBuf, Kind, LostField};
+use gts_feed::{Fed, FeedEnd, is_event, next_step};
+use gts_frame::{Decoder, Kind};
 use gts_lock::{Hall, Pass};
 use gts_traits::Station;
 use std::alloc::Global;
@@ -30,10 +31,11 @@ pub struct HallDesk<'a, R: Wait, P: Station, B: Began> {
 }
 
 impl<'a, R: Wait, P: Station, B: Began> Model for HallDesk<'a, R, P, B> {
+    ghost use Rattle.std.specs.Prelude.{List};
     ghost use Rattle.gts_event.specs.declared.event.Entry.{Entry};
     ghost use Rattle.gts_lock.specs.{Known};
 
-    ghost Value = { Known Entry };
+    ghost Value = { Known (List Entry) };
 
     ghost use Rattle.gts_housed.specs.Passing.{pass_of, IsPassAt};
 
@@ -113,6 +115,29 @@ impl<'a, R: Wait, P: Station, B: Began> Desk for HallDesk<'a, R, P, B> {
 
     ghost seen = { λ d. seen_by B.beginning d };
 
+    fn feed(&mut self, c: u32, decoder: &mut Decoder, piece: &[u8]) -> Fed {
+        if piece.is_empty() {
+            let end = FeedEnd::All;
+            return Fed { taken: 0, end };
+        }
+        let (taken, step) = next_step(decoder, piece);
+        if !is_event(step) {
+            let end = FeedEnd::All;
+            return Fed { taken, end };
+        }
+        let Some(pass) = self.pass.take() else {
+            unreachable!()
+        };
+        let (rt, alloc, hall) = (self.rt, self.alloc, self.hall);
+        let (pass, fed) = turns::feed(rt, alloc, hall, pass, c, decoder, piece, taken, step);
+        self.pass = Some(pass);
+        self.bell.ring();
+        if let FeedEnd::Fault(_) = fed.end {
+            self.room.wake();
+        }
+        fed
+    }
+
     fn hear(&mut self, c: u32, kind: Kind, message: &[u8]) -> Result<Outcome, SwitchFault> {
         let Some(pass) = self.pass.take() else {
             unreachable!()
@@ -133,24 +158,21 @@ impl<'a, R: Wait, P: Station, B: Began> Desk for HallDesk<'a, R, P, B> {
         self.looked = Some(self.room.look());
     }
 
-    fn lost(&mut self, c: u32, field: LostField) -> Result<Outcome, SwitchFault> {
+    fn take_some(&mut self, c: u32, given: &mut Given) -> Result<bool, SwitchFault> {
+        given.frames.clear();
         let Some(pass) = self.pass.take() else {
             unreachable!()
         };
-        let (pass, answer) = turns::lost(self.rt, self.hall, pass, c, field);
-        self.pass = Some(pass);
-        self.bell.ring();
-        self.wakes(answer);
-        answer
-    }
-
-    fn take(&mut self, c: u32, out: &mut FrameBuf) -> Result<Outcome, SwitchFault> {
-        let Some(pass) = self.pass.take() else {
-            unreachable!()
-        };
-        let (pass, answer) = turns::take(self.rt, self.hall, pass, c, out);
+        let (pass, answer) = turns::take(self.rt, self.hall, pass, c, &mut given.one);
         self.pass = Some(pass);
         self.wakes(answer);
-        answer
+        match answer? {
+            Outcome::Resend { index } | Outcome::Draw { index } => {
+                given.one.holds_a_frame_at_most();
+                given.frames.add(index, given.one.bytes());
+                Ok(true)
+            }
+            _ => Ok(false),
+        }
     }
 }

@@ -1,15 +1,17 @@
 ghost use Rattle.std.specs.Prelude.{◌≡◌, ◌≢◌, ◌<◌, length, Err};
-ghost use Rattle.gts_event.specs.declared.event.Event.TheVariants.{Heard, Lost, Taken};
+ghost use Rattle.gts_event.specs.declared.event.Event.TheVariants.{Heard, Taken};
 ghost use Rattle.gts_desk.specs.{SaysNoMore, LeavesFrame};
 ghost use Rattle.gts_housed.specs.Housed.{Turns, Never};
 
 use crate::began::Began;
 use gts_engine::{Engine, SayMode};
 use gts_event::{Entry, Outcome, SwitchFault};
+use gts_feed::Listens;
 use gts_frame::{FrameBuf, Kind, LostField};
 use gts_lock::Told;
 use gts_traits::Station;
 use std::alloc::Global;
+use std::collections::LinkedList;
 use std::marker::PhantomData;
 
 /// The engine as the value in a hall: it stands for the entries since the beginning that the run has picked.
@@ -22,14 +24,50 @@ pub struct Housed<P: Station, B> {
 }
 
 impl<P: Station, B: Began> Told for Housed<P, B> {
-    type Entry = Entry;
+    // One turn may add several entries.
+    type Entry = LinkedList<Entry>;
 
     ghost use Rattle.std.specs.Prelude.{◌≡◌};
+    ghost use Rattle.gts_housed.specs.Flat.{all_of};
     ghost use Rattle.gts_housed.specs.Housed.{Stands};
 
-    ghost stands = { λ housed entries.
-        Stands P.tells P.calls P.disk_faults P.say_faults B.beginning entries housed.engine
+    ghost stands = { λ housed turns.
+        Stands P.tells P.calls P.disk_faults P.say_faults B.beginning (all_of turns) housed.engine
         × (housed.makes_room ≡ B.beginning.makes_room) };
+}
+
+impl<P: Station, B: Began> Listens for Housed<P, B> {
+    ghost use Rattle.gts_housed.specs.Housed.{Beginning, housed_meanings};
+
+    ghost Origin = { Beginning };
+
+    ghost meanings = { housed_meanings (λ housed. housed.engine) (λ housed. housed.makes_room)
+        P.tells P.calls P.disk_faults P.say_faults };
+
+    ghost disk_faults = { λ housed. P.disk_faults housed.engine.station };
+
+    ghost say_faults = { λ housed. P.say_faults housed.engine.station };
+
+    fn listen(
+        &mut self,
+        alloc: Global,
+        c: u32,
+        kind: Kind,
+        message: &[u8],
+    ) -> Result<Outcome, SwitchFault> {
+        if self.makes_room {
+            return self.engine.gather_hear_with_room(alloc, c, kind, message);
+        }
+        self.engine.gather_hear(alloc, c, kind, message)
+    }
+
+    fn note_loss(&mut self, c: u32, field: LostField) -> Result<Outcome, SwitchFault> {
+        self.engine.gather_lost(c, field)
+    }
+
+    fn settle_all(&mut self) -> Result<(), SwitchFault> {
+        self.engine.settle()
+    }
 }
 
 impl<P: Station, B: Began> Housed<P, B> {
@@ -53,18 +91,6 @@ impl<P: Station, B: Began> Housed<P, B> {
         self.engine.hear(alloc, c, kind, message)
     }
 
-    /// Synchronisation was lost on circuit `c`, in this field of a frame.
-    pub(crate) fn lost(&mut self, c: u32, field: LostField) -> Result<Outcome, SwitchFault>
-        requires { c < length self.old.engine.directory.circuits }
-        ensures adds { Turns P.tells P.calls P.disk_faults P.say_faults B.beginning
-            (Lost c field) SaysNoMore result self.old.engine self.new.engine }
-        ensures mode { self.new.makes_room ≡ self.old.makes_room }
-        ensures no_memory { Never P.tells P.calls P.disk_faults P.say_faults B.beginning
-            SwitchFault.NoMemory result self.old.engine }
-    {
-        self.engine.lost(c, field)
-    }
-
     /// One take on circuit `c`: what it gives is left in `out`, and the station says nothing of it.
     pub fn take(&mut self, c: u32, out: &mut FrameBuf) -> Result<Outcome, SwitchFault>
         requires { c < length self.old.engine.directory.circuits }
@@ -73,7 +99,8 @@ impl<P: Station, B: Began> Housed<P, B> {
             result self.old.engine self.new.engine }
         ensures directory { self.new.engine.directory ≡ self.old.engine.directory }
         ensures mode { self.new.makes_room ≡ self.old.makes_room }
-        ensures silent { result ≢ Err SwitchFault.SayFault }
+        ensures silent { Never P.tells P.calls P.disk_faults P.say_faults B.beginning
+            SwitchFault.SayFault result self.old.engine }
         ensures no_memory { Never P.tells P.calls P.disk_faults P.say_faults B.beginning
             SwitchFault.NoMemory result self.old.engine }
     {

@@ -11,6 +11,6 @@ use gts_traits::Station;
 /// The desk of a pass answers for a take what its turn did: others may have come in between, and the entry is its own.
 pub fn a_desk_answers_what_its_turn_took<P: Station>()
     ensures { (b : Beginning) (c : ℕ) (out : List ℕ) (result : Result Outcome SwitchFault)
-        (p q : Known Entry)
+        (p q : Known (List Entry))
         → TakesTurn P.Station b c out result p q → DeskTakes b c out result p q }
 {}

@@ -1,19 +1,25 @@
-//! One turn of a pass for each call on the engine.
-ghost use Rattle.std.specs.Prelude.{◌≡◌, ◌≢◌, ◌<◌, ◌++◌, ◌∷◌, [], length, Some, Err};
+//! One turn of a pass for each call of its desk.
+ghost use Rattle.std.specs.Prelude.{◌≡◌, ◌≢◌, ◌<◌, ◌≤◌, ◌++◌, ◌∷◌, [], true, ℕ, List, length, take, Some, Err};
 ghost use Rattle.gts_lock.specs.{entries, after_adding};
 ghost use Rattle.gts_event.specs.declared.event.Entry.{Entry as EntryType};
-ghost use Rattle.gts_event.specs.declared.event.Event.TheVariants.{Heard, Lost, Taken};
-ghost use Rattle.gts_desk.specs.{Answers, SaysNoMore, LeavesFrame};
+ghost use Rattle.gts_event.specs.declared.event.Event.TheVariants.{Heard, Taken};
+ghost use Rattle.gts_frame.specs.{Decoding, HasMessage};
+ghost use Rattle.gts_connection.specs.Cited.{events_added};
+ghost use Rattle.gts_feed.specs.{Reads, is_event, Takes, IsShortAt};
+ghost use Rattle.gts_desk.specs.{Answers, Feeds, SaysNoMore, LeavesFrame};
 ghost use Rattle.gts_housed.specs.Housed.{Stands, entry_by};
-ghost use Rattle.gts_housed.specs.Turning.{KnowsOwn, seen_by};
+ghost use Rattle.gts_housed.specs.Flat.{all_of};
+ghost use Rattle.gts_housed.specs.Turning.{KnowsOwn, seen_by, Feeding, AddsFor};
 
 use crate::began::Began;
 use crate::housed::Housed;
 use gts_event::{Outcome, SwitchFault};
-use gts_frame::{FrameBuf, Kind, LostField};
+use gts_feed::{Fed, FeedEnd, feed_behind, settle_behind};
+use gts_frame::{Decoder, FrameBuf, Kind, Step};
 use gts_lock::{Hall, Pass, Turn};
 use gts_traits::Station;
 use std::alloc::Global;
+use std::marker::Brand;
 use std::sync::Wait;
 
 // Ends a turn for a message that was heard. Its engine stands for one entry more.
@@ -27,31 +33,12 @@ fn leave_heard<P: Station, B: Began>(
     ghost added: { EntryType }
     requires entry { added ≡ entry_by (Heard c kind message.now) answer }
     requires value { Stands P.tells P.calls P.disk_faults P.say_faults B.beginning
-        (entries turn.pass.seen ++ added ∷ []) turn.value.engine }
+        (all_of (entries turn.pass.seen) ++ added ∷ []) turn.value.engine }
     requires mode { turn.value.makes_room ≡ B.beginning.makes_room }
-    ensures pass { result ≡ after_adding turn.entry.pass added }
+    ensures pass { result ≡ after_adding turn.entry.pass (added ∷ []) }
     ensures own { KnowsOwn result }
 {
     let _ = (c, kind, message.len(), answer);
-    turn.leave()
-}
-
-// Ends a turn for a loss of synchronisation. Its engine stands for one entry more.
-fn leave_lost<P: Station, B: Began>(
-    turn: Turn<'_, Housed<P, B>>,
-    c: u32,
-    field: LostField,
-    answer: Result<Outcome, SwitchFault>,
-) -> Pass<Housed<P, B>>
-    ghost added: { EntryType }
-    requires entry { added ≡ entry_by (Lost c field) answer }
-    requires value { Stands P.tells P.calls P.disk_faults P.say_faults B.beginning
-        (entries turn.pass.seen ++ added ∷ []) turn.value.engine }
-    requires mode { turn.value.makes_room ≡ B.beginning.makes_room }
-    ensures pass { result ≡ after_adding turn.entry.pass added }
-    ensures own { KnowsOwn result }
-{
-    let _ = (c, field, answer);
     turn.leave()
 }
 
@@ -64,13 +51,79 @@ fn leave_taken<P: Station, B: Began>(
     ghost added: { EntryType }
     requires entry { added ≡ entry_by (Taken c) answer }
     requires value { Stands P.tells P.calls P.disk_faults P.say_faults B.beginning
-        (entries turn.pass.seen ++ added ∷ []) turn.value.engine }
+        (all_of (entries turn.pass.seen) ++ added ∷ []) turn.value.engine }
     requires mode { turn.value.makes_room ≡ B.beginning.makes_room }
-    ensures pass { result ≡ after_adding turn.entry.pass added }
+    ensures pass { result ≡ after_adding turn.entry.pass (added ∷ []) }
     ensures own { KnowsOwn result }
 {
     let _ = (c, answer);
     turn.leave()
+}
+
+// Ends a turn in which a connection was fed. Its engine stands for some entries more.
+fn leave_fed<P: Station, B: Began>(
+    turn: Turn<'_, Housed<P, B>>,
+    c: u32,
+    decoder: &Decoder,
+    piece: &[u8],
+    begun: usize,
+    step: Step,
+    fed: Fed,
+) -> Pass<Housed<P, B>>
+    ghost about: { Feeding }
+    requires value { (more : List EntryType) × AddsFor P.tells P.calls P.disk_faults P.say_faults
+        B.beginning about turn.pass.seen turn.value.engine more }
+    requires mode { turn.value.makes_room ≡ B.beginning.makes_room }
+    ensures pass { (more : List EntryType) × AddsFor P.tells P.calls P.disk_faults P.say_faults
+        B.beginning about turn.entry.pass.seen turn.entry.value.engine more
+        × (result ≡ after_adding turn.entry.pass more) }
+    ensures own { KnowsOwn result }
+{
+    let _ = (c, decoder.rest(), piece.len(), begun, step, fed);
+    turn.leave_some::<Brand>()
+}
+
+/// One turn in which a connection on circuit `c` is fed: with the step to which these bytes of the piece came, and then with the rest of
+/// it. What that gathers is settled. `Spent` as in `hear`.
+pub(crate) fn feed<R: Wait, P: Station, B: Began>(
+    rt: &R,
+    alloc: Global,
+    hall: &Hall<Housed<P, B>>,
+    pass: Pass<Housed<P, B>>,
+    c: u32,
+    decoder: &mut Decoder,
+    piece: &[u8],
+    begun: usize,
+    step: Step,
+) -> (Pass<Housed<P, B>>, Fed)
+    ghost start: { Decoding }
+    requires hall { pass.hall ≡ Some hall.now }
+    requires own { KnowsOwn pass }
+    requires circuit { c < length B.beginning.origin.directory.circuits }
+    requires within { begun ≤ length piece.now }
+    requires message { HasMessage step decoder.old.message }
+    requires event { is_event step ≡ true }
+    requires start { start ≡ decoder.old }
+    ensures most { (begun ≤ result.1.taken) × (result.1.taken ≤ length piece.now) }
+    ensures takes { (before : List ℕ) → Reads before (take begun piece.now) step start
+        → Takes before piece.now result.1 decoder.new }
+    ensures added { (before : List ℕ) → Reads before (take begun piece.now) step start
+        → Feeds c (events_added c before (take result.1.taken piece.now)) decoder.new.message
+        result.1.end (seen_by B.beginning pass) (seen_by B.beginning result.0) }
+    ensures short { IsShortAt result.1.end decoder.new.message }
+    ensures hall { result.0.hall ≡ Some hall.now }
+    ensures own { KnowsOwn result.0 }
+{
+    let mut turn = match hall.enter(rt, pass) {
+        Ok(turn) => turn,
+        Err(pass) => {
+            let end = FeedEnd::Fault(SwitchFault::Spent);
+            return (pass, Fed { taken: begun, end });
+        }
+    };
+    let fed = feed_behind(alloc, turn.value(), c, decoder, piece, begun, step);
+    let fed = settle_behind(turn.value(), fed);
+    (leave_fed(turn, c, decoder, piece, begun, step, fed), fed)
 }
 
 /// One turn for a message that came whole on circuit `c`, in a frame of this type. `Spent` comes back exactly where no turn
@@ -98,31 +151,6 @@ pub(crate) fn hear<R: Wait, P: Station, B: Began>(
     };
     let answer = turn.value().hear(alloc, c, kind, message);
     (leave_heard(turn, c, kind, message, answer), answer)
-}
-
-/// One turn for a loss of synchronisation on circuit `c`, in this field of a frame. `Spent` as in `hear`. Takes no memory.
-pub(crate) fn lost<R: Wait, P: Station, B: Began>(
-    rt: &R,
-    hall: &Hall<Housed<P, B>>,
-    pass: Pass<Housed<P, B>>,
-    c: u32,
-    field: LostField,
-) -> (Pass<Housed<P, B>>, Result<Outcome, SwitchFault>)
-    requires hall { pass.hall ≡ Some hall.now }
-    requires own { KnowsOwn pass }
-    requires circuit { c < length B.beginning.origin.directory.circuits }
-    ensures answers { Answers (seen_by B.beginning pass) (Lost c field)
-        SaysNoMore result.1 (seen_by B.beginning result.0) }
-    ensures hall { result.0.hall ≡ Some hall.now }
-    ensures no_memory { result.1 ≢ Err SwitchFault.NoMemory }
-    ensures own { KnowsOwn result.0 }
-{
-    let mut turn = match hall.enter(rt, pass) {
-        Ok(turn) => turn,
-        Err(pass) => return (pass, Err(SwitchFault::Spent)),
-    };
-    let answer = turn.value().lost(c, field);
-    (leave_lost(turn, c, field, answer), answer)
 }
 
 /// One turn for a take on circuit `c`: the frame of a draw or a repetition is left in `out`. Nothing is said of it, so

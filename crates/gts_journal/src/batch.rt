@@ -46,21 +46,23 @@ impl Model for Batch {
 impl Batch {
     /// Whether no record was gathered.
     pub fn is_empty(&self) -> bool
-        ensures { result ≡ (length self.now.text == 1) }
+        ensures value { result ≡ (length self.now.text == 1) }
+        ensures closed { 0 < length self.now.text }
     {
         self.size == 1
     }
 
     /// How many bytes the records that were gathered take in the journal.
     pub fn used(&self) -> u64
-        ensures { result ≡ length self.now.text - 1 }
+        ensures value { result ≡ length self.now.text - 1 }
+        ensures closed { 0 < length self.now.text }
     {
         self.size as u64 - 1
     }
 
     /// How many bytes more may be gathered.
     pub fn room(&self) -> usize
-        ensures { result ≡ MOST_GATHERED - length self.now.text }
+        ensures { length self.now.text + result ≡ MOST_GATHERED }
     {
         MOST_GATHERED - self.size
     }

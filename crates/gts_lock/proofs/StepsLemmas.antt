@@ -17,7 +17,7 @@ use Rattle.gts_lock.specs.History.{entries, entries_under}
 use Rattle.gts_lock.specs.Passes.{IsAmong}
 use Rattle.gts_lock.specs.Views.{staged, marked, holding, ended}
 use Rattle.gts_lock.specs.Rule.{Live, tickets, NoneHolds, SomeHolds, Common, FitsStage, Fits, InTurn}
-use Rattle.gts_lock.specs.Steps.{Draws, Looks, Raises, Compares}
+use Rattle.gts_lock.specs.Steps.{Draws, Looks, Raises, RaisesSome, Compares}
 use Rattle.gts_lock.proofs.HistoryLemmas.{set_there, at_push, entries_push, under_same, under_other, starts_push, starts_same, starts_is, starts_between, ends_push}
 use Rattle.gts_lock.proofs.ViewsLemmas.{ticket_or, holds_not_idle, holds_not_waiting, one_seat, not_both, tickets_set, each_set, named_set, none_set, some_set}
 
@@ -330,6 +330,13 @@ module _ {T E : Type 0} (stands : T → List E → Type 0) where
             (raises_one s r id v t e x at holds (subst (λ (l : List E). stands x (entries v.seen ++ l)) o.1 told)),
         refl,
       )
+
+  -- of the entry something is told
+  pub raises_some : (tells : E → Type 0) (slots id : ℕ) (m : Sat) (t : ℕ) (e : E) (x : T) → m.0.stage ≡ Holding t → m.1 ≡ (0, Some x) ∷ [] → tells e → stands x (entries m.0.seen ++ e ∷ [])
+      → Allows Rule slots id m 0 (λ n. (n + 1) % 18446744073709551616) (RaisesSome tells (step slots 0 1 0 none) m)
+  raises_some tells slots id m t e x holds slot known told s r at_word at small =
+      let a = raises slots id m t (e ∷ []) x holds slot refl told s r at_word at small in
+      (a.0, a.1, a.2, a.3, (e, known, a.4))
 
   pub compares : (slots id : ℕ) (m : Me (Option T) (View E)) → m.0.stage ≡ Idle → Allows (InTurn stands) slots id m 0 (λ n. n) (Compares (step slots 0 0 0 none) m)
   compares slots id m idle s r _ at _ = let v : View E = m.0 in let f = r.each id v at (subst Live (sym idle) tt) in

@@ -1,6 +1,6 @@
 -- What each kind of step tells the pass that makes it: of the words, of its seat before, of the word found, and of its seat after.
 -- Word 0 is the ticket that is served, word 1 the next ticket to be drawn, and slot 0 has the value.
-use Rattle.std.specs.Prelude.{◌≡◌, ◌≢◌, ◌<◌, ◌≤◌, ℕ, List, ◌∷◌, length, Option, Some}
+use Rattle.std.specs.Prelude.{◌≡◌, ◌≢◌, ◌<◌, ◌≤◌, ℕ, List, [], ◌∷◌, length, Option, Some}
 use mathlib.Core.Option.{some}
 use lib.ListN.{get_elem?}
 use Rattle.atomic_table.specs.Table.{Me, Step, rest}
@@ -42,6 +42,10 @@ module _ {T E : Type 0} where
   -- the next ticket is served, and the turn added these entries
   abbrev pub Raises : List E → Step (Option T) → Me (Option T) (View E) → ℕ → Me (Option T) (View E) → Type 0
   Raises es st m found n = n ≡ (ended es m.0, rest m.1)
+
+  -- the next ticket is served, and the turn added an entry of which this holds
+  abbrev pub RaisesSome : (E → Type 0) → Step (Option T) → Me (Option T) (View E) → ℕ → Me (Option T) (View E) → Type 0
+  RaisesSome tells st m found n = (entry : E) × tells entry × (n ≡ (ended (entry ∷ []) m.0, rest m.1))
 
   -- nothing changes; what the other of two joined views had seen is a beginning of what is seen now, if it isn't longer
   abbrev pub Compares : Step (Option T) → Me (Option T) (View E) → ℕ → Me (Option T) (View E) → Type 0

@@ -7,8 +7,8 @@ ghost use Rattle.gts_lock.specs.Steps.{Takes};
 use crate::limits::MOST_TURNS;
 use crate::pass::Pass;
 use crate::rule::InTurn;
-use crate::steps::{Compare, Copied, Draw, Look, Part, Raise};
-use crate::told::{Adds, Told};
+use crate::steps::{Compare, Copied, Draw, Look, Part, Raise, RaiseSome};
+use crate::told::{Adds, Tells, Told};
 use crate::turn::Turn;
 use crate::view::View;
 use atomic_table::{Refused, Seat, Table};
@@ -199,6 +199,29 @@ impl<T: Told> Hall<T> {
         let before = shared.exchange(&mut seat, 0, Some(value));
         let None = before else { unreachable!() };
         shared.fetch_add::<Raise<N>>(&mut seat, 0, 1);
+        shared.wake_all(0);
+        seat
+    }
+
+    // The same, where of the entry no more is told than something that holds of it.
+    pub(crate) fn end_turn_some<N: Tells<T::Entry>>(
+        &self,
+        mut seat: Seat<Option<T>, View<T::Entry>>,
+        value: T,
+    ) -> Seat<Option<T>, View<T::Entry>>
+        requires hall { seat.table_id ≡ self.now }
+        requires slot { seat.me.1 ≡ (0, None) ∷ [] }
+        requires holds { (t : ℕ) × (seat.me.0.stage ≡ Holding t) }
+        requires stands { (entry : T.Entry) × N.tells entry
+            × T.stands value (entries seat.me.0.seen ++ entry ∷ []) }
+        ensures table { result.table_id ≡ seat.table_id }
+        ensures me { (entry : T.Entry) × N.tells entry
+            × (result.me ≡ (ended (entry ∷ []) seat.me.0, [])) }
+    {
+        let shared = &self.table.shared;
+        let before = shared.exchange(&mut seat, 0, Some(value));
+        let None = before else { unreachable!() };
+        shared.fetch_add::<RaiseSome<N>>(&mut seat, 0, 1);
         shared.wake_all(0);
         seat
     }

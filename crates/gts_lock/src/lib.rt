@@ -20,7 +20,7 @@ pub use hall::Hall;
 pub use laws::no_two_passes_are_confused;
 pub use limits::{MOST_TURNS, limits_are_these_numbers};
 pub use pass::Pass;
-pub use told::Told;
+pub use told::{Tells, Told};
 pub use turn::Turn;
 
 #[cfg(test)]

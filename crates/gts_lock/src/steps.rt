@@ -1,5 +1,5 @@
 //! The kinds of step at a hall's table, and what each tells the pass that makes it.
-use crate::told::{Adds, Told};
+use crate::told::{Adds, Tells, Told};
 use crate::view::View;
 use atomic_table::{Join, Play, Split};
 use std::marker::PhantomData;
@@ -33,6 +33,17 @@ impl<T, E, N: Adds<E>> Play<Option<T>, View<E>> for Raise<N> {
     ghost use Rattle.gts_lock.specs.Steps.{Raises};
 
     ghost then = { Raises N.added };
+}
+
+/// The same, where of the entry no more is told than something that holds of it.
+pub(crate) struct RaiseSome<N> {
+    of: PhantomData<N>,
+}
+
+impl<T, E, N: Tells<E>> Play<Option<T>, View<E>> for RaiseSome<N> {
+    ghost use Rattle.gts_lock.specs.Steps.{RaisesSome};
+
+    ghost then = { RaisesSome N.tells };
 }
 
 /// Looks whether both of two joined passes had seen beginnings of one history.

@@ -22,3 +22,13 @@ impl<E> Adds<E> for Brand {
 
     ghost added = { [] };
 }
+
+/// What is told of the entry that a turn adds, where no more is known of it: it is one of which this holds. The call that ends the
+/// turn picks that.
+pub trait Tells<E> {
+    ghost tells: { E → Type 0 };
+}
+
+impl<E> Tells<E> for Brand {
+    ghost tells = { λ e. Unit {0} };
+}

@@ -5,7 +5,7 @@ ghost use Rattle.gts_lock.specs.Lending.{lends_value};
 
 use crate::hall::Hall;
 use crate::pass::Pass;
-use crate::told::Told;
+use crate::told::{Tells, Told};
 use crate::view::View;
 use atomic_table::Seat;
 use std::marker::{Brand, Model};
@@ -49,6 +49,20 @@ impl<'a, T: Told> Turn<'a, T> {
     {
         let Turn { hall, seat, value } = self;
         let seat = hall.end_turn::<Brand>(seat, value);
+        Pass { seat }
+    }
+
+    /// The same, where the entry is not known, but that something holds of it: there is one, and the value stands for the history
+    /// with that.
+    pub fn leave_some<N: Tells<T::Entry>>(self) -> Pass<T>
+        requires { (entry : T.Entry) × N.tells entry
+            × T.stands self.value (entries self.pass.seen ++ entry ∷ []) }
+        ensures pass { (entry : T.Entry) × N.tells entry
+            × (result ≡ after_adding self.entry.pass entry) }
+        ensures own { result.own ≡ entries_under result.name result.seen }
+    {
+        let Turn { hall, seat, value } = self;
+        let seat = hall.end_turn_some::<N>(seat, value);
         Pass { seat }
     }
 }

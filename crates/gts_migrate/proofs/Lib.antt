@@ -1,3 +1,4 @@
 mod LettingGoLemmas
 mod BringingLemmas
 mod MigratingLemmas
+mod DroppingLemmas

@@ -1,14 +1,15 @@
 -- A journal is taken over: what a crash leaves meanwhile, and what the files open to then.
-use Rattle.std.proofs.Common.{◌≡◌, ◌≢◌, ◌⊎◌, inl, inr, ℕ, ◌+◌, ◌-◌, ◌*◌, ◌^◌, ◌<◌, ◌≤◌, true, List, [], ◌∷◌, length, Option, None, Result, Ok, Err, refl, sym, ap, subst, ◌∙◌, arith}
+use Rattle.std.proofs.Common.{◌≡◌, ◌≢◌, ◌⊎◌, inl, inr, ℕ, ◌+◌, ◌-◌, ◌*◌, ◌^◌, ◌<◌, ◌≤◌, true, false, List, [], ◌∷◌, ◌++◌, length, take, drop, Option, None, Result, Ok, Err, refl, sym, ap, subst, ◌∙◌, arith, take-append-drop}
 use Rattle.std.specs.Prelude.{OnOk, IfErr, IsErrOf}
 use Rattle.std.proofs.lemmas.Bool.{cases_eq}
 use Rattle.std.proofs.Math.Nat.{add-mul}
-use Rattle.std.proofs.lemmas.List.{append-nil}
-use Rattle.gts_traits.specs.Calls.{Call, Did, Syncs, Outside, said_by}
-use Rattle.gts_traits.specs.Disk.{Files, seen}
+use Rattle.std.proofs.lemmas.List.{append-nil, map-append}
+use Rattle.gts_traits.specs.Calls.{Call, Did, Syncs, Outside, on, said_by}
+use Rattle.gts_traits.specs.Disk.{Files, IsImage, IsSynced, seen}
+use Rattle.gts_traits.specs.Station.{IsFront}
 use Rattle.gts_traits.specs.Counts.{Rose}
 use Rattle.gts_traits.specs.Moments.{EachSince}
-use Rattle.gts_traits.proofs.LawLemmas.{weaker, started, joined, synced_image}
+use Rattle.gts_traits.proofs.LawLemmas.{weaker, started, joined, told, said_is, synced_image}
 use Rattle.gts_directory.specs.Directory.{Directory}
 use Rattle.gts_directory.specs.TakingOver.{TakesOver}
 use Rattle.gts_event.specs.State.{State}
@@ -26,13 +27,20 @@ use Rattle.gts_opening.specs.Room.{full_compacted}
 use Rattle.gts_opening.proofs.LawLemmas.{checkpoint_opened, room_for, due-left, restarted-unowed, selected_few}
 use Rattle.gts_checkpoint.specs.Alone.{LeavesOthers, WorksBeside}
 use Rattle.gts_checkpoint.specs.Writing.{HasWritten, checkpoint_file}
-use Rattle.gts_journal.specs.{InHand, StandsOn, LeavesBoth, OnlySyncs, version_of, selected_bytes, selecting as selecting_at}
-use Rattle.gts_journal.proofs.LawLemmas.{both_left}
+use Rattle.gts_journal.specs.{InHand, EndsAt, StandsOn, IsClosedAt, LeavesBoth, OnlySyncs, version_of, selected_bytes, selecting as selecting_at}
+use Rattle.gts_journal.proofs.LawLemmas.{both_left, same_stands}
 use Rattle.gts_core.specs.Core.{Core, Needs}
+use Rattle.gts_recovery.proofs.LawLemmas.{still_stands}
 use Rattle.gts_recovery.specs.Opened.{IsOpenedAny, StandsForAny, opens_any, files_open_any}
 use Rattle.gts_migrate.specs.declared.fault.MigrateFault.{MigrateFault}
-use Rattle.gts_migrate.specs.declared.fault.MigrateFault.TheVariants.{Open, Waits, Full, DiskFault, NoMemory}
-use Rattle.gts_migrate.specs.Migrating.{OpensEither, GivesRoomFor, AnswersWaiting, AnswersOpening, LeavesFiles, IsDiskFaultOf, IsWriteFaultOf, IsMigrated, HasFewDue, IsBrought, CanMigrate, FitsFor}
+use Rattle.gts_migrate.specs.declared.fault.MigrateFault.TheVariants.{Open, Waits, Full, DiskFault, SayFault, NoMemory}
+use Rattle.gts_checkpoint.specs.declared.fault.WriteFault.{WriteFault}
+use Rattle.gts_checkpoint.specs.declared.fault.WriteFault.TheVariants as writes
+use Rattle.gts_migrate.specs.declared.waiting.Waiting.{Waiting}
+use Rattle.gts_migrate.specs.declared.waiting.Waiting.TheVariants.{Refused, Dropped}
+use Rattle.gts_migrate.specs.Dropping.{SaysAll}
+use Rattle.gts_migrate.specs.Answers.{write_fault, GivesRoomFor, AnswersWaiting, AnswersOpening, LeavesFiles, IsDiskFaultOf, IsWriteFaultOf, SaysFor, CountsSays}
+use Rattle.gts_migrate.specs.Migrating.{OpensWith, IsMigrated, HasFewDue, IsBrought, CanMigrate, FitsFor}
 
 -- ---- what files open to
 
@@ -58,11 +66,58 @@ opens_old_at old s calls j g files at same =
     ap (λ (k : ℕ). file_opens j.version old k (files k)) at ∙ ap (file_opens j.version old j.file) same ∙ file_here in
     ap (λ (v : Version). opens_in v old files) version ∙ opens_from j.version old files s (j.gate + 1) (ap opened_of read)
 
+-- ---- what is said meanwhile
+
+-- nothing was said yet
+front_none : (text outside : Outside) → outside ≡ [] → IsFront outside text
+front_none text outside none = (text, sym (ap (λ (o : Outside). o ++ text) none))
+
+-- a front of it
+front_some : (text before : Outside) (k : ℕ) → before ≡ [] → IsFront (before ++ take k text) text
+front_some text before k none = (drop k text, sym (ap (λ (o : Outside). (o ++ take k text) ++ drop k text) none ∙ take-append-drop k text))
+
+-- Once all was said, the files are seen as before.
+pub record Spoken (bytes : List ℕ) (mid spoken : List Call) : Type 0 where
+  pub said : said_by spoken ≡ said_by mid ++ on 0 bytes
+  pub files : (k : ℕ) → seen spoken k ≡ seen mid k
+  pub synced : (k : ℕ) → IsSynced mid k → IsSynced spoken k
+
+pub spoke : (bytes : List ℕ) (done : Unit {0}) (mid spoken : List Call) → SaysAll {E = MigrateFault} bytes (Ok done) mid spoken → Spoken bytes mid spoken
+spoke bytes done mid spoken (inl idle) =
+    subst (λ (l : List Call). Spoken bytes mid l) (sym idle.1) (record {
+      said = sym (ap (λ (l : List ℕ). said_by mid ++ on 0 l) idle.0 ∙ append-nil (said_by mid));
+      files = λ k. refl;
+      synced = λ k is. is;
+    })
+spoke bytes done mid spoken (inr is) =
+    subst (λ (l : List Call). Spoken bytes mid l) (sym is) (record {
+      said = refl;
+      files = λ k. refl;
+      synced = λ k was. record { same = was.same; untouched = λ p. was.untouched p };
+    })
+
+-- the journal stands where it stood, and the other file is closed as it was
+pub stands_spoken : (bytes : List ℕ) (mid spoken : List Call) (j : InHand) → Spoken bytes mid spoken → StandsOn mid j → StandsOn spoken j
+stands_spoken bytes mid spoken j sp stands =
+    same_stands mid spoken j (sp.files 2, sp.synced 2 stands.selector_synced) (sp.files j.file, sp.synced j.file stands.file_synced) stands
+
+pub closed_spoken : (bytes : List ℕ) (mid spoken : List Call) (j : InHand) (file used : ℕ) → Spoken bytes mid spoken → IsClosedAt mid j file used → IsClosedAt spoken j file used
+closed_spoken bytes mid spoken j file used sp closed = record {
+  synced = sp.synced file closed.synced;
+  ends = subst (λ (l : List ℕ). EndsAt (take (used - 1) l) l) (sym (sp.files file)) closed.ends;
+}
+
 -- ---- while the journal is taken over
 
-module _ (old new : Directory) (s : State) (n : Need) (calls : List Call) (j : InHand) (g : CanMigrate old new s n calls j) (low : j.file < 2) where
+module _ (old new : Directory) (s : State) (n : Need) (calls : List Call) (j : InHand) (bytes : List ℕ) (g : CanMigrate old new s n calls j) (low : j.file < 2) where
   abbrev over : Need
   over = opened_on new old (need old (restarted old s))
+
+  abbrev receipts : Outside
+  receipts = on 0 bytes
+
+  abbrev P : Files → Outside → Type 0
+  P = OpensWith receipts old new (need old (restarted old s))
 
   -- the other file
   abbrev other : ℕ
@@ -81,72 +136,120 @@ module _ (old new : Directory) (s : State) (n : Need) (calls : List Call) (j : I
   opens_old = opens_old_at old s calls j g.stands
 
   -- while the other file is written
-  pub writing : (mid : List Call) → WorksBeside other calls mid → EachSince calls mid (OpensEither old new (need old (restarted old s)))
-  writing mid beside = weaker (LeavesOthers other calls) (OpensEither old new (need old (restarted old s))) calls mid
-      (λ files outside left. (
-        left.silent,
-        inl (opens_old files
+  pub writing : (mid : List Call) → WorksBeside other calls mid → EachSince calls mid P
+  writing mid beside = weaker (LeavesOthers other calls) P calls mid
+      (λ files outside left. inl (
+        opens_old files
             (ap (λ (l : List ℕ). selected (λ _. l)) (left.others 2 not_selector stands.selector_synced) ∙ stands.selected_is)
-            (left.others j.file not_other stands.file_synced)),
+            (left.others j.file not_other stands.file_synced),
+        front_none receipts outside left.silent,
       )) beside.moments
 
-  -- opened again, the need under the new directory is what that takes over of what the files open to
-  again : need new (restarted new (begun (unowed n))) ≡ over
-  again =
-      ap (need new) (restarted-unowed new n)
-      ∙ ap (λ (x : Need). need new (restarted new (begun x))) g.brought
-      ∙ restarted-left new (goes_on new old (need old s)) g.keeps
-      ∙ ap (λ (x : State). need new (restarted new x)) (sym (on-restarted new old s))
+  module _ (mid : List Call) (beside : WorksBeside other calls mid) where
+    stands_mid : StandsOn mid j
+    stands_mid = still_stands calls mid j stands low beside
 
-  module _ (mid : List Call) (beside : WorksBeside other calls mid) (wrote : HasWritten new.mark n other mid) (fits : FitsFor new n) (long : length new.mark ≡ 32) (limit : new.limit < 256 ^ 4) where
-    -- files of which the other one is selected
-    opens_new : (files : Files) → selected files ≡ other → files other ≡ seen mid other → opens new files ≡ Ok over
-    opens_new files at same =
-        checkpoint_opened written new files n [] closed_gate [] long limit fits.sound fits.room tt refl (ap files at ∙ same ∙ wrote.text)
-        ∙ ap {A = Need} (λ m. Ok m) again
+    -- a crash behind that leaves the old file selected
+    opens_still : (files : Files) → IsImage mid files → opens_any old files ≡ Ok (need old (restarted old s))
+    opens_still files image =
+        opens_old files
+        (ap (λ (l : List ℕ). selected (λ _. l)) (synced_image mid 2 files stands_mid.selector_synced image) ∙ stands_mid.selected_is)
+        (synced_image mid j.file files stands_mid.file_synced image ∙ beside.seen j.file not_other)
 
-    -- while it is selected
-    choosing : (last : List Call) → EachSince mid last (LeavesBoth mid) → EachSince mid last (OpensEither old new (need old (restarted old s)))
-    choosing last each = weaker (LeavesBoth mid) (OpensEither old new (need old (restarted old s))) mid last (λ files outside left. (left.silent, by_choice files outside left)) each
-      where
-        by_choice : (files : Files) (outside : Outside) → LeavesBoth mid files outside → (opens_any old files ≡ Ok (need old (restarted old s))) ⊎ (opens new files ≡ Ok over)
-        by_choice files outside left = elim (cases_eq (selected files) j.file) [
-          | inl at ↦ inl (opens_old files at (both_left mid files left j.file low ∙ beside.seen j.file not_other))
+    -- while the receipts are said
+    pub speaking : {T E : Type 0} (result : Result T E) (spoken : List Call) → SaysAll bytes result mid spoken → EachSince calls spoken P
+    speaking result spoken (inl idle) = subst (λ (l : List Call). EachSince calls l P) (sym idle.1) (writing mid beside)
+    speaking result spoken (inr tries) =
+        let so_far : EachSince calls mid P = writing mid beside in
+        let none : said_by so_far.since ≡ [] = said_is P calls mid so_far [] (beside.silent ∙ sym (append-nil (said_by calls))) in
+        told P calls mid so_far result 0 bytes spoken (λ files k image. inl (opens_still files image, front_some receipts (said_by so_far.since) k none)) tries
+
+    module _ (spoken : List Call) (sp : Spoken bytes mid spoken) (since : EachSince calls spoken P) where
+      -- all was said
+      said_all : said_by spoken ≡ said_by calls ++ receipts
+      said_all = sp.said ∙ ap (λ (o : Outside). o ++ receipts) beside.silent
+
+      module _ (wrote : HasWritten new.mark n other mid) (fits : FitsFor new n) (long : length new.mark ≡ 32) (limit : new.limit < 256 ^ 4) where
+        -- opened again, the need under the new directory is what that takes over of what the files open to
+        again : need new (restarted new (begun (unowed n))) ≡ over
+        again =
+            ap (need new) (restarted-unowed new n)
+            ∙ ap (λ (x : Need). need new (restarted new (begun x))) g.brought
+            ∙ restarted-left new (goes_on new old (need old s)) g.keeps
+            ∙ ap (λ (x : State). need new (restarted new x)) (sym (on-restarted new old s))
+
+        -- files of which the other one is selected
+        opens_new : (files : Files) → selected files ≡ other → files other ≡ seen mid other → opens new files ≡ Ok over
+        opens_new files at same =
+            checkpoint_opened written new files n [] closed_gate [] long limit fits.sound fits.room tt refl (ap files at ∙ same ∙ wrote.text)
+            ∙ ap {A = Need} (λ m. Ok m) again
+
+        -- while it is selected
+        choosing : (files : Files) (later : Outside) → LeavesBoth spoken files later → P files (receipts ++ later)
+        choosing files later left = elim (cases_eq (selected files) j.file) [
+          | inl at ↦
+              inl (
+                opens_old files at (both_left spoken files left j.file low ∙ sp.files j.file ∙ beside.seen j.file not_other),
+                ([], sym (append-nil (receipts ++ later) ∙ whole)),
+              )
           | inr elsewhere ↦
-              inr (opens_new files (omega (arith, selected_few files, low, elsewhere)) (both_left mid files left other (omega (arith, low))))
+              inr (opens_new files (omega (arith, selected_few files, low, elsewhere)) (both_left spoken files left other (omega (arith, low)) ∙ sp.files other), whole)
         ]
+          where
+            whole : receipts ++ later ≡ receipts
+            whole = ap (λ (o : Outside). receipts ++ o) left.silent ∙ append-nil receipts
 
-    -- all of it
-    pub all_moments : (last : List Call) → EachSince mid last (LeavesBoth mid) → EachSince calls last (OpensEither old new (need old (restarted old s)))
-    all_moments last each =
-        joined (OpensEither old new (need old (restarted old s))) (OpensEither old new (need old (restarted old s))) calls mid last []
-        (writing mid beside) (beside.silent ∙ sym (append-nil (said_by calls))) (choosing last each)
-        (λ files later left. (left.0, left.1))
+        -- all of it
+        pub all_moments : (last : List Call) → EachSince spoken last (LeavesBoth spoken) → EachSince calls last P
+        all_moments last each = joined P (LeavesBoth spoken) calls spoken last receipts since said_all each choosing
 
-    -- once it is selected
-    pub migrated : (last : List Call) (place : InHand) (used : ℕ) (seal : List ℕ) → place ≡ selecting_at written other used seal j → StandsOn last place
-        → ((k : ℕ) → k ≢ 2 → seen last k ≡ seen mid k) → IsMigrated old new s calls last
-    migrated last place used seal at there files =
-        let file : place.file ≡ other = ap (λ (k : InHand). k.file) at in
-        let chosen : selected (seen last) ≡ other = there.selected_is ∙ file in
-        let other_not : other ≢ 2 = λ e. omega (arith, e) in
-        record {
-          other = λ e. not_other (sym stands.selected_is ∙ sym e ∙ chosen);
-          stays =
-              ap (seen last) stands.selected_is ∙ files j.file (λ e. omega (arith, e, low)) ∙ beside.seen j.file not_other
-              ∙ sym (ap (seen calls) stands.selected_is);
-          text = ap (seen last) chosen ∙ files other other_not ∙ wrote.text ∙ ap (checkpoint_file new.mark) g.brought;
-          opened = λ image left.
-              let selector : image 2 ≡ seen last 2 = synced_image last 2 image there.selector_synced left in
-              let bytes : image place.file ≡ seen last place.file = synced_image last place.file image there.file_synced left in
-              opens_new image (ap (λ (l : List ℕ). selected (λ _. l)) selector ∙ chosen)
-              (ap image (sym file) ∙ bytes ∙ ap (seen last) file ∙ files other other_not);
-        }
+        -- once it is selected
+        pub migrated : (last : List Call) (place : InHand) (used : ℕ) (seal : List ℕ) → place ≡ selecting_at written other used seal j → StandsOn last place
+            → ((k : ℕ) → k ≢ 2 → seen last k ≡ seen spoken k) → IsMigrated old new s calls last
+        migrated last place used seal at there files =
+            let file : place.file ≡ other = ap (λ (k : InHand). k.file) at in
+            let chosen : selected (seen last) ≡ other = there.selected_is ∙ file in
+            let other_not : other ≢ 2 = λ e. omega (arith, e) in
+            record {
+              other = λ e. not_other (sym stands.selected_is ∙ sym e ∙ chosen);
+              stays =
+                  ap (seen last) stands.selected_is ∙ files j.file (λ e. omega (arith, e, low)) ∙ sp.files j.file ∙ beside.seen j.file not_other
+                  ∙ sym (ap (seen calls) stands.selected_is);
+              text = ap (seen last) chosen ∙ files other other_not ∙ sp.files other ∙ wrote.text ∙ ap (checkpoint_file new.mark) g.brought;
+              opened = λ image left.
+                  let selector : image 2 ≡ seen last 2 = synced_image last 2 image there.selector_synced left in
+                  let same : image place.file ≡ seen last place.file = synced_image last place.file image there.file_synced left in
+                  opens_new image (ap (λ (l : List ℕ). selected (λ _. l)) selector ∙ chosen)
+                  (ap image (sym file) ∙ same ∙ ap (seen last) file ∙ files other other_not ∙ sp.files other);
+            }
+
+-- ---- what was said at an end
+
+-- the checkpoint could not be written
+pub unsaid_write : (fault : WriteFault) (text : Outside) (calls mid : List Call) → said_by mid ≡ said_by calls → SaysFor (Err (write_fault fault)) text calls mid
+unsaid_write writes.DiskFault text calls mid same = inl (same ∙ sym (append-nil (said_by calls)))
+unsaid_write writes.NoMemory text calls mid same = same ∙ sym (append-nil (said_by calls))
+
+-- all was said
+pub said_whole : (bytes : List ℕ) (calls mid spoken last : List Call) → said_by mid ≡ said_by calls → Spoken bytes mid spoken → said_by last ≡ said_by spoken → said_by last ≡ said_by calls ++ on 0 bytes
+said_whole bytes calls mid spoken last same sp silent = silent ∙ sp.said ∙ ap (λ (o : Outside). o ++ on 0 bytes) same
+
+front_on : (left bytes : List ℕ) → IsFront left bytes → IsFront (on 0 left) (on 0 bytes)
+front_on left bytes front = (on 0 front.0, ap (on 0) front.1 ∙ map-append (λ byte. (0, byte)) left front.0)
+
+-- the receipts could not be said
+pub said_part : (bytes : List ℕ) (fault : MigrateFault) (calls mid spoken : List Call) → said_by mid ≡ said_by calls → SaysAll {T = Unit {0}} bytes (Err fault) mid spoken
+    → SaysFor (Err SayFault) (on 0 bytes) calls spoken
+said_part bytes fault calls mid spoken same (inl idle) = absurd (let e : false ≡ true = idle.2 in cc e)
+said_part bytes fault calls mid spoken same (inr (inl idle)) =
+    ([], (on 0 bytes, refl), ap said_by idle ∙ same ∙ sym (append-nil (said_by calls)))
+said_part bytes fault calls mid spoken same (inr (inr broke)) =
+    (on 0 broke.0, front_on broke.0 bytes broke.1, ap said_by broke.2 ∙ ap (λ (o : Outside). o ++ on 0 broke.0) same)
 
 -- ---- once the journal was opened
 
 module _ (tells : Type 0) (old new : Directory) (takes : TakesOver new old) (mid : List Call) (core : Core) (j : InHand) (g : IsOpenedAny tells old mid core j) where
-  sound_need : is_sound old (need old g.state) ≡ true
+  pub sound_need : is_sound old (need old g.state) ≡ true
   sound_need = sound-held old g.state g.kept.few g.kept.held
 
   pub few_due : old.limit < 256 ^ 4 → HasFewDue old core
@@ -180,7 +283,7 @@ module _ (tells : Type 0) (old new : Directory) (takes : TakesOver new old) (mid
   }
 
   module _ (tell : tells) (before : List Call) (synced : mid ≡ Did Syncs ∷ before) where
-    files_here : files_open_any old (seen before) ≡ Ok (g.state, j.gate + 1)
+    pub files_here : files_open_any old (seen before) ≡ Ok (g.state, j.gate + 1)
     files_here =
         let here : files_open_any old (seen mid) ≡ Ok (g.state, j.gate + 1) =
         ap (λ (v : Version). files_open_in v old (seen mid)) (sym (g.stands tell).version_is) ∙ ap opened_of (g.stands tell).opens_to in
@@ -205,15 +308,15 @@ module _ (tells : Type 0) (old new : Directory) (takes : TakesOver new old) (mid
     need_is n there = ap need_of_result (sym opens_so ∙ there)
 
     -- nothing more was done
-    pub at_rest : EachSince (Did Syncs ∷ before) mid (OpensEither old new (need old (restarted old g.state)))
-    at_rest =
+    pub at_rest : (text : Outside) → EachSince (Did Syncs ∷ before) mid (OpensWith text old new (need old (restarted old g.state)))
+    at_rest text =
         let stands : StandsOn mid j = (g.stands tell).stands in
-        subst (λ (calls : List Call). EachSince calls mid (OpensEither old new (need old (restarted old g.state)))) synced
-        (started mid (OpensEither old new (need old (restarted old g.state))) (λ files image. (
-          refl,
-          inl (opens_old_at old g.state mid j (g.stands tell) files
+        subst (λ (calls : List Call). EachSince calls mid (OpensWith text old new (need old (restarted old g.state)))) synced
+        (started mid (OpensWith text old new (need old (restarted old g.state))) (λ files image. inl (
+          opens_old_at old g.state mid j (g.stands tell) files
               (ap (λ (l : List ℕ). selected (λ _. l)) (synced_image mid 2 files stands.selector_synced image) ∙ stands.selected_is)
-              (synced_image mid j.file files stands.file_synced image)),
+              (synced_image mid j.file files stands.file_synced image),
+          front_none text [] refl,
         )))
 
 -- what was brought of the need of a core is brought of each state that it holds
@@ -229,16 +332,25 @@ room_after (Err (Open e)) d t kind free = absurd kind
 room_after (Err (Waits c count)) d t kind free = absurd kind
 room_after (Err (Full at wanted limit)) d t kind free = absurd kind
 room_after (Err DiskFault) d t kind free = free
+room_after (Err SayFault) d t kind free = free
 room_after (Err NoMemory) d t kind free = tt
 
--- nothing waited on closed circuits
-pub waiting_after : (result : Result (Unit {0}) MigrateFault) (found : Option (ℕ × ℕ)) → IfErr result IsWriteFaultOf → found ≡ None → AnswersWaiting result found
-waiting_after (Ok done) found kind none = none
-waiting_after (Err (Open e)) found kind none = absurd kind
-waiting_after (Err (Waits c count)) found kind none = absurd kind
-waiting_after (Err (Full at wanted limit)) found kind none = absurd kind
-waiting_after (Err DiskFault) found kind none = none
-waiting_after (Err NoMemory) found kind none = tt
+-- nothing waited on closed circuits, or what did was dropped
+pub waiting_after : (w : Waiting) (result : Result (Unit {0}) MigrateFault) (found : Option (ℕ × ℕ)) → IfErr result IsWriteFaultOf → AnswersWaiting {T = Unit {0}} w (Ok tt) found → AnswersWaiting w result found
+waiting_after Refused (Ok done) found kind none = none
+waiting_after Refused (Err (Open e)) found kind none = absurd kind
+waiting_after Refused (Err (Waits c count)) found kind none = absurd kind
+waiting_after Refused (Err (Full at wanted limit)) found kind none = absurd kind
+waiting_after Refused (Err DiskFault) found kind none = none
+waiting_after Refused (Err SayFault) found kind none = none
+waiting_after Refused (Err NoMemory) found kind none = tt
+waiting_after Dropped (Ok done) found kind none = λ is. is
+waiting_after Dropped (Err (Open e)) found kind none = λ is. is
+waiting_after Dropped (Err (Waits c count)) found kind none = absurd kind
+waiting_after Dropped (Err (Full at wanted limit)) found kind none = λ is. is
+waiting_after Dropped (Err DiskFault) found kind none = λ is. is
+waiting_after Dropped (Err SayFault) found kind none = λ is. is
+waiting_after Dropped (Err NoMemory) found kind none = λ is. is
 
 -- the files opened
 pub opening_after : (result : Result (Unit {0}) MigrateFault) (opened : Result Need OpenFault) (n : Need) → IfErr result IsWriteFaultOf → opened ≡ Ok n → AnswersOpening result opened
@@ -247,6 +359,7 @@ opening_after (Err (Open e)) opened n kind is = absurd kind
 opening_after (Err (Waits c count)) opened n kind is = absurd kind
 opening_after (Err (Full at wanted limit)) opened n kind is = absurd kind
 opening_after (Err DiskFault) opened n kind is = (n, is)
+opening_after (Err SayFault) opened n kind is = (n, is)
 opening_after (Err NoMemory) opened n kind is = (n, is)
 
 -- where there was no memory, nothing was written
@@ -257,6 +370,7 @@ told_after calls (Err (Open e)) old mid new kind same told leaves = absurd kind
 told_after calls (Err (Waits c count)) old mid new kind same told leaves = absurd kind
 told_after calls (Err (Full at wanted limit)) old mid new kind same told leaves = absurd kind
 told_after calls (Err DiskFault) old mid new kind same told leaves = absurd leaves
+told_after calls (Err SayFault) old mid new kind same told leaves = absurd leaves
 told_after calls (Err NoMemory) old mid new kind same told leaves = subst (λ p. OnlySyncs (calls old) (calls p)) (sym (same refl)) told
 
 -- a fault of the disk has its count
@@ -266,6 +380,7 @@ disk_after (Err (Open e)) before mid now kind rose later is = absurd kind
 disk_after (Err (Waits c count)) before mid now kind rose later is = absurd kind
 disk_after (Err (Full at wanted limit)) before mid now kind rose later is = absurd kind
 disk_after (Err DiskFault) before mid now kind rose later is = omega (arith, rose refl, later)
+disk_after (Err SayFault) before mid now kind rose later is = absurd is
 disk_after (Err NoMemory) before mid now kind rose later is = absurd is
 
 -- the journal was taken over, seen from before the sync
@@ -276,3 +391,36 @@ migrated_after (Ok done) old new s t n before mid after j synced same can each =
     let here : IsMigrated old new s before after = record { other = m.other; stays = m.stays; text = m.text; opened = m.opened } in
     subst (λ (u : State). IsMigrated old new u before after) (sym same) here
 migrated_after (Err e) old new s t n before mid after j synced same can each = tt
+
+-- what was said from the opening on was said from before its sync
+pub said_after : (result : Result (Unit {0}) MigrateFault) (text : Outside) (before mid after : List Call) → mid ≡ Did Syncs ∷ before → SaysFor result text mid after → SaysFor result text before after
+said_after (Ok done) text before mid after synced said = said ∙ ap (λ (l : List Call). said_by l ++ text) synced
+said_after (Err (Open e)) text before mid after synced said = said ∙ ap (λ (l : List Call). said_by l ++ []) synced
+said_after (Err (Waits c count)) text before mid after synced said = said ∙ ap (λ (l : List Call). said_by l ++ []) synced
+said_after (Err (Full at wanted limit)) text before mid after synced said = said ∙ ap (λ (l : List Call). said_by l ++ []) synced
+said_after (Err NoMemory) text before mid after synced said = said ∙ ap (λ (l : List Call). said_by l ++ []) synced
+said_after (Err SayFault) text before mid after synced said = (said.0, said.1, said.2 ∙ ap (λ (l : List Call). said_by l ++ said.0) synced)
+said_after (Err DiskFault) text before mid after synced (inl none) = inl (none ∙ ap (λ (l : List Call). said_by l ++ []) synced)
+said_after (Err DiskFault) text before mid after synced (inr all) = inr (all ∙ ap (λ (l : List Call). said_by l ++ text) synced)
+
+front_nothing : (left : Outside) → IsFront left [] → left ≡ []
+front_nothing [] front = refl
+front_nothing (x ∷ left) front = absurd (let e : [] ≡ x ∷ (left ++ front.0) = front.1 in cc e)
+
+-- where nothing is to be said, nothing was said
+pub silent_by : (result : Result (Unit {0}) MigrateFault) (text : Outside) (before after : List Call) → text ≡ [] → SaysFor result text before after → said_by after ≡ said_by before
+silent_by result text before after none said = go result (subst (λ (o : Outside). SaysFor result o before after) none said)
+  where
+    go : (result : Result (Unit {0}) MigrateFault) → SaysFor result [] before after → said_by after ≡ said_by before
+    go (Ok done) said = said ∙ append-nil (said_by before)
+    go (Err (Open e)) said = said ∙ append-nil (said_by before)
+    go (Err (Waits c count)) said = said ∙ append-nil (said_by before)
+    go (Err (Full at wanted limit)) said = said ∙ append-nil (said_by before)
+    go (Err NoMemory) said = said ∙ append-nil (said_by before)
+    go (Err SayFault) said = said.2 ∙ ap (λ (o : Outside). said_by before ++ o) (front_nothing said.0 said.1) ∙ append-nil (said_by before)
+    go (Err DiskFault) (inl none) = none ∙ append-nil (said_by before)
+    go (Err DiskFault) (inr all) = all ∙ append-nil (said_by before)
+
+-- counts of saying, seen from before the opening
+pub counts_after : (result : Result (Unit {0}) MigrateFault) (before mid now : ℕ) → mid ≡ before → CountsSays result mid now → CountsSays result before now
+counts_after result before mid now same counts = subst (λ (k : ℕ). CountsSays result k now) same counts

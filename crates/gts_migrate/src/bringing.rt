@@ -7,7 +7,7 @@ ghost use Rattle.gts_event.specs.State.{has, last_of};
 ghost use Rattle.gts_event.specs.Need.{is_sound, keeps_one};
 ghost use Rattle.gts_event.specs.Items.{bulletin_of};
 ghost use Rattle.gts_migrate.specs.Migrating.{TakesOver, goes_on, circuit_need_of, need_of, need_at, unused_of};
-ghost use Rattle.gts_migrate.specs.Bringing.{circuits_under};
+ghost use Rattle.gts_migrate.specs.Bringing.{circuits_under, under_row};
 
 use gts_directory::{CircuitRow, Directory};
 use gts_event::{Bulletins, CircuitNeed, CircuitNeeds, Need, Places};
@@ -56,12 +56,8 @@ fn bring(
     row: &CircuitRow,
     same: bool,
 ) -> Result<CircuitNeed, NoMemory>
-    ensures { IfOk result (λ found.
-        circuit_need_of found ≡ record (circuit_need_of circuit.now) {
-          waiting = if row.now.closed then [] else circuit.now.waiting;
-          kept = last_of row.now.kept (if same then circuit.now.kept else []);
-          owed = [];
-        }) }
+    ensures { IfOk result (λ found. circuit_need_of found
+        ≡ under_row row.now.closed same row.now.kept (circuit_need_of circuit.now)) }
 {
     let waiting = still_waiting(alloc, circuit.waiting.as_slice(), row.closed)?;
     let kept = still_kept(alloc, circuit.kept.as_slice(), same, row.kept)?;
@@ -134,7 +130,7 @@ fn held(alloc: Global, circuits: &[CircuitNeed]) -> Result<Vec<u64>, NoMemory>
 }
 
 /// Whether a number is among numbers in ascending order.
-fn is_among(numbers: &[u64], number: u64) -> bool
+pub(crate) fn is_among(numbers: &[u64], number: u64) -> bool
     requires { IsNonDecreasing numbers.now }
     ensures { result ≡ has numbers.now number }
 {

@@ -1,5 +1,5 @@
 ghost use Rattle.std.specs.Prelude.{◌≡◌};
-ghost use Rattle.gts_migrate.specs.Migrating.{write_fault};
+ghost use Rattle.gts_migrate.specs.Answers.{write_fault};
 ghost use Rattle.gts_migrate.specs.declared.fault.MigrateFault.TheVariants as faults;
 
 use gts_checkpoint::WriteFault;
@@ -30,6 +30,8 @@ pub enum MigrateFault {
     },
     /// The disk failed at it.
     DiskFault,
+    /// The receipts of what is dropped could not be said.
+    SayFault,
     /// There was no memory.
     NoMemory,
 }

@@ -8,15 +8,22 @@ use crate::MigrateFault;
 use gts_directory::Directory;
 use gts_event::{CircuitNeed, Need};
 
-/// How many wait on a circuit: none on one that isn't there.
+/// What waits on a circuit: nothing on one that isn't there.
+pub(crate) fn waiting_of(circuits: &[CircuitNeed], c: u32) -> &[u64]
+    ensures { result.now ≡ (get_or (map circuit_need_of circuits.now) c unused_of).waiting }
+{
+    match circuits.get(c as usize) {
+        Some(circuit) => circuit.waiting.as_slice(),
+        None => &[],
+    }
+}
+
+/// How many wait on a circuit.
 fn waiting_on(circuits: &[CircuitNeed], c: u32) -> u64
     ensures { result
         ≡ length (get_or (map circuit_need_of circuits.now) c unused_of).waiting }
 {
-    match circuits.get(c as usize) {
-        Some(circuit) => circuit.waiting.len(),
-        None => 0,
-    }
+    waiting_of(circuits, c).len() as u64
 }
 
 /// Whether nothing waits on a closed circuit; else the first such circuit, and how many wait there.

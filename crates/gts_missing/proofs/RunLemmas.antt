@@ -14,7 +14,8 @@ use Rattle.gts_capture.proofs.LawLemmas.{begins, one_step, at_end, at_bad}
 use Rattle.gts_replay.specs.Going.{Decode}
 use Rattle.gts_replay.specs.Ending.{IsStepOf, Takes}
 use Rattle.gts_replay.proofs.RunLemmas.{ReadsHead, head_here}
-use Rattle.gts_replay.proofs.EndLemmas.{cut_in, two_each}
+use Rattle.gts_replay.proofs.FollowLemmas.{cut_in}
+use Rattle.gts_replay.proofs.EndLemmas.{two_each}
 use Rattle.gts_gap.specs.Numbers.{Numbered}
 use Rattle.gts_gap.specs.Capture.{number_of_event, events_with, numbers_from, numbers}
 use Rattle.gts_gap.specs.Ring.{StandsAt}

@@ -1,20 +1,22 @@
 -- The entries of a service without its tries.
-use Rattle.std.proofs.Common.{◌≡◌, ◌⊎◌, inl, inr, ℕ, ◌+◌, ◌≤◌, length, length-append, arith, Bool, true, false, not, List, [], ◌∷◌, ◌++◌, Result, Ok, Err, refl, sym, ap, ◌∙◌, subst}
+use Rattle.std.proofs.Common.{◌≡◌, ℕ, ◌+◌, ◌≤◌, arith, Bool, true, false, not, List, [], ◌∷◌, ◌++◌, Result, Ok, Err, refl, sym, ap, ◌∙◌, subst}
 use Rattle.std.proofs.lemmas.List.{append-nil}
 use Rattle.std.proofs.lemmas.List.Elements.{filter-append}
 use Rattle.gts_frame.specs.declared.kind.Kind.{Kind}
 use Rattle.gts_event.specs.State.{State}
 use Rattle.gts_event.specs.History.{outcome}
+use Rattle.gts_event.specs.Drain.{all_done}
 use Rattle.gts_event.specs.declared.event.Event.{Event}
-use Rattle.gts_event.specs.declared.event.Event.TheVariants.{Heard, Lost}
+use Rattle.gts_event.specs.declared.event.Event.TheVariants.{Heard, Lost, Taken}
 use Rattle.gts_frame.specs.declared.lost.LostField.{LostField}
 use Rattle.gts_event.specs.declared.event.Entry.{Entry}
 use Rattle.gts_event.specs.declared.event.Entry.TheVariants.{Done, Unsaid, Idle, Doubt}
 use Rattle.gts_event.specs.declared.outcome.Outcome.{Outcome}
+use Rattle.gts_event.specs.declared.fault.Device.{Device}
 use Rattle.gts_event.specs.declared.fault.SwitchFault.{SwitchFault}
 use Rattle.gts_event.specs.declared.fault.SwitchFault.TheVariants.{DiskFault, SayFault, Full, Stopped, Spent, NoMemory}
-use Rattle.gts_desk.specs.Desks.{Seen, own, Answers, SaysNoMore, AddsJust, GoesOn}
-use Rattle.gts_desk.proofs.LawLemmas.{just, own_added, goes_on, goes_on_spent, goes_further, stays}
+use Rattle.gts_desk.specs.Desks.{Seen, own, Answers, SaysNoMore, AddsEntries, AddsJust, AddsAny, GoesOn}
+use Rattle.gts_desk.proofs.LawLemmas.{just, own_added, turned, own_any, goes_on, goes_on_spent, goes_further, stays}
 use Rattle.gts_receiver.specs.Service.{is_try, is_wanting, settled, settled_own, AreMost, TriesOn, Hears}
 
 pub settled-append : (w : Bool) (xs ys : List Entry) → settled w (xs ++ ys) ≡ settled w xs ++ settled w ys
@@ -26,39 +28,62 @@ none_settled true = refl
 none_settled false = refl
 
 -- what was done is no try
-pub settled_done : (w : Bool) (event : Event) → settled w (Done event ∷ []) ≡ Done event ∷ []
-settled_done true event = refl
-settled_done false event = refl
+pub settled_all : (w : Bool) (events : List Event) → settled w (all_done events) ≡ all_done events
+settled_all true [] = refl
+settled_all true (event ∷ events) = ap (λ (l : List Entry). Done event ∷ l) (settled_all true events)
+settled_all false events = refl
 
--- one of the desk's own entries more
-pub own_settled : (w : Bool) (old new : Seen) (entry : Entry) → AddsJust old entry new → settled_own w new ≡ settled_own w old ++ settled w (entry ∷ [])
-own_settled w old new entry adds = ap (settled w) (own_added old new entry adds) ∙ settled-append w (own old) (entry ∷ [])
+-- some of the desk's own entries more
+pub own_settled : (w : Bool) (old new : Seen) (more : List Entry) → AddsEntries old more new → settled_own w new ≡ settled_own w old ++ settled w more
+own_settled w old new more adds = ap (settled w) (own_added old new more adds) ∙ settled-append w (own old) more
+
+pub any_settled : (w : Bool) (old new : Seen) (more : List Entry) → AddsAny old more new → settled_own w new ≡ settled_own w old ++ settled w more
+any_settled w old new more adds = ap (settled w) (own_any old new more adds) ∙ settled-append w (own old) more
 
 -- a try is left out
 one_try : (before now : Seen) (entry : Entry) → is_try entry ≡ true → AddsJust before entry now → settled_own true now ≡ settled_own true before
 one_try before now entry is adds =
-    own_settled true before now entry adds ∙ ap (λ (l : List Entry). settled_own true before ++ l) (left_out entry is) ∙ append-nil (settled_own true before)
+    own_settled true before now (entry ∷ []) adds ∙ ap (λ (l : List Entry). settled_own true before ++ l) (left_out entry is) ∙ append-nil (settled_own true before)
   where
     left_out : (e : Entry) → is_try e ≡ true → settled true (e ∷ []) ≡ []
     left_out e is = rw is refl
 
-one_added : (before now : Seen) (entry : Entry) (tries : ℕ) → AddsJust before entry now → (tries ≤ length (own before)) ⊎ (before.alone ≡ true)
-    → (tries + 1 ≤ length (own now)) ⊎ (now.alone ≡ true)
-one_added before now entry tries adds (inl few) = inl (omega (arith, few, ap length (own_added before now entry adds), length-append (own before) (entry ∷ [])))
-one_added before now entry tries adds (inr alone) = inr ((goes_on before now entry adds).alone ∙ alone)
+one_added : (before now : Seen) (entry : Entry) (tries : ℕ) → AddsJust before entry now → tries ≤ before.turns → tries + 1 ≤ now.turns
+one_added before now entry tries adds few = omega (arith, few, turned before now (entry ∷ []) adds)
 
 -- an event of a message is tried again at these answers, and a loss at none
-pub tries_on : (w : Bool) (c : ℕ) (kind : Kind) (message : List ℕ) (fault : SwitchFault) (new : Seen)
-    → (w ≡ true → is_wanting (Err fault) ≡ true → AreMost new.alone (own new)) → TriesOn w (Heard c kind message) fault new.alone (own new)
-tries_on w c kind message (Full used need limit) new kept = kept
-tries_on w c kind message NoMemory new kept = kept
-tries_on w c kind message DiskFault new kept = λ yes is. absurd (cc is)
-tries_on w c kind message SayFault new kept = λ yes is. absurd (cc is)
-tries_on w c kind message (Stopped by) new kept = λ yes is. absurd (cc is)
-tries_on w c kind message Spent new kept = λ yes is. absurd (cc is)
+pub tries_on : (w : Bool) (c : ℕ) (kind : Kind) (message : List ℕ) (fault : SwitchFault) (turns : ℕ)
+    → (w ≡ true → is_wanting (Err fault) ≡ true → AreMost turns) → TriesOn w (Heard c kind message) fault turns
+tries_on w c kind message (Full used need limit) turns kept = kept
+tries_on w c kind message NoMemory turns kept = kept
+tries_on w c kind message DiskFault turns kept = λ yes is. absurd (cc is)
+tries_on w c kind message SayFault turns kept = λ yes is. absurd (cc is)
+tries_on w c kind message (Stopped by) turns kept = λ yes is. absurd (cc is)
+tries_on w c kind message Spent turns kept = λ yes is. absurd (cc is)
 
-pub no_try : (w : Bool) (c : ℕ) (field : LostField) (fault : SwitchFault) (new : Seen) → TriesOn w (Lost c field) fault new.alone (own new)
-no_try w c field fault new = λ yes is. absurd (cc is)
+pub no_try : (w : Bool) (c : ℕ) (field : LostField) (fault : SwitchFault) (turns : ℕ) → TriesOn w (Lost c field) fault turns
+no_try w c field fault turns = λ yes is. absurd (cc is)
+
+-- at other answers no event is tried again
+pub stopped_tries : (w : Bool) (event : Event) (by : Device) (turns : ℕ) → TriesOn w event (Stopped by) turns
+stopped_tries w (Heard c kind message) by turns = λ yes is. absurd (cc is)
+stopped_tries w (Lost c field) by turns = λ yes is. absurd (cc is)
+stopped_tries w (Taken c) by turns = λ yes is. absurd (cc is)
+
+pub disk_tries : (w : Bool) (event : Event) (turns : ℕ) → TriesOn w event DiskFault turns
+disk_tries w (Heard c kind message) turns = λ yes is. absurd (cc is)
+disk_tries w (Lost c field) turns = λ yes is. absurd (cc is)
+disk_tries w (Taken c) turns = λ yes is. absurd (cc is)
+
+pub say_tries : (w : Bool) (event : Event) (turns : ℕ) → TriesOn w event SayFault turns
+say_tries w (Heard c kind message) turns = λ yes is. absurd (cc is)
+say_tries w (Lost c field) turns = λ yes is. absurd (cc is)
+say_tries w (Taken c) turns = λ yes is. absurd (cc is)
+
+pub spent_tries : (w : Bool) (event : Event) (turns : ℕ) → TriesOn w event Spent turns
+spent_tries w (Heard c kind message) turns = λ yes is. absurd (cc is)
+spent_tries w (Lost c field) turns = λ yes is. absurd (cc is)
+spent_tries w (Taken c) turns = λ yes is. absurd (cc is)
 
 module _ (c : ℕ) (kind : Kind) (message : List ℕ) where
   abbrev heard : Event
@@ -67,8 +92,7 @@ module _ (c : ℕ) (kind : Kind) (message : List ℕ) where
   tried_so : (answer : Result Outcome SwitchFault) (before now : Seen) → is_wanting answer ≡ true → Answers before heard SaysNoMore answer now
       → settled_own true now ≡ settled_own true before
   tried_so (Err (Full used need limit)) before now is adds = one_try before now (Idle heard (Full used need limit)) refl adds
-  tried_so (Err NoMemory) before now is (inl adds) = one_try before now (Idle heard NoMemory) refl adds
-  tried_so (Err NoMemory) before now is (inr untold) = ap (settled_own true) untold.is
+  tried_so (Err NoMemory) before now is adds = one_try before now (Idle heard NoMemory) refl adds
   tried_so (Ok o) before now is adds = absurd (cc is)
   tried_so (Err DiskFault) before now is adds = absurd (cc is)
   tried_so (Err SayFault) before now is adds = absurd (cc is)
@@ -76,21 +100,19 @@ module _ (c : ℕ) (kind : Kind) (message : List ℕ) where
   tried_so (Err Spent) before now is adds = absurd (cc is)
 
   went_on : (answer : Result Outcome SwitchFault) (before now : Seen) → is_wanting answer ≡ true → Answers before heard SaysNoMore answer now → GoesOn before now
-  went_on (Err (Full used need limit)) before now is adds = goes_on before now (Idle heard (Full used need limit)) adds
-  went_on (Err NoMemory) before now is (inl adds) = goes_on before now (Idle heard NoMemory) adds
-  went_on (Err NoMemory) before now is (inr untold) = subst (λ (d : Seen). GoesOn before d) (sym untold.is) (stays before)
+  went_on (Err (Full used need limit)) before now is adds = goes_on before now (Idle heard (Full used need limit) ∷ []) adds
+  went_on (Err NoMemory) before now is adds = goes_on before now (Idle heard NoMemory ∷ []) adds
   went_on (Ok o) before now is adds = absurd (cc is)
   went_on (Err DiskFault) before now is adds = absurd (cc is)
   went_on (Err SayFault) before now is adds = absurd (cc is)
   went_on (Err (Stopped by)) before now is adds = absurd (cc is)
   went_on (Err Spent) before now is adds = absurd (cc is)
 
-  -- a try adds one of the desk's own, or the desk is alone
+  -- a try takes a turn
   pub one_more : (answer : Result Outcome SwitchFault) (before now : Seen) (tries : ℕ) → is_wanting answer ≡ true → Answers before heard SaysNoMore answer now
-      → (tries ≤ length (own before)) ⊎ (before.alone ≡ true) → (tries + 1 ≤ length (own now)) ⊎ (now.alone ≡ true)
+      → tries ≤ before.turns → tries + 1 ≤ now.turns
   one_more (Err (Full used need limit)) before now tries is adds so_far = one_added before now (Idle heard (Full used need limit)) tries adds so_far
-  one_more (Err NoMemory) before now tries is (inl adds) so_far = one_added before now (Idle heard NoMemory) tries adds so_far
-  one_more (Err NoMemory) before now tries is (inr untold) so_far = inr (ap (λ (d : Seen). d.alone) untold.is ∙ untold.alone)
+  one_more (Err NoMemory) before now tries is adds so_far = one_added before now (Idle heard NoMemory) tries adds so_far
   one_more (Ok o) before now tries is adds so_far = absurd (cc is)
   one_more (Err DiskFault) before now tries is adds so_far = absurd (cc is)
   one_more (Err SayFault) before now tries is adds so_far = absurd (cc is)
@@ -113,11 +135,10 @@ at_once w asked answer old new answers = record { before = old; desk = stays old
 
 -- with any answer a desk goes on
 pub answers_go : (asked : Event) (answer : Result Outcome SwitchFault) (old new : Seen) → Answers old asked SaysNoMore answer new → GoesOn old new
-answers_go asked (Ok o) old new adds = goes_on old new (Done asked) (just old new (Done asked) (λ (s : State). (o ≡ outcome old.directory s asked) × SaysNoMore o s) adds)
-answers_go asked (Err DiskFault) old new adds = goes_on old new (Doubt asked) adds
-answers_go asked (Err SayFault) old new adds = goes_on old new (Unsaid asked) adds
-answers_go asked (Err (Full used need limit)) old new adds = goes_on old new (Idle asked (Full used need limit)) adds
-answers_go asked (Err (Stopped by)) old new adds = goes_on old new (Idle asked (Stopped by)) adds
-answers_go asked (Err NoMemory) old new (inl adds) = goes_on old new (Idle asked NoMemory) adds
-answers_go asked (Err NoMemory) old new (inr untold) = subst (λ (d : Seen). GoesOn old d) (sym untold.is) (stays old)
+answers_go asked (Ok o) old new adds = goes_on old new (Done asked ∷ []) (just old new (Done asked ∷ []) (λ (s : State). (o ≡ outcome old.directory s asked) × SaysNoMore o s) adds)
+answers_go asked (Err DiskFault) old new adds = goes_on old new (Doubt (asked ∷ []) ∷ []) adds
+answers_go asked (Err SayFault) old new adds = goes_on old new (Unsaid asked ∷ []) adds
+answers_go asked (Err (Full used need limit)) old new adds = goes_on old new (Idle asked (Full used need limit) ∷ []) adds
+answers_go asked (Err (Stopped by)) old new adds = goes_on old new (Idle asked (Stopped by) ∷ []) adds
+answers_go asked (Err NoMemory) old new adds = goes_on old new (Idle asked NoMemory ∷ []) adds
 answers_go asked (Err Spent) old new spent = goes_on_spent old new spent

@@ -1,5 +1,5 @@
 -- What is a service, by the number of its connections.
-use Rattle.std.specs.Prelude.{◌≡◌, ◌⊎◌, ℕ, ◌≤◌, Bool, true, false, not, ◌==◌, List, length, Result, Err}
+use Rattle.std.specs.Prelude.{◌≡◌, ℕ, ◌≤◌, Bool, true, false, not, ◌==◌, List, Result, Err}
 use Rattle.std.specs.List.{filter}
 use Rattle.gts_event.specs.declared.event.Event.{Event}
 pub use Rattle.gts_event.specs.declared.event.Event.TheVariants.{Heard}
@@ -36,13 +36,13 @@ settled false entries = entries
 abbrev pub settled_own : Bool → Seen → List Entry
 settled_own service d = settled service (own d)
 
--- So many entries of the desk's own are there as there are tries at most, or the desk is alone, which adds none where it lacks memory.
-abbrev pub AreMost : Bool → List Entry → Type 0
-AreMost alone entries = (MOST_TRIES ≤ length entries) ⊎ (alone ≡ true)
+-- so many turns are as many as there are tries at most
+abbrev pub AreMost : ℕ → Type 0
+AreMost turns = MOST_TRIES ≤ turns
 
--- A service (w) takes this fault for the answer of an event that it tries again only behind that many.
-abbrev pub TriesOn : Bool → Event → SwitchFault → Bool → List Entry → Type 0
-TriesOn w event fault alone entries = w ≡ true → is_try (Idle event fault) ≡ true → AreMost alone entries
+-- A service (w) takes this fault for the answer of an event that it tries again only behind that many turns.
+abbrev pub TriesOn : Bool → Event → SwitchFault → ℕ → Type 0
+TriesOn w event fault turns = w ≡ true → is_try (Idle event fault) ≡ true → AreMost turns
 
 -- What became of an event at a desk: tries may have come before, and then it was answered so.
 pub record Hears (service : Bool) (event : Event) (result : Result Outcome SwitchFault) (old new : Seen) : Type 0 where

@@ -1,16 +1,18 @@
 -- A device's fault ends a run only where its count rose.
-use Rattle.std.proofs.Common.{◌≡◌, ℕ, ◌≤◌, Result, Err, refl, subst, arith}
+use Rattle.std.proofs.Common.{◌≡◌, ℕ, ◌≤◌, inl, inr, Result, Err, refl, sym, subst, ◌∙◌, arith}
+use Rattle.gts_event.specs.declared.fault.SwitchFault.{SwitchFault}
 use Rattle.gts_event.specs.declared.fault.SwitchFault.TheVariants as switch
 use Rattle.gts_record.specs.declared.fault.OpenFault.TheVariants as opening
 use Rattle.gts_traits.specs.Counts.{Rose}
 use Rattle.gts_capture.specs.{HasSourceCause}
 use Rattle.gts_capture.specs.declared.capture_fault.CaptureFault.{CaptureFault}
 use Rattle.gts_capture.specs.declared.capture_fault.CaptureFault.TheVariants.{Bad, SourceFault}
+use Rattle.gts_replay.specs.declared.end.ReplayEnd.{ReplayEnd}
 use Rattle.gts_replay.specs.declared.end.ReplayEnd.TheVariants as end
 use Rattle.gts_replay.specs.declared.fault.StepFault.{StepFault}
 use Rattle.gts_replay.specs.declared.fault.StepFault.TheVariants as step
 use Rattle.gts_replay.specs.Replay.{HasReplayCause}
-use Rattle.gts_replay.specs.Ending.{end_of, HasRunCause}
+use Rattle.gts_replay.specs.Ending.{end_of, HasRunCause, HasSettleCause}
 
 rose_since : (a b c : ℕ) → a ≤ b → Rose b c → Rose a c
 rose_since a b c h r = omega (arith, h, r)
@@ -79,3 +81,22 @@ caused_step {T} result fault d e f s t u a b c de st ab is cause = go fault (sub
     go (step.Switch (switch.Stopped by)) w = none (step.Switch (switch.Stopped by)) (λ x. absurd (cc)) (λ x. absurd (cc)) (λ x. absurd (cc)) (λ x. absurd (cc)) (λ x. absurd (cc))
     go (step.Switch switch.Spent) w = none (step.Switch switch.Spent) (λ x. absurd (cc)) (λ x. absurd (cc)) (λ x. absurd (cc)) (λ x. absurd (cc)) (λ x. absurd (cc))
     go (step.Switch switch.NoMemory) w = none (step.Switch switch.NoMemory) (λ x. absurd (cc)) (λ x. absurd (cc)) (λ x. absurd (cc)) (λ x. absurd (cc)) (λ x. absurd (cc))
+
+rose_until : (a b c : ℕ) → b ≤ c → Rose a b → Rose a c
+rose_until a b c h r = omega (arith, h, r)
+
+-- a run was settled
+pub caused_settled : (e result : ReplayEnd) (d f g s u v a c : ℕ) → HasReplayCause e d f s u a c → HasSettleCause e result f g u v → HasReplayCause result d g s v a c
+caused_settled e result d f g s u v a c run settle = record {
+  disk_later = omega (arith, run.disk_later, settle.disk_later);
+  say_later = omega (arith, run.say_later, settle.say_later);
+  source_later = run.source_later;
+  disk_failed = λ is. elim (settle.disk_failed is) [ inl same ↦ rose_until d f g settle.disk_later (run.disk_failed (same ∙ is)) | inr rose ↦ rose_since d f g run.disk_later rose ];
+  compaction_failed = λ is. rose_until d f g settle.disk_later (run.compaction_failed (unsettled (end.Compaction switch.DiskFault) is (λ f k. cc k)));
+  reopen_failed = λ is. rose_until d f g settle.disk_later (run.reopen_failed (unsettled (end.Reopen opening.DiskFault) is (λ f k. cc k)));
+  say_failed = λ is. elim (settle.say_failed is) [ inl same ↦ rose_until s u v settle.say_later (run.say_failed (same ∙ is)) | inr rose ↦ rose_since s u v run.say_later rose ];
+  source_failed = λ is. run.source_failed (unsettled end.SourceFault is (λ f k. cc k));
+}
+  where
+    unsettled : (x : ReplayEnd) → result ≡ x → ((f : SwitchFault) → end.Fault f ≡ x → ⊥) → e ≡ x
+    unsettled x is none = elim settle.others as (λ _. e ≡ x) [ inl same ↦ sym same ∙ is | inr fault ↦ absurd (none fault.0 (sym fault.1 ∙ is)) ]

@@ -4,7 +4,6 @@ use Rattle.std.specs.List.{AllByRecursion}
 use Rattle.std.proofs.lemmas.List.{append-nil, get_or-set_same}
 use Rattle.gts_directory.specs.Directory.{Directory}
 use Rattle.gts_event.specs.State.{State, CircuitState, RoutedOnce, idle, on_circuit, draws, next, left_to_give}
-use Rattle.gts_event.specs.declared.event.Event.{Event}
 use Rattle.gts_event.specs.declared.event.Event.TheVariants.{Taken}
 use Rattle.gts_event.specs.declared.event.Entry.{Entry}
 use Rattle.gts_event.specs.declared.event.Entry.TheVariants.{Done}
@@ -14,9 +13,9 @@ use Rattle.gts_event.specs.declared.outcome.Outcome.{Outcome}
 use Rattle.gts_event.specs.declared.outcome.Outcome.TheVariants.{Resend, Draw, Nothing}
 use Rattle.gts_event.specs.declared.fault.SwitchFault.{SwitchFault}
 use Rattle.gts_event.proofs.LawLemmas.{after_all-append, ordered-all, routed_once-all, owed_few-all, one_less, nothing_left}
-use Rattle.gts_calls.specs.{Standing, IsCalled, entry_of}
+use Rattle.gts_calls.specs.{Standing, Stands, IsAnswered}
 use Rattle.gts_replay.specs.Going.{IsStart, StandsFor, state_at, BreaksOff}
-use Rattle.gts_replay.proofs.GoingLemmas.{cause_at}
+use Rattle.gts_replay.proofs.GoingLemmas.{stands_same, one_done, answer_is, call_breaks, then_breaks, breaks_before}
 
 -- so many takes on a circuit
 abbrev pub takes : ℕ → ℕ → List Entry
@@ -102,111 +101,102 @@ nothing_chosen Nothing_waits e = refl
 
 -- ---- takes, one after another
 
--- So many takes gave something. What is left to give is less by as many; and what is owed less and what was drawn are as many.
-pub record Drained {O W : Type 0} (meanings : Standing O W) (first : W) (o : O) (h : List Entry) (c i : ℕ) (now : W) : Type 0 where
-  pub stands : meanings.stands o (h ++ takes c i) now
-  pub left : left_to_give (on_circuit (state_at meanings first o (h ++ takes c i)) c) + i ≡ left_to_give (on_circuit (state_at meanings first o h) c)
-  pub counted : i + length (on_circuit (state_at meanings first o (h ++ takes c i)) c).owed + draws (on_circuit (state_at meanings first o h) c)
-      ≡ length (on_circuit (state_at meanings first o h) c).owed + draws (on_circuit (state_at meanings first o (h ++ takes c i)) c)
-  pub few : (draws (on_circuit (state_at meanings first o (h ++ takes c i)) c) ≡ draws (on_circuit (state_at meanings first o h) c))
-      ⊎ (draws (on_circuit (state_at meanings first o (h ++ takes c i)) c) ≤ 2 ^ 64)
+module _ {O W : Type 0} (meanings : Standing O W) (begun : W) (o : O) (first : ℕ) (h : List Entry) (c : ℕ) where
+  abbrev pub circuit_at : List Entry → CircuitState
+  circuit_at x = on_circuit (state_at meanings begun o x) c
 
-pub drained_none : {O W : Type 0} (meanings : Standing O W) (first : W) (o : O) (h : List Entry) (c : ℕ) → StandsFor meanings o h first → Drained meanings first o h c 0 first
-drained_none meanings first o h c start =
-    let same : h ++ [] ≡ h = append-nil h in
-    let q : List Entry → CircuitState = λ x. on_circuit (state_at meanings first o x) c in
-    let left : left_to_give (q (h ++ [])) ≡ left_to_give (q h) = ap (λ (x : List Entry). left_to_give (q x)) same in
-    let owed : length (q (h ++ [])).owed ≡ length (q h).owed = ap (λ (x : List Entry). length (q x).owed) same in
-    let drawn : draws (q (h ++ [])) ≡ draws (q h) = ap (λ (x : List Entry). draws (q x)) same in
-    record {
-      stands = subst (λ (x : List Entry). meanings.stands o x first) (sym same) start.stands;
-      left = omega (arith, left);
-      counted = omega (arith, owed, drawn);
-      few = inl drawn;
-    }
+  -- So many takes gave something. What is left to give is less by as many; and what is owed less and what was drawn are as many.
+  pub record Drained (i : ℕ) (now : W) : Type 0 where
+    pub stands : Stands meanings o first (h ++ takes c i) now
+    pub left : left_to_give (circuit_at (h ++ takes c i)) + i ≡ left_to_give (circuit_at h)
+    pub counted : i + length (circuit_at (h ++ takes c i)).owed + draws (circuit_at h) ≡ length (circuit_at h).owed + draws (circuit_at (h ++ takes c i))
+    pub few : (draws (circuit_at (h ++ takes c i)) ≡ draws (circuit_at h)) ⊎ (draws (circuit_at (h ++ takes c i)) ≤ 2 ^ 64)
 
--- the answer of a take in the state behind these entries
-answer_at : {O W : Type 0} (meanings : Standing O W) (first now later : W) (o : O) (h : List Entry) (event : Event) (result : Result Outcome SwitchFault) (answer : Outcome)
-    → meanings.directory now ≡ meanings.directory first → IsCalled meanings event result now later → result ≡ Ok answer → meanings.stands o h now
-    → answer ≡ outcome (meanings.directory first) (state_at meanings first o h) event
-answer_at meanings first now later o h event result answer same called is stands =
-    called.outcome o h stands answer is ∙ ap (λ (d : Directory). outcome d (after_all d (meanings.begin o) h) event) same
+  pub drained_none : StandsFor meanings o first h begun → Drained 0 begun
+  drained_none start =
+      let same : h ++ [] ≡ h = append-nil h in
+      let left : left_to_give (circuit_at (h ++ [])) ≡ left_to_give (circuit_at h) = ap (λ (x : List Entry). left_to_give (circuit_at x)) same in
+      let owed : length (circuit_at (h ++ [])).owed ≡ length (circuit_at h).owed = ap (λ (x : List Entry). length (circuit_at x).owed) same in
+      let drawn : draws (circuit_at (h ++ [])) ≡ draws (circuit_at h) = ap (λ (x : List Entry). draws (circuit_at x)) same in
+      record {
+        stands = stands_same meanings o first h (h ++ []) begun (sym same) start.stands;
+        left = omega (arith, left);
+        counted = omega (arith, owed, drawn);
+        few = inl drawn;
+      }
 
--- the switch stands for one take more
-one_more : {O W : Type 0} (meanings : Standing O W) (now later : W) (o : O) (h : List Entry) (c i : ℕ) (result : Result Outcome SwitchFault) (answer : Outcome)
-    → IsCalled meanings (Taken c) result now later → result ≡ Ok answer → meanings.stands o (h ++ takes c i) now → meanings.stands o (h ++ takes c (i + 1)) later
-one_more meanings now later o h c i result answer called is stands =
-    subst (λ (x : List Entry). meanings.stands o x later)
-    (ap (λ (r : Result Outcome SwitchFault). (h ++ takes c i) ++ entry_of (Taken c) r) is ∙ append_assoc h (takes c i) (Done (Taken c) ∷ []) ∙ ap (λ (x : List Entry). h ++ x) (sym (takes-suc c i)))
-    (called.adds o (h ++ takes c i) stands)
+  module _ (now later : W) (i : ℕ) (result : Result Outcome SwitchFault) (same : meanings.directory now ≡ meanings.directory begun) (drained : Drained i now)
+      (called : IsAnswered meanings (Taken c) result now later) where
+    abbrev before : List Entry
+    before = h ++ takes c i
 
-pub drained_more : {O W : Type 0} (meanings : Standing O W) (first now later : W) (o : O) (h : List Entry) (c i : ℕ) (result : Result Outcome SwitchFault) (answer : Outcome)
-    → StandsFor meanings o h first → c < length (meanings.directory first).circuits → meanings.directory now ≡ meanings.directory first → Drained meanings first o h c i now
-    → IsCalled meanings (Taken c) result now later → result ≡ Ok answer → (answer ≡ Nothing → ⊥) → Few answer → Drained meanings first o h c (i + 1) later
-drained_more meanings first now later o h c i result answer start within same drained called is some few =
-    let d : Directory = meanings.directory first in
-    let before : List Entry = h ++ takes c i in
-    let s : State = state_at meanings first o before in
-    let begun : IsStart d s = start_on d (meanings.begin o) before start.start in
-    let answered : answer ≡ outcome d s (Taken c) = answer_at meanings first now later o before (Taken c) result answer same called is drained.stands in
-    let gives : choice d s c ≡ Nothing_waits → ⊥ = λ (e : choice d s c ≡ Nothing_waits). some (answered ∙ ap outcome_of_choice e) in
-    let all : h ++ takes c (i + 1) ≡ before ++ Done (Taken c) ∷ [] = ap (λ (x : List Entry). h ++ x) (takes-suc c i) ∙ sym (append_assoc h (takes c i) (Done (Taken c) ∷ [])) in
-    let next_state : state_at meanings first o (h ++ takes c (i + 1)) ≡ after d s (Taken c) =
-    ap (λ (x : List Entry). state_at meanings first o x) all ∙ after_all-append d (meanings.begin o) before (Done (Taken c) ∷ []) in
-    let one = one_taken d s c (omega (arith, begun.ordered.circuits, within)) (subst Few answered few) gives in
-    let less = one_less d s c (once_on s.circuits c begun.once) gives in
-    let q : State → CircuitState = λ t. on_circuit t c in
-    let left : left_to_give (q (state_at meanings first o (h ++ takes c (i + 1)))) ≡ left_to_give (q (after d s (Taken c))) = ap (λ (t : State). left_to_give (q t)) next_state in
-    let owed : length (q (state_at meanings first o (h ++ takes c (i + 1)))).owed ≡ length (q (after d s (Taken c))).owed = ap (λ (t : State). length (q t).owed) next_state in
-    let drawn : draws (q (state_at meanings first o (h ++ takes c (i + 1)))) ≡ draws (q (after d s (Taken c))) = ap (λ (t : State). draws (q t)) next_state in
-    record {
-      stands = one_more meanings now later o h c i result answer called is drained.stands;
-      left = omega (arith, left, less, drained.left);
-      counted = omega (arith, owed, drawn, one.0, drained.counted);
-      few = fits drawn one.1 drained.few;
-    }
-  where
-    fits : {a b m n : ℕ} → a ≡ b → (b ≡ m) ⊎ (b ≤ 2 ^ 64) → (m ≡ n) ⊎ (m ≤ 2 ^ 64) → (a ≡ n) ⊎ (a ≤ 2 ^ 64)
-    fits e (inl f) (inl g) = inl (e ∙ f ∙ g)
-    fits e (inl f) (inr g) = inr (omega (arith, e, f, g))
-    fits e (inr f) g = inr (omega (arith, e, f))
+    abbrev d : Directory
+    d = meanings.directory begun
 
--- the take that gives nothing is the last
-pub drained_all : {O W : Type 0} (meanings : Standing O W) (first now later : W) (o : O) (h : List Entry) (c i : ℕ) (result : Result Outcome SwitchFault)
-    → StandsFor meanings o h first → meanings.directory now ≡ meanings.directory first → Drained meanings first o h c i now → IsCalled meanings (Taken c) result now later → result ≡ Ok Nothing
-    → meanings.stands o (h ++ all_done (takes_of_drain (state_at meanings first o h) c)) later
-drained_all meanings first now later o h c i result start same drained called is =
-    let d : Directory = meanings.directory first in
-    let before : List Entry = h ++ takes c i in
-    let s : State = state_at meanings first o before in
-    let none : choice d s c ≡ Nothing_waits = nothing_chosen (choice d s c) (answer_at meanings first now later o before (Taken c) result Nothing same called is drained.stands) in
-    let both = nothing_left d s c none in
-    let nothing : left_to_give (on_circuit s c) ≡ 0 = omega (arith, ap length both.0, ap length both.1) in
-    let count : i + 1 ≡ left_to_give (on_circuit (state_at meanings first o h) c) + 1 = omega (arith, nothing, drained.left) in
-    subst (λ (k : ℕ). meanings.stands o (h ++ takes c k) later) count (one_more meanings now later o h c i result Nothing called is drained.stands)
+    abbrev s : State
+    s = state_at meanings begun o before
 
--- a take was answered with a fault
-pub drained_breaks : {O W : Type 0} (meanings : Standing O W) (first now later : W) (o : O) (h : List Entry) (c i : ℕ) (result : Result Outcome SwitchFault) (fault : SwitchFault)
-    → Drained meanings first o h c i now → IsCalled meanings (Taken c) result now later → result ≡ Err fault
-    → BreaksOff meanings (λ _. o) h (all_done (takes_of_drain (state_at meanings first o h) c)) fault later
-drained_breaks meanings first now later o h c i result fault drained called is =
-    let before : List Entry = h ++ takes c i in
-    let k : ℕ = left_to_give (on_circuit (state_at meanings first o before) c) in
-    let count : left_to_give (on_circuit (state_at meanings first o h) c) + 1 ≡ i + suc k = omega (arith, drained.left) in
-    record {
-      front = takes c i;
-      event = Taken c;
-      behind = takes c k;
-      parts = ap (takes c) count ∙ takes-split c i (suc k);
-      stands = subst (λ (r : Result Outcome SwitchFault). meanings.stands o (before ++ entry_of (Taken c) r) later) is (called.adds o before drained.stands);
-      cause = cause_at meanings o before (Taken c) fault now later called.directory (called.caused o before drained.stands fault is);
-    }
+    -- the answer of a take in the state behind these entries
+    answered : (answer : Outcome) → result ≡ Ok answer → answer ≡ outcome d s (Taken c)
+    answered answer is =
+        answer_is meanings (Taken c) result answer now later called is o first before drained.stands ∙ ap (λ (e : Directory). outcome e (after_all e (meanings.begin o) before) (Taken c)) same
 
--- no circuit has so much to give
-pub drained_few : {O W : Type 0} (meanings : Standing O W) (first now : W) (o : O) (h : List Entry) (c i : ℕ) → StandsFor meanings o h first → Drained meanings first o h c i now → i < 2 ^ 128 - 1
-drained_few meanings first now o h c i start drained =
-    let owed : length (on_circuit (state_at meanings first o h) c).owed ≤ most_owed = few_on (state_at meanings first o h).circuits c (start_on (meanings.directory first) (meanings.begin o) h start.start).few in
-    elim drained.few as (λ _. i < 2 ^ 128 - 1) [
-      | inl same ↦ omega (arith, same, owed, drained.counted)
-      | inr small ↦ omega (arith, small, owed, drained.counted)
-    ]
+    -- the switch stands for one take more
+    one_more : (answer : Outcome) → result ≡ Ok answer → Stands meanings o first (h ++ takes c (i + 1)) later
+    one_more answer is =
+        stands_same meanings o first (before ++ Done (Taken c) ∷ []) (h ++ takes c (i + 1)) later
+        (append_assoc h (takes c i) (Done (Taken c) ∷ []) ∙ ap (λ (x : List Entry). h ++ x) (sym (takes-suc c i)))
+        (one_done meanings (Taken c) result answer now later called is o first before drained.stands)
+
+    pub drained_more : (answer : Outcome) → StandsFor meanings o first h begun → c < length (meanings.directory begun).circuits → result ≡ Ok answer → (answer ≡ Nothing → ⊥) → Few answer → Drained (i + 1) later
+    drained_more answer start within is some few =
+        let started : IsStart d s = start_on d (meanings.begin o) before start.start in
+        let gives : choice d s c ≡ Nothing_waits → ⊥ = λ (e : choice d s c ≡ Nothing_waits). some (answered answer is ∙ ap outcome_of_choice e) in
+        let all : h ++ takes c (i + 1) ≡ before ++ Done (Taken c) ∷ [] = ap (λ (x : List Entry). h ++ x) (takes-suc c i) ∙ sym (append_assoc h (takes c i) (Done (Taken c) ∷ [])) in
+        let next_state : state_at meanings begun o (h ++ takes c (i + 1)) ≡ after d s (Taken c) =
+        ap (λ (x : List Entry). state_at meanings begun o x) all ∙ after_all-append d (meanings.begin o) before (Done (Taken c) ∷ []) in
+        let one = one_taken d s c (omega (arith, started.ordered.circuits, within)) (subst Few (answered answer is) few) gives in
+        let less = one_less d s c (once_on s.circuits c started.once) gives in
+        let q : State → CircuitState = λ t. on_circuit t c in
+        let left : left_to_give (circuit_at (h ++ takes c (i + 1))) ≡ left_to_give (q (after d s (Taken c))) = ap (λ (t : State). left_to_give (q t)) next_state in
+        let owed : length (circuit_at (h ++ takes c (i + 1))).owed ≡ length (q (after d s (Taken c))).owed = ap (λ (t : State). length (q t).owed) next_state in
+        let drawn : draws (circuit_at (h ++ takes c (i + 1))) ≡ draws (q (after d s (Taken c))) = ap (λ (t : State). draws (q t)) next_state in
+        record {
+          stands = one_more answer is;
+          left = omega (arith, left, less, drained.left);
+          counted = omega (arith, owed, drawn, one.0, drained.counted);
+          few = fits drawn one.1 drained.few;
+        }
+      where
+        fits : {a b m n : ℕ} → a ≡ b → (b ≡ m) ⊎ (b ≤ 2 ^ 64) → (m ≡ n) ⊎ (m ≤ 2 ^ 64) → (a ≡ n) ⊎ (a ≤ 2 ^ 64)
+        fits e (inl f) (inl g) = inl (e ∙ f ∙ g)
+        fits e (inl f) (inr g) = inr (omega (arith, e, f, g))
+        fits e (inr f) g = inr (omega (arith, e, f))
+
+    -- the take that gives nothing is the last
+    pub drained_all : result ≡ Ok Nothing → Stands meanings o first (h ++ all_done (takes_of_drain (state_at meanings begun o h) c)) later
+    drained_all is =
+        let none : choice d s c ≡ Nothing_waits = nothing_chosen (choice d s c) (answered Nothing is) in
+        let both = nothing_left d s c none in
+        let nothing : left_to_give (on_circuit s c) ≡ 0 = omega (arith, ap length both.0, ap length both.1) in
+        let count : i + 1 ≡ left_to_give (circuit_at h) + 1 = omega (arith, nothing, drained.left) in
+        subst (λ (k : ℕ). Stands meanings o first (h ++ takes c k) later) count (one_more Nothing is)
+
+    -- a take was answered with a fault
+    pub drained_breaks : (fault : SwitchFault) → result ≡ Err fault → BreaksOff meanings (λ _. o) first h (all_done (takes_of_drain (state_at meanings begun o h) c)) fault later
+    drained_breaks fault is =
+        let k : ℕ = left_to_give (on_circuit s c) in
+        let count : left_to_give (circuit_at h) + 1 ≡ i + suc k = omega (arith, drained.left) in
+        let parts : takes c (left_to_give (circuit_at h) + 1) ≡ takes c i ++ (Done (Taken c) ∷ [] ++ takes c k) = ap (takes c) count ∙ takes-split c i (suc k) in
+        let one = call_breaks meanings (Taken c) result fault now later called is o first before drained.stands in
+        subst (λ (x : List Entry). BreaksOff meanings (λ _. o) first h x fault later) (sym parts)
+        (then_breaks meanings o first h (takes c i) (Done (Taken c) ∷ [] ++ takes c k) fault later (breaks_before meanings o first before (Done (Taken c) ∷ []) (takes c k) fault later one))
+
+  -- no circuit has so much to give
+  pub drained_few : (now : W) (i : ℕ) → StandsFor meanings o first h begun → Drained i now → i < 2 ^ 128 - 1
+  drained_few now i start drained =
+      let owed : length (circuit_at h).owed ≤ most_owed = few_on (state_at meanings begun o h).circuits c (start_on (meanings.directory begun) (meanings.begin o) h start.start).few in
+      elim drained.few as (λ _. i < 2 ^ 128 - 1) [
+        | inl same ↦ omega (arith, same, owed, drained.counted)
+        | inr small ↦ omega (arith, small, owed, drained.counted)
+      ]

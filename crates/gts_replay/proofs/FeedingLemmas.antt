@@ -1,25 +1,17 @@
 -- The bytes of a connection, piece by piece, and the entries that they add.
-use Rattle.std.proofs.Common.{◌≡◌, ℕ, ◌-◌, List, [], ◌∷◌, ◌++◌, length, take, drop, Result, Ok, Err, sym, ap, subst, ◌∙◌, arith, length-drop}
-use Rattle.std.proofs.lemmas.List.{append-nil, append_assoc, map-append, take_all}
-use Rattle.std.proofs.lemmas.Result.{err_from_is_err_and}
-use Rattle.std.specs.Prelude.{IsErrAnd}
+use Rattle.std.proofs.Common.{◌≡◌, ℕ, ◌-◌, List, [], ◌∷◌, ◌++◌, length, take, drop, Err, sym, ap, subst, ◌∙◌, arith, length-drop}
+use Rattle.std.proofs.lemmas.List.{append-nil, append_assoc, take_all}
 use Rattle.gts_event.specs.Drain.{all_done}
 use Rattle.gts_event.specs.declared.event.Event.{Event}
 use Rattle.gts_event.specs.declared.event.Entry.{Entry}
-use Rattle.gts_event.specs.declared.event.Entry.TheVariants.{Done}
 use Rattle.gts_event.specs.declared.fault.SwitchFault.{SwitchFault}
-use Rattle.gts_frame.specs.Decoder.{Decoding, ReadsOn, signs_of_step}
+use Rattle.gts_frame.specs.Decoder.{Decoding}
 use Rattle.gts_frame.specs.Signs.{held_in}
-use Rattle.gts_frame.specs.declared.step.Step.{Step}
 use Rattle.gts_connection.specs.Connection.{events_added}
-use Rattle.gts_connection.specs.Steps.{events_of_signs}
-use Rattle.gts_connection.proofs.LawLemmas.{added-twice, added-signs}
-use Rattle.gts_calls.specs.{Standing}
-use Rattle.gts_replay.specs.Going.{BreaksOff, Goes, IsFed}
-use Rattle.gts_replay.proofs.GoingLemmas.{then_goes, breaks_before, goes_same}
-
-all_done-append : (xs ys : List Event) → all_done (xs ++ ys) ≡ all_done xs ++ all_done ys
-all_done-append xs ys = map-append (λ (e : Event). Done e) xs ys
+use Rattle.gts_connection.proofs.LawLemmas.{added-twice}
+use Rattle.gts_calls.specs.{Standing, Stands}
+use Rattle.gts_replay.specs.Going.{BreaksOff, IsFed}
+use Rattle.gts_replay.proofs.GoingLemmas.{all_done-append, stands_same, then_goes, breaks_before}
 
 -- what two pieces add
 pub done_twice : (c : ℕ) (before x y : List ℕ) → all_done (events_added c before (x ++ y)) ≡ all_done (events_added c before x) ++ all_done (events_added c (before ++ x) y)
@@ -37,80 +29,56 @@ nothing_added c before = done (added-twice c before [] [])
         let last = none (events_added c before []) (events_added c (before ++ []) []) e in
         subst (λ (b : List ℕ). events_added c b [] ≡ []) (append-nil before) last
 
-pub fed_none : {O W : Type 0} (meanings : Standing O W) (c : ℕ) (old : Decoding) (first : W) → IsFed meanings c old first [] old first
-fed_none meanings c old first = record {
-  held = λ before is. is ∙ ap held_in (sym (append-nil before));
-  adds = λ before o h is stands. subst (λ (x : List Entry). meanings.stands o x first) (sym (append-nil h) ∙ ap (λ (x : List Event). h ++ all_done x) (sym (nothing_added c before))) stands;
-}
+module _ {O W : Type 0} (meanings : Standing O W) (c : ℕ) (old : Decoding) (begun : W) where
+  pub fed_none : IsFed meanings c old begun [] old begun
+  fed_none = record {
+    held = λ before is. is ∙ ap held_in (sym (append-nil before));
+    adds = λ before o first h is stands.
+        stands_same meanings o first h (h ++ all_done (events_added c before [])) begun (sym (append-nil h) ∙ ap (λ (x : List Event). h ++ all_done x) (sym (nothing_added c before))) stands;
+  }
 
--- what a decoder's step showed
-shown : (c : ℕ) (before x : List ℕ) (step : Step) (now : Decoding) → ReadsOn before x step now
-    → all_done (events_added c before x) ≡ all_done (events_of_signs c (signs_of_step step now.message))
-shown c before x step now reads = ap all_done (added-signs c before x step now reads)
+  -- a piece more was dealt with
+  pub fed_piece : (bytes piece : List ℕ) (decoder next : Decoding) (now later : W)
+      → IsFed meanings c old begun bytes decoder now
+      → ((before : List ℕ) → decoder.held ≡ held_in before → next.held ≡ held_in (before ++ piece))
+      → ((before : List ℕ) (o : O) (first : ℕ) (h : List Entry) → decoder.held ≡ held_in before → Stands meanings o first h now → Stands meanings o first (h ++ all_done (events_added c before piece)) later)
+      → IsFed meanings c old begun (bytes ++ piece) next later
+  fed_piece bytes piece decoder next now later fed held goes = record {
+    held = λ before is. held (before ++ bytes) (fed.held before is) ∙ ap held_in (append_assoc before bytes piece);
+    adds = λ before o first h is stands.
+        let front : List Entry = all_done (events_added c before bytes) in
+        let more = goes (before ++ bytes) o first (h ++ front) (fed.held before is) (fed.adds before o first h is stands) in
+        stands_same meanings o first ((h ++ front) ++ all_done (events_added c (before ++ bytes) piece)) (h ++ all_done (events_added c before (bytes ++ piece))) later
+        (append_assoc h front (all_done (events_added c (before ++ bytes) piece)) ∙ ap (λ (x : List Entry). h ++ x) (sym (done_twice c before bytes piece))) more;
+  }
 
--- one step of the decoder more was dealt with
-pub fed_more : {O W : Type 0} (meanings : Standing O W) (c : ℕ) (old : Decoding) (first : W) (bytes x : List ℕ) (step : Step) (decoder next : Decoding) (now later : W)
-    → IsFed meanings c old first bytes decoder now
-    → ((before : List ℕ) → decoder.held ≡ held_in before → ReadsOn before x step next)
-    → ((o : O) (h : List Entry) → meanings.stands o h now → Goes meanings o h (all_done (events_of_signs c (signs_of_step step next.message))) (Ok tt) later)
-    → IsFed meanings c old first (bytes ++ x) next later
-fed_more meanings c old first bytes x step decoder next now later fed reads goes = record {
-  held = λ before is. (reads (before ++ bytes) (fed.held before is)).held ∙ ap held_in (append_assoc before bytes x);
-  adds = λ before o h is stands.
-      let more = goes o (h ++ all_done (events_added c before bytes)) (fed.adds before o h is stands) in
-      let same = shown c (before ++ bytes) x step next (reads (before ++ bytes) (fed.held before is)) in
-      let all = then_goes meanings o h (all_done (events_added c before bytes)) (all_done (events_of_signs c (signs_of_step step next.message))) (Ok tt) later more in
-      goes_same meanings o h _ _ (Ok tt) later
-      (ap (λ (e : List Entry). all_done (events_added c before bytes) ++ e) (sym same) ∙ sym (done_twice c before bytes x)) all;
-}
-
--- a step of the decoder was answered with a fault, and what stands behind it was not dealt with
-pub fed_breaks : {O W : Type 0} (meanings : Standing O W) (c : ℕ) (old : Decoding) (first : W) (bytes x rest : List ℕ) (step : Step) (decoder next : Decoding) (now later : W)
-    (result r : Result (Unit {0}) SwitchFault) (fault : SwitchFault) → result ≡ Err fault → IsErrAnd r (λ e. e ≡ fault)
-    → IsFed meanings c old first bytes decoder now
-    → ((before : List ℕ) → decoder.held ≡ held_in before → ReadsOn before x step next)
-    → ((o : O) (h : List Entry) → meanings.stands o h now → Goes meanings o h (all_done (events_of_signs c (signs_of_step step next.message))) result later)
-    → (before : List ℕ) (o : O) (h : List Entry) → old.held ≡ held_in before → meanings.stands o h first
-    → Goes meanings o h (all_done (events_added c before (bytes ++ (x ++ rest)))) r later
-fed_breaks meanings c old first bytes x rest step decoder next now later result r fault is failed fed reads goes before o h held stands =
-    let error = err_from_is_err_and r failed in
-    let front : List Entry = all_done (events_added c before bytes) in
-    let made : List Entry = all_done (events_of_signs c (signs_of_step step next.message)) in
-    let behind : List Entry = all_done (events_added c ((before ++ bytes) ++ x) rest) in
-    let broken : BreaksOff meanings (λ _. o) (h ++ front) made fault later =
-    subst (λ (e : Result (Unit {0}) SwitchFault). Goes meanings o (h ++ front) made e later) is (goes o (h ++ front) (fed.adds before o h held stands)) in
-    let all = then_goes meanings o h front (made ++ behind) (Err fault) later (breaks_before meanings o (h ++ front) made behind fault later broken) in
-    let same : all_done (events_added c before (bytes ++ (x ++ rest))) ≡ front ++ (made ++ behind) =
-    done_twice c before bytes (x ++ rest) ∙ ap (λ (e : List Entry). front ++ e) (done_twice c (before ++ bytes) x rest
-    ∙ ap (λ (e : List Entry). e ++ behind) (shown c (before ++ bytes) x step next (reads (before ++ bytes) (fed.held before held)))) in
-    goes_same meanings o h (front ++ (made ++ behind)) (all_done (events_added c before (bytes ++ (x ++ rest)))) r later (sym same)
-    (subst (λ (e : Result (Unit {0}) SwitchFault). Goes meanings o h (front ++ (made ++ behind)) e later) (sym (error.1 ∙ ap (λ (e : SwitchFault). Err e) error.2)) all)
-
--- a piece more was dealt with
-pub fed_piece : {O W : Type 0} (meanings : Standing O W) (c : ℕ) (old : Decoding) (first : W) (bytes piece : List ℕ) (decoder next : Decoding) (now later : W)
-    → IsFed meanings c old first bytes decoder now
-    → ((before : List ℕ) → decoder.held ≡ held_in before → next.held ≡ held_in (before ++ piece))
-    → ((before : List ℕ) (o : O) (h : List Entry) → decoder.held ≡ held_in before → meanings.stands o h now → meanings.stands o (h ++ all_done (events_added c before piece)) later)
-    → IsFed meanings c old first (bytes ++ piece) next later
-fed_piece meanings c old first bytes piece decoder next now later fed held goes = record {
-  held = λ before is. held (before ++ bytes) (fed.held before is) ∙ ap held_in (append_assoc before bytes piece);
-  adds = λ before o h is stands.
+  -- a piece broke off
+  pub breaks_piece : (bytes piece : List ℕ) (decoder : Decoding) (now later : W) (fault : SwitchFault)
+      → IsFed meanings c old begun bytes decoder now
+      → ((before : List ℕ) (o : O) (first : ℕ) (h : List Entry) → decoder.held ≡ held_in before → Stands meanings o first h now
+      → BreaksOff meanings (λ _. o) first h (all_done (events_added c before piece)) fault later)
+      → (before : List ℕ) (o : O) (first : ℕ) (h : List Entry) → old.held ≡ held_in before → Stands meanings o first h begun
+      → BreaksOff meanings (λ _. o) first h (all_done (events_added c before (bytes ++ piece))) fault later
+  breaks_piece bytes piece decoder now later fault fed goes before o first h is stands =
       let front : List Entry = all_done (events_added c before bytes) in
-      let more = goes (before ++ bytes) o (h ++ front) (fed.held before is) (fed.adds before o h is stands) in
-      subst (λ (x : List Entry). meanings.stands o x later)
-      (append_assoc h front (all_done (events_added c (before ++ bytes) piece)) ∙ ap (λ (x : List Entry). h ++ x) (sym (done_twice c before bytes piece))) more;
-}
+      let more = goes (before ++ bytes) o first (h ++ front) (fed.held before is) (fed.adds before o first h is stands) in
+      let all = then_goes meanings o first h front (all_done (events_added c (before ++ bytes) piece)) (Err fault) later more in
+      subst (λ (x : List Entry). BreaksOff meanings (λ _. o) first h x fault later) (sym (done_twice c before bytes piece)) all
 
--- a piece broke off
-pub breaks_piece : {O W : Type 0} (meanings : Standing O W) (c : ℕ) (old : Decoding) (first : W) (bytes piece : List ℕ) (decoder : Decoding) (now later : W) (fault : SwitchFault)
-    → IsFed meanings c old first bytes decoder now
-    → ((before : List ℕ) (o : O) (h : List Entry) → decoder.held ≡ held_in before → meanings.stands o h now → BreaksOff meanings (λ _. o) h (all_done (events_added c before piece)) fault later)
-    → (before : List ℕ) (o : O) (h : List Entry) → old.held ≡ held_in before → meanings.stands o h first → BreaksOff meanings (λ _. o) h (all_done (events_added c before (bytes ++ piece))) fault later
-breaks_piece meanings c old first bytes piece decoder now later fault fed goes before o h is stands =
-    let front : List Entry = all_done (events_added c before bytes) in
-    let more = goes (before ++ bytes) o (h ++ front) (fed.held before is) (fed.adds before o h is stands) in
-    let all = then_goes meanings o h front (all_done (events_added c (before ++ bytes) piece)) (Err fault) later more in
-    subst (λ (x : List Entry). BreaksOff meanings (λ _. o) h x fault later) (sym (done_twice c before bytes piece)) all
+  -- and what stands behind it was not dealt with
+  pub breaks_rest : (bytes x rest : List ℕ) (decoder : Decoding) (now later : W) (fault : SwitchFault)
+      → IsFed meanings c old begun bytes decoder now
+      → ((before : List ℕ) (o : O) (first : ℕ) (h : List Entry) → decoder.held ≡ held_in before → Stands meanings o first h now
+      → BreaksOff meanings (λ _. o) first h (all_done (events_added c before x)) fault later)
+      → (before : List ℕ) (o : O) (first : ℕ) (h : List Entry) → old.held ≡ held_in before → Stands meanings o first h begun
+      → BreaksOff meanings (λ _. o) first h (all_done (events_added c before (bytes ++ (x ++ rest)))) fault later
+  breaks_rest bytes x rest decoder now later fault fed goes before o first h is stands =
+      let broken = breaks_piece bytes x decoder now later fault fed goes before o first h is stands in
+      let front : List Entry = all_done (events_added c before (bytes ++ x)) in
+      let behind : List Entry = all_done (events_added c (before ++ (bytes ++ x)) rest) in
+      let same : front ++ behind ≡ all_done (events_added c before (bytes ++ (x ++ rest))) =
+      sym (done_twice c before (bytes ++ x) rest) ∙ ap (λ (l : List ℕ). all_done (events_added c before l)) (append_assoc bytes x rest) in
+      subst (λ (l : List Entry). BreaksOff meanings (λ _. o) first h l fault later) same (breaks_before meanings o first h front behind fault later broken)
 
 -- a slice from a place on
 pub slice_from : (n : ℕ) (xs : List ℕ) → take (length xs - n) (drop n xs) ≡ drop n xs

@@ -5,6 +5,8 @@ pub mod DecoderLemmas
 pub mod StepLemmas
 pub mod SureLemmas
 pub mod RunLemmas
+pub mod FollowLemmas
+pub mod BreakingLemmas
 pub mod EndLemmas
 pub mod CauseLemmas
 pub mod OriginLemmas

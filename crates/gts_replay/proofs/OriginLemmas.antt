@@ -22,6 +22,18 @@ AllWithin n ks = AllByRecursion (λ k. k ≤ n) ks
 abbrev pub AllBehind : ℕ → List ℕ → Type 0
 AllBehind n ks = AllByRecursion (λ k. n < k) ks
 
+pub wider : (m n : ℕ) (ks : List ℕ) → m ≤ n → AllWithin m ks → AllWithin n ks
+wider m n [] le each = tt
+wider m n (k ∷ ks) le each = (omega (arith, le, each.0), wider m n ks le each.1)
+
+pub within_append : (n : ℕ) (xs ys : List ℕ) → AllWithin n xs → AllWithin n ys → AllWithin n (xs ++ ys)
+within_append n [] ys each more = more
+within_append n (x ∷ xs) ys each more = (each.0, within_append n xs ys each.1 more)
+
+pub behind_append : (n : ℕ) (xs ys : List ℕ) → AllBehind n xs → AllBehind n ys → AllBehind n (xs ++ ys)
+behind_append n [] ys each more = more
+behind_append n (x ∷ xs) ys each more = (each.0, behind_append n xs ys each.1 more)
+
 -- ---- which compactions were done by then
 
 test_is : (k n : ℕ) (b : Bool) → nat_le k n ≡ b → (ks : List ℕ) → done_by n (k ∷ ks) ≡ cond b (k ∷ done_by n ks) (done_by n ks)
@@ -61,32 +73,28 @@ module _ {O W : Type 0} (meanings : Standing O W) where
   one_compacted o h x Restart = refl
   one_compacted o h x Compact = ap (λ (t : List Entry). meanings.compacts o t) (take-append_seam h x)
 
-  -- the origin behind the compactions that were done is the same, whatever comes later
-  pub origin_is : (o : O) (h x : List Entry) (ks later : List ℕ) → AllWithin (length h) ks → AllBehind (length (h ++ x)) later
-      → origin_behind meanings o (ks ++ later) (h ++ x) ≡ compacted_at meanings o h ks
-  origin_is o h x ks later each none =
-      let n : ℕ = length (h ++ x) in
+  -- the origin behind a front is the same, whatever is compacted behind it
+  pub origin_is : (o : O) (x y front tail : List Entry) (ks later : List ℕ) → x ++ y ≡ front ++ tail → AllWithin (length x) ks → AllWithin (length front) ks → AllBehind (length front) later
+      → origin_behind meanings o (ks ++ later) front ≡ compacted_at meanings o x ks
+  origin_is o x y front tail ks later parts inside each none =
+      let n : ℕ = length front in
       let all : done_by n (ks ++ later) ≡ ks =
-      filter-append (λ k. nat_le k n) ks later ∙ ap (λ (xs : List ℕ). done_by n ks ++ xs) (none_done_by n later none) ∙ append-nil (done_by n ks)
-      ∙ all_done_by n ks (wider (length h) n ks (omega (arith, length-append h x)) each) in
-      ap (λ (xs : List ℕ). compacted_at meanings o (h ++ x) xs) all ∙ compacted_front o h x ks each
-    where
-      wider : (m n : ℕ) (ks : List ℕ) → m ≤ n → AllWithin m ks → AllWithin n ks
-      wider m n [] le each = tt
-      wider m n (k ∷ ks) le each = (omega (arith, le, each.0), wider m n ks le each.1)
+      filter-append (λ k. nat_le k n) ks later ∙ ap (λ (xs : List ℕ). done_by n ks ++ xs) (none_done_by n later none) ∙ append-nil (done_by n ks) ∙ all_done_by n ks each in
+      ap (λ (xs : List ℕ). compacted_at meanings o front xs) all ∙ sym (compacted_front o front tail ks each) ∙ ap (λ (t : List Entry). compacted_at meanings o t ks) (sym parts)
+      ∙ compacted_front o x y ks inside
 
-  module _ (first : W) (o : O) (h : List Entry) (steps : List Step) where
+  module _ (begun : W) (o : O) (h : List Entry) (steps : List Step) where
     abbrev d : Directory
-    d = meanings.directory first
+    d = meanings.directory begun
 
     abbrev s : State
-    s = state_at meanings first o h
+    s = state_at meanings begun o h
 
     abbrev es : List Entry
-    es = entries_at meanings first o h steps
+    es = entries_at meanings begun o h steps
 
     abbrev ks : List ℕ
-    ks = compactions_at meanings first o h steps
+    ks = compactions_at meanings begun o h steps
 
     pub counts_within : AllWithin (length (h ++ es)) ks
     counts_within = go ks (compactions_between d s (no_bytes d) (length h) steps)
@@ -96,17 +104,17 @@ module _ {O W : Type 0} (meanings : Standing O W) where
         go (x ∷ xs) each = (omega (arith, each.0.1, length-append h es), go xs each.1)
 
     -- the compactions of one step more
-    pub counts_more : (step : Step) → compactions_at meanings first o h (steps ++ step ∷ []) ≡ ks ++ count_at (length (h ++ es)) step
+    pub counts_more : (step : Step) → compactions_at meanings begun o h (steps ++ step ∷ []) ≡ ks ++ count_at (length (h ++ es)) step
     counts_more step =
         compactions_go_on d s (length h) steps (step ∷ []) ∙ ap (λ (xs : List ℕ). ks ++ xs) (append-nil (count_at (length h + length es) step))
         ∙ ap (λ (n : ℕ). ks ++ count_at n step) (sym (length-append h es))
 
-    pub origin_more : (step : Step) (added : List Entry) → h ++ entries_at meanings first o h (steps ++ step ∷ []) ≡ (h ++ es) ++ added
-        → compacted_at meanings o (h ++ entries_at meanings first o h (steps ++ step ∷ [])) (compactions_at meanings first o h (steps ++ step ∷ []))
+    pub origin_more : (step : Step) (added : List Entry) → h ++ entries_at meanings begun o h (steps ++ step ∷ []) ≡ (h ++ es) ++ added
+        → compacted_at meanings o (h ++ entries_at meanings begun o h (steps ++ step ∷ [])) (compactions_at meanings begun o h (steps ++ step ∷ []))
         ≡ origin_after meanings (compacted_at meanings o (h ++ es) ks) (h ++ es) step
     origin_more step added is =
         let one : List ℕ = count_at (length (h ++ es)) step in
-        ap (λ (x : List Entry). compacted_at meanings o x (compactions_at meanings first o h (steps ++ step ∷ []))) is
+        ap (λ (x : List Entry). compacted_at meanings o x (compactions_at meanings begun o h (steps ++ step ∷ []))) is
         ∙ ap (λ (xs : List ℕ). compacted_at meanings o ((h ++ es) ++ added) xs) (counts_more step)
         ∙ compacted_append o ((h ++ es) ++ added) ks one
         ∙ ap (λ (p : O). compacted_at meanings p ((h ++ es) ++ added) one) (compacted_front o (h ++ es) added ks counts_within)

@@ -8,33 +8,42 @@ use Rattle.gts_event.specs.declared.event.Entry.{Entry}
 use Rattle.gts_event.proofs.LawLemmas.{after_all-append}
 use Rattle.gts_frame.specs.Decoder.{Decoding}
 use Rattle.gts_connection.specs.declared.kind.CaptureKind.{CaptureKind}
-use Rattle.gts_connection.specs.Capture.{Step, Head, FeedHead, TakeHead, ReopenHead, DrainHead, RestartHead, CompactHead, EndHead, head_text, head_of, bytes_of_step, step_text, IsHeadOf, AreStepsOf, Connections, no_bytes, entries_of_step, after_step, connections_after}
+use Rattle.gts_connection.specs.Capture.{Step, Feed, Take, Reopen, Drain, Restart, Compact, Head, FeedHead, TakeHead, ReopenHead, DrainHead, RestartHead, CompactHead, EndHead, head_text, head_of, bytes_of_step, step_text, IsHeadOf, AreStepsOf, Connections, no_bytes, entries_of_step, after_step, connections_after, count_at}
 use Rattle.gts_connection.proofs.LawLemmas.{entries_go_on, connections_go_on}
 use Rattle.gts_connection.specs.declared.limits.TheConstants.{LONGEST_CAPTURE}
 use Rattle.gts_capture.specs.{IsHeadIn, bytes_announced, IsReadTo, IsSameCapture, at_start}
 use Rattle.gts_capture.specs.Held.{Held}
 use Rattle.gts_capture.proofs.LawLemmas.{begins, one_step}
-use Rattle.gts_calls.specs.{Standing}
+use Rattle.gts_calls.specs.{Standing, Stands}
 use Rattle.gts_replay.specs.Going.{IsStart, StandsFor, state_at, compacted_at, Decode}
-use Rattle.gts_replay.specs.Replay.{HasDone, entries_at, compactions_at}
-use Rattle.gts_replay.specs.Ending.{IsStepOf, DoesStep, Takes, origin_after}
-use Rattle.gts_replay.proofs.OriginLemmas.{origin_more}
+use Rattle.gts_replay.specs.Replay.{entries_at, compactions_at}
+use Rattle.gts_replay.specs.Ending.{IsStepOf, DoesStep, Takes, origin_after, first_after}
+use Rattle.gts_replay.proofs.GoingLemmas.{stands_same, within_all}
+use Rattle.gts_replay.proofs.OriginLemmas.{AllWithin, wider, within_append, counts_more, origin_more}
 
 -- the origin behind steps that were done
 abbrev pub origin_done : {O W : Type 0} → Standing O W → W → O → List Entry → List Step → O
-origin_done meanings first o h steps = compacted_at meanings o (h ++ entries_at meanings first o h steps) (compactions_at meanings first o h steps)
+origin_done meanings begun o h steps = compacted_at meanings o (h ++ entries_at meanings begun o h steps) (compactions_at meanings begun o h steps)
+
+-- The switch stands for the entries of these steps. Of them the last may be gathered, but none of the first so many, and no compaction
+-- came behind these.
+pub record Gathered {O W : Type 0} (meanings : Standing O W) (begun : W) (o : O) (h : List Entry) (steps : List Step) (now : W) : Type 0 where
+  pub first : ℕ
+  pub least : length h ≤ first
+  pub each : AllWithin first (compactions_at meanings begun o h steps)
+  pub stands : Stands meanings (origin_done meanings begun o h steps) first (h ++ entries_at meanings begun o h steps) now
 
 -- These steps were done: the switch stands for their entries, the decoders have what came on their connections, and the reader
 -- stands behind them.
-pub record Runs {O W : Type 0} (meanings : Standing O W) (kind : CaptureKind) (tells : Type 0) (bytes : List ℕ) (first : W) (steps : List Step) (held : Held) (left : List ℕ) (ds : List Decoding) (now : W) : Type 0 where
-  pub circuits : held.circuits ≡ length (meanings.directory first).circuits
+pub record Runs {O W : Type 0} (meanings : Standing O W) (kind : CaptureKind) (tells : Type 0) (bytes : List ℕ) (begun : W) (steps : List Step) (held : Held) (left : List ℕ) (ds : List Decoding) (now : W) : Type 0 where
+  pub circuits : held.circuits ≡ length (meanings.directory begun).circuits
   pub of_kind : held.kind ≡ kind
   pub taken : held.feed ≡ 0
-  pub are : AreStepsOf kind (meanings.directory first) steps
-  pub read : tells → IsReadTo kind (meanings.directory first) bytes steps held (held.ahead ++ left)
-  pub decode : Decode ds (connections_after (meanings.directory first) (no_bytes (meanings.directory first)) steps)
-  pub stands : (o : O) (h : List Entry) → StandsFor meanings o h first → HasDone meanings o h steps first now
-  pub begins : (o : O) (h : List Entry) → meanings.begin (origin_done meanings first o h steps) ≡ meanings.begin o
+  pub are : AreStepsOf kind (meanings.directory begun) steps
+  pub read : tells → IsReadTo kind (meanings.directory begun) bytes steps held (held.ahead ++ left)
+  pub decode : Decode ds (connections_after (meanings.directory begun) (no_bytes (meanings.directory begun)) steps)
+  pub stands : (o : O) (h : List Entry) → StandsFor meanings o (length h) h begun → Gathered meanings begun o h steps now
+  pub begins : (o : O) (h : List Entry) → meanings.begin (origin_done meanings begun o h steps) ≡ meanings.begin o
 
 -- a head was read
 pub record ReadsHead (tells : Type 0) (head : Head) (old new : Held) (before after : List ℕ) : Type 0 where
@@ -45,10 +54,10 @@ pub record ReadsHead (tells : Type 0) (head : Head) (old new : Held) (before aft
   pub within : new.at ≤ LONGEST_CAPTURE
   pub same : IsSameCapture old new
 
-pub runs_none : {O W : Type 0} (meanings : Standing O W) (kind : CaptureKind) (tells : Type 0) (bytes : List ℕ) (first : W) (held : Held) (ds : List Decoding)
-    → held ≡ at_start (length (meanings.directory first).circuits) kind → Decode ds (no_bytes (meanings.directory first)) → Runs meanings kind tells bytes first [] held bytes ds first
-runs_none meanings kind tells bytes first held ds is decode =
-    let d : Directory = meanings.directory first in
+pub runs_none : {O W : Type 0} (meanings : Standing O W) (kind : CaptureKind) (tells : Type 0) (bytes : List ℕ) (begun : W) (held : Held) (ds : List Decoding)
+    → held ≡ at_start (length (meanings.directory begun).circuits) kind → Decode ds (no_bytes (meanings.directory begun)) → Runs meanings kind tells bytes begun [] held bytes ds begun
+runs_none meanings kind tells bytes begun held ds is decode =
+    let d : Directory = meanings.directory begun in
     let P : Held → Type 0 = λ x. IsReadTo kind d bytes [] x (x.ahead ++ bytes) in
     record {
       circuits = ap (λ (x : Held). x.circuits) is;
@@ -57,7 +66,7 @@ runs_none meanings kind tells bytes first held ds is decode =
       are = tt;
       read = λ t. subst P (sym is) (begins kind d bytes (at_start (length d.circuits) kind) refl);
       decode = decode;
-      stands = λ o h start. subst (λ (x : List Entry). meanings.stands o x first) (sym (append-nil h)) start.stands;
+      stands = λ o h start. record { first = length h; least = omega arith; each = tt; stands = stands_same meanings o (length h) h (h ++ []) begun (sym (append-nil h)) start.stands };
       begins = λ o h. refl;
     }
 
@@ -83,46 +92,88 @@ are_more kind d (s ∷ steps) step are valid = (are.0, are_more kind d steps ste
 -- ---- entries
 
 -- the entries of one step more
-pub entries_more : {O W : Type 0} (meanings : Standing O W) (first now : W) (o : O) (h : List Entry) (steps : List Step) (step : Step) → meanings.directory now ≡ meanings.directory first
-    → entries_at meanings first o h (steps ++ step ∷ [])
-    ≡ entries_at meanings first o h steps ++ entries_of_step (state_at meanings now o (h ++ entries_at meanings first o h steps)) (connections_after (meanings.directory first) (no_bytes (meanings.directory first)) steps) step
-entries_more meanings first now o h steps step same =
-    let d : Directory = meanings.directory first in
+pub entries_more : {O W : Type 0} (meanings : Standing O W) (begun now : W) (o : O) (h : List Entry) (steps : List Step) (step : Step) → meanings.directory now ≡ meanings.directory begun
+    → entries_at meanings begun o h (steps ++ step ∷ [])
+    ≡ entries_at meanings begun o h steps ++ entries_of_step (state_at meanings now o (h ++ entries_at meanings begun o h steps)) (connections_after (meanings.directory begun) (no_bytes (meanings.directory begun)) steps) step
+entries_more meanings begun now o h steps step same =
+    let d : Directory = meanings.directory begun in
     let bs : Connections = connections_after d (no_bytes d) steps in
-    let before : List Entry = entries_at meanings first o h steps in
-    let state : state_at meanings now o (h ++ before) ≡ after_all d (state_at meanings first o h) before =
+    let before : List Entry = entries_at meanings begun o h steps in
+    let state : state_at meanings now o (h ++ before) ≡ after_all d (state_at meanings begun o h) before =
     ap (λ (e : Directory). after_all e (meanings.begin o) (h ++ before)) same ∙ after_all-append d (meanings.begin o) h before in
-    entries_go_on d (state_at meanings first o h) steps (step ∷ []) ∙ ap (λ (xs : List Entry). before ++ xs) (append-nil (entries_of_step (after_all d (state_at meanings first o h) before) bs step))
+    entries_go_on d (state_at meanings begun o h) steps (step ∷ []) ∙ ap (λ (xs : List Entry). before ++ xs) (append-nil (entries_of_step (after_all d (state_at meanings begun o h) before) bs step))
     ∙ ap (λ (t : State). before ++ entries_of_step t bs step) (sym state)
 
 -- the switch stands for the entries of the steps so far
-pub stands_on : {O W : Type 0} (meanings : Standing O W) (kind : CaptureKind) (tells : Type 0) (bytes : List ℕ) (first : W) (steps : List Step) (held : Held) (left : List ℕ) (ds : List Decoding) (now : W)
-    → Runs meanings kind tells bytes first steps held left ds now → meanings.directory now ≡ meanings.directory first
-    → (o : O) (h : List Entry) → StandsFor meanings o h first → StandsFor meanings (origin_done meanings first o h steps) (h ++ entries_at meanings first o h steps) now
-stands_on meanings kind tells bytes first steps held left ds now runs same o h start = record {
-  start = subst (λ (s : State). IsStart (meanings.directory now) s) (sym (runs.begins o h)) (subst (λ (d : Directory). IsStart d (meanings.begin o)) (sym same) start.start);
-  stands = runs.stands o h start;
+pub stands_on : {O W : Type 0} (meanings : Standing O W) (begun now : W) (o : O) (h : List Entry) (steps : List Step) → meanings.directory now ≡ meanings.directory begun
+    → meanings.begin (origin_done meanings begun o h steps) ≡ meanings.begin o → StandsFor meanings o (length h) h begun → (g : Gathered meanings begun o h steps now)
+    → StandsFor meanings (origin_done meanings begun o h steps) g.first (h ++ entries_at meanings begun o h steps) now
+stands_on meanings begun now o h steps same begin start g = record {
+  start = subst (λ (s : State). IsStart (meanings.directory now) s) (sym begin) (subst (λ (d : Directory). IsStart d (meanings.begin o)) (sym same) start.start);
+  stands = g.stands;
 }
 
 -- the entries that a step adds since the origin behind the steps so far
-pub added_by : {O W : Type 0} (meanings : Standing O W) (first now : W) (o : O) (h : List Entry) (steps : List Step) (step : Step) → meanings.directory now ≡ meanings.directory first
-    → meanings.begin (origin_done meanings first o h steps) ≡ meanings.begin o
-    → entries_at meanings first o h (steps ++ step ∷ [])
-    ≡ entries_at meanings first o h steps
-    ++ entries_of_step (state_at meanings now (origin_done meanings first o h steps) (h ++ entries_at meanings first o h steps)) (connections_after (meanings.directory first) (no_bytes (meanings.directory first)) steps) step
-added_by meanings first now o h steps step same begin =
-    let d : Directory = meanings.directory first in
-    let before : List Entry = entries_at meanings first o h steps in
-    entries_more meanings first now o h steps step same
+pub added_by : {O W : Type 0} (meanings : Standing O W) (begun now : W) (o : O) (h : List Entry) (steps : List Step) (step : Step) → meanings.directory now ≡ meanings.directory begun
+    → meanings.begin (origin_done meanings begun o h steps) ≡ meanings.begin o
+    → entries_at meanings begun o h (steps ++ step ∷ [])
+    ≡ entries_at meanings begun o h steps
+    ++ entries_of_step (state_at meanings now (origin_done meanings begun o h steps) (h ++ entries_at meanings begun o h steps)) (connections_after (meanings.directory begun) (no_bytes (meanings.directory begun)) steps) step
+added_by meanings begun now o h steps step same begin =
+    let d : Directory = meanings.directory begun in
+    let before : List Entry = entries_at meanings begun o h steps in
+    entries_more meanings begun now o h steps step same
     ∙ ap (λ (t : State). before ++ entries_of_step (after_all (meanings.directory now) t (h ++ before)) (connections_after d (no_bytes d) steps) step) (sym begin)
 
+-- as many as before are certainly settled behind a step
+least_after : (first : ℕ) (x : List Entry) (step : Step) → first ≤ length x → first ≤ first_after first x step
+least_after first x (Feed c bytes) within = omega arith
+least_after first x (Take c) within = omega arith
+least_after first x (Reopen c) within = omega arith
+least_after first x (Drain c) within = omega arith
+least_after first x Restart within = within
+least_after first x Compact within = within
+
+count_within : (first : ℕ) (x : List Entry) (step : Step) → AllWithin (first_after first x step) (count_at (length x) step)
+count_within first x (Feed c bytes) = tt
+count_within first x (Take c) = tt
+count_within first x (Reopen c) = tt
+count_within first x (Drain c) = tt
+count_within first x Restart = tt
+count_within first x Compact = (omega arith, tt)
+
+-- the entries of one step more
+pub gathered_more : {O W : Type 0} (meanings : Standing O W) (begun now later : W) (o : O) (h : List Entry) (steps : List Step) (step : Step) → meanings.directory now ≡ meanings.directory begun
+    → meanings.begin (origin_done meanings begun o h steps) ≡ meanings.begin o → (g : Gathered meanings begun o h steps now)
+    → (let p : O = origin_done meanings begun o h steps in let x : List Entry = h ++ entries_at meanings begun o h steps in
+    Stands meanings (origin_after meanings p x step) (first_after g.first x step)
+    (x ++ entries_of_step (state_at meanings now p x) (connections_after (meanings.directory begun) (no_bytes (meanings.directory begun)) steps) step) later)
+    → Gathered meanings begun o h (steps ++ step ∷ []) later
+gathered_more {O} {W} meanings begun now later o h steps step same begin g stands =
+    let es : List Entry = entries_at meanings begun o h steps in
+    let x : List Entry = h ++ es in
+    let p : O = origin_done meanings begun o h steps in
+    let added : List Entry = entries_of_step (state_at meanings now p x) (connections_after (meanings.directory begun) (no_bytes (meanings.directory begun)) steps) step in
+    let all : List Entry = h ++ entries_at meanings begun o h (steps ++ step ∷ []) in
+    let first : ℕ = first_after g.first x step in
+    let least : g.first ≤ first = least_after g.first x step (within_all meanings p g.first x now g.stands) in
+    let is : all ≡ x ++ added = ap (λ (xs : List Entry). h ++ xs) (added_by meanings begun now o h steps step same begin) ∙ sym (append_assoc h es added) in
+    let there : Stands meanings (origin_after meanings p x step) first all later = stands_same meanings (origin_after meanings p x step) first (x ++ added) all later (sym is) stands in
+    record {
+      first = first;
+      least = omega (arith, least, g.least);
+      each = subst (λ (ks : List ℕ). AllWithin first ks) (sym (counts_more meanings begun o h steps step))
+          (within_append first (compactions_at meanings begun o h steps) (count_at (length x) step) (wider g.first first (compactions_at meanings begun o h steps) least g.each) (count_within g.first x step));
+      stands = subst (λ (q : O). Stands meanings q first all later) (sym (origin_more meanings begun o h steps step added is)) there;
+    }
+
 -- one step more was done
-pub runs_more : {O W : Type 0} (meanings : Standing O W) (kind : CaptureKind) (station tells : Type 0) (bytes : List ℕ) (first : W) (steps : List Step) (old mid new : Held) (before left after : List ℕ)
-    (ds ds_now : List Decoding) (now later : W) (head : Head) → Runs meanings kind tells bytes first steps old before ds now → meanings.directory now ≡ meanings.directory first
+pub runs_more : {O W : Type 0} (meanings : Standing O W) (kind : CaptureKind) (station tells : Type 0) (bytes : List ℕ) (begun : W) (steps : List Step) (old mid new : Held) (before left after : List ℕ)
+    (ds ds_now : List Decoding) (now later : W) (head : Head) → Runs meanings kind tells bytes begun steps old before ds now → meanings.directory now ≡ meanings.directory begun
     → ReadsHead tells head old mid before left → (does : DoesStep meanings station tells head (Ok tt) mid new left after ds ds_now now later)
-    → Runs meanings kind tells bytes first (steps ++ does.step ∷ []) new after ds_now later
-runs_more meanings kind station tells bytes first steps old mid new before left after ds ds_now now later head runs same reads does =
-    let d : Directory = meanings.directory first in
+    → Runs meanings kind tells bytes begun (steps ++ does.step ∷ []) new after ds_now later
+runs_more meanings kind station tells bytes begun steps old mid new before left after ds ds_now now later head runs same reads does =
+    let d : Directory = meanings.directory begun in
     let step : Step = does.step in
     let bs : Connections = connections_after d (no_bytes d) steps in
     let x : List ℕ = bytes_of_step step in
@@ -146,19 +197,15 @@ runs_more meanings kind station tells bytes first steps old mid new before left 
           record { circuits = taken.same.circuits ∙ reads.same.circuits; kind = taken.same.kind ∙ reads.same.kind } (omega (arith, place, reads.at, long)) (taken.within reads.within);
       decode = subst (λ cs. Decode ds_now cs) (ap (λ (e : Directory). after_step e bs step) same ∙ sym (connections_go_on d steps (step ∷ []))) (does.decode bs runs.decode);
       stands = λ o h start.
-          let on = stands_on meanings kind tells bytes first steps old before ds now runs same o h start in
-          let es : List Entry = entries_at meanings first o h steps in
-          let p = origin_done meanings first o h steps in
-          let added : List Entry = entries_of_step (state_at meanings now p (h ++ es)) bs step in
-          let is : h ++ entries_at meanings first o h (steps ++ step ∷ []) ≡ (h ++ es) ++ added =
-          ap (λ (xs : List Entry). h ++ xs) (added_by meanings first now o h steps step same (runs.begins o h)) ∙ sym (append_assoc h es added) in
-          subst (λ q. meanings.stands q (h ++ entries_at meanings first o h (steps ++ step ∷ [])) later) (sym (origin_more meanings first o h steps step added is))
-          (subst (λ (xs : List Entry). meanings.stands (origin_after meanings p (h ++ es) step) xs later) (sym is) (does.went bs p (h ++ es) runs.decode on));
+          let g = runs.stands o h start in
+          let x : List Entry = h ++ entries_at meanings begun o h steps in
+          gathered_more meanings begun now later o h steps step same (runs.begins o h) g
+          (does.went bs (origin_done meanings begun o h steps) g.first x runs.decode (stands_on meanings begun now o h steps same (runs.begins o h) start g));
       begins = λ o h.
-          let es : List Entry = entries_at meanings first o h steps in
-          let p = origin_done meanings first o h steps in
+          let es : List Entry = entries_at meanings begun o h steps in
+          let p = origin_done meanings begun o h steps in
           let added : List Entry = entries_of_step (state_at meanings now p (h ++ es)) bs step in
-          let is : h ++ entries_at meanings first o h (steps ++ step ∷ []) ≡ (h ++ es) ++ added =
-          ap (λ (xs : List Entry). h ++ xs) (added_by meanings first now o h steps step same (runs.begins o h)) ∙ sym (append_assoc h es added) in
-          ap (λ q. meanings.begin q) (origin_more meanings first o h steps step added is) ∙ does.begins p (h ++ es) ∙ runs.begins o h;
+          let is : h ++ entries_at meanings begun o h (steps ++ step ∷ []) ≡ (h ++ es) ++ added =
+          ap (λ (xs : List Entry). h ++ xs) (added_by meanings begun now o h steps step same (runs.begins o h)) ∙ sym (append_assoc h es added) in
+          ap (λ q. meanings.begin q) (origin_more meanings begun o h steps step added is) ∙ does.begins p (h ++ es) ∙ runs.begins o h;
     }

@@ -1,8 +1,9 @@
 -- What a step took, and which entries it added.
-use Rattle.std.proofs.Common.{◌≡◌, ℕ, ◌+◌, ◌<◌, ◌≤◌, List, [], ◌++◌, length, get_or, set, map, Result, Ok, Err, refl, sym, ap, subst, ◌∙◌, arith, append_assoc, length-append}
+use Rattle.std.proofs.Common.{◌≡◌, ℕ, ◌+◌, ◌<◌, ◌≤◌, List, [], ◌∷◌, ◌++◌, length, get_or, set, map, Result, Ok, Err, refl, sym, ap, subst, ◌∙◌, arith, append_assoc, length-append}
 use Rattle.std.proofs.lemmas.List.{append-nil}
 use Rattle.gts_event.specs.declared.event.Event.TheVariants.{Taken}
 use Rattle.gts_event.specs.declared.event.Entry.{Entry}
+use Rattle.gts_event.specs.declared.event.Entry.TheVariants.{Restarted}
 use Rattle.gts_event.specs.declared.outcome.Outcome.{Outcome}
 use Rattle.gts_event.specs.declared.fault.SwitchFault.{SwitchFault}
 use Rattle.gts_event.specs.declared.fault.SwitchFault.TheVariants as switch
@@ -13,12 +14,12 @@ use Rattle.gts_record.specs.declared.fault.OpenFault.{OpenFault}
 use Rattle.gts_connection.specs.Capture.{Feed, Take, Reopen, Drain, Restart, Compact, FeedHead, TakeHead, ReopenHead, DrainHead, RestartHead, CompactHead, Connections, no_bytes}
 use Rattle.gts_connection.specs.declared.limits.TheConstants.{LONGEST_CAPTURE}
 use Rattle.gts_capture.specs.Held.{Held, IsSameCapture, EndsInFeed, StopsInFeed, readable_from}
-use Rattle.gts_calls.specs.{Standing, IsCalled, IsReopening, IsCompacting, entry_of, restart_of}
+use Rattle.gts_calls.specs.{Standing, Stands, settled, IsAnswered, IsSettling, IsReopening, IsCompacting, restart_of}
 use Rattle.gts_replay.specs.declared.fault.StepFault.{StepFault}
 use Rattle.gts_replay.specs.declared.fault.StepFault.TheVariants as step
 use Rattle.gts_replay.specs.Going.{StandsFor, state_at, BreaksOff, Remains, Decode}
 use Rattle.gts_replay.specs.Ending.{Takes, EndsBehind, StopsBehind, TakesNoMore, Feeds, DoesStep}
-use Rattle.gts_replay.proofs.GoingLemmas.{one_breaks}
+use Rattle.gts_replay.proofs.GoingLemmas.{stands_same, stands_settled, settles_all, settles_not, one_done, call_breaks}
 use Rattle.gts_replay.proofs.DecoderLemmas.{decode_at, decode_set, decode_reopened}
 
 same_capture : (held : Held) → IsSameCapture held held
@@ -78,124 +79,160 @@ nothing_taken tells held left = record { rest = held.ahead ++ left; told = λ _.
 
 -- ---- a step of each head
 
-pub does_take : {O W : Type 0} (meanings : Standing O W) (station tells : Type 0) (c : ℕ) (held : Held) (left : List ℕ) (ds : List Decoding) (old new : W) (result : Result Outcome SwitchFault) (answer : Outcome)
-    → IsCalled meanings (Taken c) result old new → result ≡ Ok answer → held.feed ≡ 0 → DoesStep meanings station tells (TakeHead c) (Ok tt) held held left left ds ds old new
-does_take meanings station tells c held left ds old new result answer called is none = record {
-  step = Take c;
-  of_head = refl;
-  taken = (takes_none tells held left, none);
-  went = λ bs o h decode start. subst (λ (r : Result Outcome SwitchFault). meanings.stands o (h ++ entry_of (Taken c) r) new) is (called.adds o h start.stands);
-  decode = λ bs e. e;
-  begins = λ o h. refl;
-}
+module _ {O W : Type 0} (meanings : Standing O W) (station tells : Type 0) (held : Held) (left : List ℕ) (ds : List Decoding) where
+  pub does_take : (c : ℕ) (old new : W) (result : Result Outcome SwitchFault) (answer : Outcome)
+      → IsAnswered meanings (Taken c) result old new → result ≡ Ok answer → held.feed ≡ 0 → DoesStep meanings station tells (TakeHead c) (Ok tt) held held left left ds ds old new
+  does_take c old new result answer called is none = record {
+    step = Take c;
+    of_head = refl;
+    taken = (takes_none tells held left, none);
+    went = λ bs o first h decode start. one_done meanings (Taken c) result answer old new called is o first h start.stands;
+    decode = λ bs e. e;
+    begins = λ o h. refl;
+  }
 
-pub fails_take : {O W : Type 0} (meanings : Standing O W) (station tells : Type 0) (c : ℕ) (held : Held) (left : List ℕ) (ds : List Decoding) (old new : W) (result : Result Outcome SwitchFault) (fault : SwitchFault)
-    → IsCalled meanings (Taken c) result old new → result ≡ Err fault → DoesStep meanings station tells (TakeHead c) (Err (step.Switch fault)) held held left left ds ds old new
-fails_take meanings station tells c held left ds old new result fault called is = record {
-  step = Take c;
-  of_head = refl;
-  taken = nothing_taken tells held left;
-  went = λ bs o h decode start. one_breaks meanings (Taken c) result fault (Err fault) old new called is refl o h start.stands;
-  decode = λ bs e. tt;
-  begins = λ o h. tt;
-}
+  pub fails_take : (c : ℕ) (old new : W) (result : Result Outcome SwitchFault) (fault : SwitchFault)
+      → IsAnswered meanings (Taken c) result old new → result ≡ Err fault → DoesStep meanings station tells (TakeHead c) (Err (step.Switch fault)) held held left left ds ds old new
+  fails_take c old new result fault called is = record {
+    step = Take c;
+    of_head = refl;
+    taken = nothing_taken tells held left;
+    went = λ bs o first h decode start. call_breaks meanings (Taken c) result fault old new called is o first h start.stands;
+    decode = λ bs e. tt;
+    begins = λ o h. tt;
+  }
 
-pub does_drain : {O W : Type 0} (meanings : Standing O W) (station tells : Type 0) (c : ℕ) (held : Held) (left : List ℕ) (ds : List Decoding) (old new : W)
-    → ((o : O) (h : List Entry) → StandsFor meanings o h old → meanings.stands o (h ++ all_done (takes_of_drain (state_at meanings old o h) c)) new)
-    → held.feed ≡ 0 → DoesStep meanings station tells (DrainHead c) (Ok tt) held held left left ds ds old new
-does_drain meanings station tells c held left ds old new goes none = record {
-  step = Drain c;
-  of_head = refl;
-  taken = (takes_none tells held left, none);
-  went = λ bs o h decode start. goes o h start;
-  decode = λ bs e. e;
-  begins = λ o h. refl;
-}
+  pub does_drain : (c : ℕ) (old new : W)
+      → ((o : O) (first : ℕ) (h : List Entry) → StandsFor meanings o first h old → Stands meanings o first (h ++ all_done (takes_of_drain (state_at meanings old o h) c)) new)
+      → held.feed ≡ 0 → DoesStep meanings station tells (DrainHead c) (Ok tt) held held left left ds ds old new
+  does_drain c old new goes none = record {
+    step = Drain c;
+    of_head = refl;
+    taken = (takes_none tells held left, none);
+    went = λ bs o first h decode start. goes o first h start;
+    decode = λ bs e. e;
+    begins = λ o h. refl;
+  }
 
-pub fails_drain : {O W : Type 0} (meanings : Standing O W) (station tells : Type 0) (c : ℕ) (held : Held) (left : List ℕ) (ds : List Decoding) (old new : W) (fault : SwitchFault)
-    → ((o : O) (h : List Entry) → StandsFor meanings o h old → BreaksOff meanings (λ _. o) h (all_done (takes_of_drain (state_at meanings old o h) c)) fault new)
-    → DoesStep meanings station tells (DrainHead c) (Err (step.Switch fault)) held held left left ds ds old new
-fails_drain meanings station tells c held left ds old new fault goes = record {
-  step = Drain c;
-  of_head = refl;
-  taken = nothing_taken tells held left;
-  went = λ bs o h decode start. goes o h start;
-  decode = λ bs e. tt;
-  begins = λ o h. tt;
-}
+  pub fails_drain : (c : ℕ) (old new : W) (fault : SwitchFault)
+      → ((o : O) (first : ℕ) (h : List Entry) → StandsFor meanings o first h old → BreaksOff meanings (λ _. o) first h (all_done (takes_of_drain (state_at meanings old o h) c)) fault new)
+      → DoesStep meanings station tells (DrainHead c) (Err (step.Switch fault)) held held left left ds ds old new
+  fails_drain c old new fault goes = record {
+    step = Drain c;
+    of_head = refl;
+    taken = nothing_taken tells held left;
+    went = λ bs o first h decode start. goes o first h start;
+    decode = λ bs e. tt;
+    begins = λ o h. tt;
+  }
 
-pub does_reopen : {O W : Type 0} (meanings : Standing O W) (station tells : Type 0) (c : ℕ) (held : Held) (left : List ℕ) (ds : List Decoding) (next : Decoding) (old : W)
-    → next ≡ fresh → held.feed ≡ 0 → DoesStep meanings station tells (ReopenHead c) (Ok tt) held held left left ds (set ds c next) old old
-does_reopen meanings station tells c held left ds next old is none = record {
-  step = Reopen c;
-  of_head = refl;
-  taken = (takes_none tells held left, none);
-  went = λ bs o h decode start. subst (λ (x : List Entry). meanings.stands o x old) (sym (append-nil h)) start.stands;
-  decode = λ bs e. decode_set ds bs c next [] e (ap (λ (d : Decoding). d.held) is);
-  begins = λ o h. refl;
-}
+  pub does_reopen : (c : ℕ) (next : Decoding) (old : W)
+      → next ≡ fresh → held.feed ≡ 0 → DoesStep meanings station tells (ReopenHead c) (Ok tt) held held left left ds (set ds c next) old old
+  does_reopen c next old is none = record {
+    step = Reopen c;
+    of_head = refl;
+    taken = (takes_none tells held left, none);
+    went = λ bs o first h decode start. stands_same meanings o first h (h ++ []) old (sym (append-nil h)) start.stands;
+    decode = λ bs e. decode_set ds bs c next [] e (ap (λ (d : Decoding). d.held) is);
+    begins = λ o h. refl;
+  }
 
-pub does_restart : {O W : Type 0} (meanings : Standing O W) (station tells : Type 0) (held : Held) (left : List ℕ) (ds ds_now : List Decoding) (old new : W) (result : Result (Unit {0}) OpenFault) (u : Unit {0})
-    → IsReopening meanings station result old new → result ≡ Ok u → ds_now ≡ map (λ _. fresh) ds → length ds ≡ length (meanings.directory old).circuits → held.feed ≡ 0
-    → DoesStep meanings station tells RestartHead (Ok tt) held held left left ds ds_now old new
-does_restart meanings station tells held left ds ds_now old new result u reopening is anew each none = record {
-  step = Restart;
-  of_head = refl;
-  taken = (takes_none tells held left, none);
-  went = λ bs o h decode start. subst (λ (r : Result (Unit {0}) OpenFault). meanings.stands o (h ++ restart_of r) new) is (reopening.adds o h start.stands);
-  decode = λ bs e. subst (λ (xs : List Decoding). Decode xs (no_bytes (meanings.directory old))) (sym anew) (decode_reopened ds (meanings.directory old) each);
-  begins = λ o h. refl;
-}
+  -- what was gathered was to be settled before the journal is opened again
+  pub unsettled_restart : (old new : W) (result : Result (Unit {0}) SwitchFault) (fault : SwitchFault)
+      → IsSettling meanings result old new → result ≡ Err fault → DoesStep meanings station tells RestartHead (Err (step.Switch fault)) held held left left ds ds old new
+  unsettled_restart old new result fault settling is = record {
+    step = Restart;
+    of_head = refl;
+    taken = nothing_taken tells held left;
+    went = λ bs o first h decode start.
+        settles_not meanings o first h (Restarted ∷ []) old new fault start.stands (subst (λ (r : Result (Unit {0}) SwitchFault). IsSettling meanings r old new) is settling);
+    decode = λ bs e. tt;
+    begins = λ o h. tt;
+  }
 
-pub fails_restart : {O W : Type 0} (meanings : Standing O W) (station tells : Type 0) (held : Held) (left : List ℕ) (ds : List Decoding) (old new : W) (result : Result (Unit {0}) OpenFault) (fault : OpenFault)
-    → IsReopening meanings station result old new → result ≡ Err fault → DoesStep meanings station tells RestartHead (Err (step.Reopen fault)) held held left left ds ds old new
-fails_restart meanings station tells held left ds old new result fault reopening is = record {
-  step = Restart;
-  of_head = refl;
-  taken = nothing_taken tells held left;
-  went = λ bs o h decode start. (
-    refl,
-    record {
-      front = [];
-      behind = [];
-      parts = refl;
-      stands = subst (λ (r : Result (Unit {0}) OpenFault). meanings.stands o (h ++ restart_of r) new) is (reopening.adds o h start.stands);
-      fault_is = λ t. reopening.fault t o h start.stands fault is;
-    },
-  );
-  decode = λ bs e. tt;
-  begins = λ o h. tt;
-}
+  pub unsettled_compact : (old new : W) (result : Result (Unit {0}) SwitchFault) (fault : SwitchFault)
+      → IsSettling meanings result old new → result ≡ Err fault → DoesStep meanings station tells CompactHead (Err (step.Switch fault)) held held left left ds ds old new
+  unsettled_compact old new result fault settling is = record {
+    step = Compact;
+    of_head = refl;
+    taken = nothing_taken tells held left;
+    went = λ bs o first h decode start. settles_not meanings o first h [] old new fault start.stands (subst (λ (r : Result (Unit {0}) SwitchFault). IsSettling meanings r old new) is settling);
+    decode = λ bs e. tt;
+    begins = λ o h. tt;
+  }
 
-pub does_compact : {O W : Type 0} (meanings : Standing O W) (station tells : Type 0) (held : Held) (left : List ℕ) (ds : List Decoding) (old new : W) (result : Result (Unit {0}) SwitchFault) (u : Unit {0})
-    → IsCompacting meanings result old new → result ≡ Ok u → held.feed ≡ 0 → DoesStep meanings station tells CompactHead (Ok tt) held held left left ds ds old new
-does_compact meanings station tells held left ds old new result u compacting is none = record {
-  step = Compact;
-  of_head = refl;
-  taken = (takes_none tells held left, none);
-  went = λ bs o h decode start. subst (λ (x : List Entry). meanings.stands (meanings.compacts o h) x new) (sym (append-nil h)) (compacting.done o h start.stands is);
-  decode = λ bs e. e;
-  begins = λ o h. compacting.begins o h;
-}
+  -- behind what was settled
+  module _ (old mid new : W) (answer : Result (Unit {0}) SwitchFault) (v : Unit {0}) (settling : IsSettling meanings answer old mid) (all : answer ≡ Ok v) where
+    rests : (o : O) (first : ℕ) (h : List Entry) → Stands meanings o first h old → settled meanings o h mid
+    rests o first h stands = settles_all meanings o first h old mid v stands (subst (λ (r : Result (Unit {0}) SwitchFault). IsSettling meanings r old mid) all settling)
 
-pub fails_compact : {O W : Type 0} (meanings : Standing O W) (station tells : Type 0) (held : Held) (left : List ℕ) (ds : List Decoding) (old new : W) (result : Result (Unit {0}) SwitchFault) (fault : SwitchFault)
-    → IsCompacting meanings result old new → result ≡ Err fault → DoesStep meanings station tells CompactHead (Err (step.Compaction fault)) held held left left ds ds old new
-fails_compact {O} {W} meanings station tells held left ds old new result fault compacting is = record {
-  step = Compact;
-  of_head = refl;
-  taken = nothing_taken tells held left;
-  went = λ bs o h decode start. record { at_step = refl; remains = remains o h start.stands fault is; cause = compacting.caused o h start.stands fault is };
-  decode = λ bs e. tt;
-  begins = λ o h. tt;
-}
-  where
-    remains : (o : O) (h : List Entry) → meanings.stands o h old → (f : SwitchFault) → result ≡ Err f → Remains meanings o h f new
-    remains o h stands switch.DiskFault e = compacting.left o h stands e
-    remains o h stands switch.SayFault e = compacting.idle o h stands switch.SayFault e tt
-    remains o h stands (switch.Full used need limit) e = compacting.idle o h stands (switch.Full used need limit) e tt
-    remains o h stands (switch.Stopped by) e = compacting.idle o h stands (switch.Stopped by) e tt
-    remains o h stands switch.Spent e = compacting.idle o h stands switch.Spent e tt
-    remains o h stands switch.NoMemory e = compacting.idle o h stands switch.NoMemory e tt
+    pub does_restart : (ds_now : List Decoding) (result : Result (Unit {0}) OpenFault) (u : Unit {0})
+        → IsReopening meanings station result mid new → result ≡ Ok u → ds_now ≡ map (λ _. fresh) ds → length ds ≡ length (meanings.directory old).circuits → held.feed ≡ 0
+        → DoesStep meanings station tells RestartHead (Ok tt) held held left left ds ds_now old new
+    does_restart ds_now result u reopening is anew each none = record {
+      step = Restart;
+      of_head = refl;
+      taken = (takes_none tells held left, none);
+      went = λ bs o first h decode start.
+          stands_settled meanings o (length h) (h ++ Restarted ∷ []) new (omega (arith, length-append h (Restarted ∷ [])))
+          (subst (λ (r : Result (Unit {0}) OpenFault). settled meanings o (h ++ restart_of r) new) is (reopening.adds o h (rests o first h start.stands)));
+      decode = λ bs e. subst (λ (xs : List Decoding). Decode xs (no_bytes (meanings.directory old))) (sym anew) (decode_reopened ds (meanings.directory old) each);
+      begins = λ o h. refl;
+    }
+
+    pub fails_restart : (result : Result (Unit {0}) OpenFault) (fault : OpenFault)
+        → IsReopening meanings station result mid new → result ≡ Err fault → DoesStep meanings station tells RestartHead (Err (step.Reopen fault)) held held left left ds ds old new
+    fails_restart result fault reopening is = record {
+      step = Restart;
+      of_head = refl;
+      taken = nothing_taken tells held left;
+      went = λ bs o first h decode start. (
+        refl,
+        record {
+          front = [];
+          behind = [];
+          parts = refl;
+          stands = subst (λ (r : Result (Unit {0}) OpenFault). settled meanings o (h ++ restart_of r) new) is (reopening.adds o h (rests o first h start.stands));
+          fault_is = λ t. reopening.fault t o h (rests o first h start.stands) fault is;
+        },
+      );
+      decode = λ bs e. tt;
+      begins = λ o h. tt;
+    }
+
+    pub does_compact : (result : Result (Unit {0}) SwitchFault) (u : Unit {0})
+        → IsCompacting meanings result mid new → result ≡ Ok u → held.feed ≡ 0 → DoesStep meanings station tells CompactHead (Ok tt) held held left left ds ds old new
+    does_compact result u compacting is none = record {
+      step = Compact;
+      of_head = refl;
+      taken = (takes_none tells held left, none);
+      went = λ bs o first h decode start.
+          stands_same meanings (meanings.compacts o h) (length h) h (h ++ []) new (sym (append-nil h))
+          (stands_settled meanings (meanings.compacts o h) (length h) h new (omega arith) (compacting.done o h (rests o first h start.stands) is));
+      decode = λ bs e. e;
+      begins = λ o h. compacting.begins o h;
+    }
+
+    pub fails_compact : (result : Result (Unit {0}) SwitchFault) (fault : SwitchFault)
+        → IsCompacting meanings result mid new → result ≡ Err fault → DoesStep meanings station tells CompactHead (Err (step.Compaction fault)) held held left left ds ds old new
+    fails_compact result fault compacting is = record {
+      step = Compact;
+      of_head = refl;
+      taken = nothing_taken tells held left;
+      went = λ bs o first h decode start.
+          let stands : settled meanings o h mid = rests o first h start.stands in
+          record { at_step = refl; remains = remains o h stands fault is; cause = compacting.caused o h stands fault is };
+      decode = λ bs e. tt;
+      begins = λ o h. tt;
+    }
+      where
+        remains : (o : O) (h : List Entry) → settled meanings o h mid → (f : SwitchFault) → result ≡ Err f → Remains meanings o h f new
+        remains o h stands switch.DiskFault e = compacting.left o h stands e
+        remains o h stands switch.SayFault e = compacting.idle o h stands switch.SayFault e tt
+        remains o h stands (switch.Full used need limit) e = compacting.idle o h stands (switch.Full used need limit) e tt
+        remains o h stands (switch.Stopped by) e = compacting.idle o h stands (switch.Stopped by) e tt
+        remains o h stands switch.Spent e = compacting.idle o h stands switch.Spent e tt
+        remains o h stands switch.NoMemory e = compacting.idle o h stands switch.NoMemory e tt
 
 pub does_feed : {O W : Type 0} (meanings : Standing O W) (station tells : Type 0) (c n : ℕ) (result : Result (Unit {0}) StepFault) (held held_now : Held) (left left_now : List ℕ)
     (ds : List Decoding) (x next : Decoding) (old new : W) → c < length ds → Feeds meanings tells c result held held_now left left_now (get_or ds c x) next old new
@@ -211,7 +248,7 @@ does_feed meanings station tells c n result held held_now left left_now ds x nex
       step = Feed c f.bytes;
       of_head = (f.bytes, refl);
       taken = f.taken;
-      went = λ bs o h e start. f.fed.adds (get_or bs c []) o h (holds bs e) start.stands;
+      went = λ bs o first h e start. f.fed.adds (get_or bs c []) o first h (holds bs e) start.stands;
       decode = λ bs e. decode_set ds bs c next (get_or bs c [] ++ f.bytes) e (f.fed.held (get_or bs c []) (holds bs e));
       begins = λ o h. refl;
     }
@@ -219,7 +256,7 @@ does_feed meanings station tells c n result held held_now left left_now ds x nex
       step = Feed c f.bytes;
       of_head = (f.bytes, refl);
       taken = f.taken;
-      went = λ bs o h e start. f.fed.adds (get_or bs c []) o h (holds bs e) start.stands;
+      went = λ bs o first h e start. f.fed.adds (get_or bs c []) o first h (holds bs e) start.stands;
       decode = λ bs e. tt;
       begins = λ o h. tt;
     }
@@ -227,7 +264,7 @@ does_feed meanings station tells c n result held held_now left left_now ds x nex
       step = Feed c f.bytes;
       of_head = (f.bytes, refl);
       taken = f.taken;
-      went = λ bs o h e start. f.fed (get_or bs c []) o h (holds bs e) start.stands;
+      went = λ bs o first h e start. f.fed (get_or bs c []) o first h (holds bs e) start.stands;
       decode = λ bs e. tt;
       begins = λ o h. tt;
     }

@@ -1,5 +1,5 @@
 -- How a step of a capture was done, or was not done to its end.
-use Rattle.std.specs.Prelude.{◌≡◌, ℕ, ◌+◌, ◌<◌, ◌≤◌, List, [], ◌++◌, length, Result, Ok, Err, IsErrOf, OnOk}
+use Rattle.std.specs.Prelude.{◌≡◌, ◌⊎◌, ℕ, ◌+◌, ◌<◌, ◌≤◌, List, [], ◌++◌, length, Result, Ok, Err, IsErrOf, OnOk}
 use Rattle.gts_traits.specs.Counts.{Rose}
 use Rattle.gts_event.specs.declared.event.Entry.{Entry}
 use Rattle.gts_event.specs.declared.fault.SwitchFault.{SwitchFault}
@@ -7,14 +7,16 @@ use Rattle.gts_event.specs.declared.fault.SwitchFault.TheVariants as switch
 use Rattle.gts_frame.specs.Decoder.{Decoding}
 use Rattle.gts_record.specs.declared.fault.OpenFault.TheVariants as opening
 use Rattle.gts_connection.specs.Capture.{Step, Feed, Restart, Compact, Head, FeedHead, head_of, bytes_of_step, entries_of_step, after_step, Connections}
+use Rattle.gts_connection.specs.declared.kind.CaptureKind.{CaptureKind}
 use Rattle.gts_connection.specs.declared.limits.TheConstants.{LONGEST_CAPTURE}
 use Rattle.gts_capture.specs.declared.capture_fault.CaptureFault.TheVariants.{Bad, SourceFault}
 use Rattle.gts_capture.specs.Held.{Held, IsSameCapture, readable_from}
-use Rattle.gts_calls.specs.{Standing, IsCompactCause}
+use Rattle.gts_calls.specs.{Standing, Stands, IsSettling, IsCompactCause}
 use Rattle.gts_replay.specs.declared.end.ReplayEnd.{ReplayEnd}
 use Rattle.gts_replay.specs.declared.end.ReplayEnd.TheVariants as end
 use Rattle.gts_replay.specs.declared.fault.StepFault.{StepFault}
 use Rattle.gts_replay.specs.declared.fault.StepFault.TheVariants as step
+use Rattle.gts_replay.specs.Replay.{Ends}
 use Rattle.gts_replay.specs.Going.{StandsFor, state_at, BreaksOff, BreaksAtRestart, Remains, Decode, IsFed, BreaksFeed}
 
 -- the end of a run in which a step was not done to its end
@@ -71,15 +73,21 @@ HasTaken tells bytes (Err _) old new before after = TakesNoMore tells bytes old 
 
 -- bytes came on a circuit and were dealt with, or broke off at a fault of the switch
 abbrev pub IsFedOr : {O W : Type 0} → Standing O W → ℕ → Decoding → W → List ℕ → Result (Unit {0}) StepFault → Decoding → W → Type 0
-IsFedOr meanings c old first bytes (Err (step.Switch fault)) decoder now = BreaksFeed meanings c old first bytes fault now
-IsFedOr meanings c old first bytes (Err (step.Reopen fault)) decoder now = ⊥
-IsFedOr meanings c old first bytes (Err (step.Compaction fault)) decoder now = ⊥
-IsFedOr meanings c old first bytes _ decoder now = IsFed meanings c old first bytes decoder now
+IsFedOr meanings c old begun bytes (Err (step.Switch fault)) decoder now = BreaksFeed meanings c old begun bytes fault now
+IsFedOr meanings c old begun bytes (Err (step.Reopen fault)) decoder now = ⊥
+IsFedOr meanings c old begun bytes (Err (step.Compaction fault)) decoder now = ⊥
+IsFedOr meanings c old begun bytes _ decoder now = IsFed meanings c old begun bytes decoder now
 
 -- the origin behind a step
 abbrev pub origin_after : {O W : Type 0} → Standing O W → O → List Entry → Step → O
 origin_after meanings o h Compact = meanings.compacts o h
 origin_after meanings o h _ = o
+
+-- how many of these entries are certainly settled behind a step: all, where the journal was opened again or compacted
+abbrev pub first_after : (first : ℕ) → List Entry → Step → ℕ
+first_after first h Restart = length h
+first_after first h Compact = length h
+first_after first h _ = first
 
 -- The journal was to be compacted, and was not.
 pub record IsUncompacted {O W : Type 0} (meanings : Standing O W) (o : O) (h : List Entry) (step : Step)
@@ -89,12 +97,15 @@ pub record IsUncompacted {O W : Type 0} (meanings : Standing O W) (o : O) (h : L
   pub cause : IsCompactCause (meanings.is_full_compacted o h) h fault
 
 -- these entries of a step were to be added: all were, or those before a fault
-abbrev pub Went : {O W : Type 0} → Standing O W → Type 0 → O → (h more : List Entry) → Step → Result (Unit {0}) StepFault → W → Type 0
-Went meanings station o h more s (Ok _) now = meanings.stands (origin_after meanings o h s) (h ++ more) now
-Went meanings station o h more s (Err (step.Capture fault)) now = meanings.stands (origin_after meanings o h s) (h ++ more) now
-Went meanings station o h more s (Err (step.Reopen fault)) now = (s ≡ Restart) × BreaksAtRestart meanings station (λ _. o) h more fault now
-Went meanings station o h more s (Err (step.Compaction fault)) now = IsUncompacted meanings o h s fault now
-Went meanings station o h more s (Err (step.Switch fault)) now = BreaksOff meanings (λ _. o) h more fault now
+abbrev pub Went : {O W : Type 0} → Standing O W → Type 0 → O → (first : ℕ) → (h more : List Entry) → Step → Result (Unit {0}) StepFault → W
+    → Type 0
+Went meanings station o first h more s (Ok _) now = Stands meanings (origin_after meanings o h s) (first_after first h s) (h ++ more) now
+Went meanings station o first h more s (Err (step.Capture fault)) now =
+    Stands meanings (origin_after meanings o h s) (first_after first h s) (h ++ more) now
+Went meanings station o first h more s (Err (step.Reopen fault)) now =
+    (s ≡ Restart) × BreaksAtRestart meanings station (λ _. o) h more fault now
+Went meanings station o first h more s (Err (step.Compaction fault)) now = IsUncompacted meanings o h s fault now
+Went meanings station o first h more s (Err (step.Switch fault)) now = BreaksOff meanings (λ _. o) first h more fault now
 
 -- Bytes of a feed came on a circuit: what they add was added, or what stands before a fault, and then the decoder took them.
 pub record Feeds {O W : Type 0} (meanings : Standing O W) (tells : Type 0) (c : ℕ) (result : Result (Unit {0}) StepFault)
@@ -117,10 +128,46 @@ pub record DoesStep {O W : Type 0} (meanings : Standing O W) (station tells : Ty
   pub step : Step
   pub of_head : IsStepOf head step
   pub taken : HasTaken tells (bytes_of_step step) result held held_now left left_now
-  pub went : (bs : Connections) (o : O) (h : List Entry) → Decode decoders bs → StandsFor meanings o h old
-      → Went meanings station o h (entries_of_step (state_at meanings old o h) bs step) step result new
+  pub went : (bs : Connections) (o : O) (first : ℕ) (h : List Entry) → Decode decoders bs → StandsFor meanings o first h old
+      → Went meanings station o first h (entries_of_step (state_at meanings old o h) bs step) step result new
   pub begins : (o : O) (h : List Entry) → OnOk result (meanings.begin (origin_after meanings o h step) ≡ meanings.begin o)
   pub decode : (bs : Connections) → Decode decoders bs → OnOk result (Decode decoders_now (after_step (meanings.directory old) bs step))
+
+-- ---- what was gathered is settled behind a run
+
+-- the end of a run whose last records were to be brought into the journal and said, with this answer
+abbrev pub settled_end : ReplayEnd → Result (Unit {0}) SwitchFault → ReplayEnd
+settled_end e (Ok _) = e
+settled_end e (Err fault) = end.Fault fault
+
+-- a run that ended so was settled, with this end
+pub record SettlesTo {O W : Type 0} (meanings : Standing O W) (e result : ReplayEnd) (old new : W) : Type 0 where
+  pub answer : Result (Unit {0}) SwitchFault
+  pub settling : IsSettling meanings answer old new
+  pub is : result ≡ settled_end e answer
+
+-- A run that ended so was settled, with this end, where the switch answered with no fault: after one nothing is gathered, and the
+-- switch is left as it is.
+abbrev pub SettlesBehind : {O W : Type 0} → Standing O W → (e result : ReplayEnd) → (old new : W) → Type 0
+SettlesBehind meanings end.Done result old new = SettlesTo meanings end.Done result old new
+SettlesBehind meanings (end.Capture at) result old new = SettlesTo meanings (end.Capture at) result old new
+SettlesBehind meanings end.SourceFault result old new = SettlesTo meanings end.SourceFault result old new
+SettlesBehind meanings e result old new = (result ≡ e) × (new ≡ old)
+
+-- How a run ends, once it was settled: it is said of whatever settling leaves.
+abbrev pub EndsSettled : {O W : Type 0} → Standing O W → Type 0 → CaptureKind → O → List Entry → Type 0 → ReplayEnd → (old new : W)
+    → (bytes left : List ℕ) → Type 0
+EndsSettled {O} {W} meanings station kind o h tells e old new bytes left =
+    (result : ReplayEnd) (now : W) → SettlesBehind meanings e result new now
+    → Ends meanings station kind o h tells result old now bytes left
+
+-- a fault of a device that the run didn't end with is answered only where its count rose, and no count falls
+pub record HasSettleCause (e result : ReplayEnd) (disk disk_now say say_now : ℕ) : Type 0 where
+  pub disk_later : disk ≤ disk_now
+  pub say_later : say ≤ say_now
+  pub disk_failed : result ≡ end.Fault switch.DiskFault → (e ≡ result) ⊎ Rose disk disk_now
+  pub say_failed : result ≡ end.Fault switch.SayFault → (e ≡ result) ⊎ Rose say say_now
+  pub others : (result ≡ e) ⊎ ((fault : SwitchFault) × (result ≡ end.Fault fault))
 
 -- a fault of a device is answered only where its count rose, and no count falls
 pub record HasRunCause {T : Type 0} (result : Result T StepFault) (disk disk_now say say_now source source_now : ℕ) : Type 0 where

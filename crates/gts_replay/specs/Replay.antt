@@ -12,8 +12,8 @@ use Rattle.gts_connection.specs.declared.kind.CaptureKind.TheVariants.{Journaled
 use Rattle.gts_connection.specs.Capture.{Step, Compact, AreStepsOf, ReadingOf, IsWholeOf, EndsEarlyOf, entries, compactions}
 use Rattle.gts_opening.specs.Room.{HasDoubt, HasUnsaid}
 use Rattle.gts_capture.specs.{IsTaken}
-use Rattle.gts_calls.specs.{Standing, IsCompactCause}
-use Rattle.gts_replay.specs.Going.{state_at, compacted_at, origin_behind, BreaksOff, BreaksAtRestart, Remains}
+use Rattle.gts_calls.specs.{Standing, settled, IsCompactCause}
+use Rattle.gts_replay.specs.Going.{state_at, compacted_at, origin_behind, BreaksOff, BreaksIdle, BreaksAtRestart, Remains}
 use Rattle.gts_replay.specs.declared.end.ReplayEnd.{ReplayEnd}
 use Rattle.gts_replay.specs.declared.end.ReplayEnd.TheVariants as end
 
@@ -29,7 +29,7 @@ compactions_at meanings now o h steps = compactions (meanings.directory now) (st
 abbrev pub HasDone : {O W : Type 0} → Standing O W → O → List Entry → List Step → (old new : W) → Type 0
 HasDone meanings o h steps old new =
     let all : List Entry = h ++ entries_at meanings old o h steps in
-    meanings.stands (compacted_at meanings o all (compactions_at meanings old o h steps)) all new
+    settled meanings (compacted_at meanings o all (compactions_at meanings old o h steps)) all new
 
 -- no capture stands at the front of these bytes
 abbrev pub HasNoCapture : {O W : Type 0} → Standing O W → CaptureKind → W → List ℕ → Type 0
@@ -78,12 +78,13 @@ StoppedBefore h _ = Unit {0}
 abbrev pub origin_at : {O W : Type 0} → Standing O W → O → List Entry → List Step → W → List Entry → O
 origin_at meanings o h steps old = origin_behind meanings o (compactions_at meanings old o h steps)
 
--- An event was answered with this fault. Of the entries of the capture's steps, those before its event were added.
+-- The switch answered with this fault. Of the entries of the capture's steps those before were added. Where a device failed, the
+-- last of those that it was asked for are in doubt, or unsaid; none of those that there were before the run.
 pub record StopsAtFault {O W : Type 0} (meanings : Standing O W) (kind : CaptureKind) (o : O) (h : List Entry)
     (tells : Type 0) (fault : SwitchFault) (old new : W) (bytes : List ℕ) : Type 0 where
   pub steps : List Step
   pub read : AreRead meanings kind old tells bytes steps
-  pub breaks : BreaksOff meanings (origin_at meanings o h steps old) h (entries_at meanings old o h steps) fault new
+  pub breaks : BreaksOff meanings (origin_at meanings o h steps old) (length h) h (entries_at meanings old o h steps) fault new
   pub lasting : IsLasting fault
   pub earlier : StoppedBefore h fault
 
@@ -121,7 +122,7 @@ pub record StopsAtCompaction {O W : Type 0} (meanings : Standing O W) (kind : Ca
 -- Nothing was done yet: the switch is as it was.
 pub record IsUnbegun {O W : Type 0} (meanings : Standing O W) (o : O) (h : List Entry) (old now : W) : Type 0 where
   pub same : now ≡ old
-  pub stands : meanings.stands o h now
+  pub stands : settled meanings o h now
 
 -- There was no memory: before the first step; or of the entries of the capture's steps, those before were added, and the journal
 -- was not opened again or compacted there; or those before an event, and that it was left for want of memory.
@@ -132,7 +133,7 @@ pub record LacksMemory {O W : Type 0} (meanings : Standing O W) (station : Type 
   pub stands : IsUnbegun meanings o h old new
       ⊎ (BreaksAtRestart meanings station (origin_at meanings o h steps old) h (entries_at meanings old o h steps) opening.NoMemory new
       ⊎ (BreaksAtCompaction meanings o h steps NoMemory old new
-      ⊎ BreaksOff meanings (origin_at meanings o h steps old) h (entries_at meanings old o h steps) NoMemory new))
+      ⊎ BreaksIdle meanings (origin_at meanings o h steps old) h (entries_at meanings old o h steps) NoMemory new))
 
 -- How a run of a capture of this kind ended, by its answer: of a switch that stood for these entries since this origin, over a source with
 -- these bytes.

@@ -15,9 +15,9 @@ pub(crate) fn drain<W: Switch>(
     out: &mut FrameBuf,
 ) -> Result<(), SwitchFault>
     requires circuit { c < length (W.meanings.directory switch.old).circuits }
-    ensures goes { (o : W.Origin) (h : List Entry) → StandsFor W.meanings o h switch.old
-        → Goes W.meanings o h (all_done (takes_of_drain (state_at W.meanings switch.old o h) c))
-        result switch.new }
+    ensures goes { (o : W.Origin) (first : ℕ) (h : List Entry)
+        → StandsFor W.meanings o first h switch.old → Goes W.meanings o first h
+        (all_done (takes_of_drain (state_at W.meanings switch.old o h) c)) result switch.new }
     ensures directory { W.meanings.directory switch.new ≡ W.meanings.directory switch.old }
     ensures cause { HasCallCause result (W.disk_faults switch.old) (W.disk_faults switch.new)
         (W.say_faults switch.old) (W.say_faults switch.new) }

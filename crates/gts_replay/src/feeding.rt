@@ -2,16 +2,16 @@ ghost use Rattle.std.specs.Prelude.{◌≡◌, ◌<◌, ◌++◌, ℕ, List, len
 ghost use Rattle.gts_event.specs.declared.event.Entry.{Entry};
 ghost use Rattle.gts_event.specs.Drain.{all_done};
 ghost use Rattle.gts_frame.specs.Signs.{held_in};
-ghost use Rattle.gts_frame.specs.Decoder.{signs_of_step, HasMessage};
-ghost use Rattle.gts_connection.specs.Cited.{events_added, events_of_signs};
-ghost use Rattle.gts_calls.specs.{HasCallCause};
+ghost use Rattle.gts_connection.specs.Cited.{events_added};
+ghost use Rattle.gts_calls.specs.{Stands, HasCallCause};
 ghost use Rattle.gts_replay.specs.Cited.{Goes, Feeds, HasRunCause};
 
 use crate::fault::StepFault;
 use gts_calls::Switch;
 use gts_capture::Steps;
 use gts_event::SwitchFault;
-use gts_frame::{Decoder, Step};
+use gts_feed::feed as feed_on;
+use gts_frame::Decoder;
 use gts_traits::Source;
 use std::alloc::Global;
 
@@ -53,9 +53,9 @@ fn feed_piece<W: Switch>(
     piece: &[u8],
 ) -> Result<(), SwitchFault>
     requires circuit { c < length (W.meanings.directory switch.old).circuits }
-    ensures goes { (before : List ℕ) (o : W.Origin) (h : List Entry)
-        → decoder.old.held ≡ held_in before → W.meanings.stands o h switch.old
-        → Goes W.meanings o h (all_done (events_added c before piece.now)) result switch.new }
+    ensures goes { (before : List ℕ) (o : W.Origin) (first : ℕ) (h : List Entry)
+        → decoder.old.held ≡ held_in before → Stands W.meanings o first h switch.old
+        → Goes W.meanings o first h (all_done (events_added c before piece.now)) result switch.new }
     ensures held { (before : List ℕ) → decoder.old.held ≡ held_in before
         → OnOk result (decoder.new.held ≡ held_in (before ++ piece.now)) }
     ensures directory { W.meanings.directory switch.new ≡ W.meanings.directory switch.old }
@@ -64,38 +64,9 @@ fn feed_piece<W: Switch>(
 {
     let mut rest = piece;
     while !rest.is_empty() {
-        let (count, step) = decoder.take(rest);
-        deal(alloc, switch, c, step, decoder.message())?;
-        rest = &rest[count..];
-    }
-    Ok(())
-}
-
-/// What a step of a circuit's decoder came to is dealt with: a message is heard, a loss is entered.
-fn deal<W: Switch>(
-    alloc: Global,
-    switch: &mut W,
-    c: u32,
-    step: Step,
-    message: &[u8],
-) -> Result<(), SwitchFault>
-    requires circuit { c < length (W.meanings.directory switch.old).circuits }
-    requires message { HasMessage step message.now }
-    ensures goes { (o : W.Origin) (h : List Entry) → W.meanings.stands o h switch.old
-        → Goes W.meanings o h (all_done (events_of_signs c (signs_of_step step message.now)))
-        result switch.new }
-    ensures directory { W.meanings.directory switch.new ≡ W.meanings.directory switch.old }
-    ensures cause { HasCallCause result (W.disk_faults switch.old) (W.disk_faults switch.new)
-        (W.say_faults switch.old) (W.say_faults switch.new) }
-{
-    match step {
-        Step::Frame(kind) => {
-            let _ = switch.hear(alloc, c, kind, message)?;
-        }
-        Step::Lost(field) => {
-            let _ = switch.lost(c, field)?;
-        }
-        Step::More | Step::KeepAlive | Step::Dropped => {}
+        let fed = feed_on(alloc, switch, c, decoder, rest);
+        fed.end.answer()?;
+        rest = &rest[fed.taken..];
     }
     Ok(())
 }

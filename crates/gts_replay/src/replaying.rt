@@ -4,7 +4,7 @@ ghost use Rattle.gts_connection.specs.Capture.{no_bytes};
 ghost use Rattle.gts_capture.specs.{IsHeadIn, bytes_announced, head_of, at_start};
 ghost use Rattle.gts_replay.specs.Going.{StandsFor, Decode};
 ghost use Rattle.gts_replay.specs.Replay.{Ends, HasReplayCause};
-ghost use Rattle.gts_replay.specs.Ending.{DoesStep, HasRunCause};
+ghost use Rattle.gts_replay.specs.Ending.{DoesStep, HasRunCause, EndsSettled, SettlesBehind, HasSettleCause};
 
 use crate::decoders::{new_decoders, reopen_all};
 use crate::draining::drain;
@@ -22,17 +22,18 @@ use std::alloc::Global;
 const PIECE: usize = 4_096;
 
 /// Runs a capture of this kind through a switch, up to its end or the first fault: bytes that come are heard frame by frame,
-/// each circuit over a connection of its own; takes, drains, restarts and compactions are the switch's. Decoders, the room
-/// for a frame and that for a piece of a feed are made before the first step.
+/// each circuit over a connection of its own; takes, drains, restarts and compactions are the switch's. What feeds, takes and
+/// drains do may be gathered; it is settled before the journal is opened again or compacted, and at the end. Decoders, the
+/// room for a frame and that for a piece of a feed are made before the first step.
 pub fn replay<W: Switch, S: Source>(
     alloc: Global,
     switch: &mut W,
     capture: &mut S,
     kind: CaptureKind,
 ) -> ReplayEnd
-    ensures ends { (o : W.Origin) (h : List Entry) → StandsFor W.meanings o h switch.old
-        → Ends W.meanings W.tells kind o h S.tells result switch.old switch.new
-        (S.left capture.old) (S.left capture.new) }
+    ensures ends { (o : W.Origin) (h : List Entry)
+        → StandsFor W.meanings o (length h) h switch.old → Ends W.meanings W.tells kind o h
+        S.tells result switch.old switch.new (S.left capture.old) (S.left capture.new) }
     ensures directory { W.meanings.directory switch.new ≡ W.meanings.directory switch.old }
     ensures cause { HasReplayCause result (W.disk_faults switch.old) (W.disk_faults switch.new)
         (W.say_faults switch.old) (W.say_faults switch.new)
@@ -47,7 +48,7 @@ pub fn replay<W: Switch, S: Source>(
     };
     let mut piece = [0; PIECE];
     let mut steps = Steps::new(circuits, kind);
-    run(
+    let end = run(
         alloc,
         switch,
         capture,
@@ -55,10 +56,29 @@ pub fn replay<W: Switch, S: Source>(
         &mut decoders,
         &mut out,
         &mut piece,
-    )
+    );
+    settle_behind(switch, end)
 }
 
-/// Does the steps of a capture, one after another.
+/// Settles what a run gathered that ended so, where the switch answered with no fault. After one nothing is gathered.
+fn settle_behind<W: Switch>(switch: &mut W, end: ReplayEnd) -> ReplayEnd
+    ensures settles { SettlesBehind W.meanings end result switch.old switch.new }
+    ensures directory { W.meanings.directory switch.new ≡ W.meanings.directory switch.old }
+    ensures cause { HasSettleCause end result (W.disk_faults switch.old)
+        (W.disk_faults switch.new) (W.say_faults switch.old) (W.say_faults switch.new) }
+{
+    match end {
+        ReplayEnd::Done | ReplayEnd::Capture { .. } | ReplayEnd::SourceFault => {
+            match switch.settle() {
+                Ok(()) => end,
+                Err(fault) => ReplayEnd::Fault(fault),
+            }
+        }
+        _ => end,
+    }
+}
+
+/// Does the steps of a capture, one after another. Its end is said by what it is once it was settled.
 fn run<W: Switch, S: Source>(
     alloc: Global,
     switch: &mut W,
@@ -73,8 +93,8 @@ fn run<W: Switch, S: Source>(
     requires few { length (W.meanings.directory switch.old).circuits ≤ 100 }
     requires piece { 0 < length piece.old }
     requires decode { Decode decoders.old (no_bytes (W.meanings.directory switch.old)) }
-    ensures ends { (o : W.Origin) (h : List Entry) → StandsFor W.meanings o h switch.old
-        → Ends W.meanings W.tells steps.old.kind o h S.tells result switch.old switch.new
+    ensures ends { (o : W.Origin) (h : List Entry) → StandsFor W.meanings o (length h) h switch.old
+        → EndsSettled W.meanings W.tells steps.old.kind o h S.tells result switch.old switch.new
         (S.left capture.old) (S.left capture.new) }
     ensures directory { W.meanings.directory switch.new ≡ W.meanings.directory switch.old }
     ensures cause { HasReplayCause result (W.disk_faults switch.old) (W.disk_faults switch.new)
@@ -136,12 +156,18 @@ fn do_step<W: Switch, S: Source>(
         }
         Head::Reopen { c } => decoders[c as usize].reopen(),
         Head::Restart => {
+            if let Err(fault) = switch.settle() {
+                return Err(StepFault::Switch(fault));
+            }
             if let Err(fault) = switch.restart(alloc) {
                 return Err(StepFault::Reopen(fault));
             }
             reopen_all(decoders);
         }
         Head::Compact => {
+            if let Err(fault) = switch.settle() {
+                return Err(StepFault::Switch(fault));
+            }
             if let Err(fault) = switch.compact(alloc) {
                 return Err(StepFault::Compaction(fault));
             }

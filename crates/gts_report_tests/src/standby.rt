@@ -223,6 +223,39 @@ fn a_feed_is_taken_whenever_the_machine_stops(rt: HostRuntime) -> Result<(), Fai
     is_taken_after_each(&rt, fed)
 }
 
+/// A standby that a stop in this call left has no record of the feed, or all of them, whatever the stop left.
+fn has_none_or_all<R: AllocGlobal + Abort>(
+    rt: &R,
+    standby: &MemStation,
+    feed: &[u8],
+    call: u64,
+) -> Result<(), Fail> {
+    for choice in CHOICES {
+        let mut left = left_by(standby, call, choice)?;
+        assert!(rt; shipped(rt.alloc(), &mut left)? == Ok(()));
+        let size = left.said(0).len();
+        assert!(rt; size == 40 || size == feed.len(), "call {call}");
+    }
+    Ok(())
+}
+
+#[test]
+fn the_records_of_a_feed_go_behind_one_gate(rt: HostRuntime) -> Result<(), Fail> {
+    let directory = two_circuits(rt.alloc())?;
+    let feed = feed_of_both(rt.alloc())?;
+    let fed = Fed {
+        begun: EMPTY,
+        feed: feed.as_slice(),
+        first: BOTH,
+        second: b"",
+    };
+    let standby = following(rt.alloc(), &directory, fed)?;
+    for call in OPENED..standby.calls() {
+        has_none_or_all(&rt, &standby, fed.feed, call)?;
+    }
+    Ok(())
+}
+
 /// The feed of the journal that has the checkpoint.
 fn feed_of_compacted(alloc: Global) -> Result<Vec<u8>, Fail> {
     let pieces = [piece(COMPACTED, 0, 40), piece(COMPACTED, 41, 178)];

@@ -1,12 +1,12 @@
--- The steps of a sender.
-use Rattle.std.proofs.Common.{◌≡◌, ◌⊎◌, ℕ, Bool, Result, zero, suc, ◌+◌, List, [], ◌∷◌, ◌++◌, Some, None, true, false, Ok, Err, inl, inr, refl, sym, ap, ◌∙◌, subst, append_assoc, add-one}
+-- The turns of a sender.
+use Rattle.std.proofs.Common.{◌≡◌, ℕ, ◌≤◌, Bool, Result, zero, suc, ◌+◌, List, [], ◌∷◌, ◌++◌, length, Some, None, true, false, Ok, Err, refl, sym, ap, ◌∙◌, subst, arith, append_assoc, length-append}
 use Rattle.std.specs.Prelude.{replicate}
 use Rattle.std.proofs.lemmas.List.{append-nil, map-append}
 use Rattle.gts_traits.specs.Station.{IsFront}
 use Rattle.gts_directory.specs.Directory.{Directory}
 use Rattle.gts_event.specs.State.{State}
 use Rattle.gts_event.specs.Need.{begun}
-use Rattle.gts_event.specs.History.{Choice, Repeats, Draws, Nothing_waits, choice, outcome, after, after_all}
+use Rattle.gts_event.specs.History.{outcome, after, after_all}
 use Rattle.gts_event.specs.Said.{line}
 use Rattle.gts_event.specs.declared.event.Event.TheVariants.{Taken}
 use Rattle.gts_event.specs.declared.event.Entry.{Entry}
@@ -15,179 +15,252 @@ use Rattle.gts_event.specs.declared.outcome.Outcome.{Outcome}
 use Rattle.gts_event.specs.declared.outcome.Outcome.TheVariants.{Accepted, Duplicate, Asked, Refused, LineLost, Resend, Draw, Nothing}
 use Rattle.gts_event.specs.declared.fault.SwitchFault.{SwitchFault}
 use Rattle.gts_event.specs.declared.fault.SwitchFault.TheVariants.{DiskFault, SayFault, Full, Stopped, Spent, NoMemory}
-use Rattle.gts_event.proofs.LawLemmas.{after_all-append}
-use Rattle.gts_desk.specs.{entries}
-use Rattle.gts_calls.specs.Calls.{entry_of}
-use Rattle.gts_desk.specs.Desks.{Seen, own, state_at, Adds, AddsJust, Answers, LeavesFrame}
-use Rattle.gts_desk.specs.Frames.{frame_of_outcome, frame_of, own_frames}
-use Rattle.gts_desk.proofs.LawLemmas.{own_added, frames_added, own_spent, frames_spent, goes_on, goes_on_spent, goes_further, stays}
+use Rattle.gts_desk.specs.Desks.{Seen, own, state_at, under, AddsAll, AddsEntries, LeavesFrame}
+use Rattle.gts_desk.specs.Frames.{frames, own_frames}
+use Rattle.gts_desk.specs.Given.{Frame, takes, given_index, Gave, GaveAll, after_takes, GaveNoMore, most_beside, TakesSome}
+use Rattle.gts_desk.proofs.LawLemmas.{own_added, frames_added, frames_behind, frames_one, own_spent, frames_spent, goes_on, goes_on_spent, goes_further, stays}
 use Rattle.gts_sender.specs.declared.end.SendEnd.{SendEnd}
 use Rattle.gts_sender.specs.declared.end.SendEnd.TheVariants as ends
-use Rattle.gts_sender.specs.Sender.{takes, given_index, WroteGiven, Sending, TookLast, Breaks, Fails, SendsMore, AnswersTake}
-
-more : {A : Type 0} (x : A) (n : ℕ) → replicate n x ++ x ∷ [] ≡ replicate (suc n) x
-more x zero = refl
-more x (suc n) = ap (λ (l : List _). x ∷ l) (more x n)
-
-one_take : (c n : ℕ) → takes c n ++ Done (Taken c) ∷ [] ≡ takes c (n + 1)
-one_take c n = more (Done (Taken c)) n ∙ ap (takes c) (sym (add-one n))
-
--- ---- what a take gives
-
--- a take that gave no frame gave nothing
-no_frame : (x : Choice) (o : Outcome) → o ≡ (elim x as (λ _. Outcome) [ Repeats index ↦ Resend index | Draws index position ↦ Draw index | Nothing_waits ↦ Nothing ])
-    → given_index o ≡ None → o ≡ Nothing
-no_frame (Repeats index) o is none = absurd (let e = sym (ap given_index is) ∙ none in cc e)
-no_frame (Draws index position) o is none = absurd (let e = sym (ap given_index is) ∙ none in cc e)
-no_frame Nothing_waits o is none = is
-
-pub gave_nothing : (d : Directory) (s : State) (c : ℕ) (o : Outcome) → o ≡ outcome d s (Taken c) → given_index o ≡ None → o ≡ Nothing
-gave_nothing d s c o is none = no_frame (choice d s c) o is none
-
--- one that gave the frame of an index left that frame, and repeated or drew it
-pub gave : (d : Directory) (s : State) (c : ℕ) (out : List ℕ) (o : Outcome) (index : ℕ) → LeavesFrame d c out o s → given_index o ≡ Some index
-    → (frame_of_outcome d (after d s (Taken c)) c o ≡ out) × (out ≡ line d (after d s (Taken c)) c index) × ((o ≡ Resend index) ⊎ (o ≡ Draw index))
-gave d s c out (Resend k) index leaves is = let e : k ≡ index = cc is in (sym leaves, leaves ∙ ap (line d (after d s (Taken c)) c) e, inl (ap (λ (n : ℕ). Resend n) e))
-gave d s c out (Draw k) index leaves is = let e : k ≡ index = cc is in (sym leaves, leaves ∙ ap (line d (after d s (Taken c)) c) e, inr (ap (λ (n : ℕ). Draw n) e))
-gave d s c out (Accepted position circuits) index leaves is = absurd (cc is)
-gave d s c out (Duplicate position) index leaves is = absurd (cc is)
-gave d s c out (Asked found missing) index leaves is = absurd (cc is)
-gave d s c out (Refused refusal) index leaves is = absurd (cc is)
-gave d s c out (LineLost field) index leaves is = absurd (cc is)
-gave d s c out Nothing index leaves is = absurd (cc is)
-
--- ---- a desk's takes one after another
+use Rattle.gts_sender.specs.Sender.{texts, WroteUpTo, WroteFrames, WroteGiven, Sending, TookLast, Breaks, fault_takes, Fails, SendsMore, AnswersTake}
+use Rattle.gts_sender.proofs.TurnLemmas.{taken, one_take, takes_plus, state_behind, gave_nothing, frames_given, frames_no_more, gave_front}
 
 pub sending_nothing : (c : ℕ) (d : Seen) → Sending c d d []
 sending_nothing c d = record { desk = stays d; count = 0; added = sym (append-nil (own d)); written = sym (append-nil (own_frames d)) }
 
+-- no more is said of takes than that they were done
+abbrev done : (old new : Seen) (more : List Entry) (Holds : State → Type 0) → AddsAll old more Holds new → AddsEntries old more new
+done old new more Holds adds = record { others = adds.others; is = adds.is; strange = adds.strange; holds = tt; caused = adds.caused }
+
 module _ (c : ℕ) (first old new : Seen) (sent : List ℕ) (so_far : Sending c first old sent) where
-  -- a take was done
-  module _ (o : Outcome) (out : List ℕ) (adds : Adds old (Done (Taken c)) (λ s. (o ≡ outcome old.directory s (Taken c)) × LeavesFrame old.directory c out o s) new) where
+  -- a turn of so many takes was done
+  module _ (n : ℕ) (Holds : State → Type 0) (adds : AddsAll old (takes c n) Holds new) where
     abbrev s : State
     s = state_at old (old.history ++ adds.others)
 
-    abbrev entry : Entry
-    entry = Done (Taken c)
+    abbrev turn : AddsEntries old (takes c n) new
+    turn = done old new (takes c n) Holds adds
 
-    abbrev one : AddsJust old entry new
-    one = record { others = adds.others; is = adds.is; strange = adds.strange; alone = adds.alone; holds = tt; caused = adds.caused }
-
-    took : own new ≡ own first ++ takes c (so_far.count + 1)
+    took : own new ≡ own first ++ takes c (so_far.count + n)
     took =
-        own_added old new entry one ∙ ap (λ (l : List Entry). l ++ entry ∷ []) so_far.added
-        ∙ append_assoc (own first) (takes c so_far.count) (entry ∷ []) ∙ ap (λ (l : List Entry). own first ++ l) (one_take c so_far.count)
+        own_added old new (takes c n) turn ∙ ap (λ (l : List Entry). l ++ takes c n) so_far.added
+        ∙ append_assoc (own first) (takes c so_far.count) (takes c n) ∙ ap (λ (l : List Entry). own first ++ l) (takes_plus c so_far.count n)
 
-    -- its frame is the last of the desk's own
-    drew_frame : (bytes : List ℕ) → frame_of_outcome old.directory (after old.directory s (Taken c)) c o ≡ bytes → own_frames new ≡ own_frames first ++ (sent ++ bytes)
-    drew_frame bytes is =
-        let same : frame_of old.directory s entry ≡ bytes = ap (frame_of_outcome old.directory (after old.directory s (Taken c)) c) (sym adds.holds.0) ∙ is in
-        frames_added old new entry one ∙ ap (λ (l : List ℕ). own_frames old ++ l) same ∙ ap (λ (l : List ℕ). l ++ bytes) so_far.written ∙ append_assoc (own_frames first) sent bytes
-
-    last : (p : Outcome) → o ≡ p → TookLast c new p
-    last p is = record {
-      before = old.history ++ adds.others;
-      is = ap (λ (d : Seen). d.history) adds.is ∙ ap (λ (n : ℕ). (old.history ++ adds.others) ++ (n, entry) ∷ []) (sym (ap (λ (d : Seen). d.name) adds.is));
-      outcome_is = sym is ∙ adds.holds.0 ∙ ap (λ (d : Seen). outcome d.directory (state_at d (old.history ++ adds.others)) (Taken c)) (sym adds.is);
-    }
-
-    -- the state after all that was seen is the one that the take left
-    here : state_at new new.history ≡ after old.directory s (Taken c)
-    here =
-        ap (λ (d : Seen). state_at d d.history) adds.is
-        ∙ ap (after_all old.directory (begun old.start)) (map-append (λ (x : ℕ × Entry). x.1) (old.history ++ adds.others) ((old.name, entry) ∷ []))
-        ∙ after_all-append old.directory (begun old.start) (entries (old.history ++ adds.others)) (entry ∷ [])
-
-    pub drew : (index : ℕ) → given_index o ≡ Some index → Sending c first new (sent ++ out)
-    drew index is = record {
-      desk = goes_further first old new so_far.desk (goes_on old new entry one);
-      count = so_far.count + 1;
+    drew : (bytes : List ℕ) → frames old.directory s old.name (under old.name (takes c n)) ≡ bytes → Sending c first new (sent ++ bytes)
+    drew bytes is = record {
+      desk = goes_further first old new so_far.desk (goes_on old new (takes c n) turn);
+      count = so_far.count + n;
       added = took;
-      written = drew_frame out (gave old.directory s c out o index adds.holds.1 is).0;
+      written = frames_added old new (takes c n) turn ∙ ap (λ (l : List ℕ). own_frames old ++ l) is ∙ ap (λ (l : List ℕ). l ++ bytes) so_far.written
+          ∙ append_assoc (own_frames first) sent bytes;
     }
 
-    pub broke : (index : ℕ) (bytes : List ℕ) → given_index o ≡ Some index → IsFront bytes out → Breaks c index first new (sent ++ bytes)
-    broke index bytes is front =
-        let g = gave old.directory s c out o index adds.holds.1 is in
-        let one_directory : old.directory ≡ new.directory = sym (ap (λ (d : Seen). d.directory) adds.is) in
-        let same : out ≡ line new.directory (state_at new new.history) c index =
-        g.1 ∙ ap (λ (t : State). line old.directory t c index) (sym here) ∙ ap (λ (d : Directory). line d (state_at new new.history) c index) one_directory in
+    -- the history up to so many of them, and what a take gives behind them
+    abbrev up_to : ℕ → List (ℕ × Entry)
+    up_to k = (old.history ++ adds.others) ++ under old.name (takes c k)
+
+    same_there : {A : Type 0} (f : Directory → State → A) (k : ℕ) → f new.directory (state_at new (up_to k)) ≡ f old.directory (after_takes old.directory s c k)
+    same_there f k =
+        ap (λ (d : Seen). f d.directory (state_at d (up_to k))) adds.is
+        ∙ ap (f old.directory) (state_behind old.directory (begun old.start) (old.history ++ adds.others) old.name c k)
+
+    split : (k behind : ℕ) → n ≡ k + suc behind → new.history ≡ up_to k ++ (new.name, taken c) ∷ under new.name (takes c behind)
+    split k behind is =
+        let base : List (ℕ × Entry) = old.history ++ adds.others in
+        ap (λ (d : Seen). d.history) adds.is
+        ∙ ap (λ (l : List Entry). base ++ under old.name l) (ap (takes c) is ∙ sym (takes_plus c k (suc behind)))
+        ∙ ap (λ (l : List (ℕ × Entry)). base ++ l) (map-append (λ (e : Entry). (old.name, e)) (takes c k) (taken c ∷ takes c behind))
+        ∙ sym (append_assoc base (under old.name (takes c k)) ((old.name, taken c) ∷ under old.name (takes c behind)))
+        ∙ ap (λ (m : ℕ). up_to k ++ (m, taken c) ∷ under m (takes c behind)) (sym (ap (λ (d : Seen). d.name) adds.is))
+
+    -- the line failed within the frame of one of them
+    broke : (given front : List Frame) (frame : Frame) (back : List Frame) (behind : ℕ) (part : List ℕ) → GaveAll old.directory s c given → given ≡ front ++ frame ∷ back
+        → n ≡ length front + suc behind → behind ≤ most_beside old.directory c → IsFront part frame.text
+        → Breaks c frame.index first new (sent ++ (texts front ++ part))
+    broke given front frame back behind part gave parts size few within =
+        let k : ℕ = length front in
+        let g : GaveAll old.directory s c front × Gave old.directory (after_takes old.directory s c k) c frame =
+        gave_front old.directory s c front frame back (subst (GaveAll old.directory s c) parts gave) in
+        let text : frame.text ≡ line new.directory (after new.directory (state_at new (up_to k)) (Taken c)) c frame.index =
+        g.1.text ∙ sym (same_there (λ d t. line d (after d t (Taken c)) c frame.index) k) in
         record {
-          desk = goes_further first old new so_far.desk (goes_on old new entry one);
-          count = so_far.count + 1;
+          desk = goes_further first old new so_far.desk (goes_on old new (takes c n) turn);
+          count = so_far.count + n;
           added = took;
-          last = which g.2;
-          whole = sent;
-          part = bytes;
-          drawn = drew_frame (line new.directory (state_at new new.history) c index) (g.0 ∙ same);
-          front = (front.0, sym same ∙ front.1);
-          is = refl;
+          before = up_to k;
+          behind = behind;
+          is = split k behind size;
+          few = subst (λ (d : Directory). behind ≤ most_beside d c) (sym (ap (λ (d : Seen). d.directory) adds.is)) few;
+          gave = ap given_index (same_there (λ d t. outcome d t (Taken c)) k) ∙ g.1.index;
+          whole = sent ++ texts front;
+          part = part;
+          drawn = ap (λ (d : Seen). frames d.directory (begun d.start) d.name (up_to k)) adds.is
+              ∙ frames_behind old adds.others (takes c k) adds.strange
+              ∙ ap (λ (l : List ℕ). own_frames old ++ l) (frames_given old.directory s old.name c front g.0)
+              ∙ ap (λ (l : List ℕ). l ++ texts front) so_far.written ∙ append_assoc (own_frames first) sent (texts front);
+          front = (within.0, sym text ∙ within.1);
+          bytes_are = sym (append_assoc sent (texts front) part);
         }
-      where
-        which : (o ≡ Resend index) ⊎ (o ≡ Draw index) → TookLast c new (Resend index) ⊎ TookLast c new (Draw index)
-        which (inl e) = inl (last (Resend index) e)
-        which (inr e) = inr (last (Draw index) e)
 
-    pub drew_nothing : given_index o ≡ None → Sending c first new (sent ++ []) × TookLast c new Nothing
-    drew_nothing none =
-        let is : o ≡ Nothing = gave_nothing old.directory s c o adds.holds.0 none in (
-          record {
-            desk = goes_further first old new so_far.desk (goes_on old new entry one);
-            count = so_far.count + 1;
-            added = took;
-            written = drew_frame [] (ap (frame_of_outcome old.directory (after old.directory s (Taken c)) c) is);
-          },
-          last Nothing is,
-        )
+  -- all frames were written, and there may be more
+  pub all_sent : (given : List Frame) → AddsAll old (takes c (length given)) (λ s. GaveAll old.directory s c given) new → Sending c first new (sent ++ texts given)
+  all_sent given adds =
+      let s : State = state_at old (old.history ++ adds.others) in
+      drew (length given) (λ s. GaveAll old.directory s c given) adds (texts given) (frames_given old.directory s old.name c given adds.holds)
 
-  -- a take was answered with a fault
-  pub take_failed : (f : SwitchFault) (out : List ℕ) → (f ≡ SayFault → ⊥) → (f ≡ NoMemory → ⊥)
-      → Answers old (Taken c) (LeavesFrame old.directory c out) (Err f) new → Fails c f first new (sent ++ [])
-  take_failed f out silent memory answers = by f silent memory answers
+  -- and nothing waits behind them
+  pub no_more : (given : List Frame) → AddsAll old (takes c (length given + 1)) (λ s. GaveNoMore old.directory s c given) new
+      → Sending c first new (sent ++ texts given) × TookLast c new Nothing
+  no_more given adds =
+      let s : State = state_at old (old.history ++ adds.others) in
+      let n : ℕ = length given in
+      let Holds : State → Type 0 = λ s. GaveNoMore old.directory s c given in (
+        drew (n + 1) Holds adds (texts given) (frames_no_more old.directory s old.name c given adds.holds),
+        record {
+          before = up_to (n + 1) Holds adds n;
+          is = split (n + 1) Holds adds n 0 (omega arith);
+          outcome_is = sym (same_there (n + 1) Holds adds (λ d t. outcome d t (Taken c)) n ∙ adds.holds.nothing);
+        },
+      )
+
+  -- the line failed within one of them
+  pub broke_off : (given : List Frame) (more : Bool) (index : ℕ) (bytes : List ℕ) → TakesSome c given (Ok more) old new → WroteUpTo given index bytes
+      → Breaks c index first new (sent ++ bytes)
+  broke_off given true index bytes takes w =
+      let B : ℕ → List ℕ → Type 0 = λ i l. Breaks c i first new (sent ++ l) in
+      let size : length given ≡ length w.front + suc (length w.back) = ap length w.parts ∙ length-append w.front (w.frame ∷ w.back) in
+      subst (λ (i : ℕ). B i bytes) w.index_is
+      (subst (B w.frame.index) (sym w.is)
+      (broke (length given) (λ s. GaveAll old.directory s c given) takes.0 given w.front w.frame w.back (length w.back) w.part takes.0.holds w.parts size (omega (arith, size, takes.2)) w.within))
+  broke_off given false index bytes takes w =
+      let B : ℕ → List ℕ → Type 0 = λ i l. Breaks c i first new (sent ++ l) in
+      let size : length given ≡ length w.front + suc (length w.back) = ap length w.parts ∙ length-append w.front (w.frame ∷ w.back) in
+      subst (λ (i : ℕ). B i bytes) w.index_is
+      (subst (B w.frame.index) (sym w.is)
+      (broke (length given + 1) (λ s. GaveNoMore old.directory s c given) takes.0 given w.front w.frame w.back (suc (length w.back)) w.part takes.0.holds.gave w.parts (omega (arith, size)) (omega (arith, size, takes.1)) w.within))
+
+  -- the turn was answered with a fault
+  pub turn_fails : (f : SwitchFault) (given : List Frame) → TakesSome c given (Err f) old new → Fails c f first new (sent ++ [])
+  turn_fails f given took = by f took
     where
-      entered : (f : SwitchFault) (entry : Entry) → entry_of (Taken c) (Err f) ≡ entry ∷ [] → ((d : Directory) (s : State) → frame_of d s entry ≡ [])
-          → (f ≡ Spent → ⊥) → (f ≡ SayFault → ⊥) → (f ≡ NoMemory → ⊥) → AddsJust old entry new → Fails c f first new (sent ++ [])
-      entered f entry shape none unspent silent memory adds = record {
-        desk = goes_further first old new so_far.desk (goes_on old new entry adds);
+      entered : (f : SwitchFault) (beside : ℕ) (entry : Entry) → fault_takes c beside f ≡ entry ∷ [] → beside ≤ most_beside old.directory c
+          → ((d : Directory) (s : State) → frames d s old.name (under old.name (entry ∷ [])) ≡ [])
+          → (f ≡ Spent → ⊥) → (f ≡ SayFault → ⊥) → (f ≡ NoMemory → ⊥) → AddsEntries old (entry ∷ []) new → Fails c f first new (sent ++ [])
+      entered f beside entry shape few none unspent silent memory adds = record {
+        desk = goes_further first old new so_far.desk (goes_on old new (entry ∷ []) adds);
         count = so_far.count;
-        added = own_added old new entry adds ∙ ap (λ (l : List Entry). l ++ entry ∷ []) so_far.added
+        beside = beside;
+        few = subst (λ (d : Directory). beside ≤ most_beside d c) (sym (ap (λ (d : Seen). d.directory) adds.is)) few;
+        added = own_added old new (entry ∷ []) adds ∙ ap (λ (l : List Entry). l ++ entry ∷ []) so_far.added
             ∙ append_assoc (own first) (takes c so_far.count) (entry ∷ []) ∙ ap (λ (l : List Entry). own first ++ (takes c so_far.count ++ l)) (sym shape);
-        written = frames_added old new entry adds ∙ ap (λ (l : List ℕ). own_frames old ++ l) (none old.directory (state_at old (old.history ++ adds.others)))
+        written = frames_added old new (entry ∷ []) adds ∙ ap (λ (l : List ℕ). own_frames old ++ l) (none old.directory (state_at old (old.history ++ adds.others)))
             ∙ ap (λ (l : List ℕ). l ++ []) so_far.written ∙ append_assoc (own_frames first) sent [];
         spent = λ e. absurd (unspent e);
         silent = silent;
         memory = memory;
       }
 
-      by : (f : SwitchFault) → (f ≡ SayFault → ⊥) → (f ≡ NoMemory → ⊥)
-          → Answers old (Taken c) (LeavesFrame old.directory c out) (Err f) new → Fails c f first new (sent ++ [])
-      by SayFault silent memory adds = absurd (silent refl)
-      by NoMemory silent memory adds = absurd (memory refl)
-      by DiskFault silent memory adds = entered DiskFault (Doubt (Taken c)) refl (λ d s. refl) (λ e. cc e) silent memory adds
-      by (Full used need limit) silent memory adds = entered (Full used need limit) (Idle (Taken c) (Full used need limit)) refl (λ d s. refl) (λ e. cc e) silent memory adds
-      by (Stopped device) silent memory adds = entered (Stopped device) (Idle (Taken c) (Stopped device)) refl (λ d s. refl) (λ e. cc e) silent memory adds
-      by Spent silent memory spent = record {
-        desk = goes_further first old new so_far.desk (goes_on_spent old new spent);
+      by : (f : SwitchFault) → TakesSome c given (Err f) old new → Fails c f first new (sent ++ [])
+      by SayFault took = absurd took
+      by NoMemory took = absurd took
+      by DiskFault took =
+          let t = took.1 in
+          let entry : Entry = Doubt (Taken c ∷ replicate t.beside (Taken c)) in
+          entered DiskFault t.beside entry refl t.few (λ d s. frames_one d s old.name entry) (λ e. cc e) (λ e. cc e) (λ e. cc e) t.added
+      by (Full used need limit) took =
+          let entry : Entry = Idle (Taken c) (Full used need limit) in
+          entered (Full used need limit) 0 entry refl (omega arith) (λ d s. frames_one d s old.name entry) (λ e. cc e) (λ e. cc e) (λ e. cc e) took.1
+      by (Stopped device) took =
+          let entry : Entry = Idle (Taken c) (Stopped device) in
+          entered (Stopped device) 0 entry refl (omega arith) (λ d s. frames_one d s old.name entry) (λ e. cc e) (λ e. cc e) (λ e. cc e) took.1
+      by Spent took = record {
+        desk = goes_further first old new so_far.desk (goes_on_spent old new took.1);
         count = so_far.count;
-        added = own_spent old new spent ∙ so_far.added ∙ ap (λ (l : List Entry). own first ++ l) (sym (append-nil (takes c so_far.count)));
-        written = frames_spent old new spent ∙ so_far.written ∙ ap (λ (l : List ℕ). own_frames first ++ l) (sym (append-nil sent));
-        spent = λ e. ap (λ (d : Seen). d.full) spent.is;
-        silent = silent;
-        memory = memory;
+        beside = 0;
+        few = omega arith;
+        added = own_spent old new took.1 ∙ so_far.added ∙ ap (λ (l : List Entry). own first ++ l) (sym (append-nil (takes c so_far.count)));
+        written = frames_spent old new took.1 ∙ so_far.written ∙ ap (λ (l : List ℕ). own_frames first ++ l) (sym (append-nil sent));
+        spent = λ e. ap (λ (d : Seen). d.full) took.1.is;
+        silent = λ e. cc e;
+        memory = λ e. cc e;
       }
 
--- ---- what a take sends, whatever was sent before
+-- ---- what a turn sends, whatever was sent before
+
+module _ (c : ℕ) (old new : Seen) (given : List Frame) where
+  pub turn_sent : (more : Bool) (bytes : List ℕ) → TakesSome c given (Ok more) old new → bytes ≡ texts given → SendsMore c old new bytes (Ok more)
+  turn_sent true bytes takes is first sent so_far = subst (λ (l : List ℕ). Sending c first new (sent ++ l)) (sym is) (all_sent c first old new sent so_far given takes.0)
+  turn_sent false bytes takes is first sent so_far =
+      let all = no_more c first old new sent so_far given takes.0 in (subst (λ (l : List ℕ). Sending c first new (sent ++ l)) (sym is) all.0, all.1)
+
+  pub turn_broke : (more : Bool) (bytes : List ℕ) (end : SendEnd) → TakesSome c given (Ok more) old new → WroteFrames given bytes (Err end) → SendsMore c old new bytes (Err end)
+  turn_broke more bytes (ends.LineFault index) takes w first sent so_far = broke_off c first old new sent so_far given more index bytes takes w
+  turn_broke more bytes ends.Quiet takes w first sent so_far = absurd w
+  turn_broke more bytes (ends.Fault fault) takes w first sent so_far = absurd w
+
+  pub turn_failed : (fault : SwitchFault) → TakesSome c given (Err fault) old new → SendsMore c old new [] (Err (ends.Fault fault))
+  turn_failed fault takes first sent so_far = turn_fails c first old new sent so_far fault given takes
+
+-- ---- what one take sends
+
+-- one that gave the frame of an index left that frame
+left_line : (d : Directory) (s : State) (c : ℕ) (out : List ℕ) (o : Outcome) (index : ℕ) → LeavesFrame d c out o s → given_index o ≡ Some index
+    → out ≡ line d (after d s (Taken c)) c index
+left_line d s c out (Resend k) index leaves is = let e : k ≡ index = cc is in leaves ∙ ap (line d (after d s (Taken c)) c) e
+left_line d s c out (Draw k) index leaves is = let e : k ≡ index = cc is in leaves ∙ ap (line d (after d s (Taken c)) c) e
+left_line d s c out (Accepted position circuits) index leaves is = absurd (cc is)
+left_line d s c out (Duplicate position) index leaves is = absurd (cc is)
+left_line d s c out (Asked found missing) index leaves is = absurd (cc is)
+left_line d s c out (Refused refusal) index leaves is = absurd (cc is)
+left_line d s c out (LineLost field) index leaves is = absurd (cc is)
+left_line d s c out Nothing index leaves is = absurd (cc is)
 
 module _ (c : ℕ) (old new : Seen) (out : List ℕ) where
+  abbrev the_frame : ℕ → Frame
+  the_frame index = record { index = index; text = out }
+
+  -- it is a turn of one take
+  one_given : (o : Outcome) (index : ℕ) → AnswersTake c out (Ok o) old new → given_index o ≡ Some index → TakesSome c (the_frame index ∷ []) (Ok true) old new
+  one_given o index answers given = (
+    record {
+      others = answers.others;
+      is = answers.is;
+      strange = answers.strange;
+      holds = (
+        record {
+          index = ap given_index (sym answers.holds.0) ∙ given;
+          text = left_line old.directory (state_at old (old.history ++ answers.others)) c out o index answers.holds.1 given;
+        },
+        tt,
+      );
+      caused = answers.caused;
+    },
+    omega arith,
+    omega arith,
+  )
+
   pub whole : (o : Outcome) (index : ℕ) → AnswersTake c out (Ok o) old new → given_index o ≡ Some index → SendsMore c old new out (Ok true)
-  whole o index answers given first sent so_far = drew c first old new sent so_far o out answers index given
+  whole o index answers given first sent so_far = turn_sent c old new (the_frame index ∷ []) true out (one_given o index answers given) (sym (append-nil out)) first sent so_far
 
   pub broken : (o : Outcome) (index : ℕ) (bytes : List ℕ) → AnswersTake c out (Ok o) old new → given_index o ≡ Some index → IsFront bytes out
       → SendsMore c old new bytes (Err (ends.LineFault index))
-  broken o index bytes answers given front first sent so_far = broke c first old new sent so_far o out answers index bytes given front
+  broken o index bytes answers given front first sent so_far =
+      broke_off c first old new sent so_far (the_frame index ∷ []) true index bytes (one_given o index answers given)
+      (record { front = []; frame = the_frame index; back = []; parts = refl; index_is = refl; part = bytes; within = front; is = refl })
 
   pub none : (o : Outcome) → AnswersTake c out (Ok o) old new → given_index o ≡ None → SendsMore c old new [] (Ok false)
-  none o answers given first sent so_far = drew_nothing c first old new sent so_far o out answers given
+  none o answers given first sent so_far = no_more c first old new sent so_far [] nothing
+    where
+      nothing : AddsAll old (taken c ∷ []) (λ s. GaveNoMore old.directory s c []) new
+      nothing = record {
+        others = answers.others;
+        is = answers.is;
+        strange = answers.strange;
+        holds = record {
+          gave = tt;
+          nothing = sym answers.holds.0 ∙ gave_nothing old.directory (state_at old (old.history ++ answers.others)) c o answers.holds.0 given;
+        };
+        caused = answers.caused;
+      }
 
   pub given : (o : Outcome) (bytes : List ℕ) (result : Result Bool SendEnd) → AnswersTake c out (Ok o) old new → WroteGiven o out bytes result
       → SendsMore c old new bytes result
@@ -197,6 +270,14 @@ module _ (c : ℕ) (old new : Seen) (out : List ℕ) where
   given o bytes (Err ends.Quiet) answers w = absurd w
   given o bytes (Err (ends.Fault fault)) answers w = absurd w
 
+  one_failed : (f : SwitchFault) → AnswersTake c out (Err f) old new → (f ≡ SayFault → ⊥) → (f ≡ NoMemory → ⊥) → TakesSome c [] (Err f) old new
+  one_failed SayFault answers silent memory = absurd (silent refl)
+  one_failed NoMemory answers silent memory = absurd (memory refl)
+  one_failed DiskFault answers silent memory = (refl, record { beside = 0; few = omega arith; added = answers })
+  one_failed (Full used need limit) answers silent memory = (refl, answers)
+  one_failed (Stopped device) answers silent memory = (refl, answers)
+  one_failed Spent answers silent memory = (refl, answers)
+
   pub failed : (fault : SwitchFault) → AnswersTake c out (Err fault) old new → (fault ≡ SayFault → ⊥) → (fault ≡ NoMemory → ⊥)
       → SendsMore c old new [] (Err (ends.Fault fault))
-  failed fault answers silent memory first sent so_far = take_failed c first old new sent so_far fault out silent memory answers
+  failed fault answers silent memory = turn_failed c old new [] fault (one_failed fault answers silent memory)

@@ -1,2 +1,4 @@
+pub mod TurnLemmas
 pub mod DrawLemmas
+pub mod WritingLemmas
 pub mod LawLemmas

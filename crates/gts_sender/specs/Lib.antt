@@ -1,4 +1,5 @@
 pub mod Sender
 -- what the contracts of callers cite
 pub use Rattle.gts_sender.specs.declared.end.SendEnd.{SendEnd}
-pub use Rattle.gts_sender.specs.Sender.{takes, given_index, Wrote, WroteGiven, Sending, TookLast, Breaks, Fails, Sends, LineStood, Tried, SendsMore, AnswersTake}
+pub use Rattle.gts_desk.specs.Given.{takes, given_index}
+pub use Rattle.gts_sender.specs.Sender.{Wrote, WroteGiven, Sending, TookLast, Breaks, fault_takes, Fails, Sends, LineStood, Tried, SendsMore, AnswersTake}

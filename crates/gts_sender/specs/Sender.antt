@@ -1,30 +1,22 @@
 -- What a sender adds at its desk, and what it writes.
-use Rattle.std.specs.Prelude.{◌≡◌, ◌⊎◌, ℕ, Bool, true, false, List, [], ◌∷◌, ◌++◌, replicate, Option, Some, None, Result, Ok, Err}
+use Rattle.std.specs.Prelude.{◌≡◌, ℕ, ◌≤◌, Bool, true, false, List, [], ◌∷◌, ◌++◌, replicate, Option, Some, None, Result, Ok, Err}
 use Rattle.gts_traits.specs.Station.{IsFront}
-use Rattle.gts_event.specs.History.{outcome}
+use Rattle.gts_event.specs.Need.{begun}
+use Rattle.gts_event.specs.History.{outcome, after}
 use Rattle.gts_event.specs.Said.{line}
 use Rattle.gts_event.specs.declared.event.Event.TheVariants.{Taken}
 use Rattle.gts_event.specs.declared.event.Entry.{Entry}
-use Rattle.gts_event.specs.declared.event.Entry.TheVariants.{Done}
+use Rattle.gts_event.specs.declared.event.Entry.TheVariants.{Done, Doubt}
 use Rattle.gts_event.specs.declared.outcome.Outcome.{Outcome}
-use Rattle.gts_event.specs.declared.outcome.Outcome.TheVariants.{Resend, Draw, Nothing}
+use Rattle.gts_event.specs.declared.outcome.Outcome.TheVariants.{Nothing}
 use Rattle.gts_event.specs.declared.fault.SwitchFault.{SwitchFault}
-use Rattle.gts_event.specs.declared.fault.SwitchFault.TheVariants.{SayFault, Spent, NoMemory}
+use Rattle.gts_event.specs.declared.fault.SwitchFault.TheVariants.{DiskFault, SayFault, Spent, NoMemory}
 use Rattle.gts_calls.specs.Calls.{entry_of}
-use Rattle.gts_desk.specs.Desks.{Seen, own, state_at, Answers, LeavesFrame, GoesOn}
-use Rattle.gts_desk.specs.Frames.{own_frames}
+use Rattle.gts_desk.specs.Desks.{Seen, own, state_at, under, Answers, LeavesFrame, GoesOn}
+use Rattle.gts_desk.specs.Frames.{frames, own_frames}
+use Rattle.gts_desk.specs.Given.{Frame, takes, given_index, most_beside}
 use Rattle.gts_sender.specs.declared.end.SendEnd.{SendEnd}
 use Rattle.gts_sender.specs.declared.end.SendEnd.TheVariants.{Quiet, LineFault, Fault}
-
--- so many takes on c were done
-abbrev pub takes : ℕ → ℕ → List Entry
-takes c count = replicate count (Done (Taken c))
-
--- the index of the frame that a take left, where it gave something
-abbrev pub given_index : Outcome → Option ℕ
-given_index (Resend index) = Some index
-given_index (Draw index) = Some index
-given_index _ = None
 
 -- all of the piece, or a front of it where that failed
 abbrev pub Wrote : {T E : Type 0} → Result T E → List ℕ → List ℕ → Type 0
@@ -39,6 +31,29 @@ WroteGiven outcome frame bytes (Err Quiet) = ⊥
 WroteGiven outcome frame bytes (Err (LineFault index)) = (given_index outcome ≡ Some index) × IsFront bytes frame
 WroteGiven outcome frame bytes (Err (Fault fault)) = ⊥
 
+-- the bytes of frames, one behind another
+abbrev pub texts : List Frame → List ℕ
+texts [] = []
+texts (frame ∷ frames) = frame.text ++ texts frames
+
+-- Of these frames, those before the one of this index were written whole, and of that one a front.
+pub record WroteUpTo (given : List Frame) (index : ℕ) (bytes : List ℕ) : Type 0 where
+  pub front : List Frame
+  pub frame : Frame
+  pub back : List Frame
+  pub parts : given ≡ front ++ frame ∷ back
+  pub index_is : frame.index ≡ index
+  pub part : List ℕ
+  pub within : IsFront part frame.text
+  pub is : bytes ≡ texts front ++ part
+
+-- all of these frames were written, or the line failed within one
+abbrev pub WroteFrames : List Frame → List ℕ → Result (Unit {0}) SendEnd → Type 0
+WroteFrames given bytes (Ok _) = bytes ≡ texts given
+WroteFrames given bytes (Err (LineFault index)) = WroteUpTo given index bytes
+WroteFrames given bytes (Err Quiet) = ⊥
+WroteFrames given bytes (Err (Fault fault)) = ⊥
+
 -- some takes were done, and the frames that they gave were written
 pub record Sending (c : ℕ) (old new : Seen) (bytes : List ℕ) : Type 0 where
   pub desk : GoesOn old new
@@ -52,23 +67,36 @@ pub record TookLast (c : ℕ) (d : Seen) (o : Outcome) : Type 0 where
   pub is : d.history ≡ before ++ (d.name, Done (Taken c)) ∷ []
   pub outcome_is : o ≡ outcome d.directory (state_at d before) (Taken c)
 
--- Of the frame of this index, which the last take gave, a front was written, and all frames before it whole.
+-- Of the frame of this index, which a take of the last turn gave, a front was written, and all frames before it whole. Of the frames
+-- of the takes behind it in that turn nothing was: with it, these are no more than the draws that an opening owes again.
 pub record Breaks (c index : ℕ) (old new : Seen) (bytes : List ℕ) : Type 0 where
   pub desk : GoesOn old new
   pub count : ℕ
   pub added : own new ≡ own old ++ takes c count
-  pub last : TookLast c new (Resend index) ⊎ TookLast c new (Draw index)
+  pub before : List (ℕ × Entry)
+  pub behind : ℕ
+  pub is : new.history ≡ before ++ (new.name, Done (Taken c)) ∷ under new.name (takes c behind)
+  pub few : behind ≤ most_beside new.directory c
+  pub gave : given_index (outcome new.directory (state_at new before) (Taken c)) ≡ Some index
   pub whole : List ℕ
   pub part : List ℕ
-  pub drawn : own_frames new ≡ own_frames old ++ (whole ++ line new.directory (state_at new new.history) c index)
-  pub front : IsFront part (line new.directory (state_at new new.history) c index)
-  pub is : bytes ≡ whole ++ part
+  pub drawn : frames new.directory (begun new.start) new.name before ≡ own_frames old ++ whole
+  pub front : IsFront part (line new.directory (after new.directory (state_at new before) (Taken c)) c index)
+  pub bytes_are : bytes ≡ whole ++ part
 
--- The last take was answered with a fault, and gave nothing. It is none of saying or of memory.
+-- The entries of takes on c that were answered with this fault in one turn, so many beside the first: they are in doubt, all together; or
+-- it is idle, alone.
+abbrev pub fault_takes : ℕ → (beside : ℕ) → SwitchFault → List Entry
+fault_takes c beside DiskFault = Doubt (Taken c ∷ replicate beside (Taken c)) ∷ []
+fault_takes c beside fault = entry_of (Taken c) (Err fault)
+
+-- The last turn was answered with a fault, and gave nothing. It is none of saying or of memory.
 pub record Fails (c : ℕ) (fault : SwitchFault) (old new : Seen) (bytes : List ℕ) : Type 0 where
   pub desk : GoesOn old new
   pub count : ℕ
-  pub added : own new ≡ own old ++ (takes c count ++ entry_of (Taken c) (Err fault))
+  pub beside : ℕ
+  pub few : beside ≤ most_beside new.directory c
+  pub added : own new ≡ own old ++ (takes c count ++ fault_takes c beside fault)
   pub written : own_frames new ≡ own_frames old ++ bytes
   pub spent : fault ≡ Spent → new.full ≡ true
   pub silent : fault ≡ SayFault → ⊥
@@ -86,13 +114,13 @@ LineStood Quiet = Unit {0}
 LineStood (LineFault index) = ⊥
 LineStood (Fault fault) = Unit {0}
 
--- what one try to send does: a frame was sent, or there was nothing to send
+-- what one turn sends: frames, behind which there may be more; or there was nothing more to send
 abbrev pub Tried : ℕ → Seen → Seen → List ℕ → Result Bool SendEnd → Type 0
 Tried c first new bytes (Ok true) = Sending c first new bytes
 Tried c first new bytes (Ok false) = Sending c first new bytes × TookLast c new Nothing
 Tried c first new bytes (Err end) = Sends c first new bytes end
 
--- whatever was sent before, that try sends these bytes more
+-- whatever was sent before, that turn sends these bytes more
 abbrev pub SendsMore : ℕ → Seen → Seen → List ℕ → Result Bool SendEnd → Type 0
 SendsMore c old new bytes result = (first : Seen) (sent : List ℕ) → Sending c first old sent → Tried c first new (sent ++ bytes) result
 

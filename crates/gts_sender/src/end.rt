@@ -8,8 +8,8 @@ use gts_event::SwitchFault;
 pub enum SendEnd {
     /// The bell was closed, and then nothing waited.
     Quiet,
-    /// The line failed within the frame of this index. It is the circuit's last draw, which is sent once more when the journal
-    /// is opened again, or one that the neighbour asks for again.
+    /// The line failed within the frame of this index. It and those of the same turn behind it are among the circuit's last draws, as
+    /// many as its row repeats, which are sent once more when the journal is opened again; or the neighbour asks for them again.
     LineFault { index: u64 },
     /// The desk answered with this fault.
     Fault(SwitchFault),

@@ -1,17 +1,17 @@
 ghost use Rattle.std.specs.Prelude.{◌≡◌, ℕ, ◌<◌, ◌≤◌, List, ◌++◌, length, Err, OnOk, IfErr};
 ghost use Rattle.gts_traits.specs.Counts.{Rose};
-ghost use Rattle.gts_sender.specs.Sender.{given_index, Sends, SendsMore, LineStood, WroteGiven};
+ghost use Rattle.gts_sender.specs.{given_index, Sends, SendsMore, LineStood, WroteGiven};
 
 use crate::SendEnd;
-use crate::writing::write_all;
+use crate::writing::{write_all, write_frames};
 use gts_bell::{Bell, Look};
-use gts_desk::Desk;
+use gts_desk::{Desk, Frames, Given};
 use gts_event::Outcome;
 use gts_frame::FrameBuf;
 use gts_traits::{Failed, Gate, Point, Sink};
 use std::sync::Wait;
 
-/// Sends on circuit `c`: writes the frame of each take, until the bell is closed and a take gives nothing. Where there is
+/// Sends on circuit `c`: writes the frames of each turn of takes, until the bell is closed and a take gives nothing. Where there is
 /// nothing, it tells the sink so, and sleeps at the bell as long as that lets it. With a bell that is closed it writes what there
 /// is, and doesn't sleep. Takes no memory.
 pub fn send<R: Wait, D: Desk, K: Sink, G: Gate>(
@@ -19,7 +19,7 @@ pub fn send<R: Wait, D: Desk, K: Sink, G: Gate>(
     desk: &mut D,
     c: u32,
     sink: &mut K,
-    out: &mut FrameBuf,
+    given: &mut Given,
     bell: &Bell,
     gate: &G,
 ) -> SendEnd
@@ -33,7 +33,7 @@ pub fn send<R: Wait, D: Desk, K: Sink, G: Gate>(
 {
     for _ in rt.forever() {
         let seen = bell.look();
-        match send_one(desk, c, sink, out, gate) {
+        match send_some(desk, c, sink, given, gate) {
             Ok(true) => {}
             Ok(false) => {
                 if seen.closing {
@@ -58,12 +58,12 @@ fn rest<R: Wait, K: Sink>(rt: &R, sink: &mut K, bell: &Bell, seen: Look)
     }
 }
 
-/// Takes once, and writes the frame that was given. False where nothing was.
-fn send_one<D: Desk, K: Sink, G: Gate>(
+/// Takes in one turn, and then writes the frames that were given. False where nothing waits behind them.
+fn send_some<D: Desk, K: Sink, G: Gate>(
     desk: &mut D,
     c: u32,
     sink: &mut K,
-    out: &mut FrameBuf,
+    given: &mut Given,
     gate: &G,
 ) -> Result<bool, SendEnd>
     requires { c < length (D.seen desk.old).directory.circuits }
@@ -79,12 +79,17 @@ fn send_one<D: Desk, K: Sink, G: Gate>(
         → K.faults sink.new ≡ K.faults sink.old) }
 {
     gate.at(Point::Take { c });
-    let outcome = desk.take(c, out)?;
-    let is_sent = write_given(outcome, sink, out)?;
-    if is_sent {
+    let more = desk.take_some(c, given)?;
+    write_frames(sink, &given.frames)?;
+    pass_sent(c, &given.frames, gate);
+    Ok(more)
+}
+
+/// The gate is passed once frames were sent.
+fn pass_sent<G: Gate>(c: u32, frames: &Frames, gate: &G) {
+    if frames.count() > 0 {
         gate.at(Point::Sent { c });
     }
-    Ok(is_sent)
 }
 
 /// Writes the frame that a take with this outcome left in `out`. False where it gave none.

@@ -1,7 +1,10 @@
-ghost use Rattle.std.specs.Prelude.{◌≡◌, ◌≤◌, ◌++◌, ℕ, List, IsErr, OnOk};
+ghost use Rattle.std.specs.Prelude.{◌≡◌, ◌≤◌, ◌++◌, ℕ, List, IsErr, OnOk, IfErr, Err};
 ghost use Rattle.gts_traits.specs.Counts.{Rose};
-ghost use Rattle.gts_sender.specs.Sender.{Wrote};
+ghost use Rattle.gts_desk.specs.{frames_of};
+ghost use Rattle.gts_sender.specs.Sender.{Wrote, WroteFrames, LineStood};
 
+use crate::SendEnd;
+use gts_desk::Frames;
 use gts_traits::{Failed, Sink};
 
 /// Writes all of a piece, in as few calls as the sink takes. What was written of it is never written again.
@@ -16,6 +19,28 @@ pub(crate) fn write_all<K: Sink>(sink: &mut K, piece: &[u8]) -> Result<(), Faile
     while !rest.is_empty() {
         let count = sink.write(rest)?;
         rest = &rest[count..];
+    }
+    Ok(())
+}
+
+/// Writes frames, one after another. Where the line fails within one, those behind it are not written.
+pub(crate) fn write_frames<K: Sink>(sink: &mut K, frames: &Frames) -> Result<(), SendEnd>
+    ensures wrote { (bytes : List ℕ) × WroteFrames (frames_of frames.now) bytes result
+        × (K.tells → K.written sink.new ≡ K.written sink.old ++ bytes) }
+    ensures later { K.faults sink.old ≤ K.faults sink.new }
+    ensures fault { (index : ℕ) → result ≡ Err (SendEnd.LineFault index)
+        → Rose (K.faults sink.old) (K.faults sink.new) }
+    ensures sound { OnOk result (K.faults sink.new ≡ K.faults sink.old) }
+    ensures stood { IfErr result (λ end. LineStood end
+        → K.faults sink.new ≡ K.faults sink.old) }
+{
+    let mut at = 0;
+    for i in 0..frames.count() {
+        let (index, frame) = frames.frame(i, at);
+        let Ok(()) = write_all(sink, frame) else {
+            return Err(SendEnd::LineFault { index });
+        };
+        at += frame.len();
     }
     Ok(())
 }

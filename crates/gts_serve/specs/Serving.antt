@@ -1,5 +1,5 @@
 -- What a run of all circuits leaves: the history of all threads and the takes behind it, the bytes of each circuit, and its end.
-use Rattle.std.specs.Prelude.{◌≡◌, ◌⊎◌, ℕ, ◌+◌, ◌*◌, ◌<◌, ◌≤◌, Bool, true, false, List, [], ◌∷◌, ◌++◌, length, map, Option, Some, None, Err}
+use Rattle.std.specs.Prelude.{◌≡◌, ◌⊎◌, ℕ, ◌+◌, ◌*◌, ◌<◌, ◌≤◌, Bool, true, false, List, [], ◌∷◌, ◌++◌, length, map, Option, Some, None, Err, if◌then◌else◌}
 use mathlib.Core.Option.{some}
 use lib.ListN.{get_elem?}
 use Rattle.atomic_table.specs.Seated.{TableId}
@@ -22,14 +22,14 @@ use Rattle.gts_event.specs.declared.event.Event.TheVariants.{Taken}
 use Rattle.gts_event.specs.declared.event.Entry.{Entry}
 use Rattle.gts_event.specs.declared.event.Entry.TheVariants as of_entry
 use Rattle.gts_event.specs.declared.fault.SwitchFault.{SwitchFault}
-use Rattle.gts_calls.specs.Calls.{entry_of}
+use Rattle.gts_event.specs.declared.fault.SwitchFault.TheVariants.{DiskFault, SayFault}
 use Rattle.gts_lock.specs.{Known, entries, entries_under, StartsWith}
 use Rattle.gts_lock.specs.declared.limits.TheConstants.{MOST_TURNS}
-use Rattle.gts_desk.specs.{Seen, frames}
+use Rattle.gts_desk.specs.{Seen, frames, takes, most_beside}
 use Rattle.gts_engine.specs.Engine.{Engine}
 use Rattle.gts_engine.specs.Origin.{state_at}
-use Rattle.gts_housed.specs.{Beginning, Stands}
-use Rattle.gts_receiver.specs.{events_over, goes_on, is_try, settled, Receives, AreOver, WentThroughAll}
+use Rattle.gts_housed.specs.{Beginning, Stands, flat}
+use Rattle.gts_receiver.specs.{events_over, goes_on, is_try, settled, fault_entries, Receives, AreOver, WentThroughAll}
 use Rattle.gts_receiver.specs.declared.end.ReceiveEnd.{ReceiveEnd}
 use Rattle.gts_receiver.specs.declared.end.ReceiveEnd.TheVariants.{Ended, LostSync, SourceFault, Fault}
 use Rattle.gts_sender.specs.{Sends, LineStood, given_index}
@@ -57,14 +57,28 @@ seen_lines is_open faults place bytes lines =
 abbrev pub lines_seen : {L In Out : Type 0} → LinesMeanings L In Out → L → LinesSeen
 lines_seen m lines = seen_lines m.is_open m.faults m.place m.bytes lines
 
--- where the lines of a circuit are by the directory
-abbrev pub place_of : Directory → Circuit → PlaceSeen
-place_of d row =
+-- where the lines of a circuit would be by the directory, were it open
+abbrev pub place_open : Directory → Circuit → PlaceSeen
+place_open d row =
     record { address = ipv4_octets d.address; input = row.input; host = ipv4_octets row.host; output = row.output; idle = row.idle }
+
+-- Where they are. A circuit that is closed has no ports, and no second is waited for a byte: nobody can call there, and nobody is
+-- called.
+abbrev pub place_of : Directory → Circuit → PlaceSeen
+place_of d row = if row.closed then record (place_open d row) { input = 0; output = 0; idle = Some 0 } else place_open d row
 
 -- circuit c was opened, or was to be, at the place that the directory has for it
 abbrev pub HasPlace : Directory → LinesSeen → ℕ → Type 0
 HasPlace d now c = get_elem? (map (place_of d) d.circuits) c ≡ some (now.place c)
+
+-- a place at which no line can be: it has no ports
+pub record HasNoPorts (place : PlaceSeen) : Type 0 where
+  pub input : place.input ≡ 0
+  pub output : place.output ≡ 0
+
+-- where the row of circuit c is closed, it was opened at no port: no line came in there, and none went out
+abbrev pub IsShutIfClosed : Directory → LinesSeen → ℕ → Type 0
+IsShutIfClosed d now c = (row : Circuit) → get_elem? d.circuits c ≡ some row → row.closed ≡ true → HasNoPorts (now.place c)
 
 -- circuit c is as it was
 pub record IsSame (before now : LinesSeen) (c : ℕ) : Type 0 where
@@ -114,52 +128,64 @@ first_fault c (x ∷ xs) = receiver_first c x.0 (sender_first c x.1 (first_fault
 
 -- ---- circuits
 
--- what a pass of this name has seen that has seen this history
-abbrev pub seen_at : Beginning → TableId → ℕ → Bool → List (ℕ × Entry) → Seen
-seen_at b hall name full history = record {
+-- what a pass of this name has seen that has had so many turns, and has seen this history
+abbrev pub seen_at : Beginning → TableId → (name turns : ℕ) → Bool → List (ℕ × Entry) → Seen
+seen_at b hall name turns full history = record {
   hall = Some hall;
   directory = b.origin.directory;
   start = b.origin.start;
   used = b.origin.used;
   makes_room = b.makes_room;
   name = name;
-  alone = false;
+  turns = turns;
   full = full;
   history = history;
 }
 
+-- what the sender of c has seen of this history, each of whose own entries had a turn
+abbrev pub sender_at : Beginning → TableId → ℕ → Bool → List (ℕ × Entry) → Seen
+sender_at b hall c full history = seen_at b hall (sender_name c) (length (entries_under (sender_name c) history)) full history
+
 -- A worker of this name came to its end over a front of the history, behind which nothing is its own. It found no turn left only
 -- where the threads left none.
-pub record EndsWithin (threads history : List (ℕ × Entry)) (name : ℕ) (full : Bool) (upto : List (ℕ × Entry)) : Type 0 where
+pub record EndsWithin (threads : List (ℕ × List Entry)) (history : List (ℕ × Entry)) (name : ℕ) (full : Bool)
+    (upto : List (ℕ × Entry)) : Type 0 where
   pub front : StartsWith history upto
   pub own : entries_under name history ≡ entries_under name upto
   pub spent : full ≡ true → length threads ≡ MOST_TURNS
 
 -- the receiver of c told what came over these connections, of which it might begin so many, and the last one
-pub record IsReceived (b : Beginning) (threads history : List (ℕ × Entry)) (c connections : ℕ) (earlier : List Part) (last : Part)
-    (end : ReceiveEnd) : Type 0 where
+pub record IsReceived (b : Beginning) (threads : List (ℕ × List Entry)) (history : List (ℕ × Entry)) (c connections : ℕ)
+    (earlier : List Part) (last : Part) (end : ReceiveEnd) : Type 0 where
   pub hall : TableId
+  pub turns : ℕ
+  pub few : turns ≤ MOST_TURNS
   pub full : Bool
   pub upto : List (ℕ × Entry)
   pub within : EndsWithin threads history (receiver_name c) full upto
-  pub received : Receives c connections (fresh b hall (receiver_name c)) (seen_at b hall (receiver_name c) full upto) earlier last end
+  pub received : Receives c connections (fresh b hall (receiver_name c)) (seen_at b hall (receiver_name c) turns full upto)
+      earlier last end
 
 -- the sender of c, with the takes behind the threads, wrote these bytes
-pub record IsSent (b : Beginning) (threads history : List (ℕ × Entry)) (c : ℕ) (bytes : List ℕ) (end : SendEnd) : Type 0 where
+pub record IsSent (b : Beginning) (threads : List (ℕ × List Entry)) (history : List (ℕ × Entry)) (c : ℕ) (bytes : List ℕ)
+    (end : SendEnd) : Type 0 where
   pub hall : TableId
+  pub turns : ℕ
   pub full : Bool
   pub upto : List (ℕ × Entry)
   pub within : EndsWithin threads history (sender_name c) full upto
-  pub sent : Sends c (fresh b hall (sender_name c)) (seen_at b hall (sender_name c) full upto) bytes end
+  pub sent : Sends c (fresh b hall (sender_name c)) (seen_at b hall (sender_name c) turns full upto) bytes end
 
--- Of the events of some connections, those before one were done, and that one was answered with this fault. The tries of a service
--- (w) are left out, and its receiver doesn't end with one.
+-- Of the events of some connections, those before one were done, and that one was answered with this fault, with those beside it in
+-- the same turn where a device failed. The tries of a service (w) are left out, and its receiver doesn't end with one.
 pub record EntersUpTo (w : Bool) (events : List Event) (fault : SwitchFault) (own : List Entry) : Type 0 where
   pub front : List Event
   pub event : Event
+  pub beside : List Event
   pub behind : List Event
-  pub parts : events ≡ front ++ event ∷ behind
-  pub is : settled w own ≡ all_done front ++ settled w (entry_of event (Err fault))
+  pub parts : events ≡ (front ++ event ∷ beside) ++ behind
+  pub apart : (fault ≡ DiskFault → ⊥) → (fault ≡ SayFault → ⊥) → beside ≡ []
+  pub is : settled w own ≡ all_done front ++ settled w (fault_entries event beside fault)
   pub kept : w ≡ true → is_try (of_entry.Idle event fault) ≡ false
 
 -- What a receiver entered over a whole history, without the tries of a service (w), by its end, where its source gave these
@@ -173,34 +199,38 @@ EnteredConnections w c parts end own = settled w own ≡ all_done (events_over c
 abbrev pub frames_on : Beginning → ℕ → List (ℕ × Entry) → List ℕ
 frames_on b c history = frames b.origin.directory (begun b.origin.start) (sender_name c) history
 
--- A sink took each frame of its circuit but the last, and a front of that. The last is that of the draw of this index, which the
--- last take on c gave.
+-- A sink took each frame of its circuit up to that of the draw of this index, and a front of that, which a take of the last turn on c
+-- gave. Of the frames of the takes behind it in that turn it took nothing: with it, these are no more than the draws that an opening
+-- owes again.
 pub record BreaksOff (b : Beginning) (c index : ℕ) (history : List (ℕ × Entry)) (bytes : List ℕ) : Type 0 where
   pub earlier : List (ℕ × Entry)
   pub later : List (ℕ × Entry)
   pub is : history ≡ earlier ++ (sender_name c, of_entry.Done (Taken c)) ∷ later
-  pub last : entries_under (sender_name c) later ≡ []
+  pub behind : ℕ
+  pub last : entries_under (sender_name c) later ≡ takes c behind
+  pub few : behind ≤ most_beside b.origin.directory c
   pub gave : given_index (outcome b.origin.directory (state_at b.origin (entries earlier)) (Taken c)) ≡ Some index
   pub part : List ℕ
   pub front : IsFront part (line b.origin.directory (after b.origin.directory (state_at b.origin (entries earlier)) (Taken c)) c index)
   pub whole : bytes ≡ frames_on b c earlier ++ part
 
--- The bytes that a sink took over a whole history, by its sender's end: all frames of its circuit. Only where the line failed, the
--- last of them may be there in part.
+-- The bytes that a sink took over a whole history, by its sender's end: all frames of its circuit. Only where the line failed, one of
+-- the last turn's may be there in part, and those behind it not at all.
 abbrev pub TookFrames : Beginning → ℕ → List (ℕ × Entry) → SendEnd → List ℕ → Type 0
 TookFrames b c history (LineFault index) bytes = BreaksOff b c index history bytes
 TookFrames b c history end bytes = bytes ≡ frames_on b c history
 
 -- Circuit c was served at the place that the directory has for it, and came to these ends: what its source gave on its
 -- connections was told, and its sink took what its sender wrote. Its count rose where one of its sockets failed. It was handed back.
-pub record ServesCircuit (b : Beginning) (source_tells sink_tells : Type 0) (connections : ℕ) (threads history : List (ℕ × Entry))
-    (before now : LinesSeen) (c : ℕ) (received : ReceiveEnd) (sent : SendEnd) : Type 0 where
+pub record ServesCircuit (b : Beginning) (source_tells sink_tells : Type 0) (connections : ℕ) (threads : List (ℕ × List Entry))
+    (history : List (ℕ × Entry)) (before now : LinesSeen) (c : ℕ) (received : ReceiveEnd) (sent : SendEnd) : Type 0 where
   pub earlier : List Part
   pub last : Part
   pub written : List ℕ
   pub receives : IsReceived b threads history c connections earlier last received
   pub sends : IsSent b threads history c written sent
   pub place : HasPlace b.origin.directory now c
+  pub shut : IsShutIfClosed b.origin.directory now c
   -- its source began these connections, at most as many as it might
   pub parts : source_tells → (now.bytes c).parts ≡ earlier ++ last ∷ []
   pub few : length (earlier ++ last ∷ []) ≤ connections
@@ -224,7 +254,7 @@ abbrev pub IsTake : ℕ → Entry → Type 0
 IsTake c (of_entry.Done event) = event ≡ Taken c
 IsTake c (of_entry.Unsaid event) = event ≡ Taken c
 IsTake c (of_entry.Idle event fault) = event ≡ Taken c
-IsTake c (of_entry.Doubt event) = event ≡ Taken c
+IsTake c (of_entry.Doubt events) = events ≡ Taken c ∷ []
 IsTake c of_entry.Restarted = ⊥
 
 -- an entry was done, or it is a try of a service (w)
@@ -244,25 +274,25 @@ pub record HasNothing (b : Beginning) (c : ℕ) (history : List Entry) : Type 0 
 
 module _ {P : Type 0} (tells : Type 0) (calls : P → List Call) (disk say : P → ℕ) (b : Beginning)
     (source_tells sink_tells : Type 0) (connections : ℕ) (before now : LinesSeen) where
-  -- All circuits were served: the engine stands for the history of all threads and the takes behind it, and each circuit has
-  -- its part of it. The end is the first fault.
-  pub record Serves (threads : List (ℕ × Entry)) (full : Bool) (engine : Engine P) (end : ServeEnd) : Type 0 where
+  -- All circuits were served, in these turns of all threads: the engine stands for their history and the takes behind it, and each
+  -- circuit has its part of it. The end is the first fault.
+  pub record Serves (threads : List (ℕ × List Entry)) (full : Bool) (engine : Engine P) (end : ServeEnd) : Type 0 where
     pub drained : List (ℕ × Entry)
     pub ends : List (ReceiveEnd × SendEnd)
     pub counted : length ends ≡ length b.origin.directory.circuits
-    pub stands : Stands tells calls disk say b (entries (threads ++ drained)) engine
+    pub stands : Stands tells calls disk say b (entries (flat threads ++ drained)) engine
     pub takes : (k : ℕ) (x : ℕ × Entry) → get_elem? drained k ≡ some x
         → (c : ℕ) × (c < length ends) × (x.0 ≡ sender_name c) × IsTake c x.1
     pub circuits : (c : ℕ) (x : ReceiveEnd × SendEnd) → get_elem? ends c ≡ some x
-        → ServesCircuit b source_tells sink_tells connections threads (threads ++ drained) before now c x.0 x.1
+        → ServesCircuit b source_tells sink_tells connections threads (flat threads ++ drained) before now c x.0 x.1
     pub others : (c : ℕ) → length ends ≤ c → IsSame before now c
-    pub names : NamesAreUpTo (2 * length ends) (threads ++ drained)
+    pub names : NamesAreUpTo (2 * length ends) (flat threads ++ drained)
     pub full_is : full ≡ true → length threads ≡ MOST_TURNS
     pub few : length threads ≤ MOST_TURNS
     pub end_is : end ≡ first_fault 0 ends
-    pub at_rest : end ≡ Done → IsAtRest b (goes_on connections) (length ends) (entries (threads ++ drained))
+    pub at_rest : end ≡ Done → IsAtRest b (goes_on connections) (length ends) (entries (flat threads ++ drained))
     -- a circuit whose sender ended with nothing to send has nothing left, whatever became of the others
-    pub quiet : (c : ℕ) (x : ReceiveEnd × SendEnd) → get_elem? ends c ≡ some x → x.1 ≡ Quiet → HasNothing b c (entries (threads ++ drained))
+    pub quiet : (c : ℕ) (x : ReceiveEnd × SendEnd) → get_elem? ends c ≡ some x → x.1 ≡ Quiet → HasNothing b c (entries (flat threads ++ drained))
     -- done is answered only where each source that tells began all its connections, and each was read to its end or lost
     -- synchronisation
     pub went_through : end ≡ Done → source_tells → (c : ℕ) → c < length ends
@@ -271,7 +301,7 @@ module _ {P : Type 0} (tells : Type 0) (calls : P → List Call) (disk say : P �
     pub unfailed : end ≡ Done → (c : ℕ) → now.faults c ≡ before.faults c
 
   -- What came of a run, by the pass and the end. Without a pass nothing was read, written or said.
-  abbrev pub IsServed : Option (Known Entry) → ServeEnd → Engine P → Type 0
+  abbrev pub IsServed : Option (Known (List Entry)) → ServeEnd → Engine P → Type 0
   IsServed (Some pass) end engine = Serves pass.seen pass.full engine end
   IsServed None (NotOpened c) engine =
       Stands tells calls disk say b [] engine × StopsAtOpening b.origin.directory source_tells sink_tells c before now

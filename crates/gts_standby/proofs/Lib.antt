@@ -6,6 +6,8 @@ pub mod FirstLemmas
 pub mod HeaderLemmas
 pub mod FedLemmas
 pub mod AddLemmas
+pub mod GatherLemmas
+pub mod GoneLemmas
 pub mod CompareLemmas
 pub mod ScanLemmas
 pub mod BeginLemmas

@@ -32,7 +32,7 @@ use Rattle.gts_standby.specs.Whole.{HasTaken, IsTakenEnd}
 use Rattle.gts_standby.specs.Beginning.{OpensOneOf, HasBegun, EndsBegin, BeforeIt, WithinIt, begun_taken}
 use Rattle.gts_standby.specs.Comparing.{Leads}
 use Rattle.gts_standby.proofs.FeedLemmas.{leads_on, none_left, left_split}
-use Rattle.gts_standby.proofs.AddLemmas.{holds_of, opened_by, opened_now, read_now, begun_there, added_by}
+use Rattle.gts_standby.proofs.AddLemmas.{holds_of, opened_by, opened_now, read_now, no_begin, added_by}
 
 -- ---- at most a sync was tried
 
@@ -184,7 +184,7 @@ module _ (tells : Type 0) (tell : tells) (d : Directory) (s : State) (fed : List
   enough_left = omega (arith, length-drop b.size fed)
 
   none_begins : (behind_it at).begins ≡ None
-  none_begins = (begun_there tells tell d (begun b.n) mid core next at ahead left (drop b.size fed) (length fed) b.holds b.read enough_left).none
+  none_begins = no_begin d (length fed) next.seal (begun b.n) next.gate at (drop b.size fed)
 
   comes_behind : begun_taken d fed ≡ beginning b.n (behind_it at)
   comes_behind =

@@ -1,5 +1,5 @@
 -- At the end of a feed its source has no more.
-use Rattle.std.proofs.Common.{ℕ, List, ◌++◌, refl}
+use Rattle.std.proofs.Common.{◌≡◌, ◌⊎◌, inl, inr, ℕ, List, ◌++◌, refl, sym, subst}
 use Rattle.gts_record.specs.declared.version.Version.{Version}
 use Rattle.gts_record.specs.declared.fault.OpenFault.{OpenFault}
 use Rattle.gts_record.specs.declared.fault.OpenFault.TheVariants as opening
@@ -68,3 +68,8 @@ looked_all (Diverged index own fed) v ahead at left unsealed whole = tt
 looked_all SourceFault v ahead at left unsealed whole = tt
 looked_all DiskFault v ahead at left unsealed whole = tt
 looked_all NoMemory v ahead at left unsealed whole = tt
+
+-- a feed ends with its end, or with a fault of the disk
+pub finished_all : (P : Type 0) (answer end : FollowEnd) (left : List ℕ) → ((answer ≡ end) × P) ⊎ (answer ≡ DiskFault) → ReadsAll end left → ReadsAll answer left
+finished_all P answer end left (inl same) all = subst (λ (e : FollowEnd). ReadsAll e left) (sym same.0) all
+finished_all P answer end left (inr disk) all = subst (λ (e : FollowEnd). ReadsAll e left) (sym disk) tt

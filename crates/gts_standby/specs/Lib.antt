@@ -5,6 +5,7 @@ pub mod Ahead
 pub mod Taking
 pub mod Following
 pub mod Reading
+pub mod Gathering
 pub mod Adding
 pub mod Comparing
 pub mod Beginning

@@ -75,6 +75,9 @@ impl Ahead {
     fn settle(&mut self)
         ensures { self.new ≡ self.old }
     {
+        if self.begin == 0 {
+            return;
+        }
         let left = self.bytes.len() - self.begin;
         self.bytes.copy_within(self.begin.., 0);
         self.bytes.truncate(left);

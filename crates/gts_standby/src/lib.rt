@@ -10,6 +10,7 @@ mod fault;
 mod fed;
 mod following;
 mod further;
+mod gathering;
 mod header;
 mod laws;
 mod piece;

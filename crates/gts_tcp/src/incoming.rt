@@ -7,7 +7,7 @@ use crate::{LineCall, LineCause, Stop};
 use gts_traits::{Failed, Line, Place, Source, counted};
 use std::io;
 use std::io::{ErrorKind, Read};
-use std::net::{IpAddr, Ipv4Addr, TcpListener, TcpStream};
+use std::net::{IpAddr, Ipv4Addr, SocketAddr, TcpListener, TcpStream};
 use std::time::{Clock, Duration, Instant};
 
 /// How often a connection that is waited for without an end is read in a second.
@@ -21,7 +21,8 @@ const A_MINUTE: u64 = 60;
 pub struct TcpIn<'a, R: Clock + Eprint> {
     rt: &'a R,
     circuit: u32,
-    listener: TcpListener,
+    /// None where the circuit is closed.
+    listener: Option<TcpListener>,
     place: Place,
     patience: Patience<'a>,
     /// The present connection. None where it isn't accepted yet.
@@ -34,11 +35,11 @@ pub struct TcpIn<'a, R: Clock + Eprint> {
 
 impl<'a, R: Clock + Eprint> TcpIn<'a, R> {
     /// The connections of this listener, which doesn't wait; none was accepted yet, and none has failed. Where accepting fails, that
-    /// is answered, or it is tried again and again.
+    /// is answered, or it is tried again and again. Without a listener none comes.
     pub(crate) fn new(
         rt: &'a R,
         circuit: u32,
-        listener: TcpListener,
+        listener: Option<TcpListener>,
         at: &Place,
         patience: Patience<'a>,
     ) -> TcpIn<'a, R>
@@ -95,7 +96,7 @@ impl<'a, R: Clock + Eprint> TcpIn<'a, R> {
         let mut pauses = Pauses::new();
         for _ in 0..u64::MAX {
             goes_on(self.patience.stop)?;
-            match self.listener.accept() {
+            match caller_at(&self.listener) {
                 Ok((stream, from)) if is_neighbour(self.place.host, from.ip()) => {
                     if is_there(&stream) {
                         return Ok(stream);
@@ -115,10 +116,18 @@ impl<'a, R: Clock + Eprint> TcpIn<'a, R> {
         Err(io::Error::from(ErrorKind::ConnectionAborted))
     }
 
-    /// Accepts the next connection.
+    /// Whether no connection comes, and none is waited for: the circuit is closed, and the run is no service.
+    fn is_over(&self) -> bool {
+        self.listener.is_none() && self.patience.tries.is_some()
+    }
+
+    /// Accepts the next connection. None comes where the circuit is closed; a service then waits until it is to end.
     fn accept(&mut self) -> io::Result<()>
         ensures { self.new.faults ≡ self.old.faults }
     {
+        if self.is_over() {
+            return Ok(());
+        }
         let stream = self.next_caller()?;
         stream.set_read_timeout(Some(Duration::from_millis(u64::from(LONGEST_WAIT))))?;
         self.stream = Some(stream);
@@ -134,12 +143,23 @@ impl<'a, R: Clock + Eprint> TcpIn<'a, R> {
         if self.stream.is_none() {
             named(self.accept(), LineCall::Accept, port)?;
         }
+        if self.is_over() {
+            return Ok(0);
+        }
         let idle = self.place.idle;
         let stop = self.patience.stop;
         match &mut self.stream {
             Some(stream) => named(read_within(stream, into, idle, stop), LineCall::Read, port),
             None => named(Err(not_connected()), LineCall::Read, port),
         }
+    }
+}
+
+/// Looks for a caller, of whom there is none where nobody listens.
+fn caller_at(listener: &Option<TcpListener>) -> io::Result<(TcpStream, SocketAddr)> {
+    match listener {
+        Some(listener) => listener.accept(),
+        None => Err(not_connected()),
     }
 }
 

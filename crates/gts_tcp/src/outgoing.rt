@@ -3,6 +3,7 @@ ghost use Rattle.std.specs.Prelude.{◌≡◌, ◌≤◌, [], length, IfOk};
 use crate::cause::{named, note};
 use crate::dialing::{LONGEST_TRY, dial_once};
 use crate::incoming::not_connected;
+use crate::lines::is_closed;
 use crate::pausing::Pauses;
 use crate::stop::{LONGEST_WAIT, Patience, goes_on, has_waited};
 use crate::{LineCall, LineCause, Stop};
@@ -38,9 +39,12 @@ struct Way<'a, R: Net<Listener = TcpListener, Stream = TcpStream> + Clock> {
 }
 
 impl<R: Net<Listener = TcpListener, Stream = TcpStream> + Clock> Way<'_, R> {
-    /// Connects anew, with one try that takes so many milliseconds at most.
+    /// Connects anew, with one try that takes so many milliseconds at most. Nobody is called on a circuit that is closed.
     fn connect(&mut self, milliseconds: u32) -> io::Result<()> {
         self.stream = None;
+        if is_closed(&self.place) {
+            return Err(not_connected());
+        }
         goes_on(self.patience.stop)?;
         let stream = dial_once(self.rt, self.place.host, self.place.output, milliseconds)?;
         stream.set_nodelay(true)?;

@@ -7,8 +7,8 @@ use Rattle.std.specs.Str.Parse.{digits_value}
 use Rattle.std.proofs.lemmas.Bool.{leb-true, and_parts}
 use Rattle.gts_words.specs.declared.count.TheConstants.{MOST_GENERATED, LONGEST_COUNT, MOST_CONNECTIONS, LONGEST_CONNECTIONS}
 use Rattle.gts_words.specs.declared.command.Command.{Command}
-use Rattle.gts_words.specs.declared.command.Command.TheVariants.{Init, Replay, Serve, ServeAlways, Show, Compact, Generate, Migrate, Unpack, Pack, Gaps, Ship, ShipSince, Follow, Count}
-use Rattle.gts_words.specs.Commands.{same, alone, is_count, count_in, number_in, circuit_in, is_moment, gaps_of, moment_in, serving, used_in, seal_in, ship_behind, command_of}
+use Rattle.gts_words.specs.declared.command.Command.TheVariants.{Init, Replay, Serve, ServeAlways, Show, Compact, Generate, Migrate, MigrateDrop, MigrateCheck, Unpack, Pack, Gaps, Ship, ShipSince, Follow, Count}
+use Rattle.gts_words.specs.Commands.{same, alone, is_count, count_in, number_in, circuit_in, is_moment, gaps_of, moment_in, serving, migrating, used_in, seal_in, ship_behind, command_of}
 
 -- a command has no count, or one within the limits
 abbrev IsWithin : Command → Type 0
@@ -80,14 +80,21 @@ in_moment : (w : List ℕ) (b : Bool) → AllWithin (cond b (gaps_of (number_in 
 in_moment w true = at_gaps (number_in w)
 in_moment w false = tt
 
-by_name : (w : List ℕ) (a b c e : Bool) → AllWithin (cond a (option_map (λ n. Generate n) (count_in LONGEST_COUNT MOST_GENERATED w))
+-- nor has what is said of a journal that is taken over
+by_migrating : (drop check : Bool) → AllWithin (cond drop (Some MigrateDrop) (cond check (Some MigrateCheck) None))
+by_migrating true check = tt
+by_migrating false true = tt
+by_migrating false false = tt
+
+by_name : (w : List ℕ) (a b c e f : Bool) → AllWithin (cond a (option_map (λ n. Generate n) (count_in LONGEST_COUNT MOST_GENERATED w))
     (cond b (serving w)
-    (cond c (option_map (λ c. Unpack c) (circuit_in w)) (cond e (moment_in w) None))))
-by_name w true b c e = by_count w (is_count LONGEST_COUNT MOST_GENERATED w) refl
-by_name w false true c e = by_serving w (same w (codes "always"))
-by_name w false false true e = no_count (circuit_in w)
-by_name w false false false true = in_moment w (length w == 6)
-by_name w false false false false = tt
+    (cond c (option_map (λ c. Unpack c) (circuit_in w)) (cond e (moment_in w) (cond f (migrating w) None)))))
+by_name w true b c e f = by_count w (is_count LONGEST_COUNT MOST_GENERATED w) refl
+by_name w false true c e f = by_serving w (same w (codes "always"))
+by_name w false false true e f = no_count (circuit_in w)
+by_name w false false false true f = in_moment w (length w == 6)
+by_name w false false false false true = by_migrating (same w (codes "drop")) (same w (codes "check"))
+by_name w false false false false false = tt
 
 behind_within : (used : Option ℕ) (seal : Option (List ℕ)) → AllWithin (ship_behind used seal)
 behind_within None seal = tt
@@ -103,6 +110,7 @@ command_within [] = tt
 command_within (name ∷ []) = alone_within name
 command_within (name ∷ count ∷ []) =
     by_name count (same name (codes "generate")) (same name (codes "serve")) (same name (codes "unpack")) (same name (codes "gaps"))
+    (same name (codes "migrate"))
 command_within (name ∷ since ∷ used ∷ []) = tt
 command_within (name ∷ since ∷ used ∷ seal ∷ []) =
     by_since (same name (codes "ship") && same since (codes "since")) (used_in used) (seal_in seal)

@@ -8,7 +8,7 @@ use Rattle.hex.specs.Hex.{encode_lower, decode_sized}
 use Rattle.hex.specs.declared.error.FromHexError.{FromHexError}
 use Rattle.gts_words.specs.declared.count.TheConstants.{MOST_GENERATED, LONGEST_COUNT, MOST_CONNECTIONS, LONGEST_CONNECTIONS, LONGEST_USED}
 use Rattle.gts_words.specs.declared.command.Command.{Command}
-use Rattle.gts_words.specs.declared.command.Command.TheVariants.{Init, Replay, Serve, ServeAlways, Show, Compact, Generate, Migrate, Unpack, Pack, Gaps, Ship, ShipSince, Follow, Count}
+use Rattle.gts_words.specs.declared.command.Command.TheVariants.{Init, Replay, Serve, ServeAlways, Show, Compact, Generate, Migrate, MigrateDrop, MigrateCheck, Unpack, Pack, Gaps, Ship, ShipSince, Follow, Count}
 use Rattle.gts_words.specs.declared.command.WordsFault.{WordsFault}
 use Rattle.gts_words.specs.declared.command.WordsFault.TheVariants as fault
 
@@ -77,6 +77,13 @@ serving word =
     if same word (codes "always") then Some ServeAlways
     else option_map (λ n. Serve n) (count_in LONGEST_CONNECTIONS MOST_CONNECTIONS word)
 
+-- the command about a journal that is taken over, with this word behind it
+abbrev pub migrating : List ℕ → Option Command
+migrating word =
+    if same word (codes "drop") then Some MigrateDrop
+    else (if same word (codes "check") then Some MigrateCheck
+    else None)
+
 -- The command that a word and another one are: messages are counted by one to six digits, up to 100,000; connections by one to
 -- four, up to 1,000.
 abbrev pub counted : List ℕ → List ℕ → Option Command
@@ -85,7 +92,8 @@ counted name word =
     else (if same name (codes "serve") then serving word
     else (if same name (codes "unpack") then option_map (λ c. Unpack c) (circuit_in word)
     else (if same name (codes "gaps") then moment_in word
-    else None)))
+    else (if same name (codes "migrate") then migrating word
+    else None))))
 
 -- a count of bytes is spelled by one to ten digits
 abbrev pub is_used : List ℕ → Bool

@@ -1,6 +1,6 @@
 -- Worked rows: lists of words, and what they are.
 use Rattle.std.specs.Prelude.{◌≡◌, [], ◌∷◌, None, Some, codes}
-use Rattle.gts_words.specs.declared.command.Command.TheVariants.{Init, Replay, Serve, ServeAlways, Show, Compact, Generate, Migrate, Unpack, Pack, Gaps, Ship, ShipSince, Follow, Count}
+use Rattle.gts_words.specs.declared.command.Command.TheVariants.{Init, Replay, Serve, ServeAlways, Show, Compact, Generate, Migrate, MigrateDrop, MigrateCheck, Unpack, Pack, Gaps, Ship, ShipSince, Follow, Count}
 use Rattle.gts_words.specs.Commands.{command_of}
 
 -- Each command of one word.
@@ -53,6 +53,15 @@ DigitWords = (command_of (codes "unpack" ∷ codes "00" ∷ []) ≡ Some (Unpack
     × (command_of (codes "gaps" ∷ codes "281060" ∷ []) ≡ None)
     × (command_of (codes "gaps" ∷ codes "28103" ∷ []) ≡ None)
     × (command_of (codes "pack" ∷ codes "00" ∷ []) ≡ None)
+
+-- `migrate` has `drop` or `check` behind it, or nothing.
+abbrev pub MigrateWords : Type 0
+MigrateWords = (command_of (codes "migrate" ∷ codes "drop" ∷ []) ≡ Some MigrateDrop)
+    × (command_of (codes "migrate" ∷ codes "check" ∷ []) ≡ Some MigrateCheck)
+    × (command_of (codes "migrate" ∷ codes "Drop" ∷ []) ≡ None)
+    × (command_of (codes "migrate" ∷ codes "dropped" ∷ []) ≡ None)
+    × (command_of (codes "migrate" ∷ codes "drop" ∷ codes "check" ∷ []) ≡ None)
+    × (command_of (codes "drop" ∷ []) ≡ None)
 
 -- What a standby has is a count of bytes of one to ten digits, and a seal of 64 hexadecimal digits in lower case.
 abbrev pub SinceWords : Type 0

@@ -22,6 +22,11 @@ pub enum Command {
     Generate { count: u32 },
     /// To take the journal over under a directory that takes over from its own.
     Migrate,
+    /// To take it over all the same where something waits on closed circuits, and to say a receipt for each bulletin that is
+    /// dropped there.
+    MigrateDrop,
+    /// To say what would change, and to take nothing over.
+    MigrateCheck,
     /// To work through a file of accumulated bulletins, with its messages on this circuit.
     Unpack { c: u32 },
     /// To make a file of accumulated bulletins of a stream of frames.

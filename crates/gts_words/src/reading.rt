@@ -78,6 +78,19 @@ fn alone(name: &str) -> Option<Command>
     }
 }
 
+/// The command about a journal that is taken over, with this word behind it.
+fn migrating(word: &str) -> Option<Command>
+    ensures { result ≡ commands.migrating word.now }
+{
+    if word == "drop" {
+        Some(Command::MigrateDrop)
+    } else if word == "check" {
+        Some(Command::MigrateCheck)
+    } else {
+        None
+    }
+}
+
 /// The command that a word and another one are.
 fn counted(name: &str, word: &str) -> Option<Command>
     ensures { result ≡ commands.counted name.now word.now }
@@ -99,6 +112,9 @@ fn counted(name: &str, word: &str) -> Option<Command>
     }
     if name == "gaps" {
         return moment_in(word);
+    }
+    if name == "migrate" {
+        return migrating(word);
     }
     None
 }

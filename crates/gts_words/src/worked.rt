@@ -1,6 +1,6 @@
 //! Lists of words, each row the contract of a function with an empty body.
 
-ghost use Rattle.gts_words.specs.Worked.{OneWord, Counts, ConnectionCounts, DigitWords, SinceWords, NoCommands};
+ghost use Rattle.gts_words.specs.Worked.{OneWord, Counts, ConnectionCounts, DigitWords, MigrateWords, SinceWords, NoCommands};
 
 /// Each command that is one word.
 pub fn commands_of_one_word()
@@ -20,6 +20,11 @@ pub fn connections_of_one_to_four_digits()
 /// `unpack` has a circuit of two digits, and `gaps` a time of six.
 pub fn circuits_and_times_of_digits()
     ensures { DigitWords }
+{}
+
+/// `migrate` has `drop` or `check` behind it, or nothing.
+pub fn migrate_has_one_word_more_or_none()
+    ensures { MigrateWords }
 {}
 
 /// `ship since` has a count of bytes and a seal.

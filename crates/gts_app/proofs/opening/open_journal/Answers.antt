@@ -13,4 +13,4 @@ returns-in-Ok-clause-opens g c = λ od nd read.
       c.an_opened_engine_begins_with_what_the_files_open_to.ensures.sound c.args.directory (seen (g.P.Station.calls c.args.station)) e n (opened.reads told) is,
       c.an_opened_engine_begins_with_what_the_files_open_to.ensures.holds c.args.directory (seen (g.P.Station.calls c.args.station)) e n (opened.reads told) is,
     ))
-    opened.cause.0 opened.cause.1
+    opened.cause.0 opened.cause.1 opened.settled

@@ -1,4 +1,4 @@
-use Rattle.gts_desk.proofs.HistoryLemmas.{stays, goes_on, goes_on_spent, goes_further}
+use Rattle.gts_desk.proofs.HistoryLemmas.{stays, goes_on, goes_any, goes_on_spent, goes_further}
 use Rattle.gts_desk.proofs.laws.a_desk_goes_on_with_each_call.Goals as goal
 
 pub returns-clause-stays : goal.returns-clause-stays
@@ -6,6 +6,9 @@ returns-clause-stays c = stays
 
 pub returns-clause-adds : goal.returns-clause-adds
 returns-clause-adds c = goes_on
+
+pub returns-clause-any : goal.returns-clause-any
+returns-clause-any c = goes_any
 
 pub returns-clause-spent : goal.returns-clause-spent
 returns-clause-spent c = goes_on_spent

@@ -1,10 +1,11 @@
-use Rattle.std.proofs.Common.{◌≡◌, ◌<◌, length, refl, sym, ap, ◌∙◌, subst}
+use Rattle.std.proofs.Common.{◌≡◌, ◌<◌, List, [], ◌∷◌, length, refl, sym, ap, ◌∙◌, subst}
 use Rattle.gts_lock.specs.{entries, entries_under, Known, after_adding}
 use Rattle.gts_directory.specs.Directory.{Directory}
 use Rattle.gts_event.specs.declared.event.Entry.{Entry}
 use Rattle.gts_event.specs.declared.event.Event.TheVariants.{Taken}
 use Rattle.gts_engine.specs.Engine.{Engine}
 use Rattle.gts_desk.specs.{LeavesFrame}
+use Rattle.gts_housed.specs.Flat.{all_of}
 use Rattle.gts_housed.specs.Housed.{Stands, entry_by}
 use Rattle.gts_housed.proofs.TurningLemmas.{answers}
 use Rattle.gts_housed.proofs.turns.take.Goals as goal
@@ -12,25 +13,25 @@ use Rattle.gts_housed.proofs.turns.take.Goals as goal
 pub leave_taken-requires : goal.leave_taken-requires
 leave_taken-requires g c κs within =
     let h = c.in-Ok.turn.pass.seen in
-    let S : Engine _ → Type 0 = λ e. Stands g.P.Station.tells g.P.Station.calls g.P.Station.disk_faults g.P.Station.say_faults g.B.Began.beginning (entries h) e in
+    let S : Engine _ → Type 0 = λ e. Stands g.P.Station.tells g.P.Station.calls g.P.Station.disk_faults g.P.Station.say_faults g.B.Began.beginning (all_of (entries h)) e in
     let stands = subst S (ap (λ (v : _). v.engine) (sym c.value.ensures.value)) c.in-Ok.ensures.value.0 in
-    let adds = c.take-answer.ensures.adds (entries h) stands in
+    let adds = c.take-answer.ensures.adds (all_of (entries h)) stands in
     let mode = c.take-answer.ensures.mode ∙ ap (λ (v : _). v.makes_room) c.value.ensures.value ∙ c.in-Ok.ensures.value.1 in
     (within.0, (within.1, (refl, (adds.stands, mode))))
 
 pub returns-clause-answers : goal.returns-clause-answers
 returns-clause-answers g c =
     let h = c.in-Ok.turn.pass.seen in
-    let S : Engine _ → Type 0 = λ e. Stands g.P.Station.tells g.P.Station.calls g.P.Station.disk_faults g.P.Station.say_faults g.B.Began.beginning (entries h) e in
+    let S : Engine _ → Type 0 = λ e. Stands g.P.Station.tells g.P.Station.calls g.P.Station.disk_faults g.P.Station.say_faults g.B.Began.beginning (all_of (entries h)) e in
     let stands = subst S (ap (λ (v : _). v.engine) (sym c.value.ensures.value)) c.in-Ok.ensures.value.0 in
-    let adds = c.take-answer.ensures.adds (entries h) stands in
+    let adds = c.take-answer.ensures.adds (all_of (entries h)) stands in
     let t = c.in-Ok.ensures.same in
-    let R : Known Entry → Type 0 = λ k. k.own ≡ entries_under k.name h in
+    let R : Known (List Entry) → Type 0 = λ k. k.own ≡ entries_under k.name h in
     let same = subst R t c.in-Ok.ensures.accounts.0 in
-    let A : Known Entry → Type 0 = λ k. c.leave_taken.result ≡ after_adding k (entry_by (Taken c.args.c) c.take-answer.result) in
+    let A : Known (List Entry) → Type 0 = λ k. c.leave_taken.result ≡ after_adding k (entry_by (Taken c.args.c) c.take-answer.result ∷ []) in
     let is = subst A t c.leave_taken.ensures.pass in
-    answers g.P.Station.tells g.P.Station.calls g.P.Station.disk_faults g.P.Station.say_faults g.B.Began.beginning (Taken c.args.c) (LeavesFrame g.B.Began.beginning.origin.directory c.args.c c.take-answer.new.out)
-    c.args.pass c.leave_taken.result h c.take-answer.new.self.engine c.in-Ok.ensures.later c.requires.own same c.take-answer.result adds is
+    answers g.P.Station.tells g.P.Station.calls g.P.Station.disk_faults g.P.Station.say_faults g.B.Began.beginning
+    c.args.pass c.leave_taken.result h c.take-answer.new.self.engine c.in-Ok.ensures.later c.requires.own same (Taken c.args.c) (LeavesFrame g.B.Began.beginning.origin.directory c.args.c c.take-answer.new.out) c.take-answer.result adds is
 
 pub take-answer-requires : goal.take-answer-requires
 take-answer-requires g c =
@@ -41,6 +42,13 @@ take-answer-requires g c =
 pub returns-clause-no_memory : goal.returns-clause-no_memory
 returns-clause-no_memory g c =
     let h = c.in-Ok.turn.pass.seen in
-    let S : Engine _ → Type 0 = λ e. Stands g.P.Station.tells g.P.Station.calls g.P.Station.disk_faults g.P.Station.say_faults g.B.Began.beginning (entries h) e in
+    let S : Engine _ → Type 0 = λ e. Stands g.P.Station.tells g.P.Station.calls g.P.Station.disk_faults g.P.Station.say_faults g.B.Began.beginning (all_of (entries h)) e in
     let stands = subst S (ap (λ (v : _). v.engine) (sym c.value.ensures.value)) c.in-Ok.ensures.value.0 in
-    c.take-answer.ensures.no_memory (entries h) stands
+    c.take-answer.ensures.no_memory (all_of (entries h)) stands
+
+pub returns-clause-silent : goal.returns-clause-silent
+returns-clause-silent g c =
+    let h = c.in-Ok.turn.pass.seen in
+    let S : Engine _ → Type 0 = λ e. Stands g.P.Station.tells g.P.Station.calls g.P.Station.disk_faults g.P.Station.say_faults g.B.Began.beginning (all_of (entries h)) e in
+    let stands = subst S (ap (λ (v : _). v.engine) (sym c.value.ensures.value)) c.in-Ok.ensures.value.0 in
+    c.take-answer.ensures.silent (all_of (entries h)) stands

@@ -1,6 +1,7 @@
-use Rattle.std.proofs.Common.{◌≡◌, ◌∷◌, List, None, Result, Ok, Err, sym, subst, arith}
+use Rattle.std.proofs.Common.{◌≡◌, ◌∷◌, ◌∙◌, ℕ, inl, inr, ap, List, Option, None, Result, Ok, Err, sym, subst, arith}
 use Rattle.std.proofs.lemmas.Result.{err_from_is_err_and}
-use Rattle.gts_traits.specs.Calls.{Call, Did, Syncs}
+use Rattle.std.proofs.lemmas.List.{append-nil}
+use Rattle.gts_traits.specs.Calls.{Call, Did, Syncs, Outside, on, said_by}
 use Rattle.gts_traits.specs.Moments.{EachSince}
 use Rattle.gts_event.specs.State.{State}
 use Rattle.gts_event.specs.History.{restarted}
@@ -12,10 +13,35 @@ use Rattle.gts_recovery.specs.Opened.{opens_any}
 use Rattle.gts_traits.specs.Disk.{seen}
 use Rattle.gts_record.specs.declared.fault.OpenFault.{OpenFault}
 use Rattle.gts_migrate.specs.declared.fault.MigrateFault.{MigrateFault}
-use Rattle.gts_migrate.specs.declared.fault.MigrateFault.TheVariants.{Open, Waits, Full, DiskFault, NoMemory}
-use Rattle.gts_migrate.specs.Migrating.{OpensEither, IsRoomAnswer, AnswersWaiting, IsPreparedFaultOf, AnswersOpening}
-use Rattle.gts_migrate.proofs.MigratingLemmas.{few_due, fits_for, can_migrate, state_is, need_is, opens_so, at_rest, room_after, waiting_after, opening_after, told_after, disk_after, migrated_after}
+use Rattle.gts_migrate.specs.declared.fault.MigrateFault.TheVariants.{Open, Waits, Full, DiskFault, SayFault, NoMemory}
+use Rattle.gts_journal.proofs.LawLemmas.{syncs_silent}
+use Rattle.gts_migrate.specs.declared.waiting.Waiting.{Waiting}
+use Rattle.gts_migrate.specs.declared.waiting.Waiting.TheVariants.{Refused, Dropped}
+use Rattle.gts_migrate.specs.Migrating.{OpensWith, OpensEither, sayings}
+use Rattle.gts_migrate.specs.Answers.{IsRoomAnswer, AnswersWaiting, IsPreparedFaultOf, AnswersOpening, SaysFor}
+use Rattle.gts_migrate.proofs.DroppingLemmas.{sayings_again, nothing_refused, no_bytes}
+use Rattle.gts_migrate.proofs.MigratingLemmas.{few_due, fits_for, can_migrate, state_is, need_is, opens_so, at_rest, room_after, waiting_after, opening_after, told_after, disk_after, migrated_after, said_after, silent_by, counts_after}
 use Rattle.gts_migrate.proofs.migrating.take_over.Goals as goal
+
+-- where it was prepared, nothing waits, or it is dropped
+waiting_done : {T : Type 0} (w : Waiting) (found : Option (ℕ × ℕ)) (done : T) → AnswersWaiting {T = T} w (Ok done) found → AnswersWaiting {T = Unit {0}} w (Ok tt) found
+waiting_done Refused found done is = is
+waiting_done Dropped found done is = is
+
+-- and where it failed
+waiting_failed : (T : Type 0) (w : Waiting) (found : Option (ℕ × ℕ)) (fault : MigrateFault) → AnswersWaiting {T = T} w (Err fault) found → AnswersWaiting {T = Unit {0}} w (Err fault) found
+waiting_failed T Refused found (Open e) is = is
+waiting_failed T Refused found (Waits c count) is = is
+waiting_failed T Refused found (Full at wanted limit) is = is
+waiting_failed T Refused found DiskFault is = is
+waiting_failed T Refused found SayFault is = is
+waiting_failed T Refused found NoMemory is = is
+waiting_failed T Dropped found (Open e) is = is
+waiting_failed T Dropped found (Waits c count) is = is
+waiting_failed T Dropped found (Full at wanted limit) is = is
+waiting_failed T Dropped found DiskFault is = is
+waiting_failed T Dropped found SayFault is = is
+waiting_failed T Dropped found NoMemory is = is
 
 pub prepare-requires-clause-due : goal.prepare-requires-clause-due
 prepare-requires-clause-due g c =
@@ -30,9 +56,9 @@ rewrite-requires-clause-fits g c =
     let core = c.in_ok-core.core in
     let j = c.in_ok-core.journal in
     let o = c.in_ok-core.ensures.opened in
-    let n = need_of c.in_ok-need.need in
-    let brought = c.in_ok-need.ensures.brought in
-    fits_for g.P.Station.tells old new c.requires mid core j o n brought (c.in_ok-need.ensures.room o.state o.kept.holds)
+    let n = need_of c.in_ok-prepared.prepared.need in
+    let brought = c.in_ok-prepared.ensures.brought in
+    fits_for g.P.Station.tells old new c.requires mid core j o n brought (c.in_ok-prepared.ensures.room o.state o.kept.holds)
 
 pub returns-clause-moments : goal.returns-clause-moments
 returns-clause-moments g c = λ tell k was is.
@@ -42,15 +68,17 @@ returns-clause-moments g c = λ tell k was is.
     let core = c.in_ok-core.core in
     let j = c.in_ok-core.journal in
     let o = c.in_ok-core.ensures.opened in
-    let n = need_of c.in_ok-need.need in
-    let brought = c.in_ok-need.ensures.brought in
+    let n = need_of c.in_ok-prepared.prepared.need in
+    let brought = c.in_ok-prepared.ensures.brought in
     let before = g.P.Station.calls c.args.station.now in
     let synced = c.in_ok-core.ensures.synced tell in
     let after = g.P.Station.calls c.rewrite.new.station in
-    let can = can_migrate g.P.Station.tells old new c.requires mid core j o n brought c.in_ok-need.ensures.keeps tell in
+    let can = can_migrate g.P.Station.tells old new c.requires mid core j o n brought c.in_ok-prepared.ensures.keeps tell in
     let each = c.rewrite.ensures.moments tell old o.state can in
-    let here = subst (λ (calls : List Call). EachSince calls after (OpensEither old new (need old (restarted old o.state)))) synced each in
-    subst (λ (m : Need). EachSince (Did Syncs ∷ before) after (OpensEither old new m)) (need_is g.P.Station.tells old new c.requires mid core j o tell before synced k is) here
+    let text = c.in_ok-prepared.ensures.text o.state o.kept.holds ∙ sym (sayings_again c.args.waiting new old o.state) in
+    let same = subst (λ (l : Outside). EachSince mid after (OpensWith l old new (need old (restarted old o.state)))) text each in
+    let here = subst (λ (calls : List Call). EachSince calls after (OpensEither c.args.waiting old new (need old (restarted old o.state)))) synced same in
+    subst (λ (m : Need). EachSince (Did Syncs ∷ before) after (OpensEither c.args.waiting old new m)) (need_is g.P.Station.tells old new c.requires mid core j o tell before synced k is) here
 
 pub returns-clause-migrated : goal.returns-clause-migrated
 returns-clause-migrated g c = λ tell s used is.
@@ -60,11 +88,11 @@ returns-clause-migrated g c = λ tell s used is.
     let core = c.in_ok-core.core in
     let j = c.in_ok-core.journal in
     let o = c.in_ok-core.ensures.opened in
-    let n = need_of c.in_ok-need.need in
-    let brought = c.in_ok-need.ensures.brought in
+    let n = need_of c.in_ok-prepared.prepared.need in
+    let brought = c.in_ok-prepared.ensures.brought in
     let before = g.P.Station.calls c.args.station.now in
     let synced = c.in_ok-core.ensures.synced tell in
-    let can = can_migrate g.P.Station.tells old new c.requires mid core j o n brought c.in_ok-need.ensures.keeps tell in
+    let can = can_migrate g.P.Station.tells old new c.requires mid core j o n brought c.in_ok-prepared.ensures.keeps tell in
     migrated_after c.rewrite.result old new o.state s n before mid (g.P.Station.calls c.rewrite.new.station) j synced
     (state_is g.P.Station.tells old new c.requires mid core j o tell before synced s used is) can (c.rewrite.ensures.written tell)
 
@@ -79,7 +107,7 @@ returns-clause-full g c = λ tell s used is.
     let before = g.P.Station.calls c.args.station.now in
     let synced = c.in_ok-core.ensures.synced tell in
     let same = state_is g.P.Station.tells old new c.requires mid core j o tell before synced s used is in
-    let free : full_compacted new (goes_on new old (need old o.state)) ≡ None = c.in_ok-need.ensures.room o.state o.kept.holds in
+    let free : full_compacted new (goes_on new old (need old o.state)) ≡ None = c.in_ok-prepared.ensures.room o.state o.kept.holds in
     room_after c.rewrite.result new (goes_on new old (need old s)) c.rewrite.ensures.kind
     (subst (λ (t : State). full_compacted new (goes_on new old (need old t)) ≡ None) (sym same) free)
 
@@ -94,9 +122,9 @@ returns-clause-waiting g c = λ tell s used is.
     let before = g.P.Station.calls c.args.station.now in
     let synced = c.in_ok-core.ensures.synced tell in
     let same = state_is g.P.Station.tells old new c.requires mid core j o tell before synced s used is in
-    let none : waits_on_closed new (need old o.state) ≡ None = c.in_ok-need.ensures.waiting o.state o.kept.holds in
-    waiting_after c.rewrite.result (waits_on_closed new (need old s)) c.rewrite.ensures.kind
-    (subst (λ (t : State). waits_on_closed new (need old t) ≡ None) (sym same) none)
+    let none = c.in_ok-prepared.ensures.waiting o.state o.kept.holds in
+    waiting_after c.args.waiting c.rewrite.result (waits_on_closed new (need old s)) c.rewrite.ensures.kind
+    (subst (λ (t : State). AnswersWaiting {T = Unit {0}} c.args.waiting (Ok tt) (waits_on_closed new (need old t))) (sym same) (waiting_done c.args.waiting (waits_on_closed new (need old o.state)) c.in_ok-prepared.prepared none))
 
 pub returns-clause-opening : goal.returns-clause-opening
 returns-clause-opening g c = λ tell.
@@ -121,8 +149,8 @@ returns-clause-disk g c = λ is.
     disk_after c.rewrite.result (g.P.Station.disk_faults c.args.station.now) (g.P.Station.disk_faults c.open_core_any.new.station) (g.P.Station.disk_faults c.rewrite.new.station)
     c.rewrite.ensures.kind c.rewrite.ensures.disk c.in_ok-core.ensures.later is
 
-pub returns-in_err-need-clause-moments : goal.returns-in_err-need-clause-moments
-returns-in_err-need-clause-moments g c = λ tell k was is.
+pub returns-in_err-prepared-clause-moments : goal.returns-in_err-prepared-clause-moments
+returns-in_err-prepared-clause-moments g c = λ tell k was is.
     let old = c.args.old.now in
     let new = c.args.new.now in
     let mid = g.P.Station.calls c.open_core_any.new.station in
@@ -131,11 +159,11 @@ returns-in_err-need-clause-moments g c = λ tell k was is.
     let o = c.in_ok-core.ensures.opened in
     let before = g.P.Station.calls c.args.station.now in
     let synced = c.in_ok-core.ensures.synced tell in
-    subst (λ (m : Need). EachSince (Did Syncs ∷ before) mid (OpensEither old new m)) (need_is g.P.Station.tells old new c.requires mid core j o tell before synced k is)
-    (at_rest g.P.Station.tells old new c.requires mid core j o tell before synced)
+    subst (λ (m : Need). EachSince (Did Syncs ∷ before) mid (OpensEither c.args.waiting old new m)) (need_is g.P.Station.tells old new c.requires mid core j o tell before synced k is)
+    (at_rest g.P.Station.tells old new c.requires mid core j o tell before synced (sayings c.args.waiting new (need old (restarted old o.state))))
 
-pub returns-in_err-need-clause-full : goal.returns-in_err-need-clause-full
-returns-in_err-need-clause-full g c = λ tell s used is.
+pub returns-in_err-prepared-clause-full : goal.returns-in_err-prepared-clause-full
+returns-in_err-prepared-clause-full g c = λ tell s used is.
     let old = c.args.old.now in
     let new = c.args.new.now in
     let mid = g.P.Station.calls c.open_core_any.new.station in
@@ -144,10 +172,10 @@ returns-in_err-need-clause-full g c = λ tell s used is.
     let o = c.in_ok-core.ensures.opened in
     let before = g.P.Station.calls c.args.station.now in
     let synced = c.in_ok-core.ensures.synced tell in
-    let p = err_from_is_err_and c.from_residual-in_err-need.result c.from_residual-in_err-need.ensures.1 in
+    let p = err_from_is_err_and c.from_residual-in_err-prepared.result c.from_residual-in_err-prepared.ensures.1 in
     rw (p.1, p.2)
-    (subst (λ (t : State). IsRoomAnswer c.in_err-need.field-0.0 new (goes_on new old (need old t))) (sym (state_is g.P.Station.tells old new c.requires mid core j o tell before synced s used is))
-    (c.in_err-need.ensures.room o.state o.kept.holds))
+    (subst (λ (t : State). IsRoomAnswer c.in_err-prepared.field-0.0 new (goes_on new old (need old t))) (sym (state_is g.P.Station.tells old new c.requires mid core j o tell before synced s used is))
+    (c.in_err-prepared.ensures.room o.state o.kept.holds))
 
 -- where it was refused before anything was written, the files opened
 opening_before : (fault : MigrateFault) (opened : Result Need OpenFault) (n : Need) → IsPreparedFaultOf fault → opened ≡ Ok n → AnswersOpening (Err fault) opened
@@ -156,9 +184,10 @@ opening_before (Full at wanted limit) opened n kind is = (n, is)
 opening_before NoMemory opened n kind is = (n, is)
 opening_before (Open e) opened n kind is = absurd kind
 opening_before DiskFault opened n kind is = absurd kind
+opening_before SayFault opened n kind is = absurd kind
 
-pub returns-in_err-need-clause-opening : goal.returns-in_err-need-clause-opening
-returns-in_err-need-clause-opening g c = λ tell.
+pub returns-in_err-prepared-clause-opening : goal.returns-in_err-prepared-clause-opening
+returns-in_err-prepared-clause-opening g c = λ tell.
     let old = c.args.old.now in
     let new = c.args.new.now in
     let mid = g.P.Station.calls c.open_core_any.new.station in
@@ -167,13 +196,13 @@ returns-in_err-need-clause-opening g c = λ tell.
     let o = c.in_ok-core.ensures.opened in
     let before = g.P.Station.calls c.args.station.now in
     let synced = c.in_ok-core.ensures.synced tell in
-    let p = err_from_is_err_and c.from_residual-in_err-need.result c.from_residual-in_err-need.ensures.1 in
+    let p = err_from_is_err_and c.from_residual-in_err-prepared.result c.from_residual-in_err-prepared.ensures.1 in
     rw (p.1, p.2)
-    (opening_before c.in_err-need.field-0.0 (opens_any old (seen before)) (need old (restarted old o.state)) c.in_err-need.ensures.kind
+    (opening_before c.in_err-prepared.field-0.0 (opens_any old (seen before)) (need old (restarted old o.state)) c.in_err-prepared.ensures.kind
     (opens_so g.P.Station.tells old new c.requires mid core j o tell before synced))
 
-pub returns-in_err-need-clause-waiting : goal.returns-in_err-need-clause-waiting
-returns-in_err-need-clause-waiting g c = λ tell s used is.
+pub returns-in_err-prepared-clause-waiting : goal.returns-in_err-prepared-clause-waiting
+returns-in_err-prepared-clause-waiting g c = λ tell s used is.
     let old = c.args.old.now in
     let new = c.args.new.now in
     let mid = g.P.Station.calls c.open_core_any.new.station in
@@ -182,8 +211,80 @@ returns-in_err-need-clause-waiting g c = λ tell s used is.
     let o = c.in_ok-core.ensures.opened in
     let before = g.P.Station.calls c.args.station.now in
     let synced = c.in_ok-core.ensures.synced tell in
-    let p = err_from_is_err_and c.from_residual-in_err-need.result c.from_residual-in_err-need.ensures.1 in
+    let p = err_from_is_err_and c.from_residual-in_err-prepared.result c.from_residual-in_err-prepared.ensures.1 in
     rw (p.1, p.2)
-    (subst (λ (t : State). AnswersWaiting {T = Unit {0}} (Err c.in_err-need.field-0.0) (waits_on_closed new (need old t)))
+    (subst (λ (t : State). AnswersWaiting {T = Unit {0}} c.args.waiting (Err c.in_err-prepared.field-0.0) (waits_on_closed new (need old t)))
     (sym (state_is g.P.Station.tells old new c.requires mid core j o tell before synced s used is))
-    (c.in_err-need.ensures.waiting o.state o.kept.holds))
+    (waiting_failed _ c.args.waiting (waits_on_closed new (need old o.state)) c.in_err-prepared.field-0.0 (c.in_err-prepared.ensures.waiting o.state o.kept.holds)))
+
+pub returns-clause-said : goal.returns-clause-said
+returns-clause-said g c = λ tell s used is.
+    let old = c.args.old.now in
+    let new = c.args.new.now in
+    let mid = g.P.Station.calls c.open_core_any.new.station in
+    let core = c.in_ok-core.core in
+    let j = c.in_ok-core.journal in
+    let o = c.in_ok-core.ensures.opened in
+    let before = g.P.Station.calls c.args.station.now in
+    let synced = c.in_ok-core.ensures.synced tell in
+    let after = g.P.Station.calls c.rewrite.new.station in
+    let bytes = c.in_ok-prepared.prepared.receipts.items in
+    let same = state_is g.P.Station.tells old new c.requires mid core j o tell before synced s used is in
+    let text = c.in_ok-prepared.ensures.text o.state o.kept.holds ∙ ap (λ (t : State). sayings c.args.waiting new (need old t)) (sym same) in
+    said_after c.rewrite.result (sayings c.args.waiting new (need old s)) before mid after synced
+    (subst (λ (l : Outside). SaysFor c.rewrite.result l mid after) text (c.rewrite.ensures.said tell))
+
+pub returns-clause-silent : goal.returns-clause-silent
+returns-clause-silent g c = λ tell why.
+    let old = c.args.old.now in
+    let new = c.args.new.now in
+    let mid = g.P.Station.calls c.open_core_any.new.station in
+    let core = c.in_ok-core.core in
+    let j = c.in_ok-core.journal in
+    let o = c.in_ok-core.ensures.opened in
+    let before = g.P.Station.calls c.args.station.now in
+    let synced = c.in_ok-core.ensures.synced tell in
+    let after = g.P.Station.calls c.rewrite.new.station in
+    let bytes = c.in_ok-prepared.prepared.receipts.items in
+    let told = told_after g.P.Station.calls c.rewrite.result c.args.station.now c.open_core_any.new.station c.rewrite.new.station c.rewrite.ensures.kind c.rewrite.ensures.no_memory
+    (c.in_ok-core.ensures.told tell) in
+    elim why [
+      | inl refused ↦
+          silent_by c.rewrite.result (on 0 bytes) mid after (c.in_ok-prepared.ensures.text o.state o.kept.holds ∙ nothing_refused c.args.waiting new (need old o.state) refused) (c.rewrite.ensures.said tell)
+          ∙ ap said_by synced
+      | inr leaves ↦ syncs_silent before after (told leaves)
+    ]
+
+pub returns-clause-say : goal.returns-clause-say
+returns-clause-say g c =
+    counts_after c.rewrite.result (g.P.Station.say_faults c.args.station.now) (g.P.Station.say_faults c.open_core_any.new.station) (g.P.Station.say_faults c.rewrite.new.station)
+    c.in_ok-core.ensures.say c.rewrite.ensures.say
+
+pub returns-clause-unsaid : goal.returns-clause-unsaid
+returns-clause-unsaid g c = λ refused is.
+    let o = c.in_ok-core.ensures.opened in
+    let bytes = c.in_ok-prepared.prepared.receipts.items in
+    c.rewrite.ensures.unsaid
+    (no_bytes bytes (c.in_ok-prepared.ensures.text o.state o.kept.holds ∙ nothing_refused c.args.waiting c.args.new.now (need c.args.old.now o.state) refused)) is
+
+-- where it was refused before anything was written, nothing was said
+unsaid_before : (fault : MigrateFault) (text : Outside) (before mid : List Call) → IsPreparedFaultOf fault → said_by mid ≡ said_by before → SaysFor (Err fault) text before mid
+unsaid_before (Waits circuit count) text before mid kind same = same ∙ sym (append-nil (said_by before))
+unsaid_before (Full at wanted limit) text before mid kind same = same ∙ sym (append-nil (said_by before))
+unsaid_before NoMemory text before mid kind same = same ∙ sym (append-nil (said_by before))
+unsaid_before (Open e) text before mid kind same = absurd kind
+unsaid_before DiskFault text before mid kind same = absurd kind
+unsaid_before SayFault text before mid kind same = absurd kind
+
+pub returns-in_err-prepared-clause-said : goal.returns-in_err-prepared-clause-said
+returns-in_err-prepared-clause-said g c = λ tell s used is.
+    let mid = g.P.Station.calls c.open_core_any.new.station in
+    let before = g.P.Station.calls c.args.station.now in
+    let p = err_from_is_err_and c.from_residual-in_err-prepared.result c.from_residual-in_err-prepared.ensures.1 in
+    rw (p.1, p.2)
+    (unsaid_before c.in_err-prepared.field-0.0 (sayings c.args.waiting c.args.new.now (need c.args.old.now s)) before mid c.in_err-prepared.ensures.kind
+    (syncs_silent before mid (c.in_ok-core.ensures.told tell)))
+
+pub returns-in_err-prepared-clause-silent : goal.returns-in_err-prepared-clause-silent
+returns-in_err-prepared-clause-silent g c = λ tell why.
+    syncs_silent (g.P.Station.calls c.args.station.now) (g.P.Station.calls c.open_core_any.new.station) (c.in_ok-core.ensures.told tell)

@@ -1,5 +1,5 @@
-use Rattle.std.proofs.Common.{◌≡◌, ◌⊎◌, ◌-◌, ◌≤◌, true, length}
-use Rattle.gts_desk.specs.Desks.{Seen, own}
+use Rattle.std.proofs.Common.{◌≡◌, ◌-◌, ◌≤◌, true, Err}
+use Rattle.gts_desk.specs.Desks.{Seen}
 use Rattle.gts_event.specs.declared.event.Event.TheVariants.{Heard}
 use Rattle.gts_receiver.specs.declared.limits.TheConstants.{MOST_TRIES}
 use Rattle.gts_receiver.specs.Service.{is_wanting, Hears}
@@ -9,8 +9,8 @@ use Rattle.gts_receiver.proofs.receiving.hear_again.Given as goal
 abbrev pub invariant-loop-answer : goal.invariant-loop-answer
 invariant-loop-answer g l = record {
   directory : (g.D.Desk.seen l.desk).directory ≡ (g.D.Desk.seen l.fn.desk).directory;
-  tired : is_wanting l.answer ≡ true → (l.tries ≤ length (own (g.D.Desk.seen l.desk))) ⊎ ((g.D.Desk.seen l.desk).alone ≡ true);
-  heard : (old : Seen) → Hears true (Heard l.fn.c l.fn.kind l.fn.message) l.fn.first old (g.D.Desk.seen l.fn.desk)
+  tired : is_wanting l.answer ≡ true → l.tries ≤ (g.D.Desk.seen l.desk).turns;
+  heard : (old : Seen) → Hears true (Heard l.fn.c l.fn.kind l.fn.message) (Err l.fn.first) old (g.D.Desk.seen l.fn.desk)
       → Hears true (Heard l.fn.c l.fn.kind l.fn.message) l.answer old (g.D.Desk.seen l.desk);
 }
 

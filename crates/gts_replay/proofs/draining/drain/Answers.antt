@@ -1,26 +1,34 @@
-use Rattle.std.proofs.Common.{Ok, sym, ap, ◌∙◌, arith}
+use Rattle.std.proofs.Common.{Ok, refl, sym, ap, ◌∙◌, arith}
 use Rattle.std.proofs.lemmas.Bool.{false≢true}
 use Rattle.std.proofs.lemmas.Result.{err_from_is_err_and}
 use Rattle.gts_event.specs.declared.outcome.Outcome.{Outcome}
-use Rattle.gts_replay.proofs.DrainLemmas.{drained_more, drained_all, drained_breaks, drained_few}
+use Rattle.gts_replay.proofs.DrainLemmas.{drained_none, drained_more, drained_all, drained_breaks, drained_few}
 use Rattle.gts_replay.proofs.draining.drain.Goals as goal
 
+pub loop-init : goal.loop-init
+loop-init g c = record {
+  drained = λ o first h start. drained_none g.W.Switch.meanings c.args.switch.now o first h c.args.c start;
+  directory = refl;
+  disk_later = omega arith;
+  say_later = omega arith;
+}
+
 pub returns-in_err-outcome-clause-goes : goal.returns-in_err-outcome-clause-goes
-returns-in_err-outcome-clause-goes g c = λ o h start.
+returns-in_err-outcome-clause-goes g c = λ o first h start.
     let p = err_from_is_err_and c.from_residual.result c.from_residual.ensures.1 in
-    rw (p.1, p.2) (drained_breaks g.W.Switch.meanings c.args.switch.now c.loop.switch c.take.new.self o h c.args.c c.loop.counter c.take.result c.in_err-outcome.field-0.0
-    (c.loop.invariant.drained o h start) c.take.ensures.called c.in_err-outcome.was)
+    rw (p.1, p.2) (drained_breaks g.W.Switch.meanings c.args.switch.now o first h c.args.c c.loop.switch c.take.new.self c.loop.counter c.take.result c.loop.invariant.directory
+    (c.loop.invariant.drained o first h start) c.take.ensures.called c.in_err-outcome.field-0.0 c.in_err-outcome.was)
 
 pub returns-then-is_nothing-clause-goes : goal.returns-then-is_nothing-clause-goes
-returns-then-is_nothing-clause-goes g c = λ o h start.
-    drained_all g.W.Switch.meanings c.args.switch.now c.loop.switch c.take.new.self o h c.args.c c.loop.counter c.take.result start c.loop.invariant.directory
-    (c.loop.invariant.drained o h start) c.take.ensures.called (c.in_ok-outcome.was ∙ ap (λ (x : Outcome). Ok x) (c.is_nothing.ensures.nothing.0 c.if-is_nothing.true))
+returns-then-is_nothing-clause-goes g c = λ o first h start.
+    drained_all g.W.Switch.meanings c.args.switch.now o first h c.args.c c.loop.switch c.take.new.self c.loop.counter c.take.result c.loop.invariant.directory
+    (c.loop.invariant.drained o first h start) c.take.ensures.called (c.in_ok-outcome.was ∙ ap (λ (x : Outcome). Ok x) (c.is_nothing.ensures.nothing.0 c.if-is_nothing.true))
 
 pub loop-preserved : goal.loop-preserved
 loop-preserved g c = record {
-  drained = λ o h start.
-      drained_more g.W.Switch.meanings c.args.switch.now c.loop.switch c.take.new.self o h c.args.c c.loop.counter c.take.result c.in_ok-outcome.outcome start c.requires.circuit
-      c.loop.invariant.directory (c.loop.invariant.drained o h start) c.take.ensures.called c.in_ok-outcome.was
+  drained = λ o first h start.
+      drained_more g.W.Switch.meanings c.args.switch.now o first h c.args.c c.loop.switch c.take.new.self c.loop.counter c.take.result c.loop.invariant.directory
+      (c.loop.invariant.drained o first h start) c.take.ensures.called c.in_ok-outcome.outcome start c.requires.circuit c.in_ok-outcome.was
       (λ e. false≢true (sym c.if-is_nothing.false ∙ c.is_nothing.ensures.nothing.1 e)) c.is_nothing.ensures.few;
   directory = c.take.ensures.called.directory ∙ c.loop.invariant.directory;
   disk_later = omega (arith, c.take.ensures.cause.disk_later, c.loop.invariant.disk_later);
@@ -28,5 +36,5 @@ loop-preserved g c = record {
 }
 
 pub returns-clause-goes : goal.returns-clause-goes
-returns-clause-goes g c = λ o h start.
-    absurd (omega (arith, c.loop-test.false, drained_few g.W.Switch.meanings c.args.switch.now c.loop.switch o h c.args.c c.loop.counter start (c.loop.invariant.drained o h start)))
+returns-clause-goes g c = λ o first h start.
+    absurd (omega (arith, c.loop-test.false, drained_few g.W.Switch.meanings c.args.switch.now o first h c.args.c c.loop.switch c.loop.counter start (c.loop.invariant.drained o first h start)))

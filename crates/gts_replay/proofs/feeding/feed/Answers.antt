@@ -64,8 +64,8 @@ returns-in_err-map_err-clause-feeds g c =
       taken = takes_at_most g.S.Source.tells fed.0 piece c.args.steps.now c.loop-count.steps c.bytes.new.self (g.S.Source.left c.args.capture.now) (g.S.Source.left c.loop-count.capture) (g.S.Source.left c.bytes.new.source)
           fed.1 (λ t. IfOk-at_ok _ came (c.bytes.ensures.told t)) (omega (arith, long, passed.feed)) (omega (arith, long, passed.at)) passed.within;
       fed = breaks_piece g.W.Switch.meanings c.args.c c.args.decoder.now c.args.switch.now fed.0 piece c.loop-count.decoder c.loop-count.switch c.feed_piece.new.switch m.0 fed.2
-          (λ before o h held stands. subst (λ (r : Result (Unit {0}) SwitchFault). Goes g.W.Switch.meanings o h (all_done (events_added c.args.c before piece)) r c.feed_piece.new.switch)
-          m.1 (c.feed_piece.ensures.goes before o h held stands));
+          (λ before o first h held stands. subst (λ (r : Result (Unit {0}) SwitchFault). Goes g.W.Switch.meanings o first h (all_done (events_added c.args.c before piece)) r c.feed_piece.new.switch)
+          m.1 (c.feed_piece.ensures.goes before o first h held stands));
     } in
     rw (p.1, p.2, m.2) broken
 
@@ -86,8 +86,8 @@ loop-count-preserved g c =
             fed.1 (λ t. IfOk-at_ok _ came (c.bytes.ensures.told t)) (omega (arith, long, passed.feed)) (omega (arith, long, passed.at)) passed.within c.bytes.ensures.same,
         fed_piece g.W.Switch.meanings c.args.c c.args.decoder.now c.args.switch.now fed.0 piece c.loop-count.decoder c.feed_piece.new.decoder c.loop-count.switch c.feed_piece.new.switch fed.2
             (λ before is. subst (λ (r : Result (Unit {0}) SwitchFault). OnOk r (c.feed_piece.new.decoder.held ≡ held_in (before ++ piece))) dealt (c.feed_piece.ensures.held before is))
-            (λ before o h held stands. subst (λ (r : Result (Unit {0}) SwitchFault). Goes g.W.Switch.meanings o h (all_done (events_added c.args.c before piece)) r c.feed_piece.new.switch)
-            dealt (c.feed_piece.ensures.goes before o h held stands)),
+            (λ before o first h held stands. subst (λ (r : Result (Unit {0}) SwitchFault). Goes g.W.Switch.meanings o first h (all_done (events_added c.args.c before piece)) r c.feed_piece.new.switch)
+            dealt (c.feed_piece.ensures.goes before o first h held stands)),
       );
       directory = c.feed_piece.ensures.directory ∙ c.loop-count.invariant.directory;
       disk_later = omega (arith, c.feed_piece.ensures.cause.disk_later, c.loop-count.invariant.disk_later);

@@ -1,13 +1,16 @@
-use Rattle.std.proofs.Common.{◌≡◌, ◌++◌, ℕ, List, [], take, drop, Result, Ok, refl, sym, ap, subst, ◌∙◌, arith}
+use Rattle.std.proofs.Common.{◌≡◌, ◌++◌, ℕ, List, [], take, drop, Result, Ok, Err, refl, sym, ap, subst, ◌∙◌, arith}
 use Rattle.std.proofs.lemmas.List.{append_assoc, take-append-drop}
+use Rattle.std.proofs.lemmas.Result.{err_from_is_err_and}
 use Rattle.gts_event.specs.Drain.{all_done}
 use Rattle.gts_event.specs.declared.event.Entry.{Entry}
 use Rattle.gts_event.specs.declared.fault.SwitchFault.{SwitchFault}
-use Rattle.gts_frame.specs.Decoder.{signs_of_step}
+use Rattle.gts_frame.specs.Signs.{held_in}
 use Rattle.gts_connection.specs.Connection.{events_added}
-use Rattle.gts_connection.specs.Steps.{events_of_signs}
-use Rattle.gts_replay.specs.Going.{Goes}
-use Rattle.gts_replay.proofs.FeedingLemmas.{fed_none, fed_more, fed_breaks, slice_from}
+use Rattle.gts_calls.specs.{Stands}
+use Rattle.gts_feed.specs.Fed.{answer_of}
+use Rattle.gts_feed.proofs.FedLemmas.{goes_of}
+use Rattle.gts_replay.specs.Going.{BreaksOff, Goes}
+use Rattle.gts_replay.proofs.FeedingLemmas.{fed_none, fed_piece, breaks_rest, slice_from}
 use Rattle.gts_replay.proofs.feeding.feed_piece.Goals as goal
 
 pub loop-rest-init : goal.loop-rest-init
@@ -24,41 +27,45 @@ loop-rest-preserved g c =
     let circuit : ℕ = c.args.c in
     let fed = c.loop-rest.invariant.fed in
     let rest : List ℕ = c.loop-rest.rest.now in
-    let n : ℕ = c.take-count.result.0 in
-    let next = c.take-count.new.self in
+    let n : ℕ = c.feed-fed.result.taken in
+    let end = c.feed-fed.result.end in
+    let next = c.feed-fed.new.decoder in
+    let later = c.feed-fed.new.switch in
     let x : List ℕ = take n rest in
     let behind : List ℕ = drop n rest in
-    let G : List ℕ → Result (Unit {0}) SwitchFault → (o : g.W.Switch.Origin) (h : List Entry) → Type 0 = λ message r o h.
-    Goes meanings o h (all_done (events_of_signs circuit (signs_of_step c.take-count.result.1 message))) r c.deal.new.switch in
-    let goes : (o : g.W.Switch.Origin) (h : List Entry) → meanings.stands o h c.loop-rest.switch → G next.message (Ok tt) o h = λ o h stands.
-    subst (λ (r : Result (Unit {0}) SwitchFault). G next.message r o h) c.in_ok-deal.was (subst (λ (m : List ℕ). G m c.deal.result o h) c.message.ensures (c.deal.ensures.goes o h stands)) in
+    let done : answer_of end ≡ Ok tt = sym c.answer.ensures ∙ c.in_ok-answer.was in
     record {
       fed = (
         fed.0 ++ x,
         fed.1 ∙ ap (λ (e : List ℕ). fed.0 ++ e) (sym (take-append-drop n rest)) ∙ sym (append_assoc fed.0 x behind) ∙ ap (λ (e : List ℕ). (fed.0 ++ x) ++ e) (sym (slice_from n rest)),
-        fed_more meanings circuit c.args.decoder.now c.args.switch.now fed.0 x c.take-count.result.1 c.loop-rest.decoder next c.loop-rest.switch c.deal.new.switch fed.2 c.take-count.ensures.reads goes,
+        fed_piece meanings circuit c.args.decoder.now c.args.switch.now fed.0 x c.loop-rest.decoder next c.loop-rest.switch later fed.2
+            (λ before is. (c.feed-fed.ensures.takes before is).held)
+            (λ before o first h held stands. subst (λ (r : Result (Unit {0}) SwitchFault). Goes meanings o first h (all_done (events_added circuit before x)) r later) done
+            (goes_of meanings o first h circuit (events_added circuit before x) next.message end later (c.feed-fed.ensures.goes before o first h held stands))),
       );
-      directory = c.deal.ensures.directory ∙ c.loop-rest.invariant.directory;
-      disk_later = omega (arith, c.deal.ensures.cause.disk_later, c.loop-rest.invariant.disk_later);
-      say_later = omega (arith, c.deal.ensures.cause.say_later, c.loop-rest.invariant.say_later);
+      directory = c.feed-fed.ensures.directory ∙ c.loop-rest.invariant.directory;
+      disk_later = omega (arith, c.feed-fed.ensures.cause.disk_later, c.loop-rest.invariant.disk_later);
+      say_later = omega (arith, c.feed-fed.ensures.cause.say_later, c.loop-rest.invariant.say_later);
     }
 
-pub returns-in_err-deal-clause-goes : goal.returns-in_err-deal-clause-goes
-returns-in_err-deal-clause-goes g c = λ before o h held stands.
+pub returns-in_err-answer-clause-goes : goal.returns-in_err-answer-clause-goes
+returns-in_err-answer-clause-goes g c = λ before o first h held stands.
     let meanings = g.W.Switch.meanings in
     let circuit : ℕ = c.args.c in
     let fed = c.loop-rest.invariant.fed in
     let rest : List ℕ = c.loop-rest.rest.now in
-    let n : ℕ = c.take-count.result.0 in
-    let next = c.take-count.new.self in
+    let n : ℕ = c.feed-fed.result.taken in
+    let end = c.feed-fed.result.end in
+    let next = c.feed-fed.new.decoder in
+    let later = c.feed-fed.new.switch in
     let x : List ℕ = take n rest in
     let behind : List ℕ = drop n rest in
-    let result = c.from_residual.result in
-    let G : List ℕ → (o : g.W.Switch.Origin) (h : List Entry) → Type 0 = λ message o h.
-    Goes meanings o h (all_done (events_of_signs circuit (signs_of_step c.take-count.result.1 message))) c.deal.result c.deal.new.switch in
-    let goes : (o : g.W.Switch.Origin) (h : List Entry) → meanings.stands o h c.loop-rest.switch → G next.message o h = λ o h stands.
-    subst (λ (m : List ℕ). G m o h) c.message.ensures (c.deal.ensures.goes o h stands) in
+    let fault = c.in_err-answer.field-0.0 in
+    let failed : answer_of end ≡ Err fault = sym c.answer.ensures ∙ c.in_err-answer.was in
     let same : fed.0 ++ (x ++ behind) ≡ c.args.piece.now = ap (λ (e : List ℕ). fed.0 ++ e) (take-append-drop n rest) ∙ sym fed.1 in
-    subst (λ (e : List ℕ). Goes meanings o h (all_done (events_added circuit before e)) result c.deal.new.switch) same
-    (fed_breaks meanings circuit c.args.decoder.now c.args.switch.now fed.0 x behind c.take-count.result.1 c.loop-rest.decoder next c.loop-rest.switch c.deal.new.switch
-    c.deal.result result c.in_err-deal.field-0.0 c.in_err-deal.was c.from_residual.ensures.1 fed.2 c.take-count.ensures.reads goes before o h held stands)
+    let broken : BreaksOff meanings (λ _. o) first h (all_done (events_added circuit before (fed.0 ++ (x ++ behind)))) fault later =
+    breaks_rest meanings circuit c.args.decoder.now c.args.switch.now fed.0 x behind c.loop-rest.decoder c.loop-rest.switch later fault fed.2
+    (λ b p k l is s. subst (λ (r : Result (Unit {0}) SwitchFault). Goes meanings p k l (all_done (events_added circuit b x)) r later) failed
+    (goes_of meanings p k l circuit (events_added circuit b x) next.message end later (c.feed-fed.ensures.goes b p k l is s))) before o first h held stands in
+    let p = err_from_is_err_and c.from_residual.result c.from_residual.ensures.1 in
+    rw (p.1, p.2) (subst (λ (e : List ℕ). BreaksOff meanings (λ _. o) first h (all_done (events_added circuit before e)) fault later) same broken)

@@ -1,9 +1,13 @@
-use Rattle.std.proofs.Common.{List, sym, subst, ◌∙◌}
+use Rattle.std.proofs.Common.{List, sym, ap, subst, ◌∙◌}
 use Rattle.gts_connection.specs.Capture.{no_bytes}
+use Rattle.gts_connection.specs.declared.kind.CaptureKind.{CaptureKind}
+use Rattle.gts_capture.specs.Held.{Held}
 use Rattle.gts_frame.specs.Decoder.{Decoding}
 use Rattle.gts_replay.specs.Going.{Decode}
+use Rattle.gts_replay.specs.Replay.{Ends}
 use Rattle.gts_replay.proofs.DecoderLemmas.{decode_fresh}
 use Rattle.gts_replay.proofs.EndLemmas.{ends_unmade}
+use Rattle.gts_replay.proofs.CauseLemmas.{caused_settled}
 use Rattle.gts_replay.proofs.replaying.replay.Goals as goal
 
 pub returns-in_default-clause-ends : goal.returns-in_default-clause-ends
@@ -14,7 +18,19 @@ pub returns-in_default-new-clause-ends : goal.returns-in_default-new-clause-ends
 returns-in_default-new-clause-ends g c = λ o h start.
     ends_unmade g.W.Switch.meanings g.W.Switch.tells c.args.kind o h g.S.Source.tells c.args.switch.now (g.S.Source.left c.args.capture.now) (g.S.Source.left c.args.capture.now) start
 
-pub run-requires-clause-decode : goal.run-requires-clause-decode
-run-requires-clause-decode g c =
+pub returns-clause-ends : goal.returns-clause-ends
+returns-clause-ends g c = λ o h start.
+    let E : CaptureKind → Type 0 = λ kind. Ends g.W.Switch.meanings g.W.Switch.tells kind o h g.S.Source.tells c.settle_behind.result c.args.switch.now c.settle_behind.new.switch
+    (g.S.Source.left c.args.capture.now) (g.S.Source.left c.run-end.new.capture) in
+    subst E (ap (λ (x : Held). x.kind) c.new-steps.ensures) (c.run-end.ensures.ends o h start c.settle_behind.result c.settle_behind.new.switch c.settle_behind.ensures.settles)
+
+pub returns-clause-cause : goal.returns-clause-cause
+returns-clause-cause g c =
+    caused_settled c.run-end.result c.settle_behind.result (g.W.Switch.disk_faults c.args.switch.now) (g.W.Switch.disk_faults c.run-end.new.switch) (g.W.Switch.disk_faults c.settle_behind.new.switch)
+    (g.W.Switch.say_faults c.args.switch.now) (g.W.Switch.say_faults c.run-end.new.switch) (g.W.Switch.say_faults c.settle_behind.new.switch) (g.S.Source.faults c.args.capture.now) (g.S.Source.faults c.run-end.new.capture)
+    c.run-end.ensures.cause c.settle_behind.ensures.cause
+
+pub run-end-requires-clause-decode : goal.run-end-requires-clause-decode
+run-end-requires-clause-decode g c =
     let d = g.W.Switch.meanings.directory c.args.switch.now in
     subst (λ (ds : List Decoding). Decode ds (no_bytes d)) (sym (c.deref_mut.ensures.value ∙ c.in-Ok.ensures)) (decode_fresh c.circuits-circuits.result d c.circuits-circuits.ensures.circuits)

@@ -1,5 +1,4 @@
-use Rattle.std.proofs.Common.{◌≡◌, ◌+◌, ◌≤◌, ℕ, List, [], ◌∷◌, ◌++◌, length, Result, Err, sym, ap, subst, ◌∙◌, arith, length-append}
-use Rattle.gts_event.specs.declared.event.Entry.{Entry}
+use Rattle.std.proofs.Common.{◌≡◌, ◌+◌, ◌≤◌, ℕ, List, [], ◌∷◌, ◌++◌, length, Result, Err, refl, sym, ap, subst, ◌∙◌, arith, length-append}
 use Rattle.gts_capture.specs.{head_of, line_of}
 use Rattle.gts_capture.specs.declared.capture_fault.CaptureFault.{CaptureFault}
 use Rattle.gts_capture.specs.declared.capture_fault.CaptureFault.TheVariants.{Bad, SourceFault}
@@ -9,36 +8,51 @@ use Rattle.gts_replay.specs.declared.end.ReplayEnd.{ReplayEnd}
 use Rattle.gts_replay.specs.declared.fault.StepFault.{StepFault}
 use Rattle.gts_replay.specs.declared.fault.StepFault.TheVariants as step
 use Rattle.gts_replay.specs.Replay.{Ends, HasReplayCause}
-use Rattle.gts_replay.specs.Ending.{end_of, DoesStep}
-use Rattle.gts_replay.proofs.RunLemmas.{ReadsHead, runs_more}
+use Rattle.gts_replay.specs.Ending.{end_of, DoesStep, SettlesBehind}
+use Rattle.gts_replay.proofs.RunLemmas.{ReadsHead, runs_none, runs_more}
 use Rattle.gts_replay.proofs.EndLemmas.{ends_done, ends_bad, ends_source, ends_never, ends_step}
 use Rattle.gts_replay.proofs.CauseLemmas.{caused_step}
 use Rattle.gts_replay.proofs.replaying.run.Goals as goal
 
+pub loop-init : goal.loop-init
+loop-init g c = record {
+  done = (
+    [],
+    refl,
+    runs_none g.W.Switch.meanings c.args.steps.now.kind g.S.Source.tells (g.S.Source.left c.args.capture.now) c.args.switch.now c.args.steps.now c.args.decoders.now c.requires.begins c.requires.decode,
+  );
+  directory = refl;
+  disk_later = omega arith;
+  say_later = omega arith;
+  source_later = omega arith;
+}
+
 pub returns-in-Ok-End-clause-ends : goal.returns-in-Ok-End-clause-ends
-returns-in-Ok-End-clause-ends g c = λ o h start.
+returns-in-Ok-End-clause-ends g c = λ o h start result now settles.
     let done = c.loop.invariant.done in
     let told : g.S.Source.tells → c.loop.steps.ahead ++ g.S.Source.left c.loop.capture ≡ line_of c.in-Ok-End.field-0 ++ (c.next.new.self.ahead ++ g.S.Source.left c.next.new.source) = c.in-Ok-End.ensures.told in
-    ends_done g.W.Switch.meanings c.args.steps.now.kind g.W.Switch.tells g.S.Source.tells (g.S.Source.left c.args.capture.now) c.args.switch.now done.0 c.loop.steps c.next.new.self (g.S.Source.left c.loop.capture)
-    (g.S.Source.left c.next.new.source) (g.S.Source.left c.next.new.source) c.loop.decoders c.loop.switch done.2
+    ends_done g.W.Switch.meanings c.args.steps.now.kind g.W.Switch.tells g.S.Source.tells (g.S.Source.left c.args.capture.now) c.args.switch.now done.0 c.loop.steps (g.S.Source.left c.loop.capture)
+    c.loop.decoders c.loop.switch done.2 c.next.new.self (g.S.Source.left c.next.new.source) (g.S.Source.left c.next.new.source)
     (λ t. told t ∙ ap (λ (head : Head). line_of head ++ (c.next.new.self.ahead ++ g.S.Source.left c.next.new.source)) c.in-Ok-End.field-0-is)
     (let place : c.next.new.self.at ≡ c.loop.steps.at + length (line_of End) = c.in-Ok-End.ensures.at ∙ ap (λ (head : Head). c.loop.steps.at + length (line_of head)) c.in-Ok-End.field-0-is in
-    omega (arith, place, c.in-Ok-End.ensures.within)) o h start
+    omega (arith, place, c.in-Ok-End.ensures.within)) result now settles o h start
 
 pub returns-in-Err-clause-ends : goal.returns-in-Err-clause-ends
-returns-in-Err-clause-ends g c = λ o h start.
+returns-in-Err-clause-ends g c = λ o h start result now settles.
+    let meanings = g.W.Switch.meanings in
     let done = c.loop.invariant.done in
-    let few : length (g.W.Switch.meanings.directory c.args.switch.now).circuits ≤ 100 = c.requires.few in
+    let few : length (meanings.directory c.args.switch.now).circuits ≤ 100 = c.requires.few in
     let before : List ℕ = g.S.Source.left c.loop.capture in
     let after : List ℕ = g.S.Source.left c.next.new.source in
-    let E : ReplayEnd → Type 0 = λ end. Ends g.W.Switch.meanings g.W.Switch.tells c.args.steps.now.kind o h g.S.Source.tells end c.args.switch.now c.loop.switch (g.S.Source.left c.args.capture.now) after in
-    let go : (fault : CaptureFault) → c.next.result ≡ Err fault → E (end_of (step.Capture fault)) = elim [
-      | Bad at ↦ λ is. ends_bad g.W.Switch.meanings c.args.steps.now.kind g.W.Switch.tells g.S.Source.tells (g.S.Source.left c.args.capture.now) c.args.switch.now done.0 c.loop.steps before after c.loop.decoders c.loop.switch at few done.2
-          (λ t. c.next.ensures.bad t at is) o h start
-      | SourceFault ↦ λ is. ends_source g.W.Switch.meanings c.args.steps.now.kind g.W.Switch.tells g.S.Source.tells (g.S.Source.left c.args.capture.now) c.args.switch.now done.0 c.loop.steps c.next.new.self before after c.loop.decoders
-          c.loop.switch done.2 c.next.ensures.same (λ t. c.next.ensures.source_fault t is) o h start
+    let bytes : List ℕ = g.S.Source.left c.args.capture.now in
+    let go : (fault : CaptureFault) → c.next.result ≡ Err fault → SettlesBehind meanings (end_of (step.Capture fault)) result c.loop.switch now
+    → Ends meanings g.W.Switch.tells c.args.steps.now.kind o h g.S.Source.tells result c.args.switch.now now bytes after = elim [
+      | Bad at ↦ λ is settles. ends_bad meanings c.args.steps.now.kind g.W.Switch.tells g.S.Source.tells bytes c.args.switch.now done.0 c.loop.steps before c.loop.decoders c.loop.switch done.2 after at few
+          (λ t. c.next.ensures.bad t at is) result now settles o h start
+      | SourceFault ↦ λ is settles. ends_source meanings c.args.steps.now.kind g.W.Switch.tells g.S.Source.tells bytes c.args.switch.now done.0 c.loop.steps before c.loop.decoders
+          c.loop.switch done.2 c.next.new.self after c.next.ensures.same (λ t. c.next.ensures.source_fault t is) result now settles o h start
     ] in
-    subst E (sym c.end_after.ensures) (go c.in-Err.fault c.in-Err.is)
+    go c.in-Err.fault c.in-Err.is (subst (λ (e : ReplayEnd). SettlesBehind meanings e result c.loop.switch now) c.end_after.ensures settles)
 
 pub returns-in-Err-do_step : goal.returns-in-Err-do_step
 returns-in-Err-do_step g c =
@@ -49,16 +63,14 @@ returns-in-Err-do_step g c =
     record { told = c.in-Ok.ensures.told; valid = c.in-Ok.ensures.valid; feed = c.in-Ok.ensures.feed; at = c.in-Ok.ensures.at; within = c.in-Ok.ensures.within; same = c.next.ensures.same } in
     let does = subst (λ (r : Result (Unit {0}) StepFault). DoesStep g.W.Switch.meanings g.W.Switch.tells g.S.Source.tells head r c.next.new.self c.do_step.new.steps (g.S.Source.left c.next.new.source)
     (g.S.Source.left c.do_step.new.capture) c.loop.decoders c.do_step.new.decoders c.loop.switch c.do_step.new.switch) c.in-Err-do_step.is c.do_step.ensures.does in
-    let E : (o : g.W.Switch.Origin) → List Entry → ReplayEnd → Type 0 = λ o h end.
-    Ends g.W.Switch.meanings g.W.Switch.tells c.args.steps.now.kind o h g.S.Source.tells end c.args.switch.now c.do_step.new.switch (g.S.Source.left c.args.capture.now) (g.S.Source.left c.do_step.new.capture) in
     let C : ReplayEnd → Type 0 = λ end. HasReplayCause end (g.W.Switch.disk_faults c.args.switch.now) (g.W.Switch.disk_faults c.do_step.new.switch) (g.W.Switch.say_faults c.args.switch.now)
     (g.W.Switch.say_faults c.do_step.new.switch) (g.S.Source.faults c.args.capture.now) (g.S.Source.faults c.do_step.new.capture) in
     record {
-      ends = λ o h start.
-          subst (E o h) (sym c.end_after-in-Err-do_step.ensures)
-          (ends_step g.W.Switch.meanings c.args.steps.now.kind g.W.Switch.tells g.S.Source.tells (g.S.Source.left c.args.capture.now) c.args.switch.now done.0 c.loop.steps c.next.new.self c.do_step.new.steps
+      ends = λ o h start result now settles.
+          ends_step g.W.Switch.meanings c.args.steps.now.kind g.W.Switch.tells g.S.Source.tells (g.S.Source.left c.args.capture.now) c.args.switch.now done.0 c.loop.steps c.next.new.self c.do_step.new.steps
           (g.S.Source.left c.loop.capture) (g.S.Source.left c.next.new.source) (g.S.Source.left c.do_step.new.capture) c.loop.decoders c.do_step.new.decoders c.loop.switch c.do_step.new.switch head fault
-          c.requires.few done.2 c.loop.invariant.directory reads does o h start);
+          c.requires.few done.2 c.loop.invariant.directory reads does result now
+          (subst (λ (e : ReplayEnd). SettlesBehind g.W.Switch.meanings e result c.do_step.new.switch now) c.end_after-in-Err-do_step.ensures settles) o h start;
       directory = c.do_step.ensures.directory ∙ c.loop.invariant.directory;
       cause = subst C (sym c.end_after-in-Err-do_step.ensures)
           (caused_step c.do_step.result fault (g.W.Switch.disk_faults c.args.switch.now) (g.W.Switch.disk_faults c.loop.switch) (g.W.Switch.disk_faults c.do_step.new.switch)
@@ -90,7 +102,7 @@ loop-preserved g c =
     }
 
 pub returns-clause-ends : goal.returns-clause-ends
-returns-clause-ends g c = λ o h start.
+returns-clause-ends g c = λ o h start result now settles.
     let done = c.loop.invariant.done in
-    ends_never g.W.Switch.meanings c.args.steps.now.kind g.W.Switch.tells g.S.Source.tells (g.S.Source.left c.args.capture.now) c.args.switch.now done.0 c.loop.steps (g.S.Source.left c.loop.capture) (g.S.Source.left c.loop.capture)
-    c.loop.decoders c.loop.switch 18446744073709551615 done.2 (omega (arith, done.1, c.loop-test.false)) o h start
+    ends_never g.W.Switch.meanings c.args.steps.now.kind g.W.Switch.tells g.S.Source.tells (g.S.Source.left c.args.capture.now) c.args.switch.now done.0 c.loop.steps (g.S.Source.left c.loop.capture)
+    c.loop.decoders c.loop.switch done.2 (g.S.Source.left c.loop.capture) 18446744073709551615 (omega (arith, done.1, c.loop-test.false)) result now settles o h start

@@ -16,7 +16,7 @@ pub loop-preserved-in-Ok-true : goal.loop-preserved-in-Ok-true
 loop-preserved-in-Ok-true g c =
     let i = c.loop.invariant in
     let t = c.in-Ok-true.ensures.tried in
-    let P : Bool → Type 0 = λ b. Tried c.args.c (g.D.Desk.seen c.args.desk.now) (g.D.Desk.seen c.send_one.new.desk) (i.sent.0 ++ t.0) (Ok b) in
+    let P : Bool → Type 0 = λ b. Tried c.args.c (g.D.Desk.seen c.args.desk.now) (g.D.Desk.seen c.send_some.new.desk) (i.sent.0 ++ t.0) (Ok b) in
     record {
       directory = search rules;
       sent = (
@@ -32,7 +32,7 @@ pub returns-then-seen-clause-sent : goal.returns-then-seen-clause-sent
 returns-then-seen-clause-sent g c =
     let i = c.loop.invariant in
     let t = c.in-Ok-false.ensures.tried in
-    let P : Bool → Type 0 = λ b. Tried c.args.c (g.D.Desk.seen c.args.desk.now) (g.D.Desk.seen c.send_one.new.desk) (i.sent.0 ++ t.0) (Ok b) in (
+    let P : Bool → Type 0 = λ b. Tried c.args.c (g.D.Desk.seen c.args.desk.now) (g.D.Desk.seen c.send_some.new.desk) (i.sent.0 ++ t.0) (Ok b) in (
       i.sent.0 ++ t.0,
       subst P c.in-Ok-false.field-0-test (t.1 (g.D.Desk.seen c.args.desk.now) i.sent.0 i.sent.1),
       λ tells. t.2 tells ∙ ap (λ (l : List ℕ). l ++ t.0) (i.sent.2 tells) ∙ append_assoc (g.K.Sink.written c.args.sink.now) i.sent.0 t.0,
@@ -42,7 +42,7 @@ pub loop-preserved : goal.loop-preserved
 loop-preserved g c =
     let i = c.loop.invariant in
     let t = c.in-Ok-false.ensures.tried in
-    let P : Bool → Type 0 = λ b. Tried c.args.c (g.D.Desk.seen c.args.desk.now) (g.D.Desk.seen c.send_one.new.desk) (i.sent.0 ++ t.0) (Ok b) in
+    let P : Bool → Type 0 = λ b. Tried c.args.c (g.D.Desk.seen c.args.desk.now) (g.D.Desk.seen c.send_some.new.desk) (i.sent.0 ++ t.0) (Ok b) in
     record {
       directory = search rules;
       sent = (

@@ -1,40 +1,117 @@
-use Rattle.std.proofs.Common.{Err, refl, ◌∙◌, arith}
-use Rattle.gts_standby.proofs.AddLemmas.{begun_there, one_more, add_ended}
+use Rattle.std.proofs.Common.{[], refl, sym, subst, ◌∙◌, arith}
+use Rattle.gts_standby.specs.declared.gathering.Gathering.{Gathering}
+use Rattle.gts_standby.specs.Gathering.{IsGathered}
+use Rattle.gts_standby.proofs.AddLemmas.{holds_of}
+use Rattle.gts_standby.proofs.GatherLemmas.{gathered_of, can_gather, gathered_one, gate_stays, gate_grows, has_room, began}
+use Rattle.gts_standby.proofs.GoneLemmas.{begun_there, room_made, one_more, disk_failed, finished, none_added}
+use Rattle.gts_standby.proofs.WholeLemmas.{finished_all}
 use Rattle.gts_standby.proofs.adding.add_all.Goals as goal
 
-pub loop-size-init : goal.loop-size-init
-loop-size-init g c = record {
-  opened = c.requires.opened;
-  place = omega (arith, c.requires.place);
-  gone = λ tells told s fed n h read enough. begun_there _ tells c.args.directory.now s _ _ _ _ _ _ fed n h read enough;
-  whole = λ told w. w;
-  silent = λ tells. refl;
-  later = omega arith;
-  source_later = omega arith;
-  say = refl;
-}
+pub returns-in-Err-clause-added : goal.returns-in-Err-clause-added
+returns-in-Err-clause-added g c = λ tells told s fed n h read enough. none_added g.P.Station.tells tells c.args.directory.now s (g.P.Station.calls c.args.station.now) c.args.core c.args.journal _ _ h
 
-pub loop-size-preserved : goal.loop-size-preserved
-loop-size-preserved g c =
-    let inv = c.loop-size.invariant in
+pub loop-end-init : goal.loop-end-init
+loop-end-init g c =
+    let T = g.P.Station.tells in
+    let d = c.args.directory.now in
+    let calls = g.P.Station.calls c.args.station.now in
+    let j = c.args.journal in
+    let x = c.in-Ok.gathering in
+    let e = c.in-Ok.ensures in
     record {
-      opened = c.in-Ok.ensures.opened;
-      place = omega (arith, inv.place, c.in-Ok.ensures.rises);
-      gone = λ tells told s fed n h read enough.
-          let gone = inv.gone tells told s fed n h read enough in
-          one_more _ tells c.args.directory.now s _ _ _ _ _ _ _ _ _ _ gone _ _ _ _ _ _ (c.in-Ok.ensures.added tells told gone.state gone.fed gone.holds gone.read);
-      whole = λ told w. c.in-Ok.ensures.whole told (inv.whole told w);
-      silent = λ tells. c.add_next.ensures.silent tells ∙ inv.silent tells;
-      later = omega (arith, inv.later, c.add_next.ensures.counts.later);
-      source_later = omega (arith, inv.source_later, c.add_next.ensures.counts.source_later);
-      say = c.add_next.ensures.counts.say ∙ inv.say;
+      gathering = record {
+        settled = c.requires.opened.state;
+        records = [];
+        holds = began T d c.requires.opened.state calls c.args.core j x (holds_of T d calls c.args.core j c.requires.opened) e.journal e.batch e.seal;
+      };
+      place = omega (arith, c.requires.place);
+      gone = λ tells told s fed n h read enough. begun_there T tells d s calls c.args.core j x _ _ _ fed n h e.journal e.batch (began T d s calls c.args.core j x h e.journal e.batch e.seal) read enough;
+      whole = λ told w. w;
+      silent = λ tells. refl;
+      later = omega arith;
+      source_later = omega arith;
+      say = refl;
     }
 
-pub returns-in-Err-clause-added : goal.returns-in-Err-clause-added
-returns-in-Err-clause-added g c = λ tells told s fed n h read enough.
-    let inv = c.loop-size.invariant in
-    let gone = inv.gone tells told s fed n h read enough in
-    add_ended _ tells c.args.directory.now s _ _ _ _ _ _ _ _ _ _ gone c.in-Err.end _ _ _ _ _ (Err c.in-Err.end) refl c.in-Err.ensures.kind (c.in-Err.ensures.added tells told gone.state gone.fed gone.holds gone.read)
+pub returns-in-Err-make_room-clause-added : goal.returns-in-Err-make_room-clause-added
+returns-in-Err-make_room-clause-added g c = λ tells told s fed n h read enough.
+    let gone = c.loop-end.invariant.gone tells told s fed n h read enough in
+    disk_failed g.P.Station.tells g.S.Source.tells tells told c.args.directory.now s _ _ _ _ _ _ _ _ _ _ gone c.in-Err-make_room.end _ _ c.in-Err-make_room.ensures.kind (c.make_room.ensures.moments tells)
 
-pub returns-in-Err-clause-whole : goal.returns-in-Err-clause-whole
-returns-in-Err-clause-whole g c = λ told w. c.in-Err.ensures.whole told (c.loop-size.invariant.whole told w)
+pub gather-requires-clause-going : goal.gather-requires-clause-going
+gather-requires-clause-going g c =
+    let T = g.P.Station.tells in
+    let d = c.args.directory.now in
+    let new = g.P.Station.calls c.make_room.new.station in
+    can_gather T d new c.loop-end.core c.make_room.new.self
+    (has_room T d (g.P.Station.calls c.loop-end.station) new c.loop-end.core c.loop-end.gathering c.make_room.new.self c.loop-end.invariant.gathering c.in_default.ensures.brought)
+
+pub loop-end-smaller : goal.loop-end-smaller
+loop-end-smaller g c =
+    let T = g.P.Station.tells in
+    let d = c.args.directory.now in
+    let old = g.P.Station.calls c.loop-end.station in
+    let new = g.P.Station.calls c.make_room.new.station in
+    let x = c.loop-end.gathering in
+    let room = has_room T d old new c.loop-end.core x c.make_room.new.self c.loop-end.invariant.gathering c.in_default.ensures.brought in
+    let one = c.in-Ok-gather.ensures.gathered in
+    let then = gathered_one T g.S.Source.tells d new c.loop-end.core c.make_room.new.self _ _ c.in-Ok-gather.size c.gather.new.core c.gather.new.self _ _ room one in
+    omega (
+      arith,
+      gate_stays T d old new x c.make_room.new.self (gathered_of T d old c.loop-end.core x c.loop-end.invariant.gathering) c.in_default.ensures.brought,
+      gate_grows T g.S.Source.tells d new c.loop-end.core c.make_room.new.self _ _ c.in-Ok-gather.size c.gather.new.core c.gather.new.self _ _ room one,
+      then.holds.stands.room,
+    )
+
+pub loop-end-preserved : goal.loop-end-preserved
+loop-end-preserved g c =
+    let T = g.P.Station.tells in
+    let S = g.S.Source.tells in
+    let d = c.args.directory.now in
+    let old = g.P.Station.calls c.loop-end.station in
+    let new = g.P.Station.calls c.make_room.new.station in
+    let x = c.loop-end.gathering in
+    let y = c.make_room.new.self in
+    let inv = c.loop-end.invariant in
+    let brought = c.in_default.ensures.brought in
+    let room = has_room T d old new c.loop-end.core x y inv.gathering brought in
+    let one = c.in-Ok-gather.ensures.gathered in
+    record {
+      gathering = gathered_one T S d new c.loop-end.core y _ _ c.in-Ok-gather.size c.gather.new.core c.gather.new.self _ _ room one;
+      place = omega (
+        arith,
+        inv.place,
+        gate_stays T d old new x y (gathered_of T d old c.loop-end.core x inv.gathering) brought,
+        gate_grows T S d new c.loop-end.core y _ _ c.in-Ok-gather.size c.gather.new.core c.gather.new.self _ _ room one,
+      );
+      gone = λ tells told s fed n h read enough.
+          let made = room_made T S tells told d s _ _ _ _ _ _ _ _ _ _ (inv.gone tells told s fed n h read enough) new y brought (c.make_room.ensures.silent tells) (c.make_room.ensures.moments tells) in
+          one_more T S tells told d s _ _ _ _ _ _ _ _ _ _ made c.in-Ok-gather.size c.gather.new.core c.gather.new.self _ _ one;
+      whole = λ told w. c.in-Ok-gather.ensures.whole told (inv.whole told w);
+      silent = λ tells. c.make_room.ensures.silent tells ∙ inv.silent tells;
+      later = omega (arith, inv.later, c.make_room.ensures.counts.later);
+      source_later = omega (arith, inv.source_later, c.gather.ensures.later);
+      say = c.make_room.ensures.counts.say ∙ inv.say;
+    }
+
+pub finish-requires-clause-gathered : goal.finish-requires-clause-gathered
+finish-requires-clause-gathered g c =
+    let T = g.P.Station.tells in
+    let d = c.args.directory.now in
+    let new = g.P.Station.calls c.make_room.new.station in
+    let room = has_room T d (g.P.Station.calls c.loop-end.station) new c.loop-end.core c.loop-end.gathering c.make_room.new.self c.loop-end.invariant.gathering c.in_default.ensures.brought in
+    subst (λ (y : Gathering). IsGathered T d new y) (sym c.in-Err-gather.ensures.unchanged) (gathered_of T d new c.loop-end.core c.make_room.new.self room)
+
+pub returns-in-Err-gather-clause-added : goal.returns-in-Err-gather-clause-added
+returns-in-Err-gather-clause-added g c = λ tells told s fed n h read enough.
+    let T = g.P.Station.tells in
+    let S = g.S.Source.tells in
+    let d = c.args.directory.now in
+    let new = g.P.Station.calls c.make_room.new.station in
+    let made = room_made T S tells told d s _ _ _ _ _ _ _ _ _ _ (c.loop-end.invariant.gone tells told s fed n h read enough) new c.make_room.new.self c.in_default.ensures.brought (c.make_room.ensures.silent tells)
+    (c.make_room.ensures.moments tells) in
+    finished T S tells told d s _ _ _ _ _ _ _ _ _ _ made c.finish.result c.in-Err-gather.end _ c.gather.new.self c.finish.new.self _ c.in-Err-gather.ensures.kind c.in-Err-gather.ensures.unchanged c.in-Err-gather.ensures.gathered
+    c.finish.ensures.finished (c.finish.ensures.moments tells)
+
+pub returns-in-Err-gather-clause-whole : goal.returns-in-Err-gather-clause-whole
+returns-in-Err-gather-clause-whole g c = λ told w. finished_all _ c.finish.result c.in-Err-gather.end _ c.finish.ensures.finished (c.in-Err-gather.ensures.whole told (c.loop-end.invariant.whole told w))

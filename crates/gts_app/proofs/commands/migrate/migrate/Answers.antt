@@ -7,7 +7,7 @@ use Rattle.gts_app.proofs.commands.migrate.migrate.Goals as goal
 
 pub returns-in-Err : goal.returns-in-Err
 returns-in-Err g c =
-    new_unread g.S.Source g.P.Station c.in-Err.status c.args.directory.now c.directory_of.new.source c.args.old_directory.now c.args.station
+    new_unread c.args.waiting g.S.Source g.P.Station c.in-Err.status c.args.directory.now c.directory_of.new.source c.args.old_directory.now c.args.station
     (subst (λ r. ReadsDirectory g.S.Source r c.args.directory.now c.directory_of.new.source) c.in-Err.is c.directory_of.ensures)
 
 pub returns-in-Err-old_directory_of : goal.returns-in-Err-old_directory_of
@@ -16,7 +16,7 @@ returns-in-Err-old_directory_of g c =
     let nd = c.directory_of.new.source in
     let oc = c.args.old_directory.now in
     let nc = c.old_directory_of.new.source in
-    old_unread g.S.Source g.P.Station c.in-Err-old_directory_of.status c.in-Ok.directory od nd oc nc c.args.station
+    old_unread c.args.waiting g.S.Source g.P.Station c.in-Err-old_directory_of.status c.in-Ok.directory od nd oc nc c.args.station
     (subst (λ r. ReadsDirectory g.S.Source r od nd) c.in-Ok.is c.directory_of.ensures)
     (subst (λ r. ReadsOldDirectory g.S.Source r oc nc) c.in-Err-old_directory_of.is c.old_directory_of.ensures)
 
@@ -32,7 +32,7 @@ returns-in-Ok-takes_over g c =
     let second = subst (λ r. ReadsOldDirectory g.S.Source r oc nc) c.in-Ok-old_directory_of.is c.old_directory_of.ensures in
     let takes = c.in-Ok-takes_over.ensures.takes_over.0 refl in
     let m = c.migrate-station in
-    taken_over g.S.Source g.P.Station d o od nd oc nc first second takes
+    taken_over c.args.waiting g.S.Source g.P.Station d o od nd oc nc first second takes
     (λ change is. none-some change (sym (none_from d o takes) ∙ is)) c.args.station m.result.0 m.result.1 c.status_of.result c.status_of.ensures
     (record {
       moments = m.ensures.moments;
@@ -42,4 +42,7 @@ returns-in-Ok-takes_over g c =
       answers = m.ensures.opening;
       told = m.ensures.told;
       disk = m.ensures.disk;
-    }) m.ensures.silent m.ensures.later m.ensures.say
+      said = m.ensures.said;
+      says = m.ensures.say;
+      unsaid = m.ensures.unsaid;
+    }) m.ensures.silent m.ensures.later

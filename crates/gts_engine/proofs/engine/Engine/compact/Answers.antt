@@ -1,59 +1,79 @@
-use Rattle.std.proofs.Common.{rules, ◌≡◌, ◌+◌, ◌-◌, ◌^◌, None, Ok, Err, Result, length, subst, ap, ◌∙◌}
-use Rattle.std.specs.Prelude.{OnOk, IfErr, min}
-use Rattle.std.proofs.lemmas.Result.{IfOk-at_ok}
+use Rattle.std.proofs.Common.{◌≡◌, Option, None, refl, ap, subst, ◌∙◌}
+use Rattle.std.specs.Prelude.{OnOk}
 use Rattle.gts_event.specs.State.{State}
-use Rattle.gts_directory.specs.Directory.{Directory}
-use Rattle.gts_event.specs.Need.{Need}
-use Rattle.gts_event.specs.Items.{need_of}
-use Rattle.gts_event.specs.declared.fault.SwitchFault.{SwitchFault}
-use Rattle.gts_event.specs.declared.fault.SwitchFault.TheVariants.{DiskFault, SayFault, Full, Stopped, Spent, NoMemory}
-use Rattle.gts_opening.specs.Journal.{checkpoint_text}
-use Rattle.gts_opening.specs.Room.{full_compacted}
-use Rattle.gts_core.specs.Core.{Holds, Needs}
+use Rattle.gts_event.specs.declared.fault.Device.{Device}
+use Rattle.gts_core.specs.Core.{Holds}
 use Rattle.gts_engine.specs.Engine.{Engine}
-use Rattle.gts_engine.specs.Compacting.{IsRewritten, StaysAt, GivesRoom, IsWriteFault}
-use Rattle.gts_engine.proofs.CompactLemmas.{stays_at}
+use Rattle.gts_engine.specs.Going.{stopped_after}
+use Rattle.gts_engine.specs.Compacting.{IsRewritten, StaysAt, GivesRoom, IsIdleFault}
+use Rattle.gts_engine.proofs.CallLemmas.{never_settled, then_stopped, nothing_failed}
+use Rattle.std.proofs.lemmas.Result.{err_from_is_err_and}
+use Rattle.gts_engine.proofs.FirstLemmas.{compacts_settled, compacts_unsettled}
+use Rattle.gts_engine.proofs.AnsweringLemmas.{cause_then}
 use Rattle.gts_engine.proofs.engine.Engine.compact.Goals as goal
 
-pub returns-in_err-need-clause-moments : goal.returns-in_err-need-clause-moments
-returns-in_err-need-clause-moments g c = λ tell.
-    let p = c.self.inside.parts in
-    let T : Engine g.row.P.Denot → Type 0 = λ e. e.stopped ≡ None → StaysAt e.directory e.core (g.P.Station.calls e.station) (g.P.Station.calls p.station) in
-    subst T c.self.view_is (λ going s holds. stays_at g.P.Station.tells p.directory (g.P.Station.calls p.station) p.core p.journal (c.self.invariant going) tell s holds)
+pub compact_settled-requires : goal.compact_settled-requires
+compact_settled-requires g c = c.settle.ensures.settles.emptied
 
-pub returns-in_err-check_room-clause-moments : goal.returns-in_err-check_room-clause-moments
-returns-in_err-check_room-clause-moments g c = λ tell.
-    let p = c.self.inside.parts in
-    let T : Engine g.row.P.Denot → Type 0 = λ e. e.stopped ≡ None → StaysAt e.directory e.core (g.P.Station.calls e.station) (g.P.Station.calls p.station) in
-    subst T c.self.view_is (λ going s holds. stays_at g.P.Station.tells p.directory (g.P.Station.calls p.station) p.core p.journal (c.self.invariant going) tell s holds)
+pub returns-in_err-settle-clause-compaction : goal.returns-in_err-settle-clause-compaction
+returns-in_err-settle-clause-compaction g c =
+    let p = err_from_is_err_and c.from_residual.result c.from_residual.ensures.1 in
+    rw (p.1, p.2) (compacts_unsettled g.P.Station.tells g.P.Station.calls c.args.self.now c.settle.new.self c.settle.result c.settle.ensures.settles.settling c.in_err-settle.field-0.0 c.in_err-settle.was)
+
+pub returns-clause-compaction : goal.returns-clause-compaction
+returns-clause-compaction g c = compacts_settled g.P.Station.tells g.P.Station.calls c.args.self.now c.settle.new.self c.settle.result c.settle.ensures.settles.settling c.compact_settled.result c.compact_settled.new.self c.compact_settled.ensures.compaction
+
+pub returns-clause-cause : goal.returns-clause-cause
+returns-clause-cause g c = cause_then c.settle.result c.compact_settled.result _ _ _ _ _ _ c.settle.ensures.cause c.compact_settled.ensures.cause
+
+pub returns-in_err-settle-clause-stopped : goal.returns-in_err-settle-clause-stopped
+returns-in_err-settle-clause-stopped g c = never_settled _ c.args.self.now.stopped c.settle.result c.in_err-settle.field-0.0 _ c.in_err-settle.was c.settle.ensures.stopped
+
+pub returns-clause-stopped : goal.returns-clause-stopped
+returns-clause-stopped g c =
+    then_stopped c.args.self.now.stopped c.settle.result c.compact_settled.result c.args.self.now c.settle.new.self c.compact_settled.new.self refl c.settle.ensures.stopped c.compact_settled.ensures.stopped
+
+pub returns-in_err-settle-clause-moments : goal.returns-in_err-settle-clause-moments
+returns-in_err-settle-clause-moments g c = λ tell going none. nothing_failed c.settle.result c.in_err-settle.field-0.0 c.in_err-settle.was (c.settle.ensures.settles.nothing none)
+
+pub returns-in_err-settle-clause-written : goal.returns-in_err-settle-clause-written
+returns-in_err-settle-clause-written g c = λ tell none. nothing_failed c.settle.result c.in_err-settle.field-0.0 c.in_err-settle.was (c.settle.ensures.settles.nothing none)
+
+pub returns-in_err-settle-clause-full : goal.returns-in_err-settle-clause-full
+returns-in_err-settle-clause-full g c = λ s going none holds. nothing_failed c.settle.result c.in_err-settle.field-0.0 c.in_err-settle.was (c.settle.ensures.settles.nothing none)
+
+pub returns-in_err-settle-clause-kind : goal.returns-in_err-settle-clause-kind
+returns-in_err-settle-clause-kind g c = λ none. nothing_failed c.settle.result c.in_err-settle.field-0.0 c.in_err-settle.was (c.settle.ensures.settles.nothing none)
+
+pub returns-in_err-settle-clause-unchanged : goal.returns-in_err-settle-clause-unchanged
+returns-in_err-settle-clause-unchanged g c = λ none. nothing_failed c.settle.result c.in_err-settle.field-0.0 c.in_err-settle.was (c.settle.ensures.settles.nothing none)
 
 pub returns-clause-moments : goal.returns-clause-moments
-returns-clause-moments g c = λ tell.
-    let T : Engine g.row.P.Denot → Type 0 = λ e. e.stopped ≡ None → StaysAt e.directory e.core (g.P.Station.calls e.station) (g.P.Station.calls c.rewrite.new.parts.station) in
-    subst T c.self.view_is (λ going. c.rewrite.ensures.moments tell)
+returns-clause-moments g c = λ tell going none.
+    let same = (c.settle.ensures.settles.nothing none).1 in
+    let T : Engine g.row.P.Denot → Type 0 = λ e. e.stopped ≡ None → StaysAt e.directory e.core (g.P.Station.calls e.station) (g.P.Station.calls c.compact_settled.new.self.station) in
+    subst T same (c.compact_settled.ensures.moments tell) going
 
 pub returns-clause-written : goal.returns-clause-written
-returns-clause-written g c = λ tell.
-    let last = c.rewrite.new.parts in
-    let T : Engine g.row.P.Denot → Type 0 = λ e. OnOk c.rewrite.result ((s : State) → Holds e.directory e.core s
-    → IsRewritten e.directory s (g.P.Station.calls e.station) (g.P.Station.calls last.station) (last.journal.gate + 1)) in
-    subst T c.self.view_is (c.rewrite.ensures.written tell)
-
--- there was room
-had_room : (result : Result (Unit {0}) SwitchFault) (d : Directory) (s : State) → IfErr result IsWriteFault → full_compacted d s ≡ None → GivesRoom result d s
-had_room (Ok done) d s kind free = free
-had_room (Err DiskFault) d s kind free = free
-had_room (Err NoMemory) d s kind free = tt
-had_room (Err SayFault) d s kind free = absurd kind
-had_room (Err (Full at wanted limit)) d s kind free = absurd kind
-had_room (Err (Stopped by)) d s kind free = absurd kind
-had_room (Err Spent) d s kind free = absurd kind
+returns-clause-written g c = λ tell none.
+    let same = (c.settle.ensures.settles.nothing none).1 in
+    let T : Engine g.row.P.Denot → Type 0 = λ e. OnOk c.compact_settled.result ((s : State) → Holds e.directory e.core s → IsRewritten e.directory s (g.P.Station.calls e.station) (g.P.Station.calls c.compact_settled.new.self.station) c.compact_settled.new.self.used) in
+    subst T same (c.compact_settled.ensures.written tell)
 
 pub returns-clause-full : goal.returns-clause-full
-returns-clause-full g c =
-    let p = c.self.inside.parts in
-    let needed : c.need.result ≡ Ok c.in_ok-need.need = search rules in
-    let needs = IfOk-at_ok (λ n. Needs p.core (need_of n)) needed c.need.ensures in
-    let T : Engine g.row.P.Denot → Type 0 = λ e. (s : State) → e.stopped ≡ None → Holds e.directory e.core s → GivesRoom c.rewrite.result e.directory s in
-    subst T c.self.view_is (λ s going holds. had_room c.rewrite.result p.directory s c.rewrite.ensures.kind
-    (c.in_ok-check_room.ensures.room s holds (c.size-size.ensures ∙ ap (λ (n : Need). min (length (checkpoint_text n)) (2 ^ 64 - 1)) (needs p.directory s holds))))
+returns-clause-full g c = λ s going none holds.
+    let same = (c.settle.ensures.settles.nothing none).1 in
+    let T : Engine g.row.P.Denot → Type 0 = λ e. (s : State) → e.stopped ≡ None → Holds e.directory e.core s → GivesRoom c.compact_settled.result e.directory s in
+    subst T same c.compact_settled.ensures.full s going holds
+
+pub returns-clause-unchanged : goal.returns-clause-unchanged
+returns-clause-unchanged g c = λ none.
+    let same = (c.settle.ensures.settles.nothing none).1 in
+    let T : Engine g.row.P.Denot → Type 0 = λ e. IsIdleFault c.compact_settled.result → c.compact_settled.new.self ≡ e in
+    subst T same c.compact_settled.ensures.unchanged
+
+pub returns-clause-kind : goal.returns-clause-kind
+returns-clause-kind g c = λ none. c.compact_settled.ensures.kind
+
+pub returns-clause-stops : goal.returns-clause-stops
+returns-clause-stops g c = c.compact_settled.ensures.stops ∙ ap (λ (by : Option Device). stopped_after by c.compact_settled.result) (c.settle.ensures.stops ∙ ap (stopped_after c.args.self.now.stopped) c.in_ok-settle.was)

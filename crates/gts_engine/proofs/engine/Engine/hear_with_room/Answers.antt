@@ -1,50 +1,26 @@
-use Rattle.std.proofs.Common.{refl, sym, ◌∙◌}
+use Rattle.std.proofs.Common.{◌<◌, length, sym, subst}
 use Rattle.std.proofs.lemmas.Result.{err_from_is_err_and}
-use Rattle.gts_engine.proofs.RoomingLemmas.{idle_full, plain, without_memory, full_either, left_off, made}
+use Rattle.gts_directory.specs.Directory.{Directory}
+use Rattle.gts_event.specs.declared.event.Event.TheVariants.{Heard}
+use Rattle.gts_engine.specs.declared.mode.SayMode.TheVariants.{Station}
+use Rattle.gts_engine.proofs.FirstLemmas.{heard_settled, heard_unsettled}
+use Rattle.gts_engine.proofs.AnsweringLemmas.{cause_then}
 use Rattle.gts_engine.proofs.engine.Engine.hear_with_room.Goals as goal
 
-pub returns-in_default-clause-called : goal.returns-in_default-clause-called
-returns-in_default-clause-called g c = λ mode.
-    plain g.P.Station.tells g.P.Station.calls mode c.args.c c.args.kind c.args.message.now c.hear-answer.result c.args.self.now c.hear-answer.new.self
-    (c.hear-answer.ensures.called mode) c.hear-answer.ensures.full c.hear-answer.ensures.stopped (sym c.bytes_wanted.ensures ∙ c.in_default.is)
+pub hear_with_room_settled-requires-clause-circuit : goal.hear_with_room_settled-requires-clause-circuit
+hear_with_room_settled-requires-clause-circuit g c = subst (λ (d : Directory). c.args.c < length d.circuits) (sym (c.settle.ensures.settles.settling Station).directory) c.requires
 
-pub returns-in_err-size-clause-called : goal.returns-in_err-size-clause-called
-returns-in_err-size-clause-called g c = λ mode.
-    let bytes = c.in-Some.bytes in
-    let first = c.hear-answer.result in
-    let wanted = sym c.bytes_wanted.ensures ∙ c.in-Some.is in
+pub hear_with_room_settled-requires-clause-settled : goal.hear_with_room_settled-requires-clause-settled
+hear_with_room_settled-requires-clause-settled g c = c.settle.ensures.settles.emptied
+
+pub returns-in_err-settle-clause-called : goal.returns-in_err-settle-clause-called
+returns-in_err-settle-clause-called g c =
     let p = err_from_is_err_and c.from_residual.result c.from_residual.ensures.1 in
-    rw (p.1, p.2, c.in_err-size.ensures.memory)
-    (without_memory g.P.Station.tells g.P.Station.calls mode c.args.c c.args.kind c.args.message.now first bytes wanted c.args.self.now c.hear-answer.new.self
-    (c.hear-answer.ensures.called mode) c.hear-answer.ensures.stopped (c.hear-answer.ensures.unchanged (idle_full first bytes wanted)) c.hear-answer.new.self refl)
-
-pub returns-then-not-has_spare-clause-called : goal.returns-then-not-has_spare-clause-called
-returns-then-not-has_spare-clause-called g c = λ mode.
-    let bytes = c.in-Some.bytes in
-    let first = c.hear-answer.result in
-    let wanted = sym c.bytes_wanted.ensures ∙ c.in-Some.is in
-    full_either g.P.Station.tells g.P.Station.calls mode c.args.c c.args.kind c.args.message.now first bytes wanted c.args.self.now c.hear-answer.new.self
-    (c.hear-answer.ensures.called mode) c.hear-answer.ensures.stopped (c.hear-answer.ensures.unchanged (idle_full first bytes wanted))
-    c.has_spare.result (λ s holds. c.has_spare.ensures s holds (c.in_ok-size.ensures.size s holds)) c.if-not-has_spare.true
-
-pub returns-in_err-compact-clause-called : goal.returns-in_err-compact-clause-called
-returns-in_err-compact-clause-called g c = λ mode.
-    let bytes = c.in-Some.bytes in
-    let first = c.hear-answer.result in
-    let wanted = sym c.bytes_wanted.ensures ∙ c.in-Some.is in
-    let p = err_from_is_err_and c.from_residual-in_err-compact.result c.from_residual-in_err-compact.ensures.1 in
-    rw (p.1, p.2)
-    (left_off g.P.Station.tells g.P.Station.calls mode c.args.c c.args.kind c.args.message.now first bytes wanted c.args.self.now c.hear-answer.new.self
-    (c.hear-answer.ensures.called mode) c.hear-answer.ensures.stopped (c.hear-answer.ensures.unchanged (idle_full first bytes wanted))
-    c.has_spare.result (λ s holds. c.has_spare.ensures s holds (c.in_ok-size.ensures.size s holds)) c.if-not-has_spare.false
-    c.in_err-compact.field-0.0 c.compact.new.self c.in_err-compact.ensures.compaction c.in_err-compact.ensures.full c.in_err-compact.ensures.kind c.in_err-compact.ensures.unchanged)
+    λ mode. rw (p.1, p.2) (heard_unsettled g.P.Station.tells g.P.Station.calls c.args.self.now c.settle.new.self c.settle.result c.settle.ensures.settles.settling mode (Heard c.args.c c.args.kind c.args.message.now) c.in_err-settle.field-0.0 c.in_err-settle.was)
 
 pub returns-clause-called : goal.returns-clause-called
 returns-clause-called g c = λ mode.
-    let bytes = c.in-Some.bytes in
-    let first = c.hear-answer.result in
-    let wanted = sym c.bytes_wanted.ensures ∙ c.in-Some.is in
-    made g.P.Station.tells g.P.Station.calls mode c.args.c c.args.kind c.args.message.now first bytes wanted c.args.self.now c.hear-answer.new.self
-    (c.hear-answer.ensures.called mode) c.hear-answer.ensures.stopped (c.hear-answer.ensures.unchanged (idle_full first bytes wanted))
-    c.has_spare.result (λ s holds. c.has_spare.ensures s holds (c.in_ok-size.ensures.size s holds)) c.if-not-has_spare.false
-    c.compact.new.self c.hear.result c.hear.new.self c.in_ok-compact.ensures.compaction (c.hear.ensures.called mode)
+    heard_settled g.P.Station.tells g.P.Station.calls c.args.self.now c.settle.new.self c.settle.result c.settle.ensures.settles.settling mode (Heard c.args.c c.args.kind c.args.message.now) c.hear_with_room_settled.result c.hear_with_room_settled.new.self (c.hear_with_room_settled.ensures.called mode)
+
+pub returns-clause-cause : goal.returns-clause-cause
+returns-clause-cause g c = cause_then c.settle.result c.hear_with_room_settled.result _ _ _ _ _ _ c.settle.ensures.cause c.hear_with_room_settled.ensures.cause

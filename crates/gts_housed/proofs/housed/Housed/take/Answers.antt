@@ -1,4 +1,9 @@
+use Rattle.std.proofs.Common.{Result, refl, sym, subst}
+use Rattle.std.specs.Prelude.{IsErrOf}
 use Rattle.gts_event.specs.declared.event.Event.TheVariants.{Taken}
+use Rattle.gts_event.specs.declared.outcome.Outcome.{Outcome}
+use Rattle.gts_event.specs.declared.fault.SwitchFault.{SwitchFault}
+use Rattle.gts_event.specs.declared.fault.SwitchFault.TheVariants.{SayFault}
 use Rattle.gts_desk.specs.{LeavesFrame}
 use Rattle.gts_housed.proofs.StandingLemmas.{take_takes_none, takes_accept_nothing, adds, leaves}
 use Rattle.gts_housed.proofs.housed.Housed.take.Goals as goal
@@ -14,3 +19,7 @@ pub returns-clause-no_memory : goal.returns-clause-no_memory
 returns-clause-no_memory g c = λ entries stands.
     take_takes_none g.P.Station.tells g.P.Station.calls g.P.Station.disk_faults g.P.Station.say_faults g.B.Began.beginning entries c.args.c
     c.take.result c.args.self.now.engine c.take.new.self c.take.ensures.called stands
+
+pub returns-clause-silent : goal.returns-clause-silent
+returns-clause-silent g c = λ entries stands e.
+    c.take.ensures.caller refl stands.keeps.gathered (subst (λ (r : Result Outcome SwitchFault). IsErrOf r SayFault) (sym e) refl)

@@ -1,0 +1,8 @@
+use Rattle.std.proofs.Common.{◌≡◌, flat_map}
+use Rattle.std.specs.List.{range_with_len}
+use Rattle.gts_event.specs.Items.{need_of}
+use Rattle.gts_changes.specs.Changes.{circuit_lines, behind}
+use Rattle.gts_changes.proofs.circuits.all_circuit_lines.Given as goal
+
+abbrev pub invariant-loop-c : goal.invariant-loop-c
+invariant-loop-c l = l.all ≡ flat_map (circuit_lines l.new l.old (need_of l.need) (behind l.new l.old (need_of l.need))) (range_with_len 0 l.c)

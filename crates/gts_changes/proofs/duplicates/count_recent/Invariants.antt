@@ -1,0 +1,10 @@
+use Rattle.std.proofs.Common.{◌≡◌, ◌≤◌, length, map, take}
+use Rattle.gts_event.specs.Items.{bulletin_of}
+use Rattle.gts_event.specs.State.{recent_among}
+use Rattle.gts_changes.proofs.duplicates.count_recent.Given as goal
+
+abbrev pub invariant-loop-bulletin : goal.invariant-loop-bulletin
+invariant-loop-bulletin l = record {
+  counted : l.count ≡ length (recent_among l.directory l.fn.accepted (map bulletin_of (take l.bulletin-index l.bulletins)));
+  few : l.count ≤ l.bulletin-index;
+}

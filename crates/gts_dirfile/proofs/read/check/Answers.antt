@@ -1,0 +1,9 @@
+use Rattle.std.proofs.Common.{List, sym, subst}
+use Rattle.gts_directory.specs.declared.rows.RuleRow.{RuleRow}
+use Rattle.gts_dirfile.specs.Rules.{AreRulesOf}
+use Rattle.gts_dirfile.proofs.RuleLemmas.{rules_checked}
+use Rattle.gts_dirfile.proofs.read.check.Goals as goal
+
+pub invariant_of-result : goal.invariant_of-result
+invariant_of-result c =
+    subst (λ (rows : List RuleRow). AreRulesOf rows c.in_ok-directory.directory) (sym c.requires) (rules_checked c.args.rows c.in_ok-directory.directory c.in_ok-directory.ensures)

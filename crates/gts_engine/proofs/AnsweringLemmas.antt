@@ -1,0 +1,292 @@
+-- Calls over the parts of an engine: room is made, an event enters, and it is told.
+use Rattle.std.proofs.Common.{◌≡◌, ◌≤◌, ◌++◌, ◌∷◌, if◌then◌else◌, Bool, true, false, inl, inr, ℕ, List, [], Option, Some, None, Result, Ok, Err, refl, sym, ap, subst, ◌∙◌, arith}
+use Rattle.gts_traits.specs.Calls.{Call, Outside, on}
+use Rattle.gts_traits.specs.Counts.{Rose}
+use Rattle.gts_directory.specs.Directory.{Directory}
+use Rattle.gts_event.specs.State.{State}
+use Rattle.gts_event.specs.History.{outcome}
+use Rattle.gts_event.specs.Said.{spoken}
+use Rattle.gts_event.specs.declared.event.Event.{Event}
+use Rattle.gts_event.specs.declared.outcome.Outcome.{Outcome}
+use Rattle.gts_event.specs.declared.fault.Device.{Device}
+use Rattle.gts_event.specs.declared.fault.SwitchFault.{SwitchFault}
+use Rattle.gts_event.specs.declared.fault.SwitchFault.TheVariants.{DiskFault, SayFault, Full, Stopped, Spent, NoMemory}
+use Rattle.gts_core.specs.Core.{Core, Holds}
+use Rattle.gts_calls.specs.Calls.{HasCallCause, IsAnswered}
+use Rattle.gts_engine.specs.declared.mode.SayMode.{SayMode}
+use Rattle.gts_engine.specs.declared.parts.Parts.{Parts}
+use Rattle.gts_engine.specs.Sayings.{held_pieces, joined}
+use Rattle.gts_engine.specs.Engine.{Engine, engine_of}
+use Rattle.gts_engine.specs.Keeping.{most_drawn, meanings_of}
+use Rattle.gts_engine.specs.Origin.{by_station}
+use Rattle.gts_engine.specs.Going.{stopped_after}
+use Rattle.gts_engine.proofs.TurnLemmas.{goes_on}
+use Rattle.gts_engine.specs.Parts.{IsSound, HasEntered}
+use Rattle.gts_engine.specs.Gathering.{HasTold, IsDeviceFault, MayHaveSettled, AnswersIn, LeavesCall}
+use Rattle.gts_engine.proofs.AnswerLemmas.{EachHeld, answered, stopped_leaves}
+use Rattle.gts_engine.proofs.GatherLemmas.{fails_after}
+use Rattle.std.specs.Prelude.{IfErr, IfOk, OnOk, slice_index_or, ◌<◌}
+use Rattle.gts_engine.proofs.SettlingLemmas.{drawn_settled}
+use Rattle.gts_engine.proofs.StepLemmas.{part_directory, part_station, part_core, part_stopped, part_used, part_held, told_well, told_badly, told_sound, untold}
+
+-- the causes of two calls, one after another, of which the first was done
+pub cause_then : {S T : Type 0} (first : Result S SwitchFault) (result : Result T SwitchFault) (a b c x y z : ℕ) → HasCallCause first a b x y → HasCallCause result b c y z → HasCallCause result a c x z
+cause_then first result a b c x y z p q = record {
+  disk_later = omega (arith, p.disk_later, q.disk_later);
+  disk_failed = λ e. omega (arith, p.disk_later, q.disk_failed e);
+  say_later = omega (arith, p.say_later, q.say_later);
+  say_failed = λ e. omega (arith, p.say_later, q.say_failed e);
+}
+
+module _ {P : Type 0} (tells : Type 0) (calls : P → List Call) (disk say : P → ℕ) (result : Result (Unit {0}) SwitchFault) (old mid : Parts P) where
+  pub may_directory : MayHaveSettled tells calls disk say result old mid → mid.directory ≡ old.directory
+  may_directory (inl same) = ap part_directory same.1
+  may_directory (inr settled) = ap part_directory settled.rest
+
+  pub may_core : MayHaveSettled tells calls disk say result old mid → mid.core ≡ old.core
+  may_core (inl same) = ap part_core same.1
+  may_core (inr settled) = ap part_core settled.rest
+
+  pub may_sound : MayHaveSettled tells calls disk say result old mid → IsSound tells calls old → IsSound tells calls mid
+  may_sound (inl same) sound = subst (λ (p : Parts P). IsSound tells calls p) (sym same.1) sound
+  may_sound (inr settled) sound = settled.sound
+
+  -- where nothing was gathered, nothing failed
+  pub may_ok : MayHaveSettled tells calls disk say result old mid → (engine_of old).gathered ≡ false → result ≡ Ok tt
+  may_ok (inl same) none = same.0
+  may_ok (inr settled) none = (settled.nothing none).0
+
+  -- where nothing was gathered, nothing is held
+  pub may_quiet : MayHaveSettled tells calls disk say result old mid → IsSound tells calls old → (engine_of old).gathered ≡ false → (engine_of mid).held ≡ []
+  may_quiet (inl same) sound none = ap part_held same.1 ∙ ap held_pieces (sound.rests none)
+  may_quiet (inr settled) sound none = ap held_pieces settled.silent
+
+  -- only a device fails
+  pub may_kind : MayHaveSettled tells calls disk say result old mid → IfErr result IsDeviceFault
+  may_kind (inl same) = subst (λ (r : Result (Unit {0}) SwitchFault). IfErr r IsDeviceFault) (sym same.0) tt
+  may_kind (inr settled) = settled.kind
+
+  pub may_stops : MayHaveSettled tells calls disk say result old mid → mid.stopped ≡ stopped_after old.stopped result
+  may_stops (inl same) = ap part_stopped same.1 ∙ sym (ap (stopped_after old.stopped) same.0)
+  may_stops (inr settled) = settled.stops
+
+  -- nothing failed
+  pub unfailed : result ≡ Ok tt → HasCallCause result (disk old.station) (disk old.station) (say old.station) (say old.station)
+  unfailed ok = record {
+    disk_later = omega arith;
+    disk_failed = λ e. absurd (let no : ◌≡◌ {A = Result (Unit {0}) SwitchFault} (Ok tt) (Err DiskFault) = sym ok ∙ e in cc no);
+    say_later = omega arith;
+    say_failed = λ e. absurd (let no : ◌≡◌ {A = Result (Unit {0}) SwitchFault} (Ok tt) (Err SayFault) = sym ok ∙ e in cc no);
+  }
+
+  pub may_cause : MayHaveSettled tells calls disk say result old mid → HasCallCause result (disk old.station) (disk mid.station) (say old.station) (say mid.station)
+  may_cause (inl same) = subst (λ (p : P). HasCallCause result (disk old.station) (disk p) (say old.station) (say p)) (sym (ap part_station same.1)) (unfailed same.0)
+  may_cause (inr settled) = settled.cause
+
+-- as many bytes are in use, where room could be made
+pub may_used : {P : Type 0} (tells : Type 0) (calls : P → List Call) (disk say : P → ℕ) (result : Result (Unit {0}) SwitchFault) (old mid : Parts P) → MayHaveSettled tells calls disk say result old mid → result ≡ Ok tt
+    → (engine_of mid).used ≡ (engine_of old).used
+may_used tells calls disk say result old mid (inl same) ok = ap part_used same.1
+may_used tells calls disk say result old mid (inr settled) ok = subst (λ (r : Result (Unit {0}) SwitchFault). OnOk r ((engine_of mid).used ≡ (engine_of old).used)) ok settled.used
+
+-- as many draws are counted where room could be made, or none
+pub draws_still : {P : Type 0} (tells : Type 0) (calls : P → List Call) (disk say : P → ℕ) (result : Result (Unit {0}) SwitchFault) (old mid : Parts P) (c : ℕ) → MayHaveSettled tells calls disk say result old mid
+    → slice_index_or old.drawn c 0 < most_drawn old.directory c → slice_index_or mid.drawn c 0 < most_drawn mid.directory c
+draws_still {P} tells calls disk say result old mid c (inl same) few = subst (λ (p : Parts P). slice_index_or p.drawn c 0 < most_drawn p.directory c) (sym same.1) few
+draws_still tells calls disk say result old mid c (inr settled) few =
+    let D : Directory → Type 0 = λ d. slice_index_or mid.drawn c 0 < most_drawn d c in
+    subst D (sym (ap part_directory settled.rest)) (omega (arith, few, drawn_settled tells calls disk say result old mid settled c))
+
+-- ---- answers with the same fault
+
+-- a fault stops the engine by whatever call it was answered
+pub stops_alike : (S T : Type 0) (before : Option Device) (f : SwitchFault) → stopped_after before (let r : Result S SwitchFault = Err f in r) ≡ stopped_after before (let r : Result T SwitchFault = Err f in r)
+stops_alike S T before DiskFault = refl
+stops_alike S T before SayFault = refl
+stops_alike S T before (Full used need limit) = refl
+stops_alike S T before (Stopped by) = refl
+stops_alike S T before Spent = refl
+stops_alike S T before NoMemory = refl
+
+-- and has the same cause
+pub cause_alike : {S T : Type 0} (result : Result S SwitchFault) (f : SwitchFault) (a b x y : ℕ) → result ≡ Err f → HasCallCause result a b x y → HasCallCause (let r : Result T SwitchFault = Err f in r) a b x y
+cause_alike {S} {T} result f a b x y failed c = record {
+  disk_later = c.disk_later;
+  disk_failed = λ e. c.disk_failed (failed ∙ by_fault DiskFault e);
+  say_later = c.say_later;
+  say_failed = λ e. c.say_failed (failed ∙ by_fault SayFault e);
+}
+  where
+    by_fault : (w : SwitchFault) → (let r : Result T SwitchFault = Err f in r) ≡ Err w → (let r : Result S SwitchFault = Err f in r) ≡ Err w
+    by_fault w e = let same : f ≡ w = cc e in (let E : SwitchFault → Result S SwitchFault = λ g. Err g in ap E same)
+
+-- an answer that is no fault has no cause
+pub cause_none : {S T : Type 0} (first : Result S SwitchFault) (done : S) (answer : T) (a b x y : ℕ) → first ≡ Ok done → HasCallCause first a b x y → HasCallCause (let r : Result T SwitchFault = Ok answer in r) a b x y
+cause_none first done answer a b x y ok c = record {
+  disk_later = c.disk_later;
+  disk_failed = λ e. absurd (cc e);
+  say_later = c.say_later;
+  say_failed = λ e. absurd (cc e);
+}
+
+-- the cause of what was told
+told_cause : (r : Result (Unit {0}) SwitchFault) (a b x y : ℕ) → IfErr r (λ fault. (fault ≡ SayFault) × Rose x y) → x ≤ y → b ≡ a → HasCallCause r a b x y
+told_cause (Ok done) a b x y fault later same = record {
+  disk_later = omega (arith, same);
+  disk_failed = λ e. absurd (cc e);
+  say_later = later;
+  say_failed = λ e. absurd (cc e);
+}
+told_cause (Err f) a b x y fault later same = record {
+  disk_later = omega (arith, same);
+  disk_failed = λ e. absurd (let is : f ≡ SayFault = fault.0 in let no : f ≡ DiskFault = cc e in let bad : SayFault ≡ DiskFault = sym is ∙ no in cc bad);
+  say_later = later;
+  say_failed = λ e. fault.1;
+}
+
+module _ {P : Type 0} (tells : Type 0) (calls : P → List Call) (disk say : P → ℕ) (first old : Parts P) (cleared : Result (Unit {0}) SwitchFault)
+    (clears : MayHaveSettled tells calls disk say cleared first old) (ok : cleared ≡ Ok tt) (going : first.stopped ≡ None) where
+  -- the engine goes on behind what was cleared
+  pub goes_cleared : old.stopped ≡ None
+  goes_cleared = may_stops tells calls disk say cleared first old clears ∙ ap (stopped_after first.stopped) ok ∙ going
+
+  -- what holds of the core behind what was cleared, held of it before
+  pub each_before : (Q : Directory → State → Type 0) → ((s : State) → Holds old.directory old.core s → Q old.directory s) → (s : State) → Holds first.directory first.core s → Q first.directory s
+  each_before Q each s holds =
+      let H : Core → Type 0 = λ k. Holds first.directory k s in
+      let D : Directory → Type 0 = λ d. Holds d old.core s → Q d s in
+      subst D (may_directory tells calls disk say cleared first old clears) (each s) (subst H (sym (may_core tells calls disk say cleared first old clears)) holds)
+
+  -- and what held of it before holds still
+  pub each_behind : (Q : Directory → State → Type 0) → ((s : State) → Holds first.directory first.core s → Q first.directory s) → (s : State) → Holds old.directory old.core s → Q old.directory s
+  each_behind Q each s holds =
+      let H : Core → Type 0 = λ k. Holds old.directory k s in
+      let D : Directory → Type 0 = λ d. Holds d first.core s → Q d s in
+      subst D (sym (may_directory tells calls disk say cleared first old clears)) (each s) (subst H (may_core tells calls disk say cleared first old clears) holds)
+
+module _ {P : Type 0} (tells : Type 0) (calls : P → List Call) (disk say : P → ℕ) (mode : SayMode) (event : Event) (first old : Parts P) (cleared : Result (Unit {0}) SwitchFault)
+    (clears : MayHaveSettled tells calls disk say cleared first old) where
+  -- no room could be made
+  pub answers_uncleared : (fault : SwitchFault) → cleared ≡ Err fault → IsSound tells calls first → AnswersIn tells calls disk say mode event (Err fault) first old
+  answers_uncleared fault failed sound = record {
+    called = λ o entries events kept. fails_after tells calls mode o entries events event disk say cleared fault first old failed clears kept;
+    outcome = tt;
+    directory = may_directory tells calls disk say cleared first old clears;
+    sound = may_sound tells calls disk say cleared first old clears sound;
+    stops = may_stops tells calls disk say cleared first old clears ∙ ap (stopped_after first.stopped) failed ∙ stops_alike (Unit {0}) Outcome first.stopped fault;
+    cause = cause_alike cleared fault (disk first.station) (disk old.station) (say first.station) (say old.station) failed (may_cause tells calls disk say cleared first old clears);
+  }
+
+  module _ (ok : cleared ≡ Ok tt) (going : first.stopped ≡ None) where
+    going_old : old.stopped ≡ None
+    going_old = goes_cleared tells calls disk say first old cleared clears ok going
+
+    module _ (mid : Parts P) (result : Outcome) (enters : HasEntered tells calls event result old mid) where
+      outcome_first : (s : State) → Holds first.directory first.core s → result ≡ outcome first.directory s event
+      outcome_first = each_before tells calls disk say first old cleared clears ok going (λ d s. result ≡ outcome d s event) enters.entered.step.outcome
+
+      directory_all : mid.directory ≡ first.directory
+      directory_all = enters.entered.directory ∙ may_directory tells calls disk say cleared first old clears
+
+      cause_mid : HasCallCause cleared (disk first.station) (disk mid.station) (say first.station) (say mid.station)
+      cause_mid =
+          let C : P → Type 0 = λ p. HasCallCause cleared (disk first.station) (disk p) (say first.station) (say p) in
+          subst C (sym enters.station) (may_cause tells calls disk say cleared first old clears)
+
+      module _ (new : Parts P) (channel : ℕ) (bytes : List ℕ) (r : Result (Unit {0}) SwitchFault) (told : HasTold tells calls disk say channel bytes r mid new)
+          (says : EachHeld tells calls mode event (engine_of old) (λ d s. by_station mode (spoken d s event) ≡ on channel bytes)) where
+        told_directory : new.directory ≡ first.directory
+        told_directory = by_cases (engine_of mid).gathered refl
+          where
+            by_cases : (b : Bool) → (engine_of mid).gathered ≡ b → new.directory ≡ first.directory
+            by_cases true gathered = ap part_directory (told.held gathered).1 ∙ directory_all
+            by_cases false none = ap part_directory (told.rest none) ∙ directory_all
+
+        cause_all : HasCallCause r (disk first.station) (disk new.station) (say first.station) (say new.station)
+        cause_all =
+            cause_then cleared r (disk first.station) (disk mid.station) (disk new.station) (say first.station) (say mid.station) (say new.station) cause_mid
+            (told_cause r (disk mid.station) (disk new.station) (say mid.station) (say new.station) told.fault told.later told.disk_stays)
+
+        pub answers_told : r ≡ Ok tt → AnswersIn tells calls disk say mode event (Ok result) first new
+        answers_told done = record {
+          called = told_well tells calls disk say mode event first old mid new going_old cleared ok clears result enters enters.entered.stopped channel bytes r told says done;
+          outcome = outcome_first;
+          directory = told_directory;
+          sound = told_sound tells calls disk say mode event first old mid new going_old cleared ok clears result enters enters.entered.stopped channel bytes r told says;
+          stops = told.stops ∙ ap (stopped_after mid.stopped) done ∙ enters.entered.stopped ∙ sym going;
+          cause = cause_none r tt result (disk first.station) (disk new.station) (say first.station) (say new.station) done cause_all;
+        }
+
+        pub answers_choked : (fault : SwitchFault) → r ≡ Err fault → AnswersIn tells calls disk say mode event (Err fault) first new
+        answers_choked fault failed = record {
+          called =
+              let L : SwitchFault → Type 0 = λ f. LeavesCall tells calls mode event (Err f) (engine_of first) (engine_of new) in
+              subst L (sym is_say) (told_badly tells calls disk say mode event first old mid new going_old cleared ok clears result enters enters.entered.stopped channel bytes r told says fault failed);
+          outcome = tt;
+          directory = told_directory;
+          sound = told_sound tells calls disk say mode event first old mid new going_old cleared ok clears result enters enters.entered.stopped channel bytes r told says;
+          stops = told.stops ∙ ap (stopped_after mid.stopped) failed ∙ stops_by fault is_say;
+          cause = cause_alike r fault (disk first.station) (disk new.station) (say first.station) (say new.station) failed cause_all;
+        }
+          where
+            is_say : fault ≡ SayFault
+            is_say = let F : Result (Unit {0}) SwitchFault → Type 0 = λ a. IfErr a (λ e. (e ≡ SayFault) × Rose (say mid.station) (say new.station)) in (subst F failed told.fault).0
+
+            stops_by : (f : SwitchFault) → f ≡ SayFault → stopped_after mid.stopped (let a : Result (Unit {0}) SwitchFault = Err f in a) ≡ stopped_after first.stopped (let a : Result Outcome SwitchFault = Err f in a)
+            stops_by f is =
+                let S : SwitchFault → Type 0 = λ g. stopped_after mid.stopped (let a : Result (Unit {0}) SwitchFault = Err g in a) ≡ stopped_after first.stopped (let a : Result Outcome SwitchFault = Err g in a) in
+                subst S (sym is) refl
+
+      -- or nothing is said of it
+      module _ (new : Parts P) (rest : new ≡ record mid { held = new.held }) (same : (engine_of mid).gathered ≡ false → new ≡ mid) (held : (engine_of new).held ≡ (if (engine_of mid).gathered then (engine_of mid).held ++ [] ∷ [] else (engine_of mid).held))
+          (silent : EachHeld tells calls mode event (engine_of old) (λ d s. by_station mode (spoken d s event) ≡ [])) where
+        pub answers_untold : AnswersIn tells calls disk say mode event (Ok result) first new
+        answers_untold = record {
+          called = untold tells calls disk say mode event first old mid new going_old cleared ok clears result enters enters.entered.stopped rest held silent;
+          outcome = outcome_first;
+          directory = ap part_directory rest ∙ directory_all;
+          sound = sound_untold (engine_of mid).gathered refl;
+          stops = ap part_stopped rest ∙ enters.entered.stopped ∙ sym going;
+          cause =
+              let C : P → Type 0 = λ p. HasCallCause (let a : Result Outcome SwitchFault = Ok result in a) (disk first.station) (disk p) (say first.station) (say p) in
+              subst C (sym (ap part_station rest)) (cause_none cleared tt result (disk first.station) (disk mid.station) (say first.station) (say mid.station) ok cause_mid);
+        }
+          where
+            sound_untold : (b : Bool) → (engine_of mid).gathered ≡ b → IsSound tells calls new
+            sound_untold true gathered =
+                let S : Parts P → Type 0 = λ x. IsSound tells calls x in
+                subst S (sym rest) (record {
+                  goes = λ going_still. enters.sound.goes enters.entered.stopped;
+                  few = enters.sound.few;
+                  rests = λ none. absurd (cc (gathered, none));
+                  undrawn = λ none. absurd (cc (gathered, none));
+                  idle = λ by is. absurd (goes_on mid.stopped by is enters.entered.stopped);
+                })
+            sound_untold false none = let S : Parts P → Type 0 = λ x. IsSound tells calls x in subst S (sym (same none)) enters.sound
+
+        -- where nothing was gathered before it, nothing is to be said
+        pub quiet_untold : (engine_of old).held ≡ [] → joined (engine_of new).held ≡ []
+        quiet_untold quiet = by_cases (engine_of mid).gathered refl
+          where
+            none_held : (engine_of mid).held ≡ []
+            none_held = enters.entered.held ∙ quiet
+
+            by_cases : (b : Bool) → (engine_of mid).gathered ≡ b → joined (engine_of new).held ≡ []
+            by_cases true gathered =
+                let H : Bool → Type 0 = λ x. (engine_of new).held ≡ (if x then (engine_of mid).held ++ [] ∷ [] else (engine_of mid).held) in
+                let here : (engine_of new).held ≡ (engine_of mid).held ++ [] ∷ [] = subst H gathered held in
+                ap joined (here ∙ ap (λ (l : List Outside). l ++ [] ∷ []) none_held)
+            by_cases false none = ap joined (ap part_held (same none) ∙ none_held)
+
+-- ---- the same in the words of a switch
+
+pub in_words : {P : Type 0} (tells : Type 0) (calls : P → List Call) (disk say : P → ℕ) (mode : SayMode) (event : Event) (result : Result Outcome SwitchFault) (old new : Parts P) → old.stopped ≡ None
+    → AnswersIn tells calls disk say mode event result old new → IsAnswered (meanings_of tells calls mode) event result (engine_of old) (engine_of new)
+in_words tells calls disk say mode event result old new going a =
+    answered tells calls mode event result (engine_of old) (engine_of new) a.directory
+    (λ answer is. (going, let R : Result Outcome SwitchFault → Type 0 = λ r. IfOk r (λ x. (s : State) → Holds old.directory old.core s → x ≡ outcome old.directory s event) in subst R is a.outcome))
+    a.called
+
+-- one that stopped answers that alone
+pub stopped_answer : {P : Type 0} (tells : Type 0) (calls : P → List Call) (mode : SayMode) (event : Event) (by : Device) (e : Engine P) → e.stopped ≡ Some by → IsAnswered (meanings_of tells calls mode) event (Err (Stopped by)) e e
+stopped_answer tells calls mode event by e is = answered tells calls mode event (Err (Stopped by)) e e refl (λ answer no. absurd (cc no)) (stopped_leaves tells calls mode event by e is)

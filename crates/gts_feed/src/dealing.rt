@@ -1,0 +1,64 @@
+ghost use Rattle.std.specs.Prelude.{◌≡◌, ◌<◌, ℕ, List, length};
+ghost use Rattle.gts_event.specs.declared.event.Entry.{Entry};
+ghost use Rattle.gts_frame.specs.Decoder.{HasMessage, signs_of_step};
+ghost use Rattle.gts_connection.specs.Cited.{events_of_signs};
+ghost use Rattle.gts_calls.specs.{Stands, HasCallCause};
+ghost use Rattle.gts_feed.specs.Fed.{answer_of, IsShortAt, end_heard, end_lost};
+ghost use Rattle.gts_feed.specs.Reading.{EndsStep};
+ghost use Rattle.gts_feed.specs.Going.{GoesFed};
+
+use crate::{FeedEnd, Listens};
+use gts_event::{Outcome, SwitchFault};
+use gts_frame::{Kind, LostField, Step};
+use std::alloc::Global;
+
+/// What a step of a circuit's decoder came to is dealt with: a message is heard, a loss is entered.
+pub fn deal<W: Listens>(
+    alloc: Global,
+    switch: &mut W,
+    c: u32,
+    step: Step,
+    message: &[u8],
+) -> FeedEnd
+    requires circuit { c < length (W.meanings.directory switch.old).circuits }
+    requires message { HasMessage step message.now }
+    ensures goes { (o : W.Origin) (first : ℕ) (h : List Entry)
+        → Stands W.meanings o first h switch.old → GoesFed W.meanings o first h c
+        (events_of_signs c (signs_of_step step message.now)) message.now result switch.new }
+    ensures ends { EndsStep step result }
+    ensures short { IsShortAt result message.now }
+    ensures directory { W.meanings.directory switch.new ≡ W.meanings.directory switch.old }
+    ensures cause { HasCallCause (answer_of result)
+        (W.disk_faults switch.old) (W.disk_faults switch.new)
+        (W.say_faults switch.old) (W.say_faults switch.new) }
+{
+    match step {
+        Step::Frame(kind) => after_hearing(kind, switch.listen(alloc, c, kind, message)),
+        Step::Lost(field) => after_loss(field, switch.note_loss(c, field)),
+        Step::More | Step::KeepAlive | Step::Dropped => FeedEnd::All,
+    }
+}
+
+/// How a feed goes on behind a message that was answered so.
+fn after_hearing(kind: Kind, answer: Result<Outcome, SwitchFault>) -> FeedEnd
+    ensures { result ≡ end_heard kind answer }
+{
+    match answer {
+        Ok(_) => FeedEnd::All,
+        Err(SwitchFault::DiskFault) => FeedEnd::Fault(SwitchFault::DiskFault),
+        Err(SwitchFault::SayFault) => FeedEnd::Fault(SwitchFault::SayFault),
+        Err(SwitchFault::Stopped { by }) => FeedEnd::Fault(SwitchFault::Stopped { by }),
+        Err(SwitchFault::Spent) => FeedEnd::Fault(SwitchFault::Spent),
+        Err(fault) => FeedEnd::Wanting { kind, fault },
+    }
+}
+
+/// How a feed ends behind a loss of synchronisation that was answered so.
+fn after_loss(field: LostField, answer: Result<Outcome, SwitchFault>) -> FeedEnd
+    ensures { result ≡ end_lost field answer }
+{
+    match answer {
+        Ok(_) => FeedEnd::Lost { field },
+        Err(fault) => FeedEnd::Fault(fault),
+    }
+}

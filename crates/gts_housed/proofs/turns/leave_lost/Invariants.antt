@@ -1,4 +1,0 @@
-use Rattle.gts_housed.proofs.turns.leave_lost.Given as goal
-
-abbrev pub ghost-leave : goal.ghost-leave
-ghost-leave g a = g.added

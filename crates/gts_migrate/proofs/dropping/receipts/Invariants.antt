@@ -1,0 +1,8 @@
+use Rattle.std.proofs.Common.{◌≡◌, ◌++◌, drop}
+use Rattle.gts_event.specs.Items.{need_of}
+use Rattle.gts_migrate.specs.Dropping.{receipts_from, drop_receipts}
+use Rattle.gts_migrate.proofs.dropping.receipts.Given as goal
+
+abbrev pub invariant-loop-c : goal.invariant-loop-c
+invariant-loop-c l =
+    let n = need_of l.need in l.text.items ++ receipts_from l.c n.bulletins (drop l.c l.new.circuits) (drop l.c n.circuits) ≡ drop_receipts l.new n

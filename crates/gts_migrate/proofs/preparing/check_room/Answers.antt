@@ -1,0 +1,55 @@
+use Rattle.std.proofs.Common.{◌≡◌, ◌-◌, ℕ, arith}
+use Rattle.std.proofs.lemmas.Result.{err_from_is_err_and}
+use Rattle.gts_directory.specs.Directory.{Directory}
+use Rattle.gts_directory.specs.TakingOver.{TakesOver}
+use Rattle.gts_event.specs.State.{State}
+use Rattle.gts_event.specs.Need.{IsOrdered, need}
+use Rattle.gts_core.specs.Waiting.{all_waiting}
+use Rattle.gts_opening.specs.Journal.{due}
+use Rattle.gts_recovery.proofs.LawLemmas.{due_counted as due_waiting}
+use Rattle.gts_migrate.specs.LettingGo.{goes_on, left_behind}
+use Rattle.gts_migrate.proofs.LettingGoLemmas.{due-on}
+use Rattle.gts_migrate.proofs.preparing.check_room.Goals as goal
+
+pub waiting-requires : goal.waiting-requires
+waiting-requires c =
+    let s0 = c.requires.due in
+    omega (arith, c.a_core_has_the_waiting_draws_of_its_state.ensures c.args.old.now c.args.core.now s0.state s0.holds, due_waiting s0.state.circuits, s0.few)
+
+-- what is due under the new directory
+due_here : (new old : Directory) (s : State) (waiting left : ℕ) → TakesOver new old → IsOrdered old s → waiting ≡ all_waiting s.circuits → left ≡ left_behind new (need old s)
+    → due (goes_on new old (need old s)) ≡ waiting - left
+due_here new old s waiting left takes order count is =
+    let all = due-on new old s takes order in
+    let each = due_waiting s.circuits in
+    omega (arith, all, each, count, is)
+
+pub overflow_sub-waiting : goal.overflow_sub-waiting
+overflow_sub-waiting c =
+    let s0 = c.requires.due in
+    let all = due-on c.args.new.now c.args.old.now s0.state c.requires.takes s0.holds.need.second in
+    let each = due_waiting s0.state.circuits in
+    let count = c.waiting.ensures c.args.old.now s0.state s0.holds in
+    let left = c.requires.left s0.state s0.holds in
+    omega (arith, all, each, count, left)
+
+pub check_checkpoint-requires : goal.check_checkpoint-requires
+check_checkpoint-requires c =
+    let s0 = c.requires.due in
+    omega (arith, c.waiting.ensures c.args.old.now s0.state s0.holds, due_waiting s0.state.circuits, s0.few)
+
+pub returns-clause-room : goal.returns-clause-room
+returns-clause-room c = λ s holds size.
+    let old = c.args.old.now in
+    let new = c.args.new.now in
+    c.in_ok-check_checkpoint.ensures (goes_on new old (need old s))
+    (due_here new old s c.waiting.result c.args.left c.requires.takes holds.need.second (c.waiting.ensures old s holds) (c.requires.left s holds)) size
+
+pub returns-in_err-check_checkpoint-clause-room : goal.returns-in_err-check_checkpoint-clause-room
+returns-in_err-check_checkpoint-clause-room c = λ s holds size.
+    let old = c.args.old.now in
+    let new = c.args.new.now in
+    let p = err_from_is_err_and c.from_residual.result c.from_residual.ensures.1 in
+    rw (p.1, p.2)
+    (c.in_err-check_checkpoint.ensures (goes_on new old (need old s))
+    (due_here new old s c.waiting.result c.args.left c.requires.takes holds.need.second (c.waiting.ensures old s holds) (c.requires.left s holds)) size)

@@ -1,0 +1,80 @@
+use Rattle.std.proofs.Common.{◌≡◌, ℕ, ◌-◌, ◌^◌, true, length, min, ap, ◌∙◌, arith}
+use Rattle.std.proofs.lemmas.Result.{err_from_is_err_and}
+use Rattle.gts_event.specs.Need.{Need, need, is_sound}
+use Rattle.gts_event.specs.State.{State}
+use Rattle.gts_event.specs.Items.{need_of}
+use Rattle.gts_core.specs.Core.{Core, Holds, Needs}
+use Rattle.gts_opening.specs.Journal.{checkpoint_text}
+use Rattle.gts_migrate.specs.LettingGo.{goes_on, left_behind}
+use Rattle.gts_migrate.specs.declared.fault.MigrateFault.{MigrateFault}
+use Rattle.gts_migrate.specs.declared.fault.MigrateFault.TheVariants.{Open, Waits, Full, DiskFault, SayFault, NoMemory}
+use Rattle.gts_migrate.specs.Answers.{IsRoomAnswer, IsSaidFaultOf, IsPreparedFaultOf}
+use Rattle.gts_migrate.specs.Migrating.{DirectoryOf, HasFewDue}
+use Rattle.gts_migrate.proofs.LettingGoLemmas.{due-on}
+use Rattle.gts_migrate.proofs.MigratingLemmas.{brought_from}
+use Rattle.gts_migrate.proofs.preparing.prepare.Goals as goal
+
+-- the need of the core is sound
+sound_here : (old : DirectoryOf) (core : Core) (n : Need) → Needs core n → HasFewDue old core → is_sound old n ≡ true
+sound_here old core n needs due = ap (is_sound old) (needs old due.state due.holds) ∙ due.sound
+
+-- as many are let go as of each state that the core holds
+left_here : (old new : DirectoryOf) (core : Core) (n : Need) (left : ℕ) → Needs core n → left ≡ left_behind new n → (s : State) → Holds old core s → left ≡ left_behind new (need old s)
+left_here old new core n left needs is s holds = is ∙ ap (left_behind new) (needs old s holds)
+
+pub count_waiting-left-requires : goal.count_waiting-left-requires
+count_waiting-left-requires c =
+    let due = c.requires.due in
+    let all = due-on c.args.new.now c.args.old.now due.state c.requires.takes due.holds.need.second in
+    let same = ap (left_behind c.args.new.now) (c.in_ok-need.ensures c.args.old.now due.state due.holds) in
+    let few = due.few in
+    omega (arith, all, same, few)
+
+pub check_room-requires-clause-left : goal.check_room-requires-clause-left
+check_room-requires-clause-left c = left_here c.args.old.now c.args.new.now c.args.core.now (need_of c.in_ok-need.need) c.count_waiting-left.result c.in_ok-need.ensures c.count_waiting-left.ensures
+
+pub bring_over-requires-clause-sound : goal.bring_over-requires-clause-sound
+bring_over-requires-clause-sound c = sound_here c.args.old.now c.args.core.now (need_of c.in_ok-need.need) c.in_ok-need.ensures c.requires.due
+
+pub returns-clause-brought : goal.returns-clause-brought
+returns-clause-brought c = brought_from c.args.old.now c.args.new.now c.args.core.now (need_of c.in_ok-need.need) (need_of c.in_ok-brought.brought) c.in_ok-need.ensures c.in_ok-brought.ensures.need
+
+pub returns-clause-room : goal.returns-clause-room
+returns-clause-room c = λ s holds.
+    let brought = brought_from c.args.old.now c.args.new.now c.args.core.now (need_of c.in_ok-need.need) (need_of c.in_ok-brought.brought) c.in_ok-need.ensures c.in_ok-brought.ensures.need in
+    c.in_ok-check_room.ensures.room s holds (c.size-size.ensures ∙ ap (λ (n : Need). min (length (checkpoint_text n)) (2 ^ 64 - 1)) (brought s holds))
+
+pub returns-in_err-check_room-clause-room : goal.returns-in_err-check_room-clause-room
+returns-in_err-check_room-clause-room c = λ s holds.
+    let brought = brought_from c.args.old.now c.args.new.now c.args.core.now (need_of c.in_ok-need.need) (need_of c.in_ok-brought.brought) c.in_ok-need.ensures c.in_ok-brought.ensures.need in
+    let p = err_from_is_err_and c.from_residual-in_err-check_room.result c.from_residual-in_err-check_room.ensures.1 in
+    rw (p.1, p.2)
+    (c.in_err-check_room.ensures.room s holds (c.size-size.ensures ∙ ap (λ (n : Need). min (length (checkpoint_text n)) (2 ^ 64 - 1)) (brought s holds)))
+
+-- where nothing can be said, the room isn't looked at
+said_room : (fault : MigrateFault) (d : DirectoryOf) (t : State) → IsSaidFaultOf fault → IsRoomAnswer fault d t
+said_room (Waits circuit count) d t kind = tt
+said_room NoMemory d t kind = tt
+said_room (Open e) d t kind = absurd kind
+said_room (Full at wanted limit) d t kind = absurd kind
+said_room DiskFault d t kind = absurd kind
+said_room SayFault d t kind = absurd kind
+
+said_kind : (fault : MigrateFault) → IsSaidFaultOf fault → IsPreparedFaultOf fault
+said_kind (Waits circuit count) kind = tt
+said_kind NoMemory kind = tt
+said_kind (Open e) kind = absurd kind
+said_kind (Full at wanted limit) kind = absurd kind
+said_kind DiskFault kind = absurd kind
+said_kind SayFault kind = absurd kind
+
+pub returns-in_err-receipts-clause-room : goal.returns-in_err-receipts-clause-room
+returns-in_err-receipts-clause-room c = λ s holds.
+    let p = err_from_is_err_and c.from_residual-in_err-receipts.result c.from_residual-in_err-receipts.ensures.1 in
+    rw (p.1, p.2)
+    (said_room c.in_err-receipts.field-0.0 c.args.new.now (goes_on c.args.new.now c.args.old.now (need c.args.old.now s)) c.in_err-receipts.ensures.kind)
+
+pub returns-in_err-receipts-clause-kind : goal.returns-in_err-receipts-clause-kind
+returns-in_err-receipts-clause-kind c =
+    let p = err_from_is_err_and c.from_residual-in_err-receipts.result c.from_residual-in_err-receipts.ensures.1 in
+    rw (p.1, p.2) (said_kind c.in_err-receipts.field-0.0 c.in_err-receipts.ensures.kind)

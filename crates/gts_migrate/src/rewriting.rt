@@ -1,0 +1,75 @@
+ghost use Rattle.std.specs.Prelude.{◌≡◌, ◌-◌, ◌^◌, ◌≤◌, [], min, length, IfErr, IsOk, OnOk, IsErrOf};
+ghost use Rattle.gts_traits.specs.{on, said_by, Rose, EachSince};
+ghost use Rattle.gts_journal.specs.{StandsOn};
+ghost use Rattle.gts_migrate.specs.Migrating.{DirectoryOf, State, need_of, checkpoint_text};
+ghost use Rattle.gts_migrate.specs.Migrating.{OpensWithAt, IsMigrated, CanMigrate, FitsFor};
+ghost use Rattle.gts_migrate.specs.Answers.{IsWriteFaultOf, IsSayFaultOf, SaysFor, CountsSays};
+ghost use Rattle.gts_migrate.specs.Dropping.{SaysAll};
+
+use crate::MigrateFault;
+use crate::preparing::Prepared;
+use gts_checkpoint::write;
+use gts_directory::Directory;
+use gts_engine::compacted_size;
+use gts_journal::Journal;
+use gts_traits::Station;
+use std::alloc::Global;
+
+/// Says receipts on the channel of receipts, in one call, where there are any.
+fn say_receipts<P: Station>(station: &mut P, receipts: &[u8]) -> Result<(), MigrateFault>
+    ensures told { P.tells
+        → SaysAll receipts.now result (P.calls station.old) (P.calls station.new) }
+    ensures none { receipts.now ≡ [] → (station.new ≡ station.old) × IsOk result }
+    ensures kind { IfErr result (λ fault. fault ≡ MigrateFault.SayFault) }
+    ensures say { CountsSays result (P.say_faults station.old) (P.say_faults station.new) }
+    ensures disk { P.disk_faults station.new ≡ P.disk_faults station.old }
+{
+    if receipts.is_empty() {
+        return Ok(());
+    }
+    match station.say(0, receipts) {
+        Ok(()) => Ok(()),
+        Err(_) => Err(MigrateFault::SayFault),
+    }
+}
+
+/// Writes the checkpoint of the need under the new directory to the file that isn't selected, says the receipts, and selects that
+/// file.
+pub(crate) fn rewrite<P: Station>(
+    alloc: Global,
+    station: &mut P,
+    journal: Journal,
+    new: &Directory,
+    prepared: &Prepared,
+) -> Result<(), MigrateFault>
+    requires fits { FitsFor new.now (need_of prepared.now.need) }
+    requires size { prepared.now.size
+        ≡ min (length (checkpoint_text (need_of prepared.now.need))) (2 ^ 64 - 1) }
+    requires stands { P.tells → StandsOn (P.calls station.old) journal }
+    ensures moments { P.tells → (old : DirectoryOf) (s : State)
+        → CanMigrate old new.now s (need_of prepared.now.need) (P.calls station.old) journal
+        → EachSince (P.calls station.old) (P.calls station.new)
+        (OpensWithAt (on 0 prepared.now.receipts.items) old new.now s) }
+    ensures written { P.tells → OnOk result ((old : DirectoryOf) (s : State)
+        → CanMigrate old new.now s (need_of prepared.now.need) (P.calls station.old) journal
+        → IsMigrated old new.now s (P.calls station.old) (P.calls station.new)) }
+    ensures said { P.tells → SaysFor result (on 0 prepared.now.receipts.items)
+        (P.calls station.old) (P.calls station.new) }
+    ensures unsaid { prepared.now.receipts.items ≡ [] → IsSayFaultOf result → ⊥ }
+    ensures kind { IfErr result IsWriteFaultOf }
+    ensures no_memory { IsErrOf result MigrateFault.NoMemory → station.new ≡ station.old }
+    ensures disk { IsErrOf result MigrateFault.DiskFault
+        → Rose (P.disk_faults station.old) (P.disk_faults station.new) }
+    ensures later { P.disk_faults station.old ≤ P.disk_faults station.new }
+    ensures say { CountsSays result (P.say_faults station.old) (P.say_faults station.new) }
+{
+    // A directory is within its bounds.
+    let _ = (new.circuits(), new.limit());
+    let mut journal = journal;
+    let other = 1 - journal.file();
+    let used = compacted_size(prepared.size);
+    let seal = write(alloc, station, other, new.mark(), &prepared.need)?;
+    say_receipts(station, prepared.receipts.as_slice())?;
+    journal.select(station, other, used, seal)?;
+    Ok(())
+}

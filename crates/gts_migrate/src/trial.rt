@@ -1,0 +1,77 @@
+//! What a takeover would come to, tried without writing.
+
+ghost use Rattle.std.specs.Prelude.{◌≡◌, ◌≢◌, ◌≤◌, ◌∷◌, IfOk, IfErr, OnOk, IsErrOf};
+ghost use Rattle.gts_traits.specs.{Did, Syncs, seen, Rose};
+ghost use Rattle.gts_core.specs.Core.{Holds};
+ghost use Rattle.gts_journal.specs.{OnlySyncs};
+ghost use Rattle.gts_migrate.specs.Migrating.{TakesOver, State, need_at, opens_any, HasFewDue};
+ghost use Rattle.gts_migrate.specs.Trial.{refusal, IsAnswer, IsTried, OpensTo};
+
+use crate::preparing::prepare;
+use crate::{MigrateFault, Waiting};
+use gts_core::Core;
+use gts_directory::Directory;
+use gts_event::Need;
+use gts_recovery::{OpenFault, open_core_any};
+use gts_traits::{NoMemory, Station};
+use std::alloc::Global;
+
+/// What is needed of a journal under its own directory, and why it would not be taken over under another one. `None`: it would be.
+#[derive(Drop)]
+pub struct Trial {
+    /// All that later answers depend on.
+    pub need: Need,
+    /// `Waits` or `Full`, as `migrate` would answer it.
+    pub refusal: Option<MigrateFault>,
+}
+
+/// Why what a core holds would not be taken over.
+fn refusal_of(
+    alloc: Global,
+    core: &Core,
+    old: &Directory,
+    new: &Directory,
+) -> Result<Option<MigrateFault>, NoMemory>
+    requires takes { TakesOver new.now old.now }
+    requires due { HasFewDue old.now core.now }
+    ensures { IfOk result (λ found. (s : State) → Holds old.now core.now s
+        → found ≡ refusal new.now old.now (need_at old.now s)) }
+{
+    match prepare(alloc, core, old, new, Waiting::Refused).err() {
+        Some(MigrateFault::NoMemory) => Err(NoMemory),
+        refused => Ok(refused),
+    }
+}
+
+/// Opens a journal, of either version, under its own directory, and tries what `migrate` would come to under one that takes over from
+/// it. The files are synced, and nothing is written or said.
+pub fn try_over<P: Station>(
+    alloc: Global,
+    station: &mut P,
+    old: &Directory,
+    new: &Directory,
+) -> Result<Trial, OpenFault>
+    requires { TakesOver new.now old.now }
+
+    // It is what `migrate` would come to, over the state to which the files open where the station tells.
+    ensures tried { IfOk result (IsTried old.now new.now
+        (OpensTo P.tells old.now (seen (P.calls station.old)))) }
+    ensures synced { P.tells → OnOk result (P.calls station.new ≡ Did Syncs ∷ P.calls station.old) }
+
+    // A fault of the files is answered exactly where they open to it.
+    ensures fault { P.tells → IfErr result (λ e. IsAnswer e
+        (opens_any old.now (seen (P.calls station.old)))) }
+    ensures never_older { P.tells → IfErr result (λ e. e ≢ OpenFault.OldVersion) }
+    ensures told { P.tells → OnlySyncs (P.calls station.old) (P.calls station.new) }
+    ensures disk_fault { IsErrOf result OpenFault.DiskFault
+        → Rose (P.disk_faults station.old) (P.disk_faults station.new) }
+    ensures later { P.disk_faults station.old ≤ P.disk_faults station.new }
+    ensures say { P.say_faults station.new ≡ P.say_faults station.old }
+{
+    // A limit leaves few draws due.
+    let _ = old.limit();
+    let (core, _journal) = open_core_any(alloc, station, old)?;
+    let refusal = refusal_of(alloc, &core, old, new)?;
+    let need = core.need(alloc)?;
+    Ok(Trial { need, refusal })
+}

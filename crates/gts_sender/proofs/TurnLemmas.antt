@@ -1,0 +1,112 @@
+-- The takes of one turn, and the frames that they gave.
+use Rattle.std.proofs.Common.{◌≡◌, ◌⊎◌, ℕ, zero, suc, ◌+◌, List, [], ◌∷◌, ◌++◌, length, Some, None, inl, inr, refl, sym, ap, ◌∙◌, add-one}
+use Rattle.std.specs.Prelude.{replicate}
+use Rattle.std.proofs.lemmas.List.{append-nil, map-append, replicate-append-replicate}
+use Rattle.gts_directory.specs.Directory.{Directory}
+use Rattle.gts_event.specs.State.{State}
+use Rattle.gts_event.specs.History.{Choice, Repeats, Draws, Nothing_waits, choice, outcome, after, after_all}
+use Rattle.gts_event.specs.Said.{line}
+use Rattle.gts_event.specs.declared.event.Event.TheVariants.{Taken}
+use Rattle.gts_event.specs.declared.event.Entry.{Entry}
+use Rattle.gts_event.specs.declared.event.Entry.TheVariants.{Done}
+use Rattle.gts_event.specs.declared.outcome.Outcome.{Outcome}
+use Rattle.gts_event.specs.declared.outcome.Outcome.TheVariants.{Accepted, Duplicate, Asked, Refused, LineLost, Resend, Draw, Nothing}
+use Rattle.gts_event.proofs.LawLemmas.{after_all-append}
+use Rattle.gts_desk.specs.{entries}
+use Rattle.gts_desk.specs.Desks.{under}
+use Rattle.gts_desk.specs.Frames.{frame_of_outcome, frame_of, frames}
+use Rattle.gts_desk.specs.Given.{Frame, takes, given_index, Gave, GaveAll, after_takes, GaveNoMore}
+use Rattle.gts_desk.proofs.LawLemmas.{frames_append, frames_one}
+use Rattle.gts_sender.specs.Sender.{texts}
+
+abbrev pub taken : ℕ → Entry
+taken c = Done (Taken c)
+
+-- ---- so many takes
+
+more : {A : Type 0} (x : A) (n : ℕ) → replicate n x ++ x ∷ [] ≡ replicate (suc n) x
+more x zero = refl
+more x (suc n) = ap (λ (l : List _). x ∷ l) (more x n)
+
+pub one_take : (c n : ℕ) → takes c n ++ taken c ∷ [] ≡ takes c (n + 1)
+one_take c n = more (taken c) n ∙ ap (takes c) (sym (add-one n))
+
+pub takes_plus : (c a b : ℕ) → takes c a ++ takes c b ≡ takes c (a + b)
+takes_plus c a b = replicate-append-replicate a b (taken c)
+
+pub entries_all : (n : ℕ) (more : List Entry) → entries (under n more) ≡ more
+entries_all n [] = refl
+entries_all n (e ∷ more) = ap (λ (l : List Entry). e ∷ l) (entries_all n more)
+
+after_taken : (d : Directory) (s : State) (c n : ℕ) → after_all d s (takes c n) ≡ after_takes d s c n
+after_taken d s c zero = refl
+after_taken d s c (suc n) = after_taken d (after d s (Taken c)) c n
+
+-- the state behind takes that stand in a history under one name
+pub behind_takes : (d : Directory) (s : State) (name c n : ℕ) → after_all d s (entries (under name (takes c n))) ≡ after_takes d s c n
+behind_takes d s name c n = ap (after_all d s) (entries_all name (takes c n)) ∙ after_taken d s c n
+
+pub state_behind : (d : Directory) (s : State) (base : List (ℕ × Entry)) (name c n : ℕ)
+    → after_all d s (entries (base ++ under name (takes c n))) ≡ after_takes d (after_all d s (entries base)) c n
+state_behind d s base name c n =
+    ap (after_all d s) (map-append (λ (x : ℕ × Entry). x.1) base (under name (takes c n)))
+    ∙ after_all-append d s (entries base) (entries (under name (takes c n)))
+    ∙ behind_takes d (after_all d s (entries base)) name c n
+
+-- ---- what a take gives
+
+-- a take that gave no frame gave nothing
+no_frame : (x : Choice) (o : Outcome) → o ≡ (elim x as (λ _. Outcome) [ Repeats index ↦ Resend index | Draws index position ↦ Draw index | Nothing_waits ↦ Nothing ])
+    → given_index o ≡ None → o ≡ Nothing
+no_frame (Repeats index) o is none = absurd (let e = sym (ap given_index is) ∙ none in cc e)
+no_frame (Draws index position) o is none = absurd (let e = sym (ap given_index is) ∙ none in cc e)
+no_frame Nothing_waits o is none = is
+
+pub gave_nothing : (d : Directory) (s : State) (c : ℕ) (o : Outcome) → o ≡ outcome d s (Taken c) → given_index o ≡ None → o ≡ Nothing
+gave_nothing d s c o is none = no_frame (choice d s c) o is none
+
+-- one that gave the frame of an index gave its line
+given_line : (d : Directory) (t : State) (c : ℕ) (o : Outcome) (index : ℕ) → given_index o ≡ Some index → frame_of_outcome d t c o ≡ line d t c index
+given_line d t c (Resend k) index is = let e : k ≡ index = cc is in ap (line d t c) e
+given_line d t c (Draw k) index is = let e : k ≡ index = cc is in ap (line d t c) e
+given_line d t c (Accepted position circuits) index is = absurd (cc is)
+given_line d t c (Duplicate position) index is = absurd (cc is)
+given_line d t c (Asked found missing) index is = absurd (cc is)
+given_line d t c (Refused refusal) index is = absurd (cc is)
+given_line d t c (LineLost field) index is = absurd (cc is)
+given_line d t c Nothing index is = absurd (cc is)
+
+one_frame : (d : Directory) (s : State) (c : ℕ) (frame : Frame) → Gave d s c frame → frame_of d s (taken c) ≡ frame.text
+one_frame d s c frame gave = given_line d (after d s (Taken c)) c (outcome d s (Taken c)) frame.index gave.index ∙ sym gave.text
+
+-- ---- the frames of several takes
+
+pub frames_given : (d : Directory) (s : State) (name c : ℕ) (given : List Frame) → GaveAll d s c given → frames d s name (under name (takes c (length given))) ≡ texts given
+frames_given d s name c [] gave = refl
+frames_given d s name c (frame ∷ given) gave =
+    let rest : List (ℕ × Entry) = under name (takes c (length given)) in
+    let t : State = after d s (Taken c) in
+    frames_append d s name ((name, taken c) ∷ []) rest
+    ∙ ap (λ (l : List ℕ). l ++ frames d t name rest) (frames_one d s name (taken c) ∙ one_frame d s c frame gave.0)
+    ∙ ap (λ (l : List ℕ). frame.text ++ l) (frames_given d t name c given gave.1)
+
+-- the take behind them gave nothing
+pub frames_no_more : (d : Directory) (s : State) (name c : ℕ) (given : List Frame) → GaveNoMore d s c given
+    → frames d s name (under name (takes c (length given + 1))) ≡ texts given
+frames_no_more d s name c given gave =
+    let n : ℕ = length given in
+    let front : List (ℕ × Entry) = under name (takes c n) in
+    let t : State = after_all d s (entries front) in
+    let nothing : outcome d t (Taken c) ≡ Nothing = ap (λ (u : State). outcome d u (Taken c)) (behind_takes d s name c n) ∙ gave.nothing in
+    ap (λ (l : List Entry). frames d s name (under name l)) (sym (one_take c n))
+    ∙ ap (frames d s name) (map-append (λ (e : Entry). (name, e)) (takes c n) (taken c ∷ []))
+    ∙ frames_append d s name front ((name, taken c) ∷ [])
+    ∙ ap (λ (l : List ℕ). frames d s name front ++ l) (frames_one d t name (taken c) ∙ ap (frame_of_outcome d (after d t (Taken c)) c) nothing)
+    ∙ append-nil (frames d s name front)
+    ∙ frames_given d s name c given gave.gave
+
+-- those in front of one of them, and that one
+pub gave_front : (d : Directory) (s : State) (c : ℕ) (front : List Frame) (frame : Frame) (back : List Frame) → GaveAll d s c (front ++ frame ∷ back)
+    → GaveAll d s c front × Gave d (after_takes d s c (length front)) c frame
+gave_front d s c [] frame back gave = (tt, gave.0)
+gave_front d s c (f ∷ front) frame back gave = let behind = gave_front d (after d s (Taken c)) c front frame back gave.1 in ((gave.0, behind.0), behind.1)

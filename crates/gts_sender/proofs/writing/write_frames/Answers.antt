@@ -1,0 +1,47 @@
+use Rattle.std.proofs.Common.{◌≡◌, ℕ, ◌+◌, ◌<◌, ◌++◌, [], List, length, take, refl, sym, ap, ◌∙◌, arith, append_assoc}
+use Rattle.std.proofs.lemmas.List.{append-nil}
+use Rattle.gts_desk.specs.Given.{Frame, frames_of}
+use Rattle.gts_sender.specs.Sender.{texts}
+use Rattle.gts_sender.proofs.WritingLemmas.{there, one_more, all_of, up_to, front_of}
+use Rattle.gts_sender.proofs.writing.write_frames.Goals as goal
+
+pub loop-i-init : goal.loop-i-init
+loop-i-init g c = record { at = refl; written = ([], refl, λ tells. sym (append-nil (g.K.Sink.written c.args.sink.now))); sound = refl }
+
+pub loop-i-preserved : goal.loop-i-preserved
+loop-i-preserved g c =
+    let i = c.loop-i.invariant in
+    let w = c.in-Ok.ensures.written in
+    let given : List Frame = frames_of c.args.frames.now in
+    let text : List ℕ = c.frame-index.result.1.now in
+    let frame : Frame = record { index = c.frame-index.result.0; text = text } in
+    let within : c.loop-i.i < length given = there c.args.frames.now c.loop-i.i (omega (arith, c.loop-i-test.true, c.count-i-end.ensures)) in
+    record {
+      at = c.frame-index.ensures.next;
+      written = (
+        texts (take (c.loop-i.i + 1) given),
+        refl,
+        λ tells. w.2 tells ∙ ap (λ (l : List ℕ). l ++ w.0) (i.written.2 tells) ∙ append_assoc (g.K.Sink.written c.args.sink.now) i.written.0 w.0
+            ∙ ap (λ (l : List ℕ). g.K.Sink.written c.args.sink.now ++ l)
+            (ap (λ (l : List ℕ). l ++ w.0) i.written.1 ∙ ap (λ (l : List ℕ). texts (take c.loop-i.i given) ++ l) w.1 ∙ sym (one_more given c.loop-i.i frame within c.frame-index.ensures.frame)),
+      );
+      sound = c.in-Ok.ensures.sound ∙ i.sound;
+    }
+
+pub returns-in_default-clause-wrote : goal.returns-in_default-clause-wrote
+returns-in_default-clause-wrote g c =
+    let i = c.loop-i.invariant in
+    let w = c.write_all.ensures.written in
+    let given : List Frame = frames_of c.args.frames.now in
+    let frame : Frame = record { index = c.frame-index.result.0; text = c.frame-index.result.1.now } in
+    let within : c.loop-i.i < length given = there c.args.frames.now c.loop-i.i (omega (arith, c.loop-i-test.true, c.count-i-end.ensures)) in (
+      texts (take c.loop-i.i given) ++ w.0,
+      up_to given c.loop-i.i frame w.0 within c.frame-index.ensures.frame (front_of c.write_all.result frame.text w.0 w.1),
+      λ tells. w.2 tells ∙ ap (λ (l : List ℕ). l ++ w.0) (i.written.2 tells) ∙ append_assoc (g.K.Sink.written c.args.sink.now) i.written.0 w.0
+          ∙ ap (λ (l : List ℕ). g.K.Sink.written c.args.sink.now ++ (l ++ w.0)) i.written.1,
+    )
+
+pub returns-clause-wrote : goal.returns-clause-wrote
+returns-clause-wrote g c =
+    let i = c.loop-i.invariant in
+    (i.written.0, i.written.1 ∙ all_of c.args.frames.now c.loop-i.i (omega (arith, c.loop-i-test.false, c.loop-i.auto.i-end, c.count-i-end.ensures)), i.written.2)

@@ -1,0 +1,232 @@
+-- Records of a feed are gathered behind a journal, and brought into it.
+use Rattle.std.proofs.Common.{◌≡◌, inl, inr, ℕ, ◌+◌, ◌<◌, ◌≤◌, Bool, true, cond, List, [], ◌∷◌, ◌++◌, length, Option, Some, refl, sym, ap, subst, ◌∙◌, arith, length-append}
+use Rattle.std.proofs.lemmas.List.{map-append}
+use Rattle.gts_traits.specs.{Call}
+use Rattle.gts_traits.proofs.LawLemmas.{started}
+use Rattle.gts_directory.specs.Directory.{Directory}
+use Rattle.gts_event.specs.State.{State}
+use Rattle.gts_event.specs.History.{after}
+use Rattle.gts_record.specs.declared.version.Version.{Version}
+use Rattle.gts_record.specs.Record.{Record, record_text, closed_gate, open_gate}
+use Rattle.gts_record.specs.Format.{seal, sealed, sealed_at, held, record_size, chain_text, last_seal, texts_of, written}
+use Rattle.gts_record.proofs.LawLemmas.{last_seal-append}
+use Rattle.gts_opening.specs.Journal.{admits, event_of_record, after_records}
+use Rattle.gts_core.specs.Core.{Core}
+use Rattle.gts_journal.specs.{InHand, StandsFor}
+use Rattle.gts_journal.specs.Batch.{Gathered, Gathers, IsBlock, no_records, beyond_block, HasAppendedBlock, AreNext, OpensToOneOf}
+use Rattle.gts_journal.proofs.LawLemmas.{gathered_block, records_more, next_none, next_more, batch_stands, images_open}
+use Rattle.gts_recovery.specs.{IsJudged}
+use Rattle.gts_recovery.specs.Reading.{IsKept}
+use Rattle.gts_recovery.proofs.KeptLemmas.{kept_on}
+use Rattle.gts_standby.specs.declared.end.FollowEnd.TheVariants.{Feed}
+use Rattle.gts_standby.specs.declared.gathering.Gathering.{Gathering}
+use Rattle.gts_standby.specs.Ahead.{InFeed}
+use Rattle.gts_standby.specs.Taking.{Ends, Breaks, stopped, may_be_cut}
+use Rattle.gts_standby.specs.Reading.{StopsAs}
+use Rattle.gts_standby.specs.Adding.{HoldsAt}
+use Rattle.gts_standby.specs.Gathering.{gate_behind, StandsBehind, IsGathered, HoldsBehind, IsGathering, CanGather, HasGatheredOne, HasBrought, MayHaveBrought, MayBring}
+use Rattle.gts_standby.proofs.AddLemmas.{whole_uncut}
+
+-- ---- what was gathered
+
+-- a batch ends with a gate
+pub long_some : (before : List ℕ) (rs : List Record) (b : Gathered) → Gathers before rs b → 1 ≤ length b.text
+long_some before rs b g = omega (arith, ap length g.text, length-append (chain_text b.version before (texts_of rs)) (closed_gate ∷ []))
+
+-- a batch with no more than that has no record
+pub none_gathered : (before : List ℕ) (rs : List Record) (b : Gathered) → Gathers before rs b → length b.text ≡ 1 → rs ≡ []
+none_gathered before [] b g one = refl
+none_gathered before (r ∷ rs) b g one =
+    let front : List ℕ = open_gate ∷ sealed b.version before (record_text r) in
+    let rest : List ℕ = chain_text b.version (seal b.version before (record_text r)) (texts_of rs) in
+    absurd (omega (arith, one, ap length g.text, length-append (front ++ rest) (closed_gate ∷ []), length-append front rest))
+
+-- one with more is a block
+pub block_by : (before : List ℕ) (rs : List Record) (b : Gathered) → Gathers before rs b → 1 < length b.text → IsBlock b.text
+block_by before [] b g some = absurd (omega (arith, some, ap length g.text))
+block_by before (r ∷ rs) b g some = gathered_block before r rs b g
+
+-- the seal behind one record more
+pub seal_more : (before : List ℕ) (rs : List Record) (r : Record) (b next : Gathered) → Gathers before rs b → Gathers before (rs ++ r ∷ []) next → next.version ≡ b.version
+    → next.seal ≡ seal b.version b.seal (record_text r)
+seal_more before rs r b next g more version =
+    let v : Version = b.version in
+    more.seal ∙ ap (λ (w : Version). last_seal w before (texts_of (rs ++ r ∷ []))) version
+    ∙ ap (last_seal v before) (map-append record_text rs (r ∷ []))
+    ∙ last_seal-append v before (texts_of rs) (record_text r ∷ [])
+    ∙ ap (λ (l : List ℕ). seal v l (record_text r)) (sym g.seal)
+
+-- ---- a record is gathered
+
+-- the record is admitted in whatever state the core holds
+pub admitted_in : (d : Directory) (s : State) (core : Core) (v : Version) (at gate : ℕ) (r : Record) (b : Bool) → IsKept written d core gate s → v ≡ written → at ≡ gate → IsJudged v d core at r b
+    → b ≡ admits written d s (gate + 1) r
+admitted_in d s core v at gate r b kept version here judged =
+    judged s kept.holds ∙ ap (λ (w : Version). admits w d s (at + 1) r) version ∙ ap (λ (k : ℕ). admits written d s (k + 1) r) here
+
+-- what stands behind the last seal
+pub at_gathering : (v : Version) (array before bytes ahead : List ℕ) (o : Option Record) → v ≡ written → held written array ≡ before → bytes ≡ ahead → o ≡ sealed_at v (held v array) bytes
+    → sealed_at written before ahead ≡ o
+at_gathering v array before bytes ahead o version seals same is =
+    ap (λ (l : List ℕ). sealed_at written l ahead) (sym seals)
+    ∙ ap (λ (w : Version). sealed_at w (held w array) ahead) (sym version)
+    ∙ ap (sealed_at v (held v array)) (sym same) ∙ sym is
+
+-- a record is refused
+pub refused_there : (at : ℕ) (before fed left : List ℕ) (r : Record) → sealed_at written before fed ≡ Some r → StopsAs (Feed at) (cond (may_be_cut written fed) (stopped Ends) (stopped (Breaks at))) left
+refused_there at before fed left r found = record {
+  end = Breaks at;
+  is = ap (λ (b : Bool). cond b (stopped Ends) (stopped (Breaks at))) (whole_uncut written before fed r found);
+  ends = refl;
+  all = tt;
+}
+
+-- ---- the core holds the state behind the records
+
+module _ (tells stells : Type 0) (d : Directory) (s : State) (rs : List Record) (calls : List Call) (core : Core) (g : Gathering) (h : HoldsBehind tells d s rs calls core g) (ahead : InFeed) (left : List ℕ)
+    (size : ℕ) (core_now : Core) (next : Gathering) (ahead_now : InFeed) (left_now : List ℕ) (one : HasGatheredOne stells d core g ahead left size core_now next ahead_now left_now) where
+  abbrev t : State
+  t = after_records d s rs
+
+  abbrev r : Record
+  r = one.r
+
+  version_is : g.batch.version ≡ written
+  version_is = h.stands.next.version ∙ h.stands.current
+
+  pub gate_on : gate_behind next ≡ gate_behind g + record_size written r
+  gate_on = omega (arith, one.long, ap (λ (k : InHand). k.gate) one.journal_is, long_some g.journal.seal rs g.batch h.stands.next.gathers)
+
+  pub ok : admits written d t (gate_behind g + 1) r ≡ true
+  ok = one.admitted t h.kept
+
+  more : Gathers g.journal.seal (rs ++ r ∷ []) next.batch
+  more = one.gathers g.journal.seal rs h.stands.next.gathers
+
+  pub seal_on : next.batch.seal ≡ seal written g.batch.seal (record_text r)
+  seal_on = seal_more g.journal.seal rs r g.batch next.batch h.stands.next.gathers more one.version ∙ ap (λ (v : Version). seal v g.batch.seal (record_text r)) version_is
+
+  pub state_on : after_records d s (rs ++ r ∷ []) ≡ after d t (event_of_record r)
+  state_on = records_more d s rs r
+
+  kept_now : IsKept written d core_now (gate_behind next) (after_records d s (rs ++ r ∷ []))
+  kept_now =
+      let here = kept_on written d core core_now (gate_behind g) t r h.kept ok one.follows in
+      subst (λ (x : State). IsKept written d core_now (gate_behind next) x) (sym state_on) (subst (λ (k : ℕ). IsKept written d core_now k (after d t (event_of_record r))) (sym gate_on) here)
+
+  next_now : AreNext d s next.journal (rs ++ r ∷ []) next.batch
+  next_now =
+      let P : ℕ → Type 0 = λ n. admits written d t n r ≡ true in
+      let at : gate_behind g + 1 ≡ g.journal.gate + length g.batch.text = omega (arith, long_some g.journal.seal rs g.batch h.stands.next.gathers) in
+      subst (λ (k : InHand). AreNext d s k (rs ++ r ∷ []) next.batch) (sym one.journal_is)
+      (next_more d s g.journal rs r g.batch next.batch h.stands.current h.stands.next one.version more (record { fits = one.fits; admitted = subst P at ok }))
+
+  -- so it does behind one more
+  pub held_one : HoldsBehind tells d s (rs ++ r ∷ []) calls core_now next
+  held_one = record {
+    stands = record {
+      next = next_now;
+      seal_is = one.seal_is ∙ sym seal_on;
+      current = ap (λ (k : InHand). k.version) one.journal_is ∙ h.stands.current;
+      ended = ap (λ (k : InHand). k.ended) one.journal_is ∙ h.stands.ended;
+      room = omega (arith, kept_now.room);
+      stands = λ tell. subst (λ (k : InHand). StandsFor d s calls k) (sym one.journal_is) (h.stands.stands tell);
+    };
+    kept = kept_now;
+  }
+
+pub gathered_of : (tells : Type 0) (d : Directory) (calls : List Call) (core : Core) (g : Gathering) → IsGathering tells d calls core g → IsGathered tells d calls g
+gathered_of tells d calls core g o = record { settled = o.settled; records = o.records; stands = o.holds.stands }
+
+pub can_gather : (tells : Type 0) (d : Directory) (calls : List Call) (core : Core) (g : Gathering) → IsGathering tells d calls core g → CanGather d core g
+can_gather tells d calls core g o = record {
+  state = after_records d o.settled o.records;
+  kept = o.holds.kept;
+  seal_is = o.holds.stands.seal_is;
+  current = o.holds.stands.current;
+  version = o.holds.stands.next.version ∙ o.holds.stands.current;
+}
+
+pub gathered_one : (tells stells : Type 0) (d : Directory) (calls : List Call) (core : Core) (g : Gathering) (ahead : InFeed) (left : List ℕ) (size : ℕ) (core_now : Core) (next : Gathering) (ahead_now : InFeed) (left_now : List ℕ)
+    → IsGathering tells d calls core g → HasGatheredOne stells d core g ahead left size core_now next ahead_now left_now → IsGathering tells d calls core_now next
+gathered_one tells stells d calls core g ahead left size core_now next ahead_now left_now o one = record {
+  settled = o.settled;
+  records = o.records ++ one.r ∷ [];
+  holds = held_one tells stells d o.settled o.records calls core g o.holds ahead left size core_now next ahead_now left_now one;
+}
+
+pub gate_grows : (tells stells : Type 0) (d : Directory) (calls : List Call) (core : Core) (g : Gathering) (ahead : InFeed) (left : List ℕ) (size : ℕ) (core_now : Core) (next : Gathering) (ahead_now : InFeed) (left_now : List ℕ)
+    → IsGathering tells d calls core g → HasGatheredOne stells d core g ahead left size core_now next ahead_now left_now → gate_behind next ≡ gate_behind g + size + 1
+gate_grows tells stells d calls core g ahead left size core_now next ahead_now left_now o one =
+    omega (arith, gate_on tells stells d o.settled o.records calls core g o.holds ahead left size core_now next ahead_now left_now one, one.size_is)
+
+-- ---- what was gathered is brought
+
+pub brings_none : (tells : Type 0) (d : Directory) (s : State) (rs : List Record) (calls : List Call) (g : Gathering) → StandsBehind tells d s rs calls g → length g.batch.text ≡ 1 → HasBrought tells d s rs g calls g
+brings_none tells d s rs calls g h one =
+    let none : rs ≡ [] = none_gathered g.journal.seal rs g.batch h.next.gathers one in
+    let P : List Record → Type 0 = λ l. HasBrought tells d s l g calls g in
+    subst P (sym none) (record { stands = subst (λ (l : List Record). StandsBehind tells d s l calls g) none h; gate_is = refl; seal_is = refl })
+
+pub brings_all : (tells : Type 0) (d : Directory) (s : State) (rs : List Record) (old new : List Call) (g next : Gathering) → StandsBehind tells d s rs old g → next.journal ≡ beyond_block g.journal g.batch.text g.batch.seal
+    → next.batch ≡ no_records next.journal → next.seal ≡ g.seal → (tells → HasAppendedBlock old g.journal g.batch new next.journal) → HasBrought tells d s rs g new next
+brings_all tells d s rs old new g next h place emptied same appended =
+    let t : State = after_records d s rs in
+    let gate : next.journal.gate ≡ gate_behind g = ap (λ (k : InHand). k.gate) place in
+    let at : gate_behind next ≡ gate_behind g = omega (arith, gate, ap (λ (b : Gathered). length b.text) emptied) in
+    let last : next.batch.seal ≡ g.batch.seal = ap (λ (b : Gathered). b.seal) emptied ∙ ap (λ (k : InHand). k.seal) place in
+    record {
+      stands = record {
+        next = subst (λ (b : Gathered). AreNext d t next.journal [] b) (sym emptied) (next_none d t next.journal);
+        seal_is = ap (held written) same ∙ h.seal_is ∙ sym last;
+        current = ap (λ (k : InHand). k.version) place ∙ h.current;
+        ended = ap (λ (k : InHand). k.ended) place ∙ h.ended;
+        room = omega (arith, at, h.room);
+        stands = λ tell. batch_stands d s old g.journal (h.stands tell) rs g.batch h.next new next.journal (appended tell);
+      };
+      gate_is = at;
+      seal_is = last;
+    }
+
+-- nothing was done
+pub still_brings : (tells : Type 0) → tells → (d : Directory) (calls : List Call) (g : Gathering) → MayBring tells d calls g calls
+still_brings tells tell d calls g = λ s rs h. started calls (OpensToOneOf d s (after_records d s rs)) (λ files image. (refl, inl (images_open d s calls g.journal (h.stands tell) files image)))
+
+-- the place behind the records stays
+pub gate_stays : (tells : Type 0) (d : Directory) (old new : List Call) (g next : Gathering) → IsGathered tells d old g → MayHaveBrought tells d old g new next → gate_behind next ≡ gate_behind g
+gate_stays tells d old new g next o (inl same) = ap gate_behind same.1
+gate_stays tells d old new g next o (inr brings) = (brings o.settled o.records o.stands).gate_is
+
+-- the core holds the state behind them still
+pub brought_holds : (tells : Type 0) (d : Directory) (s : State) (rs : List Record) (new : List Call) (core : Core) (g next : Gathering) → IsKept written d core (gate_behind g) (after_records d s rs)
+    → HasBrought tells d s rs g new next → HoldsBehind tells d (after_records d s rs) [] new core next
+brought_holds tells d s rs new core g next kept brought = record {
+  stands = brought.stands;
+  kept = subst (λ (k : ℕ). IsKept written d core k (after_records d s rs)) (sym brought.gate_is) kept;
+}
+
+pub has_room : (tells : Type 0) (d : Directory) (old new : List Call) (core : Core) (g next : Gathering) → IsGathering tells d old core g → MayHaveBrought tells d old g new next → IsGathering tells d new core next
+has_room tells d old new core g next o (inl same) = subst (λ (x : Gathering). IsGathering tells d new core x) (sym same.1) (subst (λ (l : List Call). IsGathering tells d l core g) (sym same.0) o)
+has_room tells d old new core g next o (inr brings) = record {
+  settled = after_records d o.settled o.records;
+  records = [];
+  holds = brought_holds tells d o.settled o.records new core g next o.holds.kept (brings o.settled o.records o.holds.stands);
+}
+
+-- ---- nothing was gathered yet
+
+pub began : (tells : Type 0) (d : Directory) (s : State) (calls : List Call) (core : Core) (j : InHand) (g : Gathering) → HoldsAt tells d s calls core j → g.journal ≡ j → g.batch ≡ no_records j → held j.version g.seal ≡ j.seal
+    → HoldsBehind tells d s [] calls core g
+began tells d s calls core j g h journal batch seals =
+    let gate : gate_behind g ≡ j.gate = omega (arith, ap (λ (k : InHand). k.gate) journal, ap (λ (b : Gathered). length b.text) batch) in
+    record {
+      stands = record {
+        next = subst (λ (b : Gathered). AreNext d s g.journal [] b) (ap no_records journal ∙ sym batch) (next_none d s g.journal);
+        seal_is = ap (λ (v : Version). held v g.seal) (sym h.current) ∙ seals ∙ sym (ap (λ (b : Gathered). b.seal) batch);
+        current = ap (λ (k : InHand). k.version) journal ∙ h.current;
+        ended = ap (λ (k : InHand). k.ended) journal ∙ h.ended;
+        room = omega (arith, gate, h.kept.room);
+        stands = λ tell. subst (λ (k : InHand). StandsFor d s calls k) (sym journal) (h.stands tell);
+      };
+      kept = subst (λ (k : ℕ). IsKept written d core k s) (sym gate) h.kept;
+    }
