@@ -56,11 +56,6 @@ gave_more : (d : Directory) (s : State) (c : ℕ) (frames : List Frame) (f : Fra
 gave_more d s c [] f all one = (one, tt)
 gave_more d s c (x ∷ frames) f all one = (all.0, gave_more d (after d s (Taken c)) c frames f all.1 one)
 
--- the state after one more
-after_more : (d : Directory) (s : State) (c n : ℕ) → after_takes d s c (n + 1) ≡ after d (after_takes d s c n) (Taken c)
-after_more d s c zero = refl
-after_more d s c (suc n) = after_more d (after d s (Taken c)) c n
-
 -- takes that are gathered come to the state after them
 state_taken : (d : Directory) (s : State) (c n : ℕ) → after_all d s (all_done (replicate n (Taken c))) ≡ after_takes d s c n
 state_taken d s c zero = refl
@@ -181,16 +176,13 @@ module _ {P : Type 0} (tells : Type 0) (calls : P → List Call) (disk say : P �
         left : AfterCall (M engine makes tells calls disk say) b h [] (Taken c) (Err fault) new
         left = subst (λ (x : Result Outcome SwitchFault). AfterCall (M engine makes tells calls disk say) b h [] (Taken c) x new) is after_first
 
-        caused : (f : SwitchFault) → result ≡ Err f → _
-        caused f e = called.caused (origin_with b stands.compactions) h [] stands.keeps f e
-
         go : (f : SwitchFault) → result ≡ Err f → AfterCall (M engine makes tells calls disk say) b h [] (Taken c) (Err f) new
             → (more : List Entry) × LeavesTaken tells calls disk say b h c [] (Err f) new more
         go DiskFault e a = absurd (a.some refl)
         go SayFault e a = absurd (never (subst (λ (x : Result Outcome SwitchFault). IsErrOf x SayFault) (sym e) refl))
         go (Full used need limit) e a =
             absurd (takes_accept_nothing tells calls disk say b d (state_at b.origin (h ++ [])) c
-            (full_accepts d (state_at b.origin (h ++ [])) (used_at (origin_with b stands.compactions) (h ++ [])) (Taken c) (outcome d (state_at b.origin (h ++ [])) (Taken c)) (Full used need limit) (caused (Full used need limit) e)))
+            (full_accepts d (state_at b.origin (h ++ [])) (used_at (origin_with b stands.compactions) (h ++ [])) (Taken c) (outcome d (state_at b.origin (h ++ [])) (Taken c)) (Full used need limit) (called.caused (origin_with b stands.compactions) h [] stands.keeps (Full used need limit) e)))
         go (Stopped by) e a = (
           Idle (Taken c) (Stopped by) ∷ [],
           record {
@@ -199,7 +191,7 @@ module _ {P : Type 0} (tells : Type 0) (calls : P → List Call) (disk say : P �
           },
         )
         go Spent e a = absurd a
-        go NoMemory e a = absurd (takes_accept_nothing tells calls disk say b old.directory (after_all old.directory (begun b.origin.start) (h ++ [])) c (caused NoMemory e))
+        go NoMemory e a = absurd (takes_accept_nothing tells calls disk say b old.directory (after_all old.directory (begun b.origin.start) (h ++ [])) c (called.caused (origin_with b stands.compactions) h [] stands.keeps NoMemory e))
 
   -- ---- one behind it
 
