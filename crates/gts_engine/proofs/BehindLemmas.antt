@@ -1,5 +1,5 @@
 -- A take that is gathered behind what was, with nothing settled before.
-use Rattle.std.proofs.Common.{◌≡◌, ℕ, ◌+◌, ◌≤◌, Bool, true, false, List, [], ◌∷◌, ◌++◌, length, Option, Some, Ok, None, refl, sym, ap, subst, ◌∙◌, arith, length-append}
+use Rattle.std.proofs.Common.{◌≡◌, ℕ, suc, ◌+◌, ◌≤◌, Bool, true, false, List, [], ◌∷◌, ◌++◌, length, Option, Some, Ok, None, refl, sym, ap, subst, ◌∙◌, arith, length-append}
 use Rattle.std.specs.Prelude.{IfNone, IfSome}
 use Rattle.gts_traits.specs.Calls.{Call, Outside}
 use Rattle.gts_directory.specs.Directory.{Directory}
@@ -25,7 +25,7 @@ use Rattle.gts_engine.specs.Gathering.{AnswersIn, TakesBehind}
 
 length_pieces : (mode : SayMode) (d : Directory) (s : State) (events : List Event) → length (pieces mode d s events) ≡ length events
 length_pieces mode d s [] = refl
-length_pieces mode d s (e ∷ events) = ap (λ (n : ℕ). 1 + n) (length_pieces mode d (after d s e) events)
+length_pieces mode d s (e ∷ events) = ap suc (length_pieces mode d (after d s e) events)
 
 -- while something is gathered there is an event of it
 some_event : (e : Shown) (d : Directory) (s : State) (events : List Event) → AreGathered e d s events → e.gathered ≡ true → 1 ≤ length events
