@@ -228,7 +228,7 @@ module _ {P : Type 0} (tells : Type 0) (calls : P → List Call) (disk say : P �
   -- ---- a take
 
   -- what is said of a take is its frame
-  frame_said : (d : Directory) (s : State) (c : ℕ) (out : List ℕ) (o : Outcome) → o ≡ outcome d s (Taken c) → (o ≢ Nothing → spoken d s (Taken c) ≡ on (c + 1) out) → LeavesFrame d c out o s
+  pub frame_said : (d : Directory) (s : State) (c : ℕ) (out : List ℕ) (o : Outcome) → o ≡ outcome d s (Taken c) → (o ≢ Nothing → spoken d s (Taken c) ≡ on (c + 1) out) → LeavesFrame d c out o s
   frame_said d s c out o is says = go (choice d s c) refl o is says
     where
       same : (bytes : List ℕ) → on (c + 1) bytes ≡ on (c + 1) out → out ≡ bytes

@@ -82,12 +82,11 @@ impl<'a, R: Wait, P: Station, B: Began> HallDesk<'a, R, P, B> {
         }
     }
 
-    /// Wakes those who wait for room, where a draw has gone out, or behind a fault nothing is dealt with any more.
+    /// Wakes those who wait for room, where behind a fault nothing is dealt with any more.
     fn wakes(&self, answer: Result<Outcome, SwitchFault>) {
         match answer {
-            Err(SwitchFault::Full { .. } | SwitchFault::NoMemory) => {}
-            Ok(Outcome::Draw { .. }) | Err(_) => self.room.wake(),
-            Ok(_) => {}
+            Err(SwitchFault::Full { .. } | SwitchFault::NoMemory) | Ok(_) => {}
+            Err(_) => self.room.wake(),
         }
     }
 
@@ -159,20 +158,14 @@ impl<'a, R: Wait, P: Station, B: Began> Desk for HallDesk<'a, R, P, B> {
     }
 
     fn take_some(&mut self, c: u32, given: &mut Given) -> Result<bool, SwitchFault> {
-        given.frames.clear();
         let Some(pass) = self.pass.take() else {
             unreachable!()
         };
-        let (pass, answer) = turns::take(self.rt, self.hall, pass, c, &mut given.one);
+        let (pass, answer) = turns::take_some(self.rt, self.hall, pass, c, given);
         self.pass = Some(pass);
-        self.wakes(answer);
-        match answer? {
-            Outcome::Resend { index } | Outcome::Draw { index } => {
-                given.one.holds_a_frame_at_most();
-                given.frames.add(index, given.one.bytes());
-                Ok(true)
-            }
-            _ => Ok(false),
+        if answer != Ok(false) || given.frames.count() > 0 {
+            self.room.wake();
         }
+        answer
     }
 }
