@@ -110,11 +110,7 @@ impl Heading {
     pub fn is_same(&self, other: &Heading) -> bool
         ensures { result ≡ is_same_heading (fields_of self.now) (fields_of other.now) }
     {
-        let mut one = [0; 22];
-        let mut two = [0; 22];
-        let length = self.write(&mut one);
-        let other_length = other.write(&mut two);
-        &one[..length] == &two[..other_length]
+        *self == *other
     }
 
     /// Reads a heading and its group, with their length.
