@@ -1,8 +1,6 @@
 //! Laws of what a desk has seen, each the contract of a function with an empty body.
 ghost use Rattle.std.specs.Prelude.{◌≡◌, List, ◌+◌, ◌∷◌, ◌++◌};
-ghost use Rattle.gts_event.specs.declared.event.Entry.{Entry};
-ghost use Rattle.gts_desk.specs.Desks.{Seen, own, state_at, under, AddsEntries, AddsAny, PassesBetween, IsSpent, GoesOn};
-ghost use Rattle.gts_desk.specs.Frames.{own_frames, frames};
+ghost use Rattle.gts_desk.specs.Cited.{AddsAny, AddsEntries, Entry, GoesOn, IsSpent, PassesBetween, Seen, frames, own, own_frames, state_at, under};
 
 /// What a turn adds are entries of the desk's own, and it counts as one.
 pub fn each_turn_adds_own_entries()

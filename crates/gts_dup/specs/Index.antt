@@ -1,10 +1,6 @@
 -- The index over the pairs.
 use Rattle.std.specs.Prelude.{◌≡◌, ℕ, ◌<◌, ◌≤◌, Bool, false, ◌&&◌, ◌==◌, nat_eq, List, length, reverse, find, Option, Some, None, option_map, if◌then◌else◌}
-use Rattle.std.specs.Cmp.Lexicographic.{pointwise}
-use Rattle.std.specs.HashMap.{HashMap, get, spare}
-use Rattle.std.specs.declared.hash.FoldHasher.{FoldHasher}
-use Rattle.std.specs.declared.hash.BuildHasherDefault.{BuildHasherDefault}
-use Rattle.circular_buffer.specs.Buffer.{Buffer}
+use Rattle.gts_dup.specs.Cited.Below.{Buffer, BuildHasherDefault, FoldHasher, HashMap, get, pointwise, spare}
 use Rattle.gts_dup.specs.declared.key.Key.{Key}
 use Rattle.gts_dup.specs.Window.{Window, is_of, Ascends}
 

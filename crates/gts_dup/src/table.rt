@@ -1,9 +1,5 @@
 ghost use Rattle.std.specs.Prelude.{◌≡◌, ◌<◌, ◌≤◌, ◌+◌, ◌++◌, [], ◌∷◌, length, slice_get, IfSome, IfNone, IfOk, OnOk};
-ghost use Rattle.std.specs.HashMap.{spare};
-ghost use Rattle.circular_buffer.specs.Buffer.{buffer};
-ghost use Rattle.gts_heading.specs.Heading.{fields_of};
-ghost use Rattle.gts_dup.specs.Window.{latest_below, recent_pairs, AllBelow, AllRecent, IsGreatestBelow, NoneBelow, digest_of};
-ghost use Rattle.gts_dup.specs.Index.{Forgets, IsSound};
+ghost use Rattle.gts_dup.specs.Cited.{AllBelow, AllRecent, Forgets, IsGreatestBelow, IsSound, NoneBelow, buffer, digest_of, fields_of, latest_below, recent_pairs, spare};
 
 use crate::key::Key;
 use circular_buffer::HeapCircularBuffer;

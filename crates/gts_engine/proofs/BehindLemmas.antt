@@ -1,27 +1,6 @@
 -- A take that is gathered behind what was, with nothing settled before.
-use Rattle.std.proofs.Common.{◌≡◌, ℕ, suc, ◌+◌, ◌≤◌, Bool, true, false, List, [], ◌∷◌, ◌++◌, length, Option, Some, Ok, None, refl, sym, ap, subst, ◌∙◌, arith, length-append}
-use Rattle.std.specs.Prelude.{IfNone, IfSome}
-use Rattle.gts_traits.specs.Calls.{Call, Outside}
-use Rattle.gts_directory.specs.Directory.{Directory}
-use Rattle.gts_event.specs.State.{State}
-use Rattle.gts_event.specs.History.{outcome as outcome_of, after}
-use Rattle.gts_event.specs.Drain.{all_done}
-use Rattle.gts_event.specs.declared.event.Event.{Event}
-use Rattle.gts_event.specs.declared.event.Event.TheVariants.{Taken}
-use Rattle.gts_event.specs.declared.event.Entry.{Entry}
-use Rattle.gts_event.specs.declared.outcome.Outcome.{Outcome}
-use Rattle.gts_record.specs.Record.{Record}
-use Rattle.gts_core.specs.Core.{Holds}
-use Rattle.gts_calls.specs.Calls.{IsOneMore, GathersOne, Behind, Alone, AtOnce}
-use Rattle.gts_engine.specs.declared.mode.SayMode.{SayMode}
-use Rattle.gts_engine.specs.declared.mode.SayMode.TheVariants.{Caller}
-use Rattle.gts_engine.specs.declared.parts.Parts.{Parts}
-use Rattle.gts_engine.specs.Engine.{Engine, Shown, engine_of, shown}
-use Rattle.gts_engine.specs.Origin.{Origin, state_at}
-use Rattle.gts_engine.specs.Keeping.{Gathers, AreGathered, pieces, state_behind, meanings_of}
-use Rattle.gts_engine.specs.Sayings.{joined}
-use Rattle.gts_engine.specs.Going.{gathered_after}
-use Rattle.gts_engine.specs.Gathering.{AnswersIn, TakesBehind}
+use Rattle.std.proofs.Common.{◌≡◌, ℕ, suc, ◌+◌, ◌≤◌, Bool, true, false, List, [], ◌∷◌, ◌++◌, length, Option, Some, Ok, None, refl, sym, ap, subst, ◌∙◌, arith, length-append, IfNone, IfSome}
+use Rattle.gts_engine.specs.Cited.{Alone, AnswersIn, AreGathered, AtOnce, Behind, Call, Caller, Directory, Engine, Entry, Event, Gathers, GathersOne, Holds, IsOneMore, Origin, Outcome, Outside, Parts, Record, SayMode, Shown, State, Taken, TakesBehind, after, all_done, engine_of, gathered_after, joined, meanings_of, outcome as outcome_of, pieces, shown, state_at, state_behind}
 
 length_pieces : (mode : SayMode) (d : Directory) (s : State) (events : List Event) → length (pieces mode d s events) ≡ length events
 length_pieces mode d s [] = refl

@@ -1,27 +1,6 @@
 -- What an engine has gathered that isn't in its journal yet, what bringing it there leaves, and what a call leaves that gathers.
 use Rattle.std.specs.Prelude.{◌≡◌, ◌⊎◌, ℕ, ◌<◌, ◌≤◌, length, take, true, false, List, [], ◌∷◌, ◌++◌, Result, Ok, Err, OnOk, IfOk, IfErr}
-use Rattle.std.specs.List.{slice_index_or}
-use Rattle.gts_traits.specs.Calls.{Call, Says, Outside, on, said_by, SaidSince}
-use Rattle.gts_traits.specs.Counts.{Rose}
-use Rattle.gts_traits.specs.Disk.{Files}
-use Rattle.gts_traits.specs.Station.{Tries, IsFront}
-use Rattle.gts_traits.specs.Moments.{EachSince}
-use Rattle.gts_directory.specs.Directory.{Directory}
-use Rattle.gts_event.specs.State.{State}
-use Rattle.gts_event.specs.History.{outcome as outcome_of}
-use Rattle.gts_event.specs.declared.event.Event.{Event}
-use Rattle.gts_event.specs.declared.event.Event.TheVariants.{Taken}
-use Rattle.gts_event.specs.declared.event.Entry.{Entry}
-use Rattle.gts_event.specs.declared.outcome.Outcome.{Outcome}
-use Rattle.gts_event.specs.declared.fault.SwitchFault.{SwitchFault}
-use Rattle.gts_event.specs.declared.fault.SwitchFault.TheVariants.{DiskFault, SayFault}
-use Rattle.gts_record.specs.Record.{Record}
-use Rattle.gts_journal.specs.{InHand, StandsFor}
-use Rattle.gts_journal.specs.Batch.{Gathered, AreNext, OpensToOneOf}
-use Rattle.gts_journal.specs.Law.{OpensTo}
-use Rattle.gts_core.specs.Core.{Holds}
-use Rattle.gts_opening.specs.Journal.{after_records}
-use Rattle.gts_calls.specs.Calls.{HasCallCause, AfterSettling, AfterCall, IsAnswered, IsSettling}
+use Rattle.gts_engine.specs.Cited.Below.{AfterCall, AfterSettling, AreNext, Call, Directory, DiskFault, EachSince, Entry, Event, Files, Gathered, HasCallCause, Holds, InHand, IsAnswered, IsFront, IsSettling, OpensTo, OpensToOneOf, Outcome, Outside, Record, Rose, SaidSince, SayFault, Says, StandsFor, State, SwitchFault, Taken, Tries, after_records, on, outcome as outcome_of, said_by, slice_index_or}
 use Rattle.gts_engine.specs.declared.mode.SayMode.{SayMode}
 use Rattle.gts_engine.specs.declared.mode.SayMode.TheVariants.{Caller}
 use Rattle.gts_engine.specs.declared.parts.Parts.{Parts}

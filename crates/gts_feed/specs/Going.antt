@@ -1,19 +1,7 @@
 -- Entries that were to be added to those for which a switch stands, and those that were.
 use Rattle.std.specs.Prelude.{◌≡◌, ◌⊎◌, ℕ, ◌≤◌, List, [], ◌∷◌, ◌++◌, length, Result, Ok, Err}
-use Rattle.gts_frame.specs.Decoder.{Decoding}
-use Rattle.gts_frame.specs.declared.step.Step.{Step}
-use Rattle.gts_frame.specs.declared.kind.Kind.{Kind}
-use Rattle.gts_frame.specs.declared.lost.LostField.{LostField}
-use Rattle.gts_event.specs.Drain.{all_done, all_unsaid}
-use Rattle.gts_event.specs.declared.event.Event.{Event}
+use Rattle.gts_feed.specs.Cited.Below.{AfterCall, Decoding, DiskFault, Done, Doubt, Entry, Event, Full, Idle, IsAnswerCause, IsCause, IsInDoubt, Kind, LostField, NoMemory, Outcome, SayFault, Spent, Standing, Stands, Step, Stopped, SwitchFault, all_done, all_unsaid, events_added, outcome_at, settled}
 use Rattle.gts_event.specs.declared.event.Event.TheVariants as event
-use Rattle.gts_event.specs.declared.event.Entry.{Entry}
-use Rattle.gts_event.specs.declared.event.Entry.TheVariants.{Done, Idle, Doubt}
-use Rattle.gts_event.specs.declared.fault.SwitchFault.{SwitchFault}
-use Rattle.gts_event.specs.declared.fault.SwitchFault.TheVariants.{DiskFault, SayFault, Full, Stopped, Spent, NoMemory}
-use Rattle.gts_event.specs.declared.outcome.Outcome.{Outcome}
-use Rattle.gts_connection.specs.Connection.{events_added}
-use Rattle.gts_calls.specs.{Standing, Stands, settled, AfterCall, IsInDoubt, IsCause, IsAnswerCause, outcome_at}
 use Rattle.gts_feed.specs.Fed.{EndsWith, IsWanting, AddsFed, EndsOver}
 use Rattle.gts_feed.specs.Reading.{Reads}
 use Rattle.gts_feed.specs.declared.fed.FeedEnd.{FeedEnd}

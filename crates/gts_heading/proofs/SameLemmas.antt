@@ -2,10 +2,7 @@
 use Rattle.std.proofs.Common.{◌≡◌, ℕ, Bool, true, false, ◌&&◌, nat_eq, List, Option, None, Some, refl, sym, ap, ◌∙◌}
 use Rattle.std.proofs.lemmas.Bool.{true≢false}
 use Rattle.std.proofs.lemmas.Bool.Decides.{Decides-eqb}
-use Rattle.std.specs.Bool.{Decides}
-use Rattle.std.specs.Option.{option_eq}
-use Rattle.std.specs.Cmp.Lexicographic.{pointwise, bytes_decides}
-use Rattle.gts_heading.specs.Heading.{HeadingFields, IsHeading, heading_text, is_same_heading}
+use Rattle.gts_heading.specs.Cited.{Decides, HeadingFields, IsHeading, bytes_decides, heading_text, is_same_heading, option_eq, pointwise}
 use Rattle.gts_heading.proofs.HeadingLemmas.{same_heading}
 
 -- field by field

@@ -36,9 +36,7 @@ pub struct Heading {
 }
 
 impl Heading {
-    ghost use Rattle.gts_alphabet.specs.Reads.{Reads};
-    ghost use Rattle.gts_heading.specs.Heading.{HeadingFields, IsHeading, IsHeadingLine, fields_of, heading_text, is_same_heading};
-    ghost use Rattle.gts_heading.specs.Reading.{plain_heading_at, bare_group_at, message_group_at, bare_heading_at, heading_at, NoBlank};
+    ghost use Rattle.gts_heading.specs.Cited.{HeadingFields, IsHeading, IsHeadingLine, NoBlank, Reads, bare_group_at, bare_heading_at, fields_of, heading_at, heading_text, is_same_heading, message_group_at, plain_heading_at};
 
     /// Reads a heading at the front, with a BBB group where a blank follows the minute, and answers how many bytes it
     /// has: 18 or 22. The refusal is the first field from `Tt` to `Bbb` that isn't there.

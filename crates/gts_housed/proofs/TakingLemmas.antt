@@ -1,37 +1,7 @@
 -- Several takes on one circuit, one behind another in one turn.
-use Rattle.std.proofs.Common.{◌≡◌, ◌≢◌, ◌⊎◌, inl, inr, ℕ, zero, suc, ◌+◌, ◌-◌, ◌≤◌, Bool, true, false, List, [], ◌∷◌, ◌++◌, length, map, replicate, Option, Some, None, Result, Ok, Err, refl, sym, ap, subst, ◌∙◌, arith, length-append}
-use Rattle.std.specs.Prelude.{IfOk, IfSome, IfErr, IsErrOf, slice_get, slice_index_or}
-use Rattle.std.proofs.lemmas.List.{append-nil, append_assoc, replicate_more}
-use Rattle.gts_traits.specs.Calls.{Call}
-use Rattle.gts_traits.specs.Counts.{Rose}
-use Rattle.gts_directory.specs.Directory.{Directory, Circuit}
-use Rattle.gts_event.specs.State.{State}
-use Rattle.gts_event.specs.History.{outcome, after, after_all, choice, Choice, Repeats, Draws, Nothing_waits}
-use Rattle.gts_event.specs.Need.{begun}
-use Rattle.gts_event.specs.Said.{line}
-use Rattle.gts_event.specs.Drain.{all_done}
-use Rattle.gts_event.specs.declared.event.Event.{Event}
-use Rattle.gts_event.specs.declared.event.Event.TheVariants.{Taken}
-use Rattle.gts_event.specs.declared.event.Entry.{Entry}
-use Rattle.gts_event.specs.declared.event.Entry.TheVariants.{Done, Idle, Doubt}
-use Rattle.gts_event.specs.declared.outcome.Outcome.{Outcome}
-use Rattle.gts_event.specs.declared.outcome.Outcome.TheVariants.{Accepted, Duplicate, Asked, Refused, LineLost, Resend, Draw, Nothing}
-use Rattle.gts_event.specs.declared.fault.Device.{Device}
-use Rattle.gts_event.specs.declared.fault.SwitchFault.{SwitchFault}
-use Rattle.gts_event.specs.declared.fault.SwitchFault.TheVariants.{DiskFault, SayFault, Full, Stopped, Spent, NoMemory}
-use Rattle.gts_opening.specs.Room.{IsAccepted}
-use Rattle.gts_core.specs.Core.{Holds, Says}
-use Rattle.gts_calls.specs.{settled, IsAnswered, IsSettling, AfterCall, AfterSettling, IsOneMore, GathersOne, HasCallCause}
-use Rattle.gts_calls.specs.Calls.{Behind, Alone, AtOnce}
-use Rattle.gts_engine.specs.declared.mode.SayMode.TheVariants.{Caller}
-use Rattle.gts_engine.specs.Engine.{Engine, shown}
-use Rattle.gts_engine.specs.Origin.{Origin, state_at, used_at}
-use Rattle.gts_engine.specs.Keeping.{Gathers, AreGathered, state_behind, meanings_of}
-use Rattle.gts_engine.specs.Gathering.{TakesBehind}
-use Rattle.gts_engine.specs.Sayings.{joined}
-use Rattle.gts_desk.specs.{Frame, LeavesFrame, takes, given_index, Gave, GaveAll, after_takes, most_beside}
-use Rattle.gts_housed.specs.Housed.{Beginning, StandsWith, Stands, origin_with}
-use Rattle.gts_housed.specs.Taking.{frames_by, gives, count_of, AreTaken, HasTaken, AddsTaken, LeavesTaken}
+use Rattle.std.proofs.Common.{◌≡◌, ◌≢◌, inl, inr, ℕ, zero, suc, ◌+◌, ◌≤◌, Bool, true, false, List, [], ◌∷◌, ◌++◌, length, map, replicate, Some, None, Result, Ok, Err, refl, sym, ap, subst, ◌∙◌, arith, length-append, IsErrOf, slice_index_or}
+use Rattle.std.proofs.lemmas.List.{append-nil, replicate_more}
+use Rattle.gts_housed.specs.Cited.{Accepted, AddsTaken, AfterCall, AfterSettling, Alone, AreGathered, AreTaken, Asked, AtOnce, Beginning, Behind, Call, Caller, Choice, Circuit, Directory, DiskFault, Done, Doubt, Draw, Draws, Duplicate, Engine, Entry, Event, Frame, Full, GathersOne, Gave, GaveAll, HasCallCause, HasTaken, Holds, Idle, IsAnswered, IsOneMore, IsSettling, LeavesFrame, LeavesTaken, LineLost, NoMemory, Nothing, Nothing_waits, Origin, Outcome, Refused, Repeats, Resend, SayFault, Says, Spent, Stands, StandsWith, State, Stopped, SwitchFault, Taken, TakesBehind, after, after_all, after_takes, all_done, begun, choice, count_of, frames_by, given_index, gives, joined, line, meanings_of, origin_with, outcome, shown, state_at, state_behind, takes, used_at}
 use Rattle.gts_housed.proofs.StandingLemmas.{rose_on, full_accepts, frame_said, takes_accept_nothing}
 use Rattle.gts_housed.proofs.GatheringLemmas.{M, answered, settles}
 
@@ -299,9 +269,3 @@ module _ {P : Type 0} (tells : Type 0) (calls : P → List Call) (disk say : P �
       go (Stopped by) a n = absurd a
       go Spent a n = absurd a
       go NoMemory a n = absurd a
-
--- the row of a circuit has the number of its repetitions
-pub most_is : (rows : List Circuit) (c : ℕ) (row : Circuit) → slice_get rows c ≡ Some row → slice_index_or (map (λ (r : Circuit). r.repeat) rows) c 0 ≡ row.repeat
-most_is [] c row is = absurd (cc is)
-most_is (r ∷ rows) zero row is = let same : r ≡ row = cc is in ap (λ (x : Circuit). x.repeat) same
-most_is (r ∷ rows) (suc c) row is = most_is rows c row is

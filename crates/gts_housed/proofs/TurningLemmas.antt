@@ -2,30 +2,8 @@
 use Rattle.std.proofs.Common.{◌≡◌, inl, ℕ, ◌+◌, Bool, true, false, List, [], ◌∷◌, ◌++◌, length, replicate, Result, Ok, Err, refl, sym, ap, subst, ◌∙◌, length-append}
 use Rattle.std.proofs.lemmas.List.{append-nil, append_cancel_left}
 use contract.BorrowLft.{◌⊑◌, ⊑_meet, ⊑_static}
-use Rattle.gts_traits.specs.Calls.{Call}
-use Rattle.gts_lock.specs.{entries, entries_under, Known, StartsWith, after_seeing, after_adding}
-use Rattle.gts_event.specs.State.{State}
-use Rattle.gts_event.specs.declared.event.Event.{Event}
-use Rattle.gts_event.specs.declared.event.Event.TheVariants.{Taken}
-use Rattle.gts_event.specs.declared.event.Entry.{Entry}
-use Rattle.gts_event.specs.declared.outcome.Outcome.{Outcome}
-use Rattle.gts_event.specs.declared.event.Entry.TheVariants.{Done, Unsaid, Idle, Doubt}
-use Rattle.gts_event.specs.declared.fault.SwitchFault.{SwitchFault}
-use Rattle.gts_event.specs.declared.fault.SwitchFault.TheVariants.{DiskFault, SayFault, Full, Stopped, Spent, NoMemory}
-use Rattle.gts_opening.specs.Room.{IsCaused}
-use Rattle.gts_engine.specs.Engine.{Engine}
-use Rattle.gts_engine.specs.Origin.{history_of, state_at}
-use Rattle.gts_event.specs.History.{outcome}
-use Rattle.gts_feed.specs.Fed.{AddsFed}
-use Rattle.gts_feed.specs.declared.fed.FeedEnd.{FeedEnd}
-use Rattle.gts_feed.specs.declared.fed.FeedEnd.TheVariants.{All, Lost, Wanting, Fault}
-use Rattle.gts_desk.specs.Desks.{Seen, under, AddsAll, AddsEntries, AddsAny, Answers, Feeds, LeavesFrame}
-use Rattle.gts_desk.specs.Given.{Frame, takes, GaveAll, GaveNoMore, TakesSome}
-use Rattle.gts_housed.specs.Taking.{AddsTaken}
+use Rattle.gts_housed.specs.Cited.{AddsAll, AddsAny, AddsEntries, AddsFed, AddsTaken, All, Answers, Beginning, Call, DeskTakes, DiskFault, Done, Doubt, Engine, Entry, Event, Fault, FeedEnd, Feeds, Frame, Full, GaveAll, GaveNoMore, Idle, IsCaused, IsTurn, Known, KnowsOwn, LeavesFrame, Lost, NoMemory, Outcome, SayFault, Seen, Spent, Stands, StartsWith, State, Stopped, SwitchFault, Taken, TakesSome, Unsaid, Wanting, after_adding, after_seeing, all_of, entries, entries_under, entry_by, flat, history_of, outcome, seen_by, state_at, takes, under}
 use Rattle.gts_housed.specs.Housed as housed
-use Rattle.gts_housed.specs.Housed.{Beginning, Stands, entry_by}
-use Rattle.gts_housed.specs.Turning.{KnowsOwn, seen_by, IsTurn, DeskTakes}
-use Rattle.gts_housed.specs.Flat.{all_of, flat}
 use Rattle.gts_housed.proofs.FlatLemmas.{entries-append, under-append, all_of_one, flat-append, flat_one, entries_flat, under_flat}
 
 -- a lifetime within those of both types

@@ -1,24 +1,6 @@
 -- The engine as a hall's value: what it stands for, and what a call on it adds.
 use Rattle.std.specs.Prelude.{◌≡◌, refl, ◌≢◌, ℕ, ◌≤◌, Bool, true, false, List, [], ◌∷◌, ◌++◌, Result, Ok, Err, Some, IsSome}
-use Rattle.gts_traits.specs.Calls.{Call}
-use Rattle.gts_traits.specs.Counts.{Rose}
-use Rattle.gts_directory.specs.Directory.{Directory, directory_of}
-use Rattle.gts_event.specs.State.{State}
-use Rattle.gts_event.specs.History.{outcome}
-use Rattle.gts_event.specs.Need.{nothing, begun}
-use Rattle.gts_event.specs.declared.event.Event.{Event}
-use Rattle.gts_event.specs.declared.event.Entry.{Entry}
-use Rattle.gts_event.specs.declared.event.Entry.TheVariants.{Done, Unsaid, Idle, Doubt}
-use Rattle.gts_event.specs.declared.outcome.Outcome.{Outcome}
-use Rattle.gts_event.specs.declared.fault.SwitchFault.{SwitchFault}
-use Rattle.gts_event.specs.declared.fault.SwitchFault.TheVariants.{DiskFault, SayFault, Full, Spent}
-use Rattle.gts_opening.specs.Room.{HasDoubt, HasUnsaid, full}
-use Rattle.gts_calls.specs.Calls.{Standing}
-use Rattle.gts_engine.specs.declared.mode.SayMode.TheVariants.{Caller}
-use Rattle.gts_engine.specs.Engine.{Engine, shown}
-use Rattle.gts_engine.specs.Origin.{Origin, state_at, used_at}
-use Rattle.gts_engine.specs.Keeping.{Gathers, IsLeft, IsFullCompacted}
-use Rattle.gts_engine.specs.Rooming.{full_with_spare}
+use Rattle.gts_housed.specs.Cited.Below.{Call, Caller, Directory, DiskFault, Done, Doubt, Engine, Entry, Event, Full, Gathers, HasDoubt, HasUnsaid, Idle, IsFullCompacted, IsLeft, Origin, Outcome, Rose, SayFault, Spent, Standing, State, SwitchFault, Unsaid, begun, directory_of, full, full_with_spare, nothing, outcome, shown, state_at, used_at}
 
 -- What a hall's history begins with: the engine's origin, with no compaction since, the counts of its station's faults by then,
 -- and whether room is made for bulletins for which the journal has none, by compactions.

@@ -1,20 +1,6 @@
 -- Several takes on one circuit, one behind another in one turn.
 use Rattle.std.specs.Prelude.{◌≡◌, ◌⊎◌, ℕ, ◌+◌, ◌≤◌, Bool, true, false, List, [], ◌∷◌, ◌++◌, length, replicate, Result, Ok, Err}
-use Rattle.gts_traits.specs.Calls.{Call}
-use Rattle.gts_event.specs.History.{outcome}
-use Rattle.gts_event.specs.declared.event.Event.{Event}
-use Rattle.gts_event.specs.declared.event.Event.TheVariants.{Taken}
-use Rattle.gts_event.specs.declared.event.Entry.{Entry}
-use Rattle.gts_event.specs.declared.event.Entry.TheVariants.{Idle, Doubt}
-use Rattle.gts_event.specs.declared.outcome.Outcome.{Outcome}
-use Rattle.gts_event.specs.declared.outcome.Outcome.TheVariants.{Resend, Draw, Nothing}
-use Rattle.gts_event.specs.declared.fault.SwitchFault.{SwitchFault}
-use Rattle.gts_event.specs.declared.fault.SwitchFault.TheVariants.{DiskFault, Stopped}
-use Rattle.gts_engine.specs.Engine.{Engine}
-use Rattle.gts_engine.specs.Origin.{state_at}
-use Rattle.gts_engine.specs.Sayings.{joined}
-use Rattle.gts_desk.specs.{Frame, takes, GaveAll, after_takes, GaveNoMore, most_beside}
-use Rattle.gts_lock.specs.{entries}
+use Rattle.gts_housed.specs.Cited.Below.{Call, DiskFault, Doubt, Draw, Engine, Entry, Event, Frame, GaveAll, GaveNoMore, Idle, Nothing, Outcome, Resend, Stopped, SwitchFault, Taken, after_takes, entries, joined, most_beside, outcome, state_at, takes}
 use Rattle.gts_housed.specs.Flat.{all_of}
 use Rattle.gts_housed.specs.Housed.{Beginning, StandsWith, Stands}
 

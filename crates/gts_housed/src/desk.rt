@@ -1,5 +1,5 @@
 ghost use Rattle.std.specs.Prelude.{◌≡◌, Some};
-ghost use Rattle.gts_housed.specs.{KnowsOwn};
+ghost use Rattle.gts_housed.specs.Turning.{KnowsOwn};
 
 use crate::began::Began;
 use crate::housed::Housed;
@@ -33,7 +33,7 @@ pub struct HallDesk<'a, R: Wait, P: Station, B: Began> {
 impl<'a, R: Wait, P: Station, B: Began> Model for HallDesk<'a, R, P, B> {
     ghost use Rattle.std.specs.Prelude.{List};
     ghost use Rattle.gts_event.specs.declared.event.Entry.{Entry};
-    ghost use Rattle.gts_lock.specs.{Known};
+    ghost use Rattle.gts_lock.specs.Cited.{Known};
 
     ghost Value = { Known (List Entry) };
 
@@ -110,7 +110,7 @@ impl<'a, R: Wait, P: Station, B: Began> HallDesk<'a, R, P, B> {
 }
 
 impl<'a, R: Wait, P: Station, B: Began> Desk for HallDesk<'a, R, P, B> {
-    ghost use Rattle.gts_housed.specs.{seen_by};
+    ghost use Rattle.gts_housed.specs.Turning.{seen_by};
 
     ghost seen = { λ d. seen_by B.beginning d };
 

@@ -1,9 +1,6 @@
 //! Several takes on one circuit, one behind another in one turn.
 ghost use Rattle.std.specs.Prelude.{◌≡◌, ◌<◌, ◌≤◌, ◌++◌, [], List, length, slice_index_or, map};
-ghost use Rattle.gts_event.specs.declared.event.Entry.{Entry as EntryType};
-ghost use Rattle.gts_desk.specs.{frames_of, HasRoom};
-ghost use Rattle.gts_housed.specs.Housed.{Stands};
-ghost use Rattle.gts_housed.specs.Taking.{frames_by, gives, count_of, HasTaken, LeavesTaken};
+ghost use Rattle.gts_housed.specs.Cited.{Entry as EntryType, HasRoom, HasTaken, LeavesTaken, Stands, count_of, frames_by, frames_of, gives};
 
 use crate::began::Began;
 use crate::housed::Housed;

@@ -1,12 +1,6 @@
 //! One turn of a pass for each call of its desk.
 ghost use Rattle.std.specs.Prelude.{◌≡◌, ◌≢◌, ◌<◌, ◌≤◌, ◌++◌, ◌∷◌, [], true, ℕ, List, length, take, Some, Err};
-ghost use Rattle.gts_lock.specs.{entries, after_adding};
-ghost use Rattle.gts_event.specs.declared.event.Entry.{Entry as EntryType};
-ghost use Rattle.gts_event.specs.declared.event.Event.TheVariants.{Heard};
-ghost use Rattle.gts_frame.specs.{Decoding, HasMessage};
-ghost use Rattle.gts_connection.specs.Cited.{events_added};
-ghost use Rattle.gts_feed.specs.{Reads, is_event, Takes, IsShortAt};
-ghost use Rattle.gts_desk.specs.{Answers, Feeds, SaysNoMore, frames_of, TakesSome};
+ghost use Rattle.gts_housed.specs.Cited.Below.{Answers, Decoding, Entry as EntryType, Feeds, HasMessage, Heard, IsShortAt, Reads, SaysNoMore, Takes, TakesSome, after_adding, entries, events_added, frames_of, is_event};
 ghost use Rattle.gts_housed.specs.Housed.{Stands, entry_by};
 ghost use Rattle.gts_housed.specs.Flat.{all_of};
 ghost use Rattle.gts_housed.specs.Taking.{LeavesTaken, Taking};

@@ -1,8 +1,5 @@
 ghost use Rattle.std.specs.Prelude.{◌≡◌, ◌≢◌, ℕ, ◌<◌, ◌+◌, ◌≤◌, ◌||◌, List, [], ◌∷◌, ◌++◌, length, true, false, Some, None, IfOk, IfErr, MatchOption};
-ghost use Rattle.gts_lock.specs.declared.view.Stage.TheVariants.{Idle, Waiting, Holding, Spent};
-ghost use Rattle.gts_lock.specs.{entries, StartsWith, Known, first_pass, after_seeing, after_split, split_off, after_join, AllJoined, Accounts, NamesAreJoined};
-ghost use Rattle.gts_lock.specs.Views.{staged, marked, ended};
-ghost use Rattle.gts_lock.specs.Steps.{Takes};
+ghost use Rattle.gts_lock.specs.Cited.{Accounts, AllJoined, Holding, Idle, Known, NamesAreJoined, Spent, StartsWith, Takes, Waiting, after_join, after_seeing, after_split, ended, entries, first_pass, marked, split_off, staged};
 
 use crate::limits::MOST_TURNS;
 use crate::pass::Pass;

@@ -1,6 +1,6 @@
 //! What failed, for the operator: the call, on which file, and why.
 ghost use Rattle.std.specs.Prelude.{◌≡◌, Ok, IfOk, IsSome, OnOk, OnErr, is_err};
-ghost use Rattle.gts_traits.specs.{HasCause};
+ghost use Rattle.gts_traits.specs.Counts.{HasCause};
 
 use gts_traits::{Failed, counted};
 use std::io::ErrorKind;

@@ -1,9 +1,6 @@
-use Rattle.std.proofs.Common.{◌≡◌, ℕ, Bool, true, false, ◌&&◌, nat_eq, cond, Option, None, Some, option_copied, IfSome, refl, sym, ap, subst, ◌∙◌}
-use Rattle.std.specs.Prelude.{slice_get}
-use Rattle.std.specs.Option.{option_eq}
+use Rattle.std.proofs.Common.{◌≡◌, ℕ, Bool, true, false, ◌&&◌, nat_eq, cond, Option, None, Some, option_copied, IfSome, refl, sym, ap, subst, ◌∙◌, slice_get}
+use Rattle.gts_dup.specs.Cited.{Forgets, indexed, is_of, is_position, key_of, option_eq}
 use Rattle.std.proofs.lemmas.Bool.{true≢false}
-use Rattle.gts_dup.specs.Window.{is_of}
-use Rattle.gts_dup.specs.Index.{Forgets, indexed, is_position, key_of}
 use Rattle.gts_dup.proofs.WindowLemmas.{Pair}
 use Rattle.gts_dup.proofs.table.take_out_oldest.Goals as goal
 

@@ -1,6 +1,5 @@
 use Rattle.std.proofs.Common.{sym, ap, subst, ◌∙◌}
-use Rattle.gts_core.specs.Core.{Core, Holds}
-use Rattle.gts_core.specs.Taking.{choice_told}
+use Rattle.gts_engine.specs.Cited.{Core, Holds, choice_told}
 use Rattle.gts_engine.proofs.TakingLemmas.{takes_draw, takes_none, repeat_unrecorded, nothing_unrecorded}
 use Rattle.gts_engine.proofs.AnsweringLemmas.{may_core}
 use Rattle.gts_engine.proofs.taking.prepare_take.Goals as goal

@@ -1,13 +1,5 @@
 use Rattle.std.proofs.Common.{◌≡◌, inl, Bool, true, List, [], ◌∷◌, ◌++◌, if◌then◌else◌, Result, Ok, refl, ap, subst, ◌∙◌}
-use Rattle.gts_traits.specs.Calls.{Outside}
-use Rattle.gts_event.specs.declared.event.Event.TheVariants.{Taken}
-use Rattle.gts_event.specs.declared.fault.SwitchFault.{SwitchFault}
-use Rattle.gts_record.specs.Record.{Record}
-use Rattle.gts_opening.specs.Room.{event_record}
-use Rattle.gts_engine.specs.declared.mode.SayMode.TheVariants.{Caller}
-use Rattle.gts_engine.specs.Engine.{engine_of}
-use Rattle.gts_engine.specs.Going.{gathered_after}
-use Rattle.gts_engine.specs.Sayings.{held_pieces}
+use Rattle.gts_engine.specs.Cited.{Caller, Outside, Record, SwitchFault, Taken, engine_of, event_record, gathered_after, held_pieces}
 use Rattle.gts_engine.proofs.SettlingLemmas.{some_told}
 use Rattle.gts_engine.proofs.TakingLemmas.{caller_silent}
 use Rattle.gts_engine.proofs.AnsweringLemmas.{answers_untold}

@@ -1,7 +1,5 @@
 use Rattle.std.proofs.Common.{◌≡◌, ◌≤◌, ◌+◌, ◌-◌, List}
-use Rattle.gts_event.specs.declared.event.Entry.{Entry}
-use Rattle.gts_desk.specs.{frames_of}
-use Rattle.gts_housed.specs.Taking.{count_of, HasTaken}
+use Rattle.gts_housed.specs.Cited.{Entry, HasTaken, count_of, frames_of}
 use Rattle.gts_housed.proofs.taking.take_behind.Given as goal
 
 -- so far takes gave these frames

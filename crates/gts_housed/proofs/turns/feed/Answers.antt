@@ -1,16 +1,5 @@
 use Rattle.std.proofs.Common.{◌≡◌, ◌++◌, ℕ, List, take, sym, ap, ◌∙◌, subst}
-use Rattle.gts_lock.specs.{entries, entries_under, Known, after_adding}
-use Rattle.gts_frame.specs.Decoder.{Decoding}
-use Rattle.gts_frame.specs.Signs.{held_in}
-use Rattle.gts_event.specs.declared.event.Event.{Event}
-use Rattle.gts_event.specs.declared.event.Entry.{Entry}
-use Rattle.gts_calls.specs.{settled}
-use Rattle.gts_feed.specs.Fed.{EndsOver}
-use Rattle.gts_feed.specs.Reading.{Reads}
-use Rattle.gts_feed.specs.Going.{GoesOver}
-use Rattle.gts_desk.specs.{Feeds}
-use Rattle.gts_housed.specs.Flat.{all_of}
-use Rattle.gts_housed.specs.Turning.{Feeding, seen_by}
+use Rattle.gts_housed.specs.Cited.{Decoding, EndsOver, Entry, Event, Feeding, Feeds, GoesOver, Known, Reads, after_adding, all_of, entries, entries_under, held_in, seen_by, settled}
 use Rattle.gts_housed.proofs.TurningLemmas.{feeds}
 use Rattle.gts_housed.proofs.FeedingLemmas.{N, fed_more, feeds_spent, short_settled}
 use Rattle.gts_housed.proofs.turns.feed.Goals as goal

@@ -1,12 +1,5 @@
 use Rattle.std.proofs.Common.{◌≡◌, ◌<◌, List, [], ◌∷◌, length, refl, sym, ap, ◌∙◌, subst}
-use Rattle.gts_lock.specs.{entries, entries_under, Known, after_adding}
-use Rattle.gts_directory.specs.Directory.{Directory}
-use Rattle.gts_event.specs.declared.event.Entry.{Entry}
-use Rattle.gts_event.specs.declared.event.Event.TheVariants.{Heard}
-use Rattle.gts_engine.specs.Engine.{Engine}
-use Rattle.gts_desk.specs.{SaysNoMore}
-use Rattle.gts_housed.specs.Flat.{all_of}
-use Rattle.gts_housed.specs.Housed.{Stands, entry_by}
+use Rattle.gts_housed.specs.Cited.{Directory, Engine, Entry, Heard, Known, SaysNoMore, Stands, after_adding, all_of, entries, entries_under, entry_by}
 use Rattle.gts_housed.proofs.TurningLemmas.{answers}
 use Rattle.gts_housed.proofs.turns.hear.Goals as goal
 

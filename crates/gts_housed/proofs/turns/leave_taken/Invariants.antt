@@ -1,6 +1,4 @@
-use Rattle.gts_lock.specs.{entries}
-use Rattle.gts_housed.specs.Flat.{all_of}
-use Rattle.gts_housed.specs.Taking.{LeavesTaken}
+use Rattle.gts_housed.specs.Cited.{LeavesTaken, all_of, entries}
 use Rattle.gts_housed.proofs.turns.leave_taken.Given as goal
 
 abbrev pub ghosts-leave_some : goal.ghosts-leave_some

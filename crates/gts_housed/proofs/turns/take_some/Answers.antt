@@ -1,11 +1,5 @@
 use Rattle.std.proofs.Common.{◌≡◌, ◌<◌, List, length, sym, ap, ◌∙◌, subst}
-use Rattle.gts_lock.specs.{entries, entries_under, Known, after_adding}
-use Rattle.gts_directory.specs.Directory.{Directory}
-use Rattle.gts_event.specs.declared.event.Entry.{Entry}
-use Rattle.gts_engine.specs.Engine.{Engine}
-use Rattle.gts_desk.specs.{frames_of}
-use Rattle.gts_housed.specs.Flat.{all_of}
-use Rattle.gts_housed.specs.Housed.{Stands}
+use Rattle.gts_housed.specs.Cited.{Directory, Engine, Entry, Known, Stands, after_adding, all_of, entries, entries_under, frames_of}
 use Rattle.gts_housed.proofs.TurningLemmas.{takes_some}
 use Rattle.gts_housed.proofs.turns.take_some.Goals as goal
 

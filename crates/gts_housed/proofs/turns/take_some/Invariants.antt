@@ -1,4 +1,4 @@
-use Rattle.gts_desk.specs.{frames_of}
+use Rattle.gts_desk.specs.Given.{frames_of}
 use Rattle.gts_housed.proofs.turns.take_some.Given as goal
 
 abbrev pub ghost-leave_taken : goal.ghost-leave_taken

@@ -1,20 +1,8 @@
 use Rattle.std.proofs.Common.{◌≡◌, ◌<◌, ℕ, length, false, refl, sym, ap, subst, ◌∙◌, arith}
 use Rattle.std.proofs.lemmas.Bool.{true≢false}
 use Rattle.std.proofs.lemmas.List.{length-map, length-set, get_or_default}
-use Rattle.std.specs.Vec.{with_item}
-use Rattle.gts_directory.specs.Directory.{Directory}
-use Rattle.gts_event.specs.State.{State}
-use Rattle.gts_event.specs.History.{outcome, after}
-use Rattle.gts_event.specs.declared.event.Event.TheVariants.{Taken}
+use Rattle.gts_core.specs.Cited.{AreParts, CanTake, Core, Directory, Holds, IsStep, Lane, Stands, State, StoreAfter, Taken, after, circuit_at, core_of, frame_kept, idle_lane, index_told, lane_in, level_in, need_on, outcome, plan_of, row_plan, with_item}
 use Rattle.gts_event.proofs.LawLemmas.{outcome-same, after-same, spoken-same}
-use Rattle.gts_store.specs.Shelf.{circuit_at}
-use Rattle.gts_core.specs.Lane.{Lane, Stands}
-use Rattle.gts_core.specs.Frames.{frame_kept}
-use Rattle.gts_core.specs.Taking.{CanTake, StoreAfter, index_told}
-use Rattle.gts_core.specs.Whole.{level_in}
-use Rattle.gts_core.specs.Parts.{plan_of, row_plan, lane_in, idle_lane, need_on}
-use Rattle.gts_core.specs.Core.{Core, Holds, AreParts, IsStep}
-use Rattle.gts_core.specs.Kept.{core_of}
 use Rattle.gts_core.proofs.PartsLemmas.{can_take}
 use Rattle.gts_core.proofs.StepLemmas.{holds_by, take_parts}
 use Rattle.gts_core.proofs.SaidLemmas.{frame_held, says_taken}

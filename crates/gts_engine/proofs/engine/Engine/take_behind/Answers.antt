@@ -1,15 +1,5 @@
-use Rattle.std.proofs.Common.{◌≡◌, ◌≢◌, true, List, [], ◌∷◌, ◌++◌, Ok, sym, ap, subst, ◌∙◌}
-use Rattle.std.specs.Prelude.{IfNone, IfSome}
-use Rattle.gts_traits.specs.Calls.{Outside}
-use Rattle.gts_event.specs.declared.event.Event.TheVariants.{Taken}
-use Rattle.gts_event.specs.declared.outcome.Outcome.{Outcome}
-use Rattle.gts_event.specs.declared.outcome.Outcome.TheVariants.{Nothing}
-use Rattle.gts_core.specs.Core.{Says}
-use Rattle.gts_engine.specs.declared.mode.SayMode.TheVariants.{Caller}
-use Rattle.gts_engine.specs.Engine.{Engine, engine_of}
-use Rattle.gts_engine.specs.declared.parts.Parts.{Parts}
-use Rattle.gts_engine.specs.Sayings.{joined}
-use Rattle.gts_engine.specs.Gathering.{AnswersIn, TakesBehind}
+use Rattle.std.proofs.Common.{◌≡◌, ◌≢◌, true, List, [], ◌∷◌, ◌++◌, Ok, sym, ap, subst, ◌∙◌, IfNone, IfSome}
+use Rattle.gts_engine.specs.Cited.{AnswersIn, Caller, Engine, Nothing, Outcome, Outside, Parts, SaysFrame as Says, Taken, TakesBehind, engine_of, joined}
 use Rattle.gts_engine.proofs.BehindLemmas.{takes_behind, silent_behind, each_none, both_some}
 use Rattle.gts_engine.proofs.engine.Engine.take_behind.Goals as goal
 

@@ -1,6 +1,5 @@
 use Rattle.std.proofs.Common.{rules, ◌∙◌, ap, sym, subst, arith, ◌∷◌, ◌++◌, Some}
-use Rattle.atomic_table.specs.Table.{rest}
-use Rattle.gts_lock.specs.History.{entries}
+use Rattle.gts_lock.specs.Cited.{entries, rest}
 use Rattle.gts_lock.proofs.StepsLemmas.{raises}
 use Rattle.gts_lock.proofs.hall.Hall.end_turn.Goals as goal
 
