@@ -29,7 +29,8 @@ pub fn a_desk_that_is_spent_adds_nothing()
 /// With each call the history goes on, and so it does over many calls.
 pub fn a_desk_goes_on_with_each_call()
     ensures stays { (d : Seen) → GoesOn d d }
-    ensures adds { (old new : Seen) (more : List Entry) → AddsEntries old more new → GoesOn old new }
+    ensures adds { (old new : Seen) (more : List Entry)
+        → AddsEntries old more new → GoesOn old new }
     ensures any { (old new : Seen) (more : List Entry) → AddsAny old more new → GoesOn old new }
     ensures spent { (old new : Seen) → IsSpent old new → GoesOn old new }
     ensures chains { (a b c : Seen) → GoesOn a b → GoesOn b c → GoesOn a c }

@@ -92,7 +92,8 @@ BreaksFed meanings o first h c events NoMemory now = (field : LostField) × Brea
 
 -- Events of circuit c, which bytes ended that were taken, were to be added behind these entries, of which none of the first so many is
 -- gathered: it ended so, and the decoder holds this message.
-abbrev pub GoesFed : {O W : Type 0} → Standing O W → O → (first : ℕ) → List Entry → ℕ → List Event → (message : List ℕ) → FeedEnd → W → Type 0
+abbrev pub GoesFed : {O W : Type 0} → Standing O W → O → (first : ℕ) → List Entry → ℕ → List Event → (message : List ℕ) → FeedEnd → W
+    → Type 0
 GoesFed meanings o first h c events message All now = Stands meanings o first (h ++ all_done events) now
 GoesFed meanings o first h c events message (Lost field) now =
     Stands meanings o first (h ++ all_done events) now × EndsWith events (event.Lost c field)

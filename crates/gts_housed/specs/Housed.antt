@@ -90,7 +90,8 @@ IsFullSince b entries event fault =
     × (full b.origin.directory (state_at b.origin entries) (used_at (origin_with b compactions) entries) event ≡ Some fault)
 
 -- What something stands for that has an engine, and room made for it or not: what the engine does, whatever compactions are done.
-abbrev pub housed_meanings : {P W : Type 0} → (W → Engine P) → (W → Bool) → Type 0 → (P → List Call) → (disk say : P → ℕ) → Standing Beginning W
+abbrev pub housed_meanings : {P W : Type 0} → (W → Engine P) → (W → Bool) → Type 0 → (P → List Call) → (disk say : P → ℕ)
+    → Standing Beginning W
 housed_meanings engine makes tells calls disk say = record {
   directory = λ w. (engine w).directory;
   begin = λ b. begun b.origin.start;

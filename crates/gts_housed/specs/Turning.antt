@@ -35,7 +35,8 @@ pub record IsTurn {P : Type 0} (tells : Type 0) (calls : P → List Call) (disk 
   pub is : q ≡ after_adding (after_seeing p history) (entry_by event result ∷ [])
 
 -- that of a take on c, which leaves its frame in out, in the words of a station
-abbrev pub TakesTurn : {P : Type 0} → StationMeanings P → Beginning → ℕ → List ℕ → Result Outcome SwitchFault → (p q : Known (List Entry)) → Type 0
+abbrev pub TakesTurn : {P : Type 0} → StationMeanings P → Beginning → ℕ → List ℕ → Result Outcome SwitchFault
+    → (p q : Known (List Entry)) → Type 0
 TakesTurn station b c out result p q =
     IsTurn station.tells station.calls station.disk_faults station.say_faults b (Taken c) (LeavesFrame b.origin.directory c out) result p q
 

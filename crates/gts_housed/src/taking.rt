@@ -26,7 +26,9 @@ pub(crate) fn take_some<P: Station, B: Began>(
 {
     given.frames.clear();
     let most = housed.engine.directory().circuit(c).repeat as usize;
-    let first = housed.engine.gather_take(c, &mut given.one, SayMode::Caller)?;
+    let first = housed
+        .engine
+        .gather_take(c, &mut given.one, SayMode::Caller)?;
     let gave = keep(given, first);
     let more = take_behind(housed, c, most, gave, given);
     if let Err(fault) = housed.engine.settle() {

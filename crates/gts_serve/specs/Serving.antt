@@ -259,7 +259,8 @@ module _ {P : Type 0} (tells : Type 0) (calls : P → List Call) (disk say : P �
     pub end_is : end ≡ first_fault 0 ends
     pub at_rest : end ≡ Done → IsAtRest b (goes_on connections) (length ends) (entries (flat threads ++ drained))
     -- a circuit whose sender ended with nothing to send has nothing left, whatever became of the others
-    pub quiet : (c : ℕ) (x : ReceiveEnd × SendEnd) → get_elem? ends c ≡ some x → x.1 ≡ Quiet → HasNothing b c (entries (flat threads ++ drained))
+    pub quiet : (c : ℕ) (x : ReceiveEnd × SendEnd) → get_elem? ends c ≡ some x → x.1 ≡ Quiet
+        → HasNothing b c (entries (flat threads ++ drained))
     -- done is answered only where each source that tells began all its connections, and each was read to its end or lost
     -- synchronisation
     pub went_through : end ≡ Done → source_tells → (c : ℕ) → c < length ends
