@@ -5,7 +5,7 @@ use crate::began::Began;
 use crate::housed::Housed;
 use crate::room::RoomBell;
 use crate::turns;
-use gts_bell::{Bell, Look};
+use gts_bell::{Bells, Look};
 use gts_desk::{Desk, Given};
 use gts_event::{Outcome, SwitchFault};
 use gts_feed::{Fed, FeedEnd, is_event, next_step};
@@ -17,13 +17,13 @@ use std::marker::Model;
 use std::sync::Wait;
 
 /// The desk of a circuit's receiver or sender at a hall: each call is one turn of its pass. After a turn for what came in, the
-/// bell is rung, since there may be something to send; after a draw, or a fault behind which nothing is dealt with, the one for room,
-/// where somebody waits for that.
+/// bells of those circuits are rung on which there is something to send, and after a fault behind which nothing is dealt with, all of
+/// them. After a draw or such a fault the one for room is, where somebody waits for that.
 pub struct HallDesk<'a, R: Wait, P: Station, B: Began> {
     rt: &'a R,
     alloc: Global,
     hall: &'a Hall<Housed<P, B>>,
-    bell: &'a Bell,
+    bells: &'a Bells,
     room: &'a RoomBell,
     // What was seen at the bell for room before the last try, once this desk waits there.
     looked: Option<Look>,
@@ -50,7 +50,7 @@ impl<'a, R: Wait, P: Station, B: Began> HallDesk<'a, R, P, B> {
         rt: &'a R,
         alloc: Global,
         hall: &'a Hall<Housed<P, B>>,
-        bell: &'a Bell,
+        bells: &'a Bells,
         room: &'a RoomBell,
         pass: Pass<Housed<P, B>>,
     ) -> HallDesk<'a, R, P, B>
@@ -62,7 +62,7 @@ impl<'a, R: Wait, P: Station, B: Began> HallDesk<'a, R, P, B> {
             rt,
             alloc,
             hall,
-            bell,
+            bells,
             room,
             looked: None,
             pass: Some(pass),
@@ -82,11 +82,17 @@ impl<'a, R: Wait, P: Station, B: Began> HallDesk<'a, R, P, B> {
         }
     }
 
-    /// Wakes those who wait for room, where behind a fault nothing is dealt with any more.
+    /// Wakes all who wait, for room or for something to send, since nothing is dealt with any more.
+    fn wake_all(&self) {
+        self.room.wake();
+        self.bells.ring_all();
+    }
+
+    /// Wakes all who wait, where behind a fault nothing is dealt with any more.
     fn wakes(&self, answer: Result<Outcome, SwitchFault>) {
         match answer {
             Err(SwitchFault::Full { .. } | SwitchFault::NoMemory) | Ok(_) => {}
-            Err(_) => self.room.wake(),
+            Err(_) => self.wake_all(),
         }
     }
 
@@ -99,7 +105,7 @@ impl<'a, R: Wait, P: Station, B: Began> HallDesk<'a, R, P, B> {
             rt: _,
             alloc: _,
             hall: _,
-            bell: _,
+            bells: _,
             room: _,
             looked: _,
             pass,
@@ -127,12 +133,12 @@ impl<'a, R: Wait, P: Station, B: Began> Desk for HallDesk<'a, R, P, B> {
         let Some(pass) = self.pass.take() else {
             unreachable!()
         };
-        let (rt, alloc, hall) = (self.rt, self.alloc, self.hall);
-        let (pass, fed) = turns::feed(rt, alloc, hall, pass, c, decoder, piece, taken, step);
+        let (rt, alloc, hall, bells) = (self.rt, self.alloc, self.hall, self.bells);
+        let (pass, fed) = turns::feed(rt, alloc, hall, bells, pass, c, decoder, piece, taken, step);
         self.pass = Some(pass);
-        self.bell.ring();
+        bells.ring_marked();
         if let FeedEnd::Fault(_) = fed.end {
-            self.room.wake();
+            self.wake_all();
         }
         fed
     }
@@ -141,9 +147,10 @@ impl<'a, R: Wait, P: Station, B: Began> Desk for HallDesk<'a, R, P, B> {
         let Some(pass) = self.pass.take() else {
             unreachable!()
         };
-        let (pass, answer) = turns::hear(self.rt, self.alloc, self.hall, pass, c, kind, message);
+        let (rt, alloc, hall, bells) = (self.rt, self.alloc, self.hall, self.bells);
+        let (pass, answer) = turns::hear(rt, alloc, hall, bells, pass, c, kind, message);
         self.pass = Some(pass);
-        self.bell.ring();
+        bells.ring_marked();
         self.waits_on(answer);
         self.wakes(answer);
         answer
@@ -163,7 +170,9 @@ impl<'a, R: Wait, P: Station, B: Began> Desk for HallDesk<'a, R, P, B> {
         };
         let (pass, answer) = turns::take_some(self.rt, self.hall, pass, c, given);
         self.pass = Some(pass);
-        if answer != Ok(false) || given.frames.count() > 0 {
+        if answer.is_err() {
+            self.wake_all();
+        } else if given.frames.count() > 0 {
             self.room.wake();
         }
         answer

@@ -9,6 +9,7 @@ ghost use Rattle.gts_housed.specs.Turning.{KnowsOwn, seen_by, Feeding, AddsFor};
 use crate::began::Began;
 use crate::housed::Housed;
 use crate::taking;
+use gts_bell::Bells;
 use gts_desk::Given;
 use gts_event::{Outcome, SwitchFault};
 use gts_feed::{Fed, FeedEnd, feed_behind, settle_behind};
@@ -18,6 +19,15 @@ use gts_traits::Station;
 use std::alloc::Global;
 use std::marker::Brand;
 use std::sync::Wait;
+
+/// Marks the bells of those circuits on which a take would give something.
+fn mark_due<P: Station, B: Began>(housed: &Housed<P, B>, bells: &Bells) {
+    for c in 0..housed.engine.directory().circuits() {
+        if housed.engine.is_due(c) {
+            bells.mark(c);
+        }
+    }
+}
 
 // Ends a turn for a message that was heard. Its engine stands for one entry more.
 fn leave_heard<P: Station, B: Began>(
@@ -85,11 +95,13 @@ fn leave_fed<P: Station, B: Began>(
 }
 
 /// One turn in which a connection on circuit `c` is fed: with the step to which these bytes of the piece came, and then with the rest of
-/// it. What that gathers is settled. `Spent` as in `hear`.
+/// it. What that gathers is settled, and the bells are marked of those circuits on which there is something to send then. `Spent` as in
+/// `hear`.
 pub(crate) fn feed<R: Wait, P: Station, B: Began>(
     rt: &R,
     alloc: Global,
     hall: &Hall<Housed<P, B>>,
+    bells: &Bells,
     pass: Pass<Housed<P, B>>,
     c: u32,
     decoder: &mut Decoder,
@@ -124,15 +136,17 @@ pub(crate) fn feed<R: Wait, P: Station, B: Began>(
     };
     let fed = feed_behind(alloc, turn.value(), c, decoder, piece, begun, step);
     let fed = settle_behind(turn.value(), fed);
+    mark_due(turn.value(), bells);
     (leave_fed(turn, c, decoder, piece, begun, step, fed), fed)
 }
 
-/// One turn for a message that came whole on circuit `c`, in a frame of this type. `Spent` comes back exactly where no turn
-/// was left; the pass is marked then, and adds nothing.
+/// One turn for a message that came whole on circuit `c`, in a frame of this type. The bells are marked of those circuits on which there is
+/// something to send then. `Spent` comes back exactly where no turn was left; the pass is marked then, and adds nothing.
 pub(crate) fn hear<R: Wait, P: Station, B: Began>(
     rt: &R,
     alloc: Global,
     hall: &Hall<Housed<P, B>>,
+    bells: &Bells,
     pass: Pass<Housed<P, B>>,
     c: u32,
     kind: Kind,
@@ -151,6 +165,7 @@ pub(crate) fn hear<R: Wait, P: Station, B: Began>(
         Err(pass) => return (pass, Err(SwitchFault::Spent)),
     };
     let answer = turn.value().hear(alloc, c, kind, message);
+    mark_due(turn.value(), bells);
     (leave_heard(turn, c, kind, message, answer), answer)
 }
 

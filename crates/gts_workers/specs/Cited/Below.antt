@@ -1,5 +1,6 @@
 -- What this crate says in words of what lies below it, in one place.
 pub use Rattle.atomic_table.specs.Seated.{TableId}
+pub use Rattle.gts_alphabet.specs.declared.limits.TheConstants.{MOST_CIRCUITS}
 pub use Rattle.std.specs.Fork.{AcceptsAt, AcceptsEach, ChangesAt}
 pub use Rattle.gts_traits.specs.Cited.{Begun, Part, Rose}
 pub use Rattle.gts_event.specs.declared.event.Entry.{Entry}
