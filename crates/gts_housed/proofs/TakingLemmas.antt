@@ -7,7 +7,7 @@ use Rattle.gts_housed.proofs.GatheringLemmas.{M, answered, settles}
 
 -- ---- what a take came to
 
-leads_to : Choice → Outcome
+abbrev leads_to : Choice → Outcome
 leads_to (Repeats index) = Resend index
 leads_to (Draws index position) = Draw index
 leads_to Nothing_waits = Nothing
