@@ -8,6 +8,7 @@ use Rattle.gts_event.proofs.LawLemmas.{outcome-same}
 use Rattle.gts_count.proofs.SoundLemmas.{single}
 use Rattle.gts_count.proofs.KeyLemmas.{key_message}
 use Rattle.gts_count.proofs.FollowLemmas.{follows_heard, follows_prepared, follows_accepted}
+use Rattle.gts_frame.proofs.LawLemmas.{same_from_pointwise as same_numbers}
 
 pub current_counts : (d : Directory) (s : State) (h : List Entry) (c : Counting) → c.current ≡ true → Counts d s h c → Knows d c × Follows d s c.numbers
 current_counts d s h c is counts = subst (λ (b : Bool). CountsIf b d s h c) is counts
@@ -32,9 +33,6 @@ found_one {X} P f (y ∷ ys) x all e = go (f y) refl e (λ more. found_one P f y
     go : (b : Bool) → f y ≡ b → cond b (Some y) (find f ys) ≡ Some x → (find f ys ≡ Some x → P x × (f x ≡ true)) → P x × (f x ≡ true)
     go true k is rest = let same : y ≡ x = cc in subst (λ (z : X). P z × (f z ≡ true)) same (all 0 y (omega arith), k)
     go false k is rest = rest is
-
-same_numbers : (xs ys : List ℕ) → pointwise nat_eq xs ys ≡ true → xs ≡ ys
-same_numbers xs ys e = Rattle.gts_count.proofs.RowLemmas.same_numbers xs ys e
 
 no_twin : (d : Directory) (t : State) (rows : List ℕ → Bool) (h : HeadingFields) (text : List ℕ) → All (λ b. IsTrue (rows (key_of b.body))) t.accepted → rows (take 11 (heading_text h)) ≡ false
     → duplicate d t h text ≡ None

@@ -1,4 +1,4 @@
-use Rattle.std.proofs.Common.{IsTrue, sym, ap, ◌∙◌}
+use Rattle.std.proofs.Common.{sym, ap, ◌∙◌}
 use Rattle.gts_engine.specs.Cited.{choice_told}
 use Rattle.gts_engine.proofs.TakingLemmas.{repeat_unrecorded, nothing_unrecorded}
 use Rattle.gts_engine.proofs.taking.has_room_for_take.Goals as goal

@@ -1,5 +1,5 @@
 use Rattle.std.proofs.Common.{◌≡◌, inl, Bool, true, List, [], ◌∷◌, ◌++◌, if◌then◌else◌, Result, Ok, refl, sym, ap, subst, ◌∙◌, arith}
-use Rattle.gts_engine.specs.Cited.{Caller, HasRoom, LONGEST_FRAME, Outside, Record, Sayings, SwitchFault, Taken, engine_of, event_record, gathered_after, held_pieces}
+use Rattle.gts_engine.specs.Cited.{Caller, HasRoom, LONGEST_FRAME, Outside, Sayings, SwitchFault, Taken, engine_of, event_record, gathered_after, held_pieces}
 use Rattle.gts_engine.proofs.SettlingLemmas.{some_told}
 use Rattle.gts_engine.proofs.TakingLemmas.{caller_silent, room_less}
 use Rattle.gts_engine.proofs.AnsweringLemmas.{answers_untold}

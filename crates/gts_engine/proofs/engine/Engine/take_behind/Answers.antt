@@ -1,5 +1,5 @@
-use Rattle.std.proofs.Common.{◌≡◌, ◌≢◌, true, List, [], ◌∷◌, ◌++◌, Ok, sym, ap, subst, ◌∙◌, IfNone, IfSome}
-use Rattle.gts_engine.specs.Cited.{AnswersIn, Caller, Engine, Nothing, Outcome, Outside, Parts, SaysFrame as Says, Taken, TakesBehind, engine_of, joined}
+use Rattle.std.proofs.Common.{◌≡◌, ◌≢◌, true, [], ◌∷◌, ◌++◌, Ok, ap, subst, IfSome}
+use Rattle.gts_engine.specs.Cited.{AnswersIn, Caller, Engine, Nothing, Parts, SaysFrame as Says, Taken, TakesBehind, engine_of, joined}
 use Rattle.gts_engine.proofs.BehindLemmas.{takes_behind, silent_behind, each_none, both_some}
 use Rattle.gts_engine.proofs.engine.Engine.take_behind.Goals as goal
 
