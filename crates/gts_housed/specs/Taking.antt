@@ -32,6 +32,7 @@ pub record HasTaken {P : Type 0} (tells : Type 0) (calls : P → List Call) (dis
   pub front : List Entry
   pub events : List Event
   pub taken : AreTaken h c (count_of frames gave) front events
+  pub some : 1 ≤ count_of frames gave
   pub stands : StandsWith tells calls disk say b front events e
   pub all : GaveAll b.origin.directory (state_at b.origin h) c frames
   pub last : gave ≡ false
