@@ -1,7 +1,6 @@
 -- Several takes on one circuit, one behind another in one turn.
 use Rattle.std.specs.Prelude.{◌≡◌, ◌⊎◌, ℕ, ◌+◌, ◌≤◌, Bool, true, false, List, [], ◌∷◌, ◌++◌, length, replicate, Result, Ok, Err}
-use Rattle.gts_housed.specs.Cited.Below.{Call, DiskFault, Doubt, Draw, Engine, Entry, Event, Frame, GaveAll, GaveNoMore, Idle, Nothing, Outcome, Resend, Stopped, SwitchFault, Taken, after_takes, entries, joined, most_beside, outcome, state_at, takes}
-use Rattle.gts_housed.specs.Flat.{all_of}
+use Rattle.gts_housed.specs.Cited.Below.{Call, DiskFault, Doubt, Draw, Engine, Entry, Event, Frame, GaveAll, GaveNoMore, Idle, Nothing, Outcome, Resend, Stopped, SwitchFault, Taken, after_takes, joined, most_beside, outcome, state_at, takes}
 use Rattle.gts_housed.specs.Housed.{Beginning, StandsWith, Stands}
 
 -- the frame that a take with this outcome left in a buffer: none where it gave nothing

@@ -11,7 +11,7 @@ leave_heard-requires g c κs within =
     let adds = c.hear-answer.ensures.adds (all_of (entries h)) stands in
     let mode = c.hear-answer.ensures.mode ∙ ap (λ (v : _). v.makes_room) c.value.ensures.value ∙ c.in-Ok.ensures.value.1 in
     let A : Engine _ → Type 0 = λ e. Stands g.P.Station.tells g.P.Station.calls g.P.Station.disk_faults g.P.Station.say_faults g.B.Began.beginning
-        (all_of (entries h) ++ entry_by (Heard c.args.c c.args.kind c.args.message.now) c.hear-answer.result ∷ []) e in
+    (all_of (entries h) ++ entry_by (Heard c.args.c c.args.kind c.args.message.now) c.hear-answer.result ∷ []) e in
     let same = sym c.value-2.ensures.value in
     (within.0, (within.1, (refl, (subst A (ap (λ (v : _). v.engine) same) adds.stands, ap (λ (v : _). v.makes_room) c.value-2.ensures.value ∙ mode))))
 
