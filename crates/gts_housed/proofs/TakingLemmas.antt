@@ -1,7 +1,10 @@
 -- Several takes on one circuit, one behind another in one turn.
 use Rattle.std.proofs.Common.{◌≡◌, ◌≢◌, inl, inr, ℕ, zero, suc, ◌+◌, ◌≤◌, Bool, true, false, List, [], ◌∷◌, ◌++◌, length, map, replicate, Some, None, Result, Ok, Err, refl, sym, ap, subst, ◌∙◌, arith, length-append, IsErrOf, slice_index_or}
 use Rattle.std.proofs.lemmas.List.{append-nil, replicate_more}
-use Rattle.gts_housed.specs.Cited.{Accepted, AddsTaken, AfterCall, AfterSettling, Alone, AreGathered, AreTaken, Asked, AtOnce, Beginning, Behind, Call, Caller, Choice, Circuit, Directory, DiskFault, Done, Doubt, Draw, Draws, Duplicate, Engine, Entry, Event, Frame, Full, GathersOne, Gave, GaveAll, HasCallCause, HasTaken, Holds, Idle, IsAnswered, IsOneMore, IsSettling, LeavesFrame, LeavesTaken, LineLost, NoMemory, Nothing, Nothing_waits, Origin, Outcome, Refused, Repeats, Resend, SayFault, Says, Spent, Stands, StandsWith, State, Stopped, SwitchFault, Taken, TakesBehind, after, after_all, after_takes, all_done, begun, choice, count_of, frames_by, given_index, gives, joined, line, meanings_of, origin_with, outcome, shown, state_at, state_behind, takes, used_at}
+use Rattle.std.proofs.lemmas.Option.{get_or_from_slice_get, slice_get-map}
+use Rattle.std.specs.Prelude.{IfSome, Option, drop, option_map, slice_get}
+use Rattle.gts_desk.specs.Cited.{frames_in}
+use Rattle.gts_housed.specs.Cited.{Accepted, AddsTaken, AfterCall, AfterSettling, Alone, AreGathered, AreTaken, Asked, AtOnce, Beginning, Behind, Call, Caller, Choice, Circuit, Device, Directory, DiskFault, Done, Doubt, Draw, Draws, Duplicate, Engine, Entry, Event, Frame, Full, GathersOne, Gave, GaveAll, HasCallCause, HasTaken, Holds, Idle, IsAnswered, IsOneMore, IsSettling, LeavesFrame, LeavesTaken, LineLost, NoMemory, Nothing, Nothing_waits, Origin, Outcome, Refused, Repeats, Resend, SayFault, Says, Spent, Stands, StandsWith, State, Stopped, SwitchFault, Taken, TakesBehind, after, after_all, after_takes, all_done, begun, choice, count_of, frames_by, given_index, gives, joined, line, meanings_of, origin_with, outcome, shown, state_at, state_behind, takes, used_at}
 use Rattle.gts_housed.proofs.StandingLemmas.{rose_on, full_accepts, frame_said, takes_accept_nothing}
 use Rattle.gts_housed.proofs.GatheringLemmas.{M, answered, settles}
 
@@ -35,8 +38,18 @@ done_taken : (c n : ℕ) → all_done (replicate n (Taken c)) ≡ takes c n
 done_taken c zero = refl
 done_taken c (suc n) = ap (λ (l : List Entry). Done (Taken c) ∷ l) (done_taken c n)
 
+-- there are as many frames as places of them
+pub count_frames : (each : List _) (bytes : List ℕ) → length (frames_in each bytes) ≡ length each
+count_frames [] bytes = refl
+count_frames (p ∷ each) bytes = ap (λ (n : ℕ). suc n) (count_frames each (drop p.size bytes))
+
+-- how often the draws of a circuit are repeated
+pub most_at : (rows : List Circuit) (c : ℕ) (row : Circuit) → slice_get rows c ≡ Some row → slice_index_or (map (λ (r : Circuit). r.repeat) rows) c 0 ≡ row.repeat
+most_at rows c row is =
+    get_or_from_slice_get (map (λ (r : Circuit). r.repeat) rows) c row.repeat 0 (slice_get-map (λ (r : Circuit). r.repeat) rows c ∙ ap (option_map (λ (r : Circuit). r.repeat)) is)
+
 -- how many there are with one more that gave this
-count_more : (frames : List Frame) (o : Outcome) (out : List ℕ) → count_of (frames ++ frames_by o out) (gives o) ≡ length frames + 1
+pub count_more : (frames : List Frame) (o : Outcome) (out : List ℕ) → count_of (frames ++ frames_by o out) (gives o) ≡ length frames + 1
 count_more frames (Resend index) out = length-append frames (record { index = index; text = out } ∷ [])
 count_more frames (Draw index) out = length-append frames (record { index = index; text = out } ∷ [])
 count_more frames (Accepted p n) out = ap (λ (l : List Frame). length l + 1) (append-nil frames)
@@ -114,8 +127,13 @@ module _ {P : Type 0} (tells : Type 0) (calls : P → List Call) (disk say : P �
     after_first : AfterCall (M engine makes tells calls disk say) b h [] (Taken c) result new
     after_first = ans.adds b h [] (stands, refl)
 
-    pub first_taken : (o : Outcome) → result ≡ Ok o → (o ≢ Nothing → Says old.core c out) → (old.stopped ≡ None) → joined new.held ≡ [] → has ([] ++ frames_by o out) (gives o) new
-    first_taken o is says going silent =
+    took_on : (o : Outcome) → result ≡ Ok o → (by : Option Device) → IfSome by (λ x. (result ≡ Err (Stopped x)) × (new ≡ old)) → by ≡ None
+    took_on o is None stopped = refl
+    took_on o is (Some x) stopped = absurd (let e : Ok o ≡ Err (Stopped x) = sym is ∙ stopped.0 in cc e)
+
+    pub first_taken : (o : Outcome) → result ≡ Ok o → (o ≢ Nothing → Says old.core c out) → IfSome old.stopped (λ by. (result ≡ Err (Stopped by)) × (new ≡ old)) → joined new.held ≡ [] → has ([] ++ frames_by o out) (gives o) new
+    first_taken o is says stopped silent =
+        let going : old.stopped ≡ None = took_on o is old.stopped stopped in
         let one : GathersOne (M engine makes tells calls disk say) b h [] (Taken c) new =
         subst (λ (r : Result Outcome SwitchFault). AfterCall (M engine makes tells calls disk say) b h [] (Taken c) r new) is after_first in
         let outcome_is : o ≡ outcome d s (Taken c) =
@@ -127,6 +145,7 @@ module _ {P : Type 0} (tells : Type 0) (calls : P → List Call) (disk say : P �
           front = one.front;
           events = one.more;
           taken = subst (λ (n : ℕ). AreTaken h c n one.front one.more) (sym (count_more [] o out)) (are one.front one.more one.one);
+          some = let n = count_more [] o out in omega (arith, n);
           stands = one.gathers.0;
           all = all_more d s c [] o out tt outcome_is leaves;
           last = last_more d s c [] o out tt outcome_is leaves;
@@ -166,9 +185,9 @@ module _ {P : Type 0} (tells : Type 0) (calls : P → List Call) (disk say : P �
   -- ---- one behind it
 
   pub one_behind : (frames : List Frame) (o : Outcome) (out : List ℕ) (old new : Engine P) → has frames true old → TakesBehind tells calls c o old new → old.gathered ≡ true
-      → (o ≢ Nothing → Says old.core c out) → old.stopped ≡ None → disk old.station ≤ disk new.station → say old.station ≤ say new.station → joined new.held ≡ []
+      → (o ≢ Nothing → Says old.core c out) → disk old.station ≤ disk new.station → say old.station ≤ say new.station → joined new.held ≡ []
       → has (frames ++ frames_by o out) (gives o) new
-  one_behind frames o out old new t behind gathered says going later said silent = go t.taken
+  one_behind frames o out old new t behind gathered says later said silent = go t.taken
     where
       origin : Origin
       origin = origin_with b t.stands.compactions
@@ -180,6 +199,13 @@ module _ {P : Type 0} (tells : Type 0) (calls : P → List Call) (disk say : P �
       never e =
           let none : old.gathered ≡ false = subst (λ (es : List Event). AreGathered (shown calls old) origin.directory (state_at origin t.front) es) e some in
           let no : true ≡ false = sym gathered ∙ none in cc no
+
+      goes_on : (es : List Event) → AreGathered (shown calls old) origin.directory (state_at origin t.front) es → old.stopped ≡ None
+      goes_on [] a = absurd (let no : true ≡ false = sym gathered ∙ a in cc no)
+      goes_on (e ∷ es) a = a.1
+
+      going : old.stopped ≡ None
+      going = goes_on t.events some
 
       stood : StandsWith tells calls disk say b t.front (t.events ++ Taken c ∷ []) new
       stood = record {
@@ -207,6 +233,7 @@ module _ {P : Type 0} (tells : Type 0) (calls : P → List Call) (disk say : P �
           record {
             front = t.front;
             events = t.events ++ Taken c ∷ [];
+            some = let n = count_more frames o out in omega (arith, n);
             taken = inl (all.0, ap (λ (es : List Event). es ++ Taken c ∷ []) all.1 ∙ replicate_more n (Taken c) ∙ ap (λ (k : ℕ). replicate k (Taken c)) (sym (count_more frames o out)));
             stands = stood;
             all = all_more d s c frames o out t.all outcome_is leaves;
@@ -221,8 +248,8 @@ module _ {P : Type 0} (tells : Type 0) (calls : P → List Call) (disk say : P �
 
   pub settles_taken : (frames : List Frame) (gave : Bool) (old new : Engine P) → has frames gave old → IsSettling (meanings_of tells calls Caller) (Ok tt) old new
       → HasCallCause (let a : Result (Unit {0}) SwitchFault = Ok tt in a) (disk old.station) (disk new.station) (say old.station) (say new.station)
-      → count_of frames gave ≤ most → 1 ≤ count_of frames gave → (more : List Entry) × LeavesTaken tells calls disk say b h c frames (Ok gave) new more
-  settles_taken frames gave old new t settling cause few some = (takes c (count_of frames gave), record { added = added gave t few some; stands = stood })
+      → count_of frames gave ≤ most → (more : List Entry) × LeavesTaken tells calls disk say b h c frames (Ok gave) new more
+  settles_taken frames gave old new t settling cause few = (takes c (count_of frames gave), record { added = added gave t few t.some; stands = stood })
     where
       left : AfterSettling (M engine makes tells calls disk say) b t.front t.events (Ok tt) new
       left = (settles engine makes tells calls disk say (Ok tt) old new refl cause settling).settles b t.front t.events (t.stands, refl)

@@ -1,7 +1,6 @@
 -- Several takes on one circuit, one behind another in one turn.
 use Rattle.std.specs.Prelude.{◌≡◌, ◌⊎◌, ℕ, ◌+◌, ◌≤◌, Bool, true, false, List, [], ◌∷◌, ◌++◌, length, replicate, Result, Ok, Err}
-use Rattle.gts_housed.specs.Cited.Below.{Call, DiskFault, Doubt, Draw, Engine, Entry, Event, Frame, GaveAll, GaveNoMore, Idle, Nothing, Outcome, Resend, Stopped, SwitchFault, Taken, after_takes, entries, joined, most_beside, outcome, state_at, takes}
-use Rattle.gts_housed.specs.Flat.{all_of}
+use Rattle.gts_housed.specs.Cited.Below.{Call, DiskFault, Doubt, Draw, Engine, Entry, Event, Frame, GaveAll, GaveNoMore, Idle, Nothing, Outcome, Resend, Stopped, SwitchFault, Taken, after_takes, joined, most_beside, outcome, state_at, takes}
 use Rattle.gts_housed.specs.Housed.{Beginning, StandsWith, Stands}
 
 -- the frame that a take with this outcome left in a buffer: none where it gave nothing
@@ -32,6 +31,7 @@ pub record HasTaken {P : Type 0} (tells : Type 0) (calls : P → List Call) (dis
   pub front : List Entry
   pub events : List Event
   pub taken : AreTaken h c (count_of frames gave) front events
+  pub some : 1 ≤ count_of frames gave
   pub stands : StandsWith tells calls disk say b front events e
   pub all : GaveAll b.origin.directory (state_at b.origin h) c frames
   pub last : gave ≡ false

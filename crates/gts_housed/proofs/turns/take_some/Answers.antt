@@ -28,4 +28,4 @@ pub take_some-answer-requires : goal.take_some-answer-requires
 take_some-answer-requires g c =
     let many : c.in-Ok.turn.value.engine.directory ≡ g.B.Began.beginning.origin.directory = c.in-Ok.ensures.value.0.keeps.directory in
     let D : Engine _ → Type 0 = λ e. c.args.c < length e.directory.circuits in
-    subst D (ap (λ (v : _). v.engine) (sym c.value.ensures.value)) (let L : Directory → Type 0 = λ d. c.args.c < length d.circuits in subst L (sym many) c.requires.circuit)
+    record { circuit = subst D (ap (λ (v : _). v.engine) (sym c.value.ensures.value)) (let L : Directory → Type 0 = λ d. c.args.c < length d.circuits in subst L (sym many) c.requires.circuit) }
