@@ -21,8 +21,8 @@ from journal import EOL
 PROCESSES = 2
 # How long a process may take for what it is asked, and how long it waits for something to come.
 SECONDS, QUIET = 600, 1.0
-# While the switch is called, so often it is tried.
-CALLING = 0.02
+# While the switch is called, so often it is tried; and so long a process waits at most from telling to telling.
+CALLING, TELLING = 0.02, 0.001
 # So many bytes of a message are told, from its beginning on: its number and its heading stand there.
 FRONT = 40
 # So many bytes are read at once, and so many may wait to be passed to a process.
@@ -80,11 +80,9 @@ class Channel:
 class Socket(Line):
     """A neighbour's sockets. Of each frame it puts aside the letters and the front of the message, and the key of the body."""
 
-    def __init__(self, circuit, own, switch, ports, digits):
+    def __init__(self, circuit, own, switch, ports, digits, pieces):
         super().__init__(circuit, own, switch, ports, [])
-        self.begin = 4 + digits + len(EOL)
-        self.needed = 0
-        self.was_out = False
+        self.begin, self.needed, self.frames = 4 + digits + len(EOL), 0, pieces
 
     def take(self, data, now):
         """Takes bytes of the switch. A frame that comes in many pieces is looked at when the last is there."""
@@ -117,7 +115,13 @@ class Sockets(Lines):
         super().__init__()
         self.channel, self.done, self.places = Channel(end), 0, {}
         self.selector.register(end, selectors.EVENT_READ, (self.is_told, None))
-        self.is_over, self.writes = False, False
+        self.is_over, self.is_held = False, False
+        # The lines that have something to send, and those that have no connection to the switch.
+        self.sending, self.idle = set(), set()
+        # What is to be told: pieces of what came, what was handed over, and which lines have or lost a connection.
+        self.pieces, self.handed, self.called, self.told_at = [], [], [], 0.0
+
+    # What the judge wants.
 
     def is_told(self, _line, _now):
         """What the judge wants is done, in its order."""
@@ -129,7 +133,8 @@ class Sockets(Lines):
             if word == 'put':
                 self.puts(self.places[circuit], *more)
             elif word == 'add':
-                self.places[circuit] = Socket(circuit, *more)
+                self.places[circuit] = Socket(circuit, *more, self.pieces)
+                self.idle.add(self.places[circuit])
                 self.add(self.places[circuit])
             elif word == 'done':
                 self.done = more[0]
@@ -142,37 +147,73 @@ class Sockets(Lines):
         message = Message(kind, b'')
         message.frame = frame
         line.queue.append(message)
+        self.sending.add(line)
 
-    def tells(self):
-        """Tells what was handed over, what came, and which neighbours have a connection to the switch."""
-        handed, pieces, calls = [], [], []
-        for line in self.lines:
-            if line.sent:
-                handed.append((line.circuit, [message.sent_at for message in line.sent]))
-                line.sent.clear()
-            if line.frames:
-                pieces += line.frames
-                line.frames = []
-            if (line.out is not None) != line.was_out:
-                line.was_out = not line.was_out
-                calls.append((line.circuit, line.was_out))
-        if handed or pieces or calls or self.done:
+    def calls(self, line):
+        super().calls(line)
+        if line.out is not None:
+            self.idle.discard(line)
+            self.called.append((line.circuit, True))
+
+    def ends_out(self, line):
+        if line.out is not None:
+            self.idle.add(line)
+            self.called.append((line.circuit, False))
+        super().ends_out(line)
+
+    # What is told.
+
+    def takes_down(self, line):
+        """What a line has handed over is told, and forgotten."""
+        self.handed += ((line.circuit, message.sent_at) for message in line.sent)
+        line.sent.clear()
+
+    def tells(self, now):
+        """Tells what there is."""
+        if self.handed or self.pieces or self.called or self.done:
             used = resource.getrusage(resource.RUSAGE_SELF)
-            self.channel.put((handed, pieces, calls, self.done, used.ru_utime + used.ru_stime, used.ru_maxrss))
-            self.done = 0
+            self.channel.put((self.handed, self.pieces, self.called, self.done, used.ru_utime + used.ru_stime, used.ru_maxrss))
+            for told in (self.handed, self.pieces, self.called):
+                told.clear()
+            self.done, self.told_at = 0, now
         if self.channel.out:
             self.channel.flush_some()
-        if bool(self.channel.out) != self.writes:
-            self.writes = not self.writes
-            events = selectors.EVENT_READ | (selectors.EVENT_WRITE if self.writes else 0)
+        if bool(self.channel.out) != self.is_held:
+            self.is_held = not self.is_held
+            events = selectors.EVENT_READ | (selectors.EVENT_WRITE if self.is_held else 0)
             self.selector.modify(self.channel.end, events, (self.is_told, None))
+
+    def pause(self, now):
+        """For so long nothing has to be done unless something comes."""
+        if self.handed or self.pieces or self.called:
+            return max(0.0, self.told_at + TELLING - now)
+        if self.is_up and any(line.is_present for line in self.idle):
+            return CALLING
+        return QUIET
+
+    def serves_once(self):
+        for key, events in self.selector.select(self.pause(time.monotonic())):
+            work, line = key.data
+            work(line, time.monotonic())
+            if line is not None and line.is_full and events & selectors.EVENT_WRITE:
+                self.sends(line)
+                self.takes_down(line)
+        if self.is_up:
+            for line in [line for line in self.idle if line.is_present]:
+                self.calls(line)
+        for line in [line for line in self.sending if line.out is not None and not line.is_full]:
+            self.sends(line)
+            self.takes_down(line)
+            if not line.queue:
+                self.sending.discard(line)
 
     def works(self):
         """Until the judge has gone."""
         while not self.is_over:
-            is_calling = self.is_up and any(line.out is None and line.is_present for line in self.lines)
-            self.serves(CALLING if is_calling else QUIET)
-            self.tells()
+            self.serves_once()
+            now = time.monotonic()
+            if self.done or now - self.told_at >= TELLING:
+                self.tells(now)
 
 
 def process_of(end, others):
@@ -337,13 +378,12 @@ class Neighbours:
         if isinstance(row, str):
             raise Lost(row)
         handed, pieces, calls, done, seconds, memory = row
-        for circuit, times in handed:
+        for circuit, sent_at in handed:
             line = self.lines[circuit]
-            for sent_at in times:
-                message = line.queue.popleft()
-                message.sent_at = sent_at
-                line.sent.append(message)
-            self.moved += len(times)
+            message = line.queue.popleft()
+            message.sent_at = sent_at
+            line.sent.append(message)
+        self.moved += len(handed)
         for circuit, has_called in calls:
             self.lines[circuit].has_called = has_called
             self.lines[circuit].connections += has_called

@@ -76,11 +76,15 @@ class Ledger:
             self.lost(f'{self.number_of(index)} came again, which nobody asked for')
         if self.owed:
             self.owed.popleft()
+        self.keep(index, bulletin)
+        if index == self.next == self.top:
+            self.judge(index, bulletin)
+            self.next = self.top = index + 1
+            return True
         self.holes.update(range(self.top, index))
         self.top = max(self.top, index + 1)
         for of in (self.holes, self.wanted, self.again):
             of.discard(index)
-        self.keep(index, bulletin)
         self.early[index] = bulletin
         while self.next in self.early:
             self.judge(self.next, self.early.pop(self.next))
@@ -93,6 +97,7 @@ class Ledger:
         bulletin.kept += 1
         old = self.recent.pop(index - self.kept, None)
         if old is not None:
+            self.may_come.pop(index - self.kept, None)
             old.kept -= 1
             if not old.kept and not old.left:
                 self.forget(old)
@@ -117,15 +122,17 @@ class Ledger:
         accepted first. What had been accepted is at least what this bulletin and the draws before tell."""
         while self.floors and self.floors[0][0] <= index:
             self.accepted = max(self.accepted, self.floors.popleft()[1])
-        self.accepted = max(self.accepted, bulletin.position + 1)
-        while self.routed and self.routed[0].position < self.accepted:
-            one = self.routed.popleft()
-            heapq.heappush(self.waiting, one.rank)
-        if not self.waiting or self.waiting[0] != bulletin.rank:
+        if bulletin.position >= self.accepted:
+            self.accepted = bulletin.position + 1
+        routed, waiting = self.routed, self.waiting
+        while routed and routed[0].position < self.accepted:
+            heapq.heappush(waiting, routed.popleft().rank)
+        if not waiting or waiting[0] != bulletin.rank:
             self.lost(f'{self.number_of(index)} is of level {bulletin.level} and position {bulletin.position}; of level and '
-                      f'position {self.waiting[:1]} had to go before')
-        heapq.heappop(self.waiting)
-        self.overtook[bulletin.level] += any(position < bulletin.position for _, position in self.waiting[:3])
+                      f'position {waiting[:1]} had to go before')
+        heapq.heappop(waiting)
+        if waiting and any(position < bulletin.position for _, position in waiting[:3]):
+            self.overtook[bulletin.level] += 1
         self.behind -= 1
 
     def asked(self, indices):
