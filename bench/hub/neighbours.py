@@ -114,7 +114,7 @@ class Sockets(Lines):
     def __init__(self, end):
         super().__init__()
         self.channel, self.done, self.places = Channel(end), 0, {}
-        self.selector.register(end, selectors.EVENT_READ, (self.is_told, None))
+        self.selector.register(end, selectors.EVENT_READ, (None, None))
         self.is_over, self.is_held = False, False
         # The lines that have something to send, and those that have no connection to the switch.
         self.sending, self.idle = set(), set()
@@ -123,7 +123,7 @@ class Sockets(Lines):
 
     # What the judge wants.
 
-    def is_told(self, _line, _now):
+    def is_told(self):
         """What the judge wants is done, in its order."""
         rows = self.channel.rows()
         if rows is None:
@@ -181,7 +181,7 @@ class Sockets(Lines):
         if bool(self.channel.out) != self.is_held:
             self.is_held = not self.is_held
             events = selectors.EVENT_READ | (selectors.EVENT_WRITE if self.is_held else 0)
-            self.selector.modify(self.channel.end, events, (self.is_told, None))
+            self.selector.modify(self.channel.end, events, (None, None))
 
     def pause(self, now):
         """For so long nothing has to be done unless something comes."""
@@ -192,12 +192,19 @@ class Sockets(Lines):
         return QUIET
 
     def serves_once(self):
+        """What the judge wants is done behind what has come: it may end connections."""
+        is_asked = False
         for key, events in self.selector.select(self.pause(time.monotonic())):
             work, line = key.data
+            if line is None:
+                is_asked = True
+                continue
             work(line, time.monotonic())
-            if line is not None and line.is_full and events & selectors.EVENT_WRITE:
+            if line.is_full and events & selectors.EVENT_WRITE:
                 self.sends(line)
                 self.takes_down(line)
+        if is_asked:
+            self.is_told()
         if self.is_up:
             for line in [line for line in self.idle if line.is_present]:
                 self.calls(line)
@@ -229,7 +236,7 @@ def process_of(end, others):
         Sockets(end).works()
     except Lost as lost:
         end.sendall(fault_of(str(lost)))
-    except BaseException:  # pylint: disable=broad-except
+    except BaseException:
         end.sendall(fault_of(traceback.format_exc()))
     finally:
         os._exit(0)

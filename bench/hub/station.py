@@ -263,10 +263,10 @@ class Station:
                    if os.path.exists(self.path(name)))
 
     def memory(self):
-        """How many kibibytes of memory it has in use now."""
+        """How many kibibytes of memory it has in use now, without those that it shares: in them stands what `power` keeps."""
         try:
             with open(f'/proc/{self.process.pid}/status') as file:
-                return next((int(line.split()[1]) for line in file if line.startswith('VmRSS:')), 0)
+                return sum(int(line.split()[1]) for line in file if line.startswith(('RssAnon:', 'RssFile:')))
         except (FileNotFoundError, ProcessLookupError):
             return 0
 
