@@ -129,5 +129,9 @@ class HubDirectory(Directory):
         return [to for to in self.found[front] if to != circuit and self.peers[to] != self.peers[circuit]]
 
     def level(self, heading):
-        return next((level for letters, level in self.levels if all(want in ('*', have) for want, have
-                                                                    in zip(letters, heading[:2].decode()))), OBSERVATION)
+        """The level of a heading. What its two letters fit is looked up once, row by row."""
+        letters = heading[:2]
+        if letters not in self.found:
+            self.found[letters] = next((level for wanted, level in self.levels if all(want in ('*', have) for want, have
+                                        in zip(wanted, letters.decode()))), OBSERVATION)
+        return self.found[letters]
