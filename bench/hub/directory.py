@@ -30,9 +30,10 @@ class Size:
         self.limit, self.window, self.kept = limit, window, kept
 
 
-# For a run in which nobody is away for long: all of it is read and written at each start.
-SMALL = Size(1 << 25, 1_000, {3: 200, 5: 250})
-LARGE = Size(1 << 27, 2_000, {3: 500, 5: 1_000})
+# For a run in which nobody is away for long, and for one of many days: all of it is read and written at each start. What has to be
+# kept takes half of the limit at most, or each few bulletins the journal is full again.
+SMALL = Size(1 << 27, 1_000, {3: 200, 5: 250})
+LARGE = Size(1 << 28, 2_000, {3: 500, 5: 1_000})
 LARGEST_LIMIT = 1 << 30
 
 

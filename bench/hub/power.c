@@ -17,7 +17,7 @@
 #include <sys/stat.h>
 #include <unistd.h>
 
-#define SIZE ((uint64_t)1 << 28)
+#define SIZE ((uint64_t)1 << 30)
 #define GONE (~(uint64_t)0)
 #define OPEN_GATE 0x4F
 /* Of so many descriptors it is kept which file of the journal they stand for. */
