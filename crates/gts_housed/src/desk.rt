@@ -27,6 +27,8 @@ pub struct HallDesk<'a, R: Wait, P: Station, B: Began> {
     room: &'a RoomBell,
     // What was seen at the bell for room before the last try, once this desk waits there.
     looked: Option<Look>,
+    // This desk is the one of those that wait there that tries.
+    tries: bool,
     pass: Option<Pass<Housed<P, B>>>,
 }
 
@@ -65,6 +67,7 @@ impl<'a, R: Wait, P: Station, B: Began> HallDesk<'a, R, P, B> {
             bells,
             room,
             looked: None,
+            tries: false,
             pass: Some(pass),
         }
     }
@@ -77,8 +80,9 @@ impl<'a, R: Wait, P: Station, B: Began> HallDesk<'a, R, P, B> {
             return;
         }
         if self.looked.is_some() {
+            self.room.go(self.tries);
             self.looked = None;
-            self.room.go();
+            self.tries = false;
         }
     }
 
@@ -108,6 +112,7 @@ impl<'a, R: Wait, P: Station, B: Began> HallDesk<'a, R, P, B> {
             bells: _,
             room: _,
             looked: _,
+            tries: _,
             pass,
         } = self;
         let Some(pass) = pass else { unreachable!() };
@@ -159,7 +164,10 @@ impl<'a, R: Wait, P: Station, B: Began> Desk for HallDesk<'a, R, P, B> {
     fn rest(&mut self) {
         match self.looked {
             None => self.room.come(),
-            Some(looked) => self.room.wait(self.rt, looked),
+            Some(looked) => {
+                self.room.wait(self.rt, looked, self.tries);
+                self.tries = true;
+            }
         }
         self.looked = Some(self.room.look());
     }
@@ -173,7 +181,11 @@ impl<'a, R: Wait, P: Station, B: Began> Desk for HallDesk<'a, R, P, B> {
         if answer.is_err() {
             self.wake_all();
         } else if given.frames.count() > 0 {
-            self.room.wake();
+            self.room.sent(given.frames.count() as u64);
+            if answer == Ok(false) {
+                // Nothing waits on this circuit any more, and no more may go out.
+                self.room.wake();
+            }
         }
         answer
     }
