@@ -5,6 +5,7 @@ use std::sync::atomic::{AtomicU64, Ordering};
 // So many frames go out before a message is tried again for which there was no room, or so much time passes: a try that finds none looks
 // at all that the engine needs.
 const FRAMES_A_TRY: u64 = 1_024;
+
 const MILLISECONDS_A_TRY: u32 = 1_000;
 
 /// Where receivers sleep that have a message for which there is no room, until draws have gone out, or the engine has stopped. One of them
