@@ -222,6 +222,16 @@ class Sockets(Lines):
             if self.done or now - self.told_at >= TELLING:
                 self.tells(now)
 
+    def works_or_says(self):
+        """Where something is wrong, a row that is a text says so, behind what was told."""
+        try:
+            self.works()
+        except Lost as lost:
+            self.channel.put(str(lost))
+        except BaseException:
+            self.channel.put(traceback.format_exc())
+        self.channel.flush()
+
 
 def process_of(end, others):
     """Begins a process that serves neighbours until the other end is closed; gives its number."""
@@ -233,19 +243,9 @@ def process_of(end, others):
             signal.signal(one, signal.SIG_DFL if one == signal.SIGTERM else signal.SIG_IGN)
         for other in others:
             other.close()
-        Sockets(end).works()
-    except Lost as lost:
-        end.sendall(fault_of(str(lost)))
-    except BaseException:
-        end.sendall(fault_of(traceback.format_exc()))
+        Sockets(end).works_or_says()
     finally:
         os._exit(0)
-
-
-def fault_of(text):
-    """A row that says what is wrong."""
-    row = marshal.dumps(text)
-    return LENGTH.pack(len(row)) + row
 
 
 class Neighbour:

@@ -13,6 +13,8 @@ from hub.reference import Lost
 from network import Standby
 
 SECONDS = 600
+# While the switch compacts its journal a ship beside it may find it damaged; only what comes again is wrong.
+SHIPS = 4
 CONNECTIONS = 1_000
 DISK_FAULT = 6
 # What the unit sets.
@@ -72,10 +74,14 @@ class Following:
     """A standby follows beside what goes on: what the station ships goes to a file, and the standby takes that in."""
 
     def __init__(self, program, station, standby):
-        self.program, self.standby, self.word = program, standby, 'ship'
-        self.path = os.path.join(standby, 'capture.gts')
+        self.program, self.station, self.standby = program, station, standby
+        self.path, self.tries = os.path.join(standby, 'capture.gts'), 0
+        self.ships()
+
+    def ships(self):
+        self.word, self.tries = 'ship', self.tries + 1
         with open(self.path, 'wb') as out:
-            self.process = self.begins('ship', station, out)
+            self.process = self.begins('ship', self.station, out)
 
     def begins(self, word, folder, out):
         return subprocess.Popen([self.program, word], cwd=folder, stdin=subprocess.DEVNULL, stdout=out, stderr=subprocess.PIPE)
@@ -87,6 +93,9 @@ class Following:
     def has_ended(self, wants):
         """One of the two has ended: the other one begins, if it is to come yet."""
         said = self.process.communicate(timeout=SECONDS)[1].decode().strip()
+        if self.word == 'ship' and self.process.returncode != 0 and self.tries < SHIPS:
+            self.ships()
+            return False
         wants(self.word, (self.process.returncode, said), (0, ''))
         if self.word == 'follow':
             os.remove(self.path)
