@@ -106,7 +106,7 @@ class Ledger:
         if self.recent[index].key != bulletin.key:
             self.lost(f'{self.number_of(index)} came with two texts')
         if not self.owed and self.may_come[index] == 0:
-            self.lost(f'{self.number_of(index)} came twice, and nobody asked for it')
+            index = self.asked_by_heading(index, bulletin)
         if self.owed:
             self.owed.popleft()
         elif self.may_come[index] > 1:
@@ -116,6 +116,14 @@ class Ledger:
         self.wanted.discard(index)
         self.again.discard(index)
         self.repeated += 1
+
+    def asked_by_heading(self, index, bulletin):
+        """The draw that was asked for where this one came for it: a request by heading is answered with the last draw of that heading,
+        which may still have been on its way when another was named."""
+        for other in self.may_come:
+            if other < index and other in self.recent and self.recent[other].heading == bulletin.heading:
+                return other
+        self.lost(f'{self.number_of(index)} came twice, and nobody asked for it')
 
     def judge(self, index, bulletin):
         """The draw of this index is the one that goes next: of what had been accepted, the smallest level, and of that what was
