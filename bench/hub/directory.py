@@ -30,9 +30,10 @@ class Size:
         self.limit, self.window, self.kept = limit, window, kept
 
 
-# For a run in which nobody is away for long: all of it is read and written at each start.
-SMALL = Size(1 << 25, 1_000, {3: 200, 5: 250})
-LARGE = Size(1 << 27, 2_000, {3: 500, 5: 1_000})
+# For a run in which nobody is away for long, and for one of many days: all of it is read and written at each start. What has to be
+# kept takes half of the limit at most, or each few bulletins the journal is full again.
+SMALL = Size(1 << 27, 1_000, {3: 200, 5: 250})
+LARGE = Size(1 << 28, 2_000, {3: 500, 5: 1_000})
 LARGEST_LIMIT = 1 << 30
 
 
@@ -129,5 +130,9 @@ class HubDirectory(Directory):
         return [to for to in self.found[front] if to != circuit and self.peers[to] != self.peers[circuit]]
 
     def level(self, heading):
-        return next((level for letters, level in self.levels if all(want in ('*', have) for want, have
-                                                                    in zip(letters, heading[:2].decode()))), OBSERVATION)
+        """The level of a heading. What its two letters fit is looked up once, row by row."""
+        letters = heading[:2]
+        if letters not in self.found:
+            self.found[letters] = next((level for wanted, level in self.levels if all(want in ('*', have) for want, have
+                                        in zip(wanted, letters.decode()))), OBSERVATION)
+        return self.found[letters]

@@ -6,7 +6,7 @@ import time
 from collections import deque
 
 from hub.reference import Lost
-from hub.traffic import BULLETIN, NOISE, REFUSED, REQUEST
+from hub.traffic import NOISE
 
 PIECE = 1 << 18
 HEAD = 10
@@ -22,16 +22,17 @@ class Line:
         self.circuit, self.own, self.switch, self.ports, self.sent = circuit, own, switch, ports, sent
         self.queue = deque()
         self.number = 0
-        # The connection to the switch, and what is left of the message in work.
-        self.out, self.left = None, None
+        # The connection to the switch, whether it takes nothing more at present, and what is left of the message in work.
+        self.out, self.is_full, self.left = None, False, None
         # Where it listens, and the connection from the switch.
         self.listener, self.source = None, None
         self.buffer = bytearray()
         self.frames = []
         self.is_present, self.reads = False, True
-        # Since when its line stands without a break.
-        self.since = 0.0
-        self.connections = self.cuts = 0
+
+    def drops(self):
+        """What isn't whole of a frame is gone with its connection."""
+        self.buffer.clear()
 
     def take(self, data, now):
         """Takes bytes of the switch, and puts the whole frames aside with their letters and the time."""
@@ -71,7 +72,7 @@ class Lines:
         line.listener = socket.create_server((line.own, line.ports[1]), backlog=64)
         line.listener.setblocking(False)
         self.selector.register(line.listener, selectors.EVENT_READ, (self.accepts, line))
-        line.is_present, line.since = True, time.monotonic()
+        line.is_present = True
 
     def calls(self, line):
         """A neighbour connects to the switch, where that listens."""
@@ -85,7 +86,6 @@ class Lines:
         out.setblocking(False)
         out.setsockopt(socket.IPPROTO_TCP, socket.TCP_NODELAY, 1)
         line.out = out
-        line.connections += 1
         self.selector.register(out, selectors.EVENT_READ, (self.is_answered, line))
 
     def accepts(self, line, _now):
@@ -111,12 +111,12 @@ class Lines:
         """Ends the connection from the switch; what isn't whole of a frame is dropped."""
         self.closes(line.source)
         line.source = None
-        line.buffer.clear()
+        line.drops()
 
     def ends_out(self, line):
         """Ends the connection to the switch. A message that was sent in part goes to the front of the queue again."""
         self.closes(line.out)
-        line.out, line.left = None, None
+        line.out, line.left, line.is_full = None, None, False
 
     def goes_away(self, line):
         """A neighbour goes: it listens no more, and both its connections end."""
@@ -128,14 +128,11 @@ class Lines:
     def is_cut(self, line):
         """The connection from the switch is cut, with all that wasn't read of it; the neighbour goes on listening."""
         self.ends_source(line)
-        line.since = time.monotonic()
-        line.cuts += 1
 
     def calls_again(self, line):
         """The connection to the switch ends, in mid-frame where a message is in work, and the neighbour connects again."""
         self.ends_out(line)
         self.calls(line)
-        line.cuts += 1
 
     # Bytes.
 
@@ -171,9 +168,15 @@ class Lines:
 
     def reads_again(self, line):
         line.reads = True
-        line.since = time.monotonic()
         if line.source is not None:
             self.selector.register(line.source, selectors.EVENT_READ, (self.hears, line))
+
+    def waits_for_room(self, line, is_full):
+        """Whether a connection to the switch is looked at for room, too."""
+        if line.is_full != is_full:
+            line.is_full = is_full
+            events = selectors.EVENT_READ | (selectors.EVENT_WRITE if is_full else 0)
+            self.selector.modify(line.out, events, (self.is_answered, line))
 
     def sends(self, line):
         """Hands over what waits in the queue of a neighbour, as far as the line takes it."""
@@ -185,6 +188,7 @@ class Lines:
             try:
                 count = line.out.send(line.left)
             except BlockingIOError:
+                self.waits_for_room(line, True)
                 return
             except OSError:
                 self.ends_out(line)
@@ -198,6 +202,8 @@ class Lines:
                 if message.kind == NOISE:
                     # What comes behind noise is dropped: the neighbour begins anew.
                     self.calls_again(line)
+        if line.out is not None:
+            self.waits_for_room(line, False)
 
     def serves(self, seconds):
         """Sends what waits and reads what comes, for so long at most where nothing does."""
@@ -241,21 +247,16 @@ class Lines:
             line.take(piece, time.monotonic())
 
     def hangs_up(self):
-        """Ends all connections to the switch. What has no receipt is sent again, in its order; requests are made anew, and noise
-        isn't."""
+        """Ends all connections to the switch, and forgets what waits for it."""
         self.is_up = False
         for line in self.lines:
             self.ends_out(line)
-            line.queue.extendleft(message for message in reversed(line.sent) if message.kind in (BULLETIN, REFUSED))
+            line.queue.clear()
             line.sent.clear()
-            line.queue = deque(message for message in line.queue if message.kind not in (REQUEST, NOISE))
 
     def calls_all(self):
         """The switch is up again, and all neighbours that are there call it."""
         self.is_up = True
-        for line in self.lines:
-            line.connections = 0
-            line.since = time.monotonic()
 
     def close(self):
         for line in self.lines:

@@ -17,10 +17,14 @@
 #include <sys/stat.h>
 #include <unistd.h>
 
-#define SIZE ((uint64_t)1 << 28)
+#define SIZE ((uint64_t)1 << 30)
 #define GONE (~(uint64_t)0)
 #define OPEN_GATE 0x4F
-#define REAL(name, type) ((type)dlsym(RTLD_NEXT, name))
+/* Of so many descriptors it is kept which file of the journal they stand for. */
+#define KNOWN 4096
+#define UNKNOWN 0
+#define NO_JOURNAL 1
+#define FIRST 2
 
 struct row {
     uint64_t file, place, size, count;
@@ -39,11 +43,24 @@ static int held = -1;
 static off64_t held_at;
 /* Whether the last change of the journal opened a gate. */
 static int is_gate_last;
+/* What each descriptor stands for, as far as that is known: nothing of the journal, or a file, whose number is FIRST less. */
+static _Atomic signed char stands_for[KNOWN];
+static ssize_t (*real_pwrite)(int, const void *, size_t, off64_t);
+static int (*real_truncate)(int, off64_t), (*real_fsync)(int), (*real_fdatasync)(int), (*real_close)(int);
+
+static void *real(const char *name) {
+    return dlsym(RTLD_NEXT, name);
+}
 
 __attribute__((constructor)) static void begin(void) {
     const char *path = getenv("UNSYNCED"), *broken = getenv("BROKEN_POWER");
     int file = path == NULL ? -1 : open(path, O_RDWR | O_CLOEXEC);
     void *place = file < 0 ? MAP_FAILED : mmap(NULL, SIZE, PROT_READ | PROT_WRITE, MAP_SHARED, file, 0);
+    real_pwrite = (ssize_t (*)(int, const void *, size_t, off64_t))real("pwrite64");
+    real_truncate = (int (*)(int, off64_t))real("ftruncate64");
+    real_fsync = (int (*)(int))real("fsync");
+    real_fdatasync = (int (*)(int))real("fdatasync");
+    real_close = (int (*)(int))real("close");
     unsynced = place == MAP_FAILED ? NULL : place;
     leaves_out = broken != NULL && strcmp(broken, "sync") == 0;
     holds_gates = broken != NULL && strcmp(broken, "gate") == 0;
@@ -52,12 +69,31 @@ __attribute__((constructor)) static void begin(void) {
     }
 }
 
-/* The number of the journal's file that a descriptor stands for; -1 where it is another file. */
-static int number_of(int file) {
+/* The number of the journal's file that a descriptor stands for by its name; -1 where it is another file. */
+static int looked_up(int file) {
     char link[64], path[4096];
     snprintf(link, sizeof link, "/proc/self/fd/%d", file);
     ssize_t length = unsynced == NULL ? -1 : readlink(link, path, sizeof path);
     return length > 10 && memcmp(path + length - 10, "/journal.", 9) == 0 ? path[length - 1] - '0' : -1;
+}
+
+/* The same, looked up once for each descriptor. */
+static int number_of(int file) {
+    if (file < 0 || file >= KNOWN) {
+        return looked_up(file);
+    }
+    if (stands_for[file] == UNKNOWN) {
+        int number = looked_up(file);
+        stands_for[file] = number < 0 ? NO_JOURNAL : FIRST + number;
+    }
+    return stands_for[file] - FIRST < 0 ? -1 : stands_for[file] - FIRST;
+}
+
+int close(int file) {
+    if (file >= 0 && file < KNOWN) {
+        stands_for[file] = UNKNOWN;
+    }
+    return real_close == NULL ? ((int (*)(int))real("close"))(file) : real_close(file);
 }
 
 /* Keeps the bytes of a file from a place on, so many at most. */
@@ -98,7 +134,7 @@ static void has_synced(int number) {
 
 static ssize_t put(int file, int number, const void *bytes, size_t count, off64_t at) {
     keep(file, number, at, count);
-    return REAL("pwrite64", ssize_t (*)(int, const void *, size_t, off64_t))(file, bytes, count, at);
+    return real_pwrite(file, bytes, count, at);
 }
 
 static void opens_held(void) {
@@ -123,7 +159,7 @@ static ssize_t change(int file, int number, const void *bytes, size_t count, off
 ssize_t pwrite64(int file, const void *bytes, size_t count, off64_t at) {
     int number = number_of(file);
     if (number < 0) {
-        return REAL("pwrite64", ssize_t (*)(int, const void *, size_t, off64_t))(file, bytes, count, at);
+        return real_pwrite(file, bytes, count, at);
     }
     pthread_mutex_lock(&turn);
     ssize_t written = change(file, number, bytes, count, at);
@@ -143,7 +179,7 @@ int ftruncate64(int file, off64_t size) {
         is_gate_last = 0;
         keep(file, number, size, SIZE);
     }
-    int answer = REAL("ftruncate64", int (*)(int, off64_t))(file, size);
+    int answer = real_truncate(file, size);
     pthread_mutex_unlock(&turn);
     return answer;
 }
@@ -152,11 +188,11 @@ int ftruncate(int file, off_t size) {
     return ftruncate64(file, size);
 }
 
-static int sync_by(int file, const char *by) {
+static int sync_by(int file, int (*by)(int)) {
     int number = number_of(file);
     pthread_mutex_lock(&turn);
     int is_left_out = number >= 0 && leaves_out && is_gate_last;
-    int answer = is_left_out ? 0 : REAL(by, int (*)(int))(file);
+    int answer = is_left_out ? 0 : by(file);
     if (unsynced != NULL && !is_left_out) {
         unsynced->syncs += 1;
     }
@@ -168,9 +204,9 @@ static int sync_by(int file, const char *by) {
 }
 
 int fsync(int file) {
-    return sync_by(file, "fsync");
+    return sync_by(file, real_fsync);
 }
 
 int fdatasync(int file) {
-    return sync_by(file, "fdatasync");
+    return sync_by(file, real_fdatasync);
 }

@@ -6,7 +6,7 @@ import subprocess
 
 SOURCE = os.path.join(os.path.dirname(os.path.abspath(__file__)), 'power.c')
 # As in power.c.
-SIZE, GONE = 1 << 28, (1 << 64) - 1
+SIZE, GONE = 1 << 30, (1 << 64) - 1
 HEAD, ROW = struct.Struct('=QQ'), struct.Struct('=QQQQ')
 
 

@@ -1,16 +1,15 @@
 """What must come of what a hub is sent, told by dicts: each receipt, and each frame on each circuit. It reads the rules of the
-directory one by one and knows nothing of how the switch works. `Lost` is raised at the first thing that isn't as it must be."""
+directory one by one and knows nothing of how the switch works. No body is kept: each is known by its key. `Lost` is raised at the
+first thing that isn't as it must be."""
 import heapq
 from collections import Counter, defaultdict, deque
 
 from hub.directory import ROUND
-from hub.traffic import BULLETIN, NOISE, REFUSED, REQUEST
+from hub.traffic import BULLETIN, NOISE, REFUSED, REQUEST, key_of
 from journal import EOL
 
-# By so many bytes from its heading on a bulletin is looked up: heading, group and serial number stand there.
-FRONT = 48
-# How many bulletins stay known behind their last arrival, for frames that come once more.
-REMEMBERED = 20_000
+# What stands before the number of a message.
+BEGIN = b'\x01' + EOL
 # How many bulletins may have been accepted without a receipt when the program is killed: as many as go behind one gate.
 IN_DOUBT = 256
 
@@ -20,23 +19,22 @@ class Lost(Exception):
 
 
 class Bulletin:
-    """A bulletin that was accepted: where it came in, and to which circuits it still has to come."""
-    __slots__ = ('circuit', 'position', 'body', 'letters', 'level', 'left', 'sent_at')
+    """A bulletin that was accepted: to which circuits it still has to come, and how many keep it to send it once more."""
+    __slots__ = ('position', 'key', 'rank', 'heading', 'letters', 'level', 'left', 'kept', 'sent_at')
 
-    def __init__(self, circuit, position, message, level, named):
-        self.circuit, self.position, self.level, self.left = circuit, position, level, set(named)
-        self.body, self.letters, self.sent_at = message.body, message.letters, message.sent_at
-
-    def key(self):
-        return self.level, self.position
+    def __init__(self, position, message, heading, level, named):
+        self.position, self.heading, self.level, self.left, self.kept = position, heading, level, set(named), 0
+        self.key, self.letters, self.sent_at = message.key, message.letters, message.sent_at
+        # Of what waits on a circuit the smallest rank goes first.
+        self.rank = level, position
 
 
 class Ledger:
     """A circuit: what goes to it, what has come on it, and under which numbers. A draw is named by its index, from 0 on, which
     doesn't come round as its number does."""
 
-    def __init__(self, name, digits, kept, repeat):
-        self.name, self.digits, self.kept, self.repeat = name, digits, kept, repeat
+    def __init__(self, name, digits, kept, repeat, forget):
+        self.name, self.digits, self.kept, self.repeat, self.forget = name, digits, kept, repeat, forget
         # Routed here and not known to have been drawn: in order, and those that may have waited at the last draw that was judged.
         self.routed, self.waiting = deque(), []
         # Draws from 0 to `next` were judged; `early` stand behind a hole; `top` is behind the greatest that came.
@@ -64,11 +62,6 @@ class Ledger:
     def number_of(self, index):
         return f'{(index + 1) % ROUND[self.digits]:0{self.digits}}'
 
-    def drawn(self, index, body):
-        """The bulletin of a draw that is kept here, where it has this body: on a circuit that no rule names any more it may be old."""
-        bulletin = self.recent.get(index)
-        return bulletin if bulletin is not None and bulletin.body == body else None
-
     def came(self, index, bulletin):
         """A frame came. Gives whether it is new."""
         if self.owed and index != self.owed[0]:
@@ -83,44 +76,71 @@ class Ledger:
             self.lost(f'{self.number_of(index)} came again, which nobody asked for')
         if self.owed:
             self.owed.popleft()
-        self.holes |= set(range(self.top, index))
+        self.keep(index, bulletin)
+        if index == self.next == self.top:
+            self.judge(index, bulletin)
+            self.next = self.top = index + 1
+            return True
+        self.holes.update(range(self.top, index))
         self.top = max(self.top, index + 1)
         for of in (self.holes, self.wanted, self.again):
             of.discard(index)
-        self.recent[index] = self.early[index] = bulletin
-        self.recent.pop(index - self.kept, None)
+        self.early[index] = bulletin
         while self.next in self.early:
             self.judge(self.next, self.early.pop(self.next))
             self.next += 1
         return True
 
+    def keep(self, index, bulletin):
+        """A draw may be asked for while the circuit keeps it, and no longer."""
+        self.recent[index] = bulletin
+        bulletin.kept += 1
+        old = self.recent.pop(index - self.kept, None)
+        if old is not None:
+            self.may_come.pop(index - self.kept, None)
+            old.kept -= 1
+            if not old.kept and not old.left:
+                self.forget(old)
+
     def came_again(self, index, bulletin):
-        if self.recent[index].body != bulletin.body:
+        if self.recent[index].key != bulletin.key:
             self.lost(f'{self.number_of(index)} came with two texts')
         if not self.owed and self.may_come[index] == 0:
-            self.lost(f'{self.number_of(index)} came twice, and nobody asked for it')
+            index = self.asked_by_heading(index, bulletin)
         if self.owed:
             self.owed.popleft()
-        else:
+        elif self.may_come[index] > 1:
             self.may_come[index] -= 1
+        else:
+            del self.may_come[index]
         self.wanted.discard(index)
         self.again.discard(index)
         self.repeated += 1
+
+    def asked_by_heading(self, index, bulletin):
+        """The draw that was asked for where this one came for it: a request by heading is answered with the last draw of that heading,
+        which may still have been on its way when another was named."""
+        for other in self.may_come:
+            if other < index and other in self.recent and self.recent[other].heading == bulletin.heading:
+                return other
+        self.lost(f'{self.number_of(index)} came twice, and nobody asked for it')
 
     def judge(self, index, bulletin):
         """The draw of this index is the one that goes next: of what had been accepted, the smallest level, and of that what was
         accepted first. What had been accepted is at least what this bulletin and the draws before tell."""
         while self.floors and self.floors[0][0] <= index:
             self.accepted = max(self.accepted, self.floors.popleft()[1])
-        self.accepted = max(self.accepted, bulletin.position + 1)
-        while self.routed and self.routed[0].position < self.accepted:
-            one = self.routed.popleft()
-            heapq.heappush(self.waiting, one.key())
-        if not self.waiting or self.waiting[0] != bulletin.key():
+        if bulletin.position >= self.accepted:
+            self.accepted = bulletin.position + 1
+        routed, waiting = self.routed, self.waiting
+        while routed and routed[0].position < self.accepted:
+            heapq.heappush(waiting, routed.popleft().rank)
+        if not waiting or waiting[0] != bulletin.rank:
             self.lost(f'{self.number_of(index)} is of level {bulletin.level} and position {bulletin.position}; of level and '
-                      f'position {self.waiting[:1]} had to go before')
-        heapq.heappop(self.waiting)
-        self.overtook[bulletin.level] += any(position < bulletin.position for _, position in self.waiting[:3])
+                      f'position {waiting[:1]} had to go before')
+        heapq.heappop(waiting)
+        if waiting and any(position < bulletin.position for _, position in waiting[:3]):
+            self.overtook[bulletin.level] += 1
         self.behind -= 1
 
     def asked(self, indices):
@@ -144,21 +164,23 @@ class Ledger:
 
 
 class Reference:
-    """The switch as dicts. `sent` has for each circuit the messages that wait for their receipts."""
+    """The switch as dicts. `sent` has for each circuit the messages that wait for their receipts; `is_handed` says of a circuit that
+    seems to have none whether one was handed over meanwhile."""
 
-    def __init__(self, directory, level):
-        self.directory, self.level = directory, level
+    def __init__(self, directory, level, is_handed=lambda circuit: False):
+        self.directory, self.level, self.is_handed = directory, level, is_handed
         self.accepted = 0
-        # The last bulletins that were accepted, as many as the window has, by their bodies; and those that may still come.
+        # The last bulletins that were accepted, as many as the window has, by their keys; and those that may still come on a circuit.
+        # Of these there are several with a key where a text was accepted again, behind the window.
         self.window, self.order = {}, deque()
-        self.fronts, self.bulletins = defaultdict(list), deque()
+        self.known = {}
         self.sent = [deque() for _ in directory.names]
         self.ledgers = [self.ledger(circuit) for circuit in range(len(directory.names))]
         self.counts = Counter()
 
     def ledger(self, circuit):
         return Ledger(self.directory.names[circuit], self.directory.digits(circuit), self.directory.kept_of(circuit),
-                      self.directory.repeat)
+                      self.directory.repeat, self.forget)
 
     def takes(self, directory):
         """Goes on under another directory, whose first circuits are those of the present one."""
@@ -170,30 +192,33 @@ class Reference:
     # Receipts.
 
     def accept(self, circuit, message):
-        heading = message.body.split(EOL, 1)[0]
+        heading, key = message.heading(), message.key
         named = self.directory.goes_to(circuit, heading)
-        bulletin = Bulletin(circuit, self.accepted, message, self.level(heading), named)
-        self.window[message.body] = self.accepted
-        self.order.append(message.body)
+        self.window[key] = self.accepted
+        self.order.append(key)
         if len(self.order) > self.directory.window:
             old = self.order.popleft()
             if self.window[old] == self.accepted - self.directory.window:
                 del self.window[old]
-        self.fronts[message.body[:FRONT]].append(bulletin)
-        self.bulletins.append(bulletin)
+        if named:
+            bulletin = Bulletin(self.accepted, message, heading, self.level(heading), named)
+            self.known.setdefault(key, []).append(bulletin)
         for to in named:
             self.ledgers[to].routed.append(bulletin)
             self.ledgers[to].behind += 1
         self.accepted += 1
-        self.forget()
         return heading, named
 
-    def forget(self):
-        while self.bulletins and not self.bulletins[0].left and self.bulletins[0].position < self.accepted - REMEMBERED:
-            old = self.bulletins.popleft()
-            self.fronts[old.body[:FRONT]].remove(old)
-            if not self.fronts[old.body[:FRONT]]:
-                del self.fronts[old.body[:FRONT]]
+    def forget(self, bulletin):
+        """A bulletin came to all its circuits, and none of them keeps it any more: so it can't come again."""
+        found = self.known[bulletin.key]
+        found.remove(bulletin)
+        if not found:
+            del self.known[bulletin.key]
+
+    def lacking(self):
+        """How many bulletins haven't come everywhere."""
+        return sum(1 for found in self.known.values() for bulletin in found if bulletin.left)
 
     def wanted_receipt(self, circuit, message):
         """The receipt that this message has to get now; where it is a bulletin that is new, it is accepted."""
@@ -204,8 +229,8 @@ class Reference:
         if message.kind == REQUEST:
             self.ledgers[circuit].asked(message.asked)
             return f'ASK {circuit} {len(message.asked)} {message.missing}'
-        if message.body in self.window:
-            return f'DUP {circuit} {self.window[message.body]}'
+        if message.key in self.window:
+            return f'DUP {circuit} {self.window[message.key]}'
         position = self.accepted
         heading, named = self.accept(circuit, message)
         return f'ACC {circuit} {position} {len(named)} {heading.decode()}'
@@ -214,7 +239,7 @@ class Reference:
         """A line of receipts: it is that of the next message of its circuit."""
         words = line.split()
         circuit = int(words[1]) if len(words) > 1 and words[1].isdigit() else -1
-        if not 0 <= circuit < len(self.sent) or not self.sent[circuit]:
+        if not 0 <= circuit < len(self.sent) or not (self.sent[circuit] or self.is_handed(circuit)):
             raise Lost(f'a receipt that no message has: {line!r}')
         want = self.wanted_receipt(circuit, self.sent[circuit].popleft())
         if line != want:
@@ -224,33 +249,36 @@ class Reference:
     def is_unsaid(self, circuit, body):
         """The program was killed when this bulletin was accepted and had no receipt; the message is sent again."""
         message = self.sent[circuit][0] if self.sent[circuit] else None
-        if message is None or message.kind != BULLETIN or message.body != body or body in self.window:
-            raise Lost(f'the journal has {body[:FRONT]!r} of circuit {circuit}, which nobody sent')
+        if message is None or message.kind != BULLETIN or message.key != key_of(body) or message.key in self.window:
+            raise Lost(f'the journal has {body[:40]!r} of circuit {circuit}, which nobody sent')
         self.accept(circuit, message)
         self.counts['unsaid'] += 1
 
     # Frames.
 
-    def bulletin_of(self, circuit, body):
-        """The first bulletin with this body that has still to come on a circuit, or else the last one. One that fell out of the window
+    def bulletin_of(self, circuit, key):
+        """The first bulletin with this key that has still to come on a circuit, or else the last one. One that fell out of the window
         may have been accepted again."""
-        found = [bulletin for bulletin in self.fronts.get(body[:FRONT], ()) if bulletin.body == body]
-        return next((bulletin for bulletin in found if circuit in bulletin.left), found[-1] if found else None)
+        found = self.known.get(key)
+        if found is None or len(found) == 1:
+            return found and found[0]
+        return next((bulletin for bulletin in found if circuit in bulletin.left), found[-1])
 
-    def frame(self, circuit, letters, message):
-        """A frame that came on a circuit. Gives the bulletin where it is new there."""
+    def frame(self, circuit, front, key):
+        """A frame that came on a circuit: its letters and the first bytes of its message, and the key of its body. Gives the bulletin
+        where it is new there."""
         ledger = self.ledgers[circuit]
-        digits = message[4:4 + ledger.digits]
-        body = message[4 + ledger.digits + len(EOL):]
-        if not digits.isdigit() or message[:4] != b'\x01' + EOL or message[4 + ledger.digits:7 + ledger.digits] != EOL:
-            ledger.lost(f'a frame begins with {message[:16]!r}')
+        end = 6 + ledger.digits
+        digits = front[6:end]
+        if not digits.isdigit() or front[2:6] != BEGIN or front[end:end + 3] != EOL:
+            ledger.lost(f'a frame begins with {front!r}')
         index = ledger.index_of(int(digits))
-        bulletin = self.bulletin_of(circuit, body) or ledger.drawn(index, body)
-        if bulletin is None or bulletin.letters != letters:
-            ledger.lost(f'a frame of something else than was accepted: {message[:80]!r}')
+        bulletin = self.bulletin_of(circuit, key)
+        if bulletin is None or bulletin.letters != front[:2]:
+            ledger.lost(f'a frame of something else than was accepted: {front!r}')
         self.counts['frames'] += 1
         if index not in ledger.recent and circuit not in bulletin.left:
-            ledger.lost(f'{body[:22]!r} came, which the rules of its time do not lead there, or under two numbers')
+            ledger.lost(f'{front[end + 3:]!r} came, which the rules of its time do not lead there, or under two numbers')
         if not ledger.came(index, bulletin):
             return None
         bulletin.left.discard(circuit)

@@ -5,8 +5,8 @@ import time
 from collections import Counter
 
 from hub.directory import OBSERVATION
-from hub.lines import Line, Lines
 from hub.measures import Measures
+from hub.neighbours import Neighbour, Neighbours
 from hub.reference import IN_DOUBT, Lost, Reference
 from hub.traffic import REQUEST, Traffic, request
 
@@ -27,7 +27,8 @@ class Run:
         self.station, self.directory = station, directory
         # What comes beside, when it is wanted, so that the others are the same at each run; and a digest of the others.
         self.traffic, self.beside, self.digest = Traffic(words.seed), Traffic(words.seed + 1, BESIDE), hashlib.sha256()
-        self.reference, self.lines = Reference(directory, self.level), Lines()
+        self.lines = Neighbours()
+        self.reference = Reference(directory, self.level, self.lines.is_handed)
         self.measures = Measures(words.csv, words.every, words.note)
         self.number, self.place, self.time_of_day = 0, (0, 0), b'010000'
         self.counts, self.begun = Counter(), time.monotonic()
@@ -50,6 +51,7 @@ class Run:
         self.lines.serves(seconds)
         self.judges()
         if self.measures.is_due():
+            self.station.looks_at_the_standby()
             if self.station.is_compacted():
                 self.counts['compactions of its own'] += 1
             self.sample()
@@ -58,32 +60,33 @@ class Run:
         self.measures.sample(self.place, self.number, self.reference, self.station, self.station.run)
 
     def judges(self):
+        """What came is judged behind the receipts that had been said until then. More may come meanwhile."""
+        pieces, self.lines.pieces = self.lines.pieces, []
         for line in self.station.receipts():
             if self.words.broken == 'receipt' and self.reference.accepted == self.messages // 4:
                 self.words.broken = None
                 continue
             self.reference.receipt(line)
             self.lines.moved += 1
-        for line in self.lines.lines:
-            if line.frames:
-                frames, line.frames = line.frames, []
-                for letters, message, now in frames:
-                    self.frame(line, letters, message, now)
+        for circuit, now, found in pieces:
+            of = iter(found)
+            for front, key in zip(of, of):
+                self.frame(self.lines.lines[circuit], front, key, now)
 
-    def frame(self, line, letters, message, now):
-        if self.is_withheld(line, message):
+    def frame(self, line, front, key, now):
+        if self.words.broken == 'frame' and self.is_withheld(line, front, key):
             return
-        bulletin = self.reference.frame(line.circuit, letters, message)
+        bulletin = self.reference.frame(line.circuit, front, key)
         if bulletin is not None and bulletin.sent_at > line.since:
             self.measures.times[bulletin.level].append(now - bulletin.sent_at)
 
-    def is_withheld(self, line, message):
+    def is_withheld(self, line, front, key):
         """With the fault `frame` one frame of a circuit is dropped here each time that it comes."""
-        if self.words.broken != 'frame' or line.circuit != 1:
+        if line.circuit != 1:
             return False
         if self.withheld is None and self.number > self.messages // 2:
-            self.withheld = message
-        return message == self.withheld
+            self.withheld = front, key
+        return (front, key) == self.withheld
 
     # What is waited for.
 
@@ -92,9 +95,12 @@ class Run:
 
     def state(self):
         """How many messages wait for receipts, and how many frames are still to come to neighbours that are there."""
-        there = [line for line in self.lines.lines if self.is_there(line)]
-        waiting = sum(len(line.sent) + len(line.queue) for line in there)
-        return waiting, sum(self.reference.ledgers[line.circuit].behind for line in there)
+        waiting = behind = 0
+        for line, ledger in zip(self.lines.lines, self.reference.ledgers):
+            if line.is_present and line.reads:
+                waiting += len(line.sent) + len(line.queue)
+                behind += ledger.behind
+        return waiting, behind
 
     def awaits(self, what, holds):
         """Looks until it holds. Nothing moving for a while is a loss."""
@@ -137,9 +143,8 @@ class Run:
 
     def asks_for_holes(self):
         """Each neighbour asks for the numbers that it lacks, unless it has asked."""
-        for line in self.lines.lines:
-            ledger = self.reference.ledgers[line.circuit]
-            if not (ledger.holes or ledger.again) or not self.is_there(line) or line.out is None:
+        for line, ledger in zip(self.lines.lines, self.reference.ledgers):
+            if not (ledger.holes or ledger.again) or not self.is_there(line) or not line.has_called:
                 continue
             if any(message.kind == REQUEST for message in (*line.queue, *line.sent)):
                 continue
@@ -150,16 +155,16 @@ class Run:
 
     def asks(self, line, ledger, indices, missing=()):
         items = [ledger.number_of(index) for index in indices] + list(missing)
-        line.queue.append(request(self.directory.peers[line.circuit], self.time_of_day, b'SQN ' + '/'.join(items).encode(),
-                                  indices, len(missing)))
+        self.lines.puts(line, request(self.directory.peers[line.circuit], self.time_of_day, b'SQN ' + '/'.join(items).encode(),
+                                      indices, len(missing)))
         self.counts['requests'] += 1
 
     # What comes.
 
     def adds_lines(self):
         for circuit in range(len(self.lines.lines), len(self.directory.names)):
-            self.lines.add(Line(circuit, self.directory.host(circuit), self.directory.net[0], self.directory.ports[circuit],
-                                self.reference.sent[circuit]))
+            self.lines.add(Neighbour(circuit, self.reference.sent[circuit]), self.directory.host(circuit), self.directory.net[0],
+                           self.directory.ports[circuit], self.directory.digits(circuit))
 
     def goes_to(self, circuit):
         """The line over which a message of this country comes: another one where it has none, or where that is closed."""
@@ -173,7 +178,7 @@ class Run:
         self.time_of_day = self.traffic.time_of_day(*self.place, minutes)
         circuit, message = self.traffic.message(self.number, self.time_of_day)
         self.digest.update(message.body)
-        self.goes_to(circuit).queue.append(message)
+        self.lines.puts(self.goes_to(circuit), message)
         self.counts[message.kind] += 1
         self.number += 1
         self.keeps_to_the_rate()
@@ -190,8 +195,7 @@ class Run:
         bulletin at most that it had no time to acknowledge."""
         self.lines.drains()
         self.judges()
-        bulletins, draws = self.station.reads()
-        accepted = max(bulletins, default=-1) + 1
+        accepted, bulletins, draws = self.station.reads(self.reference.accepted)
         if 0 < accepted - self.reference.accepted <= IN_DOUBT:
             for position in range(self.reference.accepted, accepted):
                 self.reference.is_unsaid(*bulletins[position])

@@ -25,6 +25,8 @@ TSUNAMIS_A_DAY = 6
 LATER = 120
 # How many bytes of words and of noise texts are cut from; a group of five digits with its blank; and a line of eleven groups.
 POOL, GROUP, LINE = 1 << 18, 6, 66
+# Where the heading begins in what a neighbour sends, and behind how many bytes it has ended.
+FRONT, LONGEST_HEADING = 20, 40
 BULLETIN, REFUSED, NOISE, REQUEST = 'bulletin', 'refused', 'noise', 'request'
 # A fault of a heading, and the field that the receipt names.
 WRONG = [('TT', lambda h: b'1' + h[1:]), ('AA', lambda h: h[:2] + b'1' + h[3:]), ('ii', lambda h: h[:4] + b'O' + h[5:]),
@@ -36,15 +38,26 @@ NOISES = [('Length', b'NOISE ON THE LINE'), ('Kind', b'00000040XY'), ('Soh', b'0
           ('Etx', b'00000009AN' + b'\x01NO END..')]
 
 
+def key_of(body):
+    """By what a body is known where it isn't kept: 64 bits of it, under a secret that is new in each run."""
+    return hash(body)
+
+
 class Message:
     """What a neighbour sends: its bytes, and what must come of it. `asked` has the draws that a request asks for, and `missing`
     how many of its numbers nobody has."""
-    __slots__ = ('kind', 'body', 'letters', 'field', 'asked', 'missing', 'frame', 'sent_at')
+    __slots__ = ('kind', 'body', 'letters', 'field', 'asked', 'missing', 'key', 'frame', 'sent_at')
 
     def __init__(self, kind, body, letters=b'AN', field='', asked=(), missing=0):
         self.kind, self.body, self.letters, self.field = kind, body, letters, field
         self.asked, self.missing = asked, missing
-        self.frame, self.sent_at = None, 0.0
+        self.key, self.frame, self.sent_at = key_of(body), None, 0.0
+
+    def heading(self):
+        """The heading, also of a message whose frame alone is kept."""
+        if self.body is not None:
+            return self.body.split(EOL, 1)[0]
+        return self.frame[FRONT:FRONT + LONGEST_HEADING].split(EOL, 1)[0]
 
     def framed(self, number):
         """Its bytes on the line under a number; the same at each call, since a neighbour keeps what it sent."""

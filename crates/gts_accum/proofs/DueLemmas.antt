@@ -2,16 +2,8 @@
 use Rattle.std.proofs.Common.{◌≡◌, ℕ, ◌+◌, ◌-◌, ◌≤◌, min, true, List, [], ◌∷◌, length, take, drop, nat_lt, ap, ◌∙◌, arith}
 use Rattle.std.proofs.lemmas.Bool.{lt-ltb}
 use Rattle.std.proofs.lemmas.List.{append-nil, length-append, length-drop, length-take}
-use Rattle.gts_accum.specs.declared.format.Format.{Format}
-use Rattle.gts_accum.specs.declared.format.Format.TheVariants.{Whole, Bare}
-use Rattle.gts_accum.specs.declared.limits.TheConstants.{LONGEST_FILE, MOST_DUE}
-use Rattle.gts_accum.specs.declared.next.Next.{Next}
-use Rattle.gts_accum.specs.declared.next.Next.TheVariants.{Head, Entry, End, Bad}
-use Rattle.gts_accum.specs.declared.parts.Parts.{Parts}
-use Rattle.gts_accum.specs.File.{Reading, part_seen, reading_from}
-use Rattle.gts_accum.specs.Capture.{opening, back_of, capture_of}
-use Rattle.gts_accum.specs.Parts.{IsNext, IsSound, unpacking_of}
-use Rattle.gts_accum.specs.Unpacking.{to_come, due}
+use Rattle.gts_accum.specs.Cited.{Bad, Bare, End, Format, Head, IsNext, IsSound, LONGEST_FILE, MOST_DUE, Next, Parts, Reading, Whole, back_of, capture_of, due, opening, part_seen, reading_from, to_come, unpacking_of}
+use Rattle.gts_accum.specs.declared.next.Next.TheVariants.{Entry}
 use Rattle.gts_accum.proofs.ReadLemmas.{length-opening}
 use Rattle.gts_accum.proofs.UnpackingLemmas.{head-cut}
 

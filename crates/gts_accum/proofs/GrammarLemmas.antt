@@ -1,22 +1,12 @@
 -- What a file is read as, and the grammar of files.
-use Rattle.std.proofs.Common.{◌≡◌, ℕ, ◌+◌, ◌-◌, ◌<◌, ◌≤◌, List, [], ◌∷◌, ◌++◌, length, take, drop, replicate, inl, inr, refl, sym, ap, subst, ◌∙◌, append_assoc, arith}
-use Rattle.std.specs.Prelude.{flat_map}
-use Rattle.std.proofs.lemmas.List.{append-nil, length-append, length-replicate, take_at, drop_at}
+use Rattle.std.proofs.Common.{◌≡◌, ℕ, ◌+◌, ◌-◌, ◌<◌, ◌≤◌, List, [], ◌∷◌, ◌++◌, length, take, replicate, inl, inr, refl, sym, ap, subst, ◌∙◌, append_assoc, arith, flat_map}
+use Rattle.std.proofs.lemmas.List.{append-nil, length-append, length-replicate, take_at}
 use Rattle.std.proofs.Math.Seq.{take-append-add}
-use Rattle.gts_accum.specs.declared.format.Format.{Format}
-use Rattle.gts_accum.specs.declared.limits.TheConstants.{ENTRY_HEAD}
-use Rattle.gts_accum.specs.File.{Entry, IsEntry, IsSize, IsHead, IsHeadFront, entry_text, head_text, size_in, format_in}
-use Rattle.gts_accum.specs.Grammar.{IsFile, Begins}
+use Rattle.gts_accum.specs.Cited.{Begins, ENTRY_HEAD, Entry, Format, IsEntry, IsFile, IsHead, IsHeadFront, IsSize, entry_text, format_in, head_text, size_in}
 use Rattle.gts_accum.proofs.WrittenLemmas.{given-head, length-head, size-head, format-head}
+use Rattle.gts_frame.proofs.LawLemmas.{same_parts}
 
 -- ---- heads and entries in front
-
--- lists of one length in front are the same
-same_front : (x y u v : List ℕ) → length x ≡ length y → x ++ u ≡ y ++ v → (x ≡ y) × (u ≡ v)
-same_front x y u v long e = (
-  sym (take_at x u (length x) refl) ∙ ap (take (length x)) e ∙ take_at y v (length x) (sym long),
-  sym (drop_at x u (length x) refl) ∙ ap (drop (length x)) e ∙ drop_at y v (length x) (sym long),
-)
 
 -- two heads in front are the same
 pub record AreAlike (f g : Format) (s t : ℕ) (x y : List ℕ) : Type 0 where
@@ -26,7 +16,7 @@ pub record AreAlike (f g : Format) (s t : ℕ) (x y : List ℕ) : Type 0 where
 
 pub same_head : (f g : Format) (s t : ℕ) (x y : List ℕ) → IsHead f s → IsHead g t → head_text f s ++ x ≡ head_text g t ++ y → AreAlike f g s t x y
 same_head f g s t x y one other e =
-    let both = same_front (head_text f s) (head_text g t) x y (length-head f s ∙ sym (length-head g t)) e in
+    let both = same_parts (head_text f s) (head_text g t) x y (length-head f s ∙ sym (length-head g t)) e in
     record {
       format = sym (format-head f s) ∙ ap format_in both.0 ∙ format-head g t;
       size = sym (size-head f s (given-head f s one)) ∙ ap size_in both.0 ∙ size-head g t (given-head g t other);
@@ -70,7 +60,7 @@ uncons most e x (f ∷ rest) is file =
     let behind : List ℕ = later ++ file.end ++ file.unread in
     let text : h ++ (e.bytes ++ x) ≡ k ++ (f.bytes ++ behind) = sym (append_assoc h e.bytes x) ∙ file.text ∙ regroup k f.bytes later file.end file.unread in
     let same = same_head e.format f.format (length e.bytes) (length f.bytes) (e.bytes ++ x) (f.bytes ++ behind) (inr is) (inr file.each.0) text in
-    let parts = same_front e.bytes f.bytes x behind same.size same.rest in
+    let parts = same_parts e.bytes f.bytes x behind same.size same.rest in
     let here : f ≡ e = sym (same_entry e f same.format parts.0) in
     let long : length (entry_text f) ≡ length (entry_text e) = ap (λ (n : Entry). length (entry_text n)) here in
     record {
@@ -127,10 +117,6 @@ begins-uncons e x is (more, entries, most, file) =
 
 pub nothing-begins : Begins []
 nothing-begins = ([], [], 0, record { each = tt; end = []; unread = []; ends = inl (refl, refl); text = refl; short = omega arith })
-
--- an entry of a format and a size
-filled : (format : Format) (part : List ℕ) (size : ℕ) → Entry
-filled format part size = record { format = format; bytes = part ++ replicate (size - length part) 0 }
 
 length-filled : (format : Format) (part : List ℕ) (size : ℕ) → length part ≤ size → length (part ++ replicate (size - length part) 0) ≡ size
 length-filled format part size few = omega (arith, few, length-append part (replicate (size - length part) 0), length-replicate {A = ℕ} (size - length part) 0)

@@ -1,20 +1,11 @@
 -- The bad place that is computed of a stream is the one of the grammar.
-use Rattle.std.proofs.Common.{◌≡◌, ℕ, zero, suc, ◌+◌, ◌-◌, ◌<◌, ◌≤◌, min, Bool, true, false, List, [], ◌∷◌, ◌++◌, length, take, drop, Option, Some, None, inl, inr, refl, sym, ap, subst, ◌∙◌, append_assoc, arith}
-use Rattle.std.specs.Prelude.{IsSome, is_none, flat_map, option_map}
-use Rattle.std.specs.List.{find, range_with_len, AllByRecursion}
-use Rattle.std.proofs.lemmas.Bool.{cases_lt, lt-ltb}
+use Rattle.std.proofs.Common.{◌≡◌, ℕ, zero, suc, ◌+◌, ◌-◌, ◌<◌, ◌≤◌, min, Bool, true, false, List, [], ◌∷◌, ◌++◌, length, take, drop, Option, Some, None, inl, inr, refl, sym, ap, subst, ◌∙◌, append_assoc, arith, IsSome, is_none, flat_map, option_map}
+use Rattle.gts_accum.specs.Cited.{AllByRecursion, IsBadStream, IsPiece, IsStream, IsStreamFront, IsStreamWithin, LONGEST_STREAM, LostField, Piece, bad_in_stream, find, held_in, loss_in, open_part, piece_text, range_with_len, signs_in, stream_seen}
+use Rattle.std.proofs.lemmas.Bool.{cases_lt, lt-ltb, le-ltb}
 use Rattle.std.proofs.lemmas.List.{append-nil, length-take, take_all, take-take, take-append-drop}
-use Rattle.gts_frame.specs.Frame.{Piece, piece_text, IsPiece, IsStream}
-use Rattle.gts_frame.specs.Signs.{signs_in, held_in, open_part}
-use Rattle.gts_frame.specs.Stream.{IsStreamFront}
-use Rattle.gts_frame.specs.declared.lost.LostField.{LostField}
 use Rattle.gts_frame.proofs.LawLemmas.{shows-computed, shows-one, open-front, front-open}
 use Rattle.gts_frame.proofs.ShowsLemmas.{reads-pieces}
-use Rattle.gts_accum.specs.declared.limits.TheConstants.{LONGEST_STREAM}
-use Rattle.gts_accum.specs.Packing.{stream_seen, loss_in, bad_in_stream}
-use Rattle.gts_accum.specs.Streams.{IsStreamWithin, IsBadStream}
 use Rattle.gts_accum.proofs.StreamLemmas.{loss-found, bad_by}
-use Rattle.gts_accum.proofs.UnpackingLemmas.{not_less}
 use Rattle.gts_accum.proofs.PlaceLemmas.{found_here, found_first}
 
 -- ---- streams and their fronts, by what they leave open
@@ -139,7 +130,7 @@ claim stream = by (held_in (stream_seen stream)) refl
           rw (lt-ltb LONGEST_STREAM (length stream) past)
           (ends_at stream LONGEST_STREAM [] (omega (arith, few stream, past)) is (λ within. omega (arith, within.short, past)))
       | inr over ↦
-          rw (not_less LONGEST_STREAM (length stream) over)
+          rw (le-ltb LONGEST_STREAM (length stream) over)
           (record { each = open-stream stream (ap held_in (sym (all_seen stream over)) ∙ is); short = over })
     ]
     by (Some (b ∷ held)) is =

@@ -1,27 +1,16 @@
 -- Streams that are packed as they are read.
-use Rattle.std.proofs.Common.{◌≡◌, ℕ, ◌+◌, ◌-◌, ◌<◌, ◌≤◌, min, Bool, false, cond, List, [], ◌∷◌, ◌++◌, length, take, drop, Option, Some, None, refl, sym, ap, subst, ◌∙◌, append_assoc, arith}
-use Rattle.std.specs.Prelude.{is_none, option_map, IfSome, Result, Ok, Err}
-use Rattle.std.proofs.lemmas.Bool.{le-ltb, lt-ltb}
+use Rattle.std.proofs.Common.{◌≡◌, ℕ, ◌+◌, ◌-◌, ◌<◌, ◌≤◌, min, Bool, false, cond, List, [], ◌∷◌, ◌++◌, length, take, drop, Option, Some, None, refl, sym, ap, subst, ◌∙◌, append_assoc, arith, is_none, option_map, IfSome, Result, Ok, Err}
+use Rattle.std.proofs.lemmas.Bool.{lt-ltb}
 use Rattle.std.proofs.lemmas.List.{append-nil, length-append, length-drop, length-take-le, take_all, take_at, take-append-drop, take-append-le}
 use Rattle.std.proofs.Math.Seq.{take-append-add}
-use Rattle.gts_traits.specs.{Call, Outside, on}
+use Rattle.std.proofs.lemmas.Option.{none-some}
+use Rattle.gts_accum.specs.Cited.{Breaks, Call, Decoding, FrameStep as Step, Holds, IsBad, LONGEST_STREAM, LostField, Makes, Outside, PackEnd, Packs, ReadsOn, SameFiles, SaysFront, SaysOnly, Sign, Stands, Tells, Whole, after_step, bad_in_stream, cut_at, entries_in, entries_text, entry_text, head_text, held_in, loss_in, messages_of, on, packed, signs_in, signs_of_step, stream_seen, whole}
 use Rattle.gts_traits.proofs.OutsideLemmas.{on-append}
-use Rattle.gts_say.specs.Say.{SaysOnly, SaysFront, Tells}
-use Rattle.gts_say.proofs.SayLemmas.{said_none, said_more, front_behind, front_more}
-use Rattle.gts_frame.specs.Decoder.{Decoding, ReadsOn, Makes, after_step, signs_of_step, fresh}
-use Rattle.gts_frame.specs.declared.step.Step.{Step}
+use Rattle.gts_say.proofs.SayLemmas.{said_more, front_behind, front_more}
 use Rattle.gts_frame.specs.declared.step.Step.TheVariants as step
-use Rattle.gts_frame.specs.declared.lost.LostField.{LostField}
-use Rattle.gts_frame.specs.Signs.{Sign, Breaks, signs_in, held_in}
 use Rattle.gts_frame.proofs.SignLemmas.{reads-open, reads-lost, reads-part, IsBreak, IsBreak-from}
 use Rattle.gts_frame.proofs.TestLemmas.{IsFirst, find-first, take_split}
-use Rattle.gts_accum.specs.declared.format.Format.TheVariants.{Whole}
-use Rattle.gts_accum.specs.declared.limits.TheConstants.{LONGEST_STREAM}
-use Rattle.gts_accum.specs.File.{entry_text, head_text}
-use Rattle.gts_accum.specs.Packing.{messages_of, whole, entries_text, stream_seen, loss_in, cut_at, bad_in_stream, packed}
-use Rattle.gts_accum.specs.declared.pack_end.PackEnd.{PackEnd}
 use Rattle.gts_accum.specs.declared.pack_end.PackEnd.TheVariants as end
-use Rattle.gts_accum.specs.Packs.{entries_in, Holds, Stands, IsBad, Packs, SameFiles}
 use Rattle.gts_accum.proofs.StreamLemmas.{messages-both}
 
 -- ---- entries
@@ -40,9 +29,6 @@ of-both xs ys = ap entries_text (messages-both xs ys) ∙ entries-both (messages
 
 -- ---- what is held
 
-none≢some : {A : Type 0} (x : A) → None ≡ Some x → ⊥
-none≢some x e = cc
-
 -- what goes on with more shows the same first
 signs-front : (u v : List ℕ) → (s : List Sign) × (signs_in (u ++ v) ≡ signs_in u ++ s)
 signs-front u v = go (held_in u) refl
@@ -56,7 +42,7 @@ kept-front : (u v h : List ℕ) → held_in (u ++ v) ≡ Some h → is_none (hel
 kept-front u v h e = go (held_in u) refl
   where
     go : (o : Option (List ℕ)) → held_in u ≡ o → is_none (held_in u) ≡ false
-    go None f = absurd (none≢some h (sym (reads-lost u v f).1 ∙ e))
+    go None f = absurd (none-some h (sym (reads-lost u v f).1 ∙ e))
     go (Some k) f = ap is_none f
 
 -- the bytes that are looked at, where the stream begins with some
@@ -66,13 +52,7 @@ seen-front u v few =
     let some : length u ≤ n = omega (arith, few, length-append u v) in
     take_split n u v ∙ ap (λ (l : List ℕ). l ++ take (n - length u) v) (take_all n u some)
 
-seen-all : (u : List ℕ) → length u ≤ LONGEST_STREAM → stream_seen u ≡ u
-seen-all u few = take_all (min LONGEST_STREAM (length u)) u (omega (arith, few))
-
 -- ---- as bytes are taken
-
-pub stands_none : (tells : Type 0) (calls : List Call) → Stands tells calls calls [] fresh
-stands_none tells calls = record { held = []; is = refl; holds = record { is = refl; said = λ t. said_none calls } }
 
 -- a step that loses nothing leaves something open
 pub step_kept : (b : List ℕ) (s : Step) → ((field : LostField) → s ≡ step.Lost field → ⊥) → Makes b s → (h : List ℕ) × ((after_step b s).held ≡ Some h)
@@ -192,29 +172,6 @@ lost_here tells first now before x h field decoder next stands here some few mak
 
 bad-kept : (stream held : List ℕ) → held_in (stream_seen stream) ≡ Some held → bad_in_stream stream ≡ cut_at held stream
 bad-kept stream held e = ap (λ (o : Option (List ℕ)). elim o as (λ _. Option ℕ) [ None ↦ loss_in (stream_seen stream) | Some held ↦ cut_at held stream ]) e
-
-pub ends_cut : (tells : Type 0) (first now : List Call) (stream held : List ℕ) → Holds tells first now stream held → length stream ≤ LONGEST_STREAM → 1 ≤ length held
-    → IsBad tells first now stream (length stream)
-ends_cut tells first now stream [] holds few some = absurd (omega arith)
-ends_cut tells first now stream (b ∷ held) holds few some =
-    let seen = seen-all stream few in
-    let place : bad_in_stream stream ≡ Some (length stream) = bad-kept stream (b ∷ held) (ap held_in seen ∙ holds.is) ∙ ap (λ (l : List ℕ). Some (length l)) seen in
-    record {
-      place = place;
-      said = λ t. subst (λ (l : List ℕ). SaysOnly first now (on 0 l)) (sym (packed-bad stream (length stream) place ∙ ap (λ (l : List ℕ). entries_in l) seen)) (holds.said t);
-    }
-
-pub ends_whole : (tells : Type 0) (first now : List Call) (stream held : List ℕ) → Holds tells first now stream held → length stream ≤ LONGEST_STREAM → length held ≡ 0
-    → (bad_in_stream stream ≡ None) × (packed stream ≡ entries_in stream ++ head_text Whole 0)
-ends_whole tells first now stream (b ∷ held) holds few none = absurd (omega arith)
-ends_whole tells first now stream [] holds few none =
-    let seen = seen-all stream few in
-    let good : bad_in_stream stream ≡ None =
-    bad-kept stream [] (ap held_in seen ∙ holds.is) ∙ ap (λ (t : Bool). cond t (Some LONGEST_STREAM) None) (le-ltb LONGEST_STREAM (length stream) few) in (
-      good,
-      ap (λ (o : Option ℕ). entries_in (stream_seen stream) ++ (elim o as (λ _. List ℕ) [ None ↦ head_text Whole 0 | Some at ↦ [] ])) good
-          ∙ ap (λ (l : List ℕ). entries_in l ++ head_text Whole 0) seen,
-    )
 
 past_by : (h stream : List ℕ) → LONGEST_STREAM < length stream → length (stream_seen stream) ≡ LONGEST_STREAM → cut_at h stream ≡ Some LONGEST_STREAM
 past_by [] stream past seen = ap (λ (t : Bool). cond t (Some LONGEST_STREAM) None) (lt-ltb LONGEST_STREAM (length stream) past)

@@ -1,11 +1,7 @@
 -- What calls make of a file whose source tells, one after another.
 use Rattle.std.proofs.Common.{◌≡◌, ◌≤◌, List, ℕ, [], ◌∷◌, ◌++◌, length, take, Result, Ok, Err, refl, sym, ap, ◌∙◌, append_assoc, arith}
 use Rattle.std.proofs.lemmas.List.{append-nil, length-append}
-use Rattle.gts_traits.specs.{Takes}
-use Rattle.gts_accum.specs.declared.limits.TheConstants.{MOST_DUE}
-use Rattle.gts_accum.specs.File.{reading}
-use Rattle.gts_accum.specs.Unpacking.{Unpacking, Rest, ahead, ahead_of, behind, capture_left, due, rest_of, Passes}
-use Rattle.gts_accum.specs.Traced.{Covers, IsLeft}
+use Rattle.gts_accum.specs.Cited.{Covers, IsLeft, MOST_DUE, Passes, Rest, Takes, Unpacking, ahead, ahead_of, behind, capture_left, due, reading, rest_of}
 use Rattle.gts_accum.proofs.UnpackingLemmas.{with_bad}
 
 no-front : (xs ys : List ℕ) → xs ++ ys ≡ [] → (xs ≡ []) × (ys ≡ [])

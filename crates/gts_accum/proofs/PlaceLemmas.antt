@@ -1,16 +1,10 @@
 -- What a file is read as is what the grammar says of it, and so is its bad place.
-use Rattle.std.proofs.Common.{◌≡◌, ℕ, zero, suc, ◌+◌, ◌-◌, ◌<◌, ◌≤◌, ◌⊎◌, min, Bool, true, false, not, ◌==◌, nat_lt, List, [], ◌∷◌, ◌++◌, length, take, drop, Option, Some, None, inl, inr, refl, sym, ap, subst, ◌∙◌, append_assoc, arith}
-use Rattle.std.specs.Prelude.{flat_map}
-use Rattle.std.specs.List.{find, range_with_len}
-use Rattle.std.proofs.lemmas.Bool.{cases_lt, eq-eqb, eqb-true, ltb-true}
+use Rattle.std.proofs.Common.{◌≡◌, ℕ, zero, suc, ◌+◌, ◌-◌, ◌<◌, ◌≤◌, ◌⊎◌, min, Bool, true, false, not, ◌==◌, nat_lt, List, [], ◌∷◌, ◌++◌, length, take, drop, Option, Some, None, inl, inr, refl, sym, ap, subst, ◌∙◌, append_assoc, arith, flat_map}
+use Rattle.gts_accum.specs.Cited.{Begins, ENTRY_HEAD, Ends, Entry, Format, IsBadAt, IsEntry, IsFile, IsHead, IsSize, LONGEST_FILE, Reading, bad_in, badplace, begins_head, entry_text, find, format_in, head_seen, head_text, part_seen, place_of, range_with_len, read_from, reading, reading_from, size_in, with_entry}
+use Rattle.std.proofs.lemmas.Bool.{cases_lt, eq-eqb, eqb-true, ltb-true, not-true, not-false, cases_Bool, ltb-false as less}
 use Rattle.std.proofs.lemmas.List.{append-nil, length-append, length-take, length-drop, take-append-drop, take-take, drop-drop, nil_from_length}
 use Rattle.std.proofs.Math.Seq.{take-append-add}
-use Rattle.gts_accum.specs.declared.format.Format.{Format}
-use Rattle.gts_accum.specs.declared.limits.TheConstants.{ENTRY_HEAD, LONGEST_FILE}
-use Rattle.gts_accum.specs.File.{Entry, IsEntry, IsSize, IsHead, Ends, Reading, entry_text, head_text, begins_head, size_in, format_in, head_seen, bad_in, part_seen, with_entry, read_from, reading_from, reading, badplace, place_of}
-use Rattle.gts_accum.specs.Grammar.{IsFile, Begins, IsBadAt}
 use Rattle.gts_accum.proofs.FileLemmas.{good-whole, step, read-step, step-empty, step-bad, step-short, step-end, step-entry, entry_step, entry_step-cut, entry_step-whole, bad_in-within}
-use Rattle.gts_accum.proofs.UnpackingLemmas.{less}
 use Rattle.gts_accum.proofs.WrittenLemmas.{given-head, length-head, size-head, format-head, reads-end, reads-entry}
 use Rattle.gts_accum.proofs.StreamLemmas.{head-front, front-head}
 use Rattle.gts_accum.proofs.GrammarLemmas.{same_head, uncons, cons, begins-cons, begins-uncons, nothing-begins, part-begins, front-begins, begins-front, length-entry}
@@ -69,14 +63,6 @@ found_first p start (suc count) k j found low high = go (p start) refl (cases_lt
     go false other (inl more) later = later (rw other at found) (omega (arith, more))
     go false other (inr at) later = let same : j ≡ start = omega (arith, at, low) in ap p same ∙ other
 
-not_true : (t : Bool) → not t ≡ true → t ≡ false
-not_true true e = absurd (cc)
-not_true false e = refl
-
-not_false : (t : Bool) → not t ≡ false → t ≡ true
-not_false true e = refl
-not_false false e = absurd (cc)
-
 -- what begins a head that is there
 some-begins : (bytes : List ℕ) → (0 < length bytes → begins_head bytes ≡ true) → Begins bytes
 some-begins [] head = nothing-begins
@@ -107,7 +93,7 @@ bad-byte most bytes k found =
     let front : (n : ℕ) → n ≤ k → take n head ≡ take n bytes = λ n small. take-take n limit bytes (omega (arith, small, range.1, few)) in
     let long : (n : ℕ) → n ≤ k → length (take n bytes) ≡ n = λ n small. omega (arith, length-take n bytes, small, range.1, few) in
     let not_here : begins_head (take k bytes) ≡ false =
-    ap begins_head (sym (front k (omega arith))) ∙ not_true (begins_head (take k head)) (found_here p 1 (length head) k found) in
+    ap begins_head (sym (front k (omega arith))) ∙ not-true (begins_head (take k head)) (found_here p 1 (length head) k found) in
     let byte : Begins (take k bytes) → ⊥ = none-begins (take k bytes) (omega (arith, long k (omega arith), range.0)) (omega (arith, long k (omega arith), range.1, few)) not_here in
     let P : ℕ → Type 0 = λ n. Begins (take n bytes) in (
       range.0,
@@ -116,7 +102,7 @@ bad-byte most bytes k found =
         allowed = omega (arith, range, few);
         before = some-begins (take (k - 1) bytes) (λ some.
             ap begins_head (sym (front (k - 1) (omega arith)))
-            ∙ not_false (begins_head (take (k - 1) head)) (found_first p 1 (length head) k (k - 1) found (omega (arith, some, long (k - 1) (omega arith))) (omega (arith, range.0))));
+            ∙ not-false (begins_head (take (k - 1) head)) (found_first p 1 (length head) k (k - 1) found (omega (arith, some, long (k - 1) (omega arith))) (omega (arith, range.0))));
         no_file = λ entries f. byte (file-begins most k bytes entries f);
         byte = λ inside allowed begins. byte (subst P (let e : k - 1 + 1 ≡ k = omega (arith, range.0) in e) begins);
       },
@@ -278,11 +264,7 @@ Claim at bytes r =
 empty-file : (most : ℕ) → IsFile most [] []
 empty-file most = record { each = tt; end = []; unread = []; ends = inl (refl, refl); text = refl; short = omega arith }
 
-test : (t : Bool) → (t ≡ true) ⊎ (t ≡ false)
-test true = inl refl
-test false = inr refl
-
-maybe : (r : Option ℕ) → ((k : ℕ) × (r ≡ Some k)) ⊎ (r ≡ None)
+pub maybe : (r : Option ℕ) → ((k : ℕ) × (r ≡ Some k)) ⊎ (r ≡ None)
 maybe None = inr refl
 maybe (Some k) = inl (k, refl)
 
@@ -298,7 +280,7 @@ at-entry at bytes part format size more room long is head same later =
     let few = length-take (min size (most - ENTRY_HEAD)) rest in
     let seen : part ≡ take (min size (most - ENTRY_HEAD)) rest = same ∙ ap (λ (n : ℕ). take n rest) limit in
     let C : Reading → Type 0 = Claim at bytes in
-    elim (test (nat_lt (length part) size)) [
+    elim (cases_Bool (nat_lt (length part) size)) [
       | inl short ↦
           let B : List ℕ → Type 0 = λ p. length p < size → IsBadAt most bytes (ENTRY_HEAD + length p) in
           let bad : IsBadAt most bytes (ENTRY_HEAD + length part) = subst B (sym seen) (cut-entry most bytes format size (omega (arith, room)) long is head) (ltb-true (length part) size short) in
@@ -346,7 +328,7 @@ at-step at bytes more place later =
     let size : ℕ = size_in head in
     let few = length-take (min ENTRY_HEAD most) bytes in
     let C : Reading → Type 0 = Claim at bytes in
-    elim (test (length bytes == 0)) [
+    elim (cases_Bool (length bytes == 0)) [
       | inl none ↦
           let empty : bytes ≡ [] = nil_from_length bytes (eqb-true (length bytes) 0 none) in
           let P : List ℕ → Type 0 = λ l. IsFile most l [] in
@@ -358,7 +340,7 @@ at-step at bytes more place later =
                 let b = bad-byte most bytes bad.0 bad.1 in
                 subst C (sym (step-bad at bytes more bad.0 any bad.1))
                 (inr (bad.0 - 1, ap (λ (n : ℕ). Some n) (let e : at + bad.0 - 1 ≡ at + (bad.0 - 1) = omega (arith, b.0) in e), b.1))
-            | inr good ↦ elim (test (nat_lt (length head) ENTRY_HEAD)) [
+            | inr good ↦ elim (cases_Bool (nat_lt (length head) ENTRY_HEAD)) [
               | inl short ↦
                   subst C (sym (step-short at bytes more any good short))
                   (inr (length head, refl, cut-head most bytes any good (ltb-true (length head) ENTRY_HEAD short)))
@@ -367,7 +349,7 @@ at-step at bytes more place later =
                   let limit : min ENTRY_HEAD most ≡ ENTRY_HEAD = omega (arith, few, ten) in
                   let w = head-is head ten good in
                   let is_head : take ENTRY_HEAD bytes ≡ head_text (format_in head) size = ap (λ (n : ℕ). take n bytes) (sym limit) ∙ w.text in
-                  elim (test (size == 0)) [
+                  elim (cases_Bool (size == 0)) [
                     | inl none ↦
                         let z : size ≡ 0 = eqb-true size 0 none in
                         subst C (sym (step-end at bytes more any good long none))

@@ -1,9 +1,22 @@
--- What the laws of this crate cite, in one place.
-pub use Rattle.gts_frame.specs.declared.kind.Kind.TheVariants.{An}
-pub use Rattle.gts_frame.specs.Frame.{IsFramed}
-pub use Rattle.gts_frame.specs.Signs.{signs_in}
-pub use Rattle.gts_directory.specs.Directory.{Directory}
-pub use Rattle.gts_event.specs.State.{State}
-pub use Rattle.gts_event.specs.declared.event.Event.TheVariants.{Heard}
-pub use Rattle.gts_event.specs.declared.event.Entry.TheVariants.{Done}
-pub use Rattle.gts_connection.specs.Capture.{IsWhole, EndsEarly, EndHead, entries, head_text, step_text}
+-- What files of this crate and of those above cite of it, in one place, and what it cites of those below.
+pub mod Below
+pub use Rattle.gts_accum.specs.File.{BadAt, CutAt, Ending, Ends, Entry, IsEntry, IsHead, IsHeadFront, IsSize, Reading, bad_in, badplace, begins_format, begins_head, digits_of, entry_text, file_of, format_in, head_seen, head_text, longest, only, part_seen, place_of, read_from, reading, reading_from, size_in, with_entry}
+pub use Rattle.gts_accum.specs.Grammar.{Begins, IsBadAt, IsFile}
+pub use Rattle.gts_accum.specs.Capture.{back_of, capture_of, captured, ending_steps, ending_text, front_of, message_in, message_size, opening, steps_in, steps_read}
+pub use Rattle.gts_accum.specs.Packing.{IsFileOf, bad_in_stream, cut_at, entries_text, file_of_messages, loss_in, messages_of, packed, stream_seen, whole}
+pub use Rattle.gts_accum.specs.Streams.{IsBadStream, IsStreamWithin}
+pub use Rattle.gts_accum.specs.Packs.{HasReadCause, HasSayCause, Holds, IsBad, IsTaken, Packs, PieceEnds, SameFiles, Stands, entries_in}
+pub use Rattle.gts_accum.specs.Unpacking.{Gives, IsAtEnd, IsPast, Passes, Rest, Unpacking, ahead, ahead_of, bad_ahead, behind, capture_left, due, entry_rest, given_by, met, rest_of, to_come}
+pub use Rattle.gts_accum.specs.Judging.{Judges}
+pub use Rattle.gts_accum.specs.Parts.{IsNext, IsSound, missing, unpacking_of}
+pub use Rattle.gts_accum.specs.Traced.{Covers, IsLeft}
+pub use Rattle.gts_accum.specs.declared.format.Format.{Format}
+pub use Rattle.gts_accum.specs.declared.format.Format.TheVariants.{Bare, Whole}
+pub use Rattle.gts_accum.specs.declared.limits.TheConstants.{ENTRY_HEAD, LONGEST_BARE, LONGEST_FILE, LONGEST_STREAM, MOST_DUE}
+pub use Rattle.gts_accum.specs.declared.next.Next.{Next}
+pub use Rattle.gts_accum.specs.declared.next.Next.TheVariants.{Bad, End, Head}
+pub use Rattle.gts_accum.specs.declared.pack_end.PackEnd.{PackEnd}
+pub use Rattle.gts_accum.specs.declared.packing.Stop.{Stop}
+pub use Rattle.gts_accum.specs.declared.packing.Stop.TheVariants.{Lost, Unsaid}
+pub use Rattle.gts_accum.specs.declared.parts.Parts.{Parts}
+unfoldable pub use Below.*

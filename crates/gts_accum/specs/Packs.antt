@@ -1,9 +1,6 @@
 -- How packing a stream ended, and what of its file was said.
 use Rattle.std.specs.Prelude.{◌≡◌, ℕ, ◌≤◌, List, [], ◌++◌, length, Some, None, Result, Ok, Err}
-use Rattle.gts_traits.specs.{Call, Rose, on, seen}
-use Rattle.gts_say.specs.Say.{SaysOnly, SaysFront}
-use Rattle.gts_frame.specs.Decoder.{Decoding}
-use Rattle.gts_frame.specs.Signs.{signs_in, held_in}
+use Rattle.gts_accum.specs.Cited.Below.{Call, Decoding, Rose, SaysFront, SaysOnly, held_in, on, seen, signs_in}
 use Rattle.gts_accum.specs.Packing.{entries_text, messages_of, bad_in_stream, packed}
 use Rattle.gts_accum.specs.declared.pack_end.PackEnd.{PackEnd}
 use Rattle.gts_accum.specs.declared.pack_end.PackEnd.TheVariants as end

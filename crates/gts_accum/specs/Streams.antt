@@ -1,7 +1,6 @@
 -- Streams that become a file, as a grammar: which bytes are one, and from which place on bytes are none.
 use Rattle.std.specs.Prelude.{ℕ, ◌+◌, ◌<◌, ◌≤◌, List, length, take}
-use Rattle.gts_frame.specs.Frame.{IsStream}
-use Rattle.gts_frame.specs.Stream.{IsStreamFront}
+use Rattle.gts_accum.specs.Cited.Below.{IsStream, IsStreamFront}
 
 -- frames and keep-alives one after another, within so many bytes
 pub record IsStreamWithin (most : ℕ) (stream : List ℕ) : Type 0 where

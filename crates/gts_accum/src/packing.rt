@@ -1,10 +1,5 @@
 ghost use Rattle.std.specs.Prelude.{◌≡◌, ◌+◌, ◌≤◌, ◌++◌, ℕ, List, [], length};
-ghost use Rattle.gts_traits.specs.{Call, HasCause, on};
-ghost use Rattle.gts_say.specs.Say.{Tells};
-ghost use Rattle.gts_frame.specs.Frame.{IsFramed};
-ghost use Rattle.gts_frame.specs.Decoder.{signs_of_step, HasMessage};
-ghost use Rattle.gts_accum.specs.File.{entry_text};
-ghost use Rattle.gts_accum.specs.Packing.{entries_text, messages_of, whole};
+ghost use Rattle.gts_accum.specs.Cited.{Call, HasCause, HasMessage, IsFramed, Tells, entries_text, entry_text, messages_of, on, signs_of_step, whole};
 ghost use Rattle.gts_accum.specs.Packs as packs;
 
 use crate::{ENTRY_HEAD, LONGEST_STREAM, PackEnd, entry_head};

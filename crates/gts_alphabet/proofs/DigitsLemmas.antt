@@ -1,15 +1,11 @@
 -- Numbers in a fixed count of decimal digits, written and read again.
-use Rattle.std.proofs.Common.{◌≡◌, ℕ, zero, suc, ◌+◌, ◌*◌, ◌/◌, ◌%◌, ◌^◌, ◌<◌, ◌≤◌, List, [], ◌∷◌, ◌++◌, Bool, true, length, get_or, drop, set, add-one, refl, sym, ◌∙◌, arith}
-use Rattle.std.specs.Char.{digit_value, is_ascii_digit}
-use Rattle.std.specs.List.{list_all}
-use Rattle.std.specs.Str.Parse.{digits_value, AllDigits}
+use Rattle.std.proofs.Common.{◌≡◌, ℕ, zero, suc, ◌+◌, ◌*◌, ◌/◌, ◌%◌, ◌^◌, ◌<◌, ◌≤◌, List, [], ◌∷◌, ◌++◌, true, length, get_or, drop, set, add-one, refl, sym, ◌∙◌, arith}
+use Rattle.gts_alphabet.specs.Cited.{AllDigits, dec, digit_value, digits_value, digits_value_after, is_ascii_digit, list_all}
 use Rattle.std.proofs.lemmas.Bool.{leb-true, le-leb, and_parts, and_from}
 use Rattle.std.proofs.lemmas.List.{length_push, drop-set, append_assoc}
 use Rattle.std.proofs.lemmas.Int.Digits.{digits_push, digits_value_push, digits_value-lt}
 use Rattle.std.proofs.lemmas.Str.{digit_value_digit}
 use Rattle.std.proofs.lemmas.Str.Parse.{digit_from_value}
-use Rattle.std.specs.Str.Parse.{digits_value_after}
-use Rattle.gts_alphabet.specs.Digits.{dec}
 
 pub digit_value-char : (d : ℕ) → d < 10 → digit_value (48 + d) ≡ d
 digit_value-char d small = omega (arith, digit_value_digit (48 + d) (omega arith, omega arith))
@@ -78,7 +74,7 @@ is_digit_from_value c small =
     let range = digit_from_value c small in
     and_from _ _ (le-leb _ _ range.0) (le-leb _ _ range.1)
 
-value_from_is_digit : (c : ℕ) → is_ascii_digit c ≡ true → digit_value c < 10
+pub value_from_is_digit : (c : ℕ) → is_ascii_digit c ≡ true → digit_value c < 10
 value_from_is_digit c e =
     let range = and_parts _ _ e in
     let low : 48 ≤ c = leb-true _ _ range.0 in

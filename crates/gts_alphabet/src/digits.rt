@@ -1,6 +1,5 @@
 ghost use Rattle.std.specs.Prelude.{◌≡◌, ◌<◌, ◌≤◌, ◌^◌, ◌↔◌, length, IsSome, IfSome};
-ghost use Rattle.std.specs.Str.Parse.{digits_value, AllDigits};
-ghost use Rattle.gts_alphabet.specs.Digits.{dec};
+ghost use Rattle.gts_alphabet.specs.Cited.{AllDigits, dec, digits_value};
 
 /// The number that at most nine decimal digits write, the most significant first; 0 for none. `None` exactly where a
 /// byte is no digit.

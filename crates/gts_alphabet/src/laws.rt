@@ -1,11 +1,7 @@
 //! Laws over the definitions, each the contract of a function with an empty body.
 
 ghost use Rattle.std.specs.Prelude.{◌≡◌, ℕ, ◌<◌, ◌≤◌, ◌^◌, ◌↔◌, List, IsTrue, length};
-ghost use Rattle.std.specs.Char.{is_ascii_digit};
-ghost use Rattle.std.specs.List.{list_all};
-ghost use Rattle.std.specs.Str.Parse.{digits_value, AllDigits};
-ghost use Rattle.gts_alphabet.specs.Digits.{dec};
-ghost use Rattle.gts_alphabet.specs.Message.{message_of};
+ghost use Rattle.gts_alphabet.specs.Cited.{AllDigits, dec, digits_value, is_ascii_digit, list_all, message_of};
 
 use crate::{LONGEST_BODY, LONGEST_MESSAGE};
 

@@ -1,41 +1,16 @@
 -- What `compact` comes to, from the opening and the engine's compaction.
 use Rattle.std.proofs.Common.{◌≡◌, ◌≤◌, ℕ, false, List, [], ◌∷◌, ◌++◌, Result, Ok, Err, IfErr, OnOk, Option, Some, None, IsTrue, inl, inr, refl, sym, ap, subst, ◌∙◌, arith}
 use Rattle.std.proofs.lemmas.List.{append-nil}
-use Rattle.gts_traits.specs.declared.source.Source.{Ghosts as SourceMeanings}
-use Rattle.gts_traits.specs.declared.station.Station.{Ghosts as StationMeanings}
-use Rattle.gts_traits.specs.Counts.{Rose}
-use Rattle.gts_traits.specs.Moments.{EachSince}
-use Rattle.gts_traits.specs.Station.{Call, Did, Syncs, seen, said_by}
+use Rattle.gts_app.specs.Cited.{Call, Compacts, Device, Did, DiskFault, Done, EachSince, Engine, Full, Ghosts as StationMeanings, GivesRoom, HasCallCause, HasSaid, Holds, IsCompactEnd, IsCompactFault, IsCompacted, IsCompaction, IsIdleFault, IsOfFiles, IsRefusal, IsRewritten, IsTooLarge, Journaled, Keeps, Need, NoMemory, OpenFault, Opens, OpensAsBefore, OpensWith, Over, Rose, SourceMeanings, State, Status, StaysAt, StaysThere, SwitchFault, Syncs, begun, checkpoint_file, compacted_after, compacted_size, directory_of_bytes, full_compacted, is_sound, need, opens, origin_of, refusal, said_by, seen, selected, shown, status_compacted, switch_meanings}
 use Rattle.gts_directory.specs.Directory as directories
-use Rattle.gts_dirfile.specs.{directory_of_bytes}
-use Rattle.gts_event.specs.State.{State}
-use Rattle.gts_event.specs.Need.{Need, need, begun, is_sound}
-use Rattle.gts_event.specs.declared.fault.Device.{Device}
-use Rattle.gts_event.specs.declared.fault.SwitchFault.{SwitchFault}
 use Rattle.gts_event.specs.declared.fault.SwitchFault.TheVariants as switch
-use Rattle.gts_record.specs.declared.fault.OpenFault.{OpenFault}
 use Rattle.gts_record.specs.declared.fault.OpenFault.TheVariants as opening
-use Rattle.gts_journal.specs.{OpensAsBefore}
-use Rattle.gts_checkpoint.specs.{checkpoint_file}
-use Rattle.gts_connection.specs.declared.kind.CaptureKind.TheVariants.{Journaled}
-use Rattle.gts_opening.specs.Journal.{opens, selected}
-use Rattle.gts_opening.specs.Room.{compacted_size, full_compacted}
-use Rattle.gts_calls.specs.{HasCallCause}
-use Rattle.gts_core.specs.Core.{Holds}
 use Rattle.gts_engine.specs.declared.mode.SayMode.TheVariants as mode
-use Rattle.gts_engine.specs.Engine.{Engine, shown}
-use Rattle.gts_engine.specs.Origin.{compacted_after}
-use Rattle.gts_engine.specs.Keeping.{Keeps, HasSaid, OpensWith, origin_of}
-use Rattle.gts_engine.specs.Switching.{switch_meanings}
-use Rattle.gts_engine.specs.Compacting.{IsCompaction, IsRewritten, GivesRoom, IsIdleFault, StaysAt, IsCompactFault}
-use Rattle.gts_app.specs.declared.status.Status.{Status}
-use Rattle.gts_app.specs.declared.status.Status.TheVariants.{Done, DiskFault, Full, NoMemory}
-use Rattle.gts_app.specs.Opening.{IsOfFiles, IsRefusal, Opens}
-use Rattle.gts_app.specs.Ending.{refusal, status_compacted}
-use Rattle.gts_app.specs.Compact.{Compacts, IsCompacted, IsTooLarge, IsCompactEnd, Over, StaysThere}
 use Rattle.gts_app.proofs.RefusalLemmas.{refused, refusals, no_fault, same_directory, one_answer}
 use Rattle.gts_app.proofs.EndLemmas.{none_gathered}
-use Rattle.gts_app.proofs.ShowLemmas.{goes_on, of_memory, only_synced_says}
+use Rattle.gts_app.proofs.ShowLemmas.{goes_on}
+use Rattle.gts_app.proofs.ServeLemmas.{of_memory}
+use Rattle.gts_journal.proofs.LawLemmas.{syncs_silent as only_synced_says}
 
 -- ---- what refused it
 

@@ -1,18 +1,9 @@
 -- The origin of an engine's history, with the compactions that were done.
 use Rattle.std.proofs.Common.{◌≡◌, ℕ, ◌+◌, ◌≤◌, Bool, true, false, nat_le, cond, List, [], ◌∷◌, ◌++◌, length, take, refl, sym, ap, subst, ◌∙◌, arith, append_assoc}
-use Rattle.std.specs.List.{AllByRecursion}
+use Rattle.gts_app.specs.Cited.{AllByRecursion, Call, Entry, Origin, Step, Told, begun, compacted_at, compactions, done_by, history, no_bytes, origin_behind, switch_meanings}
 use Rattle.std.proofs.lemmas.Bool.{leb-true}
 use Rattle.std.proofs.lemmas.List.{append-nil, length-take-le}
-use Rattle.gts_traits.specs.Calls.{Call}
-use Rattle.gts_event.specs.Need.{begun}
-use Rattle.gts_event.specs.declared.event.Entry.{Entry}
-use Rattle.gts_opening.specs.Room.{done_by}
-use Rattle.gts_connection.specs.Capture.{Step, no_bytes, compactions}
 use Rattle.gts_connection.proofs.LawLemmas.{compactions_between}
-use Rattle.gts_engine.specs.Origin.{Origin}
-use Rattle.gts_engine.specs.Switching.{Told, switch_meanings}
-use Rattle.gts_replay.specs.{compacted_at, origin_behind}
-use Rattle.gts_app.specs.Replay.{history}
 
 abbrev pub AllWithin : ℕ → List ℕ → Type 0
 AllWithin n ks = AllByRecursion (λ k. k ≤ n) ks

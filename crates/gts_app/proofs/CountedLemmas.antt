@@ -1,19 +1,8 @@
 -- What a run of a capture through a switch that counts left, of the switch itself.
 use Rattle.std.proofs.Common.{ℕ, List, [], ◌∷◌, ◌++◌, length, inl, inr, ap}
-use Rattle.gts_event.specs.declared.event.Event.{Event}
-use Rattle.gts_event.specs.declared.event.Entry.{Entry}
-use Rattle.gts_event.specs.declared.event.Entry.TheVariants.{Doubt}
-use Rattle.gts_event.specs.Drain.{all_unsaid}
-use Rattle.gts_event.specs.declared.fault.SwitchFault.{SwitchFault}
-use Rattle.gts_event.specs.declared.fault.SwitchFault.TheVariants.{DiskFault, SayFault, Full, Stopped, Spent, NoMemory}
-use Rattle.gts_record.specs.declared.fault.OpenFault.{OpenFault}
-use Rattle.gts_connection.specs.declared.kind.CaptureKind.{CaptureKind}
-use Rattle.gts_connection.specs.Capture.{Step}
-use Rattle.gts_calls.specs.{Standing}
-use Rattle.gts_count.specs.declared.parts.Parts.{Parts}
-use Rattle.gts_count.specs.Counted.{meanings_by}
-use Rattle.gts_replay.specs.declared.end.ReplayEnd.{ReplayEnd}
-use Rattle.gts_replay.specs.{BreaksOff, BreaksTogether, BreaksIdle, BreaksAtRestart, BreaksAtCompaction, Remains, IsUnbegun, Ends, origin_at, entries_at, compactions_at, compacted_at}
+use Rattle.gts_app.specs.Cited.{BreaksAtCompaction, BreaksAtRestart, CaptureKind, Doubt, Ends, Entry, Event, IsUnbegun, OpenFault, Parts, Remains, ReplayEnd, Standing, Step, Stopped, SwitchFault, all_unsaid, compacted_at, compactions_at, entries_at, meanings_by, origin_at}
+use Rattle.gts_event.specs.declared.fault.SwitchFault.TheVariants.{DiskFault, SayFault, Full, Spent, NoMemory}
+use Rattle.gts_replay.specs.{BreaksOff, BreaksTogether, BreaksIdle}
 
 module _ {O T W : Type 0} (parts : W → Parts T) (meanings : Standing O T) (station : Type 0) (kind : CaptureKind) (o : O) (h : List Entry) (tells : Type 0) (old new : W) where
   remains : (at : O) (all : List Entry) (fault : SwitchFault) → Remains (meanings_by parts meanings) at all fault new → Remains meanings at all fault (parts new).switch

@@ -1,28 +1,10 @@
 -- What `follow` comes to, from the directory and what was made of the feed.
 use Rattle.std.proofs.Common.{◌≡◌, ◌⊎◌, ◌≤◌, ℕ, ◌-◌, List, [], Result, Ok, Err, inl, inr, refl, sym, ap, subst, ◌∙◌, arith}
-use Rattle.gts_traits.specs.declared.source.Source.{Ghosts as SourceMeanings}
-use Rattle.gts_traits.specs.declared.station.Station.{Ghosts as StationMeanings}
-use Rattle.gts_traits.specs.Counts.{Rose}
-use Rattle.gts_traits.specs.{Files, seen, said_by}
+use Rattle.gts_app.specs.Cited.{Answers, ComesTo, EachOpens, EndsAs, Files, FollowEnd, FollowedAs, FollowsFeed, Ghosts as StationMeanings, IsEnd, IsNamedEnd, IsOfFiles, LeavesAlone, Need, NoMemory, OpenFault, Read, ReadsDirectory, RefusedBy, Rose, SourceMeanings, State, Status, TakenAs, TakesFeed, comes_to, directory_of_bytes, files_read, need, opened_of, opens, own_seals, read_after, restarted, said_by, seen, selected_bytes, state_after, status_followed, taken, world, written}
+use Rattle.gts_standby.specs.Taking.{Taken}
 use Rattle.gts_directory.specs.Directory as directories
-use Rattle.gts_dirfile.specs.{directory_of_bytes}
-use Rattle.gts_event.specs.State.{State}
-use Rattle.gts_event.specs.History.{restarted}
-use Rattle.gts_event.specs.Need.{Need, need}
-use Rattle.gts_record.specs.declared.fault.OpenFault.{OpenFault}
 use Rattle.gts_record.specs.declared.fault.OpenFault.TheVariants as opening
-use Rattle.gts_record.specs.Format.{written}
-use Rattle.gts_journal.specs.{selected_bytes}
-use Rattle.gts_opening.specs.Journal.{Read, opened_of, opens, files_read}
-use Rattle.gts_standby.specs.declared.end.FollowEnd.{FollowEnd}
 use Rattle.gts_standby.specs.declared.end.FollowEnd.TheVariants as follow
-use Rattle.gts_standby.specs.{Taken, taken, comes_to, own_seals, EndsAs, Answers, LeavesAlone, IsEnd, IsNamedEnd, state_after, read_after, EachOpens}
-use Rattle.gts_app.specs.declared.status.Status.{Status}
-use Rattle.gts_app.specs.declared.status.Status.TheVariants.{NoMemory}
-use Rattle.gts_app.specs.Opening.{IsOfFiles}
-use Rattle.gts_app.specs.Reading.{ReadsDirectory}
-use Rattle.gts_app.specs.Replay.{world}
-use Rattle.gts_app.specs.Follow.{status_followed, TakesFeed, TakenAs, RefusedBy, FollowedAs, ComesTo, FollowsFeed}
 use Rattle.gts_app.proofs.RefusalLemmas.{same_directory, no_fault}
 use Rattle.gts_app.proofs.StreamLemmas.{Ended, ended}
 

@@ -1,40 +1,10 @@
 -- What `migrate` comes to: where a directory is refused, where a row doesn't stay, and behind the opening of the journal.
-use Rattle.std.specs.Prelude.{OnOk}
-use Rattle.std.proofs.Common.{◌≡◌, ◌≤◌, ◌⊎◌, ℕ, List, [], ◌∷◌, length, Option, None, Some, Result, Ok, Err, inl, inr, refl, sym, ap, subst, ◌∙◌, arith}
-use Rattle.gts_traits.specs.declared.source.Source.{Ghosts as SourceMeanings}
-use Rattle.gts_traits.specs.declared.station.Station.{Ghosts as StationMeanings}
-use Rattle.gts_traits.specs.Counts.{Rose}
-use Rattle.gts_traits.specs.Station.{Call, Did, Syncs, Files, seen, said_by}
-use Rattle.gts_traits.specs.Moments.{EachSince}
+use Rattle.std.proofs.Common.{◌≡◌, ◌≤◌, ◌⊎◌, ℕ, List, [], ◌∷◌, length, Option, None, Some, Result, Ok, Err, inl, inr, refl, sym, ap, subst, ◌∙◌, arith, OnOk}
+use Rattle.gts_app.specs.Cited.{Accum, AnswersOpening, AnswersWaiting, AreRead, Call, Capture, Change, Changed, CountsSays, Damaged, Did, DirFault, Directory, DiskFault, Diverged, Done, Dropped, EachSince, Exists, Feed, Files, Full, Ghosts as StationMeanings, GivesRoomFor, IsDiskFaultOf, IsMigrated, IsOldReadEnd, IsRefusedBy, IsSayFaultOf, LeavesFiles, LeavesJournal, LineFault, LongSession, MayGo, MigrateFault, MigratedAs, Migrates, Need, NoJournal, NoMemory, NotThis, OldDirectory, OldVersion, OnlySyncs, OpenFault, Opened, OpensEither, ReadsDirectory, ReadsFew, ReadsOldDirectory, Refused, RefusesWaiting, Rose, SayFault, SaysFor, SourceFault, SourceMeanings, Spent, State, Status, SwitchFault, Syncs, TakesOver, UnderBoth, Waiting, Waits, WasOpened, Words, directory_of_bytes, files_open_any, first_change, full_compacted, need, opens_any, refusal, restarted, said_by, sayings, seen, status_migrated, waits_on_closed, world}
+use Rattle.gts_migrate.specs.LettingGo.{goes_on}
 use Rattle.gts_directory.specs.Directory as directories
-use Rattle.gts_directory.specs.TakingOver.{TakesOver, first_change}
-use Rattle.gts_directory.specs.declared.taking_over.Change.{Change}
-use Rattle.gts_directory.specs.declared.fault.DirFault.{DirFault}
-use Rattle.gts_dirfile.specs.{directory_of_bytes}
-use Rattle.gts_event.specs.State.{State}
-use Rattle.gts_event.specs.History.{restarted}
-use Rattle.gts_event.specs.Need.{Need, need}
-use Rattle.gts_event.specs.declared.fault.SwitchFault.{SwitchFault}
-use Rattle.gts_record.specs.declared.fault.OpenFault.{OpenFault}
 use Rattle.gts_record.specs.declared.fault.OpenFault.TheVariants as opening
-use Rattle.gts_journal.specs.{OnlySyncs}
-use Rattle.gts_opening.specs.Journal.{Opened}
-use Rattle.gts_opening.specs.Room.{full_compacted}
-use Rattle.gts_recovery.specs.Opened.{opens_any, files_open_any}
-use Rattle.gts_migrate.specs.LettingGo.{goes_on, waits_on_closed}
-use Rattle.gts_migrate.specs.Dropping.{sayings}
-use Rattle.gts_migrate.specs.declared.waiting.Waiting.{Waiting}
-use Rattle.gts_migrate.specs.declared.waiting.Waiting.TheVariants.{Refused, Dropped}
-use Rattle.gts_migrate.specs.Migrating.{OpensEither, IsMigrated}
-use Rattle.gts_migrate.specs.Answers.{GivesRoomFor, AnswersWaiting, AnswersOpening, WasOpened, LeavesFiles, IsDiskFaultOf, IsSayFaultOf, SaysFor, CountsSays}
-use Rattle.gts_migrate.specs.declared.fault.MigrateFault.{MigrateFault}
 use Rattle.gts_migrate.specs.declared.fault.MigrateFault.TheVariants as fault
-use Rattle.gts_app.specs.declared.status.Status.{Status}
-use Rattle.gts_app.specs.declared.status.Status.TheVariants.{Done, Words, Directory, OldDirectory, Changed, Waits, Capture, NoJournal, OldVersion, NotThis, Damaged, Exists, Accum, Feed, Diverged, DiskFault, SourceFault, SayFault, Full, LineFault, LongSession, Spent, NoMemory}
-use Rattle.gts_app.specs.Ending.{refusal}
-use Rattle.gts_app.specs.Reading.{IsOldReadEnd, ReadsDirectory, ReadsOldDirectory}
-use Rattle.gts_app.specs.Replay.{world}
-use Rattle.gts_app.specs.Migrate.{status_migrated, AreRead, UnderBoth, IsRefusedBy, RefusesWaiting, MayGo, MigratedAs, LeavesJournal, ReadsFew, Migrates}
 use Rattle.gts_app.proofs.RefusalLemmas.{same_directory, no_fault}
 use Rattle.gts_app.proofs.StreamLemmas.{Ended, ended}
 

@@ -1,21 +1,9 @@
 -- What `ship` comes to, from the directory and the feed.
-use Rattle.std.proofs.Common.{◌≡◌, ◌≤◌, ℕ, [], Option, Result, Ok, Err, inl, inr, refl, sym, ap, subst, arith}
-use Rattle.std.specs.Prelude.{IfErr, OnOk, IsErrOf}
-use Rattle.gts_traits.specs.declared.source.Source.{Ghosts as SourceMeanings}
-use Rattle.gts_traits.specs.declared.station.Station.{Ghosts as StationMeanings}
-use Rattle.gts_traits.specs.Counts.{Rose}
-use Rattle.gts_traits.specs.{seen}
+use Rattle.std.proofs.Common.{◌≡◌, ◌≤◌, ℕ, [], Option, Result, Ok, Err, inl, inr, refl, sym, ap, subst, arith, IfErr, OnOk, IsErrOf}
+use Rattle.gts_app.specs.Cited.{Ghosts as StationMeanings, IsNamed, IsShipFault, NoMemory, ReadsDirectory, Rose, ShipFault, ShippedAs, ShipsFeed, ShipsOnly, Since, SourceMeanings, Status, asked_of, directory_of_bytes, seen, status_shipped}
 use Rattle.gts_directory.specs.Directory as directories
-use Rattle.gts_dirfile.specs.{directory_of_bytes}
 use Rattle.gts_record.specs.declared.fault.OpenFault.TheVariants as opening
-use Rattle.gts_standby.specs.declared.fault.ShipFault.{ShipFault}
 use Rattle.gts_standby.specs.declared.fault.ShipFault.TheVariants as ship
-use Rattle.gts_standby.specs.declared.since.Since.{Since}
-use Rattle.gts_standby.specs.{asked_of, ShipsOnly, IsShipFault, IsNamed}
-use Rattle.gts_app.specs.declared.status.Status.{Status}
-use Rattle.gts_app.specs.declared.status.Status.TheVariants.{NoMemory}
-use Rattle.gts_app.specs.Reading.{ReadsDirectory}
-use Rattle.gts_app.specs.Ship.{status_shipped, ShippedAs, ShipsFeed}
 use Rattle.gts_app.proofs.StreamLemmas.{Ended, ended}
 
 -- nothing was begun

@@ -1,25 +1,9 @@
 -- What the commands come to that read a stream or a capture and use no journal.
-use Rattle.std.proofs.Common.{◌≡◌, ℕ, Ok, Err, inl, inr, refl, sym, ap, subst, arith}
-use Rattle.std.specs.Prelude.{◌⊎◌}
-use Rattle.gts_traits.specs.declared.source.Source.{Ghosts as SourceMeanings}
-use Rattle.gts_traits.specs.declared.station.Station.{Ghosts as StationMeanings}
-use Rattle.gts_traits.specs.{seen}
+use Rattle.std.proofs.Common.{◌≡◌, ℕ, Ok, Err, inl, inr, refl, sym, ap, subst, arith, ◌⊎◌}
+use Rattle.gts_app.specs.Cited.{Accum, Capture, Changed, Damaged, DirFault, Directory, DiskFault, Diverged, Done, Exists, Feed, Full, GapsEnd, Ghosts as StationMeanings, HasGapsCause, HasReadCause, HasSayCause, IsReadEnd, KeepsFiles, LineFault, LongSession, Moment, NamedAs, Names, NamesGaps, NoJournal, NoMemory, NotThis, OldDirectory, OldVersion, PackEnd, PackedAs, Packs, PacksStream, ReadsDirectory, SameFiles, SayFault, SourceFault, SourceMeanings, Spent, Status, Waits, Words, directory_of_bytes, seen, status_named, status_packed, world}
 use Rattle.gts_directory.specs.Directory as directories
-use Rattle.gts_directory.specs.declared.fault.DirFault.{DirFault}
-use Rattle.gts_dirfile.specs.{directory_of_bytes}
-use Rattle.gts_accum.specs.Packs.{Packs, HasReadCause, HasSayCause, SameFiles}
-use Rattle.gts_accum.specs.declared.pack_end.PackEnd.{PackEnd}
 use Rattle.gts_accum.specs.declared.pack_end.PackEnd.TheVariants as packs
-use Rattle.gts_missing.specs.{Names, HasGapsCause}
-use Rattle.gts_missing.specs.declared.moment.Moment.{Moment}
-use Rattle.gts_missing.specs.declared.fault.GapsEnd.{GapsEnd}
 use Rattle.gts_missing.specs.declared.fault.GapsEnd.TheVariants as gaps
-use Rattle.gts_app.specs.declared.status.Status.{Status}
-use Rattle.gts_app.specs.declared.status.Status.TheVariants.{Done, Words, Directory, OldDirectory, Changed, Waits, Capture, NoJournal, OldVersion, NotThis, Damaged, Exists, Accum, Feed, Diverged, DiskFault, SourceFault, SayFault, Full, LineFault, LongSession, Spent, NoMemory}
-use Rattle.gts_app.specs.Reading.{IsReadEnd, ReadsDirectory}
-use Rattle.gts_app.specs.Replay.{world}
-use Rattle.gts_app.specs.Pack.{status_packed, PackedAs, KeepsFiles, PacksStream}
-use Rattle.gts_app.specs.Gaps.{status_named, NamedAs, NamesGaps}
 
 -- ---- where there is no directory
 

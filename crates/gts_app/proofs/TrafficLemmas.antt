@@ -1,31 +1,8 @@
 -- What `count` comes to, from the opening, the run of the capture and the saying of the table.
 use Rattle.std.proofs.Common.{◌≡◌, ℕ, ◌≤◌, false, List, [], ◌∷◌, length, Result, Ok, Err, None, IsTrue, inl, inr, refl, sym, ap, subst, ◌∙◌, arith}
-use Rattle.gts_traits.specs.declared.source.Source.{Ghosts as SourceMeanings}
-use Rattle.gts_traits.specs.declared.station.Station.{Ghosts as StationMeanings}
-use Rattle.gts_traits.specs.Counts.{Rose}
-use Rattle.gts_traits.specs.Station.{Call, Did, Says, Breaks, seen, Files}
+use Rattle.gts_app.specs.Cited.{Behind, Breaks, Call, CountsEngine, CountsTraffic, Did, Done, Ends, EndsWithoutTable, Engine, Entry, Files, Ghosts as StationMeanings, HasReplayCause, IsRefusal, KeepsLaws, Need, NoMemory, Opens, OpensWith, Origin, Parts, ReplayEnd, Replays, Rose, SayFault, Says, SaysTable, ShowsTable, SourceMeanings, StandsFor, Status, Told, Traffic, World, after_all, begun, compacted_at, counted, history, is_sound, keeps_one, meanings_by, need, origin_of, seen, status_of, switch_meanings, table, table_behind, used_at, world}
 use Rattle.gts_directory.specs.Directory as directories
-use Rattle.gts_event.specs.History.{after_all}
-use Rattle.gts_event.specs.Need.{Need, need, begun, is_sound, keeps_one}
-use Rattle.gts_event.specs.declared.event.Entry.{Entry}
-use Rattle.gts_connection.specs.declared.kind.CaptureKind.TheVariants.{Traffic}
-use Rattle.gts_engine.specs.Engine.{Engine}
-use Rattle.gts_engine.specs.Origin.{Origin, used_at}
-use Rattle.gts_engine.specs.Keeping.{OpensWith, origin_of}
-use Rattle.gts_engine.specs.Switching.{Told, switch_meanings}
-use Rattle.gts_count.specs.{table}
-use Rattle.gts_count.specs.declared.parts.Parts.{Parts}
-use Rattle.gts_count.specs.Counted.{meanings_by, ShowsTable}
-use Rattle.gts_replay.specs.declared.end.ReplayEnd.{ReplayEnd}
 use Rattle.gts_replay.specs.declared.end.ReplayEnd.TheVariants as end
-use Rattle.gts_replay.specs.{StandsFor, Ends, HasReplayCause, compacted_at}
-use Rattle.gts_app.specs.declared.status.Status.{Status}
-use Rattle.gts_app.specs.declared.status.Status.TheVariants.{Done, SayFault, NoMemory}
-use Rattle.gts_app.specs.Laws.{KeepsLaws}
-use Rattle.gts_app.specs.Ending.{status_of}
-use Rattle.gts_app.specs.Opening.{IsRefusal, Opens}
-use Rattle.gts_app.specs.Replay.{World, world, Replays, history, counted}
-use Rattle.gts_app.specs.Count.{CountsEngine, EndsWithoutTable, table_behind, Behind, SaysTable, CountsTraffic}
 use Rattle.gts_app.proofs.CompactedLemmas.{compacted_is, counts, counts_within}
 use Rattle.gts_app.proofs.CountedLemmas.{ends_below}
 use Rattle.gts_app.proofs.EndLemmas.{history_done, none_unsaid, none_doubt, none_gathered}

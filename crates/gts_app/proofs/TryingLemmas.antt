@@ -1,29 +1,8 @@
 -- What `migrate check` comes to: where a directory is refused, where a row doesn't stay, and behind the trial of the journal.
 use Rattle.std.proofs.Common.{◌≡◌, ◌≢◌, ◌≤◌, ◌⊎◌, ℕ, List, [], ◌∷◌, Option, Some, Result, Ok, Err, inl, inr, refl, sym, ap, subst, ◌∙◌, arith}
-use Rattle.gts_traits.specs.declared.source.Source.{Ghosts as SourceMeanings}
-use Rattle.gts_traits.specs.declared.station.Station.{Ghosts as StationMeanings}
-use Rattle.gts_traits.specs.Counts.{Rose}
-use Rattle.gts_traits.specs.Station.{Call, Did, Syncs, Says, Breaks, seen}
+use Rattle.gts_app.specs.Cited.{AreRead, Breaks, Call, Change, Changed, Did, DirFault, Directory, DiskFault, Done, Ghosts as StationMeanings, IsAnswer, IsRefusedBy, MayHaveSaid, Need, NoMemory, OldDirectory, OnlySyncs, OpenFault, ReadsDirectory, ReadsFew, ReadsOldDirectory, Rose, SayFault, Says, SourceFault, SourceMeanings, State, Status, Syncs, TakesOver, Tried, TriedAs, TriesMigration, UnderBoth, changes, directory_of_bytes, files_open_any, first_change, need, opens_any, refusal, restarted, seen, world}
 use Rattle.gts_directory.specs.Directory as directories
-use Rattle.gts_directory.specs.TakingOver.{TakesOver, first_change}
-use Rattle.gts_directory.specs.declared.taking_over.Change.{Change}
-use Rattle.gts_directory.specs.declared.fault.DirFault.{DirFault}
-use Rattle.gts_dirfile.specs.{directory_of_bytes}
-use Rattle.gts_event.specs.State.{State}
-use Rattle.gts_event.specs.History.{restarted}
-use Rattle.gts_event.specs.Need.{Need, need}
-use Rattle.gts_record.specs.declared.fault.OpenFault.{OpenFault}
 use Rattle.gts_record.specs.declared.fault.OpenFault.TheVariants as opening
-use Rattle.gts_journal.specs.{OnlySyncs}
-use Rattle.gts_recovery.specs.Opened.{opens_any, files_open_any, IsAnswer}
-use Rattle.gts_changes.specs.{changes}
-use Rattle.gts_app.specs.declared.status.Status.{Status}
-use Rattle.gts_app.specs.declared.status.Status.TheVariants.{Done, Directory, OldDirectory, Changed, DiskFault, SourceFault, SayFault, NoMemory}
-use Rattle.gts_app.specs.Ending.{refusal}
-use Rattle.gts_app.specs.Reading.{ReadsDirectory, ReadsOldDirectory}
-use Rattle.gts_app.specs.Replay.{world}
-use Rattle.gts_app.specs.Migrate.{AreRead, UnderBoth, IsRefusedBy, ReadsFew}
-use Rattle.gts_app.specs.Trying.{Tried, TriedAs, MayHaveSaid, TriesMigration}
 use Rattle.gts_app.proofs.RefusalLemmas.{same_directory, no_fault}
 use Rattle.gts_app.proofs.StreamLemmas.{Ended, ended}
 use Rattle.gts_app.proofs.ShowLemmas.{unchanged}

@@ -1,36 +1,11 @@
 -- What each end of a file's run means for the command.
 use Rattle.std.proofs.Common.{◌≡◌, ◌⊎◌, ℕ, ◌<◌, ◌≤◌, false, List, [], length, Result, Ok, Err, None, IsTrue, inl, inr, refl, ap, subst, arith}
-use Rattle.gts_traits.specs.declared.source.Source.{Ghosts as SourceMeanings}
-use Rattle.gts_traits.specs.declared.station.Station.{Ghosts as StationMeanings}
-use Rattle.gts_traits.specs.Counts.{Rose}
-use Rattle.gts_traits.specs.Station.{seen}
+use Rattle.gts_app.specs.Cited.{Accum, Bad, Capture, Changed, Damaged, Directory, DiskFault, Diverged, Done, Ended, Engine, Entry, Exists, Feed, Full, Ghosts as StationMeanings, HasNoCircuit, HasReplayCause, HasUnpackCause, IsEndAt, IsEndOf, IsLeft, IsReadEnd, IsRefusal, IsStatusOf, Journaled, KeepsLaws, LineFault, LongSession, Need, NoJournal, NoMemory, NotThis, OldDirectory, OldVersion, Opens, OpensWith, ReadsDirectory, ReplayEnd, Rose, SayFault, SourceFault, SourceMeanings, Spent, Status, UnpackEnd, Unpacks, Waits, Words, badplace, capture_meanings, captured, directory_of_bytes, is_sound, keeps_one, origin_of, seen, status_of, status_unpacked, switch_meanings, unpacked, world}
+use Rattle.gts_unpack.specs.Unpack.{Unpacks as Runs}
 use Rattle.gts_directory.specs.Directory as directories
-use Rattle.gts_dirfile.specs.{directory_of_bytes}
-use Rattle.gts_event.specs.Need.{Need, is_sound, keeps_one}
-use Rattle.gts_event.specs.declared.event.Entry.{Entry}
 use Rattle.gts_event.specs.declared.fault.SwitchFault.TheVariants as switch
 use Rattle.gts_record.specs.declared.fault.OpenFault.TheVariants as opening
-use Rattle.gts_engine.specs.Engine.{Engine}
-use Rattle.gts_engine.specs.Keeping.{OpensWith, origin_of}
-use Rattle.gts_engine.specs.Switching.{switch_meanings}
-use Rattle.gts_connection.specs.declared.kind.CaptureKind.TheVariants.{Journaled}
-use Rattle.gts_replay.specs.declared.end.ReplayEnd.{ReplayEnd}
 use Rattle.gts_replay.specs.declared.end.ReplayEnd.TheVariants as end
-use Rattle.gts_replay.specs.{HasReplayCause}
-use Rattle.gts_accum.specs.File.{badplace}
-use Rattle.gts_accum.specs.Capture.{captured}
-use Rattle.gts_accum.specs.Traced.{IsLeft}
-use Rattle.gts_unpack.specs.declared.end.UnpackEnd.{UnpackEnd}
-use Rattle.gts_unpack.specs.declared.end.UnpackEnd.TheVariants.{Bad, Ended}
-use Rattle.gts_unpack.specs.{IsEndOf, IsEndAt, Unpacks as Runs, HasUnpackCause}
-use Rattle.gts_app.specs.declared.status.Status.{Status}
-use Rattle.gts_app.specs.declared.status.Status.TheVariants.{Done, Words, Directory, OldDirectory, Changed, Waits, Capture, NoJournal, OldVersion, NotThis, Damaged, Exists, Accum, Feed, Diverged, DiskFault, SourceFault, SayFault, Full, LineFault, LongSession, Spent, NoMemory}
-use Rattle.gts_app.specs.Laws.{KeepsLaws}
-use Rattle.gts_app.specs.Ending.{status_of}
-use Rattle.gts_app.specs.Opening.{IsRefusal, Opens}
-use Rattle.gts_app.specs.Reading.{IsReadEnd, ReadsDirectory}
-use Rattle.gts_app.specs.Replay.{world}
-use Rattle.gts_app.specs.Unpack.{status_unpacked, unpacked, capture_meanings, HasNoCircuit, IsStatusOf, Unpacks}
 use Rattle.gts_app.proofs.OpeningLemmas.{no_directory}
 use Rattle.gts_app.proofs.RefusalLemmas.{refused, out_of_memory, same_directory, no_fault}
 use Rattle.gts_app.proofs.ReplayLemmas.{replays}

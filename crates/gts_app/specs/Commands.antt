@@ -1,8 +1,7 @@
 -- The words that name a command which is built, and what each command comes to.
 use Rattle.std.specs.Prelude.{◌≡◌, ℕ, List, Option, None, Some}
-use Rattle.gts_words.specs.declared.command.Command.{Command}
-use Rattle.gts_words.specs.declared.command.Command.TheVariants.{Init, Replay, Serve, ServeAlways, Show, Compact, Generate, Migrate, MigrateDrop, MigrateCheck, Unpack, Pack, Gaps, Ship, ShipSince, Follow, Count}
-use Rattle.gts_words.specs.{command_of}
+use Rattle.gts_app.specs.Cited.Below.{Command, Count, Dropped, Follow, Gaps, Generate, Ghosts as StationMeanings, Init, LinesSeen, Migrate, MigrateCheck, MigrateDrop, Moment, Pack, Refused, Replay, Serve, ServeAlways, Ship, ShipSince, Show, Since, SourceMeanings, Unpack, WITHOUT_END, command_of}
+use Rattle.gts_words.specs.declared.command.Command.TheVariants.{Compact}
 pub use Rattle.gts_app.specs.Generate.{Generates}
 pub use Rattle.gts_app.specs.Init.{Inits}
 pub use Rattle.gts_app.specs.Replay.{Replays, world, IsNoCapture}
@@ -16,16 +15,9 @@ use Rattle.gts_app.specs.Unpack.{Unpacks}
 use Rattle.gts_app.specs.Compact.{Compacts}
 use Rattle.gts_app.specs.Migrate.{Migrates}
 use Rattle.gts_app.specs.Trying.{TriesMigration}
-use Rattle.gts_migrate.specs.declared.waiting.Waiting.TheVariants.{Refused, Dropped}
 use Rattle.gts_app.specs.Follow.{FollowsFeed}
 use Rattle.gts_app.specs.Replay.{World}
 use Rattle.gts_app.specs.declared.status.Status.{Status}
-use Rattle.gts_traits.specs.declared.source.Source.{Ghosts as SourceMeanings}
-use Rattle.gts_traits.specs.declared.station.Station.{Ghosts as StationMeanings}
-use Rattle.gts_standby.specs.declared.since.Since.{Since}
-use Rattle.gts_missing.specs.declared.moment.Moment.{Moment}
-use Rattle.gts_receiver.specs.declared.limits.TheConstants.{WITHOUT_END}
-use Rattle.gts_serve.specs.{LinesSeen}
 
 -- which commands are built
 abbrev pub IsBuilt : Command → Type 0

@@ -1,21 +1,8 @@
 -- What each end of the command `compact` means for what it works on.
 use Rattle.std.specs.Prelude.{◌≡◌, ◌≢◌, ◌⊎◌, ℕ, ◌+◌, ◌≤◌, List, ◌∷◌, ◌++◌, length, None, Ok, Err}
-use Rattle.gts_traits.specs.declared.source.Source.{Ghosts as SourceMeanings}
-use Rattle.gts_traits.specs.declared.station.Station.{Ghosts as StationMeanings}
-use Rattle.gts_traits.specs.Counts.{Rose}
-use Rattle.gts_traits.specs.Moments.{EachSince}
-use Rattle.gts_traits.specs.Station.{Call, Did, Syncs, seen, said_by}
+use Rattle.gts_app.specs.Cited.Below.{Call, Did, EachSince, Ghosts as StationMeanings, IsFullCompacted, LONGEST_DIRECTORY, Need, OpenFault, OpensAsBefore, OpensWith, Rose, SourceMeanings, Syncs, begun, checkpoint_file, compacted_size, directory_of_bytes, full_compacted, opens, said_by, seen, selected}
 use Rattle.gts_directory.specs.Directory as directories
-use Rattle.gts_dirfile.specs.declared.limits.TheConstants.{LONGEST_DIRECTORY}
-use Rattle.gts_dirfile.specs.{directory_of_bytes}
-use Rattle.gts_event.specs.Need.{Need, begun}
 use Rattle.gts_event.specs.declared.fault.SwitchFault.TheVariants as switch
-use Rattle.gts_record.specs.declared.fault.OpenFault.{OpenFault}
-use Rattle.gts_journal.specs.{OpensAsBefore}
-use Rattle.gts_checkpoint.specs.{checkpoint_file}
-use Rattle.gts_opening.specs.Journal.{opens, selected}
-use Rattle.gts_opening.specs.Room.{compacted_size, full_compacted}
-use Rattle.gts_engine.specs.Keeping.{OpensWith, IsFullCompacted}
 use Rattle.gts_app.specs.declared.status.Status.{Status}
 use Rattle.gts_app.specs.declared.status.Status.TheVariants.{Done, DiskFault, Full, NoMemory}
 use Rattle.gts_app.specs.Ending.{refusal}

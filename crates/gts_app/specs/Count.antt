@@ -1,25 +1,7 @@
 -- What each end of the command `count` means for what it works on.
 use Rattle.std.specs.Prelude.{◌≡◌, ◌⊎◌, ℕ, ◌≤◌, List, ◌∷◌, Ok, None}
-use Rattle.gts_traits.specs.declared.source.Source.{Ghosts as SourceMeanings}
-use Rattle.gts_traits.specs.declared.station.Station.{Ghosts as StationMeanings}
-use Rattle.gts_traits.specs.Counts.{Rose}
-use Rattle.gts_traits.specs.Station.{Did, Says, Breaks, seen}
+use Rattle.gts_app.specs.Cited.Below.{Breaks, Counts, Did, Engine, Entry, Ghosts as StationMeanings, Holds, IsOrdered, IsWholeOf, Need, OpensWith, Origin, Parts, ReplayEnd, Rose, Says, SourceMeanings, State, Step, Traffic, directory_of_bytes, need, opens, seen, state_at, table, used_at}
 use Rattle.gts_directory.specs.Directory as directories
-use Rattle.gts_dirfile.specs.{directory_of_bytes}
-use Rattle.gts_event.specs.State.{State}
-use Rattle.gts_event.specs.Need.{Need, need, IsOrdered}
-use Rattle.gts_event.specs.declared.event.Entry.{Entry}
-use Rattle.gts_connection.specs.declared.kind.CaptureKind.TheVariants.{Traffic}
-use Rattle.gts_connection.specs.Capture.{Step, IsWholeOf}
-use Rattle.gts_opening.specs.Journal.{opens}
-use Rattle.gts_core.specs.Core.{Holds}
-use Rattle.gts_engine.specs.Engine.{Engine}
-use Rattle.gts_engine.specs.Origin.{Origin, state_at, used_at}
-use Rattle.gts_engine.specs.Keeping.{OpensWith}
-use Rattle.gts_count.specs.{table}
-use Rattle.gts_count.specs.declared.parts.Parts.{Parts}
-use Rattle.gts_count.specs.Counting.{Counts}
-use Rattle.gts_replay.specs.declared.end.ReplayEnd.{ReplayEnd}
 use Rattle.gts_replay.specs.declared.end.ReplayEnd.TheVariants as end
 use Rattle.gts_app.specs.declared.status.Status.{Status}
 use Rattle.gts_app.specs.declared.status.Status.TheVariants.{Done, SayFault, NoMemory}

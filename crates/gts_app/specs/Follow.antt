@@ -1,23 +1,10 @@
 -- What each end of the command `follow` means for what it works on.
 use Rattle.std.specs.Prelude.{◌≡◌, ◌⊎◌, ℕ, ◌+◌, ◌≤◌, List, [], ◌++◌, length, Ok, Err}
-use Rattle.gts_traits.specs.declared.source.Source.{Ghosts as SourceMeanings}
-use Rattle.gts_traits.specs.declared.station.Station.{Ghosts as StationMeanings}
-use Rattle.gts_traits.specs.Counts.{Rose}
-use Rattle.gts_traits.specs.{Call, seen, said_by}
+use Rattle.gts_app.specs.Cited.Below.{Call, EachOpens, EndsAs, FollowEnd, Ghosts as StationMeanings, IsEnd, LONGEST_DIRECTORY, OnlySyncs, OpenFault, Rose, SourceMeanings, State, comes_to, directory_of_bytes, files_read, need, opens, read_after, restarted, said_by, seen, state_after, written}
+use Rattle.gts_standby.specs.Taking.{Taken}
 use Rattle.gts_directory.specs.Directory as directories
-use Rattle.gts_dirfile.specs.declared.limits.TheConstants.{LONGEST_DIRECTORY}
-use Rattle.gts_dirfile.specs.{directory_of_bytes}
-use Rattle.gts_event.specs.State.{State}
-use Rattle.gts_event.specs.History.{restarted}
-use Rattle.gts_event.specs.Need.{need}
-use Rattle.gts_record.specs.declared.fault.OpenFault.{OpenFault}
 use Rattle.gts_record.specs.declared.fault.OpenFault.TheVariants as opening
-use Rattle.gts_record.specs.Format.{written}
-use Rattle.gts_opening.specs.Journal.{opens, files_read}
-use Rattle.gts_journal.specs.{OnlySyncs}
-use Rattle.gts_standby.specs.declared.end.FollowEnd.{FollowEnd}
 use Rattle.gts_standby.specs.declared.end.FollowEnd.TheVariants as follow
-use Rattle.gts_standby.specs.{Taken, comes_to, EndsAs, IsEnd, state_after, read_after, EachOpens}
 use Rattle.gts_app.specs.declared.status.Status.{Status}
 use Rattle.gts_app.specs.declared.status.Status.TheVariants.{Done, Directory, NoJournal, OldVersion, NotThis, Damaged, Feed, Diverged, DiskFault, SourceFault, NoMemory}
 use Rattle.gts_app.specs.Ending.{refusal}

@@ -1,14 +1,7 @@
 -- What each end of the command `gaps` means for what it works on.
 use Rattle.std.specs.Prelude.{◌≡◌, ◌⊎◌, Ok}
-use Rattle.gts_traits.specs.declared.source.Source.{Ghosts as SourceMeanings}
-use Rattle.gts_traits.specs.declared.station.Station.{Ghosts as StationMeanings}
-use Rattle.gts_traits.specs.Counts.{Rose}
-use Rattle.gts_say.specs.Say.{SaysOnly, SaysFront}
+use Rattle.gts_app.specs.Cited.Below.{GapsEnd, Ghosts as StationMeanings, IsCutAt, Moment, Reads, Rose, SaysFront, SaysOnly, SourceMeanings, directory_of_bytes, report_of}
 use Rattle.gts_directory.specs.Directory as directories
-use Rattle.gts_dirfile.specs.{directory_of_bytes}
-use Rattle.gts_missing.specs.{IsCutAt, Reads, report_of}
-use Rattle.gts_missing.specs.declared.moment.Moment.{Moment}
-use Rattle.gts_missing.specs.declared.fault.GapsEnd.{GapsEnd}
 use Rattle.gts_missing.specs.declared.fault.GapsEnd.TheVariants as end
 use Rattle.gts_app.specs.declared.status.Status.{Status}
 use Rattle.gts_app.specs.declared.status.Status.TheVariants.{Done, Directory, Capture, SourceFault, SayFault, NoMemory}

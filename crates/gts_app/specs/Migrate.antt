@@ -1,31 +1,11 @@
 -- What each end of the commands `migrate` and `migrate drop` means for what they work on: the directory, the old directory in the
 -- place of a capture, and the station.
 use Rattle.std.specs.Prelude.{◌≡◌, ◌⊎◌, ℕ, ◌+◌, ◌≤◌, List, ◌∷◌, ◌++◌, length, None, Some, Result, Ok, Err}
-use Rattle.gts_traits.specs.declared.source.Source.{Ghosts as SourceMeanings}
-use Rattle.gts_traits.specs.declared.station.Station.{Ghosts as StationMeanings}
-use Rattle.gts_traits.specs.Counts.{Rose}
-use Rattle.gts_traits.specs.{Did, Syncs, seen, said_by, SaidSince, EachSince}
+use Rattle.gts_app.specs.Cited.Below.{Change, Did, DirFault, Dropped, EachSince, Ghosts as StationMeanings, IsFullCompacted, IsMigrated, LONGEST_DIRECTORY, MigrateFault, Need, OnlySyncs, OpenFault, OpensEither, Refused, Rose, SaidSince, SourceMeanings, State, Syncs, TakesOver, Waiting, directory_of_bytes, files_open_any, first_change, full_compacted, need, opens_any, said_by, sayings, seen, waits_on_closed}
+use Rattle.gts_migrate.specs.LettingGo.{goes_on}
 use Rattle.gts_directory.specs.Directory as directories
-use Rattle.gts_directory.specs.TakingOver.{TakesOver, first_change}
-use Rattle.gts_directory.specs.declared.taking_over.Change.{Change}
-use Rattle.gts_directory.specs.declared.fault.DirFault.{DirFault}
-use Rattle.gts_dirfile.specs.declared.limits.TheConstants.{LONGEST_DIRECTORY}
-use Rattle.gts_dirfile.specs.{directory_of_bytes}
-use Rattle.gts_event.specs.State.{State}
-use Rattle.gts_event.specs.Need.{Need, need}
 use Rattle.gts_event.specs.declared.fault.SwitchFault.TheVariants as switch
-use Rattle.gts_record.specs.declared.fault.OpenFault.{OpenFault}
 use Rattle.gts_record.specs.declared.fault.OpenFault.TheVariants as opening
-use Rattle.gts_journal.specs.{OnlySyncs}
-use Rattle.gts_opening.specs.Room.{full_compacted}
-use Rattle.gts_recovery.specs.Opened.{opens_any, files_open_any}
-use Rattle.gts_engine.specs.Keeping.{IsFullCompacted}
-use Rattle.gts_migrate.specs.LettingGo.{goes_on, waits_on_closed}
-use Rattle.gts_migrate.specs.Dropping.{sayings}
-use Rattle.gts_migrate.specs.declared.waiting.Waiting.{Waiting}
-use Rattle.gts_migrate.specs.declared.waiting.Waiting.TheVariants.{Refused, Dropped}
-use Rattle.gts_migrate.specs.Migrating.{OpensEither, IsMigrated}
-use Rattle.gts_migrate.specs.declared.fault.MigrateFault.{MigrateFault}
 use Rattle.gts_migrate.specs.declared.fault.MigrateFault.TheVariants as fault
 use Rattle.gts_app.specs.declared.status.Status.{Status}
 use Rattle.gts_app.specs.declared.status.Status.TheVariants.{Done, Directory, OldDirectory, Changed, Waits, NoJournal, OldVersion, NotThis, Damaged, DiskFault, SourceFault, SayFault, Full, NoMemory}

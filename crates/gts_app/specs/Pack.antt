@@ -1,17 +1,7 @@
 -- What each end of the command `pack` means for what it works on.
 use Rattle.std.specs.Prelude.{◌≡◌, ◌⊎◌, ℕ, ◌+◌, ◌≤◌, List, ◌++◌, length, Ok, Err, None}
-use Rattle.gts_traits.specs.declared.source.Source.{Ghosts as SourceMeanings}
-use Rattle.gts_traits.specs.declared.station.Station.{Ghosts as StationMeanings}
-use Rattle.gts_traits.specs.Counts.{Rose}
-use Rattle.gts_traits.specs.{on, seen}
-use Rattle.gts_say.specs.Say.{SaysOnly, SaysFront}
+use Rattle.gts_app.specs.Cited.Below.{DirFault, Ghosts as StationMeanings, IsBad, IsTaken, LONGEST_DIRECTORY, PackEnd, Rose, SaysFront, SaysOnly, SourceMeanings, bad_in_stream, directory_of_bytes, on, packed, seen}
 use Rattle.gts_directory.specs.Directory as directories
-use Rattle.gts_directory.specs.declared.fault.DirFault.{DirFault}
-use Rattle.gts_dirfile.specs.declared.limits.TheConstants.{LONGEST_DIRECTORY}
-use Rattle.gts_dirfile.specs.{directory_of_bytes}
-use Rattle.gts_accum.specs.Packing.{bad_in_stream, packed}
-use Rattle.gts_accum.specs.Packs.{IsBad, IsTaken}
-use Rattle.gts_accum.specs.declared.pack_end.PackEnd.{PackEnd}
 use Rattle.gts_accum.specs.declared.pack_end.PackEnd.TheVariants as end
 use Rattle.gts_app.specs.declared.status.Status.{Status}
 use Rattle.gts_app.specs.declared.status.Status.TheVariants.{Done, Directory, Accum, SourceFault, SayFault, NoMemory}

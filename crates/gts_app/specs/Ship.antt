@@ -1,19 +1,9 @@
 -- What each end of the command `ship` means for what it works on.
 use Rattle.std.specs.Prelude.{◌≡◌, ◌⊎◌, ℕ, ◌+◌, ◌≤◌, List, ◌++◌, length, Option, Result, Ok, Err}
-use Rattle.gts_traits.specs.declared.source.Source.{Ghosts as SourceMeanings}
-use Rattle.gts_traits.specs.declared.station.Station.{Ghosts as StationMeanings}
-use Rattle.gts_traits.specs.Counts.{Rose}
-use Rattle.gts_traits.specs.{on, seen}
-use Rattle.gts_say.specs.Say.{SaysFront}
+use Rattle.gts_app.specs.Cited.Below.{Ghosts as StationMeanings, IsShipFault, LONGEST_DIRECTORY, OpenFault, Rose, SaysFront, ShipFault, ShipsOnly, Since, SourceMeanings, asked_of, directory_of_bytes, on, seen}
 use Rattle.gts_directory.specs.Directory as directories
-use Rattle.gts_dirfile.specs.declared.limits.TheConstants.{LONGEST_DIRECTORY}
-use Rattle.gts_dirfile.specs.{directory_of_bytes}
-use Rattle.gts_record.specs.declared.fault.OpenFault.{OpenFault}
 use Rattle.gts_record.specs.declared.fault.OpenFault.TheVariants as opening
-use Rattle.gts_standby.specs.declared.fault.ShipFault.{ShipFault}
 use Rattle.gts_standby.specs.declared.fault.ShipFault.TheVariants as ship
-use Rattle.gts_standby.specs.declared.since.Since.{Since}
-use Rattle.gts_standby.specs.{asked_of, ShipsOnly, IsShipFault}
 use Rattle.gts_app.specs.declared.status.Status.{Status}
 use Rattle.gts_app.specs.declared.status.Status.TheVariants.{Done, Directory, NoJournal, OldVersion, NotThis, Damaged, DiskFault, SourceFault, SayFault, NoMemory}
 use Rattle.gts_app.specs.Ending.{refusal}

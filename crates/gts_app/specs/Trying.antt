@@ -1,22 +1,9 @@
 -- What each end of the command `migrate check` means for what it works on: the directory, the old directory in the place of a capture,
 -- and the station.
 use Rattle.std.specs.Prelude.{◌≡◌, ◌⊎◌, ℕ, ◌≤◌, List, ◌∷◌, Ok, Err, Some}
-use Rattle.gts_traits.specs.declared.source.Source.{Ghosts as SourceMeanings}
-use Rattle.gts_traits.specs.declared.station.Station.{Ghosts as StationMeanings}
-use Rattle.gts_traits.specs.Counts.{Rose}
-use Rattle.gts_traits.specs.{Did, Syncs, Says, Breaks, seen}
+use Rattle.gts_app.specs.Cited.Below.{Breaks, Change, Did, DirFault, Ghosts as StationMeanings, OnlySyncs, OpenFault, Rose, Says, SourceMeanings, State, Syncs, TakesOver, changes, directory_of_bytes, files_open_any, first_change, need, opens_any, seen}
 use Rattle.gts_directory.specs.Directory as directories
-use Rattle.gts_directory.specs.TakingOver.{TakesOver, first_change}
-use Rattle.gts_directory.specs.declared.taking_over.Change.{Change}
-use Rattle.gts_directory.specs.declared.fault.DirFault.{DirFault}
-use Rattle.gts_dirfile.specs.{directory_of_bytes}
-use Rattle.gts_event.specs.State.{State}
-use Rattle.gts_event.specs.Need.{need}
-use Rattle.gts_record.specs.declared.fault.OpenFault.{OpenFault}
 use Rattle.gts_record.specs.declared.fault.OpenFault.TheVariants as opening
-use Rattle.gts_journal.specs.{OnlySyncs}
-use Rattle.gts_recovery.specs.Opened.{opens_any, files_open_any}
-use Rattle.gts_changes.specs.{changes}
 use Rattle.gts_app.specs.declared.status.Status.{Status}
 use Rattle.gts_app.specs.declared.status.Status.TheVariants.{Done, Directory, OldDirectory, Changed, NoJournal, OldVersion, NotThis, Damaged, DiskFault, SourceFault, SayFault, NoMemory}
 use Rattle.gts_app.specs.Ending.{refusal}

@@ -1,17 +1,7 @@
 -- What each end of the command `unpack` means for what it works on.
 use Rattle.std.specs.Prelude.{◌≡◌, ◌⊎◌, ℕ, ◌+◌, ◌≤◌, List, [], ◌++◌, length, Some, None, Ok}
-use Rattle.gts_traits.specs.declared.source.Source.{Ghosts as SourceMeanings}
-use Rattle.gts_traits.specs.declared.station.Station.{Ghosts as StationMeanings}
-use Rattle.gts_traits.specs.Counts.{Rose}
+use Rattle.gts_app.specs.Cited.Below.{Bad, Ended, Ghosts as StationMeanings, IsLeft, Journaled, LONGEST_DIRECTORY, Rose, SourceMeanings, UnpackEnd, badplace, captured, directory_of_bytes}
 use Rattle.gts_directory.specs.Directory as directories
-use Rattle.gts_dirfile.specs.declared.limits.TheConstants.{LONGEST_DIRECTORY}
-use Rattle.gts_dirfile.specs.{directory_of_bytes}
-use Rattle.gts_connection.specs.declared.kind.CaptureKind.TheVariants.{Journaled}
-use Rattle.gts_accum.specs.File.{badplace}
-use Rattle.gts_accum.specs.Capture.{captured}
-use Rattle.gts_accum.specs.Traced.{IsLeft}
-use Rattle.gts_unpack.specs.declared.end.UnpackEnd.{UnpackEnd}
-use Rattle.gts_unpack.specs.declared.end.UnpackEnd.TheVariants.{Bad, Ended}
 use Rattle.gts_app.specs.declared.status.Status.{Status}
 use Rattle.gts_app.specs.declared.status.Status.TheVariants.{Done, Words, Capture, Accum, SourceFault, NoMemory}
 use Rattle.gts_app.specs.Ending.{status_of}

@@ -1,7 +1,5 @@
 ghost use Rattle.std.specs.Prelude.{◌≡◌, ◌⊎◌, ℕ, Some};
-ghost use Rattle.gts_words.specs.{command_of};
-ghost use Rattle.gts_serve.specs.{lines_seen as seen};
-ghost use Rattle.gts_app.specs.Commands.{IsCommand, IsSettled, Inits, Replays, world, IsNoCapture, ServesCircuits, Generates, OpensJournal, ReadsApart};
+ghost use Rattle.gts_app.specs.Cited.{Generates, Inits, IsCommand, IsNoCapture, IsSettled, OpensJournal, ReadsApart, Replays, ServesCircuits, command_of, lines_seen as seen, world};
 
 use crate::Status;
 use crate::commands::check::check;

@@ -1,12 +1,7 @@
 -- A group has a kind exactly where its letters are those of a group.
-use Rattle.std.proofs.Common.{◌≡◌, ℕ, ◌+◌, ◌-◌, ◌*◌, Bool, true, false, ◌&&◌, ◌||◌, cond, eqb, List, [], ◌∷◌, Some, None, refl, sym, subst}
-use Rattle.std.specs.Prelude.{is_some}
-use Rattle.std.specs.Char.{is_ascii_uppercase}
+use Rattle.std.proofs.Common.{◌≡◌, ℕ, ◌+◌, ◌-◌, ◌*◌, Bool, true, false, ◌&&◌, ◌||◌, cond, eqb, List, [], ◌∷◌, Some, None, refl, sym, subst, is_some}
+use Rattle.gts_bbb.specs.Cited.{Amendment, Bbb, Correction, Delayed, LastSegment, Segment, is_ascii_uppercase, is_bbb, kind_of}
 use Rattle.std.proofs.lemmas.Bool.{eqb-true, and_parts, and_from}
-use Rattle.gts_heading.specs.Letters.{is_bbb}
-use Rattle.gts_bbb.specs.declared.bbb.Bbb.{Bbb}
-use Rattle.gts_bbb.specs.declared.bbb.Bbb.TheVariants.{Delayed, Correction, Amendment, Segment, LastSegment}
-use Rattle.gts_bbb.specs.Bbb.{kind_of}
 
 -- one of five tests passes, where the fourth passes only if the fifth does
 some_passes : (u x y z l s : Bool) (a b c d e : Bbb) → (l ≡ true → s ≡ true)

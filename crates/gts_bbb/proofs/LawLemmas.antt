@@ -1,8 +1,6 @@
 -- What the laws of src/laws.rt say, for the proofs of crates above: each is an answer of one of them.
-use Rattle.std.proofs.Common.{ℕ, List, IsTrue, sym, ◌∙◌}
-use Rattle.std.specs.Prelude.{◌↔◌, IsSome}
-use Rattle.gts_heading.specs.Letters.{is_bbb}
-use Rattle.gts_bbb.specs.Bbb.{kind_of}
+use Rattle.std.proofs.Common.{ℕ, List, IsTrue, sym, ◌∙◌, ◌↔◌, IsSome}
+use Rattle.gts_bbb.specs.Cited.{is_bbb, kind_of}
 use Rattle.gts_bbb.proofs.GroupLemmas.{is_some-kind_of}
 
 pub kinds_are_groups : (three : List ℕ) → IsSome (kind_of three) ↔ IsTrue (is_bbb three)

@@ -1,8 +1,7 @@
 //! Laws over the definitions, each the contract of a function with an empty body.
 
 ghost use Rattle.std.specs.Prelude.{◌↔◌, List, ℕ, IsSome, IsTrue};
-ghost use Rattle.gts_heading.specs.{is_bbb};
-ghost use Rattle.gts_bbb.specs.Bbb.{kind_of};
+ghost use Rattle.gts_bbb.specs.Cited.{is_bbb, kind_of};
 
 /// A group has a kind exactly where its letters are those of a group.
 pub fn kinds_are_the_groups()

@@ -3,5 +3,7 @@
 #![tactic(auto)]
 
 mod bell;
+mod bells;
 
 pub use bell::{Bell, Look};
+pub use bells::Bells;

@@ -1,18 +1,12 @@
 -- A capture begins with what was read of it.
 use Rattle.std.proofs.Common.{◌≡◌, ℕ, ◌+◌, ◌-◌, ◌<◌, List, [], ◌∷◌, ◌++◌, length, take, drop, inl, inr, refl, sym, ap, subst, ◌∙◌, append_assoc, arith, length-append}
-use Rattle.std.specs.List.{flat_map}
+use Rattle.gts_capture.specs.Cited.{AreStepsOf, CaptureKind, Directory, EndHead, FeedGoesOn, FeedHead, GoesOn, Held, IsBadAt, IsHeadOf, IsInFeed, IsPartIn, IsReadTo, IsSameCapture, IsTaken, LONGEST_CAPTURE, ReadingIn, ReadingOf, Step, StopsInHead, Whole, flat_map, head_text, readable, readable_from, step_text}
+use Rattle.gts_connection.specs.Capture.{Feed, head_of, Bad, EndsInHead, EndsInFeed}
 use Rattle.std.proofs.lemmas.Bool.{cases_lt}
 use Rattle.std.proofs.lemmas.List.{length-take-le, take-append-drop, take_all}
 use Rattle.std.proofs.lemmas.Grind.{flat_map-append}
-use Rattle.gts_directory.specs.Directory.{Directory}
-use Rattle.gts_connection.specs.declared.kind.CaptureKind.{CaptureKind}
-use Rattle.gts_connection.specs.Capture.{Step, Feed, FeedHead, EndHead, head_text, head_of, step_text, AreStepsOf, IsHeadOf, ReadingIn, ReadingOf, Whole, Bad, EndsInHead, EndsInFeed, readable}
-use Rattle.gts_connection.specs.declared.limits.TheConstants.{LONGEST_CAPTURE}
 use Rattle.gts_connection.proofs.LawLemmas.{reads, readable-all}
-use Rattle.gts_capture.specs.Heads.{IsPartIn}
-use Rattle.gts_capture.specs.Held.{Held, IsSameCapture, StopsInHead, IsBadAt, readable_from}
 use Rattle.gts_capture.specs.Held as stopped
-use Rattle.gts_capture.specs.Progress.{IsReadTo, IsInFeed, IsTaken, GoesOn, FeedGoesOn}
 use Rattle.gts_capture.proofs.ProgressLemmas.{are_more, text_more, read_on, feed_on, at_bad}
 
 are_all : (kind : CaptureKind) (d : Directory) (steps more : List Step) → AreStepsOf kind d steps → AreStepsOf kind d more → AreStepsOf kind d (steps ++ more)

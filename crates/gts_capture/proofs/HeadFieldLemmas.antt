@@ -1,14 +1,9 @@
 -- The fields of a head, read one behind the other.
-use Rattle.std.proofs.Common.{◌≡◌, ℕ, zero, suc, ◌+◌, ◌-◌, ◌*◌, ◌/◌, ◌%◌, ◌<◌, ◌≤◌, ◌==◌, Bool, true, false, List, [], ◌∷◌, ◌++◌, length, Result, Ok, Err, refl, sym, ap, subst, ◌∙◌, arith}
-use Rattle.std.specs.Prelude.{if◌then◌else◌, nat_lt, nat_le}
-use Rattle.std.specs.Int.{is_in_range}
+use Rattle.std.proofs.Common.{◌≡◌, ℕ, zero, suc, ◌+◌, ◌-◌, ◌*◌, ◌/◌, ◌%◌, ◌<◌, ◌≤◌, ◌==◌, Bool, true, false, List, [], ◌∷◌, ◌++◌, length, Result, Ok, Err, refl, sym, ap, subst, ◌∙◌, arith, if◌then◌else◌, nat_lt, nat_le}
+use Rattle.gts_capture.specs.Cited.{Bad, Head, More, Stop, byte_where, circuit_at, dec, digit_at, digits_at, end_at, is_digit_below, is_in_range, size_at}
+use Rattle.gts_capture.specs.HeadReading.{◌>>=◌}
 use Rattle.std.proofs.lemmas.Bool.{eqb-true, and_parts, and_from, leb-true, le-leb, lt-ltb}
 use borrow.Author.Tests.{ltb-true}
-use Rattle.gts_alphabet.specs.Digits.{dec}
-use Rattle.gts_capture.specs.declared.head.Head.{Head}
-use Rattle.gts_capture.specs.declared.head_cursor.Stop.{Stop}
-use Rattle.gts_capture.specs.declared.head_cursor.Stop.TheVariants.{More, Bad}
-use Rattle.gts_capture.specs.HeadReading.{◌>>=◌, byte_where, is_digit_below, digit_at, digits_at, circuit_at, size_at, end_at}
 
 -- ---- texts of heads, each with its head
 
@@ -44,9 +39,6 @@ ByteThen test M h t = (b : ℕ) × (u : List ℕ) × (t ≡ b ∷ u) × (test b 
 
 abbrev pub Some : Texts → Type 0
 Some M = (h : Head) × (t : List ℕ) × M h t
-
-abbrev OneByte : (ℕ → Bool) → (ℕ → Texts) → List ℕ → Result (Head × List ℕ) Stop → Type 0
-OneByte test M bytes r = Meets (ByteThen test M) bytes r
 
 pub on_byte : (test : ℕ → Bool) (M : ℕ → Texts) (bytes : List ℕ) (k : ℕ × List ℕ → Result (Head × List ℕ) Stop) → Some (ByteThen test M)
     → ((b : ℕ) (rest : List ℕ) → test b ≡ true → Meets (M b) rest (k (b, rest))) → Meets (ByteThen test M) bytes (byte_where test bytes >>= k)

@@ -1,20 +1,10 @@
 -- A head that is read is there, and is refused only where no head stands.
-use Rattle.std.proofs.Common.{◌≡◌, ℕ, ◌<◌, ◌≤◌, ◌==◌, Bool, true, false, List, [], ◌∷◌, ◌++◌, get_or, drop, Result, Ok, Err, refl, sym, ap, subst, ◌∙◌, append_assoc, arith}
-use Rattle.std.specs.Prelude.{if◌then◌else◌, nat_lt, ◌&&◌, ◌||◌}
+use Rattle.std.proofs.Common.{◌≡◌, ℕ, ◌<◌, ◌≤◌, ◌==◌, Bool, true, false, List, [], ◌∷◌, ◌++◌, get_or, drop, Result, Ok, Err, refl, sym, ap, subst, ◌∙◌, append_assoc, arith, if◌then◌else◌, nat_lt, ◌&&◌, ◌||◌}
 use Rattle.std.proofs.lemmas.Bool.{false≢true, eqb-true, lt-ltb}
 use borrow.Author.Tests.{ltb-true}
-use Rattle.gts_alphabet.specs.Digits.{dec}
-use Rattle.gts_connection.specs.declared.kind.CaptureKind.{CaptureKind}
-use Rattle.gts_connection.specs.declared.kind.CaptureKind.TheVariants.{Journaled, Traffic}
-use Rattle.gts_connection.specs.Capture.{head_text}
+use Rattle.gts_capture.specs.Cited.{Bad, BeginsWithHead, CaptureKind, Compact, Drain, End, Feed, Head, IsFrontIn, IsHeadIn, IsPartIn, IsStop, Journaled, More, Reopen, Restart, Stop, Take, Traffic, behind_letter, byte_where, circuit_at, dec, end_at, has_journal, head_at, head_of, head_text, is_letter, size_at}
+use Rattle.gts_capture.specs.HeadReading.{◌>>=◌}
 use Rattle.gts_connection.specs.Capture as capture
-use Rattle.gts_capture.specs.declared.head.Head.{Head}
-use Rattle.gts_capture.specs.declared.head.Head.TheVariants.{Feed, Take, Reopen, Drain, Restart, Compact, End}
-use Rattle.gts_capture.specs.declared.head_cursor.Stop.{Stop}
-use Rattle.gts_capture.specs.declared.head_cursor.Stop.TheVariants.{More, Bad}
-use Rattle.gts_capture.specs.Heads.{head_of, has_journal, IsHeadIn, IsPartIn, IsFrontIn}
-use Rattle.gts_capture.specs.Held.{BeginsWithHead, IsStop}
-use Rattle.gts_capture.specs.HeadReading.{◌>>=◌, byte_where, circuit_at, size_at, end_at, is_letter, behind_letter, head_at}
 use Rattle.gts_capture.proofs.HeadFieldLemmas.{Texts, Part, Meets, meets_same, ByteThen, on_byte, CircuitThen, on_circuit, SizeThen, on_size, Ended, some_ended, on_end}
 
 -- ---- heads by their first byte

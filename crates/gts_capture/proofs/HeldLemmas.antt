@@ -3,15 +3,8 @@ use Rattle.std.proofs.Common.{◌≡◌, ℕ, ◌+◌, ◌-◌, ◌<◌, ◌≤�
 use Rattle.std.proofs.lemmas.List.{take-append-drop, drop-take, drop-drop, append-nil, length-take-le, length-drop, take-append-le}
 use Rattle.std.proofs.Math.Seq.{take-append-add, take-append_seam}
 use borrow.Rule.Slice.PartMut.{put_mid, post_of}
-use Rattle.gts_alphabet.specs.Digits.{dec}
-use Rattle.gts_connection.specs.declared.kind.CaptureKind.{CaptureKind}
-use Rattle.gts_connection.specs.Capture.{FeedHead, TakeHead, ReopenHead, DrainHead, RestartHead, CompactHead, EndHead, head_text}
+use Rattle.gts_capture.specs.Cited.{Bad, BadByte, CaptureKind, CompactHead, DrainHead, EndHead, EndsInHead, FeedHead, Head, Held, IsBadAt, IsPartIn, IsStop, LONGEST_CAPTURE, ReopenHead, RestartHead, TakeHead, dec, head_text, readable_from}
 use Rattle.gts_connection.specs.Capture as capture
-use Rattle.gts_capture.specs.declared.head.Head.{Head}
-use Rattle.gts_capture.specs.declared.head_cursor.Stop.TheVariants.{Bad}
-use Rattle.gts_capture.specs.Heads.{head_of, IsPartIn}
-use Rattle.gts_capture.specs.Held.{Held, BeginsWithHead, IsStop, readable_from, IsBadAt, BadByte, EndsInHead}
-use Rattle.gts_connection.specs.declared.limits.TheConstants.{LONGEST_CAPTURE}
 
 -- ---- the part of a buffer from a start to an end
 
@@ -40,9 +33,6 @@ filled a k n xs ys within few =
 
 -- ---- what is left
 
-pub begins_all : (circuits : ℕ) (kind : CaptureKind) (ahead rest left : List ℕ) (head : Head) → BeginsWithHead circuits kind ahead head rest → ahead ++ left ≡ head_text (head_of head) ++ (rest ++ left)
-begins_all circuits kind ahead rest left head h = ap (λ (xs : List ℕ). xs ++ left) h.text ∙ append_assoc (head_text (head_of head)) rest left
-
 -- a head has at most 12 bytes
 longest_head : (h : capture.Head) → length (head_text h) ≤ 12
 unfolding dec
@@ -65,9 +55,6 @@ stop_is_bad held left behind at stop place =
     let text : held.ahead ++ left ≡ front ++ stop.1 ∷ (stop.2 ++ left) = ap (λ (xs : List ℕ). xs ++ left) stop.3 ∙ append_assoc front rest left in
     let good : length held.ahead - behind ≡ length front = omega (arith, ap length stop.3, length-append front rest, stop.4) in
     BadByte front stop.1 (stop.2 ++ left) stop.5 stop.6 text (place ∙ ap (λ (n : ℕ). held.at + n) good)
-
-pub stop_is_inside : (held : Held) (behind : ℕ) → IsStop held.circuits held.kind held.ahead (Bad behind) → behind ≤ length held.ahead
-stop_is_inside held behind stop = omega (arith, ap length stop.3, length-append stop.0 (stop.1 ∷ stop.2), stop.4)
 
 pub end_is_bad : (held : Held) (left : List ℕ) (at : ℕ) → IsPartIn held.circuits held.kind held.ahead → left ≡ [] → at ≡ held.at + (length held.ahead - 0)
     → IsBadAt held (held.ahead ++ left) at

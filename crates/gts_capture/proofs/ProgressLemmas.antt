@@ -1,16 +1,10 @@
 -- The steps that were read are those of the capture.
 use Rattle.std.proofs.Common.{◌≡◌, ℕ, ◌+◌, ◌<◌, ◌≤◌, List, [], ◌∷◌, ◌++◌, length, refl, sym, ap, subst, ◌∙◌, append_assoc, arith, length-append}
-use Rattle.std.specs.List.{flat_map}
+use Rattle.gts_capture.specs.Cited.{AreStepsOf, BadByte, CaptureKind, Directory, EndHead, EndsEarlyOf, EndsThere, FeedHead, Held, IsBadAt, IsFrontIn, IsHeadFront, IsHeadIn, IsHeadOf, IsInFeed, IsPartIn, IsPartialHead, IsReadTo, IsSameCapture, IsWholeOf, LONGEST_CAPTURE, ReadingOf, Step, flat_map, head_text, readable, readable_from, step_text}
+use Rattle.gts_connection.specs.Capture.{Feed, Head, head_of, Bad, EndsInHead, EndsInFeed}
 use Rattle.std.proofs.lemmas.List.{append-nil}
-use Rattle.gts_directory.specs.Directory.{Directory}
-use Rattle.gts_connection.specs.declared.kind.CaptureKind.{CaptureKind}
-use Rattle.gts_connection.specs.Capture.{Step, Feed, Head, FeedHead, EndHead, head_of, head_text, step_text, AreStepsOf, IsHeadOf, IsPartialHead, IsHeadFront, ReadingOf, Bad, EndsInHead, EndsInFeed, IsWholeOf, EndsEarlyOf, readable}
 use Rattle.gts_connection.proofs.LawLemmas.{readable-behind}
-use Rattle.gts_connection.specs.declared.limits.TheConstants.{LONGEST_CAPTURE}
-use Rattle.gts_capture.specs.Heads.{IsHeadIn, IsPartIn, IsFrontIn}
-use Rattle.gts_capture.specs.Held.{Held, IsSameCapture, IsBadAt, BadByte, readable_from}
 use Rattle.gts_capture.specs.Held as stopped
-use Rattle.gts_capture.specs.Progress.{IsReadTo, IsInFeed, EndsThere}
 
 -- ---- heads of a directory
 

@@ -1,8 +1,7 @@
 -- A head read from left to right: it is there, and leaves the bytes behind it; or the bytes end in it; or a byte can't
 -- stand in its place.
 use Rattle.std.specs.Prelude.{ℕ, zero, suc, ◌+◌, ◌-◌, ◌*◌, ◌/◌, Bool, ◌&&◌, ◌||◌, ◌==◌, nat_lt, List, [], ◌∷◌, length, Result, Ok, Err, if◌then◌else◌}
-use Rattle.std.specs.Char.{is_ascii_digit}
-use Rattle.gts_connection.specs.declared.kind.CaptureKind.{CaptureKind}
+use Rattle.gts_capture.specs.Cited.Below.{CaptureKind, is_ascii_digit}
 use Rattle.gts_capture.specs.Heads.{has_journal}
 use Rattle.gts_capture.specs.declared.head.Head.{Head}
 use Rattle.gts_capture.specs.declared.head.Head.TheVariants.{Feed, Take, Reopen, Drain, Restart, Compact, End}

@@ -1,8 +1,6 @@
 -- The heads of a capture's steps as they are read (profile).
 use Rattle.std.specs.Prelude.{ℕ, Bool, true, false, List}
-use Rattle.gts_connection.specs.declared.kind.CaptureKind.{CaptureKind}
-use Rattle.gts_connection.specs.declared.kind.CaptureKind.TheVariants.{Journaled, Traffic}
-use Rattle.gts_connection.specs.Capture.{Head, FeedHead, TakeHead, ReopenHead, DrainHead, RestartHead, CompactHead, EndHead, head_text}
+use Rattle.gts_capture.specs.Cited.Below.{CaptureKind, CompactHead, DrainHead, EndHead, FeedHead, Head, Journaled, ReopenHead, RestartHead, TakeHead, Traffic, head_text}
 pub use Rattle.gts_connection.specs.Capture.{IsHeadIn, IsPartIn, IsFrontIn}
 use Rattle.gts_capture.specs.declared.head.Head as program
 use Rattle.gts_capture.specs.declared.head.Head.TheVariants as read

@@ -1,15 +1,12 @@
 -- What a reader of a capture holds, and what its answers say.
 use Rattle.std.specs.Prelude.{◌≡◌, ℕ, ◌+◌, ◌-◌, ◌<◌, ◌≤◌, List, [], ◌∷◌, ◌++◌, length, take, Result, Err}
-use Rattle.gts_connection.specs.declared.kind.CaptureKind.{CaptureKind}
-use Rattle.gts_connection.specs.declared.limits.TheConstants.{LONGEST_CAPTURE}
-use Rattle.gts_connection.specs.Capture.{head_text}
-use Rattle.gts_traits.specs.Counts.{Rose}
+use Rattle.gts_capture.specs.Cited.Below.{CaptureKind, IsFrontIn, IsHeadIn, IsPartIn, LONGEST_CAPTURE, Rose, head_text}
+use Rattle.gts_capture.specs.Heads.{head_of}
 use Rattle.gts_capture.specs.declared.capture_fault.CaptureFault.{CaptureFault}
 use Rattle.gts_capture.specs.declared.capture_fault.CaptureFault.TheVariants.{SourceFault}
 use Rattle.gts_capture.specs.declared.head.Head.{Head}
 use Rattle.gts_capture.specs.declared.head_cursor.Stop.{Stop}
 use Rattle.gts_capture.specs.declared.head_cursor.Stop.TheVariants.{More, Bad}
-use Rattle.gts_capture.specs.Heads.{head_of, IsHeadIn, IsPartIn, IsFrontIn}
 
 -- Of how many circuits the capture is, and of which kind; the bytes that were read ahead; the place of the first of
 -- these in the capture; and how many bytes of the last feed weren't taken yet.

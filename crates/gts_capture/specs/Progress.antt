@@ -1,10 +1,6 @@
 -- How far a capture was read.
 use Rattle.std.specs.Prelude.{◌≡◌, ℕ, ◌+◌, ◌≤◌, List, [], ◌∷◌, ◌++◌, length, flat_map}
-use Rattle.gts_directory.specs.Directory.{Directory}
-use Rattle.gts_connection.specs.declared.kind.CaptureKind.{CaptureKind}
-use Rattle.gts_connection.specs.declared.limits.TheConstants.{LONGEST_CAPTURE}
-use Rattle.gts_connection.specs.Capture.{Step, Feed, FeedHead, head_of, head_text, step_text, AreStepsOf, IsHeadOf, ReadingOf, EndsEarlyOf}
-use Rattle.gts_capture.specs.Heads.{IsHeadIn}
+use Rattle.gts_capture.specs.Cited.Below.{AreStepsOf, CaptureKind, Directory, EndsEarlyOf, Feed, FeedHead, IsHeadIn, IsHeadOf, LONGEST_CAPTURE, ReadingOf, Step, head_of, head_text, step_text}
 use Rattle.gts_capture.specs.Held.{Held, IsSameCapture, readable_from}
 
 -- These steps of a capture of this kind, under a directory, were read, and this is left.

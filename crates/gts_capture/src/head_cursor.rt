@@ -1,6 +1,5 @@
 ghost use Rattle.std.specs.Prelude.{◌≡◌, ◌==◌, ◌≤◌, ◌<◌, Ok, Err, IfOk, IfErr, MatchResult, length, drop};
-ghost use Rattle.gts_capture.specs.Heads.{line_of};
-ghost use Rattle.gts_capture.specs.Held.{BeginsWithHead, IsStop};
+ghost use Rattle.gts_capture.specs.Cited.{BeginsWithHead, IsStop, line_of};
 ghost use Rattle.gts_capture.specs.HeadReading as reading;
 
 use crate::head::Head;

@@ -1,12 +1,8 @@
 //! Laws on how a capture is read head by head, each the contract of a function with an empty body.
 
 ghost use Rattle.std.specs.Prelude.{◌≡◌, ℕ, ◌+◌, ◌<◌, ◌≤◌, [], ◌∷◌, ◌++◌, List, length};
-ghost use Rattle.gts_directory.specs.Directory.{Directory};
-ghost use Rattle.gts_connection.specs.declared.kind.CaptureKind.{CaptureKind};
-ghost use Rattle.gts_connection.specs.declared.limits.TheConstants.{LONGEST_CAPTURE};
-ghost use Rattle.gts_connection.specs.Capture.{Step, Feed, EndHead, head_text, IsWholeOf, EndsEarlyOf};
-ghost use Rattle.gts_capture.specs.Held.{Held, IsBadAt, IsSameCapture, StopsInHead, at_start, readable_from};
-ghost use Rattle.gts_capture.specs.Progress.{IsReadTo, Passes, IsInFeed, EndsThere, IsTaken, GoesOn, FeedGoesOn};
+ghost use Rattle.gts_capture.specs.Cited.{CaptureKind, Directory, EndHead, EndsEarlyOf, EndsThere, FeedGoesOn, GoesOn, Held, IsBadAt, IsInFeed, IsReadTo, IsSameCapture, IsTaken, IsWholeOf, LONGEST_CAPTURE, Passes, Step, StopsInHead, at_start, head_text, readable_from};
+ghost use Rattle.gts_connection.specs.Capture.{Feed};
 
 /// No step was read of a capture at first, and a step more when its head and its bytes were read.
 pub fn a_capture_is_read_step_by_step()

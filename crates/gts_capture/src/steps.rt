@@ -1,8 +1,5 @@
 ghost use Rattle.std.specs.Prelude.{◌≡◌, ◌+◌, ◌-◌, ◌<◌, ◌≤◌, ◌↔◌, ◌++◌, [], ℕ, IsTrue, IfOk, IfErr, IsErr, OnErr, Err, true, false, length, take, drop, min};
-ghost use Rattle.gts_traits.specs.Counts.{HasCause};
-ghost use Rattle.gts_connection.specs.declared.limits.TheConstants.{LONGEST_CAPTURE};
-ghost use Rattle.gts_capture.specs.Heads.{head_of, line_of, IsHeadIn, bytes_announced};
-ghost use Rattle.gts_capture.specs.Held.{BeginsWithHead, IsStop, IsSameCapture, Passed, IsBadAt, EndsInFeed, StopsInHead, StopsInFeed, HasSourceCause, at_start, readable_from};
+ghost use Rattle.gts_capture.specs.Cited.{BeginsWithHead, EndsInFeed, HasCause, HasSourceCause, IsBadAt, IsHeadIn, IsSameCapture, IsStop, LONGEST_CAPTURE, Passed, StopsInFeed, StopsInHead, at_start, bytes_announced, head_of, line_of, readable_from};
 
 use crate::capture_fault::CaptureFault;
 use crate::head::Head;

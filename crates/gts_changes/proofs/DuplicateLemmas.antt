@@ -1,10 +1,7 @@
 -- What is known behind a takeover is what is recent under the new directory.
-use Rattle.std.proofs.Common.{◌≡◌, Bool, true, false, cond, ◌||◌, List, [], ◌∷◌, filter, refl, sym, ap, ◌∙◌}
-use Rattle.gts_directory.specs.Directory.{Directory}
-use Rattle.gts_event.specs.State.{State, Bulletin, is_recent, recent_among}
-use Rattle.gts_event.specs.Need.{Need, is_needed, circuit_needs}
-use Rattle.gts_migrate.specs.LettingGo.{goes_on}
-use Rattle.gts_changes.specs.Changes.{known, behind}
+use Rattle.std.proofs.Common.{◌≡◌, Bool, true, false, cond, List, [], ◌∷◌, filter, refl, sym, ap, ◌∙◌}
+use Rattle.std.proofs.lemmas.Bool.{or_left as recent_needed}
+use Rattle.gts_changes.specs.Cited.{Bulletin, Directory, Need, State, behind, circuit_needs, goes_on, is_needed, is_recent, known, recent_among}
 
 -- what passes one test, of what passes a wider one
 within : (p q : Bulletin → Bool) (bs : List Bulletin) → ((b : Bulletin) → p b ≡ true → q b ≡ true) → filter p (filter q bs) ≡ filter p bs
@@ -19,10 +16,6 @@ within p q (b ∷ bs) wider = go (p b) refl (q b) refl (within p q bs wider)
       where
         no : true ≡ false → ⊥
         no h = cc
-
-recent_needed : (a b : Bool) → a ≡ true → (a || b) ≡ true
-recent_needed true b e = refl
-recent_needed false b e = absurd (cc)
 
 pub known_behind : (new old : Directory) (n : Need) → known new (behind new old n) ≡ recent_among new n.accepted n.bulletins
 known_behind new old n =

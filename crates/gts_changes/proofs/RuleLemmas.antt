@@ -1,18 +1,10 @@
 -- Rules as rows with masks, and the names of their circuits.
-use Rattle.std.proofs.Common.{◌≡◌, ℕ, zero, suc, ◌+◌, ◌^◌, ◌<◌, ◌≤◌, Bool, true, false, cond, ◌==◌, ◌&&◌, ◌||◌, nat_eq, List, [], ◌∷◌, ◌++◌, length, map, filter, flat_map, get_or, take, refl, sym, ap, ◌∙◌, arith}
-use Rattle.std.specs.Int.{bit_at}
-use Rattle.std.specs.Cmp.Lexicographic.{pointwise}
-use Rattle.std.specs.List.{All, list_any, range_with_len}
+use Rattle.std.proofs.Common.{◌≡◌, ℕ, zero, suc, ◌+◌, ◌^◌, ◌<◌, ◌≤◌, Bool, true, false, cond, ◌==◌, ◌&&◌, ◌||◌, nat_eq, List, [], ◌∷◌, ◌++◌, length, map, filter, refl, sym, ap, ◌∙◌, arith}
+use Rattle.gts_changes.specs.Cited.{All, AreRulesOf, Directory, RuleRow, bit, bit_at, circuits_in, has_rule, list_any, mask_of, name_text, names_text, pointwise, range_with_len, row_of, rule_of_row, same_rule}
 use Rattle.std.proofs.lemmas.Grind.{flat_map-append}
-use Rattle.std.proofs.lemmas.List.{map-id, map-append, append-nil, take_more}
+use Rattle.std.proofs.lemmas.List.{map-id, append-nil}
 use Rattle.std.proofs.lemmas.List.FromFn.{filter_of_map_range_with_len_more}
 use Rattle.std.proofs.lemmas.Nat.Bits.{bit_at-lt, bit_at_above}
-use Rattle.gts_directory.specs.declared.rows.RuleRow.{RuleRow}
-use Rattle.gts_directory.specs.Directory.{Directory, Rule}
-use Rattle.gts_directory.specs.Rows.{mask_of, circuits_in, rule_of_row}
-use Rattle.gts_directory.specs.Routing.{bit}
-use Rattle.gts_dirfile.specs.Rules.{AreRulesOf}
-use Rattle.gts_changes.specs.Changes.{row_of, same_rule, has_rule, names_text, name_text, rule_change}
 
 -- ---- names
 
@@ -72,15 +64,3 @@ pub among_is : Told → (n : ℕ) (a : RuleRow) (rows : List RuleRow) (other : D
     → list_any (λ b. pointwise nat_eq a.heading b.heading && (a.to == b.to)) rows ≡ has_rule other.rules (rule_of_row n a)
 among_is told n a rows other low are =
     among_rows told n (length other.circuits) a rows low are.within ∙ ap (list_any (same_rule (rule_of_row n a))) are.same
-
--- one rule more
-pub rules_more : (word : List ℕ) (d : Directory) (others : List Rule) (n : ℕ) (rows : List RuleRow) (i : ℕ) (row : RuleRow) → i < length rows
-    → flat_map (rule_change word d others) (map (rule_of_row n) (take (i + 1) rows))
-    ≡ flat_map (rule_change word d others) (map (rule_of_row n) (take i rows)) ++ rule_change word d others (rule_of_row n (get_or rows i row))
-rules_more word d others n rows i row within =
-    let f : Rule → List ℕ = rule_change word d others in
-    let here : RuleRow = get_or rows i row in
-    ap (λ (l : List RuleRow). flat_map f (map (rule_of_row n) l)) (take_more rows i row within)
-    ∙ ap (flat_map f) (map-append (rule_of_row n) (take i rows) (here ∷ []))
-    ∙ flat_map-append f (map (rule_of_row n) (take i rows)) (rule_of_row n here ∷ [])
-    ∙ ap (λ (l : List ℕ). flat_map f (map (rule_of_row n) (take i rows)) ++ l) (append-nil (f (rule_of_row n here)))

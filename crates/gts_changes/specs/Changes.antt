@@ -1,18 +1,7 @@
 -- The report of what changes where a journal is taken over: lines for the operator, each ended by LF (profile). Numbers are plain
 -- decimals, and a circuit's has two digits.
 use Rattle.std.specs.Prelude.{ℕ, ◌-◌, ◌==◌, ◌&&◌, Bool, nat_eq, nat_lt, List, [], ◌∷◌, ◌++◌, length, flat_map, get_or, Option, Some, if◌then◌else◌, codes, decimal}
-use Rattle.std.specs.Cmp.Lexicographic.{pointwise}
-use Rattle.std.specs.Int.{bit_at}
-use Rattle.std.specs.List.{list_any, range_with_len}
-use Rattle.gts_alphabet.specs.Digits.{dec}
-use Rattle.gts_directory.specs.Directory.{Directory, Circuit, Rule, circuit_of}
-use Rattle.gts_directory.specs.Rows.{mask_of}
-use Rattle.gts_event.specs.State.{Bulletin, recent_among}
-use Rattle.gts_event.specs.Need.{Need, CircuitNeed, need, unused}
-use Rattle.gts_migrate.specs.LettingGo.{goes_on, waits_closed}
-use Rattle.gts_migrate.specs.Trial.{refusal}
-use Rattle.gts_migrate.specs.declared.fault.MigrateFault.{MigrateFault}
-use Rattle.gts_migrate.specs.declared.fault.MigrateFault.TheVariants.{Waits, Full}
+use Rattle.gts_changes.specs.Cited.Below.{Bulletin, Circuit, CircuitNeed, Directory, Full, MigrateFault, Need, Rule, Waits, bit_at, circuit_of, dec, goes_on, list_any, mask_of, need, pointwise, range_with_len, recent_among, refusal, unused, waits_closed}
 
 -- the row of a circuit
 abbrev pub row_of : Directory → ℕ → Circuit

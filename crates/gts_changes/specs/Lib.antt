@@ -1,5 +1,4 @@
 pub mod Changes
 pub mod Kept
 pub mod Worked
--- what callers cite
-pub use Rattle.gts_changes.specs.Changes.{changes}
+pub mod Cited

@@ -1,9 +1,6 @@
 -- Worked rows: reports of literal needs.
 use Rattle.std.specs.Prelude.{◌≡◌, ℕ, true, List, [], ◌∷◌, ◌++◌, flat_map, codes}
-use Rattle.gts_frame.specs.declared.kind.Kind.TheVariants.{An}
-use Rattle.gts_directory.specs.Directory.{Directory, Circuit, Rule}
-use Rattle.gts_event.specs.State.{Bulletin}
-use Rattle.gts_event.specs.Need.{Need, unused}
+use Rattle.gts_changes.specs.Cited.Below.{An, Bulletin, Circuit, Directory, Need, Rule, unused}
 use Rattle.gts_event.specs.Worked.{two, three, circuit_to, body_text}
 use Rattle.gts_changes.specs.Changes.{changes}
 

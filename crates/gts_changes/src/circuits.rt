@@ -1,13 +1,7 @@
 //! What changes for each circuit.
 
 ghost use Rattle.std.specs.Prelude.{◌≡◌, ◌-◌, ◌<◌, ℕ, List, length, IfOk, IsTrue};
-ghost use Rattle.gts_directory.specs.{TakesOver};
-ghost use Rattle.gts_directory.specs.Rows.{circuit_of_row};
-ghost use Rattle.gts_event.specs.Items.{circuit_need_of, need_of};
-ghost use Rattle.gts_event.specs.Need.{CircuitNeed as CircuitNeedOf, is_sound};
-ghost use Rattle.gts_event.specs.State.{last_of};
-ghost use Rattle.gts_migrate.specs.LettingGo.{waits_closed};
-ghost use Rattle.gts_changes.specs.Kept.{kept_under};
+ghost use Rattle.gts_changes.specs.Cited.{CircuitNeed as CircuitNeedOf, TakesOver, circuit_need_of, circuit_of_row, is_sound, kept_under, last_of, need_of, waits_closed};
 ghost use Rattle.gts_changes.specs.Changes as changes;
 
 use crate::lines::{count_line, word_line};

@@ -1,10 +1,7 @@
 //! How many bulletins are forgotten whose duplicates were known.
 
 ghost use Rattle.std.specs.Prelude.{◌≡◌, ◌-◌, length, map, nat_le, ◌+◌};
-ghost use Rattle.std.specs.List.{filter};
-ghost use Rattle.gts_event.specs.Items.{bulletin_of, need_of};
-ghost use Rattle.gts_event.specs.State.{recent_among};
-ghost use Rattle.gts_changes.specs.Changes.{known, behind};
+ghost use Rattle.gts_changes.specs.Cited.{behind, bulletin_of, filter, known, need_of, recent_among};
 
 use gts_directory::Directory;
 use gts_event::{Bulletin, Need};

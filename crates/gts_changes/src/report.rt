@@ -1,12 +1,5 @@
 ghost use Rattle.std.specs.Prelude.{◌≡◌, ◌≢◌, ◌≤◌, ◌∷◌, ◌++◌, ℕ, Ok, IfOk, IfErr, OnOk, OnErr, IsErrOf, IsTrue};
-ghost use Rattle.gts_traits.specs.{Did, Syncs, seen, Rose};
-ghost use Rattle.gts_directory.specs.{TakesOver};
-ghost use Rattle.gts_event.specs.Items.{need_of};
-ghost use Rattle.gts_event.specs.Need.{is_sound, need as need_at};
-ghost use Rattle.gts_event.specs.State.{State};
-ghost use Rattle.gts_journal.specs.{OnlySyncs};
-ghost use Rattle.gts_recovery.specs.Opened.{files_open_any, opens_any, IsAnswer};
-ghost use Rattle.gts_migrate.specs.Trial.{refusal};
+ghost use Rattle.gts_changes.specs.Cited.{Did, IsAnswer, OnlySyncs, Rose, State, Syncs, TakesOver, files_open_any, is_sound, need as need_at, need_of, opens_any, refusal, seen};
 ghost use Rattle.gts_changes.specs.Changes as report;
 
 use crate::circuits::all_circuit_lines;

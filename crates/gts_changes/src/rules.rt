@@ -1,13 +1,7 @@
 //! The rules of one directory that another one doesn't have.
 
 ghost use Rattle.std.specs.Prelude.{◌≡◌, ◌<◌, ◌^◌, ◌==◌, ◌&&◌, ◌++◌, nat_eq, length, IfOk, OnOk};
-ghost use Rattle.std.specs.Cmp.Lexicographic.{pointwise};
-ghost use Rattle.std.specs.Int.{bit_at};
-ghost use Rattle.std.specs.List.{list_any};
-ghost use Rattle.gts_alphabet.specs.declared.limits.TheConstants.{MOST_CIRCUITS};
-ghost use Rattle.gts_directory.specs.Directory.{Directory as DirectoryOf};
-ghost use Rattle.gts_directory.specs.Rows.{rule_of_row, circuits_in};
-ghost use Rattle.gts_dirfile.specs.{AreRulesOf};
+ghost use Rattle.gts_changes.specs.Cited.{AreRulesOf, Directory as DirectoryOf, MOST_CIRCUITS, bit_at, circuits_in, list_any, pointwise, rule_of_row};
 ghost use Rattle.gts_changes.specs.Changes as changes;
 
 use gts_alphabet::NoMemory;

@@ -1,11 +1,8 @@
 -- Numbers that ascend, and what is found among them.
 use Rattle.std.proofs.Common.{◌≡◌, ◌≢◌, ℕ, zero, suc, ◌+◌, ◌<◌, ◌≤◌, Bool, true, false, ◌||◌, ◌==◌, ◌⊎◌, inl, inr, nat_lt, List, [], ◌∷◌, length, get_or, Ok, Err, Result, is_ok, refl, sym, arith}
-use Rattle.std.specs.Result.{MatchResult}
-use Rattle.std.proofs.lemmas.Bool.{and_parts, and_from, false_from_ne_true, ltb-true, lt-ltb, eq-eqb, ne_eqb, cases_lt}
-use Rattle.gts_event.specs.State.{has}
-use Rattle.gts_event.specs.Need.{ascends}
+use Rattle.gts_checkpoint.specs.Cited.{MatchResult, ascends, has, positions}
 use Rattle.gts_event.specs.declared.values.Bulletin.{Bulletin}
-use Rattle.gts_checkpoint.specs.Sound.{positions}
+use Rattle.std.proofs.lemmas.Bool.{and_parts, and_from, false_from_ne_true, ltb-true, lt-ltb, eq-eqb, ne_eqb, cases_lt}
 
 pub rises : (xs : List ℕ) (i j : ℕ) → ascends xs ≡ true → i < j → j < length xs → get_or xs i 0 < get_or xs j 0
 rises [] i j h l m = absurd (omega arith)
@@ -32,9 +29,6 @@ ascends-not xs i j e l m = false_from_ne_true (ascends xs) (λ h. let up : get_o
 -- the numbers below a place, each below the next
 abbrev pub RiseTo : List ℕ → ℕ → Type 0
 RiseTo xs n = (i : ℕ) → suc i < n → get_or xs i 0 < get_or xs (suc i) 0
-
-pub rise-none : (xs : List ℕ) → RiseTo xs 1
-rise-none xs i l = absurd (omega arith)
 
 pub rise-more : (xs : List ℕ) (n k : ℕ) → RiseTo xs n → n ≡ k + 1 → get_or xs k 0 < get_or xs n 0 → RiseTo xs (n + 1)
 rise-more xs n k h e l i m = go (cases_lt (suc i) n)

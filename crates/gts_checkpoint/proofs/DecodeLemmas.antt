@@ -2,18 +2,11 @@
 use Rattle.std.proofs.Common.{◌≡◌, ℕ, ◌+◌, ◌-◌, ◌*◌, ◌^◌, ◌<◌, false, List, [], ◌∷◌, ◌++◌, length, Option, None, sym, ap, subst, ◌∙◌, arith, length-append}
 use Rattle.std.proofs.lemmas.Bool.{false≢true}
 use Rattle.std.proofs.lemmas.List.{append-nil}
-use Rattle.gts_directory.specs.Directory.{Directory}
-use Rattle.gts_event.specs.Need as needs
-use Rattle.gts_event.specs.Need.{is_sound}
-use Rattle.gts_event.specs.Items.{need_of}
+use Rattle.gts_checkpoint.specs.Cited.{BeginsWith, CanBegin, Directory, FindsText, FitsNeed, IsCheckpoint, Version, bytes_from, checkpoint_text, draw_size, first_of, is_sound, laid, need_of, seal_size}
 use Rattle.gts_event.specs.declared.values.Need.{Need}
+use Rattle.gts_event.specs.Need as needs
 use Rattle.gts_event.proofs.LawLemmas.{sound-parts}
-use Rattle.gts_record.specs.declared.version.Version.{Version}
-use Rattle.gts_record.specs.Format.{seal_size, draw_size}
-use Rattle.gts_opening.specs.Journal.{checkpoint_text, FitsNeed}
 use Rattle.gts_opening.proofs.FileLemmas.{fits-sound}
-use Rattle.gts_checkpoint.specs.Reading.{bytes_from, BeginsWith, CanBegin, FindsText, first_of}
-use Rattle.gts_checkpoint.specs.Loose.{laid, IsCheckpoint}
 use Rattle.gts_checkpoint.proofs.LooseLemmas.{behind-in_front}
 use Rattle.gts_checkpoint.proofs.ReadLemmas.{Stands, Counted, need_read, fit_bodies, over_limit}
 

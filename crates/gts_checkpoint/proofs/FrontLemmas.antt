@@ -1,20 +1,15 @@
 -- A checkpoint as it is read: its first bytes, its bulletins and its circuits.
 use Rattle.std.proofs.Common.{◌≡◌, ℕ, zero, suc, ◌+◌, ◌^◌, ◌<◌, ◌≤◌, List, [], ◌∷◌, ◌++◌, length, map, take, drop, flat_map, refl, sym, ap, ◌∙◌, arith, take-append-drop, append_assoc}
-use Rattle.std.specs.List.{AllByRecursion}
+use Rattle.gts_checkpoint.specs.Cited.{AllByRecursion, BeginsWith, Bulletin, FitBodies, FitsBulletin, FitsCircuit, FitsNeed, FitsValue, FitsValueCircuit, bulletin_of, bulletin_text, bytes_of, checkpoint_text, circuit_need_of, circuit_text, head_text, need_of, number_in, unowed, unowed_circuit, written_bulletin, written_circuit}
+use Rattle.gts_event.specs.declared.values.Need.{Need}
 use Rattle.std.proofs.lemmas.List.{length-map}
-use Rattle.gts_event.specs.State.{Bulletin}
 use Rattle.gts_event.specs.Need as needs
-use Rattle.gts_event.specs.Items.{bulletin_of, circuit_need_of, need_of}
 use Rattle.gts_event.specs.declared.values.Bulletin as values
 use Rattle.gts_event.specs.declared.values.CircuitNeed as value_circuit
-use Rattle.gts_event.specs.declared.values.Need.{Need}
-use Rattle.gts_record.specs.Record.{bytes_of, number_in}
 use Rattle.gts_record.proofs.LawLemmas.{number_in-bytes_of}
-use Rattle.gts_opening.specs.Journal.{bulletin_text, circuit_text, checkpoint_text, unowed, unowed_circuit, FitsBulletin, FitsCircuit, FitsNeed}
-use Rattle.gts_checkpoint.specs.Writing.{head_text, written_bulletin, written_circuit}
-use Rattle.gts_checkpoint.specs.Reading.{BeginsWith, FitBodies, FitsValue, FitsValueCircuit}
-use Rattle.gts_checkpoint.proofs.PieceLemmas.{cancel_front, same_bulletin, fits_value}
+use Rattle.gts_checkpoint.proofs.PieceLemmas.{same_bulletin, fits_value}
 use Rattle.gts_checkpoint.proofs.NeedLemmas.{need_text, need_size}
+use Rattle.gts_frame.proofs.LawLemmas.{same_parts}
 
 take_whole : (n : ℕ) (xs : List ℕ) → length xs ≡ n → take n xs ≡ xs
 take_whole zero [] long = refl
@@ -55,11 +50,11 @@ same_front bytes head rest circuits accepted bulletins m stands is low high fits
     let cs : List ℕ = flat_map circuit_text m.circuits in
     let split : (h ++ bs ++ cs) ++ begins.0 ≡ h ++ (bs ++ (cs ++ begins.0)) =
     append_assoc (h ++ bs) cs begins.0 ∙ append_assoc h bs (cs ++ begins.0) in
-    let both = cancel_front head h rest (bs ++ (cs ++ begins.0)) (ap (λ (l : List ℕ). length l) is) (sym stands ∙ begins.1 ∙ split) in
+    let both = same_parts head h rest (bs ++ (cs ++ begins.0)) (ap (λ (l : List ℕ). length l) is) (sym stands ∙ begins.1 ∙ split) in
     let heads : head_text circuits accepted bulletins ≡ h = sym is ∙ both.0 in
-    let four = cancel_front (67 ∷ 0 ∷ 0 ∷ 0 ∷ bytes_of 4 circuits) (67 ∷ 0 ∷ 0 ∷ 0 ∷ bytes_of 4 k) (bytes_of 8 accepted ++ bytes_of 4 bulletins) (bytes_of 8 m.accepted ++ bytes_of 4 n) refl heads in
-    let c = cancel_front (67 ∷ 0 ∷ 0 ∷ 0 ∷ []) (67 ∷ 0 ∷ 0 ∷ 0 ∷ []) (bytes_of 4 circuits) (bytes_of 4 k) refl four.0 in
-    let b = cancel_front (bytes_of 8 accepted) (bytes_of 8 m.accepted) (bytes_of 4 bulletins) (bytes_of 4 n) refl four.1 in
+    let four = same_parts (67 ∷ 0 ∷ 0 ∷ 0 ∷ bytes_of 4 circuits) (67 ∷ 0 ∷ 0 ∷ 0 ∷ bytes_of 4 k) (bytes_of 8 accepted ++ bytes_of 4 bulletins) (bytes_of 8 m.accepted ++ bytes_of 4 n) refl heads in
+    let c = same_parts (67 ∷ 0 ∷ 0 ∷ 0 ∷ []) (67 ∷ 0 ∷ 0 ∷ 0 ∷ []) (bytes_of 4 circuits) (bytes_of 4 k) refl four.0 in
+    let b = same_parts (bytes_of 8 accepted) (bytes_of 8 m.accepted) (bytes_of 4 bulletins) (bytes_of 4 n) refl four.1 in
     record {
       circuits_are = same_number 4 circuits k (omega (arith, low)) fits.few_circuits c.1;
       bulletins_are = same_number 4 bulletins n (omega (arith, high)) fits.few_bulletins b.1;
@@ -75,13 +70,7 @@ no_front bytes head m stands long none begins =
     let cs : List ℕ = flat_map circuit_text m.circuits in
     let split : (h ++ bs ++ cs) ++ begins.0 ≡ h ++ (bs ++ (cs ++ begins.0)) = append_assoc (h ++ bs) cs begins.0 ∙ append_assoc h bs (cs ++ begins.0) in
     none (length m.circuits) m.accepted (length m.bulletins)
-    (cancel_front head h stands.0 (bs ++ (cs ++ begins.0)) long (sym stands.1 ∙ begins.1 ∙ split)).0
-
--- it is for as many circuits as its front says
-pub other_count : (bytes head : List ℕ) (circuits accepted bulletins count : ℕ) (m : needs.Need) → BeginsWith bytes head → head ≡ head_text circuits accepted bulletins → circuits < 2 ^ 32 → bulletins < 2 ^ 32
-    → (circuits ≡ count → ⊥) → FitsNeed m → length m.circuits ≡ count → BeginsWith bytes (checkpoint_text m) → ⊥
-other_count bytes head circuits accepted bulletins count m stands is low high other fits size begins =
-    other ((same_front bytes head stands.0 circuits accepted bulletins m stands.1 is low high fits begins).circuits_are ∙ size)
+    (same_parts head h stands.0 (bs ++ (cs ++ begins.0)) long (sym stands.1 ∙ begins.1 ∙ split)).0
 
 -- without bulletins behind the front there is none
 pub no_bulletins : (bytes head : List ℕ) (circuits accepted bulletins : ℕ) (m : needs.Need) → (stands : BeginsWith bytes head) → head ≡ head_text circuits accepted bulletins → circuits < 2 ^ 32 → bulletins < 2 ^ 32
@@ -101,7 +90,7 @@ same_bulletins (x ∷ xs) (y ∷ ys) rest more long good fit same =
     sym (append_assoc (written_bulletin x) (flat_map written_bulletin xs) rest) ∙ same ∙ append_assoc (bulletin_text y) (flat_map bulletin_text ys) more in
     let one : written_bulletin x ≡ bulletin_text y = same_bulletin x y (flat_map written_bulletin xs ++ rest) (flat_map bulletin_text ys ++ more) good.0 fit.0 split in
     same_bulletins xs ys rest more (omega (arith, long)) good.1 fit.1
-    (cancel_front (written_bulletin x) (bulletin_text y) (flat_map written_bulletin xs ++ rest) (flat_map bulletin_text ys ++ more) (ap (λ (l : List ℕ). length l) one) split).1
+    (same_parts (written_bulletin x) (bulletin_text y) (flat_map written_bulletin xs ++ rest) (flat_map bulletin_text ys ++ more) (ap (λ (l : List ℕ). length l) one) split).1
 
 -- without circuits behind the bulletins there is none
 pub no_circuits : (bytes head : List ℕ) (circuits accepted : ℕ) (xs : List values.Bulletin) (m : needs.Need) → (stands : BeginsWith bytes head) → head ≡ head_text circuits accepted (length xs) → circuits < 2 ^ 32 → length xs < 2 ^ 32

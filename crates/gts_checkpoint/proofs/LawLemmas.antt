@@ -1,12 +1,8 @@
 -- What the proofs of crates above need of a checkpoint.
 use Rattle.std.proofs.Common.{◌≡◌, ℕ, ◌<◌, ◌≤◌, nat_lt, true, List, [], ◌∷◌, length, arith}
-use Rattle.std.specs.List.{list_all, AllByRecursion}
+use Rattle.gts_checkpoint.specs.Cited.{AllByRecursion, Bulletin, Directory, FitBytes, FitsByte, Need, is_bulletin, is_sound, list_all}
 use Rattle.std.proofs.lemmas.Bool.Decides.{nat_tests}
-use Rattle.gts_directory.specs.Directory.{Directory}
-use Rattle.gts_event.specs.State.{Bulletin}
-use Rattle.gts_event.specs.Need.{Need, is_sound, is_bulletin}
 use Rattle.gts_event.proofs.LawLemmas.{sound-parts}
-use Rattle.gts_checkpoint.specs.Writing.{FitsByte, FitBytes}
 pub use Rattle.gts_checkpoint.proofs.SealLemmas.{starts_front}
 
 -- each bulletin of a sound need came in on a circuit

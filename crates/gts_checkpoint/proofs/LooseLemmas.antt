@@ -2,8 +2,7 @@
 use Rattle.std.proofs.Common.{◌≡◌, ℕ, zero, suc, ◌+◌, ◌-◌, ◌≤◌, min, List, [], ◌∷◌, ◌++◌, length, take, drop, refl, sym, ap, ◌∙◌, arith, length-append}
 use Rattle.std.proofs.Math.Seq.{drop-nil, drop-append-add}
 use Rattle.std.proofs.lemmas.List.{append-nil, take_at, length-take}
-use Rattle.gts_traits.specs.Station.{seen}
-use Rattle.gts_checkpoint.specs.Loose.{in_front, laid}
+use Rattle.gts_checkpoint.specs.Cited.{in_front, laid, seen}
 
 pub length-in_front : length in_front ≡ 41
 unfolding in_front

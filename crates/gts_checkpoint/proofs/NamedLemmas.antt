@@ -1,19 +1,11 @@
 -- Positions that are found, and lists of which each element passes a test.
-use Rattle.std.proofs.Common.{◌≡◌, ℕ, zero, suc, ◌+◌, ◌-◌, ◌<◌, ◌≤◌, Bool, true, false, ◌||◌, ◌==◌, List, [], ◌∷◌, length, get_or, take, slice_get, Option, Some, None, ◌⊎◌, inl, inr, refl, sym, ap, ◌∙◌, arith}
-use Rattle.std.specs.Prelude.{IfSome, IfNone, is_some}
-use Rattle.std.specs.List.{list_all, range_with_len}
-use Rattle.std.proofs.lemmas.Bool.{and_from, eq-eqb, cases_lt}
+use Rattle.std.proofs.Common.{◌≡◌, ℕ, zero, suc, ◌<◌, ◌≤◌, Bool, true, false, ◌||◌, ◌==◌, List, [], ◌∷◌, length, get_or, take, slice_get, Option, Some, None, refl, sym, ap, ◌∙◌, IfSome, IfNone, is_some}
+use Rattle.gts_checkpoint.specs.Cited.{Bulletin, has, is_there, list_all, positions_of}
+use Rattle.std.proofs.lemmas.Bool.{eq-eqb}
 use Rattle.std.proofs.lemmas.List.{take_all}
-use Rattle.std.proofs.lemmas.List.Folds.{list_all_more, list_all_at}
-use Rattle.std.proofs.lemmas.List.FromFn.{length-range_with_len, get_or-range_with_len}
-use Rattle.gts_event.specs.State.{Bulletin, has}
-use Rattle.gts_event.specs.Need.{is_there, positions_of}
+use Rattle.std.proofs.lemmas.List.Folds.{list_all_at}
 
 -- ---- each element passes
-
-pub all-more : {X : Type 0} (f : X → Bool) (xs : List X) (i : ℕ) (x : X) → i < length xs → x ≡ get_or xs i x
-    → list_all f (take i xs) ≡ true → f x ≡ true → list_all f (take (i + 1) xs) ≡ true
-all-more f xs i x l is h e = list_all_more f xs i x l ∙ and_from (list_all f (take i xs)) (f (get_or xs i x)) h (sym (ap f is) ∙ e)
 
 pub all-not : {X : Type 0} (f : X → Bool) (xs : List X) (i : ℕ) (x : X) → i < length xs → x ≡ get_or xs i x → f x ≡ false → list_all f xs ≡ false
 all-not f xs i x l is e = list_all_at f xs i x l (sym (ap f is) ∙ e)
@@ -22,11 +14,6 @@ pub all-end : {X : Type 0} (f : X → Bool) (xs : List X) (i : ℕ) → length x
 all-end f xs i l h = sym (ap (list_all f) (take_all i xs l)) ∙ h
 
 -- ---- what is found at a place
-
-pub get-bounds : (xs : List ℕ) (i n : ℕ) → slice_get xs i ≡ Some n → (i < length xs) × (get_or xs i 0 ≡ n)
-get-bounds [] i n e = absurd (cc)
-get-bounds (x ∷ xs) zero n e = (omega arith, cc)
-get-bounds (x ∷ xs) (suc i) n e = let more = get-bounds xs i n e in (omega arith, more.1)
 
 has-get : (xs : List ℕ) (i n : ℕ) → slice_get xs i ≡ Some n → has xs n ≡ true
 has-get [] i n e = absurd (cc)

@@ -1,21 +1,15 @@
 -- A need as it is written.
 use Rattle.std.proofs.Common.{◌≡◌, ℕ, ◌+◌, ◌*◌, ◌^◌, ◌<◌, ◌≤◌, List, [], ◌∷◌, ◌++◌, Bool, cond, take, length, map, flat_map, refl, sym, ap, subst, ◌∙◌, append_assoc, length-append, arith}
-use Rattle.std.specs.List.{AllByRecursion}
-use Rattle.std.proofs.lemmas.List.{append-nil, length-map}
-use Rattle.std.proofs.lemmas.Bool.{eq-eqb}
-use Rattle.gts_traits.specs.Station.{Cuts, Syncs, Writes, Call, Did, overwritten, seen, IsSynced}
-use Rattle.gts_event.specs.Need as needs
-use Rattle.gts_event.specs.Items.{bulletin_of, circuit_need_of, need_of}
+use Rattle.gts_checkpoint.specs.Cited.{AllByRecursion, Call, CanPutBulletin, CanPutCircuit, Cuts, Did, FitsByte, HasWritten, IsSynced, Pen, Syncs, Writes, bulletin_head, bulletin_of, bulletin_text, bytes_of, checkpoint_file, checkpoint_text, circuit_need_of, circuit_text, closed_gate, head_text, header_text, magic, need_of, open_gate, overwritten, put_by, sealed_need, seen, written, written_bulletin, written_circuit}
 use Rattle.gts_event.specs.declared.values.Bulletin.{Bulletin}
 use Rattle.gts_event.specs.declared.values.CircuitNeed.{CircuitNeed}
 use Rattle.gts_event.specs.declared.values.Need.{Need}
-use Rattle.gts_record.specs.Record.{open_gate, closed_gate, bytes_of}
-use Rattle.gts_record.specs.Format.{magic, written}
-use Rattle.gts_opening.specs.Journal.{bulletin_text, circuit_text, checkpoint_text}
-use Rattle.gts_checkpoint.specs.Writing.{FitsByte, CanPutBulletin, CanPutCircuit, head_text, bulletin_head, written_bulletin, written_circuit, header_text, sealed_need, checkpoint_file, HasWritten}
-use Rattle.gts_checkpoint.specs.Pen.{Pen, put_by}
+use Rattle.std.proofs.lemmas.List.{append-nil, length-map}
+use Rattle.std.proofs.lemmas.Bool.{eq-eqb}
+use Rattle.gts_event.specs.Need as needs
 use Rattle.gts_checkpoint.proofs.PenLemmas.{written_end}
-use Rattle.gts_checkpoint.proofs.PieceLemmas.{head_long, numbers_long}
+use Rattle.gts_checkpoint.proofs.PieceLemmas.{head_long}
+use Rattle.gts_opening.proofs.LawLemmas.{length-numbers}
 
 flat_of : {A B : Type 0} (f : B → List ℕ) (g : A → B) (xs : List A) → flat_map (λ x. f (g x)) xs ≡ flat_map f (map g xs)
 flat_of f g [] = refl
@@ -42,7 +36,7 @@ body_within b =
 pub lists_within : (c : CircuitNeed) → 16 + 8 * (length c.waiting + length c.kept) ≡ length (written_circuit c)
 lists_within c =
     let t : List ℕ = flat_map (bytes_of 8) (c.waiting ++ c.kept) in
-    let e : 16 + 8 * (length c.waiting + length c.kept) ≡ 16 + length t = omega (arith, numbers_long (c.waiting ++ c.kept), length-append c.waiting c.kept) in
+    let e : 16 + 8 * (length c.waiting + length c.kept) ≡ 16 + length t = omega (arith, length-numbers (c.waiting ++ c.kept), length-append c.waiting c.kept) in
     let f : 16 + length t ≡ length (written_circuit c) = omega arith in e ∙ f
 
 pub many_bulletins : (bs : List Bulletin) → 16 * length bs ≤ length (flat_map written_bulletin bs)

@@ -1,39 +1,9 @@
 -- How pieces are put one behind the other.
-use Rattle.std.proofs.Common.{◌≡◌, ℕ, zero, suc, ◌+◌, ◌<◌, ◌≤◌, get_or, List, [], ◌∷◌, ◌++◌, length, take, drop, refl, sym, ap, subst, ◌∙◌, append_assoc, length-append, arith}
-use Rattle.std.specs.Prelude.{Result, Ok, Err, OnOk}
-use Rattle.std.specs.List.{flat_map}
+use Rattle.std.proofs.Common.{◌≡◌, ℕ, zero, suc, ◌+◌, ◌<◌, ◌≤◌, get_or, List, [], ◌∷◌, ◌++◌, length, take, drop, refl, sym, ap, subst, ◌∙◌, append_assoc, length-append, arith, Result, Ok, Err, OnOk}
+use Rattle.gts_checkpoint.specs.Cited.{Call, HasPut, Pen, Seals, Stands, count_of, flat_map, overwritten, put_by, seen}
 use Rattle.std.proofs.lemmas.List.{append-nil, take_more}
 use Rattle.std.proofs.lemmas.List.Concat.{flat_map-append}
 use Rattle.std.proofs.lemmas.List.Folds.{length-flat_map-take}
-use Rattle.gts_traits.specs.Station.{Call, seen, overwritten}
-use Rattle.gts_record.specs.declared.version.Version.{Version}
-use Rattle.gts_record.specs.Sealing.{Seals}
-use Rattle.gts_checkpoint.specs.Pen.{Pen, count_of, put_by, Stands, HasPut}
-
--- nothing is put
-pub put_none : (tells : Type 0) (calls : List Call) (pen : Pen) → HasPut tells [] calls pen calls pen
-put_none tells calls pen = record {
-  file = refl;
-  count = let e : count_of pen ≡ count_of pen + 0 = omega arith in e;
-  stands = λ tell s. s;
-  text = λ tell s. sym (append-nil (put_by calls pen));
-  seals = λ v before text h. subst (Seals pen.sealer v before) (sym (append-nil text)) h;
-}
-
--- bytes are held
-pub put_held : (tells : Type 0) (bytes : List ℕ) (calls : List Call) (pen next : Pen) → next ≡ record pen { held = pen.held ++ bytes; sealer = next.sealer }
-    → ((v : Version) (before text : List ℕ) → Seals pen.sealer v before text → Seals next.sealer v before (text ++ bytes)) → HasPut tells bytes calls pen calls next
-put_held tells bytes calls pen next is seals =
-    let in_file : next.file ≡ pen.file = ap (λ (p : Pen). p.file) is in
-    let place : next.place ≡ pen.place = ap (λ (p : Pen). p.place) is in
-    let held : next.held ≡ pen.held ++ bytes = ap (λ (p : Pen). p.held) is in
-    record {
-      file = in_file;
-      count = let e : count_of next ≡ count_of pen + length bytes = omega (arith, place, ap (λ (l : List ℕ). length l) held, length-append pen.held bytes) in e;
-      stands = λ tell s. ap (λ (k : ℕ). length (seen calls k)) in_file ∙ s ∙ sym place;
-      text = λ tell s. ap (λ (k : ℕ). seen calls k ++ next.held) in_file ∙ ap (λ (l : List ℕ). seen calls pen.file ++ l) held ∙ sym (append_assoc (seen calls pen.file) pen.held bytes);
-      seals = seals;
-    }
 
 -- two pieces are one
 pub put_more : (tells : Type 0) (xs ys : List ℕ) (a b c : List Call) (p q r : Pen) → HasPut tells xs a p b q → HasPut tells ys b q c r → HasPut tells (xs ++ ys) a p c r
@@ -96,7 +66,3 @@ put_next f tells xs i x a b c p q r low is first second =
 pub where_done : {T E : Type 0} {P Q : Type 0} (result : Result T E) → (P → Q) → OnOk result P → OnOk result Q
 where_done (Ok x) f p = f p
 where_done (Err e) f p = tt
-
-pub where_both : {T E : Type 0} {P Q R : Type 0} (result : Result T E) → (P → Q → R) → OnOk result P → OnOk result Q → OnOk result R
-where_both (Ok x) f p q = f p q
-where_both (Err e) f p q = tt

@@ -1,29 +1,16 @@
 -- Whether a need that was read may be the first record of a journal.
-use Rattle.std.proofs.Common.{◌≡◌, ℕ, ◌+◌, ◌-◌, ◌*◌, ◌^◌, ◌<◌, ◌≤◌, Bool, true, false, ◌&&◌, nat_eq, nat_le, List, [], ◌∷◌, ◌++◌, length, map, take, drop, zip, flat_map, Result, Ok, Err, refl, sym, ap, subst, ◌∙◌, arith, length-append}
-use Rattle.std.specs.List.{fold, list_all, starts_with}
-use Rattle.std.specs.Cmp.Lexicographic.{same_text}
-use Rattle.std.specs.Prelude.{min, is_some, IfErr, IfSome, Option, None, Some}
-use Rattle.std.proofs.Math.Nat.{add-mul}
-use Rattle.std.proofs.lemmas.Bool.{false≢true, and_parts, and_from, le-leb, leb-true}
-use Rattle.std.proofs.lemmas.List.{length-map, take_at, take-append-drop}
-use Rattle.gts_traits.specs.Station.{Call}
-use Rattle.gts_directory.specs.Directory.{Directory, Circuit}
-use Rattle.gts_event.specs.State.{Bulletin, CircuitState, waiting}
-use Rattle.gts_event.specs.Need as needs
-use Rattle.gts_event.specs.Need.{circuit_need, begun, begun_circuit, is_bulletin, is_sound}
-use Rattle.gts_event.specs.Items.{circuit_need_of, need_of}
-use Rattle.gts_event.specs.declared.values.CircuitNeed as value_circuit
+use Rattle.std.proofs.Common.{◌≡◌, ℕ, ◌+◌, ◌-◌, ◌*◌, ◌^◌, ◌<◌, ◌≤◌, Bool, true, false, ◌&&◌, nat_eq, nat_le, List, [], ◌∷◌, ◌++◌, length, map, take, drop, zip, flat_map, Result, Ok, Err, sym, ap, subst, ◌∙◌, arith, length-append, min, is_some, IfErr, IfSome, Option, None, Some}
+use Rattle.gts_checkpoint.specs.Cited.{BeginsWith, Bulletin, Call, CanBegin, Circuit, CircuitState, Damaged, Directory, DiskFault, FindsText, FitBodies, FitsNeed, HasRead, IsDamage, IsReadFault, NoJournal, NoMemory, NotThis, OldVersion, OpenFault, Version, admits_checkpoint, begun, begun_circuit, bytes_from, checkpoint_text, circuit_need, circuit_need_of, compacted_bytes, draw_size, due, first_of, first_seal, fold, held, is_bulletin, is_sealed, is_sound, list_all, need_in, need_of, same_text, seal, seal_size, starts_with, unowed, waiting, waiting_of}
 use Rattle.gts_event.specs.declared.values.Need.{Need}
+use Rattle.std.proofs.Math.Nat.{add-mul}
+use Rattle.std.proofs.lemmas.Bool.{false≢true, and_parts, and_from, le-leb, leb-true, false_from_ne_true}
+use Rattle.std.proofs.lemmas.List.{length-map, take_at, take-append-drop}
+use Rattle.gts_event.specs.Need as needs
+use Rattle.gts_event.specs.declared.values.CircuitNeed as value_circuit
 use Rattle.gts_event.proofs.LawLemmas.{need-begun, sound-parts, bulletin_bounds}
 use Rattle.gts_record.proofs.LawLemmas.{starts_with-append}
-use Rattle.gts_opening.specs.Journal.{checkpoint_text, compacted_bytes, need_in, admits_checkpoint, due, unowed, FitsNeed}
 use Rattle.gts_opening.proofs.CheckpointLemmas.{need_in-text}
 use Rattle.gts_opening.proofs.FileLemmas.{fits-sound}
-use Rattle.gts_record.specs.declared.version.Version.{Version}
-use Rattle.gts_record.specs.Format.{seal, held, first_seal, seal_size, draw_size, is_sealed}
-use Rattle.gts_record.specs.declared.fault.OpenFault.{OpenFault}
-use Rattle.gts_record.specs.declared.fault.OpenFault.TheVariants.{NoJournal, OldVersion, NotThis, Damaged, DiskFault, NoMemory}
-use Rattle.gts_checkpoint.specs.Reading.{bytes_from, BeginsWith, FitBodies, HasRead, CanBegin, IsDamage, IsReadFault, FindsText, first_of, waiting_of}
 
 -- ---- what waits on circuits of which this is needed
 
@@ -78,10 +65,6 @@ may_begin v d bytes n h =
     sym (take-append-drop (length text) bytes) ∙ ap (λ (f : List ℕ). f ++ drop (length text) bytes) (sym (same_text text (take (length text) bytes) (sym h3.0))) in
     record { begins = (drop (length text) bytes, stands); stands = h3.1; sound = h2.1; room = leb-true (compacted_bytes v n + draw_size v * due (begun n)) d.limit h1.1 }
 
-not_true : (b : Bool) → (b ≡ true → ⊥) → b ≡ false
-not_true true h = absurd (h refl)
-not_true false h = refl
-
 pub fit_bodies : (d : Directory) (accepted : ℕ) (bs : List Bulletin) → accepted ≤ 2 ^ 62 → list_all (is_bulletin d accepted) bs ≡ true → FitBodies bs
 fit_bodies d accepted [] few all = tt
 fit_bodies d accepted (b ∷ bs) few all =
@@ -93,7 +76,7 @@ fit_bodies d accepted (b ∷ bs) few all =
 pub none_there : (v : Version) (d : Directory) (bytes : List ℕ) (count : ℕ) → count ≡ length d.circuits → d.limit < 256 ^ 4
     → ((m : needs.Need) → FitsNeed m → length m.circuits ≡ count → FitBodies m.bulletins → BeginsWith bytes (checkpoint_text m) → ⊥)
     → admits_checkpoint v d bytes (need_in bytes) ≡ false
-none_there v d bytes count few low none = not_true (admits_checkpoint v d bytes (need_in bytes)) (λ h.
+none_there v d bytes count few low none = false_from_ne_true (admits_checkpoint v d bytes (need_in bytes)) (λ h.
     let p = may_begin v d bytes (need_in bytes) h in
     let s = sound-parts d (need_in bytes) p.sound in
     none (need_in bytes) (fits-sound v d (need_in bytes) p.sound (omega (arith, p.room, low))) (s.same ∙ sym few) (fit_bodies d (need_in bytes).accepted (need_in bytes).bulletins s.few s.bodies) p.begins)
@@ -101,13 +84,13 @@ none_there v d bytes count few low none = not_true (admits_checkpoint v d bytes 
 -- one stands there that may not be the first record
 pub not_first : (v : Version) (d : Directory) (bytes : List ℕ) (n : needs.Need) → need_in bytes ≡ n → (is_sound d n ≡ true → compacted_bytes v n + draw_size v * due (begun n) ≤ d.limit → ⊥)
     → admits_checkpoint v d bytes (need_in bytes) ≡ false
-not_first v d bytes n is none = not_true (admits_checkpoint v d bytes (need_in bytes)) (λ h.
+not_first v d bytes n is none = false_from_ne_true (admits_checkpoint v d bytes (need_in bytes)) (λ h.
     let p = may_begin v d bytes n (ap (admits_checkpoint v d bytes) (sym is) ∙ h) in none p.sound p.room)
 
 -- one stands there without its seal
 pub not_sealed : (v : Version) (d : Directory) (bytes : List ℕ) (n : needs.Need) → need_in bytes ≡ n → is_sealed v (first_seal v d.mark) (checkpoint_text n) bytes ≡ false
     → admits_checkpoint v d bytes (need_in bytes) ≡ false
-not_sealed v d bytes n is none = not_true (admits_checkpoint v d bytes (need_in bytes)) (λ h.
+not_sealed v d bytes n is none = false_from_ne_true (admits_checkpoint v d bytes (need_in bytes)) (λ h.
     let p = may_begin v d bytes n (ap (admits_checkpoint v d bytes) (sym is) ∙ h) in absurd (cc (p.stands, none)))
 
 -- the text at the front, by its size

@@ -1,14 +1,8 @@
 -- The seal of bytes that are read piece by piece.
-use Rattle.std.proofs.Common.{◌≡◌, ℕ, ◌+◌, ◌-◌, ◌<◌, ◌≤◌, Bool, true, false, ◌&&◌, nat_eq, List, [], ◌∷◌, ◌++◌, length, take, drop, refl, sym, ap, subst, ◌∙◌, append_assoc, take-append-drop, length-append, arith}
-use Rattle.std.specs.Prelude.{Option, Some, IfSome}
-use Rattle.std.specs.List.{starts_with}
-use Rattle.std.specs.Cmp.Lexicographic.{pointwise}
+use Rattle.std.proofs.Common.{◌≡◌, ℕ, ◌+◌, ◌-◌, ◌<◌, ◌≤◌, Bool, true, false, ◌&&◌, nat_eq, List, [], ◌∷◌, ◌++◌, length, take, drop, refl, sym, ap, subst, ◌∙◌, append_assoc, take-append-drop, length-append, arith, Option, Some, IfSome}
+use Rattle.gts_checkpoint.specs.Cited.{BeginsWith, Call, Version, bytes_from, held, is_sealed, pointwise, seal, seal_size, starts_with}
 use Rattle.std.proofs.lemmas.List.{take_at, take_all, take-append-le, length-take-le}
-use Rattle.gts_traits.specs.Station.{Call}
-use Rattle.gts_record.specs.declared.version.Version.{Version}
-use Rattle.gts_record.specs.Format.{seal, held, seal_size, is_sealed}
 use Rattle.gts_record.proofs.LawLemmas.{length-seal}
-use Rattle.gts_checkpoint.specs.Reading.{bytes_from, BeginsWith}
 use Rattle.gts_checkpoint.proofs.PieceLemmas.{behind}
 
 -- what stands behind the first bytes

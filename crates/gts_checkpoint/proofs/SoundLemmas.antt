@@ -1,22 +1,14 @@
 -- Numbers that differ, what is held on circuits, and the parts of soundness.
-use Rattle.std.proofs.Common.{◌≡◌, ◌≢◌, ℕ, zero, suc, ◌+◌, ◌-◌, ◌<◌, ◌≤◌, Bool, true, false, not, ◌&&◌, ◌||◌, ◌==◌, ◌⊎◌, inl, inr, nat_lt, nat_le, List, [], ◌∷◌, ◌++◌, length, get_or, map, filter, zip, slice_get, Some, None, Result, Ok, Err, refl, sym, ap, ◌∙◌, arith}
-use Rattle.std.specs.List.{list_all}
-use Rattle.std.specs.List.Sorted.{IsNonDecreasing, IsPermutation}
+use Rattle.std.proofs.Common.{◌≡◌, ◌≢◌, ℕ, zero, suc, ◌+◌, ◌-◌, ◌<◌, ◌≤◌, Bool, true, false, not, ◌&&◌, ◌==◌, ◌⊎◌, inl, inr, nat_lt, nat_le, List, [], ◌∷◌, ◌++◌, length, get_or, map, filter, zip, slice_get, Some, None, Result, Ok, Err, refl, sym, ap, ◌∙◌, arith}
+use Rattle.gts_checkpoint.specs.Cited.{Circuit, CircuitNeed, Directory, IfOk, IsNonDecreasing, IsPermutation, Need, are_circuits_sound, ascends, circuit_need_of, has, has_counts, has_positions, is_circuit_sound, is_distinct, is_held, is_kept, is_needed, is_recent, is_there, list_all, most_owed, need_of}
 use Rattle.std.proofs.Math.Bool.{and-false, and-true}
 use Rattle.std.proofs.lemmas.Bool.{and_parts, and_from, eq-eqb, ne_eqb, eqb-true, leb-true, le-leb, false_from_ne_true, cases_lt}
 use Rattle.std.proofs.lemmas.List.Folds.{list_all-append}
 use Rattle.std.proofs.lemmas.List.Sums.{length-filter}
 use Rattle.std.proofs.lemmas.Option.{slice_get_cases, slice_get_read}
-use Rattle.std.specs.Result.{IfOk}
 use Rattle.std.proofs.lemmas.List.Sorted.{IsPermutation-sym, All-permutation, sum_by-IsPermutation, list_any-IsPermutation}
-use Rattle.gts_directory.specs.Directory.{Directory, Circuit}
-use Rattle.gts_event.specs.State.{has, is_recent}
-use Rattle.gts_event.specs.Need.{Need, CircuitNeed, ascends, is_distinct, is_needed, is_there, is_kept, has_counts, is_circuit_sound}
-use Rattle.gts_event.specs.History.{most_owed}
-use Rattle.gts_event.specs.Items.{circuit_need_of, need_of}
 use Rattle.gts_event.specs.declared.values.CircuitNeed as values
 use Rattle.gts_event.specs.declared.values.Need as value_need
-use Rattle.gts_checkpoint.specs.Sound.{has_positions, is_held, are_circuits_sound}
 use Rattle.gts_checkpoint.proofs.AscendingLemmas.{rises, ascends-from}
 
 same-tests : (a b : Bool) → (a ≡ true → b ≡ true) → (b ≡ true → a ≡ true) → a ≡ b
@@ -171,17 +163,6 @@ recent-not d count position first e l = false_from_ne_true (nat_le count (positi
 pub needed-not : (d : Directory) (count : ℕ) (cs : List CircuitNeed) (position first : ℕ) → first ≡ count - d.window → position < first → is_held cs position ≡ false
     → is_needed d count cs position ≡ false
 needed-not d count cs position first e l h = rw (recent-not d count position first e l) h
-
-pub needed-recent : (d : Directory) (count : ℕ) (cs : List CircuitNeed) (position first : ℕ) → first ≡ count - d.window → first ≤ position
-    → is_needed d count cs position ≡ true
-needed-recent d count cs position first e l = rw (le-leb count (position + d.window) (omega arith)) refl
-
-pub needed-held : (d : Directory) (count : ℕ) (cs : List CircuitNeed) (position : ℕ) → is_held cs position ≡ true → is_needed d count cs position ≡ true
-needed-held d count cs position h = go (is_recent d count position)
-  where
-    go : (b : Bool) → (b || is_held cs position) ≡ true
-    go true = refl
-    go false = h
 
 -- ---- what is owed
 

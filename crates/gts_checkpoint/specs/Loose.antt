@@ -1,11 +1,7 @@
 -- A checkpoint that stands in no file, and what it must be.
 use Rattle.std.specs.Prelude.{◌≡◌, ℕ, List, [], ◌∷◌, ◌++◌, IsTrue, replicate, refl}
 use Rattle.std.proofs.lemmas.Bool.{leb-true}
-use Rattle.gts_traits.specs.Station.{Call, Did, Writes, IsPossible}
-use Rattle.gts_directory.specs.Directory.{Directory}
-use Rattle.gts_event.specs.Need.{Need, is_sound}
-use Rattle.gts_record.specs.declared.version.Version.{Version}
-use Rattle.gts_opening.specs.Journal.{checkpoint_text, unowed, FitsLimit}
+use Rattle.gts_checkpoint.specs.Cited.Below.{Call, Did, Directory, FitsLimit, IsPossible, Need, Version, Writes, checkpoint_text, is_sound, unowed}
 
 -- as many bytes as a header and a gate have
 unfoldable pub in_front : List ℕ

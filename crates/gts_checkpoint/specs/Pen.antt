@@ -1,9 +1,6 @@
 -- A file that is written piece by piece.
 use Rattle.std.specs.Prelude.{◌≡◌, ℕ, ◌+◌, List, ◌++◌, length}
-use Rattle.gts_traits.specs.Station.{Call, seen}
-use Rattle.gts_record.specs.declared.version.Version.{Version}
-use Rattle.gts_record.specs.declared.sealer.Sealer.{Sealer}
-use Rattle.gts_record.specs.Sealing.{Seals}
+use Rattle.gts_checkpoint.specs.Cited.Below.{Call, Sealer, Seals, Version, seen}
 
 -- The file, how many bytes of it are written, the bytes that are held to be written behind them, and the seal of what was put.
 pub record Pen : Type 0 where

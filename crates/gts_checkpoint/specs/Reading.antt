@@ -1,22 +1,9 @@
 -- What is read of a checkpoint.
 use Rattle.std.specs.Prelude.{◌≡◌, ◌<◌, ◌≤◌, ◌+◌, ◌*◌, ◌^◌, ℕ, Bool, true, false, List, [], ◌++◌, length, take, drop, flat_map, Option, Some, None, IsTrue}
-use Rattle.std.specs.List.{AllByRecursion}
-use Rattle.gts_alphabet.specs.declared.limits.TheConstants.{LONGEST_BODY}
-use Rattle.gts_traits.specs.Station.{Call, seen}
-use Rattle.gts_frame.specs.declared.kind.Kind.{Kind}
-use Rattle.gts_directory.specs.Directory.{Directory}
-use Rattle.gts_event.specs.State.{Bulletin}
-use Rattle.gts_event.specs.Need.{Need, CircuitNeed, begun, is_sound}
-use Rattle.gts_event.specs.Items.{bulletin_of, circuit_need_of, need_of}
+use Rattle.gts_checkpoint.specs.Cited.Below.{AllByRecursion, Bulletin, Call, CircuitNeed, Damaged, Directory, DiskFault, FitsCircuit, FitsNeed, Kind, LONGEST_BODY, Need, NoMemory, OpenFault, Version, admits_checkpoint, begun, bulletin_of, bulletin_text, bytes_of, checkpoint_text, circuit_need_of, circuit_text, compacted_bytes, draw_size, due, first_seal, is_sealed, is_sound, need_in, need_of, seal, seen, unowed}
 use Rattle.gts_event.specs.declared.values.Bulletin as values
 use Rattle.gts_event.specs.declared.values.CircuitNeed as value_circuit
 use Rattle.gts_event.specs.declared.values.Need as value_need
-use Rattle.gts_record.specs.declared.version.Version.{Version}
-use Rattle.gts_record.specs.Record.{bytes_of}
-use Rattle.gts_record.specs.Format.{seal, first_seal, draw_size, is_sealed}
-use Rattle.gts_record.specs.declared.fault.OpenFault.{OpenFault}
-use Rattle.gts_record.specs.declared.fault.OpenFault.TheVariants.{Damaged, DiskFault, NoMemory}
-use Rattle.gts_opening.specs.Journal.{bulletin_text, circuit_text, checkpoint_text, compacted_bytes, need_in, admits_checkpoint, due, unowed, FitsCircuit, FitsNeed}
 use Rattle.gts_checkpoint.specs.Writing.{head_text, bulletin_head}
 
 -- the bytes of a file from a place on

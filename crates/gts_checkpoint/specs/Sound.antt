@@ -1,12 +1,10 @@
 -- Words for the lists of a need whose soundness is judged.
 use Rattle.std.specs.Prelude.{◌≡◌, ℕ, Bool, not, ◌&&◌, ◌||◌, List, ◌++◌, map, zip, slice_get, Some}
-use Rattle.std.specs.List.{list_any, list_all}
-use Rattle.gts_directory.specs.Directory.{Directory}
+use Rattle.gts_checkpoint.specs.Cited.Below.{CircuitNeed, Directory, Need, is_distinct, list_all, list_any, positions_of}
 pub use Rattle.gts_directory.specs.Directory.{Circuit}
 pub use Rattle.gts_message.specs.Message.{body_at}
 pub use Rattle.gts_event.specs.State.{has, heading_of}
 pub use Rattle.gts_event.specs.History.{is_request, most_owed}
-use Rattle.gts_event.specs.Need.{Need, CircuitNeed, is_distinct, positions_of}
 pub use Rattle.gts_event.specs.Need.{ascends, is_bulletin, is_there, is_needed, is_kept, has_counts, is_circuit_sound, is_sound}
 pub use Rattle.gts_event.specs.Items.{bulletin_of, circuit_need_of, need_of}
 use Rattle.gts_event.specs.declared.values.Bulletin as values

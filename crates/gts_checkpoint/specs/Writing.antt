@@ -1,19 +1,10 @@
 -- The file that a checkpoint is written to.
 use Rattle.std.specs.Prelude.{◌≡◌, ◌<◌, ◌^◌, ℕ, List, [], ◌∷◌, ◌++◌, length, take, codes}
-use Rattle.std.specs.List.{AllByRecursion}
-use Rattle.gts_traits.specs.Station.{Call, seen, IsSynced}
-use Rattle.gts_frame.specs.declared.kind.Kind.{Kind}
-use Rattle.gts_frame.specs.Frame.{letters}
-use Rattle.gts_event.specs.State.{Bulletin}
+use Rattle.gts_checkpoint.specs.Cited.Below.{AllByRecursion, Bulletin, Call, IsSynced, Kind, Need, bulletin_of, bulletin_text, circuit_need_of, circuit_text, file_text, letters, magic, open_gate, seen}
 use Rattle.gts_event.specs.declared.values.Bulletin as values
 use Rattle.gts_event.specs.declared.values.CircuitNeed as value_circuit
-use Rattle.gts_event.specs.Items.{bulletin_of, circuit_need_of}
-use Rattle.gts_event.specs.Need.{Need}
-use Rattle.gts_record.specs.Record.{open_gate}
 pub use Rattle.gts_record.specs.Record.{closed_gate, bytes_of}
-use Rattle.gts_record.specs.Format.{magic, file_text}
 pub use Rattle.gts_record.specs.Format.{seal, sealed, first_seal, held, written}
-use Rattle.gts_opening.specs.Journal.{bulletin_text, circuit_text}
 pub use Rattle.gts_opening.specs.Journal.{checkpoint_text, compacted_bytes}
 
 -- The file that is written (profile), a journal of the version that is written: its magic and this mark, an open gate, the

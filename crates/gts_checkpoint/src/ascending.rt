@@ -1,10 +1,7 @@
 //! Numbers in ascending order, and what is found among them by bisection.
 
 ghost use Rattle.std.specs.Prelude.{◌≡◌, length, true, false, IfOk, IfSome, IfNone, slice_get, Some};
-ghost use Rattle.std.specs.List.Sorted.{IsNonDecreasing, IsPermutation};
-ghost use Rattle.gts_event.specs.State.{has};
-ghost use Rattle.gts_event.specs.Need.{ascends};
-ghost use Rattle.gts_checkpoint.specs.Sound.{positions};
+ghost use Rattle.gts_checkpoint.specs.Cited.{IsNonDecreasing, IsPermutation, ascends, has, positions};
 
 use gts_alphabet::NoMemory;
 use gts_event::Bulletin;

@@ -1,9 +1,8 @@
 //! Whether the bulletins of a need are those of a history, and which positions have theirs.
 
 ghost use Rattle.std.specs.Prelude.{◌≡◌, ◌&&◌, map, not, is_ok, true};
-ghost use Rattle.std.specs.List.{list_all};
+ghost use Rattle.gts_checkpoint.specs.Cited.{ascends, body_at, bulletin_of, heading_of, list_all, positions};
 ghost use Rattle.gts_checkpoint.specs.Sound as definitions;
-ghost use Rattle.gts_checkpoint.specs.Sound.{positions, body_at, heading_of, ascends, bulletin_of};
 
 use crate::ascending::place_of;
 use gts_alphabet::LONGEST_BODY;

@@ -1,9 +1,6 @@
 //! A checkpoint that stands in no file.
 ghost use Rattle.std.specs.Prelude.{◌≡◌, IfOk, IfSome, IfNone};
-ghost use Rattle.gts_event.specs.Items.{need_of};
-ghost use Rattle.gts_event.specs.Need.{Need as NeedOf};
-ghost use Rattle.gts_record.specs.Format.{written};
-ghost use Rattle.gts_checkpoint.specs.Loose.{IsCheckpoint};
+ghost use Rattle.gts_checkpoint.specs.Cited.{IsCheckpoint, Need as NeedOf, need_of, written};
 
 use crate::loose::Loose;
 use crate::reading::{FIRST_RECORD, gate_behind, need_at, waiting};

@@ -1,7 +1,6 @@
 //! A station that has the bytes of a checkpoint, so that they are read as those of a file.
 ghost use Rattle.std.specs.Prelude.{◌≡◌, false, IsErr};
-ghost use Rattle.gts_traits.specs.{HasCause};
-ghost use Rattle.gts_checkpoint.specs.Loose.{laid, laid_is_possible};
+ghost use Rattle.gts_checkpoint.specs.Cited.{HasCause, laid, laid_is_possible};
 
 use gts_traits::{Failed, Station};
 

@@ -1,10 +1,5 @@
 ghost use Rattle.std.specs.Prelude.{◌≡◌, ◌+◌, ◌-◌, ◌^◌, ◌<◌, ◌≤◌, ℕ, List, [], ◌++◌, length, drop, take, vec_len, IfOk, OnOk};
-ghost use Rattle.gts_traits.specs.{HasCause};
-ghost use Rattle.gts_record.specs.declared.version.Version.{Version as VersionOf};
-ghost use Rattle.gts_record.specs.Format.{seal, held};
-ghost use Rattle.gts_record.specs.Sealing.{Seals};
-ghost use Rattle.gts_checkpoint.specs.Alone.{OnlyOn};
-ghost use Rattle.gts_checkpoint.specs.Pen.{Stands, HasPut, count_of, holding};
+ghost use Rattle.gts_checkpoint.specs.Cited.{HasCause, HasPut, OnlyOn, Seals, Stands, Version as VersionOf, count_of, held, holding, seal};
 
 use gts_record::{Sealer, Version};
 use gts_traits::{Failed, Station};

@@ -1,10 +1,6 @@
 //! The pieces of a checkpoint, read from a place of a file on.
 ghost use Rattle.std.specs.Prelude.{◌≡◌, ◌+◌, ◌*◌, ◌^◌, ◌<◌, ◌≤◌, true, false, length, IfOk, IfErr, IfSome, IfNone, IsSome, Ok, IsErrOf, vec_len};
-ghost use Rattle.gts_alphabet.specs.declared.limits.TheConstants.{LONGEST_BODY as longest_body};
-ghost use Rattle.gts_traits.specs.{HasCause, Rose};
-ghost use Rattle.gts_record.specs.Record.{kind_of};
-ghost use Rattle.gts_checkpoint.specs.Writing.{bulletin_head, circuit_head};
-ghost use Rattle.gts_checkpoint.specs.Reading.{bytes_from, BeginsWith, IsNoHead, FindsBytes, FindsNumbers, FindsBulletin, FindsCircuit, ArePlaces, FitsValueCircuit, IsReadFault};
+ghost use Rattle.gts_checkpoint.specs.Cited.{ArePlaces, BeginsWith, FindsBulletin, FindsBytes, FindsCircuit, FindsNumbers, FitsValueCircuit, HasCause, IsNoHead, IsReadFault, LONGEST_BODY as longest_body, Rose, bulletin_head, bytes_from, circuit_head, kind_of};
 
 use crate::numbers::{number_in_eight, number_in_four};
 use gts_alphabet::LONGEST_BODY;

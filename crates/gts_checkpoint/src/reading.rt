@@ -1,10 +1,6 @@
 ghost use Rattle.std.specs.Prelude.{◌≡◌, ◌+◌, ◌-◌, ◌*◌, ◌<◌, ◌≤◌, ◌^◌, length, take, flat_map, is_some, min, IsSome, IfOk, IfErr, IfSome, IfNone, IsErrOf};
-ghost use Rattle.gts_traits.specs.{HasCause, Rose};
+ghost use Rattle.gts_checkpoint.specs.Cited.{CanBegin, FindsText, FitsNeed, HasCause, HasRead, IsDamage, IsNoFront, IsReadFault, Rose, bytes_from, checkpoint_text, draw_size, first_of, head_text, held, is_sealed_front, seal, seal_size, unowed, waiting_of};
 ghost use Rattle.gts_event.specs.Items as items;
-ghost use Rattle.gts_record.specs.Format.{seal, seal_size, draw_size, held};
-ghost use Rattle.gts_opening.specs.Journal.{checkpoint_text, FitsNeed, unowed};
-ghost use Rattle.gts_checkpoint.specs.Writing.{head_text};
-ghost use Rattle.gts_checkpoint.specs.Reading.{bytes_from, HasRead, CanBegin, IsDamage, IsNoFront, FindsText, IsReadFault, is_sealed_front, first_of, waiting_of};
 
 use crate::lists::{bulletins_at, circuits_at};
 use crate::numbers::{number_in_eight, number_in_four};

@@ -1,7 +1,6 @@
 ghost use Rattle.std.specs.Prelude.{◌≡◌, ◌-◌, ◌^◌, length, flat_map, min};
 ghost use Rattle.gts_event.specs.Items as items;
-ghost use Rattle.gts_opening.specs.Journal.{checkpoint_text};
-ghost use Rattle.gts_checkpoint.specs.Writing.{written_bulletin, written_circuit};
+ghost use Rattle.gts_checkpoint.specs.Cited.{checkpoint_text, written_bulletin, written_circuit};
 
 use gts_event::{Bulletin, CircuitNeed, Need};
 

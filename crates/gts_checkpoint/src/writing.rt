@@ -1,11 +1,6 @@
 ghost use Rattle.std.specs.Prelude.{◌≡◌, ◌+◌, ◌^◌, ◌<◌, ◌≤◌, [], ◌∷◌, ◌++◌, length, flat_map, IfOk, OnOk, IsErrOf};
-ghost use Rattle.std.specs.List.{AllByRecursion};
-ghost use Rattle.gts_traits.specs.{HasCause, Rose, seen};
-ghost use Rattle.gts_record.specs.Sealing.{Seals};
+ghost use Rattle.gts_checkpoint.specs.Cited.{AllByRecursion, CanPutBulletin, CanPutCircuit, FitBytes, HasCause, HasPut, HasWritten, OnlyOn, Rose, Seals, Stands, WorksBeside, bulletin_head, bytes_of, checkpoint_text, circuit_head, closed_gate, compacted_bytes, count_of, first_seal, head_text, header_text, held, letter_text, need_seal, seal, sealed, seen, written, written_bulletin, written_circuit};
 ghost use Rattle.gts_event.specs.Items as items;
-ghost use Rattle.gts_checkpoint.specs.Alone.{OnlyOn, WorksBeside};
-ghost use Rattle.gts_checkpoint.specs.Pen.{Stands, HasPut, count_of};
-ghost use Rattle.gts_checkpoint.specs.Writing.{seal, sealed, first_seal, held, written, closed_gate, bytes_of, checkpoint_text, compacted_bytes, FitBytes, HasWritten, need_seal, header_text, head_text, letter_text, bulletin_head, circuit_head, written_bulletin, written_circuit, CanPutBulletin, CanPutCircuit};
 
 use crate::fault::WriteFault;
 use crate::numbers::{eight_bytes, four_bytes};

@@ -1,33 +1,11 @@
 -- The desk of a sender's tests.
-use Rattle.std.proofs.Common.{◌≡◌, ℕ, zero, suc, ◌+◌, ◌<◌, arith, true, false, List, [], ◌∷◌, ◌++◌, length, drop, Ok, Err, inr, refl, sym, ap, ◌∙◌, subst, add-one}
-use Rattle.std.proofs.lemmas.List.{append-nil, map-append, drop_all}
-use Rattle.gts_frame.specs.Frame.{frame}
-use Rattle.gts_frame.specs.declared.kind.Kind.TheVariants.{An}
-use Rattle.gts_alphabet.specs.Digits.{dec}
-use Rattle.gts_alphabet.specs.Message.{message_of}
-use Rattle.gts_event.specs.State.{State}
-use Rattle.gts_event.specs.Need.{begun}
-use Rattle.gts_event.specs.History.{after, after_all, outcome}
-use Rattle.gts_event.specs.Drain.{all_done}
-use Rattle.gts_event.specs.declared.event.Event.{Event}
-use Rattle.gts_event.specs.declared.event.Event.TheVariants.{Heard, Lost, Taken}
-use Rattle.gts_event.specs.declared.fault.SwitchFault.TheVariants.{Spent}
-use Rattle.gts_frame.specs.Decoder.{signs_of_step}
-use Rattle.gts_frame.specs.declared.step.Step.{Step}
+use Rattle.std.proofs.Common.{◌≡◌, ℕ, zero, suc, ◌+◌, ◌<◌, arith, true, false, List, [], ◌∷◌, ◌++◌, Ok, Err, refl, sym, ap, ◌∙◌, subst, add-one}
+use Rattle.std.proofs.lemmas.List.{append-nil, map-append}
+use Rattle.gts_circuit_tests.specs.Cited.{An, Done, Entry, Event, Feeds, Frame, HasCauses, Heard, IsCaused, IsSpent, Lost, Nothing, Seen, Spent, State, Step, Taken, TakesSome, after, after_all, begun, dec, events_of_signs, frame, history_of, is_event, message_of, one_circuit, one_owed, outcome, seen_by, signs_of_step, state_at, taken}
 use Rattle.gts_frame.specs.declared.step.Step.TheVariants as steps
-use Rattle.gts_connection.specs.Connection.{connection, events_added}
-use Rattle.gts_connection.specs.Steps.{events_of_signs}
-use Rattle.gts_feed.specs.Reading.{is_event}
 use Rattle.gts_feed.specs.declared.fed.FeedEnd.TheVariants as ends
-use Rattle.gts_event.specs.declared.event.Entry.{Entry}
-use Rattle.gts_event.specs.declared.event.Entry.TheVariants.{Done}
-use Rattle.gts_event.specs.declared.outcome.Outcome.TheVariants.{Nothing}
-use Rattle.gts_opening.specs.Room.{IsCaused}
 use Rattle.gts_opening.proofs.LawLemmas.{caused-nothing, caused-entry}
 use Rattle.gts_desk.specs.{entries}
-use Rattle.gts_desk.specs.Desks.{Seen, IsSpent, Feeds, history_of, state_at, HasCauses}
-use Rattle.gts_desk.specs.Given.{Frame, TakesSome}
-use Rattle.gts_circuit_tests.specs.OwedDesk.{one_circuit, one_owed, taken, seen_by}
 
 pub spent : (count : ℕ) → IsSpent (seen_by count) (seen_by count)
 spent count = record { is = refl }
@@ -40,22 +18,6 @@ feeds count c events (steps.Lost field) message are is = ((Lost c field, are), s
 feeds count c events steps.More message are is = absurd (cc is)
 feeds count c events steps.KeepAlive message are is = absurd (cc is)
 feeds count c events steps.Dropped message are is = absurd (cc is)
-
--- and bytes that end neither add nothing
-pub passes : (count c : ℕ) (events : List Event) (step : Step) (message : List ℕ) → events ≡ events_of_signs c (signs_of_step step message) → is_event step ≡ false
-    → Feeds c events message ends.All (seen_by count) (seen_by count)
-passes count c events (steps.Frame kind) message are is = absurd (cc is)
-passes count c events (steps.Lost field) message are is = absurd (cc is)
-passes count c events steps.More message are is = ([], ap all_done (sym are), inr (refl, refl))
-passes count c events steps.KeepAlive message are is = ([], ap all_done (sym are), inr (refl, refl))
-passes count c events steps.Dropped message are is = ([], ap all_done (sym are), inr (refl, refl))
-
--- no bytes end neither
-pub passes_none : (count c : ℕ) (before message : List ℕ) → Feeds c (events_added c before []) message ends.All (seen_by count) (seen_by count)
-passes_none count c before message =
-    let none : events_added c before [] ≡ [] =
-    ap (λ (l : List ℕ). drop (length (connection c before)) (connection c l)) (append-nil before) ∙ drop_all (length (connection c before)) (connection c before) (omega arith) in
-    ([], ap all_done (sym none), inr (refl, refl))
 
 more : (n : ℕ) → taken (suc n) ≡ taken n ++ (0, Done (Taken 0)) ∷ []
 more zero = refl

@@ -1,1 +1,2 @@
 pub mod OwedDesk
+pub mod Cited

@@ -1,13 +1,7 @@
 -- What the desk of a sender's tests has seen: its only circuit is owed its last draw, of a bulletin with an empty body, and it was
 -- asked for takes alone.
 use Rattle.std.specs.Prelude.{ℕ, true, false, List, [], ◌∷◌, None, replicate}
-use Rattle.gts_frame.specs.declared.kind.Kind.TheVariants.{An}
-use Rattle.gts_directory.specs.Directory.{Directory, circuit_of, localhost}
-use Rattle.gts_event.specs.Need.{Need}
-use Rattle.gts_event.specs.declared.event.Event.TheVariants.{Taken}
-use Rattle.gts_event.specs.declared.event.Entry.{Entry}
-use Rattle.gts_event.specs.declared.event.Entry.TheVariants.{Done}
-use Rattle.gts_desk.specs.Desks.{Seen}
+use Rattle.gts_circuit_tests.specs.Cited.Below.{An, Directory, Done, Entry, Need, Seen, Taken, circuit_of, localhost}
 
 -- a directory with one circuit
 abbrev pub one_circuit : Directory

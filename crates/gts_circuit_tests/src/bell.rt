@@ -1,4 +1,6 @@
-use gts_bell::{Bell, Look};
+use gts_alphabet::MOST_CIRCUITS;
+use gts_bell::{Bell, Bells, Look};
+use std::process::Abort;
 use std::sync::Wait;
 use std::test::Fail;
 use std::thread;
@@ -73,5 +75,49 @@ fn who_waits_at_a_bell_goes_on_once_another_thread_closes_it(rt: HostRuntime) ->
         || ring_to_the_end(shared),
     );
     assert!(rt; rings == 100);
+    Ok(())
+}
+
+// The bells of circuit 2 and of the last one were rung so often, and no other.
+fn were_rung(rt: &impl Abort, bells: &Bells, closing: bool, rings: u64) {
+    for c in 0..MOST_CIRCUITS {
+        let rings = if c == 2 || c + 1 == MOST_CIRCUITS {
+            rings
+        } else {
+            0
+        };
+        assert!(rt;
+            bells.bell(c as u32).look() == Look { closing, rings },
+            "at {c}"
+        );
+    }
+}
+
+#[test]
+fn bells_that_are_marked_are_rung_once(rt: HostRuntime) -> Result<(), Fail> {
+    let bells = Bells::new();
+    bells.mark(2);
+    bells.mark(MOST_CIRCUITS as u32 - 1);
+    bells.mark(2);
+    were_rung(&rt, &bells, false, 0);
+    bells.ring_marked();
+    were_rung(&rt, &bells, false, 1);
+    bells.ring_marked();
+    were_rung(&rt, &bells, false, 1);
+    bells.mark(2);
+    bells.mark(MOST_CIRCUITS as u32 - 1);
+    bells.close();
+    bells.ring_marked();
+    were_rung(&rt, &bells, true, 2);
+    Ok(())
+}
+
+#[test]
+fn all_bells_are_rung(rt: HostRuntime) -> Result<(), Fail> {
+    let bells = Bells::new();
+    bells.ring_all();
+    for c in 0..MOST_CIRCUITS {
+        assert!(rt; bells.bell(c as u32).look().rings == 1, "at {c}");
+    }
     Ok(())
 }

@@ -1,7 +1,7 @@
 //! A run of two circuits over lines in memory.
 ghost use Rattle.std.specs.Prelude.{◌≡◌, ◌≤◌, []};
-ghost use Rattle.gts_receiver.specs as service;
-ghost use Rattle.gts_housed.specs.{Stands};
+ghost use Rattle.gts_receiver.specs.Service as service;
+ghost use Rattle.gts_housed.specs.Housed.{Stands};
 
 use gts_circuits::an_opened_engine_stands_for_no_entry;
 use gts_directory::Directory;

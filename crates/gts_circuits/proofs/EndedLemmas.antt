@@ -1,17 +1,6 @@
 -- What is known once all workers have come to their ends, and once the hall behind them is closed.
 use Rattle.std.proofs.Common.{◌≡◌, ◌*◌, ℕ, List, [], map, length, true, sym, ap, ◌∙◌, subst}
-use Rattle.atomic_table.specs.Seated.{TableId}
-use Rattle.gts_traits.specs.declared.source.Source.{Ghosts as SourceMeanings}
-use Rattle.gts_traits.specs.declared.sink.Sink.{Ghosts as SinkMeanings}
-use Rattle.gts_lock.specs.{Known, entries_under, AllJoined, Accounts, NamesAreJoined}
-use Rattle.gts_lock.specs.declared.limits.TheConstants.{MOST_TURNS}
-use Rattle.gts_event.specs.declared.event.Entry.{Entry}
-use Rattle.gts_housed.specs.{Beginning}
-use Rattle.gts_workers.specs.declared.line.Line.{Line}
-use Rattle.gts_workers.specs.{Work, ends}
-use Rattle.gts_circuits.specs.declared.sockets.Sockets.{Sockets}
-use Rattle.gts_circuits.specs.Staff.{works_of}
-use Rattle.gts_circuits.specs.Gathering.{AreGathered, NamesAreUpTo, Ended, LinesStand}
+use Rattle.gts_circuits.specs.Cited.{Accounts, AllJoined, AreGathered, Beginning, Ended, Entry, Ghosts as SinkMeanings, Known, Line, LinesStand, MOST_TURNS, NamesAreJoined, NamesAreUpTo, Sockets, SourceMeanings, TableId, Work, ends, entries_under, works_of}
 use Rattle.gts_circuits.proofs.StaffLemmas.{count_works, each_name, each_worker, each_ended}
 use Rattle.gts_circuits.proofs.GatheredLemmas.{all_stand, all_joined, names_up_to}
 

@@ -2,20 +2,9 @@
 use Rattle.std.proofs.Common.{◌≡◌, ℕ, ◌<◌, Bool, true, false, ◌==◌, cond, List, [], ◌∷◌, ◌++◌, length, get_or, set, refl, sym, ap, ◌∙◌, arith}
 use Rattle.std.proofs.lemmas.Bool.{eqb-true}
 use Rattle.std.proofs.lemmas.List.{append_assoc, map-append, set-set, get_or-set_same, length-set, length-map}
-use Rattle.gts_directory.specs.Directory.{Directory}
-use Rattle.gts_event.specs.State.{State}
-use Rattle.gts_event.specs.declared.event.Event.{Event}
-use Rattle.gts_event.specs.declared.event.Entry.{Entry}
-use Rattle.gts_event.specs.declared.event.Entry.TheVariants.{Done}
-use Rattle.gts_event.specs.History.{after_entry, after_all}
-use Rattle.gts_connection.specs.Connection.{events_added}
-use Rattle.gts_connection.specs.Capture.{Step, Feed, Take, Reopen, Drain, Restart, Compact, AreSteps, Connections, no_bytes, with_bytes, entries_of_step, after_step, entries_from, entries, join, joined}
-use Rattle.gts_event.specs.Drain.{all_done}
+use Rattle.gts_connection.specs.Cited.{AreSteps, Compact, Connections, Directory, Done, Drain, Entry, Event, Feed, Reopen, Restart, State, Step, Take, after_all, after_step, all_done, entries, entries_from, entries_of_step, events_added, join, joined, no_bytes, with_bytes}
 use Rattle.gts_connection.proofs.StreamLemmas.{added-twice}
-
-pub after_all-append : (d : Directory) (s : State) (xs ys : List Entry) → after_all d s (xs ++ ys) ≡ after_all d (after_all d s xs) ys
-after_all-append d s [] ys = refl
-after_all-append d s (x ∷ xs) ys = after_all-append d (after_entry d s x) xs ys
+use Rattle.gts_event.proofs.LawLemmas.{after_all-append}
 
 -- one feed or two
 cut_feed : (d : Directory) (s : State) (bs : Connections) (c : ℕ) (x y : List ℕ) (steps : List Step) → c < length bs

@@ -1,15 +1,9 @@
 -- Heads of captures are told apart, and whether one stands at the front is decided.
-use Rattle.std.proofs.Common.{◌≡◌, ℕ, zero, suc, ◌^◌, ◌<◌, ◌≤◌, Bool, true, false, ◌⊎◌, nat_eq, List, [], ◌∷◌, ◌++◌, length, get_or, take, drop, inl, inr, refl, sym, ap, subst, ◌∙◌, arith}
-use Rattle.std.specs.List.{starts_with}
-use Rattle.std.specs.Str.Parse.{digits_value}
+use Rattle.std.proofs.Common.{◌≡◌, ℕ, zero, suc, ◌<◌, ◌≤◌, Bool, true, false, ◌⊎◌, nat_eq, List, [], ◌∷◌, ◌++◌, length, get_or, take, drop, inl, inr, refl, sym, ap, subst, ◌∙◌, arith}
+use Rattle.gts_connection.specs.Cited.{CaptureKind, CompactHead, Directory, DrainHead, EndHead, FeedHead, Head, IsHeadFront, IsHeadOf, Journaled, ReopenHead, RestartHead, TakeHead, Traffic, dec, digits_value, head_text, starts_with}
 use Rattle.std.proofs.lemmas.Bool.{cases_lt, cases_Bool}
 use Rattle.std.proofs.lemmas.List.{length-append, append-nil}
-use Rattle.gts_alphabet.specs.Digits.{dec}
 use Rattle.gts_alphabet.proofs.LawLemmas.{digits_value-dec}
-use Rattle.gts_directory.specs.Directory.{Directory}
-use Rattle.gts_connection.specs.declared.kind.CaptureKind.{CaptureKind}
-use Rattle.gts_connection.specs.declared.kind.CaptureKind.TheVariants.{Journaled, Traffic}
-use Rattle.gts_connection.specs.Capture.{Head, FeedHead, TakeHead, ReopenHead, DrainHead, RestartHead, CompactHead, EndHead, head_text, IsHeadOf, IsHeadFront}
 use Rattle.gts_connection.proofs.ListLemmas.{starts_with-append, starts_is}
 
 -- ---- lists
@@ -35,9 +29,6 @@ same_fronts a x b y e h =
     empty (z ∷ zs) h = absurd (omega arith)
 
 -- ---- heads
-
-few_circuits : (d : Directory) (c n : ℕ) → length d.circuits ≤ 100 → c < length d.circuits → c < 10 ^ 2
-few_circuits d c n h lt = omega arith
 
 same_circuit : (c e : ℕ) → c < 100 → e < 100 → digits_value 10 (dec 2 c) ≡ digits_value 10 (dec 2 e) → c ≡ e
 same_circuit c e h k f = sym (digits_value-dec 2 c (omega arith)) ∙ f ∙ digits_value-dec 2 e (omega arith)

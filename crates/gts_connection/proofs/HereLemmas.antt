@@ -1,21 +1,8 @@
 -- The entries of a capture come on circuits of the directory.
 use Rattle.std.proofs.Common.{◌≡◌, ℕ, zero, suc, ◌+◌, Bool, true, nat_lt, List, [], ◌∷◌, ◌++◌, length, get_or, drop, replicate, Option, Some, None, refl, ap, ◌∙◌}
-use Rattle.std.specs.List.{list_all}
+use Rattle.gts_connection.specs.Cited.{AreStepsOf, CaptureKind, Compact, Connections, Directory, Drain, Entry, Event, Feed, Frame, IsHeadOf, KeepAlive, LostField, Piece, Reopen, Restart, State, Step, Take, Taken, after_all, after_step, all_done, circuit_of_event, connection, entries, entries_from, entries_of_step, events_added, events_of, head_of, is_here, left_to_give, list_all, loss_of, no_bytes, on_circuit}
 use Rattle.std.proofs.lemmas.Bool.{and_parts, and_from, lt-ltb}
 use Rattle.std.proofs.lemmas.List.Folds.{list_all-append}
-use Rattle.gts_frame.specs.Frame.{Piece, Frame, KeepAlive}
-use Rattle.gts_frame.specs.declared.lost.LostField.{LostField}
-use Rattle.gts_directory.specs.Directory.{Directory}
-use Rattle.gts_event.specs.State.{State, left_to_give, on_circuit}
-use Rattle.gts_event.specs.declared.event.Event.{Event}
-use Rattle.gts_event.specs.declared.event.Event.TheVariants.{Taken}
-use Rattle.gts_event.specs.declared.event.Entry.{Entry}
-use Rattle.gts_event.specs.History.{after_all}
-use Rattle.gts_event.specs.Need.{circuit_of_event, is_here}
-use Rattle.gts_connection.specs.Connection.{events_of, loss_of, connection, events_added}
-use Rattle.gts_connection.specs.declared.kind.CaptureKind.{CaptureKind}
-use Rattle.gts_connection.specs.Capture.{Step, Feed, Take, Reopen, Drain, Restart, Compact, IsHeadOf, head_of, AreStepsOf, Connections, no_bytes, entries_of_step, after_step, entries_from, entries}
-use Rattle.gts_event.specs.Drain.{all_done}
 use Rattle.gts_connection.proofs.StreamLemmas.{connection-is}
 
 -- an event comes on a circuit below this number

@@ -1,12 +1,8 @@
 -- No byte behind the longest capture is read.
 use Rattle.std.proofs.Common.{◌≡◌, ℕ, ◌+◌, ◌-◌, ◌≤◌, List, ◌++◌, length, take, min, ap, ◌∙◌, arith, length-append}
-use Rattle.std.specs.List.{flat_map}
+use Rattle.gts_connection.specs.Cited.{Bad, CaptureKind, Directory, EndHead, EndsEarlyOf, EndsInFeed, EndsInHead, IsWholeOf, LONGEST_CAPTURE, ReadingOf, Step, Whole, flat_map, head_text, readable, step_text}
 use Rattle.std.proofs.Math.Seq.{take-append-add}
 use Rattle.std.proofs.lemmas.List.{take_all, length-take}
-use Rattle.gts_directory.specs.Directory.{Directory}
-use Rattle.gts_connection.specs.declared.kind.CaptureKind.{CaptureKind}
-use Rattle.gts_connection.specs.declared.limits.TheConstants.{LONGEST_CAPTURE}
-use Rattle.gts_connection.specs.Capture.{Step, EndHead, head_text, step_text, Whole, Bad, EndsInHead, EndsInFeed, IsWholeOf, EndsEarlyOf, ReadingOf, readable}
 use Rattle.gts_connection.proofs.ReadingLemmas as reading
 
 pub readable-all : (bytes : List ℕ) → length bytes ≤ LONGEST_CAPTURE → readable bytes ≡ bytes

@@ -1,13 +1,9 @@
 -- The entries and the connections of steps that go on.
 use Rattle.std.proofs.Common.{◌≡◌, ℕ, ◌+◌, ◌≤◌, List, [], ◌∷◌, ◌++◌, length, refl, sym, ap, ◌∙◌, arith}
-use Rattle.std.specs.List.{AllByRecursion}
+use Rattle.gts_connection.specs.Cited.{AllByRecursion, Compact, Connections, Directory, Drain, Entry, Feed, Reopen, Restart, State, Step, Take, after_all, after_step, compactions, compactions_from, connections_after, count_at, entries, entries_from, entries_of_step, no_bytes}
 use Rattle.std.proofs.lemmas.List.{append_assoc, length-append, length-map}
-use Rattle.gts_directory.specs.Directory.{Directory}
-use Rattle.gts_event.specs.State.{State}
-use Rattle.gts_event.specs.declared.event.Entry.{Entry}
-use Rattle.gts_event.specs.History.{after_all}
-use Rattle.gts_connection.specs.Capture.{Step, Feed, Take, Reopen, Drain, Restart, Compact, Connections, no_bytes, entries_of_step, after_step, entries_from, entries, count_at, compactions_from, compactions, connections_after}
-use Rattle.gts_connection.proofs.CutLemmas.{after_all-append, length-after}
+use Rattle.gts_connection.proofs.CutLemmas.{length-after}
+use Rattle.gts_event.proofs.LawLemmas.{after_all-append}
 
 entries_on : (d : Directory) (s : State) (bs : Connections) (steps more : List Step)
     → entries_from d s bs (steps ++ more) ≡ entries_from d s bs steps ++ entries_from d (after_all d s (entries_from d s bs steps)) (connections_after d bs steps) more

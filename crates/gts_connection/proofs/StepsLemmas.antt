@@ -1,21 +1,9 @@
 -- The events of a connection are those of the signs that its bytes show.
-use Rattle.std.proofs.Common.{◌≡◌, ℕ, zero, suc, ◌+◌, Bool, true, false, ◌==◌, cond, List, [], ◌∷◌, ◌++◌, length, drop, take, Option, Some, None, refl, sym, ap, ◌∙◌}
-use Rattle.std.specs.Prelude.{find, not, nat_eq}
-use Rattle.std.specs.List.{starts_with, range_with_len}
-use Rattle.std.proofs.Math.Seq.{drop-append_seam}
-use Rattle.gts_frame.specs.declared.kind.Kind.{Kind}
-use Rattle.gts_frame.specs.declared.kind.Kind.TheVariants.{An, Bi, Fx}
-use Rattle.gts_frame.specs.declared.lost.LostField.{LostField}
+use Rattle.std.proofs.Common.{◌≡◌, ℕ, zero, suc, ◌+◌, Bool, true, false, ◌==◌, cond, List, [], ◌∷◌, ◌++◌, length, drop, take, Option, Some, None, refl, sym, ap, ◌∙◌, find, not, nat_eq}
+use Rattle.gts_connection.specs.Cited.{An, Bi, Breaks, Carries, Decoding, Event, Frame, Fx, Heard, IsFramed, KeepAlive, KeepsAlive, Kind, Lost, LostField, Piece, ReadsOn, Sign, break_at, break_of, connection, event_at, events_added, events_in, events_of, events_of_signs, field_at, frame, has_piece, is_front, length_in, letters, loss_at, loss_of, range_with_len, sign_at, signs_from, signs_in, signs_of, signs_of_step, starts_with}
 use Rattle.gts_frame.specs.declared.step.Step.{Step}
-use Rattle.gts_frame.specs.Frame.{frame, letters, IsFramed, Piece, Frame, KeepAlive}
-use Rattle.gts_frame.specs.Stream.{field_at, length_in, is_front, has_piece}
-use Rattle.gts_frame.specs.Signs.{Sign, Carries, KeepsAlive, Breaks, signs_of, break_of, sign_at, break_at, signs_from, signs_in}
-use Rattle.gts_frame.specs.Decoder.{Decoding, signs_of_step, ReadsOn}
+use Rattle.std.proofs.Math.Seq.{drop-append_seam}
 use Rattle.gts_frame.proofs.LawLemmas.{signs-piece}
-use Rattle.gts_event.specs.declared.event.Event.{Event}
-use Rattle.gts_event.specs.declared.event.Event.TheVariants.{Heard, Lost}
-use Rattle.gts_connection.specs.Connection.{events_of, loss_of, event_at, loss_at, events_in, connection, events_added}
-use Rattle.gts_connection.specs.Steps.{events_of_signs}
 
 pub signs-append : (c : ℕ) (xs ys : List Sign) → events_of_signs c (xs ++ ys) ≡ events_of_signs c xs ++ events_of_signs c ys
 signs-append c [] ys = refl

@@ -1,17 +1,9 @@
 -- Any bytes of a connection have the events that are computed and no others, and more bytes only add events.
-use Rattle.std.proofs.Common.{◌≡◌, ℕ, true, false, List, [], ◌∷◌, ◌++◌, length, drop, Option, Some, None, refl, sym, ap, subst, ◌∙◌}
-use Rattle.std.specs.Prelude.{IsSome}
-use Rattle.std.specs.List.{list_any}
+use Rattle.std.proofs.Common.{◌≡◌, ℕ, true, false, List, [], ◌∷◌, ◌++◌, length, drop, Option, Some, None, refl, sym, ap, subst, ◌∙◌, IsSome}
+use Rattle.gts_connection.specs.Cited.{Event, Frame, IsConnection, IsStreamFront, KeepAlive, LostField, Piece, Shows, Sign, break_of, connection, events_added, events_of, events_of_signs, held_in, is_lost, list_any, loss_of, open_part, signs_in, signs_of}
 use Rattle.std.proofs.lemmas.List.{append-nil, append_assoc, append_cancel_left}
 use Rattle.std.proofs.Math.Seq.{drop-append_seam}
-use Rattle.gts_frame.specs.declared.lost.LostField.{LostField}
-use Rattle.gts_frame.specs.Frame.{Piece, Frame, KeepAlive}
-use Rattle.gts_frame.specs.Stream.{IsStreamFront}
-use Rattle.gts_frame.specs.Signs.{Sign, Shows, signs_of, break_of, open_part, signs_in, held_in}
 use Rattle.gts_frame.proofs.LawLemmas.{shows-computed, shows-one, open-front, front-open, reads-open, reads-lost}
-use Rattle.gts_event.specs.declared.event.Event.{Event}
-use Rattle.gts_connection.specs.Connection.{events_of, loss_of, IsConnection, connection, events_added, is_lost}
-use Rattle.gts_connection.specs.Steps.{events_of_signs}
 use Rattle.gts_connection.proofs.StepsLemmas.{events-shown, connection-signs, added-more}
 
 -- ---- the events of bytes

@@ -1,18 +1,10 @@
 -- Captures: what came on the circuits and when something was taken, as a text of steps (profile).
 use Rattle.std.specs.Prelude.{◌≡◌, ℕ, ◌+◌, ◌<◌, ◌≤◌, ◌==◌, if◌then◌else◌, List, [], ◌∷◌, ◌++◌, length, map, take, codes, flat_map}
-use Rattle.std.specs.List.{AllByRecursion, slice_index_or, slice_set}
-use Rattle.gts_alphabet.specs.Digits.{dec}
-use Rattle.gts_directory.specs.Directory.{Directory}
-use Rattle.gts_event.specs.State.{State}
-use Rattle.gts_event.specs.declared.event.Event.TheVariants.{Taken}
-use Rattle.gts_event.specs.declared.event.Entry.{Entry}
-use Rattle.gts_event.specs.declared.event.Entry.TheVariants.{Done, Restarted}
-use Rattle.gts_event.specs.History.{after_all}
+use Rattle.gts_connection.specs.Cited.Below.{AllByRecursion, Directory, Done, Entry, Restarted, State, Taken, after_all, all_done, dec, slice_index_or, slice_set, takes_of_drain}
 use Rattle.gts_connection.specs.declared.kind.CaptureKind.{CaptureKind}
 use Rattle.gts_connection.specs.declared.kind.CaptureKind.TheVariants.{Journaled}
 use Rattle.gts_connection.specs.declared.limits.TheConstants.{LONGEST_CAPTURE}
 use Rattle.gts_connection.specs.Connection.{events_added}
-use Rattle.gts_event.specs.Drain.{takes_of_drain, all_done}
 
 -- A step: bytes come on a circuit; one take on a circuit; a circuit begins a new connection; takes on a circuit until one
 -- gives nothing; the journal is opened again; the journal is compacted.

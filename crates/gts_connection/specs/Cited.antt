@@ -1,17 +1,11 @@
--- What the clauses of this crate cite of it and of those below it, in one place.
-pub use Rattle.gts_frame.specs.declared.kind.Kind.{Kind}
-pub use Rattle.gts_frame.specs.Frame.{frame, IsFramed}
-pub use Rattle.gts_frame.specs.Stream.{IsFront, IsStreamFront, is_front}
-pub use Rattle.gts_directory.specs.Directory.{Directory}
-pub use Rattle.gts_event.specs.State.{State}
-pub use Rattle.gts_event.specs.History.{after_all}
-pub use Rattle.gts_event.specs.Need.{is_here}
-pub use Rattle.gts_event.specs.declared.event.Event.{Event}
-pub use Rattle.gts_event.specs.declared.event.Event.TheVariants.{Heard}
-pub use Rattle.gts_connection.specs.Connection.{IsConnection, connection, events_in, events_added, is_lost}
-pub use Rattle.gts_connection.specs.declared.kind.CaptureKind.{CaptureKind}
-pub use Rattle.gts_connection.specs.Capture.{Step, EndHead, step_text, head_text, AreSteps, AreStepsOf, readable, Reading, ReadingOf, IsWhole, IsWholeOf, EndsEarly, EndsEarlyOf, entries, entries_from, compactions, compactions_from, compactions_behind, Connections, connections_after, no_bytes, joined}
-pub use Rattle.gts_frame.specs.Decoder.{Decoding, ReadsOn, signs_of_step}
-pub use Rattle.gts_frame.specs.Signs.{signs_in}
-pub use Rattle.gts_frame.specs.declared.step.Step.{Step as FrameStep}
+-- What files of this crate and of those above cite of it, in one place, and what it cites of those below.
+pub mod Below
+pub use Rattle.gts_connection.specs.Connection.{IsConnection, connection, event_at, events_added, events_in, events_of, is_lost, loss_at, loss_of}
 pub use Rattle.gts_connection.specs.Steps.{events_of_signs}
+pub use Rattle.gts_connection.specs.Capture.{AreSteps, AreStepsOf, Bad, Compact, CompactHead, Connections, Drain, DrainHead, EndHead, EndsEarly, EndsEarlyOf, EndsInFeed, EndsInHead, Feed, FeedHead, Head, IsEarly, IsFrontIn, IsHead, IsHeadFront, IsHeadIn, IsHeadOf, IsPartIn, IsPartialHead, IsWhole, IsWholeOf, Reading, ReadingIn, ReadingOf, Reopen, ReopenHead, Restart, RestartHead, Step, Take, TakeHead, Whole, after_step, bytes_of_step, compactions}
+pub use Rattle.gts_connection.specs.Capture.{compactions_behind, compactions_from, connections_after, count_at, entries, entries_from, entries_of_step, head_of, head_text, join, joined, no_bytes, step_text, with_bytes}
+unfoldable pub use Rattle.gts_connection.specs.Capture.{readable}
+pub use Rattle.gts_connection.specs.declared.kind.CaptureKind.{CaptureKind}
+pub use Rattle.gts_connection.specs.declared.kind.CaptureKind.TheVariants.{Journaled, Traffic}
+pub use Rattle.gts_connection.specs.declared.limits.TheConstants.{LONGEST_CAPTURE}
+unfoldable pub use Below.*

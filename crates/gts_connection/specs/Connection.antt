@@ -1,12 +1,6 @@
 -- What comes over a connection: the messages of its frames, and the loss of synchronisation (profile).
 use Rattle.std.specs.Prelude.{◌≡◌, ℕ, zero, suc, ◌+◌, Bool, true, false, not, ◌==◌, nat_eq, List, [], ◌∷◌, ◌++◌, length, take, drop, find, flat_map, Option, Some, None, if◌then◌else◌}
-use Rattle.std.specs.List.{starts_with, range_with_len, AllByRecursion}
-use Rattle.gts_frame.specs.declared.kind.Kind.TheVariants.{An, Bi, Fx}
-use Rattle.gts_frame.specs.Frame.{letters, Piece, Frame, KeepAlive, piece_text, IsPiece}
-use Rattle.gts_frame.specs.declared.lost.LostField.{LostField}
-use Rattle.gts_event.specs.declared.event.Event.{Event}
-use Rattle.gts_event.specs.declared.event.Event.TheVariants.{Heard, Lost}
-use Rattle.gts_frame.specs.Stream.{field_at, Rest, length_in, is_front, has_piece}
+use Rattle.gts_connection.specs.Cited.Below.{AllByRecursion, An, Bi, Event, Frame, Fx, Heard, IsPiece, KeepAlive, Lost, LostField, Piece, Rest, field_at, has_piece, is_front, length_in, letters, piece_text, range_with_len, starts_with}
 
 -- ---- as a grammar
 

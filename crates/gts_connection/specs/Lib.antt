@@ -1,5 +1,5 @@
 pub mod Connection
 pub mod Steps
 pub mod Capture
-pub mod Cited
 pub mod Worked
+pub mod Cited

@@ -1,8 +1,6 @@
 -- The events of a connection as the signs that its bytes show.
 use Rattle.std.specs.Prelude.{ℕ, List, [], ◌∷◌}
-use Rattle.gts_frame.specs.Signs.{Sign, Carries, KeepsAlive, Breaks}
-use Rattle.gts_event.specs.declared.event.Event.{Event}
-use Rattle.gts_event.specs.declared.event.Event.TheVariants.{Heard, Lost}
+use Rattle.gts_connection.specs.Cited.Below.{Breaks, Carries, Event, Heard, KeepsAlive, Lost, Sign}
 
 -- a frame is heard, a keep-alive is passed over, and a loss is an event
 abbrev pub events_of_signs : ℕ → List Sign → List Event

@@ -1,11 +1,7 @@
 //! Laws over the definitions, each the contract of a function with an empty body.
 ghost use Rattle.std.specs.Prelude.{◌≡◌, ◌↔◌, ◌+◌, ◌-◌, ◌≤◌, ◌++◌, [], ◌∷◌, ℕ, List, IsTrue, true, false, length, take, min, flat_map};
-ghost use Rattle.std.specs.List.{list_any, list_all, AllByRecursion};
-ghost use Rattle.gts_connection.specs.Cited.{Kind, Directory, State, Event, Heard, frame, IsFramed, IsFront, IsStreamFront, is_front, is_here};
-ghost use Rattle.gts_connection.specs.Cited.{IsConnection, connection, events_in, events_added, is_lost, CaptureKind, Step, AreSteps, AreStepsOf, EndHead, step_text, head_text, readable, ReadingOf, entries, joined};
-ghost use Rattle.gts_connection.specs.Cited.{IsWholeOf, EndsEarlyOf, entries_from, compactions, compactions_from, compactions_behind, Connections, connections_after, no_bytes, after_all};
-ghost use Rattle.gts_connection.specs.declared.limits.TheConstants.{LONGEST_CAPTURE};
-ghost use Rattle.gts_connection.specs.Cited.{Decoding, ReadsOn, FrameStep, signs_in, signs_of_step, events_of_signs};
+ghost use Rattle.gts_connection.specs.Cited.{AllByRecursion, AreSteps, AreStepsOf, CaptureKind, Connections, Decoding, Directory, EndHead, EndsEarlyOf, Event, Heard, IsConnection, IsFramed, IsFront, IsStreamFront, IsWholeOf, Kind, LONGEST_CAPTURE, ReadingOf, ReadsOn, State, Step, after_all, compactions, compactions_behind, compactions_from, connection, connections_after, entries, entries_from, events_added, events_in, events_of_signs, frame, head_text, is_front, is_here, is_lost, joined, list_all, list_any, no_bytes, readable, signs_in, signs_of_step, step_text};
+ghost use Rattle.gts_frame.specs.declared.step.Step.{Step as FrameStep};
 
 /// A frame at the front of a connection is heard, and then what is behind it.
 pub fn a_frame_at_the_front_is_heard()

@@ -1,8 +1,6 @@
 -- A new bulletin as it is handed on from where it was weighed to where it is accepted.
 use Rattle.std.specs.Prelude.{◌≡◌, ℕ, List, Ok}
-use Rattle.gts_heading.specs.Heading.{fields_of}
-use Rattle.gts_message.specs.Message.{split_at, parts_of}
-use Rattle.gts_dup.specs.Window.{digest_of}
+use Rattle.gts_core.specs.Cited.Below.{digest_of, fields_of, parts_of, split_at}
 use Rattle.gts_core.specs.declared.bulletin.Bulletin.TheInside.{Inside}
 
 -- its message, and the circuits that it is for, as the bits of a mask

@@ -1,11 +1,6 @@
 -- What a message was found to be, and what was found of it.
 use Rattle.std.specs.Prelude.{◌≡◌, ℕ, List, Result, Ok, count_ones, ⊤}
-use Rattle.std.specs.List.{AllByRecursion}
-use Rattle.gts_request.specs.declared.fault.ReqField.{ReqField}
-use Rattle.gts_request.specs.Request.{Item, IsItem}
-use Rattle.gts_directory.specs.Directory.{Directory, named}
-use Rattle.gts_directory.specs.Rows.{mask_of}
-use Rattle.gts_event.specs.History.{items_of, heading_of_message}
+use Rattle.gts_core.specs.Cited.Below.{AllByRecursion, Directory, IsItem, Item, ReqField, heading_of_message, items_of, mask_of, named}
 use Rattle.gts_core.specs.declared.answer.Asking.{Asking}
 use Rattle.gts_core.specs.declared.answer.Judged.{Judged}
 use Rattle.gts_core.specs.declared.answer.Judged.TheVariants as judged

@@ -1,6 +1,5 @@
 ghost use Rattle.std.specs.Prelude.{◌≡◌, ◌≤◌, Ok, count_ones};
-ghost use Rattle.gts_core.specs.Cited.{split_at, parts_of, fields_of, digest_of};
-ghost use Rattle.gts_core.specs.Duplicates.{IsDigestOf};
+ghost use Rattle.gts_core.specs.Cited.{IsDigestOf, digest_of, fields_of, parts_of, split_at};
 
 use gts_message::Parts;
 use std::marker::Model;

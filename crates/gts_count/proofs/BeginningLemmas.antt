@@ -1,46 +1,28 @@
 -- The numbers of a sound need.
-use Rattle.std.proofs.Common.{◌≡◌, ℕ, zero, suc, ◌-◌, ◌<◌, Bool, true, false, ◌&&◌, ◌==◌, cond, List, [], ◌∷◌, ◌++◌, length, get_or, drop, map, zip, Option, Some, None, refl, sym, ap, subst, ◌∙◌, arith}
-use Rattle.std.specs.Prelude.{IsTrue, IsSome, option_map, unwrap_or}
-use Rattle.std.specs.List.{All, list_all}
-use Rattle.std.specs.Ordering.{nat_cmp}
-use Rattle.std.specs.BTreeMap.{BTreeMap, get}
-use Rattle.std.proofs.lemmas.Bool.{true≢false}
+use Rattle.std.proofs.Common.{◌≡◌, ℕ, zero, suc, ◌-◌, ◌<◌, Bool, true, false, ◌==◌, cond, List, [], ◌∷◌, ◌++◌, length, get_or, drop, map, zip, Option, Some, None, refl, sym, ap, subst, ◌∙◌, arith, IsTrue, IsSome, option_map, unwrap_or}
+use Rattle.gts_count.specs.Cited.{All, AreBodies, BTreeMap, Begins, Buffer, Bulletin, Circuit, CircuitNeed, Directory, Follows, HasEachRow, HasKeys, HaveRows, IsOrdered, Need, NotesAll, NotesDraws, Numbers, SoundCircuit, SoundNeed, Starts, State, at_position, begun, get, has_row, is_bulletin, is_circuit_sound, is_sound, is_there, keep_last, keeps_one, key_at, key_by, key_of, list_all, nat_cmp, need, no_ring, recent_in, ring_at, tally, tally_of, unused}
+use Rattle.std.proofs.lemmas.Bool.{and_parts}
 use Rattle.std.proofs.lemmas.List.{length-map, get_or-map, ext_get_or}
-use Rattle.circular_buffer.specs.Buffer.{Buffer, keep_last}
 use Rattle.gts_directory.specs.Directory as directory
-use Rattle.gts_directory.specs.Directory.{Directory, Circuit}
-use Rattle.gts_event.specs.State.{State, Bulletin}
-use Rattle.gts_event.specs.Need.{Need, CircuitNeed, unused, need, begun, keeps_one, is_sound, is_bulletin, is_there, is_circuit_sound, IsOrdered}
-use Rattle.gts_event.specs.Sound.{SoundNeed, SoundCircuit}
 use Rattle.gts_event.proofs.LawLemmas.{sound-parts, circuit-parts, need-begun, held-begun, ordered-begun, bulletin-parts}
-use Rattle.gts_count.specs.declared.numbers.Numbers.{Numbers}
-use Rattle.gts_count.specs.Tally.{tally, key_of, key_at, recent_in}
-use Rattle.gts_count.specs.Rows.{has_row}
-use Rattle.gts_count.specs.Numbers.{tally_of, no_ring, ring_at}
-use Rattle.gts_count.specs.Counting.{Follows}
-use Rattle.gts_count.specs.Start.{Begins, HaveRows, NotesAll, NotesDraws, HasKeys, at_position, AreBodies, HasEachRow, key_by, Starts}
 use Rattle.gts_count.proofs.StepLemmas.{held_window, starts_window}
 use Rattle.gts_count.proofs.StateLemmas.{tally_is}
 use Rattle.gts_count.proofs.FollowLemmas.{bulletin_there}
 
-and_true : (a b : Bool) → (a && b) ≡ true → (a ≡ true) × (b ≡ true)
-and_true true b e = (refl, e)
-and_true false b e = absurd (true≢false (sym e))
-
 -- what passes a test everywhere passes it at each place
 all_at : {X : Type 0} (f : X → Bool) (xs : List X) → list_all f xs ≡ true → All (λ x. f x ≡ true) xs
 all_at f [] e k d inside = absurd (omega (arith, inside))
-all_at f (x ∷ xs) e zero d inside = (and_true (f x) (list_all f xs) e).0
-all_at f (x ∷ xs) e (suc k) d inside = all_at f xs (and_true (f x) (list_all f xs) e).1 k d (omega (arith, inside))
+all_at f (x ∷ xs) e zero d inside = (and_parts (f x) (list_all f xs) e).0
+all_at f (x ∷ xs) e (suc k) d inside = all_at f xs (and_parts (f x) (list_all f xs) e).1 k d (omega (arith, inside))
 
 pub all_of : {A B : Type 0} (f : B → Bool) (g : A → B) (xs : List A) → list_all f (map g xs) ≡ true → All (λ x. IsTrue (f (g x))) xs
 all_of f g [] e k d inside = absurd (omega (arith, inside))
-all_of f g (x ∷ xs) e zero d inside = (and_true (f (g x)) (list_all f (map g xs)) e).0
-all_of f g (x ∷ xs) e (suc k) d inside = all_of f g xs (and_true (f (g x)) (list_all f (map g xs)) e).1 k d (omega (arith, inside))
+all_of f g (x ∷ xs) e zero d inside = (and_parts (f (g x)) (list_all f (map g xs)) e).0
+all_of f g (x ∷ xs) e (suc k) d inside = all_of f g xs (and_parts (f (g x)) (list_all f (map g xs)) e).1 k d (omega (arith, inside))
 
 back_part : {X : Type 0} (f : X → Bool) (xs ys : List X) → list_all f (xs ++ ys) ≡ true → list_all f ys ≡ true
 back_part f [] ys e = e
-back_part f (x ∷ xs) ys e = back_part f xs ys (and_true (f x) (list_all f (xs ++ ys)) e).1
+back_part f (x ∷ xs) ys e = back_part f xs ys (and_parts (f x) (list_all f (xs ++ ys)) e).1
 
 -- a row of the directory beside its circuit
 abbrev no_circuit : Circuit
@@ -51,9 +33,9 @@ rows_at : (f : Circuit → CircuitNeed → Bool) (rows : List Circuit) (cs : Lis
 rows_at f [] [] size e k inside = absurd (omega (arith, inside))
 rows_at f [] (c ∷ cs) size e k inside = absurd (omega (arith, size))
 rows_at f (row ∷ rows) [] size e k inside = absurd (omega (arith, size))
-rows_at f (row ∷ rows) (c ∷ cs) size e zero inside = (and_true (f row c) (list_all (λ r. f r.0 r.1) (zip rows cs)) e).0
+rows_at f (row ∷ rows) (c ∷ cs) size e zero inside = (and_parts (f row c) (list_all (λ r. f r.0 r.1) (zip rows cs)) e).0
 rows_at f (row ∷ rows) (c ∷ cs) size e (suc k) inside =
-    rows_at f rows cs (omega (arith, size)) (and_true (f row c) (list_all (λ r. f r.0 r.1) (zip rows cs)) e).1 k (omega (arith, inside))
+    rows_at f rows cs (omega (arith, size)) (and_parts (f row c) (list_all (λ r. f r.0 r.1) (zip rows cs)) e).1 k (omega (arith, inside))
 
 module _ (d : Directory) (n : Need) (sound : is_sound d n ≡ true) where
   parts : SoundNeed d n

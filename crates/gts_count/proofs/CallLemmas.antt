@@ -1,31 +1,9 @@
 -- A call on a switch with running numbers beside it is one of the switch.
-use Rattle.std.proofs.Common.{◌≡◌, ℕ, ◌⊎◌, inl, inr, Bool, true, false, List, [], ◌∷◌, ◌++◌, Result, Ok, Err, refl, sym, ap, subst, ◌∙◌}
-use Rattle.std.specs.Prelude.{is_err}
+use Rattle.std.proofs.Common.{◌≡◌, ℕ, ◌⊎◌, inl, inr, Bool, true, false, List, [], ◌∷◌, ◌++◌, Result, Ok, Err, refl, sym, ap, subst, ◌∙◌, is_err}
 use Rattle.std.proofs.lemmas.Bool.{true≢false}
 use Rattle.std.proofs.lemmas.List.{append-nil, append_assoc, map-append}
-use Rattle.gts_frame.specs.declared.kind.Kind.{Kind}
-use Rattle.gts_directory.specs.Directory.{Directory}
-use Rattle.gts_event.specs.State.{State}
-use Rattle.gts_event.specs.History.{outcome, after, after_all}
-use Rattle.gts_event.specs.declared.event.Event.{Event}
-use Rattle.gts_event.specs.declared.event.Event.TheVariants.{Heard}
-use Rattle.gts_event.specs.declared.event.Entry.{Entry}
-use Rattle.gts_event.specs.declared.event.Entry.TheVariants.{Done, Unsaid, Idle, Doubt}
-use Rattle.gts_event.specs.declared.outcome.Outcome.{Outcome}
-use Rattle.gts_event.specs.declared.fault.SwitchFault.{SwitchFault}
-use Rattle.gts_event.specs.declared.fault.SwitchFault.TheVariants.{DiskFault, SayFault, Full, Stopped, Spent, NoMemory}
-use Rattle.gts_event.specs.Drain.{all_done, all_unsaid}
+use Rattle.gts_count.specs.Cited.{AfterCall, AfterSettled, AfterSettling, Alone, AtOnce, Behind, Counting, Counts, CountsIf, Directory, DiskFault, Done, Doubt, Entry, Event, Full, GathersOne, GoesOn, HasDoubt, HasUnsaid, Heard, Idle, IsAccepted, IsAnswerCause, IsAnswered, IsCompacting, IsCutShort, IsInDoubt, IsOneMore, IsReopening, IsSettling, IsTold, Kind, MayLeave, NoMemory, OpenFault, Outcome, Parts, SayFault, ShowsTable, Spent, Standing, State, Stopped, SwitchFault, Unsaid, after, after_all, all_done, all_unsaid, counted_meanings, meanings_by, need, outcome, outcome_at, outdated, restart_of, settled, state_at, table, table_of, tally_of}
 use Rattle.gts_event.proofs.LawLemmas.{after_all-append}
-use Rattle.gts_record.specs.declared.fault.OpenFault.{OpenFault}
-use Rattle.gts_opening.specs.Room.{HasUnsaid, HasDoubt, IsAccepted}
-use Rattle.gts_calls.specs.Calls.{Standing, settled, IsAnswered, IsSettling, IsReopening, IsCompacting, AfterCall, AfterSettling, IsOneMore, Behind, Alone, AtOnce, GathersOne, IsInDoubt, IsCutShort, MayLeave, IsAnswerCause, restart_of, outcome_at}
-use Rattle.gts_count.specs.declared.parts.Parts.{Parts}
-use Rattle.gts_count.specs.declared.counting.Counting.{Counting}
-use Rattle.gts_event.specs.Need.{need}
-use Rattle.gts_count.specs.Table.{table, table_of}
-use Rattle.gts_count.specs.Numbers.{tally_of}
-use Rattle.gts_count.specs.Counting.{Counts, CountsIf, GoesOn, IsTold, AfterSettled, outdated}
-use Rattle.gts_count.specs.Counted.{state_at, counted_meanings, meanings_by, ShowsTable}
 use Rattle.gts_count.proofs.CountingLemmas.{counts_more, counts_failed, same_after, outdated_after}
 use Rattle.gts_count.proofs.TakingLemmas.{counts_restarted}
 

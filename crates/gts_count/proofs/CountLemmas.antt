@@ -1,12 +1,8 @@
 -- The numbers of each key, where a bulletin or a draw joins or leaves.
 use Rattle.std.proofs.Common.{◌≡◌, ℕ, ◌+◌, ◌<◌, Bool, true, false, cond, nat_eq, List, [], ◌∷◌, ◌++◌, length, set, get_or, sum_by, refl, sym, ap, ◌∙◌, arith}
-use Rattle.std.specs.Cmp.Lexicographic.{pointwise}
+use Rattle.gts_count.specs.Cited.{ChangesRow, IsCount, Recent, Row, Rows, Tally, counted, draws_among, is_of, once, pointwise, row_at, with_bulletin, with_draw, without_bulletin, without_draw}
 use Rattle.std.proofs.lemmas.List.Sums.{sum_by-cons, sum_by-append, sum_by-set}
-use Rattle.gts_count.specs.declared.recent.Recent.{Recent}
-use Rattle.gts_count.specs.declared.rows.Row.{Row}
-use Rattle.gts_count.specs.Tally.{Tally, is_of, once, draws_among}
-use Rattle.gts_count.specs.Rows.{Rows, row_at, ChangesRow, with_bulletin, without_bulletin, with_draw, without_draw, counted, IsCount}
-use Rattle.gts_count.proofs.RowLemmas.{same_numbers}
+use Rattle.gts_frame.proofs.LawLemmas.{same_from_pointwise}
 
 abbrev pub row : ℕ → ℕ → ℕ → Row
 row a b c = record { bulletins = a; bytes = b; draws = c }
@@ -41,7 +37,7 @@ leaves y rest drawn m n before changes key = changes.numbers key ∙ go (is_of k
 
     go : (b : Bool) → is_of key y ≡ b → cond b (without_bulletin y (row_at m y.key)) (row_at m key) ≡ counted (tallied rest drawn) key
     go true same =
-        let is : y.key ≡ key = sym (same_numbers key y.key same) in
+        let is : y.key ≡ key = sym (same_from_pointwise key y.key same) in
         ap (λ (r : Row). without_bulletin y r) (ap (λ (k : List ℕ). row_at m k) is ∙ before key)
         ∙ row_is _ (sum_by (one key) rest) _ (sum_by (size key) rest) _ (sum_by (draws_among key) drawn)
         (omega (arith, ones, ap once same)) (omega (arith, sizes, ap (λ b. cond b y.bytes 0) same)) refl
@@ -63,7 +59,7 @@ joins x recent drawn m n before changes key = changes.numbers key ∙ go (is_of 
 
     go : (b : Bool) → is_of key x ≡ b → cond b (with_bulletin x (row_at m x.key)) (row_at m key) ≡ counted (tallied (recent ++ x ∷ []) drawn) key
     go true same =
-        let is : x.key ≡ key = sym (same_numbers key x.key same) in
+        let is : x.key ≡ key = sym (same_from_pointwise key x.key same) in
         ap (λ (r : Row). with_bulletin x r) (ap (λ (k : List ℕ). row_at m k) is ∙ before key)
         ∙ row_is _ (sum_by (one key) (recent ++ x ∷ [])) _ (sum_by (size key) (recent ++ x ∷ [])) _ (sum_by (draws_among key) drawn)
         (omega (arith, ones, ap once same)) (omega (arith, sizes, ap (λ b. cond b x.bytes 0) same)) refl
@@ -88,7 +84,7 @@ leaves_draw k rest recent drawn c m n inside here before changes key = changes.n
 
     go : (b : Bool) → pointwise nat_eq key k ≡ b → cond b (without_draw (row_at m k)) (row_at m key) ≡ counted (tallied recent (set drawn c rest)) key
     go true same =
-        let is : k ≡ key = sym (same_numbers key k same) in
+        let is : k ≡ key = sym (same_from_pointwise key k same) in
         ap without_draw (ap (λ (k : List ℕ). row_at m k) is ∙ before key)
         ∙ row_is _ (sum_by (one key) recent) _ (sum_by (size key) recent) _ (sum_by (draws_among key) (set drawn c rest)) refl refl (omega (arith, now, was, ap once same))
     go false same =
@@ -111,7 +107,7 @@ joins_draw k kept recent drawn c m n inside here before changes key = changes.nu
 
     go : (b : Bool) → pointwise nat_eq key k ≡ b → cond b (with_draw (row_at m k)) (row_at m key) ≡ counted (tallied recent (set drawn c (kept ++ k ∷ []))) key
     go true same =
-        let is : k ≡ key = sym (same_numbers key k same) in
+        let is : k ≡ key = sym (same_from_pointwise key k same) in
         ap with_draw (ap (λ (k : List ℕ). row_at m k) is ∙ before key)
         ∙ row_is _ (sum_by (one key) recent) _ (sum_by (size key) recent) _ (sum_by (draws_among key) (set drawn c (kept ++ k ∷ []))) refl refl (omega (arith, now, was, grown, ap once same))
     go false same =

@@ -1,40 +1,14 @@
 -- What is kept beside a switch, by what the switch answers.
-use Rattle.std.proofs.Common.{◌≡◌, ℕ, suc, ◌<◌, ◌⊎◌, inl, inr, Bool, true, false, ◌&&◌, cond, List, [], ◌∷◌, ◌++◌, length, reverse, Option, Some, None, Result, Ok, Err, refl, sym, ap, subst, ◌∙◌, arith, append_assoc}
-use Rattle.std.specs.Prelude.{IsTrue, nat_eq, take}
-use Rattle.std.specs.Cmp.Lexicographic.{pointwise}
-use Rattle.std.specs.List.{All, find}
-use Rattle.std.proofs.lemmas.Bool.{true≢false}
+use Rattle.std.proofs.Common.{◌≡◌, ℕ, suc, ◌<◌, ◌⊎◌, inl, inr, Bool, true, false, ◌&&◌, cond, List, [], ◌∷◌, ◌++◌, length, reverse, Option, Some, None, Result, Ok, Err, refl, sym, ap, subst, ◌∙◌, arith, append_assoc, IsTrue, nat_eq, take}
+use Rattle.gts_count.specs.Cited.{Accepted, AfterAccepted, AfterHeard, All, Arrival, Asked, Buffer, Bulletin, CanNote, Circuit, Counting, Counts, CountsIf, Directory, DiskFault, Doubt, Draw, Duplicate, Entry, Field, Follows, Full, GoesOn, HasDoubt, HasUnsaid, HeadingFields, Heard, IsAccepted, IsReady, IsTold, KeepsRest, Kind, Knows, LineLost, Message, MessageParts, NoMemory, Notes, Nothing, Numbers, Outcome, Prepares, Refused, Resend, SayFault, Spent, State, Stopped, SwitchFault, Unsaid, WasRead, after, answer_to, arrived, body_of, duplicate, find, has_row, heading_of, heading_text, heard_of, is_recent, is_same_heading, key_of, named, outcome, outdated, pointwise, text_of, verdict}
+use Rattle.std.proofs.lemmas.Bool.{true≢false, and_parts}
 use Rattle.std.proofs.lemmas.List.{length-map, reverse-append}
 use Rattle.std.proofs.lemmas.List.Elements.{All-append}
-use Rattle.gts_heading.specs.Heading.{HeadingFields, heading_text}
-use Rattle.gts_heading.specs.declared.field.Field.{Field}
-use Rattle.gts_message.specs.Message.{MessageParts}
-use Rattle.gts_frame.specs.declared.kind.Kind.{Kind}
-use Rattle.gts_directory.specs.Directory.{Directory, Circuit, named}
-use Rattle.gts_event.specs.State.{State, Bulletin, is_recent, is_same_heading, heading_of, text_of, duplicate}
-use Rattle.gts_event.specs.History.{answer_to, verdict, outcome, after, body_of}
-use Rattle.gts_event.specs.Held.{WasRead}
-use Rattle.gts_event.specs.declared.event.Event.TheVariants.{Heard}
-use Rattle.gts_event.specs.declared.event.Entry.{Entry}
-use Rattle.gts_event.specs.declared.event.Entry.TheVariants.{Unsaid, Doubt}
-use Rattle.gts_event.specs.declared.outcome.Outcome.{Outcome}
-use Rattle.gts_event.specs.declared.outcome.Outcome.TheVariants.{Accepted, Duplicate, Asked, Refused, LineLost, Resend, Draw, Nothing}
-use Rattle.gts_event.specs.declared.outcome.Refusal.TheVariants.{Message}
-use Rattle.gts_event.specs.declared.fault.SwitchFault.{SwitchFault}
-use Rattle.gts_event.specs.declared.fault.SwitchFault.TheVariants.{DiskFault, SayFault, Full, Stopped, Spent, NoMemory}
 use Rattle.gts_event.proofs.LawLemmas.{outcome-same}
-use Rattle.gts_opening.specs.Room.{HasUnsaid, HasDoubt, IsAccepted}
-use Rattle.circular_buffer.specs.Buffer.{Buffer}
-use Rattle.gts_count.specs.declared.recent.Arrival.{Arrival}
-use Rattle.gts_count.specs.declared.numbers.Numbers.{Numbers}
-use Rattle.gts_count.specs.declared.counting.Counting.{Counting}
-use Rattle.gts_count.specs.Tally.{key_of}
-use Rattle.gts_count.specs.Rows.{has_row}
-use Rattle.gts_count.specs.Going.{heard_of, arrived}
-use Rattle.gts_count.specs.Counting.{Follows, Knows, Counts, CountsIf, CanNote, IsReady, IsTold, GoesOn, Prepares, KeepsRest, Notes, AfterAccepted, AfterHeard, outdated}
 use Rattle.gts_count.proofs.SoundLemmas.{single}
 use Rattle.gts_count.proofs.KeyLemmas.{key_message}
 use Rattle.gts_count.proofs.FollowLemmas.{follows_heard, follows_prepared, follows_accepted}
+use Rattle.gts_frame.proofs.LawLemmas.{same_from_pointwise as same_numbers}
 
 pub current_counts : (d : Directory) (s : State) (h : List Entry) (c : Counting) → c.current ≡ true → Counts d s h c → Knows d c × Follows d s c.numbers
 current_counts d s h c is counts = subst (λ (b : Bool). CountsIf b d s h c) is counts
@@ -45,10 +19,6 @@ circuits_of d s n f =
     (size, sym f.sound.circuits.0 ∙ size)
 
 -- ---- a message whose key has no row would be accepted
-
-and_true : (a b : Bool) → (a && b) ≡ true → (a ≡ true) × (b ≡ true)
-and_true true b e = (refl, e)
-and_true false b e = absurd (true≢false (sym e))
 
 all_reverse : {X : Type 0} (P : X → Type 0) (xs : List X) → All P xs → All P (reverse xs)
 all_reverse P [] all = all
@@ -64,9 +34,6 @@ found_one {X} P f (y ∷ ys) x all e = go (f y) refl e (λ more. found_one P f y
     go true k is rest = let same : y ≡ x = cc in subst (λ (z : X). P z × (f z ≡ true)) same (all 0 y (omega arith), k)
     go false k is rest = rest is
 
-same_numbers : (xs ys : List ℕ) → pointwise nat_eq xs ys ≡ true → xs ≡ ys
-same_numbers xs ys e = Rattle.gts_count.proofs.RowLemmas.same_numbers xs ys e
-
 no_twin : (d : Directory) (t : State) (rows : List ℕ → Bool) (h : HeadingFields) (text : List ℕ) → All (λ b. IsTrue (rows (key_of b.body))) t.accepted → rows (take 11 (heading_text h)) ≡ false
     → duplicate d t h text ≡ None
 no_twin d t rows h text all none = go (duplicate d t h text) refl
@@ -78,8 +45,8 @@ no_twin d t rows h text all none = go (duplicate d t h text) refl
     go None e = refl
     go (Some b) e =
         let twin = found_one (λ b. IsTrue (rows (key_of b.body))) test (reverse t.accepted) b (all_reverse (λ b. IsTrue (rows (key_of b.body))) t.accepted all) e in
-        let both = (and_true (is_recent d t.count b.position && is_same_heading (heading_of b.body) h) (pointwise nat_eq (text_of b.body) text) twin.1).0 in
-        let heading = (and_true (is_recent d t.count b.position) (is_same_heading (heading_of b.body) h) both).1 in
+        let both = (and_parts (is_recent d t.count b.position && is_same_heading (heading_of b.body) h) (pointwise nat_eq (text_of b.body) text) twin.1).0 in
+        let heading = (and_parts (is_recent d t.count b.position) (is_same_heading (heading_of b.body) h) both).1 in
         let same : heading_text (heading_of b.body) ≡ heading_text h = same_numbers (heading_text (heading_of b.body)) (heading_text h) heading in
         absurd (true≢false (sym twin.0 ∙ ap (λ (x : List ℕ). rows (take 11 x)) same ∙ none))
 

@@ -1,34 +1,13 @@
 -- The running numbers follow a history, entry by entry.
-use Rattle.std.proofs.Common.{◌≡◌, ℕ, suc, ◌+◌, ◌<◌, ◌≤◌, Bool, true, false, ◌&&◌, ◌||◌, ◌==◌, cond, ◌⊎◌, inl, inr, List, [], ◌∷◌, ◌++◌, length, get_or, set, drop, map, filter, Option, Some, refl, sym, ap, subst, ◌∙◌, arith}
-use Rattle.std.specs.Prelude.{IsTrue}
-use Rattle.std.specs.List.{All, list_all, find}
-use Rattle.std.proofs.lemmas.Bool.{true≢false, lt-ltb}
+use Rattle.std.proofs.Common.{◌≡◌, ℕ, suc, ◌+◌, ◌<◌, ◌≤◌, Bool, true, false, ◌&&◌, ◌==◌, cond, inl, inr, List, [], ◌∷◌, ◌++◌, length, get_or, set, drop, map, filter, Option, Some, refl, sym, ap, subst, ◌∙◌, arith, IsTrue}
+use Rattle.gts_count.specs.Cited.{Accepted, All, Asked, Buffer, Bulletin, Choice, Circuit, CircuitState, Directory, Done, Draw, Draws, Duplicate, Event, Follows, Heard, IsHeld, Kind, LineLost, Notes, NotesDraw, Nothing, Nothing_waits, Numbers, Outcome, Prepares, Recent, Refused, Repeats, Resend, Restarted, SameNeed, State, Taken, Tally, after, after_heard, after_take, arrived, body_of, choice, circuit_of_event, drawn_of, find, found, has, has_row, heading_of_message, heard_of, is_here, is_recent, is_there, items_of, joined, keep_last, kept_with, key_at, key_of, last_counted, list_all, named, need, no_ring, on_circuit, outcome, places, recent, recent_in, recent_of, restarted, ring_at, takens_of, tally, tally_at, tally_of, with_drawn}
+use Rattle.gts_event.specs.History.{with_bulletin}
+use Rattle.std.proofs.lemmas.Bool.{true≢false, lt-ltb, or_cases}
 use Rattle.std.proofs.lemmas.List.{get_or-map, set-get_or, map-set, length-map}
 use Rattle.std.proofs.lemmas.List.Elements.{All-append}
-use Rattle.circular_buffer.specs.Buffer.{Buffer, keep_last}
-use Rattle.gts_frame.specs.declared.kind.Kind.{Kind}
-use Rattle.gts_directory.specs.Directory.{Directory, Circuit, named}
-use Rattle.gts_event.specs.State.{State, CircuitState, Bulletin, has, is_recent, recent, on_circuit}
-use Rattle.gts_event.specs.History.{Choice, Repeats, Draws, Nothing_waits, choice, outcome, after, after_heard, after_take, with_bulletin, with_drawn, body_of, heading_of_message, restarted, found, places, items_of}
-use Rattle.gts_event.specs.Need.{need, is_here, is_there, circuit_of_event}
-use Rattle.gts_event.specs.Held.{IsHeld}
-use Rattle.gts_event.specs.Stand.{SameNeed}
-use Rattle.gts_event.specs.declared.event.Event.{Event}
-use Rattle.gts_event.specs.declared.event.Event.TheVariants.{Heard, Taken}
-use Rattle.gts_event.specs.declared.event.Entry.TheVariants.{Done, Restarted}
-use Rattle.gts_event.specs.declared.outcome.Outcome.{Outcome}
-use Rattle.gts_event.specs.declared.outcome.Outcome.TheVariants.{Accepted, Duplicate, Asked, Refused, LineLost, Resend, Draw, Nothing}
 use Rattle.gts_event.proofs.LawLemmas.{after-same, outcome-same, restarted-same, held-all, list_all-has, draw_position, next_waits, waiting_routed, accepted_position}
-use Rattle.gts_count.specs.declared.recent.Recent.{Recent}
-use Rattle.gts_count.specs.declared.numbers.Numbers.{Numbers}
-use Rattle.gts_count.specs.Tally.{Tally, tally, recent_of, recent_in, arrived, key_of, key_at}
-use Rattle.gts_count.specs.Rows.{has_row}
-use Rattle.gts_count.specs.Numbers.{joined, tally_of, no_ring, ring_at, kept_with}
-use Rattle.gts_count.specs.Going.{heard_of, last_counted}
-use Rattle.gts_count.specs.State.{takens_of, drawn_of, tally_at}
-use Rattle.gts_count.specs.Counting.{Follows, Notes, NotesDraw, Prepares}
 use Rattle.gts_count.proofs.WindowLemmas.{counts_window, joins_window}
-use Rattle.gts_count.proofs.StateLemmas.{tally-need, tally_is, takens-routed, takens-same, takens-restarted, drawn-accepted, drawn-drew}
+use Rattle.gts_count.proofs.StateLemmas.{tally-need, tally_is, takens-routed, takens-same, takens-restarted, drawn-drew, drawn-more}
 use Rattle.gts_count.proofs.StepLemmas.{held_window, joined_last}
 use Rattle.gts_count.proofs.SoundLemmas.{single}
 
@@ -182,7 +161,7 @@ follows_accepted d s old new c kind m p n here f is noted has = record {
         ap (λ v. map (λ q. q.items) v.items) noted.drawn
         ∙ ap (λ (x : Tally). x.drawn) at
         ∙ ap (λ (x : Tally). x.drawn) (tally-need d t)
-        ∙ sym (drawn-accepted d.circuits t.accepted b t.circuits f.held.ordered.below)
+        ∙ sym (drawn-more d.circuits t.accepted b t.circuits f.held.ordered.below)
         ∙ sym (ap (drawn_of d.circuits (t.accepted ++ b ∷ [])) (takens-routed (named d c (heading_of_message m)) t.count t t.circuits))
         ∙ sym (ap (λ (u : State). drawn_of d.circuits u.accepted (takens_of u)) then)
         ∙ sym (ap (λ (x : Tally). x.drawn) (tally-need d (after d t event)))
@@ -191,14 +170,6 @@ follows_accepted d s old new c kind m p n here f is noted has = record {
     now = tally_is (tally_of new) (tally d (need d (after d t event))) recent drawn
 
 -- ---- a bulletin is drawn
-
-or_cases : (a b : Bool) → (a || b) ≡ true → (a ≡ true) ⊎ (b ≡ true)
-or_cases true b e = inl refl
-or_cases false b e = inr e
-
-and_true : (a b : Bool) → (a && b) ≡ true → (a ≡ true) × (b ≡ true)
-and_true true b e = (refl, e)
-and_true false b e = absurd (true≢false (sym e))
 
 -- a position for which a bulletin is there has its bulletin, which is one of all
 pub bulletin_there : (P : Bulletin → Type 0) (bs : List Bulletin) (p : ℕ) → is_there bs p ≡ true → All P bs → (b : Bulletin) × (find (λ x. x.position == p) bs ≡ Some b) × P b

@@ -1,33 +1,14 @@
 -- The key of a bulletin is its first eleven bytes, and stands so in its frames.
-use Rattle.std.proofs.Common.{◌≡◌, ℕ, ◌+◌, ◌<◌, ◌≤◌, true, ◌==◌, cond, List, [], ◌∷◌, ◌++◌, length, set, take, drop, Option, Some, None, Result, Ok, Err, refl, sym, ap, ◌∙◌, arith, length-append}
-use Rattle.std.specs.Prelude.{is_ok}
-use Rattle.std.specs.List.{find, enumerate_from}
+use Rattle.std.proofs.Common.{◌≡◌, ℕ, ◌+◌, ◌<◌, ◌≤◌, true, ◌==◌, cond, List, [], ◌∷◌, ◌++◌, length, set, take, drop, Option, Some, None, Result, Ok, Err, refl, sym, ap, ◌∙◌, arith, length-append, is_ok}
+use Rattle.gts_count.specs.Cited.{Bulletin, Choice, CircuitState, Directory, Draws, EOL, Field, HeadingFields, IsBody, IsHeading, Kind, MessageParts, Nothing_waits, Outside, Repeats, SOH, State, Taken, after, after_take, body_at, body_of, bulletin_at, channel_bytes, choice, dec, digits_on, drawn, enumerate_from, find, frame, group_text, heading_of, heading_text, idle, key_of, key_of_frame, letters, line, message_end, message_of, no_heading, number_in, numbered_frame, on, on_circuit, split_at, spoken, with_drawn}
 use Rattle.std.proofs.lemmas.Bool.{true≢false, eq-eqb, ne_eqb}
 use Rattle.std.proofs.lemmas.List.{take-append-le, get_or-set_same}
 use Rattle.std.proofs.Math.Seq.{drop-append-add}
-use Rattle.gts_alphabet.specs.Digits.{dec}
-use Rattle.gts_alphabet.specs.Message.{message_of}
-use Rattle.gts_alphabet.specs.declared.characters.TheConstants.{SOH, EOL}
 use Rattle.gts_alphabet.proofs.LawLemmas.{length-dec}
-use Rattle.gts_traits.specs.Station.{Outside, on, channel_bytes}
 use Rattle.gts_traits.proofs.LawLemmas.{channel_bytes-on}
-use Rattle.gts_heading.specs.declared.field.Field.{Field}
-use Rattle.gts_heading.specs.Heading.{HeadingFields, IsHeading, heading_text, group_text}
-use Rattle.gts_message.specs.Message.{MessageParts, IsBody, body_at, split_at, message_end}
 use Rattle.gts_message.proofs.LawLemmas.{body_is_spelled, body_of_message}
-use Rattle.gts_frame.specs.declared.kind.Kind.{Kind}
-use Rattle.gts_frame.specs.declared.kind.Kind.TheVariants.{An, Bi, Fx}
-use Rattle.gts_frame.specs.Frame.{frame, letters}
-use Rattle.gts_frame.proofs.LawLemmas.{length-frame}
-use Rattle.gts_directory.specs.Directory.{Directory}
-use Rattle.gts_event.specs.State.{State, CircuitState, Bulletin, on_circuit, idle, drawn, bulletin_at, heading_of, no_heading}
-use Rattle.gts_event.specs.History.{Choice, Repeats, Draws, Nothing_waits, choice, after, after_take, with_drawn, digits_on, body_of}
-use Rattle.gts_number.specs.Number.{number_in}
-use Rattle.gts_event.specs.Said.{line, spoken, numbered_frame}
-use Rattle.gts_event.specs.declared.event.Event.TheVariants.{Taken}
+use Rattle.gts_frame.proofs.LawLemmas.{length-frame, length-letters}
 use Rattle.gts_event.proofs.LawLemmas.{draw_index}
-use Rattle.gts_count.specs.Tally.{key_of}
-use Rattle.gts_count.specs.Counting.{key_of_frame}
 
 -- ---- in a body
 
@@ -94,17 +75,12 @@ key_message m parts e =
 drop_is : (xs ys : List ℕ) (n k : ℕ) → k ≡ length xs + n → drop k (xs ++ ys) ≡ drop n ys
 drop_is xs ys n k e = ap (λ (j : ℕ). drop j (xs ++ ys)) e ∙ drop-append-add xs ys n
 
-two_letters : (kind : Kind) → length (letters kind) ≡ 2
-two_letters An = refl
-two_letters Bi = refl
-two_letters Fx = refl
-
 -- behind the head, the number and the ends of lines stands the body
 body_in_frame : (kind : Kind) (w n : ℕ) (body : List ℕ) → drop (17 + w) (frame kind (message_of (dec w n) body)) ≡ body
 body_in_frame kind w n body =
     let m : List ℕ = message_of (dec w n) body in
     let line : List ℕ = SOH ∷ EOL in
-    drop_is (dec 8 (length m) ++ letters kind) m (7 + w) (17 + w) (omega (arith, length-append (dec 8 (length m)) (letters kind), length-dec 8 (length m), two_letters kind))
+    drop_is (dec 8 (length m) ++ letters kind) m (7 + w) (17 + w) (omega (arith, length-append (dec 8 (length m)) (letters kind), length-dec 8 (length m), length-letters kind))
     ∙ drop_is line (dec w n ++ EOL ++ body) (w + 3) (7 + w) (omega arith)
     ∙ drop_is (dec w n ++ EOL) body 0 (w + 3) (omega (arith, length-append (dec w n) EOL, length-dec w n))
 

@@ -1,25 +1,14 @@
 -- The keys of the rows that have numbers are those that are counted, each once, ascending.
-use Rattle.std.proofs.Common.{◌≡◌, ℕ, ◌+◌, ◌≤◌, Bool, true, false, not, ◌&&◌, ◌||◌, ◌==◌, cond, ◌⊎◌, inl, inr, nat_eq, List, [], ◌∷◌, ◌++◌, map, filter, fold, flat_map, sum_by, Option, Some, None, refl, sym, ap, subst, ◌∙◌, arith}
-use Rattle.std.specs.List.{list_any, AllByRecursion}
+use Rattle.std.proofs.Common.{◌≡◌, ℕ, ◌+◌, ◌≤◌, Bool, true, false, not, ◌&&◌, ◌||◌, ◌==◌, cond, inl, inr, nat_eq, List, [], ◌∷◌, ◌++◌, map, filter, fold, flat_map, sum_by, Option, Some, None, refl, sym, ap, subst, ◌∙◌, arith}
+use Rattle.gts_count.specs.Cited.{AllByRecursion, Equal, Greater, Less, Ordering, Recent, Row, SortedRows, Tally, bulletins, bytes, bytes_below, counted, draws, draws_among, entry_text, insert_entry, is_at, is_counted, is_eq, is_of, key_line, key_lines, key_text, keys, list_any, lookup, match_ordering, once, ordering_reverse, pointwise, row_in, with_key}
 use Rattle.std.specs.List.Sorted.{IsStrictlySortedBy}
-use Rattle.std.specs.Map.{lookup}
-use Rattle.std.specs.Ordering.{match_ordering, ordering_reverse, is_eq}
-use Rattle.std.specs.declared.cmp.Ordering.{Ordering}
-use Rattle.std.specs.declared.cmp.Ordering.TheVariants.{Less, Equal, Greater}
-use Rattle.std.specs.Cmp.Lexicographic.{pointwise}
-use Rattle.std.specs.BTreeMap.{insert_entry, is_at}
-use Rattle.std.proofs.lemmas.Bool.{true≢false, eq-eqb, ne_eqb}
+use Rattle.std.proofs.lemmas.Bool.{true≢false, eq-eqb, ne_eqb, or_cases, or_parts}
 use Rattle.std.proofs.lemmas.Cmp.{nat_list_cmp_total, nat_list_eq_equiv}
 use Rattle.std.proofs.lemmas.Map.Lookups.{exact_bytes}
 use Rattle.std.proofs.lemmas.List.Sums.{sum_by-cons}
-use Rattle.gts_count.specs.declared.recent.Recent.{Recent}
-use Rattle.gts_count.specs.declared.rows.Row.{Row}
-use Rattle.gts_count.specs.Tally.{Tally, is_of, once, bulletins, bytes, draws, draws_among}
-use Rattle.gts_count.specs.Table.{bytes_below, with_key, keys, key_line, key_text}
-use Rattle.gts_count.specs.Rows.{row_in, counted}
-use Rattle.gts_count.specs.Text.{SortedRows, is_counted, entry_text, key_lines}
-use Rattle.gts_count.proofs.RowLemmas.{same_numbers, same_test}
+use Rattle.gts_count.proofs.RowLemmas.{same_test}
 use Rattle.gts_count.proofs.OrderedLemmas.{Up, one_list}
+use Rattle.gts_frame.proofs.LawLemmas.{same_from_pointwise as same_numbers}
 
 abbrev Entries : Type 0 → Type 0
 Entries X = List (List ℕ × X)
@@ -152,14 +141,6 @@ kept_counts key (k ∷ kept) = go (pointwise nat_eq key k) refl (kept_counts key
     go true is rest = ((λ e. absurd (true≢false e)), (λ e. omega (arith, ones, ap once is)))
     go false is rest = ((λ e. omega (arith, ones, ap once is, rest.0 e)), (λ e. omega (arith, ones, rest.1 e)))
 
-or_cases : (a b : Bool) → (a || b) ≡ true → (a ≡ true) ⊎ (b ≡ true)
-or_cases true b e = inl refl
-or_cases false b e = inr e
-
-or_false : (a b : Bool) → (a || b) ≡ false → (a ≡ false) × (b ≡ false)
-or_false true b e = absurd (true≢false e)
-or_false false b e = (refl, e)
-
 drawn_counts : (key : List ℕ) (drawn : List (List (List ℕ))) → (there key (flat_map (λ kept. kept) drawn) ≡ false → sum_by (draws_among key) drawn ≡ 0) × (there key (flat_map (λ kept. kept) drawn) ≡ true → 1 ≤ sum_by (draws_among key) drawn)
 drawn_counts key [] = ((λ e. refl), (λ e. absurd (true≢false (sym e))))
 drawn_counts key (kept ∷ drawn) =
@@ -168,7 +149,7 @@ drawn_counts key (kept ∷ drawn) =
     let split : there key (kept ++ rest) ≡ (there key kept || there key rest) = there_append key kept rest in
     let here = kept_counts key kept in
     let more = drawn_counts key drawn in (
-      (λ e. let both = or_false (there key kept) (there key rest) (sym split ∙ e) in omega (arith, some, here.0 both.0, more.0 both.1)),
+      (λ e. let both = or_parts (there key kept) (there key rest) (sym split ∙ e) in omega (arith, some, here.0 both.0, more.0 both.1)),
       (λ e. elim (or_cases (there key kept) (there key rest) (sym split ∙ e)) [ inl a ↦ omega (arith, some, here.1 a) | inr b ↦ omega (arith, some, more.1 b) ]),
     )
 

@@ -1,25 +1,11 @@
 -- The rows of a map, one key after another.
-use Rattle.std.proofs.Common.{◌≡◌, ℕ, Bool, true, false, cond, ◌&&◌, nat_eq, List, [], ◌∷◌, Option, Some, None, is_some, refl, sym, ap, subst, ◌∙◌}
-use Rattle.std.specs.Ordering.{is_eq}
-use Rattle.std.specs.Cmp.Lexicographic.{pointwise}
+use Rattle.std.proofs.Common.{◌≡◌, ℕ, Bool, true, false, cond, nat_eq, List, Option, Some, None, is_some, refl, sym, ap, subst, ◌∙◌}
+use Rattle.gts_count.specs.Cited.{AddsRow, ChangesRow, Row, Rows, bytes_below, is_eq, no_row, pointwise, row_at, row_in}
 use Rattle.std.specs.HashMap.{get}
-use Rattle.std.proofs.lemmas.Bool.{true≢false, eqb-true}
+use Rattle.std.proofs.lemmas.Bool.{true≢false}
 use Rattle.std.proofs.lemmas.Cmp.{nat_list_eq_equiv}
 use Rattle.std.proofs.lemmas.Map.Text.{is_eq-slice_cmp}
-use Rattle.gts_count.specs.declared.rows.Row.{Row}
-use Rattle.gts_count.specs.Table.{bytes_below}
-use Rattle.gts_count.specs.Rows.{Rows, row_in, row_at, no_row, ChangesRow, AddsRow}
-
--- lists of the same numbers
-pub same_numbers : (xs ys : List ℕ) → pointwise nat_eq xs ys ≡ true → xs ≡ ys
-same_numbers [] [] e = refl
-same_numbers [] (y ∷ ys) e = absurd (true≢false (sym e))
-same_numbers (x ∷ xs) [] e = absurd (true≢false (sym e))
-same_numbers (x ∷ xs) (y ∷ ys) e =
-    elim (nat_eq x y) as (λ b. nat_eq x y ≡ b → (b && pointwise nat_eq xs ys) ≡ true → x ∷ xs ≡ y ∷ ys) [
-      | true ↦ λ here rest. let same : x ≡ y = eqb-true x y here in let more : xs ≡ ys = same_numbers xs ys rest in cc
-      | false ↦ λ here rest. absurd (true≢false (sym rest))
-    ] refl e
+use Rattle.gts_frame.proofs.LawLemmas.{same_from_pointwise}
 
 -- two tests of the same key
 pub same_test : (key k : List ℕ) → is_eq (bytes_below key k) ≡ pointwise nat_eq k key
@@ -39,7 +25,7 @@ turned key k = nat_list_eq_equiv.symm key k
 
 -- the row that is there keeps its key
 there_too : (m : Rows) (key k : List ℕ) → is_some (get (pointwise nat_eq) m key) ≡ true → pointwise nat_eq key k ≡ true → is_some (get (pointwise nat_eq) m k) ≡ true
-there_too m key k has same = subst (λ (x : List ℕ). is_some (get (pointwise nat_eq) m x) ≡ true) (same_numbers key k same) has
+there_too m key k has same = subst (λ (x : List ℕ). is_some (get (pointwise nat_eq) m x) ≡ true) (same_from_pointwise key k same) has
 
 changes : (m n : Rows) (key : List ℕ) (row : Row) → ((q : List ℕ) → get (pointwise nat_eq) n q ≡ cond (pointwise nat_eq key q) (Some row) (get (pointwise nat_eq) m q)) → is_some (get (pointwise nat_eq) m key) ≡ true → ChangesRow m n key row
 changes m n key row updates has = record {
@@ -69,5 +55,5 @@ adds m n key updates none = record {
 }
   where
     zero : (k : List ℕ) (b : Bool) → pointwise nat_eq key k ≡ b → cond b no_row (row_at m k) ≡ row_at m k
-    zero k true same = sym (ap (λ (x : List ℕ). row_at m x) (sym (same_numbers key k same)) ∙ none_in (get (pointwise nat_eq) m key) none)
+    zero k true same = sym (ap (λ (x : List ℕ). row_at m x) (sym (same_from_pointwise key k same)) ∙ none_in (get (pointwise nat_eq) m key) none)
     zero k false same = refl

@@ -1,17 +1,11 @@
 -- The rows put in order, one after another.
 use Rattle.std.proofs.Common.{◌≡◌, ℕ, Bool, true, false, cond, nat_eq, List, [], ◌∷◌, Option, Some, None, refl, sym, ap, ◌∙◌}
-use Rattle.std.specs.List.{All}
-use Rattle.std.specs.Map.{lookup}
-use Rattle.std.specs.Ordering.{is_eq}
-use Rattle.std.specs.Cmp.Lexicographic.{pointwise}
+use Rattle.gts_count.specs.Cited.{All, AreInOrder, Row, Rows, SortedRows, bytes_below, is_eq, lookup, pointwise}
 use Rattle.std.specs.BTreeMap as tree
 use Rattle.std.specs.HashMap as hash
 use Rattle.std.proofs.lemmas.List.Elements.{All-head, All-same, All-rest}
-use Rattle.gts_count.specs.declared.rows.Row.{Row}
-use Rattle.gts_count.specs.Table.{bytes_below}
-use Rattle.gts_count.specs.Rows.{Rows}
-use Rattle.gts_count.specs.Text.{SortedRows, AreInOrder}
-use Rattle.gts_count.proofs.RowLemmas.{same_numbers, same_test}
+use Rattle.gts_count.proofs.RowLemmas.{same_test}
+use Rattle.gts_frame.proofs.LawLemmas.{same_from_pointwise}
 
 -- what was found, or else the other
 abbrev pub found_or : Option Row → Option Row → Option Row
@@ -53,7 +47,7 @@ one_sorted rows old new k row left rest first so_far updates = (
     was q = sym (ap (λ (es : List (List ℕ × Row)). found_or (tree.get bytes_below old q) (lookup (pointwise nat_eq q) es)) first) ∙ so_far.1 q
 
     go : (q : List ℕ) (b : Bool) → pointwise nat_eq q k ≡ b → found_or (cond b (Some row) (tree.get bytes_below old q)) (lookup (pointwise nat_eq q) rest) ≡ hash.get (pointwise nat_eq) rows q
-    go q true same = sym own ∙ ap (λ (x : List ℕ). hash.get (pointwise nat_eq) rows x) (sym (same_numbers q k same))
+    go q true same = sym own ∙ ap (λ (x : List ℕ). hash.get (pointwise nat_eq) rows x) (sym (same_from_pointwise q k same))
     go q false other = sym (ap (λ (b : Bool). found_or (tree.get bytes_below old q) (cond b (Some row) (lookup (pointwise nat_eq q) rest))) other) ∙ was q
 
 or_none : (o : Option Row) → found_or o None ≡ o

@@ -1,22 +1,13 @@
 -- The running numbers stay those of what was counted.
 use Rattle.std.proofs.Common.{◌≡◌, ℕ, zero, suc, ◌+◌, ◌-◌, ◌*◌, ◌<◌, ◌≤◌, ◌^◌, Bool, true, false, cond, nat_eq, IsTrue, List, [], ◌∷◌, ◌++◌, length, map, drop, set, get_or, sum_by, slice_get, Option, Some, None, is_some, refl, sym, ap, ◌∙◌, arith}
-use Rattle.std.specs.List.{All}
-use Rattle.std.specs.Cmp.Lexicographic.{pointwise}
+use Rattle.gts_count.specs.Cited.{All, Buffer, HasCame, IsCount, IsRing, IsSmall, IsSound, Numbers, Recent, Row, Rows, buffer, came, counted, draws_among, has_row, is_of, keep_last, kept_with, no_ring, once, pointwise, row_at, row_in, with_item, with_newest, without_oldest}
 use Rattle.std.specs.HashMap.{get}
-use Rattle.std.specs.Vec.{with_item}
 use Rattle.std.proofs.lemmas.Bool.{true≢false, eqb-true, eqb-false, eq-eqb}
 use Rattle.std.proofs.lemmas.Cmp.{nat_list_eq_equiv}
 use Rattle.std.proofs.lemmas.Option.{get_or_from_slice_get}
 use Rattle.std.proofs.lemmas.List.{get_or-set_same, get_or-set_other, length-set, length-append, set-set, length-map, get_or-map, map-set}
 use Rattle.std.proofs.lemmas.List.Elements.{All-map, All-set}
 use Rattle.std.proofs.lemmas.List.Sums.{sum_by-cons, sum_by-le, get_or-le-sum_by}
-use Rattle.circular_buffer.specs.Buffer.{Buffer, buffer, keep_last}
-use Rattle.gts_count.specs.declared.recent.Recent.{Recent}
-use Rattle.gts_count.specs.declared.numbers.Numbers.{Numbers}
-use Rattle.gts_count.specs.declared.rows.Row.{Row}
-use Rattle.gts_count.specs.Tally.{is_of, once, came, draws_among}
-use Rattle.gts_count.specs.Rows.{Rows, row_in, row_at, has_row, counted, IsCount}
-use Rattle.gts_count.specs.Numbers.{HasCame, IsSmall, IsRing, IsSound, no_ring, without_oldest, with_newest, kept_with}
 use Rattle.gts_count.proofs.CountLemmas.{tallied, one, size, among, sum_by-more}
 
 -- a list that has a first element

@@ -1,28 +1,12 @@
 -- The numbers of a start: nothing, and what is noted.
-use Rattle.std.proofs.Common.{◌≡◌, ℕ, zero, suc, ◌+◌, ◌<◌, ◌≤◌, ◌^◌, Bool, true, false, cond, nat_eq, List, [], ◌∷◌, ◌++◌, length, get_or, take, map, replicate, sum_by, slice_get, Some, refl, sym, ap, subst, ◌∙◌, arith}
-use Rattle.std.specs.Prelude.{IsTrue}
-use Rattle.std.specs.List.{All}
-use Rattle.std.specs.Map.{lookup}
-use Rattle.std.specs.Cmp.Lexicographic.{pointwise}
+use Rattle.std.proofs.Common.{◌≡◌, ℕ, zero, suc, ◌+◌, ◌<◌, ◌≤◌, ◌^◌, Bool, true, false, cond, nat_eq, List, [], ◌∷◌, ◌++◌, length, get_or, take, map, replicate, sum_by, slice_get, Some, refl, sym, ap, subst, ◌∙◌, arith, IsTrue}
+use Rattle.gts_count.specs.Cited.{All, Begins, Buffer, Bulletin, Circuit, Directory, HasRings, IsRing, IsSmall, MOST_KEPT, MOST_KEPT_OF_FIVE, Notes, NotesStart, Numbers, Prepares, Recent, Row, all_joined, buffer, came, counted, draws_among, has_row, is_bulletin, is_recent, joined, key_of, lookup, no_row, nothing_drawn, pointwise, recent_in, recent_of, row_in, tally_of}
 use Rattle.std.proofs.Math.Seq.{take-suc}
 use Rattle.std.proofs.lemmas.List.{length-map, length-replicate, map-append}
 use Rattle.std.proofs.lemmas.List.Sums.{sum_by-cons}
 use Rattle.std.proofs.lemmas.List.Elements.{All-append}
 use Rattle.std.proofs.lemmas.Option.{get_or_from_slice_get, slice_get_within}
-use Rattle.circular_buffer.specs.Buffer.{Buffer, buffer}
-use Rattle.gts_directory.specs.declared.limits.TheConstants.{MOST_KEPT, MOST_KEPT_OF_FIVE}
-use Rattle.gts_directory.specs.Directory.{Directory, Circuit}
-use Rattle.gts_event.specs.State.{Bulletin, is_recent}
-use Rattle.gts_event.specs.Need.{is_bulletin}
 use Rattle.gts_event.proofs.LawLemmas.{bulletin-parts}
-use Rattle.gts_count.specs.declared.recent.Recent.{Recent}
-use Rattle.gts_count.specs.declared.rows.Row.{Row}
-use Rattle.gts_count.specs.declared.numbers.Numbers.{Numbers}
-use Rattle.gts_count.specs.Tally.{came, draws_among, key_of, recent_of, recent_in}
-use Rattle.gts_count.specs.Rows.{row_in, has_row, no_row, counted}
-use Rattle.gts_count.specs.Numbers.{IsRing, IsSmall, joined, all_joined, tally_of}
-use Rattle.gts_count.specs.Counting.{Notes, Prepares}
-use Rattle.gts_count.specs.Start.{HasRings, Begins, NotesStart, nothing_drawn}
 use Rattle.gts_count.proofs.SoundLemmas.{single}
 use Rattle.gts_count.proofs.KeyLemmas.{key_body}
 

@@ -1,30 +1,14 @@
 -- A start is noted item by item: its bulletins, the keys by their positions, and the kept draws.
-use Rattle.std.proofs.Common.{◌≡◌, ℕ, suc, ◌+◌, ◌-◌, ◌<◌, ◌≤◌, Bool, true, false, ◌==◌, cond, ◌⊎◌, inl, inr, List, [], ◌∷◌, ◌++◌, length, get_or, set, take, drop, map, filter, Option, Some, None, is_some, refl, sym, ap, subst, ◌∙◌, arith, length-append, append_assoc}
-use Rattle.std.specs.Prelude.{IsTrue, option_map, unwrap_or}
-use Rattle.std.specs.List.{All}
-use Rattle.std.specs.Ordering.{nat_cmp, is_eq}
-use Rattle.std.specs.declared.cmp.Ordering.TheVariants.{Less, Equal, Greater}
-use Rattle.std.specs.Cmp.{nat_cmp_is}
-use Rattle.std.specs.BTreeMap.{BTreeMap, get}
+use Rattle.std.proofs.Common.{◌≡◌, ℕ, suc, ◌+◌, ◌<◌, ◌≤◌, Bool, true, false, ◌==◌, cond, ◌⊎◌, inl, inr, List, [], ◌∷◌, ◌++◌, length, get_or, set, take, map, filter, Option, Some, None, is_some, refl, sym, ap, subst, ◌∙◌, arith, length-append, append_assoc, IsTrue, option_map, unwrap_or}
+use Rattle.gts_count.specs.Cited.{All, BTreeMap, Buffer, Bulletin, CircuitNeed, Directory, Equal, Greater, HasKeys, Less, NotesAll, NotesDraw, NotesDraws, NotesKept, NotesStart, Numbers, Recent, all_joined, at_position, buffer, get, has_row, is_eq, is_recent, keep_last, kept_with, key_by, key_of, nat_cmp, nat_cmp_is, no_ring, recent_in, recent_of, ring_at, ring_with, unused}
 use Rattle.std.proofs.Math.Seq.{take-suc, get_or-append_seam}
 use Rattle.std.proofs.Math.ListN.{get_or-append}
 use Rattle.std.proofs.lemmas.Bool.{true≢false, eqb-true, eq-eqb, ne_eqb, cases_lt, cases_eq}
-use Rattle.std.proofs.lemmas.List.{length-map, map-append, take-map, get_or-map, get_or-set_same, get_or-set_other, set-set, set-get_or, append-nil, length-set}
+use Rattle.std.proofs.lemmas.List.{length-map, map-append, take-map, get_or-map, get_or-set_same, get_or-set_other, set-set, length-set}
 use Rattle.std.proofs.lemmas.List.Elements.{All-append, filter-append}
-use Rattle.circular_buffer.specs.Buffer.{Buffer, buffer, keep_last}
-use Rattle.gts_directory.specs.Directory.{Directory}
-use Rattle.gts_event.specs.State.{Bulletin, is_recent}
-use Rattle.gts_event.specs.Need.{CircuitNeed, unused}
-use Rattle.gts_count.specs.declared.recent.Recent.{Recent}
-use Rattle.gts_count.specs.declared.numbers.Numbers.{Numbers}
-use Rattle.gts_count.specs.Tally.{key_of, recent_of, recent_in}
-use Rattle.gts_count.specs.Rows.{has_row}
-use Rattle.gts_count.specs.Numbers.{IsSound, all_joined, no_ring, ring_at, kept_with}
-use Rattle.gts_count.specs.Counting.{NotesDraw}
-use Rattle.gts_count.specs.Start.{NotesStart, NotesAll, HasKeys, at_position, key_by, ring_with, NotesKept, NotesDraws}
-use Rattle.gts_count.proofs.StateLemmas.{last-more}
 use Rattle.gts_count.proofs.SoundLemmas.{single}
 use Rattle.gts_count.proofs.StepLemmas.{all_joined-append}
+use Rattle.gts_event.proofs.LawLemmas.{last_more}
 
 -- one item more
 pub item_more : {A B : Type 0} (f : A → B) (xs : List A) (i : ℕ) (x : A) → i < length xs → x ≡ get_or xs i x → take (i + 1) (map f xs) ≡ take i (map f xs) ++ f x ∷ []
@@ -123,7 +107,7 @@ key_new bs b key old new has none is updates p =
 ring_more : (ring : Buffer (List ℕ)) (ks : List (List ℕ)) (key : List ℕ) → kept_with (ring_with ring ks) key ≡ ring_with ring (ks ++ key ∷ [])
 ring_more ring ks key =
     ap (λ (xs : List (List ℕ)). buffer xs ring.capacity)
-    (last-more ring.capacity (ring.items ++ ks) (key ∷ []) ∙ ap (keep_last ring.capacity) (append_assoc ring.items ks (key ∷ [])))
+    (last_more ring.capacity (ring.items ++ ks) (key ∷ []) ∙ ap (keep_last ring.capacity) (append_assoc ring.items ks (key ∷ [])))
 
 pub kept_more : (keys : BTreeMap ℕ (List ℕ)) (c : ℕ) (ps : List ℕ) (p : ℕ) (key : List ℕ) (old mid new : Numbers) → c < length old.drawn.items → get nat_cmp keys p ≡ Some key → NotesKept keys c ps old mid → NotesDraw mid new c key
     → NotesKept keys c (ps ++ p ∷ []) old new
@@ -187,22 +171,3 @@ draws_more keys cs q old mid new inside all one = record {
         ∙ ap (λ (r : Buffer (List ℕ)). ring_with r (map (key_by keys) q.kept)) (all.rest (length cs) (omega arith))
         ∙ ap (λ (c : CircuitNeed). ring_with (ring_at old (length cs)) (map (key_by keys) c.kept)) (sym (get_or-append_seam cs q [] unused))
         ∙ sym (ap (λ (j : ℕ). ring_with (ring_at old j) (map (key_by keys) (get_or (cs ++ q ∷ []) j unused).kept)) here)
-
--- nothing was noted yet
-pub kept_none : (keys : BTreeMap ℕ (List ℕ)) (c : ℕ) (n : Numbers) → IsSound n → c < length n.drawn.items → NotesKept keys c [] n n
-kept_none keys c n sound inside = record {
-  sound = sound;
-  drawn = sym (ap (set n.drawn.items c) whole ∙ set-get_or n.drawn.items c no_ring);
-  recent = refl;
-  rows = λ key. refl;
-  came = refl;
-}
-  where
-    ring : Buffer (List ℕ)
-    ring = ring_at n c
-
-    few : length ring.items - ring.capacity ≡ 0
-    few = let fits = sound.kept c no_ring inside in omega (arith, fits.0)
-
-    whole : ring_with ring [] ≡ ring
-    whole = ap (λ (xs : List (List ℕ)). buffer (keep_last ring.capacity xs) ring.capacity) (append-nil ring.items) ∙ ap (λ (j : ℕ). buffer (drop j ring.items) ring.capacity) few

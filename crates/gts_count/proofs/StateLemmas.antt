@@ -1,45 +1,12 @@
 -- What is counted of a need is what is counted of its state; and what changes that.
-use Rattle.std.proofs.Common.{◌≡◌, ℕ, zero, suc, ◌+◌, ◌-◌, ◌<◌, ◌≤◌, Bool, true, false, ◌&&◌, ◌||◌, ◌==◌, nat_lt, cond, List, [], ◌∷◌, ◌++◌, length, get_or, set, drop, map, filter, zip, Option, Some, None, refl, sym, ap, ◌∙◌, inl, inr, ◌⊎◌, arith}
-use Rattle.std.specs.List.{list_any, list_all, find, enumerate_from}
-use Rattle.std.proofs.lemmas.Bool.{true≢false, eqb-true, eq-eqb, ne_eqb, ltb-true}
-use Rattle.std.proofs.lemmas.List.{drop-map, length-map, length-drop, length-append, map-append, drop-append-le, drop-drop}
-use Rattle.circular_buffer.specs.Buffer.{keep_last}
-use Rattle.gts_directory.specs.Directory.{Directory, Circuit}
-use Rattle.gts_event.specs.State.{State, CircuitState, Bulletin, has, is_recent, last_of, idle}
-use Rattle.gts_event.specs.Need.{need, is_needed, circuit_need, circuit_needs, CircuitNeed, are_below}
-use Rattle.gts_event.specs.History.{with_routed, routed_to, all_owed_last}
-use Rattle.gts_count.specs.declared.recent.Recent.{Recent}
-use Rattle.gts_count.specs.Tally.{Tally, tally, key_of, key_at}
-use Rattle.gts_count.specs.State.{drawn_of, tally_at}
+use Rattle.std.proofs.Common.{◌≡◌, ℕ, zero, suc, ◌+◌, ◌-◌, ◌<◌, Bool, true, false, ◌||◌, ◌==◌, nat_lt, cond, List, [], ◌∷◌, ◌++◌, length, get_or, set, drop, map, zip, Option, Some, None, refl, sym, ap, ◌∙◌, inl, inr, arith}
+use Rattle.gts_count.specs.Cited.{Bulletin, Circuit, CircuitNeed, CircuitState, Directory, Recent, State, Tally, all_owed_last, are_below, circuit_need, circuit_needs, drawn_of, enumerate_from, find, has, idle, is_needed, is_recent, keep_last, key_at, key_of, last_of, list_all, list_any, need, routed_to, tally, tally_at, with_routed}
+use Rattle.std.proofs.lemmas.Bool.{true≢false, eqb-true, eq-eqb, ne_eqb, ltb-true, or_left, or_right, or_cases, and_parts}
+use Rattle.std.proofs.lemmas.List.{drop-map, length-map, map-append}
 use Rattle.gts_count.proofs.WindowLemmas.{counts_window}
+use Rattle.gts_event.proofs.LawLemmas.{find_filter, has_drop, last_more}
 
 -- ---- a need has the bulletins that its kept draws have
-
--- the first that passes a test is found after a test that holds wherever this one does
-find_filter : {X : Type 0} (f g : X → Bool) (xs : List X) → ((x : X) → g x ≡ true → f x ≡ true) → find g (filter f xs) ≡ find g xs
-find_filter f g [] h = refl
-find_filter {X} f g (x ∷ xs) h = go (find_filter f g xs h) (f x) refl (g x) refl
-  where
-    go : find g (filter f xs) ≡ find g xs → (b : Bool) → f x ≡ b → (c : Bool) → g x ≡ c → find g (cond b (x ∷ filter f xs) (filter f xs)) ≡ cond c (Some x) (find g xs)
-    go more true e true e' = rw e' refl
-    go more true e false e' = rw e' more
-    go more false e true e' = absurd (let t : f x ≡ true = h x e' in true≢false (sym t ∙ e))
-    go more false e false e' = more
-
-or_left : (a b : Bool) → a ≡ true → (a || b) ≡ true
-or_left a b e = rw e refl
-
-or_right : (a b : Bool) → b ≡ true → (a || b) ≡ true
-or_right true b e = refl
-or_right false b e = e
-
-or_cases : (a b : Bool) → (a || b) ≡ true → (a ≡ true) ⊎ (b ≡ true)
-or_cases true b e = inl refl
-or_cases false b e = inr e
-
-and_true : (a b : Bool) → (a && b) ≡ true → (a ≡ true) × (b ≡ true)
-and_true true b e = (refl, e)
-and_true false b e = absurd (true≢false (sym e))
 
 -- the same of each position of a list
 same_keys : (f g : ℕ → List ℕ) (ps : List ℕ) → ((p : ℕ) → has ps p ≡ true → f p ≡ g p) → map f ps ≡ map g ps
@@ -144,22 +111,17 @@ key-more bs b p e = ap (λ (o : Option Bulletin). key_of (elim o as (λ _. List 
 all_has : (n : ℕ) (ps : List ℕ) (p : ℕ) → list_all (λ q. nat_lt q n) ps ≡ true → has ps p ≡ true → nat_lt p n ≡ true
 all_has n [] p all there = absurd (true≢false (sym there))
 all_has n (q ∷ ps) p all there = elim (or_cases (q == p) (has ps p) there) [
-  | inl same ↦ ap (λ (x : ℕ). nat_lt x n) (sym (eqb-true q p same)) ∙ (and_true (nat_lt q n) (list_all (λ q. nat_lt q n) ps) all).0
-  | inr rest ↦ all_has n ps p (and_true (nat_lt q n) (list_all (λ q. nat_lt q n) ps) all).1 rest
+  | inl same ↦ ap (λ (x : ℕ). nat_lt x n) (sym (eqb-true q p same)) ∙ (and_parts (nat_lt q n) (list_all (λ q. nat_lt q n) ps) all).0
+  | inr rest ↦ all_has n ps p (and_parts (nat_lt q n) (list_all (λ q. nat_lt q n) ps) all).1 rest
 ]
 
-has_drop : (k : ℕ) (xs : List ℕ) (p : ℕ) → has (drop k xs) p ≡ true → has xs p ≡ true
-has_drop zero xs p h = h
-has_drop (suc k) [] p h = h
-has_drop (suc k) (x ∷ xs) p h = or_right (x == p) (has xs p) (has_drop k xs p h)
-
-drawn-more : (rows : List Circuit) (bs : List Bulletin) (b : Bulletin) (qs : List CircuitState) → list_all (are_below b.position) qs ≡ true
+pub drawn-more : (rows : List Circuit) (bs : List Bulletin) (b : Bulletin) (qs : List CircuitState) → list_all (are_below b.position) qs ≡ true
     → drawn_of rows (bs ++ b ∷ []) (map (λ (q : CircuitState). q.taken) qs) ≡ drawn_of rows bs (map (λ (q : CircuitState). q.taken) qs)
 drawn-more [] bs b qs all = refl
 drawn-more (row ∷ rows) bs b [] all = refl
 drawn-more (row ∷ rows) bs b (q ∷ qs) all =
-    let both = and_true (are_below b.position q) (list_all (are_below b.position) qs) all in
-    let taken = (and_true (list_all (λ p. nat_lt p b.position) q.routed) (list_all (λ p. nat_lt p b.position) q.taken) both.0).1 in
+    let both = and_parts (are_below b.position q) (list_all (are_below b.position) qs) all in
+    let taken = (and_parts (list_all (λ p. nat_lt p b.position) q.routed) (list_all (λ p. nat_lt p b.position) q.taken) both.0).1 in
     cons_lists (map (key_at (bs ++ b ∷ [])) (last_of row.kept q.taken)) (map (key_at bs) (last_of row.kept q.taken)) (drawn_of rows (bs ++ b ∷ []) (map (λ (q : CircuitState). q.taken) qs)) (drawn_of rows bs (map (λ (q : CircuitState). q.taken) qs))
     (same_keys (key_at (bs ++ b ∷ [])) (key_at bs) (last_of row.kept q.taken)
     (λ p there. key-more bs b p (ne_eqb b.position p (λ e. below p (all_has b.position q.taken p taken (has_drop (length q.taken - row.kept) q.taken p there)) e))))
@@ -168,26 +130,12 @@ drawn-more (row ∷ rows) bs b (q ∷ qs) all =
     below : (p : ℕ) → nat_lt p b.position ≡ true → b.position ≡ p → ⊥
     below p less e = let lt : p < b.position = ltb-true p b.position less in omega (arith, lt, e)
 
--- a bulletin of a new position changes no key
-pub drawn-accepted : (rows : List Circuit) (bs : List Bulletin) (b : Bulletin) (qs : List CircuitState) → list_all (are_below b.position) qs ≡ true
-    → drawn_of rows (bs ++ b ∷ []) (map (λ (q : CircuitState). q.taken) qs) ≡ drawn_of rows bs (map (λ (q : CircuitState). q.taken) qs)
-drawn-accepted rows bs b qs all = drawn-more rows bs b qs all
-
 -- ---- one draw more
-
-pub last-more : {A : Type 0} (k : ℕ) (xs ys : List A) → last_of k (last_of k xs ++ ys) ≡ last_of k (xs ++ ys)
-last-more k xs ys =
-    let m : ℕ = length xs - k in
-    let low : m ≤ length xs = omega arith in
-    let e : m + (length (drop m xs ++ ys) - k) ≡ length (xs ++ ys) - k = omega (arith, length-append (drop m xs) ys, length-append xs ys, length-drop m xs) in
-    sym (ap (drop (length (drop m xs ++ ys) - k)) (drop-append-le m xs ys low))
-    ∙ drop-drop (length (drop m xs ++ ys) - k) m (xs ++ ys)
-    ∙ ap (λ (n : ℕ). drop n (xs ++ ys)) e
 
 keys-more : (f : ℕ → List ℕ) (k : ℕ) (ts : List ℕ) (p : ℕ) → map f (last_of k (ts ++ p ∷ [])) ≡ keep_last k (map f (last_of k ts) ++ f p ∷ [])
 keys-more f k ts p =
     let mine : List ℕ = last_of k ts ++ p ∷ [] in
-    ap (map f) (sym (last-more k ts (p ∷ [])))
+    ap (map f) (sym (last_more k ts (p ∷ [])))
     ∙ sym (drop-map f (length mine - k) mine)
     ∙ ap (λ (n : ℕ). drop (n - k) (map f mine)) (sym (length-map mine f))
     ∙ ap (keep_last k) (map-append f (last_of k ts) (p ∷ []))

@@ -1,21 +1,10 @@
 -- The bulletins of the window, when one more joins them.
-use Rattle.std.proofs.Common.{◌≡◌, ℕ, ◌+◌, ◌-◌, ◌<◌, ◌≤◌, Bool, true, false, ◌&&◌, ◌||◌, ◌==◌, nat_lt, nat_le, cond, inl, inr, List, [], ◌∷◌, ◌++◌, length, map, filter, refl, sym, ap, subst, ◌∙◌, arith}
-use Rattle.std.specs.List.{list_all}
-use Rattle.std.proofs.lemmas.Bool.{true≢false, ne_eqb, ltb-true, le-leb, leb-true, lt-leb, cases_lt}
+use Rattle.std.proofs.Common.{◌≡◌, ℕ, ◌+◌, ◌-◌, ◌<◌, ◌≤◌, Bool, true, false, ◌||◌, ◌==◌, nat_lt, nat_le, cond, inl, inr, List, [], ◌∷◌, ◌++◌, length, map, filter, refl, sym, ap, subst, ◌∙◌, arith}
+use Rattle.gts_count.specs.Cited.{Bulletin, Climbs, Directory, IsHeld, Recent, State, all_joined, is_bulletin, is_recent, joined, leaves, list_all, positions_of, recent_in, recent_of}
+use Rattle.std.proofs.lemmas.Bool.{ne_eqb, ltb-true, le-leb, leb-true, lt-leb, cases_lt, and_parts}
 use Rattle.std.proofs.lemmas.List.{append-nil, append_assoc, length-append}
 use Rattle.std.proofs.lemmas.List.Elements.{filter-append}
-use Rattle.gts_directory.specs.Directory.{Directory}
-use Rattle.gts_event.specs.State.{State, Bulletin, is_recent}
-use Rattle.gts_event.specs.Need.{positions_of, is_bulletin}
-use Rattle.gts_event.specs.Held.{IsHeld, Climbs}
 use Rattle.gts_event.proofs.LawLemmas.{bulletin-parts}
-use Rattle.gts_count.specs.declared.recent.Recent.{Recent}
-use Rattle.gts_count.specs.Tally.{recent_of, recent_in}
-use Rattle.gts_count.specs.Numbers.{leaves, joined, all_joined}
-
-and_both : (a b : Bool) → (a && b) ≡ true → (a ≡ true) × (b ≡ true)
-and_both true b e = (refl, e)
-and_both false b e = absurd (true≢false (sym e))
 
 -- ---- bulletins in the order of their positions, among the last ones of so many
 
@@ -30,7 +19,7 @@ InWindow w n (r ∷ rs) = (r.position < n) × (n ≤ r.position + w) × AllAbove
 above_in : (d : Directory) (n m : ℕ) (bs : List Bulletin) → list_all (nat_lt m) (positions_of bs) ≡ true → AllAbove m (recent_in d n bs)
 above_in d n m [] e = tt
 above_in d n m (b ∷ bs) e =
-    let both = and_both (nat_lt m b.position) (list_all (nat_lt m) (positions_of bs)) e in
+    let both = and_parts (nat_lt m b.position) (list_all (nat_lt m) (positions_of bs)) e in
     elim (is_recent d n b.position) as (λ t. AllAbove m (map recent_of (cond t (b ∷ filter (λ (x : Bulletin). is_recent d n x.position) bs) (filter (λ (x : Bulletin). is_recent d n x.position) bs)))) [
       | true ↦ (ltb-true m b.position both.0, above_in d n m bs both.1)
       | false ↦ above_in d n m bs both.1
@@ -40,7 +29,7 @@ above_in d n m (b ∷ bs) e =
 pub counted_window : (d : Directory) (n : ℕ) (bs : List Bulletin) → Climbs (positions_of bs) → list_all (is_bulletin d n) bs ≡ true → InWindow d.window n (recent_in d n bs)
 counted_window d n [] up all = tt
 counted_window d n (b ∷ bs) up all =
-    let both : (is_bulletin d n b ≡ true) × (list_all (is_bulletin d n) bs ≡ true) = and_both (is_bulletin d n b) (list_all (is_bulletin d n) bs) all in
+    let both : (is_bulletin d n b ≡ true) × (list_all (is_bulletin d n) bs ≡ true) = and_parts (is_bulletin d n b) (list_all (is_bulletin d n) bs) all in
     go both.0 (counted_window d n bs up.1 both.1) (is_recent d n b.position) refl
   where
     go : is_bulletin d n b ≡ true → InWindow d.window n (recent_in d n bs) → (t : Bool) → is_recent d n b.position ≡ t → InWindow d.window n (map recent_of (cond t (b ∷ filter (λ (x : Bulletin). is_recent d n x.position) bs) (filter (λ (x : Bulletin). is_recent d n x.position) bs)))

@@ -1,30 +1,9 @@
 -- What a take leads to, a loss, and an opening of the journal, beside the numbers.
-use Rattle.std.proofs.Common.{◌≡◌, ℕ, zero, suc, ◌+◌, ◌<◌, Bool, true, false, ◌&&◌, ◌==◌, cond, List, [], ◌∷◌, ◌++◌, length, get_or, map, Option, Some, None, Result, Ok, Err, slice_get, refl, sym, ap, ◌∙◌, arith}
-use Rattle.std.specs.Prelude.{IsTrue}
-use Rattle.std.specs.List.{find, list_all}
+use Rattle.std.proofs.Common.{◌≡◌, ℕ, zero, suc, ◌+◌, ◌<◌, Bool, true, false, ◌&&◌, ◌==◌, cond, List, [], ◌∷◌, ◌++◌, length, get_or, map, Option, Some, None, Result, Ok, Err, slice_get, refl, sym, ap, ◌∙◌, arith, IsTrue}
+use Rattle.gts_count.specs.Cited.{Accepted, AfterHeard, AfterTaken, Asked, Bulletin, Circuit, Counting, Counts, Directory, DiskFault, Draw, Duplicate, Entry, Follows, Full, GoesOn, IsDrawn, IsTold, Knows, LineLost, Lost, LostField, NoMemory, Nothing, OpenFault, Outcome, Refused, Resend, Restarted, SayFault, Spent, State, Stopped, SwitchFault, Taken, after, after_all, choice, digits_on, find, has_row, is_bulletin, key_of, key_of_frame, list_all, numbered_frame, on, outcome, restart_of, restarted, spoken}
 use Rattle.std.proofs.lemmas.Bool.{true≢false}
 use Rattle.std.proofs.lemmas.List.{length-map}
-use Rattle.gts_directory.specs.Directory.{Directory, Circuit}
-use Rattle.gts_event.specs.State.{State, Bulletin}
-use Rattle.gts_event.specs.History.{outcome, choice, after, after_all, digits_on, restarted}
-use Rattle.gts_event.specs.Need.{is_bulletin}
-use Rattle.gts_event.specs.Said.{spoken, numbered_frame}
-use Rattle.gts_event.specs.declared.event.Event.TheVariants.{Lost, Taken}
-use Rattle.gts_event.specs.declared.event.Entry.{Entry}
-use Rattle.gts_event.specs.declared.event.Entry.TheVariants.{Restarted}
-use Rattle.gts_event.specs.declared.outcome.Outcome.{Outcome}
-use Rattle.gts_event.specs.declared.outcome.Outcome.TheVariants.{Accepted, Duplicate, Asked, Refused, LineLost, Resend, Draw, Nothing}
-use Rattle.gts_event.specs.declared.fault.SwitchFault.{SwitchFault}
-use Rattle.gts_event.specs.declared.fault.SwitchFault.TheVariants.{DiskFault, SayFault, Full, Stopped, Spent, NoMemory}
-use Rattle.gts_frame.specs.declared.lost.LostField.{LostField}
 use Rattle.gts_event.proofs.LawLemmas.{outcome-same, spoken-same, bulletin-parts}
-use Rattle.gts_traits.specs.Station.{on}
-use Rattle.gts_record.specs.declared.fault.OpenFault.{OpenFault}
-use Rattle.gts_calls.specs.Calls.{restart_of}
-use Rattle.gts_count.specs.declared.counting.Counting.{Counting}
-use Rattle.gts_count.specs.Tally.{key_of}
-use Rattle.gts_count.specs.Rows.{has_row}
-use Rattle.gts_count.specs.Counting.{Follows, Knows, Counts, IsTold, GoesOn, AfterHeard, AfterTaken, IsDrawn, key_of_frame}
 use Rattle.gts_count.proofs.KeyLemmas.{key_frame, draw_says, said_bytes}
 use Rattle.gts_count.proofs.FollowLemmas.{follows_taken, follows_restarted, follows_drawn, drawn_there, choice_is}
 use Rattle.gts_count.proofs.CountingLemmas.{circuits_of, carried, carried_by, all_rest, same_after, outdated_after, counts_more}

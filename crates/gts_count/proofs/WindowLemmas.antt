@@ -1,19 +1,9 @@
 -- The bulletins of the window, when one more is accepted.
 use Rattle.std.proofs.Common.{◌≡◌, ℕ, ◌+◌, ◌≤◌, Bool, true, false, ◌||◌, nat_le, cond, List, [], ◌∷◌, ◌++◌, map, filter, refl, sym, ap, ◌∙◌}
-use Rattle.std.specs.List.{list_any}
+use Rattle.gts_count.specs.Cited.{Accepted, Bulletin, Directory, HasWindow, Heard, Kind, Outcome, Recent, State, after, after_heard, arrived, body_of, circuit_needs, counted_with, has, heading_of_message, heard_of, is_needed, is_recent, last_counted, list_any, named, need, outcome, positions_of, recent, recent_of, recent_positions, tally}
+use Rattle.gts_event.specs.History.{with_bulletin}
 use Rattle.std.proofs.lemmas.List.{map-append}
-use Rattle.gts_frame.specs.declared.kind.Kind.{Kind}
-use Rattle.gts_directory.specs.Directory.{Directory, named}
-use Rattle.gts_event.specs.State.{State, Bulletin, has, is_recent, recent}
-use Rattle.gts_event.specs.History.{outcome, after, after_heard, body_of, heading_of_message, with_bulletin}
-use Rattle.gts_event.specs.Need.{need, is_needed, circuit_needs, positions_of, recent_positions}
-use Rattle.gts_event.specs.declared.event.Event.TheVariants.{Heard}
-use Rattle.gts_event.specs.declared.outcome.Outcome.{Outcome}
-use Rattle.gts_event.specs.declared.outcome.Outcome.TheVariants.{Accepted}
 use Rattle.gts_event.proofs.LawLemmas.{filter_first, recent_more, recent_all, accepted_position}
-use Rattle.gts_count.specs.declared.recent.Recent.{Recent}
-use Rattle.gts_count.specs.Tally.{tally, recent_of, arrived}
-use Rattle.gts_count.specs.Going.{HasWindow, heard_of, last_counted, counted_with}
 
 -- what is counted is what the window has, though a need has fewer bulletins than a state
 pub counts_window : (d : Directory) (t : State) → (tally d (need d t)).recent ≡ map recent_of (recent d t)

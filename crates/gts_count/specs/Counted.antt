@@ -1,13 +1,6 @@
 -- A switch with running numbers beside it.
 use Rattle.std.specs.Prelude.{◌≡◌, ℕ, List}
-use Rattle.gts_directory.specs.Directory.{Directory}
-use Rattle.gts_event.specs.State.{State}
-use Rattle.gts_event.specs.History.{after_all}
-use Rattle.gts_event.specs.Need.{Need, need}
-use Rattle.gts_event.specs.declared.event.Entry.{Entry}
-use Rattle.gts_event.specs.Drain.{all_done}
-use Rattle.gts_opening.specs.Room.{HasDoubt, HasUnsaid}
-use Rattle.gts_calls.specs.Calls.{Standing, settled}
+use Rattle.gts_count.specs.Cited.Below.{Directory, Entry, HasDoubt, HasUnsaid, Need, Standing, State, after_all, all_done, need, settled}
 use Rattle.gts_count.specs.declared.parts.Parts.{Parts}
 use Rattle.gts_count.specs.Table.{table}
 use Rattle.gts_count.specs.Counting.{Counts, StandsAt}

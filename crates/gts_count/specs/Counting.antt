@@ -1,21 +1,6 @@
 -- The running numbers beside the history for which a switch stands.
 use Rattle.std.specs.Prelude.{◌≡◌, ◌⊎◌, ℕ, ◌+◌, ◌<◌, ◌≤◌, slice_get, Bool, true, false, List, slice_set, length, map, take, drop, Option, Some, None, Result, Ok, Err, IsTrue}
-use Rattle.std.specs.List.{All}
-use Rattle.gts_frame.specs.declared.kind.Kind.{Kind}
-use Rattle.gts_directory.specs.Directory.{Directory}
-use Rattle.gts_event.specs.State.{State}
-use Rattle.gts_event.specs.History.{outcome, after}
-use Rattle.gts_event.specs.Held.{IsHeld}
-use Rattle.gts_event.specs.Need.{Need, need, keeps_one, IsOrdered}
-use Rattle.gts_event.specs.Stand.{SameNeed}
-use Rattle.gts_event.specs.declared.event.Event.{Event}
-use Rattle.gts_event.specs.declared.event.Event.TheVariants.{Heard}
-use Rattle.gts_event.specs.declared.event.Entry.{Entry}
-use Rattle.gts_event.specs.declared.outcome.Outcome.{Outcome}
-use Rattle.gts_event.specs.declared.outcome.Outcome.TheVariants.{Accepted, Draw}
-use Rattle.gts_event.specs.declared.fault.SwitchFault.{SwitchFault}
-use Rattle.gts_event.specs.declared.fault.SwitchFault.TheVariants.{DiskFault, SayFault}
-use Rattle.gts_opening.specs.Room.{HasDoubt, HasUnsaid}
+use Rattle.gts_count.specs.Cited.Below.{Accepted, All, Directory, DiskFault, Draw, Entry, Event, HasDoubt, HasUnsaid, Heard, IsHeld, IsOrdered, Kind, Need, Outcome, SameNeed, SayFault, State, SwitchFault, after, keeps_one, need, outcome}
 use Rattle.gts_count.specs.declared.recent.Recent.{Recent}
 use Rattle.gts_count.specs.declared.recent.Arrival.{Arrival}
 use Rattle.gts_count.specs.declared.numbers.Numbers.{Numbers}

@@ -1,9 +1,6 @@
 -- How what is counted goes on with a history.
 use Rattle.std.specs.Prelude.{ℕ, ◌+◌, List, [], ◌∷◌, ◌++◌, length, filter}
-use Rattle.gts_directory.specs.Directory.{Directory}
-use Rattle.gts_event.specs.State.{State, is_recent}
-use Rattle.gts_event.specs.History.{body_of}
-use Rattle.gts_event.specs.Need.{need}
+use Rattle.gts_count.specs.Cited.Below.{Directory, State, body_of, is_recent, need}
 pub use Rattle.gts_event.specs.Need.{HasWindow}
 use Rattle.gts_count.specs.declared.recent.Recent.{Recent}
 use Rattle.gts_count.specs.declared.recent.Arrival.{Arrival}

@@ -8,6 +8,5 @@ pub mod Counting
 pub mod Counted
 pub mod Text
 pub mod Start
-pub mod Cited
 pub mod Worked
-pub use Rattle.gts_count.specs.Table.{table}
+pub mod Cited

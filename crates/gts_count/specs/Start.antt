@@ -1,13 +1,6 @@
 -- The numbers that a start has: nothing counted, and then its bulletins and its kept draws, one after another.
 use Rattle.std.specs.Prelude.{◌≡◌, ℕ, ◌<◌, ◌≤◌, ◌==◌, List, [], ◌∷◌, ◌++◌, length, map, option_map, unwrap_or, slice_set, slice_index_or, Option, Some, is_ok, IsTrue}
-use Rattle.std.specs.List.{All, find}
-use Rattle.std.specs.Ordering.{nat_cmp}
-use Rattle.std.specs.BTreeMap.{BTreeMap, get}
-use Rattle.circular_buffer.specs.Buffer.{Buffer, buffer, keep_last}
-use Rattle.gts_directory.specs.Directory.{Directory}
-use Rattle.gts_event.specs.State.{Bulletin}
-use Rattle.gts_message.specs.Message.{body_at}
-use Rattle.gts_event.specs.Need.{Need, CircuitNeed, unused}
+use Rattle.gts_count.specs.Cited.Below.{All, BTreeMap, Buffer, Bulletin, CircuitNeed, Directory, Need, body_at, buffer, find, get, keep_last, nat_cmp, unused}
 use Rattle.gts_count.specs.declared.numbers.Numbers.{Numbers}
 use Rattle.gts_count.specs.Tally.{tally, key_of, recent_in}
 use Rattle.gts_count.specs.Rows.{has_row}

@@ -1,7 +1,6 @@
 -- What is counted of a state, by its own bulletins.
 use Rattle.std.specs.Prelude.{ℕ, List, map, zip}
-use Rattle.gts_directory.specs.Directory.{Directory, Circuit}
-use Rattle.gts_event.specs.State.{State, Bulletin, recent, last_of}
+use Rattle.gts_count.specs.Cited.Below.{Bulletin, Circuit, Directory, State, last_of, recent}
 use Rattle.gts_count.specs.Tally.{Tally, recent_of, key_at}
 
 -- the positions that were drawn on each circuit

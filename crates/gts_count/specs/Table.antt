@@ -1,12 +1,6 @@
 -- The table: what was counted, in lines for the operator, each ended by LF (profile). Numbers are plain decimals.
 use Rattle.std.specs.Prelude.{ℕ, ◌+◌, List, [], ◌∷◌, ◌++◌, length, map, fold, flat_map, codes, decimal}
-use Rattle.std.specs.Ordering.{nat_cmp}
-use Rattle.std.specs.declared.cmp.Ordering.{Ordering}
-use Rattle.std.specs.Cmp.Lexicographic.{slice_cmp}
-use Rattle.std.specs.BTreeMap.{insert_entry}
-use Rattle.gts_alphabet.specs.Digits.{dec}
-use Rattle.gts_directory.specs.Directory.{Directory}
-use Rattle.gts_event.specs.Need.{Need}
+use Rattle.gts_count.specs.Cited.Below.{Directory, Need, Ordering, dec, insert_entry, nat_cmp, slice_cmp}
 use Rattle.gts_count.specs.Tally.{Tally, tally, bulletins, bytes, draws, came}
 
 -- the order of bytes

@@ -1,11 +1,6 @@
 -- What is counted of a need, and the numbers of it, each counted from scratch.
 use Rattle.std.specs.Prelude.{ℕ, Bool, nat_eq, ◌==◌, List, [], length, map, filter, sum_by, take, Some, None, if◌then◌else◌}
-use Rattle.std.specs.List.{find}
-use Rattle.std.specs.Cmp.Lexicographic.{pointwise}
-use Rattle.gts_heading.specs.Heading.{heading_text}
-use Rattle.gts_directory.specs.Directory.{Directory}
-use Rattle.gts_event.specs.State.{Bulletin, is_recent, heading_of}
-use Rattle.gts_event.specs.Need.{Need}
+use Rattle.gts_count.specs.Cited.Below.{Bulletin, Directory, Need, find, heading_of, heading_text, is_recent, pointwise}
 use Rattle.gts_count.specs.declared.recent.Recent.{Recent}
 use Rattle.gts_count.specs.declared.recent.Arrival.{Arrival}
 

@@ -1,9 +1,8 @@
 -- The table as it is written from the running numbers.
 use Rattle.std.specs.Prelude.{◌≡◌, ℕ, ◌+◌, Bool, not, ◌&&◌, ◌==◌, nat_eq, List, [], ◌∷◌, ◌++◌, length, flat_map, codes, if◌then◌else◌}
-use Rattle.std.specs.Cmp.Lexicographic.{pointwise}
+use Rattle.gts_count.specs.Cited.Below.{Buffer, pointwise}
 use Rattle.std.specs.BTreeMap as tree
 use Rattle.std.specs.HashMap as hash
-use Rattle.circular_buffer.specs.Buffer.{Buffer}
 use Rattle.gts_count.specs.declared.rows.Row.{Row}
 use Rattle.gts_count.specs.declared.numbers.Numbers.{Numbers}
 use Rattle.gts_count.specs.Table.{bytes_below, key_text, circuit_text}

@@ -75,9 +75,7 @@ impl<T: Switch> Switch for Counted<T> {
 
 impl<T: Switch> Counted<T> {
     ghost use Rattle.std.specs.Prelude.{IfOk, IfErr, IsTrue};
-    ghost use Rattle.gts_event.specs.Need.{is_sound};
-    ghost use Rattle.gts_event.specs.Items.{need_of};
-    ghost use Rattle.gts_count.specs.Counted.{ShowsTable, StandsWhere};
+    ghost use Rattle.gts_count.specs.Cited.{ShowsTable, StandsWhere, is_sound, need_of};
 
     /// A switch whose numbers begin with those of a need: with a row for each of its bulletins. A refusal hands the switch back.
     pub fn new(

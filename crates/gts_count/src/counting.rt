@@ -1,6 +1,5 @@
 ghost use Rattle.std.specs.Prelude.{◌≡◌, true, None, IsTrue, ◌+◌, ◌<◌, ◌≤◌, ◌^◌, ℕ, List, Ok, OnOk, OnErr, IfOk, IfSome, Some, take, drop, length, Option as OptionOf};
-ghost use Rattle.gts_count.specs.Cited.{Directory, State, Entry, Kind, Heard, Accepted, IsAccepted, WasRead, fields_of, outcome, is_request, IsSound, heard_of};
-ghost use Rattle.gts_count.specs.Counting.{Counts, CanNote, IsReady, Prepares, KeepsRest, AfterAccepted, AfterHeard, AfterTaken, IsDrawn};
+ghost use Rattle.gts_count.specs.Cited.{Accepted, AfterAccepted, AfterHeard, AfterTaken, CanNote, Counts, Directory, Entry, Heard, IsAccepted, IsDrawn, IsReady, IsSound, KeepsRest, Kind, Prepares, State, WasRead, fields_of, heard_of, is_request, outcome};
 
 use crate::rows::has_row;
 use crate::{Arrival, Numbers, arrived};

@@ -1,6 +1,6 @@
 //! Laws of what is counted, each the contract of a function with an empty body.
 ghost use Rattle.std.specs.Prelude.{◌≡◌, ℕ, ◌≤◌, List};
-ghost use Rattle.gts_count.specs.Cited.{Directory, State, Kind, Heard, Accepted, empty, outcome, after, HasWindow, heard_of, arrived, counted_in, counted_with};
+ghost use Rattle.gts_count.specs.Cited.{Accepted, Directory, HasWindow, Heard, Kind, State, after, arrived, counted_in, counted_with, empty, heard_of, outcome};
 
 /// An accepted message joins the bulletins that are counted, of which those stay that are then among the last positions. Where
 /// each recent position has its bulletin, it has so again.

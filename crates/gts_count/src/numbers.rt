@@ -1,7 +1,5 @@
 ghost use Rattle.std.specs.Prelude.{◌≡◌, ◌<◌, ◌++◌, [], ◌∷◌, ℕ, List, drop, length, slice_set, IsTrue, OnOk, OnErr, false};
-ghost use Rattle.circular_buffer.specs.Buffer.{buffer};
-ghost use Rattle.gts_count.specs.Numbers.{IsSound, leaves, joined, ring_at, without_oldest, with_newest, kept_with};
-ghost use Rattle.gts_count.specs.Rows.{has_row};
+ghost use Rattle.gts_count.specs.Cited.{IsSound, buffer, has_row, joined, kept_with, leaves, ring_at, with_newest, without_oldest};
 
 use crate::Recent;
 use crate::rows::{Row, add_row, join, join_draw, leave, leave_draw};

@@ -1,12 +1,7 @@
 //! The numbers of a need: those with nothing counted, to which its bulletins and its kept draws come one after another.
 ghost use Rattle.std.specs.Prelude.{◌≡◌, ◌<◌, ◌≤◌, ◌++◌, [], ◌∷◌, List, IfOk, OnOk, IsSome, is_ok, length, map, replicate, IsTrue};
-ghost use Rattle.std.specs.Ordering.{nat_cmp};
-ghost use Rattle.std.specs.BTreeMap.{get};
-ghost use Rattle.std.specs.List.{All};
-ghost use Rattle.gts_count.specs.Cited.{body_at, buffer, bulletin_of, circuit_need_of, need_of, is_bulletin, is_sound, IsSound, IsRing, Entry};
+ghost use Rattle.gts_count.specs.Cited.{All, AreBodies, Begins, Counts, Entry, HasEachRow, HasKeys, HasRings, IsRing, IsSound, NotesAll, NotesDraws, NotesKept, NotesStart, StandsAt, Starts, body_at, buffer, bulletin_of, circuit_need_of, get, is_bulletin, is_sound, nat_cmp, need_of};
 ghost use Rattle.gts_event.specs.State as states;
-ghost use Rattle.gts_count.specs.Start.{Begins, HasRings, NotesStart, NotesAll, HasKeys, AreBodies, HasEachRow, NotesKept, NotesDraws, Starts};
-ghost use Rattle.gts_count.specs.Counting.{Counts, StandsAt};
 
 use crate::counting::key_in;
 use crate::{Counting, Numbers, Recent};

@@ -1,11 +1,6 @@
 //! The calls of a switch, each passed on, and its outcome noted.
 ghost use Rattle.std.specs.Prelude.{◌≡◌, ◌<◌, ◌≤◌, length};
-ghost use Rattle.gts_alphabet.specs.declared.limits.TheConstants.{LONGEST_MESSAGE};
-ghost use Rattle.gts_event.specs.declared.event.Event.TheVariants.{Heard, Lost, Taken};
-ghost use Rattle.gts_calls.specs.Calls.{IsAnswered, IsSettling, IsReopening, IsCompacting, LeavesFrame, MayLeave, HasCallCause, HasReopenCause};
-ghost use Rattle.gts_count.specs.Numbers.{IsSound};
-ghost use Rattle.gts_count.specs.Counting.{AfterSettled};
-ghost use Rattle.gts_count.specs.Counted.{counted_meanings};
+ghost use Rattle.gts_count.specs.Cited.{AfterSettled, HasCallCause, HasReopenCause, Heard, IsAnswered, IsCompacting, IsReopening, IsSettling, IsSound, LONGEST_MESSAGE, LeavesFrame, Lost, MayLeave, Taken, counted_meanings};
 
 use crate::Parts;
 use crate::counting::{note_heard, note_taken, ready};

@@ -1,8 +1,7 @@
 //! The table in lines for the operator, from the running numbers.
 ghost use Rattle.std.specs.Prelude.{◌≡◌, ◌++◌, IfOk, OnOk, decimal};
 ghost use Rattle.gts_count.specs.Table as tables;
-ghost use Rattle.gts_count.specs.Tally.{tally};
-ghost use Rattle.gts_count.specs.Numbers.{IsSound, tally_of};
+ghost use Rattle.gts_count.specs.Cited.{IsSound, tally, tally_of};
 ghost use Rattle.gts_count.specs.Text as texts;
 
 use crate::{Numbers, Row};

@@ -1,11 +1,8 @@
 -- Frames in one buffer, one by one.
-use Rattle.std.proofs.Common.{◌≡◌, ◌≤◌, ◌+◌, ℕ, zero, suc, List, [], ◌∷◌, ◌++◌, length, take, drop, Some, sym, ap, ◌∙◌, arith, length-append, length-drop, append_assoc}
-use Rattle.std.specs.Prelude.{slice_get}
-use Rattle.std.specs.List.{slice_index_or}
+use Rattle.std.proofs.Common.{◌≡◌, ◌≤◌, ◌+◌, ℕ, zero, suc, List, [], ◌∷◌, ◌++◌, length, take, drop, Some, sym, ap, ◌∙◌, arith, length-append, length-drop, append_assoc, slice_get}
+use Rattle.gts_desk.specs.Cited.{Frame, Placed, frames_in, no_frame, sizes_of, slice_index_or}
 use Rattle.std.proofs.lemmas.List.{take-append-le, drop-append-le, take_all, take_at, length-take-le, take-take, drop-take, drop-drop, nil_from_length}
 use Rattle.std.proofs.lemmas.List.Sums.{sum_by-cons, sum_by-take-le}
-use Rattle.gts_desk.specs.declared.given.Placed.{Placed}
-use Rattle.gts_desk.specs.Given.{Frame, frames_in, sizes_of, no_frame}
 
 -- the size of one, and those of the others
 sizes_cons : (s : Placed) (each : List Placed) → sizes_of (s ∷ each) ≡ s.size + sizes_of each

@@ -1,17 +1,9 @@
 -- Entries under a name, their frames, and a desk's calls one after another.
 use Rattle.std.proofs.Common.{◌≡◌, ℕ, ◌+◌, ◌==◌, List, [], ◌∷◌, ◌++◌, inl, inr, Bool, true, false, cond, refl, sym, ap, ◌∙◌, subst, arith, append_assoc}
-use Rattle.std.specs.List.{filter}
+use Rattle.gts_desk.specs.Cited.{AddsAll, AddsAny, AddsEntries, Directory, Entry, GoesOn, IsSpent, PassesBetween, Seen, StartsWith, State, after_all, after_entry, begun, entries, entries_under, filter, frame_of, frames, own, own_frames, state_at, under}
 use Rattle.std.proofs.lemmas.List.{append-nil}
 use Rattle.std.proofs.lemmas.List.Elements.{filter-append}
 use mathlib.Core.List.{map-append}
-use Rattle.gts_directory.specs.Directory.{Directory}
-use Rattle.gts_event.specs.State.{State}
-use Rattle.gts_event.specs.Need.{begun}
-use Rattle.gts_event.specs.History.{after_entry, after_all}
-use Rattle.gts_event.specs.declared.event.Entry.{Entry}
-use Rattle.gts_lock.specs.History.{entries, entries_under, StartsWith}
-use Rattle.gts_desk.specs.Desks.{Seen, own, state_at, under, AddsAll, AddsEntries, AddsAny, PassesBetween, IsSpent, GoesOn}
-use Rattle.gts_desk.specs.Frames.{frame_of, frames, own_frames}
 
 abbrev History : Type 0
 History = List (ℕ × Entry)
@@ -29,7 +21,7 @@ same_name : (n : ℕ) → (n == n) ≡ true
 same_name n = grind arith
 
 -- the entries under a name, of some that are all under it
-under_all : (n : ℕ) (more : List Entry) → entries_under n (under n more) ≡ more
+pub under_all : (n : ℕ) (more : List Entry) → entries_under n (under n more) ≡ more
 under_all n [] = refl
 under_all n (e ∷ more) =
     let behind : History = filter (λ (y : ℕ × Entry). y.0 == n) (under n more) in

@@ -1,24 +1,6 @@
 -- What a desk has seen, and what a call on it adds.
 use Rattle.std.specs.Prelude.{◌≡◌, ◌⊎◌, ℕ, ◌+◌, Bool, true, false, List, [], ◌∷◌, ◌++◌, map, Result, Ok, Err, Option}
-use Rattle.atomic_table.specs.Seated.{TableId}
-use Rattle.gts_directory.specs.Directory.{Directory}
-use Rattle.gts_event.specs.State.{State}
-use Rattle.gts_event.specs.Need.{Need, begun}
-use Rattle.gts_event.specs.History.{outcome, after, after_all}
-use Rattle.gts_event.specs.Said.{line}
-use Rattle.gts_event.specs.declared.event.Event.{Event}
-use Rattle.gts_event.specs.declared.event.Event.TheVariants.{Taken}
-use Rattle.gts_event.specs.declared.event.Entry.{Entry}
-use Rattle.gts_event.specs.declared.event.Entry.TheVariants.{Done, Unsaid, Idle, Doubt}
-use Rattle.gts_event.specs.declared.outcome.Outcome.{Outcome}
-use Rattle.gts_event.specs.declared.outcome.Outcome.TheVariants.{Resend, Draw}
-use Rattle.gts_event.specs.declared.fault.SwitchFault.{SwitchFault}
-use Rattle.gts_event.specs.declared.fault.SwitchFault.TheVariants.{DiskFault, SayFault, Full, Stopped, Spent, NoMemory}
-use Rattle.gts_opening.specs.Room.{History, IsCaused}
-use Rattle.gts_feed.specs.Fed.{AddsFed}
-use Rattle.gts_feed.specs.declared.fed.FeedEnd.{FeedEnd}
-use Rattle.gts_feed.specs.declared.fed.FeedEnd.TheVariants.{Fault}
-use Rattle.gts_lock.specs.History.{entries, entries_under, StartsWith}
+use Rattle.gts_desk.specs.Cited.Below.{AddsFed, Directory, DiskFault, Done, Doubt, Draw, Entry, Event, Fault, FeedEnd, Full, History, Idle, IsCaused, Need, NoMemory, Outcome, Resend, SayFault, Spent, StartsWith, State, Stopped, SwitchFault, TableId, Taken, Unsaid, after, after_all, begun, entries, entries_under, line, outcome}
 
 -- What a desk has seen: the hall that it is at, or none; the directory; what the history starts from, and the bytes of the
 -- journal there; whether the journal may be compacted meanwhile, to make room; the desk's own name; how many turns it has had;

@@ -1,16 +1,6 @@
 -- The frames that the entries under one name draw, one after another.
 use Rattle.std.specs.Prelude.{ℕ, ◌==◌, List, [], ◌∷◌, ◌++◌, if◌then◌else◌}
-use Rattle.gts_directory.specs.Directory.{Directory}
-use Rattle.gts_event.specs.State.{State}
-use Rattle.gts_event.specs.Need.{begun}
-use Rattle.gts_event.specs.History.{outcome, after, after_entry}
-use Rattle.gts_event.specs.Said.{line}
-use Rattle.gts_event.specs.declared.event.Event.{Event}
-use Rattle.gts_event.specs.declared.event.Event.TheVariants.{Heard, Lost, Taken}
-use Rattle.gts_event.specs.declared.event.Entry.{Entry}
-use Rattle.gts_event.specs.declared.event.Entry.TheVariants.{Done, Unsaid, Idle, Doubt, Restarted}
-use Rattle.gts_event.specs.declared.outcome.Outcome.{Outcome}
-use Rattle.gts_event.specs.declared.outcome.Outcome.TheVariants.{Resend, Draw}
+use Rattle.gts_desk.specs.Cited.Below.{Directory, Done, Doubt, Draw, Entry, Event, Heard, Idle, Lost, Outcome, Resend, Restarted, State, Taken, Unsaid, after, after_entry, begun, line, outcome}
 use Rattle.gts_desk.specs.Desks.{Seen}
 
 -- the frame of a take with this outcome, which left this state: none where nothing was given

@@ -1,17 +1,6 @@
 -- The frames that the takes of one turn gave, and what such a turn adds.
 use Rattle.std.specs.Prelude.{◌≡◌, ℕ, zero, suc, ◌+◌, ◌-◌, ◌<◌, ◌≤◌, Bool, true, false, List, [], ◌∷◌, length, take, drop, map, replicate, slice_index_or, sum_by, Option, Some, None, Result, Ok, Err}
-use Rattle.gts_alphabet.specs.declared.limits.TheConstants.{LONGEST_FRAME}
-use Rattle.gts_directory.specs.Directory.{Directory}
-use Rattle.gts_event.specs.State.{State}
-use Rattle.gts_event.specs.History.{outcome, after}
-use Rattle.gts_event.specs.Said.{line}
-use Rattle.gts_event.specs.declared.event.Event.TheVariants.{Taken}
-use Rattle.gts_event.specs.declared.event.Entry.{Entry}
-use Rattle.gts_event.specs.declared.event.Entry.TheVariants.{Done, Idle, Doubt}
-use Rattle.gts_event.specs.declared.outcome.Outcome.{Outcome}
-use Rattle.gts_event.specs.declared.outcome.Outcome.TheVariants.{Resend, Draw, Nothing}
-use Rattle.gts_event.specs.declared.fault.SwitchFault.{SwitchFault}
-use Rattle.gts_event.specs.declared.fault.SwitchFault.TheVariants.{DiskFault, SayFault, Spent, NoMemory}
+use Rattle.gts_desk.specs.Cited.Below.{Directory, DiskFault, Done, Doubt, Draw, Entry, Idle, LONGEST_FRAME, NoMemory, Nothing, Outcome, Resend, SayFault, Spent, State, SwitchFault, Taken, after, line, outcome}
 use Rattle.gts_desk.specs.declared.given.Placed.{Placed}
 use Rattle.gts_desk.specs.declared.given.TheConstants.{MOST_BYTES, MOST_FRAMES}
 use Rattle.gts_desk.specs.Desks.{Seen, AddsAll, AddsEntries, IsSpent}

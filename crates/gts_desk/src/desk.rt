@@ -1,11 +1,7 @@
 ghost use Rattle.std.specs.Prelude.{◌≡◌, ◌<◌, ◌≤◌, ℕ, List, length, take};
-ghost use Rattle.gts_alphabet.specs.declared.limits.TheConstants.{LONGEST_MESSAGE};
-ghost use Rattle.gts_frame.specs.Signs.{held_in};
-ghost use Rattle.gts_connection.specs.Cited.{events_added, Kind as KindType};
-ghost use Rattle.gts_event.specs.declared.event.Event.TheVariants.{Heard};
-ghost use Rattle.gts_event.specs.declared.fault.SwitchFault.{SwitchFault as FaultType};
-ghost use Rattle.gts_feed.specs.{Takes};
-ghost use Rattle.gts_desk.specs.{Seen, Answers, Feeds, SaysNoMore, frames_of, TakesSome};
+ghost use Rattle.gts_desk.specs.Cited.Below.{Heard, Kind as KindType, LONGEST_MESSAGE, SwitchFault as FaultType, Takes, events_added, held_in};
+ghost use Rattle.gts_desk.specs.Desks.{Seen, Answers, Feeds, SaysNoMore};
+ghost use Rattle.gts_desk.specs.Given.{frames_of, TakesSome};
 
 use crate::given::Given;
 use gts_event::{Outcome, SwitchFault};

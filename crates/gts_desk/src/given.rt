@@ -1,6 +1,5 @@
 ghost use Rattle.std.specs.Prelude.{◌≡◌, ◌+◌, ◌<◌, ◌≤◌, IsTrue, length, ◌∷◌, [], ◌++◌, take, IfOk, slice_index_or};
-ghost use Rattle.gts_alphabet.specs.declared.limits.TheConstants.{LONGEST_FRAME};
-ghost use Rattle.gts_desk.specs.Given.{Frame as FrameType, HasRoom, frames_of, no_frames, no_frame, sizes_of};
+ghost use Rattle.gts_desk.specs.Cited.{Frame as FrameType, HasRoom, LONGEST_FRAME, frames_of, no_frame, no_frames, sizes_of};
 
 use gts_alphabet::{LONGEST_FRAME, NoMemory};
 use gts_directory::MOST_REPEAT;

@@ -1,8 +1,6 @@
 //! Laws of what a desk has seen, each the contract of a function with an empty body.
 ghost use Rattle.std.specs.Prelude.{◌≡◌, List, ◌+◌, ◌∷◌, ◌++◌};
-ghost use Rattle.gts_event.specs.declared.event.Entry.{Entry};
-ghost use Rattle.gts_desk.specs.Desks.{Seen, own, state_at, under, AddsEntries, AddsAny, PassesBetween, IsSpent, GoesOn};
-ghost use Rattle.gts_desk.specs.Frames.{own_frames, frames};
+ghost use Rattle.gts_desk.specs.Cited.{AddsAny, AddsEntries, Entry, GoesOn, IsSpent, PassesBetween, Seen, frames, own, own_frames, state_at, under};
 
 /// What a turn adds are entries of the desk's own, and it counts as one.
 pub fn each_turn_adds_own_entries()
@@ -31,7 +29,8 @@ pub fn a_desk_that_is_spent_adds_nothing()
 /// With each call the history goes on, and so it does over many calls.
 pub fn a_desk_goes_on_with_each_call()
     ensures stays { (d : Seen) → GoesOn d d }
-    ensures adds { (old new : Seen) (more : List Entry) → AddsEntries old more new → GoesOn old new }
+    ensures adds { (old new : Seen) (more : List Entry)
+        → AddsEntries old more new → GoesOn old new }
     ensures any { (old new : Seen) (more : List Entry) → AddsAny old more new → GoesOn old new }
     ensures spent { (old new : Seen) → IsSpent old new → GoesOn old new }
     ensures chains { (a b c : Seen) → GoesOn a b → GoesOn b c → GoesOn a c }

@@ -1,7 +1,6 @@
 -- The cells of a heading against a pattern, and the table as rules are added and looked up.
 use Rattle.std.proofs.Common.{◌≡◌, ℕ, suc, ◌+◌, ◌-◌, ◌*◌, ◌/◌, ◌%◌, ◌^◌, ◌<◌, ◌≤◌, max, Bool, true, false, ◌&&◌, ◌||◌, ◌==◌, List, [], ◌∷◌, ◌++◌, length, take, drop, get_or, set, replicate, bit_or, refl, sym, ◌∙◌, ap, arith, inl, inr, length-append, length-drop, length-set}
-use Rattle.std.specs.Int.{bit_at}
-use Rattle.std.specs.List.{All, list_any, list_all}
+use Rattle.gts_directory.specs.Cited.{All, AreCharacters, HeadingFields, IsCharacter, IsTable, RuleRow, allows, bit, bit_at, bits_of, cell_of, cells_of, dec, fitting, has_bit, joined, list_all, list_any, marked, matches, meet}
 use Rattle.std.proofs.Math.Nat.{pow-le-pow_right}
 use Rattle.std.proofs.Math.Seq.{take-add}
 use Rattle.std.proofs.lemmas.Bool.{cases_eq}
@@ -9,12 +8,6 @@ use Rattle.std.proofs.lemmas.Nat.Bits.{bit_at_or}
 use Rattle.std.proofs.lemmas.List.{get_or_read, get_or-drop, get_or-take, get_or_append_left, get_or_at, get_or-replicate, get_or-set_same, get_or-set_other, take_all, drop_all, take-append-le, drop-append-le, length-take}
 use Rattle.std.proofs.lemmas.List.Elements.{All-push}
 use Rattle.std.proofs.lemmas.List.Folds.{list_any-append}
-use Rattle.gts_alphabet.specs.Digits.{dec}
-use Rattle.gts_heading.specs.Heading.{HeadingFields}
-use Rattle.gts_directory.specs.declared.rows.RuleRow.{RuleRow}
-use Rattle.gts_directory.specs.Directory.{matches}
-use Rattle.gts_directory.specs.Routing.{bit, has_bit}
-use Rattle.gts_directory.specs.Table.{IsCharacter, AreCharacters, IsTable, cell_of, cells_of, allows, bits_of, marked, meet, fitting, joined}
 use Rattle.gts_directory.proofs.TableLemmas.{bits_of-agree, bits_of-lt, bits_of-push, meet-bits, joined-none, joined-bits}
 
 allows-cell : (pattern : List ℕ) (place character : ℕ) → IsCharacter character

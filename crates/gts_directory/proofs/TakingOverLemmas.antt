@@ -1,15 +1,9 @@
 -- Which directory takes over from another one: the loops over its rows, and what both forms of the definition say.
 use Rattle.std.proofs.Common.{◌≡◌, ℕ, zero, suc, ◌+◌, ◌<◌, ◌≤◌, Bool, true, false, nat_eq, nat_le, List, [], ◌∷◌, length, map, get_or, drop, Option, None, Some, cond, refl, sym, ◌∙◌, ap, arith, inl, inr}
-use Rattle.std.specs.Cmp.Lexicographic.{pointwise}
-use Rattle.std.specs.Option.{option_or}
+use Rattle.gts_directory.specs.Cited.{BeginWith, Change, Circuit, Directory, KeepsPlace, Rows, TakesOver, change_in, circuit_of_row, directory_of_rows, first_change, first_changed, keeps_place, option_or, pointwise, row_keeps_place, top_stays}
 use Rattle.std.proofs.lemmas.Bool.{cases_Bool, eqb-true, and_parts}
 use Rattle.gts_directory.specs.declared.fault.Part as part
 use Rattle.gts_directory.specs.declared.fault.Part.TheVariants as parts
-use Rattle.gts_directory.specs.declared.taking_over.Change.{Change}
-use Rattle.gts_directory.specs.Directory.{Circuit, Directory}
-use Rattle.gts_directory.specs.Rows.{Rows, circuit_of_row, directory_of_rows}
-use Rattle.gts_directory.specs.TakingOver.{KeepsPlace, BeginWith, TakesOver, keeps_place, top_stays, first_changed, change_in, first_change}
-use Rattle.gts_directory.specs.Staying.{row_keeps_place}
 use Rattle.gts_directory.proofs.NameLemmas.{same_as_itself}
 
 -- all rows below i stay

@@ -1,9 +1,6 @@
 -- Which rules allow which character at which place of a heading, sixty-four rules in a block.
 use Rattle.std.specs.Prelude.{◌≡◌, ℕ, ◌+◌, ◌-◌, ◌*◌, ◌/◌, ◌%◌, ◌^◌, ◌<◌, ◌≤◌, min, max, Bool, ◌||◌, ◌==◌, List, [], ◌∷◌, length, take, drop, slice_index, slice_index_or, if◌then◌else◌, bit_and, bit_or}
-use Rattle.std.specs.Int.{bit_at}
-use Rattle.std.specs.List.{All}
-use Rattle.gts_alphabet.specs.Digits.{dec}
-use Rattle.gts_heading.specs.Heading.{HeadingFields}
+use Rattle.gts_directory.specs.Cited.Below.{All, HeadingFields, bit_at, dec}
 use Rattle.gts_directory.specs.declared.rows.RuleRow.{RuleRow}
 use Rattle.gts_directory.specs.Routing.{bit}
 

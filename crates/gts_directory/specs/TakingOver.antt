@@ -1,8 +1,7 @@
 -- Which directory takes over from another one, and the first row that doesn't stay where it doesn't: the circuits stay in
 -- their places, with their neighbours, and circuits may be added behind them (profile).
 use Rattle.std.specs.Prelude.{◌≡◌, ℕ, ◌+◌, Bool, ◌&&◌, nat_eq, List, [], ◌∷◌, Option, None, Some, if◌then◌else◌}
-use Rattle.std.specs.Cmp.Lexicographic.{pointwise}
-use Rattle.std.specs.Option.{option_or, option_map}
+use Rattle.gts_directory.specs.Cited.Below.{option_map, option_or, pointwise}
 use Rattle.gts_directory.specs.declared.fault.Part.TheVariants as part
 use Rattle.gts_directory.specs.declared.fault.Part.{Part}
 use Rattle.gts_directory.specs.declared.taking_over.Change.{Change}

@@ -2,9 +2,7 @@
 //! takes a few words for each sixty-four of them.
 
 ghost use Rattle.std.specs.Prelude.{◌≡◌, ◌∷◌, [], ◌++◌, ◌*◌, ◌<◌, ◌≤◌, ◌^◌, ℕ, length, slice_index, OnOk, OnErr};
-ghost use Rattle.std.specs.Int.{bit_at};
-ghost use Rattle.std.specs.List.{All};
-ghost use Rattle.gts_heading.specs.Heading.{fields_of};
+ghost use Rattle.gts_directory.specs.Cited.{All, bit_at, fields_of};
 ghost use Rattle.gts_directory.specs.Routing as routing;
 ghost use Rattle.gts_directory.specs.Table as table;
 

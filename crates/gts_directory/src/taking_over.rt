@@ -1,8 +1,7 @@
 //! Whether a directory takes over from another one, and the first row that doesn't stay where it doesn't.
 
 ghost use Rattle.std.specs.Prelude.{◌≡◌, ◌≤◌, length, None};
-ghost use Rattle.gts_directory.specs.Faults.{first_fault};
-ghost use Rattle.gts_directory.specs.Rows.{directory_of_rows};
+ghost use Rattle.gts_directory.specs.Cited.{directory_of_rows, first_fault};
 ghost use Rattle.gts_directory.specs.TakingOver as takes_over;
 ghost use Rattle.gts_directory.specs.Staying as staying;
 

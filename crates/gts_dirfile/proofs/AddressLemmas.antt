@@ -2,12 +2,8 @@
 use Rattle.std.proofs.Common.{◌≡◌, ◌↔◌, ℕ, List, [], ◌∷◌, length, Option, Some, None, option_map, refl, sym, ◌∙◌, ap, subst, append-nil, ne_eqb, lit≤, arith}
 use Rattle.std.proofs.lemmas.Option.{none-some}
 use Rattle.std.proofs.NetLemmas.Ipv4.{read_ipv4_sound, read_ipv4_complete}
-use Rattle.std.specs.declared.net.ipv4_addr.Ipv4Addr.{Ipv4Addr}
-use Rattle.std.specs.Net.Addr.{ipv4_octets}
-use Rattle.std.specs.Net.Grammar.{IsDotted, IsIpv4Text}
-use Rattle.std.specs.Net.Reader.{Read, read_ipv4, whole_value}
-use Rattle.gts_directory.specs.Directory.{address_of}
-use Rattle.gts_dirfile.specs.Values.{address_of_text}
+use Rattle.gts_dirfile.specs.Cited.{Ipv4Addr, IsDotted, IsIpv4Text, Read, address_of, address_of_text, ipv4_octets, whole_value}
+use Rattle.std.specs.Net.Reader.{read_ipv4}
 
 -- what is read is written so
 written : (text : List ℕ) (a : Ipv4Addr) (r : Read (List ℕ)) → read_ipv4 text ≡ r → option_map address_of (whole_value r) ≡ Some a → IsIpv4Text text a

@@ -1,15 +1,8 @@
 -- The rows of the rules of a directory whose rows have no fault.
 use Rattle.std.proofs.Common.{◌≡◌, ℕ, zero, suc, ◌+◌, ◌^◌, ◌<◌, Bool, true, false, nat_lt, List, [], ◌∷◌, length, get_or, map, Option, None, Some, Ok, refl, sym, ap, subst, arith}
-use Rattle.std.specs.Option.{option_or}
+use Rattle.gts_dirfile.specs.Cited.{AreRulesOf, DirFault, Directory, Rows, RuleRow, UnknownCircuit, checked, circuit_of_row, directory_of_rows, first_fault, first_row, option_or, rule_of_row, too_many, two_names, unknown_circuit, unless, unless_fault}
 use Rattle.std.proofs.lemmas.Bool.{ltb-true}
 use Rattle.std.proofs.lemmas.List.{length-map}
-use Rattle.gts_directory.specs.declared.fault.DirFault.{DirFault}
-use Rattle.gts_directory.specs.declared.fault.DirFault.TheVariants.{UnknownCircuit}
-use Rattle.gts_directory.specs.declared.rows.RuleRow.{RuleRow}
-use Rattle.gts_directory.specs.Directory.{Directory}
-use Rattle.gts_directory.specs.Rows.{Rows, circuit_of_row, rule_of_row, directory_of_rows}
-use Rattle.gts_directory.specs.Faults.{unless, first_row, two_names, unknown_circuit, too_many, first_fault, unless_fault, checked}
-use Rattle.gts_dirfile.specs.Rules.{AreRulesOf}
 
 or_none : (a b : Option DirFault) → option_or a b ≡ None → (a ≡ None) × (b ≡ None)
 or_none None b h = (refl, h)

@@ -1,9 +1,7 @@
 //! Laws over all texts, each the contract of a function with an empty body.
 
 ghost use Rattle.std.specs.Prelude.{◌≡◌, ◌↔◌, ℕ, List, Some};
-ghost use Rattle.std.specs.Net.Grammar.{IsIpv4Text};
-ghost use Rattle.std.specs.declared.net.ipv4_addr.Ipv4Addr.{Ipv4Addr};
-ghost use Rattle.gts_dirfile.specs.Values.{address_of_text};
+ghost use Rattle.gts_dirfile.specs.Cited.{Ipv4Addr, IsIpv4Text, address_of_text};
 
 /// A text is read as an address exactly where it is that address's writing: four decimal numbers below 256 without leading
 /// zeros, with dots between them.

@@ -1,19 +1,20 @@
 -- The index over the pairs.
 use Rattle.std.specs.Prelude.{◌≡◌, ℕ, ◌<◌, ◌≤◌, Bool, false, ◌&&◌, ◌==◌, nat_eq, List, length, reverse, find, Option, Some, None, option_map, if◌then◌else◌}
-use Rattle.std.specs.Cmp.Lexicographic.{pointwise}
-use Rattle.std.specs.HashMap.{HashMap, get, spare}
-use Rattle.std.specs.declared.hash.FoldHasher.{FoldHasher}
-use Rattle.std.specs.declared.hash.BuildHasherDefault.{BuildHasherDefault}
-use Rattle.circular_buffer.specs.Buffer.{Buffer}
+use Rattle.gts_dup.specs.Cited.Below.{Buffer, BuildHasherDefault, FoldHasher, HashMap, get, pointwise, spare}
+use Rattle.gts_dup.specs.declared.key.Key.{Key}
 use Rattle.gts_dup.specs.Window.{Window, is_of, Ascends}
 
 -- from a digest to a position
 abbrev pub Index : Type 0
-Index = HashMap (List ℕ) ℕ (BuildHasherDefault FoldHasher)
+Index = HashMap Key ℕ (BuildHasherDefault FoldHasher)
+
+-- a digest as a key
+abbrev pub key_of : List ℕ → Key
+key_of digest = record { digest = digest }
 
 -- the position that the index has for a digest
 abbrev pub indexed : Index → List ℕ → Option ℕ
-indexed index digest = get (pointwise nat_eq) index digest
+indexed index digest = get (λ a b. pointwise nat_eq a.digest b.digest) index (key_of digest)
 
 -- the position of the last pair that has a digest
 abbrev pub latest_of : List ℕ → List (List ℕ × ℕ) → Option ℕ

@@ -1,6 +1,7 @@
 //! The window in which a duplicate is looked for: the digests of the last bulletins, and their positions.
 #![tactic(auto)]
 
+mod key;
 mod table;
 mod worked;
 

@@ -1,10 +1,7 @@
 ghost use Rattle.std.specs.Prelude.{◌≡◌, ◌<◌, ◌≤◌, ◌+◌, ◌++◌, [], ◌∷◌, length, slice_get, IfSome, IfNone, IfOk, OnOk};
-ghost use Rattle.std.specs.HashMap.{spare};
-ghost use Rattle.circular_buffer.specs.Buffer.{buffer};
-ghost use Rattle.gts_heading.specs.Heading.{fields_of};
-ghost use Rattle.gts_dup.specs.Window.{latest_below, recent_pairs, AllBelow, AllRecent, IsGreatestBelow, NoneBelow, digest_of};
-ghost use Rattle.gts_dup.specs.Index.{Forgets, IsSound};
+ghost use Rattle.gts_dup.specs.Cited.{AllBelow, AllRecent, Forgets, IsGreatestBelow, IsSound, NoneBelow, buffer, digest_of, fields_of, latest_below, recent_pairs, spare};
 
+use crate::key::Key;
 use circular_buffer::HeapCircularBuffer;
 use gts_alphabet::{EOL, NoMemory};
 use gts_heading::Heading;
@@ -19,7 +16,7 @@ use std::marker::Model;
 #[derive(Drop)]
 pub struct DupTable {
     ring: HeapCircularBuffer<([u8; 32], u64)>,
-    index: HashMap<[u8; 32], u64>,
+    index: HashMap<Key, u64>,
 }
 
 impl Model for DupTable {
@@ -82,7 +79,7 @@ impl DupTable {
     {
         forget_oldest(&mut self.ring, &mut self.index, position);
         self.ring.push_back((digest, position));
-        let _ = self.index.insert(digest, position);
+        let _ = self.index.insert(Key { digest }, position);
     }
 
     /// The greatest position below a limit that is noted with this digest. `None` exactly where there is none.
@@ -92,7 +89,7 @@ impl DupTable {
         ensures none { IfNone result (NoneBelow self.now.noted digest.now below) }
         ensures greatest { IfSome result (IsGreatestBelow self.now.noted digest.now below) }
     {
-        let position = *self.index.get(digest)?;
+        let position = *self.index.get(&Key { digest: *digest })?;
         if position < below {
             return Some(position);
         }
@@ -103,7 +100,7 @@ impl DupTable {
 /// The oldest pair goes, where its position has left the window with this one. The positions of all others are above it.
 fn forget_oldest(
     ring: &mut HeapCircularBuffer<([u8; 32], u64)>,
-    index: &mut HashMap<[u8; 32], u64>,
+    index: &mut HashMap<Key, u64>,
     position: u64,
 )
     requires sound { IsSound ring.old index.old }
@@ -125,17 +122,17 @@ fn forget_oldest(
 }
 
 /// Takes the oldest pair out of the index, where no later one has its digest.
-fn take_out_oldest(ring: &HeapCircularBuffer<([u8; 32], u64)>, index: &mut HashMap<[u8; 32], u64>)
+fn take_out_oldest(ring: &HeapCircularBuffer<([u8; 32], u64)>, index: &mut HashMap<Key, u64>)
     ensures forgets { IfSome (slice_get ring.now.items 0) (Forgets index.old index.new) }
     ensures spare { spare index.old ≤ spare index.new }
 {
     let Some(oldest) = ring.front() else {
         return;
     };
-    let digest = oldest.0;
+    let key = Key { digest: oldest.0 };
     let position = oldest.1;
-    if index.get(&digest).copied() == Some(position) {
-        index.remove(&digest);
+    if index.get(&key).copied() == Some(position) {
+        index.remove(&key);
     }
 }
 

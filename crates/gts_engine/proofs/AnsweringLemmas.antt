@@ -1,31 +1,9 @@
 -- Calls over the parts of an engine: room is made, an event enters, and it is told.
-use Rattle.std.proofs.Common.{◌≡◌, ◌≤◌, ◌++◌, ◌∷◌, if◌then◌else◌, Bool, true, false, inl, inr, ℕ, List, [], Option, Some, None, Result, Ok, Err, refl, sym, ap, subst, ◌∙◌, arith}
-use Rattle.gts_traits.specs.Calls.{Call, Outside, on}
-use Rattle.gts_traits.specs.Counts.{Rose}
-use Rattle.gts_directory.specs.Directory.{Directory}
-use Rattle.gts_event.specs.State.{State}
-use Rattle.gts_event.specs.History.{outcome}
-use Rattle.gts_event.specs.Said.{spoken}
-use Rattle.gts_event.specs.declared.event.Event.{Event}
-use Rattle.gts_event.specs.declared.outcome.Outcome.{Outcome}
-use Rattle.gts_event.specs.declared.fault.Device.{Device}
-use Rattle.gts_event.specs.declared.fault.SwitchFault.{SwitchFault}
-use Rattle.gts_event.specs.declared.fault.SwitchFault.TheVariants.{DiskFault, SayFault, Full, Stopped, Spent, NoMemory}
-use Rattle.gts_core.specs.Core.{Core, Holds}
-use Rattle.gts_calls.specs.Calls.{HasCallCause, IsAnswered}
-use Rattle.gts_engine.specs.declared.mode.SayMode.{SayMode}
-use Rattle.gts_engine.specs.declared.parts.Parts.{Parts}
-use Rattle.gts_engine.specs.Sayings.{held_pieces, joined}
-use Rattle.gts_engine.specs.Engine.{Engine, engine_of}
-use Rattle.gts_engine.specs.Keeping.{most_drawn, meanings_of}
-use Rattle.gts_engine.specs.Origin.{by_station}
-use Rattle.gts_engine.specs.Going.{stopped_after}
+use Rattle.std.proofs.Common.{◌≡◌, ◌≤◌, ◌++◌, ◌∷◌, if◌then◌else◌, Bool, true, false, inl, inr, ℕ, List, [], Option, Some, None, Result, Ok, Err, refl, sym, ap, subst, ◌∙◌, arith, IfErr, IfOk, OnOk, slice_index_or, ◌<◌}
+use Rattle.gts_engine.specs.Cited.{AnswersIn, Call, Core, Device, Directory, DiskFault, Engine, Event, Full, HasCallCause, HasEntered, HasTold, Holds, IsAnswered, IsDeviceFault, IsSound, LeavesCall, MayHaveSettled, NoMemory, Outcome, Outside, Parts, Rose, SayFault, SayMode, Spent, State, Stopped, SwitchFault, by_station, engine_of, held_pieces, joined, meanings_of, most_drawn, on, outcome, spoken, stopped_after}
 use Rattle.gts_engine.proofs.TurnLemmas.{goes_on}
-use Rattle.gts_engine.specs.Parts.{IsSound, HasEntered}
-use Rattle.gts_engine.specs.Gathering.{HasTold, IsDeviceFault, MayHaveSettled, AnswersIn, LeavesCall}
 use Rattle.gts_engine.proofs.AnswerLemmas.{EachHeld, answered, stopped_leaves}
 use Rattle.gts_engine.proofs.GatherLemmas.{fails_after}
-use Rattle.std.specs.Prelude.{IfErr, IfOk, OnOk, slice_index_or, ◌<◌}
 use Rattle.gts_engine.proofs.SettlingLemmas.{drawn_settled}
 use Rattle.gts_engine.proofs.StepLemmas.{part_directory, part_station, part_core, part_stopped, part_used, part_held, told_well, told_badly, told_sound, untold}
 

@@ -1,41 +1,8 @@
 -- What was gathered is brought into the journal: what that leaves of the parts of an engine.
 use Rattle.std.proofs.Common.{◌≡◌, ◌<◌, false, inl, inr, ⊎_elim, ℕ, List, [], ◌∷◌, ◌++◌, length, take, Option, Some, None, Result, Ok, Err, OnOk, IfErr, refl, sym, ap, subst, ◌∙◌}
-use Rattle.std.specs.List.{slice_index_or}
-use Rattle.gts_traits.specs.Calls.{Call, Outside, said_by, SaidSince}
-use Rattle.gts_traits.specs.Disk.{Files, stable, IsImage}
-use Rattle.gts_traits.specs.Station.{IsFront}
-use Rattle.gts_traits.specs.Moments.{EachSince}
+use Rattle.gts_engine.specs.Cited.{Accepted, AfterSettling, Asked, Brings, Call, Choice, Device, Directory, DiskFault, Draw, Draws, Duplicate, EachSince, Engine, Entry, Event, FailsAt, Files, Full, Gathered, Gathers, HasFailed, HasRecord, Heard, InHand, IsCutShort, IsDeviceFault, IsFront, IsGathering, IsImage, Kind, LineLost, Lost, Need, NoMemory, Nothing, Nothing_waits, OpenFault, OpensBetween, Origin, Outcome, Outside, Refused, Repeats, Resend, SaidSince, Say, SayFault, SayMode, SaysBy, Shown, Spent, Standing, StandsFor, State, Stopped, SwitchFault, Taken, after_records, all_done, by_station, choice, event_record, heard_record, joined, meanings_of, need, opens, outcome, pieces, restarted, said, said_by, shown, slice_index_or, stable, state_at, state_behind, stopped_after, taken_record}
 use Rattle.gts_traits.proofs.LawLemmas.{weaker}
-use Rattle.gts_directory.specs.Directory.{Directory}
-use Rattle.gts_event.specs.State.{State}
-use Rattle.gts_event.specs.History.{Choice, Repeats, Draws, Nothing_waits, choice, outcome, restarted}
-use Rattle.gts_event.specs.Need.{Need, need}
-use Rattle.gts_event.specs.Said.{said}
-use Rattle.gts_event.specs.Drain.{all_done}
-use Rattle.gts_frame.specs.declared.kind.Kind.{Kind}
-use Rattle.gts_event.specs.declared.outcome.Outcome.{Outcome}
-use Rattle.gts_event.specs.declared.outcome.Outcome.TheVariants.{Accepted, Duplicate, Asked, Refused, LineLost, Resend, Draw, Nothing}
-use Rattle.gts_event.specs.declared.event.Event.{Event}
-use Rattle.gts_event.specs.declared.event.Event.TheVariants.{Heard, Lost, Taken}
-use Rattle.gts_event.specs.declared.event.Entry.{Entry}
-use Rattle.gts_event.specs.declared.fault.Device.{Device}
-use Rattle.gts_event.specs.declared.fault.Device.TheVariants.{Say}
-use Rattle.gts_event.specs.declared.fault.SwitchFault.{SwitchFault}
-use Rattle.gts_event.specs.declared.fault.SwitchFault.TheVariants.{DiskFault, SayFault, Full, Stopped, Spent, NoMemory}
-use Rattle.gts_record.specs.declared.fault.OpenFault.{OpenFault}
-use Rattle.gts_journal.specs.{InHand, StandsFor}
-use Rattle.gts_journal.specs.Batch.{Gathered}
 use Rattle.gts_journal.proofs.LawLemmas.{images_open}
-use Rattle.gts_opening.specs.Journal.{opens, after_records}
-use Rattle.gts_opening.specs.Room.{HasRecord, event_record, heard_record, taken_record}
-use Rattle.gts_engine.specs.declared.mode.SayMode.{SayMode}
-use Rattle.gts_engine.specs.Engine.{Engine, Shown, shown}
-use Rattle.gts_engine.specs.Origin.{Origin, state_at, by_station}
-use Rattle.gts_engine.specs.Keeping.{HasFailed, Gathers, state_behind, pieces, meanings_of}
-use Rattle.gts_engine.specs.Going.{IsGathering, stopped_after}
-use Rattle.gts_engine.specs.Sayings.{joined}
-use Rattle.gts_engine.specs.Gathering.{OpensBetween, FailsAt, SaysBy, Brings, IsDeviceFault}
-use Rattle.gts_calls.specs.Calls.{Standing, IsCutShort, AfterSettling}
 use Rattle.gts_engine.proofs.EntryLemmas.{only_itself}
 use Rattle.gts_engine.proofs.GoingLemmas.{opened_same}
 use Rattle.gts_engine.proofs.TakingLemmas.{outcome_by}

@@ -1,19 +1,6 @@
 -- Calls that gather, and settle behind it.
-use Rattle.std.proofs.Common.{◌≡◌, ℕ, List, Option, Some, None, Result, Ok, Err, refl, sym, ap, subst, ◌∙◌}
-use Rattle.std.specs.Prelude.{IfErr, IfSome}
-use Rattle.gts_traits.specs.Calls.{Call}
-use Rattle.gts_event.specs.declared.event.Event.{Event}
-use Rattle.gts_event.specs.declared.outcome.Outcome.{Outcome}
-use Rattle.gts_event.specs.declared.fault.Device.{Device}
-use Rattle.gts_event.specs.declared.fault.SwitchFault.{SwitchFault}
-use Rattle.gts_event.specs.declared.fault.SwitchFault.TheVariants.{DiskFault, SayFault, Full, Stopped, Spent, NoMemory}
-use Rattle.gts_calls.specs.Calls.{IsCalled, IsAnswered, IsSettling, HasCallCause}
-use Rattle.gts_engine.specs.declared.mode.SayMode.{SayMode}
-use Rattle.gts_engine.specs.Engine.{Engine}
-use Rattle.gts_engine.specs.Keeping.{meanings_of}
-use Rattle.gts_engine.specs.Going.{stopped_after}
-use Rattle.gts_engine.specs.Parts.{IsIdleAnswer}
-use Rattle.gts_engine.specs.Gathering.{IsDeviceFault}
+use Rattle.std.proofs.Common.{◌≡◌, ℕ, List, Option, Some, None, Result, Ok, Err, refl, sym, ap, subst, ◌∙◌, IfErr, IfSome}
+use Rattle.gts_engine.specs.Cited.{Call, Device, DiskFault, Engine, Event, Full, HasCallCause, IsAnswered, IsCalled, IsDeviceFault, IsIdleAnswer, IsSettling, NoMemory, Outcome, SayFault, SayMode, Spent, Stopped, SwitchFault, meanings_of, stopped_after}
 use Rattle.gts_engine.proofs.AnswerLemmas.{called_failed, called_unsettled, called_done}
 use Rattle.gts_engine.proofs.AnsweringLemmas.{cause_then, cause_alike, cause_none}
 

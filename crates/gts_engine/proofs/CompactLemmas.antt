@@ -1,33 +1,13 @@
 -- The journal is compacted: what a crash leaves meanwhile, and where the journal stands then.
-use Rattle.std.proofs.Common.{◌≡◌, ◌≢◌, inl, inr, ℕ, ◌+◌, ◌-◌, ◌*◌, ◌^◌, ◌<◌, ◌≤◌, nat_lt, Bool, true, cond, List, [], length, Some, None, Ok, refl, sym, ap, subst, ◌∙◌, arith}
-use Rattle.std.specs.Prelude.{min}
+use Rattle.std.proofs.Common.{◌≡◌, ◌≢◌, inl, inr, ℕ, ◌+◌, ◌-◌, ◌*◌, ◌^◌, ◌<◌, ◌≤◌, nat_lt, Bool, true, cond, List, [], length, Some, None, Ok, refl, sym, ap, subst, ◌∙◌, arith, min}
 use Rattle.std.proofs.lemmas.Bool.{lt-ltb, le-ltb, cases_eq}
-use Rattle.gts_event.specs.declared.fault.SwitchFault.TheVariants.{Full}
-use Rattle.gts_traits.specs.Calls.{Call, Outside}
-use Rattle.gts_traits.specs.Disk.{Files, seen}
-use Rattle.gts_traits.specs.Moments.{EachSince}
+use Rattle.gts_engine.specs.Cited.{Call, Core, Directory, EachSince, Files, Full, HasWritten, Holds, InHand, IsClosedAt, IsGoing, LeavesBoth, LeavesOthers, Need, OpensAsBefore, Outside, SameNeed, StandsFor, StandsOn, State, Version, WorksBeside, begun, checkpoint_file, checkpoint_text, closed_gate, compacted_bytes, draw_size, due, file_opens, full_compacted, is_sound, need, need_seal, opened_of, opens, restarted, seal_size, seen, selected, selecting as selecting_at, unowed, unowed_state, written}
 use Rattle.gts_traits.proofs.LawLemmas.{weaker, started}
-use Rattle.gts_directory.specs.Directory.{Directory}
-use Rattle.gts_event.specs.State.{State}
-use Rattle.gts_event.specs.History.{restarted}
-use Rattle.gts_event.specs.Need.{Need, need, begun, is_sound}
-use Rattle.gts_event.specs.Stand.{SameNeed}
 use Rattle.gts_event.proofs.LawLemmas.{need-begun, ordered-begun, routed_once-begun, held-begun, sound-held, sound-parts}
-use Rattle.gts_core.specs.Core.{Core, Holds}
 use Rattle.gts_core.proofs.LawLemmas.{held-same}
-use Rattle.gts_record.specs.Record.{closed_gate}
-use Rattle.gts_record.specs.declared.version.Version.{Version}
-use Rattle.gts_record.specs.Format.{seal_size, draw_size, written}
-use Rattle.gts_opening.specs.Journal.{selected, checkpoint_text, compacted_bytes, due, opens, opened_of, file_opens, unowed, unowed_state}
-use Rattle.gts_opening.specs.Room.{full_compacted}
 use Rattle.gts_opening.proofs.LawLemmas.{compacted_opened, opened_again, file_opens-checkpoint, room_for, due-left, begun-unowed, selected_few}
-use Rattle.gts_checkpoint.specs.Alone.{LeavesOthers, WorksBeside}
-use Rattle.gts_checkpoint.specs.Writing.{HasWritten, checkpoint_file, need_seal}
-use Rattle.gts_journal.specs.{InHand, StandsOn, StandsFor, IsClosedAt, LeavesBoth, selecting as selecting_at}
-use Rattle.gts_journal.specs.Law.{OpensAsBefore}
 use Rattle.gts_journal.proofs.LawLemmas.{both_left}
 use Rattle.gts_recovery.proofs.LawLemmas.{closed_there, still_stands}
-use Rattle.gts_engine.specs.Going.{IsGoing}
 use Rattle.gts_engine.proofs.GoingLemmas.{opened_same, images}
 use Rattle.gts_engine.proofs.ReopenLemmas.{opens_by}
 

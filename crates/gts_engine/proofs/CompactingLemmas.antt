@@ -1,30 +1,10 @@
 -- What an engine stands for whose journal was compacted, or was to be.
 use Rattle.std.proofs.Common.{◌≡◌, true, ℕ, ◌+◌, List, [], ◌∷◌, ◌++◌, length, drop, Option, Some, None, Ok, Err, refl, sym, ap, subst, ◌∙◌, arith, false}
-use Rattle.std.specs.List.{last_or, AllByRecursion}
+use Rattle.gts_engine.specs.Cited.{AllByRecursion, Call, Core, Device, Directory, Disk, DiskFault, EachSince, Engine, Entry, Files, HasFailed, HasSaid, Holds, IsAnchor, IsCompaction, IsImage, IsLeft, IsReading, Keeps, LeavesFront, Need, Needs, NoMemory, OpensAsBefore, OpensToReading, Origin, Outside, SaidSince, SameNeed, SayMode, Shown, StaysAt, begun, bytes_of_entries, compacted_after, compacted_bytes, history_of, is_sound, last_or, need, said_by, shown, state_at, told, used_at, written}
 use Rattle.std.proofs.lemmas.List.{append-nil, take_all, drop_all}
-use Rattle.gts_traits.specs.Calls.{Call, Outside, said_by, SaidSince}
-use Rattle.gts_traits.specs.Disk.{Files, IsImage}
-use Rattle.gts_traits.specs.Moments.{EachSince}
 use Rattle.gts_traits.proofs.LawLemmas.{weaker, joined}
-use Rattle.gts_directory.specs.Directory.{Directory}
-use Rattle.gts_event.specs.Need.{Need, need, begun, is_sound}
-use Rattle.gts_event.specs.Stand.{SameNeed}
-use Rattle.gts_event.specs.declared.event.Entry.{Entry}
-use Rattle.gts_event.specs.declared.fault.Device.{Device}
-use Rattle.gts_event.specs.declared.fault.Device.TheVariants.{Disk}
-use Rattle.gts_event.specs.declared.fault.SwitchFault.TheVariants.{DiskFault, NoMemory}
 use Rattle.gts_event.proofs.LawLemmas.{need-begun, ordered-begun}
-use Rattle.gts_core.specs.Core.{Core, Holds, Needs}
-use Rattle.gts_journal.specs.Law.{OpensAsBefore}
-use Rattle.gts_record.specs.Format.{written}
-use Rattle.gts_opening.specs.Journal.{compacted_bytes}
-use Rattle.gts_opening.specs.Room.{bytes_of_entries, IsReading}
 use Rattle.gts_opening.proofs.LawLemmas.{caused-compaction}
-use Rattle.gts_engine.specs.declared.mode.SayMode.{SayMode}
-use Rattle.gts_engine.specs.Engine.{Engine, Shown, shown}
-use Rattle.gts_engine.specs.Origin.{Origin, IsAnchor, compacted_after, history_of, state_at, used_at, told}
-use Rattle.gts_engine.specs.Keeping.{LeavesFront, OpensToReading, HasSaid, HasFailed, IsLeft, Keeps}
-use Rattle.gts_engine.specs.Compacting.{IsCompaction, StaysAt}
 use Rattle.gts_engine.proofs.EntryLemmas.{used_since, read_itself}
 use Rattle.gts_engine.proofs.TurnLemmas.{settle_keeps}
 use Rattle.gts_engine.proofs.LeavingLemmas.{at_end, whole}

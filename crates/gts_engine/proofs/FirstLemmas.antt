@@ -1,21 +1,7 @@
 -- Calls that settle first what was gathered.
 use Rattle.std.proofs.Common.{◌≡◌, List, Result, Ok, Err, sym, ◌∙◌}
-use Rattle.gts_traits.specs.Calls.{Call}
-use Rattle.gts_event.specs.declared.event.Event.{Event}
-use Rattle.gts_event.specs.declared.event.Entry.{Entry}
-use Rattle.gts_event.specs.declared.outcome.Outcome.{Outcome}
-use Rattle.gts_event.specs.declared.fault.SwitchFault.{SwitchFault}
-use Rattle.gts_record.specs.declared.fault.OpenFault.{OpenFault}
+use Rattle.gts_engine.specs.Cited.{Call, Engine, Entry, Event, IsCompaction, IsHeardWithRoom, IsReopening, IsSettling, Keeps, OpenFault, Origin, Outcome, SayMode, Station, SwitchFault, meanings_of, shown, switch_meanings}
 use Rattle.gts_record.specs.declared.fault.OpenFault.TheVariants.{NoMemory}
-use Rattle.gts_calls.specs.Calls.{IsSettling, IsReopening}
-use Rattle.gts_engine.specs.declared.mode.SayMode.{SayMode}
-use Rattle.gts_engine.specs.declared.mode.SayMode.TheVariants.{Station}
-use Rattle.gts_engine.specs.Engine.{Engine, shown}
-use Rattle.gts_engine.specs.Origin.{Origin}
-use Rattle.gts_engine.specs.Keeping.{Keeps, meanings_of}
-use Rattle.gts_engine.specs.Compacting.{IsCompaction}
-use Rattle.gts_engine.specs.Rooming.{IsHeardWithRoom}
-use Rattle.gts_engine.specs.Switching.{switch_meanings}
 
 module _ {P : Type 0} (tells : Type 0) (calls : P → List Call) (old mid : Engine P) (settled : Result (Unit {0}) SwitchFault) (s : (mode : SayMode) → IsSettling (meanings_of tells calls mode) settled old mid) where
   -- where nothing was gathered, it stands for what it stood for

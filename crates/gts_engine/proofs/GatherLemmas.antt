@@ -1,33 +1,8 @@
 -- One event more is gathered: what an engine keeps then, and what a call leaves.
 use Rattle.std.proofs.Common.{◌≡◌, ◌⊎◌, ◌+◌, ◌≤◌, true, false, inl, inr, ℕ, Bool, List, [], ◌∷◌, ◌++◌, Option, None, Result, Ok, Err, refl, sym, ap, subst, ◌∙◌, arith}
-use Rattle.std.specs.List.{slice_index_or}
+use Rattle.gts_engine.specs.Cited.{AfterCall, AfterSettling, Alone, AreGathered, AtOnce, Behind, Call, Device, Directory, DiskFault, Done, Engine, Enters, Entry, Event, Full, Gathers, GathersOne, HasFailed, HasFewDraws, Holds, IsOneMore, Keeps, Leaving, MayHaveSettled, NoMemory, Origin, Outcome, Outside, Parts, Record, SayFault, SayMode, Shown, Spent, Standing, State, Stopped, SwitchFault, after, after_all, all_done, by_station, draws_among, draws_in, engine_of, event_record, gathered_after, meanings_of, outcome, pieces, record_bytes, shown, shows, slice_index_or, spoken, state_at, state_behind, used_at, used_behind}
 use Rattle.std.proofs.lemmas.List.{append-nil}
-use Rattle.gts_traits.specs.Calls.{Call, Outside}
-use Rattle.gts_directory.specs.Directory.{Directory}
-use Rattle.gts_event.specs.State.{State}
-use Rattle.gts_event.specs.History.{outcome, after, after_all}
-use Rattle.gts_event.specs.Said.{spoken}
-use Rattle.gts_event.specs.Drain.{all_done}
-use Rattle.gts_event.specs.declared.event.Event.{Event}
-use Rattle.gts_event.specs.declared.event.Entry.{Entry}
-use Rattle.gts_event.specs.declared.event.Entry.TheVariants.{Done}
-use Rattle.gts_event.specs.declared.outcome.Outcome.{Outcome}
-use Rattle.gts_event.specs.declared.fault.Device.{Device}
-use Rattle.gts_event.specs.declared.fault.SwitchFault.{SwitchFault}
-use Rattle.gts_event.specs.declared.fault.SwitchFault.TheVariants.{DiskFault, SayFault, Full, Stopped, Spent, NoMemory}
 use Rattle.gts_event.proofs.LawLemmas.{after_all-append}
-use Rattle.gts_core.specs.Core.{Holds}
-use Rattle.gts_record.specs.Record.{Record}
-use Rattle.gts_opening.specs.Room.{record_bytes, event_record}
-use Rattle.gts_engine.specs.declared.mode.SayMode.{SayMode}
-use Rattle.gts_engine.specs.declared.parts.Parts.{Parts}
-use Rattle.gts_engine.specs.Engine.{Engine, Shown, engine_of, shown}
-use Rattle.gts_engine.specs.Origin.{Origin, state_at, used_at, by_station}
-use Rattle.gts_engine.specs.Keeping.{HasFailed, Leaving, AreGathered, Gathers, Keeps, state_behind, used_behind, pieces, draws_in, draws_among, meanings_of}
-use Rattle.gts_engine.specs.Going.{Enters, HasFewDraws, gathered_after}
-use Rattle.gts_engine.specs.Parts.{shows}
-use Rattle.gts_calls.specs.Calls.{Standing, AfterSettling, AfterCall, IsOneMore, Behind, Alone, AtOnce, GathersOne}
-use Rattle.gts_engine.specs.Gathering.{MayHaveSettled}
 use Rattle.gts_engine.proofs.SettleLemmas.{done_append}
 
 -- ---- one event more
@@ -52,10 +27,6 @@ behind_append o h es e =
 some_record : (rs : List Record) → gathered_after false rs ≡ true → rs ≡ [] → ⊥
 some_record [] e none = cc e
 some_record (r ∷ rs) e none = cc none
-
-pub still_gathered : (rs : List Record) → gathered_after true rs ≡ true
-still_gathered [] = refl
-still_gathered (r ∷ rs) = refl
 
 -- what is gathered with an event more
 gathered_one : (old new : Shown) (d : Directory) (s : State) (es : List Event) (e : Event) → AreGathered old d s es → new.gathered ≡ gathered_after old.gathered (event_record d (after_all d s (all_done es)) e) → new.gathered ≡ true → new.stopped ≡ None

@@ -1,12 +1,8 @@
 -- What is held, piece by piece.
-use Rattle.std.proofs.Common.{◌≡◌, ◌≤◌, ◌+◌, ℕ, zero, suc, List, [], ◌∷◌, ◌++◌, length, take, drop, Some, sym, ap, ◌∙◌, arith, length-append, length-drop, append_assoc}
-use Rattle.std.specs.Prelude.{slice_get}
-use Rattle.std.specs.List.{slice_index_or}
+use Rattle.std.proofs.Common.{◌≡◌, ◌≤◌, ◌+◌, ℕ, zero, suc, List, [], ◌∷◌, ◌++◌, length, take, drop, Some, sym, ap, ◌∙◌, arith, length-append, length-drop, append_assoc, slice_get}
+use Rattle.gts_engine.specs.Cited.{Outside, Saying, on, pieces_of, sizes_of, slice_index_or}
 use Rattle.std.proofs.lemmas.List.{take-append-le, drop-append-le, take_all, take_at, length-take-le, take-take, drop-take, drop-drop, nil_from_length}
 use Rattle.std.proofs.lemmas.List.Sums.{sum_by-cons, sum_by-take-le}
-use Rattle.gts_traits.specs.Calls.{Outside, on}
-use Rattle.gts_engine.specs.declared.held.Saying.{Saying}
-use Rattle.gts_engine.specs.Sayings.{pieces_of, sizes_of}
 
 -- the size of one, and those of the others
 sizes_cons : (s : Saying) (each : List Saying) → sizes_of (s ∷ each) ≡ s.size + sizes_of each

@@ -1,29 +1,8 @@
 -- A call that changes nothing, behind what was settled.
 use Rattle.std.proofs.Common.{◌≡◌, inr, ℕ, List, [], ◌∷◌, ◌++◌, true, false, Option, None, Result, Ok, Err, refl, sym, ap, subst, ◌∙◌}
-use Rattle.gts_traits.specs.Calls.{Call}
-use Rattle.gts_directory.specs.Directory.{Directory}
-use Rattle.gts_event.specs.State.{State}
-use Rattle.gts_event.specs.History.{outcome}
-use Rattle.gts_event.specs.Drain.{all_done}
-use Rattle.gts_event.specs.declared.event.Event.{Event}
-use Rattle.gts_event.specs.declared.event.Entry.{Entry}
-use Rattle.gts_event.specs.declared.event.Entry.TheVariants.{Idle}
-use Rattle.gts_event.specs.declared.outcome.Outcome.{Outcome}
-use Rattle.gts_event.specs.declared.fault.Device.{Device}
-use Rattle.gts_event.specs.declared.fault.SwitchFault.{SwitchFault}
-use Rattle.gts_event.specs.declared.fault.SwitchFault.TheVariants.{DiskFault, SayFault, Full, Stopped, Spent, NoMemory}
-use Rattle.gts_core.specs.Core.{Core, Holds, Keeps as KeepsCore}
-use Rattle.gts_opening.specs.Room.{IsAccepted, full}
-use Rattle.gts_calls.specs.Calls.{Standing, AfterCall, IsSettling, HasCallCause}
-use Rattle.gts_engine.specs.declared.mode.SayMode.{SayMode}
-use Rattle.gts_engine.specs.declared.parts.Parts.{Parts}
-use Rattle.gts_engine.specs.Engine.{Engine, Shown, engine_of, shown}
-use Rattle.gts_engine.specs.Origin.{Origin, state_at, used_at}
-use Rattle.gts_engine.specs.Keeping.{Gathers, Keeps, state_behind, meanings_of}
-use Rattle.gts_engine.specs.Going.{IsGathering, stopped_after}
-use Rattle.std.specs.Prelude.{IfOk}
-use Rattle.gts_engine.specs.Parts.{IsSound, IsUnchanged, GivesOrMemory, IsRoomFault, shows}
-use Rattle.gts_engine.specs.Gathering.{HasSettled, HasOnlySettled, LeavesCall, AnswersIn}
+use Rattle.gts_engine.specs.Cited.{AfterCall, AnswersIn, Call, Core, Device, Directory, DiskFault, Engine, Entry, Event, Full, Gathers, GivesOrMemory, HasCallCause, HasOnlySettled, HasSettled, Holds, Idle, IsAccepted, IsGathering, IsRoomFault, IsSettling, IsSound, IsUnchanged, Keeps, LeavesCall, NoMemory, Origin, Outcome, Parts, SayFault, SayMode, Shown, Spent, Standing, State, Stopped, SwitchFault, all_done, engine_of, full, meanings_of, outcome, shown, shows, state_at, state_behind, stopped_after, used_at}
+use Rattle.gts_core.specs.Core.{Keeps as KeepsCore}
+use Rattle.std.proofs.lemmas.Result.{IfOk-weaker}
 use Rattle.gts_engine.proofs.SettlingLemmas.{parts_settle}
 use Rattle.gts_engine.proofs.TurnLemmas.{idle}
 use Rattle.gts_engine.proofs.MarkedLemmas.{state_behind_marked}
@@ -127,10 +106,6 @@ module _ {P : Type 0} (tells : Type 0) (calls : P → List Call) (mode : SayMode
 pub prepared_sound : {P : Type 0} (tells : Type 0) (calls : P → List Call) (old mid : Parts P) → mid ≡ record old { core = mid.core } → KeepsCore old.core mid.core → IsSound tells calls old → IsSound tells calls mid
 prepared_sound {P} tells calls old mid rest keeps sound = subst (λ (p : Parts P). IsSound tells calls p) (sym rest) (kept_sound tells calls old sound mid.core keeps)
 
-each_ok : {T E : Type 0} (r : Result T E) (A B : T → Type 0) → ((x : T) → A x → B x) → IfOk r A → IfOk r B
-each_ok (Ok x) A B f a = f x a
-each_ok (Err e) A B f a = tt
-
 -- what was gathered was settled behind a core for which all is prepared
 pub only_settled : {P : Type 0} (tells : Type 0) (calls : P → List Call) (disk say : P → ℕ) (old mid new : Parts P) → mid ≡ record old { core = mid.core } → KeepsCore old.core mid.core → (settled : Result (Unit {0}) SwitchFault)
     → HasSettled tells calls disk say settled mid new → settled ≡ Ok tt → HasOnlySettled tells calls (engine_of old) (engine_of new)
@@ -160,7 +135,7 @@ module _ {P : Type 0} (tells : Type 0) (calls : P → List Call) (disk say : P �
   pub answers_prepared : (result : Result Outcome SwitchFault) → AnswersIn tells calls disk say mode event result mid new → AnswersIn tells calls disk say mode event result old new
   answers_prepared result a = record {
     called = λ o entries events kept. a.called o entries events (prepared_keeps tells calls mode old mid rest keeps o entries events kept);
-    outcome = each_ok result (λ x. (s : State) → Holds mid.directory mid.core s → x ≡ outcome mid.directory s event) (λ x. (s : State) → Holds old.directory old.core s → x ≡ outcome old.directory s event)
+    outcome = IfOk-weaker result (λ x. (s : State) → Holds mid.directory mid.core s → x ≡ outcome mid.directory s event) (λ x. (s : State) → Holds old.directory old.core s → x ≡ outcome old.directory s event)
         (λ x each s holds. let D : Directory → Type 0 = λ d. Holds d mid.core s → x ≡ outcome d s event in subst D (ap part_directory rest) (each s) (keeps old.directory s holds))
         a.outcome;
     directory = a.directory ∙ ap part_directory rest;

@@ -1,21 +1,8 @@
 -- Events that were done behind a history, said or not: what they come to and say is the same.
 use Rattle.std.proofs.Common.{◌≡◌, ℕ, ◌+◌, Bool, true, false, List, [], ◌∷◌, ◌++◌, map, None, refl, sym, ap, subst, ◌∙◌, append_assoc}
 use Rattle.std.proofs.lemmas.List.{append-nil}
-use Rattle.gts_traits.specs.Calls.{Outside}
-use Rattle.gts_directory.specs.Directory.{Directory}
-use Rattle.gts_event.specs.State.{State}
-use Rattle.gts_event.specs.History.{outcome, after, after_entry, after_all}
-use Rattle.gts_event.specs.Need.{keeps_one, begun}
-use Rattle.gts_event.specs.Said.{said, spoken, spoken_of}
-use Rattle.gts_event.specs.Drain.{all_done}
-use Rattle.gts_event.specs.declared.event.Event.{Event}
-use Rattle.gts_event.specs.declared.event.Entry.{Entry}
-use Rattle.gts_event.specs.declared.event.Entry.TheVariants.{Done, Unsaid, Doubt}
+use Rattle.gts_engine.specs.Cited.{AreAnchors, Cause, Directory, Done, Doubt, Entry, Event, HasDoubt, HasFailed, HasUnsaid, History, IsCaused, Origin, Outside, SayMode, State, Unsaid, after, after_all, after_entry, all_done, begun, by_station, entry_bytes, history_of, keeps_one, outcome, record_bytes, said, spoken, spoken_of, state_at, state_behind, told, used_at, used_behind}
 use Rattle.gts_event.proofs.LawLemmas.{said-append, after_all-append}
-use Rattle.gts_opening.specs.Room.{History, record_bytes, entry_bytes, Cause, IsCaused, HasDoubt, HasUnsaid}
-use Rattle.gts_engine.specs.declared.mode.SayMode.{SayMode}
-use Rattle.gts_engine.specs.Origin.{Origin, AreAnchors, history_of, state_at, used_at, by_station, told}
-use Rattle.gts_engine.specs.Keeping.{HasFailed, used_behind, state_behind}
 use Rattle.gts_engine.proofs.EntryLemmas.{state_more, used_more, anchors_more, caused_more, no_doubt, no_unsaid, by_station-append}
 
 -- an event as it was done, said or not

@@ -1,18 +1,9 @@
 -- Pieces that are held, said one behind the other.
 use Rattle.std.proofs.Common.{◌≡◌, ◌<◌, inl, inr, ⊎_elim, ℕ, zero, suc, List, [], ◌∷◌, ◌++◌, length, take, drop, Result, Ok, refl, sym, ap, subst, ◌∙◌, arith, append_assoc, take-append-drop}
-use Rattle.std.specs.List.{slice_index_or}
+use Rattle.gts_engine.specs.Cited.{Call, Directory, EachSince, InHand, IsFront, OpensAlong, OpensBetween, OpensToOneOf, Outside, SaidSince, Says, StandsFor, State, Tries, TriesPiece, joined, on, said_by, slice_index_or}
 use Rattle.std.proofs.lemmas.List.{append-nil}
-use Rattle.gts_traits.specs.Calls.{Call, Outside, Says, on, said_by, SaidSince}
-use Rattle.gts_traits.specs.Station.{Tries, IsFront}
-use Rattle.gts_traits.specs.Moments.{EachSince}
 use Rattle.gts_traits.proofs.LawLemmas.{started, weaker, said_is, joined as one_by_one, told as say_told}
-use Rattle.gts_directory.specs.Directory.{Directory}
-use Rattle.gts_event.specs.State.{State}
-use Rattle.gts_journal.specs.{InHand, StandsFor}
 use Rattle.gts_journal.proofs.LawLemmas.{images_open, say_stands_for}
-use Rattle.gts_engine.specs.Sayings.{joined}
-use Rattle.gts_journal.specs.Batch.{OpensToOneOf}
-use Rattle.gts_engine.specs.Gathering.{OpensAlong, OpensBetween, TriesPiece}
 use Rattle.gts_engine.proofs.TurnLemmas.{says_front}
 
 -- ---- pieces

@@ -1,34 +1,8 @@
 -- The two steps of a compaction, over an engine's parts.
-use Rattle.std.proofs.Common.{◌≡◌, ◌≢◌, ℕ, ◌+◌, ◌-◌, ◌<◌, true, List, [], length, None, Some, Result, Ok, Err, refl, sym, ap, subst, ◌∙◌, arith, false, nat_lt}
-use Rattle.std.specs.Prelude.{MatchResult}
-use Rattle.std.specs.Prelude.{OnOk}
+use Rattle.std.proofs.Common.{◌≡◌, ◌≢◌, ℕ, ◌+◌, ◌-◌, ◌<◌, true, List, [], length, None, Some, Result, Ok, Err, refl, sym, ap, subst, ◌∙◌, arith, false, nat_lt, MatchResult, OnOk}
 use Rattle.std.proofs.lemmas.List.{append-nil}
-use Rattle.gts_traits.specs.Calls.{Call, said_by}
-use Rattle.gts_traits.specs.Disk.{seen}
-use Rattle.gts_traits.specs.Moments.{EachSince}
+use Rattle.gts_engine.specs.Cited.{Call, Core, Directory, Disk, DiskFault, EachSince, Full, Gathered, HasFewDraws, HasWritten, Holds, InHand, IsBehind, IsClosedAt, IsCompaction, IsGoing, IsRewritten, IsSound, IsWriteFault, LeavesBoth, Need, Needs, NoMemory, OpensAsBefore, Parts, SayFault, Spent, StandsFor, StandsOn, State, StaysAt, Stopped, SwitchFault, WorksBeside, begun, checkpoint_file, compacted_bytes, engine_of, full_compacted, held_pieces, is_sound, need, need_seal, no_records, no_sayings, none_drawn, said_by, seen, selecting as selecting_at, stopped_after, unowed_state, written}
 use Rattle.gts_traits.proofs.LawLemmas.{joined}
-use Rattle.gts_directory.specs.Directory.{Directory}
-use Rattle.gts_event.specs.State.{State}
-use Rattle.gts_event.specs.Need.{Need, need, begun, is_sound}
-use Rattle.gts_event.specs.declared.fault.Device.TheVariants.{Disk}
-use Rattle.gts_event.specs.declared.fault.SwitchFault.{SwitchFault}
-use Rattle.gts_event.specs.declared.fault.SwitchFault.TheVariants.{DiskFault, SayFault, Full, Stopped, Spent, NoMemory}
-use Rattle.gts_core.specs.Core.{Core, Holds, Needs}
-use Rattle.gts_record.specs.Format.{written}
-use Rattle.gts_opening.specs.Journal.{compacted_bytes, unowed_state}
-use Rattle.gts_opening.specs.Room.{full_compacted}
-use Rattle.gts_checkpoint.specs.Alone.{WorksBeside}
-use Rattle.gts_checkpoint.specs.Writing.{HasWritten, checkpoint_file, need_seal}
-use Rattle.gts_journal.specs.{InHand, StandsOn, StandsFor, IsClosedAt, LeavesBoth, selecting as selecting_at}
-use Rattle.gts_journal.specs.Law.{OpensAsBefore}
-use Rattle.gts_engine.specs.declared.parts.Parts.{Parts}
-use Rattle.gts_engine.specs.Sayings.{held_pieces, no_sayings}
-use Rattle.gts_engine.specs.Engine.{engine_of}
-use Rattle.gts_journal.specs.Batch.{Gathered, no_records}
-use Rattle.gts_engine.specs.Keeping.{none_drawn}
-use Rattle.gts_engine.specs.Going.{IsGoing, HasFewDraws, stopped_after}
-use Rattle.gts_engine.specs.Parts.{IsSound}
-use Rattle.gts_engine.specs.Compacting.{IsCompaction, IsRewritten, IsBehind, StaysAt, IsWriteFault}
 use Rattle.gts_engine.proofs.CompactLemmas.{sound, writing, stands_still, is_journal, selecting, text, apart, left, goes_for, goes_on_compacted}
 use Rattle.gts_engine.proofs.CompactingLemmas.{compacted_so, left_so, memory_so}
 use Rattle.gts_engine.proofs.TurnLemmas.{goes_on}

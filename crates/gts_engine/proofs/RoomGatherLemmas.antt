@@ -1,34 +1,7 @@
 -- Room is made for a bulletin that may be gathered.
-use Rattle.std.proofs.Common.{◌≡◌, inl, inr, ℕ, Bool, true, false, List, [], ◌∷◌, ◌++◌, Some, None, Result, Ok, Err, refl, sym, ap, subst, ◌∙◌}
-use Rattle.std.specs.Prelude.{IsOk, IsSome, IfSome, is_ok}
+use Rattle.std.proofs.Common.{◌≡◌, inl, inr, ℕ, Bool, true, false, List, [], ◌∷◌, ◌++◌, Some, None, Result, Ok, Err, refl, sym, ap, subst, ◌∙◌, IsOk, IsSome, IfSome, is_ok}
 use Rattle.std.proofs.lemmas.List.{append-nil}
-use Rattle.gts_traits.specs.Calls.{Call}
-use Rattle.gts_frame.specs.declared.kind.Kind.{Kind}
-use Rattle.gts_directory.specs.Directory.{Directory}
-use Rattle.gts_event.specs.State.{State}
-use Rattle.gts_event.specs.History.{outcome, after_all}
-use Rattle.gts_event.specs.Need.{begun}
-use Rattle.gts_event.specs.Drain.{all_done}
-use Rattle.gts_event.specs.declared.event.Event.{Event}
-use Rattle.gts_event.specs.declared.event.Event.TheVariants.{Heard}
-use Rattle.gts_event.specs.declared.event.Entry.{Entry}
-use Rattle.gts_event.specs.declared.event.Entry.TheVariants.{Idle}
-use Rattle.gts_event.specs.declared.outcome.Outcome.{Outcome}
-use Rattle.gts_event.specs.declared.fault.Device.TheVariants.{Disk, Say}
-use Rattle.gts_event.specs.declared.fault.SwitchFault.{SwitchFault}
-use Rattle.gts_event.specs.declared.fault.SwitchFault.TheVariants.{DiskFault, SayFault, Full, Stopped, Spent, NoMemory}
-use Rattle.gts_core.specs.Core.{Holds}
-use Rattle.gts_opening.specs.Room.{IsAccepted, full}
-use Rattle.gts_calls.specs.Calls.{Standing, IsAnswered, IsAnswerCause}
-use Rattle.gts_engine.specs.declared.mode.SayMode.{SayMode}
-use Rattle.gts_engine.specs.Engine.{Engine, shown}
-use Rattle.gts_engine.specs.Origin.{Origin, compacted_after, state_at, used_at}
-use Rattle.gts_engine.specs.Keeping.{IsFullCompacted, Gathers, Keeps, meanings_of, state_behind}
-use Rattle.gts_engine.specs.Compacting.{IsCompaction, GivesRoom, IsIdleFault, IsCompactFault}
-use Rattle.gts_engine.specs.Going.{stopped_after}
-use Rattle.gts_engine.specs.Parts.{HadRoomFor}
-use Rattle.gts_engine.specs.Gathering.{HasOnlySettled}
-use Rattle.gts_engine.specs.Rooming.{TellsSpare, bytes_wanted, IsFullEither, IsGatheredWithRoom}
+use Rattle.gts_engine.specs.Cited.{Call, Directory, Disk, DiskFault, Engine, Entry, Event, Full, Gathers, GivesRoom, HadRoomFor, HasOnlySettled, Heard, Holds, Idle, IsAccepted, IsAnswerCause, IsAnswered, IsCompactFault, IsCompaction, IsFullCompacted, IsFullEither, IsGatheredWithRoom, IsIdleFault, Keeps, Kind, NoMemory, Origin, Outcome, Say, SayFault, SayMode, Spent, Standing, State, Stopped, SwitchFault, TellsSpare, after_all, all_done, begun, bytes_wanted, compacted_after, full, meanings_of, outcome, shown, state_at, state_behind, stopped_after, used_at}
 use Rattle.gts_engine.proofs.MarkedLemmas.{state_behind_marked, used_marked}
 use Rattle.gts_engine.proofs.TurnLemmas.{idle}
 use Rattle.gts_engine.proofs.CompactingLemmas.{used_compacted}

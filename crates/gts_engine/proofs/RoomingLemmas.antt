@@ -1,37 +1,9 @@
 -- Room is made for a bulletin for which the journal has none.
-use Rattle.std.proofs.Common.{◌≡◌, ◌⊎◌, inl, inr, ℕ, ◌+◌, ◌*◌, ◌/◌, ◌-◌, ◌^◌, ◌<◌, ◌≤◌, nat_lt, nat_le, Bool, true, false, cond, List, [], ◌∷◌, ◌++◌, length, Option, Some, None, Result, Ok, Err, refl, sym, ap, subst, ◌∙◌, arith, mul-le-mul_left}
-use Rattle.std.specs.Prelude.{IsOk, IsSome, IfSome, is_ok, min}
+use Rattle.std.proofs.Common.{◌≡◌, ◌⊎◌, inl, inr, ℕ, ◌+◌, ◌*◌, ◌/◌, ◌-◌, ◌^◌, ◌<◌, ◌≤◌, nat_lt, nat_le, Bool, true, false, cond, List, [], ◌∷◌, ◌++◌, length, Option, Some, None, Result, Ok, Err, refl, sym, ap, subst, ◌∙◌, arith, mul-le-mul_left, IsOk, IsSome, IfSome, is_ok, min}
 use Rattle.std.proofs.lemmas.Bool.{ltb-true, ltb-false, le-ltb, leb-true, leb-false, cases_eq}
 use Rattle.std.proofs.lemmas.List.{append-nil}
-use Rattle.gts_traits.specs.Calls.{Call, Outside, said_by}
+use Rattle.gts_engine.specs.Cited.{Accepted, AnswersFull, Asked, Call, Device, Directory, Disk, DiskFault, Doubt, Draw, Duplicate, Engine, Entry, Event, Full, GivesRoom, HasFailed, HasRecord, HasSaid, Heard, Holds, Idle, IsAccepted, IsCalled, IsCause, IsCompactFault, IsCompaction, IsFullCompacted, IsFullEither, IsHeardWithRoom, IsIdleAnswer, IsIdleFault, IsLeft, IsReading, IsUnchanged, Keeps, Kind, LeavesFront, LineLost, NoMemory, Nothing, Origin, Outcome, Outside, Refused, Resend, Say, SayFault, SayMode, Shown, Spent, State, Stopped, SwitchFault, TellsSpare, after_all, begun, body_of, bytes_wanted, checkpoint_text, compacted_after, compacted_size, draw_size, due, entry_of, full, full_compacted, full_with_spare, meanings_of, most_accepted, need, outcome, restarted, room, said_by, seal_size, shown, spare, state_at, used_at, written}
 use Rattle.gts_traits.proofs.LawLemmas.{weaker}
-use Rattle.gts_frame.specs.declared.kind.Kind.{Kind}
-use Rattle.gts_directory.specs.Directory.{Directory}
-use Rattle.gts_event.specs.State.{State, most_accepted}
-use Rattle.gts_event.specs.History.{outcome, after_all, restarted, body_of}
-use Rattle.gts_event.specs.Need.{need, begun}
-use Rattle.gts_event.specs.declared.event.Event.{Event}
-use Rattle.gts_event.specs.declared.event.Event.TheVariants.{Heard}
-use Rattle.gts_event.specs.declared.event.Entry.{Entry}
-use Rattle.gts_event.specs.declared.event.Entry.TheVariants.{Idle, Doubt}
-use Rattle.gts_event.specs.declared.outcome.Outcome.{Outcome}
-use Rattle.gts_event.specs.declared.outcome.Outcome.TheVariants.{Accepted, Duplicate, Asked, Refused, LineLost, Resend, Draw, Nothing}
-use Rattle.gts_event.specs.declared.fault.Device.{Device}
-use Rattle.gts_event.specs.declared.fault.Device.TheVariants.{Disk, Say}
-use Rattle.gts_event.specs.declared.fault.SwitchFault.{SwitchFault}
-use Rattle.gts_event.specs.declared.fault.SwitchFault.TheVariants.{DiskFault, SayFault, Full, Stopped, Spent, NoMemory}
-use Rattle.gts_record.specs.Format.{seal_size, draw_size, written}
-use Rattle.gts_core.specs.Core.{Holds}
-use Rattle.gts_opening.specs.Journal.{due, checkpoint_text}
-use Rattle.gts_opening.specs.Room.{HasRecord, IsAccepted, IsReading, room, full, full_compacted, compacted_size}
-use Rattle.gts_calls.specs.Calls.{IsCalled, IsCause, entry_of}
-use Rattle.gts_engine.specs.declared.mode.SayMode.{SayMode}
-use Rattle.gts_engine.specs.Engine.{Engine, Shown, shown}
-use Rattle.gts_engine.specs.Origin.{Origin, compacted_after, state_at, used_at}
-use Rattle.gts_engine.specs.Keeping.{LeavesFront, HasSaid, HasFailed, IsLeft, IsFullCompacted, Keeps, meanings_of}
-use Rattle.gts_engine.specs.Compacting.{IsCompaction, GivesRoom, IsIdleFault, IsCompactFault}
-use Rattle.gts_engine.specs.Parts.{AnswersFull, IsUnchanged, IsIdleAnswer}
-use Rattle.gts_engine.specs.Rooming.{spare, full_with_spare, TellsSpare, bytes_wanted, IsFullEither, IsHeardWithRoom}
 use Rattle.gts_engine.proofs.EntryLemmas.{told_more, nothing_said, anchors_more, caused_more, stops_now, only_itself, read_not}
 use Rattle.gts_engine.proofs.LeavingLemmas.{longer}
 use Rattle.gts_engine.proofs.TurnLemmas.{goes_on, quiet, settle_keeps, idle, same}

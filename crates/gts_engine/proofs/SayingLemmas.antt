@@ -1,20 +1,6 @@
 -- Pieces that are held, said one behind the other, over the parts of an engine.
 use Rattle.std.proofs.Common.{◌≡◌, ◌<◌, ◌≤◌, ◌+◌, ℕ, List, [], ◌∷◌, ◌++◌, length, take, drop, Result, Ok, Err, refl, sym, ap, subst, ◌∙◌, arith, add-one, take_all}
-use Rattle.std.specs.List.{slice_index_or}
-use Rattle.gts_traits.specs.Calls.{Call, Outside, said_by, SaidSince}
-use Rattle.gts_traits.specs.Moments.{EachSince}
-use Rattle.gts_directory.specs.Directory.{Directory}
-use Rattle.gts_event.specs.State.{State}
-use Rattle.gts_event.specs.declared.fault.SwitchFault.{SwitchFault}
-use Rattle.gts_event.specs.declared.fault.SwitchFault.TheVariants.{DiskFault}
-use Rattle.gts_journal.specs.{InHand, StandsFor}
-use Rattle.gts_journal.specs.Batch.{Gathered}
-use Rattle.gts_opening.specs.Journal.{after_records}
-use Rattle.gts_engine.specs.declared.held.Saying.{Saying}
-use Rattle.gts_engine.specs.declared.parts.Parts.{Parts}
-use Rattle.gts_engine.specs.Sayings.{Sayings, pieces_of, held_pieces, joined}
-use Rattle.gts_engine.specs.Parts.{OnlySaid}
-use Rattle.gts_engine.specs.Gathering.{OnlyBrought, MayBring, HasBrought, BringsAndSays, StandsUnlessDisk, OpensAlong, SaysHeld, TriesPiece, FailsAt}
+use Rattle.gts_engine.specs.Cited.{BringsAndSays, Call, Directory, DiskFault, EachSince, FailsAt, Gathered, HasBrought, InHand, MayBring, OnlyBrought, OnlySaid, OpensAlong, Outside, Parts, SaidSince, Saying, Sayings, SaysHeld, StandsFor, StandsUnlessDisk, State, SwitchFault, TriesPiece, after_records, held_pieces, joined, pieces_of, said_by, slice_index_or}
 use Rattle.gts_engine.proofs.PieceLemmas.{piece_stands, piece_moments, failed_part, piece_said, nothing_yet, brought_only, brought_then}
 use Rattle.gts_traits.proofs.LawLemmas.{SaidSince-refl}
 

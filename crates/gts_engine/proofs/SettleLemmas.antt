@@ -1,32 +1,8 @@
 -- What was gathered is brought into the journal, and what was held is said: what an engine keeps then.
 use Rattle.std.proofs.Common.{◌≡◌, ◌<◌, true, false, ⊎_elim, ℕ, zero, suc, List, [], ◌∷◌, ◌++◌, length, take, Option, Some, None, Ok, refl, sym, ap, subst, ◌∙◌, arith, append_assoc}
-use Rattle.std.specs.List.{list_all, slice_index_or}
+use Rattle.gts_engine.specs.Cited.{BeginsWithRecord, Core, Device, Directory, Disk, Done, Doubt, EachSince, Entry, Event, Files, Gathers, HasDoubt, HasFailed, HasSaid, Holds, Idle, IsFront, IsImage, IsReading, Keeps, LeavesFront, OpensBetween, Origin, Outside, Restarted, SaidSince, Say, SayMode, Shown, State, StopsOnce, Unsaid, after, after_all, all_done, all_unsaid, by_station, joined, list_all, may_follow, need, opens, pieces, restarted, said, said_by, slice_index_or, spoken, state_at, state_behind, stops, told}
 use Rattle.std.proofs.lemmas.List.{append-nil}
-use Rattle.gts_traits.specs.Calls.{Outside, said_by, SaidSince}
-use Rattle.gts_traits.specs.Disk.{Files, IsImage}
-use Rattle.gts_traits.specs.Station.{IsFront}
-use Rattle.gts_traits.specs.Moments.{EachSince}
-use Rattle.gts_directory.specs.Directory.{Directory}
-use Rattle.gts_event.specs.State.{State}
-use Rattle.gts_event.specs.History.{after, after_all, restarted}
-use Rattle.gts_event.specs.Need.{need}
-use Rattle.gts_event.specs.Said.{said, spoken}
-use Rattle.gts_event.specs.Drain.{all_done, all_unsaid}
-use Rattle.gts_event.specs.declared.event.Event.{Event}
-use Rattle.gts_event.specs.declared.event.Entry.{Entry}
-use Rattle.gts_event.specs.declared.event.Entry.TheVariants.{Done, Unsaid, Idle, Doubt, Restarted}
 use Rattle.gts_event.proofs.LawLemmas.{after_all-append, said-append}
-use Rattle.gts_event.specs.declared.fault.Device.{Device}
-use Rattle.gts_event.specs.declared.fault.Device.TheVariants.{Disk, Say}
-use Rattle.gts_core.specs.Core.{Core, Holds}
-use Rattle.gts_opening.specs.Journal.{opens}
-use Rattle.gts_opening.specs.Room.{IsReading, HasDoubt, BeginsWithRecord, StopsOnce, stops, may_follow}
-use Rattle.gts_engine.specs.declared.mode.SayMode.{SayMode}
-use Rattle.gts_engine.specs.Engine.{Shown}
-use Rattle.gts_engine.specs.Origin.{Origin, state_at, by_station, told}
-use Rattle.gts_engine.specs.Keeping.{LeavesFront, HasSaid, HasFailed, Gathers, Keeps, state_behind, pieces}
-use Rattle.gts_engine.specs.Sayings.{joined}
-use Rattle.gts_engine.specs.Gathering.{OpensBetween}
 use Rattle.gts_engine.proofs.EntryLemmas.{split_last, all_more, nothing_behind, no_doubt, anchors_more, caused_more, told_more, nothing_said, stops_now, stops_never, only_itself, read_itself, read_done, read_not, by_station-append}
 use Rattle.gts_engine.proofs.MarkedLemmas.{state_behind_marked, told_marked, anchors_marked, caused_marked, used_marked, no_doubt_marked, still_going}
 use Rattle.gts_engine.proofs.LeavingLemmas.{at_end, brought}

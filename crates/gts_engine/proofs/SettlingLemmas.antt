@@ -1,40 +1,10 @@
 -- Settling, over the parts of an engine.
-use Rattle.std.proofs.Common.{◌≡◌, ◌<◌, ◌≤◌, ◌+◌, true, false, nat_lt, ℕ, zero, suc, Bool, List, [], ◌∷◌, ◌++◌, length, Some, None, Result, Ok, Err, OnOk, IfErr, refl, sym, ap, subst, ◌∙◌, arith}
-use Rattle.std.specs.Prelude.{replicate, ◌==◌}
+use Rattle.std.proofs.Common.{◌≡◌, ◌<◌, ◌≤◌, ◌+◌, true, false, nat_lt, ℕ, zero, suc, Bool, List, [], ◌∷◌, ◌++◌, length, Some, None, Result, Ok, Err, OnOk, IfErr, refl, sym, ap, subst, ◌∙◌, arith, replicate, ◌==◌}
 use Rattle.std.proofs.lemmas.Bool.{eqb-true, eqb-false, ltb-false, lt-ltb}
-use Rattle.std.specs.List.{slice_index_or}
-use Rattle.gts_alphabet.specs.declared.limits.TheConstants.{MOST_CIRCUITS}
+use Rattle.gts_engine.specs.Cited.{AfterSettling, AreNext, Brings, BringsAndSays, Call, Core, Device, Directory, Disk, DiskFault, Engine, Entry, Event, Full, Gathered, Gathers, HasCallCause, HasFewDraws, HasRoom, HasSettled, InHand, IsBlock, IsDeviceFault, IsGathering, IsSettling, IsSound, Keeps, LONGEST_FRAME, MOST_CIRCUITS, MOST_GATHERED, NoMemory, OnlyBrought, OnlySettled, Origin, Parts, Record, Say, SayFault, SayMode, Sayings, SaysBy, Spent, StandsFor, State, Stopped, SwitchFault, after_records, all_done, beyond_block, draw_bytes, engine_of, held_pieces, meanings_of, no_records, no_sayings, none_drawn, shown, shows, slice_index_or, stopped_after, written}
+use Rattle.gts_journal.specs.Batch.{Gathers as GathersRecords}
 use Rattle.std.proofs.lemmas.List.{append-nil}
-use Rattle.gts_traits.specs.Calls.{Call}
-use Rattle.gts_directory.specs.Directory.{Directory}
-use Rattle.gts_event.specs.State.{State}
-use Rattle.gts_event.specs.Drain.{all_done}
-use Rattle.gts_event.specs.declared.event.Event.{Event}
-use Rattle.gts_event.specs.declared.event.Entry.{Entry}
-use Rattle.gts_event.specs.declared.fault.Device.{Device}
-use Rattle.gts_event.specs.declared.fault.Device.TheVariants.{Disk, Say}
-use Rattle.gts_event.specs.declared.fault.SwitchFault.{SwitchFault}
-use Rattle.gts_event.specs.declared.fault.SwitchFault.TheVariants.{DiskFault, SayFault, Full, Stopped, Spent, NoMemory}
-use Rattle.gts_record.specs.Record.{Record}
-use Rattle.gts_core.specs.Core.{Core}
-use Rattle.gts_journal.specs.{InHand, StandsFor}
-use Rattle.gts_journal.specs.Batch.{Gathered, Gathers as GathersRecords, IsBlock, AreNext, no_records, beyond_block}
 use Rattle.gts_journal.proofs.LawLemmas.{gathered_block, next_none}
-use Rattle.gts_record.specs.Format.{written}
-use Rattle.gts_opening.specs.Journal.{after_records}
-use Rattle.gts_opening.specs.Room.{draw_bytes}
-use Rattle.gts_calls.specs.Calls.{AfterSettling, IsSettling, HasCallCause}
-use Rattle.gts_engine.specs.declared.mode.SayMode.{SayMode}
-use Rattle.gts_engine.specs.declared.parts.Parts.{Parts}
-use Rattle.gts_engine.specs.Sayings.{Sayings, HasRoom, held_pieces, no_sayings}
-use Rattle.gts_journal.specs.declared.batch.TheConstants.{MOST_GATHERED}
-use Rattle.gts_alphabet.specs.declared.limits.TheConstants.{LONGEST_FRAME}
-use Rattle.gts_engine.specs.Engine.{Engine, engine_of, shown}
-use Rattle.gts_engine.specs.Origin.{Origin}
-use Rattle.gts_engine.specs.Keeping.{Gathers, Keeps, none_drawn, meanings_of}
-use Rattle.gts_engine.specs.Going.{IsGathering, HasFewDraws, stopped_after}
-use Rattle.gts_engine.specs.Parts.{IsSound, shows}
-use Rattle.gts_engine.specs.Gathering.{OnlyBrought, OnlySettled, Brings, BringsAndSays, SaysBy, IsDeviceFault, HasSettled}
 use Rattle.gts_engine.proofs.TurnLemmas.{goes_on}
 use Rattle.gts_engine.proofs.GoingLemmas.{ends_closed}
 use Rattle.gts_engine.proofs.BringLemmas.{settles}

@@ -1,20 +1,6 @@
 -- The journal is compacted.
 use Rattle.std.specs.Prelude.{◌≡◌, ◌≢◌, ◌-◌, ◌^◌, ℕ, min, List, length, None, Result, Ok, Err, IfErr, OnOk}
-use Rattle.gts_traits.specs.Calls.{Call}
-use Rattle.gts_traits.specs.Disk.{seen}
-use Rattle.gts_traits.specs.Moments.{EachSince}
-use Rattle.gts_directory.specs.Directory.{Directory}
-use Rattle.gts_event.specs.State.{State}
-use Rattle.gts_event.specs.Need.{need}
-use Rattle.gts_event.specs.declared.event.Entry.{Entry}
-use Rattle.gts_event.specs.declared.fault.SwitchFault.{SwitchFault}
-use Rattle.gts_event.specs.declared.fault.SwitchFault.TheVariants.{DiskFault, Full, Stopped, NoMemory}
-use Rattle.gts_core.specs.Core.{Core, Holds}
-use Rattle.gts_journal.specs.Law.{OpensAsBefore}
-use Rattle.gts_opening.specs.Journal.{selected, checkpoint_text}
-use Rattle.gts_opening.specs.Room.{compacted_size, full_compacted}
-use Rattle.gts_checkpoint.specs.{checkpoint_file}
-use Rattle.gts_calls.specs.Calls.{HasCallCause}
+use Rattle.gts_engine.specs.Cited.Below.{Call, Core, Directory, DiskFault, EachSince, Entry, Full, HasCallCause, Holds, NoMemory, OpensAsBefore, State, Stopped, SwitchFault, checkpoint_file, checkpoint_text, compacted_size, full_compacted, need, seen, selected}
 use Rattle.gts_engine.specs.declared.room.CheckpointFull.{CheckpointFull}
 use Rattle.gts_engine.specs.declared.mode.SayMode.{SayMode}
 use Rattle.gts_engine.specs.declared.parts.Parts.{Parts}

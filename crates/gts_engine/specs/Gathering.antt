@@ -1,32 +1,13 @@
 -- What an engine has gathered that isn't in its journal yet, what bringing it there leaves, and what a call leaves that gathers.
 use Rattle.std.specs.Prelude.{◌≡◌, ◌⊎◌, ℕ, ◌<◌, ◌≤◌, length, take, true, false, List, [], ◌∷◌, ◌++◌, Result, Ok, Err, OnOk, IfOk, IfErr}
-use Rattle.std.specs.List.{slice_index_or}
-use Rattle.gts_traits.specs.Calls.{Call, Says, Outside, on, said_by, SaidSince}
-use Rattle.gts_traits.specs.Counts.{Rose}
-use Rattle.gts_traits.specs.Disk.{Files}
-use Rattle.gts_traits.specs.Station.{Tries, IsFront}
-use Rattle.gts_traits.specs.Moments.{EachSince}
-use Rattle.gts_directory.specs.Directory.{Directory}
-use Rattle.gts_event.specs.State.{State}
-use Rattle.gts_event.specs.History.{outcome as outcome_of}
-use Rattle.gts_event.specs.declared.event.Event.{Event}
-use Rattle.gts_event.specs.declared.event.Entry.{Entry}
-use Rattle.gts_event.specs.declared.outcome.Outcome.{Outcome}
-use Rattle.gts_event.specs.declared.fault.SwitchFault.{SwitchFault}
-use Rattle.gts_event.specs.declared.fault.SwitchFault.TheVariants.{DiskFault, SayFault}
-use Rattle.gts_record.specs.Record.{Record}
-use Rattle.gts_journal.specs.{InHand, StandsFor}
-use Rattle.gts_journal.specs.Batch.{Gathered, AreNext, OpensToOneOf}
-use Rattle.gts_journal.specs.Law.{OpensTo}
-use Rattle.gts_core.specs.Core.{Holds}
-use Rattle.gts_opening.specs.Journal.{after_records}
-use Rattle.gts_calls.specs.Calls.{HasCallCause, AfterSettling, AfterCall, IsAnswered, IsSettling}
+use Rattle.gts_engine.specs.Cited.Below.{AfterCall, AfterSettling, AreNext, Call, Directory, DiskFault, EachSince, Entry, Event, Files, Gathered, HasCallCause, Holds, InHand, IsAnswered, IsFront, IsSettling, OpensTo, OpensToOneOf, Outcome, Outside, Record, Rose, SaidSince, SayFault, Says, StandsFor, State, SwitchFault, Taken, Tries, after_records, on, outcome as outcome_of, said_by, slice_index_or}
 use Rattle.gts_engine.specs.declared.mode.SayMode.{SayMode}
+use Rattle.gts_engine.specs.declared.mode.SayMode.TheVariants.{Caller}
 use Rattle.gts_engine.specs.declared.parts.Parts.{Parts}
 use Rattle.gts_engine.specs.Sayings.{held_pieces, joined, no_sayings}
 use Rattle.gts_engine.specs.Engine.{Engine, engine_of, shown}
 use Rattle.gts_engine.specs.Origin.{Origin}
-use Rattle.gts_engine.specs.Keeping.{Gathers, meanings_of, none_drawn}
+use Rattle.gts_engine.specs.Keeping.{Gathers, state_behind, meanings_of, none_drawn}
 use Rattle.gts_engine.specs.Going.{stopped_after}
 use Rattle.gts_engine.specs.Parts.{IsSound, IsIdleAnswer, shows, OnlySaid}
 
@@ -180,6 +161,15 @@ Answers tells calls disk say event result old new = (mode : SayMode) → Answers
 abbrev pub GathersEntry : {P : Type 0} → Type 0 → (P → List Call) → SayMode → Event → Result Outcome SwitchFault → (old new : Engine P)
     → Type 0
 GathersEntry tells calls mode event result old new = IsAnswered (meanings_of tells calls mode) event result old new
+
+-- A take on c was gathered behind whatever events were, and nothing was settled before: the answer is the event's outcome. The caller
+-- says the frame.
+pub record TakesBehind {P : Type 0} (tells : Type 0) (calls : P → List Call) (c : ℕ) (answer : Outcome) (old new : Engine P) : Type 0 where
+  pub directory : new.directory ≡ old.directory
+  pub gathers : (o : Origin) (entries : List Entry) (events : List Event) → Gathers tells Caller o entries events (shown calls old)
+      → Gathers tells Caller o entries (events ++ Taken c ∷ []) (shown calls new)
+  pub outcome : (o : Origin) (entries : List Entry) (events : List Event) → Gathers tells Caller o entries events (shown calls old)
+      → answer ≡ outcome_of o.directory (state_behind o entries events) (Taken c)
 
 -- A call changed nothing: what was gathered before it is settled, and nothing is gathered.
 pub record HasOnlySettled {P : Type 0} (tells : Type 0) (calls : P → List Call) (old new : Engine P) : Type 0 where

@@ -1,19 +1,6 @@
 -- A message is heard, and room is made for a bulletin for which a journal has none.
 use Rattle.std.specs.Prelude.{◌≡◌, ◌⊎◌, ℕ, ◌+◌, ◌/◌, ◌<◌, ◌≤◌, Bool, true, false, List, [], ◌∷◌, ◌++◌, Option, Some, None, Result, Ok, Err, IsOk, IsSome}
-use Rattle.gts_traits.specs.Calls.{Call}
-use Rattle.gts_directory.specs.Directory.{Directory}
-use Rattle.gts_event.specs.State.{State, most_accepted}
-use Rattle.gts_event.specs.History.{outcome}
-use Rattle.gts_event.specs.Need.{need}
-use Rattle.gts_event.specs.declared.event.Event.{Event}
-use Rattle.gts_event.specs.declared.event.Entry.{Entry}
-use Rattle.gts_event.specs.declared.event.Entry.TheVariants.{Doubt}
-use Rattle.gts_event.specs.Drain.{all_done}
-use Rattle.gts_event.specs.declared.outcome.Outcome.{Outcome}
-use Rattle.gts_event.specs.declared.fault.SwitchFault.{SwitchFault}
-use Rattle.gts_event.specs.declared.fault.SwitchFault.TheVariants.{DiskFault, Full}
-use Rattle.gts_opening.specs.Room.{full, compacted_size}
-use Rattle.gts_calls.specs.Calls.{AfterCall, IsAnswerCause, IsCause, entry_of}
+use Rattle.gts_engine.specs.Cited.Below.{AfterCall, Call, Directory, DiskFault, Doubt, Entry, Event, Full, IsAnswerCause, IsCause, Outcome, State, SwitchFault, all_done, compacted_size, entry_of, full, most_accepted, need, outcome}
 use Rattle.gts_engine.specs.declared.mode.SayMode.{SayMode}
 use Rattle.gts_engine.specs.Engine.{Engine, Shown, shown}
 use Rattle.gts_engine.specs.Origin.{Origin, compacted_after, state_at, used_at}

@@ -1,8 +1,6 @@
 -- What is held to be said.
 use Rattle.std.specs.Prelude.{◌≡◌, ℕ, ◌+◌, ◌<◌, ◌≤◌, List, [], ◌∷◌, ◌++◌, length, take, drop, sum_by}
-use Rattle.std.specs.List.{AllByRecursion}
-use Rattle.gts_traits.specs.Calls.{Outside, on}
-use Rattle.gts_traits.specs.{CHANNELS}
+use Rattle.gts_engine.specs.Cited.Below.{AllByRecursion, CHANNELS, Outside, on}
 use Rattle.gts_engine.specs.declared.held.Saying.{Saying}
 use Rattle.gts_engine.specs.declared.held.TheConstants.{MOST_BYTES, MOST_SAYINGS}
 

@@ -1,9 +1,6 @@
 ghost use Rattle.std.specs.Prelude.{◌≡◌, ◌≢◌, ◌-◌, ◌^◌, ◌<◌, ◌≤◌, ℕ, min, length, None, false, IfOk, IfErr, OnOk, MatchResult, IsErrOf};
-ghost use Rattle.gts_journal.specs.Batch.{no_records};
-ghost use Rattle.gts_engine.specs.Cited.{engine_of, Rose, State, Holds, Needs, need_of, IsSound, stopped_after, seen, said_by, EachSince};
-ghost use Rattle.gts_engine.specs.Cited.{StandsOn, IsClosedAt, LeavesBoth, selecting, held, written, checkpoint_text, compacted_bytes, full_compacted};
-ghost use Rattle.gts_engine.specs.Cited.{need_seal, FitBytes, HasWritten, WorksBeside};
-ghost use Rattle.gts_engine.specs.Compacting.{Rewrites, GivesRoom, IsBehind, IsSizeAt, IsWriteFault, IsRoomFault};
+ghost use Rattle.gts_engine.specs.Cited.{EachSince, FitBytes, GivesRoom, HasWritten, Holds, IsBehind, IsClosedAt, IsSizeAt, IsSound, IsWriteFault, LeavesBoth, Needs, Rewrites, Rose, StandsOn, State, WorksBeside, checkpoint_text, compacted_bytes, engine_of, full_compacted, held, need_of, need_seal, no_records, said_by, seen, selecting, stopped_after, written};
+ghost use Rattle.gts_engine.specs.Compacting.{IsRoomFault};
 
 use crate::parts::Parts;
 use crate::room::{check_checkpoint, compacted_size};

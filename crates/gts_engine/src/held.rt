@@ -1,7 +1,5 @@
 ghost use Rattle.std.specs.Prelude.{◌≡◌, ◌+◌, ◌<◌, ◌≤◌, IsTrue, length, ◌∷◌, [], ◌++◌, take, IfOk, slice_index_or};
-ghost use Rattle.gts_traits.specs.Calls.{on};
-ghost use Rattle.gts_traits.specs.{CHANNELS};
-ghost use Rattle.gts_engine.specs.Sayings.{HasRoom, held_pieces, no_sayings, sizes_of};
+ghost use Rattle.gts_engine.specs.Cited.{CHANNELS, HasRoom, held_pieces, no_sayings, on, sizes_of};
 
 use gts_alphabet::NoMemory;
 use std::alloc::Global;

@@ -1,5 +1,5 @@
 ghost use Rattle.std.specs.Prelude.{◌≡◌, ◌<◌, length, None};
-ghost use Rattle.gts_engine.specs.Cited.{Lost, IsSound, Answers, IsIdleAnswer};
+ghost use Rattle.gts_engine.specs.Cited.{Answers, IsIdleAnswer, IsSound, Lost};
 
 use crate::parts::Parts;
 use crate::receipts::say_receipt;

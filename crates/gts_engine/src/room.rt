@@ -1,7 +1,5 @@
 ghost use Rattle.std.specs.Prelude.{◌≡◌, ◌+◌, ◌^◌, ◌<◌};
-ghost use Rattle.gts_engine.specs.Cited.{State, Holds, due, seal_size, written};
-ghost use Rattle.gts_engine.specs.Compacting.{IsSizeAt, GivesCheckpoint};
-ghost use Rattle.gts_engine.specs.Rooming.{TellsSpare, bytes_wanted as wanted_of};
+ghost use Rattle.gts_engine.specs.Cited.{GivesCheckpoint, Holds, IsSizeAt, State, TellsSpare, bytes_wanted as wanted_of, due, seal_size, written};
 
 use gts_core::Core;
 use gts_directory::Directory;

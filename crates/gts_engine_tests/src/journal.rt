@@ -1,5 +1,5 @@
 ghost use Rattle.std.specs.Prelude.{◌≡◌, ◌≤◌, ◌^◌, true, length, IfOk};
-ghost use Rattle.gts_journal.specs.{IsCurrent, StandsOn};
+ghost use Rattle.gts_journal.specs.Cited.{IsCurrent, StandsOn};
 
 use gts_fixtures::is_same;
 use gts_frame::Kind;

@@ -1,24 +1,11 @@
 -- What is known is a duplicate.
-use Rattle.std.proofs.Common.{◌≡◌, ℕ, zero, suc, Bool, true, false, ◌&&◌, nat_eq, cond, List, [], ◌∷◌, ◌++◌, length, reverse, find, Option, Some, None, is_some, Result, Ok, Err, refl, sym, ap, ◌∙◌}
-use Rattle.std.specs.Prelude.{slice_get}
-use Rattle.std.specs.Cmp.Lexicographic.{pointwise}
-use Rattle.std.proofs.lemmas.Bool.{true≢false, eq-eqb, and_from}
+use Rattle.std.proofs.Common.{◌≡◌, ℕ, zero, suc, Bool, true, false, ◌&&◌, nat_eq, cond, List, [], ◌∷◌, ◌++◌, length, reverse, find, Option, Some, None, is_some, Result, Ok, Err, refl, sym, ap, ◌∙◌, slice_get}
+use Rattle.gts_event.specs.Cited.{Accepted, Bulletin, Directory, Duplicate, Entry, Field, HeadingFields, Heard, Kind, Knows, KnowsMessage, Message, MessageParts, Outcome, Refused, State, WasRead, after, after_all, after_heard, answer_to, body_of, duplicate, heading_of, heading_text, is_recent, is_same_heading, named, outcome, pointwise, request_at, text_of, verdict}
+use Rattle.std.proofs.lemmas.Bool.{true≢false, and_from}
 use Rattle.std.proofs.lemmas.List.{append_assoc, reverse-append}
-use Rattle.gts_heading.specs.declared.field.Field.{Field}
-use Rattle.gts_heading.specs.Heading.{HeadingFields, heading_text, is_same_heading}
-use Rattle.gts_message.specs.Message.{MessageParts}
-use Rattle.gts_request.specs.Request.{request_at}
-use Rattle.gts_frame.specs.declared.kind.Kind.{Kind}
-use Rattle.gts_directory.specs.Directory.{Directory, named}
-use Rattle.gts_event.specs.State.{State, Bulletin, is_recent, duplicate, heading_of, text_of}
-use Rattle.gts_event.specs.History.{Heard, Entry, answer_to, verdict, outcome, after, after_all, after_heard, body_of}
-use Rattle.gts_event.specs.Held.{WasRead}
-use Rattle.gts_event.specs.Known.{Knows, KnowsMessage}
-use Rattle.gts_event.specs.declared.outcome.Outcome.{Outcome}
-use Rattle.gts_event.specs.declared.outcome.Outcome.TheVariants.{Accepted, Duplicate, Refused}
-use Rattle.gts_event.specs.declared.outcome.Refusal.TheVariants.{Message}
 use Rattle.gts_event.proofs.BulletinLemmas.{was_read, body_at-read, heading-read}
 use Rattle.gts_event.proofs.GrowthLemmas.{history_goes_on}
+use Rattle.gts_frame.proofs.LawLemmas.{same_bytes}
 
 -- ---- a bulletin that is there is found
 
@@ -37,16 +24,12 @@ place [] i x e = absurd (cc)
 place (z ∷ zs) zero x e = let same : z ≡ x = cc in ([], zs, ap (λ (y : Bulletin). y ∷ zs) same)
 place (z ∷ zs) (suc i) x e = let p = place zs i x e in (z ∷ p.0, p.1, ap (λ (xs : List Bulletin). z ∷ xs) p.2)
 
-equal : (xs : List ℕ) → pointwise nat_eq xs xs ≡ true
-equal [] = refl
-equal (x ∷ xs) = and_from (nat_eq x x) (pointwise nat_eq xs xs) (eq-eqb x x refl) (equal xs)
-
 known_at : (d : Directory) (t : State) (front : List Bulletin) (b : Bulletin) (rest : List Bulletin) (h : HeadingFields) (x : List ℕ) → t.accepted ≡ front ++ b ∷ rest
     → is_recent d t.count b.position ≡ true → heading_of b.body ≡ h → text_of b.body ≡ x → is_some (duplicate d t h x) ≡ true
 known_at d t front b rest h x there near heading text =
     let f : Bulletin → Bool = λ y. is_recent d t.count y.position && is_same_heading (heading_of y.body) h && pointwise nat_eq (text_of y.body) x in
-    let same : is_same_heading (heading_of b.body) h ≡ true = ap (λ (g : HeadingFields). is_same_heading g h) heading ∙ equal (heading_text h) in
-    let alike : pointwise nat_eq (text_of b.body) x ≡ true = ap (λ (y : List ℕ). pointwise nat_eq y x) text ∙ equal x in
+    let same : is_same_heading (heading_of b.body) h ≡ true = ap (λ (g : HeadingFields). is_same_heading g h) heading ∙ same_bytes (heading_text h) in
+    let alike : pointwise nat_eq (text_of b.body) x ≡ true = ap (λ (y : List ℕ). pointwise nat_eq y x) text ∙ same_bytes x in
     let passes : f b ≡ true = and_from (is_recent d t.count b.position && is_same_heading (heading_of b.body) h) (pointwise nat_eq (text_of b.body) x)
     (and_from (is_recent d t.count b.position) (is_same_heading (heading_of b.body) h) near same) alike in
     ap (λ (bs : List Bulletin). is_some (find f bs)) (ap reverse there ∙ turned front b rest) ∙ find_there f (reverse rest) b (reverse front) passes

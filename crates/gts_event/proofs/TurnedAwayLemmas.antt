@@ -1,20 +1,7 @@
 -- What is turned away, and the lines of kept draws.
 use Rattle.std.proofs.Common.{◌≡◌, cond, ◌||◌, ℕ, ◌+◌, ◌<◌, ◌≤◌, Bool, true, false, ◌==◌, inl, inr, nat_le, nat_lt, List, [], ◌∷◌, length, Some, refl, ap, arith}
-use Rattle.std.specs.List.{find, enumerate_from}
-use Rattle.std.proofs.lemmas.Bool.{leb-true, ltb-true, eq-eqb, cases_lt}
-use Rattle.gts_traits.specs.Station.{Outside, on}
-use Rattle.gts_frame.specs.declared.kind.Kind.{Kind}
-use Rattle.gts_directory.specs.Directory.{Directory}
-use Rattle.gts_event.specs.State.{State, CircuitState, Bulletin, on_circuit, has, draws, no_heading}
-use Rattle.gts_event.specs.History.{Event, Heard, Lost, Taken, kept_on, Choice, choice, Repeats, Draws, Nothing_waits, outcome, after, after_heard, after_take, heading_of_message}
-use Rattle.gts_event.specs.Receipt.{receipt_text}
-use Rattle.gts_event.specs.Said.{HasLine, IsTurnedAway, line, spoken}
-use Rattle.gts_event.specs.Need.{circuit_need, is_kept, is_there, circuit_of_event}
-use Rattle.gts_event.specs.Held.{IsHeld}
-use Rattle.gts_event.specs.declared.outcome.Outcome.{Outcome}
-use Rattle.gts_event.specs.declared.outcome.Outcome.TheVariants.{Accepted, Duplicate, Asked, Refused, LineLost, Resend, Draw, Nothing}
-use Rattle.gts_heading.specs.Heading.{HeadingFields}
-use Rattle.gts_event.proofs.ListLemmas.{and_true, or_left, or_right}
+use Rattle.gts_event.specs.Cited.{Accepted, Asked, Bulletin, Choice, CircuitState, Directory, Draw, Draws, Duplicate, Event, HasLine, HeadingFields, Heard, IsHeld, IsTurnedAway, Kind, LineLost, Lost, Nothing, Nothing_waits, Outcome, Outside, Refused, Repeats, Resend, State, Taken, after, after_heard, after_take, choice, circuit_need, circuit_of_event, draws, enumerate_from, find, has, heading_of_message, is_kept, is_there, kept_on, line, no_heading, on, on_circuit, outcome, receipt_text, spoken}
+use Rattle.std.proofs.lemmas.Bool.{leb-true, ltb-true, eq-eqb, cases_lt, and_parts, or_left, or_right}
 use Rattle.gts_event.proofs.OrderLemmas.{list_all-has}
 use Rattle.gts_event.proofs.LeftLemmas.{kept_positions, length-kept}
 
@@ -112,7 +99,7 @@ pub kept-line : (d : Directory) (s : State) (c i : ℕ) → c < length d.circuit
 kept-line d s c i lt held h =
     let q : CircuitState = on_circuit s c in
     let k : ℕ = kept_on d c in
-    let both = and_true (nat_le (draws q) (i + length (kept_positions k q))) (nat_lt i (draws q)) h in
+    let both = and_parts (nat_le (draws q) (i + length (kept_positions k q))) (nat_lt i (draws q)) h in
     let low : draws q ≤ i + length (kept_positions k q) = leb-true (draws q) (i + length (kept_positions k q)) both.0 in
     let high : i < draws q = ltb-true i (draws q) both.1 in
     let found = draw_there q.earlier i q.taken (omega (arith, low, length-kept k q)) high in

@@ -1,7 +1,6 @@
 -- What is known as a duplicate.
 use Rattle.std.specs.Prelude.{◌≡◌, ℕ, List, IsSome, IsTrue}
-use Rattle.gts_frame.specs.declared.kind.Kind.{Kind}
-use Rattle.gts_directory.specs.Directory.{Directory}
+use Rattle.gts_event.specs.Cited.Below.{Directory, Kind}
 use Rattle.gts_event.specs.State.{State, Bulletin, is_recent, duplicate, heading_of, text_of}
 use Rattle.gts_event.specs.History.{Heard, outcome}
 use Rattle.gts_event.specs.declared.outcome.Outcome.TheVariants.{Duplicate}

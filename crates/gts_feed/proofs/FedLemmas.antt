@@ -1,18 +1,8 @@
 -- Several messages of a feed, one behind another.
 use Rattle.std.proofs.Common.{◌≡◌, ℕ, List, [], ◌∷◌, ◌++◌, sym, ap, subst, ◌∙◌}
 use Rattle.std.proofs.lemmas.List.{append-nil, append_assoc}
-use Rattle.gts_event.specs.Drain.{all_done}
-use Rattle.gts_event.specs.declared.event.Event.{Event}
+use Rattle.gts_feed.specs.Cited.{All, BreaksFed, BreaksIdle, BreaksLast, BreaksOff, DiskFault, Entry, Event, Fault, FeedEnd, Full, Goes, GoesFed, Idle, IsCause, Lost, NoMemory, SayFault, Spent, Standing, Stands, Stopped, SwitchFault, Wanting, all_done, answer_of, outcome_at, settled}
 use Rattle.gts_event.specs.declared.event.Event.TheVariants as event
-use Rattle.gts_event.specs.declared.event.Entry.{Entry}
-use Rattle.gts_event.specs.declared.event.Entry.TheVariants.{Idle}
-use Rattle.gts_event.specs.declared.fault.SwitchFault.{SwitchFault}
-use Rattle.gts_event.specs.declared.fault.SwitchFault.TheVariants.{DiskFault, SayFault, Full, Stopped, Spent, NoMemory}
-use Rattle.gts_calls.specs.{Standing, Stands, settled, IsCause, outcome_at}
-use Rattle.gts_feed.specs.declared.fed.FeedEnd.{FeedEnd}
-use Rattle.gts_feed.specs.declared.fed.FeedEnd.TheVariants.{All, Lost, Wanting, Fault}
-use Rattle.gts_feed.specs.Fed.{answer_of}
-use Rattle.gts_feed.specs.Going.{BreaksOff, BreaksIdle, BreaksLast, BreaksFed, Goes, GoesFed}
 use Rattle.gts_feed.proofs.GoingLemmas.{all_done-append, stands_same, then_breaks}
 
 module _ {O W : Type 0} (meanings : Standing O W) where

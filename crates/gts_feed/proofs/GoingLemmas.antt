@@ -1,20 +1,8 @@
 -- Entries that are added to those for which a switch stands, one after another.
-use Rattle.std.proofs.Common.{◌≡◌, ℕ, ◌≤◌, ◌⊎◌, inl, inr, List, [], ◌∷◌, ◌++◌, length, Result, Ok, Err, refl, sym, ap, subst, ◌∙◌, arith, length-append}
+use Rattle.std.proofs.Common.{◌≡◌, ℕ, ◌≤◌, ◌⊎◌, inl, inr, List, [], ◌∷◌, ◌++◌, length, Result, Ok, Err, refl, sym, ap, subst, ◌∙◌, arith, length-append, IsErrAnd, MatchResult}
 use Rattle.std.proofs.lemmas.List.{append-nil, append_assoc, map-append}
 use Rattle.std.proofs.lemmas.Result.{err_from_is_err_and}
-use Rattle.std.specs.Prelude.{IsErrAnd, MatchResult}
-use Rattle.gts_directory.specs.Directory.{Directory}
-use Rattle.gts_event.specs.History.{outcome, after_all}
-use Rattle.gts_event.specs.declared.event.Event.{Event}
-use Rattle.gts_event.specs.declared.event.Entry.{Entry}
-use Rattle.gts_event.specs.declared.event.Entry.TheVariants.{Done, Unsaid, Idle, Doubt}
-use Rattle.gts_event.specs.declared.outcome.Outcome.{Outcome}
-use Rattle.gts_event.specs.declared.fault.SwitchFault.{SwitchFault}
-use Rattle.gts_event.specs.declared.fault.SwitchFault.TheVariants.{DiskFault, SayFault, Full, Stopped, Spent, NoMemory}
-use Rattle.gts_event.specs.Drain.{all_done, all_unsaid}
-use Rattle.gts_calls.specs.{Standing, Stands, settled, IsAnswered, IsSettling, AfterCall, AfterSettling, IsOneMore, GathersOne, IsInDoubt, IsCutShort, IsAnswerCause, IsCause, outcome_at}
-use Rattle.gts_calls.specs.Calls.{Behind, Alone, AtOnce}
-use Rattle.gts_feed.specs.Going.{BreaksOff, BreaksTogether, BreaksIdle, Goes}
+use Rattle.gts_feed.specs.Cited.{AfterCall, AfterSettling, Alone, AtOnce, Behind, BreaksIdle, BreaksOff, BreaksTogether, Directory, DiskFault, Done, Doubt, Entry, Event, Full, GathersOne, Goes, Idle, IsAnswerCause, IsAnswered, IsCause, IsCutShort, IsInDoubt, IsOneMore, IsSettling, NoMemory, Outcome, SayFault, Spent, Standing, Stands, Stopped, SwitchFault, Unsaid, after_all, all_done, all_unsaid, outcome, outcome_at, settled}
 
 -- what was answered, by what `map_err` made of it
 pub mapped_ok : {T E D : Type 0} (r : Result T E) (mapped : Result T D) (Q : E → D → Type 0) (x : T) → MatchResult r (λ y. mapped ≡ Ok y) (λ e. IsErrAnd mapped (Q e)) → mapped ≡ Ok x → r ≡ Ok x

@@ -1,19 +1,8 @@
 -- One message or loss more, behind what a switch stands for.
 use Rattle.std.proofs.Common.{◌≡◌, ℕ, ◌⊎◌, inl, inr, List, [], ◌∷◌, ◌++◌, Result, Ok, Err, refl, sym, subst, ◌∙◌}
 use Rattle.std.proofs.lemmas.List.{append-nil}
-use Rattle.gts_frame.specs.declared.kind.Kind.{Kind}
-use Rattle.gts_frame.specs.declared.lost.LostField.{LostField}
-use Rattle.gts_event.specs.Drain.{all_done}
-use Rattle.gts_event.specs.declared.event.Event.{Event}
+use Rattle.gts_feed.specs.Cited.{AfterCall, AfterHearing, BreaksLast, BreaksOff, DiskFault, Done, Doubt, Entry, Event, Full, GoesFed, Idle, IsAnswerCause, IsAnswered, IsCause, IsCutShort, IsHeard, IsInDoubt, Kind, LostField, NoMemory, Outcome, SayFault, Spent, Standing, Stands, Stopped, SwitchFault, Unsaid, all_done, end_heard, end_lost, outcome_at, settled}
 use Rattle.gts_event.specs.declared.event.Event.TheVariants as event
-use Rattle.gts_event.specs.declared.event.Entry.{Entry}
-use Rattle.gts_event.specs.declared.event.Entry.TheVariants.{Done, Unsaid, Idle, Doubt}
-use Rattle.gts_event.specs.declared.outcome.Outcome.{Outcome}
-use Rattle.gts_event.specs.declared.fault.SwitchFault.{SwitchFault}
-use Rattle.gts_event.specs.declared.fault.SwitchFault.TheVariants.{DiskFault, SayFault, Full, Stopped, Spent, NoMemory}
-use Rattle.gts_calls.specs.{Standing, Stands, settled, IsAnswered, AfterCall, IsCutShort, IsInDoubt, IsAnswerCause, IsCause, outcome_at}
-use Rattle.gts_feed.specs.Fed.{end_heard, end_lost}
-use Rattle.gts_feed.specs.Going.{AfterHearing, IsHeard, BreaksOff, BreaksLast, GoesFed}
 use Rattle.gts_feed.proofs.GoingLemmas.{within_all, cause_at, one_more, in_doubt, cut_short}
 
 module _ {O W : Type 0} (meanings : Standing O W) where

@@ -1,23 +1,8 @@
 -- A feed goes on, step by step.
 use Rattle.std.proofs.Common.{◌≡◌, ℕ, ◌≤◌, true, List, ◌++◌, Result, refl, ap, subst, ◌∙◌, arith, append_assoc}
-use Rattle.gts_traits.specs.Counts.{Rose}
-use Rattle.gts_frame.specs.Decoder.{Decoding, signs_of_step}
-use Rattle.gts_frame.specs.Signs.{held_in}
-use Rattle.gts_frame.specs.declared.step.Step.{Step}
+use Rattle.gts_feed.specs.Cited.{All, Decoding, EndsAt, EndsOver, EndsStep, Entry, Event, Fault, FeedEnd, GoesFed, GoesOver, HasCallCause, IsNoLoss, KeepsOver, Lost, Reads, Rose, Standing, Stands, Step, SwitchFault, Wanting, all_done, events_added, events_of_signs, held_in, is_all, signs_of_step}
 use Rattle.gts_frame.specs.declared.step.Step.TheVariants as steps
-use Rattle.gts_event.specs.Drain.{all_done}
-use Rattle.gts_event.specs.declared.event.Event.{Event}
-use Rattle.gts_event.specs.declared.event.Entry.{Entry}
-use Rattle.gts_event.specs.declared.fault.SwitchFault.{SwitchFault}
-use Rattle.gts_connection.specs.Connection.{events_added}
-use Rattle.gts_connection.specs.Steps.{events_of_signs}
 use Rattle.gts_connection.proofs.LawLemmas.{added-twice}
-use Rattle.gts_calls.specs.{Standing, Stands, HasCallCause}
-use Rattle.gts_feed.specs.declared.fed.FeedEnd.{FeedEnd}
-use Rattle.gts_feed.specs.declared.fed.FeedEnd.TheVariants.{All, Lost, Wanting, Fault}
-use Rattle.gts_feed.specs.Fed.{is_all, KeepsOver, EndsOver}
-use Rattle.gts_feed.specs.Reading.{EndsAt, IsNoLoss, EndsStep, Reads}
-use Rattle.gts_feed.specs.Going.{GoesFed, GoesOver}
 use Rattle.gts_feed.proofs.FedLemmas.{fed_behind}
 use Rattle.gts_feed.proofs.ReadingLemmas.{ends_behind}
 

@@ -1,22 +1,11 @@
 -- The steps of a decoder up to the next event.
-use Rattle.std.proofs.Common.{◌≡◌, ℕ, ◌+◌, ◌-◌, ◌<◌, ◌≤◌, Bool, true, false, ◌&&◌, not, List, [], ◌∷◌, ◌++◌, length, take, drop, Option, Some, None, refl, sym, ap, ◌∙◌, subst, arith, append_assoc, length-append, length-drop}
-use Rattle.std.specs.Prelude.{IsSome, IfSome, IfNone}
+use Rattle.std.proofs.Common.{◌≡◌, ℕ, ◌+◌, ◌-◌, ◌<◌, ◌≤◌, Bool, true, false, ◌&&◌, not, List, [], ◌∷◌, ◌++◌, length, take, drop, Option, Some, None, refl, sym, ap, ◌∙◌, subst, arith, append_assoc, length-append, length-drop, IsSome, IfSome, IfNone}
 use Rattle.std.proofs.lemmas.List.{append-nil, take_all, length-take-le}
 use Rattle.std.proofs.Math.Seq.{take-append_seam, take-add}
-use Rattle.gts_frame.specs.Frame.{piece_text}
-use Rattle.gts_frame.specs.Stream.{is_front, IsPartial, IsStreamFront}
-use Rattle.gts_frame.specs.Signs.{held_in}
-use Rattle.gts_frame.specs.Decoder.{Decoding, ReadsOn, is_part, Makes, after_step, signs_of_step}
-use Rattle.gts_frame.specs.declared.lost.LostField.{LostField}
-use Rattle.gts_frame.specs.declared.step.Step.{Step}
+use Rattle.gts_feed.specs.Cited.{Decoding, EndsAt, Event, IsPartial, IsStreamFront, KeepsOver, LosesLast, LostField, Makes, Reads, ReadsOn, Step, after_step, events_added, events_of_signs, held_in, is_event, is_front, is_part, piece_text, signs_of_step}
 use Rattle.gts_frame.specs.declared.step.Step.TheVariants as steps
 use Rattle.gts_frame.proofs.LawLemmas.{reads-open, front-open, part-is}
-use Rattle.gts_event.specs.declared.event.Event.{Event}
-use Rattle.gts_connection.specs.Connection.{events_added}
-use Rattle.gts_connection.specs.Steps.{events_of_signs}
 use Rattle.gts_connection.proofs.LawLemmas.{added-twice, added-signs}
-use Rattle.gts_feed.specs.Fed.{LosesLast, KeepsOver}
-use Rattle.gts_feed.specs.Reading.{is_event, EndsAt, Reads}
 
 and_first : (a b : Bool) → a && b ≡ true → a ≡ true
 and_first true b h = refl

@@ -1,31 +1,12 @@
 -- What a feed gathered is settled.
-use Rattle.std.proofs.Common.{◌≡◌, ℕ, ◌≤◌, true, false, List, [], ◌∷◌, ◌++◌, length, Ok, Err, refl, sym, ap, subst, ◌∙◌, arith}
+use Rattle.std.proofs.Common.{◌≡◌, ℕ, true, false, List, [], ◌∷◌, ◌++◌, length, Ok, Err, refl, sym, ap, subst, ◌∙◌}
 use Rattle.std.proofs.lemmas.List.{append-nil, append_assoc}
-use Rattle.gts_event.specs.Drain.{all_done, all_unsaid}
-use Rattle.gts_event.specs.declared.event.Event.{Event}
+use Rattle.gts_feed.specs.Cited.{AddsAtFault, AddsFed, AfterSettling, All, BreaksFed, BreaksLast, BreaksOff, BreaksTogether, DiskFault, Done, Doubt, Entry, Event, Fault, FeedEnd, Full, GoesFed, Idle, IsSettling, LeavesLast, Lost, NoMemory, SayFault, SettlesFed, Spent, Standing, Stands, Stopped, SwitchFault, TurnsTogether, Wanting, all_done, all_unsaid, is_done, settled}
 use Rattle.gts_event.specs.declared.event.Event.TheVariants as event
-use Rattle.gts_event.specs.declared.event.Entry.{Entry}
-use Rattle.gts_event.specs.declared.event.Entry.TheVariants.{Done, Idle, Doubt}
-use Rattle.gts_event.specs.declared.fault.SwitchFault.{SwitchFault}
-use Rattle.gts_event.specs.declared.fault.SwitchFault.TheVariants.{DiskFault, SayFault, Full, Stopped, Spent, NoMemory}
-use Rattle.gts_calls.specs.{Standing, Stands, settled, IsSettling, AfterSettling}
-use Rattle.gts_feed.specs.declared.fed.FeedEnd.{FeedEnd}
-use Rattle.gts_feed.specs.declared.fed.FeedEnd.TheVariants.{All, Lost, Wanting, Fault}
-use Rattle.gts_feed.specs.Fed.{is_done, LeavesLast, TurnsTogether, AddsAtFault, AddsFed}
-use Rattle.gts_feed.specs.Going.{BreaksOff, BreaksTogether, BreaksLast, BreaksFed, GoesFed, SettlesFed}
 use Rattle.gts_feed.proofs.GoingLemmas.{settles_all, settles_not, then_breaks}
+use Rattle.gts_opening.proofs.LawLemmas.{shorter_front}
 
 -- ---- parts of lists
-
--- two ways to part a list, of which the second has the longer front
-pub parts_of : (h xs front tail : List Entry) → h ++ xs ≡ front ++ tail → length h ≤ length front → (rest : List Entry) × (front ≡ h ++ rest) × (xs ≡ rest ++ tail)
-parts_of [] xs front tail is long = (front, refl, is)
-parts_of (x ∷ h) xs [] tail is long = absurd (omega (arith, long))
-parts_of (x ∷ h) xs (y ∷ front) tail is long =
-    let same : x ≡ y = cc is in
-    let more : h ++ xs ≡ front ++ tail = cc is in
-    let p = parts_of h xs front tail more (omega (arith, long)) in
-    (p.0, ap (λ (e : Entry). e ∷ front) (sym same) ∙ ap (λ (l : List Entry). x ∷ l) p.1, p.2)
 
 -- the parts of what was done are of events
 record DoneParts (events : List Event) (front tail : List Entry) : Type 0 where
@@ -67,7 +48,7 @@ module _ {O W : Type 0} (meanings : Standing O W) where
   turned_together o h events became now t =
       let some : List Event = t.event ∷ t.events in
       let tail : List Entry = all_done some ++ t.behind in
-      let p = parts_of h (all_done events) t.front tail (t.parts ∙ append_assoc t.front (all_done some) t.behind) t.within in
+      let p = shorter_front h (all_done events) t.front tail (t.parts ∙ append_assoc t.front (all_done some) t.behind) t.within in
       let a = done_parts events p.0 tail p.2 in
       let b = done_parts a.behind (all_done some) t.behind (sym a.tail_is) in
       let same : some ≡ b.first = done_same some b.first b.front_is in

@@ -1,18 +1,7 @@
 -- What became of a piece of a connection: what the decoder holds by then, and which entries were added for its events.
 use Rattle.std.specs.Prelude.{◌≡◌, ℕ, ◌≤◌, Bool, true, false, List, [], ◌∷◌, ◌++◌, length, take, None, Result, Ok, Err, IsSome}
-use Rattle.gts_alphabet.specs.declared.limits.TheConstants.{LONGEST_MESSAGE}
-use Rattle.gts_frame.specs.Decoder.{Decoding}
-use Rattle.gts_frame.specs.Signs.{held_in}
-use Rattle.gts_frame.specs.declared.kind.Kind.{Kind}
-use Rattle.gts_frame.specs.declared.lost.LostField.{LostField}
-use Rattle.gts_event.specs.Drain.{all_done, all_unsaid}
-use Rattle.gts_event.specs.declared.event.Event.{Event}
+use Rattle.gts_feed.specs.Cited.Below.{Decoding, DiskFault, Doubt, Entry, Event, Full, Idle, Kind, LONGEST_MESSAGE, LostField, NoMemory, Outcome, SayFault, Spent, Stopped, SwitchFault, all_done, all_unsaid, held_in}
 use Rattle.gts_event.specs.declared.event.Event.TheVariants as event
-use Rattle.gts_event.specs.declared.event.Entry.{Entry}
-use Rattle.gts_event.specs.declared.event.Entry.TheVariants.{Idle, Doubt}
-use Rattle.gts_event.specs.declared.outcome.Outcome.{Outcome}
-use Rattle.gts_event.specs.declared.fault.SwitchFault.{SwitchFault}
-use Rattle.gts_event.specs.declared.fault.SwitchFault.TheVariants.{DiskFault, SayFault, Full, Stopped, Spent, NoMemory}
 use Rattle.gts_feed.specs.declared.fed.Fed.{Fed}
 use Rattle.gts_feed.specs.declared.fed.FeedEnd.{FeedEnd}
 use Rattle.gts_feed.specs.declared.fed.FeedEnd.TheVariants.{All, Lost, Wanting, Fault}

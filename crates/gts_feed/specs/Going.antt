@@ -1,19 +1,7 @@
 -- Entries that were to be added to those for which a switch stands, and those that were.
 use Rattle.std.specs.Prelude.{◌≡◌, ◌⊎◌, ℕ, ◌≤◌, List, [], ◌∷◌, ◌++◌, length, Result, Ok, Err}
-use Rattle.gts_frame.specs.Decoder.{Decoding}
-use Rattle.gts_frame.specs.declared.step.Step.{Step}
-use Rattle.gts_frame.specs.declared.kind.Kind.{Kind}
-use Rattle.gts_frame.specs.declared.lost.LostField.{LostField}
-use Rattle.gts_event.specs.Drain.{all_done, all_unsaid}
-use Rattle.gts_event.specs.declared.event.Event.{Event}
+use Rattle.gts_feed.specs.Cited.Below.{AfterCall, Decoding, DiskFault, Done, Doubt, Entry, Event, Full, Idle, IsAnswerCause, IsCause, IsInDoubt, Kind, LostField, NoMemory, Outcome, SayFault, Spent, Standing, Stands, Step, Stopped, SwitchFault, all_done, all_unsaid, events_added, outcome_at, settled}
 use Rattle.gts_event.specs.declared.event.Event.TheVariants as event
-use Rattle.gts_event.specs.declared.event.Entry.{Entry}
-use Rattle.gts_event.specs.declared.event.Entry.TheVariants.{Done, Idle, Doubt}
-use Rattle.gts_event.specs.declared.fault.SwitchFault.{SwitchFault}
-use Rattle.gts_event.specs.declared.fault.SwitchFault.TheVariants.{DiskFault, SayFault, Full, Stopped, Spent, NoMemory}
-use Rattle.gts_event.specs.declared.outcome.Outcome.{Outcome}
-use Rattle.gts_connection.specs.Connection.{events_added}
-use Rattle.gts_calls.specs.{Standing, Stands, settled, AfterCall, IsInDoubt, IsCause, IsAnswerCause, outcome_at}
 use Rattle.gts_feed.specs.Fed.{EndsWith, IsWanting, AddsFed, EndsOver}
 use Rattle.gts_feed.specs.Reading.{Reads}
 use Rattle.gts_feed.specs.declared.fed.FeedEnd.{FeedEnd}
@@ -104,7 +92,8 @@ BreaksFed meanings o first h c events NoMemory now = (field : LostField) × Brea
 
 -- Events of circuit c, which bytes ended that were taken, were to be added behind these entries, of which none of the first so many is
 -- gathered: it ended so, and the decoder holds this message.
-abbrev pub GoesFed : {O W : Type 0} → Standing O W → O → (first : ℕ) → List Entry → ℕ → List Event → (message : List ℕ) → FeedEnd → W → Type 0
+abbrev pub GoesFed : {O W : Type 0} → Standing O W → O → (first : ℕ) → List Entry → ℕ → List Event → (message : List ℕ) → FeedEnd → W
+    → Type 0
 GoesFed meanings o first h c events message All now = Stands meanings o first (h ++ all_done events) now
 GoesFed meanings o first h c events message (Lost field) now =
     Stands meanings o first (h ++ all_done events) now × EndsWith events (event.Lost c field)

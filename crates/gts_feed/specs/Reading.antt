@@ -1,11 +1,7 @@
 -- How the bytes of a connection come to the next step of its decoder that is an event.
 use Rattle.std.specs.Prelude.{◌≡◌, ℕ, Bool, true, false, List, ◌++◌}
-use Rattle.gts_frame.specs.Decoder.{Decoding, signs_of_step}
-use Rattle.gts_frame.specs.Signs.{held_in}
-use Rattle.gts_frame.specs.declared.step.Step.{Step}
+use Rattle.gts_feed.specs.Cited.Below.{Decoding, Step, events_added, events_of_signs, held_in, signs_of_step}
 use Rattle.gts_frame.specs.declared.step.Step.TheVariants as steps
-use Rattle.gts_connection.specs.Connection.{events_added}
-use Rattle.gts_connection.specs.Steps.{events_of_signs}
 use Rattle.gts_feed.specs.Fed.{LosesLast, KeepsOver}
 use Rattle.gts_feed.specs.declared.fed.FeedEnd.{FeedEnd}
 use Rattle.gts_feed.specs.declared.fed.FeedEnd.TheVariants.{All, Lost, Wanting, Fault}

@@ -1,11 +1,5 @@
 ghost use Rattle.std.specs.Prelude.{◌≡◌, ◌<◌, ℕ, List, length};
-ghost use Rattle.gts_event.specs.declared.event.Entry.{Entry};
-ghost use Rattle.gts_frame.specs.Decoder.{HasMessage, signs_of_step};
-ghost use Rattle.gts_connection.specs.Cited.{events_of_signs};
-ghost use Rattle.gts_calls.specs.{Stands, HasCallCause};
-ghost use Rattle.gts_feed.specs.Fed.{answer_of, IsShortAt, end_heard, end_lost};
-ghost use Rattle.gts_feed.specs.Reading.{EndsStep};
-ghost use Rattle.gts_feed.specs.Going.{GoesFed};
+ghost use Rattle.gts_feed.specs.Cited.{EndsStep, Entry, GoesFed, HasCallCause, HasMessage, IsShortAt, Stands, answer_of, end_heard, end_lost, events_of_signs, signs_of_step};
 
 use crate::{FeedEnd, Listens};
 use gts_event::{Outcome, SwitchFault};

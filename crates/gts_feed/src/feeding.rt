@@ -1,11 +1,5 @@
 ghost use Rattle.std.specs.Prelude.{◌≡◌, ◌<◌, ◌≤◌, ℕ, List, length, take};
-ghost use Rattle.gts_event.specs.declared.event.Entry.{Entry};
-ghost use Rattle.gts_frame.specs.{held_in, HasMessage};
-ghost use Rattle.gts_connection.specs.Cited.{events_added};
-ghost use Rattle.gts_calls.specs.{Stands, HasCallCause};
-ghost use Rattle.gts_feed.specs.Fed.{answer_of, Takes, IsShortAt};
-ghost use Rattle.gts_feed.specs.Reading.{Reads};
-ghost use Rattle.gts_feed.specs.Going.{GoesFed, GoesOver, SettlesFed};
+ghost use Rattle.gts_feed.specs.Cited.{Entry, GoesFed, GoesOver, HasCallCause, HasMessage, IsShortAt, Reads, SettlesFed, Stands, Takes, answer_of, events_added, held_in};
 
 use crate::dealing::deal;
 use crate::reading::next_step;

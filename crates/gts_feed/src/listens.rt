@@ -1,7 +1,5 @@
 ghost use Rattle.std.specs.Prelude.{◌≡◌, ℕ, ◌<◌, ◌≤◌, length};
-ghost use Rattle.gts_alphabet.specs.declared.limits.TheConstants.{LONGEST_MESSAGE};
-ghost use Rattle.gts_event.specs.declared.event.Event.TheVariants.{Heard, Lost};
-ghost use Rattle.gts_calls.specs.{Standing, IsAnswered, IsSettling, HasCallCause};
+ghost use Rattle.gts_feed.specs.Cited.Below.{HasCallCause, Heard, IsAnswered, IsSettling, LONGEST_MESSAGE, Lost, Standing};
 ghost use Rattle.gts_feed.specs.Going.{IsHeard};
 
 use gts_calls::Switch;

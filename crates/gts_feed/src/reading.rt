@@ -1,7 +1,5 @@
 ghost use Rattle.std.specs.Prelude.{◌≡◌, ◌<◌, ◌≤◌, false, ℕ, List, length, take};
-ghost use Rattle.gts_frame.specs.Signs.{held_in};
-ghost use Rattle.gts_frame.specs.Decoder.{HasMessage};
-ghost use Rattle.gts_feed.specs.Reading.{Reads, is_event as shows_event};
+ghost use Rattle.gts_feed.specs.Cited.{HasMessage, Reads, held_in, is_event as shows_event};
 
 use gts_frame::{Decoder, Step};
 

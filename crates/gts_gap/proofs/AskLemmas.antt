@@ -1,29 +1,11 @@
 -- The text of a request, and how it is read.
-use Rattle.std.proofs.Common.{◌≡◌, ℕ, zero, suc, ◌<◌, ◌≤◌, ◌^◌, inl, inr, Bool, true, false, ◌&&◌, ◌||◌, ◌==◌, nat_le, List, [], ◌∷◌, ◌++◌, length, take, drop, map, Ok, Err, Some, None, refl, sym, ap, subst, ◌∙◌, append_assoc, if◌then◌else◌, arith}
-use Rattle.std.specs.Prelude.{take_while, codes}
-use Rattle.std.specs.List.{list_all, AllByRecursion}
-use Rattle.std.specs.Char.{is_ascii_digit}
-use Rattle.std.specs.Str.Parse.{digits_value}
-use Rattle.std.proofs.lemmas.Bool.{eqb-true, eq-eqb, le-leb}
+use Rattle.std.proofs.Common.{◌≡◌, ℕ, zero, suc, ◌<◌, ◌≤◌, ◌^◌, inl, inr, Bool, true, false, ◌&&◌, ◌||◌, ◌==◌, nat_le, List, [], ◌∷◌, ◌++◌, length, take, drop, map, Ok, Err, Some, None, refl, sym, ap, subst, ◌∙◌, append_assoc, if◌then◌else◌, arith, take_while, codes, Result}
+use Rattle.gts_gap.specs.Cited.{AllByRecursion, Cccc, EOL, Field, IsDigits, Item, Number, Numbers, ReqField, Run, Sqn, are_capitals, ask_text, behind_asker, bytes_from, capitals_at, count_at, dec, digits_value, front_text, is_ascii_digit, item_text, items_at, items_of, items_text, list_all, more_text, numbers_at, numbers_of, request_at, run_at, text_of}
+use Rattle.gts_request.specs.Request.{◌>>=◌, number_at}
+use Rattle.std.proofs.lemmas.Bool.{eqb-true, eq-eqb, le-leb, and_parts}
 use Rattle.std.proofs.lemmas.List.{append-nil, length-append, take_at, drop_at}
-use Rattle.gts_alphabet.specs.Digits.{dec}
-use Rattle.gts_alphabet.specs.declared.characters.TheConstants.{EOL}
 use Rattle.gts_alphabet.proofs.LawLemmas.{length-dec, digits_value-dec, AllDigits-dec, test_from_AllDigits}
-use Rattle.gts_heading.specs.Letters.{are_capitals}
-use Rattle.gts_heading.specs.Reading.{capitals_at}
-use Rattle.gts_heading.specs.declared.field.Field.{Field}
-use Rattle.gts_heading.specs.declared.field.Field.TheVariants.{Cccc}
-use Rattle.gts_request.specs.declared.fault.ReqField.{ReqField}
-use Rattle.gts_request.specs.declared.fault.ReqField.TheVariants.{Number}
-use Rattle.std.specs.Prelude.{Result}
 use Rattle.std.proofs.lemmas.List.Sums.{take_while-cons}
-use Rattle.gts_request.specs.declared.line.Line.TheVariants.{Sqn}
-use Rattle.gts_request.specs.Request.{Item, Numbers, ◌>>=◌, run_at, count_at, number_at, numbers_at, items_at, behind_asker, bytes_from, request_at}
-use Rattle.gts_gap.specs.Numbers.{IsDigits}
-use Rattle.gts_gap.specs.Gaps.{Run, numbers_of}
-use Rattle.gts_gap.specs.Asking.{item_text, items_text, ask_text, items_of}
-use Rattle.gts_gap.specs.Text.{more_text, front_text, text_of}
-use Rattle.gts_gap.proofs.ListLemmas.{and_true}
 
 -- runs as they are given
 abbrev pub triples : ℕ → List Run → List (ℕ × ℕ × ℕ)
@@ -62,7 +44,7 @@ one-line own w (run ∷ more) some =
 run-end : (ds : List ℕ) (x : ℕ) (rest : List ℕ) → list_all is_ascii_digit ds ≡ true → is_ascii_digit x ≡ false → take_while is_ascii_digit (ds ++ x ∷ rest) ≡ ds
 run-end [] x rest all other = take_while-cons is_ascii_digit x rest ∙ rw other refl
 run-end (d ∷ ds) x rest all other =
-    let both = and_true (is_ascii_digit d) (list_all is_ascii_digit ds) all in
+    let both = and_parts (is_ascii_digit d) (list_all is_ascii_digit ds) all in
     take_while-cons is_ascii_digit d (ds ++ x ∷ rest) ∙ rw both.0 (ap (λ (l : List ℕ). d ∷ l) (run-end ds x rest both.1 other))
 
 run-read : (w n x : ℕ) (rest : List ℕ) → is_ascii_digit x ≡ false → run_at (dec w n ++ x ∷ rest) ≡ w

@@ -1,7 +1,6 @@
 -- Bits that are kept in words of 64.
 use Rattle.std.specs.Prelude.{ℕ, ◌*◌, ◌/◌, ◌%◌, ◌==◌, Bool, List, length, map}
-use Rattle.std.specs.List.{range_with_len, slice_index_or}
-use Rattle.std.specs.Int.{bit_at}
+use Rattle.gts_gap.specs.Cited.Below.{bit_at, range_with_len, slice_index_or}
 
 -- whether a place is set
 abbrev pub is_set : List ℕ → ℕ → Bool

@@ -1,13 +1,7 @@
 //! Laws over the definitions, each the contract of a function with an empty body.
 
 ghost use Rattle.std.specs.Prelude.{◌≡◌, ℕ, ◌<◌, ◌≤◌, ◌^◌, ◌%◌, List, [], length, IsTrue, Ok};
-ghost use Rattle.gts_heading.specs.Letters.{are_capitals};
-ghost use Rattle.gts_request.specs.Request.{request_at};
-ghost use Rattle.gts_gap.specs.Numbers.{Numbered, IsDigits, IsValue, cycle, value_of, last_run};
-ghost use Rattle.gts_gap.specs.Gaps.{gaps};
-ghost use Rattle.gts_gap.specs.Asking.{ask_text};
-ghost use Rattle.gts_gap.specs.Ring.{digits_of, runs_given, items_asked};
-ghost use Rattle.gts_gap.specs.Text.{text_of};
+ghost use Rattle.gts_gap.specs.Cited.{IsDigits, IsValue, Numbered, are_capitals, ask_text, cycle, digits_of, gaps, items_asked, last_run, request_at, runs_given, text_of, value_of};
 
 /// A later number has one value, which is the one that is computed.
 pub fn a_number_has_one_value()

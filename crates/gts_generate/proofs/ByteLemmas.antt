@@ -1,15 +1,10 @@
 -- Bytes that a text doesn't have.
-use Rattle.std.proofs.Common.{◌≡◌, ℕ, zero, suc, ◌+◌, ◌/◌, ◌%◌, ◌<◌, ◌≤◌, Bool, true, false, cond, not, ◌&&◌, ◌||◌, ◌==◌, nat_le, nat_lt, List, [], ◌∷◌, ◌++◌, Option, Some, None, inl, inr, refl, ◌∙◌, arith}
-use Rattle.std.specs.Prelude.{decimal, count_by}
-use Rattle.std.specs.Fmt.{digits, digits_onto, digit_glyph}
-use Rattle.std.specs.Char.{is_ascii_uppercase}
-use Rattle.std.specs.List.{list_all}
+use Rattle.std.proofs.Common.{◌≡◌, ℕ, zero, suc, ◌+◌, ◌/◌, ◌%◌, ◌<◌, ◌≤◌, Bool, true, false, cond, not, ◌&&◌, ◌||◌, ◌==◌, nat_le, nat_lt, List, [], ◌∷◌, ◌++◌, Option, Some, None, inl, inr, refl, ◌∙◌, arith, decimal, count_by}
+use Rattle.gts_generate.specs.Cited.{HeadingFields, IsHeading, are_capitals, dec, digit_glyph, digits_onto, group_text, heading_text, is_ascii_uppercase, is_group, list_all}
+use Rattle.std.specs.Fmt.{digits}
 use Rattle.std.proofs.lemmas.Bool.{eqb-true, leb-true, ne_eqb, and_parts, and_from, or_cases}
 use Rattle.std.proofs.lemmas.List.Folds.{list_all-append}
 use Rattle.std.proofs.lemmas.List.Sums.{sum_by-cons}
-use Rattle.gts_alphabet.specs.Digits.{dec}
-use Rattle.gts_heading.specs.Letters.{are_capitals, is_group}
-use Rattle.gts_heading.specs.Heading.{HeadingFields, IsHeading, group_text, heading_text}
 
 -- a byte stands nowhere in a text
 abbrev pub lacks : ℕ → List ℕ → Bool

@@ -1,16 +1,7 @@
 -- The rows of the directory, one behind another, and the directory that they are.
-use Rattle.std.proofs.Common.{◌≡◌, ℕ, ◌+◌, List, [], ◌∷◌, ◌++◌, map, refl, sym, ◌∙◌, ap, subst, append_assoc, arith}
-use Rattle.std.specs.Prelude.{◌^◌, Result, Ok, Err, codes, replicate}
-use Rattle.std.specs.List.{range_with_len}
+use Rattle.std.proofs.Common.{◌≡◌, ℕ, ◌+◌, List, [], ◌∷◌, ◌++◌, map, refl, sym, ◌∙◌, ap, subst, append_assoc, arith, ◌^◌, Result, Ok, Err, codes, replicate}
+use Rattle.gts_generate.specs.Cited.{CircuitRow, DirFault, Directory, Rows, RuleRow, checked, circuit_row, dec, directory, level_rows, localhost, no_rows, range_with_len, rows, rule_row}
 use Rattle.std.proofs.lemmas.List.FromFn.{map-range_with_len_more}
-use Rattle.gts_alphabet.specs.Digits.{dec}
-use Rattle.gts_directory.specs.declared.rows.CircuitRow.{CircuitRow}
-use Rattle.gts_directory.specs.declared.rows.RuleRow.{RuleRow}
-use Rattle.gts_directory.specs.declared.fault.DirFault.{DirFault}
-use Rattle.gts_directory.specs.Directory.{Directory, localhost}
-use Rattle.gts_directory.specs.Rows.{Rows, no_rows}
-use Rattle.gts_directory.specs.Faults.{checked}
-use Rattle.gts_generate.specs.Centre.{circuit_row, rule_row, level_rows, rows, directory}
 
 -- one row of many behind others
 row-more : {A : Type 0} (f : ℕ → A) (front : List A) (j : ℕ) (row : A) → row ≡ f j

@@ -1,30 +1,11 @@
 -- What was accepted and drawn, event by event.
-use Rattle.std.proofs.Common.{◌≡◌, ℕ, ◌+◌, ◌<◌, ◌≤◌, Bool, true, false, cond, Option, Some, None, Result, Ok, Err, List, [], ◌∷◌, ◌++◌, length, get_or, map, inl, inr, refl, ap, arith}
-use Rattle.std.specs.Prelude.{count_by, sum, zip, is_none, nat_lt}
-use Rattle.std.specs.List.{sum_by, enumerate_from}
+use Rattle.std.proofs.Common.{◌≡◌, ℕ, ◌+◌, ◌<◌, ◌≤◌, Bool, true, false, cond, Option, Some, None, Result, Ok, Err, List, [], ◌∷◌, ◌++◌, length, get_or, map, inl, inr, refl, ap, arith, count_by, sum, zip, is_none, nat_lt}
+use Rattle.gts_generate.specs.Cited.{Accepted, Asked, Bulletin, Choice, Circuit, CircuitNeed, CircuitState, Directory, Done, Doubt, Draw, Draws, Duplicate, Entry, Event, Field, Heard, Idle, IsOrdered, Item, Kind, LineLost, Lost, Many, Message, MessageParts, Nothing, Nothing_waits, Outcome, Refused, Repeats, ReqField, Resend, Restarted, State, Taken, Unsaid, after, after_all, after_entry, after_heard, after_take, all_owed_last, answer, answer_to, choice, circuit_need, draws, draws_in, duplicate, enumerate_from, found, has, heading_of_message, idle, is_accepted, is_draw, is_request, items_of, keeps_one, most_owed, named, need, on_circuit, outcome, outcome_of, outcomes, owed_again, owed_last, places, request_at, split_at, sum_by, verdict, waiting, with_drawn, with_repeated, with_routed}
 use Rattle.std.proofs.lemmas.Bool.{cases_lt}
 use Rattle.std.proofs.lemmas.List.{set_past, get_or_past, length-append}
 use Rattle.std.proofs.lemmas.List.Sums.{sum_by-append, sum_by-cons, sum_by-set}
 use Rattle.std.proofs.Math.ListN.{set}
-use Rattle.gts_frame.specs.declared.kind.Kind.{Kind}
-use Rattle.gts_directory.specs.Directory.{Directory, Circuit, named}
-use Rattle.gts_heading.specs.declared.field.Field.{Field}
-use Rattle.gts_message.specs.Message.{MessageParts, split_at}
-use Rattle.gts_request.specs.Request.{Item, request_at}
-use Rattle.gts_request.specs.declared.fault.ReqField.{ReqField}
-use Rattle.gts_event.specs.declared.outcome.Refusal.TheVariants.{Message, Many}
-use Rattle.gts_event.specs.State.{State, Bulletin, duplicate, CircuitState, idle, on_circuit, draws, waiting, has}
-use Rattle.gts_event.specs.Need.{CircuitNeed, need, circuit_need, keeps_one, IsOrdered}
-use Rattle.gts_event.specs.History.{Choice, Repeats, Draws, Nothing_waits, choice, outcome, outcome_of, outcomes, after, after_heard, after_take, after_entry, after_all, with_routed, with_repeated, with_drawn, owed_last, owed_again, all_owed_last, answer, answer_to, verdict, is_request, found, places, items_of, most_owed, heading_of_message}
-use Rattle.gts_event.specs.declared.event.Event.{Event}
-use Rattle.gts_event.specs.declared.event.Event.TheVariants.{Heard, Lost, Taken}
-use Rattle.gts_event.specs.declared.event.Entry.{Entry}
-use Rattle.gts_event.specs.declared.event.Entry.TheVariants.{Done, Unsaid, Idle, Doubt, Restarted}
-use Rattle.gts_event.specs.declared.outcome.Outcome.{Outcome}
-use Rattle.gts_event.specs.declared.outcome.Outcome.TheVariants.{Accepted, Duplicate, Asked, Refused, LineLost, Resend, Draw, Nothing}
 use Rattle.gts_event.proofs.LawLemmas.{nothing_there, ordered-all}
-use Rattle.gts_generate.specs.History.{draws_in}
-use Rattle.gts_generate.specs.Counts.{is_accepted, is_draw}
 use Rattle.gts_generate.proofs.ReceiptLemmas.{take_outcome}
 
 -- ---- accepted

@@ -1,16 +1,8 @@
 -- The counts of a day.
 use Rattle.std.proofs.Common.{◌≡◌, ℕ, ◌+◌, ◌-◌, true, refl, arith}
-use Rattle.std.specs.List.{list_all, range_with_len}
-use Rattle.gts_event.specs.Need.{need, nothing, is_here, IsOrdered}
-use Rattle.gts_event.specs.Held.{IsHeld}
+use Rattle.gts_generate.specs.Cited.{IsHeld, IsOrdered, Traffic, directory, draws_in, frames_in, frames_said, history, is_accepted, is_draw, is_here, is_resend, list_all, need, nothing, outcomes_on, outside_of, range_with_len, start, state_after, steps}
 use Rattle.gts_event.proofs.LawLemmas.{ordered-begun, nothing-sound, held-begun}
-use Rattle.gts_connection.specs.declared.kind.CaptureKind.TheVariants.{Traffic}
 use Rattle.gts_connection.proofs.LawLemmas.{entries_here}
-use Rattle.gts_generate.specs.Centre.{directory}
-use Rattle.gts_generate.specs.Day.{steps}
-use Rattle.gts_generate.specs.History.{start, history, state_after, outside_of, draws_in}
-use Rattle.gts_generate.specs.Summary.{frames_in, frames_said}
-use Rattle.gts_generate.specs.Counts.{outcomes_on, is_accepted, is_draw, is_resend}
 use Rattle.gts_generate.proofs.CountLemmas.{accepted-from-nothing, drawn-from-nothing}
 use Rattle.gts_generate.proofs.EndLemmas.{frames-counted}
 use Rattle.gts_generate.proofs.FedLemmas.{day-ends}

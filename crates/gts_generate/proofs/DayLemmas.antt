@@ -1,14 +1,9 @@
 -- Pieces of a capture, one behind another.
-use Rattle.std.proofs.Common.{◌≡◌, ℕ, suc, zero, ◌+◌, ◌-◌, ◌*◌, ◌<◌, List, [], ◌∷◌, ◌++◌, length, take, drop, min, map, refl, sym, ◌∙◌, ap, append_assoc, arith}
+use Rattle.std.proofs.Common.{◌≡◌, ℕ, suc, zero, ◌+◌, ◌-◌, ◌*◌, ◌<◌, List, [], ◌∷◌, ◌++◌, length, take, drop, min, map, refl, sym, ◌∙◌, ap, append_assoc, arith, codes, flat_map}
 use Rattle.std.proofs.lemmas.List.{append-nil, take-append-drop, take_at, length-append, length-take, length-drop}
 use Rattle.std.proofs.lemmas.List.FromFn.{map-range_with_len_more}
 use Rattle.std.proofs.lemmas.Grind.{flat_map-append}
-use Rattle.std.specs.Prelude.{codes, flat_map}
-use Rattle.std.specs.List.{range_with_len}
-use Rattle.gts_alphabet.specs.Digits.{dec}
-use Rattle.gts_connection.specs.Capture.{Step, Drain, EndHead, step_text, head_text}
-use Rattle.gts_generate.specs.Day.{steps_of, capture, capture_from, turn, drains, ending}
-use Rattle.gts_generate.specs.DayView.{pieces_from, pieces_left}
+use Rattle.gts_generate.specs.Cited.{Drain, EndHead, Step, capture, capture_from, dec, drains, ending, head_text, pieces_from, pieces_left, range_with_len, step_text, steps_of, turn}
 
 -- one more circuit is drained
 pub drains-more : (c : ℕ) → flat_map step_text (map Drain (range_with_len 0 (c + 1)))
@@ -57,21 +52,6 @@ pieces-more next count here =
     ap (λ (n : ℕ). pieces_from next n) now
     ∙ append_assoc (turn next) (flat_map turn (range_with_len (next + 1) more)) ending
     ∙ ap (λ (n : ℕ). turn next ++ pieces_from (next + 1) n) (sym later)
-
--- the last piece
-pub pieces-last : (next count : ℕ) → next ≡ count → pieces_left next count ≡ ending ++ pieces_left (next + 1) count
-pieces-last next count here =
-    let now : count + 1 - next ≡ suc zero = omega (arith, here) in
-    let later : count + 1 - (next + 1) ≡ zero = omega (arith, here) in
-    ap (λ (n : ℕ). pieces_from next n) now
-    ∙ sym (append-nil ending)
-    ∙ ap (λ (n : ℕ). ending ++ pieces_from (next + 1) n) (sym later)
-
--- behind it
-pub pieces-none : (next count : ℕ) → count < next → pieces_left next count ≡ []
-pieces-none next count here =
-    let now : count + 1 - next ≡ zero = omega (arith, here) in
-    ap (λ (n : ℕ). pieces_from next n) now
 
 -- a buffer after as many bytes as it has room for were copied to its front
 pub reads_on : (left rest into : List ℕ) (count : ℕ) → count ≡ min (length left) (length into) → (length left ≡ 0 → left ++ rest ≡ [])

@@ -1,37 +1,15 @@
 -- Each take that gives something says one frame, where each bulletin has one end.
-use Rattle.std.proofs.Common.{◌≡◌, ℕ, suc, zero, ◌+◌, ◌-◌, ◌<◌, ◌≤◌, Bool, true, false, cond, ◌&&◌, ◌==◌, nat_le, nat_lt, Option, Some, None, List, [], ◌∷◌, ◌++◌, length, get_or, map, inl, inr, refl, sym, ap, subst, ◌∙◌, arith}
-use Rattle.std.specs.Prelude.{count_by}
-use Rattle.std.specs.List.{list_all, find, zip}
+use Rattle.std.proofs.Common.{◌≡◌, ℕ, suc, zero, ◌+◌, ◌-◌, ◌<◌, ◌≤◌, Bool, true, false, cond, ◌&&◌, ◌==◌, nat_le, nat_lt, Option, Some, None, List, [], ◌∷◌, ◌++◌, length, get_or, map, inl, inr, refl, sym, ap, subst, ◌∙◌, arith, count_by}
+use Rattle.gts_generate.specs.Cited.{Accepted, Asked, Bulletin, Choice, Circuit, CircuitState, Directory, Done, Doubt, Draw, Draws, Duplicate, ETX, Entry, Event, HasLine, Heard, Idle, IsGap, IsHeld, IsMessage, IsOrdered, Kind, LineLost, Lost, Nothing, Nothing_waits, Outcome, Refused, Repeats, Resend, Restarted, State, Taken, Unsaid, WasRead, after, after_entry, after_heard, after_take, bulletin_at, choice, choice_of, circuit_need, dec, digits_on, drawn, draws, find, frames_in, frames_said, heading_of_message, idle, is_circuit, is_draw, is_here, is_kept, is_resend, keeps_one, kept_on, last_of, list_all, message_of, next, no_heading, number_in, numbered_frame, on, on_circuit, outcome, outcome_of, outcomes, owes_kept, receipt_text, said, spoken, spoken_of, with_drawn, with_repeated, zip}
+use Rattle.gts_event.specs.Said.{line}
+use Rattle.gts_event.specs.History.{body_of}
 use Rattle.std.proofs.lemmas.Bool.{eqb-true, eq-eqb, le-leb, lt-ltb, ltb-true, and_parts, and_from}
 use Rattle.std.proofs.lemmas.List.{get_or-set_same, length-append, length-drop, length-map}
 use Rattle.std.proofs.lemmas.List.Folds.{list_all-append}
 use Rattle.std.proofs.lemmas.List.FromFn.{length-enumerate_from}
 use Rattle.std.proofs.lemmas.List.Sums.{sum_by-append}
-use Rattle.gts_alphabet.specs.Digits.{dec}
-use Rattle.gts_alphabet.specs.declared.characters.TheConstants.{ETX}
-use Rattle.gts_traits.specs.Station.{on}
-use Rattle.gts_heading.specs.Heading.{IsGap}
-use Rattle.gts_number.specs.Number.{number_in}
-use Rattle.gts_message.specs.Message.{IsMessage}
 use Rattle.gts_message.proofs.LawLemmas.{split_takes}
-use Rattle.gts_frame.specs.declared.kind.Kind.{Kind}
-use Rattle.gts_directory.specs.Directory.{Directory, Circuit}
-use Rattle.gts_alphabet.specs.Message.{message_of}
-use Rattle.gts_event.specs.State.{State, Bulletin, no_heading, CircuitState, idle, on_circuit, draws, drawn, last_of, next, bulletin_at}
-use Rattle.gts_event.specs.Need.{circuit_need, is_kept, owes_kept, keeps_one, is_here, IsOrdered}
-use Rattle.gts_event.specs.Held.{IsHeld, WasRead}
-use Rattle.gts_event.specs.Said.{HasLine, line, numbered_frame, spoken, spoken_of, said}
-use Rattle.gts_event.specs.History.{Choice, Repeats, Draws, Nothing_waits, choice, choice_of, kept_on, digits_on, outcome, outcome_of, outcomes, after, after_heard, after_take, after_entry, with_repeated, with_drawn, body_of, heading_of_message}
-use Rattle.gts_event.specs.Receipt.{receipt_text}
-use Rattle.gts_event.specs.declared.event.Event.{Event}
-use Rattle.gts_event.specs.declared.event.Event.TheVariants.{Heard, Lost, Taken}
-use Rattle.gts_event.specs.declared.event.Entry.{Entry}
-use Rattle.gts_event.specs.declared.event.Entry.TheVariants.{Done, Unsaid, Idle, Doubt, Restarted}
-use Rattle.gts_event.specs.declared.outcome.Outcome.{Outcome}
-use Rattle.gts_event.specs.declared.outcome.Outcome.TheVariants.{Accepted, Duplicate, Asked, Refused, LineLost, Resend, Draw, Nothing}
-use Rattle.gts_event.proofs.LawLemmas.{was_read, body-read, held-all, draw_index, kept-line}
-use Rattle.gts_generate.specs.Summary.{is_circuit, frames_said, frames_in}
-use Rattle.gts_generate.specs.Counts.{is_draw, is_resend}
+use Rattle.gts_event.proofs.LawLemmas.{was_read, body-read, held-all, draw_index, kept-line, keeps_get}
 use Rattle.gts_generate.proofs.ByteLemmas.{lacks, lacks-append, lacks-dec}
 use Rattle.gts_generate.proofs.ReceiptLemmas.{take_outcome, said_take}
 use Rattle.gts_generate.proofs.CountLemmas.{IsHeard, heard-event}
@@ -143,13 +121,6 @@ line-ends d s c i there all =
 abbrev owes_on : Circuit → CircuitState → Bool
 owes_on row q = owes_kept (circuit_need row.kept q)
 
-keeps-some : (rows : List Circuit) (c : ℕ) → list_all (λ row. nat_lt 0 row.kept) rows ≡ true → c < length rows
-    → 0 < get_or (map (λ row. row.kept) rows) c 0
-keeps-some [] c all within = absurd (omega arith)
-keeps-some (row ∷ rows) zero all within = ltb-true 0 row.kept (and_parts (nat_lt 0 row.kept) (list_all (λ r. nat_lt 0 r.kept) rows) all).0
-keeps-some (row ∷ rows) (suc c) all within =
-    keeps-some rows c (and_parts (nat_lt 0 row.kept) (list_all (λ r. nat_lt 0 r.kept) rows) all).1 (omega arith)
-
 owed-at : (rows : List Circuit) (qs : List CircuitState) (c : ℕ) → length qs ≡ length rows → c < length qs
     → list_all owes_kept (map (λ row. circuit_need row.0.kept row.1) (zip rows qs)) ≡ true
     → owes_kept (circuit_need (get_or (map (λ row. row.kept) rows) c 0) (get_or qs c idle)) ≡ true
@@ -216,7 +187,7 @@ frames-take d s c (Draws i p) e one few here ordered held all =
     let q : CircuitState = on_circuit s c in
     let within : c < length s.circuits = omega (arith, ordered.circuits) in
     let same : on_circuit (after_take s c (Draws i p)) c ≡ with_drawn p q = get_or-set_same s.circuits c (with_drawn p q) idle within in
-    let some : 0 < kept_on d c = keeps-some d.circuits c one here in
+    let some : 0 < kept_on d c = keeps_get d.circuits c one here in
     let index : draws q ≡ i = draw_index d s c i p e in
     let kept : is_kept (circuit_need (kept_on d c) (with_drawn p q)) i ≡ true =
     subst (λ (j : ℕ). is_kept (circuit_need (kept_on d c) (with_drawn p q)) j ≡ true) index (new-kept (kept_on d c) p q some) in

@@ -1,32 +1,13 @@
 -- The messages of a day: each is heard as it stands, and has one end.
-use Rattle.std.proofs.Common.{◌≡◌, ◌≢◌, ℕ, suc, zero, ◌+◌, ◌-◌, ◌/◌, ◌%◌, ◌≤◌, Bool, true, false, ◌==◌, None, List, [], ◌∷◌, ◌++◌, length, drop, get_or, map, inl, inr, refl, sym, ap, subst, ◌∙◌, append_assoc, arith}
-use Rattle.std.specs.Prelude.{codes, flat_map, replicate, if◌then◌else◌}
-use Rattle.std.specs.List.{list_all, AllByRecursion, range_with_len}
+use Rattle.std.proofs.Common.{◌≡◌, ◌≢◌, ℕ, suc, zero, ◌+◌, ◌-◌, ◌/◌, ◌%◌, ◌≤◌, Bool, true, false, ◌==◌, None, List, [], ◌∷◌, ◌++◌, length, drop, get_or, map, inl, inr, refl, sym, ap, subst, ◌∙◌, append_assoc, arith, codes, flat_map, replicate, if◌then◌else◌}
+use Rattle.gts_generate.specs.Cited.{AllByRecursion, An, Circuit, Compact, Connections, Directory, Drain, EOL, ETX, EndsWithEtx, Entry, Event, Feed, Frame, HeadingFields, IsFramed, IsPiece, KeepAlive, Part, Piece, Reopen, Rest, Restart, State, Step, Take, Taken, after_all, after_step, all_done, body, body_of, connection, dec, drains, entries, entries_from, entries_of_step, events_added, events_of, frame, frames_in, heading_at, heading_text, list_all, message, message_end, no_bytes, on_circuit, piece_text, range_with_len, report, request, steps, steps_of, waiting}
 use Rattle.std.proofs.Math.ListN.{set}
 use Rattle.std.proofs.lemmas.Bool.{eqb-true, eq-eqb, cases_lt, and_parts, and_from}
 use Rattle.std.proofs.lemmas.List.{append-nil, set_past, get_or-set_same, get_or-set_other}
 use Rattle.std.proofs.lemmas.List.Folds.{list_all-append}
 use Rattle.std.proofs.lemmas.Grind.{flat_map-append}
-use Rattle.gts_alphabet.specs.Digits.{dec}
-use Rattle.gts_alphabet.specs.declared.characters.TheConstants.{ETX, EOL}
-use Rattle.gts_heading.specs.Heading.{HeadingFields, heading_text}
-use Rattle.gts_message.specs.Message.{message_end}
-use Rattle.gts_frame.specs.declared.kind.Kind.TheVariants.{An}
-use Rattle.gts_frame.specs.Frame.{frame, Piece, Frame, KeepAlive, piece_text, IsPiece, IsFramed, EndsWithEtx}
-use Rattle.gts_frame.specs.Stream.{Rest, Part}
 use Rattle.gts_frame.proofs.LawLemmas.{IsFramed-message_of}
-use Rattle.gts_directory.specs.Directory.{Directory, Circuit}
-use Rattle.gts_event.specs.State.{State, on_circuit, waiting}
-use Rattle.gts_event.specs.History.{after_all}
-use Rattle.gts_event.specs.Drain.{all_done}
-use Rattle.gts_event.specs.declared.event.Event.{Event}
-use Rattle.gts_event.specs.declared.event.Event.TheVariants.{Taken}
-use Rattle.gts_event.specs.declared.event.Entry.{Entry}
-use Rattle.gts_connection.specs.Connection.{connection, events_added, events_of}
-use Rattle.gts_connection.specs.Capture.{Step, Feed, Take, Reopen, Drain, Restart, Compact, Connections, no_bytes, entries_of_step, entries_from, entries, after_step}
 use Rattle.gts_connection.proofs.LawLemmas.{connection-unique}
-use Rattle.gts_generate.specs.Summary.{frames_in}
-use Rattle.gts_generate.specs.Day.{heading_at, body_of, report, request, body, message, steps_of, drains, steps}
 use Rattle.gts_generate.proofs.ByteLemmas.{lacks, one_more, lacks-append, lacks-dec, lacks-heading_text}
 use Rattle.gts_generate.proofs.FramesLemmas.{ends-append, ends-message, no-end}
 use Rattle.gts_generate.proofs.EndLemmas.{hears_one_end, has_one_end}

@@ -1,17 +1,9 @@
 -- What was said on the circuits, piece by piece, and the frames in it.
-use Rattle.std.proofs.Common.{◌≡◌, ℕ, ◌+◌, Bool, true, false, cond, ◌==◌, List, [], ◌∷◌, ◌++◌, map, refl, ap, ◌∙◌, arith}
-use Rattle.std.specs.Prelude.{filter, if◌then◌else◌, length}
+use Rattle.std.proofs.Common.{◌≡◌, ℕ, ◌+◌, Bool, true, false, cond, ◌==◌, List, [], ◌∷◌, ◌++◌, map, refl, ap, ◌∙◌, arith, filter, if◌then◌else◌, length}
 use Rattle.std.proofs.lemmas.List.{map-append}
 use Rattle.std.proofs.lemmas.List.Elements.{filter-append}
 use Rattle.std.proofs.lemmas.List.Sums.{sum_by-append}
-use Rattle.gts_alphabet.specs.Digits.{dec}
-use Rattle.gts_alphabet.specs.Message.{message_of}
-use Rattle.gts_alphabet.specs.declared.characters.TheConstants.{ETX, SOH, EOL}
-use Rattle.gts_traits.specs.Station.{Outside, on}
-use Rattle.gts_frame.specs.declared.kind.Kind.{Kind}
-use Rattle.gts_frame.specs.declared.kind.Kind.TheVariants.{An, Bi, Fx}
-use Rattle.gts_frame.specs.Frame.{frame, letters}
-use Rattle.gts_generate.specs.Summary.{is_circuit, frames_said, frames_in}
+use Rattle.gts_generate.specs.Cited.{An, Bi, EOL, ETX, Fx, Kind, Outside, SOH, dec, frame, frames_in, frames_said, is_circuit, letters, message_of, on}
 use Rattle.gts_generate.proofs.ByteLemmas.{lacks, lacks-dec, counts-none}
 
 pub frames-append : (xs ys : Outside) → frames_said (xs ++ ys) ≡ frames_said xs ++ frames_said ys

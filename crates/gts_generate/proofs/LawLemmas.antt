@@ -1,22 +1,8 @@
 -- The answers of the laws.
-use Rattle.std.proofs.Common.{◌≡◌, ℕ, ◌+◌, ◌*◌, ◌%◌, ◌≤◌, List, [], ◌∷◌, ◌++◌, length, refl, sym, ap, ◌∙◌, arith}
-use Rattle.std.specs.Prelude.{flat_map}
-use Rattle.std.specs.List.{range_with_len}
+use Rattle.std.proofs.Common.{◌≡◌, ℕ, ◌+◌, ◌*◌, ◌%◌, ◌≤◌, List, [], ◌∷◌, ◌++◌, length, refl, sym, ap, ◌∙◌, arith, flat_map}
+use Rattle.gts_generate.specs.Cited.{An, AreStepsOf, CaptureKind, Compact, Connections, Directory, Drain, Entry, Feed, FeedHead, IsHeadOf, IsWhole, Journaled, LONGEST_CAPTURE, Reopen, Restart, State, Step, Take, Traffic, after_all, after_step, capture, compactions, compactions_from, count_at, dec, directory, drains, ending, entries_of_step, frame, head_of, head_text, message, no_bytes, range_with_len, step_text, steps, steps_of, turn}
 use Rattle.std.proofs.lemmas.List.{append-nil, length-append}
 use Rattle.std.proofs.lemmas.List.FromFn.{length-range_with_len}
-use Rattle.gts_alphabet.specs.Digits.{dec}
-use Rattle.gts_frame.specs.declared.kind.Kind.TheVariants.{An}
-use Rattle.gts_frame.specs.Frame.{frame}
-use Rattle.gts_directory.specs.Directory.{Directory}
-use Rattle.gts_event.specs.State.{State}
-use Rattle.gts_event.specs.History.{after_all}
-use Rattle.gts_event.specs.declared.event.Entry.{Entry}
-use Rattle.gts_connection.specs.declared.kind.CaptureKind.{CaptureKind}
-use Rattle.gts_connection.specs.declared.kind.CaptureKind.TheVariants.{Journaled, Traffic}
-use Rattle.gts_connection.specs.declared.limits.TheConstants.{LONGEST_CAPTURE}
-use Rattle.gts_connection.specs.Capture.{Step, Feed, Take, Reopen, Drain, Restart, Compact, FeedHead, head_text, step_text, head_of, IsHeadOf, AreStepsOf, IsWhole, Connections, no_bytes, entries_of_step, after_step, count_at, compactions_from, compactions}
-use Rattle.gts_generate.specs.Centre.{directory}
-use Rattle.gts_generate.specs.Day.{message, steps_of, drains, steps, capture, turn, ending}
 use Rattle.gts_generate.proofs.DayLemmas.{capture-pieces}
 use Rattle.gts_generate.proofs.FedLemmas.{day-body}
 

@@ -1,37 +1,15 @@
 -- Receipts are lines: each is counted where it begins with its word, and nowhere else.
-use Rattle.std.proofs.Common.{◌≡◌, ℕ, ◌+◌, Bool, true, false, cond, not, ◌==◌, List, [], ◌∷◌, ◌++◌, refl, sym, ap, subst, ◌∙◌, arith}
-use Rattle.std.specs.Prelude.{codes, count_by}
+use Rattle.std.proofs.Common.{◌≡◌, ℕ, ◌+◌, Bool, true, false, cond, not, ◌==◌, List, [], ◌∷◌, ◌++◌, refl, sym, ap, subst, ◌∙◌, arith, codes, count_by}
 use Rattle.std.proofs.lemmas.Bool.{and_parts}
 use Rattle.std.proofs.lemmas.List.Sums.{sum_by-append}
-use Rattle.gts_heading.specs.Heading.{HeadingFields, heading_text}
-use Rattle.gts_frame.specs.declared.kind.Kind.{Kind}
-use Rattle.gts_directory.specs.Directory.{Directory}
-use Rattle.gts_message.specs.Message.{IsMessage}
+use Rattle.gts_generate.specs.Cited.{Accepted, Asked, Choice, Directory, Done, Doubt, Draw, Draws, Duplicate, Entry, Event, HeadingFields, Heard, Idle, IsHeading, IsMessage, Kind, LineLost, Lost, LostField, Many, Message, Nothing, Nothing_waits, Outcome, Outside, Refusal, Refused, Repeats, Request, Resend, Restarted, State, Taken, Unsaid, WasRead, after, after_entry, channel_bytes, choice, heading_of_message, heading_text, is_duplicate, is_granted, lines_from, lost_text, no_heading, on, outcome, outcome_of, outcomes, receipt_text, receipts_of, refusal_text, said, spoken, spoken_of, then_number}
+use Rattle.gts_event.specs.Said.{line}
 use Rattle.gts_message.proofs.LawLemmas.{split_takes}
-use Rattle.gts_event.specs.State.{State}
-use Rattle.gts_traits.specs.Station.{Outside, on, channel_bytes}
 use Rattle.gts_traits.proofs.LawLemmas.{channel_bytes-append, channel_bytes-on, channel_bytes-on_other}
-use Rattle.gts_event.specs.History.{Choice, Repeats, Draws, Nothing_waits, choice, outcome, outcome_of, outcomes, after, after_entry, heading_of_message}
-use Rattle.gts_event.specs.Said.{line, spoken, spoken_of, said}
-use Rattle.gts_event.specs.State.{no_heading}
-use Rattle.gts_event.specs.declared.event.Event.{Event}
-use Rattle.gts_event.specs.declared.event.Event.TheVariants.{Heard, Lost, Taken}
-use Rattle.gts_event.specs.declared.event.Entry.{Entry}
-use Rattle.gts_event.specs.declared.event.Entry.TheVariants.{Done, Unsaid, Idle, Doubt, Restarted}
-use Rattle.gts_event.specs.Held.{WasRead}
 use Rattle.gts_event.proofs.LawLemmas.{was_read, heading_of_message-read}
-use Rattle.gts_event.specs.Receipt.{receipt_text, then_number, refusal_text, lost_text}
-use Rattle.gts_heading.specs.Heading.{IsHeading}
 use Rattle.gts_heading.specs.declared.field.Field.TheVariants as field
 use Rattle.gts_request.specs.declared.fault.ReqField.TheVariants as asked
-use Rattle.gts_frame.specs.declared.lost.LostField.{LostField}
 use Rattle.gts_frame.specs.declared.lost.LostField.TheVariants as lost
-use Rattle.gts_event.specs.declared.outcome.Refusal.{Refusal}
-use Rattle.gts_event.specs.declared.outcome.Refusal.TheVariants.{Message, Request, Many}
-use Rattle.gts_event.specs.declared.outcome.Outcome.{Outcome}
-use Rattle.gts_event.specs.declared.outcome.Outcome.TheVariants.{Accepted, Duplicate, Asked, Refused, LineLost, Resend, Draw, Nothing}
-use Rattle.gts_generate.specs.Summary.{lines_from, receipts_of}
-use Rattle.gts_generate.specs.Counts.{is_duplicate, is_granted}
 use Rattle.gts_generate.proofs.ByteLemmas.{lacks, lacks-append, lacks-decimal, lacks-heading}
 
 -- the rest of a line up to its LF

@@ -1,50 +1,12 @@
 -- What a run of the day's capture comes to, from how it ended.
-use Rattle.std.proofs.Common.{◌≡◌, ℕ, ◌≤◌, List, [], ◌∷◌, ◌++◌, length, map, sum, Option, Some, None, Result, Ok, Err, IsTrue, refl, sym, ap, subst, ◌∙◌, arith}
-use Rattle.std.specs.Prelude.{replicate, if◌then◌else◌, nat_eq}
-use Rattle.std.specs.List.{AllByRecursion, slice_index_or, flat_map, starts_with}
-use Rattle.gts_traits.specs.Calls.{Outside, Did, Syncs, said_by}
-use Rattle.gts_traits.specs.Disk.{Files, seen}
-use Rattle.gts_memory.specs.Objects.{StationInMemory}
+use Rattle.std.proofs.Common.{◌≡◌, ℕ, ◌≤◌, List, [], ◌∷◌, ◌++◌, length, map, sum, Option, Some, None, Result, Ok, Err, IsTrue, refl, sym, ap, subst, ◌∙◌, arith, replicate, if◌then◌else◌, nat_eq}
+use Rattle.gts_generate.specs.Cited.{AllByRecursion, BeginsDay, Compact, Connections, Device, Did, Disk, Done, Doubt, Drain, EachOwedFew, EachRoutedOnce, EndHead, Ends, EndsDay, Engine, Entry, Event, Feed, Files, HasFailed, HasRead, HasSaid, Holds, IsCut, IsDone, IsFullOn, IsOrdered, IsStart, IsWhole, Journaled, Keeps, Need, Needs, One, OpenFault, Opened, Outside, Reading, Reopen, ReplayEnd, Restart, Restarted, Say, SayMode, StandsFor, State, Station, StationInMemory, Step, StopsAtFault, Syncs, Take, Told, Two, Unsaid, Version, after_all, after_step, all_done, begun, calls_on, capture, circuit_need_of, compacted_at, compactions, day_origin, day_summary, directory, draws_in, draws_of, empty, entries, entries_from, entries_of_step, events_added, file_opens, files_open, flat_map, full, head_text, history, is_sound, journal_text, need, need_of, new_journal, no_bytes, nothing, opened_of, opens, origin_behind, origin_of, outside_of, readable, restarted, said_by, seen, selected, settled, shown, slice_index_or, start, starts_with, state_after, state_at, step_text, steps, summary_lines, summary_text, switch_meanings, takes_of_drain, used_at, written}
 use Rattle.gts_directory.specs.Directory as directories
-use Rattle.gts_event.specs.State.{State, EachRoutedOnce, empty}
-use Rattle.gts_event.specs.History.{after_all, restarted}
-use Rattle.gts_event.specs.Need.{Need, IsOrdered, need, nothing, begun, is_sound}
-use Rattle.gts_event.specs.Items.{need_of, circuit_need_of}
 use Rattle.gts_event.specs.declared.values.Need as values
 use Rattle.gts_event.specs.declared.values.CircuitNeed as value_circuits
-use Rattle.gts_event.specs.Drain.{EachOwedFew, all_done, takes_of_drain}
-use Rattle.gts_event.specs.declared.event.Event.{Event}
-use Rattle.gts_event.specs.declared.event.Entry.{Entry}
-use Rattle.gts_event.specs.declared.event.Entry.TheVariants.{Done, Unsaid, Doubt, Restarted}
-use Rattle.gts_event.specs.declared.fault.Device.{Device}
-use Rattle.gts_event.specs.declared.fault.Device.TheVariants.{Disk, Say}
 use Rattle.gts_event.specs.declared.fault.SwitchFault.TheVariants as switch
-use Rattle.gts_record.specs.declared.fault.OpenFault.{OpenFault}
-use Rattle.gts_record.specs.declared.version.Version.{Version}
-use Rattle.gts_record.specs.declared.version.Version.TheVariants.{One, Two}
-use Rattle.gts_record.specs.Format.{journal_text, written}
-use Rattle.gts_connection.specs.Connection.{events_added}
-use Rattle.gts_connection.specs.declared.kind.CaptureKind.TheVariants.{Journaled}
-use Rattle.gts_connection.specs.Capture.{Step, Feed, Take, Reopen, Drain, Restart, Compact, Connections, entries, entries_from, entries_of_step, after_step, no_bytes, EndHead, head_text, step_text, readable, Reading, IsWhole, compactions}
 use Rattle.gts_connection.proofs.LawLemmas.{reads_once, whole_is_read}
-use Rattle.gts_opening.specs.Journal.{Opened, opens, files_open, file_opens, opened_of, selected}
-use Rattle.gts_opening.specs.Room.{full, new_journal}
-use Rattle.gts_core.specs.Core.{Holds, Needs}
-use Rattle.gts_engine.specs.declared.mode.SayMode.{SayMode}
-use Rattle.gts_engine.specs.declared.mode.SayMode.TheVariants.{Station}
-use Rattle.gts_engine.specs.Engine.{Engine, shown}
-use Rattle.gts_engine.specs.Keeping.{Keeps, HasFailed, HasRead, HasSaid, origin_of}
-use Rattle.gts_calls.specs.{settled}
-use Rattle.gts_engine.specs.Switching.{Told, switch_meanings}
-use Rattle.gts_replay.specs.declared.end.ReplayEnd.{ReplayEnd}
 use Rattle.gts_replay.specs.declared.end.ReplayEnd.TheVariants as end
-use Rattle.gts_replay.specs.{IsStart, StandsFor, IsDone, IsCut, StopsAtFault, Ends, compacted_at, origin_behind}
-use Rattle.gts_engine.specs.Origin.{state_at, used_at}
-use Rattle.gts_generate.specs.Centre.{directory}
-use Rattle.gts_generate.specs.Day.{steps, capture}
-use Rattle.gts_generate.specs.Summary.{summary_lines, summary_text, draws_of}
-use Rattle.gts_generate.specs.History.{start, history, state_after, outside_of, draws_in, day_summary, IsFullOn}
-use Rattle.gts_generate.specs.Running.{calls_on, day_origin, BeginsDay, EndsDay}
 use Rattle.gts_generate.proofs.LawLemmas.{read-as-steps, never-compacts}
 
 -- ---- the capture is read as its steps

@@ -1,15 +1,11 @@
 -- What was said on the circuits, out of the sayings of a station.
-use Rattle.std.proofs.Common.{◌≡◌, ℕ, ◌+◌, ◌<◌, ◌≤◌, Bool, true, false, List, [], ◌∷◌, ◌++◌, length, take, get_or, refl, sym, ◌∙◌, ap, arith}
-use Rattle.std.specs.Prelude.{flat_map, if◌then◌else◌, ◌&&◌, nat_le, nat_lt, slice_get, Some}
+use Rattle.std.proofs.Common.{◌≡◌, ℕ, ◌+◌, ◌<◌, ◌≤◌, Bool, true, false, List, [], ◌∷◌, ◌++◌, length, take, get_or, refl, sym, ◌∙◌, ap, arith, flat_map, if◌then◌else◌, ◌&&◌, nat_le, nat_lt, slice_get, Some}
 use Rattle.std.proofs.Math.Bool.{and-false}
 use Rattle.std.proofs.lemmas.Bool.{ltb-false, lt-leb}
 use Rattle.std.proofs.lemmas.List.{append-nil, take_more, take_all}
 use Rattle.std.proofs.lemmas.Grind.{flat_map-append}
 use Rattle.std.proofs.lemmas.Option.{slice_get_within, get_or_from_slice_get}
-use Rattle.gts_alphabet.specs.declared.limits.TheConstants.{CHANNELS}
-use Rattle.gts_traits.specs.Station.{Doing, Writes, Cuts, Syncs, Says, Call, Did, Broken, on, said_by}
-use Rattle.gts_memory.specs.Past.{Noted, calls_of, kept_call, fits, unchanged, saying_of, sayings}
-use Rattle.gts_generate.specs.Summary.{is_circuit, frames_said}
+use Rattle.gts_generate.specs.Cited.{Broken, CHANNELS, Call, Cuts, Did, Doing, Noted, Says, Syncs, Writes, calls_of, fits, frames_said, is_circuit, kept_call, on, said_by, saying_of, sayings, unchanged}
 use Rattle.gts_generate.proofs.FramesLemmas.{frames-append, frames-where}
 
 -- what of a saying was said on a circuit

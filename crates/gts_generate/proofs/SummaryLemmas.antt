@@ -1,14 +1,5 @@
 -- Lines counted one byte after another.
-use Rattle.std.proofs.Common.{◌≡◌, ℕ, ◌+◌, ◌<◌, Bool, List, ◌++◌, length, drop, get_or, refl, ◌∙◌, ap, add-one, drop-cons, append_assoc}
-use Rattle.std.specs.Prelude.{◌&&◌, ◌==◌, nat_eq, if◌then◌else◌}
-use Rattle.std.specs.List.{starts_with}
-use Rattle.gts_generate.specs.Summary.{lines_from}
-
--- a byte and those behind it
-pub lines-more : (begins : Bool) (word bytes : List ℕ) (i : ℕ) → i < length bytes
-    → lines_from begins word (drop i bytes)
-    ≡ (if begins && starts_with nat_eq (drop i bytes) word then 1 else 0) + lines_from (get_or bytes i 0 == 10) word (drop (i + 1) bytes)
-lines-more begins word bytes i inside = rw (add-one, drop-cons bytes i 0) refl
+use Rattle.std.proofs.Common.{◌≡◌, ℕ, List, ◌++◌, refl, ◌∙◌, ap, append_assoc}
 
 -- a text that was written in two pieces behind a first one
 extended : (t₀ t y x t' : List ℕ) → t' ≡ t ++ x → t ≡ t₀ ++ y → t' ≡ t₀ ++ (y ++ x)

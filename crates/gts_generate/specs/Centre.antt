@@ -1,13 +1,7 @@
 -- The directory of the day: who gets what at a centre with eight circuits and 60 rules (profile).
 use Rattle.std.specs.Prelude.{ℕ, false, None, ◌+◌, ◌%◌, ◌^◌, ◌==◌, ◌||◌, List, [], ◌∷◌, ◌++◌, map, filter, replicate, codes}
-use Rattle.std.specs.List.{range_with_len}
-use Rattle.gts_alphabet.specs.Digits.{dec}
-use Rattle.gts_directory.specs.declared.rows.CircuitRow.{CircuitRow}
-use Rattle.gts_directory.specs.declared.rows.RuleRow.{RuleRow}
-use Rattle.gts_directory.specs.declared.rows.LevelRow.{LevelRow}
+use Rattle.gts_generate.specs.Cited.Below.{Circuit, CircuitRow, Level, LevelRow, Rows, Rule, RuleRow, circuit_of, dec, directory_of, localhost, range_with_len}
 use Rattle.gts_directory.specs.Directory as directories
-use Rattle.gts_directory.specs.Directory.{Circuit, Rule, Level, localhost, circuit_of, directory_of}
-use Rattle.gts_directory.specs.Rows.{Rows}
 
 -- circuit j: C and the digit j, to the centre whose four letters are the letter number j; 1,000 draws are kept, no ports
 abbrev pub circuit : ℕ → Circuit

@@ -1,8 +1,6 @@
 -- How often something came of a history.
 use Rattle.std.specs.Prelude.{ℕ, Bool, true, false, count_by}
-use Rattle.gts_event.specs.History.{outcomes}
-use Rattle.gts_event.specs.declared.outcome.Outcome.{Outcome}
-use Rattle.gts_event.specs.declared.outcome.Outcome.TheVariants.{Accepted, Duplicate, Asked, Resend, Draw}
+use Rattle.gts_generate.specs.Cited.Below.{Accepted, Asked, Draw, Duplicate, Outcome, Resend, outcomes}
 use Rattle.gts_generate.specs.Centre.{directory}
 use Rattle.gts_generate.specs.History.{start, history}
 

@@ -1,14 +1,6 @@
 -- A day of a centre with eight circuits: what comes on them and when something is taken (profile).
 use Rattle.std.specs.Prelude.{ℕ, ◌+◌, ◌-◌, ◌*◌, ◌/◌, ◌%◌, ◌==◌, List, [], ◌∷◌, ◌++◌, map, flat_map, codes, None, if◌then◌else◌}
-use Rattle.std.specs.List.{range_with_len}
-use Rattle.gts_alphabet.specs.Digits.{dec}
-use Rattle.gts_alphabet.specs.Message.{message_of}
-use Rattle.gts_alphabet.specs.declared.characters.TheConstants.{EOL}
-use Rattle.gts_heading.specs.Heading.{HeadingFields, heading_text}
-use Rattle.gts_message.specs.Message.{message_end}
-use Rattle.gts_frame.specs.declared.kind.Kind.TheVariants.{An}
-use Rattle.gts_frame.specs.Frame.{frame}
-use Rattle.gts_connection.specs.Capture.{Step, Feed, Take, Drain, EndHead, head_text, step_text}
+use Rattle.gts_generate.specs.Cited.Below.{An, Drain, EOL, EndHead, Feed, HeadingFields, Step, Take, dec, frame, head_text, heading_text, message_end, message_of, range_with_len, step_text}
 
 -- A heading of message i with the time at which it comes: message i comes in minute i, and the days go from 1 to 28.
 abbrev pub heading_at : ℕ → (tt aa : List ℕ) → (ii : ℕ) → HeadingFields

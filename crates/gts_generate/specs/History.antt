@@ -1,16 +1,7 @@
 -- What a day comes to: its history by the fold over its steps, from nothing on, and the summary of that (profile).
 use Rattle.std.specs.Prelude.{◌≡◌, ℕ, ◌+◌, List, ◌∷◌, ◌++◌, map, sum, Some}
-use Rattle.gts_traits.specs.Calls.{Outside}
-use Rattle.gts_event.specs.State.{State}
-use Rattle.gts_event.specs.History.{after_all}
-use Rattle.gts_event.specs.Need.{Need, need, nothing, begun}
-use Rattle.gts_event.specs.Said.{said}
-use Rattle.gts_event.specs.declared.event.Event.{Event}
-use Rattle.gts_event.specs.declared.event.Entry.{Entry}
-use Rattle.gts_event.specs.declared.event.Entry.TheVariants.{Done}
+use Rattle.gts_generate.specs.Cited.Below.{Done, Entry, Event, Need, Outside, State, after_all, begun, bytes_of_entries, entries, full, need, nothing, said}
 use Rattle.gts_event.specs.declared.fault.SwitchFault.TheVariants as switch
-use Rattle.gts_connection.specs.Capture.{entries}
-use Rattle.gts_opening.specs.Room.{full, bytes_of_entries}
 use Rattle.gts_generate.specs.Centre.{directory}
 use Rattle.gts_generate.specs.Day.{steps}
 use Rattle.gts_generate.specs.Summary.{summary_lines}

@@ -6,3 +6,4 @@ pub mod Worked
 pub mod History
 pub mod Counts
 pub mod Running
+pub mod Cited

@@ -1,15 +1,6 @@
 -- An engine over a station in memory, before a day and behind it.
 use Rattle.std.specs.Prelude.{◌≡◌, ℕ, List, [], None}
-use Rattle.gts_traits.specs.Calls.{Call, said_by}
-use Rattle.gts_memory.specs.Objects.{StationInMemory}
-use Rattle.gts_memory.specs.Past.{calls_of}
-use Rattle.gts_event.specs.Need.{nothing}
-use Rattle.gts_core.specs.Core.{Holds}
-use Rattle.gts_engine.specs.declared.mode.SayMode.TheVariants.{Station}
-use Rattle.gts_engine.specs.Engine.{Engine, shown}
-use Rattle.gts_engine.specs.Origin.{Origin}
-use Rattle.gts_engine.specs.Keeping.{Keeps}
-use Rattle.gts_replay.specs.{IsStart}
+use Rattle.gts_generate.specs.Cited.Below.{Call, Engine, Holds, IsStart, Keeps, Origin, Station, StationInMemory, calls_of, nothing, said_by, shown}
 use Rattle.gts_generate.specs.Centre.{directory}
 use Rattle.gts_generate.specs.History.{start, history, state_after, used_after, outside_of}
 

@@ -1,12 +1,8 @@
 -- The summary of a day: what was said of it, and what the switch stands at behind it (profile).
 use Rattle.std.specs.Prelude.{ℕ, ◌+◌, ◌-◌, Bool, true, ◌&&◌, ◌==◌, nat_eq, nat_le, List, [], ◌∷◌, ◌++◌, length, map, filter, count_by, sum, codes, if◌then◌else◌}
-use Rattle.std.specs.List.{starts_with}
-use Rattle.hex.specs.Hex.{encode_lower}
-use Rattle.sha2.specs.Sha256.{sha256}
-use Rattle.gts_alphabet.specs.declared.characters.TheConstants.{ETX}
-use Rattle.gts_traits.specs.Calls.{Outside, channel_bytes}
+use Rattle.gts_generate.specs.Cited.Below.{ETX, Outside, channel_bytes, encode_lower, starts_with, then_number}
 use Rattle.gts_event.specs.declared.values.Need.{Need}
-use Rattle.gts_event.specs.Receipt.{then_number}
+use Rattle.sha2.specs.Sha256.{sha256}
 
 -- the channels of the eight circuits
 abbrev pub is_circuit : ℕ → Bool

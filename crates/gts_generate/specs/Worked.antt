@@ -1,8 +1,6 @@
 -- Rows of a day in literal bytes.
 use Rattle.std.specs.Prelude.{◌≡◌, List, [], ◌∷◌, ◌++◌, ℕ, codes}
-use Rattle.gts_heading.specs.Heading.{HeadingFields}
-use Rattle.gts_directory.specs.Directory.{named, level_of}
-use Rattle.gts_traits.specs.Calls.{Outside, on}
+use Rattle.gts_generate.specs.Cited.Below.{HeadingFields, Outside, level_of, named, on}
 use Rattle.gts_generate.specs.Day.{heading_at, body, turn, capture}
 use Rattle.gts_generate.specs.Centre.{directory}
 use Rattle.gts_generate.specs.Summary.{frames_said, frames_in, receipts_of}

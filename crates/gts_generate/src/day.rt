@@ -1,10 +1,6 @@
 ghost use Rattle.std.specs.Prelude.{◌≡◌, ◌≤◌, ℕ, [], Err, IfOk, OnOk, replicate};
-ghost use Rattle.gts_traits.specs.{seen, said_by};
-ghost use Rattle.gts_opening.specs.Room.{new_journal};
-ghost use Rattle.gts_memory.specs.Past.{calls_of};
+ghost use Rattle.gts_generate.specs.Cited.{BeginsDay, EndsDay, IsFullOn, calls_of, new_journal, said_by, seen};
 ghost use Rattle.gts_generate.specs.History as day;
-ghost use Rattle.gts_generate.specs.History.{IsFullOn};
-ghost use Rattle.gts_generate.specs.Running.{BeginsDay, EndsDay};
 ghost use Rattle.gts_generate.specs.declared.day.DayFault.TheVariants as faults;
 
 use crate::MOST_MESSAGES;

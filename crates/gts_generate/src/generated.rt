@@ -1,7 +1,6 @@
 ghost use Rattle.std.specs.Prelude.{◌≡◌, ◌+◌, ◌<◌, ◌≤◌, ◌++◌, [], ℕ, length, IfOk, IsOk, OnOk, IfSome, IsSome, IsNone};
-ghost use Rattle.gts_traits.specs.{HasCause, Takes};
+ghost use Rattle.gts_generate.specs.Cited.{HasCause, IsSound, Takes, bytes_left, pieces_left};
 ghost use Rattle.gts_generate.specs.Day as day;
-ghost use Rattle.gts_generate.specs.DayView.{pieces_left, bytes_left, IsSound};
 
 use crate::MOST_MESSAGES;
 use crate::message::{ending, turn};

@@ -1,13 +1,7 @@
 //! Laws over the definitions, each the contract of a function with an empty body.
 
 ghost use Rattle.std.specs.Prelude.{◌≡◌, ◌≤◌, ◌-◌, ℕ, codes};
-ghost use Rattle.gts_connection.specs.Capture.{IsWhole};
-ghost use Rattle.gts_event.specs.Need.{need};
-ghost use Rattle.gts_generate.specs.Centre.{directory};
-ghost use Rattle.gts_generate.specs.Counts.{outcomes_on, is_accepted, is_duplicate, is_granted, is_draw, is_resend};
-ghost use Rattle.gts_generate.specs.Day.{capture, steps};
-ghost use Rattle.gts_generate.specs.History.{draws_in, history, outside_of, state_after};
-ghost use Rattle.gts_generate.specs.Summary.{frames_in, frames_said, receipts_of};
+ghost use Rattle.gts_generate.specs.Cited.{IsWhole, capture, directory, draws_in, frames_in, frames_said, history, is_accepted, is_draw, is_duplicate, is_granted, is_resend, need, outcomes_on, outside_of, receipts_of, state_after, steps};
 
 use crate::MOST_MESSAGES;
 

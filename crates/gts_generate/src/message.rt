@@ -1,6 +1,5 @@
 ghost use Rattle.std.specs.Prelude.{◌≡◌, ◌+◌, ◌<◌, ◌≤◌, ◌++◌, length};
-ghost use Rattle.gts_heading.specs.Heading.{heading_text};
-ghost use Rattle.gts_message.specs.Message.{message_end};
+ghost use Rattle.gts_generate.specs.Cited.{heading_text, message_end};
 ghost use Rattle.gts_frame.specs.Frame as frames;
 ghost use Rattle.gts_generate.specs.Day as day;
 

@@ -1,7 +1,6 @@
 ghost use Rattle.std.specs.Prelude.{◌≡◌, ◌≤◌, [], length, IfOk, if◌then◌else◌};
 ghost use Rattle.sha2.specs.Sha256.{sha256};
-ghost use Rattle.gts_traits.specs.{said_by};
-ghost use Rattle.gts_memory.specs.Past.{calls_of};
+ghost use Rattle.gts_generate.specs.Cited.{calls_of, said_by};
 ghost use Rattle.gts_generate.specs.Summary as summaries;
 
 use crate::CIRCUITS;

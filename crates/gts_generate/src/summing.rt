@@ -1,10 +1,6 @@
 ghost use Rattle.std.specs.Prelude.{◌≡◌, ◌++◌, ◌&&◌, map, sum, true, nat_eq, OnOk, codes, if◌then◌else◌};
-ghost use Rattle.std.specs.List.{starts_with};
-ghost use Rattle.hex.specs.Hex.{encode_lower};
-ghost use Rattle.gts_traits.specs.{said_by};
-ghost use Rattle.gts_memory.specs.Past.{calls_of};
+ghost use Rattle.gts_generate.specs.Cited.{calls_of, encode_lower, line, lines_from, said_by, starts_with};
 ghost use Rattle.gts_generate.specs.Summary as summaries;
-ghost use Rattle.gts_generate.specs.Summary.{line, lines_from};
 
 use crate::said::said_on_circuits;
 use gts_event::{CircuitNeed, Need};

@@ -1,20 +1,12 @@
 -- One pair of laws for each field: what was read is spelled so, and what is spelled so is read.
 use Rattle.std.proofs.Common.{◌≡◌, ℕ, ◌<◌, ◌≤◌, ◌⊎◌, inl, inr, Bool, true, false, ◌&&◌, cond, eqb, leb, List, [], ◌∷◌, ◌++◌, length, take, drop, Option, Some, None, Result, Ok, Err, IsTrue, nat_eq, nat_le, refl, sym, ap, subst, ◌∙◌, append_assoc, arith}
-use Rattle.std.specs.Char.{is_ascii_digit, is_ascii_uppercase}
-use Rattle.std.specs.List.{list_all, starts_with}
-use Rattle.std.specs.Str.Parse.{digits_value}
+use Rattle.gts_heading.specs.Cited.{Bbb, EOL, Field, IsGap, NoBlank, after_gap, after_word, are_capitals, bare_group_at, capitals_at, dec, digits_value, group_at, group_text, is_ascii_digit, is_ascii_uppercase, is_bbb, is_group, letters_at, list_all, message_group_at, starts_with, two_digits_at}
+use Rattle.gts_heading.specs.Reading.{◌>>=◌}
 use Rattle.std.proofs.lemmas.Bool.{leb-true, le-leb, ne_eqb, and_parts, false≢true}
 use Rattle.std.proofs.lemmas.Bool.Decides.{Decides-eqb}
 use Rattle.std.proofs.lemmas.List.{take_at, drop_at, take-append-drop, length-append, length-take-le}
 use Rattle.std.proofs.lemmas.Slice.Eq.{starts_is}
-use Rattle.gts_alphabet.specs.Digits.{dec}
-use Rattle.gts_alphabet.specs.declared.characters.TheConstants.{EOL}
 use Rattle.gts_alphabet.proofs.LawLemmas.{length-dec, AllDigits-dec, digits_value-dec, dec-digits_value, AllDigits-from_test, test_from_AllDigits}
-use Rattle.gts_heading.specs.declared.field.Field.{Field}
-use Rattle.gts_heading.specs.declared.field.Field.TheVariants.{Bbb}
-use Rattle.gts_heading.specs.Letters.{are_capitals, is_bbb, is_group}
-use Rattle.gts_heading.specs.Heading.{group_text, IsGap}
-use Rattle.gts_heading.specs.Reading.{◌>>=◌, after_word, capitals_at, two_digits_at, letters_at, group_at, bare_group_at, message_group_at, after_gap, NoBlank}
 
 -- the value of a step that did not fail
 pub bind_ok : {A B : Type 0} (r : Result A Field) (f : A → Result B Field) (y : B) → (r >>= f) ≡ Ok y → (x : A) × (r ≡ Ok x) × (f x ≡ Ok y)

@@ -1,10 +1,8 @@
 -- What the laws of src/laws.rt say, for the proofs of crates above: each is an answer of one of them.
 use Rattle.std.proofs.Common.{◌≡◌, ℕ, List, ◌++◌, Ok}
-use Rattle.gts_alphabet.specs.declared.characters.TheConstants.{EOL}
-use Rattle.gts_heading.specs.Heading.{HeadingFields, IsHeading, IsGap, heading_text}
-use Rattle.gts_heading.specs.Reading.{bare_heading_at, heading_at}
+use Rattle.gts_heading.specs.Cited.{EOL, HeadingFields, IsGap, IsHeading, bare_heading_at, heading_at, heading_text}
 use Rattle.gts_heading.proofs.HeadingLemmas.{bare_takes, line_takes}
-pub use Rattle.gts_heading.proofs.FieldLemmas.{word_takes, word_again, gap_takes, gap_again}
+pub use Rattle.gts_heading.proofs.FieldLemmas.{word_takes, word_again, gap_takes, gap_again, and_part, chosen}
 pub use Rattle.gts_heading.proofs.HeadingLemmas.{bare_again, line_again, same_heading}
 
 pub bare_is_spelled : (bytes rest : List ℕ) (h : HeadingFields) → bare_heading_at bytes ≡ Ok (h, rest)

@@ -1,3 +1,4 @@
 mod FieldLemmas
 mod HeadingLemmas
 pub mod LawLemmas
+mod SameLemmas

@@ -1,8 +1,6 @@
 -- The abbreviated heading, and how it is spelled (the Manual's message format).
 use Rattle.std.specs.Prelude.{◌≡◌, ◌⊎◌, ℕ, ◌<◌, ◌≤◌, Bool, nat_eq, List, [], ◌∷◌, ◌++◌, length, Option, Some, None, IsTrue}
-use Rattle.std.specs.Cmp.Lexicographic.{pointwise}
-use Rattle.gts_alphabet.specs.Digits.{dec}
-use Rattle.gts_alphabet.specs.declared.characters.TheConstants.{EOL}
+use Rattle.gts_heading.specs.Cited.Below.{EOL, dec, pointwise}
 use Rattle.gts_heading.specs.Letters.{are_capitals, is_group}
 use Rattle.gts_heading.specs.declared.heading.Heading.{Heading}
 

@@ -1,7 +1,6 @@
 -- Capitals, and the letters of BBB groups.
 use Rattle.std.specs.Prelude.{ℕ, Bool, true, false, ◌&&◌, ◌||◌, ◌==◌, List, [], ◌∷◌, Option, Some, None}
-use Rattle.std.specs.Char.{is_ascii_uppercase}
-use Rattle.std.specs.List.{list_all}
+use Rattle.gts_heading.specs.Cited.Below.{is_ascii_uppercase, list_all}
 
 -- capitals of International Alphabet No. 5
 abbrev pub are_capitals : List ℕ → Bool

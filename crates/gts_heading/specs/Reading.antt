@@ -1,10 +1,7 @@
 -- The fields of a heading from left to right: each is there, and leaves the bytes behind it, or it is the first fault.
 -- A byte that isn't there is a fault of the field in which it would stand.
 use Rattle.std.specs.Prelude.{◌≡◌, ℕ, false, ◌&&◌, nat_eq, nat_le, List, [], ◌∷◌, length, take, drop, Option, Some, None, Result, Ok, Err, if◌then◌else◌}
-use Rattle.std.specs.Char.{is_ascii_digit}
-use Rattle.std.specs.Str.Parse.{digits_value}
-use Rattle.std.specs.List.{list_all, starts_with}
-use Rattle.gts_alphabet.specs.declared.characters.TheConstants.{EOL}
+use Rattle.gts_heading.specs.Cited.Below.{EOL, digits_value, is_ascii_digit, list_all, starts_with}
 use Rattle.gts_heading.specs.declared.field.Field.{Field}
 use Rattle.gts_heading.specs.declared.field.Field.TheVariants.{Tt, Aa, Ii, Cccc, Day, Hour, Minute, Bbb, HeadingEnd}
 use Rattle.gts_heading.specs.Letters.{are_capitals, is_bbb}

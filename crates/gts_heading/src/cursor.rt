@@ -1,8 +1,6 @@
 ghost use Rattle.std.specs.Prelude.{◌≡◌, ◌≤◌, List, ℕ, IsTrue, IfOk, OnErr, nat_eq};
-ghost use Rattle.std.specs.List.{starts_with};
-ghost use Rattle.gts_alphabet.specs.Reads.{Reads};
+ghost use Rattle.gts_heading.specs.Cited.{Reads, after_gap, after_word, capitals_at, letters_at, starts_with, two_digits_at};
 ghost use Rattle.gts_heading.specs.Letters as letters;
-ghost use Rattle.gts_heading.specs.Reading.{after_word, capitals_at, two_digits_at, letters_at, after_gap};
 
 use crate::Field;
 use crate::letters::{are_capitals, is_bbb};

@@ -36,9 +36,7 @@ pub struct Heading {
 }
 
 impl Heading {
-    ghost use Rattle.gts_alphabet.specs.Reads.{Reads};
-    ghost use Rattle.gts_heading.specs.Heading.{HeadingFields, IsHeading, IsHeadingLine, fields_of, heading_text, is_same_heading};
-    ghost use Rattle.gts_heading.specs.Reading.{plain_heading_at, bare_group_at, message_group_at, bare_heading_at, heading_at, NoBlank};
+    ghost use Rattle.gts_heading.specs.Cited.{HeadingFields, IsHeading, IsHeadingLine, NoBlank, Reads, bare_group_at, bare_heading_at, fields_of, heading_at, heading_text, is_same_heading, message_group_at, plain_heading_at};
 
     /// Reads a heading at the front, with a BBB group where a blank follows the minute, and answers how many bytes it
     /// has: 18 or 22. The refusal is the first field from `Tt` to `Bbb` that isn't there.
@@ -110,11 +108,7 @@ impl Heading {
     pub fn is_same(&self, other: &Heading) -> bool
         ensures { result ≡ is_same_heading (fields_of self.now) (fields_of other.now) }
     {
-        let mut one = [0; 22];
-        let mut two = [0; 22];
-        let length = self.write(&mut one);
-        let other_length = other.write(&mut two);
-        &one[..length] == &two[..other_length]
+        *self == *other
     }
 
     /// Reads a heading and its group, with their length.

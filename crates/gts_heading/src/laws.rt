@@ -1,9 +1,7 @@
 //! Laws over the definitions, each the contract of a function with an empty body.
 
 ghost use Rattle.std.specs.Prelude.{◌≡◌, ◌++◌, ◌↔◌, ℕ, List, Ok};
-ghost use Rattle.gts_alphabet.specs.declared.characters.TheConstants.{EOL};
-ghost use Rattle.gts_heading.specs.Heading.{HeadingFields, IsHeading, IsGap, heading_text};
-ghost use Rattle.gts_heading.specs.Reading.{NoBlank, after_gap, after_word, bare_heading_at, heading_at};
+ghost use Rattle.gts_heading.specs.Cited.{EOL, HeadingFields, IsGap, IsHeading, NoBlank, after_gap, after_word, bare_heading_at, heading_at, heading_text};
 
 use crate::Field;
 

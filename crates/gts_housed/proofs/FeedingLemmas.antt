@@ -1,28 +1,9 @@
 -- What a turn adds in which a connection is fed.
 use Rattle.std.proofs.Common.{◌≡◌, ℕ, Bool, true, List, [], ◌∷◌, length, refl, sym, subst, ◌∙◌, arith}
-use Rattle.gts_traits.specs.Calls.{Call}
-use Rattle.gts_frame.specs.Decoder.{Decoding, signs_of_step}
-use Rattle.gts_frame.specs.declared.step.Step.{Step}
+use Rattle.gts_housed.specs.Cited.{AddsFor, All, Beginning, Call, Decoding, Engine, Entry, Event, Fault, FeedEnd, Feeding, Feeds, GoesFed, GoesOver, IsShortAt, IsSpent, Lost, Reads, Seen, SettlesFed, Spent, Standing, Step, Wanting, all_of, entries, events_added, events_of_signs, is_event, settled, signs_of_step}
 use Rattle.gts_frame.specs.declared.step.Step.TheVariants as steps
-use Rattle.gts_event.specs.declared.event.Event.{Event}
 use Rattle.gts_event.specs.declared.event.Event.TheVariants as event
-use Rattle.gts_event.specs.declared.event.Entry.{Entry}
-use Rattle.gts_event.specs.declared.fault.SwitchFault.TheVariants.{Spent}
-use Rattle.gts_connection.specs.Connection.{events_added}
-use Rattle.gts_connection.specs.Steps.{events_of_signs}
-use Rattle.gts_calls.specs.{Standing, settled}
-use Rattle.gts_feed.specs.declared.fed.FeedEnd.{FeedEnd}
-use Rattle.gts_feed.specs.declared.fed.FeedEnd.TheVariants.{All, Lost, Wanting, Fault}
-use Rattle.gts_feed.specs.Fed.{IsShortAt}
-use Rattle.gts_feed.specs.Reading.{is_event, Reads}
-use Rattle.gts_feed.specs.Going.{GoesOver, GoesFed, SettlesFed}
 use Rattle.gts_feed.proofs.GoingLemmas.{stands_settled}
-use Rattle.gts_lock.specs.{entries}
-use Rattle.gts_engine.specs.Engine.{Engine}
-use Rattle.gts_desk.specs.Desks.{Seen, IsSpent, Feeds}
-use Rattle.gts_housed.specs.Flat.{all_of}
-use Rattle.gts_housed.specs.Housed.{Beginning}
-use Rattle.gts_housed.specs.Turning.{Feeding, AddsFor}
 use Rattle.gts_housed.proofs.GatheringLemmas.{M}
 
 module _ {P W : Type 0} (engine : W → Engine P) (makes : W → Bool) (tells : Type 0) (calls : P → List Call) (disk say : P → ℕ) (b : Beginning) where

@@ -1,10 +1,7 @@
 -- Histories of lists of entries, and the entries in them.
 use Rattle.std.proofs.Common.{◌≡◌, ℕ, ◌==◌, Bool, true, false, List, [], ◌∷◌, ◌++◌, refl, sym, ap, ◌∙◌, append_assoc}
 use Rattle.std.proofs.lemmas.List.{append-nil}
-use Rattle.gts_lock.specs.{entries, entries_under, StartsWith}
-use Rattle.gts_event.specs.declared.event.Entry.{Entry}
-use Rattle.gts_desk.specs.Desks.{under}
-use Rattle.gts_housed.specs.Flat.{all_of, flat}
+use Rattle.gts_housed.specs.Cited.{Entry, StartsWith, all_of, entries, entries_under, flat, under}
 
 -- ---- histories
 

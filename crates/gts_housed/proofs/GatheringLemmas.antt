@@ -1,32 +1,8 @@
 -- An engine in a hall gathers what a feed asks of it, whatever compactions are done meanwhile.
-use Rattle.std.proofs.Common.{◌≡◌, ℕ, ◌≤◌, ◌⊎◌, inl, inr, ⊎_elim, Bool, true, false, List, [], ◌∷◌, ◌++◌, length, Result, Ok, Err, refl, sym, ap, subst, ◌∙◌, arith}
-use Rattle.std.specs.Prelude.{IsErrOf}
+use Rattle.std.proofs.Common.{◌≡◌, ℕ, ◌≤◌, ◌⊎◌, inl, inr, ⊎_elim, Bool, true, false, List, [], ◌∷◌, ◌++◌, length, Result, Ok, Err, refl, sym, ap, subst, ◌∙◌, arith, IsErrOf}
 use Rattle.std.proofs.lemmas.List.{append-nil, append_assoc}
-use Rattle.gts_traits.specs.Calls.{Call}
-use Rattle.gts_traits.specs.Counts.{Rose}
-use Rattle.gts_directory.specs.Directory.{Directory}
-use Rattle.gts_event.specs.State.{State}
-use Rattle.gts_event.specs.History.{outcome, after_all}
-use Rattle.gts_event.specs.Need.{begun}
-use Rattle.gts_event.specs.Drain.{all_done, all_unsaid}
-use Rattle.gts_event.specs.declared.event.Event.{Event}
-use Rattle.gts_event.specs.declared.event.Entry.{Entry}
-use Rattle.gts_event.specs.declared.event.Entry.TheVariants.{Done, Unsaid, Idle, Doubt}
-use Rattle.gts_event.specs.declared.outcome.Outcome.{Outcome}
-use Rattle.gts_event.specs.declared.fault.Device.TheVariants.{Disk, Say}
-use Rattle.gts_event.specs.declared.fault.SwitchFault.{SwitchFault}
-use Rattle.gts_event.specs.declared.fault.SwitchFault.TheVariants.{DiskFault, SayFault, Full, Stopped, Spent, NoMemory}
-use Rattle.gts_opening.specs.Room.{HasDoubt, HasUnsaid, IsAccepted}
-use Rattle.gts_calls.specs.{Standing, settled, IsAnswered, IsSettling, AfterCall, AfterSettling, IsOneMore, GathersOne, IsInDoubt, IsCutShort, IsAnswerCause, HasCallCause, outcome_at}
-use Rattle.gts_calls.specs.Calls.{Behind, Alone, AtOnce}
-use Rattle.gts_feed.specs.Going.{AfterHearing, IsHeard}
+use Rattle.gts_housed.specs.Cited.{AfterCall, AfterHearing, AfterSettling, Alone, AreCramped, AtOnce, Beginning, Behind, Call, Caller, Directory, Disk, DiskFault, Done, Doubt, Engine, Entry, Event, Full, GathersCompacted, GathersNone, GathersOne, GathersPlain, HasCallCause, HasDoubt, HasUnsaid, Idle, IsAccepted, IsAnswerCause, IsAnswered, IsCrampedFor, IsCutShort, IsFullEither, IsGatheredWithRoom, IsHeard, IsInDoubt, IsOneMore, IsSettling, NoMemory, Origin, Outcome, Rose, Say, SayFault, Spent, Standing, State, Stopped, SwitchFault, Unsaid, after_all, all_done, all_unsaid, begun, housed_meanings, meanings_of, origin_with, outcome, outcome_at, outcome_behind, settled, state_at, used_at}
 use Rattle.gts_feed.proofs.HeardLemmas.{as_hearing}
-use Rattle.gts_engine.specs.declared.mode.SayMode.TheVariants.{Caller}
-use Rattle.gts_engine.specs.Engine.{Engine}
-use Rattle.gts_engine.specs.Origin.{Origin, state_at, used_at}
-use Rattle.gts_engine.specs.Keeping.{meanings_of}
-use Rattle.gts_engine.specs.Rooming.{IsGatheredWithRoom, GathersPlain, GathersCompacted, GathersNone, IsFullEither, outcome_behind}
-use Rattle.gts_housed.specs.Housed.{Beginning, IsCrampedFor, AreCramped, origin_with, housed_meanings}
 use Rattle.gts_housed.proofs.StandingLemmas.{split_last, split_end, full_accepts, rose_on, rose_from}
 
 module _ (b : Beginning) where

@@ -1,33 +1,7 @@
 -- What an engine stands for, with the entry that a call adds.
-use Rattle.std.proofs.Common.{◌≡◌, ◌≢◌, ◌⊎◌, inl, inr, ⊎_elim, ℕ, ◌+◌, ◌≤◌, true, false, List, [], ◌∷◌, ◌++◌, length, Option, Some, None, Result, Ok, Err, refl, sym, ap, subst, ◌∙◌, arith, length-append}
-use Rattle.std.specs.Prelude.{IsErrOf, IfOk, IfSome}
-use Rattle.gts_traits.specs.Calls.{Call, Outside, on, channel_bytes}
+use Rattle.std.proofs.Common.{◌≡◌, ◌≢◌, ◌⊎◌, inl, inr, ⊎_elim, ℕ, ◌+◌, ◌≤◌, true, false, List, [], ◌∷◌, ◌++◌, length, Option, Some, None, Result, Ok, Err, refl, sym, ap, subst, ◌∙◌, arith, length-append, IsErrOf, IfOk, IfSome}
+use Rattle.gts_housed.specs.Cited.{Accepted, Adds, AreCramped, Asked, Beginning, Call, Caller, Choice, Device, Directory, DiskFault, Doubt, Draw, Draws, Duplicate, Engine, Entry, Event, Full, HasCallCause, HasDoubt, HasUnsaid, HearsWithRoom, Idle, IsAccepted, IsCalled, IsCrampedFor, Keeps, LeavesFrame, LineLost, NoMemory, Nothing, Nothing_waits, Origin, Outcome, Outside, Refused, Repeats, Resend, Rose, SayFault, Says, Spent, Stands, State, Stopped, SwitchFault, Taken, Unsaid, after, after_all, begun, channel_bytes, choice, entry_by, entry_of, line, meanings_of, on, origin_with, outcome, room, shown, spoken, state_at, used_at}
 use Rattle.gts_traits.proofs.LawLemmas.{channel_bytes-on}
-use Rattle.gts_traits.specs.Counts.{Rose}
-use Rattle.gts_directory.specs.Directory.{Directory}
-use Rattle.gts_event.specs.State.{State}
-use Rattle.gts_event.specs.History.{outcome, after, after_all, choice, Choice, Repeats, Draws, Nothing_waits}
-use Rattle.gts_event.specs.Said.{spoken, line}
-use Rattle.gts_event.specs.Need.{begun}
-use Rattle.gts_event.specs.declared.event.Event.{Event}
-use Rattle.gts_event.specs.declared.event.Event.TheVariants.{Taken}
-use Rattle.gts_event.specs.declared.event.Entry.{Entry}
-use Rattle.gts_event.specs.declared.event.Entry.TheVariants.{Unsaid, Idle, Doubt}
-use Rattle.gts_event.specs.declared.outcome.Outcome.{Outcome}
-use Rattle.gts_event.specs.declared.outcome.Outcome.TheVariants.{Accepted, Duplicate, Asked, Refused, LineLost, Resend, Draw, Nothing}
-use Rattle.gts_event.specs.declared.fault.Device.{Device}
-use Rattle.gts_event.specs.declared.fault.SwitchFault.{SwitchFault}
-use Rattle.gts_event.specs.declared.fault.SwitchFault.TheVariants.{DiskFault, SayFault, Full, Stopped, Spent, NoMemory}
-use Rattle.gts_opening.specs.Room.{HasDoubt, HasUnsaid, IsAccepted, room}
-use Rattle.gts_core.specs.Core.{Says}
-use Rattle.gts_calls.specs.{IsCalled, HasCallCause, entry_of}
-use Rattle.gts_engine.specs.declared.mode.SayMode.TheVariants.{Caller}
-use Rattle.gts_engine.specs.Engine.{Engine, shown}
-use Rattle.gts_engine.specs.Origin.{Origin, state_at, used_at}
-use Rattle.gts_engine.specs.Keeping.{Keeps, meanings_of}
-use Rattle.gts_engine.specs.Rooming.{HearsWithRoom}
-use Rattle.gts_desk.specs.{LeavesFrame}
-use Rattle.gts_housed.specs.Housed.{Beginning, Stands, Adds, entry_by, origin_with, IsCrampedFor, AreCramped}
 
 -- ---- the last of a list
 
@@ -228,7 +202,7 @@ module _ {P : Type 0} (tells : Type 0) (calls : P → List Call) (disk say : P �
   -- ---- a take
 
   -- what is said of a take is its frame
-  frame_said : (d : Directory) (s : State) (c : ℕ) (out : List ℕ) (o : Outcome) → o ≡ outcome d s (Taken c) → (o ≢ Nothing → spoken d s (Taken c) ≡ on (c + 1) out) → LeavesFrame d c out o s
+  pub frame_said : (d : Directory) (s : State) (c : ℕ) (out : List ℕ) (o : Outcome) → o ≡ outcome d s (Taken c) → (o ≢ Nothing → spoken d s (Taken c) ≡ on (c + 1) out) → LeavesFrame d c out o s
   frame_said d s c out o is says = go (choice d s c) refl o is says
     where
       same : (bytes : List ℕ) → on (c + 1) bytes ≡ on (c + 1) out → out ≡ bytes

@@ -1,29 +1,9 @@
 -- What a turn makes of its pass.
-use Rattle.std.proofs.Common.{◌≡◌, inl, ℕ, ◌+◌, List, [], ◌∷◌, ◌++◌, length, Result, Ok, Err, refl, sym, ap, subst, ◌∙◌, length-append}
+use Rattle.std.proofs.Common.{◌≡◌, inl, ℕ, ◌+◌, Bool, true, false, List, [], ◌∷◌, ◌++◌, length, replicate, Result, Ok, Err, refl, sym, ap, subst, ◌∙◌, length-append}
 use Rattle.std.proofs.lemmas.List.{append-nil, append_cancel_left}
 use contract.BorrowLft.{◌⊑◌, ⊑_meet, ⊑_static}
-use Rattle.gts_traits.specs.Calls.{Call}
-use Rattle.gts_lock.specs.{entries, entries_under, Known, StartsWith, after_seeing, after_adding}
-use Rattle.gts_event.specs.State.{State}
-use Rattle.gts_event.specs.declared.event.Event.{Event}
-use Rattle.gts_event.specs.declared.event.Event.TheVariants.{Taken}
-use Rattle.gts_event.specs.declared.event.Entry.{Entry}
-use Rattle.gts_event.specs.declared.outcome.Outcome.{Outcome}
-use Rattle.gts_event.specs.declared.event.Entry.TheVariants.{Done, Unsaid, Idle, Doubt}
-use Rattle.gts_event.specs.declared.fault.SwitchFault.{SwitchFault}
-use Rattle.gts_event.specs.declared.fault.SwitchFault.TheVariants.{DiskFault, SayFault, Full, Stopped, Spent, NoMemory}
-use Rattle.gts_opening.specs.Room.{IsCaused}
-use Rattle.gts_engine.specs.Engine.{Engine}
-use Rattle.gts_engine.specs.Origin.{history_of, state_at}
-use Rattle.gts_event.specs.History.{outcome}
-use Rattle.gts_feed.specs.Fed.{AddsFed}
-use Rattle.gts_feed.specs.declared.fed.FeedEnd.{FeedEnd}
-use Rattle.gts_feed.specs.declared.fed.FeedEnd.TheVariants.{All, Lost, Wanting, Fault}
-use Rattle.gts_desk.specs.Desks.{Seen, under, AddsAll, AddsAny, Answers, Feeds, LeavesFrame}
+use Rattle.gts_housed.specs.Cited.{AddsAll, AddsAny, AddsEntries, AddsFed, AddsTaken, All, Answers, Beginning, Call, DeskTakes, DiskFault, Done, Doubt, Engine, Entry, Event, Fault, FeedEnd, Feeds, Frame, Full, GaveAll, GaveNoMore, Idle, IsCaused, IsTurn, Known, KnowsOwn, LeavesFrame, Lost, NoMemory, Outcome, SayFault, Seen, Spent, Stands, StartsWith, State, Stopped, SwitchFault, Taken, TakesSome, Unsaid, Wanting, after_adding, after_seeing, all_of, entries, entries_under, entry_by, flat, history_of, outcome, seen_by, state_at, takes, under}
 use Rattle.gts_housed.specs.Housed as housed
-use Rattle.gts_housed.specs.Housed.{Beginning, Stands, entry_by}
-use Rattle.gts_housed.specs.Turning.{KnowsOwn, seen_by, IsTurn, DeskTakes}
-use Rattle.gts_housed.specs.Flat.{all_of, flat}
 use Rattle.gts_housed.proofs.FlatLemmas.{entries-append, under-append, all_of_one, flat-append, flat_one, entries_flat, under_flat}
 
 -- a lifetime within those of both types
@@ -114,6 +94,27 @@ module _ {P : Type 0} (tells : Type 0) (calls : P → List Call) (disk say : P �
       go (Lost field) a = (more, a, any)
       go (Wanting kind f) a = (more, a, any)
       go (Fault f) a = fault f a
+
+  -- takes
+  pub takes_some : (c : ℕ) (frames : List Frame) (result : Result Bool SwitchFault) (more : List Entry) → AddsTaken b (all_of (entries h)) c frames result more
+      → q ≡ after_adding (after_seeing p h) more → Stands tells calls disk say b (all_of (entries h) ++ more) new → TakesSome c frames result (seen_by b p) (seen_by b q)
+  takes_some c frames result more a is stands = go result a
+    where
+      plain : (entries_are : List Entry) → more ≡ entries_are → AddsEntries (seen_by b p) entries_are (seen_by b q)
+      plain es same = subst (λ (l : List Entry). AddsEntries (seen_by b p) l (seen_by b q)) same (added more (λ s. Unit {0}) is stands tt)
+
+      said : (es : List Entry) (Says : State → Type 0) → more ≡ es → Says (state_at b.origin (all_of (entries h))) → AddsAll (seen_by b p) es Says (seen_by b q)
+      said es Says same says = subst (λ (l : List Entry). AddsAll (seen_by b p) l Says (seen_by b q)) same (added more Says is stands says)
+
+      go : (r : Result Bool SwitchFault) → AddsTaken b (all_of (entries h)) c frames r more → TakesSome c frames r (seen_by b p) (seen_by b q)
+      go (Ok true) x = (said (takes c (length frames)) (λ s. GaveAll b.origin.directory s c frames) x.0 x.1, x.2, x.3)
+      go (Ok false) x = (said (takes c (length frames + 1)) (λ s. GaveNoMore b.origin.directory s c frames) x.0 x.1, x.2)
+      go (Err DiskFault) x = (x.2, record { beside = x.0; few = x.1; added = plain (Doubt (Taken c ∷ replicate x.0 (Taken c)) ∷ []) x.3 })
+      go (Err (Stopped by)) x = (x.0, plain (Idle (Taken c) (Stopped by) ∷ []) x.1)
+      go (Err SayFault) x = absurd x
+      go (Err (Full used need limit)) x = absurd x
+      go (Err Spent) x = absurd x
+      go (Err NoMemory) x = absurd x
 
 -- the desk of the pass answers what the turn answered, a take's too
 turned : {P : Type 0} (tells : Type 0) (calls : P → List Call) (disk say : P → ℕ) (b : Beginning) (event : Event)

@@ -1,7 +1,6 @@
 -- The entries of a hall whose turns add lists of them.
 use Rattle.std.specs.Prelude.{ℕ, List, [], ◌∷◌, ◌++◌}
-use Rattle.gts_event.specs.declared.event.Entry.{Entry}
-use Rattle.gts_desk.specs.Desks.{under}
+use Rattle.gts_housed.specs.Cited.Below.{Entry, under}
 
 -- the entries of these turns, one behind another
 abbrev pub all_of : List (List Entry) → List Entry

@@ -1,24 +1,6 @@
 -- The engine as a hall's value: what it stands for, and what a call on it adds.
 use Rattle.std.specs.Prelude.{◌≡◌, refl, ◌≢◌, ℕ, ◌≤◌, Bool, true, false, List, [], ◌∷◌, ◌++◌, Result, Ok, Err, Some, IsSome}
-use Rattle.gts_traits.specs.Calls.{Call}
-use Rattle.gts_traits.specs.Counts.{Rose}
-use Rattle.gts_directory.specs.Directory.{Directory, directory_of}
-use Rattle.gts_event.specs.State.{State}
-use Rattle.gts_event.specs.History.{outcome}
-use Rattle.gts_event.specs.Need.{nothing, begun}
-use Rattle.gts_event.specs.declared.event.Event.{Event}
-use Rattle.gts_event.specs.declared.event.Entry.{Entry}
-use Rattle.gts_event.specs.declared.event.Entry.TheVariants.{Done, Unsaid, Idle, Doubt}
-use Rattle.gts_event.specs.declared.outcome.Outcome.{Outcome}
-use Rattle.gts_event.specs.declared.fault.SwitchFault.{SwitchFault}
-use Rattle.gts_event.specs.declared.fault.SwitchFault.TheVariants.{DiskFault, SayFault, Full, Spent}
-use Rattle.gts_opening.specs.Room.{HasDoubt, HasUnsaid, full}
-use Rattle.gts_calls.specs.Calls.{Standing}
-use Rattle.gts_engine.specs.declared.mode.SayMode.TheVariants.{Caller}
-use Rattle.gts_engine.specs.Engine.{Engine, shown}
-use Rattle.gts_engine.specs.Origin.{Origin, state_at, used_at}
-use Rattle.gts_engine.specs.Keeping.{Gathers, IsLeft, IsFullCompacted}
-use Rattle.gts_engine.specs.Rooming.{full_with_spare}
+use Rattle.gts_housed.specs.Cited.Below.{Call, Caller, Directory, DiskFault, Done, Doubt, Engine, Entry, Event, Full, Gathers, HasDoubt, HasUnsaid, Idle, IsFullCompacted, IsLeft, Origin, Outcome, Rose, SayFault, Spent, Standing, State, SwitchFault, Unsaid, begun, directory_of, full, full_with_spare, nothing, outcome, shown, state_at, used_at}
 
 -- What a hall's history begins with: the engine's origin, with no compaction since, the counts of its station's faults by then,
 -- and whether room is made for bulletins for which the journal has none, by compactions.
@@ -108,7 +90,8 @@ IsFullSince b entries event fault =
     × (full b.origin.directory (state_at b.origin entries) (used_at (origin_with b compactions) entries) event ≡ Some fault)
 
 -- What something stands for that has an engine, and room made for it or not: what the engine does, whatever compactions are done.
-abbrev pub housed_meanings : {P W : Type 0} → (W → Engine P) → (W → Bool) → Type 0 → (P → List Call) → (disk say : P → ℕ) → Standing Beginning W
+abbrev pub housed_meanings : {P W : Type 0} → (W → Engine P) → (W → Bool) → Type 0 → (P → List Call) → (disk say : P → ℕ)
+    → Standing Beginning W
 housed_meanings engine makes tells calls disk say = record {
   directory = λ w. (engine w).directory;
   begin = λ b. begun b.origin.start;

@@ -1,8 +1,6 @@
 -- The pass that a desk keeps between its turns.
 use Rattle.std.specs.Prelude.{◌≡◌, List, Option, Some, None, [], false}
-use Rattle.atomic_table.specs.Seated.{TableId}
-use Rattle.gts_lock.specs.{Known}
-use Rattle.gts_event.specs.declared.event.Entry.{Entry}
+use Rattle.gts_housed.specs.Cited.Below.{Entry, Known, TableId}
 use Rattle.gts_housed.specs.Turning.{KnowsOwn}
 
 -- no pass: its hall is none

@@ -1,22 +1,6 @@
 -- What a pass has seen, as a desk.
 use Rattle.std.specs.Prelude.{◌≡◌, ℕ, ◌∷◌, [], ◌++◌, List, length, Result}
-use Rattle.gts_traits.specs.declared.station.Station.{Ghosts as StationMeanings}
-use Rattle.gts_traits.specs.Calls.{Call}
-use Rattle.gts_lock.specs.{entries, entries_under, Known, StartsWith, after_seeing, after_adding}
-use Rattle.gts_frame.specs.Decoder.{Decoding}
-use Rattle.gts_frame.specs.declared.step.Step.{Step}
-use Rattle.gts_event.specs.State.{State}
-use Rattle.gts_event.specs.declared.event.Event.{Event}
-use Rattle.gts_event.specs.declared.event.Event.TheVariants.{Taken}
-use Rattle.gts_event.specs.declared.event.Entry.{Entry}
-use Rattle.gts_event.specs.declared.outcome.Outcome.{Outcome}
-use Rattle.gts_event.specs.declared.fault.SwitchFault.{SwitchFault}
-use Rattle.gts_connection.specs.Connection.{events_added}
-use Rattle.gts_feed.specs.Fed.{AddsFed}
-use Rattle.gts_feed.specs.Reading.{Reads}
-use Rattle.gts_feed.specs.declared.fed.FeedEnd.{FeedEnd}
-use Rattle.gts_engine.specs.Engine.{Engine}
-use Rattle.gts_desk.specs.{Seen, Answers, LeavesFrame}
+use Rattle.gts_housed.specs.Cited.Below.{AddsFed, Answers, Call, Decoding, Engine, Entry, Event, FeedEnd, Ghosts as StationMeanings, Known, LeavesFrame, Outcome, Reads, Seen, StartsWith, State, Step, SwitchFault, Taken, after_adding, after_seeing, entries, entries_under, events_added}
 use Rattle.gts_housed.specs.Flat.{all_of, flat}
 use Rattle.gts_housed.specs.Housed.{Beginning, Stands, Adds, entry_by}
 
@@ -51,7 +35,8 @@ pub record IsTurn {P : Type 0} (tells : Type 0) (calls : P → List Call) (disk 
   pub is : q ≡ after_adding (after_seeing p history) (entry_by event result ∷ [])
 
 -- that of a take on c, which leaves its frame in out, in the words of a station
-abbrev pub TakesTurn : {P : Type 0} → StationMeanings P → Beginning → ℕ → List ℕ → Result Outcome SwitchFault → (p q : Known (List Entry)) → Type 0
+abbrev pub TakesTurn : {P : Type 0} → StationMeanings P → Beginning → ℕ → List ℕ → Result Outcome SwitchFault
+    → (p q : Known (List Entry)) → Type 0
 TakesTurn station b c out result p q =
     IsTurn station.tells station.calls station.disk_faults station.say_faults b (Taken c) (LeavesFrame b.origin.directory c out) result p q
 

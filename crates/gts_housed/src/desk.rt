@@ -1,11 +1,11 @@
 ghost use Rattle.std.specs.Prelude.{◌≡◌, Some};
-ghost use Rattle.gts_housed.specs.{KnowsOwn};
+ghost use Rattle.gts_housed.specs.Turning.{KnowsOwn};
 
 use crate::began::Began;
 use crate::housed::Housed;
 use crate::room::RoomBell;
 use crate::turns;
-use gts_bell::{Bell, Look};
+use gts_bell::{Bells, Look};
 use gts_desk::{Desk, Given};
 use gts_event::{Outcome, SwitchFault};
 use gts_feed::{Fed, FeedEnd, is_event, next_step};
@@ -17,23 +17,25 @@ use std::marker::Model;
 use std::sync::Wait;
 
 /// The desk of a circuit's receiver or sender at a hall: each call is one turn of its pass. After a turn for what came in, the
-/// bell is rung, since there may be something to send; after a draw, or a fault behind which nothing is dealt with, the one for room,
-/// where somebody waits for that.
+/// bells of those circuits are rung on which there is something to send, and after a fault behind which nothing is dealt with, all of
+/// them. After a draw or such a fault the one for room is, where somebody waits for that.
 pub struct HallDesk<'a, R: Wait, P: Station, B: Began> {
     rt: &'a R,
     alloc: Global,
     hall: &'a Hall<Housed<P, B>>,
-    bell: &'a Bell,
+    bells: &'a Bells,
     room: &'a RoomBell,
     // What was seen at the bell for room before the last try, once this desk waits there.
     looked: Option<Look>,
+    // This desk is the one of those that wait there that tries.
+    tries: bool,
     pass: Option<Pass<Housed<P, B>>>,
 }
 
 impl<'a, R: Wait, P: Station, B: Began> Model for HallDesk<'a, R, P, B> {
     ghost use Rattle.std.specs.Prelude.{List};
     ghost use Rattle.gts_event.specs.declared.event.Entry.{Entry};
-    ghost use Rattle.gts_lock.specs.{Known};
+    ghost use Rattle.gts_lock.specs.Cited.{Known};
 
     ghost Value = { Known (List Entry) };
 
@@ -50,7 +52,7 @@ impl<'a, R: Wait, P: Station, B: Began> HallDesk<'a, R, P, B> {
         rt: &'a R,
         alloc: Global,
         hall: &'a Hall<Housed<P, B>>,
-        bell: &'a Bell,
+        bells: &'a Bells,
         room: &'a RoomBell,
         pass: Pass<Housed<P, B>>,
     ) -> HallDesk<'a, R, P, B>
@@ -62,9 +64,10 @@ impl<'a, R: Wait, P: Station, B: Began> HallDesk<'a, R, P, B> {
             rt,
             alloc,
             hall,
-            bell,
+            bells,
             room,
             looked: None,
+            tries: false,
             pass: Some(pass),
         }
     }
@@ -77,17 +80,23 @@ impl<'a, R: Wait, P: Station, B: Began> HallDesk<'a, R, P, B> {
             return;
         }
         if self.looked.is_some() {
+            self.room.go(self.tries);
             self.looked = None;
-            self.room.go();
+            self.tries = false;
         }
     }
 
-    /// Wakes those who wait for room, where a draw has gone out, or behind a fault nothing is dealt with any more.
+    /// Wakes all who wait, for room or for something to send, since nothing is dealt with any more.
+    fn wake_all(&self) {
+        self.room.wake();
+        self.bells.ring_all();
+    }
+
+    /// Wakes all who wait, where behind a fault nothing is dealt with any more.
     fn wakes(&self, answer: Result<Outcome, SwitchFault>) {
         match answer {
-            Err(SwitchFault::Full { .. } | SwitchFault::NoMemory) => {}
-            Ok(Outcome::Draw { .. }) | Err(_) => self.room.wake(),
-            Ok(_) => {}
+            Err(SwitchFault::Full { .. } | SwitchFault::NoMemory) | Ok(_) => {}
+            Err(_) => self.wake_all(),
         }
     }
 
@@ -100,9 +109,10 @@ impl<'a, R: Wait, P: Station, B: Began> HallDesk<'a, R, P, B> {
             rt: _,
             alloc: _,
             hall: _,
-            bell: _,
+            bells: _,
             room: _,
             looked: _,
+            tries: _,
             pass,
         } = self;
         let Some(pass) = pass else { unreachable!() };
@@ -111,7 +121,7 @@ impl<'a, R: Wait, P: Station, B: Began> HallDesk<'a, R, P, B> {
 }
 
 impl<'a, R: Wait, P: Station, B: Began> Desk for HallDesk<'a, R, P, B> {
-    ghost use Rattle.gts_housed.specs.{seen_by};
+    ghost use Rattle.gts_housed.specs.Turning.{seen_by};
 
     ghost seen = { λ d. seen_by B.beginning d };
 
@@ -128,12 +138,12 @@ impl<'a, R: Wait, P: Station, B: Began> Desk for HallDesk<'a, R, P, B> {
         let Some(pass) = self.pass.take() else {
             unreachable!()
         };
-        let (rt, alloc, hall) = (self.rt, self.alloc, self.hall);
-        let (pass, fed) = turns::feed(rt, alloc, hall, pass, c, decoder, piece, taken, step);
+        let (rt, alloc, hall, bells) = (self.rt, self.alloc, self.hall, self.bells);
+        let (pass, fed) = turns::feed(rt, alloc, hall, bells, pass, c, decoder, piece, taken, step);
         self.pass = Some(pass);
-        self.bell.ring();
+        bells.ring_marked();
         if let FeedEnd::Fault(_) = fed.end {
-            self.room.wake();
+            self.wake_all();
         }
         fed
     }
@@ -142,9 +152,10 @@ impl<'a, R: Wait, P: Station, B: Began> Desk for HallDesk<'a, R, P, B> {
         let Some(pass) = self.pass.take() else {
             unreachable!()
         };
-        let (pass, answer) = turns::hear(self.rt, self.alloc, self.hall, pass, c, kind, message);
+        let (rt, alloc, hall, bells) = (self.rt, self.alloc, self.hall, self.bells);
+        let (pass, answer) = turns::hear(rt, alloc, hall, bells, pass, c, kind, message);
         self.pass = Some(pass);
-        self.bell.ring();
+        bells.ring_marked();
         self.waits_on(answer);
         self.wakes(answer);
         answer
@@ -153,26 +164,29 @@ impl<'a, R: Wait, P: Station, B: Began> Desk for HallDesk<'a, R, P, B> {
     fn rest(&mut self) {
         match self.looked {
             None => self.room.come(),
-            Some(looked) => self.room.wait(self.rt, looked),
+            Some(looked) => {
+                self.room.wait(self.rt, looked, self.tries);
+                self.tries = true;
+            }
         }
         self.looked = Some(self.room.look());
     }
 
     fn take_some(&mut self, c: u32, given: &mut Given) -> Result<bool, SwitchFault> {
-        given.frames.clear();
         let Some(pass) = self.pass.take() else {
             unreachable!()
         };
-        let (pass, answer) = turns::take(self.rt, self.hall, pass, c, &mut given.one);
+        let (pass, answer) = turns::take_some(self.rt, self.hall, pass, c, given);
         self.pass = Some(pass);
-        self.wakes(answer);
-        match answer? {
-            Outcome::Resend { index } | Outcome::Draw { index } => {
-                given.one.holds_a_frame_at_most();
-                given.frames.add(index, given.one.bytes());
-                Ok(true)
+        if answer.is_err() {
+            self.wake_all();
+        } else if given.frames.count() > 0 {
+            self.room.sent(given.frames.count() as u64);
+            if answer == Ok(false) {
+                // Nothing waits on this circuit any more, and no more may go out.
+                self.room.wake();
             }
-            _ => Ok(false),
         }
+        answer
     }
 }

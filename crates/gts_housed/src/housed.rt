@@ -1,7 +1,5 @@
 ghost use Rattle.std.specs.Prelude.{◌≡◌, ◌≢◌, ◌<◌, length, Err};
-ghost use Rattle.gts_event.specs.declared.event.Event.TheVariants.{Heard, Taken};
-ghost use Rattle.gts_desk.specs.{SaysNoMore, LeavesFrame};
-ghost use Rattle.gts_housed.specs.Housed.{Turns, Never};
+ghost use Rattle.gts_housed.specs.Cited.{Heard, LeavesFrame, Never, SaysNoMore, Taken, Turns};
 
 use crate::began::Began;
 use gts_engine::{Engine, SayMode};

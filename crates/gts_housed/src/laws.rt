@@ -1,10 +1,6 @@
 //! A law over the definitions: the contract of a function with an empty body.
 ghost use Rattle.std.specs.Prelude.{ℕ, List, Result};
-ghost use Rattle.gts_lock.specs.{Known};
-ghost use Rattle.gts_event.specs.declared.event.Entry.{Entry};
-ghost use Rattle.gts_event.specs.declared.outcome.Outcome.{Outcome};
-ghost use Rattle.gts_event.specs.declared.fault.SwitchFault.{SwitchFault};
-ghost use Rattle.gts_housed.specs.{Beginning, TakesTurn, DeskTakes};
+ghost use Rattle.gts_housed.specs.Cited.{Beginning, DeskTakes, Entry, Known, Outcome, SwitchFault, TakesTurn};
 
 use gts_traits::Station;
 

@@ -1,5 +1,4 @@
-//! The engine in a hall: each call on it is one turn of a pass, which adds one entry to the history that the engine stands
-//! for.
+//! The engine in a hall: each call of a desk is one turn of its pass, which adds entries to those for which the engine stands.
 #![tactic(auto)]
 
 mod began;
@@ -8,6 +7,7 @@ mod desk;
 mod housed;
 mod laws;
 mod room;
+mod taking;
 mod turns;
 
 pub use began::Began;

@@ -1,26 +1,33 @@
 //! One turn of a pass for each call of its desk.
 ghost use Rattle.std.specs.Prelude.{◌≡◌, ◌≢◌, ◌<◌, ◌≤◌, ◌++◌, ◌∷◌, [], true, ℕ, List, length, take, Some, Err};
-ghost use Rattle.gts_lock.specs.{entries, after_adding};
-ghost use Rattle.gts_event.specs.declared.event.Entry.{Entry as EntryType};
-ghost use Rattle.gts_event.specs.declared.event.Event.TheVariants.{Heard, Taken};
-ghost use Rattle.gts_frame.specs.{Decoding, HasMessage};
-ghost use Rattle.gts_connection.specs.Cited.{events_added};
-ghost use Rattle.gts_feed.specs.{Reads, is_event, Takes, IsShortAt};
-ghost use Rattle.gts_desk.specs.{Answers, Feeds, SaysNoMore, LeavesFrame};
+ghost use Rattle.gts_housed.specs.Cited.Below.{Answers, Decoding, Entry as EntryType, Feeds, HasMessage, Heard, IsShortAt, Reads, SaysNoMore, Takes, TakesSome, after_adding, entries, events_added, frames_of, is_event};
 ghost use Rattle.gts_housed.specs.Housed.{Stands, entry_by};
 ghost use Rattle.gts_housed.specs.Flat.{all_of};
+ghost use Rattle.gts_housed.specs.Taking.{LeavesTaken, Taking};
 ghost use Rattle.gts_housed.specs.Turning.{KnowsOwn, seen_by, Feeding, AddsFor};
 
 use crate::began::Began;
 use crate::housed::Housed;
+use crate::taking;
+use gts_bell::Bells;
+use gts_desk::Given;
 use gts_event::{Outcome, SwitchFault};
 use gts_feed::{Fed, FeedEnd, feed_behind, settle_behind};
-use gts_frame::{Decoder, FrameBuf, Kind, Step};
+use gts_frame::{Decoder, Kind, Step};
 use gts_lock::{Hall, Pass, Turn};
 use gts_traits::Station;
 use std::alloc::Global;
 use std::marker::Brand;
 use std::sync::Wait;
+
+/// Marks the bells of those circuits on which a take would give something.
+fn mark_due<P: Station, B: Began>(housed: &Housed<P, B>, bells: &Bells) {
+    for c in 0..housed.engine.directory().circuits() {
+        if housed.engine.is_due(c) {
+            bells.mark(c);
+        }
+    }
+}
 
 // Ends a turn for a message that was heard. Its engine stands for one entry more.
 fn leave_heard<P: Station, B: Began>(
@@ -42,22 +49,26 @@ fn leave_heard<P: Station, B: Began>(
     turn.leave()
 }
 
-// Ends a turn for a take. Its engine stands for one entry more.
+// Ends a turn for takes. Its engine stands for some entries more.
 fn leave_taken<P: Station, B: Began>(
     turn: Turn<'_, Housed<P, B>>,
     c: u32,
-    answer: Result<Outcome, SwitchFault>,
+    given: &Given,
+    answer: Result<bool, SwitchFault>,
 ) -> Pass<Housed<P, B>>
-    ghost added: { EntryType }
-    requires entry { added ≡ entry_by (Taken c) answer }
-    requires value { Stands P.tells P.calls P.disk_faults P.say_faults B.beginning
-        (all_of (entries turn.pass.seen) ++ added ∷ []) turn.value.engine }
+    ghost about: { Taking }
+    requires value { (more : List EntryType)
+        × LeavesTaken P.tells P.calls P.disk_faults P.say_faults B.beginning
+        (all_of (entries turn.pass.seen)) about.c about.frames about.result turn.value.engine more }
     requires mode { turn.value.makes_room ≡ B.beginning.makes_room }
-    ensures pass { result ≡ after_adding turn.entry.pass (added ∷ []) }
+    ensures pass { (more : List EntryType)
+        × LeavesTaken P.tells P.calls P.disk_faults P.say_faults B.beginning
+        (all_of (entries turn.entry.pass.seen)) about.c about.frames about.result
+        turn.entry.value.engine more × (result ≡ after_adding turn.entry.pass more) }
     ensures own { KnowsOwn result }
 {
-    let _ = (c, answer);
-    turn.leave()
+    let _ = (c, given.frames.count(), answer);
+    turn.leave_some::<Brand>()
 }
 
 // Ends a turn in which a connection was fed. Its engine stands for some entries more.
@@ -84,11 +95,13 @@ fn leave_fed<P: Station, B: Began>(
 }
 
 /// One turn in which a connection on circuit `c` is fed: with the step to which these bytes of the piece came, and then with the rest of
-/// it. What that gathers is settled. `Spent` as in `hear`.
+/// it. What that gathers is settled, and the bells are marked of those circuits on which there is something to send then. `Spent` as in
+/// `hear`.
 pub(crate) fn feed<R: Wait, P: Station, B: Began>(
     rt: &R,
     alloc: Global,
     hall: &Hall<Housed<P, B>>,
+    bells: &Bells,
     pass: Pass<Housed<P, B>>,
     c: u32,
     decoder: &mut Decoder,
@@ -123,15 +136,17 @@ pub(crate) fn feed<R: Wait, P: Station, B: Began>(
     };
     let fed = feed_behind(alloc, turn.value(), c, decoder, piece, begun, step);
     let fed = settle_behind(turn.value(), fed);
+    mark_due(turn.value(), bells);
     (leave_fed(turn, c, decoder, piece, begun, step, fed), fed)
 }
 
-/// One turn for a message that came whole on circuit `c`, in a frame of this type. `Spent` comes back exactly where no turn
-/// was left; the pass is marked then, and adds nothing.
+/// One turn for a message that came whole on circuit `c`, in a frame of this type. The bells are marked of those circuits on which there is
+/// something to send then. `Spent` comes back exactly where no turn was left; the pass is marked then, and adds nothing.
 pub(crate) fn hear<R: Wait, P: Station, B: Began>(
     rt: &R,
     alloc: Global,
     hall: &Hall<Housed<P, B>>,
+    bells: &Bells,
     pass: Pass<Housed<P, B>>,
     c: u32,
     kind: Kind,
@@ -150,33 +165,34 @@ pub(crate) fn hear<R: Wait, P: Station, B: Began>(
         Err(pass) => return (pass, Err(SwitchFault::Spent)),
     };
     let answer = turn.value().hear(alloc, c, kind, message);
+    mark_due(turn.value(), bells);
     (leave_heard(turn, c, kind, message, answer), answer)
 }
 
-/// One turn for a take on circuit `c`: the frame of a draw or a repetition is left in `out`. Nothing is said of it, so
-/// that no saying can fail. `Spent` as in `hear`. Takes no memory.
-pub(crate) fn take<R: Wait, P: Station, B: Began>(
+/// One turn for takes on circuit `c`, one after another: their frames are left in `given`. Nothing is said of them, so that no saying
+/// can fail. `Spent` as in `hear`. Takes no memory.
+pub(crate) fn take_some<R: Wait, P: Station, B: Began>(
     rt: &R,
     hall: &Hall<Housed<P, B>>,
     pass: Pass<Housed<P, B>>,
     c: u32,
-    out: &mut FrameBuf,
-) -> (Pass<Housed<P, B>>, Result<Outcome, SwitchFault>)
+    given: &mut Given,
+) -> (Pass<Housed<P, B>>, Result<bool, SwitchFault>)
     requires hall { pass.hall ≡ Some hall.now }
     requires own { KnowsOwn pass }
     requires circuit { c < length B.beginning.origin.directory.circuits }
-    ensures answers { Answers (seen_by B.beginning pass) (Taken c)
-        (LeavesFrame B.beginning.origin.directory c out.new)
-        result.1 (seen_by B.beginning result.0) }
+    ensures taken { TakesSome c (frames_of given.new.frames) result.1
+        (seen_by B.beginning pass) (seen_by B.beginning result.0) }
     ensures hall { result.0.hall ≡ Some hall.now }
-    ensures silent { result.1 ≢ Err SwitchFault.SayFault }
-    ensures no_memory { result.1 ≢ Err SwitchFault.NoMemory }
     ensures own { KnowsOwn result.0 }
 {
     let mut turn = match hall.enter(rt, pass) {
         Ok(turn) => turn,
-        Err(pass) => return (pass, Err(SwitchFault::Spent)),
+        Err(pass) => {
+            given.frames.clear();
+            return (pass, Err(SwitchFault::Spent));
+        }
     };
-    let answer = turn.value().take(c, out);
-    (leave_taken(turn, c, answer), answer)
+    let answer = taking::take_some(turn.value(), c, given);
+    (leave_taken(turn, c, given, answer), answer)
 }

@@ -1,22 +1,12 @@
 -- The steps of appending a batch.
-use Rattle.std.proofs.Common.{◌≡◌, ◌≢◌, ◌⊎◌, inl, true, false, ℕ, zero, suc, ◌+◌, ◌-◌, ◌<◌, ◌≤◌, cond, List, [], ◌∷◌, ◌++◌, length, take, drop, refl, sym, ◌∙◌, ap, subst, arith, append_assoc, length-append}
-use Rattle.std.specs.Prelude.{nat_eq}
-use Rattle.std.specs.List.{starts_with}
+use Rattle.std.proofs.Common.{◌≡◌, ◌≢◌, ◌⊎◌, inl, true, false, ℕ, zero, suc, ◌+◌, ◌-◌, ◌<◌, ◌≤◌, cond, List, [], ◌∷◌, ◌++◌, length, take, drop, refl, sym, ◌∙◌, ap, subst, arith, append_assoc, length-append, nat_eq}
+use Rattle.gts_journal.specs.Cited.{Call, Did, EachSince, EndsAt, Gathered, Gathers, InHand, IsBlock, LeavesAllOrNone, OnlyTears, Record, StandsOn, Syncs, Version, Writes, beyond_block, chain_text, closed_gate, file_of, file_with_block, front_of, held, last_seal, open_gate, opened_part, overwritten, record_text, said_by, seal, sealed, seen, starts_with, texts_of}
 use borrow.Rule.Slice.PartMut.{put_mid, post_of}
 use Rattle.std.proofs.Math.ListN.{set}
 use Rattle.std.proofs.Math.Seq.{set-append_seam}
 use Rattle.std.proofs.lemmas.List.{append-nil, take_at, length-take, length-take-le, length-drop, map-append}
-use Rattle.gts_traits.specs.Station.{Call, Did, Writes, Syncs, seen, said_by, overwritten}
-use Rattle.gts_traits.specs.Moments.{EachSince, OnlyTears}
 use Rattle.gts_traits.proofs.LawLemmas.{weaker, joined, seen_written, seen_elsewhere}
-use Rattle.gts_record.specs.Record.{Record, open_gate, closed_gate, record_text}
-use Rattle.gts_record.specs.Format.{sealed, seal, chain_text, last_seal, texts_of, held, seal_size}
 use Rattle.gts_record.proofs.LawLemmas.{chain_text-append, last_seal-append}
-use Rattle.gts_record.specs.declared.version.Version.{Version}
-use Rattle.gts_record.specs.declared.version.Version.TheVariants.{One, Two}
-use Rattle.gts_journal.specs.Hand.{InHand}
-use Rattle.gts_journal.specs.Standing.{EndsAt, StandsOn, file_of, front_of}
-use Rattle.gts_journal.specs.Batch.{Gathered, Gathers, IsBlock, opened_part, file_with_block, beyond_block, LeavesAllOrNone}
 use Rattle.gts_journal.proofs.GateLemmas.{gate_at, Staged, torn_behind, written_is, torn_gate, written_gate}
 use Rattle.gts_journal.proofs.AppendLemmas.{not_selector, synced_after}
 
@@ -181,11 +171,6 @@ gathers_more v before last next text rs r is seals texts =
           ∙ ap (chain_text v before) (sym more));
       seal = seals ∙ ap (λ (l : List ℕ). seal v l (record_text r)) is ∙ sym (last_seal-append v before (texts_of rs) (record_text r ∷ [])) ∙ ap (last_seal v before) (sym more);
     }
-
--- a seal has no more bytes than those of version 2
-pub seal_few : (v : Version) → seal_size v ≤ 32
-seal_few One = omega arith
-seal_few Two = omega arith
 
 module _ (d into chained text : List ℕ) (size count : ℕ) (is : take size d ≡ chained ++ closed_gate ∷ []) (fits : size + count + 1 ≤ length d) (texts : length text ≡ count)
     (written : into ≡ text ++ drop count (take (length d - size) (drop size d))) where

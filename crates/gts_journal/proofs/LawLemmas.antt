@@ -1,32 +1,13 @@
 -- What the files open to, before and after an append.
-use Rattle.std.proofs.Common.{◌≡◌, ◌⊎◌, inl, inr, ℕ, zero, suc, ◌+◌, ◌-◌, ◌^◌, ◌<◌, ◌≤◌, Bool, true, false, cond, List, [], ◌∷◌, ◌++◌, length, take, drop, Option, Some, None, Result, Ok, Err, refl, sym, ◌∙◌, ap, subst, arith}
-use Rattle.std.specs.Prelude.{◌==◌, nat_eq, nat_lt, not}
-use Rattle.std.specs.List.{starts_with}
-use Rattle.std.specs.Cmp.Lexicographic.{pointwise}
+use Rattle.std.proofs.Common.{◌≡◌, ◌⊎◌, inl, inr, ℕ, zero, suc, ◌+◌, ◌-◌, ◌^◌, ◌<◌, ◌≤◌, Bool, true, false, cond, List, [], ◌∷◌, ◌++◌, length, take, drop, Option, Some, None, Result, Ok, Err, refl, sym, ◌∙◌, ap, subst, arith, ◌==◌, nat_eq, nat_lt, not}
+use Rattle.gts_journal.specs.Cited.{AreAdmitted, AreNext, Call, Damaged, Directory, EachSince, EndsAt, Files, FitsRecord, Gathered, Gathers, HasAppended, HasAppendedBlock, HoldsState, InHand, IsBlock, IsClosed, IsImage, IsNext, IsSynced, LeavesAllOrNone, LeavesBoth, LeavesEither, MayStand, Need, NoJournal, NotThis, OldVersion, OnlySyncs, OpenFault, OpensAsBefore, OpensTo, OpensToEither, OpensToOneOf, Outside, Read, Record, Says, StandsFor, StandsOn, State, Syncs, Tries, Version, admits, after, after_records, agreeing, chain_text, checkpoint_opens, closed_gate, empty, entry_at, event_of_record, file_of, file_opens, files_read, first_seal, front_of, gate_after, header_fault, is_checkpoint, is_older, last_seal, magic, need, need_in, next_seal, no_records, open_gate, opened_of, opened_part, pointwise, record_size, record_text, records_at, restarted, said_by, seal, sealed, sealed_at, sealed_next, seen, selected, selecting, starts_with, texts_of, written}
 use Rattle.std.proofs.lemmas.Bool.{cases_eq}
 use Rattle.std.proofs.lemmas.List.{append-nil, append_assoc, length-append, take_at}
-use Rattle.gts_traits.specs.Station.{Outside, Call, Says, Syncs, Tries, said_by, Files, seen, IsImage, IsSynced}
-use Rattle.gts_traits.specs.Moments.{EachSince}
 use Rattle.gts_traits.proofs.LawLemmas.{weaker, started, synced, said_is, synced_image, sync_syncs, says_keeps}
-use Rattle.gts_directory.specs.Directory.{Directory}
-use Rattle.gts_event.specs.State.{State, empty}
-use Rattle.gts_event.specs.History.{after, restarted}
-use Rattle.gts_event.specs.Need.{Need, need}
-use Rattle.gts_record.specs.declared.version.Version.{Version}
-use Rattle.gts_record.specs.declared.fault.OpenFault.{OpenFault}
-use Rattle.gts_record.specs.declared.fault.OpenFault.TheVariants.{NoJournal, OldVersion, NotThis, Damaged}
-use Rattle.gts_record.specs.Record.{FitsRecord, Record, open_gate, closed_gate, record_text}
-use Rattle.gts_record.specs.Format.{magic, seal, sealed, sealed_at, is_older, first_seal, record_size, written, chain_text, last_seal, texts_of}
 use Rattle.gts_record.proofs.LawLemmas.{length-sealed}
-use Rattle.gts_opening.specs.Journal.{IsClosed, MayStand, AreAdmitted, after_records, gate_after, agreeing, need_in, checkpoint_opens, event_of_record, admits, Read, opened_of, records_at, file_opens, files_read, selected}
 use Rattle.gts_opening.proofs.LawLemmas.{far_enough, opens_same, opens_more, selected_few}
-use Rattle.gts_journal.specs.Hand.{InHand}
-use Rattle.gts_journal.specs.Standing.{EndsAt, StandsOn, file_of, front_of, next_seal, sealed_next, LeavesEither, LeavesBoth, HasAppended, selecting, entry_at, OnlySyncs}
-use Rattle.gts_journal.specs.Opening.{header_fault, is_checkpoint}
-use Rattle.gts_journal.specs.Batch.{no_records, Gathered, Gathers, IsBlock, opened_part, HasAppendedBlock, LeavesAllOrNone, AreNext, OpensToOneOf}
 use Rattle.gts_journal.proofs.GateLemmas.{gate_at}
-use Rattle.gts_journal.specs.Law.{StandsFor, IsNext, OpensTo, OpensToEither, OpensAsBefore, HoldsState}
-pub use Rattle.gts_journal.proofs.AheadLemmas.{at_mark, at_found}
+pub use Rattle.gts_journal.proofs.AheadLemmas.{at_mark, at_found, few_bytes}
 use Rattle.gts_journal.proofs.OpensLemmas.{at_gate, at_record, if_admitted, open_is}
 pub use Rattle.gts_journal.proofs.OpeningLemmas.{agreeing-same, agreeing-other, agreeing-end}
 

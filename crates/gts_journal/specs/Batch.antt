@@ -1,13 +1,6 @@
 -- Records that are appended behind one gate, and what that leaves of the files.
 use Rattle.std.specs.Prelude.{◌≡◌, ◌⊎◌, false, ℕ, ◌+◌, ◌-◌, List, [], ◌∷◌, ◌++◌, length, take, drop}
-use Rattle.gts_traits.specs.Station.{Outside, Call, Files, seen}
-use Rattle.gts_traits.specs.Moments.{EachSince}
-use Rattle.gts_record.specs.declared.version.Version.{Version}
-use Rattle.gts_record.specs.Record.{Record, open_gate, closed_gate}
-use Rattle.gts_record.specs.Format.{chain_text, last_seal, texts_of, written}
-use Rattle.gts_directory.specs.Directory.{Directory}
-use Rattle.gts_event.specs.State.{State}
-use Rattle.gts_opening.specs.Journal.{AreAdmitted, MayStand, after_records}
+use Rattle.gts_journal.specs.Cited.Below.{AreAdmitted, Call, Directory, EachSince, Files, MayStand, Outside, Record, State, Version, after_records, chain_text, closed_gate, last_seal, open_gate, seen, texts_of, written}
 use Rattle.gts_journal.specs.Law.{OpensTo}
 use Rattle.gts_journal.specs.Hand.{InHand}
 use Rattle.gts_journal.specs.Standing.{EndsAt, StandsOn, file_of, front_of}

@@ -1,9 +1,5 @@
 ghost use Rattle.std.specs.Prelude.{◌≡◌, ◌≢◌, ◌+◌, ◌-◌, ◌≤◌, ◌<◌, ◌^◌, ◌==◌, true, ℕ, List, [], ◌∷◌, ◌++◌, length, IfOk, OnOk};
-ghost use Rattle.gts_traits.specs.{HasCause, seen, said_by, EachSince};
-ghost use Rattle.gts_record.specs.Record.{record_text};
-ghost use Rattle.gts_record.specs.Record.{Record as RecordOf};
-ghost use Rattle.gts_journal.specs.{StandsOn, file_of, record_of, record_size, IsRecord};
-ghost use Rattle.gts_journal.specs.Batch.{Gathers, IsBlock, no_records, file_with_block, beyond_block, LeavesAllOrNone};
+ghost use Rattle.gts_journal.specs.Cited.{EachSince, Gathers, HasCause, IsBlock, IsRecord, LeavesAllOrNone, Record as RecordOf, StandsOn, beyond_block, file_of, file_with_block, no_records, record_of, record_size, record_text, said_by, seen};
 
 use crate::opening::zeros;
 use crate::{CLOSED, Journal, OPEN};

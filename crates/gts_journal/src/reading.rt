@@ -1,8 +1,5 @@
 ghost use Rattle.std.specs.Prelude.{◌≡◌, ◌⊎◌, ◌+◌, ◌≤◌, ◌<◌, ◌^◌, true, false, length, if◌then◌else◌, IfOk, IfSome, OnOk, IsErrOf};
-ghost use Rattle.std.specs.Borrow.{sem};
-ghost use Rattle.gts_traits.specs.{HasCause, Rose};
-ghost use Rattle.gts_record.specs.Format.{held};
-ghost use Rattle.gts_journal.specs.{StandsOn, next_entry, Gives, HasGoneOn, GoesOn, record_of, IsRecord};
+ghost use Rattle.gts_journal.specs.Cited.{Gives, GoesOn, HasCause, HasGoneOn, IsRecord, Rose, StandsOn, held, next_entry, record_of, sem};
 
 use crate::{AHEAD, Journal, LONGEST, OPEN};
 use gts_record::{OpenFault, Record, Version, decode_sealed};

@@ -1,28 +1,14 @@
 -- What is found once a hall is closed.
-use Rattle.std.proofs.Common.{◌≡◌, ◌≢◌, ◌⊎◌, ℕ, ◌<◌, ◌≤◌, List, length, true, refl, sym, ap, ◌∙◌, subst, inl, inr, ⊎_elim, arith}
-use Rattle.std.specs.Prelude.{Some, None, Option}
+use Rattle.std.proofs.Common.{◌≡◌, ◌≢◌, ◌⊎◌, ℕ, ◌<◌, ◌≤◌, List, length, true, refl, sym, ap, ◌∙◌, subst, inl, inr, ⊎_elim, arith, Some, None, Option}
+use Rattle.std.proofs.lemmas.Option.{same_Some}
 use mathlib.Core.Option.{some, some-injective}
 use mathlib.Core.Logic.{dite}
 use native.Mathlib.Decide.{ℕ_discrete}
 use lib.ListN.{get_elem?}
-use Rattle.atomic_table.specs.Table.{State, Final, Seen}
-use Rattle.gts_lock.specs.declared.limits.TheConstants.{MOST_TURNS}
-use Rattle.gts_lock.specs.declared.view.View.{View}
-use Rattle.gts_lock.specs.declared.view.Stage.{Stage}
-use Rattle.gts_lock.specs.declared.view.Stage.TheVariants.{Idle, Waiting, Holding, Spent}
-use Rattle.gts_lock.specs.History.{entries, entries_under, EndsWith}
-use Rattle.gts_lock.specs.Passes.{IsAmong}
-use Rattle.gts_lock.specs.Rule.{Live, tickets, tickets_of, NoneHolds, InTurn}
+use Rattle.gts_lock.specs.Cited.{EndsWith, Final, Holding, Idle, InTurn, IsAmong, Live, MOST_TURNS, NoneHolds, Seen, Spent, Stage, State, View, Waiting, entries, entries_under, tickets, tickets_of}
 use Rattle.gts_lock.proofs.HistoryLemmas.{last_there, starts_empty}
 use Rattle.gts_lock.proofs.ViewsLemmas.{holds_not_idle, not_both, tickets_none}
 use Rattle.gts_lock.proofs.PartingLemmas.{seats_differ}
-
-abbrev value_or : {T : Type 0} → T → Option T → T
-value_or d (Some x) = x
-value_or d None = d
-
-Some_injective : {T : Type 0} (x y : T) → Some x ≡ Some y → x ≡ y
-Some_injective x y e = ap (value_or x) e
 
 -- what is found once a hall is closed
 pub record Closing {T E : Type 0} (stands : T → List E → Type 0) (v : View E) (xs : List (Option T)) : Type 0 where
@@ -88,7 +74,7 @@ module _ {T E : Type 0} (stands : T → List E → Type 0) where
 
   -- what was in the slot is the value
   pub closing_told : (v : View E) (xs : List (Option T)) (o : Option T) (x : T) → Closing stands v xs → get_elem? xs 0 ≡ some o → o ≡ Some x → stands x (entries v.seen)
-  closing_told v xs o x closing e is = subst (λ (y : T). stands y (entries v.seen)) (Some_injective closing.value x (some-injective (Some closing.value) (Some x) (sym closing.there ∙ (e ∙ ap some is)))) closing.told
+  closing_told v xs o x closing e is = subst (λ (y : T). stands y (entries v.seen)) (same_Some closing.value x (some-injective (Some closing.value) (Some x) (sym closing.there ∙ (e ∙ ap some is)))) closing.told
 
   pub closing_full : (v : View E) (xs : List (Option T)) (o : Option T) → Closing stands v xs → get_elem? xs 0 ≡ some o → o ≡ None → ⊥
   closing_full v xs o closing e is = let p : Some closing.value ≡ None = some-injective (Some closing.value) None (sym closing.there ∙ (e ∙ ap some is)) in cc

@@ -1,14 +1,8 @@
 -- The rule, for two views at once.
-use Rattle.std.proofs.Common.{◌≡◌, ℕ, List, sym, ap, ◌∙◌, subst, inr, ⊎_elim}
-use Rattle.std.specs.Prelude.{Option}
+use Rattle.std.proofs.Common.{◌≡◌, ℕ, List, sym, ap, ◌∙◌, subst, inr, ⊎_elim, Option}
 use mathlib.Core.Option.{some}
 use lib.ListN.{get_elem?}
-use Rattle.atomic_table.specs.Table.{State}
-use Rattle.gts_lock.specs.declared.view.View.{View}
-use Rattle.gts_lock.specs.declared.view.Stage.{Stage}
-use Rattle.gts_lock.specs.declared.view.Stage.TheVariants.{Waiting, Holding}
-use Rattle.gts_lock.specs.Rule.{Live, Common, FitsStage, InTurn, Place, sits, joined_as}
-use Rattle.gts_lock.specs.Parts.{HasTicket, TicketsDiffer, OneHolds, NamesDiffer, JoinedNamesDiffer}
+use Rattle.gts_lock.specs.Cited.{Common, FitsStage, HasTicket, Holding, InTurn, JoinedNamesDiffer, Live, NamesDiffer, OneHolds, Place, Stage, State, TicketsDiffer, View, Waiting, joined_as, sits}
 use Rattle.gts_lock.proofs.ViewsLemmas.{one_seat, not_both}
 
 abbrev rank_of : Place → ℕ

@@ -1,23 +1,13 @@
 -- The steps of a turn keep the rule: a ticket is drawn, its turn is looked for and taken, and the next ticket is served.
-use Rattle.std.proofs.Common.{◌≡◌, ◌≢◌, ℕ, ◌+◌, ◌%◌, ◌<◌, ◌≤◌, List, [], ◌∷◌, ◌++◌, length, set, get_or, eqb, Bool, true, cond, ◌==◌, refl, sym, ap, ◌∙◌, subst, inl, inr, ⊎_elim, arith, length-append, eq-eqb, ne_eqb}
-use Rattle.std.specs.Prelude.{Some, Option}
+use Rattle.std.proofs.Common.{◌≡◌, ◌≢◌, ℕ, ◌+◌, ◌%◌, ◌<◌, ◌≤◌, List, [], ◌∷◌, ◌++◌, length, set, get_or, eqb, Bool, true, cond, ◌==◌, refl, sym, ap, ◌∙◌, subst, inl, inr, ⊎_elim, arith, length-append, eq-eqb, ne_eqb, Some, Option}
 use mathlib.Core.Option.{none, some, some-injective, some-ne-none}
 use mathlib.Core.Logic.{dite}
 use native.Mathlib.Decide.{ℕ_discrete}
 use lib.ListN.{get_elem?}
 use lib.Seq.{set-get_or}
 use prog.Atomic.{either}
-use Rattle.atomic_table.specs.Table.{State, Me, Act, keeps, takes, gives, Step, step, stepped, Allows, Splits, Joins, opening, rest, Final, Seen}
+use Rattle.gts_lock.specs.Cited.{Act, Allows, Common, Compares, Draws, Final, Fits, FitsStage, Holding, Idle, InTurn, IsAmong, Joins, Live, Looks, MOST_TURNS, Me, NoneHolds, Raises, RaisesSome, Seen, SomeHolds, Spent, Splits, Stage, State, Step, View, Waiting, ended, entries, entries_under, gives, holding, keeps, marked, opening, rest, staged, step, stepped, takes, tickets}
 use Rattle.atomic_table.proofs.Lists.{at_set, set_again}
-use Rattle.gts_lock.specs.declared.limits.TheConstants.{MOST_TURNS}
-use Rattle.gts_lock.specs.declared.view.View.{View}
-use Rattle.gts_lock.specs.declared.view.Stage.{Stage}
-use Rattle.gts_lock.specs.declared.view.Stage.TheVariants.{Idle, Waiting, Holding, Spent}
-use Rattle.gts_lock.specs.History.{entries, entries_under}
-use Rattle.gts_lock.specs.Passes.{IsAmong}
-use Rattle.gts_lock.specs.Views.{staged, marked, holding, ended}
-use Rattle.gts_lock.specs.Rule.{Live, tickets, NoneHolds, SomeHolds, Common, FitsStage, Fits, InTurn}
-use Rattle.gts_lock.specs.Steps.{Draws, Looks, Raises, RaisesSome, Compares}
 use Rattle.gts_lock.proofs.HistoryLemmas.{set_there, at_push, entries_push, under_same, under_other, starts_push, starts_same, starts_is, starts_between, ends_push}
 use Rattle.gts_lock.proofs.ViewsLemmas.{ticket_or, holds_not_idle, holds_not_waiting, one_seat, not_both, tickets_set, each_set, named_set, none_set, some_set}
 

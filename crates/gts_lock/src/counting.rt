@@ -2,7 +2,8 @@
 ghost use Rattle.std.specs.Prelude.{◌≡◌, ℕ, [], ◌∷◌, ◌++◌, ◌+◌, length, map, Some, true, IfOk, IfErr};
 ghost use lib.ListN.{get_elem?};
 ghost use mathlib.Core.Option.{some};
-ghost use Rattle.gts_lock.specs.{entries, after_adding, after_split, Known, AllJoined, Accounts, NamesAreJoined};
+ghost use Rattle.gts_lock.specs.History.{entries};
+ghost use Rattle.gts_lock.specs.Passes.{after_adding, after_split, Known, AllJoined, Accounts, NamesAreJoined};
 ghost use Rattle.gts_lock.specs.Counting.{Counts, IsOf, AreSplitOff};
 
 use crate::hall::Hall;

@@ -1,11 +1,9 @@
 ghost use Rattle.std.specs.Prelude.{◌≡◌, ◌≢◌, ℕ, ◌<◌, ◌+◌, ◌≤◌, ◌||◌, List, [], ◌∷◌, ◌++◌, length, true, false, Some, None, IfOk, IfErr, MatchOption};
-ghost use Rattle.gts_lock.specs.declared.view.Stage.TheVariants.{Idle, Waiting, Holding, Spent};
-ghost use Rattle.gts_lock.specs.{entries, StartsWith, Known, first_pass, after_seeing, after_split, split_off, after_join, AllJoined, Accounts, NamesAreJoined};
-ghost use Rattle.gts_lock.specs.Views.{staged, marked, ended};
-ghost use Rattle.gts_lock.specs.Steps.{Takes};
+ghost use Rattle.gts_lock.specs.Cited.{Accounts, AllJoined, Holding, Idle, Known, NamesAreJoined, Spent, StartsWith, Takes, Waiting, after_join, after_seeing, after_split, ended, entries, first_pass, marked, split_off, staged};
 
 use crate::limits::MOST_TURNS;
 use crate::pass::Pass;
+use crate::queue::Queue;
 use crate::rule::InTurn;
 use crate::steps::{Compare, Copied, Draw, Look, Part, Raise, RaiseSome};
 use crate::told::{Adds, Tells, Told};
@@ -21,6 +19,8 @@ use std::sync::Wait;
 /// each turn adds one entry.
 pub struct Hall<T: Told> {
     table: Table<Option<T>, View<T::Entry>, (), InTurn<T>, Global>,
+    // Nothing is claimed of it: a turn is taken where the table says so.
+    queue: Queue,
 }
 
 impl<T: Told> Model for Hall<T> {
@@ -52,7 +52,10 @@ impl<T: Told> Hall<T> {
             return Err((value, NoMemory));
         }
         match Table::new(alloc, &[0, 0], slots, &()) {
-            Ok((table, seat)) => Ok((Hall { table }, Pass { seat })),
+            Ok((table, seat)) => {
+                let queue = Queue::new();
+                Ok((Hall { table, queue }, Pass { seat }))
+            }
             Err(Refused { mut slots }) => {
                 let Some(value) = slots.pop() else {
                     unreachable!()
@@ -129,7 +132,7 @@ impl<T: Told> Hall<T> {
         ensures full { pass.full ≡ true → length pass.seen ≡ MOST_TURNS }
         ensures few { length pass.seen ≤ MOST_TURNS }
     {
-        let Hall { table } = self;
+        let Hall { table, queue: _ } = self;
         let Pass { mut seat } = pass;
         let copy = table.shared.split_seat::<Copied>(&mut seat);
         let mut closed = table.close_with(seat);
@@ -171,13 +174,14 @@ impl<T: Told> Hall<T> {
         ensures table { seat.new.table_id ≡ seat.old.table_id }
         ensures turn { Takes T.stands ticket seat.old.me seat.new.me }
     {
-        let shared = &self.table.shared;
+        let bell = self.queue.bell(ticket);
         for _ in rt.forever() {
-            let serving = shared.load::<Look<T>>(seat, 0);
+            let seen = bell.look();
+            let serving = self.table.shared.load::<Look<T>>(seat, 0);
             if serving == ticket {
                 return;
             }
-            shared.park(rt, 0, (serving % (1 << 32)) as u32);
+            bell.wait(rt, seen);
         }
         unreachable!()
     }
@@ -198,8 +202,8 @@ impl<T: Told> Hall<T> {
         let shared = &self.table.shared;
         let before = shared.exchange(&mut seat, 0, Some(value));
         let None = before else { unreachable!() };
-        shared.fetch_add::<Raise<N>>(&mut seat, 0, 1);
-        shared.wake_all(0);
+        let served = shared.fetch_add::<Raise<N>>(&mut seat, 0, 1);
+        self.queue.call_behind(served);
         seat
     }
 
@@ -221,8 +225,8 @@ impl<T: Told> Hall<T> {
         let shared = &self.table.shared;
         let before = shared.exchange(&mut seat, 0, Some(value));
         let None = before else { unreachable!() };
-        shared.fetch_add::<RaiseSome<N>>(&mut seat, 0, 1);
-        shared.wake_all(0);
+        let served = shared.fetch_add::<RaiseSome<N>>(&mut seat, 0, 1);
+        self.queue.call_behind(served);
         seat
     }
 }

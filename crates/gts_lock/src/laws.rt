@@ -1,9 +1,6 @@
 //! What the rule of a hall says of two passes at once.
 ghost use Rattle.std.specs.Prelude.{Option};
-ghost use Rattle.atomic_table.specs.Table.{State};
-ghost use Rattle.gts_lock.specs.declared.view.View.{View};
-ghost use Rattle.gts_lock.specs.Rule.{InTurn};
-ghost use Rattle.gts_lock.specs.Parts.{TicketsDiffer, OneHolds, NamesDiffer, JoinedNamesDiffer};
+ghost use Rattle.gts_lock.specs.Cited.{InTurn, JoinedNamesDiffer, NamesDiffer, OneHolds, State, TicketsDiffer, View};
 
 use crate::told::Told;
 

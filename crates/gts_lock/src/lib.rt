@@ -8,6 +8,7 @@ mod hall;
 mod laws;
 mod limits;
 mod pass;
+mod queue;
 mod rule;
 mod steps;
 mod told;

@@ -1,6 +1,7 @@
 //! Halls over a list of numbers that stands for itself.
 ghost use Rattle.std.specs.Prelude.{◌≡◌, ℕ, ◌≤◌, [], ◌∷◌, ◌++◌, Some};
-ghost use Rattle.gts_lock.specs.{entries, entries_under, after_adding};
+ghost use Rattle.gts_lock.specs.History.{entries, entries_under};
+ghost use Rattle.gts_lock.specs.Passes.{after_adding};
 ghost use Rattle.gts_lock.specs.Counting.{Counts};
 ghost use Rattle.gts_lock.specs.Tested.{IsSamePass, IsRun};
 

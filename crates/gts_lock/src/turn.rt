@@ -1,6 +1,7 @@
 ghost use Rattle.std.specs.Prelude.{◌≡◌, [], ◌∷◌, ◌++◌};
 ghost use Rattle.std.specs.Borrow.{sem};
-ghost use Rattle.gts_lock.specs.{entries, entries_under, after_adding};
+ghost use Rattle.gts_lock.specs.History.{entries, entries_under};
+ghost use Rattle.gts_lock.specs.Passes.{after_adding};
 ghost use Rattle.gts_lock.specs.Lending.{lends_value};
 
 use crate::hall::Hall;

@@ -1,7 +1,6 @@
 -- What the laws of src/laws.rt say, for the proofs of crates above: each is an answer of one of them.
 use Rattle.std.proofs.Common.{◌≡◌, List, ℕ, Ok}
-use Rattle.gts_heading.specs.Heading.{HeadingFields}
-use Rattle.gts_message.specs.Message.{MessageParts, IsBody, body_at, split_at}
+use Rattle.gts_message.specs.Cited.{HeadingFields, IsBody, MessageParts, body_at, split_at}
 use Rattle.gts_message.proofs.SplitLemmas.{body_takes}
 pub use Rattle.gts_message.proofs.SplitLemmas.{split_again, split_takes, body_again, fault-message, message_from_fault}
 

@@ -1,30 +1,15 @@
 -- The parts of a message: what was read is spelled so, and what is spelled so is read.
-use Rattle.std.proofs.Common.{◌≡◌, ℕ, ◌-◌, ◌^◌, ◌<◌, ◌≤◌, ◌⊎◌, inl, inr, Bool, true, false, ◌&&◌, ◌||◌, ◌==◌, cond, leb, List, [], ◌∷◌, ◌++◌, length, take, drop, Option, Some, None, Result, Ok, Err, nat_eq, nat_le, refl, sym, ap, subst, ◌∙◌, append_assoc, arith}
-use Rattle.std.specs.Prelude.{IfOk, IsOkAnd}
-use Rattle.std.specs.Borrow.{Bor}
-use Rattle.std.specs.Char.{is_ascii_digit}
-use Rattle.std.specs.List.{list_all, ends_with, prefix_len, take_while}
-use Rattle.std.specs.Str.Parse.{digits_value, AllDigits}
+use Rattle.std.proofs.Common.{◌≡◌, ℕ, ◌-◌, ◌^◌, ◌<◌, ◌≤◌, ◌⊎◌, inl, inr, Bool, true, false, ◌&&◌, ◌||◌, ◌==◌, cond, leb, List, [], ◌∷◌, ◌++◌, length, take, drop, Option, Some, None, Result, Ok, Err, nat_eq, nat_le, refl, sym, ap, subst, ◌∙◌, append_assoc, arith, IfOk, IsOkAnd}
+use Rattle.gts_message.specs.Cited.{AllDigits, Bor, EOL, End, Field, Heading, HeadingFields, HeadingStart, IsBody, IsGap, IsMessage, LONGEST_BODY, MessageParts, Number, Parts, Reads, SOH, Size, StartLine, after_gap, after_word, body_at, dec, digit_run, digits_value, ends_with, fault, fields_of, heading_at, heading_text, is_ascii_digit, list_all, message_end, message_of, number_at, parts_of, prefix_len, split_at, take_while, text_at}
+use Rattle.gts_heading.specs.Reading.{◌>>=◌}
 use Rattle.std.proofs.lemmas.Bool.{leb-true, le-leb, lt-leb, eqb-true, and_parts, and_from, or_cases}
 use Rattle.std.proofs.lemmas.Bool.Decides.{Decides-eqb}
 use Rattle.std.proofs.lemmas.Int.Digits.{digits_value-lt}
 use Rattle.std.proofs.lemmas.List.{take_at, drop_at, take-append-drop, length-append, length-take-le}
 use Rattle.std.proofs.lemmas.List.Sums.{prefix_len-le-length, take_while-cons}
 use Rattle.std.proofs.lemmas.Slice.Eq.{ends_is}
-use Rattle.gts_alphabet.specs.Digits.{dec}
-use Rattle.gts_alphabet.specs.Message.{message_of}
-use Rattle.gts_alphabet.specs.Reads.{Reads}
-use Rattle.gts_alphabet.specs.declared.characters.TheConstants.{SOH, EOL}
-use Rattle.gts_alphabet.specs.declared.limits.TheConstants.{LONGEST_BODY}
 use Rattle.gts_alphabet.proofs.LawLemmas.{length-dec, AllDigits-dec, digits_value-dec, dec-digits_value, AllDigits-from_test, test_from_AllDigits}
-use Rattle.gts_heading.specs.declared.field.Field.{Field}
-use Rattle.gts_heading.specs.declared.field.Field.TheVariants.{StartLine, Number, HeadingStart, End, Size}
-use Rattle.gts_heading.specs.declared.heading.Heading.{Heading}
-use Rattle.gts_heading.specs.Heading.{HeadingFields, IsGap, heading_text, fields_of}
-use Rattle.gts_heading.specs.Reading.{◌>>=◌, after_word, after_gap, heading_at}
-use Rattle.gts_heading.proofs.LawLemmas.{word_takes, gap_takes, gap_again, line_is_spelled, line_again}
-use Rattle.gts_message.specs.declared.message.Parts.{Parts}
-use Rattle.gts_message.specs.Message.{MessageParts, message_end, IsBody, IsMessage, digit_run, number_at, text_at, body_at, split_at, fault, parts_of}
+use Rattle.gts_heading.proofs.LawLemmas.{word_takes, gap_takes, gap_again, line_is_spelled, line_again, and_part, chosen}
 
 -- what went wrong in a reading
 abbrev fault_of : Result MessageParts Field → Option Field
@@ -36,15 +21,6 @@ fault_of read = elim read [ Ok _ ↦ None | Err field ↦ Some field ]
 step_ok : {A B : Type 0} (r : Result A Field) (f : A → Result B Field) (y : B) (P : Type 0) → (r >>= f) ≡ Ok y → ((x : A) → r ≡ Ok x → f x ≡ Ok y → P) → P
 step_ok (Ok x) f y P e next = next x refl e
 step_ok (Err d) f y P e next = absurd cc
-
--- one more part of the front
-and_part : (bytes front rest part more : List ℕ) → bytes ≡ front ++ rest → rest ≡ part ++ more → bytes ≡ front ++ part ++ more
-and_part bytes front rest part more e f = e ∙ ap (λ (r : List ℕ). front ++ r) f ∙ sym (append_assoc front part more)
-
--- a test that passed
-chosen : {A : Type 0} (b : Bool) (d : Field) (x y : A) → cond b (Ok x) (Err d) ≡ Ok y → (b ≡ true) × (x ≡ y)
-chosen true d x y e = (refl, cc)
-chosen false d x y e = absurd cc
 
 abbrev done : {A : Type 0} → A → Result A Field
 done x = Ok x

@@ -1,17 +1,8 @@
 -- A message as the concatenation of its parts, and its fields read from left to right (the Manual's message format; the
 -- gaps and the limit are this project's profile).
 use Rattle.std.specs.Prelude.{◌≡◌, ◌⊎◌, ℕ, ◌-◌, ◌<◌, ◌≤◌, ◌^◌, ◌&&◌, ◌||◌, ◌==◌, nat_eq, nat_le, List, [], ◌∷◌, ◌++◌, length, take, drop, take_while, Option, Some, None, Result, Ok, Err, if◌then◌else◌}
-use Rattle.std.specs.Char.{is_ascii_digit}
-use Rattle.std.specs.Str.Parse.{digits_value}
-use Rattle.std.specs.List.{ends_with}
-use Rattle.gts_alphabet.specs.Digits.{dec}
-use Rattle.gts_alphabet.specs.Message.{message_of}
-use Rattle.gts_alphabet.specs.declared.characters.TheConstants.{SOH, ETX, EOL}
-use Rattle.gts_alphabet.specs.declared.limits.TheConstants.{LONGEST_BODY}
-use Rattle.gts_heading.specs.declared.field.Field.{Field}
-use Rattle.gts_heading.specs.declared.field.Field.TheVariants.{StartLine, Number, HeadingStart, End, Size}
-use Rattle.gts_heading.specs.Heading.{HeadingFields, IsHeading, IsGap, heading_text, fields_of}
-use Rattle.gts_heading.specs.Reading.{◌>>=◌, after_word, after_gap, heading_at}
+use Rattle.gts_message.specs.Cited.Below.{EOL, ETX, End, Field, HeadingFields, HeadingStart, IsGap, IsHeading, LONGEST_BODY, Number, SOH, Size, StartLine, after_gap, after_word, dec, digits_value, ends_with, fields_of, heading_at, heading_text, is_ascii_digit, message_of}
+use Rattle.gts_heading.specs.Reading.{◌>>=◌}
 use Rattle.gts_message.specs.declared.message.Parts.{Parts}
 
 -- the parts of a message, without where they lie in memory

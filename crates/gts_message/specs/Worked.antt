@@ -1,7 +1,6 @@
 -- The messages of the worked examples.
 use Rattle.std.specs.Prelude.{ℕ, List, [], ◌∷◌, ◌++◌, Some, None, codes}
-use Rattle.gts_alphabet.specs.Message.{message_of}
-use Rattle.gts_alphabet.specs.declared.characters.TheConstants.{EOL}
+use Rattle.gts_message.specs.Cited.Below.{EOL, message_of}
 use Rattle.gts_heading.specs.Worked.{worked_heading}
 use Rattle.gts_message.specs.Message.{MessageParts, message_end}
 

@@ -1,9 +1,7 @@
 //! Laws over the definitions, each the contract of a function with an empty body.
 
 ghost use Rattle.std.specs.Prelude.{◌≡◌, ◌<◌, ◌≤◌, ◌^◌, ◌++◌, ℕ, List, length, None, Ok, Err};
-ghost use Rattle.gts_alphabet.specs.{dec, message_of};
-ghost use Rattle.gts_heading.specs.{HeadingFields, IsGap};
-ghost use Rattle.gts_message.specs.Message.{MessageParts, IsBody, IsMessage, body_at, fault, split_at};
+ghost use Rattle.gts_message.specs.Cited.{HeadingFields, IsBody, IsGap, IsMessage, MessageParts, body_at, dec, fault, message_of, split_at};
 
 use gts_alphabet::LONGEST_BODY;
 use gts_heading::Field;

@@ -1,6 +1,5 @@
 ghost use Rattle.std.specs.Prelude.{◌≡◌, List, ℕ, IfOk, IsOkAnd};
-ghost use Rattle.gts_alphabet.specs.Reads.{Reads};
-ghost use Rattle.gts_heading.specs.{HeadingFields, fields_of};
+ghost use Rattle.gts_message.specs.Cited.{HeadingFields, Reads, fields_of};
 
 use crate::reading::{number_of_run, text_before_end};
 use gts_alphabet::{CR, EOL, LF, LONGEST_BODY, SOH};

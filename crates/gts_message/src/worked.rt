@@ -1,9 +1,7 @@
 //! Messages taken apart byte for byte, each the contract of a function with an empty body.
 
 ghost use Rattle.std.specs.Prelude.{◌≡◌, ◌++◌, [], ◌∷◌, Ok, Err, codes};
-ghost use Rattle.gts_alphabet.specs.{message_of};
-ghost use Rattle.gts_alphabet.specs.declared.characters.TheConstants.{SOH, EOL, ETX};
-ghost use Rattle.gts_message.specs.Message.{split_at, message_end};
+ghost use Rattle.gts_message.specs.Cited.{EOL, ETX, SOH, message_end, message_of, split_at};
 ghost use Rattle.gts_message.specs.Worked.{grouped_parts, plain_heading, plain_parts, ten_binary_bytes, worked_message};
 
 use gts_heading::Field;

@@ -1,35 +1,17 @@
 -- What is needed of each circuit under a directory that takes over, by the circuit's number.
-use Rattle.std.specs.Prelude.{IfOk}
-use Rattle.std.proofs.Common.{◌≡◌, ℕ, zero, suc, ◌+◌, ◌-◌, ◌<◌, ◌≤◌, Bool, true, false, not, cond, ◌==◌, nat_lt, List, [], ◌∷◌, length, map, filter, get_or, take, drop, zip, ◌++◌, slice_get, Some, Result, Ok, Err, refl, sym, ap, ◌∙◌, arith}
-use Rattle.std.specs.List.{list_all, enumerate_from}
+use Rattle.std.proofs.Common.{◌≡◌, ℕ, zero, suc, ◌+◌, ◌-◌, ◌<◌, ◌≤◌, Bool, true, false, not, cond, ◌==◌, nat_lt, List, [], ◌∷◌, length, map, get_or, take, drop, zip, ◌++◌, slice_get, Some, Result, Ok, Err, refl, sym, ap, ◌∙◌, arith, IfOk}
+use Rattle.gts_migrate.specs.Cited.{Circuit, CircuitNeed, CircuitState, Directory, Need, begun_circuit, brought, circuit_need, circuit_need_of, circuits_under, drawn, draws, each_brought, each_let_go, emptied, enumerate_from, has, is_circuit_sound, is_sound, kept_draws, last_of, list_all, unused, waiting}
 use Rattle.std.proofs.lemmas.Bool.{and_parts, lt-ltb}
 use Rattle.std.proofs.lemmas.List.Folds.{list_all_more}
 use Rattle.std.proofs.lemmas.Option.{slice_get-get_or}
 use Rattle.std.proofs.lemmas.List.{map-append}
 use Rattle.std.proofs.lemmas.Grind.{take_at_read}
 use Rattle.std.proofs.lemmas.List.FromFn.{length-enumerate_from}
-use Rattle.gts_directory.specs.Directory.{Directory, Circuit}
-use Rattle.gts_event.specs.State.{CircuitState, Bulletin, has, last_of, draws, drawn, kept_draws, waiting}
-use Rattle.gts_event.specs.Need.{Need, CircuitNeed, unused, circuit_need, begun_circuit, is_circuit_sound, is_sound}
-use Rattle.gts_event.specs.Items.{bulletin_of, circuit_need_of}
 use Rattle.gts_event.specs.declared.values.CircuitNeed as values_circuit
-use Rattle.gts_event.specs.declared.values.Bulletin as values
 use Rattle.gts_event.proofs.LawLemmas.{circuit-parts, sound-parts}
-use Rattle.gts_recovery.specs.TakenOver.{brought, each_brought}
-use Rattle.gts_migrate.specs.LettingGo.{emptied, each_let_go}
-use Rattle.gts_migrate.specs.Bringing.{circuits_under}
+use Rattle.gts_core.proofs.LawLemmas.{filter_whole}
 
 -- ---- lists
-
-pub none_dropped : (n : ℕ) → drop {A = ℕ} n [] ≡ []
-none_dropped zero = refl
-none_dropped (suc n) = refl
-
-all_stay : (f : ℕ → Bool) (xs : List ℕ) → list_all f xs ≡ true → filter f xs ≡ xs
-all_stay f [] h = refl
-all_stay f (x ∷ xs) h =
-    let both = and_parts (f x) (list_all f xs) h in
-    ap (λ (b : Bool). cond b (x ∷ filter f xs) (filter f xs)) both.0 ∙ ap (λ (ys : List ℕ). x ∷ ys) (all_stay f xs both.1)
 
 positions_drawn : (e : ℕ) (xs : List ℕ) → map (λ draw. draw.1) (enumerate_from e xs) ≡ xs
 positions_drawn e [] = refl
@@ -40,17 +22,6 @@ positions_left zero e xs = positions_drawn e xs
 positions_left (suc n) e [] = refl
 positions_left (suc n) e (x ∷ xs) = positions_left n (e + 1) xs
 
--- the bulletins that pass a test
-pub passing : (f : values.Bulletin → Bool) (g : Bulletin → Bool) (bs : List values.Bulletin) → ((b : values.Bulletin) → f b ≡ g (bulletin_of b))
-    → map bulletin_of (filter f bs) ≡ filter g (map bulletin_of bs)
-passing f g [] h = refl
-passing f g (b ∷ bs) h = go (f b) (h b) (passing f g bs h)
-  where
-    go : (t : Bool) → t ≡ g (bulletin_of b) → map bulletin_of (filter f bs) ≡ filter g (map bulletin_of bs)
-        → map bulletin_of (cond t (b ∷ filter f bs) (filter f bs)) ≡ cond (g (bulletin_of b)) (bulletin_of b ∷ filter g (map bulletin_of bs)) (filter g (map bulletin_of bs))
-    go true e more = ap (λ (xs : List Bulletin). bulletin_of b ∷ xs) more ∙ ap (λ (t : Bool). cond t (bulletin_of b ∷ filter g (map bulletin_of bs)) (filter g (map bulletin_of bs))) e
-    go false e more = more ∙ ap (λ (t : Bool). cond t (bulletin_of b ∷ filter g (map bulletin_of bs)) (filter g (map bulletin_of bs))) e
-
 -- ---- one circuit
 
 -- the need of a circuit under a row that keeps so many draws
@@ -59,7 +30,7 @@ need_under : (count : ℕ) (c : CircuitNeed) → length c.kept ≤ c.draws → l
 need_under count c few apart =
     let q : CircuitState = begun_circuit c in
     let n : draws q ≡ c.draws = omega (arith, few) in
-    let w : waiting q ≡ c.waiting = all_stay (λ position. not (has c.kept position)) c.waiting apart in
+    let w : waiting q ≡ c.waiting = filter_whole (λ position. not (has c.kept position)) c.waiting apart in
     let p : map (λ draw. draw.1) (kept_draws count q) ≡ last_of count c.kept =
     ap (λ (m : ℕ). map (λ draw. draw.1) (drop (m - count) (drawn q))) (length-enumerate_from (c.draws - length c.kept) c.kept)
     ∙ positions_left (length c.kept - count) (c.draws - length c.kept) c.kept in

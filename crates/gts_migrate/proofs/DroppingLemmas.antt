@@ -1,30 +1,17 @@
 -- What is dropped has its receipts: bulletins and what waits ascend together, and each position that waits has its bulletin.
-use Rattle.std.proofs.Common.{◌≡◌, ◌≢◌, ◌⊎◌, inl, inr, ℕ, zero, suc, ◌+◌, ◌<◌, ◌≤◌, Bool, true, false, cond, ◌||◌, ◌==◌, nat_lt, zip, List, [], ◌∷◌, ◌++◌, length, map, get_or, take, drop, slice_get, Some, is_ok, refl, sym, ap, ap₂, subst, ◌∙◌, arith}
-use Rattle.std.specs.List.{list_all, list_any, find, flat_map}
-use Rattle.std.specs.List.Sorted.{IsNonDecreasing}
+use Rattle.std.proofs.Common.{◌≡◌, ◌⊎◌, inl, inr, ℕ, zero, suc, ◌+◌, ◌<◌, ◌≤◌, Bool, true, false, cond, ◌||◌, ◌==◌, nat_lt, zip, List, [], ◌∷◌, ◌++◌, length, map, get_or, take, drop, slice_get, Some, is_ok, refl, sym, ap, ap₂, subst, ◌∙◌, arith}
+use Rattle.gts_migrate.specs.Cited.{Bulletin, CanDrop, Circuit, CircuitNeed, CircuitState, Climbs, Directory, Dropped, IsNonDecreasing, IsStart, Need, Refused, SoundNeed, State, Waiting, all_owed_last, ascends, body_at, bulletin_of, circuit_need, circuit_need_of, circuit_needs, dropped_text, flat_map, has, have_bodies, heading_among, heading_of, is_bulletin, is_circuit_sound, is_there, list_all, need, need_of, on, positions_of, receipt_among, receipts_from, receipts_on, receipts_under, restarted, sayings, unused, waiting_at}
 use Rattle.std.proofs.lemmas.Bool.{and_parts, and_from, ltb-true, lt-ltb, eqb-true, eq-eqb, ne_eqb}
 use Rattle.std.proofs.lemmas.List.Sorted.{IsNonDecreasingBy-from_default}
 use Rattle.std.proofs.lemmas.List.Concat.{flat_map-cons}
 use Rattle.std.proofs.lemmas.List.Folds.{list_all-append}
 use Rattle.std.proofs.lemmas.List.{append-nil, append_assoc, map-append}
 use Rattle.std.proofs.lemmas.Grind.{flat_map-append, take_at_read}
-use Rattle.gts_message.specs.Message.{body_at}
-use Rattle.gts_directory.specs.Directory.{Directory, Circuit}
-use Rattle.gts_event.specs.Held.{Climbs}
-use Rattle.gts_traits.specs.Calls.{on}
-use Rattle.gts_event.specs.State.{State, CircuitState, Bulletin, has, heading_of}
-use Rattle.gts_event.specs.History.{restarted, all_owed_last}
-use Rattle.gts_event.specs.Need.{Need, CircuitNeed, unused, need, circuit_need, circuit_needs, is_sound, is_there, is_bulletin, is_circuit_sound, positions_of, ascends}
-use Rattle.gts_event.specs.Sound.{SoundNeed}
-use Rattle.gts_event.specs.Items.{bulletin_of, circuit_need_of, need_of}
 use Rattle.gts_event.specs.declared.values.CircuitNeed as circuit_values
 use Rattle.gts_event.specs.declared.values.Need as need_values
 use Rattle.gts_event.specs.declared.values.Bulletin as values
-use Rattle.gts_event.proofs.LawLemmas.{sound-parts, circuit-parts, bulletin-parts}
+use Rattle.gts_event.proofs.LawLemmas.{sound-parts, circuit-parts, bulletin-parts, not_above}
 use Rattle.gts_recovery.proofs.LawLemmas.{over-restarted}
-use Rattle.gts_migrate.specs.declared.waiting.Waiting.{Waiting}
-use Rattle.gts_migrate.specs.declared.waiting.Waiting.TheVariants.{Refused, Dropped}
-use Rattle.gts_migrate.specs.Dropping.{sayings, dropped_text, heading_among, receipts_on, receipts_under, receipts_from, drop_receipts, receipt_among, waiting_at, have_bodies, CanDrop, IsStart}
 
 -- ---- numbers that ascend
 
@@ -57,13 +44,6 @@ rises (x ∷ xs) h (suc i) (suc j) le low = rises xs h.1 i j (omega (arith, le))
 
 pub in_order : (xs : List ℕ) → ascends xs ≡ true → IsNonDecreasing xs
 in_order xs h = IsNonDecreasingBy-from_default (λ x. x) xs 0 (rises xs (climbs xs h))
-
-not_above : (x : ℕ) (xs : List ℕ) → list_all (nat_lt x) xs ≡ true → has xs x ≡ false
-not_above x [] h = refl
-not_above x (y ∷ ys) h =
-    let both = and_parts (nat_lt x y) (list_all (nat_lt x) ys) h in
-    let less : x < y = ltb-true x y both.0 in
-    rw (ne_eqb y x (λ (e : y ≡ x). omega (arith, e, less))) (not_above x ys both.1)
 
 -- ---- what waits on a circuit
 

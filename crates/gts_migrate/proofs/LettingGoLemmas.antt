@@ -1,22 +1,13 @@
 -- What is let go under a directory in which circuits are closed: the state stays one that a history can have.
-use Rattle.std.proofs.Common.{◌≡◌, ℕ, zero, suc, ◌+◌, ◌<◌, ◌≤◌, Bool, true, false, not, cond, ◌&&◌, ◌==◌, nat_lt, List, [], ◌∷◌, length, map, filter, get_or, drop, zip, slice_get, None, Some, refl, sym, ap, ◌∙◌, arith}
-use Rattle.std.specs.List.{list_all, sum_by}
-use Rattle.std.proofs.lemmas.Bool.{and_parts, lt-ltb}
+use Rattle.std.proofs.Common.{◌≡◌, ℕ, zero, suc, ◌+◌, ◌<◌, Bool, true, false, cond, ◌&&◌, ◌==◌, nat_lt, List, [], ◌∷◌, length, map, get_or, drop, zip, slice_get, None, Some, refl, sym, ap, ◌∙◌, arith}
+use Rattle.gts_migrate.specs.Cited.{BeginWith, Circuit, CircuitNeed, CircuitState, Directory, HeldCircuit, IsHeld, IsOrdered, KeepsPlace, Need, State, TakesOver, are_below, begun_circuit, brought, circuit_need, circuit_need_of, due, each_brought, each_let_go, emptied, first_waiting, goes_on, goes_over, idle, is_sound, left_behind, let_go, list_all, need, need_of, owes_kept, restarted, sum_by, unused, waiting, waiting_closed, waits_closed}
+use Rattle.std.proofs.lemmas.Bool.{and_parts, lt-ltb, and_from}
 use Rattle.std.proofs.lemmas.List.Sums.{sum_by-cons}
-use Rattle.gts_directory.specs.Directory.{Directory, Circuit}
-use Rattle.gts_directory.specs.TakingOver.{KeepsPlace, BeginWith, TakesOver}
-use Rattle.gts_event.specs.State.{State, CircuitState, idle, has, waiting}
-use Rattle.gts_event.specs.History.{restarted}
-use Rattle.gts_event.specs.Need.{Need, CircuitNeed, unused, need, circuit_need, begun_circuit, is_sound, are_below, owes_kept, IsOrdered}
-use Rattle.gts_event.specs.Held.{HeldCircuit, IsHeld}
-use Rattle.gts_event.specs.Items.{circuit_need_of, need_of}
 use Rattle.gts_event.specs.declared.values.CircuitNeed as values
 use Rattle.gts_event.specs.declared.values.Need as need_values
 use Rattle.gts_event.proofs.LawLemmas.{sound-parts, sound-held, waiting-left}
-use Rattle.gts_opening.specs.Journal.{due}
-use Rattle.gts_recovery.specs.TakenOver.{brought, each_brought, goes_over}
 use Rattle.gts_recovery.proofs.LawLemmas.{held-over, over-restarted}
-use Rattle.gts_migrate.specs.LettingGo.{emptied, each_let_go, let_go, goes_on, waits_closed, waiting_closed, left_behind, first_waiting}
+use Rattle.gts_core.proofs.LawLemmas.{all_pass}
 
 -- ---- the state
 
@@ -25,15 +16,12 @@ length-let_go [] qs e = e
 length-let_go (row ∷ rows) [] e = absurd (omega (arith, e))
 length-let_go (row ∷ rows) (q ∷ qs) e = ap suc (length-let_go rows qs (omega (arith, e)))
 
-both_true : (a b : Bool) → a ≡ true → b ≡ true → (a && b) ≡ true
-both_true a b e f = rw e f
-
 below_let_go : (count : ℕ) (rows : List Circuit) (qs : List CircuitState) → list_all (are_below count) qs ≡ true → list_all (are_below count) (each_let_go rows qs) ≡ true
 below_let_go count [] qs h = h
 below_let_go count (row ∷ rows) [] h = refl
 below_let_go count (row ∷ rows) (q ∷ qs) h =
     let both = and_parts (are_below count q) (list_all (are_below count) qs) h in
-    both_true (are_below count (cond row.closed (emptied q) q)) (list_all (are_below count) (each_let_go rows qs)) (here row.closed both.0) (below_let_go count rows qs both.1)
+    and_from (are_below count (cond row.closed (emptied q) q)) (list_all (are_below count) (each_let_go rows qs)) (here row.closed both.0) (below_let_go count rows qs both.1)
   where
     here : (closed : Bool) → are_below count q ≡ true → are_below count (cond closed (emptied q) q) ≡ true
     here false e = e
@@ -48,7 +36,7 @@ owes_let_go (r ∷ rows) (row ∷ gone) [] h = refl
 owes_let_go [] (row ∷ gone) (q ∷ qs) h = refl
 owes_let_go (r ∷ rows) (row ∷ gone) (q ∷ qs) h =
     let both = and_parts (owes_kept (circuit_need r.kept q)) (list_all owes_kept (map (λ row. circuit_need row.0.kept row.1) (zip rows qs))) h in
-    both_true (owes_kept (circuit_need r.kept (cond row.closed (emptied q) q))) (list_all owes_kept (map (λ row. circuit_need row.0.kept row.1) (zip rows (each_let_go gone qs))))
+    and_from (owes_kept (circuit_need r.kept (cond row.closed (emptied q) q))) (list_all owes_kept (map (λ row. circuit_need row.0.kept row.1) (zip rows (each_let_go gone qs))))
     (here row.closed both.0) (owes_let_go rows gone qs both.1)
   where
     here : (closed : Bool) → owes_kept (circuit_need r.kept q) ≡ true → owes_kept (circuit_need r.kept (cond closed (emptied q) q)) ≡ true
@@ -105,10 +93,6 @@ on-restarted new old s = ap (let_go new) (over-restarted new old s)
 
 -- ---- what is due
 
-all_left : (xs : List ℕ) → filter (λ p. not (has [] p)) xs ≡ xs
-all_left [] = refl
-all_left (x ∷ xs) = ap (λ (ys : List ℕ). x ∷ ys) (all_left xs)
-
 -- a circuit as it is brought along
 abbrev under_row : ℕ → CircuitState → Bool → CircuitState
 under_row k q same = begun_circuit (record (circuit_need k q) { kept = cond same (circuit_need k q).kept []; owed = [] })
@@ -122,7 +106,7 @@ waits_brought row next k q = go next.closed (next.digits == row.digits)
   where
     go : (closed same : Bool) → length (waiting (cond closed (emptied (under_row k q same)) (under_row k q same))) + cond closed (length (waiting q)) 0 ≡ length (waiting q)
     go false true = let same = ap (λ (ps : List ℕ). length ps) (waiting-left k q) in omega (arith, same)
-    go false false = let same = ap (λ (ps : List ℕ). length ps) (all_left (waiting q)) in omega (arith, same)
+    go false false = let same = ap (λ (ps : List ℕ). length ps) (all_pass (waiting q)) in omega (arith, same)
     go true same = omega arith
 
 none_closed : (rows : List Circuit) → waiting_closed rows [] ≡ 0
@@ -262,29 +246,11 @@ closed_open rows cs c row there shut =
     ∙ ap (λ (b : Bool). cond b (length (get_or cs c unused).waiting) 0 + waiting_closed (drop (suc c) rows) (drop (suc c) cs)) shut
     ∙ ap (λ (k : ℕ). 0 + waiting_closed (drop k rows) (drop k cs)) (sym one)
 
--- all were looked at
-pub closed_end : (rows : List Circuit) (cs : List CircuitNeed) (c : ℕ) → length rows ≤ c → waiting_closed (drop c rows) cs ≡ 0
-closed_end [] cs zero le = refl
-closed_end [] cs (suc c) le = refl
-closed_end (row ∷ rows) cs zero le = absurd (omega (arith, le))
-closed_end (row ∷ rows) cs (suc c) le = closed_end rows cs c (omega (arith, le))
-
-pub first_end : (k : ℕ) (rows : List Circuit) (cs : List CircuitNeed) (c : ℕ) → length rows ≤ c → first_waiting k (drop c rows) cs ≡ None
-first_end k [] cs zero le = refl
-first_end k [] cs (suc c) le = refl
-first_end k (row ∷ rows) cs zero le = absurd (omega (arith, le))
-first_end k (row ∷ rows) cs (suc c) le = first_end k rows cs c (omega (arith, le))
-
 -- what is needed of a circuit, by its number
 pub need_at : (cs : List values.CircuitNeed) (c : ℕ) (q : values.CircuitNeed) → c < length cs → q ≡ get_or cs c q → circuit_need_of q ≡ get_or (map circuit_need_of cs) c unused
 need_at [] c q lt is = absurd (omega (arith, lt))
 need_at (x ∷ cs) zero q lt is = ap circuit_need_of is
 need_at (x ∷ cs) (suc c) q lt is = need_at cs c q (omega (arith, lt)) is
-
-pub need_past : (cs : List values.CircuitNeed) (c : ℕ) → length cs ≤ c → get_or (map circuit_need_of cs) c unused ≡ unused
-need_past [] c le = refl
-need_past (x ∷ cs) zero le = absurd (omega (arith, le))
-need_past (x ∷ cs) (suc c) le = need_past cs c (omega (arith, le))
 
 -- how many wait on a circuit of a need
 pub waiting_there : (n : need_values.Need) (cs : List values.CircuitNeed) (c count : ℕ) → cs ≡ n.circuits → count ≡ length (get_or (map circuit_need_of cs) c unused).waiting

@@ -1,46 +1,16 @@
 -- A journal is taken over: what a crash leaves meanwhile, and what the files open to then.
-use Rattle.std.proofs.Common.{◌≡◌, ◌≢◌, ◌⊎◌, inl, inr, ℕ, ◌+◌, ◌-◌, ◌*◌, ◌^◌, ◌<◌, ◌≤◌, true, false, List, [], ◌∷◌, ◌++◌, length, take, drop, Option, None, Result, Ok, Err, refl, sym, ap, subst, ◌∙◌, arith, take-append-drop}
-use Rattle.std.specs.Prelude.{OnOk, IfErr, IsErrOf}
+use Rattle.std.proofs.Common.{◌≡◌, ◌≢◌, ◌⊎◌, inl, inr, ℕ, ◌+◌, ◌-◌, ◌*◌, ◌^◌, ◌<◌, ◌≤◌, true, false, List, [], ◌∷◌, ◌++◌, length, take, drop, Option, None, Result, Ok, Err, refl, sym, ap, subst, ◌∙◌, arith, take-append-drop, OnOk, IfErr, IsErrOf}
 use Rattle.std.proofs.lemmas.Bool.{cases_eq}
 use Rattle.std.proofs.Math.Nat.{add-mul}
 use Rattle.std.proofs.lemmas.List.{append-nil, map-append}
-use Rattle.gts_traits.specs.Calls.{Call, Did, Syncs, Outside, on, said_by}
-use Rattle.gts_traits.specs.Disk.{Files, IsImage, IsSynced, seen}
-use Rattle.gts_traits.specs.Station.{IsFront}
-use Rattle.gts_traits.specs.Counts.{Rose}
-use Rattle.gts_traits.specs.Moments.{EachSince}
+use Rattle.gts_migrate.specs.Cited.{AnswersOpening, AnswersWaiting, Call, CanMigrate, Core, CountsSays, Did, Directory, DiskFault, Dropped, EachSince, EndsAt, Files, FitsFor, Full, GivesRoomFor, HasFewDue, HasWritten, InHand, IsBrought, IsClosedAt, IsDiskFaultOf, IsFront, IsImage, IsMigrated, IsOpenedAny, IsSynced, IsWriteFaultOf, LeavesBoth, LeavesFiles, LeavesOthers, MigrateFault, Need, Needs, NoMemory, OnlySyncs, Open, OpenFault, Opened, OpensWith, Outside, Refused, Rose, SayFault, SaysAll, SaysFor, StandsForAny, StandsOn, State, Syncs, TakesOver, Version, Waiting, Waits, WorksBeside, WriteFault, begun, checkpoint_file, closed_gate, compacted_bytes, draw_size, due, file_opens, files_open_any, files_open_in, files_read, full_compacted, goes_on, is_sound, keeps_one, need, on, opened_of, opened_on, opens, opens_any, opens_in, restarted, said_by, seal_size, seen, selected, selected_bytes, selecting as selecting_at, unowed, version_of, write_fault, written}
 use Rattle.gts_traits.proofs.LawLemmas.{weaker, started, joined, told, said_is, synced_image}
-use Rattle.gts_directory.specs.Directory.{Directory}
-use Rattle.gts_directory.specs.TakingOver.{TakesOver}
-use Rattle.gts_event.specs.State.{State}
-use Rattle.gts_event.specs.History.{restarted}
-use Rattle.gts_event.specs.Need.{Need, keeps_one, need, begun, is_sound}
-use Rattle.gts_migrate.specs.LettingGo.{goes_on, opened_on}
 use Rattle.gts_event.proofs.LawLemmas.{restarted-left, sound-held}
 use Rattle.gts_migrate.proofs.LettingGoLemmas.{held-on, sound-on, on-restarted}
-use Rattle.gts_record.specs.Record.{closed_gate}
-use Rattle.gts_record.specs.declared.version.Version.{Version}
-use Rattle.gts_record.specs.declared.fault.OpenFault.{OpenFault}
-use Rattle.gts_record.specs.Format.{seal_size, draw_size, written}
-use Rattle.gts_opening.specs.Journal.{Opened, selected, opened_of, compacted_bytes, due, opens, opens_in, files_open_in, files_read, file_opens, unowed}
-use Rattle.gts_opening.specs.Room.{full_compacted}
 use Rattle.gts_opening.proofs.LawLemmas.{checkpoint_opened, room_for, due-left, restarted-unowed, selected_few}
-use Rattle.gts_checkpoint.specs.Alone.{LeavesOthers, WorksBeside}
-use Rattle.gts_checkpoint.specs.Writing.{HasWritten, checkpoint_file}
-use Rattle.gts_journal.specs.{InHand, EndsAt, StandsOn, IsClosedAt, LeavesBoth, OnlySyncs, version_of, selected_bytes, selecting as selecting_at}
 use Rattle.gts_journal.proofs.LawLemmas.{both_left, same_stands}
-use Rattle.gts_core.specs.Core.{Core, Needs}
 use Rattle.gts_recovery.proofs.LawLemmas.{still_stands}
-use Rattle.gts_recovery.specs.Opened.{IsOpenedAny, StandsForAny, opens_any, files_open_any}
-use Rattle.gts_migrate.specs.declared.fault.MigrateFault.{MigrateFault}
-use Rattle.gts_migrate.specs.declared.fault.MigrateFault.TheVariants.{Open, Waits, Full, DiskFault, SayFault, NoMemory}
-use Rattle.gts_checkpoint.specs.declared.fault.WriteFault.{WriteFault}
 use Rattle.gts_checkpoint.specs.declared.fault.WriteFault.TheVariants as writes
-use Rattle.gts_migrate.specs.declared.waiting.Waiting.{Waiting}
-use Rattle.gts_migrate.specs.declared.waiting.Waiting.TheVariants.{Refused, Dropped}
-use Rattle.gts_migrate.specs.Dropping.{SaysAll}
-use Rattle.gts_migrate.specs.Answers.{write_fault, GivesRoomFor, AnswersWaiting, AnswersOpening, LeavesFiles, IsDiskFaultOf, IsWriteFaultOf, SaysFor, CountsSays}
-use Rattle.gts_migrate.specs.Migrating.{OpensWith, IsMigrated, HasFewDue, IsBrought, CanMigrate, FitsFor}
 
 -- ---- what files open to
 

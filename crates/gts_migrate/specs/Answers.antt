@@ -1,19 +1,8 @@
 -- What is answered where a journal is to be taken over.
 use Rattle.std.specs.Prelude.{◌≡◌, ◌≢◌, ◌⊎◌, ◌≤◌, ℕ, List, [], Option, None, Some, Result, Ok, Err}
-use Rattle.gts_traits.specs.Calls.{Call, Outside, SaidSince}
-use Rattle.gts_traits.specs.Counts.{Rose}
-use Rattle.gts_traits.specs.Station.{IsFront}
-use Rattle.gts_directory.specs.Directory.{Directory}
-use Rattle.gts_event.specs.State.{State}
-use Rattle.gts_event.specs.Need.{Need}
+use Rattle.gts_migrate.specs.Cited.Below.{Call, Directory, IsAnswer, IsFront, IsFullCompacted, Need, OldVersion, OpenFault, Outside, Rose, SaidSince, State, WriteFault, full_compacted}
 use Rattle.gts_event.specs.declared.fault.SwitchFault.TheVariants as switch
-use Rattle.gts_opening.specs.Room.{full_compacted}
-use Rattle.gts_record.specs.declared.fault.OpenFault.{OpenFault}
 use Rattle.gts_record.specs.declared.fault.OpenFault.TheVariants as broke
-use Rattle.gts_record.specs.declared.fault.OpenFault.TheVariants.{OldVersion}
-use Rattle.gts_recovery.specs.Opened.{IsAnswer}
-use Rattle.gts_engine.specs.Keeping.{IsFullCompacted}
-use Rattle.gts_checkpoint.specs.declared.fault.WriteFault.{WriteFault}
 use Rattle.gts_checkpoint.specs.declared.fault.WriteFault.TheVariants as writes
 use Rattle.gts_migrate.specs.declared.waiting.Waiting.{Waiting}
 use Rattle.gts_migrate.specs.declared.waiting.Waiting.TheVariants.{Refused, Dropped}

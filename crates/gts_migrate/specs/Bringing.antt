@@ -1,8 +1,6 @@
 -- What is needed of each circuit under a directory that takes over.
 use Rattle.std.specs.Prelude.{◌≡◌, ℕ, Bool, List, [], if◌then◌else◌, Option, None, Some, Result, Ok, Err}
-use Rattle.gts_directory.specs.Directory.{Directory}
-use Rattle.gts_event.specs.State.{last_of}
-use Rattle.gts_event.specs.Need.{Need, CircuitNeed, circuit_needs}
+use Rattle.gts_migrate.specs.Cited.Below.{CircuitNeed, Directory, Need, circuit_needs, last_of}
 use Rattle.gts_migrate.specs.LettingGo.{goes_on}
 use Rattle.gts_migrate.specs.declared.fault.MigrateFault.{MigrateFault}
 use Rattle.gts_migrate.specs.declared.fault.MigrateFault.TheVariants.{Waits}

@@ -1,13 +1,6 @@
 -- What is said where what waits on closed circuits is dropped: a line for the operator for each (profile).
 use Rattle.std.specs.Prelude.{◌≡◌, ◌⊎◌, ℕ, ◌+◌, Bool, is_ok, ◌==◌, List, [], ◌∷◌, ◌++◌, get_or, Some, None, Result, IsOk, if◌then◌else◌, IsTrue, codes}
-use Rattle.std.specs.List.{find, flat_map, list_all}
-use Rattle.gts_traits.specs.Station.{Call, Says, Outside, on, Tries}
-use Rattle.gts_heading.specs.Heading.{HeadingFields, heading_text}
-use Rattle.gts_message.specs.Message.{body_at}
-use Rattle.gts_directory.specs.Directory.{Directory, Circuit}
-use Rattle.gts_event.specs.State.{Bulletin, has, heading_of, no_heading}
-use Rattle.gts_event.specs.Need.{Need, CircuitNeed, unused, is_sound, is_there, positions_of, ascends}
-use Rattle.gts_event.specs.Receipt.{then_number}
+use Rattle.gts_migrate.specs.Cited.Below.{Bulletin, Call, Circuit, CircuitNeed, Directory, HeadingFields, Need, Outside, Says, Tries, ascends, body_at, find, flat_map, has, heading_of, heading_text, is_sound, is_there, list_all, no_heading, on, positions_of, then_number, unused}
 use Rattle.gts_migrate.specs.declared.waiting.Waiting.{Waiting}
 use Rattle.gts_migrate.specs.declared.waiting.Waiting.TheVariants.{Refused, Dropped}
 

@@ -1,11 +1,7 @@
 -- What a need comes to under a directory that takes over from its own, where circuits are closed in that: what waits on these is let
 -- go, and all else goes on.
 use Rattle.std.specs.Prelude.{ℕ, ◌+◌, ◌&&◌, nat_lt, List, [], ◌∷◌, length, Option, None, Some, if◌then◌else◌}
-use Rattle.gts_directory.specs.Directory.{Directory, Circuit}
-use Rattle.gts_event.specs.State.{State, CircuitState}
-use Rattle.gts_event.specs.History.{restarted}
-use Rattle.gts_event.specs.Need.{Need, CircuitNeed, need}
-use Rattle.gts_recovery.specs.TakenOver.{goes_over}
+use Rattle.gts_migrate.specs.Cited.Below.{Circuit, CircuitNeed, CircuitState, Directory, Need, State, goes_over, need, restarted}
 
 -- a circuit that a start stands for, with nothing waiting
 abbrev pub emptied : CircuitState → CircuitState

@@ -4,3 +4,4 @@ pub mod Bringing
 pub mod Answers
 pub mod Migrating
 pub mod Trial
+pub mod Cited

@@ -1,22 +1,11 @@
 -- A journal is taken over: it goes on under a directory that takes over from its own.
 use Rattle.std.specs.Prelude.{◌≡◌, ◌≢◌, ◌⊎◌, ℕ, ◌+◌, ◌*◌, ◌^◌, ◌<◌, ◌≤◌, List, ◌∷◌, Ok, IsTrue}
-use Rattle.gts_traits.specs.{Did, Syncs, EachSince}
-use Rattle.gts_traits.specs.Calls.{Call, Outside}
-use Rattle.gts_traits.specs.Disk.{Files, IsImage, seen}
-use Rattle.gts_traits.specs.Station.{IsFront}
-use Rattle.gts_directory.specs.Directory.{Directory}
+use Rattle.gts_migrate.specs.Cited.Below.{Call, Core, Did, Directory, EachSince, Files, Holds, InHand, IsFront, IsImage, Need, Outside, StandsForAny, Syncs, begun, checkpoint_file, compacted_bytes, draw_size, due, is_sound, keeps_one, need, opens, seen, selected, written}
 pub use Rattle.gts_directory.specs.TakingOver.{TakesOver}
 pub use Rattle.gts_event.specs.State.{State}
 pub use Rattle.gts_event.specs.History.{restarted}
-use Rattle.gts_event.specs.Need.{Need, begun, need, is_sound, keeps_one}
 pub use Rattle.gts_migrate.specs.LettingGo.{goes_on, opened_on, left_behind, waits_on_closed}
 pub use Rattle.gts_migrate.specs.Dropping.{sayings}
-use Rattle.gts_core.specs.Core.{Core, Holds}
-use Rattle.gts_record.specs.Format.{draw_size, written}
-use Rattle.gts_opening.specs.Journal.{selected, compacted_bytes, due, opens}
-use Rattle.gts_checkpoint.specs.{checkpoint_file}
-use Rattle.gts_journal.specs.{InHand}
-use Rattle.gts_recovery.specs.Opened.{StandsForAny}
 pub use Rattle.gts_recovery.specs.Opened.{IsOpenedAny, files_open_any, opens_any}
 pub use Rattle.gts_directory.specs.Directory.{Directory as DirectoryOf}
 pub use Rattle.gts_event.specs.Need.{Need as NeedOf, need as need_at, unused as unused_of}

@@ -1,13 +1,7 @@
 -- What a takeover would come to, tried without writing.
 use Rattle.std.specs.Prelude.{◌≡◌, ◌-◌, ◌^◌, ℕ, min, Option, None, Some, Ok, IsTrue}
-use Rattle.gts_traits.specs.Disk.{Files}
-use Rattle.gts_directory.specs.Directory.{Directory}
-use Rattle.gts_event.specs.State.{State}
-use Rattle.gts_event.specs.Need.{Need, need, is_sound}
-use Rattle.gts_event.specs.Items.{need_of}
-use Rattle.gts_event.specs.declared.fault.SwitchFault.{SwitchFault}
+use Rattle.gts_migrate.specs.Cited.Below.{Directory, Files, Need, State, SwitchFault, full_compacted, is_sound, need, need_of}
 use Rattle.gts_event.specs.declared.fault.SwitchFault.TheVariants as switch
-use Rattle.gts_opening.specs.Room.{full_compacted}
 pub use Rattle.gts_recovery.specs.Opened.{IsAnswer, files_open_any}
 use Rattle.gts_migrate.specs.LettingGo.{goes_on, waits_on_closed}
 use Rattle.gts_migrate.specs.declared.fault.MigrateFault.{MigrateFault}

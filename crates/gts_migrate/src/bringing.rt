@@ -1,13 +1,7 @@
 //! What a need brings under a directory that takes over from its own.
 
 ghost use Rattle.std.specs.Prelude.{◌≡◌, ◌<◌, ◌||◌, ℕ, [], length, filter, get_or, map, nat_le, OnOk, IfOk, IsTrue, if◌then◌else◌};
-ghost use Rattle.std.specs.List.Sorted.{IsNonDecreasing};
-ghost use Rattle.gts_checkpoint.specs.Sound.{is_held};
-ghost use Rattle.gts_event.specs.State.{has, last_of};
-ghost use Rattle.gts_event.specs.Need.{is_sound, keeps_one};
-ghost use Rattle.gts_event.specs.Items.{bulletin_of};
-ghost use Rattle.gts_migrate.specs.Migrating.{TakesOver, goes_on, circuit_need_of, need_of, need_at, unused_of};
-ghost use Rattle.gts_migrate.specs.Bringing.{circuits_under, under_row};
+ghost use Rattle.gts_migrate.specs.Cited.{IsNonDecreasing, TakesOver, bulletin_of, circuit_need_of, circuits_under, goes_on, has, is_held, is_sound, keeps_one, last_of, need as need_at, need_of, under_row, unused as unused_of};
 
 use gts_directory::{CircuitRow, Directory};
 use gts_event::{Bulletins, CircuitNeed, CircuitNeeds, Need, Places};

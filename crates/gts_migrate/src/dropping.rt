@@ -1,14 +1,7 @@
 //! The receipts of what is dropped, since it waits on circuits that are closed in the new directory.
 
 ghost use Rattle.std.specs.Prelude.{◌≡◌, ◌++◌, [], get_or, is_ok, map, if◌then◌else◌, OnOk, IfOk, IsTrue};
-ghost use Rattle.std.specs.List.{flat_map};
-ghost use Rattle.std.specs.List.Sorted.{IsNonDecreasing};
-ghost use Rattle.gts_heading.specs.Heading.{fields_of};
-ghost use Rattle.gts_message.specs.Message.{body_at};
-ghost use Rattle.gts_event.specs.Receipt.{then_number};
-ghost use Rattle.gts_event.specs.Need.{unused};
-ghost use Rattle.gts_event.specs.Items.{bulletin_of, circuit_need_of, need_of};
-ghost use Rattle.gts_migrate.specs.Dropping.{dropped_text, receipts_on, receipt_among, waiting_at, CanDrop, IsStart, drop_receipts};
+ghost use Rattle.gts_migrate.specs.Cited.{CanDrop, IsNonDecreasing, IsStart, body_at, bulletin_of, circuit_need_of, drop_receipts, dropped_text, fields_of, flat_map, need_of, receipt_among, receipts_on, then_number, unused, waiting_at};
 
 use crate::bringing::is_among;
 use crate::leaving::waiting_of;

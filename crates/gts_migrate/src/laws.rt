@@ -1,10 +1,7 @@
 //! Laws over all directories, each the contract of a function with an empty body.
 
 ghost use Rattle.std.specs.Prelude.{◌≡◌, ◌==◌, ℕ, [], get_or, slice_get, Some, IsTrue, if◌then◌else◌};
-ghost use Rattle.gts_directory.specs.Directory.{Directory, Circuit};
-ghost use Rattle.gts_event.specs.State.{last_of};
-ghost use Rattle.gts_event.specs.Need.{Need, is_sound};
-ghost use Rattle.gts_migrate.specs.Migrating.{need_at, goes_on, unused_of};
+ghost use Rattle.gts_migrate.specs.Cited.{Circuit, Directory, Need, goes_on, is_sound, last_of, need as need_at, unused as unused_of};
 
 /// What a circuit goes on with under its new row: as many draws; what waits, unless it is closed; and the last of the draws that were
 /// kept, as many as the row keeps, none where its numbers have other digits. Nothing is owed.

@@ -1,8 +1,7 @@
 //! What waits on circuits that are closed in the new directory.
 
 ghost use Rattle.std.specs.Prelude.{◌≡◌, ◌<◌, ◌^◌, get_or, length, map};
-ghost use Rattle.gts_migrate.specs.Migrating.{circuit_need_of, need_of, unused_of, left_behind, waits_on_closed};
-ghost use Rattle.gts_migrate.specs.Bringing.{TellsWaiting};
+ghost use Rattle.gts_migrate.specs.Cited.{TellsWaiting, circuit_need_of, left_behind, need_of, unused as unused_of, waits_on_closed};
 
 use crate::MigrateFault;
 use gts_directory::Directory;

@@ -1,9 +1,5 @@
 ghost use Rattle.std.specs.Prelude.{◌≡◌, ◌≤◌, ◌⊎◌, ℕ, Ok, OnOk};
-ghost use Rattle.gts_traits.specs.{on, seen, said_by, Rose};
-ghost use Rattle.gts_journal.specs.{OnlySyncs};
-ghost use Rattle.gts_migrate.specs.Migrating.{TakesOver, State, NeedOf, need_at, goes_on, waits_on_closed, opens_any, files_open_any};
-ghost use Rattle.gts_migrate.specs.Migrating.{StaysEither, IsMigrated, sayings};
-ghost use Rattle.gts_migrate.specs.Answers.{GivesRoomFor, AnswersOpening, AnswersWaiting, WasOpened, LeavesFiles, IsDiskFaultOf, IsSayFaultOf, SaysFor, CountsSays};
+ghost use Rattle.gts_migrate.specs.Cited.{AnswersOpening, AnswersWaiting, CountsSays, GivesRoomFor, IsDiskFaultOf, IsMigrated, IsSayFaultOf, LeavesFiles, Need as NeedOf, OnlySyncs, Rose, SaysFor, State, StaysEither, TakesOver, WasOpened, files_open_any, goes_on, need as need_at, on, opens_any, said_by, sayings, seen, waits_on_closed};
 
 use crate::preparing::prepare;
 use crate::rewriting::rewrite;

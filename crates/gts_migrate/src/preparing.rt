@@ -1,12 +1,5 @@
 ghost use Rattle.std.specs.Prelude.{◌≡◌, ◌-◌, ◌^◌, min, length, IfOk, IfErr, OnOk, IsTrue};
-ghost use Rattle.gts_traits.specs.{on};
-ghost use Rattle.gts_core.specs.Core.{Holds};
-ghost use Rattle.gts_event.specs.Need.{keeps_one};
-ghost use Rattle.gts_engine.specs.Compacting.{IsSizeAt};
-ghost use Rattle.gts_migrate.specs.Migrating.{TakesOver, State, need_of, need_at, goes_on, left_behind, waits_on_closed, checkpoint_text};
-ghost use Rattle.gts_migrate.specs.Migrating.{HasFewDue, IsBrought, IsToSay};
-ghost use Rattle.gts_migrate.specs.Dropping.{IsStart, sayings};
-ghost use Rattle.gts_migrate.specs.Answers.{GivesRoomFor, AnswersWaiting, IsRoomFaultOf, IsSaidFaultOf, IsPreparedFaultOf};
+ghost use Rattle.gts_migrate.specs.Cited.{AnswersWaiting, GivesRoomFor, HasFewDue, Holds, IsBrought, IsPreparedFaultOf, IsRoomFaultOf, IsSaidFaultOf, IsSizeAt, IsStart, IsToSay, State, TakesOver, checkpoint_text, goes_on, keeps_one, left_behind, need as need_at, need_of, on, sayings, waits_on_closed};
 
 use crate::bringing::bring_over;
 use crate::dropping::receipts;

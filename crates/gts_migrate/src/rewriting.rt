@@ -1,10 +1,5 @@
 ghost use Rattle.std.specs.Prelude.{◌≡◌, ◌-◌, ◌^◌, ◌≤◌, [], min, length, IfErr, IsOk, OnOk, IsErrOf};
-ghost use Rattle.gts_traits.specs.{on, said_by, Rose, EachSince};
-ghost use Rattle.gts_journal.specs.{StandsOn};
-ghost use Rattle.gts_migrate.specs.Migrating.{DirectoryOf, State, need_of, checkpoint_text};
-ghost use Rattle.gts_migrate.specs.Migrating.{OpensWithAt, IsMigrated, CanMigrate, FitsFor};
-ghost use Rattle.gts_migrate.specs.Answers.{IsWriteFaultOf, IsSayFaultOf, SaysFor, CountsSays};
-ghost use Rattle.gts_migrate.specs.Dropping.{SaysAll};
+ghost use Rattle.gts_migrate.specs.Cited.{CanMigrate, CountsSays, Directory as DirectoryOf, EachSince, FitsFor, IsMigrated, IsSayFaultOf, IsWriteFaultOf, OpensWithAt, Rose, SaysAll, SaysFor, StandsOn, State, checkpoint_text, need_of, on, said_by};
 
 use crate::MigrateFault;
 use crate::preparing::Prepared;

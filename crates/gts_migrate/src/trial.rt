@@ -1,11 +1,7 @@
 //! What a takeover would come to, tried without writing.
 
 ghost use Rattle.std.specs.Prelude.{◌≡◌, ◌≢◌, ◌≤◌, ◌∷◌, IfOk, IfErr, OnOk, IsErrOf};
-ghost use Rattle.gts_traits.specs.{Did, Syncs, seen, Rose};
-ghost use Rattle.gts_core.specs.Core.{Holds};
-ghost use Rattle.gts_journal.specs.{OnlySyncs};
-ghost use Rattle.gts_migrate.specs.Migrating.{TakesOver, State, need_at, opens_any, HasFewDue};
-ghost use Rattle.gts_migrate.specs.Trial.{refusal, IsAnswer, IsTried, OpensTo};
+ghost use Rattle.gts_migrate.specs.Cited.{Did, HasFewDue, Holds, IsAnswer, IsTried, OnlySyncs, OpensTo, Rose, State, Syncs, TakesOver, need as need_at, opens_any, refusal, seen};
 
 use crate::preparing::prepare;
 use crate::{MigrateFault, Waiting};

@@ -2,24 +2,10 @@
 use Rattle.std.proofs.Common.{◌≡◌, ℕ, ◌<◌, List, [], ◌∷◌, ◌++◌, length, get_or, set, drop, map, Result, Ok, Err, refl, sym, ap, subst, ◌∙◌, append_assoc}
 use Rattle.std.proofs.lemmas.Grind.{flat_map-append}
 use Rattle.std.proofs.lemmas.List.{append-nil, length-set, length-map}
-use Rattle.gts_event.specs.declared.event.Event.{Event}
-use Rattle.gts_frame.specs.Decoder.{Decoding, ReadsOn, signs_of_step, fresh}
-use Rattle.gts_frame.specs.Signs.{held_in}
-use Rattle.gts_frame.specs.declared.step.Step.{Step as FrameStep}
-use Rattle.gts_connection.specs.Connection.{events_added}
-use Rattle.gts_connection.specs.Capture.{Feed, Take, Reopen, Drain, Restart, Compact, FeedHead, TakeHead, ReopenHead, DrainHead, RestartHead, CompactHead, no_bytes}
-use Rattle.gts_connection.specs.Steps.{events_of_signs}
+use Rattle.gts_missing.specs.Cited.{Adds, Bad, CaptureFault, Compact, CompactHead, Decode, Decoding, DoesAll, DoesStep, Drain, DrainHead, Event, Feed, FeedHead, Feeds, FeedsAll, FrameStep, Held, IsFed, Numbered, ReadsOn, Reopen, ReopenHead, Restart, RestartHead, Rings, SourceFault, StandsAt, Take, TakeHead, events_added, events_of_signs, fresh, held_in, no_bytes, number_of_event, numbers_of, signs_of_step}
 use Rattle.gts_connection.proofs.LawLemmas.{added-twice, added-signs}
-use Rattle.gts_capture.specs.Held.{Held}
-use Rattle.gts_capture.specs.declared.capture_fault.CaptureFault.{CaptureFault}
-use Rattle.gts_capture.specs.declared.capture_fault.CaptureFault.TheVariants.{Bad, SourceFault}
-use Rattle.gts_replay.specs.Going.{Decode}
 use Rattle.gts_replay.proofs.StepLemmas.{takes_none}
 use Rattle.gts_replay.proofs.DecoderLemmas.{decode_at, decode_set, decode_reopened}
-use Rattle.gts_gap.specs.Numbers.{Numbered}
-use Rattle.gts_gap.specs.Capture.{number_of_event}
-use Rattle.gts_gap.specs.Ring.{StandsAt}
-use Rattle.gts_missing.specs.Counting.{Rings, numbers_of, Adds, IsFed, Feeds, FeedsAll, DoesAll, DoesStep}
 
 -- ---- what is added
 

@@ -1,25 +1,13 @@
 -- Steps of a capture, one after another, and the numbers that they add.
 use Rattle.std.proofs.Common.{◌≡◌, ℕ, ◌+◌, ◌-◌, ◌^◌, ◌≤◌, List, [], ◌∷◌, ◌++◌, length, refl, sym, ap, subst, ◌∙◌, arith, append_assoc, length-append}
-use Rattle.std.specs.List.{flat_map}
+use Rattle.gts_missing.specs.Cited.{AreSteps, CompactHead, Connections, Decode, Decoding, Directory, DoesAll, DrainHead, EndHead, EndsInStep, FeedHead, Held, IsBadAt, IsCutAt, IsHead, IsHeadIn, IsNew, IsRead, IsReadTo, IsStepOf, Journaled, LONGEST_CAPTURE, Numbered, ReopenHead, RestartHead, Rings, StandFor, StandsAt, Step, TakeHead, Takes, after_step, at_start, bytes_announced, bytes_of_step, connections_after, events_with, flat_map, head_text, no_bytes, number_of_event, numbers, numbers_from, readable_from, step_text}
+use Rattle.gts_connection.specs.Capture.{Head, head_of}
 use Rattle.std.proofs.lemmas.List.{append-nil}
-use Rattle.gts_directory.specs.Directory.{Directory}
-use Rattle.gts_frame.specs.Decoder.{Decoding}
-use Rattle.gts_connection.specs.declared.kind.CaptureKind.TheVariants.{Journaled}
-use Rattle.gts_connection.specs.Capture.{Step, Head, FeedHead, TakeHead, ReopenHead, DrainHead, RestartHead, CompactHead, EndHead, head_text, head_of, bytes_of_step, step_text, IsHead, AreSteps, Connections, no_bytes, after_step, connections_after}
 use Rattle.gts_connection.proofs.LawLemmas.{connections_go_on}
-use Rattle.gts_connection.specs.declared.limits.TheConstants.{LONGEST_CAPTURE}
-use Rattle.gts_capture.specs.{IsHeadIn, bytes_announced, IsReadTo, IsBadAt, at_start, readable_from}
-use Rattle.gts_capture.specs.Held.{Held}
 use Rattle.gts_capture.proofs.LawLemmas.{begins, one_step, at_end, at_bad}
-use Rattle.gts_replay.specs.Going.{Decode}
-use Rattle.gts_replay.specs.Ending.{IsStepOf, Takes}
 use Rattle.gts_replay.proofs.RunLemmas.{ReadsHead, head_here}
 use Rattle.gts_replay.proofs.FollowLemmas.{cut_in}
 use Rattle.gts_replay.proofs.EndLemmas.{two_each}
-use Rattle.gts_gap.specs.Numbers.{Numbered}
-use Rattle.gts_gap.specs.Capture.{number_of_event, events_with, numbers_from, numbers}
-use Rattle.gts_gap.specs.Ring.{StandsAt}
-use Rattle.gts_missing.specs.Counting.{Rings, IsNew, StandFor, IsRead, IsCutAt, DoesAll, EndsInStep}
 
 -- These steps were done: the table stands for their numbers, the decoders have what came on their connections, and the reader
 -- stands behind them.

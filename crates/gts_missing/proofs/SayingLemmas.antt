@@ -1,31 +1,13 @@
 -- What is said of missing numbers, piece by piece.
-use Rattle.std.proofs.Common.{◌≡◌, ℕ, zero, suc, ◌+◌, ◌<◌, List, [], ◌∷◌, ◌++◌, length, map, get_or, Some, Result, Ok, Err, inl, inr, refl, sym, ap, subst, ◌∙◌, arith, append_assoc}
-use Rattle.std.specs.Prelude.{codes, slice_get}
-use Rattle.std.specs.Prelude.{IsErrAnd}
+use Rattle.std.proofs.Common.{◌≡◌, ℕ, zero, suc, ◌+◌, ◌<◌, List, [], ◌∷◌, ◌++◌, length, map, get_or, Some, Result, Ok, Err, inl, inr, refl, sym, ap, subst, ◌∙◌, arith, append_assoc, codes, slice_get, IsErrAnd}
 use Rattle.std.proofs.lemmas.Result.{err_from_is_err_and}
 use Rattle.std.proofs.lemmas.Bool.{cases_lt}
 use Rattle.std.proofs.lemmas.List.{append-nil, length-append}
-use Rattle.gts_alphabet.specs.Digits.{dec}
-use Rattle.gts_alphabet.specs.Message.{message_of}
-use Rattle.gts_alphabet.specs.declared.characters.TheConstants.{SOH, EOL}
+use Rattle.gts_missing.specs.Cited.{An, Call, Circuit, Directory, EOL, Failed, Moment, Numbered, Outside, Run, SOH, SaysFront, SaysOnly, Tells, ask_frame, ask_heading, asked, dec, frame, front_text, gap_lines, heading_text, item_text, message_end, message_of, on, peer_of, run_lines, said_from, said_of, text_of}
 use Rattle.gts_alphabet.proofs.LawLemmas.{length-dec}
-use Rattle.gts_heading.specs.Heading.{heading_text}
-use Rattle.gts_message.specs.Message.{message_end}
-use Rattle.gts_frame.specs.declared.kind.Kind.TheVariants.{An}
-use Rattle.gts_frame.specs.Frame.{frame}
-use Rattle.gts_traits.specs.{Call, Outside, on}
-use Rattle.gts_traits.specs.declared.failed.Failed.{Failed}
 use Rattle.gts_traits.proofs.OutsideLemmas.{on-append}
-use Rattle.gts_say.specs.Say.{SaysOnly, SaysFront, Tells}
 use Rattle.gts_say.proofs.SayLemmas.{said_more, front_behind, front_more}
-use Rattle.gts_directory.specs.Directory.{Directory, Circuit, peer_of}
-use Rattle.gts_gap.specs.Numbers.{Numbered}
-use Rattle.gts_gap.specs.Gaps.{Run}
-use Rattle.gts_gap.specs.Asking.{item_text, ask_heading, ask_frame, gap_lines}
-use Rattle.gts_gap.specs.Text.{text_of}
 use Rattle.gts_gap.proofs.AskLemmas.{triples, one-line}
-use Rattle.gts_missing.specs.declared.moment.Moment.{Moment}
-use Rattle.gts_missing.specs.Saying.{run_lines, front_text, asked, said_of, said_from}
 
 -- ---- pieces
 

@@ -1,20 +1,7 @@
 -- A table of the numbers that came in a capture, as its steps are read.
 use Rattle.std.specs.Prelude.{◌≡◌, ℕ, ◌≤◌, ◌<◌, List, [], ◌++◌, length, Result, Ok, Err, flat_map}
-use Rattle.gts_traits.specs.Counts.{Rose}
-use Rattle.gts_directory.specs.Directory.{Directory}
-use Rattle.gts_event.specs.declared.event.Event.{Event}
-use Rattle.gts_frame.specs.Decoder.{Decoding}
-use Rattle.gts_frame.specs.Signs.{held_in}
-use Rattle.gts_connection.specs.Connection.{events_added}
-use Rattle.gts_connection.specs.Capture.{Step, Head, bytes_of_step, after_step, Connections, no_bytes, IsWhole, EndsEarly}
-use Rattle.gts_capture.specs.declared.capture_fault.CaptureFault.{CaptureFault}
-use Rattle.gts_capture.specs.declared.capture_fault.CaptureFault.TheVariants.{Bad, SourceFault}
-use Rattle.gts_capture.specs.Held.{Held}
-use Rattle.gts_replay.specs.Going.{Decode}
-use Rattle.gts_replay.specs.Ending.{Takes, EndsBehind, IsStepOf}
-use Rattle.gts_gap.specs.Numbers.{Numbered}
-use Rattle.gts_gap.specs.Capture.{number_of_event, events_with, numbers}
-use Rattle.gts_gap.specs.Ring.{Ring, StandsAt}
+use Rattle.gts_missing.specs.Cited.Below.{Bad, CaptureFault, Connections, Decode, Decoding, Directory, EndsBehind, EndsEarly, Event, Held, IsStepOf, IsWhole, Numbered, Ring, Rose, SourceFault, StandsAt, Step, Takes, after_step, bytes_of_step, events_added, events_with, held_in, no_bytes, number_of_event, numbers}
+use Rattle.gts_connection.specs.Capture.{Head}
 use Rattle.gts_missing.specs.declared.fault.TableFault.{TableFault}
 use Rattle.gts_missing.specs.declared.fault.TableFault.TheVariants as table
 

@@ -1,10 +1,6 @@
 -- How a run ended that names the numbers that are missing in a capture, and what was said.
 use Rattle.std.specs.Prelude.{◌≡◌, ℕ, ◌≤◌, List}
-use Rattle.gts_traits.specs.{Call, Outside, Rose}
-use Rattle.gts_say.specs.Say.{SaysOnly, SaysFront}
-use Rattle.gts_directory.specs.Directory.{Directory}
-use Rattle.gts_connection.specs.Capture.{Step, IsWhole}
-use Rattle.gts_gap.specs.Capture.{numbers}
+use Rattle.gts_missing.specs.Cited.Below.{Call, Directory, IsWhole, Outside, Rose, SaysFront, SaysOnly, Step, numbers}
 use Rattle.gts_missing.specs.Counting.{IsCutAt}
 use Rattle.gts_missing.specs.Saying.{report}
 use Rattle.gts_missing.specs.declared.moment.Moment.{Moment}

@@ -1,14 +1,6 @@
 -- What is said of the numbers that are missing, on the channels on which it is said (profile).
 use Rattle.std.specs.Prelude.{ℕ, zero, suc, ◌+◌, List, [], ◌∷◌, ◌++◌, length, codes}
-use Rattle.gts_alphabet.specs.Digits.{dec}
-use Rattle.gts_alphabet.specs.declared.characters.TheConstants.{SOH, EOL}
-use Rattle.gts_traits.specs.{Outside, on}
-use Rattle.gts_directory.specs.Directory.{Directory, peer_of}
-use Rattle.gts_gap.specs.Numbers.{Numbered}
-use Rattle.gts_gap.specs.Gaps.{Run, gaps}
-use Rattle.gts_gap.specs.Ring.{digits_of}
-use Rattle.gts_gap.specs.Asking.{item_text, ask_text, ask_heading, ask_frame, gap_lines}
-use Rattle.gts_gap.specs.Text.{run_of}
+use Rattle.gts_missing.specs.Cited.Below.{Directory, EOL, Numbered, Outside, Run, SOH, ask_frame, ask_heading, ask_text, dec, digits_of, gap_lines, gaps, item_text, on, peer_of, run_of}
 use Rattle.gts_missing.specs.declared.moment.Moment.{Moment}
 
 -- the request for these runs on a circuit: to its peer, at this moment, by the own centre

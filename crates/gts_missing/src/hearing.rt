@@ -1,9 +1,5 @@
 ghost use Rattle.std.specs.Prelude.{◌≡◌, ◌<◌, ◌++◌, ◌∷◌, [], ℕ, List, length};
-ghost use Rattle.gts_connection.specs.Cited.{Kind, Heard, events_added, events_of_signs, signs_of_step};
-ghost use Rattle.gts_frame.specs.Decoder.{HasMessage};
-ghost use Rattle.gts_frame.specs.Signs.{held_in};
-ghost use Rattle.gts_capture.specs.{HasSourceCause};
-ghost use Rattle.gts_missing.specs.Counting.{Adds, numbers_of, Feeds};
+ghost use Rattle.gts_missing.specs.Cited.{Adds, Feeds, HasMessage, HasSourceCause, Heard, Kind, events_added, events_of_signs, held_in, numbers_of, signs_of_step};
 
 use gts_capture::{CaptureFault, Steps};
 use gts_frame::{Decoder, Step};

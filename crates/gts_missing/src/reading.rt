@@ -1,9 +1,5 @@
 ghost use Rattle.std.specs.Prelude.{◌≡◌, ◌<◌, ◌≤◌, List, length, Err};
-ghost use Rattle.gts_directory.specs.Directory.{Directory as DirectoryFields};
-ghost use Rattle.gts_connection.specs.Capture.{no_bytes};
-ghost use Rattle.gts_capture.specs.{IsHeadIn, bytes_announced, head_of, at_start, HasSourceCause};
-ghost use Rattle.gts_replay.specs.Going.{Decode};
-ghost use Rattle.gts_missing.specs.Counting.{DoesStep, IsNew, Comes, IsTabled, HasTableCause};
+ghost use Rattle.gts_missing.specs.Cited.{Comes, Decode, Directory as DirectoryFields, DoesStep, HasSourceCause, HasTableCause, IsHeadIn, IsNew, IsTabled, at_start, bytes_announced, head_of, no_bytes};
 
 use crate::TableFault;
 use crate::decoders::{new_decoders, reopen_all};

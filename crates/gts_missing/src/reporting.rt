@@ -1,11 +1,5 @@
 ghost use Rattle.std.specs.Prelude.{◌≡◌, ◌<◌, ℕ, List, length};
-ghost use Rattle.gts_traits.specs.{HasCause};
-ghost use Rattle.gts_say.specs.Say.{Tells};
-ghost use Rattle.gts_gap.specs.{Numbered};
-ghost use Rattle.gts_gap.specs.Ring.{StandsAt};
-ghost use Rattle.gts_missing.specs.Counting.{AllStand};
-ghost use Rattle.gts_missing.specs.Saying.{said_of, report};
-ghost use Rattle.gts_missing.specs.Ending.{Names, HasGapsCause};
+ghost use Rattle.gts_missing.specs.Cited.{AllStand, HasCause, HasGapsCause, Names, Numbered, StandsAt, Tells, report, said_of};
 
 use crate::saying::{OPERATOR, say_request, say_runs};
 use crate::{GapsEnd, Moment, TableFault, table_of};

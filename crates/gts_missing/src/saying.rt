@@ -1,10 +1,5 @@
 ghost use Rattle.std.specs.Prelude.{◌≡◌, ◌<◌, ◌≤◌, ◌+◌, ◌++◌, List, length};
-ghost use Rattle.std.specs.List.{AllByRecursion};
-ghost use Rattle.gts_alphabet.specs.Digits.{dec};
-ghost use Rattle.gts_traits.specs.{HasCause, CHANNELS, on};
-ghost use Rattle.gts_say.specs.Say.{Tells};
-ghost use Rattle.gts_gap.specs.{IsDigits, HasDigits, ask_frame, ask_heading};
-ghost use Rattle.gts_missing.specs.Saying.{run_line, run_lines, front_text};
+ghost use Rattle.gts_missing.specs.Cited.{AllByRecursion, CHANNELS, HasCause, HasDigits, IsDigits, Tells, ask_frame, ask_heading, dec, front_text, on, run_line, run_lines};
 
 use crate::Moment;
 use gts_alphabet::{EOL, LONGEST_BODY, SOH, digits_of};

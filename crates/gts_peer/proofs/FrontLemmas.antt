@@ -1,7 +1,7 @@
 -- What was kept stays in front.
 use Rattle.std.proofs.Common.{ℕ, List, [], ◌++◌, sym, ap, ◌∙◌, append_assoc}
 use Rattle.std.proofs.lemmas.List.{append-nil}
-use Rattle.gts_traits.specs.{IsFront}
+use Rattle.gts_traits.specs.Cited.{IsFront}
 
 pub unchanged : (a : List ℕ) → IsFront a a
 unchanged a = ([], sym (append-nil a))

@@ -1,5 +1,5 @@
 ghost use Rattle.std.specs.Prelude.{◌≡◌, OnOk};
-ghost use Rattle.gts_traits.specs.{IsFront};
+ghost use Rattle.gts_traits.specs.Cited.{IsFront};
 
 use gts_memory::MemSink;
 use gts_tcp::{dial, listen};

@@ -1,12 +1,10 @@
 -- What goes next.
 use Rattle.std.proofs.Common.{◌≡◌, ◌≢◌, ℕ, ◌<◌, ◌≤◌, Bool, true, false, not, ◌&&◌, ◌||◌, ◌==◌, nat_eq, nat_lt, cond, List, [], ◌∷◌, ◌++◌, filter, find, Some, refl, sym, ap, subst, ◌∙◌, inl, inr, arith, suc, ◌+◌, ◌-◌, ◌⊎◌, length, get_or}
-use Rattle.std.proofs.lemmas.Bool.{true≢false, cases_eq, eqb-true, eq-eqb, ltb-true, ltb-false, both_ways, lt-ltb}
+use Rattle.std.proofs.lemmas.Bool.{true≢false, cases_eq, eqb-true, eq-eqb, ltb-true, ltb-false, both_ways, lt-ltb, le-ltb}
 use Rattle.std.proofs.lemmas.List.{append-nil}
 use Rattle.std.proofs.lemmas.List.Elements.{filter-append}
 use Rattle.std.proofs.lemmas.List.Sums.{sum_by-cons}
-use Rattle.std.specs.List.{list_all, list_any, sum_by}
-use Rattle.gts_prioq.specs.Waiting.{Waiting, at_level, AllBelow, GoesNext, TakesNext, NothingWaits, count_of}
-use Rattle.gts_prioq.specs.Order.{goes_before, is_first_of, next_of, AreWaiting, PutsAt, AllAbove, Ascends, without}
+use Rattle.gts_prioq.specs.Cited.{AllAbove, AllBelow, AreWaiting, Ascends, GoesNext, NothingWaits, PutsAt, TakesNext, Waiting, at_level, count_of, goes_before, is_first_of, list_all, list_any, next_of, sum_by, without}
 
 -- whether a number stands in a list
 abbrev pub has : List ℕ → ℕ → Bool
@@ -14,9 +12,6 @@ has xs n = list_any (λ m. m == n) xs
 
 not_same : (p q : ℕ) → p ≢ q → nat_eq p q ≡ false
 not_same p q other = elim (nat_eq p q) as (λ b. nat_eq p q ≡ b → b ≡ false) [ true ↦ λ e. absurd (other (eqb-true p q e)) | false ↦ λ e. refl ] refl
-
-not_less : (p q : ℕ) → q ≤ p → nat_lt p q ≡ false
-not_less p q least = elim (nat_lt p q) as (λ b. nat_lt p q ≡ b → b ≡ false) [ true ↦ λ e. absurd (omega (arith, ltb-true p q e)) | false ↦ λ e. refl ] refl
 
 -- what stands in a list and passes stands in what passes
 has-filter : (passes : ℕ → Bool) (xs : List ℕ) (n : ℕ) → has xs n ≡ true → passes n ≡ true → has (filter passes xs) n ≡ true
@@ -128,9 +123,9 @@ and_false false = refl
 -- what comes behind on a level, or waits on a greater one, doesn't go before
 is_not_before : (level : ℕ → ℕ) (p q : ℕ) → level q ≤ level p → (level p ≡ level q → q ≤ p) → not (goes_before level p q) ≡ true
 is_not_before level p q least tied =
-    ap (λ b. not (b || ((level p == level q) && nat_lt p q))) (not_less (level p) (level q) least)
+    ap (λ b. not (b || ((level p == level q) && nat_lt p q))) (le-ltb (level p) (level q) least)
     ∙ elim (cases_eq (level p) (level q)) [
-      | inl same ↦ ap (λ b. not ((level p == level q) && b)) (not_less p q (tied same)) ∙ and_false (level p == level q)
+      | inl same ↦ ap (λ b. not ((level p == level q) && b)) (le-ltb p q (tied same)) ∙ and_false (level p == level q)
       | inr other ↦ ap (λ b. not (b && nat_lt p q)) (not_same (level p) (level q) other)
     ]
 
@@ -250,7 +245,7 @@ split_levels level k (x ∷ xs) =
       | true ↦ λ above. elim (cases_eq (level x) (k + 1)) [
         | inl same ↦
             let here = ap (λ b. length (cond b (x ∷ filter (λ p. level p == k + 1) xs) (filter (λ p. level p == k + 1) xs))) (eq-eqb (level x) (k + 1) same) in
-            let there = ap (λ b. length (cond b (x ∷ filter (λ p. nat_lt (k + 1) (level p)) xs) (filter (λ p. nat_lt (k + 1) (level p)) xs))) (not_less (k + 1) (level x) (omega arith)) in
+            let there = ap (λ b. length (cond b (x ∷ filter (λ p. nat_lt (k + 1) (level p)) xs) (filter (λ p. nat_lt (k + 1) (level p)) xs))) (le-ltb (k + 1) (level x) (omega arith)) in
             omega (arith, here, there)
         | inr other ↦
             let apart : k + 1 < level x = omega (arith, ltb-true k (level x) above) in
@@ -262,7 +257,7 @@ split_levels level k (x ∷ xs) =
           let least : level x ≤ k = ltb-false k (level x) below in
           let apart : level x ≢ k + 1 = omega arith in
           let here = ap (λ b. length (cond b (x ∷ filter (λ p. level p == k + 1) xs) (filter (λ p. level p == k + 1) xs))) (not_same (level x) (k + 1) apart) in
-          let there = ap (λ b. length (cond b (x ∷ filter (λ p. nat_lt (k + 1) (level p)) xs) (filter (λ p. nat_lt (k + 1) (level p)) xs))) (not_less (k + 1) (level x) (omega arith)) in
+          let there = ap (λ b. length (cond b (x ∷ filter (λ p. nat_lt (k + 1) (level p)) xs) (filter (λ p. nat_lt (k + 1) (level p)) xs))) (le-ltb (k + 1) (level x) (omega arith)) in
           omega (arith, here, there)
     ] refl
 

@@ -4,11 +4,7 @@ use Rattle.std.proofs.lemmas.List.{map-set, get_or-map, length-map, get_or-set_s
 use Rattle.std.proofs.Math.Seq.{map-set_same}
 use Rattle.std.proofs.lemmas.List.Sums.{sum_by-set}
 use Rattle.std.proofs.lemmas.Bool.{true≢false, cases_eq, eqb-true, eqb-false}
-use Rattle.std.specs.List.{sum_by}
-use Rattle.std.specs.declared.alloc.Global.{Global}
-use Rattle.std.specs.declared.collections.VecDeque.{VecDeque}
-use Rattle.gts_prioq.specs.Waiting.{at_level, spare, count_of, GoesNext, TakesNext, NothingWaits}
-use Rattle.gts_prioq.specs.Queue.{items_of, room_of, waiting_in, items_at, IsFirstFilled}
+use Rattle.gts_prioq.specs.Cited.{Global, GoesNext, IsFirstFilled, TakesNext, VecDeque, at_level, count_of, items_at, items_of, room_of, spare, sum_by, waiting_in}
 
 abbrev pub Queue : Type 0
 Queue = VecDeque ℕ Global
@@ -60,11 +56,6 @@ some_items (x ∷ xs) h = (x, xs, refl)
 pub smaller_levels : (queues : List Queue) (i level : ℕ) → level ≡ i + 1 → ((k : ℕ) → k < i → items_at queues k ≡ []) → (l : ℕ) → l < level → at_level (waiting_in queues) l ≡ []
 smaller_levels queues i level e none zero less = refl
 smaller_levels queues i level e none (suc l) less = none l (omega arith)
-
--- where each queue is empty, so is each level
-pub no_levels : (queues : List Queue) → ((k : ℕ) → items_at queues k ≡ []) → NothingWaits (waiting_in queues)
-no_levels queues none zero = refl
-no_levels queues none (suc l) = none l
 
 -- a queue that says that it is empty
 pub empty_queue : (queues : List Queue) (i : ℕ) (queue : Queue) → i < length queues → queue ≡ get_or queues i queue → (queue.len == 0) ≡ true → items_at queues i ≡ []

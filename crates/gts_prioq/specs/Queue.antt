@@ -1,8 +1,6 @@
 -- The queues as what waits in them.
 use Rattle.std.specs.Prelude.{◌≡◌, ℕ, ◌<◌, ◌≤◌, ◌-◌, ◌∷◌, List, [], length, map, slice_index_or}
-use Rattle.std.specs.VecDeque.{deque_len, deque_capacity}
-use Rattle.std.specs.declared.alloc.Global.{Global}
-use Rattle.std.specs.declared.collections.VecDeque.{VecDeque}
+use Rattle.gts_prioq.specs.Cited.Below.{Global, VecDeque, deque_capacity, deque_len}
 use Rattle.gts_prioq.specs.Waiting.{Waiting, count_of, most_waiting}
 use Rattle.gts_prioq.specs.declared.levels.TheConstants.{LEVELS}
 

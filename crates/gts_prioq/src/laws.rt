@@ -1,7 +1,6 @@
 //! Laws over the definitions, each the contract of a function with an empty body.
 ghost use Rattle.std.specs.Prelude.{◌≡◌, ℕ, List, [], ◌∷◌, ◌++◌, Some, length};
-ghost use Rattle.gts_prioq.specs.Waiting.{Waiting, at_level, count_of, AllBelow, GoesNext, TakesNext, NothingWaits};
-ghost use Rattle.gts_prioq.specs.Order.{AreWaiting, Ascends, PutsAt, next_of, without};
+ghost use Rattle.gts_prioq.specs.Cited.{AllBelow, AreWaiting, Ascends, GoesNext, NothingWaits, PutsAt, TakesNext, Waiting, at_level, count_of, next_of, without};
 
 /// What goes next, of positions that wait each on its level, is the one before which no other goes.
 pub fn what_goes_next_is_first()

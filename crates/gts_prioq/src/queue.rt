@@ -1,7 +1,5 @@
 ghost use Rattle.std.specs.Prelude.{◌≡◌, ◌≢◌, ◌<◌, ◌≤◌, ◌+◌, ◌-◌, [], ◌∷◌, ◌++◌, ℕ, slice_get, length, flat_map, IfSome, IfNone, IfOk, OnOk, MatchOption};
-ghost use Rattle.gts_prioq.specs.Order.{PutsAt};
-ghost use Rattle.gts_prioq.specs.Queue.{IsFirstFilled, items_at, items_of};
-ghost use Rattle.gts_prioq.specs.Waiting.{at_level, spare, count_of, most_waiting, AllBelow, GoesNext, TakesNext, NothingWaits};
+ghost use Rattle.gts_prioq.specs.Cited.{AllBelow, GoesNext, IsFirstFilled, NothingWaits, PutsAt, TakesNext, at_level, count_of, items_at, items_of, most_waiting, spare};
 
 use crate::levels::LEVELS;
 use gts_alphabet::NoMemory;

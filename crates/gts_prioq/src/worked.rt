@@ -1,8 +1,7 @@
 //! Rows computed on literal numbers, each the contract of a function with an empty body.
 
 ghost use Rattle.std.specs.Prelude.{◌≡◌, true, false, [], ◌∷◌, Some, None};
-ghost use Rattle.gts_prioq.specs.Order.{next_of, goes_before, without};
-ghost use Rattle.gts_prioq.specs.Waiting.{at_level, count_of, spare};
+ghost use Rattle.gts_prioq.specs.Cited.{at_level, count_of, goes_before, next_of, spare, without};
 ghost use Rattle.gts_prioq.specs.Worked.{worked_level, four_waiting};
 
 /// Of four positions those of level 1 go first, in their order, and then those of level 3.

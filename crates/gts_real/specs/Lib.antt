@@ -1,2 +1,2 @@
 pub mod Station
-pub use Rattle.gts_real.specs.Station.{StationOnSystem, FailsWhere, faultless}
+pub mod Cited

@@ -1,8 +1,9 @@
 //! What failed, for the operator: the call, on which file, and why.
 ghost use Rattle.std.specs.Prelude.{◌≡◌, Ok, IfOk, IsSome, OnOk, OnErr, is_err};
-ghost use Rattle.gts_traits.specs.{HasCause};
+ghost use Rattle.gts_traits.specs.Counts.{HasCause};
 
 use gts_traits::{Failed, counted};
+use std::io::ErrorKind;
 use std::{fmt, io};
 
 /// What a call was made on.
@@ -34,15 +35,18 @@ pub(crate) enum Act {
 /// Why it failed.
 #[derive(Clone, Copy)]
 enum Why {
-    /// The system's words.
-    System(io::Error),
+    /// The system's error, by its number.
+    System(i32),
+    /// An error that has no number, by its kind.
+    Other(ErrorKind),
     /// Another program holds the lock.
     Held,
     /// The station was opened for reading, and changes nothing.
     OnlyRead,
 }
 
-/// Why a call on a file failed: what was called, on which file, and the system's words, in a line for the operator.
+/// Why a call on a file failed: what was called, on which file, and the system's words, in a line for the operator. It is small,
+/// since each call answers with one or with none; `io::Error` has room for a text.
 #[derive(Clone, Copy)]
 pub struct Cause {
     place: Place,
@@ -53,11 +57,11 @@ pub struct Cause {
 impl Cause {
     /// The system refused it.
     pub(crate) fn system(place: Place, act: Act, error: io::Error) -> Cause {
-        Cause {
-            place,
-            act,
-            why: Why::System(error),
-        }
+        let why = match error.raw_os_error() {
+            Some(number) => Why::System(number),
+            None => Why::Other(error.kind()),
+        };
+        Cause { place, act, why }
     }
 
     /// Another program holds the lock on this file.
@@ -109,7 +113,14 @@ impl fmt::Display for Act {
 impl fmt::Display for Why {
     fn fmt<W: fmt::Write>(&self, f: &mut fmt::Formatter<W>) -> fmt::Result {
         match self {
-            Why::System(error) => write!(f, "{error}"),
+            Why::System(number) => {
+                let error = io::Error::from_raw_os_error(*number);
+                write!(f, "{error}")
+            }
+            Why::Other(kind) => {
+                let error = io::Error::from(*kind);
+                write!(f, "{error}")
+            }
             Why::Held => write!(f, "held by another program"),
             Why::OnlyRead => write!(f, "only read by this command"),
         }

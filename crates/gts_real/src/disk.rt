@@ -1,5 +1,5 @@
 ghost use Rattle.std.specs.Prelude.{◌≡◌, ◌≤◌, ◌<◌, true, None, length, IfOk, OnOk, IsErr, is_err, is_some};
-ghost use Rattle.gts_real.specs.{FailsWhere};
+ghost use Rattle.gts_real.specs.Station.{FailsWhere};
 
 use crate::ahead::Ahead;
 use crate::cause::{Act, Cause, Place, answered};

@@ -1,5 +1,5 @@
 ghost use Rattle.std.specs.Prelude.{◌≡◌, ◌<◌, true, None, IsErr, is_err, is_some};
-ghost use Rattle.gts_traits.specs.{MOST_CIRCUITS, CHANNELS};
+ghost use Rattle.gts_alphabet.specs.declared.limits.TheConstants.{MOST_CIRCUITS, CHANNELS};
 
 use crate::cause::{Act, Cause, Place, answered};
 use crate::disk::sync_folder;

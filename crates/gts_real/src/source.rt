@@ -1,5 +1,5 @@
 ghost use Rattle.std.specs.Prelude.{◌≡◌, ◌≤◌, [], length, IfOk, OnOk, OnErr, IsSome};
-ghost use Rattle.gts_traits.specs.{HasCause};
+ghost use Rattle.gts_traits.specs.Counts.{HasCause};
 
 use crate::cause::{Act, Cause, Place, answered, noted};
 use crate::outputs::where_it_can;

@@ -1,6 +1,5 @@
 ghost use Rattle.std.specs.Prelude.{◌≡◌, ◌+◌, ◌^◌, ◌≤◌, ◌<◌, true, false, [], length, IfOk, OnOk, OnErr, IsErr, IsSome, is_err, is_some};
-ghost use Rattle.gts_traits.specs.{CHANNELS, HasCause};
-ghost use Rattle.gts_real.specs.{FailsWhere, faultless};
+ghost use Rattle.gts_real.specs.Cited.{CHANNELS, FailsWhere, HasCause, faultless};
 
 use crate::cause::{Cause, noted};
 use crate::disk::Disk;

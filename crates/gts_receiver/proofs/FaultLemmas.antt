@@ -1,20 +1,8 @@
 -- Events that were answered with a fault.
 use Rattle.std.proofs.Common.{◌≡◌, Bool, List, [], ◌∷◌, ◌++◌, Result, Ok, Err, refl, sym, ap, ◌∙◌, subst}
 use Rattle.std.proofs.lemmas.List.{append-nil}
-use Rattle.gts_event.specs.State.{State}
-use Rattle.gts_event.specs.Drain.{all_done}
-use Rattle.gts_event.specs.History.{outcome}
-use Rattle.gts_event.specs.declared.event.Event.{Event}
-use Rattle.gts_event.specs.declared.event.Entry.{Entry}
-use Rattle.gts_event.specs.declared.event.Entry.TheVariants.{Done, Unsaid, Idle, Doubt}
-use Rattle.gts_event.specs.declared.outcome.Outcome.{Outcome}
-use Rattle.gts_event.specs.declared.fault.SwitchFault.{SwitchFault}
-use Rattle.gts_event.specs.declared.fault.SwitchFault.TheVariants.{DiskFault, SayFault, Full, Stopped, Spent, NoMemory}
-use Rattle.gts_calls.specs.Calls.{entry_of}
-use Rattle.gts_desk.specs.Desks.{Seen, own, Answers, SaysNoMore, AddsEntries, AddsJust, IsSpent, GoesOn}
+use Rattle.gts_receiver.specs.Cited.{AddsEntries, AddsFault, AddsJust, Answers, DiskFault, Done, Doubt, Entry, Event, Full, GoesOn, Hears, Idle, IsSpent, NoMemory, Outcome, SayFault, SaysNoMore, Seen, Spent, State, Stopped, SwitchFault, TriesOn, Unsaid, all_done, entry_of, fault_entries, outcome, own, settled, settled_own}
 use Rattle.gts_desk.proofs.LawLemmas.{just, own_added, own_spent, goes_on, goes_further}
-use Rattle.gts_receiver.specs.Receiver.{fault_entries, AddsFault}
-use Rattle.gts_receiver.specs.Service.{settled, settled_own, Hears, TriesOn}
 use Rattle.gts_receiver.proofs.SettledLemmas.{settled_all, none_settled, own_settled, answers_go}
 
 -- what was done adds its entry

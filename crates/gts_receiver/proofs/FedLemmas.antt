@@ -1,33 +1,13 @@
 -- What a piece comes to that was fed at the desk.
-use Rattle.std.proofs.Common.{◌≡◌, Bool, ℕ, ◌+◌, ◌≤◌, List, [], ◌∷◌, ◌++◌, length, take, drop, Result, Ok, Err, refl, sym, ap, ◌∙◌, subst, arith, append_assoc, take-append-drop}
-use Rattle.std.specs.Prelude.{IsSome}
+use Rattle.std.proofs.Common.{◌≡◌, Bool, ℕ, ◌+◌, ◌≤◌, List, [], ◌∷◌, ◌++◌, length, take, drop, Result, Ok, Err, refl, sym, ap, ◌∙◌, subst, arith, append_assoc, take-append-drop, IsSome}
 use Rattle.std.proofs.lemmas.List.{append-nil, length-take-le}
-use Rattle.gts_event.specs.Drain.{all_done, all_unsaid}
-use Rattle.gts_event.specs.declared.event.Event.{Event}
-use Rattle.gts_event.specs.declared.event.Event.TheVariants.{Heard}
+use Rattle.gts_receiver.specs.Cited.{AddsAny, AddsAtFault, AddsEntries, AddsFault, AddsFed, Answers, Decoding, DiskFault, Doubt, EndsOver, EndsWith, Entry, Event, Fault, Fed, FeedEnd, Feeds, Full, GoesOn, Heard, Hears, Idle, IsSpent, IsWanting, Kind, LeavesLast, LostField, LostSync, NoMemory, Outcome, PassesBetween, Reads, Receiving, SayFault, SaysNoMore, Seen, Spent, Stopped, SwitchFault, Takes, TriesOn, TurnsTogether, Unsaid, all_done, all_unsaid, events_added, fault_entries, held_in, own, settled, settled_own}
 use Rattle.gts_event.specs.declared.event.Event.TheVariants as events
-use Rattle.gts_event.specs.declared.event.Entry.{Entry}
-use Rattle.gts_event.specs.declared.event.Entry.TheVariants.{Idle, Doubt, Unsaid}
-use Rattle.gts_event.specs.declared.outcome.Outcome.{Outcome}
-use Rattle.gts_event.specs.declared.fault.SwitchFault.{SwitchFault}
-use Rattle.gts_event.specs.declared.fault.SwitchFault.TheVariants.{DiskFault, SayFault, Full, Stopped, Spent, NoMemory}
-use Rattle.gts_frame.specs.Decoder.{Decoding}
-use Rattle.gts_frame.specs.Signs.{held_in}
-use Rattle.gts_frame.specs.declared.kind.Kind.{Kind}
-use Rattle.gts_frame.specs.declared.lost.LostField.{LostField}
 use Rattle.gts_frame.proofs.LawLemmas.{front-open}
-use Rattle.gts_connection.specs.Connection.{events_added}
 use Rattle.gts_feed.specs.Fed as feeding
-use Rattle.gts_feed.specs.Fed.{Takes, EndsOver, EndsWith, IsWanting, LeavesLast, TurnsTogether, AddsAtFault, AddsFed}
-use Rattle.gts_feed.specs.declared.fed.Fed.{Fed}
-use Rattle.gts_feed.specs.declared.fed.FeedEnd.{FeedEnd}
 use Rattle.gts_feed.specs.declared.fed.FeedEnd.TheVariants as fed_ends
 use Rattle.gts_desk.specs.Desks as desks
-use Rattle.gts_desk.specs.Desks.{Seen, own, Answers, SaysNoMore, AddsEntries, AddsAny, IsSpent, GoesOn, PassesBetween}
 use Rattle.gts_desk.proofs.LawLemmas.{goes_any, goes_on_spent, goes_further, halfway}
-use Rattle.gts_receiver.specs.declared.end.ReceiveEnd.TheVariants.{LostSync, Fault}
-use Rattle.gts_receiver.specs.Receiver.{AddsFault, fault_entries, Reads, Receiving, Feeds}
-use Rattle.gts_receiver.specs.Service.{settled, settled_own, Hears, TriesOn}
 use Rattle.gts_receiver.proofs.SettledLemmas.{settled-append, settled_all, any_settled, no_try, stopped_tries, disk_tries, say_tries, spent_tries}
 use Rattle.gts_receiver.proofs.FaultLemmas as faults
 use Rattle.gts_receiver.proofs.FaultLemmas.{done_settles, hears_go}

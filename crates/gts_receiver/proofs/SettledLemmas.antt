@@ -1,23 +1,9 @@
 -- The entries of a service without its tries.
-use Rattle.std.proofs.Common.{◌≡◌, ℕ, ◌+◌, ◌≤◌, arith, Bool, true, false, not, List, [], ◌∷◌, ◌++◌, Result, Ok, Err, refl, sym, ap, ◌∙◌, subst}
+use Rattle.std.proofs.Common.{◌≡◌, ℕ, ◌+◌, ◌≤◌, arith, Bool, true, false, not, List, [], ◌∷◌, ◌++◌, Result, Ok, Err, refl, ap, ◌∙◌}
 use Rattle.std.proofs.lemmas.List.{append-nil}
 use Rattle.std.proofs.lemmas.List.Elements.{filter-append}
-use Rattle.gts_frame.specs.declared.kind.Kind.{Kind}
-use Rattle.gts_event.specs.State.{State}
-use Rattle.gts_event.specs.History.{outcome}
-use Rattle.gts_event.specs.Drain.{all_done}
-use Rattle.gts_event.specs.declared.event.Event.{Event}
-use Rattle.gts_event.specs.declared.event.Event.TheVariants.{Heard, Lost, Taken}
-use Rattle.gts_frame.specs.declared.lost.LostField.{LostField}
-use Rattle.gts_event.specs.declared.event.Entry.{Entry}
-use Rattle.gts_event.specs.declared.event.Entry.TheVariants.{Done, Unsaid, Idle, Doubt}
-use Rattle.gts_event.specs.declared.outcome.Outcome.{Outcome}
-use Rattle.gts_event.specs.declared.fault.Device.{Device}
-use Rattle.gts_event.specs.declared.fault.SwitchFault.{SwitchFault}
-use Rattle.gts_event.specs.declared.fault.SwitchFault.TheVariants.{DiskFault, SayFault, Full, Stopped, Spent, NoMemory}
-use Rattle.gts_desk.specs.Desks.{Seen, own, Answers, SaysNoMore, AddsEntries, AddsJust, AddsAny, GoesOn}
-use Rattle.gts_desk.proofs.LawLemmas.{just, own_added, turned, own_any, goes_on, goes_on_spent, goes_further, stays}
-use Rattle.gts_receiver.specs.Service.{is_try, is_wanting, settled, settled_own, AreMost, TriesOn, Hears}
+use Rattle.gts_receiver.specs.Cited.{AddsAny, AddsEntries, AddsJust, Answers, AreMost, Device, DiskFault, Done, Doubt, Entry, Event, Full, GoesOn, Heard, Hears, Idle, Kind, Lost, LostField, NoMemory, Outcome, SayFault, SaysNoMore, Seen, Spent, State, Stopped, SwitchFault, Taken, TriesOn, Unsaid, all_done, is_try, is_wanting, outcome, own, settled, settled_own}
+use Rattle.gts_desk.proofs.LawLemmas.{just, own_added, turned, own_any, goes_on, goes_on_spent, goes_further}
 
 pub settled-append : (w : Bool) (xs ys : List Entry) → settled w (xs ++ ys) ≡ settled w xs ++ settled w ys
 settled-append true xs ys = filter-append (λ (e : Entry). not (is_try e)) xs ys
@@ -128,10 +114,6 @@ module _ (c : ℕ) (kind : Kind) (message : List ℕ) where
     tried = tried_so first h.before now is h.answers ∙ h.tried;
     answers = answers;
   }
-
--- without a try
-pub at_once : (w : Bool) (asked : Event) (answer : Result Outcome SwitchFault) (old new : Seen) → Answers old asked SaysNoMore answer new → Hears w asked answer old new
-at_once w asked answer old new answers = record { before = old; desk = stays old; tried = refl; answers = answers }
 
 -- with any answer a desk goes on
 pub answers_go : (asked : Event) (answer : Result Outcome SwitchFault) (old new : Seen) → Answers old asked SaysNoMore answer new → GoesOn old new

@@ -1,14 +1,7 @@
 -- What is a service, by the number of its connections.
 use Rattle.std.specs.Prelude.{◌≡◌, ℕ, ◌≤◌, Bool, true, false, not, ◌==◌, List, Result, Err}
-use Rattle.std.specs.List.{filter}
-use Rattle.gts_event.specs.declared.event.Event.{Event}
+use Rattle.gts_receiver.specs.Cited.Below.{Answers, Entry, Event, Full, GoesOn, Idle, NoMemory, Outcome, SaysNoMore, Seen, SwitchFault, filter, own}
 pub use Rattle.gts_event.specs.declared.event.Event.TheVariants.{Heard}
-use Rattle.gts_event.specs.declared.event.Entry.{Entry}
-use Rattle.gts_event.specs.declared.event.Entry.TheVariants.{Idle}
-use Rattle.gts_event.specs.declared.outcome.Outcome.{Outcome}
-use Rattle.gts_event.specs.declared.fault.SwitchFault.{SwitchFault}
-use Rattle.gts_event.specs.declared.fault.SwitchFault.TheVariants.{Full, NoMemory}
-use Rattle.gts_desk.specs.Desks.{Seen, own, Answers, SaysNoMore, GoesOn}
 use Rattle.gts_receiver.specs.declared.limits.TheConstants.{WITHOUT_END, MOST_TRIES}
 
 -- so many connections are those of a service, without end

@@ -1,16 +1,9 @@
 -- A checkpoint is written to the file that isn't the journal's.
 use Rattle.std.proofs.Common.{◌≡◌, ◌≢◌, ℕ, ◌-◌, ◌<◌, List, [], ◌∷◌, ◌++◌, length, take, refl, sym, ap, subst, arith, length-append}
 use Rattle.std.proofs.lemmas.List.{take_at}
-use Rattle.gts_traits.specs.Station.{Call}
-use Rattle.gts_event.specs.Need.{Need}
-use Rattle.gts_record.specs.Record.{open_gate, closed_gate}
-use Rattle.gts_record.specs.Format.{magic, sealed, first_seal, written}
+use Rattle.gts_recovery.specs.Cited.{Call, EndsAt, HasWritten, InHand, IsClosedAt, Need, StandsOn, WorksBeside, checkpoint_file, checkpoint_text, closed_gate, compacted_bytes, first_seal, magic, open_gate, sealed, written}
 use Rattle.gts_record.proofs.LawLemmas.{length-sealed}
-use Rattle.gts_opening.specs.Journal.{checkpoint_text, compacted_bytes}
 use Rattle.gts_opening.proofs.LawLemmas.{magic_size}
-use Rattle.gts_checkpoint.specs.Alone.{WorksBeside}
-use Rattle.gts_checkpoint.specs.Writing.{HasWritten, checkpoint_file}
-use Rattle.gts_journal.specs.{InHand, EndsAt, StandsOn, IsClosedAt}
 use Rattle.gts_journal.proofs.LawLemmas.{same_stands}
 
 -- it ends at the closed gate behind the checkpoint

@@ -1,23 +1,7 @@
 -- A journal that is opened in the version that its magic tells is never one of an older version.
-use Rattle.std.proofs.Common.{◌≡◌, ℕ, zero, suc, ◌+◌, ◌-◌, Bool, true, false, ◌==◌, nat_eq, nat_lt, List, [], ◌∷◌, length, take, drop, cond, Option, Some, None, Result, Ok, Err, refl, sym, subst}
-use Rattle.std.specs.List.{starts_with}
-use Rattle.std.specs.Cmp.Lexicographic.{pointwise}
-use Rattle.std.specs.Prelude.{IfErr}
+use Rattle.std.proofs.Common.{◌≡◌, ℕ, zero, suc, ◌+◌, ◌-◌, Bool, true, false, ◌==◌, nat_eq, nat_lt, List, [], ◌∷◌, length, take, drop, cond, Option, Some, None, Result, Ok, Err, refl, sym, subst, IfErr}
+use Rattle.gts_recovery.specs.Cited.{Damaged, Directory, DiskFault, Files, IsAnswer, Need, NoJournal, NoMemory, NotThis, OldVersion, One, OpenFault, Read, Record, State, Two, Version, admits_checkpoint, after, agreeing, begun, behind_header, behind_magic, bytes_open, checkpoint_opens, checkpoint_text, compacted_bytes, empty, event_of_record, file_opens, first_seal, is_older, magic, need, need_in, open_gate, opened_of, opens_any, pointwise, record_behind, record_size, record_text, records_at, restarted, seal, selected, selected_bytes, starts_with, version_of}
 use Rattle.std.proofs.lemmas.Result.{IfErr-weaker}
-use Rattle.gts_traits.specs.Station.{Files}
-use Rattle.gts_directory.specs.Directory.{Directory}
-use Rattle.gts_event.specs.State.{State, empty}
-use Rattle.gts_event.specs.History.{after, restarted}
-use Rattle.gts_event.specs.Need.{Need, need, begun}
-use Rattle.gts_record.specs.declared.version.Version.{Version}
-use Rattle.gts_record.specs.declared.version.Version.TheVariants.{One, Two}
-use Rattle.gts_record.specs.declared.fault.OpenFault.{OpenFault}
-use Rattle.gts_record.specs.declared.fault.OpenFault.TheVariants.{NoJournal, OldVersion, NotThis, Damaged, DiskFault, NoMemory}
-use Rattle.gts_record.specs.Record.{Record, open_gate, record_text}
-use Rattle.gts_record.specs.Format.{magic, seal, first_seal, is_older, record_size}
-use Rattle.gts_opening.specs.Journal.{Read, opened_of, admits_checkpoint, need_in, checkpoint_text, compacted_bytes, event_of_record, record_behind, records_at, checkpoint_opens, behind_header, behind_magic, bytes_open, file_opens, agreeing, selected}
-use Rattle.gts_journal.specs.{version_of, selected_bytes}
-use Rattle.gts_recovery.specs.Opened.{IsAnswer, opens_any}
 
 -- no older version is answered
 abbrev pub NotOlder : {A : Type 0} → Result A OpenFault → Type 0

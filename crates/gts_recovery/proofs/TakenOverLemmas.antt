@@ -1,31 +1,13 @@
 -- What a need brings under a directory that takes over from its own.
-use Rattle.std.proofs.Common.{◌≡◌, ℕ, zero, suc, ◌+◌, ◌-◌, ◌<◌, ◌≤◌, Bool, true, false, not, cond, ◌&&◌, ◌||◌, ◌==◌, nat_lt, List, [], ◌∷◌, length, map, filter, get_or, slice_get, Some, zip, refl, sym, ap, ◌∙◌, arith}
-use Rattle.std.specs.List.{list_any, list_all, sum_by}
+use Rattle.std.proofs.Common.{◌≡◌, ℕ, zero, suc, ◌+◌, ◌<◌, ◌≤◌, Bool, true, false, not, cond, ◌||◌, ◌==◌, nat_lt, List, [], ◌∷◌, length, map, filter, get_or, slice_get, Some, zip, refl, sym, ap, ◌∙◌, arith}
+use Rattle.gts_recovery.specs.Cited.{BeginWith, Bulletin, Circuit, CircuitNeed, CircuitState, Directory, HeldCircuit, IsHeld, IsOrdered, KeepsPlace, Need, SoundCircuit, State, TakesOver, all_owed_last, are_below, begun, begun_circuit, brought, circuit_need, circuit_needs, drawn, draws, due, each_brought, goes_over, has, heading_of, idle, is_bulletin, is_circuit_sound, is_needed, is_recent, is_request, is_sound, list_all, list_any, need, on_circuit, owes_kept, restarted, sum_by, unused, waiting}
 use Rattle.std.proofs.lemmas.List.{length-map}
 use Rattle.std.proofs.lemmas.List.Sums.{sum_by-cons}
-use Rattle.std.proofs.lemmas.Bool.{and_parts, and_from, lt-ltb, ltb-true, eq-eqb, ne_eqb}
-use Rattle.gts_directory.specs.Directory.{Directory, Circuit}
-use Rattle.gts_directory.specs.TakingOver.{KeepsPlace, BeginWith, TakesOver}
-use Rattle.gts_event.specs.State.{State, CircuitState, Bulletin, idle, on_circuit, has, is_recent, draws, drawn, waiting, heading_of}
-use Rattle.gts_event.specs.History.{all_owed_last, restarted, is_request}
-use Rattle.gts_event.specs.Need.{Need, CircuitNeed, unused, need, circuit_need, circuit_needs, begun, begun_circuit, is_needed, is_bulletin, is_circuit_sound, is_sound, are_below, owes_kept, IsOrdered}
-use Rattle.gts_event.specs.Held.{HeldCircuit, IsHeld}
-use Rattle.gts_event.specs.Sound.{SoundCircuit}
-use Rattle.gts_opening.specs.Journal.{due}
-use Rattle.gts_recovery.specs.TakenOver.{brought, each_brought, goes_over}
-use Rattle.gts_event.proofs.LawLemmas.{circuit-parts, sound-parts, held-begun, sound-held, waiting-left}
+use Rattle.std.proofs.lemmas.Bool.{lt-ltb, ltb-true, eq-eqb, ne_eqb, and_parts as and_true, and_from as both_true}
+use Rattle.gts_event.proofs.LawLemmas.{circuit-parts, sound-parts, held-begun, sound-held, waiting-left, filter_same}
+use Rattle.gts_core.proofs.LawLemmas.{all_pass}
 
 -- ---- tests
-
-and_true : (a b : Bool) → (a && b) ≡ true → (a ≡ true) × (b ≡ true)
-and_true a b e = and_parts a b e
-
-both_true : (a b : Bool) → a ≡ true → b ≡ true → (a && b) ≡ true
-both_true a b e f = and_from a b e f
-
-filter_same : {X : Type 0} (f g : X → Bool) (xs : List X) → ((x : X) → f x ≡ g x) → filter f xs ≡ filter g xs
-filter_same f g [] h = refl
-filter_same f g (x ∷ xs) h = rw (h x) (ap (λ ys. cond (g x) (x ∷ ys) ys) (filter_same f g xs h))
 
 -- a filter leaves no more
 few_left : (f : ℕ → Bool) (xs : List ℕ) → length (filter f xs) ≤ length xs
@@ -36,20 +18,12 @@ few_left f (x ∷ xs) = go (f x) (few_left f xs)
     go true e = omega (arith, e)
     go false e = omega (arith, e)
 
-all_left : (xs : List ℕ) → filter (λ p. not (has [] p)) xs ≡ xs
-all_left [] = refl
-all_left (x ∷ xs) = ap (λ (ys : List ℕ). x ∷ ys) (all_left xs)
-
 at_least : {A : Type 0} (Stays : A → A → Type 0) (old new : List A) → BeginWith Stays old new → length old ≤ length new
 at_least Stays [] new h = omega arith
 at_least Stays (row ∷ old) [] h = absurd h
 at_least Stays (row ∷ old) (next ∷ new) h = let rest = at_least Stays old new h.1 in omega (arith, rest)
 
 -- ---- bulletins
-
--- a bulletin stays one
-bulletin_from : (d : Directory) (accepted : ℕ) (b : Bulletin) → is_bulletin d accepted b ≡ true → nat_lt b.from (length d.circuits) ≡ true
-bulletin_from d accepted b h = (and_true (nat_lt b.from (length d.circuits)) _ (and_true _ _ (and_true _ _ (and_true _ _ h).0).0).0).0
 
 bulletin-over : (new old : Directory) (accepted : ℕ) (b : Bulletin) → TakesOver new old → is_bulletin old accepted b ≡ true → is_bulletin new accepted b ≡ true
 bulletin-over new old accepted b e h =
@@ -194,7 +168,7 @@ waits_brought row next k q = go (next.digits == row.digits)
   where
     go : (same : Bool) → waiting (begun_circuit (record (circuit_need k q) { kept = cond same (circuit_need k q).kept []; owed = [] })) ≡ waiting q
     go true = waiting-left k q
-    go false = all_left (waiting q)
+    go false = all_pass (waiting q)
 
 due_none : (new : List Circuit) → sum_by (λ (q : CircuitState). length (waiting q)) (map begun_circuit (each_brought [] new [])) ≡ 0
 due_none [] = refl
@@ -233,7 +207,7 @@ waits_same row next c apart = go (next.digits == row.digits)
 
     go : (same : Bool) → waiting (begun_circuit (record c { kept = cond same c.kept []; owed = [] })) ≡ waiting (begun_circuit c)
     go true = refl
-    go false = all_left c.waiting ∙ sym (all_stay c.waiting apart)
+    go false = all_pass c.waiting ∙ sym (all_stay c.waiting apart)
 
 draws_same : (row next : Circuit) (c : CircuitNeed) → length c.kept ≤ c.draws → draws (begun_circuit (brought row next c)) ≡ draws (begun_circuit c)
 draws_same row next c few = go (next.digits == row.digits)

@@ -1,9 +1,6 @@
 -- What a need comes to under a directory that takes over from its own (profile).
 use Rattle.std.specs.Prelude.{◌==◌, List, [], ◌∷◌, if◌then◌else◌}
-use Rattle.gts_directory.specs.Directory.{Directory, Circuit}
-use Rattle.gts_event.specs.State.{State}
-use Rattle.gts_event.specs.History.{restarted}
-use Rattle.gts_event.specs.Need.{Need, CircuitNeed, unused, need, begun}
+use Rattle.gts_recovery.specs.Cited.Below.{Circuit, CircuitNeed, Directory, Need, State, begun, unused}
 
 -- What is brought along of a circuit under its old and its new row: what waits, and how many were drawn. The kept draws can be
 -- asked for unless the numbers have other digits, since a number would then mean another's bytes. Nothing is owed.
@@ -20,8 +17,3 @@ each_brought (row ∷ old) (next ∷ new) (c ∷ cs) = brought row next c ∷ ea
 -- the state in which a need of the old directory goes on under the new one
 abbrev pub goes_over : Directory → Directory → Need → State
 goes_over new old n = begun (record n { circuits = each_brought old.circuits new.circuits n.circuits })
-
--- The need to which a journal of this need opens once it was taken over: what the new directory keeps of the draws, and the
--- bulletins that are needed under it.
-abbrev pub taken_over : Directory → Directory → Need → Need
-taken_over new old n = need new (restarted new (goes_over new old n))

@@ -1,14 +1,7 @@
 //! What a need comes to under a directory that takes over from its own: laws, the contracts of functions with an empty body.
 
 ghost use Rattle.std.specs.Prelude.{◌≡◌, ◌<◌, [], ℕ, List, length, slice_get, Some, IsTrue};
-ghost use Rattle.gts_directory.specs.Directory.{Circuit};
-ghost use Rattle.gts_directory.specs.TakingOver.{TakesOver};
-ghost use Rattle.gts_event.specs.State.{State, Bulletin, on_circuit, draws, drawn, waiting};
-ghost use Rattle.gts_event.specs.History.{after_all, restarted};
-ghost use Rattle.gts_event.specs.declared.event.Entry.{Entry};
-ghost use Rattle.gts_event.specs.Cited.{Directory, Need, IsOrdered, IsHeld, Knows, need, begun, is_sound};
-ghost use Rattle.gts_opening.specs.Journal.{due};
-ghost use Rattle.gts_recovery.specs.TakenOver.{goes_over};
+ghost use Rattle.gts_recovery.specs.Cited.{Bulletin, Circuit, Directory, Entry, IsHeld, IsOrdered, Knows, Need, State, TakesOver, after_all, begun, drawn, draws, due, goes_over, is_sound, need, on_circuit, restarted, waiting};
 
 /// Under a directory that takes over from its own, a sound need goes on: it begins a state that a history can have, so that its
 /// need there is sound; the state is the same where the journal was opened again before; and as many draws are due.

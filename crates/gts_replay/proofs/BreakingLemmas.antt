@@ -1,20 +1,7 @@
 -- A run broke off within a step, or when it was settled.
 use Rattle.std.proofs.Common.{◌≡◌, ℕ, ◌+◌, ◌<◌, ◌≤◌, List, [], ◌∷◌, ◌++◌, length, Err, sym, ap, subst, ◌∙◌, arith, append_assoc, length-append}
 use Rattle.std.proofs.lemmas.List.{append-nil}
-use Rattle.gts_directory.specs.Directory.{Directory}
-use Rattle.gts_event.specs.State.{State}
-use Rattle.gts_event.specs.declared.event.Event.{Event}
-use Rattle.gts_event.specs.declared.event.Entry.{Entry}
-use Rattle.gts_event.specs.declared.event.Entry.TheVariants.{Done, Idle, Doubt, Restarted}
-use Rattle.gts_event.specs.declared.fault.SwitchFault.{SwitchFault}
-use Rattle.gts_event.specs.declared.fault.SwitchFault.TheVariants.{DiskFault, SayFault, Full, Stopped, Spent, NoMemory}
-use Rattle.gts_event.specs.Drain.{all_done, all_unsaid}
-use Rattle.gts_record.specs.declared.fault.OpenFault.{OpenFault}
-use Rattle.gts_connection.specs.declared.kind.CaptureKind.{CaptureKind}
-use Rattle.gts_connection.specs.Capture.{Step, Feed, Take, Reopen, Drain, Restart, Compact, Connections, no_bytes, entries_of_step, connections_after, count_at}
-use Rattle.gts_calls.specs.{Standing, settled, IsSettling, AfterSettling, IsCause, outcome_at}
-use Rattle.gts_replay.specs.Going.{state_at, origin_behind, BreaksOff, BreaksTogether, BreaksIdle, BreaksAtRestart}
-use Rattle.gts_replay.specs.Replay.{IsLasting, StoppedBefore, StopsAtFault, origin_at, entries_at, compactions_at}
+use Rattle.gts_replay.specs.Cited.{AfterSettling, BreaksAtRestart, BreaksIdle, BreaksOff, BreaksTogether, CaptureKind, Compact, Connections, Directory, DiskFault, Done, Doubt, Drain, Entry, Event, Feed, Full, Idle, IsCause, IsLasting, IsSettling, NoMemory, OpenFault, Reopen, Restart, Restarted, SayFault, Spent, Standing, State, Step, Stopped, StoppedBefore, StopsAtFault, SwitchFault, Take, all_done, all_unsaid, compactions_at, connections_after, count_at, entries_at, entries_of_step, no_bytes, origin_at, origin_behind, outcome_at, settled, state_at}
 use Rattle.gts_replay.proofs.GoingLemmas.{within_all, settles_not}
 use Rattle.gts_replay.proofs.OriginLemmas.{AllBehind, wider, behind_append, origin_is, counts_within, counts_more}
 use Rattle.gts_replay.proofs.RunLemmas.{Gathered, origin_done, added_by}

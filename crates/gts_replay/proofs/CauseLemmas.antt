@@ -1,47 +1,13 @@
 -- A device's fault ends a run only where its count rose.
 use Rattle.std.proofs.Common.{◌≡◌, ℕ, ◌≤◌, inl, inr, Result, Err, refl, sym, subst, ◌∙◌, arith}
-use Rattle.gts_event.specs.declared.fault.SwitchFault.{SwitchFault}
+use Rattle.gts_replay.specs.Cited.{Bad, HasReplayCause, HasRunCause, HasSettleCause, ReplayEnd, Rose, SourceFault, StepFault, SwitchFault, end_of}
 use Rattle.gts_event.specs.declared.fault.SwitchFault.TheVariants as switch
 use Rattle.gts_record.specs.declared.fault.OpenFault.TheVariants as opening
-use Rattle.gts_traits.specs.Counts.{Rose}
-use Rattle.gts_capture.specs.{HasSourceCause}
-use Rattle.gts_capture.specs.declared.capture_fault.CaptureFault.{CaptureFault}
-use Rattle.gts_capture.specs.declared.capture_fault.CaptureFault.TheVariants.{Bad, SourceFault}
-use Rattle.gts_replay.specs.declared.end.ReplayEnd.{ReplayEnd}
 use Rattle.gts_replay.specs.declared.end.ReplayEnd.TheVariants as end
-use Rattle.gts_replay.specs.declared.fault.StepFault.{StepFault}
 use Rattle.gts_replay.specs.declared.fault.StepFault.TheVariants as step
-use Rattle.gts_replay.specs.Replay.{HasReplayCause}
-use Rattle.gts_replay.specs.Ending.{end_of, HasRunCause, HasSettleCause}
 
 rose_since : (a b c : ℕ) → a ≤ b → Rose b c → Rose a c
 rose_since a b c h r = omega (arith, h, r)
-
-pub caused_read : {T : Type 0} (result : Result T CaptureFault) (fault : CaptureFault) (d e s t a b c : ℕ) → d ≤ e → s ≤ t → a ≤ b → result ≡ Err fault → HasSourceCause result b c
-    → HasReplayCause (end_of (step.Capture fault)) d e s t a c
-caused_read {T} result fault d e s t a b c de st ab is cause = go fault is
-  where
-    go : (f : CaptureFault) → result ≡ Err f → HasReplayCause (end_of (step.Capture f)) d e s t a c
-    go (Bad at) is = record {
-      disk_later = de;
-      say_later = st;
-      source_later = omega (arith, ab, cause.later);
-      disk_failed = λ x. absurd (cc);
-      compaction_failed = λ x. absurd (cc);
-      reopen_failed = λ x. absurd (cc);
-      say_failed = λ x. absurd (cc);
-      source_failed = λ x. absurd (cc);
-    }
-    go SourceFault is = record {
-      disk_later = de;
-      say_later = st;
-      source_later = omega (arith, ab, cause.later);
-      disk_failed = λ x. absurd (cc);
-      compaction_failed = λ x. absurd (cc);
-      reopen_failed = λ x. absurd (cc);
-      say_failed = λ x. absurd (cc);
-      source_failed = λ x. rose_since a b c ab (cause.failed is);
-    }
 
 pub caused_step : {T : Type 0} (result : Result T StepFault) (fault : StepFault) (d e f s t u a b c : ℕ) → d ≤ e → s ≤ t → a ≤ b → result ≡ Err fault → HasRunCause result e f t u b c
     → HasReplayCause (end_of fault) d f s u a c

@@ -1,11 +1,7 @@
 -- The decoders of the circuits.
 use Rattle.std.proofs.Common.{◌≡◌, ℕ, zero, suc, ◌+◌, ◌<◌, List, [], ◌∷◌, ◌++◌, length, get_or, set, take, drop, map, replicate, Option, Some, refl, sym, ap, ◌∙◌, arith}
 use Rattle.std.proofs.lemmas.List.{map-set}
-use Rattle.gts_directory.specs.Directory.{Directory, Circuit}
-use Rattle.gts_frame.specs.Decoder.{Decoding, fresh}
-use Rattle.gts_frame.specs.Signs.{held_in}
-use Rattle.gts_connection.specs.Capture.{Connections, no_bytes}
-use Rattle.gts_replay.specs.Going.{Decode}
+use Rattle.gts_replay.specs.Cited.{Circuit, Connections, Decode, Decoding, Directory, fresh, held_in, no_bytes}
 
 abbrev held : Decoding → Option (List ℕ)
 held d = d.held
@@ -17,10 +13,6 @@ one_more_fresh (x ∷ xs) zero lt = refl
 one_more_fresh (x ∷ xs) (suc i) lt =
     let more : suc i + 1 ≡ suc (i + 1) = omega arith in
     ap (λ (ds : List Decoding). fresh ∷ ds) (one_more_fresh xs i (omega arith)) ∙ sym (ap (λ (k : ℕ). map (λ _. fresh) (take k (x ∷ xs)) ++ drop k (x ∷ xs)) more)
-
-pub fresh-suc : (n : ℕ) → replicate (n + 1) fresh ≡ replicate n fresh ++ fresh ∷ []
-fresh-suc zero = refl
-fresh-suc (suc n) = let more : suc n + 1 ≡ suc (n + 1) = omega arith in ap (λ (k : ℕ). replicate k fresh) more ∙ ap (λ (ds : List Decoding). fresh ∷ ds) (fresh-suc n)
 
 fresh_each : (n : ℕ) (rows : List Circuit) → n ≡ length rows → map held (replicate n fresh) ≡ map held_in (map (λ _. []) rows)
 fresh_each zero [] e = refl

@@ -1,20 +1,8 @@
 -- Takes until one gives nothing.
-use Rattle.std.proofs.Common.{◌≡◌, ℕ, zero, suc, ◌+◌, ◌^◌, ◌<◌, ◌≤◌, ◌-◌, ◌⊎◌, inl, inr, List, [], ◌∷◌, ◌++◌, length, get_or, drop, replicate, Option, Some, None, Result, Ok, Err, refl, sym, ap, subst, ◌∙◌, arith, append_assoc, length-append}
-use Rattle.std.specs.List.{AllByRecursion}
+use Rattle.std.proofs.Common.{◌≡◌, ℕ, zero, suc, ◌+◌, ◌^◌, ◌<◌, ◌≤◌, ◌-◌, ◌⊎◌, inl, inr, List, [], ◌∷◌, ◌++◌, length, get_or, drop, replicate, Result, Ok, Err, refl, sym, ap, subst, ◌∙◌, arith, append_assoc, length-append}
+use Rattle.gts_replay.specs.Cited.{AllByRecursion, BreaksOff, Choice, CircuitState, Directory, Done, Draw, Draws, Entry, IsAnswered, IsStart, Nothing, Nothing_waits, Outcome, Repeats, Resend, RoutedOnce, Standing, Stands, StandsFor, State, SwitchFault, Taken, after, after_all, after_take, all_done, choice, draws, idle, left_to_give, most_owed, next, on_circuit, outcome, state_at, takes_of_drain, with_drawn, with_repeated}
 use Rattle.std.proofs.lemmas.List.{append-nil, get_or-set_same}
-use Rattle.gts_directory.specs.Directory.{Directory}
-use Rattle.gts_event.specs.State.{State, CircuitState, RoutedOnce, idle, on_circuit, draws, next, left_to_give}
-use Rattle.gts_event.specs.declared.event.Event.TheVariants.{Taken}
-use Rattle.gts_event.specs.declared.event.Entry.{Entry}
-use Rattle.gts_event.specs.declared.event.Entry.TheVariants.{Done}
-use Rattle.gts_event.specs.History.{Choice, choice, choice_of, Repeats, Draws, Nothing_waits, outcome, after, after_take, after_all, most_owed, with_repeated, with_drawn}
-use Rattle.gts_event.specs.Drain.{all_done, takes_of_drain}
-use Rattle.gts_event.specs.declared.outcome.Outcome.{Outcome}
-use Rattle.gts_event.specs.declared.outcome.Outcome.TheVariants.{Resend, Draw, Nothing}
-use Rattle.gts_event.specs.declared.fault.SwitchFault.{SwitchFault}
-use Rattle.gts_event.proofs.LawLemmas.{after_all-append, ordered-all, routed_once-all, owed_few-all, one_less, nothing_left}
-use Rattle.gts_calls.specs.{Standing, Stands, IsAnswered}
-use Rattle.gts_replay.specs.Going.{IsStart, StandsFor, state_at, BreaksOff}
+use Rattle.gts_event.proofs.LawLemmas.{after_all-append, ordered-all, routed_once-all, owed_few-all, one_less, nothing_left, repeats_first, draws_index}
 use Rattle.gts_replay.proofs.GoingLemmas.{stands_same, one_done, answer_is, call_breaks, then_breaks, breaks_before}
 
 -- so many takes on a circuit
@@ -54,16 +42,6 @@ few_on (q ∷ qs) (suc c) h = few_on qs c h.1
 abbrev outcome_of_choice : Choice → Outcome
 outcome_of_choice ch = elim ch as (λ _. Outcome) [ Repeats index ↦ Resend index | Draws index position ↦ Draw index | Nothing_waits ↦ Nothing ]
 
-repeats_one : (os : List ℕ) (r : Option ℕ) (n i : ℕ) → choice_of os r n ≡ Repeats i → length (drop 1 os) + 1 ≡ length os
-repeats_one [] None n i e = absurd (cc)
-repeats_one [] (Some p) n i e = absurd (cc)
-repeats_one (o ∷ os) r n i e = omega arith
-
-draws_next : (os : List ℕ) (r : Option ℕ) (n i p : ℕ) → choice_of os r n ≡ Draws i p → n ≡ i
-draws_next [] None n i p e = absurd (cc)
-draws_next [] (Some q) n i p e = cc
-draws_next (o ∷ os) r n i p e = absurd (cc)
-
 -- the index of a draw fits
 abbrev pub Few : Outcome → Type 0
 Few o = (index : ℕ) → o ≡ Draw index → index < 2 ^ 64
@@ -85,11 +63,11 @@ one_taken d s c within few some = go (choice d s c) refl
     go : (ch : Choice) → choice d s c ≡ ch → Goal (after_take s c (choice d s c))
     go (Repeats i) e =
         let at : on_circuit (after_take s c (choice d s c)) c ≡ with_repeated q = ap (λ (ch : Choice). on_circuit (after_take s c ch) c) e ∙ get_or-set_same s.circuits c (with_repeated q) idle within in
-        let one : length (drop 1 q.owed) + 1 ≡ length q.owed = repeats_one q.owed (next d s q) (draws q) i e in
+        let one : length (drop 1 q.owed) + 1 ≡ length q.owed = repeats_first q.owed (next d s q) (draws q) i e in
         subst over (sym at) (omega (arith, one), inl refl)
     go (Draws i p) e =
         let at : on_circuit (after_take s c (choice d s c)) c ≡ with_drawn p q = ap (λ (ch : Choice). on_circuit (after_take s c ch) c) e ∙ get_or-set_same s.circuits c (with_drawn p q) idle within in
-        let index : draws q ≡ i = draws_next q.owed (next d s q) (draws q) i p e in
+        let index : draws q ≡ i = draws_index q.owed (next d s q) (draws q) i p e in
         let small : i < 2 ^ 64 = few i (ap outcome_of_choice e) in
         subst over (sym at) (omega (arith, length-append q.taken (p ∷ [])), inr (omega (arith, length-append q.taken (p ∷ []), index, small)))
     go Nothing_waits e = absurd (some e)

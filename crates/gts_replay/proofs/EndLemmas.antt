@@ -1,32 +1,12 @@
 -- How a run ends.
 use Rattle.std.proofs.Common.{◌≡◌, ℕ, ◌+◌, ◌*◌, ◌-◌, ◌^◌, ◌≤◌, ◌⊎◌, inl, inr, List, [], ◌∷◌, ◌++◌, length, Result, Ok, Err, refl, sym, ap, subst, ◌∙◌, arith, length-append}
-use Rattle.std.specs.List.{flat_map}
-use Rattle.gts_alphabet.specs.Digits.{dec}
-use Rattle.gts_directory.specs.Directory.{Directory}
-use Rattle.gts_event.specs.declared.event.Entry.{Entry}
-use Rattle.gts_event.specs.declared.event.Entry.TheVariants.{Done}
-use Rattle.gts_event.specs.declared.fault.SwitchFault.{SwitchFault}
+use Rattle.gts_replay.specs.Cited.{Bad, BreaksAtCompaction, BreaksOff, CaptureKind, Compact, CompactHead, Connections, Decoding, Directory, DoesStep, Done, DrainHead, EndHead, Ends, EndsEarlyOf, Entry, Feed, FeedHead, HasDone, Head, Held, IsBadAt, IsCut, IsDone, IsHeadOf, IsLasting, IsReadTo, IsSameCapture, IsSettling, IsStepOf, IsWholeOf, Journaled, LONGEST_CAPTURE, LacksMemory, LosesSource, OpenFault, ReopenHead, ReplayEnd, Restart, RestartHead, SettlesBehind, SettlesTo, SourceFault, Standing, StandsFor, Step, StepFault, StoppedBefore, StopsAtCompaction, StopsAtFault, StopsAtRestart, StopsInHead, SwitchFault, TakeHead, TakesNoMore, bytes_of_step, connections_after, dec, end_of, entries_at, flat_map, head_of, head_text, no_bytes, origin_at, outcome_at, readable, readable_from, settled_end, state_at, step_text}
 use Rattle.gts_event.specs.declared.fault.SwitchFault.TheVariants as switch
-use Rattle.gts_frame.specs.Decoder.{Decoding}
-use Rattle.gts_record.specs.declared.fault.OpenFault.{OpenFault}
 use Rattle.gts_record.specs.declared.fault.OpenFault.TheVariants as opening
-use Rattle.gts_connection.specs.declared.kind.CaptureKind.{CaptureKind}
-use Rattle.gts_connection.specs.declared.kind.CaptureKind.TheVariants.{Journaled}
-use Rattle.gts_connection.specs.Capture.{Step, Feed, Restart, Compact, Head, FeedHead, TakeHead, ReopenHead, DrainHead, RestartHead, CompactHead, EndHead, head_text, head_of, bytes_of_step, step_text, IsHeadOf, readable, IsWholeOf, EndsEarlyOf, Connections, no_bytes, connections_after}
 use Rattle.gts_connection.proofs.LawLemmas.{reads, whole_is_read, early_is_none}
-use Rattle.gts_connection.specs.declared.limits.TheConstants.{LONGEST_CAPTURE}
-use Rattle.gts_capture.specs.{IsReadTo, IsSameCapture, IsBadAt, StopsInHead, readable_from}
-use Rattle.gts_capture.specs.Held.{Held}
-use Rattle.gts_capture.specs.declared.capture_fault.CaptureFault.TheVariants.{Bad, SourceFault}
 use Rattle.gts_capture.proofs.LawLemmas.{at_end, at_bad, taken_head}
-use Rattle.gts_calls.specs.{Standing, IsSettling, outcome_at}
-use Rattle.gts_replay.specs.declared.end.ReplayEnd.{ReplayEnd}
 use Rattle.gts_replay.specs.declared.end.ReplayEnd.TheVariants as end
-use Rattle.gts_replay.specs.declared.fault.StepFault.{StepFault}
 use Rattle.gts_replay.specs.declared.fault.StepFault.TheVariants as step
-use Rattle.gts_replay.specs.Going.{StandsFor, state_at, BreaksOff}
-use Rattle.gts_replay.specs.Replay.{IsDone, IsCut, LosesSource, StopsAtFault, StopsAtRestart, BreaksAtCompaction, StopsAtCompaction, LacksMemory, Ends, IsLasting, StoppedBefore, HasDone, origin_at, entries_at}
-use Rattle.gts_replay.specs.Ending.{end_of, IsStepOf, DoesStep, TakesNoMore, SettlesTo, SettlesBehind, settled_end}
 use Rattle.gts_replay.proofs.GoingLemmas.{settled_all, settles_all}
 use Rattle.gts_replay.proofs.SureLemmas.{AllSure, sure_from, sure_front, stopped_before, uncompacted_before}
 use Rattle.gts_replay.proofs.RunLemmas.{Runs, ReadsHead, Gathered, head_here, stands_on, gathered_more, origin_done}

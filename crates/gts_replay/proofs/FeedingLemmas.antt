@@ -1,16 +1,8 @@
 -- The bytes of a connection, piece by piece, and the entries that they add.
 use Rattle.std.proofs.Common.{◌≡◌, ℕ, ◌-◌, List, [], ◌∷◌, ◌++◌, length, take, drop, Err, sym, ap, subst, ◌∙◌, arith, length-drop}
 use Rattle.std.proofs.lemmas.List.{append-nil, append_assoc, take_all}
-use Rattle.gts_event.specs.Drain.{all_done}
-use Rattle.gts_event.specs.declared.event.Event.{Event}
-use Rattle.gts_event.specs.declared.event.Entry.{Entry}
-use Rattle.gts_event.specs.declared.fault.SwitchFault.{SwitchFault}
-use Rattle.gts_frame.specs.Decoder.{Decoding}
-use Rattle.gts_frame.specs.Signs.{held_in}
-use Rattle.gts_connection.specs.Connection.{events_added}
+use Rattle.gts_replay.specs.Cited.{BreaksOff, Decoding, Entry, Event, IsFed, Standing, Stands, SwitchFault, all_done, events_added, held_in}
 use Rattle.gts_connection.proofs.LawLemmas.{added-twice}
-use Rattle.gts_calls.specs.{Standing, Stands}
-use Rattle.gts_replay.specs.Going.{BreaksOff, IsFed}
 use Rattle.gts_replay.proofs.GoingLemmas.{all_done-append, stands_same, then_goes, breaks_before}
 
 -- what two pieces add

@@ -1,21 +1,9 @@
 -- The steps of a capture, as far as some of them were done.
 use Rattle.std.proofs.Common.{◌≡◌, ℕ, ◌+◌, ◌<◌, ◌≤◌, List, [], ◌∷◌, ◌++◌, length, get_or, refl, sym, ap, subst, ◌∙◌, arith, append_assoc, length-append}
-use Rattle.std.specs.List.{AllByRecursion}
+use Rattle.gts_replay.specs.Cited.{AllByRecursion, CaptureKind, Compact, CompactHead, Connections, Directory, Drain, DrainHead, EndHead, EndsBehind, EndsEarlyOf, Entry, Feed, FeedHead, Head, Held, IsHeadIn, IsHeadOf, IsInFeed, IsReadTo, IsStepOf, IsTaken, LONGEST_CAPTURE, ReadingOf, Reopen, ReopenHead, Restart, RestartHead, State, Step, StopsBehind, Take, TakeHead, TakesNoMore, after_all, all_done, bytes_announced, bytes_of_step, compactions, compactions_from, connections_after, entries, entries_from, events_added, head_of, head_text, no_bytes, readable_from, step_text, with_bytes}
 use Rattle.std.proofs.lemmas.List.{append-nil, nil_from_length}
-use Rattle.gts_directory.specs.Directory.{Directory}
-use Rattle.gts_event.specs.State.{State}
-use Rattle.gts_event.specs.declared.event.Entry.{Entry}
-use Rattle.gts_event.specs.History.{after_all}
-use Rattle.gts_event.specs.Drain.{all_done}
-use Rattle.gts_connection.specs.Connection.{events_added}
-use Rattle.gts_connection.specs.declared.kind.CaptureKind.{CaptureKind}
-use Rattle.gts_connection.specs.Capture.{Step, Feed, Take, Reopen, Drain, Restart, Compact, Head, FeedHead, TakeHead, ReopenHead, DrainHead, RestartHead, CompactHead, EndHead, head_text, head_of, bytes_of_step, step_text, IsHeadOf, ReadingOf, EndsEarlyOf, Connections, no_bytes, with_bytes, entries_from, connections_after, entries, compactions_from, compactions}
 use Rattle.gts_connection.proofs.LawLemmas.{entries_go_on, compactions_go_on, compactions_between}
-use Rattle.gts_connection.specs.declared.limits.TheConstants.{LONGEST_CAPTURE}
-use Rattle.gts_capture.specs.{IsHeadIn, bytes_announced, IsReadTo, IsTaken, IsInFeed, readable_from}
-use Rattle.gts_capture.specs.Held.{Held}
 use Rattle.gts_capture.proofs.LawLemmas.{one_step, in_feed, head_goes_on, feed_goes_on, taken_feed}
-use Rattle.gts_replay.specs.Ending.{IsStepOf, EndsBehind, StopsBehind, TakesNoMore}
 use Rattle.gts_replay.proofs.FeedingLemmas.{done_twice}
 use Rattle.gts_replay.proofs.RunLemmas.{ReadsHead}
 

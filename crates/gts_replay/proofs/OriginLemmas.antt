@@ -1,20 +1,11 @@
 -- The origin as the journal is compacted.
 use Rattle.std.proofs.Common.{◌≡◌, ℕ, ◌+◌, ◌<◌, ◌≤◌, Bool, true, false, nat_le, cond, List, [], ◌∷◌, ◌++◌, length, take, refl, sym, ap, ◌∙◌, arith, length-append}
-use Rattle.std.specs.List.{AllByRecursion}
+use Rattle.gts_replay.specs.Cited.{AllByRecursion, Compact, Directory, Drain, Entry, Feed, Reopen, Restart, Standing, State, Step, Take, compacted_at, compactions_at, count_at, done_by, entries_at, no_bytes, origin_after, origin_behind, state_at}
 use Rattle.std.proofs.lemmas.Bool.{le-leb, leb-true}
 use Rattle.std.proofs.lemmas.List.{append-nil, take-append-le}
 use Rattle.std.proofs.lemmas.List.Elements.{filter-append}
 use Rattle.std.proofs.Math.Seq.{take-append_seam}
-use Rattle.gts_directory.specs.Directory.{Directory}
-use Rattle.gts_event.specs.State.{State}
-use Rattle.gts_event.specs.declared.event.Entry.{Entry}
-use Rattle.gts_opening.specs.Room.{done_by}
-use Rattle.gts_connection.specs.Capture.{Step, Feed, Take, Reopen, Drain, Restart, Compact, no_bytes, count_at}
 use Rattle.gts_connection.proofs.LawLemmas.{compactions_go_on, compactions_between}
-use Rattle.gts_calls.specs.{Standing}
-use Rattle.gts_replay.specs.Going.{state_at, compacted_at, origin_behind}
-use Rattle.gts_replay.specs.Replay.{entries_at, compactions_at}
-use Rattle.gts_replay.specs.Ending.{origin_after}
 
 abbrev pub AllWithin : ℕ → List ℕ → Type 0
 AllWithin n ks = AllByRecursion (λ k. k ≤ n) ks

@@ -1,23 +1,10 @@
 -- Steps of a capture, one after another.
 use Rattle.std.proofs.Common.{◌≡◌, ℕ, ◌+◌, ◌≤◌, List, [], ◌∷◌, ◌++◌, length, Ok, refl, sym, ap, subst, ◌∙◌, arith, append_assoc, length-append}
 use Rattle.std.proofs.lemmas.List.{append-nil}
-use Rattle.gts_directory.specs.Directory.{Directory}
-use Rattle.gts_event.specs.State.{State}
-use Rattle.gts_event.specs.History.{after_all}
-use Rattle.gts_event.specs.declared.event.Entry.{Entry}
+use Rattle.gts_replay.specs.Cited.{AreStepsOf, CaptureKind, Compact, CompactHead, Connections, Decode, Decoding, Directory, DoesStep, Drain, DrainHead, EndHead, Entry, Feed, FeedHead, Head, Held, IsHeadIn, IsHeadOf, IsReadTo, IsSameCapture, IsStart, IsStepOf, LONGEST_CAPTURE, Reopen, ReopenHead, Restart, RestartHead, Standing, Stands, StandsFor, State, Step, Take, TakeHead, Takes, after_all, after_step, at_start, bytes_announced, bytes_of_step, compacted_at, compactions_at, connections_after, count_at, entries_at, entries_of_step, first_after, head_of, head_text, no_bytes, origin_after, state_at, step_text}
 use Rattle.gts_event.proofs.LawLemmas.{after_all-append}
-use Rattle.gts_frame.specs.Decoder.{Decoding}
-use Rattle.gts_connection.specs.declared.kind.CaptureKind.{CaptureKind}
-use Rattle.gts_connection.specs.Capture.{Step, Feed, Take, Reopen, Drain, Restart, Compact, Head, FeedHead, TakeHead, ReopenHead, DrainHead, RestartHead, CompactHead, EndHead, head_text, head_of, bytes_of_step, step_text, IsHeadOf, AreStepsOf, Connections, no_bytes, entries_of_step, after_step, connections_after, count_at}
 use Rattle.gts_connection.proofs.LawLemmas.{entries_go_on, connections_go_on}
-use Rattle.gts_connection.specs.declared.limits.TheConstants.{LONGEST_CAPTURE}
-use Rattle.gts_capture.specs.{IsHeadIn, bytes_announced, IsReadTo, IsSameCapture, at_start}
-use Rattle.gts_capture.specs.Held.{Held}
 use Rattle.gts_capture.proofs.LawLemmas.{begins, one_step}
-use Rattle.gts_calls.specs.{Standing, Stands}
-use Rattle.gts_replay.specs.Going.{IsStart, StandsFor, state_at, compacted_at, Decode}
-use Rattle.gts_replay.specs.Replay.{entries_at, compactions_at}
-use Rattle.gts_replay.specs.Ending.{IsStepOf, DoesStep, Takes, origin_after, first_after}
 use Rattle.gts_replay.proofs.GoingLemmas.{stands_same, within_all}
 use Rattle.gts_replay.proofs.OriginLemmas.{AllWithin, wider, within_append, counts_more, origin_more}
 

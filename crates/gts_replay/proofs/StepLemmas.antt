@@ -1,24 +1,9 @@
 -- What a step took, and which entries it added.
 use Rattle.std.proofs.Common.{◌≡◌, ℕ, ◌+◌, ◌<◌, ◌≤◌, List, [], ◌∷◌, ◌++◌, length, get_or, set, map, Result, Ok, Err, refl, sym, ap, subst, ◌∙◌, arith, append_assoc, length-append}
 use Rattle.std.proofs.lemmas.List.{append-nil}
-use Rattle.gts_event.specs.declared.event.Event.TheVariants.{Taken}
-use Rattle.gts_event.specs.declared.event.Entry.{Entry}
-use Rattle.gts_event.specs.declared.event.Entry.TheVariants.{Restarted}
-use Rattle.gts_event.specs.declared.outcome.Outcome.{Outcome}
-use Rattle.gts_event.specs.declared.fault.SwitchFault.{SwitchFault}
+use Rattle.gts_replay.specs.Cited.{BreaksOff, Compact, CompactHead, Connections, Decode, Decoding, DoesStep, Drain, DrainHead, EndsBehind, EndsInFeed, Entry, Feed, FeedHead, Feeds, Held, IsAnswered, IsCompacting, IsReopening, IsSameCapture, IsSettling, LONGEST_CAPTURE, OpenFault, Outcome, Remains, Reopen, ReopenHead, Restart, RestartHead, Restarted, Standing, Stands, StandsFor, StepFault, StopsBehind, StopsInFeed, SwitchFault, Take, TakeHead, Taken, Takes, TakesNoMore, all_done, fresh, held_in, no_bytes, readable_from, restart_of, settled, state_at, takes_of_drain}
 use Rattle.gts_event.specs.declared.fault.SwitchFault.TheVariants as switch
-use Rattle.gts_event.specs.Drain.{all_done, takes_of_drain}
-use Rattle.gts_frame.specs.Decoder.{Decoding, fresh}
-use Rattle.gts_frame.specs.Signs.{held_in}
-use Rattle.gts_record.specs.declared.fault.OpenFault.{OpenFault}
-use Rattle.gts_connection.specs.Capture.{Feed, Take, Reopen, Drain, Restart, Compact, FeedHead, TakeHead, ReopenHead, DrainHead, RestartHead, CompactHead, Connections, no_bytes}
-use Rattle.gts_connection.specs.declared.limits.TheConstants.{LONGEST_CAPTURE}
-use Rattle.gts_capture.specs.Held.{Held, IsSameCapture, EndsInFeed, StopsInFeed, readable_from}
-use Rattle.gts_calls.specs.{Standing, Stands, settled, IsAnswered, IsSettling, IsReopening, IsCompacting, restart_of}
-use Rattle.gts_replay.specs.declared.fault.StepFault.{StepFault}
 use Rattle.gts_replay.specs.declared.fault.StepFault.TheVariants as step
-use Rattle.gts_replay.specs.Going.{StandsFor, state_at, BreaksOff, Remains, Decode}
-use Rattle.gts_replay.specs.Ending.{Takes, EndsBehind, StopsBehind, TakesNoMore, Feeds, DoesStep}
 use Rattle.gts_replay.proofs.GoingLemmas.{stands_same, stands_settled, settles_all, settles_not, one_done, call_breaks}
 use Rattle.gts_replay.proofs.DecoderLemmas.{decode_at, decode_set, decode_reopened}
 

@@ -1,19 +1,6 @@
 -- The entries of a capture's steps were done, or are openings: none is in doubt, and none unsaid.
 use Rattle.std.proofs.Common.{◌≡◌, List, [], ◌∷◌, ◌++◌, drop, ap, subst}
-use Rattle.gts_directory.specs.Directory.{Directory}
-use Rattle.gts_event.specs.State.{State}
-use Rattle.gts_event.specs.History.{after_all}
-use Rattle.gts_event.specs.declared.event.Event.{Event}
-use Rattle.gts_event.specs.declared.event.Entry.{Entry}
-use Rattle.gts_event.specs.declared.event.Entry.TheVariants.{Done, Unsaid, Doubt, Restarted}
-use Rattle.gts_event.specs.declared.fault.Device.TheVariants.{Disk, Say}
-use Rattle.gts_event.specs.declared.fault.SwitchFault.{SwitchFault}
-use Rattle.gts_event.specs.declared.fault.SwitchFault.TheVariants.{DiskFault, SayFault, Full, Stopped, Spent, NoMemory}
-use Rattle.gts_event.specs.declared.outcome.Outcome.{Outcome}
-use Rattle.gts_event.specs.Drain.{all_done}
-use Rattle.gts_connection.specs.Capture.{Step, Feed, Take, Reopen, Drain, Restart, Compact, Connections, entries_of_step, after_step, entries_from}
-use Rattle.gts_calls.specs.{IsCause, IsCompactCause}
-use Rattle.gts_replay.specs.Replay.{StoppedBefore}
+use Rattle.gts_replay.specs.Cited.{Compact, Connections, Directory, Disk, DiskFault, Done, Doubt, Drain, Entry, Event, Feed, Full, IsCause, IsCompactCause, NoMemory, Outcome, Reopen, Restart, Restarted, Say, SayFault, Spent, State, Step, Stopped, StoppedBefore, SwitchFault, Take, Unsaid, after_all, after_step, all_done, entries_from, entries_of_step}
 
 -- an entry was done, or is an opening
 abbrev pub Sure : Entry → Type 0

@@ -1,23 +1,14 @@
 -- How a step of a capture was done, or was not done to its end.
 use Rattle.std.specs.Prelude.{◌≡◌, ◌⊎◌, ℕ, ◌+◌, ◌<◌, ◌≤◌, List, [], ◌++◌, length, Result, Ok, Err, IsErrOf, OnOk}
-use Rattle.gts_traits.specs.Counts.{Rose}
-use Rattle.gts_event.specs.declared.event.Entry.{Entry}
-use Rattle.gts_event.specs.declared.fault.SwitchFault.{SwitchFault}
+use Rattle.gts_replay.specs.Cited.Below.{Bad, BreaksOff, CaptureKind, Compact, Connections, Decoding, Entry, Feed, FeedHead, Head, Held, IsCompactCause, IsSameCapture, IsSettling, LONGEST_CAPTURE, Restart, Rose, SourceFault, Standing, Stands, Step, SwitchFault, after_step, bytes_of_step, entries_of_step, head_of, readable_from}
+use Rattle.gts_replay.specs.Going.{StandsFor, state_at, BreaksAtRestart, Remains, Decode, IsFed, BreaksFeed}
 use Rattle.gts_event.specs.declared.fault.SwitchFault.TheVariants as switch
-use Rattle.gts_frame.specs.Decoder.{Decoding}
 use Rattle.gts_record.specs.declared.fault.OpenFault.TheVariants as opening
-use Rattle.gts_connection.specs.Capture.{Step, Feed, Restart, Compact, Head, FeedHead, head_of, bytes_of_step, entries_of_step, after_step, Connections}
-use Rattle.gts_connection.specs.declared.kind.CaptureKind.{CaptureKind}
-use Rattle.gts_connection.specs.declared.limits.TheConstants.{LONGEST_CAPTURE}
-use Rattle.gts_capture.specs.declared.capture_fault.CaptureFault.TheVariants.{Bad, SourceFault}
-use Rattle.gts_capture.specs.Held.{Held, IsSameCapture, readable_from}
-use Rattle.gts_calls.specs.{Standing, Stands, IsSettling, IsCompactCause}
 use Rattle.gts_replay.specs.declared.end.ReplayEnd.{ReplayEnd}
 use Rattle.gts_replay.specs.declared.end.ReplayEnd.TheVariants as end
 use Rattle.gts_replay.specs.declared.fault.StepFault.{StepFault}
 use Rattle.gts_replay.specs.declared.fault.StepFault.TheVariants as step
 use Rattle.gts_replay.specs.Replay.{Ends}
-use Rattle.gts_replay.specs.Going.{StandsFor, state_at, BreaksOff, BreaksAtRestart, Remains, Decode, IsFed, BreaksFeed}
 
 -- the end of a run in which a step was not done to its end
 abbrev pub end_of : StepFault → ReplayEnd

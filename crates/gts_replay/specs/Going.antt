@@ -1,22 +1,6 @@
 -- Entries that a run was to add, and those that it added.
-use Rattle.std.specs.Prelude.{◌≡◌, ℕ, ◌≤◌, List, [], ◌∷◌, ◌++◌, length, take, map, Result, Ok, Err}
-use Rattle.gts_directory.specs.Directory.{Directory}
-use Rattle.gts_event.specs.State.{State, EachRoutedOnce}
-use Rattle.gts_event.specs.History.{after_all}
-use Rattle.gts_event.specs.Need.{IsOrdered, keeps_one}
-use Rattle.gts_event.specs.declared.event.Event.{Event}
-use Rattle.gts_event.specs.declared.event.Entry.{Entry}
-use Rattle.gts_event.specs.declared.event.Entry.TheVariants.{Done, Idle, Doubt, Restarted}
-use Rattle.gts_event.specs.declared.fault.SwitchFault.{SwitchFault}
-use Rattle.gts_event.specs.declared.fault.SwitchFault.TheVariants.{DiskFault, SayFault}
-use Rattle.gts_event.specs.Drain.{all_done, all_unsaid, EachOwedFew}
-use Rattle.gts_frame.specs.Decoder.{Decoding}
-use Rattle.gts_frame.specs.Signs.{held_in}
-use Rattle.gts_record.specs.declared.fault.OpenFault.{OpenFault}
-use Rattle.gts_opening.specs.Room.{done_by}
-use Rattle.gts_connection.specs.Capture.{Connections}
-use Rattle.gts_connection.specs.Connection.{events_added}
-use Rattle.gts_calls.specs.{Standing, Stands, settled, IsCause, IsReopenFault, outcome_at}
+use Rattle.std.specs.Prelude.{◌≡◌, ℕ, List, [], ◌∷◌, ◌++◌, length, take, map}
+use Rattle.gts_replay.specs.Cited.Below.{Connections, Decoding, Directory, DiskFault, EachOwedFew, EachRoutedOnce, Entry, IsOrdered, IsReopenFault, OpenFault, Restarted, Standing, Stands, State, SwitchFault, after_all, all_done, done_by, events_added, held_in, keeps_one, settled}
 use Rattle.std.specs.Prelude.{IsTrue}
 pub use Rattle.gts_feed.specs.Going.{BreaksTogether, BreaksIdle, BreaksOff, Goes}
 

@@ -1,19 +1,8 @@
 -- What a run of a capture through a switch left: what of the capture was read, and which of its entries were added.
 use Rattle.std.specs.Prelude.{◌≡◌, ℕ, ◌≤◌, ◌⊎◌, List, ◌∷◌, ◌++◌, length}
-use Rattle.gts_traits.specs.Counts.{Rose}
-use Rattle.gts_event.specs.declared.event.Entry.{Entry}
-use Rattle.gts_event.specs.declared.fault.Device.TheVariants.{Disk, Say}
-use Rattle.gts_event.specs.declared.fault.SwitchFault.{SwitchFault}
-use Rattle.gts_event.specs.declared.fault.SwitchFault.TheVariants.{DiskFault, SayFault, Stopped, Spent, NoMemory}
-use Rattle.gts_record.specs.declared.fault.OpenFault.{OpenFault}
+use Rattle.gts_replay.specs.Cited.Below.{AreStepsOf, BreaksIdle, BreaksOff, CaptureKind, Compact, Disk, DiskFault, EndsEarlyOf, Entry, HasDoubt, HasUnsaid, IsCompactCause, IsTaken, IsWholeOf, Journaled, NoMemory, OpenFault, ReadingOf, Rose, Say, SayFault, Spent, Standing, Step, Stopped, SwitchFault, compactions, entries, settled}
+use Rattle.gts_replay.specs.Going.{state_at, compacted_at, origin_behind, BreaksAtRestart, Remains}
 use Rattle.gts_record.specs.declared.fault.OpenFault.TheVariants as opening
-use Rattle.gts_connection.specs.declared.kind.CaptureKind.{CaptureKind}
-use Rattle.gts_connection.specs.declared.kind.CaptureKind.TheVariants.{Journaled}
-use Rattle.gts_connection.specs.Capture.{Step, Compact, AreStepsOf, ReadingOf, IsWholeOf, EndsEarlyOf, entries, compactions}
-use Rattle.gts_opening.specs.Room.{HasDoubt, HasUnsaid}
-use Rattle.gts_capture.specs.{IsTaken}
-use Rattle.gts_calls.specs.{Standing, settled, IsCompactCause}
-use Rattle.gts_replay.specs.Going.{state_at, compacted_at, origin_behind, BreaksOff, BreaksIdle, BreaksAtRestart, Remains}
 use Rattle.gts_replay.specs.declared.end.ReplayEnd.{ReplayEnd}
 use Rattle.gts_replay.specs.declared.end.ReplayEnd.TheVariants as end
 

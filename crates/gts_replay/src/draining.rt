@@ -1,8 +1,5 @@
 ghost use Rattle.std.specs.Prelude.{◌≡◌, ◌<◌, ◌^◌, ◌↔◌, ℕ, List, length, IsTrue};
-ghost use Rattle.gts_event.specs.declared.event.Entry.{Entry};
-ghost use Rattle.gts_event.specs.Drain.{all_done, takes_of_drain};
-ghost use Rattle.gts_calls.specs.{HasCallCause};
-ghost use Rattle.gts_replay.specs.Going.{Goes, StandsFor, state_at};
+ghost use Rattle.gts_replay.specs.Cited.{Entry, Goes, HasCallCause, StandsFor, all_done, state_at, takes_of_drain};
 
 use gts_calls::Switch;
 use gts_event::{Outcome, SwitchFault};

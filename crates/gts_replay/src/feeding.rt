@@ -1,10 +1,5 @@
 ghost use Rattle.std.specs.Prelude.{◌≡◌, ◌<◌, ◌++◌, ℕ, List, length, OnOk};
-ghost use Rattle.gts_event.specs.declared.event.Entry.{Entry};
-ghost use Rattle.gts_event.specs.Drain.{all_done};
-ghost use Rattle.gts_frame.specs.Signs.{held_in};
-ghost use Rattle.gts_connection.specs.Cited.{events_added};
-ghost use Rattle.gts_calls.specs.{Stands, HasCallCause};
-ghost use Rattle.gts_replay.specs.Cited.{Goes, Feeds, HasRunCause};
+ghost use Rattle.gts_replay.specs.Cited.{Entry, Feeds, Goes, HasCallCause, HasRunCause, Stands, all_done, events_added, held_in};
 
 use crate::fault::StepFault;
 use gts_calls::Switch;

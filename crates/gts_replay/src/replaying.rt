@@ -1,10 +1,6 @@
 ghost use Rattle.std.specs.Prelude.{◌≡◌, ◌<◌, ◌≤◌, List, length};
-ghost use Rattle.gts_event.specs.declared.event.Entry.{Entry};
-ghost use Rattle.gts_connection.specs.Capture.{no_bytes};
-ghost use Rattle.gts_capture.specs.{IsHeadIn, bytes_announced, head_of, at_start};
-ghost use Rattle.gts_replay.specs.Going.{StandsFor, Decode};
-ghost use Rattle.gts_replay.specs.Replay.{Ends, HasReplayCause};
-ghost use Rattle.gts_replay.specs.Ending.{DoesStep, HasRunCause, EndsSettled, SettlesBehind, HasSettleCause};
+ghost use Rattle.gts_replay.specs.Cited.{Decode, DoesStep, Ends, EndsSettled, Entry, HasReplayCause, HasRunCause, HasSettleCause, IsHeadIn, SettlesBehind, StandsFor, at_start, bytes_announced, no_bytes};
+ghost use Rattle.gts_capture.specs.Heads.{head_of};
 
 use crate::decoders::{new_decoders, reopen_all};
 use crate::draining::drain;

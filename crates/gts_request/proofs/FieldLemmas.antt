@@ -1,27 +1,13 @@
 -- The fields of a line as they are spelled, and as they are read.
-use Rattle.std.proofs.Common.{◌≡◌, inl, inr, ℕ, suc, ◌+◌, ◌<◌, ◌≤◌, ◌^◌, ◌==◌, ◌&&◌, Bool, true, false, nat_eq, List, [], ◌∷◌, ◌++◌, length, take, drop, Result, Ok, Err, refl, sym, ap, subst, ◌∙◌, append_assoc, arith}
-use Rattle.std.specs.Prelude.{if◌then◌else◌, ◌||◌, take_while}
-use Rattle.std.specs.Char.{is_ascii_digit}
-use Rattle.std.specs.Str.Parse.{digits_value}
-use Rattle.std.specs.List.{starts_with, list_all}
-use Rattle.std.proofs.lemmas.Bool.{eqb-true, eq-eqb, false≢true}
+use Rattle.std.proofs.Common.{◌≡◌, inl, inr, ℕ, suc, ◌+◌, ◌<◌, ◌≤◌, ◌^◌, ◌==◌, Bool, true, false, nat_eq, List, [], ◌∷◌, ◌++◌, length, take, drop, Result, Ok, Err, refl, sym, ap, subst, ◌∙◌, append_assoc, arith, if◌then◌else◌, ◌||◌, take_while}
+use Rattle.gts_request.specs.Cited.{Ahd, AskedHeading, Asker, Cccc, EndsBefore, Entry, Field, HeadingFields, IsCount, IsEntry, Item, LacksEntry, LacksNumber, Latest, Line, LineEnd, LineStart, Number, Numbers, One, Range, ReqField, Sqn, after_word, asked, bare_heading_at, count_at, dec, digits_value, entry_text, heading_item, is_ascii_digit, item_at, list_all, number_at, numbers_at, run_at, starts_with}
+use Rattle.gts_request.specs.Request.{◌>>=◌}
+use Rattle.std.proofs.lemmas.Bool.{eqb-true, eq-eqb, false≢true, and_parts}
 use Rattle.std.proofs.lemmas.Int.Digits.{digits_value-lt}
 use Rattle.std.proofs.lemmas.List.{length-take-le, take_at, drop_at, take-append-drop}
 use Rattle.std.proofs.lemmas.List.Sums.{take_while-cons}
-use Rattle.gts_alphabet.specs.Digits.{dec}
 use Rattle.gts_alphabet.proofs.LawLemmas.{length-dec, digits_value-dec, AllDigits-dec, test_from_AllDigits, AllDigits-from_test, dec-digits_value}
-use Rattle.gts_heading.specs.Heading.{HeadingFields}
-use Rattle.gts_heading.specs.Reading.{after_word, bare_heading_at}
-use Rattle.gts_heading.specs.declared.field.Field.{Field}
-use Rattle.gts_heading.specs.declared.field.Field.TheVariants.{Cccc}
 use Rattle.gts_heading.proofs.LawLemmas.{word_takes, bare_is_spelled}
-use Rattle.gts_number.specs.Number.{IsCount}
-use Rattle.gts_request.specs.declared.fault.ReqField.{ReqField}
-use Rattle.gts_request.specs.declared.fault.ReqField.TheVariants.{Asker, LineStart, Number, AskedHeading, LineEnd}
-use Rattle.gts_request.specs.declared.line.Line.{Line}
-use Rattle.gts_request.specs.declared.line.Line.TheVariants.{Sqn, Ahd}
-use Rattle.gts_request.specs.Request.{Item, Numbers, ◌>>=◌, run_at, count_at, number_at, numbers_at, heading_item, item_at}
-use Rattle.gts_request.specs.Grammar.{Entry, One, Range, Latest, entry_text, asked, IsEntry, EndsBefore, LacksNumber, LacksEntry}
 use Rattle.gts_request.proofs.RequestLemmas.{last_at}
 
 -- ---- words
@@ -57,14 +43,10 @@ run_is (x ∷ xs) = go (run_is xs) (is_ascii_digit x) refl
         let P : ℕ → Type 0 = λ k. IsRun k (x ∷ xs) in
         subst P (sym (run_cons x xs false is)) (record { long = omega arith; digits = refl; ends = run_cons x xs false is })
 
-and_true : (a b : Bool) → (a && b) ≡ true → (a ≡ true) × (b ≡ true)
-and_true true b e = (refl, e)
-and_true false b e = absurd (false≢true e)
-
 run_on : (ds rest : List ℕ) → list_all is_ascii_digit ds ≡ true → run_at (ds ++ rest) ≡ length ds + run_at rest
 run_on [] rest all = omega arith
 run_on (d ∷ ds) rest all =
-    let both = and_true (is_ascii_digit d) (list_all is_ascii_digit ds) all in
+    let both = and_parts (is_ascii_digit d) (list_all is_ascii_digit ds) all in
     run_cons d (ds ++ rest) true both.0 ∙ omega (arith, run_on ds rest both.1)
 
 pub run_of_dec : (w n : ℕ) (rest : List ℕ) → run_at rest ≡ 0 → run_at (dec w n ++ rest) ≡ w

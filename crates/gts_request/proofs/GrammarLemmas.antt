@@ -1,21 +1,10 @@
 -- A request's text by its grammar, and as it is read from left to right.
-use Rattle.std.proofs.Common.{◌≡◌, ◌⊎◌, ◌↔◌, inl, inr, ℕ, zero, suc, ◌<◌, ◌&&◌, Bool, true, false, nat_eq, nat_le, List, [], ◌∷◌, ◌++◌, length, take, drop, map, Option, Some, None, Result, Ok, Err, refl, sym, ap, subst, ◌∙◌, append_assoc, arith}
-use Rattle.std.specs.Prelude.{if◌then◌else◌}
-use Rattle.std.specs.List.{starts_with, AllByRecursion}
+use Rattle.std.proofs.Common.{◌≡◌, ◌⊎◌, ◌↔◌, inl, inr, ℕ, zero, suc, ◌<◌, ◌&&◌, Bool, true, false, nat_eq, nat_le, List, [], ◌∷◌, ◌++◌, length, take, drop, map, Option, Some, None, Result, Ok, Err, refl, sym, ap, subst, ◌∙◌, append_assoc, arith, if◌then◌else◌}
+use Rattle.gts_request.specs.Cited.{Ahd, AllByRecursion, AskedLine, Asker, Cccc, EndsBefore, Entry, Field, IsAsker, IsEntry, IsLine, IsRequestFor, Item, Lacks, LacksEnd, LacksEntry, LacksLine, Latest, Line, LineEnd, LineStart, One, Place, Range, ReqField, Sqn, StopsAt, StopsAtLine, StopsInLine, are_capitals, asked, behind_asker, behind_item, behind_line, bytes_from, capitals_at, entry_text, item_at, items_at, items_from, line_items, line_start, line_start_at, line_text, lines_items, lines_text, request_at, slashed, starts_with, step_at}
+use Rattle.gts_request.specs.Request.{◌>>=◌}
 use Rattle.std.proofs.lemmas.Bool.{le-leb, leb-true, false≢true}
 use Rattle.std.proofs.lemmas.List.{append-nil, length-append, length-take-le, take_at, drop_at, take-append-drop}
-use Rattle.gts_heading.specs.Letters.{are_capitals}
-use Rattle.gts_heading.specs.Reading.{capitals_at}
-use Rattle.gts_heading.specs.declared.field.Field.{Field}
-use Rattle.gts_heading.specs.declared.field.Field.TheVariants.{Cccc}
 use Rattle.gts_heading.proofs.LawLemmas.{bare_again}
-use Rattle.gts_request.specs.declared.fault.ReqField.{ReqField}
-use Rattle.gts_request.specs.declared.fault.ReqField.TheVariants.{Asker, LineStart, LineEnd}
-use Rattle.gts_request.specs.declared.line.Line.{Line}
-use Rattle.gts_request.specs.declared.line.Line.TheVariants.{Sqn, Ahd}
-use Rattle.gts_request.specs.Request.{Item, Place, ◌>>=◌, item_at, line_start_at, behind_line, behind_item, step_at, items_at, bytes_from, behind_asker, request_at}
-use Rattle.gts_request.specs.Places.{items_from}
-use Rattle.gts_request.specs.Grammar.{Entry, One, Range, Latest, entry_text, asked, IsEntry, slashed, line_start, AskedLine, IsLine, line_text, line_items, lines_text, lines_items, IsAsker, IsRequestFor, EndsBefore, Lacks, LacksEntry, LacksEnd, LacksLine, StopsInLine, StopsAtLine, StopsAt}
 use Rattle.gts_request.proofs.FieldLemmas.{begins, ItemView, item_view, item_again, item_lacks}
 use Rattle.gts_request.proofs.RequestLemmas.{items_after, fault_at, fault_of_first}
 

@@ -1,13 +1,7 @@
 -- The text of a request as a concatenation of its lines, and where a text that is none goes no further (profile, after the
 -- Manual's form). Nothing here reads from left to right.
 use Rattle.std.specs.Prelude.{◌≡◌, ◌⊎◌, ℕ, ◌^◌, ◌<◌, false, nat_eq, List, [], ◌∷◌, ◌++◌, length, map, Ok, IsTrue, codes}
-use Rattle.std.specs.List.{starts_with, AllByRecursion}
-use Rattle.gts_alphabet.specs.Digits.{dec}
-use Rattle.gts_alphabet.specs.declared.characters.TheConstants.{EOL}
-use Rattle.gts_heading.specs.Heading.{HeadingFields, IsHeading, heading_text}
-use Rattle.gts_heading.specs.Letters.{are_capitals}
-use Rattle.gts_heading.specs.Reading.{bare_heading_at}
-use Rattle.gts_number.specs.Number.{IsCount}
+use Rattle.gts_request.specs.Cited.Below.{AllByRecursion, EOL, HeadingFields, IsCount, IsHeading, are_capitals, bare_heading_at, dec, heading_text, starts_with}
 use Rattle.gts_request.specs.declared.fault.ReqField.{ReqField}
 use Rattle.gts_request.specs.declared.fault.ReqField.TheVariants.{Asker, LineStart, Number, AskedHeading, LineEnd}
 use Rattle.gts_request.specs.declared.line.Line.{Line}

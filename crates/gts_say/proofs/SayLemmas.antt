@@ -1,9 +1,8 @@
 -- What was said in pieces. For the proofs of crates above too.
 use Rattle.std.proofs.Common.{ℕ, List, [], ◌++◌, Result, Ok, Err, inl, inr, refl, sym, ap, ◌∙◌}
 use Rattle.std.proofs.lemmas.List.{append_assoc}
-use Rattle.gts_traits.specs.{Call, Outside, Says, Tries, on, said_by, seen}
+use Rattle.gts_say.specs.Cited.{Call, Outside, Says, SaysFront, SaysOnly, Tells, Tries, on, said_by, seen}
 use Rattle.gts_traits.proofs.OutsideLemmas.{on-append, SaidSince-refl, SaidSince-trans, SaidSince-from_say}
-use Rattle.gts_say.specs.Say.{SaysOnly, SaysFront, Tells}
 
 pub said_none : (calls : List Call) → SaysOnly calls calls []
 said_none calls = record { said = SaidSince-refl calls; files = λ file. refl }

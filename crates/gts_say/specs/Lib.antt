@@ -1,2 +1,2 @@
 pub mod Say
-pub use Rattle.gts_say.specs.Say.{SaysOnly, SaysFront, Tells}
+pub mod Cited

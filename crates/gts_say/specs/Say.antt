@@ -1,6 +1,6 @@
 -- What was said between two moments, where nothing else was done.
 use Rattle.std.specs.Prelude.{◌≡◌, ℕ, List, Result, Ok, Err}
-use Rattle.gts_traits.specs.{Call, Outside, SaidSince, IsFront, seen}
+use Rattle.gts_say.specs.Cited.Below.{Call, IsFront, Outside, SaidSince, seen}
 
 -- from one moment to a later one this was said, and the files are seen as before
 pub record SaysOnly (old new : List Call) (outside : Outside) : Type 0 where

@@ -1,8 +1,7 @@
 //! Laws over the definitions, each the contract of a function with an empty body.
 
 ghost use Rattle.std.specs.Prelude.{List, [], ◌++◌};
-ghost use Rattle.gts_traits.specs.{Call, Outside, IsFront};
-ghost use Rattle.gts_say.specs.Say.{SaysOnly, SaysFront};
+ghost use Rattle.gts_say.specs.Cited.{Call, IsFront, Outside, SaysFront, SaysOnly};
 
 /// From a moment to the same moment nothing is said; what was said up to a moment and from there on is one text; and so is what
 /// was said up to a moment and a front of what was to be said from there on.

@@ -1,7 +1,5 @@
 ghost use Rattle.std.specs.Prelude.{◌≡◌, ◌<◌};
-ghost use Rattle.gts_alphabet.specs.declared.limits.TheConstants.{CHANNELS};
-ghost use Rattle.gts_traits.specs.{HasCause, on};
-ghost use Rattle.gts_say.specs.Say.{Tells};
+ghost use Rattle.gts_say.specs.Cited.{CHANNELS, HasCause, Tells, on};
 
 use gts_traits::{Failed, Station};
 

@@ -1,11 +1,7 @@
 -- The groups of segments, and the texts of their headings.
 use Rattle.std.proofs.Common.{◌≡◌, ℕ, ◌+◌, ◌-◌, ◌*◌, ◌/◌, ◌%◌, ◌<◌, ◌≤◌, ◌⊎◌, inl, inr, Bool, true, false, ◌&&◌, ◌||◌, cond, eqb, List, [], ◌∷◌, length, take, Option, Some, None, IsTrue, IsSome, take_all, refl, sym, ap, ◌∙◌, mod-lt, arith}
-use Rattle.std.specs.Char.{is_ascii_uppercase}
+use Rattle.gts_segments.specs.Cited.{Amendment, Correction, Delayed, GROUPS, LETTERS, LastSegment, PLACES, Segment, group_at, is_ascii_uppercase, is_segment_group, is_segment_kind, kind_of}
 use Rattle.std.proofs.lemmas.Bool.{true≢false, leb-true, le-leb, and_parts, and_from, eqb-true, ne_eqb}
-use Rattle.gts_bbb.specs.declared.bbb.Bbb.TheVariants.{Delayed, Correction, Amendment, Segment, LastSegment}
-use Rattle.gts_bbb.specs.Bbb.{kind_of}
-use Rattle.gts_segments.specs.declared.groups.TheConstants.{LETTERS, PLACES, GROUPS}
-use Rattle.gts_segments.specs.Groups.{group_at, is_segment_kind, is_segment_group}
 
 pub some_group : (group : Option (List ℕ)) → IsTrue (is_segment_group group) → IsSome group
 some_group None is = absurd (true≢false (sym is))

@@ -1,6 +1,6 @@
 -- How many places pass a test, and which.
 use Rattle.std.proofs.Common.{◌≡◌, ◌⊎◌, inl, inr, ℕ, zero, suc, ◌+◌, ◌<◌, ◌≤◌, Bool, true, false, cond, nat_lt, refl, sym, ap, ◌∙◌, add-zero, arith}
-use Rattle.std.proofs.lemmas.Bool.{true≢false, ltb-true, ltb-false}
+use Rattle.std.proofs.lemmas.Bool.{true≢false, ltb-true, ltb-false, false_from_ne_true}
 use Rattle.gts_segments.specs.Segments.{passing}
 
 pub passing-none : (p : ℕ → Bool) (from : ℕ) → passing p from 0 ≡ 0
@@ -23,10 +23,6 @@ pub passing-le : (p : ℕ → Bool) (from n : ℕ) → passing p from n ≤ n
 passing-le p from zero = omega (arith, passing-none p from)
 passing-le p from (suc n) =
     elim (next_of p from n) [ inl h ↦ omega (arith, h.1, passing-le p from n) | inr h ↦ omega (arith, h.1, passing-le p from n) ]
-
-pub bool_false : (b : Bool) → (b ≡ true → ⊥) → b ≡ false
-bool_false true not = absurd (not refl)
-bool_false false not = refl
 
 -- a place below a limit is the last one or is below it
 split_last : (i n : ℕ) → i < suc n → (i < n) ⊎ (i ≡ n)
@@ -115,7 +111,7 @@ passes_one p from (suc n) a there passes only =
     ]
   where
     fails : (i : ℕ) → (p (from + i) ≡ true → ⊥) → p (from + i) ≡ false
-    fails i not = bool_false (p (from + i)) not
+    fails i not = false_from_ne_true (p (from + i)) not
 
 -- one part behind the other
 pub passing-add : (p : ℕ → Bool) (from m n : ℕ) → passing p from (m + n) ≡ passing p from m + passing p (from + m) n

@@ -1,10 +1,8 @@
 -- A set is missing, or whole, as the counts say.
-use Rattle.std.proofs.Common.{◌≡◌, ℕ, ◌+◌, ◌-◌, ◌<◌, ◌≤◌, ◌%◌, Bool, true, false, IsTrue, nat_lt, refl, sym, ap, ◌∙◌, zero-add, mod-lt, arith}
-use Rattle.std.specs.Prelude.{◌↔◌}
-use Rattle.std.proofs.lemmas.Bool.{true≢false, ltb-true, ltb-false}
-use Rattle.gts_segments.specs.declared.groups.TheConstants.{LETTERS, PLACES, GROUPS}
-use Rattle.gts_segments.specs.Segments.{passing, IsMissing, IsComplete}
-use Rattle.gts_segments.proofs.PassingLemmas.{bool_false, none_passes, passes_none, each_passes, passes_each, one_passes, passes_one, passing-add}
+use Rattle.std.proofs.Common.{◌≡◌, ℕ, ◌+◌, ◌-◌, ◌<◌, ◌≤◌, ◌%◌, Bool, true, false, IsTrue, nat_lt, refl, sym, ap, ◌∙◌, zero-add, mod-lt, arith, ◌↔◌}
+use Rattle.std.proofs.lemmas.Bool.{true≢false, ltb-true, ltb-false, false_from_ne_true as bool_false}
+use Rattle.gts_segments.specs.Cited.{GROUPS, IsComplete, IsMissing, LETTERS, PLACES, passing}
+use Rattle.gts_segments.proofs.PassingLemmas.{none_passes, passes_none, each_passes, passes_each, one_passes, passes_one, passing-add}
 
 at_start : (p : ℕ → Bool) (i : ℕ) → p (0 + i) ≡ p i
 at_start p i = ap p (zero-add i)

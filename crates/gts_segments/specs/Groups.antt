@@ -1,10 +1,6 @@
 -- The groups of segments, and the places at which they stand (profile).
 use Rattle.std.specs.Prelude.{ℕ, ◌+◌, ◌/◌, ◌%◌, Bool, true, false, List, [], ◌∷◌, Option, Some, None}
-use Rattle.gts_heading.specs.Heading.{HeadingFields}
-use Rattle.gts_heading.specs.Reading.{with_group}
-use Rattle.gts_bbb.specs.declared.bbb.Bbb.{Bbb}
-use Rattle.gts_bbb.specs.declared.bbb.Bbb.TheVariants.{Segment, LastSegment}
-use Rattle.gts_bbb.specs.Bbb.{kind_of}
+use Rattle.gts_segments.specs.Cited.Below.{Bbb, HeadingFields, LastSegment, Segment, kind_of, with_group}
 
 -- The group at a place: P and two letters, in the order of the alphabet. 80 is P, 65 is A.
 abbrev pub group_at : ℕ → List ℕ

@@ -1,8 +1,6 @@
 -- What is noted of segments, and whether it is a whole set. A set is named by its heading, without its group.
 use Rattle.std.specs.Prelude.{◌≡◌, ℕ, zero, suc, ◌+◌, ◌<◌, ◌≤◌, ◌%◌, ◌↔◌, Bool, false, ◌||◌, nat_eq, IsTrue, List, if◌then◌else◌}
-use Rattle.std.specs.List.{list_any}
-use Rattle.std.specs.Cmp.Lexicographic.{pointwise}
-use Rattle.gts_heading.specs.Heading.{HeadingFields, heading_text}
+use Rattle.gts_segments.specs.Cited.Below.{HeadingFields, heading_text, list_any, pointwise}
 use Rattle.gts_segments.specs.declared.groups.TheConstants.{LETTERS, PLACES, GROUPS}
 use Rattle.gts_segments.specs.Groups.{segment_at}
 

@@ -1,5 +1,5 @@
 ghost use Rattle.std.specs.Prelude.{◌≡◌, ◌<◌, IsTrue};
-ghost use Rattle.gts_heading.specs.{fields_of, is_bbb};
+ghost use Rattle.gts_segments.specs.Cited.{fields_of, is_bbb};
 ghost use Rattle.gts_segments.specs.Groups as groups;
 
 use gts_bbb::Bbb;

@@ -1,9 +1,7 @@
 //! Laws over the definitions, each the contract of a function with an empty body.
 
 ghost use Rattle.std.specs.Prelude.{◌≡◌, ◌+◌, ◌<◌, ℕ, Bool, List, IsTrue, Some};
-ghost use Rattle.gts_bbb.specs.{kind_of};
-ghost use Rattle.gts_segments.specs.Groups.{group_at, is_segment_group};
-ghost use Rattle.gts_segments.specs.Segments.{passing, IsMissing, IsComplete};
+ghost use Rattle.gts_segments.specs.Cited.{IsComplete, IsMissing, group_at, is_segment_group, kind_of, passing};
 
 use crate::groups::{GROUPS, LETTERS, PLACES};
 use gts_bbb::Bbb;

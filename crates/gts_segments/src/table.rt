@@ -1,7 +1,6 @@
 ghost use Rattle.std.specs.Prelude.{◌≡◌, ◌≢◌, ◌+◌, ◌<◌, ◌≤◌, ◌↔◌, ℕ, false, [], IsTrue, IsOk, OnOk, OnErr};
-ghost use Rattle.gts_heading.specs.{fields_of};
+ghost use Rattle.gts_segments.specs.Cited.{IsComplete, IsMissing, NotesToo, fields_of, groups_of, passing};
 ghost use Rattle.gts_segments.specs.Groups as groups;
-ghost use Rattle.gts_segments.specs.Segments.{NotesToo, groups_of, passing, IsMissing, IsComplete};
 
 use crate::groups::{GROUPS, LETTERS, PLACES, group_at, is_segment};
 use gts_alphabet::NoMemory;

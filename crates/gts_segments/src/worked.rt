@@ -1,8 +1,7 @@
 //! Groups by their places, each row the contract of a function with an empty body.
 
 ghost use Rattle.std.specs.Prelude.{◌≡◌, false, true, codes};
-ghost use Rattle.gts_segments.specs.Groups.{group_at};
-ghost use Rattle.gts_segments.specs.Segments.{groups_of, passing};
+ghost use Rattle.gts_segments.specs.Cited.{group_at, groups_of, passing};
 ghost use Rattle.gts_segments.specs.Worked.{two_noted, whole_heading};
 
 /// Segments run from `PAA` to `PAZ`, `PBA` and so on; the last ones are `PZA` to `PZZ`.

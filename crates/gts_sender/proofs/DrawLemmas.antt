@@ -1,27 +1,9 @@
 -- The turns of a sender.
-use Rattle.std.proofs.Common.{◌≡◌, ℕ, ◌≤◌, Bool, Result, zero, suc, ◌+◌, List, [], ◌∷◌, ◌++◌, length, Some, None, true, false, Ok, Err, refl, sym, ap, ◌∙◌, subst, arith, append_assoc, length-append}
-use Rattle.std.specs.Prelude.{replicate}
+use Rattle.std.proofs.Common.{◌≡◌, ℕ, ◌≤◌, Bool, Result, zero, suc, ◌+◌, List, [], ◌∷◌, ◌++◌, length, Some, None, true, false, Ok, Err, refl, sym, ap, ◌∙◌, subst, arith, append_assoc, length-append, replicate}
 use Rattle.std.proofs.lemmas.List.{append-nil, map-append}
-use Rattle.gts_traits.specs.Station.{IsFront}
-use Rattle.gts_directory.specs.Directory.{Directory}
-use Rattle.gts_event.specs.State.{State}
-use Rattle.gts_event.specs.Need.{begun}
-use Rattle.gts_event.specs.History.{outcome, after, after_all}
-use Rattle.gts_event.specs.Said.{line}
-use Rattle.gts_event.specs.declared.event.Event.TheVariants.{Taken}
-use Rattle.gts_event.specs.declared.event.Entry.{Entry}
-use Rattle.gts_event.specs.declared.event.Entry.TheVariants.{Done, Idle, Doubt}
-use Rattle.gts_event.specs.declared.outcome.Outcome.{Outcome}
-use Rattle.gts_event.specs.declared.outcome.Outcome.TheVariants.{Accepted, Duplicate, Asked, Refused, LineLost, Resend, Draw, Nothing}
-use Rattle.gts_event.specs.declared.fault.SwitchFault.{SwitchFault}
-use Rattle.gts_event.specs.declared.fault.SwitchFault.TheVariants.{DiskFault, SayFault, Full, Stopped, Spent, NoMemory}
-use Rattle.gts_desk.specs.Desks.{Seen, own, state_at, under, AddsAll, AddsEntries, LeavesFrame}
-use Rattle.gts_desk.specs.Frames.{frames, own_frames}
-use Rattle.gts_desk.specs.Given.{Frame, takes, given_index, Gave, GaveAll, after_takes, GaveNoMore, most_beside, TakesSome}
+use Rattle.gts_sender.specs.Cited.{Accepted, AddsAll, AddsEntries, AnswersTake, Asked, Breaks, Directory, DiskFault, Done, Doubt, Draw, Duplicate, Entry, Fails, Frame, Full, Gave, GaveAll, GaveNoMore, Idle, IsFront, LeavesFrame, LineLost, NoMemory, Nothing, Outcome, Refused, Resend, SayFault, Seen, SendEnd, Sending, SendsMore, Spent, State, Stopped, SwitchFault, Taken, TakesSome, TookLast, WroteFrames, WroteGiven, WroteUpTo, after, after_all, after_takes, begun, fault_takes, frames, given_index, line, most_beside, outcome, own, own_frames, state_at, takes, texts, under}
 use Rattle.gts_desk.proofs.LawLemmas.{own_added, frames_added, frames_behind, frames_one, own_spent, frames_spent, goes_on, goes_on_spent, goes_further, stays}
-use Rattle.gts_sender.specs.declared.end.SendEnd.{SendEnd}
 use Rattle.gts_sender.specs.declared.end.SendEnd.TheVariants as ends
-use Rattle.gts_sender.specs.Sender.{texts, WroteUpTo, WroteFrames, WroteGiven, Sending, TookLast, Breaks, fault_takes, Fails, SendsMore, AnswersTake}
 use Rattle.gts_sender.proofs.TurnLemmas.{taken, one_take, takes_plus, state_behind, gave_nothing, frames_given, frames_no_more, gave_front}
 
 pub sending_nothing : (c : ℕ) (d : Seen) → Sending c d d []

@@ -1,23 +1,10 @@
 -- The takes of one turn, and the frames that they gave.
-use Rattle.std.proofs.Common.{◌≡◌, ◌⊎◌, ℕ, zero, suc, ◌+◌, List, [], ◌∷◌, ◌++◌, length, Some, None, inl, inr, refl, sym, ap, ◌∙◌, add-one}
-use Rattle.std.specs.Prelude.{replicate}
+use Rattle.std.proofs.Common.{◌≡◌, ◌⊎◌, ℕ, zero, suc, ◌+◌, List, [], ◌∷◌, ◌++◌, length, Some, None, inl, inr, refl, sym, ap, ◌∙◌, add-one, replicate}
 use Rattle.std.proofs.lemmas.List.{append-nil, map-append, replicate-append-replicate}
-use Rattle.gts_directory.specs.Directory.{Directory}
-use Rattle.gts_event.specs.State.{State}
-use Rattle.gts_event.specs.History.{Choice, Repeats, Draws, Nothing_waits, choice, outcome, after, after_all}
-use Rattle.gts_event.specs.Said.{line}
-use Rattle.gts_event.specs.declared.event.Event.TheVariants.{Taken}
-use Rattle.gts_event.specs.declared.event.Entry.{Entry}
-use Rattle.gts_event.specs.declared.event.Entry.TheVariants.{Done}
-use Rattle.gts_event.specs.declared.outcome.Outcome.{Outcome}
-use Rattle.gts_event.specs.declared.outcome.Outcome.TheVariants.{Accepted, Duplicate, Asked, Refused, LineLost, Resend, Draw, Nothing}
+use Rattle.gts_sender.specs.Cited.{Accepted, Asked, Choice, Directory, Done, Draw, Draws, Duplicate, Entry, Frame, Gave, GaveAll, GaveNoMore, LineLost, Nothing, Nothing_waits, Outcome, Refused, Repeats, Resend, State, Taken, after, after_all, after_takes, choice, frame_of, frame_of_outcome, frames, given_index, line, outcome, takes, texts, under}
 use Rattle.gts_event.proofs.LawLemmas.{after_all-append}
 use Rattle.gts_desk.specs.{entries}
-use Rattle.gts_desk.specs.Desks.{under}
-use Rattle.gts_desk.specs.Frames.{frame_of_outcome, frame_of, frames}
-use Rattle.gts_desk.specs.Given.{Frame, takes, given_index, Gave, GaveAll, after_takes, GaveNoMore}
 use Rattle.gts_desk.proofs.LawLemmas.{frames_append, frames_one}
-use Rattle.gts_sender.specs.Sender.{texts}
 
 abbrev pub taken : ℕ → Entry
 taken c = Done (Taken c)

@@ -1,12 +1,8 @@
 -- Frames that are written one after another.
 use Rattle.std.proofs.Common.{◌≡◌, ◌<◌, ◌≤◌, ◌+◌, ℕ, suc, List, [], ◌∷◌, ◌++◌, length, take, drop, Result, Ok, Err, refl, sym, ap, ◌∙◌, subst, arith, append_assoc, add-one, length-drop}
-use Rattle.std.specs.List.{slice_index_or}
+use Rattle.gts_sender.specs.Cited.{Frame, IsFront, Laid, Placed, Wrote, WroteUpTo, frames_in, frames_of, no_frame, slice_index_or, texts}
 use Rattle.std.proofs.Math.Seq.{take-suc, split_at}
 use Rattle.std.proofs.lemmas.List.{append-nil, take_all}
-use Rattle.gts_traits.specs.Station.{IsFront}
-use Rattle.gts_desk.specs.declared.given.Placed.{Placed}
-use Rattle.gts_desk.specs.Given.{Frame, Laid, frames_in, frames_of, no_frame}
-use Rattle.gts_sender.specs.Sender.{texts, Wrote, WroteUpTo}
 
 texts-append : (xs ys : List Frame) → texts (xs ++ ys) ≡ texts xs ++ texts ys
 texts-append [] ys = refl

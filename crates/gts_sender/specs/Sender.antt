@@ -1,20 +1,6 @@
 -- What a sender adds at its desk, and what it writes.
 use Rattle.std.specs.Prelude.{◌≡◌, ℕ, ◌≤◌, Bool, true, false, List, [], ◌∷◌, ◌++◌, replicate, Option, Some, None, Result, Ok, Err}
-use Rattle.gts_traits.specs.Station.{IsFront}
-use Rattle.gts_event.specs.Need.{begun}
-use Rattle.gts_event.specs.History.{outcome, after}
-use Rattle.gts_event.specs.Said.{line}
-use Rattle.gts_event.specs.declared.event.Event.TheVariants.{Taken}
-use Rattle.gts_event.specs.declared.event.Entry.{Entry}
-use Rattle.gts_event.specs.declared.event.Entry.TheVariants.{Done, Doubt}
-use Rattle.gts_event.specs.declared.outcome.Outcome.{Outcome}
-use Rattle.gts_event.specs.declared.outcome.Outcome.TheVariants.{Nothing}
-use Rattle.gts_event.specs.declared.fault.SwitchFault.{SwitchFault}
-use Rattle.gts_event.specs.declared.fault.SwitchFault.TheVariants.{DiskFault, SayFault, Spent, NoMemory}
-use Rattle.gts_calls.specs.Calls.{entry_of}
-use Rattle.gts_desk.specs.Desks.{Seen, own, state_at, under, Answers, LeavesFrame, GoesOn}
-use Rattle.gts_desk.specs.Frames.{frames, own_frames}
-use Rattle.gts_desk.specs.Given.{Frame, takes, given_index, most_beside}
+use Rattle.gts_sender.specs.Cited.Below.{Answers, DiskFault, Done, Doubt, Entry, Frame, GoesOn, IsFront, LeavesFrame, NoMemory, Nothing, Outcome, SayFault, Seen, Spent, SwitchFault, Taken, after, begun, entry_of, frames, given_index, line, most_beside, outcome, own, own_frames, state_at, takes, under}
 use Rattle.gts_sender.specs.declared.end.SendEnd.{SendEnd}
 use Rattle.gts_sender.specs.declared.end.SendEnd.TheVariants.{Quiet, LineFault, Fault}
 

@@ -1,12 +1,6 @@
 //! A law of what a sender sends: the contract of a function with an empty body.
 ghost use Rattle.std.specs.Prelude.{◌≡◌, ℕ, List, [], Bool, Result, Ok, Err, true, false, Some, None};
-ghost use Rattle.gts_traits.specs.{IsFront};
-ghost use Rattle.gts_desk.specs.{Seen};
-ghost use Rattle.gts_event.specs.declared.outcome.Outcome.{Outcome};
-ghost use Rattle.gts_event.specs.declared.fault.SwitchFault.{SwitchFault};
-ghost use Rattle.gts_event.specs.declared.fault.SwitchFault.TheVariants.{SayFault, NoMemory};
-ghost use Rattle.gts_sender.specs.declared.end.SendEnd.TheVariants.{LineFault, Fault};
-ghost use Rattle.gts_sender.specs.{SendEnd, given_index, SendsMore, AnswersTake, WroteGiven};
+ghost use Rattle.gts_sender.specs.Cited.{AnswersTake, Fault, IsFront, LineFault, NoMemory, Outcome, SayFault, Seen, SendEnd, SendsMore, SwitchFault, WroteGiven, given_index};
 
 /// What a take adds to what was sent: the frame that it gave; a front of it, where the line failed in it; and nothing, where it
 /// gave none or was answered with a fault.

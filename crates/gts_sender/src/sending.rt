@@ -1,6 +1,5 @@
 ghost use Rattle.std.specs.Prelude.{◌≡◌, ℕ, ◌<◌, ◌≤◌, List, ◌++◌, length, Err, OnOk, IfErr};
-ghost use Rattle.gts_traits.specs.Counts.{Rose};
-ghost use Rattle.gts_sender.specs.{given_index, Sends, SendsMore, LineStood, WroteGiven};
+ghost use Rattle.gts_sender.specs.Cited.{LineStood, Rose, Sends, SendsMore, WroteGiven, given_index};
 
 use crate::SendEnd;
 use crate::writing::{write_all, write_frames};

@@ -1,7 +1,5 @@
 ghost use Rattle.std.specs.Prelude.{◌≡◌, ◌≤◌, ◌++◌, ℕ, List, IsErr, OnOk, IfErr, Err};
-ghost use Rattle.gts_traits.specs.Counts.{Rose};
-ghost use Rattle.gts_desk.specs.{frames_of};
-ghost use Rattle.gts_sender.specs.Sender.{Wrote, WroteFrames, LineStood};
+ghost use Rattle.gts_sender.specs.Cited.{LineStood, Rose, Wrote, WroteFrames, frames_of};
 
 use crate::SendEnd;
 use gts_desk::Frames;

@@ -2,23 +2,8 @@
 use Rattle.std.proofs.Common.{◌≡◌, ℕ, ◌*◌, ◌<◌, ◌≤◌, true, List, length, arith}
 use mathlib.Core.Option.{some}
 use lib.ListN.{get_elem?}
-use Rattle.atomic_table.specs.Seated.{TableId}
-use Rattle.gts_traits.specs.declared.source.Source.{Ghosts as SourceMeanings}
-use Rattle.gts_traits.specs.declared.sink.Sink.{Ghosts as SinkMeanings}
-use Rattle.gts_traits.specs.Places.{PlaceSeen}
-use Rattle.gts_event.specs.declared.event.Entry.{Entry}
-use Rattle.gts_lock.specs.declared.limits.TheConstants.{MOST_TURNS}
-use Rattle.gts_housed.specs.{Beginning, flat}
-use Rattle.gts_workers.specs.declared.line.Line.{Line}
-use Rattle.gts_workers.specs.{has_end}
-use Rattle.gts_circuits.specs.declared.sockets.Sockets.{Sockets}
-use Rattle.gts_circuits.specs.{LinesStand}
+use Rattle.gts_serve.specs.Cited.{AreOpened, Beginning, Entry, Ghosts as SinkMeanings, Incoming, Line, LinesSeen, LinesStand, MOST_TURNS, Outgoing, PlaceSeen, ReceiverStands, SenderStands, Sockets, SourceMeanings, TableId, flat, has_end, incoming_of, outgoing_of}
 use Rattle.gts_circuits.proofs.PlacesLemmas.{there}
-use Rattle.gts_serve.specs.declared.sockets.Incoming.{Incoming}
-use Rattle.gts_serve.specs.declared.sockets.Outgoing.{Outgoing}
-use Rattle.gts_serve.specs.Serving.{LinesSeen}
-use Rattle.gts_serve.specs.Standing.{AreOpened, ReceiverStands, SenderStands}
-use Rattle.gts_serve.specs.Passing.{incoming_of, outgoing_of}
 use Rattle.gts_serve.proofs.PartedLemmas.{parted, all_ended}
 
 module _ (b : Beginning) {S K : Type 0} (source : SourceMeanings S) (sink : SinkMeanings K) where

@@ -1,23 +1,12 @@
 -- What a circuit's receiver entered and what its sink took, over the whole history.
-use Rattle.std.proofs.Common.{◌≡◌, ℕ, ◌≤◌, List, [], ◌∷◌, ◌++◌, Bool, true, false, refl, sym, ap, ◌∙◌, subst, arith, append_assoc}
+use Rattle.std.proofs.Common.{◌≡◌, ℕ, ◌≤◌, List, [], ◌∷◌, ◌++◌, Bool, true, false, refl, sym, ap, ◌∙◌, arith, append_assoc}
 use Rattle.std.proofs.lemmas.List.{append-nil}
-use Rattle.gts_event.specs.Drain.{all_done}
-use Rattle.gts_event.specs.declared.event.Event.TheVariants.{Taken}
-use Rattle.gts_event.specs.declared.event.Entry.{Entry}
-use Rattle.gts_event.specs.declared.event.Entry.TheVariants.{Done, Idle}
-use Rattle.gts_traits.specs.Connections.{Part}
-use Rattle.gts_receiver.specs.{events_over, goes_on, is_try, settled, fault_entries, AreMost}
-use Rattle.gts_lock.specs.{entries, entries_under}
-use Rattle.gts_lock.specs.declared.limits.TheConstants.{MOST_TURNS}
-use Rattle.gts_desk.specs.{under, takes}
-use Rattle.gts_housed.specs.{Beginning}
-use Rattle.gts_receiver.specs.declared.end.ReceiveEnd.{ReceiveEnd}
-use Rattle.gts_receiver.specs.declared.end.ReceiveEnd.TheVariants.{Ended, LostSync, SourceFault, Long, Fault}
-use Rattle.gts_sender.specs.declared.end.SendEnd.{SendEnd}
+use Rattle.std.proofs.lemmas.Bool.{false_from_ne_true as no_try}
+use Rattle.gts_serve.specs.Cited.{AreMost, Beginning, BreaksOff, Ended, EnteredConnections, Entry, Fault, Idle, IsReceived, IsSent, Long, LostSync, MOST_TURNS, Part, ReceiveEnd, SendEnd, SourceFault, Taken, TookFrames, all_done, entries_under, fault_entries, goes_on, is_try, receiver_name, sender_name, settled, takes, under}
+use Rattle.gts_event.specs.declared.event.Entry.TheVariants.{Done}
 use Rattle.gts_sender.specs.declared.end.SendEnd.TheVariants as sending
-use Rattle.gts_workers.specs.{receiver_name, sender_name}
-use Rattle.gts_serve.specs.Serving.{IsReceived, IsSent, EntersUpTo, EnteredConnections, BreaksOff, TookFrames}
-use Rattle.gts_serve.proofs.PastLemmas.{under-append, under_all, none_behind, frames_whole}
+use Rattle.gts_serve.proofs.PastLemmas.{under-append, none_behind, frames_whole}
+use Rattle.gts_desk.proofs.LawLemmas.{under_all}
 
 abbrev History : Type 0
 History = List (ℕ × Entry)
@@ -55,10 +44,6 @@ none_settled false = refl
 -- a hall has fewer turns than a service has tries
 tried_out : (turns : ℕ) → AreMost turns → turns ≤ MOST_TURNS → ⊥
 tried_out turns many few = omega (arith, many, few)
-
-no_try : (b : Bool) → (b ≡ true → ⊥) → b ≡ false
-no_try true never = absurd (never refl)
-no_try false never = refl
 
 module _ (b : Beginning) (threads : List (ℕ × List Entry)) (history : History) (c connections : ℕ) (earlier : List Part) (last : Part) where
   -- what is so of the entries that the receiver had seen is so of the whole history

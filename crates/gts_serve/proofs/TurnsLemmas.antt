@@ -2,11 +2,7 @@
 use Rattle.std.proofs.Common.{◌≡◌, ◌≤◌, ◌<◌, ◌==◌, ℕ, zero, suc, Bool, true, false, length, List, [], ◌∷◌, ◌++◌, inl, inr, map, refl, sym, ap, ◌∙◌, subst, arith}
 use mathlib.Core.Option.{some, some-injective, some-ne-none}
 use lib.ListN.{get_elem?}
-use Rattle.gts_event.specs.declared.event.Entry.{Entry}
-use Rattle.gts_lock.specs.{entries_under}
-use Rattle.gts_desk.specs.{under}
-use Rattle.gts_housed.specs.{flat}
-use Rattle.gts_circuits.specs.{NamesAreUpTo}
+use Rattle.gts_serve.specs.Cited.{Entry, NamesAreUpTo, entries_under, flat, under}
 use Rattle.gts_serve.proofs.DrainLemmas.{in_both}
 
 -- ---- the names

@@ -2,41 +2,8 @@
 use Rattle.std.specs.Prelude.{◌≡◌, ◌⊎◌, ℕ, ◌+◌, ◌*◌, ◌<◌, ◌≤◌, Bool, true, false, List, [], ◌∷◌, ◌++◌, length, map, Option, Some, None, Err, if◌then◌else◌}
 use mathlib.Core.Option.{some}
 use lib.ListN.{get_elem?}
-use Rattle.atomic_table.specs.Seated.{TableId}
-use Rattle.gts_traits.specs.Calls.{Call}
-use Rattle.gts_traits.specs.Counts.{Rose}
-use Rattle.gts_traits.specs.Connections.{Part}
-use Rattle.gts_traits.specs.Lines.{CircuitBytes}
-use Rattle.gts_traits.specs.Places.{PlaceSeen}
-use Rattle.std.specs.Net.Addr.{ipv4_octets}
-use Rattle.gts_traits.specs.Station.{IsFront}
-use Rattle.gts_traits.specs.declared.lines.Lines.{Ghosts as LinesMeanings}
-use Rattle.gts_directory.specs.Directory.{Directory, Circuit}
-use Rattle.gts_event.specs.Need.{begun}
-use Rattle.gts_event.specs.History.{outcome, after}
-use Rattle.gts_event.specs.Said.{line}
-use Rattle.gts_event.specs.Drain.{all_done}
-use Rattle.gts_event.specs.State.{on_circuit, waiting}
-use Rattle.gts_event.specs.declared.event.Event.{Event}
-use Rattle.gts_event.specs.declared.event.Event.TheVariants.{Taken}
-use Rattle.gts_event.specs.declared.event.Entry.{Entry}
+use Rattle.gts_serve.specs.Cited.Below.{AreOver, Beginning, Call, Circuit, CircuitBytes, Directory, DiskFault, Ended, Engine, Entry, Event, Fault, IsFront, Known, LineFault, LineStood, LinesMeanings, LostSync, MOST_TURNS, NamesAreUpTo, Part, PlaceSeen, Quiet, ReceiveEnd, Receives, Rose, SayFault, Seen, SendEnd, Sends, SourceFault, Stands, StartsWith, SwitchFault, TableId, Taken, WentThroughAll, after, all_done, begun, entries, entries_under, events_over, fault_entries, flat, frames, fresh, given_index, goes_on, ipv4_octets, is_try, line, most_beside, on_circuit, outcome, receiver_name, sender_name, settled, state_at, takes, waiting}
 use Rattle.gts_event.specs.declared.event.Entry.TheVariants as of_entry
-use Rattle.gts_event.specs.declared.fault.SwitchFault.{SwitchFault}
-use Rattle.gts_event.specs.declared.fault.SwitchFault.TheVariants.{DiskFault, SayFault}
-use Rattle.gts_lock.specs.{Known, entries, entries_under, StartsWith}
-use Rattle.gts_lock.specs.declared.limits.TheConstants.{MOST_TURNS}
-use Rattle.gts_desk.specs.{Seen, frames, takes, most_beside}
-use Rattle.gts_engine.specs.Engine.{Engine}
-use Rattle.gts_engine.specs.Origin.{state_at}
-use Rattle.gts_housed.specs.{Beginning, Stands, flat}
-use Rattle.gts_receiver.specs.{events_over, goes_on, is_try, settled, fault_entries, Receives, AreOver, WentThroughAll}
-use Rattle.gts_receiver.specs.declared.end.ReceiveEnd.{ReceiveEnd}
-use Rattle.gts_receiver.specs.declared.end.ReceiveEnd.TheVariants.{Ended, LostSync, SourceFault, Fault}
-use Rattle.gts_sender.specs.{Sends, LineStood, given_index}
-use Rattle.gts_sender.specs.declared.end.SendEnd.{SendEnd}
-use Rattle.gts_sender.specs.declared.end.SendEnd.TheVariants.{Quiet, LineFault}
-use Rattle.gts_workers.specs.{fresh, receiver_name, sender_name}
-use Rattle.gts_circuits.specs.{NamesAreUpTo}
 use Rattle.gts_serve.specs.declared.end.ServeEnd.{ServeEnd}
 use Rattle.gts_serve.specs.declared.end.ServeEnd.TheVariants.{Done, NotOpened, Receiver, Sender, NoMemory}
 
@@ -292,7 +259,8 @@ module _ {P : Type 0} (tells : Type 0) (calls : P → List Call) (disk say : P �
     pub end_is : end ≡ first_fault 0 ends
     pub at_rest : end ≡ Done → IsAtRest b (goes_on connections) (length ends) (entries (flat threads ++ drained))
     -- a circuit whose sender ended with nothing to send has nothing left, whatever became of the others
-    pub quiet : (c : ℕ) (x : ReceiveEnd × SendEnd) → get_elem? ends c ≡ some x → x.1 ≡ Quiet → HasNothing b c (entries (flat threads ++ drained))
+    pub quiet : (c : ℕ) (x : ReceiveEnd × SendEnd) → get_elem? ends c ≡ some x → x.1 ≡ Quiet
+        → HasNothing b c (entries (flat threads ++ drained))
     -- done is answered only where each source that tells began all its connections, and each was read to its end or lost
     -- synchronisation
     pub went_through : end ≡ Done → source_tells → (c : ℕ) → c < length ends

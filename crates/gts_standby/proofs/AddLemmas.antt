@@ -1,24 +1,10 @@
 -- Records of a feed are added to a journal.
-use Rattle.std.proofs.Common.{◌≡◌, ℕ, zero, suc, ◌+◌, ◌-◌, ◌≤◌, Bool, true, false, cond, List, [], ◌∷◌, ◌++◌, length, drop, Option, Some, None, Result, Ok, Err, refl, sym, ap, ◌∙◌, arith, length-append}
-use Rattle.std.specs.Prelude.{nat_lt}
+use Rattle.std.proofs.Common.{◌≡◌, ℕ, zero, suc, ◌+◌, ◌-◌, ◌≤◌, Bool, true, false, cond, List, [], ◌∷◌, ◌++◌, length, drop, Option, Some, None, Result, Ok, Err, refl, sym, ap, ◌∙◌, arith, length-append, nat_lt}
 use Rattle.std.proofs.lemmas.Bool.{le-ltb}
 use Rattle.std.proofs.lemmas.List.{append_assoc}
-use Rattle.gts_traits.specs.{Call, seen}
-use Rattle.gts_directory.specs.Directory.{Directory}
-use Rattle.gts_event.specs.State.{State}
-use Rattle.gts_event.specs.History.{after, restarted}
-use Rattle.gts_event.specs.Need.{Need, need}
-use Rattle.gts_record.specs.declared.fault.OpenFault.{OpenFault}
-use Rattle.gts_record.specs.declared.version.Version.{Version}
-use Rattle.gts_record.specs.Record.{Record, Accept, Drew, record_text, record_at}
-use Rattle.gts_record.specs.Format.{seal, seal_size, sealed, sealed_at, record_size, written}
+use Rattle.gts_standby.specs.Cited.{Accept, Breaks, Call, Core, Directory, Drew, Ends, HoldsAt, InHand, IsOpened, Need, OpenFault, OpensTo, Read, Record, StandsFor, State, Taken, Version, add_all, adding, admits, after, event_of_record, files_read, may_be_cut, may_begin, need, opened_of, record_behind, record_size, record_text, restarted, seal, seal_size, sealed, sealed_at, seen, stopped, written}
+use Rattle.gts_record.specs.Record.{record_at}
 use Rattle.gts_record.proofs.LawLemmas.{record_at-found, sealed_at-stands, sealed_fits, length-sealed}
-use Rattle.gts_opening.specs.Journal.{event_of_record, admits, record_behind, files_read, Read, opened_of}
-use Rattle.gts_core.specs.Core.{Core}
-use Rattle.gts_journal.specs.{InHand, StandsFor, OpensTo}
-use Rattle.gts_recovery.specs.{IsOpened}
-use Rattle.gts_standby.specs.Taking.{Taken, Ends, Breaks, stopped, adding, may_begin, may_be_cut, add_all}
-use Rattle.gts_standby.specs.Adding.{HoldsAt}
 
 pub holds_of : (tells : Type 0) (d : Directory) (calls : List Call) (core : Core) (j : InHand) (o : IsOpened tells d calls core j) → HoldsAt tells d o.state calls core j
 holds_of tells d calls core j o = record { kept = o.kept; current = o.current; ended = o.ended; stands = o.stands }

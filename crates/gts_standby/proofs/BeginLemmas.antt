@@ -2,23 +2,10 @@
 use Rattle.std.proofs.Common.{◌≡◌, ◌≢◌, ◌⊎◌, inl, inr, ℕ, ◌+◌, ◌-◌, ◌^◌, ◌<◌, true, List, [], length, Ok, refl, sym, ap, subst, ◌∙◌, arith}
 use Rattle.std.proofs.lemmas.Bool.{cases_eq}
 use Rattle.std.proofs.lemmas.List.{append-nil}
-use Rattle.gts_traits.specs.Calls.{Call, Outside, said_by}
-use Rattle.gts_traits.specs.Disk.{Files, seen}
-use Rattle.gts_traits.specs.Moments.{EachSince}
+use Rattle.gts_standby.specs.Cited.{Call, Directory, EachSince, Files, FitsLimit, HasWritten, HoldsState, InHand, LeavesBoth, LeavesOthers, Need, OpensOneOf, OpensTo, Outside, StandsFor, StandsOn, State, Version, WorksBeside, begun, closed_gate, compacted_bytes, file_opens, is_sound, need_seal, said_by, seen, selected, selecting, unowed, written}
 use Rattle.gts_traits.proofs.LawLemmas.{weaker, joined}
-use Rattle.gts_directory.specs.Directory.{Directory}
-use Rattle.gts_event.specs.State.{State}
-use Rattle.gts_event.specs.Need.{Need, begun, is_sound}
-use Rattle.gts_record.specs.declared.version.Version.{Version}
-use Rattle.gts_record.specs.Record.{closed_gate}
-use Rattle.gts_record.specs.Format.{written}
 use Rattle.gts_opening.proofs.LawLemmas.{file_opens-checkpoint, selected_few}
 use Rattle.gts_journal.proofs.LawLemmas.{selected_stands, both_left, same_stands_for}
-use Rattle.gts_opening.specs.Journal.{selected, compacted_bytes, file_opens, unowed, FitsLimit}
-use Rattle.gts_checkpoint.specs.Alone.{LeavesOthers, WorksBeside}
-use Rattle.gts_checkpoint.specs.Writing.{HasWritten, need_seal}
-use Rattle.gts_journal.specs.{InHand, StandsOn, StandsFor, OpensTo, LeavesBoth, HoldsState, selecting}
-use Rattle.gts_standby.specs.Beginning.{OpensOneOf}
 use Rattle.gts_standby.proofs.AddLemmas.{opened_need}
 
 -- ---- what a crash leaves

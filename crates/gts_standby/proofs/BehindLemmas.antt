@@ -1,18 +1,9 @@
 -- What is behind a place ends the feed.
-use Rattle.std.proofs.Common.{◌≡◌, ℕ, zero, suc, ◌+◌, ◌-◌, Bool, true, false, ◌&&◌, nat_eq, nat_le, List, [], ◌∷◌, ◌++◌, length, take, drop, Option, Some, None, inl, inr, refl, sym, ap, subst, ◌∙◌, arith, append_assoc}
-use Rattle.std.specs.Prelude.{◌==◌, ◌⊎◌}
-use Rattle.std.specs.Cmp.Lexicographic.{same_text, pointwise}
+use Rattle.std.proofs.Common.{◌≡◌, ℕ, zero, suc, ◌+◌, ◌-◌, Bool, true, false, ◌&&◌, nat_eq, nat_le, List, [], ◌∷◌, ◌++◌, length, take, drop, Option, Some, None, inl, inr, refl, sym, ap, subst, ◌∙◌, arith, append_assoc, ◌==◌, ◌⊎◌}
+use Rattle.gts_standby.specs.Cited.{EndsWith, HasFront, IsBehindFront, Need, Record, Version, behind_at, behind_place, checkpoint_text, compacted_bytes, feed, feed_at, feed_behind, first_seal, found_since, held, is_checkpoint, need_in, open_gate, pointwise, record_at, record_size, record_text, same_text, seal, sealed, sealed_at, where_so}
 use Rattle.std.proofs.lemmas.Bool.{and_parts}
 use Rattle.std.proofs.lemmas.List.{append-nil}
-use Rattle.gts_event.specs.Need.{Need}
-use Rattle.gts_record.specs.declared.version.Version.{Version}
-use Rattle.gts_record.specs.Record.{Record, record_text, open_gate}
-use Rattle.gts_record.specs.Format.{seal, sealed, sealed_at, record_size, first_seal, held}
-use Rattle.gts_opening.specs.Journal.{checkpoint_text, compacted_bytes, need_in}
-use Rattle.gts_journal.specs.{is_checkpoint}
 use Rattle.gts_journal.proofs.LawLemmas.{one_back}
-use Rattle.gts_standby.specs.Feed.{feed, feed_at, feed_behind}
-use Rattle.gts_standby.specs.Since.{record_at, where_so, behind_at, behind_place, found_since, EndsWith, IsBehindFront, HasFront}
 use Rattle.gts_standby.proofs.FeedLemmas.{feed_of_record, feed_of_gate}
 use Rattle.gts_standby.proofs.SinceLemmas.{by_place}
 

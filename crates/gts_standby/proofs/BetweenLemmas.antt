@@ -1,25 +1,10 @@
 -- What a standby has and what it lacks are the feed.
-use Rattle.std.proofs.Common.{◌≡◌, ℕ, zero, suc, ◌+◌, ◌-◌, ◌≤◌, Bool, true, false, ◌&&◌, nat_eq, nat_le, List, [], ◌∷◌, ◌++◌, length, take, drop, Option, Some, None, Ok, Err, refl, sym, ap, subst, ◌∙◌, arith, append_assoc}
-use Rattle.std.specs.Prelude.{◌==◌}
-use Rattle.std.specs.Cmp.Lexicographic.{same_text, pointwise}
+use Rattle.std.proofs.Common.{◌≡◌, ℕ, zero, suc, ◌+◌, ◌-◌, ◌≤◌, Bool, true, false, ◌&&◌, nat_eq, nat_le, List, [], ◌∷◌, ◌++◌, length, take, drop, Option, Some, None, Ok, Err, refl, sym, ap, subst, ◌∙◌, arith, append_assoc, ◌==◌}
+use Rattle.gts_standby.specs.Cited.{AreOneBySeal, Damaged, Directory, Files, IsFoundBehind, Need, Read, Record, StandsFed, State, Version, admits_checkpoint, after, begun, behind_at, behind_place, checkpoint_text, compacted_bytes, empty, event_of_record, feed, feed_at, feed_behind, file_opens, files_read, first_seal, header_fault, held, is_checkpoint, magic, need_in, pointwise, record_at, record_size, record_text, records_at, records_fed, same_text, seal, seal_behind, seal_size, sealed, selected, selected_bytes, where_so, written}
 use Rattle.std.proofs.lemmas.Bool.{and_parts, eqb-true}
 use Rattle.std.proofs.lemmas.List.{append-nil, take_all}
-use Rattle.gts_traits.specs.{Files}
-use Rattle.gts_directory.specs.Directory.{Directory}
-use Rattle.gts_event.specs.State.{State, empty}
-use Rattle.gts_event.specs.History.{after}
-use Rattle.gts_event.specs.Need.{Need, begun}
-use Rattle.gts_record.specs.declared.version.Version.{Version}
-use Rattle.gts_record.specs.declared.fault.OpenFault.TheVariants.{Damaged}
-use Rattle.gts_record.specs.Record.{Record, record_text}
-use Rattle.gts_record.specs.Format.{magic, seal, sealed, seal_size, record_size, first_seal, held, written}
 use Rattle.gts_record.proofs.LawLemmas.{length-seal}
-use Rattle.gts_opening.specs.Journal.{Read, event_of_record, admits_checkpoint, checkpoint_text, compacted_bytes, need_in, records_at, file_opens, files_read, selected}
-use Rattle.gts_journal.specs.{header_fault, is_checkpoint, selected_bytes}
 use Rattle.gts_journal.proofs.LawLemmas.{opens_behind}
-use Rattle.gts_standby.specs.Feed.{feed, feed_at, feed_behind}
-use Rattle.gts_standby.specs.Since.{record_at, where_so, behind_at, behind_place}
-use Rattle.gts_standby.specs.Between.{seal_behind, records_fed, StandsFed, AreOneBySeal, IsFoundBehind}
 use Rattle.gts_standby.proofs.BehindLemmas.{feed_on}
 use Rattle.gts_standby.proofs.FeedLemmas.{feed_one, feed_none, AtEntry, IsEnd, IsRecord, at_entry}
 use Rattle.gts_standby.proofs.FirstLemmas.{by_admission}

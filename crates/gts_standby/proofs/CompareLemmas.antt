@@ -1,28 +1,10 @@
 -- The records of a journal are compared with those of a feed.
 use Rattle.std.proofs.Common.{◌≡◌, ℕ, ◌+◌, ◌-◌, ◌<◌, ◌≤◌, Bool, true, false, cond, nat_eq, List, [], ◌∷◌, length, drop, Option, Some, Result, Ok, Err, refl, sym, ap, subst, ◌∙◌, arith}
-use Rattle.std.specs.Cmp.Lexicographic.{pointwise}
-use Rattle.gts_traits.specs.{Call, Did, Syncs, seen}
-use Rattle.gts_directory.specs.Directory.{Directory}
-use Rattle.gts_event.specs.Need.{Need}
-use Rattle.gts_record.specs.Record as texts
-use Rattle.gts_record.specs.Record.{record_text}
-use Rattle.gts_record.specs.Format.{seal, record_size, first_seal, held, written}
-use Rattle.gts_record.specs.Value.{record_of}
+use Rattle.gts_standby.specs.Cited.{Call, Compares, Did, Directory, DiskFault, Diverged, Done, Feed, FollowEnd, Gives, HasCompared, HasGoneOn, HasRead, InFeed, InHand, IsAtFirst, IsAtSeals, IsBehindOne, IsDamage, IsDevice, IsFaultOf, Leads, Need, NoMemory, Open, OpenFault, Parts, Piece, Sealed, SourceFault, StandsOn, StopsAs, StopsAt, Syncs, Taken, Version, admits_checkpoint, by_piece, checkpoint_seals, checkpoint_text, compacted_bytes, compare_all, compare_first, compared, file_of, first_piece, first_seal, held, is_at_checkpoint, is_checkpoint, need_in, next_entry, next_seal, open_end, own_seals, pointwise, record_of, record_piece, record_size, seal, seals_at, seals_behind, seals_here, seen, selected, stopped, written}
 use Rattle.gts_record.specs.declared.value.Record.{Record}
-use Rattle.gts_record.specs.declared.version.Version.{Version}
-use Rattle.gts_record.specs.declared.fault.OpenFault.{OpenFault}
+use Rattle.gts_checkpoint.specs.Reading.{HasRead as HasReadNeed}
+use Rattle.gts_record.specs.Record as texts
 use Rattle.gts_record.specs.declared.fault.OpenFault.TheVariants as opening
-use Rattle.gts_opening.specs.Journal.{checkpoint_text, compacted_bytes, need_in, admits_checkpoint, selected}
-use Rattle.gts_checkpoint.specs.Reading.{HasRead as HasReadNeed, IsDamage}
-use Rattle.gts_journal.specs.{InHand, StandsOn, file_of, next_entry, next_seal, Gives, HasGoneOn, is_checkpoint, is_at_checkpoint, IsFaultOf}
-use Rattle.gts_standby.specs.declared.end.FollowEnd.{FollowEnd}
-use Rattle.gts_standby.specs.declared.end.FollowEnd.TheVariants.{Done, Open, Feed, Diverged, SourceFault, DiskFault, NoMemory}
-use Rattle.gts_standby.specs.Ahead.{InFeed}
-use Rattle.gts_standby.specs.Shipping.{IsAtFirst}
-use Rattle.gts_standby.specs.Taking.{Taken, Parts, stopped, Piece, Sealed, by_piece, compared, record_piece, first_piece, compare_all, compare_first, seals_at, seals_behind, checkpoint_seals}
-use Rattle.gts_standby.specs.Following.{open_end, own_seals}
-use Rattle.gts_standby.specs.Reading.{HasRead, StopsAt, StopsAs}
-use Rattle.gts_standby.specs.Comparing.{Leads, IsAtSeals, IsBehindOne, IsDevice, IsOwnEnd, HasCompared, Compares, seals_here}
 use Rattle.gts_standby.proofs.FeedLemmas.{leads_on, none_left, left_split}
 use Rattle.gts_standby.proofs.FirstLemmas.{plain_first, checkpoint_reaches}
 
@@ -52,24 +34,6 @@ device_start opening.NoJournal found is none = none opening.NoJournal is
 device_start opening.OldVersion found is none = none opening.OldVersion is
 device_start (opening.NotThis want there) found is none = none (opening.NotThis want there) is
 device_start (opening.Damaged file at) found is none = none (opening.Damaged file at) is
-
--- what an opening's fault is answered with
-pub own_end : (e : OpenFault) → IsOwnEnd (open_end e)
-own_end opening.DiskFault = tt
-own_end opening.NoMemory = tt
-own_end opening.NoJournal = tt
-own_end opening.OldVersion = tt
-own_end (opening.NotThis want found) = tt
-own_end (opening.Damaged file at) = tt
-
--- a disk's fault is one
-pub disk_end : (e : OpenFault) → open_end e ≡ DiskFault → e ≡ opening.DiskFault
-disk_end opening.DiskFault is = refl
-disk_end opening.NoMemory is = absurd (cc is)
-disk_end opening.NoJournal is = absurd (cc is)
-disk_end opening.OldVersion is = absurd (cc is)
-disk_end (opening.NotThis want found) is = absurd (cc is)
-disk_end (opening.Damaged file at) is = absurd (cc is)
 
 -- ---- the journal goes on
 

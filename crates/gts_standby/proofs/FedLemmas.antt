@@ -1,25 +1,13 @@
 -- The next record of a feed, by the bytes that were read ahead.
-use Rattle.std.proofs.Common.{◌≡◌, ◌⊎◌, ⊎_elim, ℕ, ◌+◌, ◌-◌, ◌<◌, ◌≤◌, Bool, true, false, cond, List, [], ◌∷◌, ◌++◌, length, take, drop, replicate, Option, Some, None, Result, Ok, Err, nat_eq, refl, sym, ap, subst, ◌∙◌, arith, length-append}
-use Rattle.std.specs.Prelude.{nat_lt, nat_le, is_some, option_map, min, codes, IfOk, IsErrOf}
+use Rattle.std.proofs.Common.{◌≡◌, ◌⊎◌, ⊎_elim, ℕ, ◌+◌, ◌-◌, ◌<◌, ◌≤◌, Bool, true, false, cond, List, [], ◌∷◌, ◌++◌, length, take, drop, replicate, Option, Some, None, Result, Ok, Err, nat_eq, refl, sym, ap, subst, ◌∙◌, arith, length-append, nat_lt, nat_le, is_some, min, codes, IfOk, IsErrOf, append_assoc}
 use Rattle.std.proofs.lemmas.List.{drop_all, take_all}
 use Rattle.std.proofs.lemmas.Bool.{le-ltb}
 use Rattle.std.proofs.lemmas.Bool.Decides.{nat_tests}
-use Rattle.std.proofs.Common.{append_assoc}
-use Rattle.std.specs.List.{starts_with}
-use Rattle.gts_alphabet.specs.declared.limits.TheConstants.{LONGEST_BODY}
-use Rattle.gts_frame.specs.declared.kind.Kind.TheVariants.{An, Bi, Fx}
-use Rattle.gts_record.specs.declared.version.Version.{Version}
-use Rattle.gts_record.specs.declared.version.Version.TheVariants.{One, Two}
-use Rattle.gts_record.specs.Record.{Record, Accept, Drew, record_text, record_at, is_short}
-use Rattle.gts_record.specs.Format.{seal, seal_size, sealed, sealed_at, record_size}
+use Rattle.gts_standby.specs.Cited.{Accept, An, Bi, Breaks, Broken, Cut, DiskFault, Diverged, Done, Drew, Ends, Feed, FollowEnd, Fx, HasRead, InFeed, IsFedEnd, IsLookedEnd, IsUnsealed, LONGEST, LONGEST_BODY, NoMemory, Open, Piece, Record, Sealed, SourceFault, StopsAs, Taken, Version, by_piece, is_short, may_be_cut, may_begin, record_piece, record_size, record_text, rest_of, seal, seal_size, sealed, sealed_at, starts_with, stopped, unsealed}
+use Rattle.gts_record.specs.Record.{record_at}
 use Rattle.gts_record.proofs.LawLemmas.{record_at-found, record_at-stands, found_fits, length-sealed, sealed_at-found, sealed_at-stands, sealed_fits}
-use Rattle.gts_standby.specs.declared.fed.TheConstants.{LONGEST}
-use Rattle.gts_standby.specs.declared.end.FollowEnd.{FollowEnd}
-use Rattle.gts_standby.specs.declared.end.FollowEnd.TheVariants.{Done, Open, Feed, Diverged, SourceFault, DiskFault, NoMemory}
-use Rattle.gts_standby.specs.Ahead.{InFeed}
-use Rattle.gts_standby.specs.Taking.{Taken, Ends, Breaks, stopped, Piece, Cut, Broken, Sealed, rest_of, may_begin, may_be_cut, unsealed, record_piece, by_piece}
-use Rattle.gts_standby.specs.Reading.{HasRead, IsFedEnd, IsLookedEnd, IsUnsealed, StopsAs}
 use Rattle.gts_standby.proofs.HeaderLemmas.{no_more}
+use Rattle.gts_journal.proofs.LawLemmas.{few_bytes}
 
 -- ---- records at the front of bytes and of more
 
@@ -29,10 +17,6 @@ text_length (Accept from An position body) short = let few : nat_le (length body
 text_length (Accept from Bi position body) short = let few : nat_le (length body) LONGEST_BODY ≡ true = short in grind (arith, nat_tests)
 text_length (Accept from Fx position body) short = let few : nat_le (length body) LONGEST_BODY ≡ true = short in grind (arith, nat_tests)
 text_length (Drew circuit position index) short = omega arith
-
-pub few_bytes : (v : Version) → seal_size v ≤ 32
-few_bytes One = omega arith
-few_bytes Two = omega arith
 
 -- a text at the front of bytes and of more stands at the front of the bytes, where they are as many
 split_front : (p more t rest : List ℕ) → p ++ more ≡ t ++ rest → length t ≤ length p → (back : List ℕ) × (p ≡ t ++ back)
@@ -208,11 +192,6 @@ filled_up bytes text whole more size start count least is many long filled =
     ∙ ap (λ (l : List ℕ). l ++ replicate (size - count) 0) (take_all size whole (omega (arith, long, many)))
     ∙ ap (λ (k : ℕ). whole ++ replicate k 0) (let e : size - count ≡ LONGEST_BODY = omega (arith, long) in e)
     ∙ ap (λ (l : List ℕ). l ++ replicate LONGEST_BODY 0) (is ∙ ap (λ (l : List ℕ). bytes ++ l) (drop_min (length bytes) text start least))
-
--- whether a record was found
-pub some_mapped : {A B : Type 0} (f : A → B) (o : Option A) → is_some o ≡ is_some (option_map f o)
-some_mapped f None = refl
-some_mapped f (Some x) = refl
 
 -- by the first byte
 abbrev text_by : Bool → List ℕ

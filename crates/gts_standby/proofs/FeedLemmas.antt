@@ -1,23 +1,9 @@
 -- What is left of a feed, record by record.
-use Rattle.std.proofs.Common.{◌≡◌, ℕ, zero, suc, ◌+◌, ◌-◌, ◌<◌, ◌≤◌, Bool, true, false, List, [], ◌∷◌, ◌++◌, length, take, drop, Option, Some, None, Result, Ok, Err, refl, sym, ap, subst, ◌∙◌, arith, length-append, length-drop}
-use Rattle.std.specs.Prelude.{◌==◌}
+use Rattle.std.proofs.Common.{◌≡◌, ℕ, zero, suc, ◌+◌, ◌-◌, ◌<◌, ◌≤◌, Bool, true, false, List, [], ◌∷◌, ◌++◌, length, take, drop, Option, Some, None, Result, Ok, Err, refl, sym, ap, subst, ◌∙◌, arith, length-append, length-drop, ◌==◌}
 use Rattle.std.proofs.lemmas.List.{drop-drop, take_at}
-use Rattle.gts_directory.specs.Directory.{Directory}
-use Rattle.gts_event.specs.State.{State}
-use Rattle.gts_event.specs.History.{after}
-use Rattle.gts_record.specs.declared.version.Version.{Version}
-use Rattle.gts_record.specs.declared.fault.OpenFault.{OpenFault}
-use Rattle.gts_record.specs.declared.fault.OpenFault.TheVariants.{Damaged}
-use Rattle.gts_record.specs.Record.{Record, record_text, open_gate}
-use Rattle.gts_record.specs.Format.{seal, sealed, sealed_at, record_size}
+use Rattle.gts_standby.specs.Cited.{Damaged, Directory, Leads, OpenFault, Reaches, Read, Record, State, Version, admits, after, entry_at, event_of_record, feed_at, open_gate, record_size, record_text, records_at, seal, sealed, sealed_at, seals_at}
 use Rattle.gts_record.proofs.LawLemmas.{length-sealed, sealed_at-stands}
-use Rattle.gts_opening.specs.Journal.{event_of_record, admits, Read, records_at}
-use Rattle.gts_journal.specs.{entry_at}
 use Rattle.gts_journal.proofs.LawLemmas.{at_mark, at_found, was_found, one_back, reads_one, refuses_one, reads_end_there, reads_fault}
-use Rattle.gts_standby.specs.Feed.{feed_at}
-use Rattle.gts_standby.specs.Shipping.{Reaches}
-use Rattle.gts_standby.specs.Taking.{seals_at}
-use Rattle.gts_standby.specs.Comparing.{Leads}
 
 -- ---- the feed from a gate on
 

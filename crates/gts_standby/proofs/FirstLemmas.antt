@@ -1,33 +1,14 @@
 -- How a feed begins.
-use Rattle.std.proofs.Common.{◌≡◌, ℕ, ◌+◌, ◌-◌, ◌*◌, ◌≤◌, Bool, true, false, cond, ◌&&◌, nat_eq, nat_le, nat_lt, List, [], ◌∷◌, ◌++◌, length, take, drop, Option, Some, None, Result, Ok, Err, inl, inr, refl, sym, ap, subst, ◌∙◌, arith, append_assoc, length-append, length-drop, take-append-drop}
-use Rattle.std.specs.Prelude.{◌==◌, IfErr, OnOk, not}
-use Rattle.std.specs.List.{starts_with}
-use Rattle.std.specs.Cmp.Lexicographic.{same_text, pointwise}
+use Rattle.std.proofs.Common.{◌≡◌, ℕ, ◌+◌, ◌-◌, ◌*◌, ◌≤◌, Bool, true, false, cond, ◌&&◌, nat_eq, nat_le, List, [], ◌∷◌, ◌++◌, length, take, drop, Option, Some, None, Result, Ok, Err, inl, inr, refl, sym, ap, subst, ◌∙◌, arith, append_assoc, length-append, length-drop, take-append-drop, IfErr, OnOk, not}
+use Rattle.gts_standby.specs.Cited.{Call, Damaged, Did, Directory, GoesOnBehind, InHand, IsAnswer, IsAtFirst, IsAtGate, IsDamage, IsFaultOf, IsQuiet, IsShipFault, Need, OnlySyncs, OpenFault, Opened, Reaches, Read, SaysFront, SaysHere, SaysOnly, SaysRest, ShipFault, ShipsOnly, StandsFor, StandsOn, State, Syncs, Version, admits_checkpoint, agreeing, begun, behind_header, checkpoint_feed, checkpoint_opens, checkpoint_text, compacted_bytes, draw_size, due, empty, feed, feed_at, feed_behind, feed_of, file_of, file_opens, files_read, first_fault, first_seal, header_fault, is_at_checkpoint, is_checkpoint, is_sealed, is_sound, magic, need, need_in, on, opened_of, opens, records_at, restarted, said_by, same_text, seal, sealed, seen, selected, selected_bytes, ship_fault, starts_with, written}
+use Rattle.gts_checkpoint.specs.Reading.{HasRead}
 use Rattle.std.proofs.lemmas.Bool.{and_parts}
-use Rattle.std.proofs.lemmas.Bool.Decides.{nat_tests}
 use Rattle.std.proofs.lemmas.List.{take_at, append-nil}
-use Rattle.gts_traits.specs.{Call, Did, Syncs, on, said_by, seen}
-use Rattle.gts_say.specs.Say.{SaysOnly, SaysFront}
 use Rattle.gts_say.proofs.SayLemmas.{said_none}
-use Rattle.gts_directory.specs.Directory.{Directory}
-use Rattle.gts_event.specs.State.{State, empty}
-use Rattle.gts_event.specs.History.{restarted}
-use Rattle.gts_event.specs.Need.{Need, need, begun, is_sound}
-use Rattle.gts_record.specs.declared.version.Version.{Version}
-use Rattle.gts_record.specs.declared.fault.OpenFault.{OpenFault}
 use Rattle.gts_record.specs.declared.fault.OpenFault.TheVariants as opening
-use Rattle.gts_record.specs.declared.fault.OpenFault.TheVariants.{Damaged}
-use Rattle.gts_record.specs.Format.{magic, is_older, seal, sealed, is_sealed, first_seal, draw_size, written}
 use Rattle.gts_record.proofs.LawLemmas.{length-sealed}
-use Rattle.gts_opening.specs.Journal.{agreeing, selected, Opened, Read, due, checkpoint_text, compacted_bytes, need_in, admits_checkpoint, checkpoint_opens, records_at, file_opens, files_read, opened_of, opens}
-use Rattle.gts_checkpoint.specs.Reading.{HasRead, IsDamage}
-use Rattle.gts_journal.specs.{InHand, StandsOn, StandsFor, OnlySyncs, file_of, selected_bytes, first_fault, IsFaultOf, header_fault, is_checkpoint, is_at_checkpoint}
 use Rattle.gts_journal.proofs.LawLemmas.{faulty_header, opens_behind}
-use Rattle.gts_recovery.specs.Opened.{IsAnswer}
-use Rattle.gts_standby.specs.declared.fault.ShipFault.{ShipFault}
 use Rattle.gts_standby.specs.declared.fault.ShipFault.TheVariants as fault
-use Rattle.gts_standby.specs.Feed.{feed, feed_at, feed_behind, checkpoint_feed}
-use Rattle.gts_standby.specs.Shipping.{ship_fault, SaysHere, IsQuiet, Reaches, IsAtGate, IsAtFirst, GoesOnBehind, SaysRest, behind_header, feed_of, ShipsOnly, IsShipFault}
 use Rattle.gts_standby.proofs.SayLemmas.{says_more, fronts_behind, fronts_more}
 
 -- ---- the header
@@ -36,23 +17,6 @@ abbrev pub fault_by : Version → List ℕ → ℕ → List ℕ → (is_empty is
 fault_by v mark file bytes is_empty is_old begins is_short is_ours =
     cond is_empty (Some opening.NoJournal) (cond is_old (Some opening.OldVersion) (cond (not begins) (Some (Damaged file (agreeing (magic v) bytes))) (cond is_short (Some (Damaged file (length bytes)))
     (cond (not is_ours) (Some (opening.NotThis mark (take 32 (drop 8 bytes)))) None))))
-
-not_short : (v : Version) (mark : List ℕ) (file : ℕ) (bytes : List ℕ) (is_empty is_old begins is_short is_ours : Bool) → fault_by v mark file bytes is_empty is_old begins is_short is_ours ≡ None → is_short ≡ false
-not_short v mark file bytes true is_old begins is_short is_ours is = absurd (cc is)
-not_short v mark file bytes false true begins is_short is_ours is = absurd (cc is)
-not_short v mark file bytes false false false is_short is_ours is = absurd (cc is)
-not_short v mark file bytes false false true true is_ours is = absurd (cc is)
-not_short v mark file bytes false false true false is_ours is = refl
-
--- all of a sound header is there
-pub header_there : (v : Version) (mark : List ℕ) (file : ℕ) (bytes : List ℕ) → header_fault v mark file bytes ≡ None → 40 ≤ length bytes
-header_there v mark file bytes is =
-    let no : nat_lt (length bytes) 40 ≡ false =
-    not_short v mark file bytes (length bytes == 0) (is_older v bytes) (starts_with nat_eq bytes (magic v)) (nat_lt (length bytes) 40) (pointwise nat_eq (take 32 (drop 8 bytes)) mark) is in
-    long (length bytes) no
-  where
-    long : (n : ℕ) → nat_lt n 40 ≡ false → 40 ≤ n
-    long n h = grind (arith, nat_tests)
 
 -- ---- without a checkpoint
 

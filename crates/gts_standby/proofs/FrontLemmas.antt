@@ -1,29 +1,11 @@
 -- What a front of a feed adds is a front of what the feed adds.
-use Rattle.std.proofs.Common.{◌≡◌, inr, ℕ, zero, suc, ◌+◌, ◌-◌, ◌^◌, ◌<◌, ◌≤◌, Bool, true, false, cond, ◌&&◌, List, [], ◌∷◌, ◌++◌, length, take, drop, replicate, Option, Some, None, Result, Ok, Err, nat_eq, nat_le, nat_lt, refl, sym, ap, subst, ◌∙◌, arith, length-append}
-use Rattle.std.specs.Prelude.{codes, ◌==◌, not}
-use Rattle.std.specs.List.{starts_with}
-use Rattle.std.specs.Cmp.Lexicographic.{pointwise}
-use Rattle.std.proofs.lemmas.Bool.{and_parts}
+use Rattle.std.proofs.Common.{◌≡◌, inr, ℕ, zero, suc, ◌+◌, ◌-◌, ◌^◌, ◌<◌, ◌≤◌, Bool, true, false, cond, ◌&&◌, List, [], ◌∷◌, ◌++◌, length, take, drop, replicate, Option, Some, None, Result, Ok, Err, nat_eq, nat_le, nat_lt, refl, sym, ap, subst, ◌∙◌, arith, length-append, codes, ◌==◌, not}
+use Rattle.gts_standby.specs.Cited.{AddsFront, AddsNothing, AddsPart, Bad, Behind, Breaks, Broken, Cut, Directory, End, Ends, Files, InFeed, Need, OpenFault, Parts, Piece, Reached, Read, Record, Sealed, Short, State, Taken, Version, add_all, adding, admits, admits_checkpoint, after, agreeing, and_then, begin_first, begin_with, begun, begun_taken, behind_all, behind_bulletin, behind_checkpoint, behind_circuit, behind_counted, behind_lists, bulletin_size, by_piece, checkpoint_piece, checkpoint_seals, checkpoint_text, circuit_size, comes_to, compacted_bytes, compare_all, compared, empty, entry_at, event_of_record, files_read, first_piece, first_seal, is_behind, is_checkpoint, is_checkpoint_fed, is_further, is_other_first, is_sealed, least_bulletin, least_front, magic, may_be_cut, need, need_in, number_at, or_anew, or_else, own_seals, pointwise, reach, reach_found, record_behind, record_piece, record_size, record_text, records_at, seal, seal_size, sealed_at, seals_at, seals_behind, selected, selected_bytes, starts_with, stopped, take_records, taken, written}
+use Rattle.std.proofs.lemmas.Bool.{and_parts, ltb-false}
 use Rattle.std.proofs.lemmas.Bool.Decides.{nat_tests}
 use Rattle.std.proofs.lemmas.List.{append-nil, length-drop}
-use Rattle.gts_traits.specs.{Files}
-use Rattle.gts_directory.specs.Directory.{Directory}
-use Rattle.gts_event.specs.State.{State, empty}
-use Rattle.gts_event.specs.History.{after}
-use Rattle.gts_event.specs.Need.{Need, need, begun}
-use Rattle.gts_record.specs.declared.version.Version.{Version}
-use Rattle.gts_record.specs.declared.fault.OpenFault.{OpenFault}
-use Rattle.gts_record.specs.Record.{Record, record_text}
-use Rattle.gts_record.specs.Format.{magic, seal, seal_size, is_sealed, sealed_at, first_seal, record_size, written}
-use Rattle.gts_opening.specs.Journal.{Read, agreeing, admits, event_of_record, record_behind, checkpoint_text, compacted_bytes, need_in, admits_checkpoint, selected, files_read, records_at}
 use Rattle.gts_opening.proofs.LawLemmas.{magic_size}
-use Rattle.gts_journal.specs.{entry_at, is_checkpoint, selected_bytes}
 use Rattle.gts_journal.proofs.LawLemmas.{opens_behind, reads_end_there, reads_fault}
-use Rattle.gts_standby.specs.Ahead.{InFeed}
-use Rattle.gts_standby.specs.Taking.{Taken, Ends, Breaks, Parts, stopped, adding, Piece, Cut, Broken, Sealed, may_be_cut, record_piece, Reached, Short, Bad, Behind, or_else, number_at, reach, reach_found, least_bulletin, bulletin_size, behind_bulletin, circuit_size, behind_circuit, and_then, behind_all, least_front, behind_counted, behind_lists, behind_checkpoint, checkpoint_piece, is_checkpoint_fed, first_piece, seals_at, checkpoint_seals, seals_behind, by_piece, compared, compare_all, add_all, begin_with, begin_first, is_behind, is_further, is_other_first, or_anew, End, take_records, taken}
-use Rattle.gts_standby.specs.Following.{own_seals, comes_to}
-use Rattle.gts_standby.specs.Beginning.{begun_taken}
-use Rattle.gts_standby.specs.Fronts.{AddsFront, AddsNothing, AddsPart}
 use Rattle.gts_standby.proofs.HeaderLemmas.{all_agree, agreeing-low}
 use Rattle.gts_standby.proofs.FedLemmas.{sealed_more, found_fits_there, piece_by}
 use Rattle.gts_standby.proofs.ScanLemmas.{drop_front, or_else_read, reach_on, sealed_piece}
@@ -127,9 +109,6 @@ head_more text p more at long =
     let front : InFeed = record { bytes = p; is_all = false } in
     or_else_read text (p ++ more) more front at (record { is = refl; all = λ e. absurd (cc e) }) (inr long)
 
-not_few : (m n : ℕ) → nat_lt m n ≡ false → n ≤ m
-not_few m n few = grind (arith, nat_tests)
-
 -- a place that is reached in a front is reached in the whole
 reach_more : (limit : ℕ) (p more : List ℕ) (at size k : ℕ) → reach limit p at size ≡ Behind k → (reach limit (p ++ more) at size ≡ Behind k) × (at + size ≤ length p)
 reach_more limit p more at size k is = by_far (nat_lt limit (at + size)) refl is
@@ -138,8 +117,8 @@ reach_more limit p more at size k is = by_far (nat_lt limit (at + size)) refl is
         → (reach limit (p ++ more) at size ≡ Behind k) × (at + size ≤ length p)
     by_short true far few e = absurd (cc e)
     by_short false far few e =
-        let there : at + size ≤ length p = not_few (length p) (at + size) few in
-        (reach_on limit (p ++ more) at size (not_few limit (at + size) far) (omega (arith, there, length-append p more)) ∙ e, there)
+        let there : at + size ≤ length p = ltb-false (length p) (at + size) few in
+        (reach_on limit (p ++ more) at size (ltb-false limit (at + size) far) (omega (arith, there, length-append p more)) ∙ e, there)
 
     by_far : (b : Bool) → nat_lt limit (at + size) ≡ b → cond b Bad (cond (nat_lt (length p) (at + size)) Short (Behind (at + size))) ≡ Behind k
         → (reach limit (p ++ more) at size ≡ Behind k) × (at + size ≤ length p)
@@ -241,7 +220,7 @@ checkpoint_more v limit before p more size last is = by_reached (behind_checkpoi
         → (checkpoint_piece v limit before (p ++ more) ≡ Sealed size last) × (size ≤ length p)
     by_few k true reached few e = absurd (cc e)
     by_few k false reached few e =
-        let low : k + seal_size v ≤ length p = not_few (length p) (k + seal_size v) few in
+        let low : k + seal_size v ≤ length p = ltb-false (length p) (k + seal_size v) few in
         let front : InFeed = record { bytes = p; is_all = false } in
         let all : InFeed = record { bytes = p; is_all = true } in
         let b : Bool = starts_with nat_eq (drop k p) (seal v before (take k p)) in

@@ -1,30 +1,11 @@
 -- Records of a feed are gathered behind a journal, and brought into it.
 use Rattle.std.proofs.Common.{◌≡◌, inl, inr, ℕ, ◌+◌, ◌<◌, ◌≤◌, Bool, true, cond, List, [], ◌∷◌, ◌++◌, length, Option, Some, refl, sym, ap, subst, ◌∙◌, arith, length-append}
 use Rattle.std.proofs.lemmas.List.{map-append}
-use Rattle.gts_traits.specs.{Call}
+use Rattle.gts_standby.specs.Cited.{AreNext, Breaks, Call, CanGather, Core, Directory, Ends, Feed, Gathered, Gathering, Gathers, HasAppendedBlock, HasBrought, HasGatheredOne, HoldsAt, HoldsBehind, InFeed, InHand, IsBlock, IsGathered, IsGathering, IsJudged, IsKept, MayBring, MayHaveBrought, OpensToOneOf, Record, StandsBehind, StandsFor, State, StopsAs, Version, admits, after, after_records, beyond_block, chain_text, closed_gate, event_of_record, gate_behind, held, last_seal, may_be_cut, no_records, open_gate, record_size, record_text, seal, sealed, sealed_at, stopped, texts_of, written}
 use Rattle.gts_traits.proofs.LawLemmas.{started}
-use Rattle.gts_directory.specs.Directory.{Directory}
-use Rattle.gts_event.specs.State.{State}
-use Rattle.gts_event.specs.History.{after}
-use Rattle.gts_record.specs.declared.version.Version.{Version}
-use Rattle.gts_record.specs.Record.{Record, record_text, closed_gate, open_gate}
-use Rattle.gts_record.specs.Format.{seal, sealed, sealed_at, held, record_size, chain_text, last_seal, texts_of, written}
 use Rattle.gts_record.proofs.LawLemmas.{last_seal-append}
-use Rattle.gts_opening.specs.Journal.{admits, event_of_record, after_records}
-use Rattle.gts_core.specs.Core.{Core}
-use Rattle.gts_journal.specs.{InHand, StandsFor}
-use Rattle.gts_journal.specs.Batch.{Gathered, Gathers, IsBlock, no_records, beyond_block, HasAppendedBlock, AreNext, OpensToOneOf}
 use Rattle.gts_journal.proofs.LawLemmas.{gathered_block, records_more, next_none, next_more, batch_stands, images_open}
-use Rattle.gts_recovery.specs.{IsJudged}
-use Rattle.gts_recovery.specs.Reading.{IsKept}
 use Rattle.gts_recovery.proofs.KeptLemmas.{kept_on}
-use Rattle.gts_standby.specs.declared.end.FollowEnd.TheVariants.{Feed}
-use Rattle.gts_standby.specs.declared.gathering.Gathering.{Gathering}
-use Rattle.gts_standby.specs.Ahead.{InFeed}
-use Rattle.gts_standby.specs.Taking.{Ends, Breaks, stopped, may_be_cut}
-use Rattle.gts_standby.specs.Reading.{StopsAs}
-use Rattle.gts_standby.specs.Adding.{HoldsAt}
-use Rattle.gts_standby.specs.Gathering.{gate_behind, StandsBehind, IsGathered, HoldsBehind, IsGathering, CanGather, HasGatheredOne, HasBrought, MayHaveBrought, MayBring}
 use Rattle.gts_standby.proofs.AddLemmas.{whole_uncut}
 
 -- ---- what was gathered

@@ -1,38 +1,15 @@
 -- So many records of a feed were added to a journal, and so many gathered behind it.
 use Rattle.std.proofs.Common.{◌≡◌, inl, inr, ℕ, ◌+◌, ◌-◌, ◌≤◌, cond, List, [], ◌∷◌, ◌++◌, length, drop, Option, Some, None, Ok, refl, sym, ap, subst, ◌∙◌, arith, length-append, length-drop}
 use Rattle.std.proofs.lemmas.List.{append-nil, append_assoc}
-use Rattle.gts_traits.specs.{Call, Files, Outside, seen, said_by, SaidSince, EachSince}
+use Rattle.gts_standby.specs.Cited.{AsBefore, Breaks, Call, Core, Directory, DiskFault, Diverged, Done, EachSince, Ends, EndsAs, Feed, Files, FollowEnd, Gathered, Gathering, GathersNone, HasAdded, HasBrought, HasGatheredOne, HasRead, HoldsAt, HoldsBehind, InFeed, InHand, IsEnd, IsFedEnd, IsFinished, MayBring, MayHaveBrought, Need, NoMemory, Open, OpensTo, OpensToOneOf, OpensWithin, Outside, Record, SaidSince, SourceFault, StandsFor, State, StopsAt, Taken, Version, WithFront, add_all, adding, after, after_records, chain_text, closed_gate, event_of_record, gate_behind, last_seal, may_be_cut, no_records, open_gate, read_after, read_begun, read_behind, record_behind, record_size, record_text, said_by, seal, sealed, seen, start_of, stopped, texts_of, written}
 use Rattle.gts_traits.proofs.LawLemmas.{started, joined}
-use Rattle.gts_directory.specs.Directory.{Directory}
-use Rattle.gts_event.specs.State.{State}
-use Rattle.gts_event.specs.History.{after}
-use Rattle.gts_event.specs.Need.{Need}
-use Rattle.gts_record.specs.declared.version.Version.{Version}
-use Rattle.gts_record.specs.Record.{Record, record_text, open_gate, closed_gate}
-use Rattle.gts_record.specs.Format.{seal, sealed, record_size, chain_text, last_seal, texts_of, written}
 use Rattle.gts_record.proofs.LawLemmas.{length-sealed}
-use Rattle.gts_opening.specs.Journal.{event_of_record, after_records, record_behind}
-use Rattle.gts_core.specs.Core.{Core}
-use Rattle.gts_journal.specs.{InHand, StandsFor, OpensTo}
-use Rattle.gts_journal.specs.Batch.{Gathered, no_records, OpensToOneOf}
 use Rattle.gts_journal.proofs.LawLemmas.{images_open}
-use Rattle.gts_standby.specs.declared.end.FollowEnd.{FollowEnd}
-use Rattle.gts_standby.specs.declared.end.FollowEnd.TheVariants.{Done, Open, Feed, Diverged, SourceFault, DiskFault, NoMemory}
-use Rattle.gts_standby.specs.declared.gathering.Gathering.{Gathering}
-use Rattle.gts_standby.specs.Ahead.{InFeed}
-use Rattle.gts_standby.specs.Taking.{Taken, Ends, Breaks, stopped, adding, may_be_cut, add_all}
-use Rattle.gts_standby.specs.Following.{EndsAs, IsEnd, start_of, read_behind, read_begun, read_after, OpensWithin, AsBefore, WithFront}
-use Rattle.gts_standby.specs.Reading.{HasRead, IsFedEnd, StopsAt}
-use Rattle.gts_standby.specs.Adding.{HoldsAt, HasAdded}
-use Rattle.gts_standby.specs.Gathering.{gate_behind, HoldsBehind, HasGatheredOne, GathersNone, HasBrought, MayHaveBrought, MayBring, IsFinished}
 use Rattle.gts_standby.proofs.AddLemmas.{next_is, read_now, opened_now, no_begin, not_empty, some_text, one_step, no_step}
 use Rattle.gts_standby.proofs.GatherLemmas.{gate_on, ok, seal_on, state_on, held_one, brought_holds}
+use Rattle.gts_opening.proofs.LawLemmas.{after_records-append}
 
 -- ---- records behind records
-
-after-append : (d : Directory) (s : State) (rs qs : List Record) → after_records d s (rs ++ qs) ≡ after_records d (after_records d s rs) qs
-after-append d s [] qs = refl
-after-append d s (r ∷ rs) qs = after-append d (after d s (event_of_record r)) rs qs
 
 read-append : (d : Directory) (x : State × ℕ × List ℕ) (rs qs : List Record) → read_behind d x (rs ++ qs) ≡ read_behind d (read_behind d x rs) qs
 read-append d x [] qs = refl
@@ -113,7 +90,7 @@ module _ (tells stells : Type 0) (tell : tells) (stell : stells) (d : Directory)
 
   -- the state behind all of them
   both_so : t ≡ after_records d s (g.done ++ g.more)
-  both_so = ap (λ (q : State). after_records d q g.more) g.settled_is ∙ sym (after-append d s g.done g.more)
+  both_so = ap (λ (q : State). after_records d q g.more) g.settled_is ∙ sym (after_records-append d s g.done g.more)
 
   -- a crash while they are brought leaves what was there, or all of them
   either_so : (files : Files) (later : Outside) → OpensToOneOf d g.settled t files later → OpensWithin d s all files ([] ++ later)

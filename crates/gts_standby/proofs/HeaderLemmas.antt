@@ -1,14 +1,9 @@
 -- The header of a feed.
-use Rattle.std.proofs.Common.{◌≡◌, ◌≢◌, ◌⊎◌, ⊎_elim, ℕ, zero, suc, ◌<◌, ◌≤◌, Bool, true, false, cond, List, [], ◌∷◌, ◌++◌, length, drop, refl, sym, ap, subst, ◌∙◌, arith, length-append}
-use Rattle.std.specs.Prelude.{◌==◌, nat_le}
+use Rattle.std.proofs.Common.{◌≡◌, ◌≢◌, ◌⊎◌, ⊎_elim, ℕ, zero, suc, ◌<◌, ◌≤◌, Bool, true, false, cond, List, [], ◌∷◌, ◌++◌, length, drop, refl, sym, ap, subst, ◌∙◌, arith, length-append, ◌==◌, nat_le}
 use Rattle.std.proofs.lemmas.Bool.{ne_eqb}
 use Rattle.std.proofs.lemmas.Bool.Decides.{nat_tests}
 use Rattle.std.proofs.lemmas.List.{append-nil}
-use Rattle.gts_opening.specs.Journal.{agreeing}
-use Rattle.gts_standby.specs.Ahead.{InFeed}
-use Rattle.gts_standby.specs.Taking.{Taken, Ends, Breaks, stopped, by_header}
-use Rattle.gts_standby.specs.Reading.{HasRead, StopsAt}
-use Rattle.gts_standby.specs.declared.end.FollowEnd.TheVariants.{Done, Feed}
+use Rattle.gts_standby.specs.Cited.{Breaks, Done, Ends, Feed, HasRead, InFeed, StopsAt, Taken, agreeing, by_header, stopped}
 
 -- no more agree than there are
 pub agreeing-low : (xs ys : List ℕ) → agreeing xs ys ≤ length ys

@@ -1,26 +1,11 @@
 -- What the feed of a journal comes to beside one that has no records.
-use Rattle.std.proofs.Common.{◌≡◌, ℕ, zero, suc, ◌+◌, ◌-◌, ◌^◌, ◌<◌, ◌≤◌, Bool, true, false, cond, List, [], ◌∷◌, ◌++◌, length, take, drop, Some, None, Ok, Err, nat_eq, nat_lt, refl, sym, ap, subst, ◌∙◌, arith, length-append}
-use Rattle.std.specs.Prelude.{◌==◌}
-use Rattle.std.specs.List.{starts_with}
-use Rattle.std.specs.Cmp.Lexicographic.{pointwise, same_text}
+use Rattle.std.proofs.Common.{◌≡◌, ℕ, zero, suc, ◌+◌, ◌-◌, ◌^◌, ◌<◌, ◌≤◌, Bool, true, false, cond, List, [], ◌∷◌, ◌++◌, length, take, drop, Some, None, Ok, Err, nat_eq, nat_lt, refl, sym, ap, subst, ◌∙◌, arith, length-append, ◌==◌}
+use Rattle.gts_standby.specs.Cited.{Accept, AddsFront, AddsNothing, AddsPart, Damaged, Directory, Drew, Ends, Files, LeadsTo, Read, Record, State, Taken, add_all, adding, admits, after, after_records, agreeing, comes_to, empty, entry_at, event_of_record, feed, feed_at, feed_behind, file_opens, files_read, first_seal, header_fault, is_checkpoint, is_checkpoint_fed, is_older, magic, own_seals, pointwise, read_behind, record_behind, record_size, record_text, records_at, same_text, seal, sealed, sealed_at, selected, selected_bytes, starts_with, take_records, taken, written}
 use Rattle.std.proofs.lemmas.Bool.Decides.{nat_tests}
 use Rattle.std.proofs.lemmas.List.{drop_all}
-use Rattle.gts_traits.specs.{Files}
-use Rattle.gts_directory.specs.Directory.{Directory}
-use Rattle.gts_event.specs.State.{State, empty}
-use Rattle.gts_event.specs.History.{after}
-use Rattle.gts_record.specs.declared.fault.OpenFault.TheVariants.{Damaged}
-use Rattle.gts_record.specs.Record.{Record, Accept, Drew, record_text}
-use Rattle.gts_record.specs.Format.{magic, seal, sealed, sealed_at, first_seal, record_size, is_older, written}
 use Rattle.gts_record.proofs.LawLemmas.{length-sealed, sealed_at-found, sealed_fits}
-use Rattle.gts_opening.specs.Journal.{Read, agreeing, admits, event_of_record, record_behind, after_records, selected, files_read, file_opens, records_at}
-use Rattle.gts_opening.proofs.LawLemmas.{magic_size}
-use Rattle.gts_journal.specs.{entry_at, header_fault, is_checkpoint, selected_bytes}
+use Rattle.gts_opening.proofs.LawLemmas.{magic_size, after_records-append}
 use Rattle.gts_journal.proofs.LawLemmas.{opens_behind, was_found, refuses_one}
-use Rattle.gts_standby.specs.Feed.{feed_at, feed_behind, feed}
-use Rattle.gts_standby.specs.Taking.{Taken, Ends, adding, is_checkpoint_fed, add_all, take_records, taken}
-use Rattle.gts_standby.specs.Following.{own_seals, read_behind, comes_to}
-use Rattle.gts_standby.specs.Fronts.{AddsFront, AddsNothing, AddsPart, LeadsTo}
 use Rattle.gts_standby.proofs.FeedLemmas.{feed_one, feed_none, at_entry, IsEnd, IsRecord}
 use Rattle.gts_standby.proofs.FirstLemmas.{starts, fault_by}
 use Rattle.gts_standby.proofs.HeaderLemmas.{header_on}
@@ -176,14 +161,10 @@ module _ (d : Directory) (file : ℕ) (bytes : List ℕ) (x : State × ℕ × Li
 
 -- ---- a front of it
 
-after_more : (d : Directory) (s : State) (rs more : List Record) → after_records d s (rs ++ more) ≡ after_records d (after_records d s rs) more
-after_more d s [] more = refl
-after_more d s (r ∷ rs) more = after_more d (after d s (event_of_record r)) rs more
-
 leads_by : (d : Directory) (s : State) (part whole : Taken) → AddsFront part whole → after_records d (empty d) whole.records ≡ s → LeadsTo d (after_records d (empty d) part.records) s
 leads_by d s part whole (AddsNothing begins none) all =
     (whole.records, subst (λ (rs : List Record). s ≡ after_records d (after_records d (empty d) rs) whole.records) (sym none) (sym all))
-leads_by d s part whole (AddsPart rest begins is) all = (rest, sym all ∙ ap (after_records d (empty d)) is ∙ after_more d (empty d) part.records rest)
+leads_by d s part whole (AddsPart rest begins is) all = (rest, sym all ∙ ap (after_records d (empty d)) is ∙ after_records-append d (empty d) part.records rest)
 
 pub front_leads : (d : Directory) (own files : Files) (s : State) (used : ℕ) (last fed more : List ℕ) (part : Taken) → length d.mark ≡ 32 → d.limit < 256 ^ 4 → own_seals d (selected_bytes own) ≡ []
     → files_read written d files ≡ Ok (s, used, last) → is_checkpoint (selected_bytes files) ≡ false → feed written d.mark (selected_bytes files) ≡ fed ++ more → comes_to d own fed ≡ Ok part

@@ -1,13 +1,7 @@
 -- A fault of a device, and want of memory, are answered by their names.
 use Rattle.std.proofs.Common.{◌≡◌, true}
-use Rattle.gts_record.specs.declared.fault.OpenFault.{OpenFault}
+use Rattle.gts_standby.specs.Cited.{DiskFault, Diverged, Done, Feed, FollowEnd, IsAddEnd, IsFedEnd, IsNamedEnd, IsReadEnd, NoMemory, Open, OpenFault, SourceFault, is_other, open_end}
 use Rattle.gts_record.specs.declared.fault.OpenFault.TheVariants as opening
-use Rattle.gts_standby.specs.declared.end.FollowEnd.{FollowEnd}
-use Rattle.gts_standby.specs.declared.end.FollowEnd.TheVariants.{Done, Open, Feed, Diverged, SourceFault, DiskFault, NoMemory}
-use Rattle.gts_standby.specs.Following.{open_end}
-use Rattle.gts_standby.specs.Reading.{IsFedEnd, IsReadEnd, is_other}
-use Rattle.gts_standby.specs.Adding.{IsAddEnd}
-use Rattle.gts_standby.specs.Whole.{IsNamedEnd}
 
 pub named_open : (e : OpenFault) → IsNamedEnd (open_end e)
 named_open opening.DiskFault = tt

@@ -1,13 +1,7 @@
 -- Whether a feed has another record 0, by how it is answered.
 use Rattle.std.proofs.Common.{◌≡◌, zero, suc, ◌≤◌, ℕ, List, Result, Ok, Err, true, false, refl, sym, ◌∙◌, arith}
-use Rattle.gts_record.specs.declared.fault.OpenFault.{OpenFault}
+use Rattle.gts_standby.specs.Cited.{DiskFault, Diverged, Done, Feed, FollowEnd, InFeed, IsFedEnd, IsLater, IsOwnEnd, KeepsOther, NoMemory, Open, OpenFault, ReadsAll, SourceFault, is_other, open_end}
 use Rattle.gts_record.specs.declared.fault.OpenFault.TheVariants as opening
-use Rattle.gts_standby.specs.declared.end.FollowEnd.{FollowEnd}
-use Rattle.gts_standby.specs.declared.end.FollowEnd.TheVariants.{Done, Open, Feed, Diverged, SourceFault, DiskFault, NoMemory}
-use Rattle.gts_standby.specs.Ahead.{InFeed}
-use Rattle.gts_standby.specs.Following.{open_end}
-use Rattle.gts_standby.specs.Reading.{IsFedEnd, ReadsAll, is_other, KeepsOther, IsLater}
-use Rattle.gts_standby.specs.Comparing.{IsOwnEnd}
 
 pub fed_other : (answer : FollowEnd) → IsFedEnd answer → is_other answer ≡ false
 fed_other Done kind = refl

@@ -1,23 +1,9 @@
 -- What the whole feed of a station's journal comes to beside a standby that has a first part of it.
-use Rattle.std.proofs.Common.{◌≡◌, ℕ, zero, suc, ◌+◌, ◌-◌, Bool, true, false, cond, ◌&&◌, List, [], ◌∷◌, ◌++◌, length, drop, Option, Some, None, Ok, nat_eq, refl, sym, ap, subst, ◌∙◌, arith, length-append}
-use Rattle.std.specs.Cmp.Lexicographic.{pointwise}
-use Rattle.std.proofs.lemmas.Bool.Decides.{nat_tests}
+use Rattle.std.proofs.Common.{◌≡◌, ℕ, zero, suc, ◌+◌, ◌-◌, Bool, false, cond, List, ◌∷◌, ◌++◌, length, drop, Option, Some, None, Ok, refl, sym, ap, subst, ◌∙◌, arith, length-append}
 use Rattle.std.proofs.lemmas.List.{append_assoc}
-use Rattle.gts_traits.specs.{Files}
-use Rattle.gts_directory.specs.Directory.{Directory}
-use Rattle.gts_event.specs.State.{State, empty}
-use Rattle.gts_event.specs.History.{after}
-use Rattle.gts_event.specs.Need.{Need}
-use Rattle.gts_record.specs.Record.{Record, record_text}
-use Rattle.gts_record.specs.Format.{magic, seal, sealed, sealed_at, first_seal, record_size, written}
+use Rattle.gts_standby.specs.Cited.{Directory, Ends, Files, Need, Parts, Piece, Record, State, Taken, add_all, after, begun_taken, by_piece, comes_to, compare_all, compare_first, compared, empty, entry_at, event_of_record, feed, feed_at, feed_behind, file_opens, files_read, first_seal, is_checkpoint, is_checkpoint_fed, is_other_first, magic, or_anew, own_seals, read_after, read_begun, read_behind, record_size, record_text, records_at, seal, sealed, sealed_at, seals_at, seals_behind, selected, selected_bytes, stopped, taken, written}
 use Rattle.gts_record.proofs.LawLemmas.{length-sealed, sealed_at-found, sealed_fits}
-use Rattle.gts_opening.specs.Journal.{event_of_record, selected, files_read, file_opens, records_at}
-use Rattle.gts_journal.specs.{entry_at, is_checkpoint, selected_bytes}
 use Rattle.gts_journal.proofs.LawLemmas.{opens_behind, was_found}
-use Rattle.gts_standby.specs.Feed.{feed_at, feed_behind, feed}
-use Rattle.gts_standby.specs.Taking.{Taken, Ends, Parts, stopped, Piece, by_piece, compared, compare_all, compare_first, is_checkpoint_fed, seals_at, seals_behind, add_all, is_other_first, or_anew, taken}
-use Rattle.gts_standby.specs.Following.{own_seals, read_behind, read_begun, read_after, comes_to}
-use Rattle.gts_standby.specs.Beginning.{begun_taken}
 use Rattle.gts_standby.proofs.FeedLemmas.{feed_one, feed_none, seals_one, seals_none, at_entry, IsEnd, IsRecord}
 use Rattle.gts_standby.proofs.FedLemmas.{piece_by}
 use Rattle.gts_standby.proofs.TakeLemmas.{sound_header, stays}
@@ -25,13 +11,7 @@ use Rattle.gts_standby.proofs.AddLemmas.{some_text, no_begin}
 use Rattle.gts_standby.proofs.FrontLemmas.{first_by, come_by}
 use Rattle.gts_standby.proofs.HistoryLemmas.{Comes, records_fed, drop_text, no_checkpoint, header_is}
 use Rattle.gts_standby.proofs.StationLemmas.{behind_header}
-
-same_seal : (l : List ℕ) → pointwise nat_eq l l ≡ true
-same_seal [] = refl
-same_seal (x ∷ l) = ap (λ (b : Bool). b && pointwise nat_eq l l) (same x) ∙ same_seal l
-  where
-    same : (n : ℕ) → nat_eq n n ≡ true
-    same n = grind (arith, nat_tests)
+use Rattle.gts_frame.proofs.LawLemmas.{same_bytes}
 
 -- taken to its end, behind nothing else, with records that lead from what a journal reads to on to this
 abbrev GoesTo : Directory → State × ℕ × List ℕ → State × ℕ × List ℕ → Taken → Type 0
@@ -122,7 +102,7 @@ front_fed d (suc n) m own_file file before s gate index at own bytes y x more ow
             ≡ compare_all written (behind_own d y) seals last (index + 1) (at + size) rest =
             ap (λ (l : List (List ℕ)). compare_all written (behind_own d y) l before index at sent) (seals_one written n own_file gate before own r found)
             ∙ ap (λ (o : Option Record). by_piece at (piece_by written before sent o) (λ wide_by fed. compared index last fed (compare_all written (behind_own d y) seals last (index + 1) (at + wide_by) (drop wide_by sent)))) here
-            ∙ ap (λ (b : Bool). cond b (compare_all written (behind_own d y) seals last (index + 1) (at + size) (drop size sent)) (stopped (Parts index last last))) (same_seal last)
+            ∙ ap (λ (b : Bool). cond b (compare_all written (behind_own d y) seals last (index + 1) (at + size) (drop size sent)) (stopped (Parts index last last))) (same_bytes last)
             ∙ ap (compare_all written (behind_own d y) seals last (index + 1) (at + size)) dropped in
             subst (λ (t : Taken). GoesTo d y x t) (sym all) goes
 

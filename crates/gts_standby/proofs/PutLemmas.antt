@@ -1,28 +1,11 @@
 -- What a feed comes to that begins with a checkpoint, by the bytes that were read of it.
-use Rattle.std.proofs.Common.{◌≡◌, ℕ, ◌+◌, ◌-◌, ◌*◌, ◌^◌, ◌<◌, ◌≤◌, Bool, true, false, ◌&&◌, cond, nat_eq, nat_le, nat_lt, List, ◌++◌, length, take, drop, Some, Result, Err, refl, sym, ap, subst, ◌∙◌, arith}
-use Rattle.std.specs.Prelude.{Option, None, IfSome, IfNone, IsErrOf}
-use Rattle.std.specs.List.{starts_with}
-use Rattle.std.specs.Cmp.Lexicographic.{same_text}
+use Rattle.std.proofs.Common.{◌≡◌, ℕ, ◌+◌, ◌-◌, ◌*◌, ◌^◌, ◌<◌, ◌≤◌, Bool, true, false, ◌&&◌, cond, nat_eq, nat_le, nat_lt, List, ◌++◌, length, take, drop, Some, Result, Err, refl, sym, ap, subst, ◌∙◌, arith, Option, None, IfSome, IfNone, IsErrOf}
+use Rattle.gts_standby.specs.Cited.{Bad, BeginsWith, Behind, Breaks, Broken, Cut, Directory, DiskFault, Diverged, Done, Feed, FollowEnd, InHand, IsAddEnd, IsCheckpoint, IsEnd, IsPutEnd, Need, NoMemory, Open, Piece, Reached, Sealed, Short, SourceFault, Taken, Version, add_all, admits_checkpoint, begin_with, begun, begun_taken, behind_checkpoint, by_piece, checkpoint_piece, checkpoint_text, compacted_bytes, draw_size, due, first_seal, held, is_sealed, is_sound, need_in, need_of, same_text, seal, seal_size, starts_with, stopped, written}
 use Rattle.std.proofs.lemmas.Bool.{and_parts, and_from, leb-true, eqb-true, eq-eqb}
 use Rattle.std.proofs.lemmas.List.{length-take, take-append-drop, take-append-le}
-use Rattle.gts_directory.specs.Directory.{Directory}
-use Rattle.gts_event.specs.Items.{need_of}
-use Rattle.gts_event.specs.Need.{Need, begun, is_sound}
 use Rattle.gts_event.specs.declared.values.Need as values
-use Rattle.gts_record.specs.declared.version.Version.{Version}
-use Rattle.gts_record.specs.Format.{held, seal, first_seal, seal_size, draw_size, is_sealed, written}
-use Rattle.gts_opening.specs.Journal.{checkpoint_text, compacted_bytes, need_in, admits_checkpoint, due}
 use Rattle.gts_opening.proofs.LawLemmas.{need_in-text, fits-sound}
-use Rattle.gts_checkpoint.specs.{IsCheckpoint}
-use Rattle.gts_checkpoint.specs.Reading.{BeginsWith}
 use Rattle.gts_checkpoint.proofs.ReadLemmas.{admitted, need_read}
-use Rattle.gts_journal.specs.{InHand}
-use Rattle.gts_standby.specs.declared.end.FollowEnd.{FollowEnd}
-use Rattle.gts_standby.specs.declared.end.FollowEnd.TheVariants.{Done, Open, Feed, Diverged, SourceFault, DiskFault, NoMemory}
-use Rattle.gts_standby.specs.Taking.{Taken, Breaks, stopped, Piece, Cut, Broken, Sealed, by_piece, Reached, Short, Bad, Behind, behind_checkpoint, checkpoint_piece, begin_with, add_all}
-use Rattle.gts_standby.specs.Following.{IsEnd}
-use Rattle.gts_standby.specs.Adding.{IsAddEnd}
-use Rattle.gts_standby.specs.Beginning.{IsPutEnd, begun_taken}
 
 -- ---- the ends of writing
 

@@ -1,14 +1,10 @@
 -- What is said of a feed, piece by piece.
-use Rattle.std.proofs.Common.{◌≡◌, ℕ, ◌+◌, ◌-◌, ◌≤◌, List, [], ◌++◌, length, take, drop, Result, Ok, Err, refl, sym, subst, ap, ◌∙◌, arith}
+use Rattle.std.proofs.Common.{◌≡◌, ℕ, ◌+◌, ◌-◌, ◌≤◌, List, [], ◌++◌, length, take, drop, Result, Ok, Err, refl, sym, subst, ap, ◌∙◌, arith, IsErr}
 use Rattle.std.proofs.Math.Seq.{take-add}
 use Rattle.std.proofs.lemmas.List.{append-nil, drop-drop, take_all}
-use Rattle.std.specs.Prelude.{IsErr}
-use Rattle.gts_traits.specs.{Call, Says, Tries, on}
+use Rattle.gts_standby.specs.Cited.{Call, SaysFront, SaysHere, SaysOnly, Speaks, on}
 use Rattle.gts_traits.proofs.LawLemmas.{on-append}
-use Rattle.gts_say.specs.Say.{SaysOnly, SaysFront}
-use Rattle.gts_say.proofs.SayLemmas.{said_none, said_more, front_behind, front_more, tells_try}
-use Rattle.gts_journal.proofs.LawLemmas.{say_stands}
-use Rattle.gts_standby.specs.Shipping.{SaysHere, Speaks}
+use Rattle.gts_say.proofs.SayLemmas.{said_none, said_more, front_behind, front_more}
 
 pub says_none : (calls : List Call) → SaysHere calls calls []
 says_none calls = record { only = said_none calls; stands = λ j stands. stands }
@@ -28,13 +24,6 @@ fronts_more a b x more f = subst (SaysFront a b) (sym (on-append 0 x more)) (fro
 -- nothing was said of it
 pub fronts_none : (calls : List Call) (x : List ℕ) → SaysFront calls calls (on 0 x)
 fronts_none calls x = record { left = []; front = (on 0 x, refl); said = said_none calls }
-
-pub one_say : {T E : Type 0} (result : Result T E) (bytes : List ℕ) (old new : List Call) → Tries (Says 0 bytes) result old new → Speaks result old new bytes
-one_say {T} {E} (Ok x) bytes old new tries = record {
-  only = tells_try {T = T} {E = E} (Ok x) 0 bytes old new tries;
-  stands = λ j stands. say_stands {T = T} {E = E} (Ok x) 0 bytes old new j tries stands;
-}
-one_say {T} {E} (Err e) bytes old new tries = tells_try {T = T} {E = E} (Err e) 0 bytes old new tries
 
 -- a piece of a file behind what was said of it
 pub piece_more : (bytes part : List ℕ) (from at count : ℕ) → from ≤ at → length part ≡ count → take count part ≡ take count (drop at bytes)

@@ -1,21 +1,12 @@
 -- How long the checkpoint at the front of a feed is, by the bytes that were read ahead.
-use Rattle.std.proofs.Common.{◌≡◌, ◌⊎◌, ⊎_elim, ℕ, zero, suc, ◌+◌, ◌-◌, ◌<◌, ◌≤◌, Bool, true, cond, List, [], ◌∷◌, ◌++◌, length, take, drop, Result, Err, Some, replicate, refl, sym, ap, subst, ◌∙◌, arith, length-append}
-use Rattle.std.specs.Prelude.{nat_lt, nat_eq, IsErrAnd}
-use Rattle.std.specs.List.{starts_with}
-use Rattle.std.proofs.lemmas.Bool.{lt-ltb, le-ltb}
+use Rattle.std.proofs.Common.{◌≡◌, ◌⊎◌, ⊎_elim, ℕ, zero, suc, ◌+◌, ◌-◌, ◌<◌, ◌≤◌, Bool, true, cond, List, [], ◌∷◌, ◌++◌, length, take, drop, Result, Err, Some, replicate, refl, sym, ap, subst, ◌∙◌, arith, length-append, nat_lt, nat_eq, IsErrAnd}
+use Rattle.gts_standby.specs.Cited.{Bad, Behind, Breaks, Broken, Bulletin, Circuit, Cut, DiskFault, Diverged, Done, Ends, Feed, FindsPiece, FollowEnd, HasRead, InFeed, IsFedEnd, Listed, NoMemory, Open, Piece, Reached, Sealed, Short, SourceFault, StopsAs, StopsAt, Taken, Version, and_then, behind_all, behind_checkpoint, behind_listed, bulletin_size, by_piece, checkpoint_piece, circuit_size, is_sealed, least_bulletin, listed_size, or_else, reach, reach_found, seal, seal_size, starts_with}
+use Rattle.gts_standby.specs.Reading.{Reaches}
+use Rattle.std.proofs.lemmas.Bool.{le-ltb}
 use Rattle.std.proofs.lemmas.Bool.Decides.{nat_tests}
 use Rattle.std.proofs.lemmas.List.{length-take}
-use Rattle.gts_record.specs.declared.version.Version.{Version}
-use Rattle.gts_record.specs.Format.{seal, seal_size, is_sealed}
 use Rattle.gts_record.proofs.LawLemmas.{length-seal}
 use Rattle.gts_checkpoint.proofs.LawLemmas.{starts_front}
-use Rattle.gts_standby.specs.declared.scanning.Listed.{Listed}
-use Rattle.gts_standby.specs.declared.scanning.Listed.TheVariants.{Bulletin, Circuit}
-use Rattle.gts_standby.specs.declared.end.FollowEnd.{FollowEnd}
-use Rattle.gts_standby.specs.declared.end.FollowEnd.TheVariants.{Done, Open, Feed, Diverged, SourceFault, DiskFault, NoMemory}
-use Rattle.gts_standby.specs.Ahead.{InFeed}
-use Rattle.gts_standby.specs.Taking.{Taken, Ends, Breaks, Piece, Cut, Broken, Sealed, by_piece, Reached, Short, Bad, Behind, or_else, reach, reach_found, least_bulletin, bulletin_size, circuit_size, and_then, behind_all, behind_checkpoint, checkpoint_piece}
-use Rattle.gts_standby.specs.Reading.{HasRead, IsReadEnd, IsFedEnd, Reaches, FindsPiece, StopsAt, StopsAs, listed_size, behind_listed}
 use Rattle.gts_standby.proofs.ExitLemmas.{returned}
 use Rattle.gts_standby.proofs.HeaderLemmas.{no_more}
 
@@ -36,9 +27,6 @@ length_dropped zero xs low = omega arith
 length_dropped (suc k) [] low = absurd (omega (arith, low))
 length_dropped (suc k) (x ∷ xs) low = omega (arith, length_dropped k xs (omega (arith, low)))
 
-filled_by : List ℕ → List ℕ → List ℕ
-filled_by text found = found ++ drop (length found) text
-
 -- the bytes at a place are those of the feed
 pub or_else_read : (text fed left : List ℕ) (ahead : InFeed) (at : ℕ) → HasRead fed ahead left → (ahead.is_all ≡ true) ⊎ (at + length text ≤ length ahead.bytes) → or_else text ahead.bytes at ≡ or_else text fed at
 or_else_read text fed left ahead at read enough = ⊎_elim
@@ -50,31 +38,10 @@ or_else_read text fed left ahead at read enough = ⊎_elim
 
 -- ---- a place is reached
 
-by_tests : ℕ → Bool → Bool → Reached
-by_tests behind far short = cond far Bad (cond short Short (Behind behind))
-
-pub reach_bad : (limit : ℕ) (bytes : List ℕ) (at size : ℕ) → limit < at + size → reach limit bytes at size ≡ Bad
-reach_bad limit bytes at size far = ap (λ (b : Bool). cond b Bad (cond (nat_lt (length bytes) (at + size)) Short (Behind (at + size)))) (lt-ltb limit (at + size) far)
-
-pub reach_short : (limit : ℕ) (bytes : List ℕ) (at size : ℕ) → at + size ≤ limit → length bytes < at + size → reach limit bytes at size ≡ Short
-reach_short limit bytes at size low few =
-    ap (λ (b : Bool). cond b Bad (cond (nat_lt (length bytes) (at + size)) Short (Behind (at + size)))) (le-ltb limit (at + size) low)
-    ∙ ap (λ (b : Bool). cond b Short (Behind (at + size))) (lt-ltb (length bytes) (at + size) few)
-
 pub reach_on : (limit : ℕ) (bytes : List ℕ) (at size : ℕ) → at + size ≤ limit → at + size ≤ length bytes → reach limit bytes at size ≡ Behind (at + size)
 reach_on limit bytes at size low there =
     ap (λ (b : Bool). cond b Bad (cond (nat_lt (length bytes) (at + size)) Short (Behind (at + size)))) (le-ltb limit (at + size) low)
     ∙ ap (λ (b : Bool). cond b Short (Behind (at + size))) (le-ltb (length bytes) (at + size) there)
-
--- an end by what was read is one whatever is found
-pub read_end : (answer : FollowEnd) → IsReadEnd answer → (reached : Reached) (fed : List ℕ) (ahead : InFeed) (left : List ℕ) → Reaches (Err answer) reached fed ahead left
-read_end Done kind reached fed ahead left = absurd kind
-read_end (Feed at) kind reached fed ahead left = absurd kind
-read_end (Open fault) kind reached fed ahead left = absurd kind
-read_end (Diverged index own other) kind reached fed ahead left = absurd kind
-read_end SourceFault kind reached fed ahead left = tt
-read_end DiskFault kind reached fed ahead left = absurd kind
-read_end NoMemory kind reached fed ahead left = tt
 
 -- an end before something else is the end of both
 pub end_first : (answer : FollowEnd) (reached : Reached) (next : ℕ → Reached) (fed : List ℕ) (ahead : InFeed) (left : List ℕ) → Reaches (Err answer) reached fed ahead left → Reaches (Err answer) (and_then reached next) fed ahead left
@@ -122,22 +89,6 @@ reach_listed Bulletin limit fed at = refl
 reach_listed Circuit limit fed at = refl
 
 -- ---- what was read is enough
-
--- a place that was reached stands in the feed
-pub on_there : (limit at size behind : ℕ) (fed left : List ℕ) (ahead : InFeed) → HasRead fed ahead left → behind ≡ at + size → behind ≤ limit → behind ≤ length ahead.bytes → reach limit fed at size ≡ Behind behind
-on_there limit at size behind fed left ahead read is low there =
-    reach_on limit fed at size (omega (arith, is, low)) (omega (arith, is, there, ap (λ (l : List ℕ). length l) read.is, length-append ahead.bytes left))
-    ∙ ap Behind (sym is)
-
--- one that wasn't is short
-pub short_there : (limit at size behind : ℕ) (fed left : List ℕ) (ahead : InFeed) → HasRead fed ahead left → (ahead.is_all ≡ true) ⊎ (behind ≤ length ahead.bytes) → behind ≡ at + size → behind ≤ limit
-    → length ahead.bytes < behind → (reach limit fed at size ≡ Short) × (left ≡ [])
-short_there limit at size behind fed left ahead read enough is low few = ⊎_elim
-    (λ (all : ahead.is_all ≡ true). (reach_short limit fed at size (omega (arith, is, low)) (omega (arith, is, few, ap (λ (l : List ℕ). length l) (no_more fed left ahead read all))), read.all all))
-    (λ (long : behind ≤ length ahead.bytes). absurd (omega (arith, long, few))) enough
-
-pub far_there : (limit at size behind : ℕ) (fed : List ℕ) → behind ≡ at + size → limit < behind → reach limit fed at size ≡ Bad
-far_there limit at size behind fed is far = reach_bad limit fed at size (omega (arith, is, far))
 
 -- ---- the checkpoint with its seal
 

@@ -1,20 +1,12 @@
 -- The checkpoint of a need is found by its lengths, at the front of whatever stands behind it.
 use Rattle.std.proofs.Common.{◌≡◌, ℕ, ◌+◌, ◌*◌, ◌^◌, ◌<◌, ◌≤◌, Bool, true, cond, List, [], ◌∷◌, ◌++◌, length, take, drop, replicate, Some, None, nat_le, sym, ap, ◌∙◌, arith, length-append}
-use Rattle.std.specs.List.{flat_map, list_all, AllByRecursion}
+use Rattle.gts_standby.specs.Cited.{AllByRecursion, An, Behind, Bi, CircuitNeed, Directory, FitsCircuit, FitsNeed, Fx, Kind, LONGEST_BODY, Need, Reached, and_then, behind_all, behind_bulletin, behind_checkpoint, behind_circuit, behind_counted, bulletin_size, bulletin_text, bytes_of, checkpoint_text, circuit_size, circuit_text, flat_map, is_bulletin, least_bulletin, list_all, number_in, reach, reach_found}
+use Rattle.gts_event.specs.State.{Bulletin}
 use Rattle.std.proofs.lemmas.Bool.{and_parts, le-leb, leb-true}
 use Rattle.std.proofs.lemmas.List.{append_assoc, drop-drop}
 use Rattle.std.proofs.Math.Seq.{drop-append_seam}
-use Rattle.gts_alphabet.specs.declared.limits.TheConstants.{LONGEST_BODY}
-use Rattle.gts_frame.specs.declared.kind.Kind.{Kind}
-use Rattle.gts_frame.specs.declared.kind.Kind.TheVariants.{An, Bi, Fx}
-use Rattle.gts_directory.specs.Directory.{Directory}
-use Rattle.gts_event.specs.State.{Bulletin}
-use Rattle.gts_event.specs.Need.{Need, CircuitNeed, is_bulletin}
-use Rattle.gts_record.specs.Record.{bytes_of, number_in}
 use Rattle.gts_record.proofs.LawLemmas.{number_in-bytes_of}
-use Rattle.gts_opening.specs.Journal.{bulletin_text, circuit_text, checkpoint_text, FitsCircuit, FitsNeed}
 use Rattle.gts_opening.proofs.CheckpointLemmas.{length-numbers}
-use Rattle.gts_standby.specs.Taking.{Reached, Behind, reach, reach_found, least_bulletin, bulletin_size, behind_bulletin, circuit_size, behind_circuit, and_then, behind_all, behind_counted, behind_checkpoint}
 use Rattle.gts_standby.proofs.ScanLemmas.{reach_on}
 
 -- ---- a bulletin

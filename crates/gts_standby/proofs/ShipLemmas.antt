@@ -1,21 +1,10 @@
 -- What is said of a feed, record by record.
-use Rattle.std.proofs.Common.{◌≡◌, ℕ, ◌+◌, ◌-◌, ◌≤◌, List, [], ◌++◌, take, drop, Option, Some, Result, Ok, Err, refl, sym, ap, subst, ◌∙◌, arith, append_assoc}
-use Rattle.std.specs.Prelude.{IfOk, IfErr}
+use Rattle.std.proofs.Common.{◌≡◌, ℕ, ◌+◌, ◌-◌, ◌≤◌, List, [], ◌++◌, take, drop, Option, Some, Result, Ok, Err, refl, sym, ap, subst, ◌∙◌, arith, append_assoc, IfOk, IfErr}
 use Rattle.std.proofs.lemmas.List.{append-nil}
-use Rattle.gts_traits.specs.{Call, on, seen}
-use Rattle.gts_say.specs.Say.{SaysFront}
-use Rattle.gts_directory.specs.Directory.{Directory}
-use Rattle.gts_record.specs.Record as texts
-use Rattle.gts_record.specs.Record.{record_text}
-use Rattle.gts_record.specs.Format.{sealed, record_size}
-use Rattle.gts_record.specs.Value.{record_of}
+use Rattle.gts_standby.specs.Cited.{Call, Directory, Gives, GoesOnBehind, HasGoneOn, InHand, IsAtGate, IsNamed, IsQuiet, OpenFault, Reaches, SaysFront, SaysHere, SaysOne, ShipFault, Speaks, Version, file_of, next_entry, next_seal, on, record_of, record_size, record_text, sealed, seen, ship_fault}
 use Rattle.gts_record.specs.declared.value.Record.{Record}
-use Rattle.gts_record.specs.declared.version.Version.{Version}
-use Rattle.gts_record.specs.declared.fault.OpenFault.{OpenFault}
+use Rattle.gts_record.specs.Record as texts
 use Rattle.gts_record.specs.declared.fault.OpenFault.TheVariants as opening
-use Rattle.gts_journal.specs.{InHand, file_of, next_entry, next_seal, Gives, HasGoneOn}
-use Rattle.gts_standby.specs.declared.fault.ShipFault.{ShipFault}
-use Rattle.gts_standby.specs.Shipping.{ship_fault, SaysHere, Speaks, IsQuiet, IsNamed, Reaches, IsAtGate, GoesOnBehind, SaysOne}
 use Rattle.gts_standby.proofs.SayLemmas.{says_none, says_more, fronts_behind, fronts_more}
 use Rattle.gts_standby.proofs.FeedLemmas.{goes_on, all_said, record_stands}
 

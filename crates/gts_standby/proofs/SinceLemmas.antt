@@ -1,34 +1,16 @@
 -- What of a feed is behind a place.
-use Rattle.std.proofs.Common.{◌≡◌, ◌⊎◌, ℕ, zero, suc, ◌+◌, ◌-◌, ◌<◌, ◌≤◌, Bool, true, false, cond, ◌&&◌, nat_eq, nat_le, List, [], ◌∷◌, length, drop, Option, Some, None, Result, Ok, Err, inl, inr, refl, sym, ap, subst, ◌∙◌, arith}
-use Rattle.std.specs.Prelude.{◌==◌}
-use Rattle.std.specs.Cmp.Lexicographic.{pointwise}
-use Rattle.std.proofs.lemmas.Bool.{le-leb}
+use Rattle.std.proofs.Common.{◌≡◌, ◌⊎◌, ℕ, suc, ◌+◌, ◌-◌, ◌<◌, ◌≤◌, Bool, true, false, cond, ◌&&◌, nat_eq, nat_le, List, [], ◌∷◌, length, drop, Option, Some, None, Result, Ok, inl, inr, refl, sym, ap, subst, ◌∙◌, arith, ◌==◌}
+use Rattle.gts_standby.specs.Cited.{Call, Comes, Did, Directory, Finds, HasGoneOn, InHand, IsAtFirst, IsAtGate, IsBefore, Need, OpenFault, Reaches, Read, SaysOnly, SaysRest, ShipFault, Since, StandsOn, State, Syncs, Version, after, begun, behind_at, behind_here, behind_place, checkpoint_opens, compacted_bytes, empty, entry_at, event_of_record, feed, feed_at, feed_of, feed_since, file_of, files_read, first_seal, held, is_at_checkpoint, is_checkpoint, next_entry, open_gate, or_whole, pointwise, record_at, record_of, record_size, record_text, records_at, seal, sealed_at, seen, selected, selected_bytes, ship_fault, since_of, where_so, written}
+use Rattle.gts_record.specs.declared.value.Record.{Record}
+use Rattle.gts_checkpoint.specs.Reading.{HasRead}
+use Rattle.gts_standby.specs.Since.{behind_checkpoint}
+use Rattle.std.proofs.lemmas.Bool.{le-leb, lt-leb}
 use Rattle.std.proofs.lemmas.Bool.Decides.{nat_tests}
 use Rattle.std.proofs.lemmas.List.{drop-drop}
-use Rattle.gts_traits.specs.{Call, Did, Syncs, seen}
-use Rattle.gts_say.specs.Say.{SaysOnly}
-use Rattle.gts_directory.specs.Directory.{Directory}
-use Rattle.gts_event.specs.State.{State, empty}
-use Rattle.gts_event.specs.Need.{Need, begun}
-use Rattle.gts_event.specs.History.{after}
 use Rattle.gts_record.specs.Record as texts
-use Rattle.gts_record.specs.Record.{record_text, open_gate}
-use Rattle.gts_record.specs.Format.{seal, sealed_at, record_size, first_seal, held, written}
-use Rattle.gts_record.specs.Value.{record_of}
-use Rattle.gts_record.specs.declared.value.Record.{Record}
-use Rattle.gts_record.specs.declared.version.Version.{Version}
-use Rattle.gts_record.specs.declared.fault.OpenFault.{OpenFault}
 use Rattle.gts_record.specs.declared.fault.OpenFault.TheVariants as opening
 use Rattle.gts_standby.specs.declared.fault.ShipFault.TheVariants as fault
-use Rattle.gts_opening.specs.Journal.{event_of_record, records_at, compacted_bytes, checkpoint_text, need_in, selected, checkpoint_opens, files_read, Read}
-use Rattle.gts_checkpoint.specs.Reading.{HasRead}
-use Rattle.gts_journal.specs.{InHand, StandsOn, file_of, next_entry, next_seal, HasGoneOn, entry_at, selected_bytes, is_checkpoint, is_at_checkpoint}
 use Rattle.gts_journal.proofs.LawLemmas.{at_mark, at_found, was_found, opens_behind}
-use Rattle.gts_standby.specs.Feed.{feed, feed_at}
-use Rattle.gts_standby.specs.declared.fault.ShipFault.{ShipFault}
-use Rattle.gts_standby.specs.Shipping.{ship_fault, Reaches, IsAtGate, IsAtFirst, SaysRest, feed_of}
-use Rattle.gts_standby.specs.Since.{record_at, where_so, behind_at, behind_place, behind_checkpoint, or_whole, feed_since, since_of, Comes, IsBefore, behind_here, Finds}
-use Rattle.gts_standby.specs.declared.since.Since.{Since}
 use Rattle.gts_standby.proofs.FeedLemmas.{some_step, end_behind, same_record, no_record, IsEnd, IsRecord, at_entry}
 use Rattle.gts_standby.proofs.FirstLemmas.{by_admission, same_feed, behind_sync, synced_quiet, twice_quiet}
 
@@ -44,9 +26,6 @@ abbrev pub by_place : Version → ℕ → List ℕ → ℕ → List ℕ → ℕ 
 by_place v n before gate bytes place last b =
     cond b (where_so (gate == place && pointwise nat_eq before last) (feed_at v (suc n) before bytes)) (by_record v n before gate bytes place last (record_at v before bytes))
 
-above : (a b : ℕ) → b < a → nat_le a b ≡ false
-above a b low = grind (arith, nat_tests)
-
 apart : (a b : ℕ) → a < b → a == b ≡ false
 apart a b low = grind (arith, nat_tests)
 
@@ -56,7 +35,7 @@ found_on : (v : Version) (n file gate : ℕ) (before bytes : List ℕ) (place : 
 found_on v n file gate before bytes place last r is low =
     let found = was_found v before file gate bytes r is in
     let there : record_at v before bytes ≡ Some r = ap (record_at v before) found.1 ∙ found.2 in
-    ap (by_place v n before gate bytes place last) (above place gate low) ∙ ap (by_record v n before gate bytes place last) there
+    ap (by_place v n before gate bytes place last) (lt-leb place gate low) ∙ ap (by_record v n before gate bytes place last) there
 
 -- no record stands behind a gate that isn't open
 none_there : (v : Version) (file gate : ℕ) (before bytes : List ℕ) → entry_at v before file gate bytes ≡ Ok None → record_at v before bytes ≡ None
@@ -135,7 +114,7 @@ found_there v d file before gate bytes end place last found it reached = it.foun
           | IsRecord r is more ↦
               absurd (let far = end_behind v d some.0 file (seal v before (record_text r)) (after d it.state (event_of_record r)) (gate + record_size v r) (drop (record_size v r) text) x more in omega (arith, far, high))
         ] in
-        ap (by_place v some.0 before gate text place last) (above place gate low) ∙ ap (by_record v some.0 before gate text place last) none
+        ap (by_place v some.0 before gate text place last) (lt-leb place gate low) ∙ ap (by_record v some.0 before gate text place last) none
         ∙ sym (ap (λ (b : Bool). where_so (b && pointwise nat_eq before last) (feed_at v (suc some.0) before text)) (apart gate place low))
 
     by_order : (b : Bool) → nat_le place gate ≡ b → (place ≤ gate) ⊎ (end ≤ gate) → behind_at v (suc some.0) before gate text place last ≡ is_here (feed_at v (suc some.0) before text)

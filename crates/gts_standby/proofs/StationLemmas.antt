@@ -1,29 +1,14 @@
 -- What the whole feed of a station's journal comes to, whatever it begins with.
-use Rattle.std.proofs.Common.{◌≡◌, ℕ, ◌+◌, ◌*◌, ◌-◌, ◌^◌, ◌<◌, ◌≤◌, Bool, true, false, cond, ◌&&◌, List, [], ◌∷◌, ◌++◌, length, take, drop, Option, Some, None, Ok, Err, nat_eq, nat_le, refl, sym, ap, subst, ◌∙◌, arith, length-append}
-use Rattle.std.specs.Prelude.{not}
-use Rattle.std.specs.List.{starts_with, list_all}
-use Rattle.std.specs.Cmp.Lexicographic.{pointwise}
+use Rattle.std.proofs.Common.{◌≡◌, ℕ, ◌+◌, ◌*◌, ◌-◌, ◌^◌, ◌<◌, ◌≤◌, Bool, true, false, cond, ◌&&◌, List, [], ◌∷◌, ◌++◌, length, take, drop, Option, Some, None, Ok, Err, nat_eq, nat_le, refl, sym, ap, subst, ◌∙◌, arith, length-append, not}
+use Rattle.gts_standby.specs.Cited.{Damaged, Directory, Ends, Files, InFeed, IsCheckpoint, Need, Parts, Piece, Read, Sealed, State, Taken, add_all, admits_checkpoint, begin_first, begin_with, begun, behind_checkpoint, by_piece, checkpoint_piece, checkpoint_text, comes_to, compacted_bytes, compare_all, compare_first, compared, draw_size, due, empty, feed, feed_at, feed_behind, file_opens, files_read, first_seal, header_fault, is_behind, is_bulletin, is_checkpoint, is_checkpoint_fed, is_further, is_sealed, is_sound, list_all, magic, need, need_in, or_anew, own_seals, pointwise, read_after, read_begun, read_behind, records_at, seal, seal_size, sealed, selected, selected_bytes, starts_with, stopped, take_records, taken, unowed, written}
 use Rattle.std.proofs.lemmas.Bool.{and_parts, leb-true}
 use Rattle.std.proofs.lemmas.Bool.Decides.{nat_tests}
 use Rattle.std.proofs.lemmas.List.{append-nil, append_assoc}
-use Rattle.gts_traits.specs.{Files}
-use Rattle.gts_directory.specs.Directory.{Directory}
-use Rattle.gts_event.specs.State.{State, empty}
-use Rattle.gts_event.specs.Need.{Need, need, begun, is_sound, is_bulletin}
-use Rattle.gts_record.specs.declared.fault.OpenFault.TheVariants.{Damaged}
-use Rattle.gts_record.specs.Format.{magic, seal, seal_size, sealed, is_sealed, first_seal, draw_size, written}
 use Rattle.gts_record.proofs.LawLemmas.{length-sealed}
-use Rattle.gts_opening.specs.Journal.{Read, due, need_in, unowed, checkpoint_text, compacted_bytes, admits_checkpoint, selected, files_read, file_opens, records_at}
 use Rattle.gts_opening.proofs.CheckpointLemmas.{need_in-text}
 use Rattle.gts_opening.proofs.FileLemmas.{fits-sound}
 use Rattle.gts_opening.proofs.LawLemmas.{magic_size}
-use Rattle.gts_checkpoint.specs.{IsCheckpoint}
-use Rattle.gts_journal.specs.{is_checkpoint, selected_bytes, header_fault}
 use Rattle.gts_journal.proofs.LawLemmas.{opens_behind}
-use Rattle.gts_standby.specs.Feed.{feed_at, feed_behind, feed}
-use Rattle.gts_standby.specs.Ahead.{InFeed}
-use Rattle.gts_standby.specs.Taking.{Taken, Ends, Sealed, Piece, by_piece, behind_checkpoint, checkpoint_piece, is_checkpoint_fed, begin_with, begin_first, add_all, take_records, taken, Parts, stopped, compared, compare_all, compare_first, is_behind, is_further, or_anew}
-use Rattle.gts_standby.specs.Following.{own_seals, read_behind, read_begun, read_after, comes_to}
 use Rattle.gts_standby.proofs.FirstLemmas.{starts}
 use Rattle.gts_standby.proofs.HeaderLemmas.{header_on}
 use Rattle.gts_standby.proofs.ScanLemmas.{sealed_piece}

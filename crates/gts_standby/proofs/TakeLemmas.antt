@@ -2,35 +2,10 @@
 use Rattle.std.proofs.Common.{◌≡◌, ◌⊎◌, inl, inr, ℕ, zero, suc, ◌+◌, ◌-◌, ◌<◌, ◌≤◌, Bool, true, false, cond, ◌&&◌, List, [], ◌∷◌, ◌++◌, length, drop, Option, Some, None, Result, Ok, Err, refl, sym, ap, subst, ◌∙◌, arith, length-drop}
 use Rattle.std.proofs.lemmas.Bool.{cases_lt}
 use Rattle.std.proofs.lemmas.List.{append-nil}
-use Rattle.gts_traits.specs.{Call, Did, Syncs, Files, Outside, seen, said_by, EachSince}
+use Rattle.gts_standby.specs.Cited.{Answers, AsBefore, BeforeIt, Breaks, Call, Core, Damaged, Did, Directory, DiskFault, Diverged, Done, EachOpens, EachSince, End, Ends, EndsAs, EndsBegin, Feed, Files, FollowEnd, HasAdded, HasBegun, HasRead, HasTaken, HoldsAt, InFeed, InHand, IsAddEnd, IsEnd, IsFedEnd, IsOpened, IsReadEnd, IsTakenEnd, Leads, LeavesAlone, Need, NoMemory, OnlySyncs, Open, OpenFault, OpensAsBefore, OpensOneOf, OpensTo, OpensWithin, Outside, Parts, Piece, Read, ReadsAll, Record, SourceFault, StandsFor, State, StopsAs, StopsAt, Syncs, Taken, Version, WithFront, WithinIt, add_all, admits_checkpoint, after, after_records, begin_first, begin_with, begun, begun_taken, by_header, by_piece, checkpoint_text, comes_to, compacted_bytes, compare_first, empty, entry_at, event_of_record, feed_at, file_of, file_opens, files_read, first_seal, header_fault, is_checkpoint, is_checkpoint_fed, is_further, is_other, is_other_first, magic, may_be_cut, need, need_in, open_end, opens, or_anew, own_seals, read_after, read_begun, read_behind, record_behind, record_size, record_text, records_at, restarted, said_by, seal, seals_at, seals_behind, seen, selected, selected_bytes, start_of, state_after, stopped, take_records, taken, unread, written}
 use Rattle.gts_traits.proofs.LawLemmas.{weaker, joined}
-use Rattle.gts_directory.specs.Directory.{Directory}
-use Rattle.gts_event.specs.State.{State, empty}
-use Rattle.gts_event.specs.History.{restarted, after}
-use Rattle.gts_event.specs.Need.{Need, need, begun}
-use Rattle.gts_record.specs.declared.version.Version.{Version}
-use Rattle.gts_record.specs.declared.fault.OpenFault.{OpenFault}
 use Rattle.gts_record.specs.declared.fault.OpenFault.TheVariants as opening
-use Rattle.gts_record.specs.declared.fault.OpenFault.TheVariants.{Damaged}
-use Rattle.gts_record.specs.Record.{Record, record_text}
-use Rattle.gts_record.specs.Format.{magic, seal, first_seal, record_size, written}
-use Rattle.gts_opening.specs.Journal.{Read, opened_of, selected, opens, files_read, file_opens, records_at, after_records, record_behind, event_of_record, need_in, admits_checkpoint, checkpoint_text, compacted_bytes}
-use Rattle.gts_core.specs.Core.{Core}
-use Rattle.gts_journal.specs.{InHand, StandsFor, OnlySyncs, OpensTo, OpensAsBefore, entry_at, file_of, selected_bytes, header_fault, is_checkpoint}
 use Rattle.gts_journal.proofs.LawLemmas.{syncs_silent, syncs_stand, images_open, opening_opens, open_selected, opens_behind, faulty_header, reads_end_there, reads_fault}
-use Rattle.gts_recovery.specs.{IsOpened}
-use Rattle.gts_recovery.specs.Opened.{IsAnswer}
-use Rattle.gts_standby.specs.declared.end.FollowEnd.{FollowEnd}
-use Rattle.gts_standby.specs.declared.end.FollowEnd.TheVariants.{Done, Open, Feed, Diverged, SourceFault, DiskFault, NoMemory}
-use Rattle.gts_standby.specs.Ahead.{InFeed}
-use Rattle.gts_standby.specs.Feed.{feed_at}
-use Rattle.gts_standby.specs.Taking.{Taken, End, Ends, Breaks, Parts, stopped, Piece, by_piece, may_be_cut, is_checkpoint_fed, seals_at, seals_behind, add_all, begin_with, begin_first, is_further, is_other_first, or_anew, compare_first, take_records, by_header, taken}
-use Rattle.gts_standby.specs.Following.{open_end, own_seals, comes_to, EndsAs, Answers, LeavesAlone, IsEnd, start_of, state_after, read_behind, read_begun, read_after, OpensWithin, AsBefore, WithFront, EachOpens}
-use Rattle.gts_standby.specs.Reading.{HasRead, unread, IsReadEnd, IsFedEnd, ReadsAll, StopsAt, StopsAs, is_other}
-use Rattle.gts_standby.specs.Adding.{HoldsAt, HasAdded, IsAddEnd}
-use Rattle.gts_standby.specs.Whole.{HasTaken, IsTakenEnd}
-use Rattle.gts_standby.specs.Beginning.{OpensOneOf, HasBegun, EndsBegin, BeforeIt, WithinIt, begun_taken}
-use Rattle.gts_standby.specs.Comparing.{Leads}
 use Rattle.gts_standby.proofs.FeedLemmas.{leads_on, none_left, left_split}
 use Rattle.gts_standby.proofs.AddLemmas.{holds_of, opened_by, opened_now, read_now, no_begin, added_by}
 
@@ -507,30 +482,11 @@ first_taken answer d s old new j fed left f low has =
 pub all_unread : (left : List ℕ) → HasRead left unread left
 all_unread left = record { is = refl; all = λ is. absurd (cc is) }
 
--- what is answered where the journal doesn't open
-abbrev opened_need : Directory → Read → Result Need OpenFault
-opened_need d read = elim (opened_of read) as (λ _. Result Need OpenFault) [ Err fault ↦ Err fault | Ok x ↦ Ok (need d (restarted d x.0)) ]
-
 abbrev come_by : Directory → Files → List ℕ → Read → Result Taken OpenFault
 come_by d files fed r = elim r as (λ _. Result Taken OpenFault) [
   | Err fault ↦ Err fault
   | Ok read ↦ Ok (taken written d read.0 (read.1 - 1) read.2 (own_seals d (selected_bytes files)) fed)
 ]
-
-unopened : (d : Directory) (files : Files) (fed : List ℕ) (fault : OpenFault) → opens d files ≡ Err fault → comes_to d files fed ≡ Err fault
-unopened d files fed fault is = by_read (files_read written d files) is
-  where
-    by_read : (r : Read) → opened_need d r ≡ Err fault → come_by d files fed r ≡ Err fault
-    by_read (Err other) is = let e : other ≡ fault = cc is in ap (λ (g : OpenFault). Err g) e
-    by_read (Ok x) is = absurd (cc is)
-
-pub open_answers : (e : OpenFault) (d : Directory) (files : Files) (fed : List ℕ) → IsAnswer e (opens d files) → Answers (open_end e) (comes_to d files fed)
-open_answers opening.DiskFault d files fed is = tt
-open_answers opening.NoMemory d files fed is = tt
-open_answers opening.NoJournal d files fed is = unopened d files fed opening.NoJournal is
-open_answers opening.OldVersion d files fed is = unopened d files fed opening.OldVersion is
-open_answers (opening.NotThis want found) d files fed is = unopened d files fed (opening.NotThis want found) is
-open_answers (opening.Damaged file at) d files fed is = unopened d files fed (opening.Damaged file at) is
 
 pub open_no_end : (e : OpenFault) → IsEnd (open_end e) → ⊥
 open_no_end opening.DiskFault is = is
@@ -539,30 +495,6 @@ open_no_end opening.NoJournal is = is
 open_no_end opening.OldVersion is = is
 open_no_end (opening.NotThis want found) is = is
 open_no_end (opening.Damaged file at) is = is
-
-pub open_not_done : (e : OpenFault) → open_end e ≡ Done → ⊥
-open_not_done opening.DiskFault is = absurd (cc is)
-open_not_done opening.NoMemory is = absurd (cc is)
-open_not_done opening.NoJournal is = absurd (cc is)
-open_not_done opening.OldVersion is = absurd (cc is)
-open_not_done (opening.NotThis want found) is = absurd (cc is)
-open_not_done (opening.Damaged file at) is = absurd (cc is)
-
-pub open_disk : (e : OpenFault) → open_end e ≡ DiskFault → e ≡ opening.DiskFault
-open_disk opening.DiskFault is = refl
-open_disk opening.NoMemory is = absurd (cc is)
-open_disk opening.NoJournal is = absurd (cc is)
-open_disk opening.OldVersion is = absurd (cc is)
-open_disk (opening.NotThis want found) is = absurd (cc is)
-open_disk (opening.Damaged file at) is = absurd (cc is)
-
-pub open_no_source : (e : OpenFault) → open_end e ≡ SourceFault → ⊥
-open_no_source opening.DiskFault is = absurd (cc is)
-open_no_source opening.NoMemory is = absurd (cc is)
-open_no_source opening.NoJournal is = absurd (cc is)
-open_no_source opening.OldVersion is = absurd (cc is)
-open_no_source (opening.NotThis want found) is = absurd (cc is)
-open_no_source (opening.Damaged file at) is = absurd (cc is)
 
 -- a journal that is refused is left alone
 pub open_alone : (e : OpenFault) (old new : List Call) (Unread : Type 0) → OnlySyncs old new → Unread → LeavesAlone (open_end e) old new Unread

@@ -1,17 +1,7 @@
 -- At the end of a feed its source has no more.
 use Rattle.std.proofs.Common.{◌≡◌, ◌⊎◌, inl, inr, ℕ, List, ◌++◌, refl, sym, subst}
-use Rattle.gts_record.specs.declared.version.Version.{Version}
-use Rattle.gts_record.specs.declared.fault.OpenFault.{OpenFault}
+use Rattle.gts_standby.specs.Cited.{DiskFault, Diverged, Done, Feed, FollowEnd, HasRead, InFeed, IsOwnEnd, IsPutEnd, IsReadEnd, IsUnsealed, IsWhole, NoMemory, Open, OpenFault, ReadsAll, SourceFault, StopsAs, Taken, Version, open_end}
 use Rattle.gts_record.specs.declared.fault.OpenFault.TheVariants as opening
-use Rattle.gts_standby.specs.declared.end.FollowEnd.{FollowEnd}
-use Rattle.gts_standby.specs.declared.end.FollowEnd.TheVariants.{Done, Open, Feed, Diverged, SourceFault, DiskFault, NoMemory}
-use Rattle.gts_standby.specs.Ahead.{InFeed}
-use Rattle.gts_standby.specs.Taking.{Taken}
-use Rattle.gts_standby.specs.Following.{open_end}
-use Rattle.gts_standby.specs.Reading.{HasRead, IsReadEnd, IsUnsealed, ReadsAll, StopsAs}
-use Rattle.gts_standby.specs.Comparing.{IsOwnEnd}
-use Rattle.gts_standby.specs.Beginning.{IsPutEnd}
-use Rattle.gts_standby.specs.Whole.{IsWhole}
 
 pub whole_read : (ahead : InFeed) (left : List ℕ) → IsWhole ahead left → HasRead (ahead.bytes ++ left) ahead left
 whole_read ahead left whole = record { is = refl; all = whole }

@@ -1,13 +1,6 @@
 -- What it is that records are added to a journal.
 use Rattle.std.specs.Prelude.{◌≡◌, ℕ, ◌+◌, ◌≤◌, true, List, length, Ok}
-use Rattle.gts_traits.specs.{Call, seen, EachSince}
-use Rattle.gts_directory.specs.Directory.{Directory}
-use Rattle.gts_event.specs.State.{State}
-use Rattle.gts_record.specs.Format.{written}
-use Rattle.gts_opening.specs.Journal.{files_read}
-use Rattle.gts_core.specs.Core.{Core}
-use Rattle.gts_journal.specs.{InHand, StandsFor, OpensTo}
-use Rattle.gts_recovery.specs.Reading.{IsKept}
+use Rattle.gts_standby.specs.Cited.Below.{Call, Core, Directory, EachSince, InHand, IsKept, OpensTo, StandsFor, State, files_read, seen, written}
 use Rattle.gts_standby.specs.declared.end.FollowEnd.{FollowEnd}
 use Rattle.gts_standby.specs.declared.end.FollowEnd.TheVariants.{Open, Diverged}
 use Rattle.gts_standby.specs.Ahead.{InFeed}

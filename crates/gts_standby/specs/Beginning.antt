@@ -1,13 +1,6 @@
 -- What it is that a journal begins with the checkpoint of a feed: one without records, or one that begins anew.
 use Rattle.std.specs.Prelude.{◌≡◌, ◌⊎◌, ℕ, ◌+◌, List, [], length, drop, Some, Result, Ok, Err}
-use Rattle.gts_traits.specs.{Outside, Files, Call, said_by, EachSince}
-use Rattle.gts_directory.specs.Directory.{Directory}
-use Rattle.gts_event.specs.State.{State}
-use Rattle.gts_event.specs.Need.{Need, begun}
-use Rattle.gts_record.specs.Format.{seal, first_seal, written}
-use Rattle.gts_opening.specs.Journal.{need_in, checkpoint_text, compacted_bytes}
-use Rattle.gts_core.specs.Core.{Core}
-use Rattle.gts_journal.specs.{InHand, OpensTo}
+use Rattle.gts_standby.specs.Cited.Below.{Call, Core, Directory, EachSince, Files, InHand, Need, OpensTo, Outside, State, begun, checkpoint_text, compacted_bytes, first_seal, need_in, said_by, seal, written}
 use Rattle.gts_standby.specs.declared.end.FollowEnd.{FollowEnd}
 use Rattle.gts_standby.specs.declared.end.FollowEnd.TheVariants.{DiskFault, NoMemory}
 use Rattle.gts_standby.specs.Ahead.{InFeed}

@@ -1,11 +1,6 @@
 -- What a standby station has of a feed, and what it lacks.
 use Rattle.std.specs.Prelude.{◌≡◌, ℕ, List, [], ◌∷◌, ◌++◌, Some}
-use Rattle.gts_traits.specs.{Files}
-use Rattle.gts_directory.specs.Directory.{Directory}
-use Rattle.gts_event.specs.State.{State}
-use Rattle.gts_record.specs.declared.version.Version.{Version}
-use Rattle.gts_record.specs.Format.{magic, seal, sealed, first_seal, written}
-use Rattle.gts_journal.specs.{selected_bytes}
+use Rattle.gts_standby.specs.Cited.Below.{Directory, Files, State, Version, first_seal, magic, seal, sealed, selected_bytes, written}
 use Rattle.gts_standby.specs.Since.{found_since}
 use Rattle.gts_standby.specs.Fronts.{IsFeedOf}
 

@@ -1,11 +1,6 @@
 -- What it is that the records of a journal are compared with those of a feed.
 use Rattle.std.specs.Prelude.{◌≡◌, ℕ, ◌+◌, ◌≤◌, ◌<◌, List, ◌∷◌, length, drop, Result, Ok, Err}
-use Rattle.gts_traits.specs.{Call}
-use Rattle.gts_directory.specs.Directory.{Directory}
-use Rattle.gts_event.specs.State.{State}
-use Rattle.gts_record.specs.declared.version.Version.{Version}
-use Rattle.gts_record.specs.Format.{first_seal, written}
-use Rattle.gts_journal.specs.{InHand, StandsFor, file_of, is_checkpoint}
+use Rattle.gts_standby.specs.Cited.Below.{Call, Directory, InHand, StandsFor, State, Version, file_of, first_seal, is_checkpoint, written}
 use Rattle.gts_standby.specs.declared.end.FollowEnd.{FollowEnd}
 use Rattle.gts_standby.specs.declared.end.FollowEnd.TheVariants.{Open, DiskFault, NoMemory}
 use Rattle.gts_standby.specs.Ahead.{InFeed}

@@ -1,7 +1,6 @@
 -- What a function that takes a feed keeps of the counts of faults, and of the journal that it reads.
 use Rattle.std.specs.Prelude.{◌≡◌, ◌≤◌, ◌<◌, ℕ, false, List}
-use Rattle.gts_traits.specs.{Call}
-use Rattle.gts_journal.specs.{InHand, StandsOn}
+use Rattle.gts_standby.specs.Cited.Below.{Call, InHand, StandsOn}
 
 -- faults of the disk add to their count alone, and saying doesn't fail
 pub record KeepsCounts (disk disk_now saying saying_now : ℕ) : Type 0 where

@@ -1,11 +1,6 @@
 -- The feed of a journal: what of it is sent to a standby station (profile).
 use Rattle.std.specs.Prelude.{ℕ, suc, ◌-◌, Bool, true, false, ◌==◌, List, [], ◌∷◌, ◌++◌, length, take, drop, Some, None}
-use Rattle.gts_event.specs.Need.{Need}
-use Rattle.gts_record.specs.declared.version.Version.{Version}
-use Rattle.gts_record.specs.Record.{record_text, open_gate}
-use Rattle.gts_record.specs.Format.{seal, sealed, sealed_at, first_seal, record_size}
-use Rattle.gts_opening.specs.Journal.{checkpoint_text, compacted_bytes, need_in}
-use Rattle.gts_journal.specs.{is_checkpoint}
+use Rattle.gts_standby.specs.Cited.Below.{Need, Version, checkpoint_text, compacted_bytes, first_seal, is_checkpoint, need_in, open_gate, record_size, record_text, seal, sealed, sealed_at}
 
 -- The records behind open gates from this gate on, each with its seal, where this seal stands before them: none behind a gate that
 -- isn't open. `n` is at least the number of bytes left.

@@ -1,16 +1,7 @@
 -- What is said of a feed that is taken into a journal.
 use Rattle.std.specs.Prelude.{◌≡◌, ◌⊎◌, ℕ, ◌+◌, ◌-◌, List, [], ◌∷◌, ◌++◌, Option, Some, None, Result, Ok, Err}
-use Rattle.gts_traits.specs.{Call, Did, Syncs, Files, Outside, seen, EachSince}
-use Rattle.gts_directory.specs.Directory.{Directory}
-use Rattle.gts_event.specs.State.{State}
-use Rattle.gts_event.specs.History.{restarted, after}
-use Rattle.gts_event.specs.Need.{Need, need, begun}
-use Rattle.gts_record.specs.declared.fault.OpenFault.{OpenFault}
+use Rattle.gts_standby.specs.Cited.Below.{Call, Did, Directory, EachSince, Files, Need, OnlySyncs, OpenFault, OpensTo, Outside, Record, State, Syncs, after, after_records, begun, checkpoint_text, compacted_bytes, event_of_record, files_read, first_seal, held, is_checkpoint, need, opens, record_size, record_text, restarted, seal, seen, selected_bytes, written}
 use Rattle.gts_record.specs.declared.fault.OpenFault.TheVariants as opening
-use Rattle.gts_record.specs.Record.{Record, record_text}
-use Rattle.gts_record.specs.Format.{held, seal, first_seal, record_size, written}
-use Rattle.gts_opening.specs.Journal.{after_records, event_of_record, checkpoint_text, compacted_bytes, opens, files_read}
-use Rattle.gts_journal.specs.{OnlySyncs, OpensTo, selected_bytes, is_checkpoint}
 use Rattle.gts_standby.specs.declared.end.FollowEnd.{FollowEnd}
 use Rattle.gts_standby.specs.declared.end.FollowEnd.TheVariants.{Done, Open, Feed, Diverged, SourceFault, DiskFault, NoMemory}
 use Rattle.gts_standby.specs.Taking.{End, Ends, Breaks, Parts, Taken, seals_behind, taken}

@@ -1,14 +1,6 @@
 -- What a front of a feed adds, beside what the feed adds.
 use Rattle.std.specs.Prelude.{◌≡◌, ℕ, true, false, List, [], ◌∷◌, ◌++◌, drop, nat_eq, None, Ok}
-use Rattle.std.specs.Cmp.Lexicographic.{pointwise}
-use Rattle.gts_traits.specs.{Files}
-use Rattle.gts_directory.specs.Directory.{Directory}
-use Rattle.gts_event.specs.State.{State, empty}
-use Rattle.gts_event.specs.Need.{need}
-use Rattle.gts_record.specs.Record.{Record}
-use Rattle.gts_record.specs.Format.{first_seal, written}
-use Rattle.gts_opening.specs.Journal.{after_records, need_in, files_read}
-use Rattle.gts_journal.specs.{is_checkpoint, selected_bytes}
+use Rattle.gts_standby.specs.Cited.Below.{Directory, Files, Record, State, after_records, empty, files_read, first_seal, is_checkpoint, need, need_in, pointwise, selected_bytes, written}
 use Rattle.gts_standby.specs.Feed.{feed}
 use Rattle.gts_standby.specs.Taking.{Taken, Ends, is_behind}
 use Rattle.gts_standby.specs.Following.{own_seals, read_after, comes_to}

@@ -1,16 +1,6 @@
 -- What it is that records of a feed are gathered behind a journal, and brought into it behind one gate.
 use Rattle.std.specs.Prelude.{◌≡◌, ◌⊎◌, ℕ, ◌+◌, ◌-◌, ◌≤◌, true, List, [], ◌∷◌, ◌++◌, length, drop, if◌then◌else◌, Some, None, Result, Ok, Err}
-use Rattle.gts_traits.specs.{Call, EachSince}
-use Rattle.gts_directory.specs.Directory.{Directory}
-use Rattle.gts_event.specs.State.{State}
-use Rattle.gts_record.specs.Record.{Record, record_text, FitsRecord}
-use Rattle.gts_record.specs.Format.{held, seal, sealed_at, record_size, written}
-use Rattle.gts_opening.specs.Journal.{admits, after_records, record_behind}
-use Rattle.gts_core.specs.Core.{Core}
-use Rattle.gts_journal.specs.{StandsFor}
-use Rattle.gts_journal.specs.Batch.{Gathers, AreNext, OpensToOneOf}
-use Rattle.gts_recovery.specs.{Follows}
-use Rattle.gts_recovery.specs.Reading.{IsKept}
+use Rattle.gts_standby.specs.Cited.Below.{AreNext, Call, Core, Directory, EachSince, FitsRecord, Follows, Gathers, IsKept, OpensToOneOf, Record, StandsFor, State, admits, after_records, held, record_behind, record_size, record_text, seal, sealed_at, written}
 use Rattle.gts_standby.specs.declared.end.FollowEnd.{FollowEnd}
 use Rattle.gts_standby.specs.declared.end.FollowEnd.TheVariants.{DiskFault}
 use Rattle.gts_standby.specs.declared.gathering.Gathering.{Gathering}
@@ -60,10 +50,6 @@ pub record CanGather (d : Directory) (core : Core) (g : Gathering) : Type 0 wher
   pub version : g.batch.version ≡ written
 
 -- ---- a record is gathered
-
--- a record that stands next in a feed with its seal, and may stand behind what was gathered
-abbrev pub IsFedNext : Directory → State → Gathering → List ℕ → Record → Type 0
-IsFedNext d s g fed r = record_behind written d g.batch.seal s (gate_behind g) fed ≡ Some r
 
 -- One record more was gathered, which may stand behind the others in whatever state the core held; it then holds the state behind
 -- that. The feed goes on behind the record.

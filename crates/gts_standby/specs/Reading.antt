@@ -1,8 +1,6 @@
 -- How a feed is read, and the ends of what is read of it.
 use Rattle.std.specs.Prelude.{◌≡◌, ℕ, zero, suc, Bool, true, false, List, [], ◌++◌, drop, replicate, codes, nat_eq, Option, Some, None, Result, Ok, Err}
-use Rattle.std.specs.List.{starts_with}
-use Rattle.gts_record.specs.declared.version.Version.{Version}
-use Rattle.gts_record.specs.Format.{held}
+use Rattle.gts_standby.specs.Cited.Below.{Version, held, starts_with}
 use Rattle.gts_standby.specs.declared.scanning.Listed.{Listed}
 use Rattle.gts_standby.specs.declared.scanning.Listed.TheVariants.{Bulletin, Circuit}
 use Rattle.gts_standby.specs.declared.end.FollowEnd.{FollowEnd}

@@ -1,16 +1,7 @@
 -- What is said of a feed.
 use Rattle.std.specs.Prelude.{◌≡◌, ℕ, ◌+◌, ◌≤◌, List, [], ◌++◌, length, drop, Result, Ok, Err, None}
-use Rattle.gts_traits.specs.{Call, on, seen}
-use Rattle.gts_say.specs.Say.{SaysOnly, SaysFront}
-use Rattle.gts_directory.specs.Directory.{Directory}
-use Rattle.gts_event.specs.State.{State}
-use Rattle.gts_event.specs.Need.{Need}
-use Rattle.gts_record.specs.declared.version.Version.{Version}
-use Rattle.gts_record.specs.declared.fault.OpenFault.{OpenFault}
+use Rattle.gts_standby.specs.Cited.Below.{Call, Directory, InHand, Need, OpenFault, SaysFront, SaysOnly, StandsOn, State, Version, file_of, file_opens, first_seal, header_fault, is_at_checkpoint, is_checkpoint, on, opens, records_at, seen, selected_bytes, written}
 use Rattle.gts_record.specs.declared.fault.OpenFault.TheVariants as opening
-use Rattle.gts_record.specs.Format.{first_seal, written}
-use Rattle.gts_opening.specs.Journal.{records_at, file_opens, opens}
-use Rattle.gts_journal.specs.{InHand, StandsOn, file_of, selected_bytes, header_fault, is_checkpoint, is_at_checkpoint}
 use Rattle.gts_standby.specs.declared.fault.ShipFault.{ShipFault}
 use Rattle.gts_standby.specs.declared.fault.ShipFault.TheVariants.{Open, DiskFault, NoMemory}
 use Rattle.gts_standby.specs.Feed.{feed, feed_at, feed_behind}

@@ -1,15 +1,6 @@
 -- What of a feed is sent to a standby station that has a first part of it (profile).
 use Rattle.std.specs.Prelude.{◌≡◌, ◌<◌, ℕ, zero, suc, ◌+◌, ◌-◌, ◌≤◌, Bool, true, false, ◌==◌, ◌&&◌, nat_le, nat_eq, if◌then◌else◌, ◌⊎◌, List, [], ◌∷◌, ◌++◌, length, take, drop, Option, Some, None, Result, Ok, Err}
-use Rattle.std.specs.Cmp.Lexicographic.{pointwise}
-use Rattle.gts_traits.specs.{Call, seen}
-use Rattle.gts_directory.specs.Directory.{Directory}
-use Rattle.gts_event.specs.State.{State}
-use Rattle.gts_event.specs.Need.{Need}
-use Rattle.gts_record.specs.declared.version.Version.{Version}
-use Rattle.gts_record.specs.Record.{Record, record_text, open_gate}
-use Rattle.gts_record.specs.Format.{seal, sealed_at, first_seal, record_size, held, written}
-use Rattle.gts_opening.specs.Journal.{checkpoint_text, compacted_bytes, need_in, records_at}
-use Rattle.gts_journal.specs.{InHand, file_of, selected_bytes, is_checkpoint}
+use Rattle.gts_standby.specs.Cited.Below.{Call, Directory, InHand, Need, Record, State, Version, checkpoint_text, compacted_bytes, file_of, first_seal, held, is_checkpoint, need_in, open_gate, pointwise, record_size, record_text, records_at, seal, sealed_at, seen, selected_bytes, written}
 use Rattle.gts_standby.specs.declared.since.Since.{Since}
 use Rattle.gts_standby.specs.declared.fault.ShipFault.{ShipFault}
 use Rattle.gts_standby.specs.Feed.{feed, feed_at}

@@ -1,16 +1,6 @@
 -- What a feed comes to where it is taken into a journal (profile): the records that are added, and how it ends.
 use Rattle.std.specs.Prelude.{ℕ, zero, suc, ◌+◌, ◌-◌, ◌*◌, Bool, true, false, ◌&&◌, ◌||◌, not, ◌==◌, nat_eq, nat_lt, nat_le, is_some, if◌then◌else◌, List, [], ◌∷◌, ◌++◌, length, take, drop, replicate, zip, codes, Option, Some, None}
-use Rattle.std.specs.List.{starts_with, slice_index_or, list_any}
-use Rattle.std.specs.Cmp.Lexicographic.{pointwise}
-use Rattle.gts_alphabet.specs.declared.limits.TheConstants.{LONGEST_BODY}
-use Rattle.gts_directory.specs.Directory.{Directory}
-use Rattle.gts_event.specs.State.{State}
-use Rattle.gts_event.specs.History.{after}
-use Rattle.gts_event.specs.Need.{Need, need, begun}
-use Rattle.gts_record.specs.declared.version.Version.{Version}
-use Rattle.gts_record.specs.Record.{Record, record_text, record_at, number_in, kind_of, open_gate}
-use Rattle.gts_record.specs.Format.{magic, seal, seal_size, is_sealed, sealed_at, first_seal, record_size}
-use Rattle.gts_opening.specs.Journal.{agreeing, checkpoint_text, compacted_bytes, need_in, event_of_record, record_behind, admits_checkpoint}
+use Rattle.gts_standby.specs.Cited.Below.{Directory, LONGEST_BODY, Need, Record, State, Version, admits_checkpoint, after, agreeing, begun, checkpoint_text, compacted_bytes, event_of_record, first_seal, is_sealed, kind_of, list_any, magic, need, need_in, number_in, open_gate, pointwise, record_at, record_behind, record_size, record_text, seal, seal_size, sealed_at, slice_index_or, starts_with}
 
 -- How a feed ends: it is taken to its end; or it is bad at a place; or it has another record with a number, where these two seals
 -- stand, the journal's and the feed's.

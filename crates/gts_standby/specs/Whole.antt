@@ -1,12 +1,7 @@
 -- What it is that a whole feed is taken into a journal that opens.
 use Rattle.std.specs.Prelude.{◌≡◌, ℕ, ◌+◌, Bool, true, List, [], Result, Ok, Err}
-use Rattle.gts_traits.specs.{Call}
-use Rattle.gts_directory.specs.Directory.{Directory}
-use Rattle.gts_event.specs.State.{State}
+use Rattle.gts_standby.specs.Cited.Below.{Call, Core, Directory, InHand, State, file_of, first_seal, written}
 use Rattle.gts_record.specs.declared.fault.OpenFault.TheVariants as opening
-use Rattle.gts_record.specs.Format.{first_seal, written}
-use Rattle.gts_core.specs.Core.{Core}
-use Rattle.gts_journal.specs.{InHand, file_of}
 use Rattle.gts_standby.specs.declared.end.FollowEnd.{FollowEnd}
 use Rattle.gts_standby.specs.declared.end.FollowEnd.TheVariants.{Open}
 use Rattle.gts_standby.specs.Ahead.{InFeed}

@@ -1,11 +1,6 @@
 //! The records of a feed that a journal doesn't have are added to it.
 ghost use Rattle.std.specs.Prelude.{◌≡◌, ◌≤◌, ◌^◌};
-ghost use Rattle.gts_traits.specs.{Rose, said_by};
-ghost use Rattle.gts_recovery.specs.{IsOpened};
-ghost use Rattle.gts_standby.specs.Reading.{ReadsAll};
-ghost use Rattle.gts_standby.specs.Adding.{AddsAll, IsAddEnd};
-ghost use Rattle.gts_standby.specs.Counts.{KeepsAllCounts};
-ghost use Rattle.gts_standby.specs.Whole.{IsWhole};
+ghost use Rattle.gts_standby.specs.Cited.{AddsAll, IsAddEnd, IsOpened, IsWhole, KeepsAllCounts, ReadsAll, Rose, said_by};
 
 use crate::FollowEnd;
 use crate::ahead::Ahead;

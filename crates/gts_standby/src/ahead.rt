@@ -1,7 +1,6 @@
 //! The bytes of a feed that were read ahead.
 ghost use Rattle.std.specs.Prelude.{◌≡◌, ◌⊎◌, ◌≤◌, ◌<◌, ◌^◌, ℕ, List, true, false, length, drop, OnOk, IfErr, IsErrOf};
-ghost use Rattle.gts_traits.specs.{Rose};
-ghost use Rattle.gts_standby.specs.Reading.{HasRead, IsReadEnd, unread};
+ghost use Rattle.gts_standby.specs.Cited.{HasRead, IsReadEnd, Rose, unread};
 
 use crate::FollowEnd;
 use gts_traits::{Failed, Source};

@@ -1,12 +1,6 @@
 //! A journal begins with the checkpoint of a feed: one without records, or one that begins anew.
 ghost use Rattle.std.specs.Prelude.{◌≡◌, ◌+◌, ◌≤◌, ◌^◌, true, length, IfOk, IfErr, OnOk, IsErrOf, IsTrue};
-ghost use Rattle.gts_traits.specs.{Rose, said_by, EachSince};
-ghost use Rattle.gts_standby.specs.Cited.{State, need_of, begun, is_sound, written, checkpoint_text, compacted_bytes, FitsLimit, unowed};
-ghost use Rattle.gts_standby.specs.Cited.{need_seal, StandsOn, StandsFor, IsOpened};
-ghost use Rattle.gts_standby.specs.Adding.{IsAddEnd};
-ghost use Rattle.gts_standby.specs.Beginning.{OpensOneOf, IsPutEnd, BeginsAny};
-ghost use Rattle.gts_standby.specs.Counts.{KeepsCounts, KeepsAllCounts};
-ghost use Rattle.gts_standby.specs.Whole.{IsWhole, StaysWhole};
+ghost use Rattle.gts_standby.specs.Cited.{BeginsAny, EachSince, FitsLimit, IsAddEnd, IsOpened, IsPutEnd, IsWhole, KeepsAllCounts, KeepsCounts, OpensOneOf, Rose, StandsFor, StandsOn, State, StaysWhole, begun, checkpoint_text, compacted_bytes, is_sound, need_of, need_seal, said_by, unowed, written};
 
 use crate::FollowEnd;
 use crate::ahead::Ahead;

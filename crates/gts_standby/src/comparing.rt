@@ -1,11 +1,6 @@
 //! The records that a journal has are compared with those of a feed.
 ghost use Rattle.std.specs.Prelude.{◌≡◌, ◌≤◌, ◌<◌, ◌^◌, ℕ, false, List, nat_eq, length, IfOk, IfErr, OnOk, IsErrOf};
-ghost use Rattle.gts_traits.specs.{Rose};
-ghost use Rattle.gts_standby.specs.Cited.{pointwise, Directory as DirectoryOf, held, written, StandsOn, OnlySyncs, IsAtFirst, first_piece};
-ghost use Rattle.gts_standby.specs.Reading.{HasRead, FindsPiece, IsFedEnd, is_other, KeepsOther, IsLater};
-ghost use Rattle.gts_standby.specs.Comparing.{IsAtSeals, OwnGoesOn, IsOwnEnd, ComparesFirstOfAny, ComparesNext, ComparesRest, ComparesAll, seals_here};
-ghost use Rattle.gts_standby.specs.Counts.{KeepsCounts, KeepsAllCounts, GoesOn};
-ghost use Rattle.gts_standby.specs.Whole.{IsNamedEnd, IsWhole, StaysWhole};
+ghost use Rattle.gts_standby.specs.Cited.{ComparesAll, ComparesFirstOfAny, ComparesNext, ComparesRest, Directory as DirectoryOf, FindsPiece, GoesOn, HasRead, IsAtFirst, IsAtSeals, IsFedEnd, IsLater, IsNamedEnd, IsOwnEnd, IsWhole, KeepsAllCounts, KeepsCounts, KeepsOther, OnlySyncs, OwnGoesOn, Rose, StandsOn, StaysWhole, first_piece, held, is_other, pointwise, seals_here, written};
 
 use crate::FollowEnd;
 use crate::ahead::Ahead;

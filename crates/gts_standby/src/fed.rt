@@ -1,10 +1,7 @@
 //! The next record of a feed.
 ghost use Rattle.std.specs.Prelude.{◌≡◌, ◌≤◌, ◌+◌, ◌++◌, ℕ, List, true, is_some, length, drop, replicate, IfOk, IfErr, IsErrOf};
-ghost use Rattle.gts_traits.specs.{Rose};
+ghost use Rattle.gts_standby.specs.Cited.{Breaks, Ends, FindsPiece, HasRead, IsFedEnd, IsLookedEnd, IsUnsealed, Rose, held, may_be_cut, may_begin, record_piece, stopped};
 ghost use Rattle.gts_record.specs.Record.{record_at};
-ghost use Rattle.gts_record.specs.Format.{held};
-ghost use Rattle.gts_standby.specs.Taking.{may_begin, may_be_cut, record_piece, stopped, Ends, Breaks};
-ghost use Rattle.gts_standby.specs.Reading.{HasRead, IsFedEnd, IsLookedEnd, IsUnsealed, FindsPiece};
 
 use crate::FollowEnd;
 use crate::ahead::Ahead;

@@ -1,11 +1,5 @@
 ghost use Rattle.std.specs.Prelude.{◌≡◌, true, []};
-ghost use Rattle.gts_traits.specs.{Rose, seen, said_by};
-ghost use Rattle.gts_recovery.specs.{IsOpened};
-ghost use Rattle.gts_standby.specs.Following.{comes_to, Answers, LeavesAlone, AddsAllOf, LeavesFronts};
-ghost use Rattle.gts_standby.specs.Reading.{ReadsAll, is_other};
-ghost use Rattle.gts_standby.specs.Adding.{IsAddEnd};
-ghost use Rattle.gts_standby.specs.Counts.{KeepsAllCounts};
-ghost use Rattle.gts_standby.specs.Whole.{TakesFirst, TakesCheckpoint, TakesOther, TakesRecords, IsNamedEnd, IsWhole};
+ghost use Rattle.gts_standby.specs.Cited.{AddsAllOf, Answers, IsAddEnd, IsNamedEnd, IsOpened, IsWhole, KeepsAllCounts, LeavesAlone, LeavesFronts, ReadsAll, Rose, TakesCheckpoint, TakesFirst, TakesOther, TakesRecords, comes_to, is_other, said_by, seen};
 
 use crate::FollowEnd;
 use crate::adding::add_all;

@@ -1,12 +1,7 @@
 //! Whether a journal may begin anew with the checkpoint of a feed.
 ghost use Rattle.std.specs.Prelude.{◌≡◌, ◌≤◌, ℕ, List, zip, map, nat_lt, IfOk, IfErr, IsErrOf};
-ghost use Rattle.std.specs.List.{list_any};
-ghost use Rattle.gts_traits.specs.{Rose};
-ghost use Rattle.gts_core.specs.Core.{Holds};
-ghost use Rattle.gts_standby.specs.Cited.{State, need_of, circuit_need_of};
+ghost use Rattle.gts_standby.specs.Cited.{FindsFurther, HasRead, Holds, IsReadEnd, Rose, State, circuit_need_of, list_any, need_of};
 ghost use Rattle.gts_standby.specs.Taking as feeds;
-ghost use Rattle.gts_standby.specs.Reading.{HasRead, IsReadEnd};
-ghost use Rattle.gts_standby.specs.Whole.{FindsFurther};
 
 use crate::FollowEnd;
 use crate::ahead::Ahead;

@@ -1,13 +1,6 @@
 //! Records of a feed are gathered behind a journal, and brought into it behind one gate.
 ghost use Rattle.std.specs.Prelude.{◌≡◌, ◌+◌, ◌<◌, ◌≤◌, true, length, IfOk, IfErr, OnOk, OnErr, IsErrOf};
-ghost use Rattle.gts_traits.specs.{Rose, said_by};
-ghost use Rattle.gts_record.specs.Format.{held};
-ghost use Rattle.gts_journal.specs.Batch.{no_records};
-ghost use Rattle.gts_journal.specs.declared.batch.TheConstants.{MOST_GATHERED};
-ghost use Rattle.gts_standby.specs.Gathering.{gate_behind, IsGathered, CanGather, GathersNext, Brings, MayHaveBrought, MayBring, IsFinished};
-ghost use Rattle.gts_standby.specs.Reading.{IsFedEnd};
-ghost use Rattle.gts_standby.specs.Counts.{KeepsCounts};
-ghost use Rattle.gts_standby.specs.Whole.{IsWhole, StaysWhole};
+ghost use Rattle.gts_standby.specs.Cited.{Brings, CanGather, GathersNext, IsFedEnd, IsFinished, IsGathered, IsWhole, KeepsCounts, MOST_GATHERED, MayBring, MayHaveBrought, Rose, StaysWhole, gate_behind, held, no_records, said_by};
 
 use crate::FollowEnd;
 use crate::ahead::Ahead;

@@ -1,9 +1,7 @@
 //! The header of a feed.
 ghost use Rattle.std.specs.Prelude.{◌≡◌, ◌≤◌, ◌++◌, ℕ, List, length, IfErr, IsErrOf};
-ghost use Rattle.gts_traits.specs.{Rose};
-ghost use Rattle.gts_record.specs.Format.{magic, written};
+ghost use Rattle.gts_standby.specs.Cited.{HasRead, IsFedEnd, IsReadEnd, Rose, TakesHeader, magic, written};
 ghost use Rattle.gts_opening.specs.Journal as opened;
-ghost use Rattle.gts_standby.specs.Reading.{HasRead, IsReadEnd, IsFedEnd, TakesHeader};
 
 use crate::FollowEnd;
 use crate::ahead::Ahead;

@@ -1,12 +1,6 @@
 //! Laws over the definitions, each the contract of a function with an empty body.
 ghost use Rattle.std.specs.Prelude.{◌≡◌, ◌++◌, ◌<◌, ◌^◌, ℕ, List, length, Ok, Some};
-ghost use Rattle.gts_record.specs.declared.version.Version.{Version};
-ghost use Rattle.gts_standby.specs.Cited.{Files, Directory, State, held};
-ghost use Rattle.gts_standby.specs.Since.{found_since, HasFront};
-ghost use Rattle.gts_standby.specs.Between.{IsFoundBehind};
-ghost use Rattle.gts_standby.specs.Taking.{Taken};
-ghost use Rattle.gts_standby.specs.Following.{comes_to};
-ghost use Rattle.gts_standby.specs.Fronts.{AddsFront, HasNoRecord, IsPlainFeed, state_of, LeadsTo, IsFeedOf, nothing_read, FeedBrings, IsOvertaken, HasPlainPart};
+ghost use Rattle.gts_standby.specs.Cited.{AddsFront, Directory, FeedBrings, Files, HasFront, HasNoRecord, HasPlainPart, IsFeedOf, IsFoundBehind, IsOvertaken, IsPlainFeed, LeadsTo, State, Taken, Version, comes_to, found_since, held, nothing_read, state_of};
 
 /// A feed that is cut anywhere adds nothing, or a first part of what the whole feed adds: a journal begins with the same
 /// checkpoint, or with none, and has the first of the same records.

@@ -1,6 +1,5 @@
 ghost use Rattle.std.specs.Prelude.{◌≡◌, ◌≤◌, ◌<◌, ◌-◌, ◌^◌, length, take, drop, IfErr, IsErrOf};
-ghost use Rattle.gts_traits.specs.{Rose, seen};
-ghost use Rattle.gts_standby.specs.Shipping.{Speaks, IsQuiet, IsNamed};
+ghost use Rattle.gts_standby.specs.Cited.{IsNamed, IsQuiet, Rose, Speaks, seen};
 
 use crate::ShipFault;
 use gts_journal::OpenFault;

@@ -1,8 +1,5 @@
 ghost use Rattle.std.specs.Prelude.{◌≡◌, ◌≤◌, ◌<◌, ◌^◌, ℕ, false, List, IfErr, OnOk, IsErrOf};
-ghost use Rattle.gts_traits.specs.{Rose};
-ghost use Rattle.gts_directory.specs.Directory.{Directory};
-ghost use Rattle.gts_journal.specs.{StandsOn};
-ghost use Rattle.gts_standby.specs.Shipping.{IsAtGate, SaysOne, SaysRest, IsNamed};
+ghost use Rattle.gts_standby.specs.Cited.{Directory, IsAtGate, IsNamed, Rose, SaysOne, SaysRest, StandsOn};
 
 use crate::ShipFault;
 use crate::piece::say_part;

@@ -1,9 +1,8 @@
 //! The checkpoint at the front of a feed's records: how long it is, and its seal.
 ghost use Rattle.std.specs.Prelude.{◌≡◌, ◌≤◌, ◌<◌, ◌+◌, ◌*◌, ◌^◌, ℕ, List, length, replicate, Some, None, IfOk, IfSome, IfErr, IsErrOf};
-ghost use Rattle.gts_traits.specs.{Rose};
-ghost use Rattle.gts_record.specs.Format.{held, seal_size};
+ghost use Rattle.gts_standby.specs.Cited.{FindsFront, FindsPiece, HasRead, IsFedEnd, IsReadEnd, Rose, behind_listed, held, listed_size, seal_size};
+ghost use Rattle.gts_standby.specs.Reading.{Reaches};
 ghost use Rattle.gts_standby.specs.Taking as feeds;
-ghost use Rattle.gts_standby.specs.Reading.{HasRead, FindsPiece, IsFedEnd, IsReadEnd, Reaches, FindsFront, listed_size, behind_listed};
 
 use crate::FollowEnd;
 use crate::ahead::Ahead;

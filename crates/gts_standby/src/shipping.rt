@@ -1,9 +1,5 @@
 ghost use Rattle.std.specs.Prelude.{◌≡◌, ◌≤◌, ◌<◌, ◌^◌, ℕ, false, IfErr, OnOk, IsErrOf};
-ghost use Rattle.gts_traits.specs.{Rose};
-ghost use Rattle.gts_journal.specs.{StandsOn, file_of};
-ghost use Rattle.gts_standby.specs.Feed.{feed};
-ghost use Rattle.gts_standby.specs.Shipping.{IsAtFirst, SaysOne, SaysRest, behind_header, feed_of, ShipsOnly, IsShipFault, IsNamed};
-ghost use Rattle.gts_standby.specs.Since.{since_of};
+ghost use Rattle.gts_standby.specs.Cited.{IsAtFirst, IsNamed, IsShipFault, Rose, SaysOne, SaysRest, ShipsOnly, StandsOn, behind_header, feed, feed_of, file_of, since_of};
 
 use crate::ShipFault;
 use crate::piece::say_part;

@@ -1,10 +1,6 @@
 //! A standby station has a first part of a journal: what of the feed is behind it.
 ghost use Rattle.std.specs.Prelude.{◌≡◌, ◌≤◌, ◌<◌, ◌-◌, ◌^◌, ℕ, false, List, IfErr, OnOk, IsErrOf};
-ghost use Rattle.gts_traits.specs.{Rose};
-ghost use Rattle.gts_standby.specs.Cited.{held, written, StandsOn, IsAtFirst};
-ghost use Rattle.gts_standby.specs.Shipping.{IsNamed};
-ghost use Rattle.gts_standby.specs.Since.{Passes, PassesUnder, IsLower, IsWithin, LooksFor, behind_here};
-ghost use Rattle.gts_standby.specs.Counts.{KeepsCounts, GoesOn};
+ghost use Rattle.gts_standby.specs.Cited.{GoesOn, IsAtFirst, IsLower, IsNamed, IsWithin, KeepsCounts, LooksFor, Passes, PassesUnder, Rose, StandsOn, behind_here, held, written};
 
 use crate::ShipFault;
 use crate::comparing::is_same;

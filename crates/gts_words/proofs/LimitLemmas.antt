@@ -1,14 +1,7 @@
 -- The count of a command is within its limits.
-use Rattle.std.proofs.Common.{◌≡◌, ℕ, ◌≤◌, ◌/◌, ◌%◌, Bool, true, false, ◌&&◌, List, [], ◌∷◌, Option, Some, None, length, nat_le, cond, codes, refl, subst, arith}
-use Rattle.std.specs.Prelude.{option_map, ◌==◌}
-use Rattle.std.specs.Char.{is_ascii_digit}
-use Rattle.std.specs.List.{list_all}
-use Rattle.std.specs.Str.Parse.{digits_value}
+use Rattle.std.proofs.Common.{◌≡◌, ℕ, ◌≤◌, ◌/◌, ◌%◌, Bool, true, false, ◌&&◌, List, [], ◌∷◌, Option, Some, None, length, nat_le, cond, codes, refl, subst, arith, option_map, ◌==◌}
+use Rattle.gts_words.specs.Cited.{Command, Compact, Count, Follow, Gaps, Generate, Init, LONGEST_CONNECTIONS, LONGEST_COUNT, MOST_CONNECTIONS, MOST_GENERATED, Migrate, MigrateCheck, MigrateDrop, Pack, Replay, Serve, ServeAlways, Ship, ShipSince, Show, Unpack, alone, circuit_in, command_of, count_in, digits_value, gaps_of, is_ascii_digit, is_count, is_moment, list_all, migrating, moment_in, number_in, same, seal_in, serving, ship_behind, used_in}
 use Rattle.std.proofs.lemmas.Bool.{leb-true, and_parts}
-use Rattle.gts_words.specs.declared.count.TheConstants.{MOST_GENERATED, LONGEST_COUNT, MOST_CONNECTIONS, LONGEST_CONNECTIONS}
-use Rattle.gts_words.specs.declared.command.Command.{Command}
-use Rattle.gts_words.specs.declared.command.Command.TheVariants.{Init, Replay, Serve, ServeAlways, Show, Compact, Generate, Migrate, MigrateDrop, MigrateCheck, Unpack, Pack, Gaps, Ship, ShipSince, Follow, Count}
-use Rattle.gts_words.specs.Commands.{same, alone, is_count, count_in, number_in, circuit_in, is_moment, gaps_of, moment_in, serving, migrating, used_in, seal_in, ship_behind, command_of}
 
 -- a command has no count, or one within the limits
 abbrev IsWithin : Command → Type 0

@@ -1,7 +1,6 @@
 ghost use Rattle.std.specs.Prelude.{◌≡◌, IfOk, false, codes, length};
-ghost use Rattle.clap.specs.Words.{app_of, kind_of, found_of, first_value};
+ghost use Rattle.gts_words.specs.Cited.{app_of, first_value, found_of, grammar, kind_of};
 ghost use Rattle.gts_words.specs.Commands as commands;
-ghost use Rattle.gts_words.specs.Grammar.{grammar};
 
 use crate::count::{
     LONGEST_CONNECTIONS, LONGEST_COUNT, MOST_CONNECTIONS, MOST_GENERATED, count_in,

@@ -1,6 +1,5 @@
 ghost use Rattle.std.specs.Prelude.{◌≡◌};
-ghost use Rattle.gts_app.specs.Replay.{world};
-ghost use Rattle.gts_app.specs.Trying.{TriesMigration};
+ghost use Rattle.gts_app.specs.Cited.{TriesMigration, world};
 
 use crate::Status;
 use crate::commands::show::OPERATOR;

@@ -1,6 +1,5 @@
 ghost use Rattle.std.specs.Prelude.{◌≡◌};
-ghost use Rattle.gts_app.specs.Ending.{status_compacted};
-ghost use Rattle.gts_app.specs.Compact.{Compacts};
+ghost use Rattle.gts_app.specs.Cited.{Compacts, status_compacted};
 
 use crate::Status;
 use crate::opening::open_engine;

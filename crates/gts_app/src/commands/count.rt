@@ -1,9 +1,5 @@
 ghost use Rattle.std.specs.Prelude.{◌≡◌, IfOk, IfErr, IsTrue};
-ghost use Rattle.gts_event.specs.Need.{Need as NeedOf, is_sound};
-ghost use Rattle.gts_core.specs.Core.{Needs};
-ghost use Rattle.gts_count.specs.Counted.{ShowsTable};
-ghost use Rattle.gts_app.specs.Count.{CountsEngine, CountsTraffic, EndsWithoutTable};
-ghost use Rattle.gts_app.specs.Replay.{world};
+ghost use Rattle.gts_app.specs.Cited.{CountsEngine, CountsTraffic, EndsWithoutTable, Need as NeedOf, Needs, ShowsTable, is_sound, world};
 
 use crate::Status;
 use crate::commands::replay::status_of;

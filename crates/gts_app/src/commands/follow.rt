@@ -1,7 +1,6 @@
 ghost use Rattle.std.specs.Prelude.{◌≡◌};
 ghost use Rattle.gts_app.specs.Follow as following;
-ghost use Rattle.gts_app.specs.Follow.{FollowsFeed};
-ghost use Rattle.gts_app.specs.Replay.{world};
+ghost use Rattle.gts_app.specs.Cited.{FollowsFeed, world};
 
 use crate::Status;
 use crate::directory::directory_of;

@@ -1,7 +1,6 @@
 ghost use Rattle.std.specs.Prelude.{◌≡◌};
 ghost use Rattle.gts_app.specs.Gaps as gapping;
-ghost use Rattle.gts_app.specs.Gaps.{NamesGaps};
-ghost use Rattle.gts_app.specs.Replay.{world};
+ghost use Rattle.gts_app.specs.Cited.{NamesGaps, world};
 
 use crate::Status;
 use crate::directory::directory_of;

@@ -1,7 +1,6 @@
 ghost use Rattle.std.specs.Prelude.{◌≡◌};
 ghost use Rattle.gts_app.specs.Migrate as migrating;
-ghost use Rattle.gts_app.specs.Migrate.{Migrates};
-ghost use Rattle.gts_app.specs.Replay.{world};
+ghost use Rattle.gts_app.specs.Cited.{Migrates, world};
 
 use crate::Status;
 use crate::directory::{directory_of, old_directory_of};

@@ -1,7 +1,6 @@
 ghost use Rattle.std.specs.Prelude.{◌≡◌};
 ghost use Rattle.gts_app.specs.Pack as packing;
-ghost use Rattle.gts_app.specs.Pack.{PacksStream};
-ghost use Rattle.gts_app.specs.Replay.{world};
+ghost use Rattle.gts_app.specs.Cited.{PacksStream, world};
 
 use crate::Status;
 use crate::directory::directory_of;

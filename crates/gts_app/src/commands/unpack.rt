@@ -1,6 +1,5 @@
 ghost use Rattle.std.specs.Prelude.{◌≡◌};
-ghost use Rattle.gts_app.specs.Replay.{world};
-ghost use Rattle.gts_app.specs.Unpack.{Unpacks, status_unpacked};
+ghost use Rattle.gts_app.specs.Cited.{Unpacks, status_unpacked, world};
 
 use crate::Status;
 use crate::commands::replay;

@@ -1,8 +1,8 @@
 //! All circuits are served at once: the neighbour on one circuit sends nothing until a frame of what came on another one has
 //! gone out on circuit 2.
 ghost use Rattle.std.specs.Prelude.{[]};
-ghost use Rattle.gts_traits.specs.{no_bytes};
-ghost use Rattle.gts_tcp.specs.{is_open_in, faults_in, place_in};
+ghost use Rattle.gts_traits.specs.Cited.{no_bytes};
+ghost use Rattle.gts_tcp.specs.Cited.{is_open_in, faults_in, place_in};
 
 use super::*;
 use gts_alphabet::MOST_CIRCUITS;

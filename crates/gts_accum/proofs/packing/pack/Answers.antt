@@ -1,13 +1,6 @@
-use Rattle.std.proofs.Common.{◌≡◌, ◌≤◌, ◌++◌, ℕ, List, [], length, take, drop, Result, Err, Option, sym, ap, subst, ◌∙◌, append_assoc, arith}
-use Rattle.std.specs.Prelude.{unwrap_or}
+use Rattle.std.proofs.Common.{◌≡◌, ◌≤◌, ◌++◌, ℕ, List, [], length, take, drop, Result, Err, Option, sym, ap, subst, ◌∙◌, append_assoc, arith, unwrap_or}
 use Rattle.std.proofs.lemmas.List.{append-nil, length-append, length-take-le, length-drop}
-use Rattle.gts_traits.specs.{Call, on}
-use Rattle.gts_accum.specs.declared.limits.TheConstants.{LONGEST_STREAM}
-use Rattle.gts_accum.specs.declared.packing.Stop.{Stop}
-use Rattle.gts_accum.specs.declared.packing.Stop.TheVariants.{Lost, Unsaid}
-use Rattle.gts_accum.specs.Packs.{Stands, PieceEnds, IsBad, Packs}
-use Rattle.gts_say.specs.Say.{SaysFront}
-use Rattle.gts_accum.specs.Packing.{packed}
+use Rattle.gts_accum.specs.Cited.{Call, IsBad, LONGEST_STREAM, Lost, Packs, PieceEnds, SaysFront, Stands, Stop, Unsaid, on, packed}
 use Rattle.gts_accum.proofs.PackLemmas.{same_files, read_text, goes_past}
 use Rattle.gts_accum.proofs.packing.pack.Goals as goal
 

@@ -1,6 +1,5 @@
 use Rattle.std.proofs.Common.{◌≡◌, ◌≤◌, ◌-◌, ◌++◌, ℕ, List, length}
-use Rattle.gts_accum.specs.Packs.{Stands}
-use Rattle.gts_accum.specs.declared.limits.TheConstants.{LONGEST_STREAM}
+use Rattle.gts_accum.specs.Cited.{LONGEST_STREAM, Stands}
 use Rattle.gts_accum.proofs.packing.pack.Given as goal
 
 -- the bytes so far were taken

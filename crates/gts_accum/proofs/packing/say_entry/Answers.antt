@@ -1,9 +1,5 @@
 use Rattle.std.proofs.Common.{List, ℕ, length, Result, Err, Ok, subst}
-use Rattle.gts_traits.specs.{on}
-use Rattle.gts_traits.specs.declared.failed.Failed.{Failed}
-use Rattle.gts_say.specs.Say.{Tells}
-use Rattle.gts_accum.specs.declared.format.Format.TheVariants.{Whole}
-use Rattle.gts_accum.specs.File.{head_text}
+use Rattle.gts_accum.specs.Cited.{Failed, Tells, Whole, head_text, on}
 use Rattle.gts_accum.proofs.PackLemmas.{told_behind, untold_before}
 use Rattle.gts_accum.proofs.packing.say_entry.Goals as goal
 

@@ -1,6 +1,5 @@
 use Rattle.std.proofs.Common.{◌≡◌, ◌≤◌, ◌+◌, ◌++◌, ℕ, List, length}
-use Rattle.gts_traits.specs.{Call}
-use Rattle.gts_accum.specs.Packs.{Stands}
+use Rattle.gts_accum.specs.Cited.{Call, Stands}
 use Rattle.gts_accum.proofs.packing.take_piece.Given as goal
 
 -- the bytes before the rest were taken

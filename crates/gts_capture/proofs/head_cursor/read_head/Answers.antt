@@ -1,9 +1,6 @@
 use Rattle.std.proofs.Common.{◌≡◌, ℕ, ◌-◌, List, length, drop, Ok, sym, ap, subst, ◌∙◌, arith, length-append, drop_at}
 use Rattle.std.proofs.lemmas.Result.{err_from_is_err_and}
-use Rattle.gts_connection.specs.Capture.{head_text}
-use Rattle.gts_capture.specs.Heads.{head_of}
-use Rattle.gts_capture.specs.Held.{BeginsWithHead}
-use Rattle.gts_capture.specs.HeadReading.{head_at}
+use Rattle.gts_capture.specs.Cited.{BeginsWithHead, head_at, head_of, head_text}
 use Rattle.gts_capture.proofs.HeadLemmas.{head_found, head_stops}
 use Rattle.gts_capture.proofs.head_cursor.read_head.Goals as goal
 

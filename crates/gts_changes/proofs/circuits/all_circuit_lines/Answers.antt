@@ -1,6 +1,5 @@
 use Rattle.std.proofs.Common.{ℕ, List, ◌++◌, sym, ap, ◌∙◌}
-use Rattle.gts_event.specs.Items.{need_of}
-use Rattle.gts_changes.specs.Changes.{circuit_lines, behind}
+use Rattle.gts_changes.specs.Cited.{behind, circuit_lines, need_of}
 use Rattle.gts_changes.proofs.CircuitLemmas.{circuits_more}
 use Rattle.gts_changes.proofs.circuits.all_circuit_lines.Goals as goal
 

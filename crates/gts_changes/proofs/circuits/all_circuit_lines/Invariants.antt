@@ -1,7 +1,5 @@
 use Rattle.std.proofs.Common.{◌≡◌, flat_map}
-use Rattle.std.specs.List.{range_with_len}
-use Rattle.gts_event.specs.Items.{need_of}
-use Rattle.gts_changes.specs.Changes.{circuit_lines, behind}
+use Rattle.gts_changes.specs.Cited.{behind, circuit_lines, need_of, range_with_len}
 use Rattle.gts_changes.proofs.circuits.all_circuit_lines.Given as goal
 
 abbrev pub invariant-loop-c : goal.invariant-loop-c

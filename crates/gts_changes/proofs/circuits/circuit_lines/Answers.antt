@@ -1,16 +1,10 @@
-use Rattle.std.specs.Prelude.{IfOk}
-use Rattle.std.proofs.Common.{◌≡◌, ℕ, ◌<◌, ◌==◌, Bool, true, false, cond, nat_lt, List, [], length, get_or, codes, Result, Ok, Err, sym, ap, ◌∙◌, arith}
+use Rattle.std.proofs.Common.{◌≡◌, ℕ, ◌<◌, ◌==◌, Bool, true, false, cond, nat_lt, List, [], length, get_or, codes, Result, Ok, Err, sym, ap, ◌∙◌, arith, IfOk}
 use Rattle.std.proofs.lemmas.Bool.{lt-ltb, le-ltb}
 use Rattle.std.proofs.lemmas.List.{get_or-map, length-map}
 use Rattle.std.proofs.lemmas.Option.{get_or_from_slice_get}
-use Rattle.gts_directory.specs.Directory.{Circuit, circuit_of}
-use Rattle.gts_directory.specs.Rows.{circuit_of_row}
-use Rattle.gts_event.specs.State.{last_of}
-use Rattle.gts_event.specs.Need.{CircuitNeed, unused}
-use Rattle.gts_event.specs.Items.{circuit_need_of, need_of}
+use Rattle.gts_changes.specs.Cited.{Circuit, CircuitNeed, behind, circuit_lines, circuit_need_of, circuit_of, circuit_of_row, last_of, need_of, need_of_circuit, row_of, stays_lines, unused, word_line}
 use Rattle.gts_event.specs.declared.values.CircuitNeed as values
 use Rattle.gts_event.proofs.LawLemmas.{sound-parts}
-use Rattle.gts_changes.specs.Changes.{row_of, need_of_circuit, stays_lines, word_line, circuit_lines, behind}
 use Rattle.gts_changes.proofs.circuits.circuit_lines.Goals as goal
 
 if_ok : {A E : Type 0} (P Q : A → Type 0) (r : Result A E) → ((x : A) → P x → Q x) → IfOk r P → IfOk r Q

@@ -1,6 +1,5 @@
 use Rattle.std.proofs.Common.{◌≡◌, ◌≤◌, length, map, take}
-use Rattle.gts_event.specs.Items.{bulletin_of}
-use Rattle.gts_event.specs.State.{recent_among}
+use Rattle.gts_changes.specs.Cited.{bulletin_of, recent_among}
 use Rattle.gts_changes.proofs.duplicates.count_recent.Given as goal
 
 abbrev pub invariant-loop-bulletin : goal.invariant-loop-bulletin

@@ -1,8 +1,6 @@
 use Rattle.std.proofs.Common.{◌≡◌, ℕ, ◌-◌, List, length, map, sym, ap, ◌∙◌}
-use Rattle.gts_event.specs.Items.{bulletin_of, need_of}
-use Rattle.gts_event.specs.State.{Bulletin, recent_among}
+use Rattle.gts_changes.specs.Cited.{Bulletin, behind, bulletin_of, known, need_of, recent_among}
 use Rattle.gts_event.specs.declared.values.Bulletin as values
-use Rattle.gts_changes.specs.Changes.{known, behind}
 use Rattle.gts_changes.proofs.DuplicateLemmas.{known_behind}
 use Rattle.gts_changes.proofs.duplicates.forgotten_duplicates.Goals as goal
 

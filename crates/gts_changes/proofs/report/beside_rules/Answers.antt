@@ -1,7 +1,5 @@
 use Rattle.std.proofs.Common.{◌≡◌, ℕ, ◌-◌, List, [], ◌∷◌, ◌++◌, length, codes, ap, ◌∙◌}
-use Rattle.gts_event.specs.Items.{need_of}
-use Rattle.gts_migrate.specs.Trial.{refusal}
-use Rattle.gts_changes.specs.Changes.{all_circuit_lines, duplicates_line, refused_line, known, behind}
+use Rattle.gts_changes.specs.Cited.{all_circuit_lines, behind, duplicates_line, known, need_of, refusal, refused_line}
 use Rattle.gts_changes.proofs.report.beside_rules.Goals as goal
 
 pub returns : goal.returns

@@ -1,10 +1,5 @@
 use Rattle.std.proofs.Common.{◌≡◌, ℕ, List, ◌++◌, Ok, subst, ap, ◌∙◌}
-use Rattle.gts_traits.specs.Disk.{seen}
-use Rattle.gts_directory.specs.Directory.{Directory}
-use Rattle.gts_event.specs.Need.{need}
-use Rattle.gts_event.specs.Items.{need_of}
-use Rattle.gts_recovery.specs.Opened.{files_open_any}
-use Rattle.gts_changes.specs.Changes.{changes}
+use Rattle.gts_changes.specs.Cited.{Directory, changes, files_open_any, need, need_of, seen}
 use Rattle.gts_changes.proofs.report.changes.Goals as goal
 
 pub returns-clause-report : goal.returns-clause-report

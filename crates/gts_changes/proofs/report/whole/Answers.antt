@@ -1,7 +1,5 @@
 use Rattle.std.proofs.Common.{ℕ, List, ◌++◌, ap, ◌∙◌}
-use Rattle.gts_directory.specs.Directory.{Directory}
-use Rattle.gts_event.specs.Items.{need_of}
-use Rattle.gts_changes.specs.Changes.{both_rule_lines, beside_rules}
+use Rattle.gts_changes.specs.Cited.{Directory, beside_rules, both_rule_lines, need_of}
 use Rattle.gts_changes.proofs.report.whole.Goals as goal
 
 pub returns : goal.returns

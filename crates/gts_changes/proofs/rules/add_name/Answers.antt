@@ -1,10 +1,6 @@
-use Rattle.std.specs.Prelude.{OnOk}
-use Rattle.std.proofs.Common.{◌≡◌, ℕ, Bool, true, cond, ◌==◌, List, [], ◌∷◌, ◌++◌, Result, Ok, Err, append_assoc, sym, ap, ◌∙◌}
-use Rattle.std.specs.Int.{bit_at}
+use Rattle.std.proofs.Common.{◌≡◌, ℕ, Bool, true, cond, ◌==◌, List, [], ◌∷◌, ◌++◌, Result, Ok, Err, append_assoc, sym, ap, ◌∙◌, OnOk}
+use Rattle.gts_changes.specs.Cited.{Circuit, bit_at, circuit_of, circuit_of_row, name_text, row_of}
 use Rattle.std.proofs.lemmas.Option.{get_or_from_slice_get}
-use Rattle.gts_directory.specs.Directory.{Circuit, circuit_of}
-use Rattle.gts_directory.specs.Rows.{circuit_of_row}
-use Rattle.gts_changes.specs.Changes.{row_of, name_text}
 use Rattle.gts_changes.proofs.rules.add_name.Goals as goal
 
 on_ok : {A E : Type 0} {P Q : Type 0} (r : Result A E) → (P → Q) → OnOk r P → OnOk r Q

@@ -1,6 +1,5 @@
 use Rattle.std.proofs.Common.{ℕ, List, ◌++◌, append_assoc, sym, ap, ◌∙◌}
-use Rattle.gts_directory.specs.Rows.{circuits_in}
-use Rattle.gts_changes.specs.Changes.{names_text, name_text}
+use Rattle.gts_changes.specs.Cited.{circuits_in, name_text, names_text}
 use Rattle.gts_changes.proofs.RuleLemmas.{names_more}
 use Rattle.gts_changes.proofs.rules.add_names.Goals as goal
 

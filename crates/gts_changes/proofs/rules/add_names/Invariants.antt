@@ -1,6 +1,5 @@
 use Rattle.std.proofs.Common.{◌≡◌, ◌++◌}
-use Rattle.gts_directory.specs.Rows.{circuits_in}
-use Rattle.gts_changes.specs.Changes.{names_text}
+use Rattle.gts_changes.specs.Cited.{circuits_in, names_text}
 use Rattle.gts_changes.proofs.rules.add_names.Given as goal
 
 abbrev pub invariant-loop-c : goal.invariant-loop-c

@@ -1,6 +1,5 @@
 use Rattle.std.proofs.Common.{◌≡◌, length, map, take, flat_map}
-use Rattle.gts_directory.specs.Rows.{rule_of_row}
-use Rattle.gts_changes.specs.Changes.{rule_change}
+use Rattle.gts_changes.specs.Cited.{rule_change, rule_of_row}
 use Rattle.gts_changes.proofs.rules.lines_of.Given as goal
 
 abbrev pub invariant-loop-rule : goal.invariant-loop-rule

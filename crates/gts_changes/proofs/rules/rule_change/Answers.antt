@@ -1,8 +1,5 @@
-use Rattle.std.specs.Prelude.{IfOk}
-use Rattle.std.proofs.Common.{◌≡◌, ℕ, Bool, true, false, cond, List, [], length, Result, Ok, Err, sym, ap, ◌∙◌}
-use Rattle.gts_directory.specs.Directory.{Directory as DirectoryOf}
-use Rattle.gts_directory.specs.Rows.{rule_of_row}
-use Rattle.gts_dirfile.specs.Rules.{AreRulesOf}
+use Rattle.std.proofs.Common.{◌≡◌, ℕ, Bool, true, false, cond, List, [], length, Result, Ok, Err, sym, ap, ◌∙◌, IfOk}
+use Rattle.gts_changes.specs.Cited.{AreRulesOf, Directory as DirectoryOf, rule_of_row}
 use Rattle.gts_changes.specs.Changes as changes
 use Rattle.gts_changes.proofs.RuleLemmas.{among_is}
 use Rattle.gts_changes.proofs.rules.rule_change.Goals as goal

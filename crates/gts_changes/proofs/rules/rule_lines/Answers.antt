@@ -1,8 +1,5 @@
-use Rattle.std.specs.Prelude.{IfOk}
-use Rattle.std.proofs.Common.{◌≡◌, List, ℕ, sym, subst}
-use Rattle.gts_directory.specs.Directory.{Directory}
-use Rattle.gts_dirfile.specs.Rules.{AreRulesOf}
-use Rattle.gts_changes.specs.Changes.{rule_lines}
+use Rattle.std.proofs.Common.{◌≡◌, List, ℕ, sym, subst, IfOk}
+use Rattle.gts_changes.specs.Cited.{AreRulesOf, Directory, rule_lines}
 use Rattle.gts_changes.proofs.rules.rule_lines.Goals as goal
 
 pub lines_of-requires : goal.lines_of-requires

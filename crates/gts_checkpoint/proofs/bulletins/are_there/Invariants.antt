@@ -1,6 +1,5 @@
 use Rattle.std.proofs.Common.{◌≡◌, true, take, map}
-use Rattle.std.specs.List.{list_all}
-use Rattle.gts_checkpoint.specs.Sound.{is_there, bulletin_of}
+use Rattle.gts_checkpoint.specs.Cited.{bulletin_of, is_there, list_all}
 use Rattle.gts_checkpoint.proofs.bulletins.are_there.Given as goal
 
 abbrev pub invariant-loop-number : goal.invariant-loop-number

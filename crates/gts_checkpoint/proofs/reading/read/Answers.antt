@@ -1,11 +1,6 @@
-use Rattle.std.proofs.Common.{rules, ◌≡◌, ◌+◌, ◌-◌, ◌*◌, ◌^◌, ◌<◌, ◌≤◌, ℕ, List, Option, length, refl, sym, subst, ◌∙◌, arith}
-use Rattle.std.specs.Prelude.{IfErr, IfSome, IfNone}
-use Rattle.gts_traits.specs.Station.{Call}
-use Rattle.gts_event.specs.Items.{need_of}
+use Rattle.std.proofs.Common.{rules, ◌≡◌, ◌+◌, ◌-◌, ◌*◌, ◌^◌, ◌<◌, ◌≤◌, ℕ, List, Option, length, refl, sym, subst, ◌∙◌, arith, IfErr, IfSome, IfNone}
+use Rattle.gts_checkpoint.specs.Cited.{Call, CanBegin, FindsText, IsReadFault, bytes_from, draw_size, first_of, need_of, seal_size, unowed}
 use Rattle.gts_event.specs.declared.values.Need.{Need}
-use Rattle.gts_record.specs.Format.{seal_size, draw_size}
-use Rattle.gts_opening.specs.Journal.{unowed}
-use Rattle.gts_checkpoint.specs.Reading.{bytes_from, CanBegin, FindsText, IsReadFault, first_of}
 use Rattle.gts_checkpoint.proofs.ReadLemmas.{none_there, stands_there, counts_there, can_begin, no_room, not_sound, no_seal, compares, has_read, size_there, no_damage}
 use Rattle.gts_checkpoint.proofs.SealLemmas.{last_is}
 use Rattle.gts_checkpoint.proofs.reading.read.Goals as goal

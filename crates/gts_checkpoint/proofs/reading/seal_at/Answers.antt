@@ -1,7 +1,6 @@
 use Rattle.std.proofs.Common.{◌≡◌, ◌+◌, ◌<◌, ℕ, List, Ok, length, take, refl, sym, ap, ◌∙◌, arith}
 use Rattle.std.proofs.lemmas.List.{length-take-le}
-use Rattle.gts_record.specs.Format.{held, seal_size}
-use Rattle.gts_checkpoint.specs.Reading.{bytes_from, BeginsWith}
+use Rattle.gts_checkpoint.specs.Cited.{BeginsWith, bytes_from, held, seal_size}
 use Rattle.gts_checkpoint.proofs.SealLemmas.{sealed_there, sealed_not, same_place, last_is}
 use Rattle.gts_checkpoint.proofs.reading.seal_at.Goals as goal
 

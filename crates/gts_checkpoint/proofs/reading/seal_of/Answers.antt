@@ -1,8 +1,6 @@
 use Rattle.std.proofs.Common.{◌≡◌, ◌+◌, ◌<◌, ◌≤◌, ℕ, List, Ok, length, take, ap, subst, ◌∙◌, arith}
 use Rattle.std.proofs.lemmas.List.{length-take-le}
-use Rattle.gts_record.specs.Format.{seal, held}
-use Rattle.gts_record.specs.Sealing.{Seals}
-use Rattle.gts_checkpoint.specs.Reading.{bytes_from, BeginsWith}
+use Rattle.gts_checkpoint.specs.Cited.{BeginsWith, Seals, bytes_from, held, seal}
 use Rattle.gts_checkpoint.proofs.SealLemmas.{piece_there, same_place, enough}
 use Rattle.gts_checkpoint.proofs.reading.seal_of.Goals as goal
 

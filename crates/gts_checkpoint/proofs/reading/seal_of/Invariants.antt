@@ -1,7 +1,5 @@
 use Rattle.std.proofs.Common.{◌≡◌, ◌-◌, ◌≤◌, take}
-use Rattle.gts_record.specs.Format.{held}
-use Rattle.gts_record.specs.Sealing.{Seals}
-use Rattle.gts_checkpoint.specs.Reading.{bytes_from}
+use Rattle.gts_checkpoint.specs.Cited.{Seals, bytes_from, held}
 use Rattle.gts_checkpoint.proofs.reading.seal_of.Given as goal
 
 -- the first bytes were added

@@ -1,6 +1,5 @@
 use Rattle.std.proofs.Common.{◌≡◌, true, not, take}
-use Rattle.std.specs.List.{list_all}
-use Rattle.gts_checkpoint.specs.Sound.{has}
+use Rattle.gts_checkpoint.specs.Cited.{has, list_all}
 use Rattle.gts_checkpoint.proofs.sound.are_apart.Given as goal
 
 abbrev pub invariant-loop-number : goal.invariant-loop-number

@@ -1,10 +1,8 @@
 use Rattle.std.proofs.Common.{◌≡◌, ℕ, false, List, map, sym, ap, ◌∙◌, arith}
-use Rattle.std.specs.List.{list_all}
+use Rattle.gts_checkpoint.specs.Cited.{Bulletin, bulletin_of, circuit_need_of, has, is_held, is_needed, list_all}
 use Rattle.std.proofs.lemmas.List.Folds.{list_all-map}
-use Rattle.gts_event.specs.State.{Bulletin}
 use Rattle.gts_event.specs.declared.values.Bulletin as values
 use Rattle.gts_event.specs.declared.values.CircuitNeed as value_circuit
-use Rattle.gts_checkpoint.specs.Sound.{has, is_held, is_needed, bulletin_of, circuit_need_of}
 use Rattle.gts_checkpoint.proofs.NamedLemmas.{all-not, all-end}
 use Rattle.gts_checkpoint.proofs.SoundLemmas.{needed-not}
 use Rattle.gts_checkpoint.proofs.sound.are_needed.Goals as goal

@@ -1,6 +1,5 @@
 use Rattle.std.proofs.Common.{◌≡◌, true, map, take}
-use Rattle.std.specs.List.{list_all}
-use Rattle.gts_checkpoint.specs.Sound.{is_needed, circuit_need_of}
+use Rattle.gts_checkpoint.specs.Cited.{circuit_need_of, is_needed, list_all}
 use Rattle.gts_checkpoint.proofs.sound.are_needed.Given as goal
 
 abbrev pub invariant-loop-bulletin : goal.invariant-loop-bulletin

@@ -1,13 +1,7 @@
-use Rattle.std.proofs.Common.{◌≡◌, ◌++◌, ℕ, List, [], ◌∷◌, sym, ap, subst, ◌∙◌, append_assoc}
-use Rattle.std.specs.Prelude.{take}
+use Rattle.std.proofs.Common.{◌≡◌, ◌++◌, ℕ, List, [], ◌∷◌, sym, ap, subst, ◌∙◌, append_assoc, take}
 use Rattle.std.proofs.lemmas.List.{append-nil}
-use Rattle.gts_event.specs.Items.{need_of}
-use Rattle.gts_record.specs.Record.{closed_gate}
-use Rattle.gts_record.specs.Format.{seal, seal_size, held, written}
-use Rattle.gts_opening.specs.Journal.{checkpoint_text}
-use Rattle.gts_checkpoint.specs.Alone.{OnlyOn}
+use Rattle.gts_checkpoint.specs.Cited.{OnlyOn, checkpoint_text, closed_gate, held, need_of, put_by, seal, seal_size, written}
 use Rattle.gts_checkpoint.specs.Pen as pens
-use Rattle.gts_checkpoint.specs.Pen.{put_by}
 use Rattle.gts_checkpoint.proofs.AloneLemmas.{on_on}
 use Rattle.gts_checkpoint.proofs.PenLemmas.{put_more, put_apart}
 use Rattle.gts_checkpoint.proofs.NeedLemmas.{file_has}

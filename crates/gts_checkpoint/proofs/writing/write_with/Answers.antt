@@ -1,11 +1,5 @@
 use Rattle.std.proofs.Common.{◌≡◌, ◌++◌, ℕ, List, [], ◌∷◌, refl, sym, ap, subst, ◌∙◌}
-use Rattle.gts_traits.specs.Station.{Cuts, Syncs, Writes, seen}
-use Rattle.gts_checkpoint.specs.Alone.{OnlyOn}
-use Rattle.gts_event.specs.Items.{need_of}
-use Rattle.gts_record.specs.Record.{closed_gate}
-use Rattle.gts_record.specs.Format.{seal, held, written}
-use Rattle.gts_opening.specs.Journal.{checkpoint_text}
-use Rattle.gts_checkpoint.specs.Writing.{header_text}
+use Rattle.gts_checkpoint.specs.Cited.{Cuts, OnlyOn, Syncs, Writes, checkpoint_text, closed_gate, header_text, held, need_of, seal, seen, written}
 use Rattle.gts_checkpoint.proofs.NeedLemmas.{cut_empty, has_written, wrote_front, file_is}
 use Rattle.gts_checkpoint.proofs.AloneLemmas.{on_on, one_on}
 use Rattle.gts_checkpoint.proofs.writing.write_with.Goals as goal

@@ -1,6 +1,4 @@
-use Rattle.gts_traits.specs.Disk.{seen}
-use Rattle.gts_receiver.specs.{goes_on}
-use Rattle.gts_engine.specs.declared.mode.SayMode.TheVariants.{Caller}
+use Rattle.gts_circuit_tests.specs.Cited.{Caller, goes_on, seen}
 use Rattle.gts_circuit_tests.proofs.serve.open_and_run.Goals as goal
 
 pub run-requires-clause-stands : goal.run-requires-clause-stands

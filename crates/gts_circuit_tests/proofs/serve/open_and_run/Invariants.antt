@@ -1,5 +1,4 @@
-use Rattle.gts_receiver.specs.{goes_on}
-use Rattle.gts_circuits.specs.Tested.{opened_as}
+use Rattle.gts_circuit_tests.specs.Cited.{goes_on, opened_as}
 use Rattle.gts_circuit_tests.proofs.serve.open_and_run.Given as goal
 
 -- the history begins with the engine that was opened

@@ -1,6 +1,5 @@
 use Rattle.std.proofs.Common.{refl, [], take, arith}
-use Rattle.gts_alphabet.specs.Digits.{dec}
-use Rattle.gts_connection.specs.Capture.{readable, EndsInFeed}
+use Rattle.gts_connection.specs.Cited.{EndsInFeed, dec, readable}
 use Rattle.gts_connection.specs.Worked.{frame_1}
 use Rattle.gts_connection.proofs.worked.a_capture_may_end_in_a_feed.Goals as goal
 

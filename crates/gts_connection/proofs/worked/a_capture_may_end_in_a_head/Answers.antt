@@ -1,7 +1,5 @@
-use Rattle.std.proofs.Common.{refl, arith}
-use Rattle.std.specs.Prelude.{codes}
-use Rattle.gts_alphabet.specs.Digits.{dec}
-use Rattle.gts_connection.specs.Capture.{readable, FeedHead, EndsInHead}
+use Rattle.std.proofs.Common.{refl, arith, codes}
+use Rattle.gts_connection.specs.Cited.{EndsInHead, FeedHead, dec, readable}
 use Rattle.gts_connection.proofs.worked.a_capture_may_end_in_a_head.Goals as goal
 
 pub returns : goal.returns

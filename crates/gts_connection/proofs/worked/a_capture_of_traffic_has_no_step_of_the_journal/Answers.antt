@@ -1,9 +1,6 @@
-use Rattle.std.proofs.Common.{◌≡◌, ℕ, List, [], ◌∷◌, get_or, refl, ap, arith}
-use Rattle.std.specs.Prelude.{codes}
-use Rattle.gts_alphabet.specs.Digits.{dec}
+use Rattle.std.proofs.Common.{◌≡◌, ℕ, List, [], ◌∷◌, get_or, refl, ap, arith, codes}
+use Rattle.gts_connection.specs.Cited.{Bad, CompactHead, DrainHead, EndHead, FeedHead, Head, IsHeadOf, ReopenHead, RestartHead, TakeHead, Traffic, dec, head_text, readable}
 use Rattle.gts_event.specs.Worked.{two}
-use Rattle.gts_connection.specs.declared.kind.CaptureKind.TheVariants.{Traffic}
-use Rattle.gts_connection.specs.Capture.{readable, Head, FeedHead, TakeHead, ReopenHead, DrainHead, RestartHead, CompactHead, EndHead, head_text, IsHeadOf, Bad}
 use Rattle.gts_connection.proofs.worked.a_capture_of_traffic_has_no_step_of_the_journal.Goals as goal
 
 -- no head begins so

@@ -1,11 +1,6 @@
 use Rattle.std.proofs.Common.{[], refl, arith}
-use Rattle.gts_connection.specs.Capture.{readable, Whole}
+use Rattle.gts_connection.specs.Cited.{Whole, bare_group_at, bare_heading_at, body_at, dec, heading_at, heading_text, message_group_at, number_at, plain_heading_at, readable, request_at, split_at, text_at}
 use Rattle.std.specs.Fmt.{digits}
-use Rattle.gts_alphabet.specs.Digits.{dec}
-use Rattle.gts_heading.specs.Heading.{heading_text}
-use Rattle.gts_heading.specs.Reading.{plain_heading_at, bare_group_at, message_group_at, heading_at, bare_heading_at}
-use Rattle.gts_message.specs.Message.{number_at, text_at, body_at, split_at}
-use Rattle.gts_request.specs.Request.{request_at}
 use Rattle.gts_connection.proofs.worked.a_compaction_comes_behind_so_many_entries.Goals as goal
 
 pub returns : goal.returns

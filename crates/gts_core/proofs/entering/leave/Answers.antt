@@ -1,10 +1,7 @@
-use Rattle.std.proofs.Common.{◌≡◌, ℕ, List, false, Option, None, Some, is_some, inl, inr, refl, sym, ap, ◌∙◌, arith}
+use Rattle.std.proofs.Common.{◌≡◌, ℕ, List, false, Option, None, Some, is_some, inl, inr, refl, sym, ap, ◌∙◌, arith, option_map}
 use Rattle.std.proofs.lemmas.Bool.{true≢false, cases_lt}
-use Rattle.gts_store.specs.Shelf.{Stored, stored_at, uses_of, uses_in, without_use, parts_of}
-use Rattle.gts_store.specs.Shown.{shown}
-use Rattle.std.specs.Prelude.{option_map}
-use Rattle.std.specs.Borrow.{Bor}
-use Rattle.gts_frame.specs.declared.kind.Kind.{Kind}
+use Rattle.gts_core.specs.Cited.{Bor, Kind, Stored, shown, stored_at, uses_in, uses_of, without_use}
+use Rattle.gts_store.specs.Shelf.{parts_of}
 use Rattle.gts_core.proofs.entering.leave.Goals as goal
 use Rattle.gts_core.proofs.entering.leave.Goals.{Else-is_some}
 

@@ -1,6 +1,5 @@
 use Rattle.std.proofs.Common.{◌≡◌, ℕ, List, length, sym, ap, ◌∙◌}
-use Rattle.gts_message.specs.Message.{parts_of}
-use Rattle.gts_count.specs.declared.recent.Arrival.{Arrival}
+use Rattle.gts_count.specs.Cited.{Arrival, parts_of}
 use Rattle.gts_count.proofs.KeyLemmas.{key_message}
 use Rattle.gts_count.proofs.counting.heard_in.Goals as goal
 

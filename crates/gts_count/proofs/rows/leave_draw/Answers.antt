@@ -1,9 +1,6 @@
 use Rattle.std.proofs.Common.{◌≡◌, ◌-◌, Some, is_some, nat_eq, refl, ap, sym, ◌∙◌}
-use Rattle.std.specs.Option.{option_copied_mut}
+use Rattle.gts_count.specs.Cited.{Row, option_copied_mut, pointwise, without_draw}
 use Rattle.std.specs.HashMap.{get}
-use Rattle.std.specs.Cmp.Lexicographic.{pointwise}
-use Rattle.gts_count.specs.declared.rows.Row.{Row}
-use Rattle.gts_count.specs.Rows.{without_draw}
 use Rattle.gts_count.proofs.RowLemmas.{changed}
 use Rattle.gts_count.proofs.rows.leave_draw.Goals as goal
 

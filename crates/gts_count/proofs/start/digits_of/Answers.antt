@@ -1,6 +1,5 @@
 use Rattle.std.proofs.Common.{refl, ◌∙◌}
-use Rattle.gts_directory.specs.Directory.{Circuit}
-use Rattle.gts_directory.specs.Rows.{circuit_of_row}
+use Rattle.gts_count.specs.Cited.{Circuit, circuit_of_row}
 use Rattle.gts_count.proofs.StartLemmas.{row_more}
 use Rattle.gts_count.proofs.start.digits_of.Goals as goal
 

@@ -1,9 +1,5 @@
-use Rattle.std.proofs.Common.{List, map, take, sym, subst}
-use Rattle.std.specs.Prelude.{IsTrue, is_ok}
-use Rattle.gts_message.specs.Message.{body_at}
-use Rattle.gts_event.specs.State.{Bulletin}
-use Rattle.gts_event.specs.Items.{bulletin_of}
-use Rattle.gts_count.specs.Start.{HasKeys}
+use Rattle.std.proofs.Common.{List, map, take, sym, subst, IsTrue, is_ok}
+use Rattle.gts_count.specs.Cited.{Bulletin, HasKeys, body_at, bulletin_of}
 use Rattle.gts_count.proofs.StartingLemmas.{item_more, all_item}
 use Rattle.gts_count.proofs.start.keys_of.Goals as goal
 

@@ -1,6 +1,5 @@
 use Rattle.std.proofs.Common.{map, take}
-use Rattle.gts_event.specs.Items.{bulletin_of}
-use Rattle.gts_count.specs.Start.{HasKeys}
+use Rattle.gts_count.specs.Cited.{HasKeys, bulletin_of}
 use Rattle.gts_count.proofs.start.keys_of.Given as goal
 
 abbrev pub invariant-loop-bulletin : goal.invariant-loop-bulletin

@@ -1,9 +1,5 @@
 use Rattle.std.proofs.Common.{[], sym, subst, ◌∙◌}
-use Rattle.std.specs.List.{All}
-use Rattle.circular_buffer.specs.Buffer.{buffer}
-use Rattle.gts_directory.specs.Directory.{Circuit}
-use Rattle.gts_directory.specs.Rows.{circuit_of_row}
-use Rattle.gts_count.specs.Numbers.{IsRing}
+use Rattle.gts_count.specs.Cited.{All, Circuit, IsRing, buffer, circuit_of_row}
 use Rattle.gts_count.proofs.StartLemmas.{row_more, ring_more, few_kept}
 use Rattle.gts_count.proofs.start.no_draws.Goals as goal
 

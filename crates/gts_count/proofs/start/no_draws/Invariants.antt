@@ -1,8 +1,5 @@
 use Rattle.std.proofs.Common.{◌≡◌, [], map, take}
-use Rattle.std.specs.List.{All}
-use Rattle.circular_buffer.specs.Buffer.{buffer}
-use Rattle.gts_directory.specs.Directory.{Circuit}
-use Rattle.gts_count.specs.Numbers.{IsRing}
+use Rattle.gts_count.specs.Cited.{All, Circuit, IsRing, buffer}
 use Rattle.gts_count.proofs.start.no_draws.Given as goal
 
 abbrev pub invariant-loop-c : goal.invariant-loop-c

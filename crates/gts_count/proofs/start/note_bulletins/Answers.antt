@@ -1,7 +1,5 @@
 use Rattle.std.proofs.Common.{List, map, take, sym, subst}
-use Rattle.gts_event.specs.State.{Bulletin}
-use Rattle.gts_event.specs.Items.{bulletin_of}
-use Rattle.gts_count.specs.Start.{NotesAll}
+use Rattle.gts_count.specs.Cited.{Bulletin, NotesAll, bulletin_of}
 use Rattle.gts_count.proofs.StartingLemmas.{item_more, all_more}
 use Rattle.gts_count.proofs.start.note_bulletins.Goals as goal
 

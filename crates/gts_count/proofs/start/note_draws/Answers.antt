@@ -1,13 +1,7 @@
-use Rattle.std.proofs.Common.{◌≡◌, ℕ, List, length, map, take, sym, ap, subst, ◌∙◌, arith}
-use Rattle.std.specs.Prelude.{IsSome}
-use Rattle.std.specs.List.{All}
-use Rattle.std.specs.Ordering.{nat_cmp}
-use Rattle.std.specs.BTreeMap.{get}
+use Rattle.std.proofs.Common.{◌≡◌, ℕ, List, length, map, take, sym, ap, subst, ◌∙◌, arith, IsSome}
+use Rattle.gts_count.specs.Cited.{All, CircuitNeed, NotesDraws, NotesKept, circuit_need_of, get, nat_cmp}
 use Rattle.std.proofs.lemmas.List.{length-take, length-map}
 use Rattle.gts_event.specs.declared.values.CircuitNeed as values
-use Rattle.gts_event.specs.Need.{CircuitNeed}
-use Rattle.gts_event.specs.Items.{circuit_need_of}
-use Rattle.gts_count.specs.Start.{NotesDraws, NotesKept}
 use Rattle.gts_count.proofs.StartingLemmas.{item_more, draws_more}
 use Rattle.gts_count.proofs.start.note_draws.Goals as goal
 

@@ -1,6 +1,5 @@
 use Rattle.std.proofs.Common.{map, take}
-use Rattle.gts_event.specs.Items.{circuit_need_of}
-use Rattle.gts_count.specs.Start.{NotesDraws}
+use Rattle.gts_count.specs.Cited.{NotesDraws, circuit_need_of}
 use Rattle.gts_count.proofs.start.note_draws.Given as goal
 
 abbrev pub invariant-loop-c : goal.invariant-loop-c

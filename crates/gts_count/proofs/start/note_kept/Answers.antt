@@ -1,11 +1,7 @@
 use Rattle.std.proofs.Common.{◌≡◌, ℕ, ◌+◌, List, Some, None, is_some, get_or, take, sym, ap, subst, ◌∙◌}
-use Rattle.std.specs.Option.{option_copied}
-use Rattle.std.specs.Ordering.{nat_cmp}
-use Rattle.std.specs.BTreeMap.{get}
+use Rattle.gts_count.specs.Cited.{NotesKept, Numbers, get, nat_cmp, option_copied}
 use Rattle.std.proofs.lemmas.Bool.{true≢false}
 use Rattle.std.proofs.lemmas.List.{get_or_default}
-use Rattle.gts_count.specs.declared.numbers.Numbers.{Numbers}
-use Rattle.gts_count.specs.Start.{NotesKept}
 use Rattle.gts_count.proofs.StartingLemmas.{plain_more, kept_more}
 use Rattle.gts_count.proofs.start.note_kept.Goals as goal
 use Rattle.gts_count.proofs.start.note_kept.Goals.{in-Some, in_default}

@@ -1,6 +1,5 @@
 use Rattle.std.proofs.Common.{ℕ, [], ap, ◌∙◌, arith, replicate}
-use Rattle.circular_buffer.specs.Buffer.{buffer}
-use Rattle.gts_count.specs.declared.recent.Recent.{Recent}
+use Rattle.gts_count.specs.Cited.{Recent, buffer}
 use Rattle.gts_count.proofs.StartLemmas.{begins}
 use Rattle.gts_count.proofs.start.nothing.Goals as goal
 

@@ -1,17 +1,9 @@
-use Rattle.std.proofs.Common.{◌≡◌, ℕ, List, length, map, sym, ap, subst, arith}
-use Rattle.std.specs.Prelude.{IsTrue, IsSome}
-use Rattle.std.specs.List.{All}
-use Rattle.std.specs.Ordering.{nat_cmp}
-use Rattle.std.specs.BTreeMap.{get}
+use Rattle.std.proofs.Common.{◌≡◌, ℕ, List, length, map, sym, ap, subst, arith, IsTrue, IsSome}
+use Rattle.gts_count.specs.Cited.{All, AreBodies, Buffer, Circuit, CircuitNeed, HasKeys, HaveRows, Need, NotesAll, NotesDraws, bulletin_of, circuit_need_of, get, is_bulletin, nat_cmp, need_of, unused}
 use Rattle.std.proofs.lemmas.List.{length-map, get_or-map}
-use Rattle.circular_buffer.specs.Buffer.{Buffer}
-use Rattle.gts_directory.specs.Directory.{Circuit}
 use Rattle.gts_event.specs.declared.values.Bulletin as values
 use Rattle.gts_event.specs.declared.values.CircuitNeed as needs
-use Rattle.gts_event.specs.Items.{bulletin_of, circuit_need_of, need_of}
-use Rattle.gts_event.specs.Need.{Need, CircuitNeed, unused, is_bulletin}
 use Rattle.gts_event.proofs.LawLemmas.{sound-parts}
-use Rattle.gts_count.specs.Start.{AreBodies, HasKeys, HaveRows, NotesAll, NotesDraws}
 use Rattle.gts_count.proofs.BeginningLemmas.{all_of, bodies_of, each_known, each_row, starts}
 use Rattle.gts_count.proofs.start.numbers_of.Goals as goal
 

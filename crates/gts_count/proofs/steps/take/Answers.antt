@@ -1,10 +1,5 @@
 use Rattle.std.proofs.Common.{ℕ, ◌+◌, List, sym, ap, ◌∙◌}
-use Rattle.gts_traits.specs.Station.{on}
-use Rattle.gts_event.specs.declared.event.Event.TheVariants.{Taken}
-use Rattle.gts_directory.specs.Directory.{Directory}
-use Rattle.gts_event.specs.State.{State}
-use Rattle.gts_event.specs.Said.{spoken}
-use Rattle.gts_event.specs.Drain.{all_done}
+use Rattle.gts_count.specs.Cited.{Directory, State, Taken, all_done, on, spoken}
 use Rattle.gts_event.proofs.LawLemmas.{after_all-append}
 use Rattle.gts_count.proofs.TakingLemmas.{counts_taken}
 use Rattle.gts_count.proofs.CallLemmas.{counted_call, state_with}

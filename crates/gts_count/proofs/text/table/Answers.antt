@@ -1,5 +1,4 @@
-use Rattle.std.proofs.Common.{◌≡◌, ℕ, List, subst}
-use Rattle.std.specs.Prelude.{IfOk}
+use Rattle.std.proofs.Common.{◌≡◌, ℕ, List, subst, IfOk}
 use Rattle.std.specs.BTreeMap.{keys}
 use Rattle.gts_count.proofs.KeysLemmas.{ordered_up}
 use Rattle.gts_count.proofs.LineLemmas.{text_is}

@@ -1,6 +1,5 @@
 use Rattle.std.proofs.Common.{List, sym, subst}
-use Rattle.gts_directory.specs.declared.rows.RuleRow.{RuleRow}
-use Rattle.gts_dirfile.specs.Rules.{AreRulesOf}
+use Rattle.gts_dirfile.specs.Cited.{AreRulesOf, RuleRow}
 use Rattle.gts_dirfile.proofs.RuleLemmas.{rules_checked}
 use Rattle.gts_dirfile.proofs.read.check.Goals as goal
 

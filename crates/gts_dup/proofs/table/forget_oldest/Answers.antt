@@ -1,8 +1,5 @@
-use Rattle.std.proofs.Common.{◌≡◌, ◌+◌, ◌<◌, List, [], length, drop, refl, ap, sym, subst, ◌∙◌, Some, option_copied, arith}
-use Rattle.std.specs.Prelude.{slice_get}
-use Rattle.circular_buffer.specs.Buffer.{Buffer, buffer}
-use Rattle.gts_dup.specs.Window.{recent_pairs}
-use Rattle.gts_dup.specs.Index.{IsSound}
+use Rattle.std.proofs.Common.{◌≡◌, ◌+◌, ◌<◌, List, [], length, drop, refl, ap, sym, subst, ◌∙◌, Some, option_copied, arith, slice_get}
+use Rattle.gts_dup.specs.Cited.{Buffer, IsSound, buffer, recent_pairs}
 use Rattle.gts_dup.proofs.WindowLemmas.{Pair, none_there, oldest_left, oldest_stays}
 use Rattle.gts_dup.proofs.table.forget_oldest.Goals as goal
 use Rattle.gts_dup.proofs.table.forget_oldest.Goals.{In_default, After-pop_front, Else-saturating_sub-capacity}

@@ -1,7 +1,6 @@
 use Rattle.std.proofs.Common.{sym, ◌∙◌, arith}
 use Rattle.std.proofs.Math.Nat.{add-mul}
-use Rattle.gts_record.specs.Format.{seal_size, written}
-use Rattle.gts_opening.specs.Journal.{due}
+use Rattle.gts_engine.specs.Cited.{due, seal_size, written}
 use Rattle.gts_recovery.proofs.LawLemmas.{due-waiting}
 use Rattle.gts_engine.proofs.compacting.check_room.Goals as goal
 

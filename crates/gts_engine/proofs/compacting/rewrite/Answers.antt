@@ -1,11 +1,6 @@
-use Rattle.std.proofs.Common.{rules, ◌≡◌, ◌-◌, ◌<◌, ℕ, Result, Err, None, length, ap, subst, ◌∙◌, arith}
-use Rattle.std.specs.Prelude.{IfErr}
+use Rattle.std.proofs.Common.{rules, ◌≡◌, ◌-◌, ◌<◌, ℕ, Result, Err, None, length, ap, subst, ◌∙◌, arith, IfErr}
 use Rattle.std.proofs.lemmas.Result.{err_from_is_err_and}
-use Rattle.gts_event.specs.Items.{need_of}
-use Rattle.gts_event.specs.declared.fault.SwitchFault.{SwitchFault}
-use Rattle.gts_event.specs.declared.fault.SwitchFault.TheVariants.{DiskFault}
-use Rattle.gts_record.specs.Format.{held, written}
-use Rattle.gts_opening.specs.Journal.{compacted_bytes}
+use Rattle.gts_engine.specs.Cited.{DiskFault, SwitchFault, compacted_bytes, held, need_of, written}
 use Rattle.gts_checkpoint.proofs.LawLemmas.{fit_bytes}
 use Rattle.gts_engine.proofs.CompactLemmas.{sound, size_free, size_few}
 use Rattle.gts_engine.proofs.StepLemmas.{idle_going}

@@ -1,10 +1,6 @@
 use Rattle.std.proofs.Common.{◌<◌, length, refl, subst, sym}
 use Rattle.std.proofs.lemmas.Result.{err_from_is_err_and}
-use Rattle.gts_directory.specs.Directory.{Directory}
-use Rattle.gts_event.specs.State.{no_heading}
-use Rattle.gts_event.specs.Receipt.{receipt_text}
-use Rattle.gts_event.specs.declared.event.Event.TheVariants.{Lost}
-use Rattle.gts_event.specs.declared.outcome.Outcome.TheVariants.{LineLost}
+use Rattle.gts_engine.specs.Cited.{Directory, LineLost, Lost, no_heading, receipt_text}
 use Rattle.gts_engine.proofs.AnswerLemmas.{receipt_told}
 use Rattle.gts_engine.proofs.StepLemmas.{enters_core, lost_step}
 use Rattle.gts_engine.proofs.CallLemmas.{failed_active, unsaid_active}

@@ -1,6 +1,5 @@
 use Rattle.std.proofs.Common.{◌≡◌, ◌*◌, ℕ, refl, sym, ap, ◌∙◌, arith}
-use Rattle.gts_record.specs.Format.{seal_size, draw_size, written}
-use Rattle.gts_opening.specs.Journal.{due}
+use Rattle.gts_engine.specs.Cited.{draw_size, due, seal_size, written}
 use Rattle.gts_engine.proofs.HearingLemmas.{times_few}
 use Rattle.gts_engine.proofs.CompactLemmas.{no_room_compacted, has_room_compacted}
 use Rattle.gts_engine.proofs.room.check_checkpoint.Goals as goal

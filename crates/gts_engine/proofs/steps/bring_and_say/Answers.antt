@@ -1,9 +1,6 @@
 use Rattle.std.proofs.Common.{Ok, Err, sym, ap, subst, ◌∙◌}
 use Rattle.std.proofs.lemmas.Result.{err_from_is_err_and}
-use Rattle.gts_event.specs.declared.fault.SwitchFault.{SwitchFault}
-use Rattle.gts_event.specs.declared.fault.SwitchFault.TheVariants.{SayFault}
-use Rattle.gts_engine.specs.Sayings.{held_pieces}
-use Rattle.gts_engine.specs.Gathering.{BringsAndSays, SaysBy}
+use Rattle.gts_engine.specs.Cited.{BringsAndSays, SayFault, SaysBy, SwitchFault, held_pieces}
 use Rattle.gts_engine.proofs.SayingLemmas.{brings_nothing, brings_all, only_brought, said_behind, fails_behind, journal_in}
 use Rattle.gts_engine.proofs.steps.bring_and_say.Goals as goal
 

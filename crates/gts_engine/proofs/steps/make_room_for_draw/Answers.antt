@@ -1,10 +1,5 @@
-use Rattle.std.proofs.Common.{◌<◌, ◌≤◌, inr, sym, ap, subst, arith}
-use Rattle.std.specs.Prelude.{slice_index_or}
-use Rattle.gts_directory.specs.Directory.{Directory}
-use Rattle.gts_directory.specs.Rows.{circuit_of_row}
-use Rattle.gts_directory.specs.declared.limits.TheConstants.{MOST_REPEAT}
-use Rattle.gts_engine.specs.declared.parts.Parts.{Parts}
-use Rattle.gts_engine.specs.Keeping.{most_drawn}
+use Rattle.std.proofs.Common.{◌<◌, ◌≤◌, inr, sym, ap, subst, arith, slice_index_or}
+use Rattle.gts_engine.specs.Cited.{Directory, MOST_REPEAT, Parts, circuit_of_row, most_drawn}
 use Rattle.gts_engine.proofs.TakingLemmas.{most_is}
 use Rattle.gts_engine.proofs.SettlingLemmas.{whenever, draw_gathers, room_settled, held_settled, drawn_settled}
 use Rattle.gts_engine.proofs.AnsweringLemmas.{may_directory, draws_still}

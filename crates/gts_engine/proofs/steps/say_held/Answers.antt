@@ -1,7 +1,5 @@
-use Rattle.std.proofs.Common.{◌≡◌, ◌+◌, ◌<◌, [], length, take, true, false, refl, sym, ap, subst, arith}
-use Rattle.std.specs.Prelude.{IsOk}
-use Rattle.std.specs.List.{slice_index_or}
-use Rattle.gts_engine.specs.Sayings.{Sayings, held_pieces, sizes_of}
+use Rattle.std.proofs.Common.{◌≡◌, ◌+◌, ◌<◌, [], length, take, true, false, refl, sym, ap, subst, arith, IsOk}
+use Rattle.gts_engine.specs.Cited.{Sayings, held_pieces, sizes_of, slice_index_or}
 use Rattle.gts_engine.proofs.PieceLemmas.{each_empty}
 use Rattle.gts_engine.proofs.SayingLemmas.{sayings_in, none_so_far, one_further, said_all, holds_all, holds_failed, fails_there}
 use Rattle.gts_engine.proofs.steps.say_held.Goals as goal

@@ -1,9 +1,5 @@
 use Rattle.std.proofs.Common.{◌≡◌, ℕ, List, refl, sym, subst, ◌∙◌, arith, true, false, Ok}
-use Rattle.gts_engine.specs.declared.parts.Parts.{Parts}
-use Rattle.gts_engine.specs.Engine.{engine_of}
-use Rattle.gts_engine.specs.Sayings.{no_sayings}
-use Rattle.gts_journal.specs.Batch.{no_records}
-use Rattle.gts_engine.specs.Gathering.{HasSettled}
+use Rattle.gts_engine.specs.Cited.{HasSettled, Parts, engine_of, no_records, no_sayings}
 use Rattle.std.proofs.lemmas.Bool.{eqb-false}
 use Rattle.gts_engine.proofs.SettlingLemmas.{none_told, some_told, block_of, nothing_settled, all_settled, few_none}
 use Rattle.gts_engine.proofs.AnsweringLemmas.{unfailed}

@@ -1,9 +1,6 @@
 use Rattle.std.proofs.Common.{◌≡◌, true, false, refl, ap, arith}
 use Rattle.std.proofs.Props.{props}
-use Rattle.gts_engine.specs.declared.parts.Parts.{Parts}
-use Rattle.gts_engine.specs.Bounds.{IsWithin}
-use Rattle.gts_engine.specs.Sayings.{Sayings}
-use Rattle.gts_engine.specs.Engine.{engine_of}
+use Rattle.gts_engine.specs.Cited.{IsWithin, Parts, Sayings, engine_of}
 use Rattle.gts_engine.proofs.SettlingLemmas.{none_told, some_told}
 use Rattle.gts_engine.proofs.steps.tell.Goals as goal
 

@@ -1,6 +1,5 @@
 use Rattle.std.proofs.Common.{◌≡◌, ◌∷◌, ◌++◌, [], if◌then◌else◌, true, false, Bool, List, sym, ap, ◌∙◌}
-use Rattle.gts_traits.specs.Calls.{Outside}
-use Rattle.gts_engine.specs.Engine.{engine_of}
+use Rattle.gts_engine.specs.Cited.{Outside, engine_of}
 use Rattle.gts_engine.proofs.SettlingLemmas.{none_told, some_told}
 use Rattle.gts_engine.proofs.steps.tell_nothing.Goals as goal
 

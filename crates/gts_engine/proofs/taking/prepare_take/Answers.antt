@@ -1,5 +1,5 @@
-use Rattle.std.proofs.Common.{subst}
-use Rattle.gts_core.specs.Core.{Core, Holds}
+use Rattle.std.proofs.Common.{sym, ap, subst, ◌∙◌}
+use Rattle.gts_engine.specs.Cited.{Core, Holds, choice_told}
 use Rattle.gts_engine.proofs.TakingLemmas.{takes_draw, takes_none, repeat_unrecorded, nothing_unrecorded}
 use Rattle.gts_engine.proofs.AnsweringLemmas.{may_core}
 use Rattle.gts_engine.proofs.taking.prepare_take.Goals as goal
@@ -17,7 +17,7 @@ returns-in-Resend-clause-ready g c =
     let core = may_core g.P.Station.tells g.P.Station.calls g.P.Station.disk_faults g.P.Station.say_faults m.result old mid m.ensures.settles in
     takes_none mid c.args.c m.result m.ensures.saying
     (λ s holds. repeat_unrecorded mid.directory s c.args.c c.in-Resend.index
-    (c.in-Resend.ensures mid.directory s (subst (λ (k : Core). Holds mid.directory k s) core holds)))
+    (ap choice_told (sym c.in-Resend.is) ∙ c.requires.chosen mid.directory s (subst (λ (k : Core). Holds mid.directory k s) core holds)))
 
 pub returns-in-Nothing-clause-ready : goal.returns-in-Nothing-clause-ready
 returns-in-Nothing-clause-ready g c =
@@ -27,4 +27,4 @@ returns-in-Nothing-clause-ready g c =
     let core = may_core g.P.Station.tells g.P.Station.calls g.P.Station.disk_faults g.P.Station.say_faults m.result old mid m.ensures.settles in
     takes_none mid c.args.c m.result m.ensures.saying
     (λ s holds. nothing_unrecorded mid.directory s c.args.c
-    (c.in-Nothing.ensures mid.directory s (subst (λ (k : Core). Holds mid.directory k s) core holds)))
+    (ap choice_told (sym c.in-Nothing.is) ∙ c.requires.chosen mid.directory s (subst (λ (k : Core). Holds mid.directory k s) core holds)))

@@ -1,10 +1,5 @@
 use Rattle.std.proofs.Common.{List, ℕ, sym, subst}
-use Rattle.gts_frame.specs.Decoder.{signs_of_step}
-use Rattle.gts_frame.specs.declared.step.Step.{Step}
-use Rattle.gts_connection.specs.Steps.{events_of_signs}
-use Rattle.gts_feed.specs.declared.fed.FeedEnd.{FeedEnd}
-use Rattle.gts_feed.specs.Fed.{end_heard, end_lost}
-use Rattle.gts_feed.specs.Going.{GoesFed}
+use Rattle.gts_feed.specs.Cited.{FeedEnd, GoesFed, Step, end_heard, end_lost, events_of_signs, signs_of_step}
 use Rattle.gts_feed.proofs.HeardLemmas.{heard_goes, lost_goes}
 use Rattle.gts_feed.proofs.dealing.deal.Goals as goal
 

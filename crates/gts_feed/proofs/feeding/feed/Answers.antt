@@ -1,7 +1,6 @@
 use Rattle.std.proofs.Common.{List, subst}
-use Rattle.gts_event.specs.declared.event.Event.{Event}
+use Rattle.gts_feed.specs.Cited.{Event, GoesFed}
 use Rattle.std.proofs.Common.{sym}
-use Rattle.gts_feed.specs.Going.{GoesFed}
 use Rattle.gts_feed.proofs.feeding.feed.Goals as goal
 
 pub returns-clause-goes : goal.returns-clause-goes

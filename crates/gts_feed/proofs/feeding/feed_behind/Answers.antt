@@ -1,11 +1,5 @@
 use Rattle.std.proofs.Common.{◌≡◌, ◌-◌, ℕ, true, false, List, length, take, drop, sym, ap, subst, ◌∙◌, arith, length-drop}
-use Rattle.gts_event.specs.declared.event.Entry.{Entry}
-use Rattle.gts_frame.specs.Decoder.{signs_of_step}
-use Rattle.gts_connection.specs.Steps.{events_of_signs}
-use Rattle.gts_feed.specs.declared.fed.FeedEnd.{FeedEnd}
-use Rattle.gts_feed.specs.declared.fed.FeedEnd.TheVariants.{All}
-use Rattle.gts_feed.specs.Fed.{answer_of, is_all, IsShortAt}
-use Rattle.gts_feed.specs.Going.{GoesFed, GoesOver}
+use Rattle.gts_feed.specs.Cited.{All, Entry, FeedEnd, GoesFed, GoesOver, IsShortAt, answer_of, events_of_signs, is_all, signs_of_step}
 use Rattle.gts_feed.proofs.OverLemmas.{Held, held_first, held_more, goes_first, goes_more, caused_later, is_that}
 use Rattle.gts_feed.proofs.ReadingLemmas.{slice_from, taken_more}
 use Rattle.gts_feed.proofs.feeding.feed_behind.Goals as goal

@@ -1,7 +1,5 @@
 use Rattle.std.proofs.Common.{◌≡◌, ◌≤◌, ◌-◌, length, take}
-use Rattle.gts_calls.specs.{HasCallCause}
-use Rattle.gts_feed.specs.Fed.{answer_of, IsShortAt}
-use Rattle.gts_feed.specs.Going.{GoesOver}
+use Rattle.gts_feed.specs.Cited.{GoesOver, HasCallCause, IsShortAt, answer_of}
 use Rattle.gts_feed.proofs.OverLemmas.{Held}
 use Rattle.gts_feed.proofs.feeding.feed_behind.Given as goal
 

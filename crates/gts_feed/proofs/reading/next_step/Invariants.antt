@@ -1,7 +1,5 @@
 use Rattle.std.proofs.Common.{◌≡◌, ◌<◌, ◌≤◌, ◌-◌, ℕ, List, length, take}
-use Rattle.gts_frame.specs.Signs.{held_in}
-use Rattle.gts_frame.specs.Decoder.{HasMessage}
-use Rattle.gts_feed.specs.Reading.{Reads}
+use Rattle.gts_feed.specs.Cited.{HasMessage, Reads, held_in}
 use Rattle.gts_feed.proofs.reading.next_step.Given as goal
 
 -- the bytes so far came to this step

@@ -1,8 +1,6 @@
-use Rattle.std.proofs.Common.{◌≡◌, Result, Ok, Err, refl, sym, subst}
-use Rattle.std.specs.Prelude.{IfOk, IsErrAnd, MatchResult}
+use Rattle.std.proofs.Common.{◌≡◌, Result, Ok, Err, refl, sym, subst, IfOk, IsErrAnd, MatchResult}
 use Rattle.std.proofs.lemmas.Result.{IfOk-at_ok}
-use Rattle.gts_traits.specs.Disk.{seen}
-use Rattle.gts_generate.specs.Running.{BeginsDay, calls_on}
+use Rattle.gts_generate.specs.Cited.{BeginsDay, calls_on, seen}
 use Rattle.gts_generate.proofs.RunningLemmas.{begun-day}
 use Rattle.gts_generate.proofs.day.begin.Goals as goal
 

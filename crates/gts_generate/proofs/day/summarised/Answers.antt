@@ -1,7 +1,5 @@
 use Rattle.std.proofs.Common.{ℕ, List, ◌++◌, ap, ◌∙◌}
-use Rattle.gts_traits.specs.Calls.{said_by}
-use Rattle.gts_generate.specs.Running.{calls_on}
-use Rattle.gts_generate.specs.Summary.{summary_text}
+use Rattle.gts_generate.specs.Cited.{calls_on, said_by, summary_text}
 use Rattle.gts_generate.proofs.RunningLemmas.{summed}
 use Rattle.gts_generate.proofs.day.summarised.Goals as goal
 

@@ -1,6 +1,5 @@
 use Rattle.std.proofs.Common.{refl, append_assoc}
-use Rattle.gts_alphabet.specs.Digits.{dec}
-use Rattle.gts_heading.specs.Heading.{heading_text}
+use Rattle.gts_generate.specs.Cited.{dec, heading_text}
 use Rattle.gts_generate.proofs.message.add_heading.Goals as goal
 
 pub returns-clause-text : goal.returns-clause-text

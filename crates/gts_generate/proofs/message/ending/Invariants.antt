@@ -1,7 +1,5 @@
-use Rattle.std.proofs.Common.{◌≡◌, ◌*◌, length, map}
-use Rattle.std.specs.Prelude.{flat_map}
-use Rattle.std.specs.List.{range_with_len}
-use Rattle.gts_connection.specs.Capture.{step_text, Drain}
+use Rattle.std.proofs.Common.{◌≡◌, ◌*◌, length, map, flat_map}
+use Rattle.gts_generate.specs.Cited.{Drain, range_with_len, step_text}
 use Rattle.gts_generate.proofs.message.ending.Given as goal
 
 abbrev pub invariant-loop-c : goal.invariant-loop-c

@@ -1,9 +1,7 @@
-use Rattle.std.proofs.Common.{◌≡◌, ℕ, ◌+◌, ◌≤◌, List, ◌++◌, length, length-append, take, ap, ◌∙◌, sym, rules, arith}
-use Rattle.std.specs.Prelude.{slice_get, Some}
+use Rattle.std.proofs.Common.{◌≡◌, ℕ, ◌+◌, ◌≤◌, List, ◌++◌, length, length-append, take, ap, ◌∙◌, sym, rules, arith, slice_get, Some}
 use Rattle.std.proofs.lemmas.List.Sums.{sum_by-append}
 use Rattle.sha2.specs.Sha256.{sha256}
-use Rattle.gts_memory.specs.Past.{sayings}
-use Rattle.gts_generate.specs.Summary.{frames_in}
+use Rattle.gts_generate.specs.Cited.{frames_in, sayings}
 use Rattle.gts_generate.proofs.SaidLemmas.{on_circuit, on_circuits, sayings-more, sayings-all}
 use Rattle.gts_generate.proofs.said.said_on_circuits.Goals as goal
 

@@ -1,6 +1,5 @@
 use Rattle.std.proofs.Common.{◌≡◌, ◌*◌, ◌^◌, ◌≤◌, length, take}
-use Rattle.sha2.specs.Hashers.{Holds256}
-use Rattle.gts_memory.specs.Past.{sayings}
+use Rattle.gts_generate.specs.Cited.{Holds256, sayings}
 use Rattle.gts_generate.specs.Summary as summaries
 use Rattle.gts_generate.proofs.SaidLemmas.{on_circuits}
 use Rattle.gts_generate.proofs.said.said_on_circuits.Given as goal

@@ -1,10 +1,7 @@
 use Rattle.std.proofs.Common.{◌≡◌, ℕ, ◌-◌, List, ◌++◌, length, map, sum, true, codes, ap, ◌∙◌}
-use Rattle.hex.specs.Hex.{encode_lower}
-use Rattle.sha2.specs.Sha256.{sha256}
-use Rattle.gts_traits.specs.Calls.{Outside, said_by}
-use Rattle.gts_memory.specs.Past.{calls_of}
+use Rattle.gts_generate.specs.Cited.{Outside, calls_of, draws_of, encode_lower, frames_in, frames_said, line, lines_from, receipts_of, said_by}
 use Rattle.gts_event.specs.declared.values.CircuitNeed.{CircuitNeed}
-use Rattle.gts_generate.specs.Summary.{line, lines_from, receipts_of, draws_of, frames_in, frames_said}
+use Rattle.sha2.specs.Sha256.{sha256}
 use Rattle.gts_generate.proofs.SummaryLemmas.{all-lines}
 use Rattle.gts_generate.proofs.summing.summary.Goals as goal
 

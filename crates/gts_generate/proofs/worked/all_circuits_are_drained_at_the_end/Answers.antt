@@ -1,6 +1,5 @@
 use Rattle.std.proofs.Common.{refl}
-use Rattle.gts_alphabet.specs.Digits.{dec}
-use Rattle.gts_heading.specs.Heading.{heading_text}
+use Rattle.gts_generate.specs.Cited.{dec, heading_text}
 use Rattle.gts_generate.proofs.worked.all_circuits_are_drained_at_the_end.Goals as goal
 
 pub returns : goal.returns

@@ -1,6 +1,5 @@
 use Rattle.std.proofs.Common.{refl}
-use Rattle.gts_alphabet.specs.Digits.{dec}
-use Rattle.gts_heading.specs.Heading.{heading_text}
+use Rattle.gts_generate.specs.Cited.{dec, heading_text}
 use Rattle.gts_generate.proofs.worked.messages_are_spelled.Goals as goal
 
 pub returns-clause-first : goal.returns-clause-first

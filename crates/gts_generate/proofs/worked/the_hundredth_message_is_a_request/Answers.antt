@@ -1,6 +1,5 @@
 use Rattle.std.proofs.Common.{refl}
-use Rattle.gts_alphabet.specs.Digits.{dec}
-use Rattle.gts_heading.specs.Heading.{heading_text}
+use Rattle.gts_generate.specs.Cited.{dec, heading_text}
 use Rattle.gts_generate.proofs.worked.the_hundredth_message_is_a_request.Goals as goal
 
 pub returns : goal.returns

@@ -1,12 +1,5 @@
-use Rattle.std.proofs.Common.{◌≡◌, ◌<◌, List, [], ◌∷◌, length, refl, sym, ap, ◌∙◌, subst}
-use Rattle.gts_lock.specs.{entries, entries_under, Known, after_adding}
-use Rattle.gts_directory.specs.Directory.{Directory}
-use Rattle.gts_event.specs.declared.event.Entry.{Entry}
-use Rattle.gts_event.specs.declared.event.Event.TheVariants.{Heard}
-use Rattle.gts_engine.specs.Engine.{Engine}
-use Rattle.gts_desk.specs.{SaysNoMore}
-use Rattle.gts_housed.specs.Flat.{all_of}
-use Rattle.gts_housed.specs.Housed.{Stands, entry_by}
+use Rattle.std.proofs.Common.{◌≡◌, ◌<◌, List, [], ◌∷◌, ◌++◌, length, refl, sym, ap, ◌∙◌, subst}
+use Rattle.gts_housed.specs.Cited.{Directory, Engine, Entry, Heard, Known, SaysNoMore, Stands, after_adding, all_of, entries, entries_under, entry_by}
 use Rattle.gts_housed.proofs.TurningLemmas.{answers}
 use Rattle.gts_housed.proofs.turns.hear.Goals as goal
 
@@ -17,7 +10,10 @@ leave_heard-requires g c κs within =
     let stands = subst S (ap (λ (v : _). v.engine) (sym c.value.ensures.value)) c.in-Ok.ensures.value.0 in
     let adds = c.hear-answer.ensures.adds (all_of (entries h)) stands in
     let mode = c.hear-answer.ensures.mode ∙ ap (λ (v : _). v.makes_room) c.value.ensures.value ∙ c.in-Ok.ensures.value.1 in
-    (within.0, (within.1, (refl, (adds.stands, mode))))
+    let A : Engine _ → Type 0 = λ e. Stands g.P.Station.tells g.P.Station.calls g.P.Station.disk_faults g.P.Station.say_faults g.B.Began.beginning
+    (all_of (entries h) ++ entry_by (Heard c.args.c c.args.kind c.args.message.now) c.hear-answer.result ∷ []) e in
+    let same = sym c.value-2.ensures.value in
+    (within.0, (within.1, (refl, (subst A (ap (λ (v : _). v.engine) same) adds.stands, ap (λ (v : _). v.makes_room) c.value-2.ensures.value ∙ mode))))
 
 pub returns-clause-answers : goal.returns-clause-answers
 returns-clause-answers g c =

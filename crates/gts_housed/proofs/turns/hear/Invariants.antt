@@ -1,5 +1,4 @@
-use Rattle.gts_event.specs.declared.event.Event.TheVariants.{Heard}
-use Rattle.gts_housed.specs.Housed.{entry_by}
+use Rattle.gts_housed.specs.Cited.{Heard, entry_by}
 use Rattle.gts_housed.proofs.turns.hear.Given as goal
 
 abbrev pub ghost-leave_heard : goal.ghost-leave_heard

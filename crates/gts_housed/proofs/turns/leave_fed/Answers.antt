@@ -1,4 +1,4 @@
-use Rattle.gts_lock.specs.{entries}
+use Rattle.gts_lock.specs.History.{entries}
 use Rattle.gts_housed.proofs.TurningLemmas.{stood}
 use Rattle.gts_housed.proofs.turns.leave_fed.Goals as goal
 

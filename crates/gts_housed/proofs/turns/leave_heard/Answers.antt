@@ -1,6 +1,6 @@
 use Rattle.std.proofs.Common.{[], ◌∷◌}
 use contract.BorrowLft.{⊑_static}
-use Rattle.gts_lock.specs.{entries}
+use Rattle.gts_lock.specs.History.{entries}
 use Rattle.gts_housed.proofs.TurningLemmas.{within_both, stood}
 use Rattle.gts_housed.proofs.turns.leave_heard.Goals as goal
 

@@ -1,11 +1,9 @@
-use Rattle.std.proofs.Common.{[], ◌∷◌}
-use contract.BorrowLft.{⊑_static}
-use Rattle.gts_lock.specs.{entries}
-use Rattle.gts_housed.proofs.TurningLemmas.{within_both, stood}
+use Rattle.gts_lock.specs.History.{entries}
+use Rattle.gts_housed.proofs.TurningLemmas.{stood}
 use Rattle.gts_housed.proofs.turns.leave_taken.Goals as goal
 
-pub leave-requires : goal.leave-requires
-leave-requires g c κs within =
-    let r = c.requires.1.1.1 in
-    let s = stood g.P.Station.tells g.P.Station.calls g.P.Station.disk_faults g.P.Station.say_faults g.B.Began.beginning (entries c.args.turn.pass.seen) (g.added ∷ []) c.args.turn.value.engine r.0 in
-    (within_both κs.1.0 g.row.P.lives g.row.B.lives within.0 within.1, (⊑_static κs.1.1.0, (s, r.1)))
+pub leave_some-requires : goal.leave_some-requires
+leave_some-requires g c =
+    let v = c.requires.1.1.0 in
+    let s = stood g.P.Station.tells g.P.Station.calls g.P.Station.disk_faults g.P.Station.say_faults g.B.Began.beginning (entries c.args.turn.pass.seen) v.0 c.args.turn.value.engine v.1.stands in
+    (v.0, v.1, (s, c.requires.1.1.1))

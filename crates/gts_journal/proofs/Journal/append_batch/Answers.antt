@@ -1,10 +1,5 @@
 use Rattle.std.proofs.Common.{◌≡◌, ◌+◌, ◌-◌, ℕ, [], ◌∷◌, ◌++◌, List, length, take, drop, sym, ap, ◌∙◌, subst, arith}
-use Rattle.gts_traits.specs.Station.{Did, Writes, Syncs}
-use Rattle.gts_traits.specs.Moments.{EachSince, OnlyTears}
-use Rattle.gts_record.specs.Record.{open_gate, closed_gate}
-use Rattle.gts_journal.specs.Hand.{InHand}
-use Rattle.gts_journal.specs.Standing.{StandsOn}
-use Rattle.gts_journal.specs.Batch.{Gathered}
+use Rattle.gts_journal.specs.Cited.{Did, EachSince, Gathered, InHand, OnlyTears, StandsOn, Syncs, Writes, closed_gate, open_gate}
 use Rattle.gts_journal.specs.contracts.Journal.{the_view}
 use Rattle.gts_journal.proofs.BatchLemmas.{block_bytes, placed, staged_moments, opened_moments, stands_after}
 use Rattle.gts_journal.proofs.Journal.append_batch.Goals as goal

@@ -1,6 +1,5 @@
 use Rattle.std.proofs.Common.{◌≡◌, ℕ, ◌++◌, map}
-use Rattle.gts_lock.specs.Passes.{Known}
-use Rattle.gts_lock.specs.Counting.{IsOf}
+use Rattle.gts_lock.specs.Cited.{IsOf, Known}
 use Rattle.gts_lock.proofs.counting.join_all.Given as goal
 
 abbrev pub invariant-loop-other : goal.invariant-loop-other

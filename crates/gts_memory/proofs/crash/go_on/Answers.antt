@@ -1,7 +1,5 @@
 use Rattle.std.proofs.Common.{rules, ◌≡◌, ℕ, ◌+◌, ◌||◌, nat_lt, Bool, List, ◌∷◌, length, sym, ap, ◌∙◌}
-use Rattle.gts_traits.specs.Station.{Doing, stable, touched, Writes}
-use Rattle.gts_memory.specs.DeedView.{doing_of}
-use Rattle.gts_memory.specs.Past.{kept_call}
+use Rattle.gts_memory.specs.Cited.{Doing, Writes, doing_of, kept_call, stable, touched}
 use Rattle.gts_memory.proofs.LeftLemmas.{end_of_write}
 use Rattle.gts_memory.proofs.crash.go_on.Goals as goal
 

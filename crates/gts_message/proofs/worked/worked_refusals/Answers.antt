@@ -1,6 +1,5 @@
 use Rattle.std.proofs.Common.{refl}
-use Rattle.gts_heading.specs.Reading.{plain_heading_at, bare_group_at, message_group_at, heading_at}
-use Rattle.gts_message.specs.Message.{split_at, body_at, number_at, text_at}
+use Rattle.gts_message.specs.Cited.{bare_group_at, body_at, heading_at, message_group_at, number_at, plain_heading_at, split_at, text_at}
 use Rattle.gts_message.proofs.worked.worked_refusals.Goals as goal
 
 pub returns-clause-no_bytes : goal.returns-clause-no_bytes

@@ -1,12 +1,8 @@
 use Rattle.std.proofs.Common.{◌≡◌, ◌<◌, ◌==◌, List, [], length, cond, get_or, sym, ap, ◌∙◌, arith}
 use Rattle.std.proofs.lemmas.List.{length-map}
-use Rattle.gts_directory.specs.Rows.{circuit_of_row}
-use Rattle.gts_event.specs.State.{last_of}
-use Rattle.gts_event.specs.Need.{CircuitNeed, unused}
+use Rattle.gts_migrate.specs.Cited.{CircuitNeed, circuit_need_of, circuit_of_row, circuits_under, last_of, need_of, unused}
 use Rattle.gts_event.specs.declared.values.CircuitNeed as values
-use Rattle.gts_event.specs.Items.{circuit_need_of, need_of}
 use Rattle.gts_event.proofs.LawLemmas.{sound-parts}
-use Rattle.gts_migrate.specs.Bringing.{circuits_under}
 use Rattle.gts_migrate.proofs.LettingGoLemmas.{need_at}
 use Rattle.gts_migrate.proofs.BringingLemmas.{under_at, under_further, if_ok}
 use Rattle.gts_migrate.proofs.bringing.bring_at.Goals as goal

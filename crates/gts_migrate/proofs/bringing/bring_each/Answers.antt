@@ -1,9 +1,7 @@
 use Rattle.std.proofs.Common.{◌<◌, List, map, length, ap, ◌∙◌, arith}
 use Rattle.std.proofs.lemmas.List.{take_all}
-use Rattle.gts_directory.specs.Rows.{circuit_of_row}
-use Rattle.gts_event.specs.Items.{circuit_need_of, need_of}
+use Rattle.gts_migrate.specs.Cited.{circuit_need_of, circuit_of_row, circuits_under, need_of}
 use Rattle.gts_event.specs.declared.values.CircuitNeed as values
-use Rattle.gts_migrate.specs.Bringing.{circuits_under}
 use Rattle.gts_migrate.proofs.BringingLemmas.{length-under, one_more, keep_more}
 use Rattle.gts_migrate.proofs.bringing.bring_each.Goals as goal
 

@@ -1,7 +1,5 @@
 use Rattle.std.proofs.Common.{◌≡◌, nat_lt, true, map, take}
-use Rattle.std.specs.List.{list_all}
-use Rattle.gts_event.specs.Items.{circuit_need_of, need_of}
-use Rattle.gts_migrate.specs.Bringing.{circuits_under}
+use Rattle.gts_migrate.specs.Cited.{circuit_need_of, circuits_under, list_all, need_of}
 use Rattle.gts_migrate.proofs.bringing.bring_each.Given as goal
 
 abbrev pub invariant-loop-c : goal.invariant-loop-c

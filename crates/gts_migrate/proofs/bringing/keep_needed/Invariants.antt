@@ -1,6 +1,5 @@
 use Rattle.std.proofs.Common.{◌≡◌, ◌||◌, nat_le, map, filter}
-use Rattle.gts_event.specs.State.{has}
-use Rattle.gts_event.specs.Items.{bulletin_of}
+use Rattle.gts_migrate.specs.Cited.{bulletin_of, has}
 use Rattle.gts_migrate.proofs.bringing.keep_needed.Given as goal
 
 abbrev pub invariant-loop-bulletin : goal.invariant-loop-bulletin

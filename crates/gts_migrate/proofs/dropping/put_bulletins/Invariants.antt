@@ -1,7 +1,5 @@
 use Rattle.std.proofs.Common.{◌≡◌, ◌++◌, map, take}
-use Rattle.std.specs.List.{flat_map}
-use Rattle.gts_event.specs.Items.{bulletin_of}
-use Rattle.gts_migrate.specs.Dropping.{receipt_among}
+use Rattle.gts_migrate.specs.Cited.{bulletin_of, flat_map, receipt_among}
 use Rattle.gts_migrate.proofs.dropping.put_bulletins.Given as goal
 
 abbrev pub invariant-loop-bulletin : goal.invariant-loop-bulletin

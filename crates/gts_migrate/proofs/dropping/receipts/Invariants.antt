@@ -1,6 +1,5 @@
 use Rattle.std.proofs.Common.{◌≡◌, ◌++◌, drop}
-use Rattle.gts_event.specs.Items.{need_of}
-use Rattle.gts_migrate.specs.Dropping.{receipts_from, drop_receipts}
+use Rattle.gts_migrate.specs.Cited.{drop_receipts, need_of, receipts_from}
 use Rattle.gts_migrate.proofs.dropping.receipts.Given as goal
 
 abbrev pub invariant-loop-c : goal.invariant-loop-c

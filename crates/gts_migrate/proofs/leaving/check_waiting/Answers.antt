@@ -1,10 +1,5 @@
 use Rattle.std.proofs.Common.{◌≡◌, ◌<◌, Option, Some, ℕ, Err, length, get_or, refl, sym, ap, subst, ◌∙◌, arith}
-use Rattle.gts_directory.specs.Rows.{circuit_of_row}
-use Rattle.gts_event.specs.Need.{unused}
-use Rattle.gts_event.specs.Items.{need_of}
-use Rattle.gts_migrate.specs.declared.fault.MigrateFault.TheVariants.{Waits}
-use Rattle.gts_migrate.specs.LettingGo.{waits_on_closed}
-use Rattle.gts_migrate.specs.Bringing.{TellsWaiting}
+use Rattle.gts_migrate.specs.Cited.{TellsWaiting, Waits, circuit_of_row, need_of, unused, waits_on_closed}
 use Rattle.gts_migrate.proofs.LettingGoLemmas.{found_here, found_open, found_none, waiting_there}
 use Rattle.gts_migrate.proofs.leaving.check_waiting.Goals as goal
 use Rattle.gts_migrate.proofs.leaving.check_waiting.Goals.{else-circuit-via-then-circuit+else-count-gt0, else-circuit-via-else-circuit}

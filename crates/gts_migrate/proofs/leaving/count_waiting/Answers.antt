@@ -1,6 +1,5 @@
 use Rattle.std.proofs.Common.{arith}
-use Rattle.gts_directory.specs.Rows.{circuit_of_row}
-use Rattle.gts_event.specs.Items.{need_of}
+use Rattle.gts_migrate.specs.Cited.{circuit_of_row, need_of}
 use Rattle.gts_migrate.proofs.LettingGoLemmas.{closed_here, closed_open, waiting_there}
 use Rattle.gts_migrate.proofs.leaving.count_waiting.Goals as goal
 use Rattle.gts_migrate.proofs.leaving.count_waiting.Goals.{then-circuit, else-circuit}

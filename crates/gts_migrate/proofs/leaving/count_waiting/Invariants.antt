@@ -1,6 +1,5 @@
 use Rattle.std.proofs.Common.{◌≡◌, ◌+◌, drop}
-use Rattle.gts_event.specs.Items.{need_of}
-use Rattle.gts_migrate.specs.LettingGo.{waiting_closed, left_behind}
+use Rattle.gts_migrate.specs.Cited.{left_behind, need_of, waiting_closed}
 use Rattle.gts_migrate.proofs.leaving.count_waiting.Given as goal
 
 abbrev pub invariant-loop-c : goal.invariant-loop-c

@@ -1,24 +1,8 @@
 use Rattle.std.proofs.Common.{◌≡◌, ◌∷◌, ◌∙◌, ℕ, inl, inr, ap, List, Option, None, Result, Ok, Err, sym, subst, arith}
 use Rattle.std.proofs.lemmas.Result.{err_from_is_err_and}
 use Rattle.std.proofs.lemmas.List.{append-nil}
-use Rattle.gts_traits.specs.Calls.{Call, Did, Syncs, Outside, on, said_by}
-use Rattle.gts_traits.specs.Moments.{EachSince}
-use Rattle.gts_event.specs.State.{State}
-use Rattle.gts_event.specs.History.{restarted}
-use Rattle.gts_event.specs.Need.{Need, need}
-use Rattle.gts_event.specs.Items.{need_of}
-use Rattle.gts_opening.specs.Room.{full_compacted}
-use Rattle.gts_migrate.specs.LettingGo.{goes_on, waits_on_closed}
-use Rattle.gts_recovery.specs.Opened.{opens_any}
-use Rattle.gts_traits.specs.Disk.{seen}
-use Rattle.gts_record.specs.declared.fault.OpenFault.{OpenFault}
-use Rattle.gts_migrate.specs.declared.fault.MigrateFault.{MigrateFault}
-use Rattle.gts_migrate.specs.declared.fault.MigrateFault.TheVariants.{Open, Waits, Full, DiskFault, SayFault, NoMemory}
+use Rattle.gts_migrate.specs.Cited.{AnswersOpening, AnswersWaiting, Call, Did, DiskFault, Dropped, EachSince, Full, IsPreparedFaultOf, IsRoomAnswer, MigrateFault, Need, NoMemory, Open, OpenFault, OpensEither, OpensWith, Outside, Refused, SayFault, SaysFor, State, Syncs, Waiting, Waits, full_compacted, goes_on, need, need_of, on, opens_any, restarted, said_by, sayings, seen, waits_on_closed}
 use Rattle.gts_journal.proofs.LawLemmas.{syncs_silent}
-use Rattle.gts_migrate.specs.declared.waiting.Waiting.{Waiting}
-use Rattle.gts_migrate.specs.declared.waiting.Waiting.TheVariants.{Refused, Dropped}
-use Rattle.gts_migrate.specs.Migrating.{OpensWith, OpensEither, sayings}
-use Rattle.gts_migrate.specs.Answers.{IsRoomAnswer, AnswersWaiting, IsPreparedFaultOf, AnswersOpening, SaysFor}
 use Rattle.gts_migrate.proofs.DroppingLemmas.{sayings_again, nothing_refused, no_bytes}
 use Rattle.gts_migrate.proofs.MigratingLemmas.{few_due, fits_for, can_migrate, state_is, need_is, opens_so, at_rest, room_after, waiting_after, opening_after, told_after, disk_after, migrated_after, said_after, silent_by, counts_after}
 use Rattle.gts_migrate.proofs.migrating.take_over.Goals as goal

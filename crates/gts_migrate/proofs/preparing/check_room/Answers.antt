@@ -1,13 +1,7 @@
 use Rattle.std.proofs.Common.{◌≡◌, ◌-◌, ℕ, arith}
 use Rattle.std.proofs.lemmas.Result.{err_from_is_err_and}
-use Rattle.gts_directory.specs.Directory.{Directory}
-use Rattle.gts_directory.specs.TakingOver.{TakesOver}
-use Rattle.gts_event.specs.State.{State}
-use Rattle.gts_event.specs.Need.{IsOrdered, need}
-use Rattle.gts_core.specs.Waiting.{all_waiting}
-use Rattle.gts_opening.specs.Journal.{due}
+use Rattle.gts_migrate.specs.Cited.{Directory, IsOrdered, State, TakesOver, all_waiting, due, goes_on, left_behind, need}
 use Rattle.gts_recovery.proofs.LawLemmas.{due_counted as due_waiting}
-use Rattle.gts_migrate.specs.LettingGo.{goes_on, left_behind}
 use Rattle.gts_migrate.proofs.LettingGoLemmas.{due-on}
 use Rattle.gts_migrate.proofs.preparing.check_room.Goals as goal
 

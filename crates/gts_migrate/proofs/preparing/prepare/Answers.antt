@@ -1,15 +1,6 @@
 use Rattle.std.proofs.Common.{◌≡◌, ℕ, ◌-◌, ◌^◌, true, length, min, ap, ◌∙◌, arith}
 use Rattle.std.proofs.lemmas.Result.{err_from_is_err_and}
-use Rattle.gts_event.specs.Need.{Need, need, is_sound}
-use Rattle.gts_event.specs.State.{State}
-use Rattle.gts_event.specs.Items.{need_of}
-use Rattle.gts_core.specs.Core.{Core, Holds, Needs}
-use Rattle.gts_opening.specs.Journal.{checkpoint_text}
-use Rattle.gts_migrate.specs.LettingGo.{goes_on, left_behind}
-use Rattle.gts_migrate.specs.declared.fault.MigrateFault.{MigrateFault}
-use Rattle.gts_migrate.specs.declared.fault.MigrateFault.TheVariants.{Open, Waits, Full, DiskFault, SayFault, NoMemory}
-use Rattle.gts_migrate.specs.Answers.{IsRoomAnswer, IsSaidFaultOf, IsPreparedFaultOf}
-use Rattle.gts_migrate.specs.Migrating.{DirectoryOf, HasFewDue}
+use Rattle.gts_migrate.specs.Cited.{Core, Directory as DirectoryOf, DiskFault, Full, HasFewDue, Holds, IsPreparedFaultOf, IsRoomAnswer, IsSaidFaultOf, MigrateFault, Need, Needs, NoMemory, Open, SayFault, State, Waits, checkpoint_text, goes_on, is_sound, left_behind, need, need_of}
 use Rattle.gts_migrate.proofs.LettingGoLemmas.{due-on}
 use Rattle.gts_migrate.proofs.MigratingLemmas.{brought_from}
 use Rattle.gts_migrate.proofs.preparing.prepare.Goals as goal

@@ -1,17 +1,8 @@
 use Rattle.std.proofs.Common.{rules, inr, true, false, ◌≡◌, ◌-◌, ◌^◌, ◌<◌, ◌≤◌, ℕ, List, Ok, Err, length, sym, ap, subst, ◌∙◌, arith}
 use Rattle.std.proofs.lemmas.Result.{err_from_is_err_and}
-use Rattle.gts_event.specs.Items.{need_of}
-use Rattle.gts_record.specs.Format.{held, written}
-use Rattle.gts_opening.specs.Journal.{compacted_bytes}
-use Rattle.gts_checkpoint.specs.Alone.{WorksBeside}
-use Rattle.gts_checkpoint.specs.Writing.{HasWritten}
-use Rattle.gts_journal.specs.{selecting}
+use Rattle.gts_migrate.specs.Cited.{HasWritten, MigrateFault, SaysAll, SaysFor, WorksBeside, compacted_bytes, held, need_of, on, selecting, written}
 use Rattle.gts_engine.proofs.LawLemmas.{fit_bytes}
 use Rattle.gts_recovery.proofs.LawLemmas.{closed_there, still_stands}
-use Rattle.gts_migrate.specs.declared.fault.MigrateFault.{MigrateFault}
-use Rattle.gts_migrate.specs.Answers.{SaysFor}
-use Rattle.gts_migrate.specs.Dropping.{SaysAll}
-use Rattle.gts_traits.specs.Calls.{on}
 use Rattle.gts_migrate.proofs.MigratingLemmas.{writing, speaking, spoke, stands_spoken, closed_spoken, unsaid_write, said_part, said_whole, all_moments, migrated}
 use Rattle.gts_migrate.proofs.rewriting.rewrite.Goals as goal
 

@@ -1,8 +1,5 @@
 use Rattle.std.proofs.Common.{sym, subst}
-use Rattle.gts_frame.specs.Decoder.{signs_of_step}
-use Rattle.gts_frame.specs.declared.step.Step.{Step}
-use Rattle.gts_connection.specs.Steps.{events_of_signs}
-use Rattle.gts_missing.specs.Counting.{Adds, numbers_of}
+use Rattle.gts_missing.specs.Cited.{Adds, FrameStep as Step, events_of_signs, numbers_of, signs_of_step}
 use Rattle.gts_missing.proofs.hearing.deal.Goals as goal
 
 pub returns-in-Frame-clause-adds : goal.returns-in-Frame-clause-adds

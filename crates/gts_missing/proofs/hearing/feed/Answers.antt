@@ -1,10 +1,8 @@
 use Rattle.std.proofs.Common.{◌≡◌, ◌++◌, ℕ, List, [], take, length, Err, refl, ◌∙◌, arith}
 use Rattle.std.proofs.lemmas.List.{length-take-le}
 use Rattle.std.proofs.lemmas.Result.{err_from_is_err_and}
-use Rattle.gts_capture.specs.declared.capture_fault.CaptureFault.{CaptureFault}
-use Rattle.gts_capture.specs.declared.capture_fault.CaptureFault.TheVariants.{Bad, SourceFault}
+use Rattle.gts_missing.specs.Cited.{Bad, CaptureFault, Feeds, SourceFault}
 use Rattle.gts_replay.proofs.StepLemmas.{takes_none, takes_more, takes_end}
-use Rattle.gts_missing.specs.Counting.{Feeds}
 use Rattle.gts_missing.proofs.CountingLemmas.{fed_none, fed_piece}
 use Rattle.gts_missing.proofs.hearing.feed.Goals as goal
 

@@ -1,6 +1,5 @@
 use Rattle.std.proofs.Common.{◌≡◌, ◌≤◌, ℕ, List, length}
-use Rattle.gts_replay.specs.Ending.{Takes}
-use Rattle.gts_missing.specs.Counting.{IsFed}
+use Rattle.gts_missing.specs.Cited.{IsFed, Takes}
 use Rattle.gts_missing.proofs.hearing.feed.Given as goal
 
 -- the bytes so far were taken and dealt with

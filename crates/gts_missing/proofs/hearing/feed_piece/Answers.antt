@@ -1,8 +1,6 @@
 use Rattle.std.proofs.Common.{◌-◌, ◌++◌, ℕ, List, [], take, drop, refl, sym, ap, subst, ◌∙◌, append_assoc, arith, length, length-drop}
 use Rattle.std.proofs.lemmas.List.{take-append-drop, take_all}
-use Rattle.gts_frame.specs.Decoder.{signs_of_step}
-use Rattle.gts_connection.specs.Steps.{events_of_signs}
-use Rattle.gts_missing.specs.Counting.{Adds, numbers_of}
+use Rattle.gts_missing.specs.Cited.{Adds, events_of_signs, numbers_of, signs_of_step}
 use Rattle.gts_missing.proofs.CountingLemmas.{fed_none, fed_step}
 use Rattle.gts_missing.proofs.hearing.feed_piece.Goals as goal
 

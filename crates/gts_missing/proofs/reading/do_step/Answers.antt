@@ -1,8 +1,5 @@
 use Rattle.std.proofs.Common.{◌≡◌, ◌<◌, ℕ, List, length, set, Ok, sym, subst, arith}
-use Rattle.gts_connection.specs.declared.kind.CaptureKind.TheVariants.{Journaled}
-use Rattle.gts_capture.specs.{IsHeadIn, head_of, bytes_announced}
-use Rattle.gts_capture.specs.declared.head.Head.{Head}
-use Rattle.gts_missing.specs.Counting.{DoesStep}
+use Rattle.gts_missing.specs.Cited.{DoesStep, Head, IsHeadIn, Journaled, bytes_announced, head_of}
 use Rattle.gts_missing.proofs.CountingLemmas.{does_take, does_drain, does_reopen, does_restart, does_compact, feeds_step}
 use Rattle.gts_missing.proofs.reading.do_step.Goals as goal
 

@@ -1,13 +1,7 @@
 use Rattle.std.proofs.Common.{◌≡◌, ◌+◌, ◌++◌, ℕ, [], ◌∷◌, length, Result, Err, refl, ap, subst, ◌∙◌, arith, length-append}
 use Rattle.std.proofs.lemmas.Result.{err_from_is_err_and}
-use Rattle.gts_capture.specs.{head_of, line_of}
-use Rattle.gts_capture.specs.Held.{Held}
-use Rattle.gts_capture.specs.declared.capture_fault.CaptureFault.{CaptureFault}
-use Rattle.gts_capture.specs.declared.capture_fault.CaptureFault.TheVariants.{Bad, SourceFault}
-use Rattle.gts_capture.specs.declared.head.Head.{Head}
-use Rattle.gts_capture.specs.declared.head.Head.TheVariants.{End}
+use Rattle.gts_missing.specs.Cited.{Bad, CaptureFault, Comes, DoesStep, End, Head, Held, SourceFault, head_of, line_of}
 use Rattle.gts_replay.proofs.RunLemmas.{ReadsHead}
-use Rattle.gts_missing.specs.Counting.{Comes, DoesStep}
 use Rattle.gts_missing.proofs.RunLemmas.{runs_none, runs_more, ends_done, ends_bad, ends_in_step, ends_never}
 use Rattle.gts_missing.proofs.reading.run.Goals as goal
 

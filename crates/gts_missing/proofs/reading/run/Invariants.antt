@@ -1,8 +1,5 @@
 use Rattle.std.proofs.Common.{◌≡◌, ◌≤◌, List, length}
-use Rattle.gts_directory.specs.Directory.{Directory}
-use Rattle.gts_connection.specs.declared.kind.CaptureKind.TheVariants.{Journaled}
-use Rattle.gts_connection.specs.Capture.{Step}
-use Rattle.gts_missing.specs.Counting.{IsNew}
+use Rattle.gts_missing.specs.Cited.{Directory, IsNew, Journaled, Step}
 use Rattle.gts_missing.proofs.RunLemmas.{Runs}
 use Rattle.gts_missing.proofs.reading.run.Given as goal
 

@@ -1,12 +1,7 @@
 use Rattle.std.proofs.Common.{◌≡◌, List, Result, Err, sym, subst, ◌∙◌, arith}
 use Rattle.std.proofs.lemmas.Result.{err_from_is_err_and}
-use Rattle.gts_frame.specs.Decoder.{Decoding}
-use Rattle.gts_connection.specs.Capture.{no_bytes}
-use Rattle.gts_capture.specs.declared.capture_fault.CaptureFault.{CaptureFault}
-use Rattle.gts_capture.specs.declared.capture_fault.CaptureFault.TheVariants.{Bad, SourceFault}
-use Rattle.gts_replay.specs.Going.{Decode}
+use Rattle.gts_missing.specs.Cited.{Bad, CaptureFault, Comes, Decode, Decoding, IsNew, IsTabled, SourceFault, no_bytes, table_fault}
 use Rattle.gts_replay.proofs.DecoderLemmas.{decode_fresh}
-use Rattle.gts_missing.specs.Counting.{IsNew, Comes, IsTabled, table_fault}
 use Rattle.gts_missing.proofs.reading.table_of.Goals as goal
 
 pub returns-clause-comes : goal.returns-clause-comes

@@ -1,6 +1,5 @@
 use Rattle.std.proofs.Common.{Result, Err, List, ℕ, refl, sym, ap, subst, ◌∙◌}
-use Rattle.gts_missing.specs.declared.fault.TableFault.{TableFault}
-use Rattle.gts_missing.specs.Counting.{Rings, IsTabled, IsCutAt}
+use Rattle.gts_missing.specs.Cited.{IsCutAt, IsTabled, Rings, TableFault}
 use Rattle.gts_missing.proofs.reporting.gaps.Goals as goal
 
 pub returns-in-Err-Capture-clause-names : goal.returns-in-Err-Capture-clause-names

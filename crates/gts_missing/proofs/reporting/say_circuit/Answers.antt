@@ -1,16 +1,7 @@
 use Rattle.std.proofs.Common.{◌≡◌, ◌+◌, ◌++◌, List, [], ℕ, Result, Err, Ok, sym, ap, subst, ◌∙◌}
 use Rattle.std.proofs.lemmas.List.{append-nil}
-use Rattle.gts_traits.specs.{Outside, on}
-use Rattle.gts_traits.specs.declared.failed.Failed.{Failed}
-use Rattle.gts_say.specs.Say.{Tells, SaysOnly, SaysFront}
+use Rattle.gts_missing.specs.Cited.{Failed, Outside, SaysFront, SaysOnly, Tells, ask_frame, ask_heading, asked, circuit_of_row, digits_of, gap_lines, gaps, on, peer_of, run_lines, runs_given, said_of, text_of}
 use Rattle.gts_say.proofs.SayLemmas.{front_more}
-use Rattle.gts_directory.specs.Directory.{peer_of}
-use Rattle.gts_directory.specs.{circuit_of_row}
-use Rattle.gts_gap.specs.Gaps.{gaps}
-use Rattle.gts_gap.specs.Ring.{digits_of, runs_given}
-use Rattle.gts_gap.specs.Asking.{ask_frame, ask_heading, gap_lines}
-use Rattle.gts_gap.specs.Text.{text_of}
-use Rattle.gts_missing.specs.Saying.{run_lines, asked, said_of}
 use Rattle.gts_missing.proofs.SayingLemmas.{lines_given, asked_none, asked_some, peer_is, tells_behind, front_told}
 use Rattle.gts_missing.proofs.reporting.say_circuit.Goals as goal
 

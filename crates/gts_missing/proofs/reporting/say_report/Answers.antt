@@ -1,10 +1,6 @@
-use Rattle.std.proofs.Common.{◌≡◌, ◌+◌, ◌<◌, ◌++◌, ℕ, length, Result, Err, Ok, sym, ap, subst, ◌∙◌, append_assoc, arith}
-use Rattle.std.specs.Prelude.{codes}
-use Rattle.gts_traits.specs.{Outside, on}
-use Rattle.gts_traits.specs.declared.failed.Failed.{Failed}
-use Rattle.gts_say.specs.Say.{Tells, SaysOnly, SaysFront}
+use Rattle.std.proofs.Common.{◌≡◌, ◌+◌, ◌<◌, ◌++◌, ℕ, length, Result, Err, Ok, sym, ap, subst, ◌∙◌, append_assoc, arith, codes}
+use Rattle.gts_missing.specs.Cited.{Failed, Outside, SaysFront, SaysOnly, Tells, on, report, said_from, said_of}
 use Rattle.gts_say.proofs.SayLemmas.{front_more}
-use Rattle.gts_missing.specs.Saying.{said_of, said_from, report}
 use Rattle.gts_missing.proofs.SayingLemmas.{said_more_of, said_split, tells_behind, front_told}
 use Rattle.gts_missing.proofs.reporting.say_report.Goals as goal
 

@@ -1,8 +1,5 @@
 use Rattle.std.proofs.Common.{◌≡◌, ◌≤◌, ◌<◌, ℕ, List, length}
-use Rattle.gts_say.specs.Say.{SaysOnly}
-use Rattle.gts_gap.specs.Numbers.{Numbered}
-use Rattle.gts_gap.specs.Ring.{StandsAt}
-use Rattle.gts_missing.specs.Saying.{said_from}
+use Rattle.gts_missing.specs.Cited.{Numbered, SaysOnly, StandsAt, said_from}
 use Rattle.gts_missing.proofs.reporting.say_report.Given as goal
 
 -- what is missing on the circuits before this one was said

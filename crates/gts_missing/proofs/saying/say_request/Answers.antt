@@ -1,10 +1,5 @@
 use Rattle.std.proofs.Common.{◌+◌, ◌++◌, List, ℕ, length, Result, Err, Ok, sym, subst, ◌∙◌, arith}
-use Rattle.gts_message.specs.Message.{message_end}
-use Rattle.gts_traits.specs.{on}
-use Rattle.gts_traits.specs.declared.failed.Failed.{Failed}
-use Rattle.gts_say.specs.Say.{Tells, SaysOnly, SaysFront}
-use Rattle.gts_gap.specs.Asking.{ask_frame, ask_heading}
-use Rattle.gts_missing.specs.Saying.{front_text}
+use Rattle.gts_missing.specs.Cited.{Failed, SaysFront, SaysOnly, Tells, ask_frame, ask_heading, front_text, message_end, on}
 use Rattle.gts_missing.proofs.SayingLemmas.{frame_text, tells_on, front_on, front_told}
 use Rattle.gts_missing.proofs.saying.say_request.Goals as goal
 

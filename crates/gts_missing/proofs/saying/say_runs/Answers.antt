@@ -1,10 +1,5 @@
 use Rattle.std.proofs.Common.{◌≡◌, ◌∷◌, ◌++◌, List, ℕ, Result, Err, Ok, sym, ap, subst, ◌∙◌, append_assoc, arith}
-use Rattle.std.specs.List.{AllByRecursion}
-use Rattle.gts_gap.specs.Ring.{HasDigits}
-use Rattle.gts_traits.specs.{on}
-use Rattle.gts_traits.specs.declared.failed.Failed.{Failed}
-use Rattle.gts_say.specs.Say.{Tells, SaysOnly, SaysFront}
-use Rattle.gts_missing.specs.Saying.{run_line, run_lines}
+use Rattle.gts_missing.specs.Cited.{AllByRecursion, Failed, HasDigits, SaysFront, SaysOnly, Tells, on, run_line, run_lines}
 use Rattle.gts_missing.proofs.SayingLemmas.{tells_on, front_on, front_told}
 use Rattle.gts_missing.proofs.saying.say_runs.Goals as goal
 

@@ -1,9 +1,5 @@
 use Rattle.std.proofs.Common.{◌≡◌, ◌≤◌, ◌++◌, List, ℕ}
-use Rattle.std.specs.List.{AllByRecursion}
-use Rattle.gts_traits.specs.{on}
-use Rattle.gts_say.specs.Say.{SaysOnly}
-use Rattle.gts_gap.specs.Ring.{HasDigits}
-use Rattle.gts_missing.specs.Saying.{run_lines}
+use Rattle.gts_missing.specs.Cited.{AllByRecursion, HasDigits, SaysOnly, on, run_lines}
 use Rattle.gts_missing.proofs.saying.say_runs.Given as goal
 
 -- the lines of the runs before those that are left were said

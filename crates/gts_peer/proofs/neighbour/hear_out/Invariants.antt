@@ -1,5 +1,5 @@
 use Rattle.std.proofs.Common.{◌≡◌}
-use Rattle.gts_traits.specs.{IsFront}
+use Rattle.gts_traits.specs.Cited.{IsFront}
 use Rattle.gts_peer.proofs.neighbour.hear_out.Given as goal
 
 -- what was kept before stands in front, and no write has failed

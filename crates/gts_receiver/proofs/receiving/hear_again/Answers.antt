@@ -1,7 +1,5 @@
 use Rattle.std.proofs.Common.{◌≡◌, true, sym, ◌∙◌, subst}
-use Rattle.gts_event.specs.declared.event.Event.TheVariants.{Heard}
-use Rattle.gts_desk.specs.Desks.{Seen, Answers, SaysNoMore}
-use Rattle.gts_receiver.specs.Service.{is_wanting}
+use Rattle.gts_receiver.specs.Cited.{Answers, Heard, SaysNoMore, Seen, is_wanting}
 use Rattle.gts_receiver.proofs.SettledLemmas.{again, answers_go, one_more}
 use Rattle.gts_receiver.proofs.receiving.hear_again.Goals as goal
 

@@ -1,8 +1,5 @@
 use Rattle.std.proofs.Common.{◌≡◌, ◌-◌, ◌≤◌, true, Err}
-use Rattle.gts_desk.specs.Desks.{Seen}
-use Rattle.gts_event.specs.declared.event.Event.TheVariants.{Heard}
-use Rattle.gts_receiver.specs.declared.limits.TheConstants.{MOST_TRIES}
-use Rattle.gts_receiver.specs.Service.{is_wanting, Hears}
+use Rattle.gts_receiver.specs.Cited.{Heard, Hears, MOST_TRIES, Seen, is_wanting}
 use Rattle.gts_receiver.proofs.receiving.hear_again.Given as goal
 
 -- whatever became of it before, it was tried again

@@ -1,10 +1,5 @@
 use Rattle.std.proofs.Common.{◌≡◌, ℕ, true, false, subst, rules}
-use Rattle.gts_event.specs.Items.{need_of}
-use Rattle.gts_record.specs.declared.version.Version.{Version}
-use Rattle.gts_record.specs.Format.{held}
-use Rattle.gts_checkpoint.specs.Reading.{bytes_from, HasRead, CanBegin, IsDamage}
-use Rattle.gts_journal.specs.{is_at_checkpoint}
-use Rattle.gts_recovery.specs.Reading.{opened_by, IsFaultIn}
+use Rattle.gts_recovery.specs.Cited.{CanBegin, HasRead, IsDamage, IsFaultIn, Version, bytes_from, held, is_at_checkpoint, need_of, opened_by}
 use Rattle.gts_recovery.proofs.ReadingLemmas.{passed_on}
 use Rattle.gts_recovery.proofs.OpenLemmas.{start_reading, checkpoint_reading, checkpoint_fault}
 use Rattle.gts_recovery.proofs.opening.begin.Goals as goal

@@ -1,11 +1,6 @@
 use Rattle.std.proofs.Common.{◌≡◌, true, List, ℕ, None, subst, ap, ◌∙◌, arith}
-use Rattle.gts_record.specs.declared.version.Version.{Version}
-use Rattle.gts_record.specs.Format.{first_seal}
-use Rattle.gts_traits.specs.Station.{seen}
-use Rattle.gts_journal.specs.{fault_sought, version_of, selected_bytes, IsFaultOf}
+use Rattle.gts_recovery.specs.Cited.{IsAnswer, IsFaultOf, Version, fault_sought, first_seal, opens_in, seen, selected_bytes, version_of}
 use Rattle.gts_recovery.proofs.EitherLemmas.{not_older}
-use Rattle.gts_opening.specs.Journal.{opens_in}
-use Rattle.gts_recovery.specs.Opened.{IsAnswer}
 use Rattle.gts_recovery.proofs.ReadingLemmas.{passed_on}
 use Rattle.gts_recovery.proofs.OpenLemmas.{header_answer, started, opened_any, records_answer, same_opened}
 use Rattle.gts_recovery.proofs.opening.open_core_any.Goals as goal

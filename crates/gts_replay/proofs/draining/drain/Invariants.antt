@@ -1,6 +1,5 @@
 use Rattle.std.proofs.Common.{◌≡◌, ◌-◌, ◌^◌, ◌≤◌, ℕ, List}
-use Rattle.gts_event.specs.declared.event.Entry.{Entry}
-use Rattle.gts_replay.specs.Going.{StandsFor}
+use Rattle.gts_replay.specs.Cited.{Entry, StandsFor}
 use Rattle.gts_replay.proofs.DrainLemmas.{Drained}
 use Rattle.gts_replay.proofs.draining.drain.Given as goal
 

@@ -1,16 +1,8 @@
-use Rattle.std.proofs.Common.{◌≡◌, ◌++◌, ℕ, List, [], take, length, Result, Ok, Err, OnOk, refl, ap, subst, ◌∙◌, arith}
-use Rattle.std.specs.Prelude.{is_err}
+use Rattle.std.proofs.Common.{◌≡◌, ◌++◌, ℕ, List, [], take, length, Result, Ok, Err, OnOk, refl, ap, subst, ◌∙◌, arith, is_err}
 use Rattle.std.proofs.lemmas.List.{length-take-le}
 use Rattle.std.proofs.lemmas.Result.{IfOk-at_ok, err_from_is_err_and}
-use Rattle.gts_event.specs.Drain.{all_done}
-use Rattle.gts_event.specs.declared.fault.SwitchFault.{SwitchFault}
-use Rattle.gts_frame.specs.Signs.{held_in}
-use Rattle.gts_connection.specs.Connection.{events_added}
-use Rattle.gts_capture.specs.declared.capture_fault.CaptureFault.{CaptureFault}
-use Rattle.gts_capture.specs.declared.capture_fault.CaptureFault.TheVariants.{Bad, SourceFault}
+use Rattle.gts_replay.specs.Cited.{Bad, CaptureFault, Feeds, Goes, SourceFault, SwitchFault, all_done, events_added, held_in}
 use Rattle.gts_replay.specs.declared.fault.StepFault.TheVariants as step
-use Rattle.gts_replay.specs.Going.{Goes}
-use Rattle.gts_replay.specs.Ending.{Feeds}
 use Rattle.gts_replay.proofs.GoingLemmas.{mapped_ok, mapped_err}
 use Rattle.gts_replay.proofs.FeedingLemmas.{fed_none, fed_piece, breaks_piece}
 use Rattle.gts_replay.proofs.StepLemmas.{takes_none, takes_more, takes_end, takes_stop, takes_at_most}

@@ -1,6 +1,5 @@
 use Rattle.std.proofs.Common.{◌≡◌, ◌≤◌, ℕ, List}
-use Rattle.gts_replay.specs.Going.{IsFed}
-use Rattle.gts_replay.specs.Ending.{Takes}
+use Rattle.gts_replay.specs.Cited.{IsFed, Takes}
 use Rattle.gts_replay.proofs.feeding.feed.Given as goal
 
 -- the bytes so far were taken and dealt with

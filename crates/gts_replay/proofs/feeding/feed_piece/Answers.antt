@@ -1,15 +1,8 @@
 use Rattle.std.proofs.Common.{◌≡◌, ◌++◌, ℕ, List, [], take, drop, Result, Ok, Err, refl, sym, ap, subst, ◌∙◌, arith}
 use Rattle.std.proofs.lemmas.List.{append_assoc, take-append-drop}
 use Rattle.std.proofs.lemmas.Result.{err_from_is_err_and}
-use Rattle.gts_event.specs.Drain.{all_done}
-use Rattle.gts_event.specs.declared.event.Entry.{Entry}
-use Rattle.gts_event.specs.declared.fault.SwitchFault.{SwitchFault}
-use Rattle.gts_frame.specs.Signs.{held_in}
-use Rattle.gts_connection.specs.Connection.{events_added}
-use Rattle.gts_calls.specs.{Stands}
-use Rattle.gts_feed.specs.Fed.{answer_of}
+use Rattle.gts_replay.specs.Cited.{BreaksOff, Goes, SwitchFault, all_done, answer_of, events_added}
 use Rattle.gts_feed.proofs.FedLemmas.{goes_of}
-use Rattle.gts_replay.specs.Going.{BreaksOff, Goes}
 use Rattle.gts_replay.proofs.FeedingLemmas.{fed_none, fed_piece, breaks_rest, slice_from}
 use Rattle.gts_replay.proofs.feeding.feed_piece.Goals as goal
 

@@ -1,10 +1,5 @@
 use Rattle.std.proofs.Common.{List, sym, ap, subst, ◌∙◌}
-use Rattle.gts_connection.specs.Capture.{no_bytes}
-use Rattle.gts_connection.specs.declared.kind.CaptureKind.{CaptureKind}
-use Rattle.gts_capture.specs.Held.{Held}
-use Rattle.gts_frame.specs.Decoder.{Decoding}
-use Rattle.gts_replay.specs.Going.{Decode}
-use Rattle.gts_replay.specs.Replay.{Ends}
+use Rattle.gts_replay.specs.Cited.{CaptureKind, Decode, Decoding, Ends, Held, no_bytes}
 use Rattle.gts_replay.proofs.DecoderLemmas.{decode_fresh}
 use Rattle.gts_replay.proofs.EndLemmas.{ends_unmade}
 use Rattle.gts_replay.proofs.CauseLemmas.{caused_settled}

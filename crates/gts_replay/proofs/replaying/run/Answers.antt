@@ -1,14 +1,8 @@
 use Rattle.std.proofs.Common.{◌≡◌, ◌+◌, ◌≤◌, ℕ, List, [], ◌∷◌, ◌++◌, length, Result, Err, refl, sym, ap, subst, ◌∙◌, arith, length-append}
-use Rattle.gts_capture.specs.{head_of, line_of}
-use Rattle.gts_capture.specs.declared.capture_fault.CaptureFault.{CaptureFault}
-use Rattle.gts_capture.specs.declared.capture_fault.CaptureFault.TheVariants.{Bad, SourceFault}
+use Rattle.gts_replay.specs.Cited.{Bad, CaptureFault, DoesStep, End, Ends, HasReplayCause, ReplayEnd, SettlesBehind, SourceFault, StepFault, end_of, line_of}
+use Rattle.gts_capture.specs.Heads.{head_of}
 use Rattle.gts_capture.specs.declared.head.Head.{Head}
-use Rattle.gts_capture.specs.declared.head.Head.TheVariants.{End}
-use Rattle.gts_replay.specs.declared.end.ReplayEnd.{ReplayEnd}
-use Rattle.gts_replay.specs.declared.fault.StepFault.{StepFault}
 use Rattle.gts_replay.specs.declared.fault.StepFault.TheVariants as step
-use Rattle.gts_replay.specs.Replay.{Ends, HasReplayCause}
-use Rattle.gts_replay.specs.Ending.{end_of, DoesStep, SettlesBehind}
 use Rattle.gts_replay.proofs.RunLemmas.{ReadsHead, runs_none, runs_more}
 use Rattle.gts_replay.proofs.EndLemmas.{ends_done, ends_bad, ends_source, ends_never, ends_step}
 use Rattle.gts_replay.proofs.CauseLemmas.{caused_step}

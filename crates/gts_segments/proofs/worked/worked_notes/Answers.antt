@@ -1,7 +1,5 @@
 use Rattle.std.proofs.Common.{refl}
-use Rattle.gts_alphabet.specs.Digits.{dec}
-use Rattle.gts_heading.specs.Heading.{heading_text}
-use Rattle.gts_segments.specs.Segments.{passing}
+use Rattle.gts_segments.specs.Cited.{dec, heading_text, passing}
 use Rattle.gts_segments.proofs.worked.worked_notes.Goals as goal
 
 pub returns-clause-first : goal.returns-clause-first

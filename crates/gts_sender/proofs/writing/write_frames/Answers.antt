@@ -1,7 +1,6 @@
 use Rattle.std.proofs.Common.{◌≡◌, ℕ, ◌+◌, ◌<◌, ◌++◌, [], List, length, take, refl, sym, ap, ◌∙◌, arith, append_assoc}
 use Rattle.std.proofs.lemmas.List.{append-nil}
-use Rattle.gts_desk.specs.Given.{Frame, frames_of}
-use Rattle.gts_sender.specs.Sender.{texts}
+use Rattle.gts_sender.specs.Cited.{Frame, frames_of, texts}
 use Rattle.gts_sender.proofs.WritingLemmas.{there, one_more, all_of, up_to, front_of}
 use Rattle.gts_sender.proofs.writing.write_frames.Goals as goal
 

@@ -1,6 +1,5 @@
 use Rattle.std.proofs.Common.{◌≡◌, ℕ, ◌++◌, List, take}
-use Rattle.gts_desk.specs.Given.{frames_of, sizes_of}
-use Rattle.gts_sender.specs.Sender.{texts}
+use Rattle.gts_sender.specs.Cited.{frames_of, sizes_of, texts}
 use Rattle.gts_sender.proofs.writing.write_frames.Given as goal
 
 -- the frames before this one were written

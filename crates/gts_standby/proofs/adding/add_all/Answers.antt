@@ -1,6 +1,5 @@
 use Rattle.std.proofs.Common.{[], refl, sym, subst, ◌∙◌, arith}
-use Rattle.gts_standby.specs.declared.gathering.Gathering.{Gathering}
-use Rattle.gts_standby.specs.Gathering.{IsGathered}
+use Rattle.gts_standby.specs.Cited.{Gathering, IsGathered}
 use Rattle.gts_standby.proofs.AddLemmas.{holds_of}
 use Rattle.gts_standby.proofs.GatherLemmas.{gathered_of, can_gather, gathered_one, gate_stays, gate_grows, has_room, began}
 use Rattle.gts_standby.proofs.GoneLemmas.{begun_there, room_made, one_more, disk_failed, finished, none_added}

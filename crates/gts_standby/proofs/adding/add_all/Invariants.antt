@@ -1,12 +1,6 @@
 use Rattle.std.proofs.Common.{◌≡◌, ◌+◌, ◌-◌, ◌^◌, ◌≤◌, ℕ, List, length}
-use Rattle.gts_traits.specs.{said_by}
-use Rattle.gts_event.specs.State.{State}
-use Rattle.gts_record.specs.Format.{written}
+use Rattle.gts_standby.specs.Cited.{HasRead, HoldsAt, IsGathering, IsWhole, State, gate_behind, said_by, written}
 use Rattle.gts_standby.specs.Taking as feeds
-use Rattle.gts_standby.specs.Reading.{HasRead}
-use Rattle.gts_standby.specs.Adding.{HoldsAt}
-use Rattle.gts_standby.specs.Gathering.{gate_behind, IsGathering}
-use Rattle.gts_standby.specs.Whole.{IsWhole}
 use Rattle.gts_standby.proofs.GoneLemmas.{HasGone}
 use Rattle.gts_standby.proofs.adding.add_all.Given as goal
 

@@ -1,21 +1,12 @@
 use Rattle.std.proofs.Common.{◌≡◌, ◌-◌, ◌^◌, ◌<◌, ◌≤◌, ℕ, List, length, take, drop, refl, sym, ap, subst, ◌∙◌, arith}
 use Rattle.std.proofs.lemmas.List.{length-take}
-use Rattle.gts_event.specs.Items.{need_of}
-use Rattle.gts_event.specs.Need.{begun}
-use Rattle.gts_record.specs.declared.version.Version.{Version}
-use Rattle.gts_record.specs.Format.{held, seal_size, written}
-use Rattle.gts_checkpoint.specs.{IsCheckpoint}
-use Rattle.gts_standby.specs.Ahead.{InFeed}
+use Rattle.gts_standby.specs.Cited.{BeforeIt, HasRead, InFeed, IsCheckpoint, IsWhole, NoMemory, Version, WithinIt, begun, held, need_of, seal_size, written}
 use Rattle.gts_standby.specs.Taking as feeds
-use Rattle.gts_standby.specs.Reading.{HasRead}
-use Rattle.gts_standby.specs.Beginning.{WithinIt, BeforeIt}
-use Rattle.gts_standby.specs.declared.end.FollowEnd.TheVariants.{NoMemory}
 use Rattle.gts_standby.proofs.ExitLemmas.{returned}
 use Rattle.gts_standby.proofs.HeaderLemmas.{passed}
 use Rattle.gts_recovery.proofs.LawLemmas.{kept_begun}
 use Rattle.gts_standby.proofs.PutLemmas.{put_ends, put_adds, put_no_source, found_there, none_found, piece_of, begun_so, begins_with, none_begins}
 use Rattle.gts_standby.proofs.WholeLemmas.{whole_read, stops_all, put_all}
-use Rattle.gts_standby.specs.Whole.{IsWhole}
 use Rattle.gts_standby.proofs.beginning.begin.Goals as goal
 
 pub returns-in_default-clause-begun : goal.returns-in_default-clause-begun

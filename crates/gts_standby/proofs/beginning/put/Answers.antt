@@ -1,11 +1,5 @@
 use Rattle.std.proofs.Common.{rules, ◌≡◌, ◌+◌, ◌-◌, ◌^◌, ◌<◌, ◌≤◌, ℕ, List, length, sym, ap, subst, ◌∙◌, arith}
-use Rattle.gts_event.specs.Items.{need_of}
-use Rattle.gts_event.specs.Need.{begun}
-use Rattle.gts_record.specs.Format.{held, seal_size, written}
-use Rattle.gts_opening.specs.Journal.{compacted_bytes}
-use Rattle.gts_checkpoint.specs.Alone.{WorksBeside}
-use Rattle.gts_checkpoint.specs.Writing.{HasWritten, need_seal}
-use Rattle.gts_journal.specs.{HoldsState}
+use Rattle.gts_standby.specs.Cited.{HasWritten, HoldsState, WorksBeside, begun, compacted_bytes, held, need_of, need_seal, seal_size, written}
 use Rattle.gts_checkpoint.proofs.LawLemmas.{fit_bytes}
 use Rattle.gts_recovery.proofs.LawLemmas.{closed_there, still_stands}
 use Rattle.gts_standby.proofs.BeginLemmas.{still_stands_for, holds_begun, begun_stands, all_moments}

@@ -1,13 +1,5 @@
 use Rattle.std.proofs.Common.{◌≡◌, ◌+◌, ℕ, List, drop, sym, ap, subst, ◌∙◌}
-use Rattle.gts_journal.specs.{first_fault}
-use Rattle.gts_traits.specs.{seen}
-use Rattle.gts_standby.specs.Shipping.{IsAtFirst}
-use Rattle.gts_record.specs.declared.version.Version.{Version}
-use Rattle.gts_record.specs.Format.{first_seal, written}
-use Rattle.gts_journal.specs.{file_of}
-use Rattle.gts_standby.specs.Taking.{Taken, compare_all, compare_first}
-use Rattle.gts_standby.specs.Following.{open_end, own_seals}
-use Rattle.gts_standby.specs.Reading.{StopsAs}
+use Rattle.gts_standby.specs.Cited.{IsAtFirst, StopsAs, Taken, Version, compare_all, compare_first, file_of, first_fault, first_seal, open_end, own_seals, seen, written}
 use Rattle.gts_standby.proofs.ExitLemmas.{returned}
 use Rattle.gts_standby.proofs.FirstLemmas.{at_start, no_header_fault}
 use Rattle.gts_standby.proofs.CompareLemmas.{device_start, device_stops, compares_same, same_seals}

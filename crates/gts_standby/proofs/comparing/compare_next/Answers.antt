@@ -1,14 +1,9 @@
 use Rattle.std.proofs.Common.{rules, ◌≡◌, true, false, nat_eq, drop, sym, subst}
-use Rattle.std.specs.Cmp.Lexicographic.{pointwise}
-use Rattle.gts_record.specs.Format.{held}
-use Rattle.gts_standby.specs.Ahead.{InFeed}
-use Rattle.gts_standby.specs.Reading.{HasRead}
+use Rattle.gts_standby.specs.Cited.{Ends, HasRead, InFeed, IsWhole, held, pointwise, stopped}
 use Rattle.gts_standby.proofs.ExitLemmas.{returned}
 use Rattle.gts_standby.proofs.HeaderLemmas.{passed}
 use Rattle.gts_standby.proofs.CompareLemmas.{compare_on, compare_off, diverged, device_stops, stops_at, piece_so, same_so, own_so, fed_so}
 use Rattle.gts_standby.proofs.WholeLemmas.{whole_read, stops_all, own_all}
-use Rattle.gts_standby.specs.Whole.{IsWhole}
-use Rattle.gts_standby.specs.Taking.{Ends, stopped}
 use Rattle.gts_standby.proofs.NamedLemmas.{named_fed}
 use Rattle.gts_standby.proofs.OtherLemmas.{fed_other, own_other, later_other}
 use Rattle.gts_standby.proofs.comparing.compare_next.Goals as goal

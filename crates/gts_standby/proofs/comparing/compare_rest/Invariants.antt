@@ -1,10 +1,5 @@
 use Rattle.std.proofs.Common.{◌≡◌, ◌+◌, ◌-◌, ◌*◌, ◌^◌, ◌≤◌, ℕ, false, List}
-use Rattle.gts_directory.specs.Directory.{Directory}
-use Rattle.gts_journal.specs.{StandsOn}
-use Rattle.gts_standby.specs.Taking.{compare_all}
-use Rattle.gts_standby.specs.Reading.{HasRead}
-use Rattle.gts_standby.specs.Comparing.{IsAtSeals}
-use Rattle.gts_standby.specs.Whole.{IsWhole}
+use Rattle.gts_standby.specs.Cited.{Directory, HasRead, IsAtSeals, IsWhole, StandsOn, compare_all}
 use Rattle.gts_standby.proofs.CompareLemmas.{HasGoneFar}
 use Rattle.gts_standby.proofs.comparing.compare_rest.Given as goal
 

@@ -1,11 +1,6 @@
 use Rattle.std.proofs.Common.{rules, ◌≡◌, ◌+◌, ℕ, true, false, drop, ap, subst, ◌∙◌, arith}
-use Rattle.gts_event.specs.Items.{need_of}
-use Rattle.gts_record.specs.declared.version.Version.{Version}
-use Rattle.gts_record.specs.Format.{held}
-use Rattle.gts_opening.specs.Journal.{compacted_bytes}
-use Rattle.gts_checkpoint.specs.Reading.{bytes_from, HasRead, IsDamage}
-use Rattle.gts_journal.specs.{file_of, is_at_checkpoint}
-use Rattle.gts_standby.specs.Following.{open_end}
+use Rattle.gts_standby.specs.Cited.{IsDamage, Version, bytes_from, compacted_bytes, file_of, held, is_at_checkpoint, need_of, open_end}
+use Rattle.gts_checkpoint.specs.Reading.{HasRead}
 use Rattle.gts_standby.proofs.ExitLemmas.{returned}
 use Rattle.gts_standby.proofs.FirstLemmas.{no_damage}
 use Rattle.gts_standby.proofs.CompareLemmas.{device_read, first_leads, behind_first}

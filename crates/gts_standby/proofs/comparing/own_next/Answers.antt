@@ -1,9 +1,6 @@
-use Rattle.std.proofs.Common.{◌≡◌, Option, Some, Ok, ap, ◌∙◌}
-use Rattle.std.specs.Prelude.{option_map}
-use Rattle.gts_record.specs.Value.{record_of}
+use Rattle.std.proofs.Common.{◌≡◌, Option, Some, Ok, ap, ◌∙◌, option_map}
+use Rattle.gts_standby.specs.Cited.{file_of, next_entry, open_end, record_of}
 use Rattle.gts_record.specs.declared.value.Record.{Record}
-use Rattle.gts_journal.specs.{file_of, next_entry}
-use Rattle.gts_standby.specs.Following.{open_end}
 use Rattle.gts_standby.proofs.ExitLemmas.{returned}
 use Rattle.gts_standby.proofs.FeedLemmas.{no_end, no_fault}
 use Rattle.gts_standby.proofs.ShipLemmas.{gone_on}

@@ -1,6 +1,5 @@
 use Rattle.std.proofs.Common.{◌≡◌, Some, None, sym, ap, ◌∙◌}
-use Rattle.gts_record.specs.Value.{record_of}
-use Rattle.gts_record.specs.Format.{held, sealed_at}
+use Rattle.gts_standby.specs.Cited.{held, record_of, sealed_at}
 use Rattle.gts_standby.proofs.FedLemmas.{found_piece, no_piece, found_fits_there, looked_no_fault, at_end}
 use Rattle.gts_standby.proofs.fed.fed_record.Goals as goal
 

@@ -1,13 +1,8 @@
 use Rattle.std.proofs.Common.{refl, drop, sym, subst}
-use Rattle.gts_standby.specs.Ahead.{InFeed}
-use Rattle.gts_standby.specs.Taking.{Ends, stopped}
-use Rattle.gts_standby.specs.Following.{IsEnd}
-use Rattle.gts_standby.specs.Reading.{HasRead, ReadsAll}
+use Rattle.gts_standby.specs.Cited.{Ends, FollowEnd, HasRead, InFeed, IsEnd, IsNamedEnd, ReadsAll, stopped}
 use Rattle.gts_standby.proofs.AddLemmas.{holds_of}
 use Rattle.gts_standby.proofs.TakeLemmas.{all_unread, behind_taken, header_taken, answers_there, added_there, reads_after_there, moments_there, done_stops, open_alone, open_no_end, taken_alone, fed_alone}
-use Rattle.gts_standby.specs.declared.end.FollowEnd.{FollowEnd}
 use Rattle.gts_standby.proofs.NamedLemmas.{named_open, named_fed}
-use Rattle.gts_standby.specs.Whole.{IsNamedEnd}
 use Rattle.gts_standby.proofs.following.take_feed.Goals as goal
 
 pub returns-in-Ok-take_header-clause-answer : goal.returns-in-Ok-take_header-clause-answer

@@ -1,9 +1,5 @@
 use Rattle.std.proofs.Common.{◌≡◌, ◌-◌, ◌<◌, ◌^◌, ℕ, List, take, sym, ap, subst, ◌∙◌, arith}
-use Rattle.gts_event.specs.Items.{need_of}
-use Rattle.gts_record.specs.declared.version.Version.{Version}
-use Rattle.gts_record.specs.Format.{held, seal_size, written}
-use Rattle.gts_checkpoint.specs.{IsCheckpoint}
-use Rattle.gts_standby.specs.Ahead.{InFeed}
+use Rattle.gts_standby.specs.Cited.{InFeed, IsCheckpoint, Version, held, need_of, seal_size, written}
 use Rattle.gts_standby.specs.Taking as feeds
 use Rattle.gts_standby.proofs.PutLemmas.{piece_of, found_there, none_found, none_begins, begins_with}
 use Rattle.gts_standby.proofs.FurtherLemmas.{none_further, some_further}

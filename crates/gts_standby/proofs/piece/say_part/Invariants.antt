@@ -1,6 +1,5 @@
 use Rattle.std.proofs.Common.{◌-◌, ◌≤◌, take, drop}
-use Rattle.gts_traits.specs.{seen}
-use Rattle.gts_standby.specs.Shipping.{SaysHere}
+use Rattle.gts_standby.specs.Cited.{SaysHere, seen}
 use Rattle.gts_standby.proofs.piece.say_part.Given as goal
 
 -- the bytes up to a place were said

@@ -1,11 +1,6 @@
-use Rattle.std.proofs.Common.{◌≡◌, ◌+◌, ◌-◌, ℕ, Bool, cond, List, Option, Some, Ok, length, take, drop, sym, ap, subst, ◌∙◌, arith}
-use Rattle.std.specs.Prelude.{option_map}
-use Rattle.gts_traits.specs.{Call, on, seen}
-use Rattle.gts_say.specs.Say.{SaysFront}
-use Rattle.gts_record.specs.Value.{record_of}
+use Rattle.std.proofs.Common.{◌≡◌, ◌+◌, ◌-◌, ℕ, Bool, cond, List, Option, Some, Ok, length, take, drop, sym, ap, subst, ◌∙◌, arith, option_map}
+use Rattle.gts_standby.specs.Cited.{Call, SaysFront, Speaks, file_of, next_entry, on, record_of, seen, ship_fault}
 use Rattle.gts_record.specs.declared.value.Record.{Record}
-use Rattle.gts_journal.specs.{file_of, next_entry}
-use Rattle.gts_standby.specs.Shipping.{ship_fault, Speaks}
 use Rattle.gts_standby.proofs.ExitLemmas.{returned}
 use Rattle.gts_standby.proofs.SayLemmas.{fronts_none}
 use Rattle.gts_standby.proofs.FeedLemmas.{no_end, no_fault, record_stands}

@@ -1,7 +1,5 @@
 use Rattle.std.proofs.Common.{◌≡◌, ◌-◌, ◌≤◌, ℕ, false, List}
-use Rattle.gts_directory.specs.Directory.{Directory}
-use Rattle.gts_journal.specs.{StandsOn}
-use Rattle.gts_standby.specs.Shipping.{IsAtGate, GoesOnBehind}
+use Rattle.gts_standby.specs.Cited.{Directory, GoesOnBehind, IsAtGate, StandsOn}
 use Rattle.gts_standby.proofs.records.say_records.Given as goal
 
 -- the records up to a gate were said

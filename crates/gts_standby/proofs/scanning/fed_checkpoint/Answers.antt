@@ -1,7 +1,5 @@
 use Rattle.std.proofs.Common.{rules, ◌≡◌, ◌⊎◌, ◌+◌, ◌≤◌, ℕ, true, false, nat_eq, List, length, take, drop, refl, sym, ap, subst, ◌∙◌, arith}
-use Rattle.std.specs.List.{starts_with}
-use Rattle.gts_record.specs.Format.{held, seal, seal_size}
-use Rattle.gts_standby.specs.Ahead.{InFeed}
+use Rattle.gts_standby.specs.Cited.{InFeed, held, seal, seal_size, starts_with}
 use Rattle.gts_standby.specs.Taking as feeds
 use Rattle.gts_standby.proofs.ScanLemmas.{finds_err, scan_stops, seal_cut, sealed_piece}
 use Rattle.gts_standby.proofs.scanning.fed_checkpoint.Goals as goal

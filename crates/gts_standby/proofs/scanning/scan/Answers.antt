@@ -1,5 +1,4 @@
-use Rattle.std.proofs.Common.{◌≡◌, ℕ, Bool, true, false, cond, List, refl, sym, ap, ◌∙◌}
-use Rattle.std.specs.Prelude.{codes, nat_eq, replicate, ◌++◌}
+use Rattle.std.proofs.Common.{◌≡◌, ℕ, Bool, true, false, cond, List, refl, sym, ap, ◌∙◌, codes, nat_eq, replicate, ◌++◌}
 use Rattle.std.specs.List.{starts_with}
 use Rattle.gts_standby.specs.Taking as feeds
 use Rattle.gts_standby.proofs.ScanLemmas.{or_else_read, reaches_same}

@@ -1,13 +1,6 @@
 use Rattle.std.proofs.Common.{rules, ◌≡◌, ◌+◌, ◌-◌, ℕ, true, false, List, length, take, drop, sym, ap, subst, ◌∙◌, arith}
-use Rattle.gts_traits.specs.{Call, on, seen}
-use Rattle.gts_say.specs.Say.{SaysFront}
-use Rattle.gts_event.specs.Items.{need_of}
-use Rattle.gts_record.specs.declared.version.Version.{Version}
-use Rattle.gts_record.specs.Format.{held}
-use Rattle.gts_opening.specs.Journal.{compacted_bytes}
-use Rattle.gts_checkpoint.specs.Reading.{bytes_from, HasRead, IsDamage}
-use Rattle.gts_journal.specs.{file_of, is_at_checkpoint}
-use Rattle.gts_standby.specs.Shipping.{ship_fault, SaysHere, behind_header}
+use Rattle.gts_standby.specs.Cited.{Call, IsDamage, SaysFront, SaysHere, Version, behind_header, bytes_from, compacted_bytes, file_of, held, is_at_checkpoint, need_of, on, seen, ship_fault}
+use Rattle.gts_checkpoint.specs.Reading.{HasRead}
 use Rattle.gts_standby.proofs.ExitLemmas.{returned}
 use Rattle.gts_standby.proofs.SayLemmas.{fronts_none}
 use Rattle.gts_standby.proofs.ShipLemmas.{named_opening, nothing_yet}

@@ -1,6 +1,5 @@
 use Rattle.std.proofs.Common.{ℕ, take, subst}
-use Rattle.gts_traits.specs.{seen}
-use Rattle.gts_standby.specs.Shipping.{SaysHere}
+use Rattle.gts_standby.specs.Cited.{SaysHere, seen}
 use Rattle.gts_standby.proofs.ExitLemmas.{returned}
 use Rattle.gts_standby.proofs.FirstLemmas.{first_later, said_feed, broken_feed}
 use Rattle.gts_standby.proofs.shipping.say_feed.Goals as goal

@@ -1,7 +1,5 @@
 use Rattle.std.proofs.Common.{◌≡◌, ◌+◌, ◌-◌, ℕ, Bool, cond, sym, ap, subst, ◌∙◌, arith}
-use Rattle.gts_traits.specs.{seen}
-use Rattle.gts_journal.specs.{first_fault}
-use Rattle.gts_standby.specs.Shipping.{ship_fault, IsAtFirst, feed_of}
+use Rattle.gts_standby.specs.Cited.{IsAtFirst, feed_of, first_fault, seen, ship_fault}
 use Rattle.gts_standby.proofs.ExitLemmas.{returned}
 use Rattle.gts_standby.proofs.ShipLemmas.{named_opening}
 use Rattle.gts_standby.proofs.FirstLemmas.{at_first, open_answer, ships_on, breaks_on, synced_quiet, not_started, quiet_start, no_header_fault}

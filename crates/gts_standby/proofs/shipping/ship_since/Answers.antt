@@ -1,10 +1,5 @@
 use Rattle.std.proofs.Common.{rules, ◌≡◌, ◌+◌, ◌-◌, ℕ, Bool, true, false, cond, List, Ok, sym, ap, subst, ◌∙◌, arith}
-use Rattle.gts_traits.specs.{seen}
-use Rattle.gts_event.specs.Need.{need}
-use Rattle.gts_event.specs.History.{restarted}
-use Rattle.gts_journal.specs.{first_fault}
-use Rattle.gts_standby.specs.Shipping.{ship_fault, IsAtFirst}
-use Rattle.gts_standby.specs.Since.{since_of}
+use Rattle.gts_standby.specs.Cited.{IsAtFirst, first_fault, need, restarted, seen, ship_fault, since_of}
 use Rattle.gts_standby.proofs.ExitLemmas.{returned}
 use Rattle.gts_standby.proofs.FirstLemmas.{at_first, at_opened, read_to, open_answer, opened_to, says_opened, breaks_opened, failed_quietly, synced_quiet, twice_quiet, not_started, quiet_start, no_header_fault, no_fault_where}
 use Rattle.gts_standby.proofs.SinceLemmas.{rest_since, rest_whole, looked_quietly, again_quietly, read_later}

@@ -1,8 +1,5 @@
 use Rattle.std.proofs.Common.{rules, ◌≡◌, ◌⊎◌, ◌≤◌, ◌+◌, ◌-◌, ℕ, Bool, false, cond, nat_eq, List, Option, ap, ◌∙◌, arith}
-use Rattle.std.specs.Cmp.Lexicographic.{pointwise}
-use Rattle.gts_record.specs.declared.version.Version.{Version}
-use Rattle.gts_record.specs.Format.{held}
-use Rattle.gts_standby.specs.Since.{behind_here}
+use Rattle.gts_standby.specs.Cited.{Version, behind_here, held, pointwise}
 use Rattle.gts_standby.proofs.ExitLemmas.{returned}
 use Rattle.gts_standby.proofs.SinceLemmas.{reached_one, finds_there, finds_elsewhere}
 use Rattle.gts_standby.proofs.since.look_for.Goals as goal

@@ -1,7 +1,5 @@
 use Rattle.std.proofs.Common.{◌≡◌, ◌-◌, ◌≤◌, ℕ, false, List, Option}
-use Rattle.gts_directory.specs.Directory.{Directory}
-use Rattle.gts_journal.specs.{StandsOn}
-use Rattle.gts_standby.specs.Since.{IsBefore, IsWithin}
+use Rattle.gts_standby.specs.Cited.{Directory, IsBefore, IsWithin, StandsOn}
 use Rattle.gts_standby.proofs.since.pass_records.Given as goal
 
 -- the records up to a gate were passed over

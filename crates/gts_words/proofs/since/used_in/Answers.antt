@@ -1,13 +1,9 @@
-use Rattle.std.proofs.Common.{◌≡◌, ℕ, ◌-◌, ◌≤◌, ◌+◌, true, false, List, length, take, drop, refl, sym, ap, ◌∙◌, arith, length-drop}
-use Rattle.std.specs.Char.{is_ascii_digit}
-use Rattle.std.specs.List.{list_all}
-use Rattle.std.specs.Str.Parse.{digits_value}
+use Rattle.std.proofs.Common.{◌≡◌, ℕ, ◌-◌, ◌≤◌, true, false, List, length, take, drop, refl, sym, ap, ◌∙◌, arith, length-drop}
+use Rattle.gts_words.specs.Cited.{LONGEST_USED, digits_value, is_ascii_digit, list_all, used_in}
 use Rattle.std.proofs.lemmas.List.{take_all}
-use Rattle.std.proofs.lemmas.Bool.{true≢false}
+use Rattle.std.proofs.lemmas.Bool.{true≢false, false_from_ne_true}
 use Rattle.std.proofs.lemmas.Grind.{common_steps}
-use Rattle.gts_words.specs.Commands.{used_in}
-use Rattle.gts_words.specs.declared.count.TheConstants.{LONGEST_USED}
-use Rattle.gts_words.proofs.CountLemmas.{not_true, front_fails, back_fails, both_pass}
+use Rattle.gts_words.proofs.CountLemmas.{front_fails, back_fails, both_pass}
 use Rattle.gts_words.proofs.since.used_in.Goals as goal
 
 pub returns-in_err-tens : goal.returns-in_err-tens
@@ -15,7 +11,7 @@ returns-in_err-tens c =
     let d : List ℕ = c.as_bytes-digits.result.now in
     let i : ℕ = length d - 1 in
     let off : list_all is_ascii_digit (take i d) ≡ false
-    = not_true (list_all is_ascii_digit (take i d)) (λ h. true≢false (sym (c.in_err-tens.ensures.digits.1 ((c.digits_pass_the_test.ensures (take i d)).0 h)))) in
+    = false_from_ne_true (list_all is_ascii_digit (take i d)) (λ h. true≢false (sym (c.in_err-tens.ensures.digits.1 ((c.digits_pass_the_test.ensures (take i d)).0 h)))) in
     c.from_residual.ensures ∙ sym (front_fails d i off) ∙ ap used_in c.as_bytes-digits.ensures.value
 
 pub returns-in_err-ones : goal.returns-in_err-ones
@@ -26,7 +22,7 @@ returns-in_err-ones c =
     let back : List ℕ = take (length d - i) (drop i d) in
     let back_is : back ≡ drop i d = take_all (length d - i) (drop i d) (omega (arith, length-drop i d)) in
     let failed : list_all is_ascii_digit back ≡ false
-    = not_true (list_all is_ascii_digit back) (λ h. true≢false (sym (c.in_err-ones.ensures.digits.1 ((c.digits_pass_the_test.ensures back).0 h)))) in
+    = false_from_ne_true (list_all is_ascii_digit back) (λ h. true≢false (sym (c.in_err-ones.ensures.digits.1 ((c.digits_pass_the_test.ensures back).0 h)))) in
     let off : list_all is_ascii_digit (drop i d) ≡ false = ap (list_all is_ascii_digit) (sym back_is) ∙ failed in
     c.from_residual-in_err-ones.ensures ∙ sym (back_fails d i on off) ∙ ap used_in c.as_bytes-digits.ensures.value
 

@@ -1,5 +1,4 @@
-use Rattle.gts_accum.specs.Parts.{unpacking_of}
-use Rattle.gts_accum.specs.Unpacking.{given_by}
+use Rattle.gts_accum.specs.Cited.{given_by, unpacking_of}
 use Rattle.gts_accum.proofs.PassingLemmas.{passes-then}
 use Rattle.gts_accum.proofs.parts.Parts.read.Goals as goal
 

@@ -1,11 +1,7 @@
 use Rattle.std.proofs.Common.{ℕ, List, ◌++◌, Err, refl, sym, ap, subst, ◌∙◌}
 use Rattle.std.proofs.lemmas.Option.{none-some}
-use Rattle.gts_directory.specs.TakingOver.{TakesOver}
+use Rattle.gts_app.specs.Cited.{OpenFault, ReadsDirectory, ReadsOldDirectory, TakesOver, changes, need}
 use Rattle.gts_directory.proofs.TakingOverLemmas.{none_from}
-use Rattle.gts_event.specs.Need.{need}
-use Rattle.gts_record.specs.declared.fault.OpenFault.{OpenFault}
-use Rattle.gts_changes.specs.{changes}
-use Rattle.gts_app.specs.Reading.{ReadsDirectory, ReadsOldDirectory}
 use Rattle.gts_app.proofs.TryingLemmas.{new_unread, old_unread, not_opened, reported, not_said}
 use Rattle.gts_app.proofs.commands.check.check.Goals as goal
 

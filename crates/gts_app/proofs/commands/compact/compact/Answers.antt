@@ -1,6 +1,5 @@
 use Rattle.std.proofs.Common.{sym, subst}
-use Rattle.gts_app.specs.Compact.{Compacts}
-use Rattle.gts_app.specs.declared.status.Status.{Status}
+use Rattle.gts_app.specs.Cited.{Compacts, Status}
 use Rattle.gts_app.proofs.CompactLemmas.{not_compacted, compacts}
 use Rattle.gts_app.proofs.commands.compact.compact.Goals as goal
 

@@ -1,9 +1,5 @@
 use Rattle.std.proofs.Common.{◌≡◌, ◌≤◌, length, Ok, sym, ap, subst, ◌∙◌, refl, arith}
-use Rattle.gts_count.specs.declared.counted.Counted.{Counted}
-use Rattle.gts_count.specs.Counted.{ShowsTable}
-use Rattle.gts_engine.specs.Engine.{Engine}
-use Rattle.gts_engine.specs.Switching.{switch_meanings}
-use Rattle.gts_app.specs.Opening.{Opens}
+use Rattle.gts_app.specs.Cited.{Counted, Engine, Opens, ShowsTable, switch_meanings}
 use Rattle.gts_app.proofs.TrafficLemmas.{Leaves, not_counted, without_numbers, ended, counted_so, not_told}
 use Rattle.gts_app.proofs.commands.count.count.Goals as goal
 

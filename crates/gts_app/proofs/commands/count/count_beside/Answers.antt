@@ -1,7 +1,6 @@
 use Rattle.std.proofs.Common.{IsTrue, sym, subst}
+use Rattle.gts_app.specs.Cited.{is_sound, need_of}
 use Rattle.gts_directory.specs.Directory.{Directory}
-use Rattle.gts_event.specs.Need.{is_sound}
-use Rattle.gts_event.specs.Items.{need_of}
 use Rattle.gts_app.proofs.commands.count.count_beside.Goals as goal
 
 pub counting_of-requires : goal.counting_of-requires

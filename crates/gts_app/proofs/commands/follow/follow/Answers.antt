@@ -1,8 +1,5 @@
 use Rattle.std.proofs.Common.{sym, subst}
-use Rattle.gts_app.specs.declared.status.Status.{Status}
-use Rattle.gts_app.specs.Follow.{FollowsFeed}
-use Rattle.gts_app.specs.Reading.{ReadsDirectory}
-use Rattle.gts_app.specs.Replay.{world}
+use Rattle.gts_app.specs.Cited.{FollowsFeed, ReadsDirectory, Status, world}
 use Rattle.gts_app.proofs.FollowLemmas.{unfollowed, followed, named_fault}
 use Rattle.gts_app.proofs.commands.follow.follow.Goals as goal
 

@@ -1,8 +1,5 @@
 use Rattle.std.proofs.Common.{sym, subst}
-use Rattle.gts_app.specs.declared.status.Status.{Status}
-use Rattle.gts_app.specs.Reading.{ReadsDirectory}
-use Rattle.gts_app.specs.Replay.{world}
-use Rattle.gts_app.specs.Gaps.{NamesGaps}
+use Rattle.gts_app.specs.Cited.{NamesGaps, ReadsDirectory, Status, world}
 use Rattle.gts_app.proofs.StreamLemmas.{gaps_unread, gaps_ends}
 use Rattle.gts_app.proofs.commands.gaps.gaps.Goals as goal
 

@@ -1,8 +1,5 @@
 use Rattle.std.proofs.Common.{sym, subst}
-use Rattle.gts_app.specs.declared.status.Status.{Status}
-use Rattle.gts_app.specs.Reading.{ReadsDirectory}
-use Rattle.gts_app.specs.Replay.{world}
-use Rattle.gts_app.specs.Pack.{PacksStream}
+use Rattle.gts_app.specs.Cited.{PacksStream, ReadsDirectory, Status, world}
 use Rattle.gts_app.proofs.StreamLemmas.{pack_unread, pack_ends}
 use Rattle.gts_app.proofs.commands.pack.pack.Goals as goal
 

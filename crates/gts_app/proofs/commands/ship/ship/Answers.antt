@@ -1,8 +1,5 @@
 use Rattle.std.proofs.Common.{◌≡◌, Option, None, Some, sym, subst}
-use Rattle.gts_standby.specs.declared.since.Since.{Since}
-use Rattle.gts_app.specs.declared.status.Status.{Status}
-use Rattle.gts_app.specs.Reading.{ReadsDirectory}
-use Rattle.gts_app.specs.Ship.{status_shipped, ShipsFeed}
+use Rattle.gts_app.specs.Cited.{ReadsDirectory, ShipsFeed, Since, Status, status_shipped}
 use Rattle.gts_app.proofs.ShippingLemmas.{ship_unread, ship_ends}
 use Rattle.gts_app.proofs.commands.ship.ship.Goals as goal
 

@@ -1,8 +1,6 @@
 use Rattle.std.proofs.Common.{◌≡◌, ◌<◌, ◌≤◌, Ok, length, refl, sym, ap, subst, arith}
 use Rattle.gts_directory.specs.Directory as directories
-use Rattle.gts_dirfile.specs.{directory_of_bytes}
-use Rattle.gts_app.specs.Opening.{Opens}
-use Rattle.gts_app.specs.Reading.{ReadsDirectory}
+use Rattle.gts_app.specs.Cited.{Opens, ReadsDirectory, directory_of_bytes}
 use Rattle.gts_app.proofs.UnpackLemmas.{unpacks, unaccepted, unopened, no-circuit}
 use Rattle.gts_app.proofs.commands.unpack.unpack.Goals as goal
 

@@ -1,7 +1,6 @@
 use Rattle.std.proofs.Common.{◌≡◌, ℕ, ◌+◌, ◌-◌, ◌≤◌, ◌++◌, [], List, length, ap, subst, ◌∙◌, arith}
-use Rattle.gts_capture.specs.Held.{Held, IsStop, readable_from}
+use Rattle.gts_capture.specs.Cited.{Held, IsStop, LONGEST_CAPTURE, readable_from}
 use Rattle.gts_capture.proofs.HeldLemmas.{part_is_short, stop_is_bad, end_is_bad, bad_since, same_readable}
-use Rattle.gts_connection.specs.declared.limits.TheConstants.{LONGEST_CAPTURE}
 use Rattle.gts_capture.proofs.steps.Steps.next.Goals as goal
 
 pub returns-in-Err-Bad-clause-bad : goal.returns-in-Err-Bad-clause-bad

@@ -1,6 +1,5 @@
 use Rattle.std.proofs.Common.{◌≡◌, true, take, sym, ◌∙◌}
-use Rattle.gts_connection.specs.Connection.{events_added}
-use Rattle.gts_feed.specs.Reading.{is_event}
+use Rattle.gts_circuit_tests.specs.Cited.{events_added, is_event}
 use Rattle.gts_circuit_tests.proofs.OwedDeskLemmas.{feeds}
 use Rattle.gts_circuit_tests.proofs.sender.OwedDeskDesk.feed.Goals as goal
 

@@ -1,6 +1,5 @@
 use Rattle.std.proofs.Common.{sym, subst}
-use Rattle.gts_core.specs.declared.answer.Verdict.{Verdict}
-use Rattle.gts_core.specs.Core.{Judges}
+use Rattle.gts_core.specs.Cited.{Judges, Verdict}
 use Rattle.gts_core.proofs.whole.Core.judge.Goals as goal
 
 pub returns : goal.returns

@@ -1,8 +1,5 @@
-use Rattle.std.proofs.Common.{◌≡◌, Ok, Err}
-use Rattle.std.specs.Prelude.{IfOk}
-use Rattle.gts_count.specs.Table.{table_of}
-use Rattle.gts_count.specs.Numbers.{tally_of}
-use Rattle.gts_count.specs.Counted.{ShowsTable}
+use Rattle.std.proofs.Common.{◌≡◌, Ok, Err, IfOk}
+use Rattle.gts_count.specs.Cited.{ShowsTable, table_of, tally_of}
 use Rattle.gts_count.proofs.CallLemmas.{shows}
 use Rattle.gts_count.proofs.counted.Counted.text.Goals as goal
 

@@ -1,9 +1,7 @@
 use Rattle.std.proofs.Common.{◌≡◌, ◌<◌, ℕ, List, length, set, get_or, subst, sym, ap, ◌∙◌, arith, nat_eq, false}
 use Rattle.std.proofs.lemmas.List.{get_or_default}
-use Rattle.circular_buffer.specs.Buffer.{Buffer}
+use Rattle.gts_count.specs.Cited.{Buffer, IsRing, Numbers, no_ring, with_newest, without_oldest}
 use Rattle.std.proofs.lemmas.Bool.{eqb-true, eqb-false}
-use Rattle.gts_count.specs.declared.numbers.Numbers.{Numbers}
-use Rattle.gts_count.specs.Numbers.{IsRing, no_ring, without_oldest, with_newest}
 use Rattle.gts_count.proofs.SoundLemmas.{kept_full, kept_room}
 use Rattle.gts_count.proofs.numbers.Numbers.note_drawn.Goals as goal
 use Rattle.gts_count.proofs.numbers.Numbers.note_drawn.Goals.{then-is_full, else-is_full}

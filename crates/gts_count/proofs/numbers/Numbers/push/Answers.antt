@@ -1,14 +1,8 @@
 use Rattle.std.proofs.Common.{◌≡◌, ◌<◌, ◌++◌, [], ◌∷◌, ℕ, ◌+◌, ◌-◌, List, length, map, set, get_or, subst, sym, ap, ◌∙◌, arith, drop, nat_eq}
-use Rattle.std.specs.List.{All}
-use Rattle.std.specs.Vec.{with_item}
+use Rattle.gts_count.specs.Cited.{All, Buffer, IsSmall, IsSound, Recent, Row, buffer, is_of, keep_last, with_item}
 use Rattle.std.proofs.lemmas.List.{length-set, length-append}
 use Rattle.std.proofs.lemmas.Grind.{get_or_default_zero}
 use Rattle.std.proofs.lemmas.List.Elements.{All-append}
-use Rattle.circular_buffer.specs.Buffer.{Buffer, buffer, keep_last}
-use Rattle.gts_count.specs.declared.recent.Recent.{Recent}
-use Rattle.gts_count.specs.declared.rows.Row.{Row}
-use Rattle.gts_count.specs.Tally.{is_of}
-use Rattle.gts_count.specs.Numbers.{IsSound, IsSmall}
 use Rattle.gts_count.proofs.CountLemmas.{joins}
 use Rattle.gts_count.proofs.SoundLemmas.{single, joins_came, few_of, size_of}
 use Rattle.gts_count.proofs.numbers.Numbers.push.Goals as goal

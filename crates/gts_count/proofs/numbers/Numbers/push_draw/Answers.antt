@@ -1,9 +1,6 @@
 use Rattle.std.proofs.Common.{◌≡◌, ◌<◌, ◌++◌, [], ◌∷◌, ℕ, ◌+◌, ◌-◌, List, length, drop, get_or, subst, sym, ap, ◌∙◌, arith}
-use Rattle.std.specs.Vec.{with_item}
+use Rattle.gts_count.specs.Cited.{Buffer, IsRing, IsSound, Row, buffer, keep_last, no_ring, with_item}
 use Rattle.std.proofs.lemmas.List.{get_or_default, length-append, length-map}
-use Rattle.circular_buffer.specs.Buffer.{Buffer, buffer, keep_last}
-use Rattle.gts_count.specs.declared.rows.Row.{Row}
-use Rattle.gts_count.specs.Numbers.{IsSound, IsRing, no_ring}
 use Rattle.gts_count.proofs.CountLemmas.{joins_draw}
 use Rattle.gts_count.proofs.SoundLemmas.{keys_in, ring_keys, few_draws, draws_sound}
 use Rattle.gts_count.proofs.numbers.Numbers.push_draw.Goals as goal

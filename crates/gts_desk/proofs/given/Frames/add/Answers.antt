@@ -1,8 +1,7 @@
 use Rattle.std.proofs.Common.{◌≡◌, ◌+◌, ◌-◌, ℕ, List, [], ◌∷◌, ◌++◌, length, take, drop, refl, sym, ap, subst, ◌∙◌, arith}
 use Rattle.std.proofs.Math.ListN.{set}
 use Rattle.std.proofs.lemmas.List.{with_items_is, take_more_set, length-take-le}
-use Rattle.gts_desk.specs.declared.given.Placed.{Placed}
-use Rattle.gts_desk.specs.Given.{Laid, HasRoom, frames_of, frames_in, sizes_of}
+use Rattle.gts_desk.specs.Cited.{HasRoom, Laid, Placed, frames_in, frames_of, sizes_of}
 use Rattle.gts_desk.specs.contracts.given.Frames.{the_view}
 use Rattle.gts_desk.proofs.GivenLemmas.{frames_more, put_behind}
 use Rattle.gts_desk.proofs.given.Frames.add.Goals as goal

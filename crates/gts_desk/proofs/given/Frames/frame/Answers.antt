@@ -1,10 +1,7 @@
-use Rattle.std.proofs.Common.{◌≡◌, ◌+◌, ◌-◌, ◌<◌, ◌≤◌, ℕ, suc, List, [], length, take, drop, Some, sym, ap, subst, ◌∙◌, arith}
-use Rattle.std.specs.Prelude.{slice_get}
-use Rattle.std.specs.List.{slice_index_or}
+use Rattle.std.proofs.Common.{◌≡◌, ◌+◌, ◌-◌, ◌<◌, ◌≤◌, ℕ, suc, List, [], length, take, drop, Some, sym, ap, subst, ◌∙◌, arith, slice_get}
+use Rattle.gts_desk.specs.Cited.{Frame, Laid, Placed, frames_of, no_frame, sizes_of, slice_index_or}
 use Rattle.std.proofs.lemmas.List.{get_or-take, length-take-le}
 use Rattle.std.proofs.lemmas.Option.{slice_get-get_or}
-use Rattle.gts_desk.specs.declared.given.Placed.{Placed}
-use Rattle.gts_desk.specs.Given.{Frame, Laid, frames_of, sizes_of, no_frame}
 use Rattle.gts_desk.proofs.GivenLemmas.{frame_at, sizes_next, sizes_within, within_front}
 use Rattle.gts_desk.proofs.given.Frames.frame.Goals as goal
 

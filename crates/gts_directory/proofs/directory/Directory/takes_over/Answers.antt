@@ -1,8 +1,6 @@
 use Rattle.std.proofs.Common.{◌≡◌, refl, sym, ◌∙◌, ap}
 use Rattle.std.proofs.lemmas.Option.{none-some}
-use Rattle.gts_directory.specs.Directory.{Directory}
-use Rattle.gts_directory.specs.TakingOver.{first_change}
-use Rattle.gts_directory.specs.Rows.{directory_of_rows}
+use Rattle.gts_directory.specs.Cited.{Directory, directory_of_rows, first_change}
 use Rattle.gts_directory.proofs.TakingOverLemmas.{takes_over_from, none_from}
 use Rattle.gts_directory.proofs.directory.Directory.takes_over.Goals as goal
 

@@ -1,7 +1,5 @@
 use Rattle.std.proofs.Common.{◌≡◌, ℕ, ◌*◌, take}
-use Rattle.std.specs.Int.{bit_at}
-use Rattle.gts_heading.specs.Heading.{fields_of}
-use Rattle.gts_directory.specs.Routing.{bit, has_bit}
+use Rattle.gts_directory.specs.Cited.{bit, bit_at, fields_of, has_bit}
 use Rattle.gts_directory.proofs.table.RuleTable.routed.Given as goal
 
 abbrev pub invariant-loop-number : goal.invariant-loop-number

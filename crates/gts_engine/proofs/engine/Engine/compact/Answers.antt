@@ -1,11 +1,5 @@
-use Rattle.std.proofs.Common.{◌≡◌, Option, None, refl, ap, subst, ◌∙◌}
-use Rattle.std.specs.Prelude.{OnOk}
-use Rattle.gts_event.specs.State.{State}
-use Rattle.gts_event.specs.declared.fault.Device.{Device}
-use Rattle.gts_core.specs.Core.{Holds}
-use Rattle.gts_engine.specs.Engine.{Engine}
-use Rattle.gts_engine.specs.Going.{stopped_after}
-use Rattle.gts_engine.specs.Compacting.{IsRewritten, StaysAt, GivesRoom, IsIdleFault}
+use Rattle.std.proofs.Common.{◌≡◌, Option, None, refl, ap, subst, ◌∙◌, OnOk}
+use Rattle.gts_engine.specs.Cited.{Device, Engine, GivesRoom, Holds, IsIdleFault, IsRewritten, State, StaysAt, stopped_after}
 use Rattle.gts_engine.proofs.CallLemmas.{never_settled, then_stopped, nothing_failed}
 use Rattle.std.proofs.lemmas.Result.{err_from_is_err_and}
 use Rattle.gts_engine.proofs.FirstLemmas.{compacts_settled, compacts_unsettled}

@@ -1,18 +1,7 @@
-use Rattle.std.proofs.Common.{rules, Bool, ◌≡◌, ◌-◌, ◌^◌, None, Ok, Err, Result, length, subst, ap, ◌∙◌}
-use Rattle.std.specs.Prelude.{OnOk, IfErr, min}
+use Rattle.std.proofs.Common.{rules, Bool, ◌≡◌, ◌-◌, ◌^◌, None, Ok, Err, Result, length, subst, ap, ◌∙◌, OnOk, IfErr, min}
 use Rattle.std.proofs.lemmas.Result.{IfOk-at_ok}
-use Rattle.gts_event.specs.State.{State}
-use Rattle.gts_directory.specs.Directory.{Directory}
-use Rattle.gts_event.specs.Need.{Need}
-use Rattle.gts_event.specs.Items.{need_of}
-use Rattle.gts_event.specs.declared.fault.SwitchFault.{SwitchFault}
-use Rattle.gts_event.specs.declared.fault.SwitchFault.TheVariants.{DiskFault, SayFault, Full, Stopped, Spent, NoMemory}
-use Rattle.gts_opening.specs.Journal.{checkpoint_text}
-use Rattle.gts_opening.specs.Room.{full_compacted}
-use Rattle.gts_core.specs.Core.{Holds, Needs}
-use Rattle.gts_engine.specs.Engine.{Engine, engine_of}
+use Rattle.gts_engine.specs.Cited.{Directory, DiskFault, Engine, Full, GivesRoom, Holds, IsRewritten, IsWriteFault, Need, Needs, NoMemory, SayFault, Spent, State, StaysAt, Stopped, SwitchFault, checkpoint_text, engine_of, full_compacted, need_of}
 use Rattle.gts_engine.proofs.StepLemmas.{idle_going}
-use Rattle.gts_engine.specs.Compacting.{IsRewritten, StaysAt, GivesRoom, IsWriteFault}
 use Rattle.gts_engine.proofs.CompactLemmas.{stays_at}
 use Rattle.gts_engine.proofs.engine.Engine.compact_settled.Goals as goal
 

@@ -1,15 +1,5 @@
 use Rattle.std.proofs.Common.{◌≡◌, ℕ, List, Err, subst}
-use Rattle.gts_event.specs.History.{outcome}
-use Rattle.gts_event.specs.declared.event.Event.TheVariants.{Heard}
-use Rattle.gts_event.specs.declared.fault.SwitchFault.TheVariants.{Stopped}
-use Rattle.gts_calls.specs.Calls.{IsAnswered, HasCallCause}
-use Rattle.gts_engine.specs.declared.mode.SayMode.{SayMode}
-use Rattle.gts_engine.specs.declared.mode.SayMode.TheVariants.{Station}
-use Rattle.gts_engine.specs.Engine.{Engine, engine_of}
-use Rattle.gts_engine.specs.Keeping.{meanings_of}
-use Rattle.gts_engine.specs.Going.{stopped_after}
-use Rattle.gts_engine.specs.Parts.{AnswersFull, HadRoomFor}
-use Rattle.gts_engine.specs.Gathering.{HasOnlySettled}
+use Rattle.gts_engine.specs.Cited.{AnswersFull, Engine, HadRoomFor, HasCallCause, HasOnlySettled, Heard, IsAnswered, SayMode, Station, Stopped, engine_of, meanings_of, outcome, stopped_after}
 use Rattle.gts_engine.proofs.SettlingLemmas.{stopped_settles}
 use Rattle.gts_engine.proofs.HearingLemmas.{told_other, not_new_full, never_full, not_told, new_is}
 use Rattle.gts_engine.proofs.AnsweringLemmas.{in_words, stopped_answer}

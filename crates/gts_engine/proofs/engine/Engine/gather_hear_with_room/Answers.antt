@@ -1,7 +1,6 @@
 use Rattle.std.proofs.Common.{◌<◌, length, refl, sym, subst, ◌∙◌}
 use Rattle.std.proofs.lemmas.Result.{err_from_is_err_and}
-use Rattle.gts_directory.specs.Directory.{Directory}
-use Rattle.gts_engine.specs.declared.mode.SayMode.TheVariants.{Station}
+use Rattle.gts_engine.specs.Cited.{Directory, Station}
 use Rattle.gts_engine.proofs.RoomingLemmas.{idle_full}
 use Rattle.gts_engine.proofs.RoomGatherLemmas.{gathers_plain, gathers_nothing, gathers_full, gathers_left, gathers_made}
 use Rattle.gts_engine.proofs.engine.Engine.gather_hear_with_room.Goals as goal

@@ -1,12 +1,5 @@
 use Rattle.std.proofs.Common.{◌≡◌, Err, subst}
-use Rattle.gts_event.specs.declared.event.Event.TheVariants.{Lost}
-use Rattle.gts_event.specs.declared.fault.SwitchFault.TheVariants.{Stopped}
-use Rattle.gts_calls.specs.Calls.{IsAnswered, HasCallCause}
-use Rattle.gts_engine.specs.declared.mode.SayMode.{SayMode}
-use Rattle.gts_engine.specs.declared.mode.SayMode.TheVariants.{Station}
-use Rattle.gts_engine.specs.Engine.{Engine, engine_of}
-use Rattle.gts_engine.specs.Keeping.{meanings_of}
-use Rattle.gts_engine.specs.Going.{stopped_after}
+use Rattle.gts_engine.specs.Cited.{Engine, HasCallCause, IsAnswered, Lost, SayMode, Station, Stopped, engine_of, meanings_of, stopped_after}
 use Rattle.gts_engine.proofs.AnsweringLemmas.{in_words, stopped_answer}
 use Rattle.gts_engine.proofs.engine.Engine.gather_lost.Goals as goal
 

@@ -1,11 +1,5 @@
 use Rattle.std.proofs.Common.{◌≢◌, IfOk, Err, subst}
-use Rattle.gts_event.specs.declared.event.Event.TheVariants.{Taken}
-use Rattle.gts_event.specs.declared.fault.SwitchFault.TheVariants.{Stopped}
-use Rattle.gts_event.specs.declared.outcome.Outcome.TheVariants.{Nothing}
-use Rattle.gts_core.specs.Core.{Says}
-use Rattle.gts_calls.specs.Calls.{IsAnswered}
-use Rattle.gts_engine.specs.Engine.{Engine, engine_of}
-use Rattle.gts_engine.specs.Keeping.{meanings_of}
+use Rattle.gts_engine.specs.Cited.{Engine, IsAnswered, Nothing, SaysFrame as Says, Stopped, Taken, engine_of, meanings_of}
 use Rattle.gts_engine.proofs.AnsweringLemmas.{in_words, stopped_answer}
 use Rattle.gts_engine.proofs.engine.Engine.gather_take.Goals as goal
 

@@ -1,8 +1,6 @@
 use Rattle.std.proofs.Common.{◌<◌, length, sym, subst}
 use Rattle.std.proofs.lemmas.Result.{err_from_is_err_and}
-use Rattle.gts_directory.specs.Directory.{Directory}
-use Rattle.gts_event.specs.declared.event.Event.TheVariants.{Heard}
-use Rattle.gts_engine.specs.declared.mode.SayMode.TheVariants.{Station}
+use Rattle.gts_engine.specs.Cited.{Directory, Heard, Station}
 use Rattle.gts_engine.proofs.FirstLemmas.{heard_settled, heard_unsettled}
 use Rattle.gts_engine.proofs.AnsweringLemmas.{cause_then}
 use Rattle.gts_engine.proofs.engine.Engine.hear_with_room.Goals as goal

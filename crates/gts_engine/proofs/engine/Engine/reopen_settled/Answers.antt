@@ -1,16 +1,7 @@
 use Rattle.std.proofs.Common.{◌≡◌, ◌+◌, Bool, false, List, Ok, Err, refl, sym, ap, subst, ◌∙◌, arith}
 use Rattle.std.proofs.lemmas.Result.{err_from_is_err_and}
-use Rattle.gts_traits.specs.Calls.{Call}
-use Rattle.gts_recovery.specs.{IsOpened}
+use Rattle.gts_engine.specs.Cited.{Call, Engine, HasFewDraws, IsOpened, IsReopening, IsSound, Parts, engine_of, held_pieces, no_records, switch_meanings}
 use Rattle.gts_record.specs.declared.fault.OpenFault.TheVariants.{NoMemory}
-use Rattle.gts_journal.specs.Batch.{no_records}
-use Rattle.gts_calls.specs.Calls.{IsReopening}
-use Rattle.gts_engine.specs.declared.parts.Parts.{Parts}
-use Rattle.gts_engine.specs.Sayings.{held_pieces}
-use Rattle.gts_engine.specs.Engine.{Engine, engine_of}
-use Rattle.gts_engine.specs.Going.{HasFewDraws}
-use Rattle.gts_engine.specs.Parts.{IsSound}
-use Rattle.gts_engine.specs.Switching.{switch_meanings}
 use Rattle.gts_engine.proofs.GoingLemmas.{gathering_of, opened_on}
 use Rattle.gts_engine.proofs.StepLemmas.{closed_alone, idle_going}
 use Rattle.gts_engine.proofs.SettlingLemmas.{few_none}

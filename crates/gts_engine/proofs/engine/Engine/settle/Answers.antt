@@ -1,7 +1,5 @@
-use Rattle.std.proofs.Common.{◌≡◌, Ok, refl, ap, subst}
-use Rattle.std.specs.Prelude.{IfSome}
-use Rattle.gts_engine.specs.Engine.{Engine, engine_of}
-use Rattle.gts_engine.specs.Gathering.{SettlesEngine}
+use Rattle.std.proofs.Common.{◌≡◌, Ok, refl, ap, subst, IfSome}
+use Rattle.gts_engine.specs.Cited.{Engine, SettlesEngine, engine_of}
 use Rattle.gts_engine.proofs.SettlingLemmas.{stopped_settles, parts_settle}
 use Rattle.gts_engine.proofs.CallLemmas.{if_some, none_some}
 use Rattle.gts_engine.proofs.engine.Engine.settle.Goals as goal

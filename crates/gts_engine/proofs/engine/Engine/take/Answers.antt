@@ -1,8 +1,6 @@
 use Rattle.std.proofs.Common.{◌≡◌, Err, ap, ◌∙◌}
 use Rattle.std.proofs.lemmas.Result.{err_from_is_err_and}
-use Rattle.gts_event.specs.declared.event.Event.TheVariants.{Taken}
-use Rattle.gts_event.specs.declared.fault.SwitchFault.TheVariants.{SayFault}
-use Rattle.gts_engine.specs.Gathering.{IsDeviceFault}
+use Rattle.gts_engine.specs.Cited.{IsDeviceFault, SayFault, Taken}
 use Rattle.gts_engine.proofs.CallLemmas.{fails_first, fails_behind, done_behind, stops_behind, stops_done, cause_behind, cause_done, never_stopped, device_active, of_fault}
 use Rattle.gts_engine.proofs.engine.Engine.take.Goals as goal
 

@@ -1,9 +1,7 @@
 use Rattle.std.proofs.Common.{◌≡◌, ◌+◌, ◌-◌, ℕ, List, [], ◌∷◌, ◌++◌, length, take, drop, refl, sym, ap, subst, ◌∙◌, arith}
 use Rattle.std.proofs.Math.ListN.{set}
 use Rattle.std.proofs.lemmas.List.{with_items_is, take_more_set, length-take-le}
-use Rattle.gts_traits.specs.Calls.{on}
-use Rattle.gts_engine.specs.declared.held.Saying.{Saying}
-use Rattle.gts_engine.specs.Sayings.{Sayings, AreSayings, HasRoom, held_pieces, pieces_of}
+use Rattle.gts_engine.specs.Cited.{AreSayings, HasRoom, Saying, Sayings, held_pieces, on, pieces_of}
 use Rattle.gts_engine.specs.contracts.held.Held.{the_view}
 use Rattle.gts_engine.proofs.HeldLemmas.{pieces_hold, put_behind}
 use Rattle.gts_engine.proofs.held.Held.hold.Goals as goal

@@ -1,11 +1,7 @@
-use Rattle.std.proofs.Common.{◌≡◌, ◌+◌, ◌-◌, ◌<◌, ◌≤◌, ℕ, suc, List, [], length, take, drop, Some, sym, ap, subst, ◌∙◌, arith}
-use Rattle.std.specs.Prelude.{slice_get}
-use Rattle.std.specs.List.{slice_index_or}
+use Rattle.std.proofs.Common.{◌≡◌, ◌+◌, ◌-◌, ◌<◌, ◌≤◌, ℕ, suc, List, [], length, take, drop, Some, sym, ap, subst, ◌∙◌, arith, slice_get}
+use Rattle.gts_engine.specs.Cited.{AreSayings, Saying, Sayings, held_pieces, on, sizes_of, slice_index_or}
 use Rattle.std.proofs.lemmas.List.{get_or-take, length-take-le}
 use Rattle.std.proofs.lemmas.Option.{slice_get-get_or}
-use Rattle.gts_traits.specs.Calls.{on}
-use Rattle.gts_engine.specs.declared.held.Saying.{Saying}
-use Rattle.gts_engine.specs.Sayings.{Sayings, AreSayings, held_pieces, sizes_of}
 use Rattle.gts_engine.proofs.HeldLemmas.{piece_at, sizes_next, sizes_within, within_front}
 use Rattle.gts_engine.proofs.held.Held.saying.Goals as goal
 

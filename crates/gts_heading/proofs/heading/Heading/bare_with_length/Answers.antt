@@ -1,6 +1,5 @@
 use Rattle.std.proofs.Common.{◌≡◌, Ok}
-use Rattle.gts_heading.specs.Heading.{fields_of}
-use Rattle.gts_heading.specs.Reading.{bare_heading_at}
+use Rattle.gts_heading.specs.Cited.{bare_heading_at, fields_of}
 use Rattle.gts_heading.proofs.HeadingLemmas.{bare_rest}
 use Rattle.gts_heading.proofs.heading.Heading.bare_with_length.Goals as goal
 

@@ -1,6 +1,5 @@
 use Rattle.std.proofs.Common.{◌≡◌, Ok}
-use Rattle.gts_heading.specs.Heading.{fields_of}
-use Rattle.gts_heading.specs.Reading.{heading_at}
+use Rattle.gts_heading.specs.Cited.{fields_of, heading_at}
 use Rattle.gts_heading.proofs.HeadingLemmas.{line_rest}
 use Rattle.gts_heading.proofs.heading.Heading.line_with_length.Goals as goal
 

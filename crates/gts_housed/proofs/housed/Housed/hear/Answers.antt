@@ -1,7 +1,5 @@
 use Rattle.std.proofs.Common.{◌≡◌, true, false, sym, ◌∙◌}
-use Rattle.gts_event.specs.declared.event.Event.TheVariants.{Heard}
-use Rattle.gts_engine.specs.declared.mode.SayMode.TheVariants.{Caller}
-use Rattle.gts_desk.specs.{SaysNoMore}
+use Rattle.gts_housed.specs.Cited.{Caller, Heard, SaysNoMore}
 use Rattle.gts_housed.proofs.StandingLemmas.{adds, adds_with_room}
 use Rattle.gts_housed.proofs.housed.Housed.hear.Goals as goal
 

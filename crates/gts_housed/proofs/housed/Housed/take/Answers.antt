@@ -1,10 +1,5 @@
-use Rattle.std.proofs.Common.{Result, refl, sym, subst}
-use Rattle.std.specs.Prelude.{IsErrOf}
-use Rattle.gts_event.specs.declared.event.Event.TheVariants.{Taken}
-use Rattle.gts_event.specs.declared.outcome.Outcome.{Outcome}
-use Rattle.gts_event.specs.declared.fault.SwitchFault.{SwitchFault}
-use Rattle.gts_event.specs.declared.fault.SwitchFault.TheVariants.{SayFault}
-use Rattle.gts_desk.specs.{LeavesFrame}
+use Rattle.std.proofs.Common.{Result, refl, sym, subst, IsErrOf}
+use Rattle.gts_housed.specs.Cited.{LeavesFrame, Outcome, SayFault, SwitchFault, Taken}
 use Rattle.gts_housed.proofs.StandingLemmas.{take_takes_none, takes_accept_nothing, adds, leaves}
 use Rattle.gts_housed.proofs.housed.Housed.take.Goals as goal
 

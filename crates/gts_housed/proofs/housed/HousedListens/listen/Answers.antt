@@ -1,6 +1,5 @@
 use Rattle.std.proofs.Common.{◌≡◌, true, false, refl, sym, ◌∙◌}
-use Rattle.gts_event.specs.declared.event.Event.TheVariants.{Heard}
-use Rattle.gts_engine.specs.declared.mode.SayMode.TheVariants.{Caller}
+use Rattle.gts_housed.specs.Cited.{Caller, Heard}
 use Rattle.gts_feed.proofs.HeardLemmas.{as_heard}
 use Rattle.gts_housed.proofs.GatheringLemmas.{answered, heard_with_room, M}
 use Rattle.gts_housed.proofs.housed.HousedListens.listen.Goals as goal

@@ -1,14 +1,12 @@
 use Rattle.std.proofs.Common.{◌≡◌, ◌+◌, ◌-◌, ◌≤◌, ℕ, List, [], ◌∷◌, ◌++◌, length, take, sym, ap, ◌∙◌, subst, arith}
 use Rattle.std.proofs.Math.ListN.{set}
 use Rattle.std.proofs.lemmas.List.{with_items_is, length-take-le}
-use Rattle.gts_record.specs.Record.{record_text, open_gate, closed_gate}
-use Rattle.gts_record.specs.Format.{sealed, chain_text, texts_of, held}
-use Rattle.gts_record.specs.Value.{record_of}
+use Rattle.gts_journal.specs.Cited.{Gathered, Gathers, chain_text, closed_gate, held, open_gate, record_of, record_text, sealed, texts_of}
 use Rattle.gts_record.proofs.LawLemmas.{length-sealed}
-use Rattle.gts_journal.specs.Batch.{Gathered, Gathers}
 use Rattle.gts_journal.specs.contracts.batch.Batch.{the_view}
-use Rattle.gts_journal.proofs.BatchLemmas.{gathers_more, seal_few, put_long, put_more}
+use Rattle.gts_journal.proofs.BatchLemmas.{gathers_more, put_long, put_more}
 use Rattle.gts_journal.proofs.batch.Batch.add.Goals as goal
+use Rattle.gts_journal.proofs.AheadLemmas.{few_bytes}
 
 pub returns-clause-gathers : goal.returns-clause-gathers
 returns-clause-gathers c = λ before rs g.
@@ -24,7 +22,7 @@ returns-clause-gathers c = λ before rs g.
     let is : take size d ≡ chained ++ closed_gate ∷ [] = ap (λ (l : List ℕ). take size l) c.deref_mut.ensures.value ∙ h.text in
     let texts : length text ≡ count = omega (arith, length-sealed v last bytes, c.encode_sealed-count.ensures.size) in
     let held_long : length c.args.self.now.text ≡ size = sym (ap (λ (b : Gathered). length b.text) c.self.view_is) ∙ length-take-le size c.self.inside.buffer.items (omega (arith, c.self.invariant, c.self.inside.buffer.ok.0)) in
-    let fits : size + count + 1 ≤ length d = omega (arith, held_long, texts, length-sealed v last bytes, seal_few v, c.requires.room, c.deref_mut.ensures.len, c.self.invariant) in
+    let fits : size + count + 1 ≤ length d = omega (arith, held_long, texts, length-sealed v last bytes, few_bytes v, c.requires.room, c.deref_mut.ensures.len, c.self.invariant) in
     gathers_more v before last (held v c.encode_sealed-count.result.1) _ rs (record_of c.args.rec.now) h.seal c.encode_sealed-count.ensures.seal
     (ap (λ (l : List ℕ). take (size + count + 1) (set (set l (size - 1) open_gate) (size + count) closed_gate))
     (with_items_is c.self.inside.buffer _ (put_long d c.encode_sealed-count.new.into chained text size count is fits texts c.encode_sealed-count.ensures.written ∙ (ap length c.deref_mut.ensures.value ∙ sym c.self.inside.buffer.ok.0)))

@@ -1,7 +1,5 @@
 use Rattle.std.proofs.Common.{rules, ◌≡◌, ◌≤◌, ◌∙◌, ap, sym, subst, arith, length, true}
-use Rattle.gts_lock.specs.declared.limits.TheConstants.{MOST_TURNS}
-use Rattle.gts_lock.specs.History.{entries}
-use Rattle.gts_lock.specs.Passes.{AllJoined, Accounts, NamesAreJoined}
+use Rattle.gts_lock.specs.Cited.{Accounts, AllJoined, MOST_TURNS, NamesAreJoined, entries}
 use Rattle.gts_lock.proofs.PartingLemmas.{copies}
 use Rattle.gts_lock.proofs.ClosingLemmas.{closes_as, closing_told, closing_full}
 use Rattle.gts_lock.proofs.ViewsLemmas.{resting_idle}

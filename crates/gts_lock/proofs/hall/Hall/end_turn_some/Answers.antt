@@ -1,12 +1,10 @@
 use Rattle.std.proofs.Common.{rules, ◌≡◌, ◌∙◌, ap, sym, subst, arith, [], ◌∷◌, ◌++◌, Some}
-use Rattle.atomic_table.specs.Table.{rest}
-use Rattle.gts_lock.specs.History.{entries}
-use Rattle.gts_lock.specs.Views.{ended}
+use Rattle.gts_lock.specs.Cited.{ended, entries, rest}
 use Rattle.gts_lock.proofs.StepsLemmas.{raises_some}
 use Rattle.gts_lock.proofs.hall.Hall.end_turn_some.Goals as goal
 
-pub fetch_add-requires : goal.fetch_add-requires
-fetch_add-requires g c = let two = c.self.invariant in let x = c.exchange-before.ensures in let some = c.requires.stands in (
+pub fetch_add-served-requires : goal.fetch_add-served-requires
+fetch_add-served-requires g c = let two = c.self.invariant in let x = c.exchange-before.ensures in let some = c.requires.stands in (
   search rules,
   omega arith,
   raises_some g.T.Told.stands g.N.Tells.tells _ _ c.exchange-before.new.seat.me c.requires.holds.0 some.0 c.args.value

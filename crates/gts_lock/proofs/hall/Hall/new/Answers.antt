@@ -1,7 +1,5 @@
 use Rattle.std.proofs.Common.{rules, ◌≡◌, [], ◌∷◌, sym, subst, Some}
-use Rattle.atomic_table.specs.Table.{opening}
-use Rattle.gts_lock.specs.Rule.{InTurn}
-use Rattle.gts_lock.specs.Views.{newcomer}
+use Rattle.gts_lock.specs.Cited.{InTurn, newcomer, opening}
 use Rattle.gts_lock.proofs.PartingLemmas.{opens}
 use Rattle.gts_lock.proofs.hall.Hall.new.Goals as goal
 

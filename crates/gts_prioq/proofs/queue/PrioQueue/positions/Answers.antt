@@ -1,8 +1,6 @@
 use Rattle.std.proofs.Common.{◌≡◌, ℕ, List, [], ◌∷◌, ◌++◌, Vec, Global, flat_map, map, refl, ap, ◌∙◌}
 use Rattle.std.proofs.lemmas.Result.{IfOk-weaker}
-use Rattle.std.specs.declared.collections.VecDeque.{VecDeque}
-use Rattle.gts_prioq.specs.Queue.{items_of}
-use Rattle.gts_prioq.specs.Waiting.{Waiting}
+use Rattle.gts_prioq.specs.Cited.{VecDeque, Waiting, items_of}
 use Rattle.gts_prioq.proofs.queue.PrioQueue.positions.Goals as goal
 
 flat_levels : (queues : List (VecDeque ℕ Global)) → flat_map items_of queues ≡ flat_map (λ (level : List ℕ). level) (map items_of queues)

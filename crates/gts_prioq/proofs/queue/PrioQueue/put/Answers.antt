@@ -1,7 +1,6 @@
 use Rattle.std.proofs.Common.{◌≡◌, ◌+◌, ◌-◌, ◌<◌, ◌∷◌, ◌++◌, ℕ, List, [], length, get_or, ap, sym, ◌∙◌, arith, length-append}
 use Rattle.std.proofs.lemmas.List.{length-set}
-use Rattle.gts_prioq.specs.Waiting.{Waiting, at_level, spare, count_of}
-use Rattle.gts_prioq.specs.Queue.{items_of, room_of}
+use Rattle.gts_prioq.specs.Cited.{Waiting, at_level, count_of, items_of, room_of, spare}
 use Rattle.gts_prioq.proofs.WaitingLemmas.{at-set, at-here, at-set_other, count_of-set}
 use Rattle.gts_prioq.proofs.queue.PrioQueue.put.Goals as goal
 

@@ -1,7 +1,6 @@
 use Rattle.std.proofs.Common.{◌≡◌, ◌+◌, ◌-◌, ◌<◌, ◌≤◌, length, get_or, ap, ◌∙◌, arith}
 use Rattle.std.proofs.lemmas.List.{length-set}
-use Rattle.gts_prioq.specs.Waiting.{Waiting, spare}
-use Rattle.gts_prioq.specs.Queue.{room_of}
+use Rattle.gts_prioq.specs.Cited.{Waiting, room_of, spare}
 use Rattle.gts_prioq.proofs.WaitingLemmas.{at-set, levels-set_kept, spare-set, count_of-set}
 use Rattle.gts_prioq.proofs.queue.PrioQueue.reserve.Goals as goal
 

@@ -1,6 +1,5 @@
 use Rattle.std.proofs.Common.{◌≡◌, ◌≤◌}
-use Rattle.gts_heading.specs.Heading.{fields_of}
-use Rattle.gts_segments.specs.Segments.{groups_of, passing}
+use Rattle.gts_segments.specs.Cited.{fields_of, groups_of, passing}
 use Rattle.gts_segments.proofs.table.SegmentTable.count.Given as goal
 
 -- so many of the places so far are noted

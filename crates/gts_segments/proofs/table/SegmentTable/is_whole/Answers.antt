@@ -1,7 +1,6 @@
 use Rattle.std.proofs.Common.{sym, ◌∙◌}
 use Rattle.std.proofs.lemmas.Bool.{true≢false, eqb-true, eq-eqb}
-use Rattle.gts_heading.specs.Heading.{fields_of}
-use Rattle.gts_segments.specs.Segments.{groups_of}
+use Rattle.gts_segments.specs.Cited.{fields_of, groups_of}
 use Rattle.gts_segments.proofs.StatusLemmas.{whole_then, first_of_complete, lasts_of_complete}
 use Rattle.gts_segments.proofs.table.SegmentTable.is_whole.Goals as goal
 use Rattle.gts_segments.proofs.table.SegmentTable.is_whole.Goals.{then-lasts-eq1, else-lasts-eq1}

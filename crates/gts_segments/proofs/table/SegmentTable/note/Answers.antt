@@ -1,8 +1,5 @@
-use Rattle.std.proofs.Common.{◌≡◌, ℕ, true, cond, List, ap, ◌∙◌, arith}
-use Rattle.std.specs.Prelude.{nat_eq}
-use Rattle.std.specs.Cmp.Lexicographic.{pointwise}
-use Rattle.gts_heading.specs.Heading.{heading_text, fields_of}
-use Rattle.gts_segments.specs.Segments.{is_noted}
+use Rattle.std.proofs.Common.{◌≡◌, ℕ, true, cond, List, ap, ◌∙◌, arith, nat_eq}
+use Rattle.gts_segments.specs.Cited.{fields_of, heading_text, is_noted, pointwise}
 use Rattle.gts_segments.proofs.GroupLemmas.{some_group, whole_text, cond-or}
 use Rattle.gts_segments.proofs.table.SegmentTable.note.Goals as goal
 

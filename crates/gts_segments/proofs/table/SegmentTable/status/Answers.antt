@@ -1,9 +1,6 @@
 use Rattle.std.proofs.Common.{◌≡◌, ℕ, ◌+◌, refl, sym, ap, subst, ◌∙◌, arith}
 use Rattle.std.proofs.lemmas.Bool.{true≢false}
-use Rattle.gts_heading.specs.Heading.{fields_of}
-use Rattle.gts_segments.specs.declared.groups.TheConstants.{LETTERS, PLACES}
-use Rattle.gts_segments.specs.declared.table.SegmentStatus.TheVariants.{Complete}
-use Rattle.gts_segments.specs.Segments.{groups_of, passing, IsComplete}
+use Rattle.gts_segments.specs.Cited.{Complete, IsComplete, LETTERS, PLACES, fields_of, groups_of, passing}
 use Rattle.gts_segments.proofs.StatusLemmas.{all_groups, missing_from_zero, zero_from_missing, places_of_complete, lasts_of_complete}
 use Rattle.gts_segments.proofs.table.SegmentTable.status.Goals as goal
 

@@ -1,14 +1,6 @@
 use Rattle.std.proofs.Common.{◌≡◌, ℕ, List, ◌+◌, ◌-◌, ◌≤◌, Bool, true, false, Option, Some, None, Ok, length, drop, refl, sym, ap, subst, ◌∙◌, arith}
 use Rattle.gts_record.specs.Record as texts
-use Rattle.gts_record.specs.Value.{record_of}
-use Rattle.gts_record.specs.Format.{sealed_at, seal, seal_size, record_size, held, written}
-use Rattle.gts_record.specs.declared.version.Version.{Version}
-use Rattle.gts_opening.specs.Journal.{admits}
-use Rattle.gts_recovery.specs.{IsJudged}
-use Rattle.gts_standby.specs.Ahead.{InFeed}
-use Rattle.gts_standby.specs.Gathering.{gate_behind}
-use Rattle.gts_standby.specs.Reading.{HasRead, IsUnsealed}
-use Rattle.gts_standby.specs.Whole.{IsWhole}
+use Rattle.gts_standby.specs.Cited.{HasRead, InFeed, IsJudged, IsUnsealed, IsWhole, Version, admits, gate_behind, held, record_of, record_size, seal, seal_size, sealed_at, written}
 use Rattle.gts_standby.proofs.HeaderLemmas.{passed}
 use Rattle.gts_standby.proofs.FedLemmas.{sealed_read, none_read, ends_there, at_end, found_fits_there}
 use Rattle.gts_standby.proofs.AddLemmas.{next_refused, next_none}

@@ -1,0 +1,5 @@
+-- What this crate says in words of what lies below it, in one place.
+pub use Rattle.std.specs.Option.{option_map_or}
+pub use Rattle.gts_alphabet.specs.declared.limits.TheConstants.{MOST_CIRCUITS}
+pub use Rattle.gts_traits.specs.Cited.{PlaceSeen, no_bytes, nowhere, place_seen}
+pub use Rattle.gts_traits.specs.declared.place.Place.{Place}
