@@ -1,7 +1,7 @@
 -- What `compact` comes to, from the opening and the engine's compaction.
 use Rattle.std.proofs.Common.{◌≡◌, ◌≤◌, ℕ, false, List, [], ◌∷◌, ◌++◌, Result, Ok, Err, IfErr, OnOk, Option, Some, None, IsTrue, inl, inr, refl, sym, ap, subst, ◌∙◌, arith}
 use Rattle.std.proofs.lemmas.List.{append-nil}
-use Rattle.gts_app.specs.Cited.{Call, Compacts, Device, Did, DiskFault, Done, EachSince, Engine, Full, Ghosts as StationMeanings, GivesRoom, HasCallCause, HasSaid, Holds, IsCompactEnd, IsCompactFault, IsCompacted, IsCompaction, IsIdleFault, IsOfFiles, IsRefusal, IsRewritten, IsTooLarge, Journaled, Keeps, Need, NoMemory, OpenFault, Opens, OpensAsBefore, OpensWith, Over, Rose, SourceMeanings, State, Status, StaysAt, StaysThere, SwitchFault, Syncs, begun, checkpoint_file, compacted_after, compacted_size, directory_of_bytes, full_compacted, is_sound, need, opens, origin_of, refusal, said_by, seen, selected, shown, status_compacted, switch_meanings}
+use Rattle.gts_app.specs.Cited.{Call, Compacts, Device, Did, DiskFault, Done, EachSince, Engine, Full, Ghosts as StationMeanings, GivesRoom, Handed, HasCallCause, HasSaid, Holds, IsCompactEnd, IsCompactFault, IsCompacted, IsCompaction, IsIdleFault, IsOfFiles, IsRefusal, IsRewritten, IsTooLarge, Journaled, Keeps, Need, NoMemory, OpenFault, Opens, OpensAsBefore, OpensWith, Over, Rose, SourceMeanings, State, Status, StaysAt, StaysThere, SwitchFault, Syncs, begun, checkpoint_file, compacted_after, compacted_size, directory_of_bytes, full_compacted, handed, is_sound, need, opens, origin_of, refusal, said_by, seen, selected, shown, status_compacted, switch_meanings}
 use Rattle.gts_directory.specs.Directory as directories
 use Rattle.gts_event.specs.declared.fault.SwitchFault.TheVariants as switch
 use Rattle.gts_record.specs.declared.fault.OpenFault.TheVariants as opening
@@ -38,7 +38,7 @@ end_of_refusal status ends = elim (refusals status ends) [
     of_files opening.NoMemory is = absurd is
 
 pub not_compacted : {S P : Type 0} (source : SourceMeanings S) (w : StationMeanings P) (status : Status) (od nd : S) (old new : P)
-    (result : Result (Engine P) (Status × P)) → result ≡ Err (status, new)
+    (result : Result (Engine P) (Handed P)) → result ≡ Err (handed status new)
     → Opens source w result od nd old → Compacts source w status od old nd new
 not_compacted source w status od nd old new result is h =
     let r = h.refused status new is in
@@ -74,7 +74,7 @@ not_compacted source w status od nd old new result is h =
 
 -- ---- the engine was opened
 
-module _ {S P : Type 0} (source : SourceMeanings S) (w : StationMeanings P) (od nd : S) (old : P) (e : Engine P) (result : Result (Engine P) (Status × P))
+module _ {S P : Type 0} (source : SourceMeanings S) (w : StationMeanings P) (od nd : S) (old : P) (e : Engine P) (result : Result (Engine P) (Handed P))
     (is : result ≡ Ok e) (h : Opens source w result od nd old)
     (starts : (d : directories.Directory) (n : Need) → IsTrue (is_sound d n) → need d (begun n) ≡ n) where
   -- what is known of it where its station tells

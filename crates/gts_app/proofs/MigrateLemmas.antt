@@ -1,5 +1,5 @@
 -- What `migrate` comes to: where a directory is refused, where a row doesn't stay, and behind the opening of the journal.
-use Rattle.std.proofs.Common.{◌≡◌, ◌≤◌, ◌⊎◌, ℕ, List, [], ◌∷◌, length, Option, None, Some, Result, Ok, Err, inl, inr, refl, sym, ap, subst, ◌∙◌, arith, OnOk}
+use Rattle.std.proofs.Common.{◌≡◌, ◌≤◌, ◌⊎◌, ℕ, List, [], ◌∷◌, Option, None, Some, Result, Ok, Err, inl, inr, refl, sym, ap, subst, ◌∙◌, arith, OnOk}
 use Rattle.gts_app.specs.Cited.{Accum, AnswersOpening, AnswersWaiting, AreRead, Call, Capture, Change, Changed, CountsSays, Damaged, Did, DirFault, Directory, DiskFault, Diverged, Done, Dropped, EachSince, Exists, Feed, Files, Full, Ghosts as StationMeanings, GivesRoomFor, IsDiskFaultOf, IsMigrated, IsOldReadEnd, IsRefusedBy, IsSayFaultOf, LeavesFiles, LeavesJournal, LineFault, LongSession, MayGo, MigrateFault, MigratedAs, Migrates, Need, NoJournal, NoMemory, NotThis, OldDirectory, OldVersion, OnlySyncs, OpenFault, Opened, OpensEither, ReadsDirectory, ReadsFew, ReadsOldDirectory, Refused, RefusesWaiting, Rose, SayFault, SaysFor, SourceFault, SourceMeanings, Spent, State, Status, SwitchFault, Syncs, TakesOver, UnderBoth, Waiting, Waits, WasOpened, Words, directory_of_bytes, files_open_any, first_change, full_compacted, need, opens_any, refusal, restarted, said_by, sayings, seen, status_migrated, waits_on_closed, world}
 use Rattle.gts_migrate.specs.LettingGo.{goes_on}
 use Rattle.gts_directory.specs.Directory as directories

@@ -1,6 +1,6 @@
 -- What `count` comes to, from the opening, the run of the capture and the saying of the table.
 use Rattle.std.proofs.Common.{◌≡◌, ℕ, ◌≤◌, false, List, [], ◌∷◌, length, Result, Ok, Err, None, IsTrue, inl, inr, refl, sym, ap, subst, ◌∙◌, arith}
-use Rattle.gts_app.specs.Cited.{Behind, Breaks, Call, CountsEngine, CountsTraffic, Did, Done, Ends, EndsWithoutTable, Engine, Entry, Files, Ghosts as StationMeanings, HasReplayCause, IsRefusal, KeepsLaws, Need, NoMemory, Opens, OpensWith, Origin, Parts, ReplayEnd, Replays, Rose, SayFault, Says, SaysTable, ShowsTable, SourceMeanings, StandsFor, Status, Told, Traffic, World, after_all, begun, compacted_at, counted, history, is_sound, keeps_one, meanings_by, need, origin_of, seen, status_of, switch_meanings, table, table_behind, used_at, world}
+use Rattle.gts_app.specs.Cited.{Behind, Breaks, Call, CountsEngine, CountsTraffic, Did, Done, Ends, EndsWithoutTable, Engine, Entry, Files, Ghosts as StationMeanings, Handed, HasReplayCause, IsRefusal, KeepsLaws, Need, NoMemory, Opens, OpensWith, Origin, Parts, ReplayEnd, Replays, Rose, SayFault, Says, SaysTable, ShowsTable, SourceMeanings, StandsFor, Status, Told, Traffic, World, after_all, begun, compacted_at, counted, handed, history, is_sound, keeps_one, meanings_by, need, origin_of, seen, status_of, switch_meanings, table, table_behind, used_at, world}
 use Rattle.gts_directory.specs.Directory as directories
 use Rattle.gts_replay.specs.declared.end.ReplayEnd.TheVariants as end
 use Rattle.gts_app.proofs.CompactedLemmas.{compacted_is, counts, counts_within}
@@ -28,7 +28,7 @@ as_run source w status old nd nc new other r = record {
 
 -- the directory was not accepted, or the journal not opened
 pub not_counted : {S P : Type 0} (source : SourceMeanings S) (w : StationMeanings P) (status : Status) (od nd oc : S) (old new : P)
-    (result : Result (Engine P) (Status × P)) → result ≡ Err (status, new)
+    (result : Result (Engine P) (Handed P)) → result ≡ Err (handed status new)
     → Opens source w result od nd old → CountsTraffic source w status (world od oc old) (world nd oc new)
 not_counted source w status od nd oc old new result is h =
     as_run source w status (world od oc old) nd oc new (λ done. subst IsRefusal done (h.refused status new is).ends)
@@ -42,7 +42,7 @@ unread source w od oc old =
     (out_of_memory Traffic source source w od od oc old old (λ told. inr (inl refl)) refl (omega arith) (λ tells. ([], refl, omega arith)) (omega arith))
 
 -- there was none for the numbers
-pub without_numbers : {S P : Type 0} (source : SourceMeanings S) (w : StationMeanings P) (od nd oc : S) (old : P) (e : Engine P) (result : Result (Engine P) (Status × P))
+pub without_numbers : {S P : Type 0} (source : SourceMeanings S) (w : StationMeanings P) (od nd oc : S) (old : P) (e : Engine P) (result : Result (Engine P) (Handed P))
     → result ≡ Ok e → Opens source w result od nd old → (at : P) → at ≡ e.station → CountsTraffic source w NoMemory (world od oc old) (world nd oc at)
 without_numbers {S} {P} source w od nd oc old e result is h at same =
     subst (λ (p : P). CountsTraffic source w NoMemory (world od oc old) (world nd oc p)) (sym same)

@@ -1,9 +1,9 @@
 -- What `migrate check` comes to: where a directory is refused, where a row doesn't stay, and behind the trial of the journal.
-use Rattle.std.proofs.Common.{◌≡◌, ◌≢◌, ◌≤◌, ◌⊎◌, ℕ, List, [], ◌∷◌, Option, Some, Result, Ok, Err, inl, inr, refl, sym, ap, subst, ◌∙◌, arith}
-use Rattle.gts_app.specs.Cited.{AreRead, Breaks, Call, Change, Changed, Did, DirFault, Directory, DiskFault, Done, Ghosts as StationMeanings, IsAnswer, IsRefusedBy, MayHaveSaid, Need, NoMemory, OldDirectory, OnlySyncs, OpenFault, ReadsDirectory, ReadsFew, ReadsOldDirectory, Rose, SayFault, Says, SourceFault, SourceMeanings, State, Status, Syncs, TakesOver, Tried, TriedAs, TriesMigration, UnderBoth, changes, directory_of_bytes, files_open_any, first_change, need, opens_any, refusal, restarted, seen, world}
+use Rattle.std.proofs.Common.{◌≡◌, ◌≢◌, ◌≤◌, ◌⊎◌, ℕ, List, ◌∷◌, Some, Result, Ok, Err, inl, inr, refl, sym, ap, subst, ◌∙◌, arith}
+use Rattle.gts_app.specs.Cited.{AreRead, Breaks, Call, Change, Changed, Did, DirFault, Done, Ghosts as StationMeanings, IsAnswer, Need, NoMemory, OldDirectory, OnlySyncs, OpenFault, ReadsDirectory, ReadsOldDirectory, Rose, SayFault, Says, SourceMeanings, State, Status, Syncs, TakesOver, Tried, TriedAs, TriesMigration, UnderBoth, changes, directory_of_bytes, files_open_any, first_change, need, opens_any, refusal, restarted, seen, world}
 use Rattle.gts_directory.specs.Directory as directories
 use Rattle.gts_record.specs.declared.fault.OpenFault.TheVariants as opening
-use Rattle.gts_app.proofs.RefusalLemmas.{same_directory, no_fault}
+use Rattle.gts_app.proofs.RefusalLemmas.{no_fault}
 use Rattle.gts_app.proofs.StreamLemmas.{Ended, ended}
 use Rattle.gts_app.proofs.ShowLemmas.{unchanged}
 use Rattle.gts_app.proofs.MigrateLemmas.{none_taken, OldEnded, old_ended, one_fault, one_change, new_is, old_is, never_unread, never_refused, need_of, two_answers, one_open}

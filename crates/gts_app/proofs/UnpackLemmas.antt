@@ -1,6 +1,6 @@
 -- What each end of a file's run means for the command.
 use Rattle.std.proofs.Common.{◌≡◌, ◌⊎◌, ℕ, ◌<◌, ◌≤◌, false, List, [], length, Result, Ok, Err, None, IsTrue, inl, inr, refl, ap, subst, arith}
-use Rattle.gts_app.specs.Cited.{Accum, Bad, Capture, Changed, Damaged, Directory, DiskFault, Diverged, Done, Ended, Engine, Entry, Exists, Feed, Full, Ghosts as StationMeanings, HasNoCircuit, HasReplayCause, HasUnpackCause, IsEndAt, IsEndOf, IsLeft, IsReadEnd, IsRefusal, IsStatusOf, Journaled, KeepsLaws, LineFault, LongSession, Need, NoJournal, NoMemory, NotThis, OldDirectory, OldVersion, Opens, OpensWith, ReadsDirectory, ReplayEnd, Rose, SayFault, SourceFault, SourceMeanings, Spent, Status, UnpackEnd, Unpacks, Waits, Words, badplace, capture_meanings, captured, directory_of_bytes, is_sound, keeps_one, origin_of, seen, status_of, status_unpacked, switch_meanings, unpacked, world}
+use Rattle.gts_app.specs.Cited.{Accum, Bad, Capture, Changed, Damaged, Directory, DiskFault, Diverged, Done, Ended, Engine, Entry, Exists, Feed, Full, Ghosts as StationMeanings, Handed, HasNoCircuit, HasReplayCause, HasUnpackCause, IsEndAt, IsEndOf, IsLeft, IsReadEnd, IsRefusal, IsStatusOf, Journaled, KeepsLaws, LineFault, LongSession, Need, NoJournal, NoMemory, NotThis, OldDirectory, OldVersion, Opens, OpensWith, ReadsDirectory, ReplayEnd, Rose, SayFault, SourceFault, SourceMeanings, Spent, Status, UnpackEnd, Unpacks, Waits, Words, badplace, capture_meanings, captured, directory_of_bytes, handed, is_sound, keeps_one, origin_of, seen, status_of, status_unpacked, switch_meanings, unpacked, world}
 use Rattle.gts_unpack.specs.Unpack.{Unpacks as Runs}
 use Rattle.gts_directory.specs.Directory as directories
 use Rattle.gts_event.specs.declared.fault.SwitchFault.TheVariants as switch
@@ -176,7 +176,7 @@ refusal-is NoMemory ends = refl
 
 -- the directory was not accepted, or the journal not opened
 pub unbegun : {S P : Type 0} (source : SourceMeanings S) (w : StationMeanings P) (c : ℕ) (status : Status) (od nd oc : S) (old new : P)
-    (result : Result (Engine P) (Status × P)) → result ≡ Err (status, new) → Opens source w result od nd old
+    (result : Result (Engine P) (Handed P)) → result ≡ Err (handed status new) → Opens source w result od nd old
     → (source.tells → HasNoCircuit (source.left od) c → (Rose (source.faults od) (source.faults nd) → ⊥) → (status ≡ Words) ⊎ (status ≡ NoMemory))
     → Unpacks source w c status (world od oc old) (world nd oc new)
 unbegun source w c status od nd oc old new result is h circuit =
@@ -202,7 +202,7 @@ unbegun source w c status od nd oc old new result is h circuit =
 pub unaccepted : {S P : Type 0} (source : SourceMeanings S) (w : StationMeanings P) (c : ℕ) (status : Status) (od nd oc : S) (old : P)
     → ReadsDirectory source (Err status) od nd → Unpacks source w c status (world od oc old) (world nd oc old)
 unaccepted source w c status od nd oc old h =
-    unbegun source w c status od nd oc old old (Err (status, old)) refl (no_directory source w status od nd old h)
+    unbegun source w c status od nd oc old old (Err (handed status old)) refl (no_directory source w status od nd old h)
     (λ tells none kept. go status refl (h.ends status refl) tells none kept)
   where
     go : (s : Status) → status ≡ s → IsReadEnd s → source.tells → HasNoCircuit (source.left od) c → (Rose (source.faults od) (source.faults nd) → ⊥) → (status ≡ Words) ⊎ (status ≡ NoMemory)
@@ -233,7 +233,7 @@ unaccepted source w c status od nd oc old h =
 
 -- the journal was not opened, under a directory that has the circuit
 pub unopened : {S P : Type 0} (source : SourceMeanings S) (w : StationMeanings P) (c : ℕ) (status : Status) (d : directories.Directory) (od nd oc : S) (old new : P)
-    (result : Result (Engine P) (Status × P)) → result ≡ Err (status, new) → Opens source w result od nd old
+    (result : Result (Engine P) (Handed P)) → result ≡ Err (handed status new) → Opens source w result od nd old
     → c < length d.circuits → (source.tells → directory_of_bytes (source.left od) ≡ Ok d)
     → Unpacks source w c status (world od oc old) (world nd oc new)
 unopened source w c status d od nd oc old new result is h here read =

@@ -1,12 +1,11 @@
 //! The pieces of a checkpoint, read from a place of a file on.
 ghost use Rattle.std.specs.Prelude.{◌≡◌, ◌+◌, ◌*◌, ◌^◌, ◌<◌, ◌≤◌, true, false, length, IfOk, IfErr, IfSome, IfNone, IsSome, Ok, IsErrOf, vec_len};
-ghost use Rattle.gts_checkpoint.specs.Cited.{ArePlaces, BeginsWith, FindsBulletin, FindsBytes, FindsCircuit, FindsNumbers, FitsValueCircuit, HasCause, IsNoHead, IsReadFault, LONGEST_BODY as longest_body, Rose, bulletin_head, bytes_from, circuit_head, kind_of};
+ghost use Rattle.gts_checkpoint.specs.Cited.{ArePlaces, BeginsWith, FindsBulletin, FindsBytes, FindsCircuit, FindsNumbers, FitsValueCircuit, HasCause, IsNoHead, IsReadFault, LONGEST_BODY as longest_body, Rose, bulletin_head, bytes_from, circuit_head};
 
-use crate::numbers::{number_in_eight, number_in_four};
 use gts_alphabet::LONGEST_BODY;
 use gts_event::{Bulletin, Bytes, CircuitNeed, Items, Places};
 use gts_frame::Kind;
-use gts_record::OpenFault;
+use gts_record::{OpenFault, number_in_eight, number_in_four, read_kind};
 use gts_traits::{Failed, Station};
 use std::alloc::{AllocError, Global};
 
@@ -28,18 +27,6 @@ pub(crate) fn fetch<P: Station>(
 {
     let count = station.read(file, at, into)?;
     Ok(count == into.len())
-}
-
-// The type of frame that a letter stands for.
-fn read_kind(letter: u8) -> Option<Kind>
-    ensures { result ≡ kind_of letter }
-{
-    match letter {
-        b'A' => Some(Kind::An),
-        b'B' => Some(Kind::Bi),
-        b'F' => Some(Kind::Fx),
-        _ => None,
-    }
 }
 
 /// What stands in front of a body.

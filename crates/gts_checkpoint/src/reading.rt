@@ -3,12 +3,11 @@ ghost use Rattle.gts_checkpoint.specs.Cited.{CanBegin, FindsText, FitsNeed, HasC
 ghost use Rattle.gts_event.specs.Items as items;
 
 use crate::lists::{bulletins_at, circuits_at};
-use crate::numbers::{number_in_eight, number_in_four};
 use crate::pieces::fetch;
 use crate::sound::is_sound;
 use gts_directory::Directory;
 use gts_event::{CircuitNeed, Need};
-use gts_record::{OpenFault, Sealer, Version, first_seal};
+use gts_record::{OpenFault, Sealer, Version, first_seal, number_in_eight, number_in_four};
 use gts_traits::{Failed, Station};
 use std::alloc::Global;
 

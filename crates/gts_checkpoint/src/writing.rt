@@ -1,13 +1,12 @@
 ghost use Rattle.std.specs.Prelude.{◌≡◌, ◌+◌, ◌^◌, ◌<◌, ◌≤◌, [], ◌∷◌, ◌++◌, length, flat_map, IfOk, OnOk, IsErrOf};
-ghost use Rattle.gts_checkpoint.specs.Cited.{AllByRecursion, CanPutBulletin, CanPutCircuit, FitBytes, HasCause, HasPut, HasWritten, OnlyOn, Rose, Seals, Stands, WorksBeside, bulletin_head, bytes_of, checkpoint_text, circuit_head, closed_gate, compacted_bytes, count_of, first_seal, head_text, header_text, held, letter_text, need_seal, seal, sealed, seen, written, written_bulletin, written_circuit};
+ghost use Rattle.gts_checkpoint.specs.Cited.{AllByRecursion, CanPutBulletin, CanPutCircuit, FitBytes, HasCause, HasPut, HasWritten, OnlyOn, Rose, Seals, Stands, WorksBeside, bulletin_head, bytes_of, checkpoint_text, circuit_head, closed_gate, compacted_bytes, count_of, first_seal, head_text, header_text, held, need_seal, seal, sealed, seen, written, written_bulletin, written_circuit};
 ghost use Rattle.gts_event.specs.Items as items;
 
 use crate::fault::WriteFault;
-use crate::numbers::{eight_bytes, four_bytes};
 use crate::pen::Pen;
 use gts_event::{Bulletin, CircuitNeed, Need};
 use gts_frame::Kind;
-use gts_record::{HEADER, Sealer, Version, first_seal};
+use gts_record::{HEADER, Sealer, Version, eight_bytes, first_seal, four_bytes, letter_of};
 use gts_traits::{Failed, Station};
 use std::alloc::Global;
 
@@ -40,17 +39,6 @@ fn head(circuits: u32, accepted: u64, bulletins: u32) -> [u8; 20]
     text[8..16].copy_from_slice(&eight_bytes(accepted));
     text[16..].copy_from_slice(&four_bytes(bulletins));
     text
-}
-
-/// The letter that stands for the type of a frame.
-fn letter_of(kind: Kind) -> u8
-    ensures { result ∷ [] ≡ letter_text kind }
-{
-    match kind {
-        Kind::An => b'A',
-        Kind::Bi => b'B',
-        Kind::Fx => b'F',
-    }
 }
 
 /// What stands in front of a body.

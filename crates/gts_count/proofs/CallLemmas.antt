@@ -2,7 +2,7 @@
 use Rattle.std.proofs.Common.{◌≡◌, ℕ, ◌⊎◌, inl, inr, Bool, true, false, List, [], ◌∷◌, ◌++◌, Result, Ok, Err, refl, sym, ap, subst, ◌∙◌, is_err}
 use Rattle.std.proofs.lemmas.Bool.{true≢false}
 use Rattle.std.proofs.lemmas.List.{append-nil, append_assoc, map-append}
-use Rattle.gts_count.specs.Cited.{AfterCall, AfterSettled, AfterSettling, Alone, AtOnce, Behind, Counting, Counts, CountsIf, Directory, DiskFault, Done, Doubt, Entry, Event, Full, GathersOne, GoesOn, HasDoubt, HasUnsaid, Heard, Idle, IsAccepted, IsAnswerCause, IsAnswered, IsCompacting, IsCutShort, IsInDoubt, IsOneMore, IsReopening, IsSettling, IsTold, Kind, MayLeave, NoMemory, OpenFault, Outcome, Parts, SayFault, ShowsTable, Spent, Standing, State, Stopped, SwitchFault, Unsaid, after, after_all, all_done, all_unsaid, counted_meanings, meanings_by, need, outcome, outcome_at, outdated, restart_of, settled, state_at, table, table_of, tally_of}
+use Rattle.gts_count.specs.Cited.{AfterCall, AfterSettled, AfterSettling, Alone, AtOnce, Behind, Counting, Counts, CountsIf, Directory, DiskFault, Done, Doubt, Entry, Event, Full, GathersOne, GoesOn, HasDoubt, HasUnsaid, Heard, Idle, IsAccepted, IsAnswerCause, IsAnswered, IsCompacting, IsCutShort, IsInDoubt, IsOneMore, IsReopening, IsSettling, IsTold, Kind, MayLeave, NoMemory, OpenFault, Outcome, Parts, SayFault, ShowsTable, Spent, Standing, State, Stopped, SwitchFault, Unsaid, after, after_all, all_done, all_unsaid, counted_meanings, need, outcome, outcome_at, outdated, restart_of, settled, state_at, table, table_of, tally_of}
 use Rattle.gts_event.proofs.LawLemmas.{after_all-append}
 use Rattle.gts_count.proofs.CountingLemmas.{counts_more, counts_failed, same_after, outdated_after}
 use Rattle.gts_count.proofs.TakingLemmas.{counts_restarted}
@@ -286,11 +286,6 @@ module _ {O T : Type 0} (meanings : Standing O T) where
 
 -- what holds of the parts holds of what stands for what they do
 module _ {O T W : Type 0} (parts : W → Parts T) (meanings : Standing O T) where
-  pub reopening_by : (tells : Type 0) (result : Result (Unit {0}) OpenFault) (old new : W) → IsReopening (counted_meanings meanings) tells result (parts old) (parts new) → IsReopening (meanings_by parts meanings) tells result old new
-  reopening_by tells result old new r = record { directory = r.directory; adds = r.adds; fault = r.fault }
-
-  pub compacting_by : (result : Result (Unit {0}) SwitchFault) (old new : W) → IsCompacting (counted_meanings meanings) result (parts old) (parts new) → IsCompacting (meanings_by parts meanings) result old new
-  compacting_by result old new r = record { directory = r.directory; begins = r.begins; done = r.done; left = r.left; idle = r.idle; caused = r.caused }
 
 -- the table of the numbers is that of the need
 module _ {O T : Type 0} (meanings : Standing O T) where

@@ -127,7 +127,7 @@ pub fn rewrite<P: Station>(
     ensures { Rewrites P.tells P.calls P.disk_faults P.say_faults result parts.old parts.new }
 {
     // A directory is within its bounds.
-    let _ = (parts.directory.circuits(), parts.directory.limit());
+    parts.directory.bounds_hold();
     let mark = parts.directory.mark();
     let other = 1 - parts.journal.file();
     let used = compacted_size(size);

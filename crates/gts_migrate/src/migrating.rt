@@ -46,7 +46,7 @@ fn take_over<P: Station>(
     ensures unsaid { waiting ≡ Waiting.Refused → IsSayFaultOf result → ⊥ }
 {
     // A limit leaves few draws due.
-    let _ = old.limit();
+    old.bounds_hold();
     let (core, journal) = open_core_any(alloc, station, old)?;
     let prepared = prepare(alloc, &core, old, new, waiting)?;
     rewrite(alloc, station, journal, new, &prepared)

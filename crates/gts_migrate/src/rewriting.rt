@@ -59,7 +59,7 @@ pub(crate) fn rewrite<P: Station>(
     ensures say { CountsSays result (P.say_faults station.old) (P.say_faults station.new) }
 {
     // A directory is within its bounds.
-    let _ = (new.circuits(), new.limit());
+    new.bounds_hold();
     let mut journal = journal;
     let other = 1 - journal.file();
     let used = compacted_size(prepared.size);

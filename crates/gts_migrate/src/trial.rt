@@ -65,7 +65,7 @@ pub fn try_over<P: Station>(
     ensures say { P.say_faults station.new ≡ P.say_faults station.old }
 {
     // A limit leaves few draws due.
-    let _ = old.limit();
+    old.bounds_hold();
     let (core, _journal) = open_core_any(alloc, station, old)?;
     let refusal = refusal_of(alloc, &core, old, new)?;
     let need = core.need(alloc)?;

@@ -2,13 +2,13 @@ ghost use Rattle.std.specs.Prelude.{◌≡◌, ◌<◌, ◌≤◌, List, length,
 ghost use Rattle.gts_missing.specs.Cited.{Comes, Decode, Directory as DirectoryFields, DoesStep, HasSourceCause, HasTableCause, IsHeadIn, IsNew, IsTabled, at_start, bytes_announced, head_of, no_bytes};
 
 use crate::TableFault;
-use crate::decoders::{new_decoders, reopen_all};
 use crate::hearing::feed;
 use gts_capture::{CaptureFault, Head, Steps};
 use gts_connection::CaptureKind;
 use gts_directory::Directory;
 use gts_frame::Decoder;
 use gts_gap::GapTable;
+use gts_replay::{new_decoders, reopen_all};
 use gts_traits::Source;
 use std::alloc::Global;
 

@@ -8,5 +8,6 @@ mod fault;
 mod feeding;
 mod replaying;
 
+pub use decoders::{new_decoders, reopen_all};
 pub use end::ReplayEnd;
 pub use replaying::replay;

@@ -1,5 +1,5 @@
 -- A feed is taken into a journal that opens.
-use Rattle.std.proofs.Common.{◌≡◌, ◌⊎◌, inl, inr, ℕ, zero, suc, ◌+◌, ◌-◌, ◌<◌, ◌≤◌, Bool, true, false, cond, ◌&&◌, List, [], ◌∷◌, ◌++◌, length, drop, Option, Some, None, Result, Ok, Err, refl, sym, ap, subst, ◌∙◌, arith, length-drop}
+use Rattle.std.proofs.Common.{◌≡◌, ◌⊎◌, inl, inr, ℕ, zero, suc, ◌+◌, ◌-◌, ◌<◌, ◌≤◌, Bool, true, false, cond, ◌&&◌, List, [], ◌∷◌, ◌++◌, length, drop, Option, Some, None, Result, Ok, Err, refl, sym, ap, subst, ◌∙◌, arith}
 use Rattle.std.proofs.lemmas.Bool.{cases_lt}
 use Rattle.std.proofs.lemmas.List.{append-nil}
 use Rattle.gts_standby.specs.Cited.{Answers, AsBefore, BeforeIt, Breaks, Call, Core, Damaged, Did, Directory, DiskFault, Diverged, Done, EachOpens, EachSince, End, Ends, EndsAs, EndsBegin, Feed, Files, FollowEnd, HasAdded, HasBegun, HasRead, HasTaken, HoldsAt, InFeed, InHand, IsAddEnd, IsEnd, IsFedEnd, IsOpened, IsReadEnd, IsTakenEnd, Leads, LeavesAlone, Need, NoMemory, OnlySyncs, Open, OpenFault, OpensAsBefore, OpensOneOf, OpensTo, OpensWithin, Outside, Parts, Piece, Read, ReadsAll, Record, SourceFault, StandsFor, State, StopsAs, StopsAt, Syncs, Taken, Version, WithFront, WithinIt, add_all, admits_checkpoint, after, after_records, begin_first, begin_with, begun, begun_taken, by_header, by_piece, checkpoint_text, comes_to, compacted_bytes, compare_first, empty, entry_at, event_of_record, feed_at, file_of, file_opens, files_read, first_seal, header_fault, is_checkpoint, is_checkpoint_fed, is_further, is_other, is_other_first, magic, may_be_cut, need, need_in, open_end, opens, or_anew, own_seals, read_after, read_begun, read_behind, record_behind, record_size, record_text, records_at, restarted, said_by, seal, seals_at, seals_behind, seen, selected, selected_bytes, start_of, state_after, stopped, take_records, taken, unread, written}
@@ -154,9 +154,6 @@ module _ (tells : Type 0) (tell : tells) (d : Directory) (s : State) (fed : List
     (b : HasBegun tells d s fed old at mid core next ahead left) where
   abbrev behind_it : ℕ → Taken
   behind_it place = add_all written d (length fed) next.seal (begun b.n) next.gate place (drop b.size fed)
-
-  pub enough_left : length (drop b.size fed) ≤ length fed
-  enough_left = omega (arith, length-drop b.size fed)
 
   none_begins : (behind_it at).begins ≡ None
   none_begins = no_begin d (length fed) next.seal (begun b.n) next.gate at (drop b.size fed)

@@ -41,7 +41,7 @@ pub(crate) fn add_all<P: Station, S: Source>(
         → ReadsAll result (S.left source.new) }
 {
     // A limit is low enough for the places of gates.
-    let _ = directory.limit();
+    directory.bounds_hold();
     let mut gathering = match Gathering::begin(alloc, journal) {
         Ok(gathering) => gathering,
         Err(NoMemory) => return FollowEnd::NoMemory,

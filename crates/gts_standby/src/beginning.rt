@@ -50,7 +50,7 @@ fn put<P: Station>(
         (P.say_faults station.old) (P.say_faults station.new) }
 {
     // A directory is within its bounds.
-    let _ = (directory.circuits(), directory.limit());
+    directory.bounds_hold();
     let other = 1 - journal.file();
     let used = BESIDE_CHECKPOINT + Version::written().seal_size() as u64 + size as u64;
     let seal = match write(alloc, station, other, directory.mark(), need) {

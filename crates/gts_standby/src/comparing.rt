@@ -57,7 +57,7 @@ fn own_first<P: Station>(
         return own_next(station, own);
     }
     // A limit is low enough for the place of the gate.
-    let _ = directory.limit();
+    directory.bounds_hold();
     let file = own.file();
     let found = read(alloc, station, own.version(), file, directory)?;
     own.pass(found.1, found.2);
@@ -285,7 +285,7 @@ pub(crate) fn compare<P: Station, S: Source>(
     ensures named { IfErr result IsNamedEnd }
 {
     // A limit is low enough for what a checkpoint takes.
-    let _ = directory.limit();
+    directory.bounds_hold();
     let mut own = Journal::start(alloc, station, directory.mark())?;
     let size = compare_first(alloc, station, directory, &mut own, source, ahead)?;
     let at = HEADER as u64 + size as u64;

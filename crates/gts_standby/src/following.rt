@@ -157,7 +157,7 @@ fn take_records<P: Station, S: Source>(
     ensures named { IsNamedEnd result }
 {
     // A limit is low enough for the places of gates.
-    let _ = directory.limit();
+    directory.bounds_hold();
     let end = journal.used() - 1;
     if end <= HEADER as u64 {
         return take_first(alloc, station, directory, core, journal, source, ahead);

@@ -62,7 +62,7 @@ impl Gathering {
     {
         ahead.fill(source, LONGEST)?;
         // A limit is low enough for the places of gates.
-        let _ = directory.limit();
+        directory.bounds_hold();
         let version = self.journal.version();
         let gate = self.journal.behind_gate() - 1 + self.batch.used();
         match decode_sealed(version, &self.seal, ahead.bytes()) {
@@ -101,7 +101,7 @@ impl Gathering {
             (P.say_faults station.old) (P.say_faults station.new) }
     {
         // A limit is low enough for the places of gates.
-        let _ = directory.limit();
+        directory.bounds_hold();
         if self.batch.is_empty() {
             return Ok(());
         }

@@ -44,7 +44,7 @@ fn say_checkpoint<P: Station>(
         return Ok(());
     }
     // A limit is low enough for the place of the gate.
-    let _ = directory.limit();
+    directory.bounds_hold();
     let file = journal.file();
     let found = read(alloc, station, journal.version(), file, directory)?;
     say_part(station, file, HEADER as u64 + 1, found.1)?;
@@ -105,7 +105,7 @@ pub fn ship<P: Station>(
     ensures say { P.say_faults station.old ≤ P.say_faults station.new }
 {
     // A limit is low enough for the places of gates.
-    let _ = directory.limit();
+    directory.bounds_hold();
     let end = open_core(alloc, station, directory)?.1.used() - 1;
     let journal = Journal::start(alloc, station, directory.mark())?;
     say_feed(alloc, station, directory, journal, end)
@@ -138,7 +138,7 @@ pub fn ship_since<P: Station>(
     ensures say { P.say_faults station.old ≤ P.say_faults station.new }
 {
     // A limit is low enough for the places of gates.
-    let _ = directory.limit();
+    directory.bounds_hold();
     let end = open_core(alloc, station, directory)?.1.used() - 1;
     let mut journal = Journal::start(alloc, station, directory.mark())?;
     if look_for(alloc, station, directory, &mut journal, end, since)? {

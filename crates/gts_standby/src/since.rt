@@ -46,7 +46,7 @@ fn pass_checkpoint<P: Station>(
         return Ok(());
     }
     // A limit is low enough for the place of the gate.
-    let _ = directory.limit();
+    directory.bounds_hold();
     let file = journal.file();
     let found = read(alloc, station, journal.version(), file, directory)?;
     journal.pass(found.1, found.2);

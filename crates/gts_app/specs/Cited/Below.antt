@@ -62,7 +62,7 @@ pub use Rattle.gts_lock.specs.Cited.{Known, entries, entries_under}
 pub use Rattle.gts_lock.specs.declared.limits.TheConstants.{MOST_TURNS}
 pub use Rattle.gts_words.specs.Cited.{command_of}
 pub use Rattle.gts_words.specs.declared.command.Command.{Command}
-pub use Rattle.gts_words.specs.declared.command.Command.TheVariants.{Count, Follow, Gaps, Generate, Init, Migrate, MigrateCheck, MigrateDrop, Pack, Replay, Serve, ServeAlways, Ship, ShipSince, Show, Unpack}
+pub use Rattle.gts_words.specs.declared.command.Command.TheVariants.{Generate, Serve, Unpack}
 pub use Rattle.gts_receiver.specs.Cited.{fault_entries, goes_on}
 pub use Rattle.gts_receiver.specs.declared.end.ReceiveEnd.{ReceiveEnd}
 pub use Rattle.gts_receiver.specs.declared.limits.TheConstants.{WITHOUT_END}

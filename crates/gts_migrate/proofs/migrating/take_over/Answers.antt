@@ -30,7 +30,7 @@ waiting_failed T Dropped found NoMemory is = is
 pub prepare-requires-clause-due : goal.prepare-requires-clause-due
 prepare-requires-clause-due g c =
     few_due g.P.Station.tells c.args.old.now c.args.new.now c.requires (g.P.Station.calls c.open_core_any.new.station) c.in_ok-core.core c.in_ok-core.journal c.in_ok-core.ensures.opened
-    (omega (arith, c.limit.ensures.value, c.limit.ensures.range.1))
+    (omega (arith, c.bounds_hold.ensures.greatest))
 
 pub rewrite-requires-clause-fits : goal.rewrite-requires-clause-fits
 rewrite-requires-clause-fits g c =

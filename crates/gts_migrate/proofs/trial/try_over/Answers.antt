@@ -5,7 +5,7 @@ use Rattle.gts_migrate.proofs.trial.try_over.Goals as goal
 pub refusal_of-requires-clause-due : goal.refusal_of-requires-clause-due
 refusal_of-requires-clause-due g c =
     few_due g.P.Station.tells c.args.old.now c.args.new.now c.requires (g.P.Station.calls c.open_core_any.new.station) c.in_ok-core.core c.in_ok-core._journal c.in_ok-core.ensures.opened
-    (omega (arith, c.limit.ensures.value, c.limit.ensures.range.1))
+    (omega (arith, c.bounds_hold.ensures.greatest))
 
 pub returns-clause-tried : goal.returns-clause-tried
 returns-clause-tried g c =
