@@ -19,13 +19,13 @@ usage: gts_switch COMMAND, in a folder with directory.toml
   generate N   works through a day of N messages in memory
   migrate      takes the journal over from directory.old.toml
   migrate drop the same, and drops what waits on closed circuits
-  migrate check tells what would change then, and changes nothing
+  migrate check observed what would change then, and changes nothing
   unpack cc    takes a file of bulletins in on circuit cc
   pack         makes a file of bulletins of a stream of frames
   gaps DDHHMM  names missing numbers, and asks for them
   ship         writes the journal for a standby
   follow       takes in what was shipped
-  count        works through capture.gts, and tells the traffic
+  count        works through capture.gts, and observed the traffic
   --version    this program's version
   --help       these lines
 The manual page gts_switch(1) has the rest.";

@@ -21,5 +21,5 @@ pub use Rattle.gts_app.specs.Follow.{ComesTo, FollowedAs, FollowsFeed, RefusedBy
 pub use Rattle.gts_app.specs.Count.{Behind, CountsEngine, CountsTraffic, EndsWithoutTable, SaysTable, table_behind}
 pub use Rattle.gts_app.specs.declared.status.Status.{Status}
 pub use Rattle.gts_app.specs.declared.world.Handed.{Handed}
-pub use Rattle.gts_app.specs.declared.status.Status.TheVariants.{Accum, Capture, Changed, Damaged, Directory, DiskFault, Diverged, Done, Exists, Feed, Full, LineFault, LongSession, NoJournal, NoMemory, NotThis, OldDirectory, OldVersion, SayFault, SourceFault, Spent, Waits, Words}
+pub use Rattle.gts_app.specs.declared.status.Status.TheVariants.{Capture, Changed, Closed, Damaged, Directory, DiskFault, Done, Exists, Feed, File, Full, InputFault, LineFault, LongSession, NoJournal, NoMemory, OldDirectory, OldVersion, OtherDirectory, OtherFeed, OutputFault, TicketsSpent, Usage}
 unfoldable pub use Below.*

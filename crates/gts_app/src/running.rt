@@ -54,9 +54,9 @@ where
     L::Out: Drop,
     G: Gate,
     // The words are looked at first; other words change nothing. A circuit is looked for in the directory.
-    ensures words { (result.status ≡ Status.Words → IsSettled words.now → ⊥)
+    ensures words { (result.status ≡ Status.Usage → IsSettled words.now → ⊥)
         × ((IsCommand words.now → ⊥)
-        → (result.status ≡ Status.Words) ⊎ (result.status ≡ Status.NoMemory)) }
+        → (result.status ≡ Status.Usage) ⊎ (result.status ≡ Status.NoMemory)) }
     ensures unchanged { (IsCommand words.now → ⊥) → result.world ≡ world }
 
     // What each end of a command means that works on the journal, and reads the directory alone.
@@ -104,12 +104,12 @@ where
     // And of those over lines, and without a journal.
     ensures serve { (n : ℕ) → command_of words.now ≡ Some (Command.Serve n)
         → (result.world.capture ≡ world.capture)
-        × Serves S.Source P.Station L.In.tells L.Out.tells n result.status
+        × Serves S.Source P.Station L.In.observed L.Out.observed n result.status
         world.directory world.station (seen L.Lines lines.old)
         result.world.directory result.world.station (seen L.Lines lines.new) }
     ensures serve_always { command_of words.now ≡ Some Command.ServeAlways
         → (result.world.capture ≡ world.capture)
-        × Serves S.Source P.Station L.In.tells L.Out.tells WITHOUT_END result.status
+        × Serves S.Source P.Station L.In.observed L.Out.observed WITHOUT_END result.status
         world.directory world.station (seen L.Lines lines.old)
         result.world.directory result.world.station (seen L.Lines lines.new) }
     ensures generate { (count : ℕ) → command_of words.now ≡ Some (Command.Generate count)
@@ -117,7 +117,7 @@ where
         × Generates P.Station result.status count world.station result.world.station }
 
     // Bytes that are no capture of the directory are not done.
-    ensures no_capture { command_of words.now ≡ Some Command.Replay → S.tells → P.tells
+    ensures no_capture { command_of words.now ≡ Some Command.Replay → S.observed → P.observed
         → IsNoCapture (S.left world.directory) (S.left world.capture)
         → result.status ≡ Status.Done → ⊥ }
 
@@ -129,7 +129,7 @@ where
     a_count_is_within_its_limits();
     let command = match read_words(alloc, words) {
         Ok(command) => command,
-        Err(WordsFault::Words) => return ended(Status::Words, world),
+        Err(WordsFault::Words) => return ended(Status::Usage, world),
         Err(WordsFault::NoMemory) => return ended(Status::NoMemory, world),
     };
     match command {

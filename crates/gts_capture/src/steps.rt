@@ -67,7 +67,7 @@ impl Steps {
     /// source's count of faults rose; then what is held is the beginning of a head, and all that stands before it was handed on.
     pub fn next<S: Source>(&mut self, source: &mut S) -> Result<Head, CaptureFault>
         requires taken { self.old.feed ≡ 0 }
-        ensures told { S.tells → IfOk result (λ head. self.old.ahead ++ S.left source.old
+        ensures told { S.observed → IfOk result (λ head. self.old.ahead ++ S.left source.old
             ≡ line_of head ++ (self.new.ahead ++ S.left source.new)) }
         ensures valid { IfOk result (λ head.
             IsHeadIn self.old.circuits self.old.kind (head_of head)) }
@@ -75,10 +75,10 @@ impl Steps {
         ensures at { IfOk result (λ head.
             self.new.at ≡ self.old.at + length (line_of head)) }
         ensures within { IfOk result (λ head. self.new.at ≤ LONGEST_CAPTURE) }
-        ensures bad { S.tells → (at : ℕ) → result ≡ Err (CaptureFault.Bad at)
+        ensures bad { S.observed → (at : ℕ) → result ≡ Err (CaptureFault.Bad at)
             → IsBadAt self.old
             (readable_from self.old.at (self.old.ahead ++ S.left source.old)) at }
-        ensures source_fault { S.tells → result ≡ Err CaptureFault.SourceFault
+        ensures source_fault { S.observed → result ≡ Err CaptureFault.SourceFault
             → StopsInHead self.old self.new (S.left source.old) (S.left source.new) }
         ensures same { IsSameCapture self.old self.new }
         ensures cause { HasSourceCause result (S.faults source.old) (S.faults source.new) }
@@ -104,16 +104,16 @@ impl Steps {
         source: &mut S,
         into: &mut [u8],
     ) -> Result<usize, CaptureFault>
-        ensures told { S.tells → IfOk result (λ count. self.old.ahead ++ S.left source.old
+        ensures told { S.observed → IfOk result (λ count. self.old.ahead ++ S.left source.old
             ≡ take count into.new ++ (self.new.ahead ++ S.left source.new)) }
         ensures most { IfOk result (λ count. count ≤ min (length into.old) self.old.feed) }
         ensures left { IsErr result → 0 < self.old.feed }
         ensures some { IfOk result (λ count. count ≡ 0 → min (length into.old) self.old.feed ≡ 0) }
         ensures passed { IfOk result (λ count. Passed self.old self.new count) }
-        ensures bad { S.tells → (at : ℕ) → result ≡ Err (CaptureFault.Bad at)
+        ensures bad { S.observed → (at : ℕ) → result ≡ Err (CaptureFault.Bad at)
             → EndsInFeed self.old
             (readable_from self.old.at (self.old.ahead ++ S.left source.old)) at }
-        ensures source_fault { S.tells → result ≡ Err CaptureFault.SourceFault
+        ensures source_fault { S.observed → result ≡ Err CaptureFault.SourceFault
             → StopsInFeed self.old self.new (S.left source.old) (S.left source.new) }
         ensures same { IsSameCapture self.old self.new }
         ensures cause { HasSourceCause result (S.faults source.old) (S.faults source.new) }
@@ -170,15 +170,15 @@ impl Steps {
     /// longest capture.
     fn fill<S: Source>(&mut self, source: &mut S) -> Result<usize, Failed>
         requires { length self.old.ahead < BUFFER }
-        ensures told { S.tells → IfOk result (λ count.
+        ensures told { S.observed → IfOk result (λ count.
             self.new.ahead ++ S.left source.new ≡ self.old.ahead ++ S.left source.old) }
-        ensures end { S.tells → IfOk result (λ count. count ≡ 0
+        ensures end { S.observed → IfOk result (λ count. count ≡ 0
             → readable_from (self.old.at + length self.old.ahead) (S.left source.old) ≡ []) }
         ensures count { IfOk result (λ count.
             length self.new.ahead ≡ length self.old.ahead + count) }
         ensures others { self.new ≡ record self.old { ahead = self.new.ahead } }
         ensures unchanged { OnErr result (self.new ≡ self.old) }
-        ensures untaken { S.tells → OnErr result (S.left source.new ≡ S.left source.old) }
+        ensures untaken { S.observed → OnErr result (S.left source.new ≡ S.left source.old) }
         ensures within { self.new.at + length self.new.ahead ≤ LONGEST_CAPTURE }
         ensures cause { HasCause result (S.faults source.old) (S.faults source.new) }
     {

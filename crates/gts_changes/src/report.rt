@@ -85,17 +85,18 @@ pub fn changes<P: Station>(
     requires { TakesOver new.now old.now }
 
     // It is the report of the need of the state to which the files open.
-    ensures report { P.tells → OnOk result ((s : State) × (used : ℕ)
+    ensures report { P.observed → OnOk result ((s : State) × (used : ℕ)
         × (files_open_any old.now (seen (P.calls station.old)) ≡ Ok (s, used))
         × (text.new ≡ text.old ++ report.changes new.now old.now (need_at old.now s))) }
     ensures unchanged { OnErr result (text.new ≡ text.old) }
-    ensures synced { P.tells → OnOk result (P.calls station.new ≡ Did Syncs ∷ P.calls station.old) }
+    ensures synced { P.observed → OnOk result (P.calls station.new
+        ≡ Did Syncs ∷ P.calls station.old) }
 
     // A fault of the files is answered exactly where they open to it.
-    ensures fault { P.tells → IfErr result (λ e. IsAnswer e
+    ensures fault { P.observed → IfErr result (λ e. IsAnswer e
         (opens_any old.now (seen (P.calls station.old)))) }
-    ensures never_older { P.tells → IfErr result (λ e. e ≢ OpenFault.OldVersion) }
-    ensures told { P.tells → OnlySyncs (P.calls station.old) (P.calls station.new) }
+    ensures never_older { P.observed → IfErr result (λ e. e ≢ OpenFault.OldVersion) }
+    ensures told { P.observed → OnlySyncs (P.calls station.old) (P.calls station.new) }
     ensures disk_fault { IsErrOf result OpenFault.DiskFault
         → Rose (P.disk_faults station.old) (P.disk_faults station.new) }
     ensures later { P.disk_faults station.old ≤ P.disk_faults station.new }

@@ -17,11 +17,11 @@ pub(crate) fn fetch<P: Station>(
     into: &mut [u8],
 ) -> Result<bool, Failed>
     requires { file < 3 }
-    ensures whole { P.tells → result ≡ Ok true
+    ensures whole { P.observed → result ≡ Ok true
         → BeginsWith (bytes_from (P.calls station.old) file at) into.new }
-    ensures short { P.tells → result ≡ Ok false
+    ensures short { P.observed → result ≡ Ok false
         → length (bytes_from (P.calls station.old) file at) < length into.old }
-    ensures told { P.tells → P.calls station.new ≡ P.calls station.old }
+    ensures told { P.observed → P.calls station.new ≡ P.calls station.old }
     ensures cause { HasCause result (P.disk_faults station.old) (P.disk_faults station.new) }
     ensures say { P.say_faults station.new ≡ P.say_faults station.old }
 {
@@ -81,10 +81,10 @@ pub(crate) fn body_at<P: Station>(
     size: u32,
 ) -> Result<Option<Bytes>, OpenFault>
     requires file { file < 3 }
-    ensures found { P.tells → IfOk result
+    ensures found { P.observed → IfOk result
         (FindsBytes (bytes_from (P.calls station.old) file at) size) }
     ensures size { IfOk result (λ found. IfSome found (λ body. length body ≡ size)) }
-    ensures told { P.tells → P.calls station.new ≡ P.calls station.old }
+    ensures told { P.observed → P.calls station.new ≡ P.calls station.old }
     ensures kind { IfErr result IsReadFault }
     ensures disk_fault { IsErrOf result OpenFault.DiskFault
         → Rose (P.disk_faults station.old) (P.disk_faults station.new) }
@@ -108,11 +108,11 @@ pub(crate) fn bulletin_at<P: Station>(
 ) -> Result<Option<Bulletin>, OpenFault>
     requires file { file < 3 }
     requires place { at < 2 ^ 62 }
-    ensures found { P.tells → IfOk result
+    ensures found { P.observed → IfOk result
         (FindsBulletin (bytes_from (P.calls station.old) file at)) }
     ensures short { IfOk result (λ found. IfSome found (λ b. (b.position < 2 ^ 64)
         × (length b.body ≤ longest_body))) }
-    ensures told { P.tells → P.calls station.new ≡ P.calls station.old }
+    ensures told { P.observed → P.calls station.new ≡ P.calls station.old }
     ensures kind { IfErr result IsReadFault }
     ensures disk_fault { IsErrOf result OpenFault.DiskFault
         → Rose (P.disk_faults station.old) (P.disk_faults station.new) }
@@ -147,11 +147,11 @@ fn positions_at<P: Station>(
 ) -> Result<Option<Places>, OpenFault>
     requires file { file < 3 }
     requires place { at < 2 ^ 62 }
-    ensures found { P.tells → IfOk result
+    ensures found { P.observed → IfOk result
         (FindsNumbers (bytes_from (P.calls station.old) file at) count) }
     ensures size { IfOk result (λ found. IfSome found (λ ps. length ps ≡ count)) }
     ensures fits { IfOk result (λ found. IfSome found ArePlaces) }
-    ensures told { P.tells → P.calls station.new ≡ P.calls station.old }
+    ensures told { P.observed → P.calls station.new ≡ P.calls station.old }
     ensures kind { IfErr result IsReadFault }
     ensures disk_fault { IsErrOf result OpenFault.DiskFault
         → Rose (P.disk_faults station.old) (P.disk_faults station.new) }
@@ -202,10 +202,10 @@ pub(crate) fn circuit_at<P: Station>(
 ) -> Result<Option<CircuitNeed>, OpenFault>
     requires file { file < 3 }
     requires place { at < 2 ^ 61 }
-    ensures found { P.tells → IfOk result
+    ensures found { P.observed → IfOk result
         (FindsCircuit (bytes_from (P.calls station.old) file at)) }
     ensures fits { IfOk result (λ found. IfSome found FitsValueCircuit) }
-    ensures told { P.tells → P.calls station.new ≡ P.calls station.old }
+    ensures told { P.observed → P.calls station.new ≡ P.calls station.old }
     ensures kind { IfErr result IsReadFault }
     ensures disk_fault { IsErrOf result OpenFault.DiskFault
         → Rose (P.disk_faults station.old) (P.disk_faults station.new) }

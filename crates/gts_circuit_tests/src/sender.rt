@@ -61,7 +61,7 @@ impl Desk for OwedDesk {
     }
 }
 
-/// A sink that takes five bytes at once, and fails from its third call on. It tells nothing to contracts.
+/// A sink that takes five bytes at once, and fails from its third call on. Its bytes are not observed.
 #[derive(Drop)]
 struct NarrowSink {
     bytes: Vec<u8>,
@@ -70,7 +70,7 @@ struct NarrowSink {
 }
 
 impl Sink for NarrowSink {
-    ghost tells = { ⊥ };
+    ghost observed = { ⊥ };
 
     ghost written = { λ s. s.bytes.items };
 

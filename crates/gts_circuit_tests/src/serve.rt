@@ -51,8 +51,8 @@ where
     B: Began + Send,
     requires some { 1 ≤ connections }
     requires mode { B.beginning.makes_room ≡ service.goes_on connections }
-    requires stands { Stands P.tells P.calls P.disk_faults P.say_faults B.beginning [] engine }
-    requires tells { P.tells }
+    requires stands { Stands P.observed P.calls P.disk_faults P.say_faults B.beginning [] engine }
+    requires observed { P.observed }
 {
     let served: Served<P, B> = serve(rt, alloc, engine, lines, connections, &FreeGate);
     let Served { engine, end, pass } = served;
@@ -60,7 +60,7 @@ where
     (station, end, pass.is_some())
 }
 
-/// Opens the journal of a station that tells, and serves its circuits.
+/// Opens the journal of a station that is observed, and serves its circuits.
 fn open_and_run<R, P>(
     rt: &R,
     alloc: Global,
@@ -72,7 +72,7 @@ fn open_and_run<R, P>(
 where
     R: Threads + Wait + Sync,
     P: Station + Send + Drop,
-    requires tells { P.tells }
+    requires observed { P.observed }
     requires some { 1 ≤ connections }
 {
     // What its history begins with.

@@ -1,6 +1,6 @@
 -- What a desk has seen, and what a call on it adds.
 use Rattle.std.specs.Prelude.{◌≡◌, ◌⊎◌, ℕ, ◌+◌, Bool, true, false, List, [], ◌∷◌, ◌++◌, map, Result, Ok, Err, Option}
-use Rattle.gts_desk.specs.Cited.Below.{AddsFed, Directory, DiskFault, Done, Doubt, Draw, Entry, Event, Fault, FeedEnd, Full, History, Idle, IsCaused, Need, NoMemory, Outcome, Resend, SayFault, Spent, StartsWith, State, Stopped, SwitchFault, TableId, Taken, Unsaid, after, after_all, begun, entries, entries_under, line, outcome}
+use Rattle.gts_desk.specs.Cited.Below.{AddsFed, Directory, DiskFault, Done, Doubt, Draw, Entry, Event, Fault, FeedEnd, Full, History, Idle, IsCaused, Need, NoMemory, Outcome, Resend, SayFault, Spent, StartsWith, State, Stopped, SwitchFault, TableId, Taken, Unsaid, after, after_all, begun, entries, entries_under, frame_of_draw, outcome}
 
 -- What a desk has seen: the hall that it is at, or none; the directory; what the history starts from, and the bytes of the
 -- journal there; whether the journal may be compacted meanwhile, to make room; the desk's own name; how many turns it has had;
@@ -91,8 +91,8 @@ SaysNoMore o s = Unit {0}
 
 -- A take leaves its frame: that of the draw of this index, drawn just now or earlier.
 abbrev pub LeavesFrame : Directory → ℕ → List ℕ → Outcome → State → Type 0
-LeavesFrame d c out (Resend index) s = out ≡ line d (after d s (Taken c)) c index
-LeavesFrame d c out (Draw index) s = out ≡ line d (after d s (Taken c)) c index
+LeavesFrame d c out (Resend index) s = out ≡ frame_of_draw d (after d s (Taken c)) c index
+LeavesFrame d c out (Draw index) s = out ≡ frame_of_draw d (after d s (Taken c)) c index
 LeavesFrame d c out _ s = Unit {0}
 
 -- the history went on, and the desk is the same

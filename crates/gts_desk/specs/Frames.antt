@@ -1,12 +1,12 @@
 -- The frames that the entries under one name draw, one after another.
 use Rattle.std.specs.Prelude.{ℕ, ◌==◌, List, [], ◌∷◌, ◌++◌, if◌then◌else◌}
-use Rattle.gts_desk.specs.Cited.Below.{Directory, Done, Doubt, Draw, Entry, Event, Heard, Idle, Lost, Outcome, Resend, Restarted, State, Taken, Unsaid, after, after_entry, begun, line, outcome}
+use Rattle.gts_desk.specs.Cited.Below.{Directory, Done, Doubt, Draw, Entry, Event, Heard, Idle, Lost, Outcome, Resend, Restarted, State, Taken, Unsaid, after, after_entry, begun, frame_of_draw, outcome}
 use Rattle.gts_desk.specs.Desks.{Seen}
 
 -- the frame of a take with this outcome, which left this state: none where nothing was given
 abbrev pub frame_of_outcome : Directory → State → ℕ → Outcome → List ℕ
-frame_of_outcome d s c (Resend index) = line d s c index
-frame_of_outcome d s c (Draw index) = line d s c index
+frame_of_outcome d s c (Resend index) = frame_of_draw d s c index
+frame_of_outcome d s c (Draw index) = frame_of_draw d s c index
 frame_of_outcome d s c _ = []
 
 -- of an event that comes to this state

@@ -1,6 +1,6 @@
 -- The frames that the takes of one turn gave, and what such a turn adds.
 use Rattle.std.specs.Prelude.{◌≡◌, ℕ, zero, suc, ◌+◌, ◌-◌, ◌<◌, ◌≤◌, Bool, true, false, List, [], ◌∷◌, length, take, drop, map, replicate, slice_index_or, sum_by, Option, Some, None, Result, Ok, Err}
-use Rattle.gts_desk.specs.Cited.Below.{Directory, DiskFault, Done, Doubt, Draw, Entry, Idle, LONGEST_FRAME, NoMemory, Nothing, Outcome, Resend, SayFault, Spent, State, SwitchFault, Taken, after, line, outcome}
+use Rattle.gts_desk.specs.Cited.Below.{Directory, DiskFault, Done, Doubt, Draw, Entry, Idle, LONGEST_FRAME, NoMemory, Nothing, Outcome, Resend, SayFault, Spent, State, SwitchFault, Taken, after, frame_of_draw, outcome}
 use Rattle.gts_desk.specs.declared.given.Placed.{Placed}
 use Rattle.gts_desk.specs.declared.given.TheConstants.{MOST_BYTES, MOST_FRAMES}
 use Rattle.gts_desk.specs.Desks.{Seen, AddsAll, AddsEntries, IsSpent}
@@ -56,7 +56,7 @@ given_index _ = None
 -- a take on c at this state gave this frame
 pub record Gave (d : Directory) (s : State) (c : ℕ) (frame : Frame) : Type 0 where
   pub index : given_index (outcome d s (Taken c)) ≡ Some frame.index
-  pub text : frame.text ≡ line d (after d s (Taken c)) c frame.index
+  pub text : frame.text ≡ frame_of_draw d (after d s (Taken c)) c frame.index
 
 -- takes on c, one after another from this state on, gave these frames
 abbrev pub GaveAll : Directory → State → ℕ → List Frame → Type 0

@@ -3,7 +3,7 @@ use gts_directory::{CircuitRow, DirRows, Directory, RuleRow};
 use gts_engine::{Engine, SayMode};
 use gts_event::{Device, Outcome};
 use gts_fixtures::{MARK, is_same, two_circuits};
-use gts_frame::{FrameBuf, Kind, LostField};
+use gts_frame::{FrameBuf, FrameField, Kind};
 use gts_journal::Journal;
 use gts_memory::MemStation;
 use std::alloc::Global;
@@ -118,7 +118,7 @@ fn lost(engine: &mut Engine<MemStation>) -> Option<Outcome> {
     if engine.directory().circuits() == 0 {
         return None;
     }
-    Engine::lost(engine, 0, LostField::Kind).ok()
+    Engine::lost(engine, 0, FrameField::Kind).ok()
 }
 
 /// What stopped an engine after a message and a loss.

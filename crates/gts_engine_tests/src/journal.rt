@@ -31,7 +31,7 @@ const UNSEALED: &[u8] =
 fn read_to_end<P: Station>(alloc: Global, station: &mut P) -> Result<(Journal, u64), OpenFault>
     ensures current { IfOk result (λ x. IsCurrent x.0) }
     ensures end { IfOk result (λ x. x.0.ended ≡ true) }
-    ensures stands { P.tells → IfOk result (λ x. StandsOn (P.calls station.new) x.0) }
+    ensures stands { P.observed → IfOk result (λ x. StandsOn (P.calls station.new) x.0) }
 {
     let mut journal = Journal::start(alloc, station, MARK)?;
     let mut count: u64 = 0;

@@ -1,7 +1,7 @@
 -- One message or loss more, behind what a switch stands for.
 use Rattle.std.proofs.Common.{◌≡◌, ℕ, ◌⊎◌, inl, inr, List, [], ◌∷◌, ◌++◌, Result, Ok, Err, refl, sym, subst, ◌∙◌}
 use Rattle.std.proofs.lemmas.List.{append-nil}
-use Rattle.gts_feed.specs.Cited.{AfterCall, AfterHearing, BreaksLast, BreaksOff, DiskFault, Done, Doubt, Entry, Event, Full, GoesFed, Idle, IsAnswerCause, IsAnswered, IsCause, IsCutShort, IsHeard, IsInDoubt, Kind, LostField, NoMemory, Outcome, SayFault, Spent, Standing, Stands, Stopped, SwitchFault, Unsaid, all_done, end_heard, end_lost, outcome_at, settled}
+use Rattle.gts_feed.specs.Cited.{AfterCall, AfterHearing, BreaksLast, BreaksOff, DiskFault, Done, Doubt, Entry, Event, FrameField, Full, GoesFed, Idle, IsAnswerCause, IsAnswered, IsCause, IsCutShort, IsHeard, IsInDoubt, Kind, NoMemory, Outcome, SayFault, Spent, Standing, Stands, Stopped, SwitchFault, Unsaid, all_done, end_heard, end_lost, outcome_at, settled}
 use Rattle.gts_event.specs.declared.event.Event.TheVariants as event
 use Rattle.gts_feed.proofs.GoingLemmas.{within_all, cause_at, one_more, in_doubt, cut_short}
 
@@ -114,7 +114,7 @@ module _ {O W : Type 0} (meanings : Standing O W) where
       go (Err NoMemory) is = (broke NoMemory is, tt)
 
   -- a loss was entered
-  pub lost_goes : (c : ℕ) (field : LostField) (message : List ℕ) (result : Result Outcome SwitchFault) (old new : W) → IsAnswered meanings (event.Lost c field) result old new
+  pub lost_goes : (c : ℕ) (field : FrameField) (message : List ℕ) (result : Result Outcome SwitchFault) (old new : W) → IsAnswered meanings (event.Lost c field) result old new
       → (o : O) (first : ℕ) (h : List Entry) → Stands meanings o first h old → GoesFed meanings o first h c (event.Lost c field ∷ []) message (end_lost field result) new
   lost_goes c field message result old new answered o first h s = go result refl
     where

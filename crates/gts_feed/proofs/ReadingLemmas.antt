@@ -2,7 +2,7 @@
 use Rattle.std.proofs.Common.{◌≡◌, ℕ, ◌+◌, ◌-◌, ◌<◌, ◌≤◌, Bool, true, false, ◌&&◌, not, List, [], ◌∷◌, ◌++◌, length, take, drop, Option, Some, None, refl, sym, ap, ◌∙◌, subst, arith, append_assoc, length-append, length-drop, IsSome, IfSome, IfNone}
 use Rattle.std.proofs.lemmas.List.{append-nil, take_all, length-take-le}
 use Rattle.std.proofs.Math.Seq.{take-append_seam, take-add}
-use Rattle.gts_feed.specs.Cited.{Decoding, EndsAt, Event, IsPartial, IsStreamFront, KeepsOver, LosesLast, LostField, Makes, Reads, ReadsOn, Step, after_step, events_added, events_of_signs, held_in, is_event, is_front, is_part, piece_text, signs_of_step}
+use Rattle.gts_feed.specs.Cited.{Decoding, EndsAt, Event, FrameField, IsPartial, IsStreamFront, KeepsOver, LosesLast, Makes, Reads, ReadsOn, Step, after_step, events_added, events_of_signs, held_in, is_event, is_front, is_part, piece_text, signs_of_step}
 use Rattle.gts_frame.specs.declared.step.Step.TheVariants as steps
 use Rattle.gts_frame.proofs.LawLemmas.{reads-open, front-open, part-is}
 use Rattle.gts_connection.proofs.LawLemmas.{added-twice, added-signs}
@@ -27,7 +27,7 @@ front_of_part : (bytes : List ℕ) → IsPartial bytes → IsStreamFront bytes
 front_of_part bytes p = (piece_text p.0, p.1 ∷ p.2, (p.0 ∷ [], (p.3, tt), sym (append-nil (piece_text p.0))), p.4)
 
 -- the bytes up to the one at which synchronisation is lost keep it
-kept_before : (given h init : List ℕ) (last : ℕ) (field : LostField) → held_in given ≡ Some h → Makes (h ++ (init ++ last ∷ [])) (steps.Lost field) → IsSome (held_in (given ++ init))
+kept_before : (given h init : List ℕ) (last : ℕ) (field : FrameField) → held_in given ≡ Some h → Makes (h ++ (init ++ last ∷ [])) (steps.Lost field) → IsSome (held_in (given ++ init))
 kept_before given h init last field is makes =
     let all : List ℕ = h ++ (init ++ last ∷ []) in
     let part : is_part (take (length all - 1) all) ≡ true = and_first (is_part (take (length all - 1) all)) (not (is_front all)) makes.0 in
@@ -53,7 +53,7 @@ module _ (before x : List ℕ) (step : Step) (decoder next : Decoding) (held : d
       keeps : (d : Decoding) → next ≡ d → IsSome d.held → KeepsOver before x
       keeps d same kept = λ s. subst IsSome (ap (λ (e : Decoding). e.held) (sym same) ∙ reads.held) kept
 
-      loses : (field : LostField) → Makes (h ++ x) (steps.Lost field) → next.held ≡ None → LosesLast before x
+      loses : (field : FrameField) → Makes (h ++ x) (steps.Lost field) → next.held ≡ None → LosesLast before x
       loses field m none =
           let cut = ends_with x some in
           let M : List ℕ → Type 0 = λ l. Makes (h ++ l) (steps.Lost field) in

@@ -1,6 +1,6 @@
 -- What became of a piece of a connection: what the decoder holds by then, and which entries were added for its events.
 use Rattle.std.specs.Prelude.{◌≡◌, ℕ, ◌≤◌, Bool, true, false, List, [], ◌∷◌, ◌++◌, length, take, None, Result, Ok, Err, IsSome}
-use Rattle.gts_feed.specs.Cited.Below.{Decoding, DiskFault, Doubt, Entry, Event, Full, Idle, Kind, LONGEST_MESSAGE, LostField, NoMemory, Outcome, SayFault, Spent, Stopped, SwitchFault, all_done, all_unsaid, held_in}
+use Rattle.gts_feed.specs.Cited.Below.{Decoding, DiskFault, Doubt, Entry, Event, FrameField, Full, Idle, Kind, LONGEST_MESSAGE, NoMemory, Outcome, SayFault, Spent, Stopped, SwitchFault, all_done, all_unsaid, held_in}
 use Rattle.gts_event.specs.declared.event.Event.TheVariants as event
 use Rattle.gts_feed.specs.declared.fed.Fed.{Fed}
 use Rattle.gts_feed.specs.declared.fed.FeedEnd.{FeedEnd}
@@ -37,7 +37,7 @@ end_heard kind (Err Spent) = Fault Spent
 end_heard kind (Err NoMemory) = Wanting kind NoMemory
 
 -- behind a loss of synchronisation in this field that was answered so
-abbrev pub end_lost : LostField → Result Outcome SwitchFault → FeedEnd
+abbrev pub end_lost : FrameField → Result Outcome SwitchFault → FeedEnd
 end_lost field (Ok outcome) = Lost field
 end_lost field (Err fault) = Fault fault
 
@@ -107,8 +107,8 @@ AddsAtFault c events DiskFault more = TurnsTogether events (λ es. Doubt es ∷ 
 AddsAtFault c events SayFault more = TurnsTogether events all_unsaid more
 AddsAtFault c events (Stopped by) more = (last : Event) × LeavesLast events last (Stopped by) more
 AddsAtFault c events Spent more = ⊥
-AddsAtFault c events (Full used need limit) more = (field : LostField) × LeavesLast events (event.Lost c field) (Full used need limit) more
-AddsAtFault c events NoMemory more = (field : LostField) × LeavesLast events (event.Lost c field) NoMemory more
+AddsAtFault c events (Full used need limit) more = (field : FrameField) × LeavesLast events (event.Lost c field) (Full used need limit) more
+AddsAtFault c events NoMemory more = (field : FrameField) × LeavesLast events (event.Lost c field) NoMemory more
 
 -- The entries that are added for these events of circuit c, which the bytes ended that were taken, where it ended so and the decoder holds
 -- this message, once all is settled.

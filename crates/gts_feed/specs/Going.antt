@@ -1,6 +1,6 @@
 -- Entries that were to be added to those for which a switch stands, and those that were.
 use Rattle.std.specs.Prelude.{◌≡◌, ◌⊎◌, ℕ, ◌≤◌, List, [], ◌∷◌, ◌++◌, length, Result, Ok, Err}
-use Rattle.gts_feed.specs.Cited.Below.{AfterCall, Decoding, DiskFault, Done, Doubt, Entry, Event, Full, Idle, IsAnswerCause, IsCause, IsInDoubt, Kind, LostField, NoMemory, Outcome, SayFault, Spent, Standing, Stands, Step, Stopped, SwitchFault, all_done, all_unsaid, events_added, outcome_at, settled}
+use Rattle.gts_feed.specs.Cited.Below.{AfterCall, Decoding, DiskFault, Done, Doubt, Entry, Event, FrameField, Full, Idle, IsAnswerCause, IsCause, IsInDoubt, Kind, NoMemory, Outcome, SayFault, Spent, Standing, Stands, Step, Stopped, SwitchFault, all_done, all_unsaid, events_added, outcome_at, settled}
 use Rattle.gts_event.specs.declared.event.Event.TheVariants as event
 use Rattle.gts_feed.specs.Fed.{EndsWith, IsWanting, AddsFed, EndsOver}
 use Rattle.gts_feed.specs.Reading.{Reads}
@@ -87,8 +87,8 @@ BreaksFed meanings o first h c events SayFault now = BreaksOff meanings (λ _. o
 BreaksFed meanings o first h c events (Stopped by) now = (last : Event) × BreaksLast meanings o h events last (Stopped by) now
 BreaksFed meanings o first h c events Spent now = ⊥
 BreaksFed meanings o first h c events (Full used need limit) now =
-    (field : LostField) × BreaksLast meanings o h events (event.Lost c field) (Full used need limit) now
-BreaksFed meanings o first h c events NoMemory now = (field : LostField) × BreaksLast meanings o h events (event.Lost c field) NoMemory now
+    (field : FrameField) × BreaksLast meanings o h events (event.Lost c field) (Full used need limit) now
+BreaksFed meanings o first h c events NoMemory now = (field : FrameField) × BreaksLast meanings o h events (event.Lost c field) NoMemory now
 
 -- Events of circuit c, which bytes ended that were taken, were to be added behind these entries, of which none of the first so many is
 -- gathered: it ended so, and the decoder holds this message.

@@ -3,7 +3,7 @@ ghost use Rattle.gts_feed.specs.Cited.{EndsStep, Entry, GoesFed, HasCallCause, H
 
 use crate::{FeedEnd, Listens};
 use gts_event::{Outcome, SwitchFault};
-use gts_frame::{Kind, LostField, Step};
+use gts_frame::{FrameField, Kind, Step};
 use std::alloc::Global;
 
 /// What a step of a circuit's decoder came to is dealt with: a message is heard, a loss is entered.
@@ -48,7 +48,7 @@ fn after_hearing(kind: Kind, answer: Result<Outcome, SwitchFault>) -> FeedEnd
 }
 
 /// How a feed ends behind a loss of synchronisation that was answered so.
-fn after_loss(field: LostField, answer: Result<Outcome, SwitchFault>) -> FeedEnd
+fn after_loss(field: FrameField, answer: Result<Outcome, SwitchFault>) -> FeedEnd
     ensures { result ≡ end_lost field answer }
 {
     match answer {

@@ -2,7 +2,7 @@ ghost use Rattle.std.specs.Prelude.{◌≡◌};
 ghost use Rattle.gts_feed.specs.Fed.{answer_of, is_all, is_done};
 
 use gts_event::SwitchFault;
-use gts_frame::{Kind, LostField};
+use gts_frame::{FrameField, Kind};
 
 /// Why no more bytes were taken.
 #[derive(Clone, Copy, Debug, PartialEq, Eq)]
@@ -10,7 +10,7 @@ pub enum FeedEnd {
     /// All bytes were taken, and what they end was dealt with.
     All,
     /// Synchronisation was lost in this field of a frame, at the last byte that was taken, and that was entered.
-    Lost { field: LostField },
+    Lost { field: FrameField },
     /// There was no room, or no memory, for the message that the decoder holds, which came in a frame of this type and ends with
     /// the last byte that was taken.
     Wanting { kind: Kind, fault: SwitchFault },

@@ -4,7 +4,7 @@ ghost use Rattle.gts_feed.specs.Going.{IsHeard};
 
 use gts_calls::Switch;
 use gts_event::{Outcome, SwitchFault};
-use gts_frame::{Kind, LostField};
+use gts_frame::{FrameField, Kind};
 use std::alloc::Global;
 
 /// What a feed asks of a switch: to hear messages and losses, and to settle what it gathered. Each switch does so; a switch may, too,
@@ -37,7 +37,7 @@ pub trait Listens {
             (say_faults self.old) (say_faults self.new) };
 
     /// Synchronisation was lost on circuit `c`, in this field of a frame. What it does may be gathered.
-    fn note_loss(&mut self, c: u32, field: LostField) -> Result<Outcome, SwitchFault>
+    fn note_loss(&mut self, c: u32, field: FrameField) -> Result<Outcome, SwitchFault>
         requires { c < length (meanings.directory self.old).circuits }
         ensures called { IsAnswered meanings (Lost c field) result self.old self.new }
         ensures cause { HasCallCause result (disk_faults self.old) (disk_faults self.new)
@@ -69,7 +69,7 @@ impl<W: Switch> Listens for W {
         self.hear(alloc, c, kind, message)
     }
 
-    fn note_loss(&mut self, c: u32, field: LostField) -> Result<Outcome, SwitchFault> {
+    fn note_loss(&mut self, c: u32, field: FrameField) -> Result<Outcome, SwitchFault> {
         self.lost(c, field)
     }
 

@@ -1,4 +1,4 @@
-use gts_frame::{Decoder, FrameBuf, Kind, LostField, Step, write_frame, write_frame_in};
+use gts_frame::{Decoder, FrameBuf, FrameField, Kind, Step, write_frame, write_frame_in};
 use std::alloc::{AllocError, Global};
 use std::test::Fail;
 
@@ -56,7 +56,7 @@ fn a_frame_comes_byte_by_byte(rt: HostRuntime) -> Result<(), Fail> {
 #[test]
 fn a_decoder_that_lost_synchronisation_is_opened_again(rt: HostRuntime) -> Result<(), Fail> {
     let mut decoder = Decoder::new(rt.alloc())?;
-    let lost = Step::Lost(LostField::Length);
+    let lost = Step::Lost(FrameField::Length);
     assert_eq!(rt; decoder.take(b"0000039 AN"), (8, lost));
     assert_eq!(rt; decoder.take(FRAME), (45, Step::Dropped));
     decoder.reopen();

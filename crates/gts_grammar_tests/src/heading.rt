@@ -1,4 +1,4 @@
-use gts_heading::{Field, Heading, is_bbb};
+use gts_heading::{Heading, MessageField, is_bbb};
 use std::test::Fail;
 
 const TEXT: [u8; 22] = *b"SMVG01 TVSV 280659 RRA";
@@ -21,7 +21,7 @@ fn a_group_is_known_by_its_letters(rt: HostRuntime) {
 
 #[test]
 fn a_field_is_shown_by_its_name(rt: HostRuntime) -> Result<(), Fail> {
-    let shown = Field::Cccc.to_string(rt.alloc())?;
+    let shown = MessageField::Cccc.to_string(rt.alloc())?;
     assert_eq!(rt; shown.as_str(), "a message is refused by its field CCCC");
     Ok(())
 }

@@ -1,4 +1,4 @@
-use gts_message::{Body, Field, Message};
+use gts_message::{Body, Message, MessageField};
 use std::test::Fail;
 
 const MESSAGE: &[u8] = b"\x01\r\r\n00123\r\r\nSMVG01 TVSV 280659 RRA \r\r\nNIL=\r\r\n\x03";
@@ -18,5 +18,5 @@ fn a_message_is_taken_apart(rt: HostRuntime) -> Result<(), Fail> {
 #[test]
 fn the_field_at_fault_is_named(rt: HostRuntime) {
     let found = Message::split(b"\x01\r\r\n001\r\r\nSMVG01 TVSV 280000\r\r\n\x03");
-    assert!(rt; matches!(found, Err(field) if field == Field::End));
+    assert!(rt; matches!(found, Err(field) if field == MessageField::End));
 }

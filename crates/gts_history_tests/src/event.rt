@@ -1,6 +1,6 @@
 use gts_event::{Bulletin, Bulletins, Bytes, LONGEST_RECEIPT, Outcome, Refusal, receipt};
 use gts_frame::Kind;
-use gts_heading::{Field, Heading};
+use gts_heading::{Heading, MessageField};
 use std::alloc::Global;
 use std::test::Fail;
 
@@ -24,7 +24,7 @@ fn a_receipt_is_a_line_for_the_operator(rt: HostRuntime) -> Result<(), Fail> {
 #[test]
 fn a_refusal_has_its_name(rt: HostRuntime) {
     let mut line = [0; LONGEST_RECEIPT];
-    let refused = Outcome::Refused(Refusal::Message(Field::HeadingStart));
+    let refused = Outcome::Refused(Refusal::Message(MessageField::HeadingStart));
     let count = receipt(0, &refused, None, &mut line);
     assert_eq!(rt; &line[..count], b"REF 0 HeadingStart\n".as_slice());
 }

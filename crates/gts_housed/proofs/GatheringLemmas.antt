@@ -86,12 +86,12 @@ module _ (b : Beginning) where
       let one = facts_one entries (Unsaid e) disk say f (unsaid_allowed entries e disk say rose) in
       subst (λ (l : List Entry). Facts l disk say) (append_assoc entries (Unsaid e ∷ []) (all_unsaid events)) (facts_unsaid (entries ++ Unsaid e ∷ []) events disk say rose one)
 
-module _ {P W : Type 0} (engine : W → Engine P) (makes : W → Bool) (tells : Type 0) (calls : P → List Call) (disk say : P → ℕ) where
+module _ {P W : Type 0} (engine : W → Engine P) (makes : W → Bool) (observed : Type 0) (calls : P → List Call) (disk say : P → ℕ) where
   abbrev pub M : Standing Beginning W
-  M = housed_meanings engine makes tells calls disk say
+  M = housed_meanings engine makes observed calls disk say
 
   abbrev pub E : Standing Origin (Engine P)
-  E = meanings_of tells calls Caller
+  E = meanings_of observed calls Caller
 
   abbrev pub disk_of : W → ℕ
   disk_of w = disk (engine w).station
@@ -314,7 +314,7 @@ module _ {P W : Type 0} (engine : W → Engine P) (makes : W → Bool) (tells : 
 
   -- a message for which room is made
   pub heard_with_room : (event : Event) (result : Result Outcome SwitchFault) (old new : W) → makes new ≡ makes old → HasCallCause result (disk_of old) (disk_of new) (say_of old) (say_of new)
-      → makes old ≡ true → IsGatheredWithRoom tells calls Caller event result (engine old) (engine new) → IsHeard M event result old new
+      → makes old ≡ true → IsGatheredWithRoom observed calls Caller event result (engine old) (engine new) → IsHeard M event result old new
   heard_with_room event result old new same cause made t = record {
     directory = t.directory;
     adds = λ b entries events g. adds b entries events g (t.adds (origin_with b g.0.compactions) entries events g.0.keeps);
@@ -337,9 +337,9 @@ module _ {P W : Type 0} (engine : W → Engine P) (makes : W → Bool) (tells : 
       cramped b entries events g used need limit is = (t.caused (origin_with b g.0.compactions) entries events g.0.keeps (Full used need limit) is).1
 
       adds : (b : Beginning) (entries : List Entry) (events : List Event) (g : M.gathers b entries events old)
-          → GathersPlain tells calls Caller (origin_with b g.0.compactions) entries events event result (engine new)
-          ⊎ (GathersCompacted tells calls Caller (origin_with b g.0.compactions) entries events event result (engine new)
-          ⊎ GathersNone tells calls Caller (origin_with b g.0.compactions) entries events event result (engine new))
+          → GathersPlain observed calls Caller (origin_with b g.0.compactions) entries events event result (engine new)
+          ⊎ (GathersCompacted observed calls Caller (origin_with b g.0.compactions) entries events event result (engine new)
+          ⊎ GathersNone observed calls Caller (origin_with b g.0.compactions) entries events event result (engine new))
           → AfterHearing M b entries events event result new
       adds b entries events g (inl plain) =
           as_hearing M b entries events event result new

@@ -1,6 +1,6 @@
 -- What an engine stands for, with the entry that a call adds.
 use Rattle.std.proofs.Common.{◌≡◌, ◌≢◌, ◌⊎◌, inl, inr, ⊎_elim, ℕ, ◌+◌, ◌≤◌, true, false, List, [], ◌∷◌, ◌++◌, length, Option, Some, None, Result, Ok, Err, refl, sym, ap, subst, ◌∙◌, arith, length-append, IsErrOf, IfOk, IfSome}
-use Rattle.gts_housed.specs.Cited.{Accepted, Adds, AreCramped, Asked, Beginning, Call, Caller, Choice, Device, Directory, DiskFault, Doubt, Draw, Draws, Duplicate, Engine, Entry, Event, Full, HasCallCause, HasDoubt, HasUnsaid, HearsWithRoom, Idle, IsAccepted, IsCalled, IsCrampedFor, Keeps, LeavesFrame, LineLost, NoMemory, Nothing, Nothing_waits, Origin, Outcome, Outside, Refused, Repeats, Resend, Rose, SayFault, Says, Spent, Stands, State, Stopped, SwitchFault, Taken, Unsaid, after, after_all, begun, channel_bytes, choice, entry_by, entry_of, line, meanings_of, on, origin_with, outcome, room, shown, spoken, state_at, used_at}
+use Rattle.gts_housed.specs.Cited.{Accepted, Adds, AreCramped, Asked, Beginning, Call, Caller, Choice, Device, Directory, DiskFault, Doubt, Draw, Draws, Duplicate, Engine, Entry, Event, Full, HasCallCause, HasDoubt, HasUnsaid, HearsWithRoom, Idle, IsAccepted, IsCalled, IsCrampedFor, Keeps, LeavesFrame, LineLost, NoMemory, Nothing, Nothing_waits, Origin, Outcome, Outside, Refused, Repeats, Resend, Rose, SayFault, Says, Spent, Stands, State, Stopped, SwitchFault, Taken, Unsaid, after, after_all, begun, channel_bytes, choice, entry_by, entry_of, frame_of_draw, meanings_of, on, origin_with, outcome, room, shown, spoken, state_at, used_at}
 use Rattle.gts_traits.proofs.LawLemmas.{channel_bytes-on}
 
 -- ---- the last of a list
@@ -129,9 +129,9 @@ cramped_more b h event result before now makes front other used need limit back 
     (λ earlier. before makes front other used need limit earlier.0 earlier.1)
     (split_end h (entry_by event result) front (Idle other (Full used need limit)) back is)
 
-module _ {P : Type 0} (tells : Type 0) (calls : P → List Call) (disk say : P → ℕ) (b : Beginning) where
+module _ {P : Type 0} (observed : Type 0) (calls : P → List Call) (disk say : P → ℕ) (b : Beginning) where
   outcome_of : (h : List Entry) (event : Event) (result : Result Outcome SwitchFault) (old new : Engine P)
-      → IsCalled (meanings_of tells calls Caller) event result old new → Stands tells calls disk say b h old
+      → IsCalled (meanings_of observed calls Caller) event result old new → Stands observed calls disk say b h old
       → (a : Outcome) → result ≡ Ok a → a ≡ outcome b.origin.directory (state_at b.origin h) event
   outcome_of h event result old new turn stands a ok =
       let D : Directory → Type 0 = λ d. a ≡ outcome d (after_all d (begun b.origin.start) h) event in
@@ -140,11 +140,11 @@ module _ {P : Type 0} (tells : Type 0) (calls : P → List Call) (disk say : P �
   -- the engine stands for the entry of an answer more
   more_stands : (h : List Entry) (event : Event) (result : Result Outcome SwitchFault) (old new : Engine P)
       → HasCallCause result (disk old.station) (disk new.station) (say old.station) (say new.station)
-      → (compactions : List ℕ) → Keeps tells Caller (origin_with b compactions) (h ++ entry_of event result) (shown calls new)
+      → (compactions : List ℕ) → Keeps observed Caller (origin_with b compactions) (h ++ entry_of event result) (shown calls new)
       → (b.makes_room ≡ false → compactions ≡ []) → (b.makes_room ≡ true → (used need limit : ℕ) → result ≡ Err (Full used need limit) → IsCrampedFor b h event)
-      → result ≢ Err Spent → Stands tells calls disk say b h old → Stands tells calls disk say b (h ++ entry_by event result ∷ []) new
+      → result ≢ Err Spent → Stands observed calls disk say b h old → Stands observed calls disk say b (h ++ entry_by event result ∷ []) new
   more_stands h event result old new cause compactions kept none full spent stands =
-      let K : List Entry → Type 0 = λ es. Keeps tells Caller (origin_with b compactions) (h ++ es) (shown calls new) in
+      let K : List Entry → Type 0 = λ es. Keeps observed Caller (origin_with b compactions) (h ++ es) (shown calls new) in
       record {
         compactions = compactions;
         keeps = subst K (is_one event result spent) kept;
@@ -157,11 +157,11 @@ module _ {P : Type 0} (tells : Type 0) (calls : P → List Call) (disk say : P �
       }
 
   pub adds : (h : List Entry) (event : Event) (Holds : Outcome → State → Type 0) (result : Result Outcome SwitchFault) (old new : Engine P)
-      → IsCalled (meanings_of tells calls Caller) event result old new
+      → IsCalled (meanings_of observed calls Caller) event result old new
       → HasCallCause result (disk old.station) (disk new.station) (say old.station) (say new.station)
       → ((o : Outcome) → result ≡ Ok o → Holds o (state_at b.origin h))
       → (b.makes_room ≡ true → (d : Directory) (s : State) → IsAccepted (outcome d s event) → ⊥)
-      → Stands tells calls disk say b h old → Adds tells calls disk say b h event Holds result new
+      → Stands observed calls disk say b h old → Adds observed calls disk say b h event Holds result new
   adds h event Holds result old new turn cause leaves never stands =
       let o : Origin = origin_with b stands.compactions in
       let spent : result ≢ Err Spent = λ e. turn.caused o h stands.keeps Spent e in
@@ -176,10 +176,10 @@ module _ {P : Type 0} (tells : Type 0) (calls : P → List Call) (disk say : P �
 
   -- a call that makes room
   pub adds_with_room : (h : List Entry) (event : Event) (Holds : Outcome → State → Type 0) (result : Result Outcome SwitchFault) (old new : Engine P)
-      → HearsWithRoom tells calls event result old new
+      → HearsWithRoom observed calls event result old new
       → HasCallCause result (disk old.station) (disk new.station) (say old.station) (say new.station)
       → ((o : Outcome) (s : State) → Holds o s) → b.makes_room ≡ true
-      → Stands tells calls disk say b h old → Adds tells calls disk say b h event Holds result new
+      → Stands observed calls disk say b h old → Adds observed calls disk say b h event Holds result new
   adds_with_room h event Holds result old new heard cause leaves makes stands =
       let o : Origin = origin_with b stands.compactions in
       let turn = heard Caller in
@@ -209,27 +209,27 @@ module _ {P : Type 0} (tells : Type 0) (calls : P → List Call) (disk say : P �
       same bytes e = sym (channel_bytes-on (c + 1) out) ∙ ap (channel_bytes (c + 1)) (sym e) ∙ channel_bytes-on (c + 1) bytes
 
       said_of : Choice → Outside
-      said_of (Repeats index) = on (c + 1) (line d (after d s (Taken c)) c index)
-      said_of (Draws index position) = on (c + 1) (line d (after d s (Taken c)) c index)
+      said_of (Repeats index) = on (c + 1) (frame_of_draw d (after d s (Taken c)) c index)
+      said_of (Draws index position) = on (c + 1) (frame_of_draw d (after d s (Taken c)) c index)
       said_of Nothing_waits = []
 
       go : (ch : Choice) → choice d s c ≡ ch → (o : Outcome) → o ≡ outcome d s (Taken c) → (o ≢ Nothing → spoken d s (Taken c) ≡ on (c + 1) out) → LeavesFrame d c out o s
       go (Repeats index) e o is says =
           let o_is : o ≡ Resend index = is ∙ ap (λ (x : Choice). elim x [ Repeats index ↦ Resend index | Draws index position ↦ Draw index | Nothing_waits ↦ Nothing ]) e in
-          subst (λ (x : Outcome). LeavesFrame d c out x s) (sym o_is) (same (line d (after d s (Taken c)) c index) (sym (ap said_of e) ∙ says (λ n. let z : Resend index ≡ Nothing = sym o_is ∙ n in cc z)))
+          subst (λ (x : Outcome). LeavesFrame d c out x s) (sym o_is) (same (frame_of_draw d (after d s (Taken c)) c index) (sym (ap said_of e) ∙ says (λ n. let z : Resend index ≡ Nothing = sym o_is ∙ n in cc z)))
       go (Draws index position) e o is says =
           let o_is : o ≡ Draw index = is ∙ ap (λ (x : Choice). elim x [ Repeats index ↦ Resend index | Draws index position ↦ Draw index | Nothing_waits ↦ Nothing ]) e in
-          subst (λ (x : Outcome). LeavesFrame d c out x s) (sym o_is) (same (line d (after d s (Taken c)) c index) (sym (ap said_of e) ∙ says (λ n. let z : Draw index ≡ Nothing = sym o_is ∙ n in cc z)))
+          subst (λ (x : Outcome). LeavesFrame d c out x s) (sym o_is) (same (frame_of_draw d (after d s (Taken c)) c index) (sym (ap said_of e) ∙ says (λ n. let z : Draw index ≡ Nothing = sym o_is ∙ n in cc z)))
       go Nothing_waits e o is says =
           let o_is : o ≡ Nothing = is ∙ ap (λ (x : Choice). elim x [ Repeats index ↦ Resend index | Draws index position ↦ Draw index | Nothing_waits ↦ Nothing ]) e in
           subst (λ (x : Outcome). LeavesFrame d c out x s) (sym o_is) tt
 
   -- what is given is what the state says
   pub leaves : (h : List Entry) (c : ℕ) (out : List ℕ) (result : Result Outcome SwitchFault) (old new : Engine P)
-      → IsCalled (meanings_of tells calls Caller) (Taken c) result old new
+      → IsCalled (meanings_of observed calls Caller) (Taken c) result old new
       → IfOk result (λ o. o ≢ Nothing → Says old.core c out)
       → IfSome old.stopped (λ by. (result ≡ Err (Stopped by)) × (new ≡ old))
-      → Stands tells calls disk say b h old
+      → Stands observed calls disk say b h old
       → (o : Outcome) → result ≡ Ok o → LeavesFrame b.origin.directory c out o (state_at b.origin h)
   leaves h c out (Err f) old new turn says stopped stands o ok = absurd (let e : Err f ≡ Ok o = ok in cc e)
   leaves h c out (Ok p) old new turn says stopped stands o ok =
@@ -259,6 +259,6 @@ module _ {P : Type 0} (tells : Type 0) (calls : P → List Call) (disk say : P �
       go Nothing_waits e a = subst (λ (x : Choice). IsAccepted (leads_to x)) e a
 
   pub take_takes_none : (h : List Entry) (c : ℕ) (result : Result Outcome SwitchFault) (old new : Engine P)
-      → IsCalled (meanings_of tells calls Caller) (Taken c) result old new → Stands tells calls disk say b h old → result ≢ Err NoMemory
+      → IsCalled (meanings_of observed calls Caller) (Taken c) result old new → Stands observed calls disk say b h old → result ≢ Err NoMemory
   take_takes_none h c result old new turn stands e =
       takes_accept_nothing old.directory (after_all old.directory (begun b.origin.start) h) c (turn.caused (origin_with b stands.compactions) h stands.keeps NoMemory e)

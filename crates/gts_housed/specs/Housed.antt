@@ -49,14 +49,14 @@ Answers b entries event Holds result =
     → (o ≡ outcome b.origin.directory (state_at b.origin entries) event)
     × Holds o (state_at b.origin entries)
 
-module _ {P : Type 0} (tells : Type 0) (calls : P → List Call) (disk say : P → ℕ) (b : Beginning) where
+module _ {P : Type 0} (observed : Type 0) (calls : P → List Call) (disk say : P → ℕ) (b : Beginning) where
   -- An engine stands for these entries since the beginning, and for these events behind them, which are gathered: it stands for what an
   -- engine does whose caller says the frames, with the compactions that were done meanwhile, of which there are none where no room is
   -- made. Where it is, Full was answered only where a compacted journal would have been full, too. A device failed at an entry only
   -- where the count of its faults rose.
   pub record StandsWith (entries : List Entry) (events : List Event) (e : Engine P) : Type 0 where
     pub compactions : List ℕ
-    pub keeps : Gathers tells Caller (origin_with b compactions) entries events (shown calls e)
+    pub keeps : Gathers observed Caller (origin_with b compactions) entries events (shown calls e)
     pub none : b.makes_room ≡ false → compactions ≡ []
     pub cramped : b.makes_room ≡ true → AreCramped b entries
     pub disk_later : b.disk ≤ disk e.station
@@ -92,12 +92,12 @@ IsFullSince b entries event fault =
 -- What something stands for that has an engine, and room made for it or not: what the engine does, whatever compactions are done.
 abbrev pub housed_meanings : {P W : Type 0} → (W → Engine P) → (W → Bool) → Type 0 → (P → List Call) → (disk say : P → ℕ)
     → Standing Beginning W
-housed_meanings engine makes tells calls disk say = record {
+housed_meanings engine makes observed calls disk say = record {
   directory = λ w. (engine w).directory;
   begin = λ b. begun b.origin.start;
-  gathers = λ b entries events w. StandsWith tells calls disk say b entries events (engine w) × (makes w ≡ b.makes_room);
+  gathers = λ b entries events w. StandsWith observed calls disk say b entries events (engine w) × (makes w ≡ b.makes_room);
   is_full = IsFullSince;
   compacts = λ b entries. b;
-  left = λ b entries w. (compactions : List ℕ) × IsLeft tells Caller (origin_with b compactions) entries (shown calls (engine w));
+  left = λ b entries w. (compactions : List ℕ) × IsLeft observed Caller (origin_with b compactions) entries (shown calls (engine w));
   is_full_compacted = λ b entries fault. IsFullCompacted b.origin.directory (state_at b.origin entries) fault;
 }

@@ -26,13 +26,13 @@ AreTaken h c count front events = ((front ≡ h) × (events ≡ replicate count 
 
 -- Behind these entries takes on c were made, one after another, that gave these frames, and the last one something or nothing. Nothing is
 -- to be said of them.
-pub record HasTaken {P : Type 0} (tells : Type 0) (calls : P → List Call) (disk say : P → ℕ) (b : Beginning) (h : List Entry) (c : ℕ)
+pub record HasTaken {P : Type 0} (observed : Type 0) (calls : P → List Call) (disk say : P → ℕ) (b : Beginning) (h : List Entry) (c : ℕ)
     (frames : List Frame) (gave : Bool) (e : Engine P) : Type 0 where
   pub front : List Entry
   pub events : List Event
   pub taken : AreTaken h c (count_of frames gave) front events
   pub some : 1 ≤ count_of frames gave
-  pub stands : StandsWith tells calls disk say b front events e
+  pub stands : StandsWith observed calls disk say b front events e
   pub all : GaveAll b.origin.directory (state_at b.origin h) c frames
   pub last : gave ≡ false
       → outcome b.origin.directory (after_takes b.origin.directory (state_at b.origin h) c (length frames)) (Taken c) ≡ Nothing
@@ -52,10 +52,10 @@ AddsTaken b h c frames (Err (Stopped by)) more = (frames ≡ []) × (more ≡ Id
 AddsTaken b h c frames (Err fault) more = ⊥
 
 -- and the engine stands for them
-pub record LeavesTaken {P : Type 0} (tells : Type 0) (calls : P → List Call) (disk say : P → ℕ) (b : Beginning) (h : List Entry) (c : ℕ)
+pub record LeavesTaken {P : Type 0} (observed : Type 0) (calls : P → List Call) (disk say : P → ℕ) (b : Beginning) (h : List Entry) (c : ℕ)
     (frames : List Frame) (result : Result Bool SwitchFault) (e : Engine P) (more : List Entry) : Type 0 where
   pub added : AddsTaken b h c frames result more
-  pub stands : Stands tells calls disk say b (h ++ more) e
+  pub stands : Stands observed calls disk say b (h ++ more) e
 
 -- what is told of the takes of a turn: on which circuit, what they gave, and what was answered
 pub record Taking : Type 0 where

@@ -5,8 +5,8 @@ use crate::began::Began;
 use gts_engine::{Engine, SayMode};
 use gts_event::{Entry, Outcome, SwitchFault};
 use gts_feed::Listens;
-use gts_frame::{FrameBuf, Kind, LostField};
-use gts_lock::Told;
+use gts_frame::{FrameBuf, FrameField, Kind};
+use gts_lock::HasHistory;
 use gts_traits::Station;
 use std::alloc::Global;
 use std::collections::LinkedList;
@@ -21,7 +21,7 @@ pub struct Housed<P: Station, B> {
     pub began: PhantomData<B>,
 }
 
-impl<P: Station, B: Began> Told for Housed<P, B> {
+impl<P: Station, B: Began> HasHistory for Housed<P, B> {
     // One turn may add several entries.
     type Entry = LinkedList<Entry>;
 
@@ -30,7 +30,7 @@ impl<P: Station, B: Began> Told for Housed<P, B> {
     ghost use Rattle.gts_housed.specs.Housed.{Stands};
 
     ghost stands = { λ housed turns.
-        Stands P.tells P.calls P.disk_faults P.say_faults B.beginning (all_of turns) housed.engine
+        Stands P.observed P.calls P.disk_faults P.say_faults B.beginning (all_of turns) housed.engine
         × (housed.makes_room ≡ B.beginning.makes_room) };
 }
 
@@ -40,7 +40,7 @@ impl<P: Station, B: Began> Listens for Housed<P, B> {
     ghost Origin = { Beginning };
 
     ghost meanings = { housed_meanings (λ housed. housed.engine) (λ housed. housed.makes_room)
-        P.tells P.calls P.disk_faults P.say_faults };
+        P.observed P.calls P.disk_faults P.say_faults };
 
     ghost disk_faults = { λ housed. P.disk_faults housed.engine.station };
 
@@ -59,7 +59,7 @@ impl<P: Station, B: Began> Listens for Housed<P, B> {
         self.engine.gather_hear(alloc, c, kind, message)
     }
 
-    fn note_loss(&mut self, c: u32, field: LostField) -> Result<Outcome, SwitchFault> {
+    fn note_loss(&mut self, c: u32, field: FrameField) -> Result<Outcome, SwitchFault> {
         self.engine.gather_lost(c, field)
     }
 
@@ -79,7 +79,7 @@ impl<P: Station, B: Began> Housed<P, B> {
     ) -> Result<Outcome, SwitchFault>
         requires circuit { c < length self.old.engine.directory.circuits }
         requires mode { self.old.makes_room ≡ B.beginning.makes_room }
-        ensures adds { Turns P.tells P.calls P.disk_faults P.say_faults B.beginning
+        ensures adds { Turns P.observed P.calls P.disk_faults P.say_faults B.beginning
             (Heard c kind message.now) SaysNoMore result self.old.engine self.new.engine }
         ensures mode { self.new.makes_room ≡ self.old.makes_room }
     {
@@ -92,14 +92,14 @@ impl<P: Station, B: Began> Housed<P, B> {
     /// One take on circuit `c`: what it gives is left in `out`, and the station says nothing of it.
     pub fn take(&mut self, c: u32, out: &mut FrameBuf) -> Result<Outcome, SwitchFault>
         requires { c < length self.old.engine.directory.circuits }
-        ensures adds { Turns P.tells P.calls P.disk_faults P.say_faults B.beginning
+        ensures adds { Turns P.observed P.calls P.disk_faults P.say_faults B.beginning
             (Taken c) (LeavesFrame B.beginning.origin.directory c out.new)
             result self.old.engine self.new.engine }
         ensures directory { self.new.engine.directory ≡ self.old.engine.directory }
         ensures mode { self.new.makes_room ≡ self.old.makes_room }
-        ensures silent { Never P.tells P.calls P.disk_faults P.say_faults B.beginning
+        ensures silent { Never P.observed P.calls P.disk_faults P.say_faults B.beginning
             SwitchFault.SayFault result self.old.engine }
-        ensures no_memory { Never P.tells P.calls P.disk_faults P.say_faults B.beginning
+        ensures no_memory { Never P.observed P.calls P.disk_faults P.say_faults B.beginning
             SwitchFault.NoMemory result self.old.engine }
     {
         self.engine.take(c, out, SayMode::Caller)

@@ -19,8 +19,8 @@ pub(crate) fn take_some<P: Station, B: Began>(
 ) -> Result<bool, SwitchFault>
     requires circuit { c < length housed.old.engine.directory.circuits }
     ensures left { (h : List EntryType)
-        → Stands P.tells P.calls P.disk_faults P.say_faults B.beginning h housed.old.engine
-        → (more : List EntryType) × LeavesTaken P.tells P.calls P.disk_faults P.say_faults
+        → Stands P.observed P.calls P.disk_faults P.say_faults B.beginning h housed.old.engine
+        → (more : List EntryType) × LeavesTaken P.observed P.calls P.disk_faults P.say_faults
         B.beginning h c (frames_of given.new.frames) result housed.new.engine more }
     ensures mode { housed.new.makes_room ≡ housed.old.makes_room }
 {
@@ -67,9 +67,9 @@ fn take_behind<P: Station, B: Began>(
     requires circuit { c < length housed.old.engine.directory.circuits }
     requires few { count_of (frames_of given.old.frames) gave ≤ most }
     ensures taken { (h : List EntryType)
-        → HasTaken P.tells P.calls P.disk_faults P.say_faults B.beginning h c
+        → HasTaken P.observed P.calls P.disk_faults P.say_faults B.beginning h c
         (frames_of given.old.frames) gave housed.old.engine
-        → HasTaken P.tells P.calls P.disk_faults P.say_faults B.beginning h c
+        → HasTaken P.observed P.calls P.disk_faults P.say_faults B.beginning h c
         (frames_of given.new.frames) result housed.new.engine }
     ensures few { count_of (frames_of given.new.frames) result ≤ most }
     ensures mode { housed.new.makes_room ≡ housed.old.makes_room }

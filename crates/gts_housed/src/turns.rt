@@ -39,7 +39,7 @@ fn leave_heard<P: Station, B: Began>(
 ) -> Pass<Housed<P, B>>
     ghost added: { EntryType }
     requires entry { added ≡ entry_by (Heard c kind message.now) answer }
-    requires value { Stands P.tells P.calls P.disk_faults P.say_faults B.beginning
+    requires value { Stands P.observed P.calls P.disk_faults P.say_faults B.beginning
         (all_of (entries turn.pass.seen) ++ added ∷ []) turn.value.engine }
     requires mode { turn.value.makes_room ≡ B.beginning.makes_room }
     ensures pass { result ≡ after_adding turn.entry.pass (added ∷ []) }
@@ -58,11 +58,11 @@ fn leave_taken<P: Station, B: Began>(
 ) -> Pass<Housed<P, B>>
     ghost about: { Taking }
     requires value { (more : List EntryType)
-        × LeavesTaken P.tells P.calls P.disk_faults P.say_faults B.beginning
+        × LeavesTaken P.observed P.calls P.disk_faults P.say_faults B.beginning
         (all_of (entries turn.pass.seen)) about.c about.frames about.result turn.value.engine more }
     requires mode { turn.value.makes_room ≡ B.beginning.makes_room }
     ensures pass { (more : List EntryType)
-        × LeavesTaken P.tells P.calls P.disk_faults P.say_faults B.beginning
+        × LeavesTaken P.observed P.calls P.disk_faults P.say_faults B.beginning
         (all_of (entries turn.entry.pass.seen)) about.c about.frames about.result
         turn.entry.value.engine more × (result ≡ after_adding turn.entry.pass more) }
     ensures own { KnowsOwn result }
@@ -82,10 +82,10 @@ fn leave_fed<P: Station, B: Began>(
     fed: Fed,
 ) -> Pass<Housed<P, B>>
     ghost about: { Feeding }
-    requires value { (more : List EntryType) × AddsFor P.tells P.calls P.disk_faults P.say_faults
+    requires value { (more : List EntryType) × AddsFor P.observed P.calls P.disk_faults P.say_faults
         B.beginning about turn.pass.seen turn.value.engine more }
     requires mode { turn.value.makes_room ≡ B.beginning.makes_room }
-    ensures pass { (more : List EntryType) × AddsFor P.tells P.calls P.disk_faults P.say_faults
+    ensures pass { (more : List EntryType) × AddsFor P.observed P.calls P.disk_faults P.say_faults
         B.beginning about turn.entry.pass.seen turn.entry.value.engine more
         × (result ≡ after_adding turn.entry.pass more) }
     ensures own { KnowsOwn result }

@@ -121,22 +121,23 @@ impl Journal {
         requires version { batch.old.version ≡ self.old.version }
         requires end { self.old.ended ≡ true }
         requires room { self.old.gate + length batch.old.text ≤ 2 ^ 40 }
-        requires stands { P.tells → StandsOn (P.calls station.old) self.old }
+        requires stands { P.observed → StandsOn (P.calls station.old) self.old }
 
         // The records stand there, and behind them a closed gate. Each crash leaves that, since the journal stands there.
-        ensures added { P.tells → OnOk result (file_of (P.calls station.new) self.new
+        ensures added { P.observed → OnOk result (file_of (P.calls station.new) self.new
             ≡ file_with_block (P.calls station.old) self.old batch.old.text) }
-        ensures stands { P.tells → OnOk result (StandsOn (P.calls station.new) self.new) }
+        ensures stands { P.observed → OnOk result (StandsOn (P.calls station.new) self.new) }
         ensures place { OnOk result
             (self.new ≡ beyond_block self.old batch.old.text batch.old.seal) }
-        ensures others { P.tells → (k : ℕ) → k ≢ self.old.file
+        ensures others { P.observed → (k : ℕ) → k ≢ self.old.file
             → OnOk result (seen (P.calls station.new) k ≡ seen (P.calls station.old) k) }
         ensures emptied { OnOk result (batch.new ≡ no_records self.new) }
 
         // A crash at any moment of the call leaves the journal as it was, or with all records of the batch.
-        ensures moments { P.tells → EachSince (P.calls station.old) (P.calls station.new)
+        ensures moments { P.observed → EachSince (P.calls station.old) (P.calls station.new)
             (LeavesAllOrNone (P.calls station.old) self.old batch.old.text) }
-        ensures silent { P.tells → said_by (P.calls station.new) ≡ said_by (P.calls station.old) }
+        ensures silent { P.observed → said_by (P.calls station.new) ≡ said_by
+            (P.calls station.old) }
         ensures cause { HasCause result (P.disk_faults station.old) (P.disk_faults station.new) }
         ensures say { P.say_faults station.new ≡ P.say_faults station.old }
     {

@@ -314,9 +314,9 @@ module _ {T E : Type 0} (stands : T → List E → Type 0) where
       )
 
   -- of the entry something is told
-  pub raises_some : (tells : E → Type 0) (slots id : ℕ) (m : Sat) (t : ℕ) (e : E) (x : T) → m.0.stage ≡ Holding t → m.1 ≡ (0, Some x) ∷ [] → tells e → stands x (entries m.0.seen ++ e ∷ [])
-      → Allows Rule slots id m 0 (λ n. (n + 1) % 18446744073709551616) (RaisesSome tells (step slots 0 1 0 none) m)
-  raises_some tells slots id m t e x holds slot known told s r at_word at small =
+  pub raises_some : (fact : E → Type 0) (slots id : ℕ) (m : Sat) (t : ℕ) (e : E) (x : T) → m.0.stage ≡ Holding t → m.1 ≡ (0, Some x) ∷ [] → fact e → stands x (entries m.0.seen ++ e ∷ [])
+      → Allows Rule slots id m 0 (λ n. (n + 1) % 18446744073709551616) (RaisesSome fact (step slots 0 1 0 none) m)
+  raises_some fact slots id m t e x holds slot known told s r at_word at small =
       let a = raises slots id m t (e ∷ []) x holds slot refl told s r at_word at small in
       (a.0, a.1, a.2, a.3, (e, known, a.4))
 

@@ -5,23 +5,23 @@
 mod counting;
 mod crossing;
 mod hall;
+mod history;
 mod laws;
 mod limits;
 mod pass;
 mod queue;
 mod rule;
 mod steps;
-mod told;
 mod turn;
 mod view;
 
 pub use crossing::halls_passes_and_turns_cross_threads;
 pub use gts_alphabet::NoMemory;
 pub use hall::Hall;
+pub use history::{EntryFact, HasHistory};
 pub use laws::no_two_passes_are_confused;
 pub use limits::{MOST_TURNS, limits_are_these_numbers};
 pub use pass::Pass;
-pub use told::{Tells, Told};
 pub use turn::Turn;
 
 #[cfg(test)]

@@ -65,9 +65,9 @@ fed_step c old first bytes x step decoder next now later fed reads adds =
 
 -- ---- a step of each head
 
-pub does_feed : (tells : Type 0) (c n : ℕ) (held held_now : Held) (left left_now : List ℕ) (ds : List Decoding) (x next : Decoding) (old new : Rings) → c < length ds
-    → FeedsAll tells c held held_now left left_now (get_or ds c x) next old new → DoesAll tells (FeedHead c n) held held_now left left_now ds (set ds c next) old new
-does_feed tells c n held held_now left left_now ds x next old new within f = record {
+pub does_feed : (observed : Type 0) (c n : ℕ) (held held_now : Held) (left left_now : List ℕ) (ds : List Decoding) (x next : Decoding) (old new : Rings) → c < length ds
+    → FeedsAll observed c held held_now left left_now (get_or ds c x) next old new → DoesAll observed (FeedHead c n) held held_now left left_now ds (set ds c next) old new
+does_feed observed c n held held_now left left_now ds x next old new within f = record {
   step = Feed c f.bytes;
   of_head = (f.bytes, refl);
   taken = f.taken;
@@ -77,65 +77,65 @@ does_feed tells c n held held_now left left_now ds x next old new within f = rec
   circuits = length-set ds c next;
 }
 
-pub does_take : (tells : Type 0) (c : ℕ) (held : Held) (left : List ℕ) (ds : List Decoding) (old : Rings) → held.feed ≡ 0 → DoesAll tells (TakeHead c) held held left left ds ds old old
-does_take tells c held left ds old none = record {
+pub does_take : (observed : Type 0) (c : ℕ) (held : Held) (left : List ℕ) (ds : List Decoding) (old : Rings) → held.feed ≡ 0 → DoesAll observed (TakeHead c) held held left left ds ds old old
+does_take observed c held left ds old none = record {
   step = Take c;
   of_head = refl;
-  taken = takes_none tells held left;
+  taken = takes_none observed held left;
   whole = none;
   adds = λ bs e. adds_none old (λ e. []) (λ e. refl);
   decode = λ d bs each e. e;
   circuits = refl;
 }
 
-pub does_drain : (tells : Type 0) (c : ℕ) (held : Held) (left : List ℕ) (ds : List Decoding) (old : Rings) → held.feed ≡ 0 → DoesAll tells (DrainHead c) held held left left ds ds old old
-does_drain tells c held left ds old none = record {
+pub does_drain : (observed : Type 0) (c : ℕ) (held : Held) (left : List ℕ) (ds : List Decoding) (old : Rings) → held.feed ≡ 0 → DoesAll observed (DrainHead c) held held left left ds ds old old
+does_drain observed c held left ds old none = record {
   step = Drain c;
   of_head = refl;
-  taken = takes_none tells held left;
+  taken = takes_none observed held left;
   whole = none;
   adds = λ bs e. adds_none old (λ e. []) (λ e. refl);
   decode = λ d bs each e. e;
   circuits = refl;
 }
 
-pub does_compact : (tells : Type 0) (held : Held) (left : List ℕ) (ds : List Decoding) (old : Rings) → held.feed ≡ 0 → DoesAll tells CompactHead held held left left ds ds old old
-does_compact tells held left ds old none = record {
+pub does_compact : (observed : Type 0) (held : Held) (left : List ℕ) (ds : List Decoding) (old : Rings) → held.feed ≡ 0 → DoesAll observed CompactHead held held left left ds ds old old
+does_compact observed held left ds old none = record {
   step = Compact;
   of_head = refl;
-  taken = takes_none tells held left;
+  taken = takes_none observed held left;
   whole = none;
   adds = λ bs e. adds_none old (λ e. []) (λ e. refl);
   decode = λ d bs each e. e;
   circuits = refl;
 }
 
-pub does_reopen : (tells : Type 0) (c : ℕ) (held : Held) (left : List ℕ) (ds : List Decoding) (next : Decoding) (old : Rings) → next ≡ fresh → held.feed ≡ 0
-    → DoesAll tells (ReopenHead c) held held left left ds (set ds c next) old old
-does_reopen tells c held left ds next old is none = record {
+pub does_reopen : (observed : Type 0) (c : ℕ) (held : Held) (left : List ℕ) (ds : List Decoding) (next : Decoding) (old : Rings) → next ≡ fresh → held.feed ≡ 0
+    → DoesAll observed (ReopenHead c) held held left left ds (set ds c next) old old
+does_reopen observed c held left ds next old is none = record {
   step = Reopen c;
   of_head = refl;
-  taken = takes_none tells held left;
+  taken = takes_none observed held left;
   whole = none;
   adds = λ bs e. adds_none old (λ e. []) (λ e. refl);
   decode = λ d bs each e. decode_set ds bs c next [] e (ap (λ (d : Decoding). d.held) is);
   circuits = length-set ds c next;
 }
 
-pub does_restart : (tells : Type 0) (held : Held) (left : List ℕ) (ds ds_now : List Decoding) (old : Rings) → ds_now ≡ map (λ _. fresh) ds → held.feed ≡ 0
-    → DoesAll tells RestartHead held held left left ds ds_now old old
-does_restart tells held left ds ds_now old anew none = record {
+pub does_restart : (observed : Type 0) (held : Held) (left : List ℕ) (ds ds_now : List Decoding) (old : Rings) → ds_now ≡ map (λ _. fresh) ds → held.feed ≡ 0
+    → DoesAll observed RestartHead held held left left ds ds_now old old
+does_restart observed held left ds ds_now old anew none = record {
   step = Restart;
   of_head = refl;
-  taken = takes_none tells held left;
+  taken = takes_none observed held left;
   whole = none;
   adds = λ bs e. adds_none old (λ e. []) (λ e. refl);
   decode = λ d bs each e. subst (λ (xs : List Decoding). Decode xs (no_bytes d)) (sym anew) (decode_reopened ds d (sym each));
   circuits = ap length anew ∙ length-map {B = Decoding} ds (λ _. fresh);
 }
 
-pub feeds_step : (tells : Type 0) (c n : ℕ) (result : Result (Unit {0}) CaptureFault) (held held_now : Held) (left left_now : List ℕ) (ds : List Decoding) (x next : Decoding) (old new : Rings) → c < length ds
-    → Feeds tells c result held held_now left left_now (get_or ds c x) next old new → DoesStep tells (FeedHead c n) result held held_now left left_now ds (set ds c next) old new
-feeds_step tells c n (Ok u) held held_now left left_now ds x next old new within f = does_feed tells c n held held_now left left_now ds x next old new within f
-feeds_step tells c n (Err (Bad at)) held held_now left left_now ds x next old new within f = record { step = Feed c f.0; of_head = (f.0, refl); ends = f.1 }
-feeds_step tells c n (Err SourceFault) held held_now left left_now ds x next old new within f = tt
+pub feeds_step : (observed : Type 0) (c n : ℕ) (result : Result (Unit {0}) CaptureFault) (held held_now : Held) (left left_now : List ℕ) (ds : List Decoding) (x next : Decoding) (old new : Rings) → c < length ds
+    → Feeds observed c result held held_now left left_now (get_or ds c x) next old new → DoesStep observed (FeedHead c n) result held held_now left left_now ds (set ds c next) old new
+feeds_step observed c n (Ok u) held held_now left left_now ds x next old new within f = does_feed observed c n held held_now left left_now ds x next old new within f
+feeds_step observed c n (Err (Bad at)) held held_now left left_now ds x next old new within f = record { step = Feed c f.0; of_head = (f.0, refl); ends = f.1 }
+feeds_step observed c n (Err SourceFault) held held_now left left_now ds x next old new within f = tt

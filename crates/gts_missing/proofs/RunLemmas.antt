@@ -11,19 +11,19 @@ use Rattle.gts_replay.proofs.EndLemmas.{two_each}
 
 -- These steps were done: the table stands for their numbers, the decoders have what came on their connections, and the reader
 -- stands behind them.
-pub record Runs (tells : Type 0) (d : Directory) (bytes : List ℕ) (steps : List Step) (held : Held) (left : List ℕ) (ds : List Decoding) (rings : Rings) : Type 0 where
+pub record Runs (observed : Type 0) (d : Directory) (bytes : List ℕ) (steps : List Step) (held : Held) (left : List ℕ) (ds : List Decoding) (rings : Rings) : Type 0 where
   pub circuits : held.circuits ≡ length d.circuits
   pub of_kind : held.kind ≡ Journaled
   pub are : AreSteps d steps
-  pub read : tells → IsReadTo Journaled d bytes steps held (held.ahead ++ left)
+  pub read : observed → IsReadTo Journaled d bytes steps held (held.ahead ++ left)
   pub decoders : length ds ≡ length d.circuits
   pub decode : Decode ds (connections_after d (no_bytes d) steps)
   pub each : length rings ≡ length d.circuits
   pub stand : StandFor d steps rings
 
-pub runs_none : (tells : Type 0) (d : Directory) (bytes : List ℕ) (held : Held) (ds : List Decoding) (rings : Rings)
-    → held ≡ at_start (length rings) Journaled → length ds ≡ length rings → IsNew d rings ds → Runs tells d bytes [] held bytes ds rings
-runs_none tells d bytes held ds rings is each new =
+pub runs_none : (observed : Type 0) (d : Directory) (bytes : List ℕ) (held : Held) (ds : List Decoding) (rings : Rings)
+    → held ≡ at_start (length rings) Journaled → length ds ≡ length rings → IsNew d rings ds → Runs observed d bytes [] held bytes ds rings
+runs_none observed d bytes held ds rings is each new =
     let here : held ≡ at_start (length d.circuits) Journaled = is ∙ ap (λ (n : ℕ). at_start n Journaled) new.circuits in
     let P : Held → Type 0 = λ x. IsReadTo Journaled d bytes [] x (x.ahead ++ bytes) in
     record {
@@ -67,14 +67,14 @@ numbers_more d c steps step =
     let bs : Connections = connections_after d (no_bytes d) steps in
     numbers_go_on d (no_bytes d) c steps (step ∷ []) ∙ ap (λ (l : List Numbered). numbers d c steps ++ l) (append-nil (flat_map (number_of_event c) (events_with bs step)))
 
-pub runs_more : (tells : Type 0) (d : Directory) (bytes : List ℕ) (steps : List Step) (old mid new : Held) (before left after : List ℕ) (ds ds_now : List Decoding) (rings rings_now : Rings) (head : Head)
-    → Runs tells d bytes steps old before ds rings → ReadsHead tells head old mid before left → (does : DoesAll tells head mid new left after ds ds_now rings rings_now)
-    → length rings_now ≡ length rings → Runs tells d bytes (steps ++ does.step ∷ []) new after ds_now rings_now
-runs_more tells d bytes steps old mid new before left after ds ds_now rings rings_now head runs reads does same =
+pub runs_more : (observed : Type 0) (d : Directory) (bytes : List ℕ) (steps : List Step) (old mid new : Held) (before left after : List ℕ) (ds ds_now : List Decoding) (rings rings_now : Rings) (head : Head)
+    → Runs observed d bytes steps old before ds rings → ReadsHead observed head old mid before left → (does : DoesAll observed head mid new left after ds ds_now rings rings_now)
+    → length rings_now ≡ length rings → Runs observed d bytes (steps ++ does.step ∷ []) new after ds_now rings_now
+runs_more observed d bytes steps old mid new before left after ds ds_now rings rings_now head runs reads does same =
     let step : Step = does.step in
     let bs : Connections = connections_after d (no_bytes d) steps in
     let x : List ℕ = bytes_of_step step in
-    let taken : Takes tells x mid new left after = does.taken in
+    let taken : Takes observed x mid new left after = does.taken in
     let size : length x ≡ bytes_announced head = omega (arith, taken.feed, does.whole, reads.feed) in
     let whole : head_of step ≡ head = step_whole head step does.of_head size in
     let place : new.at ≡ mid.at + length x = taken.at in
@@ -98,10 +98,10 @@ runs_more tells d bytes steps old mid new before left after ds ds_now rings ring
 
 -- ---- how it ends
 
-pub ends_done : (tells : Type 0) (d : Directory) (bytes : List ℕ) (steps : List Step) (old new : Held) (before after : List ℕ) (ds : List Decoding) (rings : Rings)
-    → Runs tells d bytes steps old before ds rings → (tells → old.ahead ++ before ≡ head_text EndHead ++ (new.ahead ++ after))
-    → old.at + length (head_text EndHead) ≤ LONGEST_CAPTURE → IsRead tells d rings bytes
-ends_done tells d bytes steps old new before after ds rings runs told within = record {
+pub ends_done : (observed : Type 0) (d : Directory) (bytes : List ℕ) (steps : List Step) (old new : Held) (before after : List ℕ) (ds : List Decoding) (rings : Rings)
+    → Runs observed d bytes steps old before ds rings → (observed → old.ahead ++ before ≡ head_text EndHead ++ (new.ahead ++ after))
+    → old.at + length (head_text EndHead) ≤ LONGEST_CAPTURE → IsRead observed d rings bytes
+ends_done observed d bytes steps old new before after ds rings runs told within = record {
   steps = steps;
   whole = λ t.
       let R : List ℕ → Type 0 = λ xs. IsReadTo Journaled d bytes steps old xs in
@@ -110,21 +110,21 @@ ends_done tells d bytes steps old new before after ds rings runs told within = r
   stand = runs.stand;
 }
 
-pub ends_bad : (tells : Type 0) (d : Directory) (bytes : List ℕ) (steps : List Step) (old : Held) (before : List ℕ) (ds : List Decoding) (rings : Rings) (at : ℕ)
-    → Runs tells d bytes steps old before ds rings → (tells → IsBadAt old (readable_from old.at (old.ahead ++ before)) at) → IsCutAt tells d bytes at
-ends_bad tells d bytes steps old before ds rings at runs bad = λ t. (steps, at_bad Journaled d bytes (old.ahead ++ before) steps old at (runs.read t) (bad t))
+pub ends_bad : (observed : Type 0) (d : Directory) (bytes : List ℕ) (steps : List Step) (old : Held) (before : List ℕ) (ds : List Decoding) (rings : Rings) (at : ℕ)
+    → Runs observed d bytes steps old before ds rings → (observed → IsBadAt old (readable_from old.at (old.ahead ++ before)) at) → IsCutAt observed d bytes at
+ends_bad observed d bytes steps old before ds rings at runs bad = λ t. (steps, at_bad Journaled d bytes (old.ahead ++ before) steps old at (runs.read t) (bad t))
 
-pub ends_in_step : (tells : Type 0) (d : Directory) (bytes : List ℕ) (steps : List Step) (old mid : Held) (before left : List ℕ) (ds : List Decoding) (rings : Rings) (head : Head) (at : ℕ)
-    → Runs tells d bytes steps old before ds rings → ReadsHead tells head old mid before left → EndsInStep tells head at mid left → IsCutAt tells d bytes at
-ends_in_step tells d bytes steps old mid before left ds rings head at runs reads ends = λ t. (
+pub ends_in_step : (observed : Type 0) (d : Directory) (bytes : List ℕ) (steps : List Step) (old mid : Held) (before left : List ℕ) (ds : List Decoding) (rings : Rings) (head : Head) (at : ℕ)
+    → Runs observed d bytes steps old before ds rings → ReadsHead observed head old mid before left → EndsInStep observed head at mid left → IsCutAt observed d bytes at
+ends_in_step observed d bytes steps old mid before left ds rings head at runs reads ends = λ t. (
   steps ++ ends.step ∷ [],
-  cut_in Journaled d bytes steps old mid before left at tells head ends.step t (runs.read t) reads (head_here Journaled d old.circuits head old.kind runs.circuits runs.of_kind reads.valid) ends.of_head ends.ends,
+  cut_in Journaled d bytes steps old mid before left at observed head ends.step t (runs.read t) reads (head_here Journaled d old.circuits head old.kind runs.circuits runs.of_kind reads.valid) ends.of_head ends.ends,
 )
 
 -- ---- more steps than can be
 
-pub ends_never : (tells : Type 0) (d : Directory) (bytes : List ℕ) (steps : List Step) (held : Held) (left : List ℕ) (ds : List Decoding) (rings : Rings) (at : ℕ)
-    → Runs tells d bytes steps held left ds rings → 2 ^ 64 - 1 ≤ length steps → IsCutAt tells d bytes at
-ends_never tells d bytes steps held left ds rings at runs many = λ t.
+pub ends_never : (observed : Type 0) (d : Directory) (bytes : List ℕ) (steps : List Step) (held : Held) (left : List ℕ) (ds : List Decoding) (rings : Rings) (at : ℕ)
+    → Runs observed d bytes steps held left ds rings → 2 ^ 64 - 1 ≤ length steps → IsCutAt observed d bytes at
+ends_never observed d bytes steps held left ds rings at runs many = λ t.
     let r = runs.read t in
     absurd (omega (arith, many, two_each steps, r.place, r.within))

@@ -28,28 +28,28 @@ pub record IsFed (c : ℕ) (old : Decoding) (first : Rings) (bytes : List ℕ) (
   pub adds : (before : List ℕ) → old.held ≡ held_in before → Adds first now (numbers_of (events_added c before bytes))
 
 -- all bytes of a feed were taken, and came on a circuit
-pub record FeedsAll (tells : Type 0) (c : ℕ) (held held_now : Held) (left left_now : List ℕ)
+pub record FeedsAll (observed : Type 0) (c : ℕ) (held held_now : Held) (left left_now : List ℕ)
     (decoder decoder_now : Decoding) (old new : Rings) : Type 0 where
   pub bytes : List ℕ
-  pub taken : Takes tells bytes held held_now left left_now
+  pub taken : Takes observed bytes held held_now left left_now
   pub whole : held_now.feed ≡ 0
   pub fed : IsFed c decoder old bytes decoder_now new
 
 -- bytes of a feed came on a circuit: all; or they ended in it
-abbrev pub Feeds : (tells : Type 0) → ℕ → Result (Unit {0}) CaptureFault → (held held_now : Held) → (left left_now : List ℕ)
+abbrev pub Feeds : (observed : Type 0) → ℕ → Result (Unit {0}) CaptureFault → (held held_now : Held) → (left left_now : List ℕ)
     → (decoder decoder_now : Decoding) → (old new : Rings) → Type 0
-Feeds tells c (Ok _) held held_now left left_now decoder decoder_now old new =
-    FeedsAll tells c held held_now left left_now decoder decoder_now old new
-Feeds tells c (Err (Bad at)) held held_now left left_now decoder decoder_now old new =
-    (bytes : List ℕ) × EndsBehind tells bytes at held left
-Feeds tells c (Err SourceFault) held held_now left left_now decoder decoder_now old new = Unit {0}
+Feeds observed c (Ok _) held held_now left left_now decoder decoder_now old new =
+    FeedsAll observed c held held_now left left_now decoder decoder_now old new
+Feeds observed c (Err (Bad at)) held held_now left left_now decoder decoder_now old new =
+    (bytes : List ℕ) × EndsBehind observed bytes at held left
+Feeds observed c (Err SourceFault) held held_now left left_now decoder decoder_now old new = Unit {0}
 
 -- a step of this head was done to its end: its numbers were added, and the decoders have what came on their connections
-pub record DoesAll (tells : Type 0) (head : Head) (held held_now : Held) (left left_now : List ℕ)
+pub record DoesAll (observed : Type 0) (head : Head) (held held_now : Held) (left left_now : List ℕ)
     (decoders decoders_now : List Decoding) (old new : Rings) : Type 0 where
   pub step : Step
   pub of_head : IsStepOf head step
-  pub taken : Takes tells (bytes_of_step step) held held_now left left_now
+  pub taken : Takes observed (bytes_of_step step) held held_now left left_now
   pub whole : held_now.feed ≡ 0
   pub adds : (bs : Connections) → Decode decoders bs → Adds old new (numbers_of (events_with bs step))
   pub decode : (d : Directory) (bs : Connections) → length d.circuits ≡ length decoders → Decode decoders bs
@@ -57,17 +57,17 @@ pub record DoesAll (tells : Type 0) (head : Head) (held held_now : Held) (left l
   pub circuits : length decoders_now ≡ length decoders
 
 -- the bytes ended in a step of this head
-pub record EndsInStep (tells : Type 0) (head : Head) (at : ℕ) (held : Held) (left : List ℕ) : Type 0 where
+pub record EndsInStep (observed : Type 0) (head : Head) (at : ℕ) (held : Held) (left : List ℕ) : Type 0 where
   pub step : Step
   pub of_head : IsStepOf head step
-  pub ends : EndsBehind tells (bytes_of_step step) at held left
+  pub ends : EndsBehind observed (bytes_of_step step) at held left
 
-abbrev pub DoesStep : (tells : Type 0) → Head → Result (Unit {0}) CaptureFault → (held held_now : Held) → (left left_now : List ℕ)
+abbrev pub DoesStep : (observed : Type 0) → Head → Result (Unit {0}) CaptureFault → (held held_now : Held) → (left left_now : List ℕ)
     → (decoders decoders_now : List Decoding) → (old new : Rings) → Type 0
-DoesStep tells head (Ok _) held held_now left left_now decoders decoders_now old new =
-    DoesAll tells head held held_now left left_now decoders decoders_now old new
-DoesStep tells head (Err (Bad at)) held held_now left left_now decoders decoders_now old new = EndsInStep tells head at held left
-DoesStep tells head (Err SourceFault) held held_now left left_now decoders decoders_now old new = Unit {0}
+DoesStep observed head (Ok _) held held_now left left_now decoders decoders_now old new =
+    DoesAll observed head held held_now left left_now decoders decoders_now old new
+DoesStep observed head (Err (Bad at)) held held_now left left_now decoders decoders_now old new = EndsInStep observed head at held left
+DoesStep observed head (Err SourceFault) held held_now left left_now decoders decoders_now old new = Unit {0}
 
 -- before the first step of a directory's capture
 pub record IsNew (d : Directory) (rings : Rings) (decoders : List Decoding) : Type 0 where
@@ -84,27 +84,27 @@ abbrev pub StandFor : Directory → List Step → Rings → Type 0
 StandFor d steps rings = AllStand d rings (λ c. numbers d c steps)
 
 -- The whole capture was read, and the table stands for its numbers.
-pub record IsRead (tells : Type 0) (d : Directory) (rings : Rings) (bytes : List ℕ) : Type 0 where
+pub record IsRead (observed : Type 0) (d : Directory) (rings : Rings) (bytes : List ℕ) : Type 0 where
   pub steps : List Step
-  pub whole : tells → IsWhole d bytes steps
+  pub whole : observed → IsWhole d bytes steps
   pub circuits : length rings ≡ length d.circuits
   pub stand : StandFor d steps rings
 
 -- the bytes are no capture: bad at this place, or they end there
-abbrev pub IsCutAt : (tells : Type 0) → Directory → List ℕ → ℕ → Type 0
-IsCutAt tells d bytes at = tells → (steps : List Step) × EndsEarly d bytes steps at
+abbrev pub IsCutAt : (observed : Type 0) → Directory → List ℕ → ℕ → Type 0
+IsCutAt observed d bytes at = observed → (steps : List Step) × EndsEarly d bytes steps at
 
 -- how the steps of a capture were gone through
-abbrev pub Comes : (tells : Type 0) → Directory → Result (Unit {0}) CaptureFault → Rings → List ℕ → Type 0
-Comes tells d (Ok _) rings bytes = IsRead tells d rings bytes
-Comes tells d (Err (Bad at)) rings bytes = IsCutAt tells d bytes at
-Comes tells d (Err SourceFault) rings bytes = Unit {0}
+abbrev pub Comes : (observed : Type 0) → Directory → Result (Unit {0}) CaptureFault → Rings → List ℕ → Type 0
+Comes observed d (Ok _) rings bytes = IsRead observed d rings bytes
+Comes observed d (Err (Bad at)) rings bytes = IsCutAt observed d bytes at
+Comes observed d (Err SourceFault) rings bytes = Unit {0}
 
 -- What reading a capture comes to: a table of its numbers; or where it is bad.
-abbrev pub IsTabled : (tells : Type 0) → Directory → Result Rings TableFault → List ℕ → Type 0
-IsTabled tells d (Ok rings) bytes = IsRead tells d rings bytes
-IsTabled tells d (Err (table.Capture at)) bytes = IsCutAt tells d bytes at
-IsTabled tells d (Err _) bytes = Unit {0}
+abbrev pub IsTabled : (observed : Type 0) → Directory → Result Rings TableFault → List ℕ → Type 0
+IsTabled observed d (Ok rings) bytes = IsRead observed d rings bytes
+IsTabled observed d (Err (table.Capture at)) bytes = IsCutAt observed d bytes at
+IsTabled observed d (Err _) bytes = Unit {0}
 
 -- the source's fault is answered only where its count rose, and no count falls
 pub record HasTableCause {T : Type 0} (result : Result T TableFault) (before now : ℕ) : Type 0 where

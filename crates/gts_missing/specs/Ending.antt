@@ -12,21 +12,21 @@ abbrev pub report_of : Directory → Moment → List Step → Outside
 report_of d moment steps = report d moment (λ c. numbers d c steps)
 
 -- the whole capture was read, and this holds of the steps
-pub record Reads (tells : Type 0) (d : Directory) (bytes : List ℕ) (OfSteps : List Step → Type 0) : Type 0 where
+pub record Reads (observed : Type 0) (d : Directory) (bytes : List ℕ) (OfSteps : List Step → Type 0) : Type 0 where
   pub steps : List Step
-  pub whole : tells → IsWhole d bytes steps
+  pub whole : observed → IsWhole d bytes steps
   pub holds : OfSteps steps
 
 -- For each end, what it means: the report of the whole capture was said, or a front of it, or nothing was.
-abbrev pub Names : {P : Type 0} → (tells heard : Type 0) → Directory → Moment → GapsEnd → List ℕ
+abbrev pub Names : {P : Type 0} → (observed heard : Type 0) → Directory → Moment → GapsEnd → List ℕ
     → (station now : P) → (old new : List Call) → Type 0
-Names tells heard d moment end.Done bytes station now old new =
-    Reads tells d bytes (λ steps. heard → SaysOnly old new (report_of d moment steps))
-Names tells heard d moment (end.Capture at) bytes station now old new = IsCutAt tells d bytes at × (now ≡ station)
-Names tells heard d moment end.SourceFault bytes station now old new = now ≡ station
-Names tells heard d moment end.SayFault bytes station now old new =
-    Reads tells d bytes (λ steps. heard → SaysFront old new (report_of d moment steps))
-Names tells heard d moment end.NoMemory bytes station now old new = now ≡ station
+Names observed heard d moment end.Done bytes station now old new =
+    Reads observed d bytes (λ steps. heard → SaysOnly old new (report_of d moment steps))
+Names observed heard d moment (end.Capture at) bytes station now old new = IsCutAt observed d bytes at × (now ≡ station)
+Names observed heard d moment end.SourceFault bytes station now old new = now ≡ station
+Names observed heard d moment end.SayFault bytes station now old new =
+    Reads observed d bytes (λ steps. heard → SaysFront old new (report_of d moment steps))
+Names observed heard d moment end.NoMemory bytes station now old new = now ≡ station
 
 -- a device's fault is answered only where its count rose, and no count falls
 pub record HasGapsCause (result : GapsEnd) (source source_now say say_now : ℕ) : Type 0 where

@@ -61,7 +61,7 @@ pub(crate) fn feed<S: Source>(
     capture: &mut S,
 ) -> Result<(), CaptureFault>
     requires { c < length table.old }
-    ensures feeds { Feeds S.tells c result steps.old steps.new (S.left capture.old)
+    ensures feeds { Feeds S.observed c result steps.old steps.new (S.left capture.old)
         (S.left capture.new) decoder.old decoder.new table.old table.new }
     ensures circuits { length table.new ≡ length table.old }
     ensures cause { HasSourceCause result (S.faults capture.old) (S.faults capture.new) }

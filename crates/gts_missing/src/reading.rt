@@ -24,7 +24,7 @@ fn do_step<S: Source>(
     requires some { head ≡ Head.End → ⊥ }
     requires feed { steps.old.feed ≡ bytes_announced (head_of head) }
     requires decoders { length decoders.old ≡ length table.old }
-    ensures does { DoesStep S.tells (head_of head) result steps.old steps.new
+    ensures does { DoesStep S.observed (head_of head) result steps.old steps.new
         (S.left capture.old) (S.left capture.new) decoders.old decoders.new table.old table.new }
     ensures circuits { length table.new ≡ length table.old }
     ensures cause { HasSourceCause result (S.faults capture.old) (S.faults capture.new) }
@@ -55,7 +55,7 @@ fn run<S: Source>(
     requires few { length table.old ≤ 100 }
     requires decoders { length decoders.old ≡ length table.old }
     ensures comes { (d : DirectoryFields) → IsNew d table.old decoders.old
-        → Comes S.tells d result table.new (S.left capture.old) }
+        → Comes S.observed d result table.new (S.left capture.old) }
     ensures circuits { length table.new ≡ length table.old }
     ensures cause { HasSourceCause result (S.faults capture.old) (S.faults capture.new) }
 {
@@ -77,7 +77,7 @@ pub fn table_of<S: Source>(
     directory: &Directory,
     capture: &mut S,
 ) -> Result<GapTable, TableFault>
-    ensures comes { IsTabled S.tells directory.now result (S.left capture.old) }
+    ensures comes { IsTabled S.observed directory.now result (S.left capture.old) }
     ensures unread { result ≡ Err TableFault.NoMemory → capture.new ≡ capture.old }
     ensures cause { HasTableCause result (S.faults capture.old) (S.faults capture.new) }
 {

@@ -20,7 +20,7 @@ fn say_circuit<P: Station>(
 ) -> Result<(), Failed>
     requires circuit { c < length directory.now.circuits }
     requires table { length table.now ≡ length directory.now.circuits }
-    ensures told { P.tells → (ns : List Numbered) → StandsAt table.now c ns
+    ensures told { P.observed → (ns : List Numbered) → StandsAt table.now c ns
         → Tells result (said_of directory.now moment c ns)
         (P.calls station.old) (P.calls station.new) }
     ensures cause { HasCause result (P.say_faults station.old) (P.say_faults station.new) }
@@ -50,7 +50,7 @@ fn say_report<P: Station>(
     station: &mut P,
 ) -> Result<(), Failed>
     requires { length table.now ≡ length directory.now.circuits }
-    ensures told { P.tells → (came : ℕ → List Numbered)
+    ensures told { P.observed → (came : ℕ → List Numbered)
         → AllStand directory.now table.now came → Tells result (report directory.now moment came)
         (P.calls station.old) (P.calls station.new) }
     ensures cause { HasCause result (P.say_faults station.old) (P.say_faults station.new) }
@@ -71,7 +71,7 @@ pub fn gaps<S: Source, P: Station>(
     capture: &mut S,
     station: &mut P,
 ) -> GapsEnd
-    ensures names { Names S.tells P.tells directory.now moment result (S.left capture.old)
+    ensures names { Names S.observed P.observed directory.now moment result (S.left capture.old)
         station.old station.new (P.calls station.old) (P.calls station.new) }
     ensures cause { HasGapsCause result (S.faults capture.old) (S.faults capture.new)
         (P.say_faults station.old) (P.say_faults station.new) }

@@ -52,7 +52,7 @@ fn line_of(c: u32, first: u32, last: u32, digits: u8) -> Piece
 /// Says a line for each run on circuit `c`.
 pub(crate) fn say_runs<P: Station>(c: u32, runs: Runs<'_>, station: &mut P) -> Result<(), Failed>
     requires { AllByRecursion HasDigits runs }
-    ensures told { P.tells → Tells result (on OPERATOR (run_lines c runs.entry))
+    ensures told { P.observed → Tells result (on OPERATOR (run_lines c runs.entry))
         (P.calls station.old) (P.calls station.new) }
     ensures cause { HasCause result (P.say_faults station.old) (P.say_faults station.new) }
     ensures disk { P.disk_faults station.new ≡ P.disk_faults station.old }
@@ -96,7 +96,7 @@ pub(crate) fn say_request<P: Station>(
 ) -> Result<(), Failed>
     requires channel { channel < CHANNELS }
     requires short { length text.now ≤ LONGEST_BODY }
-    ensures told { P.tells → Tells result (on channel (ask_frame
+    ensures told { P.observed → Tells result (on channel (ask_frame
         (ask_heading peer moment.day moment.hour moment.minute) text.now))
         (P.calls station.old) (P.calls station.new) }
     ensures cause { HasCause result (P.say_faults station.old) (P.say_faults station.new) }

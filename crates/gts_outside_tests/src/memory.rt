@@ -81,7 +81,7 @@ fn a_station_tells_what_each_call_says(rt: HostRuntime) -> Result<(), Fail> {
 
 /// Writes, writes over and past that, and cuts.
 fn keep<S: Station>(station: &mut S, into: &mut [u8]) -> Result<usize, Failed>
-    requires { S.tells → S.calls station.old ≡ [] }
+    requires { S.observed → S.calls station.old ≡ [] }
 {
     write_synced(station, 1, 0, b"abc")?;
     station.write_at(1, 1, b"xyz")?;
@@ -149,7 +149,7 @@ fn each_object_is_used_by_its_trait(rt: HostRuntime) -> Result<(), Fail> {
 
 /// Says, writes and syncs, writes over that, and says again.
 fn write_over<S: Station>(station: &mut S) -> Result<(), Failed>
-    requires { S.tells → S.calls station.old ≡ [] }
+    requires { S.observed → S.calls station.old ≡ [] }
 {
     station.say(0, b"one")?;
     write_synced(station, 0, 0, b"abc")?;

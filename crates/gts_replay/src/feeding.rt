@@ -23,7 +23,7 @@ pub(crate) fn feed<W: Switch, S: Source>(
 ) -> Result<(), StepFault>
     requires circuit { c < length (W.meanings.directory switch.old).circuits }
     requires piece { 0 < length piece.old }
-    ensures feeds { Feeds W.meanings S.tells c result steps.old steps.new (S.left capture.old)
+    ensures feeds { Feeds W.meanings S.observed c result steps.old steps.new (S.left capture.old)
         (S.left capture.new) decoder.old decoder.new switch.old switch.new }
     ensures directory { W.meanings.directory switch.new ≡ W.meanings.directory switch.old }
     ensures cause { HasRunCause result (W.disk_faults switch.old) (W.disk_faults switch.new)

@@ -2,7 +2,7 @@
 use Rattle.std.specs.Prelude.{◌≡◌, ◌⊎◌, ℕ, ◌+◌, ◌*◌, ◌<◌, ◌≤◌, Bool, true, false, List, [], ◌∷◌, ◌++◌, length, map, Option, Some, None, Err, if◌then◌else◌}
 use mathlib.Core.Option.{some}
 use lib.ListN.{get_elem?}
-use Rattle.gts_serve.specs.Cited.Below.{AreOver, Beginning, Call, Circuit, CircuitBytes, Directory, DiskFault, Ended, Engine, Entry, Event, Fault, IsFront, Known, LineFault, LineStood, LinesMeanings, LostSync, MOST_TURNS, NamesAreUpTo, Part, PlaceSeen, Quiet, ReceiveEnd, Receives, Rose, SayFault, Seen, SendEnd, Sends, SourceFault, Stands, StartsWith, SwitchFault, TableId, Taken, WentThroughAll, after, all_done, begun, entries, entries_under, events_over, fault_entries, flat, frames, fresh, given_index, goes_on, ipv4_octets, is_try, line, most_beside, on_circuit, outcome, receiver_name, sender_name, settled, state_at, takes, waiting}
+use Rattle.gts_serve.specs.Cited.Below.{AreOver, Beginning, Call, Circuit, CircuitBytes, Directory, DiskFault, Ended, Engine, Entry, Event, Fault, IsFront, Known, LineFault, LineStood, LinesMeanings, LostSync, MOST_TURNS, NamesAreUpTo, Part, PlaceSeen, Quiet, ReceiveEnd, Receives, Rose, SayFault, Seen, SendEnd, Sends, SourceFault, Stands, StartsWith, SwitchFault, TableId, Taken, WentThroughAll, after, all_done, begun, entries, entries_under, events_over, fault_entries, flat, frame_of_draw, frames, fresh, given_index, goes_on, ipv4_octets, is_try, most_beside, on_circuit, outcome, receiver_name, sender_name, settled, state_at, takes, waiting}
 use Rattle.gts_event.specs.declared.event.Entry.TheVariants as of_entry
 use Rattle.gts_serve.specs.declared.end.ServeEnd.{ServeEnd}
 use Rattle.gts_serve.specs.declared.end.ServeEnd.TheVariants.{Done, NotOpened, Receiver, Sender, NoMemory}
@@ -178,7 +178,7 @@ pub record BreaksOff (b : Beginning) (c index : ℕ) (history : List (ℕ × Ent
   pub few : behind ≤ most_beside b.origin.directory c
   pub gave : given_index (outcome b.origin.directory (state_at b.origin (entries earlier)) (Taken c)) ≡ Some index
   pub part : List ℕ
-  pub front : IsFront part (line b.origin.directory (after b.origin.directory (state_at b.origin (entries earlier)) (Taken c)) c index)
+  pub front : IsFront part (frame_of_draw b.origin.directory (after b.origin.directory (state_at b.origin (entries earlier)) (Taken c)) c index)
   pub whole : bytes ≡ frames_on b c earlier ++ part
 
 -- The bytes that a sink took over a whole history, by its sender's end: all frames of its circuit. Only where the line failed, one of
@@ -239,7 +239,7 @@ pub record HasNothing (b : Beginning) (c : ℕ) (history : List Entry) : Type 0 
   pub owed : (on_circuit (state_at b.origin history) c).owed ≡ []
   pub waits : waiting (on_circuit (state_at b.origin history) c) ≡ []
 
-module _ {P : Type 0} (tells : Type 0) (calls : P → List Call) (disk say : P → ℕ) (b : Beginning)
+module _ {P : Type 0} (observed : Type 0) (calls : P → List Call) (disk say : P → ℕ) (b : Beginning)
     (source_tells sink_tells : Type 0) (connections : ℕ) (before now : LinesSeen) where
   -- All circuits were served, in these turns of all threads: the engine stands for their history and the takes behind it, and each
   -- circuit has its part of it. The end is the first fault.
@@ -247,7 +247,7 @@ module _ {P : Type 0} (tells : Type 0) (calls : P → List Call) (disk say : P �
     pub drained : List (ℕ × Entry)
     pub ends : List (ReceiveEnd × SendEnd)
     pub counted : length ends ≡ length b.origin.directory.circuits
-    pub stands : Stands tells calls disk say b (entries (flat threads ++ drained)) engine
+    pub stands : Stands observed calls disk say b (entries (flat threads ++ drained)) engine
     pub takes : (k : ℕ) (x : ℕ × Entry) → get_elem? drained k ≡ some x
         → (c : ℕ) × (c < length ends) × (x.0 ≡ sender_name c) × IsTake c x.1
     pub circuits : (c : ℕ) (x : ReceiveEnd × SendEnd) → get_elem? ends c ≡ some x
@@ -261,7 +261,7 @@ module _ {P : Type 0} (tells : Type 0) (calls : P → List Call) (disk say : P �
     -- a circuit whose sender ended with nothing to send has nothing left, whatever became of the others
     pub quiet : (c : ℕ) (x : ReceiveEnd × SendEnd) → get_elem? ends c ≡ some x → x.1 ≡ Quiet
         → HasNothing b c (entries (flat threads ++ drained))
-    -- done is answered only where each source that tells began all its connections, and each was read to its end or lost
+    -- done is answered only where each source that is observed began all its connections, and each was read to its end or lost
     -- synchronisation
     pub went_through : end ≡ Done → source_tells → (c : ℕ) → c < length ends
         → (length (now.bytes c).parts ≡ connections) × AreOver c (now.bytes c).parts
@@ -272,6 +272,6 @@ module _ {P : Type 0} (tells : Type 0) (calls : P → List Call) (disk say : P �
   abbrev pub IsServed : Option (Known (List Entry)) → ServeEnd → Engine P → Type 0
   IsServed (Some pass) end engine = Serves pass.seen pass.full engine end
   IsServed None (NotOpened c) engine =
-      Stands tells calls disk say b [] engine × StopsAtOpening b.origin.directory source_tells sink_tells c before now
-  IsServed None NoMemory engine = Stands tells calls disk say b [] engine × AreUntouched before now
+      Stands observed calls disk say b [] engine × StopsAtOpening b.origin.directory source_tells sink_tells c before now
+  IsServed None NoMemory engine = Stands observed calls disk say b [] engine × AreUntouched before now
   IsServed None end engine = ⊥

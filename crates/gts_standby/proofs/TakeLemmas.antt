@@ -21,11 +21,11 @@ reads_kept d read old new (inl is) there = ap (λ (l : List Call). files_read wr
 reads_kept d read old new (inr (inl same)) there = ap (λ (l : List Call). files_read written d (seen l)) same ∙ there
 reads_kept d read old new (inr (inr left)) there = ap (λ (l : List Call). files_read written d (seen l)) left.2 ∙ there
 
-pub holds_kept : (tells : Type 0) (d : Directory) (s : State) (old new : List Call) (core : Core) (j : InHand) → (tells → OnlySyncs old new) → HoldsAt tells d s old core j → HoldsAt tells d s new core j
-holds_kept tells d s old new core j syncs h = record { kept = h.kept; current = h.current; ended = h.ended; stands = λ tell. syncs_stand d s old new j (syncs tell) (h.stands tell) }
+pub holds_kept : (observed : Type 0) (d : Directory) (s : State) (old new : List Call) (core : Core) (j : InHand) → (observed → OnlySyncs old new) → HoldsAt observed d s old core j → HoldsAt observed d s new core j
+holds_kept observed d s old new core j syncs h = record { kept = h.kept; current = h.current; ended = h.ended; stands = λ tell. syncs_stand d s old new j (syncs tell) (h.stands tell) }
 
-pub opened_kept : (tells : Type 0) (d : Directory) (old new : List Call) (core : Core) (j : InHand) → (tells → OnlySyncs old new) → IsOpened tells d old core j → IsOpened tells d new core j
-opened_kept tells d old new core j syncs o = opened_by tells d o.state new core j (holds_kept tells d o.state old new core j syncs (holds_of tells d old core j o))
+pub opened_kept : (observed : Type 0) (d : Directory) (old new : List Call) (core : Core) (j : InHand) → (observed → OnlySyncs old new) → IsOpened observed d old core j → IsOpened observed d new core j
+opened_kept observed d old new core j syncs o = opened_by observed d o.state new core j (holds_kept observed d o.state old new core j syncs (holds_of observed d old core j o))
 
 kept_moments : (d : Directory) (s : State) (taken : Taken) (old new : List Call) (j : InHand) → StandsFor d s old j → OnlySyncs old new → EachSince old new (OpensWithin d s taken)
 kept_moments d s taken old new j f syncs =
@@ -150,8 +150,8 @@ abbrev by_found : Directory → List ℕ → Piece → Taken
 by_found d fed piece = by_piece 40 piece (λ size other. begin_with written d (first_seal written d.mark) size fed (need_in fed))
 
 -- the checkpoint was taken, and records are added behind it
-module _ (tells : Type 0) (tell : tells) (d : Directory) (s : State) (fed : List ℕ) (old mid : List Call) (at : ℕ) (core : Core) (next : InHand) (ahead : InFeed) (left : List ℕ)
-    (b : HasBegun tells d s fed old at mid core next ahead left) where
+module _ (observed : Type 0) (tell : observed) (d : Directory) (s : State) (fed : List ℕ) (old mid : List Call) (at : ℕ) (core : Core) (next : InHand) (ahead : InFeed) (left : List ℕ)
+    (b : HasBegun observed d s fed old at mid core next ahead left) where
   abbrev behind_it : ℕ → Taken
   behind_it place = add_all written d (length fed) next.seal (begun b.n) next.gate place (drop b.size fed)
 

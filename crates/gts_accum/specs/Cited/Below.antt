@@ -13,7 +13,7 @@ pub use Rattle.gts_message.specs.Cited.{message_end}
 unfoldable pub use Rattle.gts_message.specs.Cited.{body_at, number_at, split_at, text_at}
 pub use Rattle.gts_frame.specs.Cited.{Breaks, Carries, Decoding, Frame, HasMessage, IsFramed, IsFront, IsPiece, IsStream, IsStreamFront, KeepAlive, KeepsAlive, Makes, Piece, ReadsOn, Shows, Sign, after_step, begins_kind, begins_length, begins_message, break_of, frame, has_length, held_in, is_front, keep_alive, length_in, letters, open_part, piece_text, signs_in, signs_of, signs_of_step}
 pub use Rattle.gts_frame.specs.declared.kind.Kind.TheVariants.{An}
-pub use Rattle.gts_frame.specs.declared.lost.LostField.{LostField}
+pub use Rattle.gts_frame.specs.declared.lost.FrameField.{FrameField}
 pub use Rattle.gts_frame.specs.declared.step.Step.{Step as FrameStep}
 unfoldable pub use Rattle.gts_request.specs.Cited.{request_at}
 pub use Rattle.gts_directory.specs.Cited.{Directory}

@@ -8,7 +8,7 @@ pub use Rattle.gts_directory.specs.declared.fault.DirFault.{DirFault}
 pub use Rattle.gts_directory.specs.declared.taking_over.Change.{Change}
 pub use Rattle.gts_dirfile.specs.Cited.{directory_of_bytes}
 pub use Rattle.gts_dirfile.specs.declared.limits.TheConstants.{LONGEST_DIRECTORY}
-pub use Rattle.gts_event.specs.Cited.{Draws, EachOwedFew, EachRoutedOnce, EachWaitsOrDrawn, HasLine, IsNowhereElse, IsOrdered, IsRoutedAsNamed, Need, State, after, after_all, after_entry, all_done, all_unsaid, begun, choice, drawn, draws, has, is_sound, keeps_one, line, need, need_of, next, on_circuit, outcome, restarted, takes_of_drain}
+pub use Rattle.gts_event.specs.Cited.{Draws, EachOwedFew, EachRoutedOnce, EachWaitsOrDrawn, HasFrame, IsNowhereElse, IsOrdered, IsRoutedAsNamed, Need, State, after, after_all, after_entry, all_done, all_unsaid, begun, choice, drawn, draws, frame_of_draw, has, is_sound, keeps_one, need, need_of, next, on_circuit, outcome, restarted, takes_of_drain}
 pub use Rattle.gts_event.specs.declared.event.Entry.{Entry}
 pub use Rattle.gts_event.specs.declared.event.Entry.TheVariants.{Done, Doubt, Idle, Restarted, Unsaid}
 pub use Rattle.gts_event.specs.declared.event.Event.{Event}
@@ -30,7 +30,7 @@ pub use Rattle.gts_journal.specs.Cited.{OnlySyncs, OpensAsBefore, is_begun, sele
 pub use Rattle.gts_checkpoint.specs.Cited.{checkpoint_file}
 pub use Rattle.gts_recovery.specs.Cited.{IsAnswer, files_open_any, opens_any}
 pub use Rattle.gts_calls.specs.Cited.{HasCallCause, IsReopenFault, Standing, settled}
-pub use Rattle.gts_engine.specs.Cited.{Engine, GivesRoom, HasFailed, HasRead, HasSaid, IsCompactFault, IsCompaction, IsFullCompacted, IsIdleFault, IsRewritten, Keeps, Leaving, OpensWith, Origin, StaysAt, Told, compacted_after, origin_of, shown, state_at, switch_meanings, used_at}
+pub use Rattle.gts_engine.specs.Cited.{Engine, GivesRoom, HasFailed, HasRead, HasSaid, IsCompactFault, IsCompaction, IsFullCompacted, IsIdleFault, IsRewritten, Keeps, Leaving, ObservedOrigin, OpensWith, Origin, StaysAt, compacted_after, origin_of, shown, state_at, switch_meanings, used_at}
 pub use Rattle.gts_engine.specs.declared.mode.SayMode.{SayMode}
 pub use Rattle.gts_engine.specs.declared.mode.SayMode.TheVariants.{Caller}
 pub use Rattle.gts_migrate.specs.Cited.{AnswersOpening, AnswersWaiting, CountsSays, GivesRoomFor, IsDiskFaultOf, IsMigrated, IsSayFaultOf, LeavesFiles, OpensEither, SaysFor, WasOpened, sayings, waits_on_closed}
@@ -40,7 +40,7 @@ pub use Rattle.gts_migrate.specs.declared.waiting.Waiting.TheVariants.{Dropped, 
 pub use Rattle.gts_say.specs.Cited.{SaysFront, SaysOnly}
 pub use Rattle.gts_count.specs.Cited.{Counts, ShowsTable, meanings_by, table}
 pub use Rattle.gts_count.specs.declared.counted.Counted.{Counted}
-pub use Rattle.gts_count.specs.declared.parts.Parts.{Parts}
+pub use Rattle.gts_count.specs.declared.parts.CountedParts.{CountedParts}
 pub use Rattle.gts_report.specs.Cited.{report}
 pub use Rattle.gts_changes.specs.Cited.{changes}
 pub use Rattle.gts_replay.specs.Cited.{BreaksAtCompaction, BreaksAtRestart, Ends, HasDone, HasReplayCause, IsUnbegun, Remains, StandsFor, compacted_at, compactions_at, entries_at, origin_at, origin_behind}

@@ -32,7 +32,7 @@ pub fn check<S: Source, P: Station>(alloc: Global, world: &mut World<S, S, P>) -
         return refusal(fault);
     }
     match world.station.say(OPERATOR, text.bytes()) {
-        Err(Failed) => Status::SayFault,
+        Err(Failed) => Status::OutputFault,
         Ok(()) => Status::Done,
     }
 }

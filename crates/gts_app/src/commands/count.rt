@@ -93,7 +93,7 @@ pub fn count<S: Source, P: Station>(alloc: Global, mut world: World<S, S, P>) ->
         Err(status) => Ended { status, world },
         Ok(table) => match world.station.say(OPERATOR, table.as_slice()) {
             Err(Failed) => Ended {
-                status: Status::SayFault,
+                status: Status::OutputFault,
                 world,
             },
             Ok(()) => Ended {

@@ -17,8 +17,8 @@ fn status_of(end: FollowEnd) -> Status
         FollowEnd::Done => Status::Done,
         FollowEnd::Open(fault) => refusal(fault),
         FollowEnd::Feed { at } => Status::Feed { at },
-        FollowEnd::Diverged { index, own, fed } => Status::Diverged { index, own, fed },
-        FollowEnd::SourceFault => Status::SourceFault,
+        FollowEnd::Diverged { index, own, fed } => Status::OtherFeed { index, own, fed },
+        FollowEnd::SourceFault => Status::InputFault,
         FollowEnd::DiskFault => Status::DiskFault,
         FollowEnd::NoMemory => Status::NoMemory,
     }

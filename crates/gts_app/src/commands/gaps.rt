@@ -15,8 +15,8 @@ fn status_of(end: GapsEnd) -> Status
     match end {
         GapsEnd::Done => Status::Done,
         GapsEnd::Capture { at } => Status::Capture { at },
-        GapsEnd::SourceFault => Status::SourceFault,
-        GapsEnd::SayFault => Status::SayFault,
+        GapsEnd::SourceFault => Status::InputFault,
+        GapsEnd::SayFault => Status::OutputFault,
         GapsEnd::NoMemory => Status::NoMemory,
     }
 }

@@ -17,13 +17,13 @@ fn status_of(migrated: Result<(), MigrateFault>) -> Status
     match migrated {
         Ok(()) => Status::Done,
         Err(MigrateFault::Open(fault)) => refusal(fault),
-        Err(MigrateFault::Waits { circuit, count }) => Status::Waits {
+        Err(MigrateFault::Waits { circuit, count }) => Status::Closed {
             row: circuit,
             count,
         },
         Err(MigrateFault::Full { used, need, limit }) => Status::Full { used, need, limit },
         Err(MigrateFault::DiskFault) => Status::DiskFault,
-        Err(MigrateFault::SayFault) => Status::SayFault,
+        Err(MigrateFault::SayFault) => Status::OutputFault,
         Err(MigrateFault::NoMemory) => Status::NoMemory,
     }
 }

@@ -14,9 +14,9 @@ fn status_of(end: PackEnd) -> Status
 {
     match end {
         PackEnd::Done => Status::Done,
-        PackEnd::Bad { at } => Status::Accum { at },
-        PackEnd::SourceFault => Status::SourceFault,
-        PackEnd::SayFault => Status::SayFault,
+        PackEnd::Bad { at } => Status::File { at },
+        PackEnd::SourceFault => Status::InputFault,
+        PackEnd::SayFault => Status::OutputFault,
         PackEnd::NoMemory => Status::NoMemory,
     }
 }

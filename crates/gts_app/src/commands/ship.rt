@@ -17,7 +17,7 @@ fn status_of(shipped: Result<(), ShipFault>) -> Status
         Ok(()) => Status::Done,
         Err(ShipFault::Open(fault)) => refusal(fault),
         Err(ShipFault::DiskFault) => Status::DiskFault,
-        Err(ShipFault::SayFault) => Status::SayFault,
+        Err(ShipFault::SayFault) => Status::OutputFault,
         Err(ShipFault::NoMemory) => Status::NoMemory,
     }
 }

@@ -17,7 +17,7 @@ fn status_of(end: UnpackEnd) -> Status
     ensures { result ≡ status_unpacked end }
 {
     match end {
-        UnpackEnd::Bad { at } => Status::Accum { at },
+        UnpackEnd::Bad { at } => Status::File { at },
         UnpackEnd::Ended(end) => replay::status_of(end),
     }
 }
@@ -38,7 +38,7 @@ pub fn unpack<S: Source, P: Station>(
         Err(status) => return Ended { status, world },
     };
     if directory.circuits() <= c {
-        let status = Status::Words;
+        let status = Status::Usage;
         return Ended { status, world };
     }
     let mut engine = match open_journal::<S, P>(alloc, directory, world.station) {

@@ -19,7 +19,7 @@ fn ends_and_goes_on<R: AllocGlobal + Threads + Wait + Sync + Abort>(
 ) -> Result<(), Fail> {
     let Left { status, station } = replayed(rt, COMPACTED, &[FIRST.saturating_add(behind)])?;
     assert!(rt;
-        status == Status::DiskFault || status == Status::SayFault,
+        status == Status::DiskFault || status == Status::OutputFault,
         "call {behind}"
     );
     goes_on(rt, behind, station)
@@ -54,7 +54,7 @@ fn replayed_from<R: AllocGlobal + Threads + Wait + Sync>(
 #[test]
 fn a_source_that_fails_ends_the_run(rt: HostRuntime) -> Result<(), Fail> {
     assert!(rt; replayed_from(&rt, &[], &[])? == Status::Done);
-    assert!(rt; replayed_from(&rt, &[0], &[])? == Status::SourceFault);
-    assert!(rt; replayed_from(&rt, &[], &[0])? == Status::SourceFault);
+    assert!(rt; replayed_from(&rt, &[0], &[])? == Status::InputFault);
+    assert!(rt; replayed_from(&rt, &[], &[0])? == Status::InputFault);
     Ok(())
 }

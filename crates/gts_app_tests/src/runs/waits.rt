@@ -27,7 +27,7 @@ fn has_gone_out(frames: &AtomicU64) -> bool {
     false
 }
 
-/// What the neighbour on a circuit sends: at once, or only when a frame has gone out. It tells no bytes.
+/// What the neighbour on a circuit sends: at once, or only when a frame has gone out. Its bytes are not observed.
 #[derive(Drop)]
 struct Sending<'a> {
     bytes: &'a [u8],
@@ -37,7 +37,7 @@ struct Sending<'a> {
 }
 
 impl Source for Sending<'_> {
-    ghost tells = { ⊥ };
+    ghost observed = { ⊥ };
 
     ghost left = { λ _. [] };
 
@@ -63,7 +63,7 @@ impl Line for Sending<'_> {
     }
 }
 
-/// What the neighbour on a circuit gets. It tells no bytes.
+/// What the neighbour on a circuit gets. Its bytes are not observed.
 #[derive(Drop)]
 struct Getting<'a> {
     got: Vec<u8>,
@@ -73,7 +73,7 @@ struct Getting<'a> {
 }
 
 impl Sink for Getting<'_> {
-    ghost tells = { ⊥ };
+    ghost observed = { ⊥ };
 
     ghost written = { λ _. [] };
 

@@ -5,7 +5,7 @@ pub use Rattle.gts_alphabet.specs.declared.limits.TheConstants.{LONGEST_FRAME, L
 pub use Rattle.gts_frame.specs.Cited.{held_in}
 pub use Rattle.gts_frame.specs.declared.kind.Kind.{Kind}
 pub use Rattle.gts_directory.specs.Cited.{Directory}
-pub use Rattle.gts_event.specs.Cited.{Need, State, after, after_all, after_entry, begun, line, outcome}
+pub use Rattle.gts_event.specs.Cited.{Need, State, after, after_all, after_entry, begun, frame_of_draw, outcome}
 pub use Rattle.gts_event.specs.declared.event.Entry.{Entry}
 pub use Rattle.gts_event.specs.declared.event.Entry.TheVariants.{Done, Doubt, Idle, Restarted, Unsaid}
 pub use Rattle.gts_event.specs.declared.event.Event.{Event}

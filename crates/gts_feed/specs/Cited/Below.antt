@@ -3,7 +3,7 @@ pub use Rattle.gts_alphabet.specs.declared.limits.TheConstants.{LONGEST_MESSAGE}
 pub use Rattle.gts_traits.specs.Cited.{Rose}
 pub use Rattle.gts_frame.specs.Cited.{Decoding, HasMessage, IsPartial, IsStreamFront, Makes, ReadsOn, after_step, held_in, is_front, is_part, piece_text, signs_of_step}
 pub use Rattle.gts_frame.specs.declared.kind.Kind.{Kind}
-pub use Rattle.gts_frame.specs.declared.lost.LostField.{LostField}
+pub use Rattle.gts_frame.specs.declared.lost.FrameField.{FrameField}
 pub use Rattle.gts_frame.specs.declared.step.Step.{Step}
 pub use Rattle.gts_directory.specs.Cited.{Directory}
 pub use Rattle.gts_event.specs.Cited.{after_all, all_done, all_unsaid, outcome}

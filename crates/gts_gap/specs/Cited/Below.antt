@@ -9,16 +9,16 @@ pub use Rattle.gts_alphabet.specs.declared.characters.TheConstants.{EOL}
 pub use Rattle.gts_heading.specs.Cited.{HeadingFields, are_capitals, capitals_at}
 unfoldable pub use Rattle.gts_heading.specs.Cited.{bare_group_at, bare_heading_at, heading_at, heading_text, message_group_at}
 unfoldable pub use Rattle.gts_heading.specs.Cited.{plain_heading_at}
-pub use Rattle.gts_heading.specs.declared.field.Field.{Field}
-pub use Rattle.gts_heading.specs.declared.field.Field.TheVariants.{Cccc}
+pub use Rattle.gts_heading.specs.declared.field.MessageField.{MessageField}
+pub use Rattle.gts_heading.specs.declared.field.MessageField.TheVariants.{Cccc}
 pub use Rattle.gts_message.specs.Cited.{MessageParts, message_end}
 unfoldable pub use Rattle.gts_message.specs.Cited.{body_at, number_at, split_at, text_at}
 pub use Rattle.gts_frame.specs.Cited.{frame}
 pub use Rattle.gts_frame.specs.declared.kind.Kind.TheVariants.{An}
 pub use Rattle.gts_request.specs.Cited.{Item, Numbers, behind_asker, bytes_from, count_at, items_at, numbers_at, run_at}
 unfoldable pub use Rattle.gts_request.specs.Cited.{request_at}
-pub use Rattle.gts_request.specs.declared.fault.ReqField.{ReqField}
-pub use Rattle.gts_request.specs.declared.fault.ReqField.TheVariants.{Number}
+pub use Rattle.gts_request.specs.declared.fault.RequestField.{RequestField}
+pub use Rattle.gts_request.specs.declared.fault.RequestField.TheVariants.{Number}
 pub use Rattle.gts_request.specs.declared.line.Line.TheVariants.{Sqn}
 pub use Rattle.gts_directory.specs.Cited.{Directory}
 pub use Rattle.gts_event.specs.declared.event.Event.{Event}

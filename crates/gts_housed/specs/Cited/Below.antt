@@ -5,7 +5,7 @@ pub use Rattle.gts_traits.specs.declared.station.Station.{Ghosts}
 pub use Rattle.gts_frame.specs.Cited.{Decoding, HasMessage, held_in, signs_of_step}
 pub use Rattle.gts_frame.specs.declared.step.Step.{Step}
 pub use Rattle.gts_directory.specs.Cited.{Circuit, Directory, directory_of}
-pub use Rattle.gts_event.specs.Cited.{Choice, Draws, Nothing_waits, Repeats, State, after, after_all, all_done, all_unsaid, begun, choice, line, nothing, outcome, spoken}
+pub use Rattle.gts_event.specs.Cited.{Choice, Draws, Nothing_waits, Repeats, State, after, after_all, all_done, all_unsaid, begun, choice, frame_of_draw, nothing, outcome, spoken}
 pub use Rattle.gts_event.specs.declared.event.Entry.{Entry}
 pub use Rattle.gts_event.specs.declared.event.Entry.TheVariants.{Done, Doubt, Idle, Unsaid}
 pub use Rattle.gts_event.specs.declared.event.Event.{Event}

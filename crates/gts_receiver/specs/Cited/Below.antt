@@ -5,7 +5,7 @@ pub use Rattle.gts_traits.specs.Cited.{Begun, HasParts, Part, Rose}
 pub use Rattle.gts_traits.specs.declared.source.Source.{Ghosts}
 pub use Rattle.gts_frame.specs.Cited.{Decoding, IsStreamFront, held_in}
 pub use Rattle.gts_frame.specs.declared.kind.Kind.{Kind}
-pub use Rattle.gts_frame.specs.declared.lost.LostField.{LostField}
+pub use Rattle.gts_frame.specs.declared.lost.FrameField.{FrameField}
 pub use Rattle.gts_event.specs.Cited.{State, all_done, all_unsaid, outcome}
 pub use Rattle.gts_event.specs.declared.event.Entry.{Entry}
 pub use Rattle.gts_event.specs.declared.event.Entry.TheVariants.{Done, Doubt, Idle, Unsaid}

@@ -2,7 +2,7 @@
 pub use Rattle.std.specs.List.{slice_index_or}
 pub use Rattle.gts_traits.specs.Cited.{IsFront, Rose}
 pub use Rattle.gts_directory.specs.Cited.{Directory}
-pub use Rattle.gts_event.specs.Cited.{Choice, Draws, Nothing_waits, Repeats, State, after, after_all, begun, choice, line, outcome}
+pub use Rattle.gts_event.specs.Cited.{Choice, Draws, Nothing_waits, Repeats, State, after, after_all, begun, choice, frame_of_draw, outcome}
 pub use Rattle.gts_event.specs.declared.event.Entry.{Entry}
 pub use Rattle.gts_event.specs.declared.event.Entry.TheVariants.{Done, Doubt, Idle}
 pub use Rattle.gts_event.specs.declared.event.Event.TheVariants.{Taken}

@@ -11,7 +11,7 @@ pub use Rattle.gts_traits.specs.declared.station.Station.{Ghosts as StationMeani
 pub use Rattle.gts_frame.specs.Cited.{Decoding, IsStreamFront}
 pub use Rattle.gts_directory.specs.Cited.{Circuit, Directory, circuit_of_row}
 pub use Rattle.gts_directory.specs.declared.limits.TheConstants.{HIGHEST_PORT, LONGEST_IDLE}
-pub use Rattle.gts_event.specs.Cited.{Choice, CircuitState, Draws, Nothing_waits, Repeats, State, after, after_all, after_entry, after_take, all_done, begun, choice, choice_of, draws, idle, line, next, on_circuit, outcome, waiting, with_circuit, with_drawn, with_repeated}
+pub use Rattle.gts_event.specs.Cited.{Choice, CircuitState, Draws, Nothing_waits, Repeats, State, after, after_all, after_entry, after_take, all_done, begun, choice, choice_of, draws, frame_of_draw, idle, next, on_circuit, outcome, waiting, with_circuit, with_drawn, with_repeated}
 pub use Rattle.gts_event.specs.declared.event.Entry.{Entry}
 pub use Rattle.gts_event.specs.declared.event.Entry.TheVariants.{Doubt, Idle, Restarted, Unsaid}
 pub use Rattle.gts_event.specs.declared.event.Event.{Event}

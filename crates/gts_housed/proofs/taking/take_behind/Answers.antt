@@ -14,9 +14,9 @@ loop-gave-preserved g c =
     let places : length frames ≡ length c.loop-gave.given.frames.each = count_frames c.loop-gave.given.frames.each c.loop-gave.given.frames.bytes in
     record {
       taken = λ h start.
-          let has : List Frame → Bool → Type 0 = λ l b. HasTaken g.P.Station.tells g.P.Station.calls g.P.Station.disk_faults g.P.Station.say_faults g.B.Began.beginning h c.args.c l b new in
-          let before = subst (λ (b : Bool). HasTaken g.P.Station.tells g.P.Station.calls g.P.Station.disk_faults g.P.Station.say_faults g.B.Began.beginning h c.args.c frames b c.loop-gave.housed.engine) c.loop-gave-test.true (i.taken h start) in
-          let after = one_behind g.P.Station.tells g.P.Station.calls g.P.Station.disk_faults g.P.Station.say_faults g.B.Began.beginning h c.args.c frames c.in-Some.outcome c.take_behind.new.out c.loop-gave.housed.engine new
+          let has : List Frame → Bool → Type 0 = λ l b. HasTaken g.P.Station.observed g.P.Station.calls g.P.Station.disk_faults g.P.Station.say_faults g.B.Began.beginning h c.args.c l b new in
+          let before = subst (λ (b : Bool). HasTaken g.P.Station.observed g.P.Station.calls g.P.Station.disk_faults g.P.Station.say_faults g.B.Began.beginning h c.args.c frames b c.loop-gave.housed.engine) c.loop-gave-test.true (i.taken h start) in
+          let after = one_behind g.P.Station.observed g.P.Station.calls g.P.Station.disk_faults g.P.Station.say_faults g.B.Began.beginning h c.args.c frames c.in-Some.outcome c.take_behind.new.out c.loop-gave.housed.engine new
           before c.in-Some.ensures.called c.in-Some.ensures.gathered c.in-Some.ensures.frame c.take_behind.ensures.cause.0 c.take_behind.ensures.cause.1 (c.take_behind.ensures.silent before.silent) in
           subst (λ (l : List Frame). has l c.keep-gave.result) (sym are) (subst (λ (b : Bool). has (frames ++ frames_by c.in-Some.outcome c.take_behind.new.out) b) (sym c.keep-gave.ensures.gave) after);
       few = omega (arith, count, places, c.count.ensures, c.if-count-most.true);

@@ -8,7 +8,7 @@ use Rattle.gts_missing.proofs.hearing.feed.Goals as goal
 
 pub loop-count-init : goal.loop-count-init
 loop-count-init g c = record {
-  fed = ([], takes_none g.S.Source.tells c.args.steps.now (g.S.Source.left c.args.capture.now), fed_none c.args.c c.args.decoder.now c.args.table.now);
+  fed = ([], takes_none g.S.Source.observed c.args.steps.now (g.S.Source.left c.args.capture.now), fed_none c.args.c c.args.decoder.now c.args.table.now);
   circuits = refl;
   later = omega arith;
 }
@@ -16,10 +16,10 @@ loop-count-init g c = record {
 pub returns-in_err-count-clause-feeds : goal.returns-in_err-count-clause-feeds
 returns-in_err-count-clause-feeds g c =
     let fed = c.loop-count.invariant.fed in
-    let F : CaptureFault → Type 0 = λ fault. Feeds g.S.Source.tells c.args.c (Err fault) c.args.steps.now c.bytes.new.self (g.S.Source.left c.args.capture.now) (g.S.Source.left c.bytes.new.source)
+    let F : CaptureFault → Type 0 = λ fault. Feeds g.S.Source.observed c.args.c (Err fault) c.args.steps.now c.bytes.new.self (g.S.Source.left c.args.capture.now) (g.S.Source.left c.bytes.new.source)
     c.args.decoder.now c.loop-count.decoder c.args.table.now c.loop-count.table in
     let go : (fault : CaptureFault) → c.bytes.result ≡ Err fault → F fault = elim [
-      | Bad at ↦ λ is. (fed.0, takes_end g.S.Source.tells fed.0 c.args.steps.now c.loop-count.steps (g.S.Source.left c.args.capture.now) (g.S.Source.left c.loop-count.capture) at fed.1 (λ t. c.bytes.ensures.bad t at is))
+      | Bad at ↦ λ is. (fed.0, takes_end g.S.Source.observed fed.0 c.args.steps.now c.loop-count.steps (g.S.Source.left c.args.capture.now) (g.S.Source.left c.loop-count.capture) at fed.1 (λ t. c.bytes.ensures.bad t at is))
       | SourceFault ↦ λ is. tt
     ] in
     let p = err_from_is_err_and c.from_residual.result c.from_residual.ensures.1 in
@@ -35,7 +35,7 @@ loop-count-preserved g c =
     record {
       fed = (
         fed.0 ++ piece,
-        takes_more g.S.Source.tells fed.0 piece c.args.steps.now c.loop-count.steps c.bytes.new.self (g.S.Source.left c.args.capture.now) (g.S.Source.left c.loop-count.capture) (g.S.Source.left c.bytes.new.source)
+        takes_more g.S.Source.observed fed.0 piece c.args.steps.now c.loop-count.steps c.bytes.new.self (g.S.Source.left c.args.capture.now) (g.S.Source.left c.loop-count.capture) (g.S.Source.left c.bytes.new.source)
             fed.1 c.in_ok-count.ensures.told (omega (arith, long, c.in_ok-count.ensures.passed.feed)) (omega (arith, long, c.in_ok-count.ensures.passed.at)) c.in_ok-count.ensures.passed.within c.bytes.ensures.same,
         fed_piece c.args.c c.args.decoder.now c.args.table.now fed.0 piece c.loop-count.decoder c.feed_piece.new.decoder c.loop-count.table c.feed_piece.new.table fed.2 c.feed_piece.ensures.held c.feed_piece.ensures.adds,
       );

@@ -5,7 +5,7 @@ use Rattle.gts_missing.proofs.hearing.feed.Given as goal
 -- the bytes so far were taken and dealt with
 abbrev pub invariant-loop-count : goal.invariant-loop-count
 invariant-loop-count g l = record {
-  fed : (bytes : List ℕ) × Takes g.S.Source.tells bytes l.fn.steps l.steps (g.S.Source.left l.fn.capture) (g.S.Source.left l.capture)
+  fed : (bytes : List ℕ) × Takes g.S.Source.observed bytes l.fn.steps l.steps (g.S.Source.left l.fn.capture) (g.S.Source.left l.capture)
       × IsFed l.c l.fn.decoder l.fn.table bytes l.decoder l.table;
   circuits : length l.table ≡ length l.fn.table;
   later : g.S.Source.faults l.fn.capture ≤ g.S.Source.faults l.capture;

@@ -7,7 +7,7 @@ use Rattle.gts_missing.proofs.reading.run.Given as goal
 abbrev pub invariant-loop : goal.invariant-loop
 invariant-loop g l = record {
   done : (d : Directory) → IsNew d l.fn.table l.fn.decoders → (steps : List Step) × (length steps ≡ l.counter)
-      × Runs g.S.Source.tells d (g.S.Source.left l.fn.capture) steps l.steps (g.S.Source.left l.capture) l.decoders l.table;
+      × Runs g.S.Source.observed d (g.S.Source.left l.fn.capture) steps l.steps (g.S.Source.left l.capture) l.decoders l.table;
   of_kind : l.steps.kind ≡ Journaled;
   taken : l.steps.feed ≡ 0;
   here : l.steps.circuits ≡ length l.fn.table;

@@ -48,7 +48,7 @@ returns-in-Err-say g c =
     not_told (λ (x : Counted (Engine g.row.P.Denot)). x.parts) g.S.Source g.P.Station c.replay-end.result od nd c.args.world.capture c.replay-end.new.capture c.args.world.station first last
     opens c.in-Ok-count_beside.ensures.counts (λ n es keeps sound. c.a_history_keeps_its_laws.ensures first.parts.switch.directory n es keeps sound) c.replay-end.ensures.ends few
     c.replay-end.ensures.cause files c.in-Ok-table.ensures.table.0 c.as_slice.result.now
-    (subst (ShowsTable (switch_meanings g.P.Station.tells g.P.Station.calls) last.parts) (sym c.as_slice.ensures.value) c.in-Ok-table.ensures.table.1)
+    (subst (ShowsTable (switch_meanings g.P.Station.observed g.P.Station.calls) last.parts) (sym c.as_slice.ensures.value) c.in-Ok-table.ensures.table.1)
     c.into_parts-station-2.result.0 c.say.new.self
     (c.into_parts-station-2.ensures.station ∙ ap (λ (e : Engine g.row.P.Denot). e.station) c.into_inner-engine.ensures)
     c.in-Err-say.ensures.told (c.in-Err-say.ensures.cause.failed refl) c.in-Err-say.ensures.cause.later c.in-Err-say.ensures.disk
@@ -69,7 +69,7 @@ returns g c =
     counted_so (λ (x : Counted (Engine g.row.P.Denot)). x.parts) g.S.Source g.P.Station c.replay-end.result od nd c.args.world.capture c.replay-end.new.capture c.args.world.station first last
     opens c.in-Ok-count_beside.ensures.counts (λ n es keeps sound. c.a_history_keeps_its_laws.ensures first.parts.switch.directory n es keeps sound) c.replay-end.ensures.ends few
     c.replay-end.ensures.cause files c.in-Ok-table.ensures.table.0 c.as_slice.result.now
-    (subst (ShowsTable (switch_meanings g.P.Station.tells g.P.Station.calls) last.parts) (sym c.as_slice.ensures.value) c.in-Ok-table.ensures.table.1)
+    (subst (ShowsTable (switch_meanings g.P.Station.observed g.P.Station.calls) last.parts) (sym c.as_slice.ensures.value) c.in-Ok-table.ensures.table.1)
     c.into_parts-station-2.result.0 c.say.new.self
     (c.into_parts-station-2.ensures.station ∙ ap (λ (e : Engine g.row.P.Denot). e.station) c.into_inner-engine.ensures)
     c.in-Ok-say.ensures.told c.in-Ok-say.ensures.cause.later c.in-Ok-say.ensures.disk

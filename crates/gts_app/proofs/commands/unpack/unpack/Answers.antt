@@ -27,7 +27,7 @@ returns-in-Err-open_journal g c =
     let read = subst (λ r. ReadsDirectory g.S.Source r od nd) c.in-Ok.is c.directory_of.ensures in
     unopened g.S.Source g.P.Station c.args.c r.status d od nd c.args.world.capture c.args.world.station r.station
     c.open_journal.result c.in-Err-open_journal.is (c.open_journal.ensures.opens od nd read)
-    (omega (arith, c.circuits.ensures.value, c.if-circuits-c.false)) (λ tells. read.read tells d refl)
+    (omega (arith, c.circuits.ensures.value, c.if-circuits-c.false)) (λ observed. read.read observed d refl)
 
 pub returns : goal.returns
 returns g c =
@@ -44,6 +44,6 @@ returns g c =
     unpacks g.S.Source g.P.Station c.args.c c.unpack-end.result.0 od nd c.args.world.capture c.unpack-end.result.1 c.args.world.station first c.unpack-end.new.switch
     (subst (λ r. Opens g.S.Source g.P.Station r od nd c.args.world.station) c.in-Ok-open_journal.is (c.open_journal.ensures.opens od nd read))
     (λ n es keeps sound. c.a_history_keeps_its_laws.ensures first.directory n es keeps sound) c.unpack-end.ensures.ends few here
-    (λ tells. subst (λ (x : directories.Directory). directory_of_bytes (g.S.Source.left od) ≡ Ok x) (sym same) (read.read tells d refl))
+    (λ observed. subst (λ (x : directories.Directory). directory_of_bytes (g.S.Source.left od) ≡ Ok x) (sym same) (read.read observed d refl))
     c.unpack-end.ensures.cause c.used-used.ensures.files
     )

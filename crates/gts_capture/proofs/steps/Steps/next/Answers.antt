@@ -4,7 +4,7 @@ use Rattle.gts_capture.proofs.HeldLemmas.{part_is_short, stop_is_bad, end_is_bad
 use Rattle.gts_capture.proofs.steps.Steps.next.Goals as goal
 
 pub returns-in-Err-Bad-clause-bad : goal.returns-in-Err-Bad-clause-bad
-returns-in-Err-Bad-clause-bad g c = λ tells at e.
+returns-in-Err-Bad-clause-bad g c = λ observed at e.
     let old = c.args.self.now in
     let held = c.loop-head.self in
     let unchanged = c.in-Err-Bad.ensures.unchanged in
@@ -18,11 +18,11 @@ returns-in-Err-Bad-clause-bad g c = λ tells at e.
     let left : List ℕ = readable_from (held.at + length held.ahead) (g.S.Source.left c.loop-head.source) in
     bad_since old held (readable_from old.at (old.ahead ++ g.S.Source.left c.args.source.now)) (held.ahead ++ left) at
     c.loop-head.invariant.others
-    (same_readable old held (g.S.Source.left c.args.source.now) (g.S.Source.left c.loop-head.source) within c.loop-head.invariant.others (c.loop-head.invariant.told tells))
+    (same_readable old held (g.S.Source.left c.args.source.now) (g.S.Source.left c.loop-head.source) within c.loop-head.invariant.others (c.loop-head.invariant.told observed))
     (stop_is_bad held left behind at stop there)
 
 pub returns-then-branch-eq0-clause-bad : goal.returns-then-branch-eq0-clause-bad
-returns-then-branch-eq0-clause-bad g c = λ tells at e.
+returns-then-branch-eq0-clause-bad g c = λ observed at e.
     let old = c.args.self.now in
     let held = c.loop-head.self in
     let mid = c.held_head.new.self in
@@ -32,7 +32,7 @@ returns-then-branch-eq0-clause-bad g c = λ tells at e.
     let W : Held → Type 0 = λ h. h.at + length h.ahead ≤ LONGEST_CAPTURE in
     let within : held.at + length held.ahead ≤ LONGEST_CAPTURE = subst W unchanged c.in-Err-More.ensures.within in
     let N : Held → Type 0 = λ h. readable_from (h.at + length h.ahead) before ≡ [] in
-    let nothing : readable_from (held.at + length held.ahead) before ≡ [] = subst N unchanged (c.in_ok-fill.ensures.end tells c.if-branch-eq0.true) in
+    let nothing : readable_from (held.at + length held.ahead) before ≡ [] = subst N unchanged (c.in_ok-fill.ensures.end observed c.if-branch-eq0.true) in
     let is = c.bad-then-branch-eq0.ensures in
     let place : at ≡ now.at + (length now.ahead - 0) = cc in
     let at_now : now.at ≡ mid.at = ap (λ (h : Held). h.at) c.fill.ensures.others in
@@ -43,7 +43,7 @@ returns-then-branch-eq0-clause-bad g c = λ tells at e.
     let left : List ℕ = readable_from (held.at + length held.ahead) before in
     bad_since old held (readable_from old.at (old.ahead ++ g.S.Source.left c.args.source.now)) (held.ahead ++ left) at
     c.loop-head.invariant.others
-    (same_readable old held (g.S.Source.left c.args.source.now) before within c.loop-head.invariant.others (c.loop-head.invariant.told tells))
+    (same_readable old held (g.S.Source.left c.args.source.now) before within c.loop-head.invariant.others (c.loop-head.invariant.told observed))
     (end_is_bad held left at part nothing there)
 
 pub fill-requires : goal.fill-requires

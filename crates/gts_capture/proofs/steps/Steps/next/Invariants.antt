@@ -4,7 +4,7 @@ use Rattle.gts_capture.proofs.steps.Steps.next.Given as goal
 -- What is left is the same, however much of it was read ahead; nothing else changed.
 abbrev pub invariant-loop-head : goal.invariant-loop-head
 invariant-loop-head g l = record {
-  told : g.S.Source.tells → l.self.ahead ++ g.S.Source.left l.source ≡ l.fn.self.ahead ++ g.S.Source.left l.fn.source;
+  told : g.S.Source.observed → l.self.ahead ++ g.S.Source.left l.source ≡ l.fn.self.ahead ++ g.S.Source.left l.fn.source;
   others : l.self ≡ record l.fn.self { ahead = l.self.ahead };
   later : g.S.Source.faults l.fn.source ≤ g.S.Source.faults l.source;
 }
