@@ -6,7 +6,7 @@ use Rattle.std.proofs.Math.Seq.{take-append-add}
 use Rattle.std.proofs.lemmas.Option.{none-some}
 use Rattle.gts_accum.specs.Cited.{Breaks, Call, Decoding, FrameField, FrameStep as Step, Holds, IsBad, LONGEST_STREAM, Makes, Outside, PackEnd, Packs, ReadsOn, SameFiles, SaysFront, SaysOnly, Sign, Stands, Tells, Whole, after_step, bad_in_stream, cut_at, entries_in, entries_text, entry_text, head_text, held_in, loss_in, messages_of, on, packed, signs_in, signs_of_step, stream_seen, whole}
 use Rattle.gts_traits.proofs.OutsideLemmas.{on-append}
-use Rattle.gts_say.proofs.SayLemmas.{said_more, front_behind, front_more}
+use Rattle.gts_traits.proofs.SayLemmas.{said_more, front_behind, front_more}
 use Rattle.gts_frame.specs.declared.step.Step.TheVariants as step
 use Rattle.gts_frame.proofs.SignLemmas.{reads-open, reads-lost, reads-part, IsBreak, IsBreak-from}
 use Rattle.gts_frame.proofs.TestLemmas.{IsFirst, find-first, take_split}

@@ -4,8 +4,7 @@ ghost use Rattle.gts_accum.specs.Packs as packs;
 
 use crate::{ENTRY_HEAD, LONGEST_STREAM, PackEnd, entry_head};
 use gts_frame::{Decoder, Step};
-use gts_say::say;
-use gts_traits::{Failed, Source, Station};
+use gts_traits::{Failed, Source, Station, say};
 use std::alloc::Global;
 
 /// The channel on which a file is said.

@@ -3,7 +3,7 @@ use Rattle.std.proofs.Common.{◌≡◌, ℕ, Ok, Err, inl, inr, refl, sym, ap, 
 use Rattle.gts_app.specs.Cited.{Capture, Changed, Closed, Damaged, DirFault, Directory, DiskFault, Done, Exists, Feed, File, Full, GapsEnd, Ghosts as StationMeanings, HasGapsCause, HasReadCause, HasSayCause, InputFault, IsReadEnd, KeepsFiles, LineFault, LongSession, Moment, NamedAs, Names, NamesGaps, NoJournal, NoMemory, OldDirectory, OldVersion, OtherDirectory, OtherFeed, OutputFault, PackEnd, PackedAs, Packs, PacksStream, ReadsDirectory, SameFiles, SourceMeanings, Status, TicketsSpent, Usage, directory_of_bytes, seen, status_named, status_packed, world}
 use Rattle.gts_directory.specs.Directory as directories
 use Rattle.gts_accum.specs.declared.pack_end.PackEnd.TheVariants as packs
-use Rattle.gts_missing.specs.declared.fault.GapsEnd.TheVariants as gaps
+use Rattle.gts_gap.specs.declared.fault.GapsEnd.TheVariants as gaps
 
 -- ---- where there is no directory
 

@@ -1,7 +1,7 @@
 -- What each end of a file's run means for the command.
 use Rattle.std.proofs.Common.{◌≡◌, ◌⊎◌, ℕ, ◌<◌, ◌≤◌, false, List, [], length, Result, Ok, Err, None, IsTrue, inl, inr, refl, ap, subst, arith}
 use Rattle.gts_app.specs.Cited.{Bad, Capture, Changed, Closed, Damaged, Directory, DiskFault, Done, Ended, Engine, Entry, Exists, Feed, File, Full, Ghosts as StationMeanings, Handed, HasNoCircuit, HasReplayCause, HasUnpackCause, InputFault, IsEndAt, IsEndOf, IsLeft, IsReadEnd, IsRefusal, IsStatusOf, Journaled, KeepsLaws, LineFault, LongSession, Need, NoJournal, NoMemory, OldDirectory, OldVersion, Opens, OpensWith, OtherDirectory, OtherFeed, OutputFault, ReadsDirectory, ReplayEnd, Rose, SourceMeanings, Status, TicketsSpent, UnpackEnd, Unpacks, Usage, badplace, capture_meanings, captured, directory_of_bytes, handed, is_sound, keeps_one, origin_of, seen, status_of, status_unpacked, switch_meanings, unpacked, world}
-use Rattle.gts_unpack.specs.Unpack.{Unpacks as Runs}
+use Rattle.gts_accum.specs.Unpack.{Unpacks as Runs}
 use Rattle.gts_directory.specs.Directory as directories
 use Rattle.gts_event.specs.declared.fault.SwitchFault.TheVariants as switch
 use Rattle.gts_record.specs.declared.fault.OpenFault.TheVariants as opening

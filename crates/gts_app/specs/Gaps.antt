@@ -2,7 +2,7 @@
 use Rattle.std.specs.Prelude.{◌≡◌, ◌⊎◌, Ok}
 use Rattle.gts_app.specs.Cited.Below.{GapsEnd, Ghosts as StationMeanings, IsCutAt, Moment, Reads, Rose, SaysFront, SaysOnly, SourceMeanings, directory_of_bytes, report_of}
 use Rattle.gts_directory.specs.Directory as directories
-use Rattle.gts_missing.specs.declared.fault.GapsEnd.TheVariants as end
+use Rattle.gts_gap.specs.declared.fault.GapsEnd.TheVariants as end
 use Rattle.gts_app.specs.declared.status.Status.{Status}
 use Rattle.gts_app.specs.declared.status.Status.TheVariants.{Done, Directory, Capture, InputFault, OutputFault, NoMemory}
 use Rattle.gts_app.specs.Replay.{World}

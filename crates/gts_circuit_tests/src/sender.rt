@@ -1,8 +1,7 @@
-use gts_bell::Bell;
-use gts_desk::{Desk, Given};
+use gts_calls::{Desk, Fed, FeedEnd, Given, is_event, next_step};
 use gts_event::{Outcome, SwitchFault};
-use gts_feed::{Fed, FeedEnd, is_event, next_step};
 use gts_frame::{Decoder, Kind, write_frame};
+use gts_lock::Bell;
 use gts_memory::MemSink;
 use gts_sender::{SendEnd, send};
 use gts_traits::{Failed, FreeGate, Sink};

@@ -1,17 +1,15 @@
 //! A run of two circuits over lines in memory.
 ghost use Rattle.std.specs.Prelude.{◌≡◌, ◌≤◌, []};
 ghost use Rattle.gts_receiver.specs.Service as service;
-ghost use Rattle.gts_housed.specs.Housed.{Stands};
+ghost use Rattle.gts_circuits.specs.Housed.{Stands};
 
-use gts_circuits::an_opened_engine_stands_for_no_entry;
+use gts_circuits::{Began, ServeEnd, Served, an_opened_engine_stands_for_no_entry, serve};
 use gts_directory::Directory;
 use gts_engine::{Engine, an_opened_engine_begins_with_what_the_files_open_to};
-use gts_fixtures::two_circuits;
-use gts_housed::Began;
 use gts_journal::Journal;
 use gts_memory::{MemLines, MemStation};
+use gts_parts_tests::two_circuits;
 use gts_sender::SendEnd;
-use gts_serve::{ServeEnd, Served, serve};
 use gts_traits::{FreeGate, Station};
 use std::alloc::Global;
 use std::marker::Brand;

@@ -1,10 +1,10 @@
 ghost use Rattle.std.specs.Prelude.{◌≡◌, ◌≤◌, ◌^◌, true, length, IfOk};
 ghost use Rattle.gts_journal.specs.Cited.{IsCurrent, StandsOn};
 
-use gts_fixtures::is_same;
 use gts_frame::Kind;
 use gts_journal::{InitFault, Journal, OpenFault, Record, Version};
 use gts_memory::{MemStation, Touched};
+use gts_parts_tests::is_same;
 use gts_traits::Station;
 use std::alloc::Global;
 use std::test::Fail;

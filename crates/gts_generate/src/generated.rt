@@ -4,8 +4,7 @@ ghost use Rattle.gts_generate.specs.Day as day;
 
 use crate::MOST_MESSAGES;
 use crate::message::{ending, turn};
-use gts_say::Piece;
-use gts_traits::{Failed, Source};
+use gts_traits::{Failed, Piece, Source};
 use std::marker::Model;
 
 /// A piece, how much of it was taken, the number of the message that the next piece is of, and how many messages there are.

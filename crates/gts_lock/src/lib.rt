@@ -1,7 +1,12 @@
 //! One lock over one history: all threads of a switch work on one value, each in its turn, and what each of them did
 //! stands in the history that the value stands for. The history is seen by contracts alone and takes no memory.
+//!
+//! Waking. Threads that have nothing to do sleep at a bell until another one rings it. No contract claims anything of it:
+//! what a thread does is right whether it is woken or not.
 #![tactic(auto)]
 
+mod bell;
+mod bells;
 mod counting;
 mod crossing;
 mod hall;
@@ -15,6 +20,8 @@ mod steps;
 mod turn;
 mod view;
 
+pub use bell::{Bell, Look};
+pub use bells::Bells;
 pub use crossing::halls_passes_and_turns_cross_threads;
 pub use gts_alphabet::NoMemory;
 pub use hall::Hall;

@@ -4,10 +4,10 @@ use Rattle.std.proofs.lemmas.List.{append-nil, length-take-le}
 use Rattle.gts_receiver.specs.Cited.{AddsAny, AddsAtFault, AddsEntries, AddsFault, AddsFed, Answers, Decoding, DiskFault, Doubt, EndsOver, EndsWith, Entry, Event, Fault, Fed, FeedEnd, Feeds, FrameField, Full, GoesOn, Heard, Hears, Idle, IsSpent, IsWanting, Kind, LeavesLast, LostSync, NoMemory, Outcome, PassesBetween, Reads, Receiving, SayFault, SaysNoMore, Seen, Spent, Stopped, SwitchFault, Takes, TriesOn, TurnsTogether, Unsaid, all_done, all_unsaid, events_added, fault_entries, held_in, own, settled, settled_own}
 use Rattle.gts_event.specs.declared.event.Event.TheVariants as events
 use Rattle.gts_frame.proofs.LawLemmas.{front-open}
-use Rattle.gts_feed.specs.Fed as feeding
-use Rattle.gts_feed.specs.declared.fed.FeedEnd.TheVariants as fed_ends
-use Rattle.gts_desk.specs.Desks as desks
-use Rattle.gts_desk.proofs.LawLemmas.{goes_any, goes_on_spent, goes_further, halfway}
+use Rattle.gts_calls.specs.Fed as feeding
+use Rattle.gts_calls.specs.declared.fed.FeedEnd.TheVariants as fed_ends
+use Rattle.gts_calls.specs.Desks as desks
+use Rattle.gts_calls.proofs.LawLemmas.{goes_any, goes_on_spent, goes_further, halfway}
 use Rattle.gts_receiver.proofs.SettledLemmas.{settled-append, settled_all, any_settled, no_try, stopped_tries, disk_tries, say_tries, spent_tries}
 use Rattle.gts_receiver.proofs.FaultLemmas as faults
 use Rattle.gts_receiver.proofs.FaultLemmas.{done_settles, hears_go}

@@ -3,7 +3,7 @@ use Rattle.std.proofs.Common.{◌≡◌, ℕ, ◌+◌, ◌≤◌, arith, Bool, t
 use Rattle.std.proofs.lemmas.List.{append-nil}
 use Rattle.std.proofs.lemmas.List.Elements.{filter-append}
 use Rattle.gts_receiver.specs.Cited.{AddsAny, AddsEntries, AddsJust, Answers, AreMost, Device, DiskFault, Done, Doubt, Entry, Event, FrameField, Full, GoesOn, Heard, Hears, Idle, Kind, Lost, NoMemory, Outcome, SayFault, SaysNoMore, Seen, Spent, State, Stopped, SwitchFault, Taken, TriesOn, Unsaid, all_done, is_try, is_wanting, outcome, own, settled, settled_own}
-use Rattle.gts_desk.proofs.LawLemmas.{just, own_added, turned, own_any, goes_on, goes_on_spent, goes_further}
+use Rattle.gts_calls.proofs.LawLemmas.{just, own_added, turned, own_any, goes_on, goes_on_spent, goes_further}
 
 pub settled-append : (w : Bool) (xs ys : List Entry) → settled w (xs ++ ys) ≡ settled w xs ++ settled w ys
 settled-append true xs ys = filter-append (λ (e : Entry). not (is_try e)) xs ys

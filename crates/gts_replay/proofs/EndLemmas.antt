@@ -4,7 +4,7 @@ use Rattle.gts_replay.specs.Cited.{Bad, BreaksAtCompaction, BreaksOff, CaptureKi
 use Rattle.gts_event.specs.declared.fault.SwitchFault.TheVariants as switch
 use Rattle.gts_record.specs.declared.fault.OpenFault.TheVariants as opening
 use Rattle.gts_connection.proofs.LawLemmas.{reads, whole_is_read, early_is_none}
-use Rattle.gts_capture.proofs.LawLemmas.{at_end, at_bad, taken_head}
+use Rattle.gts_replay.proofs.LawLemmas.{at_end, at_bad, taken_head}
 use Rattle.gts_replay.specs.declared.end.ReplayEnd.TheVariants as end
 use Rattle.gts_replay.specs.declared.fault.StepFault.TheVariants as step
 use Rattle.gts_replay.proofs.GoingLemmas.{settled_all, settles_all}

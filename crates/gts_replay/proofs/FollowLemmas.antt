@@ -3,7 +3,7 @@ use Rattle.std.proofs.Common.{◌≡◌, ℕ, ◌+◌, ◌<◌, ◌≤◌, List,
 use Rattle.gts_replay.specs.Cited.{AllByRecursion, CaptureKind, Compact, CompactHead, Connections, Directory, Drain, DrainHead, EndHead, EndsBehind, EndsEarlyOf, Entry, Feed, FeedHead, Head, Held, IsHeadIn, IsHeadOf, IsInFeed, IsReadTo, IsStepOf, IsTaken, LONGEST_CAPTURE, ReadingOf, Reopen, ReopenHead, Restart, RestartHead, State, Step, StopsBehind, Take, TakeHead, TakesNoMore, after_all, all_done, bytes_announced, bytes_of_step, compactions, compactions_from, connections_after, entries, entries_from, events_added, head_of, head_text, no_bytes, readable_from, step_text, with_bytes}
 use Rattle.std.proofs.lemmas.List.{append-nil, nil_from_length}
 use Rattle.gts_connection.proofs.LawLemmas.{entries_go_on, compactions_go_on, compactions_between}
-use Rattle.gts_capture.proofs.LawLemmas.{one_step, in_feed, head_goes_on, feed_goes_on, taken_feed}
+use Rattle.gts_replay.proofs.LawLemmas.{one_step, in_feed, head_goes_on, feed_goes_on, taken_feed}
 use Rattle.gts_replay.proofs.FeedingLemmas.{done_twice}
 use Rattle.gts_replay.proofs.RunLemmas.{ReadsHead}
 

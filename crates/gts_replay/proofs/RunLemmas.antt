@@ -4,7 +4,7 @@ use Rattle.std.proofs.lemmas.List.{append-nil}
 use Rattle.gts_replay.specs.Cited.{AreStepsOf, CaptureKind, Compact, CompactHead, Connections, Decode, Decoding, Directory, DoesStep, Drain, DrainHead, EndHead, Entry, Feed, FeedHead, Head, Held, IsHeadIn, IsHeadOf, IsReadTo, IsSameCapture, IsStart, IsStepOf, LONGEST_CAPTURE, Reopen, ReopenHead, Restart, RestartHead, Standing, Stands, StandsFor, State, Step, Take, TakeHead, Takes, after_all, after_step, at_start, bytes_announced, bytes_of_step, compacted_at, compactions_at, connections_after, count_at, entries_at, entries_of_step, first_after, head_of, head_text, no_bytes, origin_after, state_at, step_text}
 use Rattle.gts_event.proofs.LawLemmas.{after_all-append}
 use Rattle.gts_connection.proofs.LawLemmas.{entries_go_on, connections_go_on}
-use Rattle.gts_capture.proofs.LawLemmas.{begins, one_step}
+use Rattle.gts_replay.proofs.LawLemmas.{begins, one_step}
 use Rattle.gts_replay.proofs.GoingLemmas.{stands_same, within_all}
 use Rattle.gts_replay.proofs.OriginLemmas.{AllWithin, wider, within_append, counts_more, origin_more}
 

@@ -1,6 +1,8 @@
 -- How a step of a capture was done, or was not done to its end.
 use Rattle.std.specs.Prelude.{◌≡◌, ◌⊎◌, ℕ, ◌+◌, ◌<◌, ◌≤◌, List, [], ◌++◌, length, Result, Ok, Err, IsErrOf, OnOk}
-use Rattle.gts_replay.specs.Cited.Below.{Bad, BreaksOff, CaptureKind, Compact, Connections, Decoding, Entry, Feed, FeedHead, Head, Held, IsCompactCause, IsSameCapture, IsSettling, LONGEST_CAPTURE, Restart, Rose, SourceFault, Standing, Stands, Step, SwitchFault, after_step, bytes_of_step, entries_of_step, head_of, readable_from}
+use Rattle.gts_replay.specs.declared.capture_fault.CaptureFault.TheVariants.{Bad, SourceFault}
+use Rattle.gts_replay.specs.Cited.Below.{BreaksOff, CaptureKind, Compact, Connections, Decoding, Entry, Feed, FeedHead, Head, IsCompactCause, IsSettling, LONGEST_CAPTURE, Restart, Rose, Standing, Stands, Step, SwitchFault, after_step, bytes_of_step, entries_of_step, head_of}
+use Rattle.gts_replay.specs.Held.{Held, IsSameCapture, readable_from}
 use Rattle.gts_replay.specs.Going.{StandsFor, state_at, BreaksAtRestart, Remains, Decode, IsFed, BreaksFeed}
 use Rattle.gts_event.specs.declared.fault.SwitchFault.TheVariants as switch
 use Rattle.gts_record.specs.declared.fault.OpenFault.TheVariants as opening

@@ -1,6 +1,7 @@
 -- What a run of a capture through a switch left: what of the capture was read, and which of its entries were added.
 use Rattle.std.specs.Prelude.{◌≡◌, ℕ, ◌≤◌, ◌⊎◌, List, ◌∷◌, ◌++◌, length}
-use Rattle.gts_replay.specs.Cited.Below.{AreStepsOf, BreaksIdle, BreaksOff, CaptureKind, Compact, Disk, DiskFault, EndsEarlyOf, Entry, HasDoubt, HasUnsaid, IsCompactCause, IsTaken, IsWholeOf, Journaled, NoMemory, OpenFault, ReadingOf, Rose, Say, SayFault, Spent, Standing, Step, Stopped, SwitchFault, compactions, entries, settled}
+use Rattle.gts_replay.specs.Cited.Below.{AreStepsOf, BreaksIdle, BreaksOff, CaptureKind, Compact, Disk, DiskFault, EndsEarlyOf, Entry, HasDoubt, HasUnsaid, IsCompactCause, IsWholeOf, Journaled, NoMemory, OpenFault, ReadingOf, Rose, Say, SayFault, Spent, Standing, Step, Stopped, SwitchFault, compactions, entries, settled}
+use Rattle.gts_replay.specs.Progress.{IsTaken}
 use Rattle.gts_replay.specs.Going.{state_at, compacted_at, origin_behind, BreaksAtRestart, Remains}
 use Rattle.gts_record.specs.declared.fault.OpenFault.TheVariants as opening
 use Rattle.gts_replay.specs.declared.end.ReplayEnd.{ReplayEnd}

@@ -1,11 +1,10 @@
 ghost use Rattle.std.specs.Prelude.{◌≡◌, ◌<◌, ◌++◌, ℕ, List, length, OnOk};
 ghost use Rattle.gts_replay.specs.Cited.{Entry, Feeds, Goes, HasCallCause, HasRunCause, Stands, all_done, events_added, held_in};
 
+use crate::Steps;
 use crate::fault::StepFault;
-use gts_calls::Switch;
-use gts_capture::Steps;
+use gts_calls::{Switch, feed as feed_on};
 use gts_event::SwitchFault;
-use gts_feed::feed as feed_on;
 use gts_frame::Decoder;
 use gts_traits::Source;
 use std::alloc::Global;

@@ -1,14 +1,14 @@
 ghost use Rattle.std.specs.Prelude.{◌≡◌, ◌<◌, ◌≤◌, List, length};
 ghost use Rattle.gts_replay.specs.Cited.{Decode, DoesStep, Ends, EndsSettled, Entry, HasReplayCause, HasRunCause, HasSettleCause, IsHeadIn, SettlesBehind, StandsFor, at_start, bytes_announced, no_bytes};
-ghost use Rattle.gts_capture.specs.Heads.{head_of};
+ghost use Rattle.gts_replay.specs.Heads.{head_of};
 
 use crate::decoders::{new_decoders, reopen_all};
 use crate::draining::drain;
 use crate::end::{ReplayEnd, end_after};
 use crate::fault::StepFault;
 use crate::feeding::feed;
+use crate::{Head, Steps};
 use gts_calls::Switch;
-use gts_capture::{Head, Steps};
 use gts_connection::CaptureKind;
 use gts_frame::{Decoder, FrameBuf};
 use gts_traits::Source;

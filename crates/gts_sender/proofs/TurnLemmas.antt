@@ -3,8 +3,8 @@ use Rattle.std.proofs.Common.{◌≡◌, ◌⊎◌, ℕ, zero, suc, ◌+◌, Lis
 use Rattle.std.proofs.lemmas.List.{append-nil, map-append, replicate-append-replicate}
 use Rattle.gts_sender.specs.Cited.{Accepted, Asked, Choice, Directory, Done, Draw, Draws, Duplicate, Entry, Frame, Gave, GaveAll, GaveNoMore, LineLost, Nothing, Nothing_waits, Outcome, Refused, Repeats, Resend, State, Taken, after, after_all, after_takes, choice, frame_of, frame_of_draw, frame_of_outcome, frames, given_index, outcome, takes, texts, under}
 use Rattle.gts_event.proofs.LawLemmas.{after_all-append}
-use Rattle.gts_desk.specs.{entries}
-use Rattle.gts_desk.proofs.LawLemmas.{frames_append, frames_one}
+use Rattle.gts_calls.specs.{entries}
+use Rattle.gts_calls.proofs.LawLemmas.{frames_append, frames_one}
 
 abbrev pub taken : ℕ → Entry
 taken c = Done (Taken c)

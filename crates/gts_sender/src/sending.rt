@@ -3,10 +3,10 @@ ghost use Rattle.gts_sender.specs.Cited.{LineStood, Rose, Sends, SendsMore, Wrot
 
 use crate::SendEnd;
 use crate::writing::{write_all, write_frames};
-use gts_bell::{Bell, Look};
-use gts_desk::{Desk, Frames, Given};
+use gts_calls::{Desk, Frames, Given};
 use gts_event::Outcome;
 use gts_frame::FrameBuf;
+use gts_lock::{Bell, Look};
 use gts_traits::{Failed, Gate, Point, Sink};
 use std::sync::Wait;
 

@@ -2,7 +2,7 @@ ghost use Rattle.std.specs.Prelude.{◌≡◌, ◌≤◌, ◌++◌, ℕ, List, I
 ghost use Rattle.gts_sender.specs.Cited.{LineStood, Rose, Wrote, WroteFrames, frames_of};
 
 use crate::SendEnd;
-use gts_desk::Frames;
+use gts_calls::Frames;
 use gts_traits::{Failed, Sink};
 
 /// Writes all of a piece, in as few calls as the sink takes. What was written of it is never written again.

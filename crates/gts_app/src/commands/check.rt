@@ -4,9 +4,8 @@ use crate::commands::show::OPERATOR;
 use crate::directory::{directory_file_of, old_directory_file_of};
 use crate::opening::refusal;
 use crate::{Status, World};
-use gts_changes::changes;
 use gts_directory::Change;
-use gts_report::ReportText;
+use gts_report::{ReportText, changes};
 use gts_traits::{Failed, Source, Station};
 use std::alloc::Global;
 

@@ -4,7 +4,7 @@ ghost use Rattle.gts_app.specs.Cited.{NamesGaps};
 
 use crate::directory::directory_of;
 use crate::{Status, World};
-use gts_missing::{GapsEnd, Moment};
+use gts_gap::{GapsEnd, Moment};
 use gts_traits::{Source, Station};
 use std::alloc::Global;
 
@@ -34,7 +34,7 @@ pub fn gaps<S: Source, P: Station>(
         Ok(directory) => directory,
         Err(status) => return status,
     };
-    status_of(gts_missing::gaps(
+    status_of(gts_gap::gaps(
         alloc,
         &directory,
         moment,

@@ -7,9 +7,9 @@ use crate::laws::a_history_keeps_its_laws;
 use crate::opening::open_journal;
 use crate::world::Handed;
 use crate::{Ended, Status, World};
+use gts_accum::UnpackEnd;
 use gts_calls::Switch;
 use gts_traits::{Source, Station};
-use gts_unpack::UnpackEnd;
 use std::alloc::Global;
 
 /// The status of how the run of a file ended.
@@ -48,7 +48,7 @@ pub fn unpack<S: Source, P: Station>(
             return Ended { status, world };
         }
     };
-    let (end, capture) = gts_unpack::unpack(alloc, &mut engine, world.capture, c);
+    let (end, capture) = gts_accum::unpack(alloc, &mut engine, world.capture, c);
     // The files open with as many bytes in use as the engine counts.
     let _used = engine.used();
     let (station, _directory) = engine.into_parts();

@@ -16,8 +16,6 @@ pub use Rattle.gts_event.specs.declared.fault.SwitchFault.{SwitchFault}
 pub use Rattle.gts_event.specs.declared.fault.SwitchFault.TheVariants.{DiskFault, Full, NoMemory, SayFault, Spent, Stopped}
 pub use Rattle.gts_event.specs.declared.outcome.Outcome.{Outcome}
 pub use Rattle.gts_connection.specs.Cited.{connection, events_added, events_of_signs}
-pub use Rattle.gts_calls.specs.Cited.{entry_of}
-pub use Rattle.gts_feed.specs.Cited.{AddsAtFault, AddsFed, EndsOver, EndsWith, IsWanting, LeavesLast, LosesLast, Takes, TurnsTogether}
-pub use Rattle.gts_feed.specs.declared.fed.Fed.{Fed}
-pub use Rattle.gts_feed.specs.declared.fed.FeedEnd.{FeedEnd}
-pub use Rattle.gts_desk.specs.Cited.{AddsAny, AddsEntries, AddsJust, Answers, GoesOn, IsSpent, PassesBetween, SaysNoMore, Seen, own}
+pub use Rattle.gts_calls.specs.Cited.{AddsAny, AddsAtFault, AddsEntries, AddsFed, AddsJust, Answers, EndsOver, EndsWith, GoesOn, IsSpent, IsWanting, LeavesLast, LosesLast, PassesBetween, SaysNoMore, Seen, Takes, TurnsTogether, entry_of, own}
+pub use Rattle.gts_calls.specs.declared.fed.Fed.{Fed}
+pub use Rattle.gts_calls.specs.declared.fed.FeedEnd.{FeedEnd}

@@ -1,7 +1,7 @@
 use Rattle.std.proofs.Common.{◌≡◌, ◌<◌, ℕ, List, length, set, Result, Ok, Err, sym, subst, arith}
 use Rattle.gts_replay.specs.Cited.{DoesStep, Goes, IsHeadIn, SwitchFault, all_done, bytes_announced, state_at, takes_of_drain}
-use Rattle.gts_capture.specs.Heads.{head_of}
-use Rattle.gts_capture.specs.declared.head.Head.{Head}
+use Rattle.gts_replay.specs.Heads.{head_of}
+use Rattle.gts_replay.specs.declared.head.Head.{Head}
 use Rattle.gts_replay.specs.declared.fault.StepFault.TheVariants as step
 use Rattle.gts_replay.proofs.StepLemmas.{does_take, fails_take, does_drain, fails_drain, does_reopen, unsettled_restart, does_restart, fails_restart, unsettled_compact, does_compact, fails_compact, does_feed}
 use Rattle.gts_replay.proofs.replaying.do_step.Goals as goal

@@ -1,7 +1,7 @@
 use Rattle.std.proofs.Common.{◌≡◌, ◌+◌, ◌≤◌, ℕ, List, [], ◌∷◌, ◌++◌, length, Result, Err, refl, sym, ap, subst, ◌∙◌, arith, length-append}
 use Rattle.gts_replay.specs.Cited.{Bad, CaptureFault, DoesStep, End, Ends, HasReplayCause, ReplayEnd, SettlesBehind, SourceFault, StepFault, end_of, line_of}
-use Rattle.gts_capture.specs.Heads.{head_of}
-use Rattle.gts_capture.specs.declared.head.Head.{Head}
+use Rattle.gts_replay.specs.Heads.{head_of}
+use Rattle.gts_replay.specs.declared.head.Head.{Head}
 use Rattle.gts_replay.specs.declared.fault.StepFault.TheVariants as step
 use Rattle.gts_replay.proofs.RunLemmas.{ReadsHead, runs_none, runs_more}
 use Rattle.gts_replay.proofs.EndLemmas.{ends_done, ends_bad, ends_source, ends_never, ends_step}

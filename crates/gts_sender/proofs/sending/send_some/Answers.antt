@@ -1,7 +1,7 @@
 use Rattle.std.proofs.Common.{[], Ok, Err, sym}
 use Rattle.std.proofs.lemmas.List.{append-nil}
 use Rattle.std.proofs.lemmas.Result.{err_from_is_err_and}
-use Rattle.gts_desk.specs.Given.{frames_of}
+use Rattle.gts_calls.specs.Given.{frames_of}
 use Rattle.gts_sender.proofs.DrawLemmas.{turn_sent, turn_broke, turn_failed}
 use Rattle.gts_sender.proofs.sending.send_some.Goals as goal
 
