@@ -42,7 +42,8 @@ ShippedAs since source station (Directory fault) od old nd new =
     (new ≡ old) × (source.observed → directory_of_bytes (source.left od) ≡ Err fault)
 ShippedAs since source station NoJournal od old nd new = RefusedBy opening.NoJournal since source station od old new
 ShippedAs since source station OldVersion od old nd new = RefusedBy opening.OldVersion since source station od old new
-ShippedAs since source station (OtherDirectory want found) od old nd new = RefusedBy (opening.NotThis want found) since source station od old new
+ShippedAs since source station (OtherDirectory want found) od old nd new =
+    RefusedBy (opening.NotThis want found) since source station od old new
 ShippedAs since source station (Damaged file at) od old nd new = RefusedBy (opening.Damaged file at) since source station od old new
 ShippedAs since source station DiskFault od old nd new =
     Rose (station.disk_faults old) (station.disk_faults new) × SaysSome since source station od old new

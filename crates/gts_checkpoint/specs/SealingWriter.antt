@@ -26,7 +26,8 @@ abbrev pub Stands : List Call → SealingWriter → Type 0
 Stands calls writer = length (seen calls writer.file) ≡ writer.place
 
 -- these bytes were put behind those that were put before
-pub record HasPut (observed : Type 0) (bytes : List ℕ) (old : List Call) (writer : SealingWriter) (new : List Call) (next : SealingWriter) : Type 0 where
+pub record HasPut (observed : Type 0) (bytes : List ℕ) (old : List Call) (writer : SealingWriter) (new : List Call)
+    (next : SealingWriter) : Type 0 where
   pub file : next.file ≡ writer.file
   pub count : count_of next ≡ count_of writer + length bytes
   pub stands : observed → Stands old writer → Stands new next

@@ -185,7 +185,8 @@ pub record BreaksOff (b : Beginning) (c index : ℕ) (history : List (ℕ × Ent
   pub few : behind ≤ most_beside b.origin.directory c
   pub gave : given_index (outcome b.origin.directory (state_at b.origin (entries earlier)) (Taken c)) ≡ Some index
   pub part : List ℕ
-  pub front : IsFront part (frame_of_draw b.origin.directory (after b.origin.directory (state_at b.origin (entries earlier)) (Taken c)) c index)
+  pub front : IsFront part
+      (frame_of_draw b.origin.directory (after b.origin.directory (state_at b.origin (entries earlier)) (Taken c)) c index)
   pub whole : bytes ≡ frames_on b c earlier ++ part
 
 -- The bytes that a sink took over a whole history, by its sender's end: all frames of its circuit. Only where the line failed, one of

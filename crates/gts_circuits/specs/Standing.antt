@@ -127,7 +127,8 @@ module _ {P : Type 0} (observed : Type 0) (calls : P → List Call) (disk say : 
 module _ {P K : Type 0} (observed : Type 0) (calls : P → List Call) (disk say : P → ℕ) (b : Beginning)
     (sink_tells : Type 0) (written : K → List ℕ) (sink_faults : K → ℕ) where
   -- What waited on c was taken and sent, behind this history of the threads and the takes on other circuits.
-  pub record IsDrained (threads : List (ℕ × List Entry)) (past : List (ℕ × Entry)) (c : ℕ) (now : Outgoing K) (new : Engine P) : Type 0 where
+  pub record IsDrained (threads : List (ℕ × List Entry)) (past : List (ℕ × Entry)) (c : ℕ) (now : Outgoing K)
+      (new : Engine P) : Type 0 where
     pub added : List (ℕ × Entry)
     pub named : AreTakes c added
     pub stands : Stands observed calls disk say b (entries (past ++ added)) new

@@ -40,7 +40,8 @@ pub record IsTurn {P : Type 0} (observed : Type 0) (calls : P → List Call) (di
 abbrev pub TakesTurn : {P : Type 0} → StationMeanings P → Beginning → ℕ → List ℕ → Result Outcome SwitchFault
     → (p q : Known (List Entry)) → Type 0
 TakesTurn station b c out result p q =
-    IsTurn station.observed station.calls station.disk_faults station.say_faults b (Taken c) (LeavesFrame b.origin.directory c out) result p q
+    IsTurn station.observed station.calls station.disk_faults station.say_faults b (Taken c)
+        (LeavesFrame b.origin.directory c out) result p q
 
 -- what the desk of the pass answers for it
 abbrev pub DeskTakes : Beginning → ℕ → List ℕ → Result Outcome SwitchFault → (p q : Known (List Entry)) → Type 0

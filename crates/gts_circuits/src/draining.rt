@@ -23,7 +23,8 @@ fn take_one<P: Station, B: Began, K: Sink>(
     ensures directory { housed.new.engine.directory ≡ housed.old.engine.directory }
     ensures taken { (bytes : List ℕ)
         × TakesOnce P.observed P.calls P.disk_faults P.say_faults B.beginning c bytes result
-        housed.old.engine housed.new.engine × SinkTook K.observed K.written sink.old sink.new bytes }
+        housed.old.engine housed.new.engine
+        × SinkTook K.observed K.written sink.old sink.new bytes }
     ensures later { K.faults sink.old ≤ K.faults sink.new }
     ensures fault { (index : ℕ) → result ≡ Err (SendEnd.LineFault index)
         → Rose (K.faults sink.old) (K.faults sink.new) }
@@ -47,7 +48,8 @@ fn take_all<R: Wait, P: Station, B: Began, K: Sink>(
     ensures directory { housed.new.engine.directory ≡ housed.old.engine.directory }
     ensures taken { (bytes : List ℕ)
         × TakesAll P.observed P.calls P.disk_faults P.say_faults B.beginning c bytes result
-        housed.old.engine housed.new.engine × SinkTook K.observed K.written sink.old sink.new bytes }
+        housed.old.engine housed.new.engine
+        × SinkTook K.observed K.written sink.old sink.new bytes }
     ensures later { K.faults sink.old ≤ K.faults sink.new }
     ensures fault { (index : ℕ) → result ≡ SendEnd.LineFault index
         → Rose (K.faults sink.old) (K.faults sink.new) }

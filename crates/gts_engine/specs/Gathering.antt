@@ -164,7 +164,8 @@ GathersEntry observed calls mode event result old new = IsAnswered (meanings_of 
 
 -- A take on c was gathered behind whatever events were, and nothing was settled before: the answer is the event's outcome. The caller
 -- says the frame.
-pub record TakesBehind {P : Type 0} (observed : Type 0) (calls : P → List Call) (c : ℕ) (answer : Outcome) (old new : Engine P) : Type 0 where
+pub record TakesBehind {P : Type 0} (observed : Type 0) (calls : P → List Call) (c : ℕ) (answer : Outcome)
+    (old new : Engine P) : Type 0 where
   pub directory : new.directory ≡ old.directory
   pub gathers : (o : Origin) (entries : List Entry) (events : List Event) → Gathers observed Caller o entries events (shown calls old)
       → Gathers observed Caller o entries (events ++ Taken c ∷ []) (shown calls new)

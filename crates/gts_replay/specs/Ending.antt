@@ -115,7 +115,8 @@ IsStepOf head step = head_of step ≡ head
 
 -- A step of this head was to be done: its entries were added, or those before a fault, and then the decoders have what came
 -- on their connections.
-pub record DoesStep {O W : Type 0} (meanings : Standing O W) (station observed : Type 0) (head : Head) (result : Result (Unit {0}) StepFault)
+pub record DoesStep {O W : Type 0} (meanings : Standing O W) (station observed : Type 0) (head : Head)
+    (result : Result (Unit {0}) StepFault)
     (held held_now : Held) (left left_now : List ℕ)
     (decoders decoders_now : List Decoding) (old new : W) : Type 0 where
   pub step : Step

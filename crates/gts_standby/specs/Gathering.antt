@@ -15,7 +15,8 @@ gate_behind g = g.journal.gate + (length g.batch.text - 1)
 
 -- The journal is at its end, which is that of this state, where the station is observed; and these records were gathered, which may stand
 -- there, one behind the other.
-pub record StandsBehind (observed : Type 0) (d : Directory) (s : State) (rs : List Record) (calls : List Call) (g : Gathering) : Type 0 where
+pub record StandsBehind (observed : Type 0) (d : Directory) (s : State) (rs : List Record) (calls : List Call)
+    (g : Gathering) : Type 0 where
   pub next : AreNext d s g.journal rs g.batch
   pub seal_is : held written g.seal ≡ g.batch.seal
   pub current : g.journal.version ≡ written
@@ -86,7 +87,8 @@ GathersNext (Err answer) observed d core g at ahead left core_now next ahead_now
 -- ---- what was gathered is brought into the journal
 
 -- The journal is at its end, which is that of the state behind the records; nothing is gathered.
-pub record HasBrought (observed : Type 0) (d : Directory) (s : State) (rs : List Record) (g : Gathering) (new : List Call) (next : Gathering)
+pub record HasBrought (observed : Type 0) (d : Directory) (s : State) (rs : List Record) (g : Gathering) (new : List Call)
+    (next : Gathering)
     : Type 0 where
   pub stands : StandsBehind observed d (after_records d s rs) [] new next
   pub gate_is : gate_behind next ≡ gate_behind g
@@ -94,7 +96,8 @@ pub record HasBrought (observed : Type 0) (d : Directory) (s : State) (rs : List
 
 -- so it is of whatever state the journal had come to, and whatever records were gathered
 abbrev pub Brings : (observed : Type 0) → Directory → List Call → Gathering → List Call → Gathering → Type 0
-Brings observed d old g new next = (s : State) (rs : List Record) → StandsBehind observed d s rs old g → HasBrought observed d s rs g new next
+Brings observed d old g new next = (s : State) (rs : List Record) → StandsBehind observed d s rs old g
+    → HasBrought observed d s rs g new next
 
 -- nothing was done, or so it is
 abbrev pub MayHaveBrought : (observed : Type 0) → Directory → List Call → Gathering → List Call → Gathering → Type 0

@@ -7,7 +7,8 @@ pub use Rattle.gts_alphabet.specs.declared.characters.TheConstants.{EOL, ETX, SO
 pub use Rattle.gts_alphabet.specs.declared.limits.TheConstants.{FRAME_HEAD, LONGEST_MESSAGE}
 pub use Rattle.gts_traits.specs.Cited.{Call, HasCause, Outside, Rose, SaysFront, SaysOnly, Takes, Tells, on, seen}
 pub use Rattle.gts_traits.specs.declared.failed.Failed.{Failed}
-unfoldable pub use Rattle.gts_heading.specs.Cited.{bare_group_at, bare_heading_at, heading_at, heading_text, message_group_at, plain_heading_at}
+unfoldable pub use Rattle.gts_heading.specs.Cited.{bare_group_at, bare_heading_at, heading_at}
+unfoldable pub use Rattle.gts_heading.specs.Cited.{heading_text, message_group_at, plain_heading_at}
 pub use Rattle.gts_message.specs.Cited.{message_end}
 unfoldable pub use Rattle.gts_message.specs.Cited.{body_at, number_at, split_at, text_at}
 pub use Rattle.gts_frame.specs.Cited.{Breaks, Carries, Decoding, Frame, HasMessage, IsFramed, IsFront, IsPiece, IsStream, IsStreamFront, KeepAlive, KeepsAlive, Makes, Piece, ReadsOn, Shows, Sign, after_step, begins_kind, begins_length, begins_message, break_of, frame, has_length, held_in, is_front, keep_alive, length_in, letters, open_part, piece_text, signs_in, signs_of, signs_of_step}

@@ -10,7 +10,8 @@ pub use Rattle.gts_alphabet.specs.declared.limits.TheConstants.{CHANNELS}
 pub use Rattle.gts_traits.specs.Cited.{Call, HasCause, Outside, Rose, SaysFront, SaysOnly, Tells, on}
 pub use Rattle.gts_traits.specs.declared.failed.Failed.{Failed}
 pub use Rattle.gts_heading.specs.Cited.{HeadingFields, are_capitals, capitals_at}
-unfoldable pub use Rattle.gts_heading.specs.Cited.{bare_group_at, bare_heading_at, heading_at, heading_text, message_group_at, plain_heading_at}
+unfoldable pub use Rattle.gts_heading.specs.Cited.{bare_group_at, bare_heading_at, heading_at}
+unfoldable pub use Rattle.gts_heading.specs.Cited.{heading_text, message_group_at, plain_heading_at}
 pub use Rattle.gts_heading.specs.declared.field.MessageField.{MessageField}
 pub use Rattle.gts_heading.specs.declared.field.MessageField.TheVariants.{Cccc}
 pub use Rattle.gts_message.specs.Cited.{MessageParts, message_end}

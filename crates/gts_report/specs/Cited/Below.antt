@@ -11,7 +11,8 @@ unfoldable pub use Rattle.gts_alphabet.specs.Cited.{dec}
 pub use Rattle.gts_alphabet.specs.declared.limits.TheConstants.{MOST_CIRCUITS}
 pub use Rattle.gts_traits.specs.Cited.{Did, Rose, Syncs, seen}
 pub use Rattle.gts_heading.specs.Cited.{HeadingFields, fields_of, with_group}
-unfoldable pub use Rattle.gts_heading.specs.Cited.{bare_group_at, bare_heading_at, heading_at, heading_text, message_group_at, plain_heading_at}
+unfoldable pub use Rattle.gts_heading.specs.Cited.{bare_group_at, bare_heading_at, heading_at}
+unfoldable pub use Rattle.gts_heading.specs.Cited.{heading_text, message_group_at, plain_heading_at}
 pub use Rattle.gts_heading.specs.declared.heading.Heading.{Heading}
 unfoldable pub use Rattle.gts_message.specs.Cited.{body_at, text_at}
 pub use Rattle.gts_number.specs.Cited.{IsCount, number_in}
