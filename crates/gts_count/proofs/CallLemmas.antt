@@ -284,9 +284,6 @@ module _ {O T : Type 0} (meanings : Standing O T) where
           subst (λ (d : Directory). Counts d (after_all d (meanings.begin o) h) h new.counting) (sym r.directory)
           (subst (λ (c : Counting). Counts (meanings.directory old.switch) (state_at meanings old.switch o h) h c) (sym same) counts)
 
--- what holds of the parts holds of what stands for what they do
-module _ {O T W : Type 0} (parts : W → CountedParts T) (meanings : Standing O T) where
-
 -- the table of the numbers is that of the need
 module _ {O T : Type 0} (meanings : Standing O T) where
   pub shows : (parts : CountedParts T) (text : List ℕ) → text ≡ table_of (tally_of parts.counting.numbers) → ShowsTable meanings parts text

@@ -1,8 +1,8 @@
 use Rattle.std.proofs.Common.{rules}
 use Rattle.gts_real.proofs.station.FileStationStation.TheImpl.Goals as goal
 
-pub size-observed : goal.size-observed
-size-observed g c = record {
+pub size-tells : goal.size-tells
+size-tells g c = record {
   size = λ told. absurd told;
   told = λ told. absurd told;
   cause = search rules;
@@ -10,8 +10,8 @@ size-observed g c = record {
   say = search rules;
 }
 
-pub read-observed : goal.read-observed
-read-observed g c = record {
+pub read-tells : goal.read-tells
+read-tells g c = record {
   count = λ told. absurd told;
   bytes = λ told. absurd told;
   told = λ told. absurd told;
@@ -21,32 +21,32 @@ read-observed g c = record {
   say = search rules;
 }
 
-pub write_at-observed : goal.write_at-observed
-write_at-observed g c = record {
+pub write_at-tells : goal.write_at-tells
+write_at-tells g c = record {
   told = λ told. absurd told;
   cause = search rules;
   sound = search rules;
   say = search rules;
 }
 
-pub cut-observed : goal.cut-observed
-cut-observed g c = record {
+pub cut-tells : goal.cut-tells
+cut-tells g c = record {
   told = λ told. absurd told;
   cause = search rules;
   sound = search rules;
   say = search rules;
 }
 
-pub sync-observed : goal.sync-observed
-sync-observed g c = record {
+pub sync-tells : goal.sync-tells
+sync-tells g c = record {
   told = λ told. absurd told;
   cause = search rules;
   sound = search rules;
   say = search rules;
 }
 
-pub say-observed : goal.say-observed
-say-observed g c = record {
+pub say-tells : goal.say-tells
+say-tells g c = record {
   told = λ told. absurd told;
   kept = λ told. absurd told;
   cause = search rules;
@@ -54,8 +54,8 @@ say-observed g c = record {
   disk = search rules;
 }
 
-pub keep-observed : goal.keep-observed
-keep-observed g c = record {
+pub keep-tells : goal.keep-tells
+keep-tells g c = record {
   told = λ told. absurd told;
   kept = λ told. absurd told;
   cause = search rules;
