@@ -41,7 +41,7 @@ abbrev pub TakesTurn : {P : Type 0} → StationMeanings P → Beginning → ℕ 
     → (p q : Known (List Entry)) → Type 0
 TakesTurn station b c out result p q =
     IsTurn station.observed station.calls station.disk_faults station.say_faults b (Taken c)
-        (LeavesFrame b.origin.directory c out) result p q
+    (LeavesFrame b.origin.directory c out) result p q
 
 -- what the desk of the pass answers for it
 abbrev pub DeskTakes : Beginning → ℕ → List ℕ → Result Outcome SwitchFault → (p q : Known (List Entry)) → Type 0
