@@ -1,7 +1,7 @@
 -- A worker may go to another thread. (Its snapshot is the one field for which this isn't found without help.)
 use denote.RattleType.{RattleType}
 use denote.Ref.{NamedLft}
-use denote.Struct.MessageField.{shr_ref_field}
+use denote.Struct.Field.{shr_ref_field}
 use denote.Param.Send.{IsSend, sendable, view_send, shr_send}
 use denote.Param.SendFields.{declared_send, as_row_send}
 use Rattle.gts_traits.specs.declared.station.Station as station
