@@ -143,6 +143,11 @@ class Ledger:
             self.overtook[bulletin.level] += 1
         self.behind -= 1
 
+    def keeps(self, index):
+        """Whether a draw that is asked for now is still kept when the request is heard, even where all that waits goes out before.
+        Half of what the circuit keeps is left for what comes meanwhile. Later its number is missing, or is another draw's."""
+        return self.next + self.behind - index < self.kept // 2
+
     def asked(self, indices):
         for index in indices:
             self.wanted.add(index)
