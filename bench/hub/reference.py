@@ -66,7 +66,8 @@ class Ledger:
         """A frame came. Gives whether it is new."""
         if self.owed and index != self.owed[0]:
             self.lost(f'behind an opening came {self.number_of(index)}, where {self.number_of(self.owed[0])} was owed')
-        if self.returned_at is not None:
+        if self.returned_at is not None and (self.owed or index >= self.top):
+            # A draw that comes again tells nothing of when the one behind `top` was drawn: that may have been lost before.
             self.floors.append((max(index, self.top - 1) + self.repeat, self.returned_at))
             self.returned_at = None
         if index in self.recent:
