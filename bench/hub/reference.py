@@ -149,6 +149,10 @@ class Ledger:
         Half of what the circuit keeps is left for what comes meanwhile. Later its number is missing, or is another draw's."""
         return self.next + self.behind - index < self.kept // 2
 
+    def keeps_all(self):
+        """Whether that holds of all that the neighbour lacks, and of what is on its line."""
+        return self.keeps(min([self.top, *self.holes, *self.wanted, *self.again]))
+
     def asked(self, indices):
         for index in indices:
             self.wanted.add(index)
