@@ -19,7 +19,7 @@ use Rattle.gts_lock.proofs.hall.Hall.TheSendSync as hall
 use Rattle.gts_lock.proofs.pass.Pass.TheSendSync as pass
 use Rattle.gts_circuits.specs.declared.began.Began as began
 use Rattle.gts_circuits.specs.contracts.housed.Housed as housed
-use Rattle.gts_circuits.specs.contracts.housed.HousedTold.TheImpl as told
+use Rattle.gts_circuits.specs.contracts.housed.HousedHasHistory.TheImpl as told
 use Rattle.gts_circuits.proofs.housed.Housed.TheSendSync as housed_crosses
 use Rattle.gts_circuits.specs.contracts.ringing.RunBell as bells
 use Rattle.gts_circuits.proofs.ringing.RunBell.TheSendSync as bell
