@@ -331,7 +331,11 @@ class Neighbours:
         self.does('reads_again', line)
 
     def drains(self):
-        """Reads to their ends all connections from the switch, which is gone."""
+        """Reads to their ends all connections from the switch, which is gone. What a neighbour finds there that reads nothing at present
+        tells nothing of how long it took."""
+        for line in self.lines:
+            if not line.reads:
+                line.since = time.monotonic()
         self.does('drains')
 
     def hangs_up(self):

@@ -66,7 +66,8 @@ class Ledger:
         """A frame came. Gives whether it is new."""
         if self.owed and index != self.owed[0]:
             self.lost(f'behind an opening came {self.number_of(index)}, where {self.number_of(self.owed[0])} was owed')
-        if self.returned_at is not None:
+        if self.returned_at is not None and (self.owed or index >= self.top):
+            # A draw that comes again tells nothing of when the one behind `top` was drawn: that may have been lost before.
             self.floors.append((max(index, self.top - 1) + self.repeat, self.returned_at))
             self.returned_at = None
         if index in self.recent:
@@ -143,11 +144,24 @@ class Ledger:
             self.overtook[bulletin.level] += 1
         self.behind -= 1
 
-    def asked(self, indices):
+    def keeps(self, index):
+        """Whether a draw that is asked for now is still kept when the request is heard, even where all that waits goes out before.
+        Half of what the circuit keeps is left for what comes meanwhile. Later its number is missing, or is another draw's."""
+        return self.next + self.behind - index < self.kept // 2
+
+    def keeps_all(self):
+        """Whether that holds of all that the neighbour lacks, and of what is on its line."""
+        return self.keeps(min([self.top, *self.holes, *self.wanted, *self.again]))
+
+    def asked(self, indices, is_doubtful):
+        """These draws were asked for, and found. Where the line was cut since they were, they may be lost."""
         for index in indices:
-            self.wanted.add(index)
             self.may_come[index] += 1
-            self.again.discard(index)
+            if is_doubtful:
+                self.again.add(index)
+            else:
+                self.wanted.add(index)
+                self.again.discard(index)
 
     def is_cut(self):
         """Its line was cut: what was asked for and didn't come is asked for again, and the frame in work may be lost."""
@@ -227,7 +241,7 @@ class Reference:
         if message.kind == REFUSED:
             return f'REF {circuit} {message.field}'
         if message.kind == REQUEST:
-            self.ledgers[circuit].asked(message.asked)
+            self.ledgers[circuit].asked(message.asked, message.is_doubtful)
             return f'ASK {circuit} {len(message.asked)} {message.missing}'
         if message.key in self.window:
             return f'DUP {circuit} {self.window[message.key]}'
@@ -241,9 +255,12 @@ class Reference:
         circuit = int(words[1]) if len(words) > 1 and words[1].isdigit() else -1
         if not 0 <= circuit < len(self.sent) or not (self.sent[circuit] or self.is_handed(circuit)):
             raise Lost(f'a receipt that no message has: {line!r}')
-        want = self.wanted_receipt(circuit, self.sent[circuit].popleft())
+        message = self.sent[circuit].popleft()
+        want = self.wanted_receipt(circuit, message)
         if line != want:
-            raise Lost(f'a receipt {line!r}, where {want!r} had to come')
+            ledger = self.ledgers[circuit]
+            asked = f' for draws {list(message.asked)} of {ledger.next}, behind which {ledger.behind} wait' if message.asked else ''
+            raise Lost(f'a receipt {line!r}, where {want!r} had to come{asked}')
         self.counts[words[0]] += 1
 
     def is_unsaid(self, circuit, body):

@@ -45,13 +45,13 @@ def key_of(body):
 
 class Message:
     """What a neighbour sends: its bytes, and what must come of it. `asked` has the draws that a request asks for, and `missing`
-    how many of its numbers nobody has."""
-    __slots__ = ('kind', 'body', 'letters', 'field', 'asked', 'missing', 'key', 'frame', 'sent_at')
+    how many of its numbers nobody has. Its answer is doubtful where the line was cut before its receipt was read."""
+    __slots__ = ('kind', 'body', 'letters', 'field', 'asked', 'missing', 'key', 'frame', 'sent_at', 'is_doubtful')
 
     def __init__(self, kind, body, letters=b'AN', field='', asked=(), missing=0):
         self.kind, self.body, self.letters, self.field = kind, body, letters, field
         self.asked, self.missing = asked, missing
-        self.key, self.frame, self.sent_at = key_of(body), None, 0.0
+        self.key, self.frame, self.sent_at, self.is_doubtful = key_of(body), None, 0.0, False
 
     def heading(self):
         """The heading, also of a message whose frame alone is kept."""

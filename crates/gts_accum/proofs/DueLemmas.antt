@@ -2,7 +2,7 @@
 use Rattle.std.proofs.Common.{◌≡◌, ℕ, ◌+◌, ◌-◌, ◌≤◌, min, true, List, [], ◌∷◌, length, take, drop, nat_lt, ap, ◌∙◌, arith}
 use Rattle.std.proofs.lemmas.Bool.{lt-ltb}
 use Rattle.std.proofs.lemmas.List.{append-nil, length-append, length-drop, length-take}
-use Rattle.gts_accum.specs.Cited.{Bad, Bare, End, Format, Head, IsNext, IsSound, LONGEST_FILE, MOST_DUE, Next, Parts, Reading, Whole, back_of, capture_of, due, opening, part_seen, reading_from, to_come, unpacking_of}
+use Rattle.gts_accum.specs.Cited.{Bad, Bare, End, Format, Head, IsNext, IsSound, LONGEST_FILE, MOST_DUE, Next, Reading, UnpackedParts, Whole, back_of, capture_of, due, opening, part_seen, reading_from, to_come, unpacking_of}
 use Rattle.gts_accum.specs.declared.next.Next.TheVariants.{Entry}
 use Rattle.gts_accum.proofs.ReadLemmas.{length-opening}
 use Rattle.gts_accum.proofs.UnpackingLemmas.{head-cut}
@@ -29,7 +29,7 @@ line_due c (Entry format size) at held is =
 line_due c End at held is = omega arith
 line_due c (Bad place) at held is = omega arith
 
-pub due_short : {S : Type 0} (parts : Parts S) → IsSound parts → length (due (unpacking_of parts)) ≤ MOST_DUE
+pub due_short : {S : Type 0} (parts : UnpackedParts S) → IsSound parts → length (due (unpacking_of parts)) ≤ MOST_DUE
 due_short parts sound =
     let made : List ℕ = drop parts.given parts.made in
     let held : List ℕ = take parts.held parts.head in

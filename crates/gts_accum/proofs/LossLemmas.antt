@@ -1,6 +1,6 @@
 -- The bad place that is computed of a stream is the one of the grammar.
 use Rattle.std.proofs.Common.{◌≡◌, ℕ, zero, suc, ◌+◌, ◌-◌, ◌<◌, ◌≤◌, min, Bool, true, false, List, [], ◌∷◌, ◌++◌, length, take, drop, Option, Some, None, inl, inr, refl, sym, ap, subst, ◌∙◌, append_assoc, arith, IsSome, is_none, flat_map, option_map}
-use Rattle.gts_accum.specs.Cited.{AllByRecursion, IsBadStream, IsPiece, IsStream, IsStreamFront, IsStreamWithin, LONGEST_STREAM, LostField, Piece, bad_in_stream, find, held_in, loss_in, open_part, piece_text, range_with_len, signs_in, stream_seen}
+use Rattle.gts_accum.specs.Cited.{AllByRecursion, FrameField, IsBadStream, IsPiece, IsStream, IsStreamFront, IsStreamWithin, LONGEST_STREAM, Piece, bad_in_stream, find, held_in, loss_in, open_part, piece_text, range_with_len, signs_in, stream_seen}
 use Rattle.std.proofs.lemmas.Bool.{cases_lt, lt-ltb, le-ltb}
 use Rattle.std.proofs.lemmas.List.{append-nil, length-take, take_all, take-take, take-append-drop}
 use Rattle.gts_frame.proofs.LawLemmas.{shows-computed, shows-one, open-front, front-open}
@@ -18,7 +18,7 @@ open-stream : (bytes : List ℕ) → held_in bytes ≡ Some [] → IsStream byte
 open-stream bytes is =
     let s = shows-computed bytes in go s.rest s.field s.pieces s.each s.text (sym (shows-one bytes (signs_in bytes) s).1 ∙ is)
   where
-    go : (rest : List ℕ) (field : Option LostField) (pieces : List Piece) → AllByRecursion IsPiece pieces → bytes ≡ flat_map piece_text pieces ++ rest
+    go : (rest : List ℕ) (field : Option FrameField) (pieces : List Piece) → AllByRecursion IsPiece pieces → bytes ≡ flat_map piece_text pieces ++ rest
         → open_part rest field ≡ Some [] → IsStream bytes
     go rest None pieces each text e =
         let none : rest ≡ [] = cc in

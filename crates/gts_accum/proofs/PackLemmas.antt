@@ -4,9 +4,9 @@ use Rattle.std.proofs.lemmas.Bool.{lt-ltb}
 use Rattle.std.proofs.lemmas.List.{append-nil, length-append, length-drop, length-take-le, take_all, take_at, take-append-drop, take-append-le}
 use Rattle.std.proofs.Math.Seq.{take-append-add}
 use Rattle.std.proofs.lemmas.Option.{none-some}
-use Rattle.gts_accum.specs.Cited.{Breaks, Call, Decoding, FrameStep as Step, Holds, IsBad, LONGEST_STREAM, LostField, Makes, Outside, PackEnd, Packs, ReadsOn, SameFiles, SaysFront, SaysOnly, Sign, Stands, Tells, Whole, after_step, bad_in_stream, cut_at, entries_in, entries_text, entry_text, head_text, held_in, loss_in, messages_of, on, packed, signs_in, signs_of_step, stream_seen, whole}
+use Rattle.gts_accum.specs.Cited.{Breaks, Call, Decoding, FrameField, FrameStep as Step, Holds, IsBad, LONGEST_STREAM, Makes, Outside, PackEnd, Packs, ReadsOn, SameFiles, SaysFront, SaysOnly, Sign, Stands, Tells, Whole, after_step, bad_in_stream, cut_at, entries_in, entries_text, entry_text, head_text, held_in, loss_in, messages_of, on, packed, signs_in, signs_of_step, stream_seen, whole}
 use Rattle.gts_traits.proofs.OutsideLemmas.{on-append}
-use Rattle.gts_say.proofs.SayLemmas.{said_more, front_behind, front_more}
+use Rattle.gts_traits.proofs.SayLemmas.{said_more, front_behind, front_more}
 use Rattle.gts_frame.specs.declared.step.Step.TheVariants as step
 use Rattle.gts_frame.proofs.SignLemmas.{reads-open, reads-lost, reads-part, IsBreak, IsBreak-from}
 use Rattle.gts_frame.proofs.TestLemmas.{IsFirst, find-first, take_split}
@@ -55,18 +55,18 @@ seen-front u v few =
 -- ---- as bytes are taken
 
 -- a step that loses nothing leaves something open
-pub step_kept : (b : List ℕ) (s : Step) → ((field : LostField) → s ≡ step.Lost field → ⊥) → Makes b s → (h : List ℕ) × ((after_step b s).held ≡ Some h)
+pub step_kept : (b : List ℕ) (s : Step) → ((field : FrameField) → s ≡ step.Lost field → ⊥) → Makes b s → (h : List ℕ) × ((after_step b s).held ≡ Some h)
 step_kept b step.More goes makes = (b, refl)
 step_kept b (step.Frame kind) goes makes = ([], refl)
 step_kept b step.KeepAlive goes makes = ([], refl)
 step_kept b (step.Lost field) goes makes = absurd (goes field refl)
 step_kept b step.Dropped goes makes = absurd makes
 
-pub stands_more : (tells : Type 0) (first now later : List Call) (before x : List ℕ) (s : Step) (decoder next : Decoding) (h : List ℕ)
-    → Stands tells first now before decoder → ReadsOn before x s next → next.held ≡ Some h
-    → (tells → SaysOnly now later (on 0 (entries_text (messages_of (signs_of_step s next.message)))))
-    → Stands tells first later (before ++ x) next
-stands_more tells first now later before x s decoder next h stands reads is said = record {
+pub stands_more : (observed : Type 0) (first now later : List Call) (before x : List ℕ) (s : Step) (decoder next : Decoding) (h : List ℕ)
+    → Stands observed first now before decoder → ReadsOn before x s next → next.held ≡ Some h
+    → (observed → SaysOnly now later (on 0 (entries_text (messages_of (signs_of_step s next.message)))))
+    → Stands observed first later (before ++ x) next
+stands_more observed first now later before x s decoder next h stands reads is said = record {
   held = h;
   is = is;
   holds = record {
@@ -92,11 +92,11 @@ packed-front u v few =
           ∙ append_assoc (entries_in u) (of more.0) tail,
     )
 
-pub fails_more : (tells : Type 0) (first now later : List Call) (before x : List ℕ) (s : Step) (decoder next : Decoding)
-    → Stands tells first now before decoder → ReadsOn before x s next → length (before ++ x) ≤ LONGEST_STREAM
-    → (tells → SaysFront now later (on 0 (entries_text (messages_of (signs_of_step s next.message)))))
-    → (more : List ℕ) → tells → SaysFront first later (on 0 (packed ((before ++ x) ++ more)))
-fails_more tells first now later before x s decoder next stands reads few said more t =
+pub fails_more : (observed : Type 0) (first now later : List Call) (before x : List ℕ) (s : Step) (decoder next : Decoding)
+    → Stands observed first now before decoder → ReadsOn before x s next → length (before ++ x) ≤ LONGEST_STREAM
+    → (observed → SaysFront now later (on 0 (entries_text (messages_of (signs_of_step s next.message)))))
+    → (more : List ℕ) → observed → SaysFront first later (on 0 (packed ((before ++ x) ++ more)))
+fails_more observed first now later before x s decoder next stands reads few said more t =
     let e : List ℕ = of (signs_of_step s next.message) in
     let all : entries_in (before ++ x) ≡ entries_in before ++ e = ap of reads.signs ∙ of-both (signs_in before) (signs_of_step s next.message) in
     let z = packed-front (before ++ x) more few in
@@ -133,7 +133,7 @@ packed-bad stream at e =
     ap (λ (o : Option ℕ). entries_in (stream_seen stream) ++ (elim o as (λ _. List ℕ) [ None ↦ head_text Whole 0 | Some at ↦ [] ])) e ∙ append-nil (entries_in (stream_seen stream))
 
 -- the last of these bytes breaks
-break_parts : (h x : List ℕ) (field : LostField) → 1 ≤ length x → Makes (h ++ x) (step.Lost field) → (k : List ℕ) × (held_in (h ++ take (length x - 1) x) ≡ Some k)
+break_parts : (h x : List ℕ) (field : FrameField) → 1 ≤ length x → Makes (h ++ x) (step.Lost field) → (k : List ℕ) × (held_in (h ++ take (length x - 1) x) ≡ Some k)
 break_parts h x field some makes =
     let b : List ℕ = h ++ x in
     let broken : IsBreak b = IsBreak-from b makes.0 in
@@ -141,11 +141,11 @@ break_parts h x field some makes =
     let cut : take (length b - 1) b ≡ h ++ take (length x - 1) x = ap (λ (n : ℕ). take n b) place ∙ take-append-add h x (length x - 1) in
     (take (length b - 1) b, ap held_in (sym cut) ∙ (reads-part (take (length b - 1) b) broken.part).1)
 
-pub lost_here : (tells : Type 0) (first now : List Call) (before x h : List ℕ) (field : LostField) (decoder next : Decoding)
-    → Stands tells first now before decoder → decoder.held ≡ Some h → 1 ≤ length x → length (before ++ x) ≤ LONGEST_STREAM
+pub lost_here : (observed : Type 0) (first now : List Call) (before x h : List ℕ) (field : FrameField) (decoder next : Decoding)
+    → Stands observed first now before decoder → decoder.held ≡ Some h → 1 ≤ length x → length (before ++ x) ≤ LONGEST_STREAM
     → Makes (h ++ x) (step.Lost field) → ReadsOn before x (step.Lost field) next → next.held ≡ None
-    → (more : List ℕ) → IsBad tells first now ((before ++ x) ++ more) (length before + (length x - 1))
-lost_here tells first now before x h field decoder next stands here some few makes reads none more =
+    → (more : List ℕ) → IsBad observed first now ((before ++ x) ++ more) (length before + (length x - 1))
+lost_here observed first now before x h field decoder next stands here some few makes reads none more =
     let b : List ℕ = before ++ x in
     let rest : List ℕ = take (min LONGEST_STREAM (length (b ++ more)) - length b) more in
     let seen : stream_seen (b ++ more) ≡ b ++ rest = seen-front b more few in
@@ -177,9 +177,9 @@ past_by : (h stream : List ℕ) → LONGEST_STREAM < length stream → length (s
 past_by [] stream past seen = ap (λ (t : Bool). cond t (Some LONGEST_STREAM) None) (lt-ltb LONGEST_STREAM (length stream) past)
 past_by (b ∷ h) stream past seen = ap (λ (n : ℕ). Some n) seen
 
-pub goes_past : (tells : Type 0) (first now : List Call) (u v : List ℕ) (held : List ℕ) → Holds tells first now u held → length u ≡ LONGEST_STREAM → 1 ≤ length v
-    → IsBad tells first now (u ++ v) LONGEST_STREAM
-goes_past tells first now u v held holds long some =
+pub goes_past : (observed : Type 0) (first now : List Call) (u v : List ℕ) (held : List ℕ) → Holds observed first now u held → length u ≡ LONGEST_STREAM → 1 ≤ length v
+    → IsBad observed first now (u ++ v) LONGEST_STREAM
+goes_past observed first now u v held holds long some =
     let few : length u ≤ LONGEST_STREAM = omega (arith, long) in
     let all : length (u ++ v) ≡ length u + length v = length-append u v in
     let none : min LONGEST_STREAM (length (u ++ v)) - length u ≡ 0 = omega (arith, all, long) in
@@ -212,20 +212,20 @@ pub record IsStep (rest : List ℕ) (n : ℕ) (s : Step) (decoder next : Decodin
 if_some : (o : Option (List ℕ)) (h : List ℕ) (P : List ℕ → Type 0) → o ≡ Some h → IfSome o P → P h
 if_some o h P e x = subst (λ (o : Option (List ℕ)). IfSome o P) e x
 
-reads_here : (tells : Type 0) (first now : List Call) (b rest : List ℕ) (n : ℕ) (s : Step) (decoder next : Decoding) → Stands tells first now b decoder → IsStep rest n s decoder next
+reads_here : (observed : Type 0) (first now : List Call) (b rest : List ℕ) (n : ℕ) (s : Step) (decoder next : Decoding) → Stands observed first now b decoder → IsStep rest n s decoder next
     → ReadsOn b (take n rest) s next
-reads_here tells first now b rest n s decoder next stands step = step.reads b (stands.is ∙ sym stands.holds.is)
+reads_here observed first now b rest n s decoder next stands step = step.reads b (stands.is ∙ sym stands.holds.is)
 
-pub piece_more : (tells : Type 0) (first now later : List Call) (b rest : List ℕ) (n : ℕ) (s : Step) (decoder next : Decoding)
-    → Stands tells first now b decoder → IsStep rest n s decoder next → ((field : LostField) → s ≡ step.Lost field → ⊥)
-    → (tells → SaysOnly now later (on 0 (entries_text (messages_of (signs_of_step s next.message)))))
-    → Stands tells first later (b ++ take n rest) next
-piece_more tells first now later b rest n s decoder next stands is goes said =
+pub piece_more : (observed : Type 0) (first now later : List Call) (b rest : List ℕ) (n : ℕ) (s : Step) (decoder next : Decoding)
+    → Stands observed first now b decoder → IsStep rest n s decoder next → ((field : FrameField) → s ≡ step.Lost field → ⊥)
+    → (observed → SaysOnly now later (on 0 (entries_text (messages_of (signs_of_step s next.message)))))
+    → Stands observed first later (b ++ take n rest) next
+piece_more observed first now later b rest n s decoder next stands is goes said =
     let h : List ℕ = stands.held in
     let makes = if_some decoder.held h (λ held. Makes (held ++ take n rest) s) stands.is is.makes in
     let after = if_some decoder.held h (λ held. next ≡ after_step (held ++ take n rest) s) stands.is is.after in
     let kept = step_kept (h ++ take n rest) s goes makes in
-    stands_more tells first now later b (take n rest) s decoder next kept.0 stands (reads_here tells first now b rest n s decoder next stands is) (ap (λ (d : Decoding). d.held) after ∙ kept.1) said
+    stands_more observed first now later b (take n rest) s decoder next kept.0 stands (reads_here observed first now b rest n s decoder next stands is) (ap (λ (d : Decoding). d.held) after ∙ kept.1) said
 
 -- the bytes of a piece, as they were taken
 split_piece : (before done rest piece more : List ℕ) (n : ℕ) → piece ≡ done ++ rest → ((before ++ done) ++ take n rest) ++ (drop n rest ++ more) ≡ (before ++ piece) ++ more
@@ -240,30 +240,30 @@ within : (before done rest piece : List ℕ) (n start : ℕ) → piece ≡ done 
 within before done rest piece n start text here count few =
     omega (arith, ap length text, length-append done rest, length-append (before ++ done) (take n rest), length-append before done, length-take-le n rest count, here, few)
 
-pub piece_lost : (tells : Type 0) (first now : List Call) (before done rest piece more : List ℕ) (start at n : ℕ) (s : Step) (field : LostField) (decoder next : Decoding)
-    → Stands tells first now (before ++ done) decoder → IsStep rest n s decoder next → s ≡ step.Lost field → piece ≡ done ++ rest → at ≡ start + length done → start ≡ length before
-    → start + length piece ≤ LONGEST_STREAM → IsBad tells first now ((before ++ piece) ++ more) (at + (n - 1))
-piece_lost tells first now before done rest piece more start at n s field decoder next stands is lost text place here few =
+pub piece_lost : (observed : Type 0) (first now : List Call) (before done rest piece more : List ℕ) (start at n : ℕ) (s : Step) (field : FrameField) (decoder next : Decoding)
+    → Stands observed first now (before ++ done) decoder → IsStep rest n s decoder next → s ≡ step.Lost field → piece ≡ done ++ rest → at ≡ start + length done → start ≡ length before
+    → start + length piece ≤ LONGEST_STREAM → IsBad observed first now ((before ++ piece) ++ more) (at + (n - 1))
+piece_lost observed first now before done rest piece more start at n s field decoder next stands is lost text place here few =
     let h : List ℕ = stands.held in
     let b : List ℕ = before ++ done in
     let x : List ℕ = take n rest in
     let makes = subst (λ (s : Step). Makes (h ++ x) s) lost (if_some decoder.held h (λ held. Makes (held ++ x) s) stands.is is.makes) in
     let after = if_some decoder.held h (λ held. next ≡ after_step (held ++ x) s) stands.is is.after ∙ ap (after_step (h ++ x)) lost in
-    let reads = subst (λ (s : Step). ReadsOn b x s next) lost (reads_here tells first now b rest n s decoder next stands is) in
+    let reads = subst (λ (s : Step). ReadsOn b x s next) lost (reads_here observed first now b rest n s decoder next stands is) in
     let long : length x ≡ n = length-take-le n rest is.count in
-    let bad = lost_here tells first now b x h field decoder next stands stands.is (omega (arith, long, is.some)) (within before done rest piece n start text here is.count few) makes reads
+    let bad = lost_here observed first now b x h field decoder next stands stands.is (omega (arith, long, is.some)) (within before done rest piece n start text here is.count few) makes reads
     (ap (λ (d : Decoding). d.held) after) (drop n rest ++ more) in
     let at_is : length b + (length x - 1) ≡ at + (n - 1) = omega (arith, long, length-append before done, place, here, is.some) in
-    subst (λ (l : List ℕ). IsBad tells first now l (at + (n - 1))) (split_piece before done rest piece more n text) (subst (λ (k : ℕ). IsBad tells first now ((b ++ x) ++ (drop n rest ++ more)) k) at_is bad)
+    subst (λ (l : List ℕ). IsBad observed first now l (at + (n - 1))) (split_piece before done rest piece more n text) (subst (λ (k : ℕ). IsBad observed first now ((b ++ x) ++ (drop n rest ++ more)) k) at_is bad)
 
-pub piece_unsaid : (tells : Type 0) (first now later : List Call) (before done rest piece more : List ℕ) (start n : ℕ) (s : Step) (decoder next : Decoding)
-    → Stands tells first now (before ++ done) decoder → IsStep rest n s decoder next → piece ≡ done ++ rest → start ≡ length before
-    → start + length piece ≤ LONGEST_STREAM → (tells → SaysFront now later (on 0 (entries_text (messages_of (signs_of_step s next.message)))))
-    → tells → SaysFront first later (on 0 (packed ((before ++ piece) ++ more)))
-piece_unsaid tells first now later before done rest piece more start n s decoder next stands is text here few said t =
+pub piece_unsaid : (observed : Type 0) (first now later : List Call) (before done rest piece more : List ℕ) (start n : ℕ) (s : Step) (decoder next : Decoding)
+    → Stands observed first now (before ++ done) decoder → IsStep rest n s decoder next → piece ≡ done ++ rest → start ≡ length before
+    → start + length piece ≤ LONGEST_STREAM → (observed → SaysFront now later (on 0 (entries_text (messages_of (signs_of_step s next.message)))))
+    → observed → SaysFront first later (on 0 (packed ((before ++ piece) ++ more)))
+piece_unsaid observed first now later before done rest piece more start n s decoder next stands is text here few said t =
     let b : List ℕ = before ++ done in
     let x : List ℕ = take n rest in
-    let fails = fails_more tells first now later b x s decoder next stands (reads_here tells first now b rest n s decoder next stands is) (within before done rest piece n start text here is.count few) said
+    let fails = fails_more observed first now later b x s decoder next stands (reads_here observed first now b rest n s decoder next stands is) (within before done rest piece n start text here is.count few) said
     (drop n rest ++ more) t in
     subst (λ (l : List ℕ). SaysFront first later (on 0 (packed l))) (split_piece before done rest piece more n text) fails
 
@@ -274,12 +274,12 @@ rest_of_piece done rest piece n text =
 
 -- ---- a whole stream
 
-pub same_files : (tells : Type 0) (end : PackEnd) (stream left : List ℕ) (old new : List Call) → Packs tells end stream left old new → tells → SameFiles old new
-same_files tells end.Done stream left old new packs t = (packs.1 t).files
-same_files tells (end.Bad at) stream left old new packs t = (packs.said t).files
-same_files tells end.SourceFault stream left old new packs t = (packs.said t).files
-same_files tells end.SayFault stream left old new packs t = (packs t).said.files
-same_files tells end.NoMemory stream left old new packs t = (packs.1 t).files
+pub same_files : (observed : Type 0) (end : PackEnd) (stream left : List ℕ) (old new : List Call) → Packs observed end stream left old new → observed → SameFiles old new
+same_files observed end.Done stream left old new packs t = (packs.1 t).files
+same_files observed (end.Bad at) stream left old new packs t = (packs.said t).files
+same_files observed end.SourceFault stream left old new packs t = (packs.said t).files
+same_files observed end.SayFault stream left old new packs t = (packs t).said.files
+same_files observed end.NoMemory stream left old new packs t = (packs.1 t).files
 
 -- a read of a stream, of which not more bytes are taken than there is room for
 pub read_text : (stream bytes left into new : List ℕ) (room count : ℕ) → stream ≡ bytes ++ left → left ≡ take count into ++ new → room ≤ count → count ≤ length into

@@ -1,7 +1,7 @@
--- What calls make of a file whose source tells, one after another.
+-- What calls make of a file whose source is observed, one after another.
 use Rattle.std.proofs.Common.{◌≡◌, ◌≤◌, List, ℕ, [], ◌∷◌, ◌++◌, length, take, Result, Ok, Err, refl, sym, ap, ◌∙◌, append_assoc, arith}
-use Rattle.std.proofs.lemmas.List.{append-nil, length-append}
-use Rattle.gts_accum.specs.Cited.{Covers, IsLeft, MOST_DUE, Passes, Rest, Takes, Unpacking, ahead, ahead_of, behind, capture_left, due, reading, rest_of}
+use Rattle.std.proofs.lemmas.List.{length-append}
+use Rattle.gts_accum.specs.Cited.{Covers, Passes, Rest, Takes, Unpacking, ahead, ahead_of, behind, reading, rest_of}
 use Rattle.gts_accum.proofs.UnpackingLemmas.{with_bad}
 
 no-front : (xs ys : List ℕ) → xs ++ ys ≡ [] → (xs ≡ []) × (ys ≡ [])
@@ -17,21 +17,6 @@ behind-both : (g h : List ℕ) (x : Rest) → behind g (behind h x) ≡ behind (
 behind-both g h x = ap (λ (t : List ℕ). with_bad t x.bad) (sym (append_assoc g h x.text))
 
 module _ {S : Type 0} (left : S → List ℕ) where
-  -- nothing was taken
-  pub passes-still : (a b : Unpacking S) (given : List ℕ) → left b.source ≡ left a.source
-      → ((more : List ℕ) → ahead_of a more ≡ behind given (ahead_of b more)) → Passes left a b given
-  passes-still a b given same rest = record { taken = []; text = sym same; rest = λ more _. rest more }
-
-  -- the file has ended
-  pub passes-end : (a b : Unpacking S) → left a.source ≡ [] → left b.source ≡ left a.source → ahead left b ≡ ahead left a → Passes left a b []
-  passes-end a b empty same is = record {
-    taken = [];
-    text = sym same;
-    rest = λ more none.
-        let m : more ≡ [] = none (same ∙ empty) in
-        ap (ahead_of a) (m ∙ sym empty) ∙ sym is ∙ ap (ahead_of b) (same ∙ empty ∙ sym m);
-  }
-
   -- one after another
   pub passes-both : (a b c : Unpacking S) (g h : List ℕ) → Passes left a b g → Passes left b c h → Passes left a c (g ++ h)
   passes-both a b c g h first second = record {
@@ -65,16 +50,4 @@ module _ {S : Type 0} (left : S → List ℕ) where
         ap (λ (l : List ℕ). l ++ more) parts.0 ∙ none parts.1 in
         ap (λ (l : List ℕ). rest_of c (reading l)) (append_assoc k.taken p.taken more) ∙ k.rest (p.taken ++ more) later
         ∙ ap (behind k.given) (p.rest more none) ∙ behind-both k.given g (ahead_of b more);
-  }
-
-  pub is-left : (file : List ℕ) (c : ℕ) (u : Unpacking S) → Covers left file c u → length (due u) ≤ MOST_DUE
-      → IsLeft file (left u.source) c (capture_left left u)
-  is-left file c u k few = record {
-    taken = k.taken;
-    given = k.given;
-    due = due u;
-    read = k.text;
-    capture = ap (λ (r : Rest). r.text) (ap (λ (l : List ℕ). rest_of c (reading l)) k.text ∙ k.rest (left u.source) (λ e. e));
-    part = ap (λ (r : Rest). r.text) (ap (λ (l : List ℕ). rest_of c (reading l)) (sym (append-nil k.taken)) ∙ k.rest [] (λ _. refl));
-    short = few;
   }

@@ -8,8 +8,11 @@ pub use Rattle.gts_accum.specs.Streams.{IsBadStream, IsStreamWithin}
 pub use Rattle.gts_accum.specs.Packs.{HasReadCause, HasSayCause, Holds, IsBad, IsTaken, Packs, PieceEnds, SameFiles, Stands, entries_in}
 pub use Rattle.gts_accum.specs.Unpacking.{Gives, IsAtEnd, IsPast, Passes, Rest, Unpacking, ahead, ahead_of, bad_ahead, behind, capture_left, due, entry_rest, given_by, met, rest_of, to_come}
 pub use Rattle.gts_accum.specs.Judging.{Judges}
-pub use Rattle.gts_accum.specs.Parts.{IsNext, IsSound, missing, unpacking_of}
+pub use Rattle.gts_accum.specs.UnpackedParts.{IsNext, IsSound, missing, unpacking_of}
 pub use Rattle.gts_accum.specs.Traced.{Covers, IsLeft}
+pub use Rattle.gts_accum.specs.Unpack.{HasUnpackCause, IsEndAt, IsEndOf, IsFileEnd, IsPlaceMet, Unpacks}
+pub use Rattle.gts_accum.specs.declared.end.UnpackEnd.{UnpackEnd}
+pub use Rattle.gts_accum.specs.declared.end.UnpackEnd.TheVariants.{Ended}
 pub use Rattle.gts_accum.specs.declared.format.Format.{Format}
 pub use Rattle.gts_accum.specs.declared.format.Format.TheVariants.{Bare, Whole}
 pub use Rattle.gts_accum.specs.declared.limits.TheConstants.{ENTRY_HEAD, LONGEST_BARE, LONGEST_FILE, LONGEST_STREAM, MOST_DUE}
@@ -18,5 +21,5 @@ pub use Rattle.gts_accum.specs.declared.next.Next.TheVariants.{Bad, End, Head}
 pub use Rattle.gts_accum.specs.declared.pack_end.PackEnd.{PackEnd}
 pub use Rattle.gts_accum.specs.declared.packing.Stop.{Stop}
 pub use Rattle.gts_accum.specs.declared.packing.Stop.TheVariants.{Lost, Unsaid}
-pub use Rattle.gts_accum.specs.declared.parts.Parts.{Parts}
+pub use Rattle.gts_accum.specs.declared.parts.UnpackedParts.{UnpackedParts}
 unfoldable pub use Below.*

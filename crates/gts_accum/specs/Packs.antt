@@ -12,47 +12,47 @@ abbrev pub entries_in : List ℕ → List ℕ
 entries_in bytes = entries_text (messages_of (signs_in bytes))
 
 -- Of a stream these bytes were taken, behind which these are held: the entries of their messages were said, and nothing else.
-pub record Holds (tells : Type 0) (first now : List Call) (bytes held : List ℕ) : Type 0 where
+pub record Holds (observed : Type 0) (first now : List Call) (bytes held : List ℕ) : Type 0 where
   pub is : held_in bytes ≡ Some held
-  pub said : tells → SaysOnly first now (on 0 (entries_in bytes))
+  pub said : observed → SaysOnly first now (on 0 (entries_in bytes))
 
 -- the same, where the decoder holds them
-pub record Stands (tells : Type 0) (first now : List Call) (bytes : List ℕ) (decoder : Decoding) : Type 0 where
+pub record Stands (observed : Type 0) (first now : List Call) (bytes : List ℕ) (decoder : Decoding) : Type 0 where
   pub held : List ℕ
   pub is : decoder.held ≡ Some held
-  pub holds : Holds tells first now bytes held
+  pub holds : Holds observed first now bytes held
 
 -- the stream is bad at this place, and what is said of it was said
-pub record IsBad (tells : Type 0) (first now : List Call) (stream : List ℕ) (at : ℕ) : Type 0 where
+pub record IsBad (observed : Type 0) (first now : List Call) (stream : List ℕ) (at : ℕ) : Type 0 where
   pub place : bad_in_stream stream ≡ Some at
-  pub said : tells → SaysOnly first now (on 0 (packed stream))
+  pub said : observed → SaysOnly first now (on 0 (packed stream))
 
 -- Whatever follows these bytes of a stream: they were taken; or the stream is bad in them; or a front of its file was said.
 abbrev pub PieceEnds : Type 0 → List Call → List Call → List ℕ → Result (Unit {0}) Stop → Decoding → Type 0
-PieceEnds tells first now bytes (Ok _) decoder = Stands tells first now bytes decoder
-PieceEnds tells first now bytes (Err (Lost at)) decoder = (more : List ℕ) → IsBad tells first now (bytes ++ more) at
-PieceEnds tells first now bytes (Err Unsaid) decoder = (more : List ℕ) → tells → SaysFront first now (on 0 (packed (bytes ++ more)))
+PieceEnds observed first now bytes (Ok _) decoder = Stands observed first now bytes decoder
+PieceEnds observed first now bytes (Err (Lost at)) decoder = (more : List ℕ) → IsBad observed first now (bytes ++ more) at
+PieceEnds observed first now bytes (Err Unsaid) decoder = (more : List ℕ) → observed → SaysFront first now (on 0 (packed (bytes ++ more)))
 
 -- A piece that stands at this place of a stream was taken, whatever bytes stand before it.
-abbrev pub TakesPiece : (tells : Type 0) → (start : ℕ) → (piece : List ℕ) → Result (Unit {0}) Stop → (old new : List Call)
+abbrev pub TakesPiece : (observed : Type 0) → (start : ℕ) → (piece : List ℕ) → Result (Unit {0}) Stop → (old new : List Call)
     → (decoder now : Decoding) → Type 0
-TakesPiece tells start piece result old new decoder now =
-    (first : List Call) (before : List ℕ) → start ≡ length before → Stands tells first old before decoder
-    → PieceEnds tells first new (before ++ piece) result now
+TakesPiece observed start piece result old new decoder now =
+    (first : List Call) (before : List ℕ) → start ≡ length before → Stands observed first old before decoder
+    → PieceEnds observed first new (before ++ piece) result now
 
 -- these bytes were taken of a stream, and the entries of their messages were said
-pub record IsTaken (tells : Type 0) (first now : List Call) (stream left : List ℕ) : Type 0 where
+pub record IsTaken (observed : Type 0) (first now : List Call) (stream left : List ℕ) : Type 0 where
   pub taken : List ℕ
   pub text : stream ≡ taken ++ left
-  pub said : tells → SaysOnly first now (on 0 (entries_in taken))
+  pub said : observed → SaysOnly first now (on 0 (entries_in taken))
 
 -- What each end of packing a stream means, of which this is left: where it is bad, and what was said.
-abbrev pub Packs : (tells : Type 0) → PackEnd → (stream left : List ℕ) → (old new : List Call) → Type 0
-Packs tells end.Done stream left old new = (bad_in_stream stream ≡ None) × (tells → SaysOnly old new (on 0 (packed stream)))
-Packs tells (end.Bad at) stream left old new = IsBad tells old new stream at
-Packs tells end.SourceFault stream left old new = IsTaken tells old new stream left
-Packs tells end.SayFault stream left old new = tells → SaysFront old new (on 0 (packed stream))
-Packs tells end.NoMemory stream left old new = (left ≡ stream) × (tells → SaysOnly old new [])
+abbrev pub Packs : (observed : Type 0) → PackEnd → (stream left : List ℕ) → (old new : List Call) → Type 0
+Packs observed end.Done stream left old new = (bad_in_stream stream ≡ None) × (observed → SaysOnly old new (on 0 (packed stream)))
+Packs observed (end.Bad at) stream left old new = IsBad observed old new stream at
+Packs observed end.SourceFault stream left old new = IsTaken observed old new stream left
+Packs observed end.SayFault stream left old new = observed → SaysFront old new (on 0 (packed stream))
+Packs observed end.NoMemory stream left old new = (left ≡ stream) × (observed → SaysOnly old new [])
 
 -- what reads of the files give stays
 abbrev pub SameFiles : List Call → List Call → Type 0

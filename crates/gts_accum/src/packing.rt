@@ -4,8 +4,7 @@ ghost use Rattle.gts_accum.specs.Packs as packs;
 
 use crate::{ENTRY_HEAD, LONGEST_STREAM, PackEnd, entry_head};
 use gts_frame::{Decoder, Step};
-use gts_say::say;
-use gts_traits::{Failed, Source, Station};
+use gts_traits::{Failed, Source, Station, say};
 use std::alloc::Global;
 
 /// The channel on which a file is said.
@@ -26,7 +25,7 @@ pub(crate) enum Stop {
 /// Says a message as a whole entry.
 fn say_entry<P: Station>(message: &[u8], station: &mut P) -> Result<(), Failed>
     requires { IsFramed message.now }
-    ensures told { P.tells → Tells result (on FILE (entry_text (whole message.now)))
+    ensures told { P.observed → Tells result (on FILE (entry_text (whole message.now)))
         (P.calls station.old) (P.calls station.new) }
     ensures cause { HasCause result (P.say_faults station.old) (P.say_faults station.new) }
     ensures disk { P.disk_faults station.new ≡ P.disk_faults station.old }
@@ -42,7 +41,7 @@ fn say_entry<P: Station>(message: &[u8], station: &mut P) -> Result<(), Failed>
 /// Says what a step of the decoder adds to the file: the entry of a frame.
 fn say_step<P: Station>(step: Step, message: &[u8], station: &mut P) -> Result<(), Failed>
     requires { HasMessage step message.now }
-    ensures told { P.tells
+    ensures told { P.observed
         → Tells result (on FILE (entries_text (messages_of (signs_of_step step message.now))))
         (P.calls station.old) (P.calls station.new) }
     ensures cause { HasCause result (P.say_faults station.old) (P.say_faults station.new) }
@@ -62,7 +61,7 @@ fn take_piece<P: Station>(
     station: &mut P,
 ) -> Result<(), Stop>
     requires { start + length piece.now ≤ LONGEST_STREAM }
-    ensures ends { packs.TakesPiece P.tells start piece.now result (P.calls station.old)
+    ensures ends { packs.TakesPiece P.observed start piece.now result (P.calls station.old)
         (P.calls station.new) decoder.old decoder.new }
     ensures cause { packs.HasStopCause result
         (P.say_faults station.old) (P.say_faults station.new) }
@@ -90,8 +89,8 @@ fn take_piece<P: Station>(
 fn finish<P: Station>(at: u64, rest: u32, station: &mut P) -> PackEnd
     requires { at ≤ LONGEST_STREAM }
     ensures ends { (first : List Call) (stream held : List ℕ) → at ≡ length stream
-        → packs.Holds P.tells first (P.calls station.old) stream held → rest ≡ length held
-        → packs.Packs P.tells result stream [] first (P.calls station.new) }
+        → packs.Holds P.observed first (P.calls station.old) stream held → rest ≡ length held
+        → packs.Packs P.observed result stream [] first (P.calls station.new) }
     ensures read { (result ≡ PackEnd.SourceFault → ⊥) × (result ≡ PackEnd.NoMemory → ⊥) }
     ensures cause { packs.HasSayCause result (P.say_faults station.old) (P.say_faults station.new) }
     ensures disk { P.disk_faults station.new ≡ P.disk_faults station.old }
@@ -110,11 +109,12 @@ fn finish<P: Station>(at: u64, rest: u32, station: &mut P) -> PackEnd
 /// Says the file of a stream's messages, as the stream is read: a whole entry for each frame, and the end. Keep-alives are left
 /// out. Beside the decoder's room it takes no memory.
 pub fn pack<S: Source, P: Station>(alloc: Global, stream: &mut S, station: &mut P) -> PackEnd
-    ensures packs { S.tells → packs.Packs P.tells result (S.left stream.old) (S.left stream.new)
+    ensures packs { S.observed → packs.Packs P.observed result (S.left stream.old)
+        (S.left stream.new)
         (P.calls station.old) (P.calls station.new) }
     ensures unmade { result ≡ PackEnd.NoMemory
         → (stream.new ≡ stream.old) × (station.new ≡ station.old) }
-    ensures files { P.tells → packs.SameFiles (P.calls station.old) (P.calls station.new) }
+    ensures files { P.observed → packs.SameFiles (P.calls station.old) (P.calls station.new) }
     ensures source { packs.HasReadCause result (S.faults stream.old) (S.faults stream.new) }
     ensures say { packs.HasSayCause result (P.say_faults station.old) (P.say_faults station.new) }
     ensures disk { P.disk_faults station.new ≡ P.disk_faults station.old }

@@ -1,7 +1,7 @@
 -- What `compact` comes to, from the opening and the engine's compaction.
 use Rattle.std.proofs.Common.{◌≡◌, ◌≤◌, ℕ, false, List, [], ◌∷◌, ◌++◌, Result, Ok, Err, IfErr, OnOk, Option, Some, None, IsTrue, inl, inr, refl, sym, ap, subst, ◌∙◌, arith}
 use Rattle.std.proofs.lemmas.List.{append-nil}
-use Rattle.gts_app.specs.Cited.{Call, Compacts, Device, Did, DiskFault, Done, EachSince, Engine, Full, Ghosts as StationMeanings, GivesRoom, HasCallCause, HasSaid, Holds, IsCompactEnd, IsCompactFault, IsCompacted, IsCompaction, IsIdleFault, IsOfFiles, IsRefusal, IsRewritten, IsTooLarge, Journaled, Keeps, Need, NoMemory, OpenFault, Opens, OpensAsBefore, OpensWith, Over, Rose, SourceMeanings, State, Status, StaysAt, StaysThere, SwitchFault, Syncs, begun, checkpoint_file, compacted_after, compacted_size, directory_of_bytes, full_compacted, is_sound, need, opens, origin_of, refusal, said_by, seen, selected, shown, status_compacted, switch_meanings}
+use Rattle.gts_app.specs.Cited.{Call, Compacts, Device, Did, DiskFault, Done, EachSince, Engine, Full, Ghosts as StationMeanings, GivesRoom, Handed, HasCallCause, HasSaid, Holds, IsCompactEnd, IsCompactFault, IsCompacted, IsCompaction, IsIdleFault, IsOfFiles, IsRefusal, IsRewritten, IsTooLarge, Journaled, Keeps, Need, NoMemory, OpenFault, Opens, OpensAsBefore, OpensWith, Over, Rose, SourceMeanings, State, Status, StaysAt, StaysThere, SwitchFault, Syncs, begun, checkpoint_file, compacted_after, compacted_size, directory_of_bytes, full_compacted, handed, is_sound, need, opens, origin_of, refusal, said_by, seen, selected, shown, status_compacted, switch_meanings}
 use Rattle.gts_directory.specs.Directory as directories
 use Rattle.gts_event.specs.declared.fault.SwitchFault.TheVariants as switch
 use Rattle.gts_record.specs.declared.fault.OpenFault.TheVariants as opening
@@ -38,7 +38,7 @@ end_of_refusal status ends = elim (refusals status ends) [
     of_files opening.NoMemory is = absurd is
 
 pub not_compacted : {S P : Type 0} (source : SourceMeanings S) (w : StationMeanings P) (status : Status) (od nd : S) (old new : P)
-    (result : Result (Engine P) (Status × P)) → result ≡ Err (status, new)
+    (result : Result (Engine P) (Handed P)) → result ≡ Err (handed status new)
     → Opens source w result od nd old → Compacts source w status od old nd new
 not_compacted source w status od nd old new result is h =
     let r = h.refused status new is in
@@ -49,13 +49,13 @@ not_compacted source w status od nd old new result is h =
       refused = λ _. inl r;
       disk_fault = r.disk_fault;
       ends = end_of_refusal status ends;
-      silent = λ tells told. only_synced_says (w.calls old) (w.calls new) (r.only_syncs told);
-      complete = λ tells told d n read opened room kept_directory kept_disk.
+      silent = λ observed told. only_synced_says (w.calls old) (w.calls new) (r.only_syncs told);
+      complete = λ observed told d n read opened room kept_directory kept_disk.
           elim (refusals status ends) [
-            | inl x ↦ absurd (no_fault d x.0 (directory_of_bytes (source.left od)) read ((r.directory x.0 x.1).1 tells))
+            | inl x ↦ absurd (no_fault d x.0 (directory_of_bytes (source.left od)) read ((r.directory x.0 x.1).1 observed))
             | inr rest ↦ elim rest [
               | inl x ↦
-                  let j = r.journal x.0 x.2 x.1 tells told in
+                  let j = r.journal x.0 x.2 x.1 observed told in
                   let same = same_directory j.0 d (directory_of_bytes (source.left od)) j.1 read in
                   absurd (one_answer n x.0 (opens d (seen (w.calls old))) opened (subst (λ (y : directories.Directory). opens y (seen (w.calls old)) ≡ Err x.0) same j.2))
               | inr more ↦ elim more [
@@ -74,23 +74,23 @@ not_compacted source w status od nd old new result is h =
 
 -- ---- the engine was opened
 
-module _ {S P : Type 0} (source : SourceMeanings S) (w : StationMeanings P) (od nd : S) (old : P) (e : Engine P) (result : Result (Engine P) (Status × P))
+module _ {S P : Type 0} (source : SourceMeanings S) (w : StationMeanings P) (od nd : S) (old : P) (e : Engine P) (result : Result (Engine P) (Handed P))
     (is : result ≡ Ok e) (h : Opens source w result od nd old)
     (starts : (d : directories.Directory) (n : Need) → IsTrue (is_sound d n) → need d (begun n) ≡ n) where
-  -- what is known of it where its station tells
+  -- what is known of it where its station is observed
   record Known : Type 0 where
-    told : w.tells
+    told : w.observed
     n : Need
-    read : source.tells → directory_of_bytes (source.left od) ≡ Ok e.directory
+    read : source.observed → directory_of_bytes (source.left od) ≡ Ok e.directory
     opened : opens e.directory (seen (w.calls old)) ≡ Ok n
     synced : w.calls e.station ≡ Did Syncs ∷ w.calls old
-    keeps : Keeps w.tells mode.Station (origin_of w.calls e n) [] (shown w.calls e)
+    keeps : Keeps w.observed mode.Station (origin_of w.calls e n) [] (shown w.calls e)
     same : need e.directory (begun n) ≡ n
 
-  known : w.tells → Known
+  known : w.observed → Known
   known told =
       let x = h.opened e is told in
-      record { told = told; n = x.0; read = x.1; opened = x.2.0.opened; synced = x.2.0.synced; keeps = none_gathered (switch_meanings w.tells w.calls) (record { told = told; origin = origin_of w.calls e x.0 }) e x.2.1.stands; same = starts e.directory x.0 x.2.0.sound }
+      record { told = told; n = x.0; read = x.1; opened = x.2.0.opened; synced = x.2.0.synced; keeps = none_gathered (switch_meanings w.observed w.calls) (record { told = told; origin = origin_of w.calls e x.0 }) e x.2.1.stands; same = starts e.directory x.0 x.2.0.sound }
 
   going : (k : Known) → e.stopped ≡ None
   going k = goes_on e.stopped k.keeps.failed
@@ -99,14 +99,14 @@ module _ {S P : Type 0} (source : SourceMeanings S) (w : StationMeanings P) (od 
   holds k = k.keeps.core (going k)
 
   over : (new : P) (OfIt : directories.Directory → Need → Type 0) → ((k : Known) → OfIt e.directory k.n) → Over source w od old OfIt
-  over new OfIt of tells told = let k = known told in (e.directory, k.n, k.read tells, k.opened, of k)
+  over new OfIt of observed told = let k = known told in (e.directory, k.n, k.read observed, k.opened, of k)
 
   -- the files open to no fault
-  opens_here : source.tells → w.tells → (d : directories.Directory) (fault : OpenFault) → directory_of_bytes (source.left od) ≡ Ok d
+  opens_here : source.observed → w.observed → (d : directories.Directory) (fault : OpenFault) → directory_of_bytes (source.left od) ≡ Ok d
       → opens d (seen (w.calls old)) ≡ Err fault → ⊥
-  opens_here tells told d fault read opened =
+  opens_here observed told d fault read opened =
       let k = known told in
-      let same : d ≡ e.directory = same_directory d e.directory (directory_of_bytes (source.left od)) read (k.read tells) in
+      let same : d ≡ e.directory = same_directory d e.directory (directory_of_bytes (source.left od)) read (k.read observed) in
       one_answer k.n fault (opens d (seen (w.calls old))) (subst (λ (y : directories.Directory). opens y (seen (w.calls old)) ≡ Ok k.n) (sym same) k.opened) opened
 
   -- nothing was changed for want of memory
@@ -117,7 +117,7 @@ module _ {S P : Type 0} (source : SourceMeanings S) (w : StationMeanings P) (od 
     refused = λ _. inl (record {
       ends = tt;
       directory = λ fault of. absurd (cc);
-      journal = λ fault of files tells told. absurd (of_memory fault files of);
+      journal = λ fault of files observed told. absurd (of_memory fault files of);
       disk_fault = λ of. absurd (cc);
       source_fault = λ of. absurd (cc);
       only_syncs = λ told. inl (known told).synced;
@@ -126,20 +126,20 @@ module _ {S P : Type 0} (source : SourceMeanings S) (w : StationMeanings P) (od 
     });
     disk_fault = λ of. absurd (cc);
     ends = tt;
-    silent = λ tells told. ap said_by (known told).synced;
-    complete = λ tells told d n read opened room kept_directory kept_disk. inr refl;
-    answered = λ tells told d fault read opened kept_directory kept_disk. inr refl;
+    silent = λ observed told. ap said_by (known told).synced;
+    complete = λ observed told d n read opened room kept_directory kept_disk. inr refl;
+    answered = λ observed told d fault read opened kept_directory kept_disk. inr refl;
     taken = h.taken;
     counts = (h.later, (h.kept e is).0, omega (arith, (h.kept e is).1));
   }
 
-  module _ (r : Result (Unit {0}) SwitchFault) (new : Engine P) (compaction : IsCompaction w.tells w.calls r e new)
-      (moments : w.tells → e.stopped ≡ None → StaysAt e.directory e.core (w.calls e.station) (w.calls new.station))
-      (written : w.tells → OnOk r ((s : State) → Holds e.directory e.core s → IsRewritten e.directory s (w.calls e.station) (w.calls new.station) new.used))
+  module _ (r : Result (Unit {0}) SwitchFault) (new : Engine P) (compaction : IsCompaction w.observed w.calls r e new)
+      (moments : w.observed → e.stopped ≡ None → StaysAt e.directory e.core (w.calls e.station) (w.calls new.station))
+      (written : w.observed → OnOk r ((s : State) → Holds e.directory e.core s → IsRewritten e.directory s (w.calls e.station) (w.calls new.station) new.used))
       (room : (s : State) → e.stopped ≡ None → Holds e.directory e.core s → GivesRoom r e.directory s)
       (kind : IfErr r IsCompactFault) (unchanged : IsIdleFault r → new ≡ e)
       (cause : HasCallCause r (w.disk_faults e.station) (w.disk_faults new.station) (w.say_faults e.station) (w.say_faults new.station))
-      (files : w.tells → new.stopped ≡ None → new.gathered ≡ false → OpensWith new.directory (seen (w.calls new.station)) new.used) where
+      (files : w.observed → new.stopped ≡ None → new.gathered ≡ false → OpensWith new.directory (seen (w.calls new.station)) new.used) where
     stays : (k : Known) → StaysThere e.directory k.n (w.calls old) (w.calls new.station)
     stays k =
         subst (λ (calls : List Call). EachSince calls (w.calls new.station) (OpensAsBefore e.directory (begun k.n))) k.synced
@@ -156,7 +156,7 @@ module _ {S P : Type 0} (source : SourceMeanings S) (w : StationMeanings P) (od 
     say_later = omega (arith, (h.kept e is).1, cause.say_later)
 
     -- it goes on behind a checkpoint of all that it stood for
-    after : (k : Known) → r ≡ Ok tt → Keeps w.tells mode.Station (compacted_after (origin_of w.calls e k.n) []) [] (shown w.calls new)
+    after : (k : Known) → r ≡ Ok tt → Keeps w.observed mode.Station (compacted_after (origin_of w.calls e k.n) []) [] (shown w.calls new)
     after k ok = compaction.done ok mode.Station (origin_of w.calls e k.n) [] k.keeps
 
     compacted : (k : Known) → r ≡ Ok tt → IsCompacted e.directory k.n (w.calls old) (w.calls new.station)
@@ -183,11 +183,11 @@ module _ {S P : Type 0} (source : SourceMeanings S) (w : StationMeanings P) (od 
       refused = λ ends. absurd ends;
       disk_fault = λ of. absurd (cc);
       ends = tt;
-      silent = λ tells told. let k = known told in
+      silent = λ observed told. let k = known told in
           let goes : new.stopped ≡ None = goes_on new.stopped (after k ok).failed in
           silent k (subst (λ (stopped : Option Device). HasSaid mode.Station (compacted_after (origin_of w.calls e k.n) []) [] stopped (w.calls new.station)) goes ((after k ok).leaves told).said);
-      complete = λ tells told d n read opened free kept_directory kept_disk. inl refl;
-      answered = λ tells told d fault read opened kept_directory kept_disk. absurd (opens_here tells told d fault read opened);
+      complete = λ observed told d n read opened free kept_directory kept_disk. inl refl;
+      answered = λ observed told d fault read opened kept_directory kept_disk. absurd (opens_here observed told d fault read opened);
       taken = h.taken;
       counts = (h.later, disk_later, say_later);
     }
@@ -203,10 +203,10 @@ module _ {S P : Type 0} (source : SourceMeanings S) (w : StationMeanings P) (od 
           refused = λ _. inr (refl, over new.station (λ d n. StaysThere d n (w.calls old) (w.calls new.station)) stays);
           disk_fault = λ of. rose;
           ends = tt;
-          silent = λ tells told. let k = known told in
+          silent = λ observed told. let k = known told in
               silent k ((compaction.failed failed mode.Station (origin_of w.calls e k.n) [] k.keeps).leaves told).said;
-          complete = λ tells told d n read opened free kept_directory kept_disk. absurd (kept_disk rose);
-          answered = λ tells told d fault read opened kept_directory kept_disk. absurd (opens_here tells told d fault read opened);
+          complete = λ observed told d n read opened free kept_directory kept_disk. absurd (kept_disk rose);
+          answered = λ observed told d fault read opened kept_directory kept_disk. absurd (opens_here observed told d fault read opened);
           taken = h.taken;
           counts = (h.later, disk_later, say_later);
         }
@@ -230,14 +230,14 @@ module _ {S P : Type 0} (source : SourceMeanings S) (w : StationMeanings P) (od 
           refused = λ ends. absurd ends;
           disk_fault = λ of. absurd (cc);
           ends = tt;
-          silent = λ tells told. ap said_by (calls_are (known told));
-          complete = λ tells told d n read opened free kept_directory kept_disk.
+          silent = λ observed told. ap said_by (calls_are (known told));
+          complete = λ observed told d n read opened free kept_directory kept_disk.
               let k = known told in
-              let same : d ≡ e.directory = same_directory d e.directory (directory_of_bytes (source.left od)) read (k.read tells) in
+              let same : d ≡ e.directory = same_directory d e.directory (directory_of_bytes (source.left od)) read (k.read observed) in
               let one : n ≡ k.n = one_need n k.n (opens d (seen (w.calls old))) opened (subst (λ (y : directories.Directory). opens y (seen (w.calls old)) ≡ Ok k.n) (sym same) k.opened) in
               let none : full_compacted e.directory (begun k.n) ≡ None = subst (λ (m : Need). full_compacted e.directory (begun m) ≡ None) one (subst (λ (y : directories.Directory). full_compacted y (begun n) ≡ None) same free) in
               absurd (found_none (full_compacted e.directory (begun k.n)) (switch.Full 42 (sum k).0 limit) none (sum k).1);
-          answered = λ tells told d fault read opened kept_directory kept_disk. absurd (opens_here tells told d fault read opened);
+          answered = λ observed told d fault read opened kept_directory kept_disk. absurd (opens_here observed told d fault read opened);
           taken = h.taken;
           counts = (h.later, disk_later, say_later);
         }

@@ -1,10 +1,10 @@
 -- What a run of a capture through a switch that counts left, of the switch itself.
 use Rattle.std.proofs.Common.{ℕ, List, [], ◌∷◌, ◌++◌, length, inl, inr, ap}
-use Rattle.gts_app.specs.Cited.{BreaksAtCompaction, BreaksAtRestart, CaptureKind, Doubt, Ends, Entry, Event, IsUnbegun, OpenFault, Parts, Remains, ReplayEnd, Standing, Step, Stopped, SwitchFault, all_unsaid, compacted_at, compactions_at, entries_at, meanings_by, origin_at}
+use Rattle.gts_app.specs.Cited.{BreaksAtCompaction, BreaksAtRestart, CaptureKind, CountedParts, Doubt, Ends, Entry, Event, IsUnbegun, OpenFault, Remains, ReplayEnd, Standing, Step, Stopped, SwitchFault, all_unsaid, compacted_at, compactions_at, entries_at, meanings_by, origin_at}
 use Rattle.gts_event.specs.declared.fault.SwitchFault.TheVariants.{DiskFault, SayFault, Full, Spent, NoMemory}
 use Rattle.gts_replay.specs.{BreaksOff, BreaksTogether, BreaksIdle}
 
-module _ {O T W : Type 0} (parts : W → Parts T) (meanings : Standing O T) (station : Type 0) (kind : CaptureKind) (o : O) (h : List Entry) (tells : Type 0) (old new : W) where
+module _ {O T W : Type 0} (parts : W → CountedParts T) (meanings : Standing O T) (station : Type 0) (kind : CaptureKind) (o : O) (h : List Entry) (observed : Type 0) (old new : W) where
   remains : (at : O) (all : List Entry) (fault : SwitchFault) → Remains (meanings_by parts meanings) at all fault new → Remains meanings at all fault (parts new).switch
   remains at all DiskFault left = left
   remains at all SayFault stands = stands.0
@@ -53,8 +53,8 @@ module _ {O T W : Type 0} (parts : W → Parts T) (meanings : Standing O T) (sta
   unbegun b = record { same = ap (λ (w : W). (parts w).switch) b.same; stands = b.stands.0 }
 
   -- it ended so for the switch as well
-  pub ends_below : (result : ReplayEnd) (bytes left : List ℕ) → Ends (meanings_by parts meanings) station kind o h tells result old new bytes left
-      → Ends meanings station kind o h tells result (parts old).switch (parts new).switch bytes left
+  pub ends_below : (result : ReplayEnd) (bytes left : List ℕ) → Ends (meanings_by parts meanings) station kind o h observed result old new bytes left
+      → Ends meanings station kind o h observed result (parts old).switch (parts new).switch bytes left
   ends_below result bytes left e = record {
     done = λ is. let x = e.done is in record { steps = x.steps; are = x.are; whole = x.whole; stands = x.stands.0 };
     capture = λ at is. let x = e.capture at is in record { steps = x.steps; early = x.early; none = x.none; stands = x.stands.0 };

@@ -14,8 +14,8 @@ pub unfollowed : {S P : Type 0} (source : SourceMeanings S) (station : StationMe
     → ReadsDirectory source (Err status) od nd → FollowsFeed source station status (world od oc at) (world nd oc at)
 unfollowed source station status od nd oc at h = record {
   means = go (ended status (h.ends status refl));
-  moments = λ tells told d s taken comes. inl (inr (inl refl));
-  complete = λ tells told d s taken comes calm_directory calm_feed calm_disk. ends_so d comes.2 tells calm_directory (ended status (h.ends status refl));
+  moments = λ observed told d s taken comes. inl (inr (inl refl));
+  complete = λ observed told d s taken comes calm_directory calm_feed calm_disk. ends_so d comes.2 observed calm_directory (ended status (h.ends status refl));
   silent = λ told. refl;
   directory_taken = h.taken;
   source_counts = (h.cause.later, omega arith);
@@ -24,16 +24,16 @@ unfollowed source station status od nd oc at h = record {
   where
     go : Ended status → FollowedAs source station status (world od oc at) (world nd oc at)
     go (inl e) = subst (λ (s : Status). FollowedAs source station s (world od oc at) (world nd oc at)) (sym e.1)
-        ((refl, refl), λ tells. h.fault tells e.0 (ap (λ (s : Status). Err s) e.1))
+        ((refl, refl), λ observed. h.fault observed e.0 (ap (λ (s : Status). Err s) e.1))
     go (inr (inl e)) = subst (λ (s : Status). FollowedAs source station s (world od oc at) (world nd oc at)) (sym e)
         (inl ((refl, refl), h.cause.failed (ap (λ (s : Status). Err s) e)))
     go (inr (inr e)) = subst (λ (s : Status). FollowedAs source station s (world od oc at) (world nd oc at)) (sym e) tt
 
-    ends_so : {X : Type 0} (d : directories.Directory) → directory_of_bytes (source.left od) ≡ Ok d → source.tells → (Rose (source.faults od) (source.faults nd) → ⊥)
+    ends_so : {X : Type 0} (d : directories.Directory) → directory_of_bytes (source.left od) ≡ Ok d → source.observed → (Rose (source.faults od) (source.faults nd) → ⊥)
         → Ended status → X ⊎ (status ≡ NoMemory)
-    ends_so d read tells calm (inl e) = absurd (no_fault d e.0 (directory_of_bytes (source.left od)) read (h.fault tells e.0 (ap (λ (s : Status). Err s) e.1)))
-    ends_so d read tells calm (inr (inl e)) = absurd (calm (h.cause.failed (ap (λ (s : Status). Err s) e)))
-    ends_so d read tells calm (inr (inr e)) = inr e
+    ends_so d read observed calm (inl e) = absurd (no_fault d e.0 (directory_of_bytes (source.left od)) read (h.fault observed e.0 (ap (λ (s : Status). Err s) e.1)))
+    ends_so d read observed calm (inr (inl e)) = absurd (calm (h.cause.failed (ap (λ (s : Status). Err s) e)))
+    ends_so d read observed calm (inr (inr e)) = inr e
 
 -- ---- there is one
 
@@ -87,32 +87,32 @@ module _ (d : directories.Directory) (files : Files) (fed : List ℕ) where
 
 module _ {S P : Type 0} (source : SourceMeanings S) (station : StationMeanings P) (d : directories.Directory) (answer : FollowEnd) (od nd oc nc : S) (old new : P)
     (h : ReadsDirectory source (Ok d) od nd)
-    (answers : station.tells → source.tells → Answers answer (comes_to d (seen (station.calls old)) (source.left oc)))
-    (added : station.tells → source.tells → (s : State) (used : ℕ) (last : List ℕ) (t : Taken) → files_read written d (seen (station.calls old)) ≡ Ok (s, used, last)
+    (answers : station.observed → source.observed → Answers answer (comes_to d (seen (station.calls old)) (source.left oc)))
+    (added : station.observed → source.observed → (s : State) (used : ℕ) (last : List ℕ) (t : Taken) → files_read written d (seen (station.calls old)) ≡ Ok (s, used, last)
     → comes_to d (seen (station.calls old)) (source.left oc) ≡ Ok t → IsEnd answer
     → opens d (seen (station.calls new)) ≡ Ok (need d (restarted d (state_after d s t))))
-    (records : station.tells → source.tells → (read : State × ℕ × List ℕ) (t : Taken) → files_read written d (seen (station.calls old)) ≡ Ok read
+    (records : station.observed → source.observed → (read : State × ℕ × List ℕ) (t : Taken) → files_read written d (seen (station.calls old)) ≡ Ok read
     → comes_to d (seen (station.calls old)) (source.left oc) ≡ Ok t → IsEnd answer → files_read written d (seen (station.calls new)) ≡ Ok (read_after d read t))
-    (moments : station.tells → source.tells → (s : State) (used : ℕ) (last : List ℕ) (t : Taken) → files_read written d (seen (station.calls old)) ≡ Ok (s, used, last)
+    (moments : station.observed → source.observed → (s : State) (used : ℕ) (last : List ℕ) (t : Taken) → files_read written d (seen (station.calls old)) ≡ Ok (s, used, last)
     → comes_to d (seen (station.calls old)) (source.left oc) ≡ Ok t → EachOpens d s t (station.calls old) (station.calls new))
-    (done : source.tells → answer ≡ follow.Done → source.left nc ≡ [])
-    (refused : station.tells → source.tells → LeavesAlone answer (station.calls old) (station.calls new) (nc ≡ oc))
+    (done : source.observed → answer ≡ follow.Done → source.left nc ≡ [])
+    (refused : station.observed → source.observed → LeavesAlone answer (station.calls old) (station.calls new) (nc ≡ oc))
     (named : (fault : OpenFault) → answer ≡ follow.Open fault → IsOfFiles fault)
-    (silent : station.tells → said_by (station.calls new) ≡ said_by (station.calls old))
+    (silent : station.observed → said_by (station.calls new) ≡ said_by (station.calls old))
     (source_fault : answer ≡ follow.SourceFault → Rose (source.faults oc) (source.faults nc))
     (disk_fault : answer ≡ follow.DiskFault → Rose (station.disk_faults old) (station.disk_faults new))
     (later : station.disk_faults old ≤ station.disk_faults new) (source_later : source.faults oc ≤ source.faults nc)
     (say : station.say_faults new ≡ station.say_faults old) where
-  read : source.tells → directory_of_bytes (source.left od) ≡ Ok d
-  read tells = h.read tells d refl
+  read : source.observed → directory_of_bytes (source.left od) ≡ Ok d
+  read observed = h.read observed d refl
 
   takes : IsEnd answer → TakenAs answer source station (world od oc old) (world nd nc new)
-  takes is = λ tells told. (d, read tells, go tells told (comes_to d (seen (station.calls old)) (source.left oc)) refl)
+  takes is = λ observed told. (d, read observed, go observed told (comes_to d (seen (station.calls old)) (source.left oc)) refl)
     where
-      go : source.tells → station.tells → (r : Result Taken OpenFault) → comes_to d (seen (station.calls old)) (source.left oc) ≡ r
+      go : source.observed → station.observed → (r : Result Taken OpenFault) → comes_to d (seen (station.calls old)) (source.left oc) ≡ r
           → TakesFeed d (station.calls old) (station.calls new) (source.left oc) answer
-      go tells told (Err fault) e = absurd (none_of answer is fault (subst (Answers answer) e (answers told tells)))
-      go tells told (Ok t) e =
+      go observed told (Err fault) e = absurd (none_of answer is fault (subst (Answers answer) e (answers told observed)))
+      go observed told (Ok t) e =
           let x = opened_so d (seen (station.calls old)) (source.left oc) t e in
           record {
             state = x.0;
@@ -121,27 +121,27 @@ module _ {S P : Type 0} (source : SourceMeanings S) (station : StationMeanings P
             read = x.3;
             taken = t;
             comes = e;
-            ends = ends_of answer is t (subst (Answers answer) e (answers told tells));
-            opened = added told tells x.0 x.1 x.2 t x.3 e is;
-            records = records told tells (x.0, x.1, x.2) t x.3 e is;
+            ends = ends_of answer is t (subst (Answers answer) e (answers told observed));
+            opened = added told observed x.0 x.1 x.2 t x.3 e is;
+            records = records told observed (x.0, x.1, x.2) t x.3 e is;
           }
 
   refused_by : (fault : OpenFault) → answer ≡ follow.Open fault → RefusedBy fault source station (world od oc old) (world nd nc new)
   refused_by fault e =
-      let alone : source.tells → station.tells → LeavesAlone (follow.Open fault) (station.calls old) (station.calls new) (nc ≡ oc) =
-      λ tells told. subst (λ (a : FollowEnd). LeavesAlone a (station.calls old) (station.calls new) (nc ≡ oc)) e (refused told tells) in
+      let alone : source.observed → station.observed → LeavesAlone (follow.Open fault) (station.calls old) (station.calls new) (nc ≡ oc) =
+      λ observed told. subst (λ (a : FollowEnd). LeavesAlone a (station.calls old) (station.calls new) (nc ≡ oc)) e (refused told observed) in
       record {
-        opened = λ tells told.
+        opened = λ observed told.
             let come : Result Taken OpenFault = comes_to d (seen (station.calls old)) (source.left oc) in
-            (d, read tells, unopened d (seen (station.calls old)) (source.left oc) fault (subst (λ (a : FollowEnd). Answers a come) e (answers told tells)));
-        only_syncs = λ tells told. (alone tells told).0;
-        unread = λ tells told. (alone tells told).1;
+            (d, read observed, unopened d (seen (station.calls old)) (source.left oc) fault (subst (λ (a : FollowEnd). Answers a come) e (answers told observed)));
+        only_syncs = λ observed told. (alone observed told).0;
+        unread = λ observed told. (alone observed told).1;
       }
 
   means : (a : FollowEnd) → answer ≡ a → FollowedAs source station (status_followed a) (world od oc old) (world nd nc new)
   means follow.Done e = (
     subst (λ (a : FollowEnd). TakenAs a source station (world od oc old) (world nd nc new)) e (takes (subst IsEnd (sym e) tt)),
-    λ tells. done tells e,
+    λ observed. done observed e,
   )
   means (follow.Feed at) e = subst (λ (a : FollowEnd). TakenAs a source station (world od oc old) (world nd nc new)) e (takes (subst IsEnd (sym e) tt))
   means (follow.Diverged index own fed) e =
@@ -157,28 +157,28 @@ module _ {S P : Type 0} (source : SourceMeanings S) (station : StationMeanings P
   means follow.NoMemory e = tt
 
   -- the directory that was read is this one
-  under : (X : directories.Directory → Type 0) → source.tells → (e : directories.Directory) → directory_of_bytes (source.left od) ≡ Ok e → X e → X d
-  under X tells e is holds = subst X (same_directory e d (directory_of_bytes (source.left od)) is (read tells)) holds
+  under : (X : directories.Directory → Type 0) → source.observed → (e : directories.Directory) → directory_of_bytes (source.left od) ≡ Ok e → X e → X d
+  under X observed e is holds = subst X (same_directory e d (directory_of_bytes (source.left od)) is (read observed)) holds
 
-  each_moment : source.tells → station.tells → (e : directories.Directory) (s : State) (t : Taken) → ComesTo source station (world od oc old) e s t
+  each_moment : source.observed → station.observed → (e : directories.Directory) (s : State) (t : Taken) → ComesTo source station (world od oc old) e s t
       → EachOpens e s t (station.calls old) (station.calls new)
-  each_moment tells told e s t comes =
-      let same : d ≡ e = same_directory d e (directory_of_bytes (source.left od)) (read tells) comes.2 in
+  each_moment observed told e s t comes =
+      let same : d ≡ e = same_directory d e (directory_of_bytes (source.left od)) (read observed) comes.2 in
       let F : directories.Directory → Type 0 = λ x. files_read written x (seen (station.calls old)) ≡ Ok (s, comes.0, comes.1) in
       let C : directories.Directory → Type 0 = λ x. comes_to x (seen (station.calls old)) (source.left oc) ≡ Ok t in
       subst (λ (x : directories.Directory). EachOpens x s t (station.calls old) (station.calls new)) same
-      (moments told tells s comes.0 comes.1 t (subst F (sym same) comes.3) (subst C (sym same) comes.4))
+      (moments told observed s comes.0 comes.1 t (subst F (sym same) comes.3) (subst C (sym same) comes.4))
 
-  ended_so : source.tells → station.tells → (e : directories.Directory) (s : State) (t : Taken) → ComesTo source station (world od oc old) e s t
+  ended_so : source.observed → station.observed → (e : directories.Directory) (s : State) (t : Taken) → ComesTo source station (world od oc old) e s t
       → (Rose (source.faults oc) (source.faults nc) → ⊥) → (Rose (station.disk_faults old) (station.disk_faults new) → ⊥)
       → ((a : FollowEnd) × IsEnd a × (status_followed answer ≡ status_followed a) × EndsAs a t.end) ⊎ (status_followed answer ≡ NoMemory)
-  ended_so tells told e s t comes calm_feed calm_disk = go answer refl
+  ended_so observed told e s t comes calm_feed calm_disk = go answer refl
     where
       at : comes_to d (seen (station.calls old)) (source.left oc) ≡ Ok t
-      at = under (λ (x : directories.Directory). comes_to x (seen (station.calls old)) (source.left oc) ≡ Ok t) tells e comes.2 comes.4
+      at = under (λ (x : directories.Directory). comes_to x (seen (station.calls old)) (source.left oc) ≡ Ok t) observed e comes.2 comes.4
 
       so : (a : FollowEnd) → answer ≡ a → Answers a (Ok t)
-      so a is = subst (λ (x : FollowEnd). Answers x (Ok t)) is (subst (Answers answer) at (answers told tells))
+      so a is = subst (λ (x : FollowEnd). Answers x (Ok t)) is (subst (Answers answer) at (answers told observed))
 
       go : (a : FollowEnd) → answer ≡ a → ((a : FollowEnd) × IsEnd a × (status_followed answer ≡ status_followed a) × EndsAs a t.end) ⊎ (status_followed answer ≡ NoMemory)
       go follow.Done is = inl (follow.Done, tt, ap status_followed is, so follow.Done is)
@@ -193,7 +193,7 @@ module _ {S P : Type 0} (source : SourceMeanings S) (station : StationMeanings P
   followed = record {
     means = means answer refl;
     moments = each_moment;
-    complete = λ tells told e s t comes calm_directory. ended_so tells told e s t comes;
+    complete = λ observed told e s t comes calm_directory. ended_so observed told e s t comes;
     silent = silent;
     directory_taken = h.taken;
     source_counts = (h.cause.later, source_later);
@@ -206,10 +206,10 @@ pub unread : {S P : Type 0} (source : SourceMeanings S) (station : StationMeanin
     → FollowsFeed source station NoMemory (world od oc at) (world od oc at)
 unread source station od oc at = record {
   means = tt;
-  moments = λ tells told d s t comes. inl (inr (inl refl));
-  complete = λ tells told d s t comes calm_directory calm_feed calm_disk. inr refl;
+  moments = λ observed told d s t comes. inl (inr (inl refl));
+  complete = λ observed told d s t comes calm_directory calm_feed calm_disk. inr refl;
   silent = λ told. refl;
-  directory_taken = λ tells. ([], refl, omega arith);
+  directory_taken = λ observed. ([], refl, omega arith);
   source_counts = (omega arith, omega arith);
   station_counts = (refl, omega arith);
 }

@@ -1,6 +1,6 @@
 -- What `migrate` comes to: where a directory is refused, where a row doesn't stay, and behind the opening of the journal.
-use Rattle.std.proofs.Common.{◌≡◌, ◌≤◌, ◌⊎◌, ℕ, List, [], ◌∷◌, length, Option, None, Some, Result, Ok, Err, inl, inr, refl, sym, ap, subst, ◌∙◌, arith, OnOk}
-use Rattle.gts_app.specs.Cited.{Accum, AnswersOpening, AnswersWaiting, AreRead, Call, Capture, Change, Changed, CountsSays, Damaged, Did, DirFault, Directory, DiskFault, Diverged, Done, Dropped, EachSince, Exists, Feed, Files, Full, Ghosts as StationMeanings, GivesRoomFor, IsDiskFaultOf, IsMigrated, IsOldReadEnd, IsRefusedBy, IsSayFaultOf, LeavesFiles, LeavesJournal, LineFault, LongSession, MayGo, MigrateFault, MigratedAs, Migrates, Need, NoJournal, NoMemory, NotThis, OldDirectory, OldVersion, OnlySyncs, OpenFault, Opened, OpensEither, ReadsDirectory, ReadsFew, ReadsOldDirectory, Refused, RefusesWaiting, Rose, SayFault, SaysFor, SourceFault, SourceMeanings, Spent, State, Status, SwitchFault, Syncs, TakesOver, UnderBoth, Waiting, Waits, WasOpened, Words, directory_of_bytes, files_open_any, first_change, full_compacted, need, opens_any, refusal, restarted, said_by, sayings, seen, status_migrated, waits_on_closed, world}
+use Rattle.std.proofs.Common.{◌≡◌, ◌≤◌, ◌⊎◌, ℕ, List, [], ◌∷◌, Option, None, Some, Result, Ok, Err, inl, inr, refl, sym, ap, subst, ◌∙◌, arith, OnOk}
+use Rattle.gts_app.specs.Cited.{AnswersOpening, AnswersWaiting, AreRead, Call, Capture, Change, Changed, Closed, CountsSays, Damaged, Did, DirFault, Directory, DiskFault, Done, Dropped, EachSince, Exists, Feed, File, Files, Full, Ghosts as StationMeanings, GivesRoomFor, InputFault, IsDiskFaultOf, IsMigrated, IsOldReadEnd, IsRefusedBy, IsSayFaultOf, LeavesFiles, LeavesJournal, LineFault, LongSession, MayGo, MigrateFault, MigratedAs, Migrates, Need, NoJournal, NoMemory, OldDirectory, OldVersion, OnlySyncs, OpenFault, Opened, OpensEither, OtherDirectory, OtherFeed, OutputFault, ReadsDirectory, ReadsFew, ReadsOldDirectory, Refused, RefusesWaiting, Rose, SaysFor, SourceMeanings, State, Status, SwitchFault, Syncs, TakesOver, TicketsSpent, UnderBoth, Usage, Waiting, WasOpened, directory_of_bytes, files_open_any, first_change, full_compacted, need, opens_any, refusal, restarted, said_by, sayings, seen, status_migrated, waits_on_closed, world}
 use Rattle.gts_migrate.specs.LettingGo.{goes_on}
 use Rattle.gts_directory.specs.Directory as directories
 use Rattle.gts_record.specs.declared.fault.OpenFault.TheVariants as opening
@@ -10,36 +10,36 @@ use Rattle.gts_app.proofs.StreamLemmas.{Ended, ended}
 
 -- nothing of a source was read
 pub none_taken : {S : Type 0} (source : SourceMeanings S) (at : S) → ReadsFew source at at
-none_taken source at tells = ([], refl, omega arith)
+none_taken source at observed = ([], refl, omega arith)
 
 -- the ends that reading the old directory has
 abbrev pub OldEnded : Status → Type 0
-OldEnded status = ((e : DirFault) × (status ≡ OldDirectory e)) ⊎ ((status ≡ SourceFault) ⊎ (status ≡ NoMemory))
+OldEnded status = ((e : DirFault) × (status ≡ OldDirectory e)) ⊎ ((status ≡ InputFault) ⊎ (status ≡ NoMemory))
 
 pub old_ended : (status : Status) → IsOldReadEnd status → OldEnded status
 old_ended (OldDirectory e) h = inl (e, refl)
-old_ended SourceFault h = inr (inl refl)
+old_ended InputFault h = inr (inl refl)
 old_ended NoMemory h = inr (inr refl)
 old_ended Done h = absurd h
-old_ended Words h = absurd h
+old_ended Usage h = absurd h
 old_ended (Directory _) h = absurd h
 old_ended (Changed _ _) h = absurd h
-old_ended (Waits _ _) h = absurd h
+old_ended (Closed _ _) h = absurd h
 old_ended (Capture _) h = absurd h
 old_ended NoJournal h = absurd h
 old_ended OldVersion h = absurd h
-old_ended (NotThis _ _) h = absurd h
+old_ended (OtherDirectory _ _) h = absurd h
 old_ended (Damaged _ _) h = absurd h
 old_ended (Exists _) h = absurd h
-old_ended (Accum _) h = absurd h
+old_ended (File _) h = absurd h
 old_ended (Feed _) h = absurd h
-old_ended (Diverged _ _ _) h = absurd h
+old_ended (OtherFeed _ _ _) h = absurd h
 old_ended DiskFault h = absurd h
-old_ended SayFault h = absurd h
+old_ended OutputFault h = absurd h
 old_ended (Full _ _ _) h = absurd h
 old_ended (LineFault _) h = absurd h
 old_ended (LongSession _) h = absurd h
-old_ended (Spent _) h = absurd h
+old_ended (TicketsSpent _) h = absurd h
 
 -- ---- the directory was not read
 
@@ -49,14 +49,14 @@ new_unread {S} {P} w source station status od nd oc at h =
     let end : Ended status = ended status (h.ends status refl) in
     record {
       means = means end;
-      moments = λ tells told new old n read is. inl (inr (inl refl));
+      moments = λ observed told new old n read is. inl (inr (inl refl));
       silent = λ told refused. refl;
-      old_refused = λ tells new e read bad calm. inr (only_memory tells new read calm.0 end);
-      changed = λ tells new old c read first calm. inr (only_memory tells new read.0 calm.0 end);
-      answered = λ tells told new old e read takes bad calm quiet. inr (only_memory tells new read.0 calm.0 end);
-      refused = λ tells told new old s used found read takes is waits calm quiet. inr (only_memory tells new read.0 calm.0 end);
-      complete = λ tells told new old s used read takes is none free calm quiet sound. inr (only_memory tells new read.0 calm.0 end);
-      unread = λ tells e bad. refl;
+      old_refused = λ observed new e read bad calm. inr (only_memory observed new read calm.0 end);
+      changed = λ observed new old c read first calm. inr (only_memory observed new read.0 calm.0 end);
+      answered = λ observed told new old e read takes bad calm quiet. inr (only_memory observed new read.0 calm.0 end);
+      refused = λ observed told new old s used found read takes is waits calm quiet. inr (only_memory observed new read.0 calm.0 end);
+      complete = λ observed told new old s used read takes is none free calm quiet sound. inr (only_memory observed new read.0 calm.0 end);
+      unread = λ observed e bad. refl;
       taken = h.taken;
       old_taken = none_taken source oc;
       counts = (h.cause.later, omega arith, omega arith, omega arith);
@@ -66,16 +66,16 @@ new_unread {S} {P} w source station status od nd oc at h =
     means : Ended status → MigratedAs w source station status (world od oc at) (world nd oc at)
     means (inl e) =
         subst (λ (s : Status). MigratedAs w source station s (world od oc at) (world nd oc at)) (sym e.1)
-        ((refl, refl), λ tells. h.fault tells e.0 (ap (λ (s : Status). Err s) e.1))
+        ((refl, refl), λ observed. h.fault observed e.0 (ap (λ (s : Status). Err s) e.1))
     means (inr (inl e)) =
         subst (λ (s : Status). MigratedAs w source station s (world od oc at) (world nd oc at)) (sym e)
         (refl, inl (h.cause.failed (ap (λ (s : Status). Err s) e)))
     means (inr (inr e)) = subst (λ (s : Status). MigratedAs w source station s (world od oc at) (world nd oc at)) (sym e) (λ told. inr (inl refl))
 
-    only_memory : source.tells → (new : directories.Directory) → directory_of_bytes (source.left od) ≡ Ok new → (Rose (source.faults od) (source.faults nd) → ⊥) → Ended status → status ≡ NoMemory
-    only_memory tells new read calm (inl e) = absurd (no_fault new e.0 (directory_of_bytes (source.left od)) read (h.fault tells e.0 (ap (λ (s : Status). Err s) e.1)))
-    only_memory tells new read calm (inr (inl e)) = absurd (calm (h.cause.failed (ap (λ (s : Status). Err s) e)))
-    only_memory tells new read calm (inr (inr e)) = e
+    only_memory : source.observed → (new : directories.Directory) → directory_of_bytes (source.left od) ≡ Ok new → (Rose (source.faults od) (source.faults nd) → ⊥) → Ended status → status ≡ NoMemory
+    only_memory observed new read calm (inl e) = absurd (no_fault new e.0 (directory_of_bytes (source.left od)) read (h.fault observed e.0 (ap (λ (s : Status). Err s) e.1)))
+    only_memory observed new read calm (inr (inl e)) = absurd (calm (h.cause.failed (ap (λ (s : Status). Err s) e)))
+    only_memory observed new read calm (inr (inr e)) = e
 
 -- ---- the old directory was not read
 
@@ -88,14 +88,14 @@ old_unread {S} {P} w source station status d od nd oc nc at first h =
     let end : OldEnded status = old_ended status (h.ends status refl) in
     record {
       means = means end;
-      moments = λ tells told new old n read is. inl (inr (inl refl));
+      moments = λ observed told new old n read is. inl (inr (inl refl));
       silent = λ told refused. refl;
-      old_refused = λ tells new e read bad calm. refused tells e bad calm.1 end;
-      changed = λ tells new old c read first calm. inr (only_memory tells old read.1 calm.1 end);
-      answered = λ tells told new old e read takes bad calm quiet. inr (only_memory tells old read.1 calm.1 end);
-      refused = λ tells told new old s used found read takes is waits calm quiet. inr (only_memory tells old read.1 calm.1 end);
-      complete = λ tells told new old s used read takes is none free calm quiet sound. inr (only_memory tells old read.1 calm.1 end);
-      unread = λ tells e bad. absurd (no_fault d e (directory_of_bytes (source.left od)) (first.read tells d refl) bad);
+      old_refused = λ observed new e read bad calm. refused observed e bad calm.1 end;
+      changed = λ observed new old c read first calm. inr (only_memory observed old read.1 calm.1 end);
+      answered = λ observed told new old e read takes bad calm quiet. inr (only_memory observed old read.1 calm.1 end);
+      refused = λ observed told new old s used found read takes is waits calm quiet. inr (only_memory observed old read.1 calm.1 end);
+      complete = λ observed told new old s used read takes is none free calm quiet sound. inr (only_memory observed old read.1 calm.1 end);
+      unread = λ observed e bad. absurd (no_fault d e (directory_of_bytes (source.left od)) (first.read observed d refl) bad);
       taken = first.taken;
       old_taken = h.taken;
       counts = (first.cause.later, h.cause.later, omega arith, omega arith);
@@ -105,23 +105,23 @@ old_unread {S} {P} w source station status d od nd oc nc at first h =
     means : OldEnded status → MigratedAs w source station status (world od oc at) (world nd nc at)
     means (inl e) =
         subst (λ (s : Status). MigratedAs w source station s (world od oc at) (world nd nc at)) (sym e.1)
-        (refl, λ tells. (d, first.read tells d refl, h.fault tells e.0 (ap (λ (s : Status). Err s) e.1)))
+        (refl, λ observed. (d, first.read observed d refl, h.fault observed e.0 (ap (λ (s : Status). Err s) e.1)))
     means (inr (inl e)) =
         subst (λ (s : Status). MigratedAs w source station s (world od oc at) (world nd nc at)) (sym e)
         (refl, inr (h.cause.failed (ap (λ (s : Status). Err s) e)))
     means (inr (inr e)) = subst (λ (s : Status). MigratedAs w source station s (world od oc at) (world nd nc at)) (sym e) (λ told. inr (inl refl))
 
-    only_memory : source.tells → (old : directories.Directory) → directory_of_bytes (source.left oc) ≡ Ok old → (Rose (source.faults oc) (source.faults nc) → ⊥) → OldEnded status → status ≡ NoMemory
-    only_memory tells old read calm (inl e) = absurd (no_fault old e.0 (directory_of_bytes (source.left oc)) read (h.fault tells e.0 (ap (λ (s : Status). Err s) e.1)))
-    only_memory tells old read calm (inr (inl e)) = absurd (calm (h.cause.failed (ap (λ (s : Status). Err s) e)))
-    only_memory tells old read calm (inr (inr e)) = e
+    only_memory : source.observed → (old : directories.Directory) → directory_of_bytes (source.left oc) ≡ Ok old → (Rose (source.faults oc) (source.faults nc) → ⊥) → OldEnded status → status ≡ NoMemory
+    only_memory observed old read calm (inl e) = absurd (no_fault old e.0 (directory_of_bytes (source.left oc)) read (h.fault observed e.0 (ap (λ (s : Status). Err s) e.1)))
+    only_memory observed old read calm (inr (inl e)) = absurd (calm (h.cause.failed (ap (λ (s : Status). Err s) e)))
+    only_memory observed old read calm (inr (inr e)) = e
 
-    refused : source.tells → (e : DirFault) → directory_of_bytes (source.left oc) ≡ Err e → (Rose (source.faults oc) (source.faults nc) → ⊥) → OldEnded status
+    refused : source.observed → (e : DirFault) → directory_of_bytes (source.left oc) ≡ Err e → (Rose (source.faults oc) (source.faults nc) → ⊥) → OldEnded status
         → (status ≡ OldDirectory e) ⊎ (status ≡ NoMemory)
-    refused tells e bad calm (inl x) =
-        inl (x.1 ∙ ap (λ (y : DirFault). OldDirectory y) (one_fault x.0 e (directory_of_bytes (source.left oc)) (h.fault tells x.0 (ap (λ (s : Status). Err s) x.1)) bad))
-    refused tells e bad calm (inr (inl x)) = absurd (calm (h.cause.failed (ap (λ (s : Status). Err s) x)))
-    refused tells e bad calm (inr (inr x)) = inr x
+    refused observed e bad calm (inl x) =
+        inl (x.1 ∙ ap (λ (y : DirFault). OldDirectory y) (one_fault x.0 e (directory_of_bytes (source.left oc)) (h.fault observed x.0 (ap (λ (s : Status). Err s) x.1)) bad))
+    refused observed e bad calm (inr (inl x)) = absurd (calm (h.cause.failed (ap (λ (s : Status). Err s) x)))
+    refused observed e bad calm (inr (inr x)) = inr x
 
 -- ---- both were read
 
@@ -129,20 +129,20 @@ pub one_change : (a b : Change) (r : Option Change) → r ≡ Some a → r ≡ S
 one_change a b r one other = cc
 
 module _ {S P : Type 0} (source : SourceMeanings S) (station : StationMeanings P) (d o : directories.Directory) (od nd oc nc : S) (first : ReadsDirectory source (Ok d) od nd) (second : ReadsOldDirectory source (Ok o) oc nc) where
-  both : source.tells → (directory_of_bytes (source.left od) ≡ Ok d) × (directory_of_bytes (source.left oc) ≡ Ok o)
-  both tells = (first.read tells d refl, second.read tells o refl)
+  both : source.observed → (directory_of_bytes (source.left od) ≡ Ok d) × (directory_of_bytes (source.left oc) ≡ Ok o)
+  both observed = (first.read observed d refl, second.read observed o refl)
 
-  pub new_is : source.tells → (new : directories.Directory) → directory_of_bytes (source.left od) ≡ Ok new → d ≡ new
-  new_is tells new read = same_directory d new (directory_of_bytes (source.left od)) (both tells).0 read
+  pub new_is : source.observed → (new : directories.Directory) → directory_of_bytes (source.left od) ≡ Ok new → d ≡ new
+  new_is observed new read = same_directory d new (directory_of_bytes (source.left od)) (both observed).0 read
 
-  pub old_is : source.tells → (old : directories.Directory) → directory_of_bytes (source.left oc) ≡ Ok old → o ≡ old
-  old_is tells old read = same_directory o old (directory_of_bytes (source.left oc)) (both tells).1 read
+  pub old_is : source.observed → (old : directories.Directory) → directory_of_bytes (source.left oc) ≡ Ok old → o ≡ old
+  old_is observed old read = same_directory o old (directory_of_bytes (source.left oc)) (both observed).1 read
 
-  pub never_unread : source.tells → (e : DirFault) → directory_of_bytes (source.left od) ≡ Err e → ⊥
-  never_unread tells e bad = no_fault d e (directory_of_bytes (source.left od)) (both tells).0 bad
+  pub never_unread : source.observed → (e : DirFault) → directory_of_bytes (source.left od) ≡ Err e → ⊥
+  never_unread observed e bad = no_fault d e (directory_of_bytes (source.left od)) (both observed).0 bad
 
-  pub never_refused : source.tells → (e : DirFault) → directory_of_bytes (source.left oc) ≡ Err e → ⊥
-  never_refused tells e bad = no_fault o e (directory_of_bytes (source.left oc)) (both tells).1 bad
+  pub never_refused : source.observed → (e : DirFault) → directory_of_bytes (source.left oc) ≡ Err e → ⊥
+  never_refused observed e bad = no_fault o e (directory_of_bytes (source.left oc)) (both observed).1 bad
 
   -- a row doesn't stay
   pub row_changed : (w : Waiting) (c : Change) (at : P) → first_change d o ≡ Some c → (TakesOver d o → ⊥) → Migrates w source station (Changed c.part c.row) (world od oc at) (world nd nc at)
@@ -151,27 +151,27 @@ module _ {S P : Type 0} (source : SourceMeanings S) (station : StationMeanings P
       record { new = d; old = o; read = both; holds = is } in
       record {
         means = (refl, both_read);
-        moments = λ tells told new old n read opened. inl (inr (inl refl));
+        moments = λ observed told new old n read opened. inl (inr (inl refl));
         silent = λ told refused. refl;
-        old_refused = λ tells new e read bad calm. absurd (never_refused tells e bad);
-        changed = λ tells new old other read there calm.
+        old_refused = λ observed new e read bad calm. absurd (never_refused observed e bad);
+        changed = λ observed new old other read there calm.
             let same : first_change d o ≡ Some other =
-            ap (λ (x : directories.Directory). first_change x o) (new_is tells new read.0) ∙ ap (first_change new) (old_is tells old read.1) ∙ there in
+            ap (λ (x : directories.Directory). first_change x o) (new_is observed new read.0) ∙ ap (first_change new) (old_is observed old read.1) ∙ there in
             let one : c ≡ other = one_change c other (first_change d o) is same in
             inl (ap (λ (x : Change). Changed x.part x.row) one);
-        answered = λ tells told new old e read takes bad calm quiet. absurd (apart_from tells new old read takes);
-        refused = λ tells told new old s used found read takes opened waits calm quiet. absurd (apart_from tells new old read takes);
-        complete = λ tells told new old s used read takes opened none free calm quiet sound. absurd (apart_from tells new old read takes);
-        unread = λ tells e bad. absurd (never_unread tells e bad);
+        answered = λ observed told new old e read takes bad calm quiet. absurd (apart_from observed new old read takes);
+        refused = λ observed told new old s used found read takes opened waits calm quiet. absurd (apart_from observed new old read takes);
+        complete = λ observed told new old s used read takes opened none free calm quiet sound. absurd (apart_from observed new old read takes);
+        unread = λ observed e bad. absurd (never_unread observed e bad);
         taken = first.taken;
         old_taken = second.taken;
         counts = (first.cause.later, second.cause.later, omega arith, omega arith);
         quiet = λ refused. refl;
       }
     where
-      apart_from : source.tells → (new old : directories.Directory) → AreRead source (world od oc at) new old → TakesOver new old → ⊥
-      apart_from tells new old read takes =
-          apart (subst (λ (x : directories.Directory). TakesOver d x) (sym (old_is tells old read.1)) (subst (λ (x : directories.Directory). TakesOver x old) (sym (new_is tells new read.0)) takes))
+      apart_from : source.observed → (new old : directories.Directory) → AreRead source (world od oc at) new old → TakesOver new old → ⊥
+      apart_from observed new old read takes =
+          apart (subst (λ (x : directories.Directory). TakesOver d x) (sym (old_is observed old read.1)) (subst (λ (x : directories.Directory). TakesOver x old) (sym (new_is observed new read.0)) takes))
 
 -- ---- the journal was to be taken over
 
@@ -269,27 +269,27 @@ says_never (Err fault.SayFault) before after never rose = absurd (never tt)
 says_never (Err fault.NoMemory) before after never same = same
 
 -- What is known of an answer, over the station before and after.
-pub record Known (tells : Type 0) (w : Waiting) (d o : directories.Directory) (r : Result (Unit {0}) MigrateFault) (before after : List Call) (disk_before disk_after say_before say_after : ℕ) : Type 0 where
-  pub moments : tells → (n : Need) → WasOpened r → opens_any o (seen before) ≡ Ok n → EachSince (Did Syncs ∷ before) after (OpensEither w o d n)
-  pub migrated : tells → (s : State) (used : ℕ) → files_open_any o (seen before) ≡ Ok (s, used) → OnOk r (IsMigrated o d s before after)
-  pub full : tells → (s : State) (used : ℕ) → files_open_any o (seen before) ≡ Ok (s, used) → GivesRoomFor r d (goes_on d o (need o s))
-  pub waiting : tells → (s : State) (used : ℕ) → files_open_any o (seen before) ≡ Ok (s, used) → AnswersWaiting w r (waits_on_closed d (need o s))
-  pub answers : tells → AnswersOpening r (opens_any o (seen before))
-  pub told : tells → LeavesFiles r → OnlySyncs before after
+pub record Known (observed : Type 0) (w : Waiting) (d o : directories.Directory) (r : Result (Unit {0}) MigrateFault) (before after : List Call) (disk_before disk_after say_before say_after : ℕ) : Type 0 where
+  pub moments : observed → (n : Need) → WasOpened r → opens_any o (seen before) ≡ Ok n → EachSince (Did Syncs ∷ before) after (OpensEither w o d n)
+  pub migrated : observed → (s : State) (used : ℕ) → files_open_any o (seen before) ≡ Ok (s, used) → OnOk r (IsMigrated o d s before after)
+  pub full : observed → (s : State) (used : ℕ) → files_open_any o (seen before) ≡ Ok (s, used) → GivesRoomFor r d (goes_on d o (need o s))
+  pub waiting : observed → (s : State) (used : ℕ) → files_open_any o (seen before) ≡ Ok (s, used) → AnswersWaiting w r (waits_on_closed d (need o s))
+  pub answers : observed → AnswersOpening r (opens_any o (seen before))
+  pub told : observed → LeavesFiles r → OnlySyncs before after
   pub disk : IsDiskFaultOf r → Rose disk_before disk_after
-  pub said : tells → (s : State) (used : ℕ) → files_open_any o (seen before) ≡ Ok (s, used) → SaysFor r (sayings w d (need o s)) before after
+  pub said : observed → (s : State) (used : ℕ) → files_open_any o (seen before) ≡ Ok (s, used) → SaysFor r (sayings w d (need o s)) before after
   pub says : CountsSays r say_before say_after
   pub unsaid : w ≡ Refused → IsSayFaultOf r → ⊥
 
 module _ {S P : Type 0} (w : Waiting) (source : SourceMeanings S) (station : StationMeanings P) (d o : directories.Directory) (od nd oc nc : S) (first : ReadsDirectory source (Ok d) od nd) (second : ReadsOldDirectory source (Ok o) oc nc)
     (takes : TakesOver d o) (stays : (c : Change) → first_change d o ≡ Some c → ⊥) (old new : P) where
   abbrev Ends : Result (Unit {0}) MigrateFault → Type 0
-  Ends r = Known station.tells w d o r (station.calls old) (station.calls new) (station.disk_faults old) (station.disk_faults new) (station.say_faults old) (station.say_faults new)
+  Ends r = Known station.observed w d o r (station.calls old) (station.calls new) (station.disk_faults old) (station.disk_faults new) (station.say_faults old) (station.say_faults new)
 
-  read_both : source.tells → (directory_of_bytes (source.left od) ≡ Ok d) × (directory_of_bytes (source.left oc) ≡ Ok o)
-  read_both tells = (first.read tells d refl, second.read tells o refl)
+  read_both : source.observed → (directory_of_bytes (source.left od) ≡ Ok d) × (directory_of_bytes (source.left oc) ≡ Ok o)
+  read_both observed = (first.read observed d refl, second.read observed o refl)
 
-  refused_by : (e : OpenFault) → (station.tells → opens_any o (seen (station.calls old)) ≡ Err e) → (station.tells → OnlySyncs (station.calls old) (station.calls new))
+  refused_by : (e : OpenFault) → (station.observed → opens_any o (seen (station.calls old)) ≡ Err e) → (station.observed → OnlySyncs (station.calls old) (station.calls new))
       → IsRefusedBy source station (world od oc old) (world nd nc new) e
   refused_by e is told = (record { new = d; old = o; read = read_both; holds = (takes, is) }, told)
 
@@ -344,7 +344,7 @@ module _ {S P : Type 0} (w : Waiting) (source : SourceMeanings S) (station : Sta
   means (Err fault.NoMemory) e = λ t. e.told t tt
 
   -- a fault of the files is answered
-  answered : (r : Result (Unit {0}) MigrateFault) → Ends r → station.tells → (e : OpenFault) → opens_any o (seen (station.calls old)) ≡ Err e
+  answered : (r : Result (Unit {0}) MigrateFault) → Ends r → station.observed → (e : OpenFault) → opens_any o (seen (station.calls old)) ≡ Err e
       → (Rose (station.disk_faults old) (station.disk_faults new) → ⊥) → (status_migrated r ≡ refusal e) ⊎ (status_migrated r ≡ NoMemory)
   answered (Ok done) x t e bad quiet = absurd (two_answers (x.answers t).0 e _ (x.answers t).1 bad)
   answered (Err (fault.Open opening.NoJournal)) x t e bad quiet = inl (ap refusal (one_open opening.NoJournal e _ (x.answers t).0 bad))
@@ -360,9 +360,9 @@ module _ {S P : Type 0} (w : Waiting) (source : SourceMeanings S) (station : Sta
   answered (Err fault.NoMemory) x t e bad quiet = inr refl
 
   -- what waits on a closed circuit is told
-  waits : (r : Result (Unit {0}) MigrateFault) → Ends r → station.tells → (s : State) (used : ℕ) (found : ℕ × ℕ) → files_open_any o (seen (station.calls old)) ≡ Ok (s, used)
+  waits : (r : Result (Unit {0}) MigrateFault) → Ends r → station.observed → (s : State) (used : ℕ) (found : ℕ × ℕ) → files_open_any o (seen (station.calls old)) ≡ Ok (s, used)
       → RefusesWaiting w d (need o s) found
-      → (Rose (station.disk_faults old) (station.disk_faults new) → ⊥) → (status_migrated r ≡ Waits found.0 found.1) ⊎ (status_migrated r ≡ NoMemory)
+      → (Rose (station.disk_faults old) (station.disk_faults new) → ⊥) → (status_migrated r ≡ Closed found.0 found.1) ⊎ (status_migrated r ≡ NoMemory)
   waits (Ok done) x t s used found is there quiet = absurd (free_not d w (need o s) found there (free_ok d w (need o s) done (x.waiting t s used is)))
   waits (Err (fault.Open opening.NoJournal)) x t s used found is there quiet =
       absurd (two_answers (need o (restarted o s)) opening.NoJournal _ (need_of o (seen (station.calls old)) s used is) (x.answers t).0)
@@ -375,14 +375,14 @@ module _ {S P : Type 0} (w : Waiting) (source : SourceMeanings S) (station : Sta
   waits (Err (fault.Open opening.DiskFault)) x t s used found is there quiet = absurd (quiet (x.disk tt))
   waits (Err (fault.Open opening.NoMemory)) x t s used found is there quiet = inr refl
   waits (Err (fault.Waits circuit count)) x t s used found is there quiet =
-      inl (ap (λ (f : ℕ × ℕ). Waits f.0 f.1) (told_so d w (need o s) circuit count found there (x.waiting t s used is)))
+      inl (ap (λ (f : ℕ × ℕ). Closed f.0 f.1) (told_so d w (need o s) circuit count found there (x.waiting t s used is)))
   waits (Err (fault.Full at wanted limit)) x t s used found is there quiet = absurd (free_not d w (need o s) found there (free_full d w (need o s) at wanted limit (x.waiting t s used is)))
   waits (Err fault.DiskFault) x t s used found is there quiet = absurd (quiet (x.disk tt))
   waits (Err fault.SayFault) x t s used found is there quiet = absurd (free_not d w (need o s) found there (free_say d w (need o s) (x.waiting t s used is)))
   waits (Err fault.NoMemory) x t s used found is there quiet = inr refl
 
   -- with room and without faults it is done
-  complete : (r : Result (Unit {0}) MigrateFault) → Ends r → station.tells → (s : State) (used : ℕ) → files_open_any o (seen (station.calls old)) ≡ Ok (s, used)
+  complete : (r : Result (Unit {0}) MigrateFault) → Ends r → station.observed → (s : State) (used : ℕ) → files_open_any o (seen (station.calls old)) ≡ Ok (s, used)
       → MayGo w d (need o s) → full_compacted d (goes_on d o (need o s)) ≡ None
       → (Rose (station.disk_faults old) (station.disk_faults new) → ⊥) → (Rose (station.say_faults old) (station.say_faults new) → ⊥) → (status_migrated r ≡ Done) ⊎ (status_migrated r ≡ NoMemory)
   complete (Ok done) x t s used is none free quiet sound = inl refl
@@ -400,48 +400,48 @@ module _ {S P : Type 0} (w : Waiting) (source : SourceMeanings S) (station : Sta
   complete (Err fault.SayFault) x t s used is none free quiet sound = absurd (sound x.says.1)
   complete (Err fault.NoMemory) x t s used is none free quiet sound = inr refl
 
-  leaves : (r : Result (Unit {0}) MigrateFault) → Ends r → station.tells → (n : Need) → opens_any o (seen (station.calls old)) ≡ Ok n → LeavesJournal w station (world od oc old) (world nd nc new) d o n
+  leaves : (r : Result (Unit {0}) MigrateFault) → Ends r → station.observed → (n : Need) → opens_any o (seen (station.calls old)) ≡ Ok n → LeavesJournal w station (world od oc old) (world nd nc new) d o n
   leaves r x t n is = elim (opened_or_left r) [
     | inl was ↦ inr (x.moments t n was is)
     | inr left ↦ inl (x.told t left)
   ]
 
-  pub taken_over : (r : Result (Unit {0}) MigrateFault) (status : Status) → status ≡ status_migrated r → Ends r → (station.tells → (w ≡ Refused) ⊎ LeavesFiles r → said_by (station.calls new) ≡ said_by (station.calls old))
+  pub taken_over : (r : Result (Unit {0}) MigrateFault) (status : Status) → status ≡ status_migrated r → Ends r → (station.observed → (w ≡ Refused) ⊎ LeavesFiles r → said_by (station.calls new) ≡ said_by (station.calls old))
       → station.disk_faults old ≤ station.disk_faults new
       → Migrates w source station status (world od oc old) (world nd nc new)
   taken_over r status is x silent later =
       subst (λ (s : Status). Migrates w source station s (world od oc old) (world nd nc new)) (sym is) (record {
         means = means r x;
-        moments = λ tells t other under n read opened.
-            let same = new_is source station d o od nd oc nc first second tells other read.0 in
-            let so = old_is source station d o od nd oc nc first second tells under read.1 in
+        moments = λ observed t other under n read opened.
+            let same = new_is source station d o od nd oc nc first second observed other read.0 in
+            let so = old_is source station d o od nd oc nc first second observed under read.1 in
             subst (λ (y : directories.Directory). LeavesJournal w station (world od oc old) (world nd nc new) other y n) so
             (subst (λ (y : directories.Directory). LeavesJournal w station (world od oc old) (world nd nc new) y o n) same
             (leaves r x t n (subst (λ (y : directories.Directory). opens_any y (seen (station.calls old)) ≡ Ok n) (sym so) opened)));
         silent = λ t refused. silent t (inl refused);
-        old_refused = λ tells other e read bad calm. absurd (never_refused source station d o od nd oc nc first second tells e bad);
-        changed = λ tells other under c read there calm.
-            let same = new_is source station d o od nd oc nc first second tells other read.0 in
-            let so = old_is source station d o od nd oc nc first second tells under read.1 in
+        old_refused = λ observed other e read bad calm. absurd (never_refused source station d o od nd oc nc first second observed e bad);
+        changed = λ observed other under c read there calm.
+            let same = new_is source station d o od nd oc nc first second observed other read.0 in
+            let so = old_is source station d o od nd oc nc first second observed under read.1 in
             absurd (stays c (ap (λ (y : directories.Directory). first_change y o) same ∙ ap (first_change other) so ∙ there));
-        answered = λ tells t other under e read more bad calm quiet.
-            let so = old_is source station d o od nd oc nc first second tells under read.1 in
+        answered = λ observed t other under e read more bad calm quiet.
+            let so = old_is source station d o od nd oc nc first second observed under read.1 in
             answered r x t e (subst (λ (y : directories.Directory). opens_any y (seen (station.calls old)) ≡ Err e) (sym so) bad) quiet;
-        refused = λ tells t other under s used found read more opened there calm quiet.
-            let same = new_is source station d o od nd oc nc first second tells other read.0 in
-            let so = old_is source station d o od nd oc nc first second tells under read.1 in
+        refused = λ observed t other under s used found read more opened there calm quiet.
+            let same = new_is source station d o od nd oc nc first second observed other read.0 in
+            let so = old_is source station d o od nd oc nc first second observed under read.1 in
             waits r x t s used found (subst (λ (y : directories.Directory). files_open_any y (seen (station.calls old)) ≡ Ok (s, used)) (sym so) opened)
             (subst (λ (y : directories.Directory). RefusesWaiting w d (need y s) found) (sym so)
             (subst (λ (y : directories.Directory). RefusesWaiting w y (need under s) found) (sym same) there)) quiet;
-        complete = λ tells t other under s used read more opened none free calm quiet sound.
-            let same = new_is source station d o od nd oc nc first second tells other read.0 in
-            let so = old_is source station d o od nd oc nc first second tells under read.1 in
+        complete = λ observed t other under s used read more opened none free calm quiet sound.
+            let same = new_is source station d o od nd oc nc first second observed other read.0 in
+            let so = old_is source station d o od nd oc nc first second observed under read.1 in
             complete r x t s used (subst (λ (y : directories.Directory). files_open_any y (seen (station.calls old)) ≡ Ok (s, used)) (sym so) opened)
             (subst (λ (y : directories.Directory). MayGo w d (need y s)) (sym so)
             (subst (λ (y : directories.Directory). MayGo w y (need under s)) (sym same) none))
             (subst (λ (y : directories.Directory). full_compacted d (goes_on d y (need y s)) ≡ None) (sym so)
             (subst (λ (y : directories.Directory). full_compacted y (goes_on y under (need under s)) ≡ None) (sym same) free)) quiet sound;
-        unread = λ tells e bad. absurd (never_unread source station d o od nd oc nc first second tells e bad);
+        unread = λ observed e bad. absurd (never_unread source station d o od nd oc nc first second observed e bad);
         taken = first.taken;
         old_taken = second.taken;
         counts = (first.cause.later, second.cause.later, later, says_later r (station.say_faults old) (station.say_faults new) x.says);

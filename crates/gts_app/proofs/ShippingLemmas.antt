@@ -10,8 +10,8 @@ use Rattle.gts_app.proofs.StreamLemmas.{Ended, ended}
 pub unread : {S P : Type 0} (since : Option Since) (source : SourceMeanings S) (station : StationMeanings P) (od : S) (at : P) → ShipsFeed since source station NoMemory od at od at
 unread since source station od at = record {
   means = inl refl;
-  files = λ tells k. refl;
-  taken = λ tells. ([], refl, omega arith);
+  files = λ observed k. refl;
+  taken = λ observed. ([], refl, omega arith);
   counts = (omega arith, omega arith, omega arith);
 }
 
@@ -20,21 +20,21 @@ pub ship_unread : {S P : Type 0} (since : Option Since) (source : SourceMeanings
     → ReadsDirectory source (Err status) od nd → ShipsFeed since source station status od at nd at
 ship_unread since source station status od nd at h = record {
   means = go (ended status (h.ends status refl));
-  files = λ tells k. refl;
+  files = λ observed k. refl;
   taken = h.taken;
   counts = (h.cause.later, omega arith, omega arith);
 }
   where
     go : Ended status → ShippedAs since source station status od at nd at
-    go (inl e) = subst (λ (s : Status). ShippedAs since source station s od at nd at) (sym e.1) (refl, λ tells. h.fault tells e.0 (ap (λ (s : Status). Err s) e.1))
+    go (inl e) = subst (λ (s : Status). ShippedAs since source station s od at nd at) (sym e.1) (refl, λ observed. h.fault observed e.0 (ap (λ (s : Status). Err s) e.1))
     go (inr (inl e)) = subst (λ (s : Status). ShippedAs since source station s od at nd at) (sym e) (refl, h.cause.failed (ap (λ (s : Status). Err s) e))
     go (inr (inr e)) = subst (λ (s : Status). ShippedAs since source station s od at nd at) (sym e) (inl refl)
 
 -- there is one
 pub ship_ends : {S P : Type 0} (since : Option Since) (source : SourceMeanings S) (station : StationMeanings P) (d : directories.Directory) (result : Result (Unit {0}) ShipFault) (od nd : S) (old new : P)
     → ReadsDirectory source (Ok d) od nd
-    → (station.tells → OnOk result (ShipsOnly d (station.calls old) (station.calls new) (asked_of d (station.calls old) since)))
-    → (station.tells → IfErr result (λ e. IsShipFault e d (station.calls old) (station.calls new) (asked_of d (station.calls old) since)))
+    → (station.observed → OnOk result (ShipsOnly d (station.calls old) (station.calls new) (asked_of d (station.calls old) since)))
+    → (station.observed → IfErr result (λ e. IsShipFault e d (station.calls old) (station.calls new) (asked_of d (station.calls old) since)))
     → IfErr result IsNamed → (IsErrOf result ship.DiskFault → Rose (station.disk_faults old) (station.disk_faults new))
     → (IsErrOf result ship.SayFault → Rose (station.say_faults old) (station.say_faults new))
     → station.disk_faults old ≤ station.disk_faults new → station.say_faults old ≤ station.say_faults new
@@ -46,27 +46,27 @@ ship_ends since source station d result od nd old new h said fault named disk sa
   counts = (h.cause.later, later, more);
 }
   where
-    read : source.tells → directory_of_bytes (source.left od) ≡ Ok d
-    read tells = h.read tells d refl
+    read : source.observed → directory_of_bytes (source.left od) ≡ Ok d
+    read observed = h.read observed d refl
 
-    go : (r : Result (Unit {0}) ShipFault) → (station.tells → OnOk r (ShipsOnly d (station.calls old) (station.calls new) (asked_of d (station.calls old) since)))
-        → (station.tells → IfErr r (λ e. IsShipFault e d (station.calls old) (station.calls new) (asked_of d (station.calls old) since)))
+    go : (r : Result (Unit {0}) ShipFault) → (station.observed → OnOk r (ShipsOnly d (station.calls old) (station.calls new) (asked_of d (station.calls old) since)))
+        → (station.observed → IfErr r (λ e. IsShipFault e d (station.calls old) (station.calls new) (asked_of d (station.calls old) since)))
         → IfErr r IsNamed → (IsErrOf r ship.DiskFault → Rose (station.disk_faults old) (station.disk_faults new))
         → (IsErrOf r ship.SayFault → Rose (station.say_faults old) (station.say_faults new)) → ShippedAs since source station (status_shipped r) od old nd new
-    go (Ok x) said fault named disk say = λ tells told. (d, read tells, said told)
-    go (Err (ship.Open opening.NoJournal)) said fault named disk say = λ tells told. (d, read tells, fault told)
-    go (Err (ship.Open opening.OldVersion)) said fault named disk say = λ tells told. (d, read tells, fault told)
-    go (Err (ship.Open (opening.NotThis want found))) said fault named disk say = λ tells told. (d, read tells, fault told)
-    go (Err (ship.Open (opening.Damaged file at))) said fault named disk say = λ tells told. (d, read tells, fault told)
+    go (Ok x) said fault named disk say = λ observed told. (d, read observed, said told)
+    go (Err (ship.Open opening.NoJournal)) said fault named disk say = λ observed told. (d, read observed, fault told)
+    go (Err (ship.Open opening.OldVersion)) said fault named disk say = λ observed told. (d, read observed, fault told)
+    go (Err (ship.Open (opening.NotThis want found))) said fault named disk say = λ observed told. (d, read observed, fault told)
+    go (Err (ship.Open (opening.Damaged file at))) said fault named disk say = λ observed told. (d, read observed, fault told)
     go (Err (ship.Open opening.DiskFault)) said fault named disk say = absurd named
     go (Err (ship.Open opening.NoMemory)) said fault named disk say = absurd named
-    go (Err ship.DiskFault) said fault named disk say = (disk refl, λ tells told. (d, read tells, fault told))
-    go (Err ship.SayFault) said fault named disk say = (say refl, λ tells told. (d, read tells, fault told))
-    go (Err ship.NoMemory) said fault named disk say = inr (λ tells told. (d, read tells, fault told))
+    go (Err ship.DiskFault) said fault named disk say = (disk refl, λ observed told. (d, read observed, fault told))
+    go (Err ship.SayFault) said fault named disk say = (say refl, λ observed told. (d, read observed, fault told))
+    go (Err ship.NoMemory) said fault named disk say = inr (λ observed told. (d, read observed, fault told))
 
-    stays : (r : Result (Unit {0}) ShipFault) → (station.tells → OnOk r (ShipsOnly d (station.calls old) (station.calls new) (asked_of d (station.calls old) since)))
-        → (station.tells → IfErr r (λ e. IsShipFault e d (station.calls old) (station.calls new) (asked_of d (station.calls old) since)))
-        → station.tells → (k : ℕ) → seen (station.calls new) k ≡ seen (station.calls old) k
+    stays : (r : Result (Unit {0}) ShipFault) → (station.observed → OnOk r (ShipsOnly d (station.calls old) (station.calls new) (asked_of d (station.calls old) since)))
+        → (station.observed → IfErr r (λ e. IsShipFault e d (station.calls old) (station.calls new) (asked_of d (station.calls old) since)))
+        → station.observed → (k : ℕ) → seen (station.calls new) k ≡ seen (station.calls old) k
     stays (Ok x) said fault told k = (said told).said.files k
     stays (Err (ship.Open f)) said fault told k = (fault told).1.files k
     stays (Err ship.DiskFault) said fault told k = (fault told).said.files k

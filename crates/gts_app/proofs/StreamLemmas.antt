@@ -1,40 +1,40 @@
 -- What the commands come to that read a stream or a capture and use no journal.
 use Rattle.std.proofs.Common.{◌≡◌, ℕ, Ok, Err, inl, inr, refl, sym, ap, subst, arith, ◌⊎◌}
-use Rattle.gts_app.specs.Cited.{Accum, Capture, Changed, Damaged, DirFault, Directory, DiskFault, Diverged, Done, Exists, Feed, Full, GapsEnd, Ghosts as StationMeanings, HasGapsCause, HasReadCause, HasSayCause, IsReadEnd, KeepsFiles, LineFault, LongSession, Moment, NamedAs, Names, NamesGaps, NoJournal, NoMemory, NotThis, OldDirectory, OldVersion, PackEnd, PackedAs, Packs, PacksStream, ReadsDirectory, SameFiles, SayFault, SourceFault, SourceMeanings, Spent, Status, Waits, Words, directory_of_bytes, seen, status_named, status_packed, world}
+use Rattle.gts_app.specs.Cited.{Capture, Changed, Closed, Damaged, DirFault, Directory, DiskFault, Done, Exists, Feed, File, Full, GapsEnd, Ghosts as StationMeanings, HasGapsCause, HasReadCause, HasSayCause, InputFault, IsReadEnd, KeepsFiles, LineFault, LongSession, Moment, NamedAs, Names, NamesGaps, NoJournal, NoMemory, OldDirectory, OldVersion, OtherDirectory, OtherFeed, OutputFault, PackEnd, PackedAs, Packs, PacksStream, ReadsDirectory, SameFiles, SourceMeanings, Status, TicketsSpent, Usage, directory_of_bytes, seen, status_named, status_packed, world}
 use Rattle.gts_directory.specs.Directory as directories
 use Rattle.gts_accum.specs.declared.pack_end.PackEnd.TheVariants as packs
-use Rattle.gts_missing.specs.declared.fault.GapsEnd.TheVariants as gaps
+use Rattle.gts_gap.specs.declared.fault.GapsEnd.TheVariants as gaps
 
 -- ---- where there is no directory
 
 -- the ends that reading a directory has
 abbrev pub Ended : Status → Type 0
-Ended status = ((fault : DirFault) × (status ≡ Directory fault)) ⊎ ((status ≡ SourceFault) ⊎ (status ≡ NoMemory))
+Ended status = ((fault : DirFault) × (status ≡ Directory fault)) ⊎ ((status ≡ InputFault) ⊎ (status ≡ NoMemory))
 
 pub ended : (status : Status) → IsReadEnd status → Ended status
 ended (Directory fault) e = inl (fault, refl)
-ended SourceFault e = inr (inl refl)
+ended InputFault e = inr (inl refl)
 ended NoMemory e = inr (inr refl)
 ended Done e = absurd e
-ended Words e = absurd e
+ended Usage e = absurd e
 ended (OldDirectory _) e = absurd e
 ended (Changed _ _) e = absurd e
-ended (Waits _ _) e = absurd e
+ended (Closed _ _) e = absurd e
 ended (Capture _) e = absurd e
 ended NoJournal e = absurd e
 ended OldVersion e = absurd e
-ended (NotThis _ _) e = absurd e
+ended (OtherDirectory _ _) e = absurd e
 ended (Damaged _ _) e = absurd e
 ended (Exists _) e = absurd e
-ended (Accum _) e = absurd e
+ended (File _) e = absurd e
 ended (Feed _) e = absurd e
-ended (Diverged _ _ _) e = absurd e
+ended (OtherFeed _ _ _) e = absurd e
 ended DiskFault e = absurd e
-ended SayFault e = absurd e
+ended OutputFault e = absurd e
 ended (Full _ _ _) e = absurd e
 ended (LineFault _) e = absurd e
 ended (LongSession _) e = absurd e
-ended (Spent _) e = absurd e
+ended (TicketsSpent _) e = absurd e
 
 unread_keeps : {S P : Type 0} (source : SourceMeanings S) (station : StationMeanings P) (status : Status) (od nd oc : S) (at : P)
     → ReadsDirectory source (Err status) od nd → KeepsFiles source station (world od oc at) (world nd oc at)
@@ -42,7 +42,7 @@ unread_keeps source station status od nd oc at h = record {
   taken = h.taken;
   source_counts = (h.cause.later, omega arith);
   station_counts = (omega arith, refl);
-  files = λ tells k. refl;
+  files = λ observed k. refl;
 }
 
 pub pack_unread : {S P : Type 0} (source : SourceMeanings S) (station : StationMeanings P) (status : Status) (od nd oc : S) (at : P)
@@ -55,7 +55,7 @@ pack_unread source station status od nd oc at h = record {
     go : Ended status → PackedAs source station status (world od oc at) (world nd oc at)
     go (inl e) =
         subst (λ (s : Status). PackedAs source station s (world od oc at) (world nd oc at)) (sym e.1)
-        ((refl, refl), λ tells. h.fault tells e.0 (ap (λ (s : Status). Err s) e.1))
+        ((refl, refl), λ observed. h.fault observed e.0 (ap (λ (s : Status). Err s) e.1))
     go (inr (inl e)) =
         subst (λ (s : Status). PackedAs source station s (world od oc at) (world nd oc at)) (sym e)
         (inl ((refl, refl), h.cause.failed (ap (λ (s : Status). Err s) e)))
@@ -71,7 +71,7 @@ gaps_unread source station moment status od nd oc at h = record {
     go : Ended status → NamedAs source station moment status (world od oc at) (world nd oc at)
     go (inl e) =
         subst (λ (s : Status). NamedAs source station moment s (world od oc at) (world nd oc at)) (sym e.1)
-        ((refl, refl), λ tells. h.fault tells e.0 (ap (λ (s : Status). Err s) e.1))
+        ((refl, refl), λ observed. h.fault observed e.0 (ap (λ (s : Status). Err s) e.1))
     go (inr (inl e)) =
         subst (λ (s : Status). NamedAs source station moment s (world od oc at) (world nd oc at)) (sym e)
         (refl, inl (h.cause.failed (ap (λ (s : Status). Err s) e)))
@@ -81,8 +81,8 @@ gaps_unread source station moment status od nd oc at h = record {
 
 pub pack_ends : {S P : Type 0} (source : SourceMeanings S) (station : StationMeanings P) (d : directories.Directory) (end : PackEnd) (od nd oc nc : S) (old new : P)
     → ReadsDirectory source (Ok d) od nd
-    → (source.tells → Packs station.tells end (source.left oc) (source.left nc) (station.calls old) (station.calls new))
-    → (end ≡ packs.NoMemory → (nc ≡ oc) × (new ≡ old)) → (station.tells → SameFiles (station.calls old) (station.calls new))
+    → (source.observed → Packs station.observed end (source.left oc) (source.left nc) (station.calls old) (station.calls new))
+    → (end ≡ packs.NoMemory → (nc ≡ oc) × (new ≡ old)) → (station.observed → SameFiles (station.calls old) (station.calls new))
     → HasReadCause end (source.faults oc) (source.faults nc) → HasSayCause end (station.say_faults old) (station.say_faults new)
     → station.disk_faults new ≡ station.disk_faults old
     → PacksStream source station (status_packed end) (world od oc old) (world nd nc new)
@@ -96,10 +96,10 @@ pack_ends source station d end od nd oc nc old new h is unmade files read say di
   };
 }
   where
-    accepted : source.tells → (d : directories.Directory) × (directory_of_bytes (source.left od) ≡ Ok d)
-    accepted tells = (d, h.read tells d refl)
+    accepted : source.observed → (d : directories.Directory) × (directory_of_bytes (source.left od) ≡ Ok d)
+    accepted observed = (d, h.read observed d refl)
 
-    go : (e : PackEnd) → (source.tells → Packs station.tells e (source.left oc) (source.left nc) (station.calls old) (station.calls new))
+    go : (e : PackEnd) → (source.observed → Packs station.observed e (source.left oc) (source.left nc) (station.calls old) (station.calls new))
         → (e ≡ packs.NoMemory → (nc ≡ oc) × (new ≡ old)) → HasReadCause e (source.faults oc) (source.faults nc) → HasSayCause e (station.say_faults old) (station.say_faults new)
         → PackedAs source station (status_packed e) (world od oc old) (world nd nc new)
     go packs.Done is unmade read say = (accepted, is)
@@ -110,7 +110,7 @@ pack_ends source station d end od nd oc nc old new h is unmade files read say di
 
 pub gaps_ends : {S P : Type 0} (source : SourceMeanings S) (station : StationMeanings P) (moment : Moment) (d : directories.Directory) (end : GapsEnd) (od nd oc nc : S) (old new : P)
     → ReadsDirectory source (Ok d) od nd
-    → Names source.tells station.tells d moment end (source.left oc) old new (station.calls old) (station.calls new)
+    → Names source.observed station.observed d moment end (source.left oc) old new (station.calls old) (station.calls new)
     → HasGapsCause end (source.faults oc) (source.faults nc) (station.say_faults old) (station.say_faults new)
     → station.disk_faults new ≡ station.disk_faults old
     → NamesGaps source station moment (status_named end) (world od oc old) (world nd nc new)
@@ -124,20 +124,20 @@ gaps_ends {S} {P} source station moment d end od nd oc nc old new h is cause dis
   };
 }
   where
-    go : (e : GapsEnd) → Names source.tells station.tells d moment e (source.left oc) old new (station.calls old) (station.calls new)
+    go : (e : GapsEnd) → Names source.observed station.observed d moment e (source.left oc) old new (station.calls old) (station.calls new)
         → HasGapsCause e (source.faults oc) (source.faults nc) (station.say_faults old) (station.say_faults new)
         → NamedAs source station moment (status_named e) (world od oc old) (world nd nc new)
-    go gaps.Done is cause = record { directory = d; read = λ tells. h.read tells d refl; holds = is }
-    go (gaps.Capture at) is cause = (is.1, record { directory = d; read = λ tells. h.read tells d refl; holds = is.0 })
+    go gaps.Done is cause = record { directory = d; read = λ observed. h.read observed d refl; holds = is }
+    go (gaps.Capture at) is cause = (is.1, record { directory = d; read = λ observed. h.read observed d refl; holds = is.0 })
     go gaps.SourceFault is cause = (is, inr (cause.source_failed refl))
-    go gaps.SayFault is cause = (cause.say_failed refl, record { directory = d; read = λ tells. h.read tells d refl; holds = is })
+    go gaps.SayFault is cause = (cause.say_failed refl, record { directory = d; read = λ observed. h.read observed d refl; holds = is })
     go gaps.NoMemory is cause = is
 
-    unchanged : new ≡ old → station.tells → (k : ℕ) → seen (station.calls new) k ≡ seen (station.calls old) k
+    unchanged : new ≡ old → station.observed → (k : ℕ) → seen (station.calls new) k ≡ seen (station.calls old) k
     unchanged same told k = ap (λ (p : P). seen (station.calls p) k) same
 
-    files : (e : GapsEnd) → Names source.tells station.tells d moment e (source.left oc) old new (station.calls old) (station.calls new)
-        → station.tells → (k : ℕ) → seen (station.calls new) k ≡ seen (station.calls old) k
+    files : (e : GapsEnd) → Names source.observed station.observed d moment e (source.left oc) old new (station.calls old) (station.calls new)
+        → station.observed → (k : ℕ) → seen (station.calls new) k ≡ seen (station.calls old) k
     files gaps.Done is = λ told. (is.holds told).files
     files (gaps.Capture at) is = unchanged is.1
     files gaps.SourceFault is = unchanged is

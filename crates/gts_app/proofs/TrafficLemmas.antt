@@ -1,6 +1,6 @@
 -- What `count` comes to, from the opening, the run of the capture and the saying of the table.
 use Rattle.std.proofs.Common.{◌≡◌, ℕ, ◌≤◌, false, List, [], ◌∷◌, length, Result, Ok, Err, None, IsTrue, inl, inr, refl, sym, ap, subst, ◌∙◌, arith}
-use Rattle.gts_app.specs.Cited.{Behind, Breaks, Call, CountsEngine, CountsTraffic, Did, Done, Ends, EndsWithoutTable, Engine, Entry, Files, Ghosts as StationMeanings, HasReplayCause, IsRefusal, KeepsLaws, Need, NoMemory, Opens, OpensWith, Origin, Parts, ReplayEnd, Replays, Rose, SayFault, Says, SaysTable, ShowsTable, SourceMeanings, StandsFor, Status, Told, Traffic, World, after_all, begun, compacted_at, counted, history, is_sound, keeps_one, meanings_by, need, origin_of, seen, status_of, switch_meanings, table, table_behind, used_at, world}
+use Rattle.gts_app.specs.Cited.{Behind, Breaks, Call, CountedParts, CountsEngine, CountsTraffic, Did, Done, Ends, EndsWithoutTable, Engine, Entry, Files, Ghosts as StationMeanings, Handed, HasReplayCause, IsRefusal, KeepsLaws, Need, NoMemory, ObservedOrigin, Opens, OpensWith, Origin, OutputFault, ReplayEnd, Replays, Rose, Says, SaysTable, ShowsTable, SourceMeanings, StandsFor, Status, Traffic, World, after_all, begun, compacted_at, counted, handed, history, is_sound, keeps_one, meanings_by, need, origin_of, seen, status_of, switch_meanings, table, table_behind, used_at, world}
 use Rattle.gts_directory.specs.Directory as directories
 use Rattle.gts_replay.specs.declared.end.ReplayEnd.TheVariants as end
 use Rattle.gts_app.proofs.CompactedLemmas.{compacted_is, counts, counts_within}
@@ -22,13 +22,13 @@ as_run source w status old nd nc new other r = record {
   table = λ is. absurd (other is);
   ended = λ others. (refl, refl);
   done = λ is. absurd (other is);
-  complete = λ tells told. r.complete tells tells told;
+  complete = λ observed told. r.complete observed observed told;
   station_counts = r.station_counts;
 }
 
 -- the directory was not accepted, or the journal not opened
 pub not_counted : {S P : Type 0} (source : SourceMeanings S) (w : StationMeanings P) (status : Status) (od nd oc : S) (old new : P)
-    (result : Result (Engine P) (Status × P)) → result ≡ Err (status, new)
+    (result : Result (Engine P) (Handed P)) → result ≡ Err (handed status new)
     → Opens source w result od nd old → CountsTraffic source w status (world od oc old) (world nd oc new)
 not_counted source w status od nd oc old new result is h =
     as_run source w status (world od oc old) nd oc new (λ done. subst IsRefusal done (h.refused status new is).ends)
@@ -39,10 +39,10 @@ pub unread : {S P : Type 0} (source : SourceMeanings S) (w : StationMeanings P) 
     → CountsTraffic source w NoMemory (world od oc old) (world od oc old)
 unread source w od oc old =
     as_run source w NoMemory (world od oc old) od oc old (λ done. cc)
-    (out_of_memory Traffic source source w od od oc old old (λ told. inr (inl refl)) refl (omega arith) (λ tells. ([], refl, omega arith)) (omega arith))
+    (out_of_memory Traffic source source w od od oc old old (λ told. inr (inl refl)) refl (omega arith) (λ observed. ([], refl, omega arith)) (omega arith))
 
 -- there was none for the numbers
-pub without_numbers : {S P : Type 0} (source : SourceMeanings S) (w : StationMeanings P) (od nd oc : S) (old : P) (e : Engine P) (result : Result (Engine P) (Status × P))
+pub without_numbers : {S P : Type 0} (source : SourceMeanings S) (w : StationMeanings P) (od nd oc : S) (old : P) (e : Engine P) (result : Result (Engine P) (Handed P))
     → result ≡ Ok e → Opens source w result od nd old → (at : P) → at ≡ e.station → CountsTraffic source w NoMemory (world od oc old) (world nd oc at)
 without_numbers {S} {P} source w od nd oc old e result is h at same =
     subst (λ (p : P). CountsTraffic source w NoMemory (world od oc old) (world nd oc p)) (sym same)
@@ -53,15 +53,15 @@ without_numbers {S} {P} source w od nd oc old e result is h at same =
 
 -- what an engine that goes on and has gathered nothing leaves opens with the bytes that it counts
 abbrev pub Leaves : {P : Type 0} → StationMeanings P → Engine P → Type 0
-Leaves w e = w.tells → e.stopped ≡ None → e.gathered ≡ false → OpensWith e.directory (seen (w.calls e.station)) e.used
+Leaves w e = w.observed → e.stopped ≡ None → e.gathered ≡ false → OpensWith e.directory (seen (w.calls e.station)) e.used
 
-module _ {S P W : Type 0} (parts : W → Parts (Engine P)) (source : SourceMeanings S) (w : StationMeanings P) (e : ReplayEnd) (od nd oc nc : S) (old : P) (first last : W)
+module _ {S P W : Type 0} (parts : W → CountedParts (Engine P)) (source : SourceMeanings S) (w : StationMeanings P) (e : ReplayEnd) (od nd oc nc : S) (old : P) (first last : W)
     (opens : Opens source w (Ok (parts first).switch) od nd old)
     (counts_engine : CountsEngine (parts first))
     (laws : (n : Need) (es : List Entry) → IsTrue (keeps_one (parts first).switch.directory) → IsTrue (is_sound (parts first).switch.directory n)
     → KeepsLaws (parts first).switch.directory n es)
-    (ends : (o : Told w.tells) (h : List Entry) → StandsFor (meanings_by parts (switch_meanings w.tells w.calls)) o (length h) h first
-    → Ends (meanings_by parts (switch_meanings w.tells w.calls)) w.tells Traffic o h source.tells e first last (source.left oc) (source.left nc))
+    (ends : (o : ObservedOrigin w.observed) (h : List Entry) → StandsFor (meanings_by parts (switch_meanings w.observed w.calls)) o (length h) h first
+    → Ends (meanings_by parts (switch_meanings w.observed w.calls)) w.observed Traffic o h source.observed e first last (source.left oc) (source.left nc))
     (narrow : length (parts first).switch.directory.circuits ≤ 100)
     (cause : HasReplayCause e (w.disk_faults (parts first).switch.station) (w.disk_faults (parts last).switch.station)
     (w.say_faults (parts first).switch.station) (w.say_faults (parts last).switch.station) (source.faults oc) (source.faults nc))
@@ -72,14 +72,14 @@ module _ {S P W : Type 0} (parts : W → Parts (Engine P)) (source : SourceMeani
   abbrev behind : Engine P
   behind = (parts last).switch
 
-  abbrev origin : w.tells → Need → Told w.tells
+  abbrev origin : w.observed → Need → ObservedOrigin w.observed
   origin told n = record { told = told; origin = origin_of w.calls engine n }
 
   -- its numbers are those of the need with which the history begins
-  begins : (told : w.tells) (n : Need) → StandsFor (switch_meanings w.tells w.calls) (origin told n) 0 [] engine
-      → StandsFor (meanings_by parts (switch_meanings w.tells w.calls)) (origin told n) 0 [] first
+  begins : (told : w.observed) (n : Need) → StandsFor (switch_meanings w.observed w.calls) (origin told n) 0 [] engine
+      → StandsFor (meanings_by parts (switch_meanings w.observed w.calls)) (origin told n) 0 [] first
   begins told n s =
-      let keeps = none_gathered (switch_meanings w.tells w.calls) (origin told n) engine s.stands in
+      let keeps = none_gathered (switch_meanings w.observed w.calls) (origin told n) engine s.stands in
       record {
         start = s.start;
         stands = record {
@@ -91,10 +91,10 @@ module _ {S P W : Type 0} (parts : W → Parts (Engine P)) (source : SourceMeani
         };
       }
 
-  below : (told : w.tells) (n : Need) → StandsFor (switch_meanings w.tells w.calls) (origin told n) 0 [] engine
-      → Ends (switch_meanings w.tells w.calls) w.tells Traffic (origin told n) [] source.tells e engine behind (source.left oc) (source.left nc)
+  below : (told : w.observed) (n : Need) → StandsFor (switch_meanings w.observed w.calls) (origin told n) 0 [] engine
+      → Ends (switch_meanings w.observed w.calls) w.observed Traffic (origin told n) [] source.observed e engine behind (source.left oc) (source.left nc)
   below told n s =
-      ends_below parts (switch_meanings w.tells w.calls) w.tells Traffic (origin told n) [] source.tells first last e (source.left oc) (source.left nc)
+      ends_below parts (switch_meanings w.observed w.calls) w.observed Traffic (origin told n) [] source.observed first last e (source.left oc) (source.left nc)
       (ends (origin told n) [] (begins told n s))
 
   run : Replays Traffic source source w (status_of e) (world od oc old) (world nd nc behind.station)
@@ -112,7 +112,7 @@ module _ {S P W : Type 0} (parts : W → Parts (Engine P)) (source : SourceMeani
       table = λ is. subst (λ (s : Status). SaysTable source w s behind.station (world od oc old) (world nd nc behind.station)) (sym none.1) refl;
       ended = λ other. absurd (other (ap status_of none.0));
       done = λ is. let both : NoMemory ≡ Done = sym none.1 ∙ is in absurd (cc);
-      complete = λ tells told d n steps read opened whole room kept_directory kept_capture kept_say kept_disk. inr none.1;
+      complete = λ observed told d n steps read opened whole room kept_directory kept_capture kept_say kept_disk. inr none.1;
       station_counts = run.station_counts;
     }
     | inr other ↦
@@ -122,25 +122,25 @@ module _ {S P W : Type 0} (parts : W → Parts (Engine P)) (source : SourceMeani
 
   -- ---- it was done
 
-  module _ (is : e ≡ end.Done) (text : List ℕ) (shows : ShowsTable (switch_meanings w.tells w.calls) (parts last) text) where
+  module _ (is : e ≡ end.Done) (text : List ℕ) (shows : ShowsTable (switch_meanings w.observed w.calls) (parts last) text) where
     -- the text is the table of the need where the history ends
-    is_table : (told : w.tells) (n : Need) (s : StandsFor (switch_meanings w.tells w.calls) (origin told n) 0 [] engine)
+    is_table : (told : w.observed) (n : Need) (s : StandsFor (switch_meanings w.observed w.calls) (origin told n) 0 [] engine)
         → let o : Origin = origin_of w.calls engine n in
         text ≡ table_behind o (history o ((ends (origin told n) [] (begins told n s)).done is).steps)
     is_table told n s =
         let o : Origin = origin_of w.calls engine n in
         let x = (ends (origin told n) [] (begins told n s)).done is in
         let all : List Entry = history o x.steps in
-        let at : Told w.tells = compacted_at (switch_meanings w.tells w.calls) (origin told n) all (counts o x.steps) in
+        let at : ObservedOrigin w.observed = compacted_at (switch_meanings w.observed w.calls) (origin told n) all (counts o x.steps) in
         let T : directories.Directory → Need → Type 0 = λ d m. text ≡ table d (need d (after_all d (begun m) all)) in
         let here : T behind.directory at.origin.start = shows at all x.stands (none_unsaid all (history_done o x.steps)) (none_doubt all (history_done o x.steps)) in
-        subst (λ (t : Told w.tells). T t.origin.directory t.origin.start)
-        (compacted_is w.tells w.calls (origin told n) all (counts o x.steps) (counts_within o x.steps))
+        subst (λ (t : ObservedOrigin w.observed). T t.origin.directory t.origin.start)
+        (compacted_is w.observed w.calls (origin told n) all (counts o x.steps) (counts_within o x.steps))
         (subst (λ (d : directories.Directory). T d at.origin.start) x.stands.0.directory here)
 
-    tabled : (new : P) → (w.tells → seen (w.calls new) ≡ seen (w.calls behind.station)) → (OfTable : List ℕ → Type 0) → (w.tells → OfTable text)
+    tabled : (new : P) → (w.observed → seen (w.calls new) ≡ seen (w.calls behind.station)) → (OfTable : List ℕ → Type 0) → (w.observed → OfTable text)
         → Behind source w behind.station (world od oc old) (world nd nc new) OfTable
-    tabled new same OfTable of = λ tells given told.
+    tabled new same OfTable of = λ observed given told.
         let x = opens.opened engine refl told in
         let n : Need = x.0 in
         let o : Origin = origin_of w.calls engine n in
@@ -156,7 +156,7 @@ module _ {S P W : Type 0} (parts : W → Parts (Engine P)) (source : SourceMeani
         let now : OpensWith o.directory (seen (w.calls behind.station)) (used_at (counted o done.steps) (history o done.steps)) =
         uses source source w e od oc nc old engine behind r done.steps done.stands.0 (files told) in (
           o,
-          x.1 tells,
+          x.1 observed,
           x.2.0,
           (
             done.steps,
@@ -167,10 +167,10 @@ module _ {S P W : Type 0} (parts : W → Parts (Engine P)) (source : SourceMeani
           ),
         )
 
-    pub counted_so : (at new : P) → at ≡ behind.station → (w.tells → w.calls new ≡ Did (Says 0 text) ∷ w.calls at) → w.say_faults at ≤ w.say_faults new
+    pub counted_so : (at new : P) → at ≡ behind.station → (w.observed → w.calls new ≡ Did (Says 0 text) ∷ w.calls at) → w.say_faults at ≤ w.say_faults new
         → w.disk_faults new ≡ w.disk_faults at → CountsTraffic source w Done (world od oc old) (world nd nc new)
     counted_so at new same said later disk =
-        let now : w.tells → w.calls new ≡ Did (Says 0 text) ∷ w.calls behind.station
+        let now : w.observed → w.calls new ≡ Did (Says 0 text) ∷ w.calls behind.station
         = λ told. said told ∙ ap (λ (p : P). Did (Says 0 text) ∷ w.calls p) same in
         let table = tabled new (λ told. ap seen (now told)) (λ (t : List ℕ). w.calls new ≡ Did (Says 0 t) ∷ w.calls behind.station) now in
         record {
@@ -180,7 +180,7 @@ module _ {S P W : Type 0} (parts : W → Parts (Engine P)) (source : SourceMeani
           table = λ _. table;
           ended = λ other. absurd (other (ap status_of is));
           done = λ _. table;
-          complete = λ tells told d n steps read opened whole room kept_directory kept_capture kept_say kept_disk. inl refl;
+          complete = λ observed told d n steps read opened whole room kept_directory kept_capture kept_say kept_disk. inl refl;
           station_counts = (
             omega (arith, run.station_counts.0, later, ap (λ (p : P). w.say_faults p) same),
             omega (arith, run.station_counts.1, disk, ap (λ (p : P). w.disk_faults p) same),
@@ -192,10 +192,10 @@ module _ {S P W : Type 0} (parts : W → Parts (Engine P)) (source : SourceMeani
     as_seen calls now (inl unchanged) = ap seen unchanged
     as_seen calls now (inr broke) = ap seen broke.2
 
-    pub not_told : (at new : P) → at ≡ behind.station → (w.tells → Breaks (Says 0 text) (w.calls at) (w.calls new)) → Rose (w.say_faults at) (w.say_faults new)
-        → w.say_faults at ≤ w.say_faults new → w.disk_faults new ≡ w.disk_faults at → CountsTraffic source w SayFault (world od oc old) (world nd nc new)
+    pub not_told : (at new : P) → at ≡ behind.station → (w.observed → Breaks (Says 0 text) (w.calls at) (w.calls new)) → Rose (w.say_faults at) (w.say_faults new)
+        → w.say_faults at ≤ w.say_faults new → w.disk_faults new ≡ w.disk_faults at → CountsTraffic source w OutputFault (world od oc old) (world nd nc new)
     not_told at new same broke rose later disk =
-        let now : w.tells → Breaks (Says 0 text) (w.calls behind.station) (w.calls new)
+        let now : w.observed → Breaks (Says 0 text) (w.calls behind.station) (w.calls new)
         = λ told. subst (λ (p : P). Breaks (Says 0 text) (w.calls p) (w.calls new)) same (broke told) in
         let rose_here : Rose (w.say_faults behind.station) (w.say_faults new) = subst (λ (p : P). Rose (w.say_faults p) (w.say_faults new)) same rose in
         record {
@@ -209,7 +209,7 @@ module _ {S P W : Type 0} (parts : W → Parts (Engine P)) (source : SourceMeani
           );
           ended = λ other. absurd (other (ap status_of is));
           done = λ of. absurd (cc);
-          complete = λ tells told d n steps read opened whole room kept_directory kept_capture kept_say kept_disk.
+          complete = λ observed told d n steps read opened whole room kept_directory kept_capture kept_say kept_disk.
               absurd (kept_say (omega (arith, rose_here, run.station_counts.0)));
           station_counts = (
             omega (arith, run.station_counts.0, later, ap (λ (p : P). w.say_faults p) same),

@@ -1,7 +1,7 @@
 -- What each end of a file's run means for the command.
 use Rattle.std.proofs.Common.{◌≡◌, ◌⊎◌, ℕ, ◌<◌, ◌≤◌, false, List, [], length, Result, Ok, Err, None, IsTrue, inl, inr, refl, ap, subst, arith}
-use Rattle.gts_app.specs.Cited.{Accum, Bad, Capture, Changed, Damaged, Directory, DiskFault, Diverged, Done, Ended, Engine, Entry, Exists, Feed, Full, Ghosts as StationMeanings, HasNoCircuit, HasReplayCause, HasUnpackCause, IsEndAt, IsEndOf, IsLeft, IsReadEnd, IsRefusal, IsStatusOf, Journaled, KeepsLaws, LineFault, LongSession, Need, NoJournal, NoMemory, NotThis, OldDirectory, OldVersion, Opens, OpensWith, ReadsDirectory, ReplayEnd, Rose, SayFault, SourceFault, SourceMeanings, Spent, Status, UnpackEnd, Unpacks, Waits, Words, badplace, capture_meanings, captured, directory_of_bytes, is_sound, keeps_one, origin_of, seen, status_of, status_unpacked, switch_meanings, unpacked, world}
-use Rattle.gts_unpack.specs.Unpack.{Unpacks as Runs}
+use Rattle.gts_app.specs.Cited.{Bad, Capture, Changed, Closed, Damaged, Directory, DiskFault, Done, Ended, Engine, Entry, Exists, Feed, File, Full, Ghosts as StationMeanings, Handed, HasNoCircuit, HasReplayCause, HasUnpackCause, InputFault, IsEndAt, IsEndOf, IsLeft, IsReadEnd, IsRefusal, IsStatusOf, Journaled, KeepsLaws, LineFault, LongSession, Need, NoJournal, NoMemory, OldDirectory, OldVersion, Opens, OpensWith, OtherDirectory, OtherFeed, OutputFault, ReadsDirectory, ReplayEnd, Rose, SourceMeanings, Status, TicketsSpent, UnpackEnd, Unpacks, Usage, badplace, capture_meanings, captured, directory_of_bytes, handed, is_sound, keeps_one, origin_of, seen, status_of, status_unpacked, switch_meanings, unpacked, world}
+use Rattle.gts_accum.specs.Unpack.{Unpacks as Runs}
 use Rattle.gts_directory.specs.Directory as directories
 use Rattle.gts_event.specs.declared.fault.SwitchFault.TheVariants as switch
 use Rattle.gts_record.specs.declared.fault.OpenFault.TheVariants as opening
@@ -39,11 +39,11 @@ status-is end.NoMemory result is = ap status_unpacked is
 -- which statuses the ends of a replay have, beside that of the end itself
 abbrev IsOther : Status → ReplayEnd → Type 0
 IsOther Done r = r ≡ end.Done
-IsOther Words r = ⊥
-IsOther (Accum at) r = ⊥
+IsOther Usage r = ⊥
+IsOther (File at) r = ⊥
 IsOther (Feed at) r = ⊥
-IsOther (Diverged index own fed) r = ⊥
-IsOther SourceFault r = r ≡ end.SourceFault
+IsOther (OtherFeed index own fed) r = ⊥
+IsOther InputFault r = r ≡ end.SourceFault
 IsOther _ r = Unit {0}
 
 is-other : (r : ReplayEnd) → IsOther (status_of r) r
@@ -73,21 +73,21 @@ is-other end.NoMemory = tt
 other : (r : ReplayEnd) (s : Status) → status_of r ≡ s → IsOther s r
 other r s is = let P : Status → Type 0 = λ x. IsOther x r in subst P is (is-other r)
 
-no-words : (result : UnpackEnd) → status_unpacked result ≡ Words → ⊥
+no-words : (result : UnpackEnd) → status_unpacked result ≡ Usage → ⊥
 no-words (Bad at) is = cc
-no-words (Ended r) is = other r Words is
+no-words (Ended r) is = other r Usage is
 
-bad-is : (result : UnpackEnd) (at : ℕ) → status_unpacked result ≡ Accum at → result ≡ Bad at
+bad-is : (result : UnpackEnd) (at : ℕ) → status_unpacked result ≡ File at → result ≡ Bad at
 bad-is (Bad p) at is = let same : p ≡ at = cc in ap (λ (n : ℕ). Bad n) same
-bad-is (Ended r) at is = absurd (other r (Accum at) is)
+bad-is (Ended r) at is = absurd (other r (File at) is)
 
 done-is : (result : UnpackEnd) → status_unpacked result ≡ Done → result ≡ Ended end.Done
 done-is (Bad p) is = absurd (cc)
 done-is (Ended r) is = ap (λ (x : ReplayEnd). Ended x) (other r Done is)
 
-fault-is : (result : UnpackEnd) → status_unpacked result ≡ SourceFault → result ≡ Ended end.SourceFault
+fault-is : (result : UnpackEnd) → status_unpacked result ≡ InputFault → result ≡ Ended end.SourceFault
 fault-is (Bad p) is = absurd (cc)
-fault-is (Ended r) is = ap (λ (x : ReplayEnd). Ended x) (other r SourceFault is)
+fault-is (Ended r) is = ap (λ (x : ReplayEnd). Ended x) (other r InputFault is)
 
 -- nothing was taken of a file
 untouched : (file : List ℕ) (c : ℕ) → IsLeft file file c (captured file c)
@@ -121,14 +121,14 @@ present d bytes c here read none =
 pub unpacks : {S P : Type 0} (source : SourceMeanings S) (w : StationMeanings P) (c : ℕ) (result : UnpackEnd) (od nd oc nc : S) (old : P) (first last : Engine P)
     → Opens source w (Ok first) od nd old
     → ((n : Need) (es : List Entry) → IsTrue (keeps_one first.directory) → IsTrue (is_sound first.directory n) → KeepsLaws first.directory n es)
-    → Runs (switch_meanings w.tells w.calls) w.tells source.tells result first last (source.left oc) (source.left nc) c
-    → length first.directory.circuits ≤ 100 → c < length first.directory.circuits → (source.tells → directory_of_bytes (source.left od) ≡ Ok first.directory)
+    → Runs (switch_meanings w.observed w.calls) w.observed source.observed result first last (source.left oc) (source.left nc) c
+    → length first.directory.circuits ≤ 100 → c < length first.directory.circuits → (source.observed → directory_of_bytes (source.left od) ≡ Ok first.directory)
     → HasUnpackCause result (w.disk_faults first.station) (w.disk_faults last.station) (w.say_faults first.station) (w.say_faults last.station) (source.faults oc) (source.faults nc)
-    → (w.tells → last.stopped ≡ None → last.gathered ≡ false → OpensWith last.directory (seen (w.calls last.station)) last.used)
+    → (w.observed → last.stopped ≡ None → last.gathered ≡ false → OpensWith last.directory (seen (w.calls last.station)) last.used)
     → Unpacks source w c (status_unpacked result) (world od oc old) (world nd nc last.station)
 unpacks source w c result od nd oc nc old first last opens laws run narrow here read cause files =
-    let place : source.tells → w.tells → IsEndAt (badplace (source.left oc)) result = λ tells told.
-    let x = opens.opened first refl told in run.place (record { told = told; origin = origin_of w.calls first x.0 }) [] x.2.1 tells in
+    let place : source.observed → w.observed → IsEndAt (badplace (source.left oc)) result = λ observed told.
+    let x = opens.opened first refl told in run.place (record { told = told; origin = origin_of w.calls first x.0 }) [] x.2.1 observed in
     record {
       words = λ is. absurd (no-words result is);
       replays = λ some. record {
@@ -138,11 +138,11 @@ unpacks source w c result od nd oc nc old first last opens laws run narrow here 
         replays = replays source (capture_meanings source) w run.replayed od nd (unpacked (captured (source.left oc) c) oc) (unpacked run.left nc) old first last opens laws
             (λ told n stands. run.ends (record { told = told; origin = origin_of w.calls first n }) [] stands) narrow
             (replayed-cause run.replayed result _ _ _ _ (source.faults oc) (source.faults nc) run.is cause) files;
-        source_fault = λ e tells. run.source (fault-is result e) tells;
+        source_fault = λ e observed. run.source (fault-is result e) observed;
       };
-      accum = λ at is tells told. let P : UnpackEnd → Type 0 = λ e. IsEndAt (badplace (source.left oc)) e in subst P (bad-is result at is) (place tells told);
-      done = λ is tells told. let P : UnpackEnd → Type 0 = λ e. IsEndAt (badplace (source.left oc)) e in subst P (done-is result is) (place tells told);
-      circuit = λ tells none kept. absurd (present first.directory (source.left od) c here (read tells) none);
+      accum = λ at is observed told. let P : UnpackEnd → Type 0 = λ e. IsEndAt (badplace (source.left oc)) e in subst P (bad-is result at is) (place observed told);
+      done = λ is observed told. let P : UnpackEnd → Type 0 = λ e. IsEndAt (badplace (source.left oc)) e in subst P (done-is result is) (place observed told);
+      circuit = λ observed none kept. absurd (present first.directory (source.left od) c here (read observed) none);
       directory_taken = opens.taken;
       directory_count = opens.later;
     }
@@ -151,33 +151,33 @@ unpacks source w c result od nd oc nc old first last opens laws run narrow here 
 
 refusal-is : (s : Status) → IsRefusal s → IsStatusOf s s
 refusal-is Done ends = refl
-refusal-is Words ends = refl
+refusal-is Usage ends = refl
 refusal-is (Directory fault) ends = refl
 refusal-is (OldDirectory fault) ends = absurd ends
 refusal-is (Changed part row) ends = absurd ends
-refusal-is (Waits row count) ends = absurd ends
+refusal-is (Closed row count) ends = absurd ends
 refusal-is (Capture at) ends = absurd ends
 refusal-is NoJournal ends = refl
 refusal-is OldVersion ends = refl
-refusal-is (NotThis want found) ends = refl
+refusal-is (OtherDirectory want found) ends = refl
 refusal-is (Damaged file at) ends = refl
 refusal-is (Exists size) ends = refl
-refusal-is (Accum at) ends = refl
+refusal-is (File at) ends = refl
 refusal-is (Feed at) ends = refl
-refusal-is (Diverged index own fed) ends = refl
+refusal-is (OtherFeed index own fed) ends = refl
 refusal-is DiskFault ends = refl
-refusal-is SourceFault ends = refl
-refusal-is SayFault ends = refl
+refusal-is InputFault ends = refl
+refusal-is OutputFault ends = refl
 refusal-is (Full used need limit) ends = refl
 refusal-is (LineFault c) ends = refl
 refusal-is (LongSession c) ends = refl
-refusal-is (Spent c) ends = refl
+refusal-is (TicketsSpent c) ends = refl
 refusal-is NoMemory ends = refl
 
 -- the directory was not accepted, or the journal not opened
 pub unbegun : {S P : Type 0} (source : SourceMeanings S) (w : StationMeanings P) (c : ℕ) (status : Status) (od nd oc : S) (old new : P)
-    (result : Result (Engine P) (Status × P)) → result ≡ Err (status, new) → Opens source w result od nd old
-    → (source.tells → HasNoCircuit (source.left od) c → (Rose (source.faults od) (source.faults nd) → ⊥) → (status ≡ Words) ⊎ (status ≡ NoMemory))
+    (result : Result (Engine P) (Handed P)) → result ≡ Err (handed status new) → Opens source w result od nd old
+    → (source.observed → HasNoCircuit (source.left od) c → (Rose (source.faults od) (source.faults nd) → ⊥) → (status ≡ Usage) ⊎ (status ≡ NoMemory))
     → Unpacks source w c status (world od oc old) (world nd oc new)
 unbegun source w c status od nd oc old new result is h circuit =
     let ends : IsRefusal status = (h.refused status new is).ends in
@@ -189,7 +189,7 @@ unbegun source w c status od nd oc old new result is h circuit =
         is = refusal-is status ends;
         left = captured (source.left oc) c;
         replays = refused Journaled source (capture_meanings source) w status od nd file old new result is h;
-        source_fault = λ e tells. inr (untouched (source.left oc) c);
+        source_fault = λ e observed. inr (untouched (source.left oc) c);
       };
       accum = λ at e. absurd (subst IsRefusal e ends);
       done = λ e. absurd (subst IsRefusal e ends);
@@ -202,52 +202,52 @@ unbegun source w c status od nd oc old new result is h circuit =
 pub unaccepted : {S P : Type 0} (source : SourceMeanings S) (w : StationMeanings P) (c : ℕ) (status : Status) (od nd oc : S) (old : P)
     → ReadsDirectory source (Err status) od nd → Unpacks source w c status (world od oc old) (world nd oc old)
 unaccepted source w c status od nd oc old h =
-    unbegun source w c status od nd oc old old (Err (status, old)) refl (no_directory source w status od nd old h)
-    (λ tells none kept. go status refl (h.ends status refl) tells none kept)
+    unbegun source w c status od nd oc old old (Err (handed status old)) refl (no_directory source w status od nd old h)
+    (λ observed none kept. go status refl (h.ends status refl) observed none kept)
   where
-    go : (s : Status) → status ≡ s → IsReadEnd s → source.tells → HasNoCircuit (source.left od) c → (Rose (source.faults od) (source.faults nd) → ⊥) → (status ≡ Words) ⊎ (status ≡ NoMemory)
-    go (Directory fault) is ends tells none kept =
-        absurd (no_fault none.0 fault (directory_of_bytes (source.left od)) none.1 (h.fault tells fault (ap (λ (x : Status). Err x) is)))
-    go SourceFault is ends tells none kept = absurd (kept (h.cause.failed (ap (λ (x : Status). Err x) is)))
-    go NoMemory is ends tells none kept = inr is
-    go Done is ends tells none kept = absurd ends
-    go Words is ends tells none kept = absurd ends
-    go (OldDirectory fault) is ends tells none kept = absurd ends
-    go (Changed part row) is ends tells none kept = absurd ends
-    go (Waits row count) is ends tells none kept = absurd ends
-    go (Capture at) is ends tells none kept = absurd ends
-    go NoJournal is ends tells none kept = absurd ends
-    go OldVersion is ends tells none kept = absurd ends
-    go (NotThis want found) is ends tells none kept = absurd ends
-    go (Damaged file at) is ends tells none kept = absurd ends
-    go (Exists size) is ends tells none kept = absurd ends
-    go (Accum at) is ends tells none kept = absurd ends
-    go (Feed at) is ends tells none kept = absurd ends
-    go (Diverged index own fed) is ends tells none kept = absurd ends
-    go DiskFault is ends tells none kept = absurd ends
-    go SayFault is ends tells none kept = absurd ends
-    go (Full used need limit) is ends tells none kept = absurd ends
-    go (LineFault n) is ends tells none kept = absurd ends
-    go (LongSession n) is ends tells none kept = absurd ends
-    go (Spent n) is ends tells none kept = absurd ends
+    go : (s : Status) → status ≡ s → IsReadEnd s → source.observed → HasNoCircuit (source.left od) c → (Rose (source.faults od) (source.faults nd) → ⊥) → (status ≡ Usage) ⊎ (status ≡ NoMemory)
+    go (Directory fault) is ends observed none kept =
+        absurd (no_fault none.0 fault (directory_of_bytes (source.left od)) none.1 (h.fault observed fault (ap (λ (x : Status). Err x) is)))
+    go InputFault is ends observed none kept = absurd (kept (h.cause.failed (ap (λ (x : Status). Err x) is)))
+    go NoMemory is ends observed none kept = inr is
+    go Done is ends observed none kept = absurd ends
+    go Usage is ends observed none kept = absurd ends
+    go (OldDirectory fault) is ends observed none kept = absurd ends
+    go (Changed part row) is ends observed none kept = absurd ends
+    go (Closed row count) is ends observed none kept = absurd ends
+    go (Capture at) is ends observed none kept = absurd ends
+    go NoJournal is ends observed none kept = absurd ends
+    go OldVersion is ends observed none kept = absurd ends
+    go (OtherDirectory want found) is ends observed none kept = absurd ends
+    go (Damaged file at) is ends observed none kept = absurd ends
+    go (Exists size) is ends observed none kept = absurd ends
+    go (File at) is ends observed none kept = absurd ends
+    go (Feed at) is ends observed none kept = absurd ends
+    go (OtherFeed index own fed) is ends observed none kept = absurd ends
+    go DiskFault is ends observed none kept = absurd ends
+    go OutputFault is ends observed none kept = absurd ends
+    go (Full used need limit) is ends observed none kept = absurd ends
+    go (LineFault n) is ends observed none kept = absurd ends
+    go (LongSession n) is ends observed none kept = absurd ends
+    go (TicketsSpent n) is ends observed none kept = absurd ends
 
 -- the journal was not opened, under a directory that has the circuit
 pub unopened : {S P : Type 0} (source : SourceMeanings S) (w : StationMeanings P) (c : ℕ) (status : Status) (d : directories.Directory) (od nd oc : S) (old new : P)
-    (result : Result (Engine P) (Status × P)) → result ≡ Err (status, new) → Opens source w result od nd old
-    → c < length d.circuits → (source.tells → directory_of_bytes (source.left od) ≡ Ok d)
+    (result : Result (Engine P) (Handed P)) → result ≡ Err (handed status new) → Opens source w result od nd old
+    → c < length d.circuits → (source.observed → directory_of_bytes (source.left od) ≡ Ok d)
     → Unpacks source w c status (world od oc old) (world nd oc new)
 unopened source w c status d od nd oc old new result is h here read =
-    unbegun source w c status od nd oc old new result is h (λ tells none kept. absurd (present d (source.left od) c here (read tells) none))
+    unbegun source w c status od nd oc old new result is h (λ observed none kept. absurd (present d (source.left od) c here (read observed) none))
 
 -- the directory has no such circuit
 pub no-circuit : {S P : Type 0} (source : SourceMeanings S) (w : StationMeanings P) (c : ℕ) (d : directories.Directory) (od nd oc : S) (old : P)
-    → ReadsDirectory source (Ok d) od nd → length d.circuits ≤ c → Unpacks source w c Words (world od oc old) (world nd oc old)
+    → ReadsDirectory source (Ok d) od nd → length d.circuits ≤ c → Unpacks source w c Usage (world od oc old) (world nd oc old)
 no-circuit source w c d od nd oc old h over = record {
-  words = λ is. (refl, refl, λ tells. (d, h.read tells d refl, over));
+  words = λ is. (refl, refl, λ observed. (d, h.read observed d refl, over));
   replays = λ some. absurd (some refl);
   accum = λ at is. absurd (cc);
   done = λ is. absurd (cc);
-  circuit = λ tells none kept. inl refl;
+  circuit = λ observed none kept. inl refl;
   directory_taken = h.taken;
   directory_count = h.cause.later;
 }
@@ -265,12 +265,12 @@ unread source w c od oc old =
         is = refl;
         left = captured (source.left oc) c;
         replays = out_of_memory Journaled source (capture_meanings source) w od od file old old (λ told. inr (inl refl)) refl (omega arith)
-            (λ tells. ([], refl, omega arith)) (omega arith);
-        source_fault = λ e tells. inr (untouched (source.left oc) c);
+            (λ observed. ([], refl, omega arith)) (omega arith);
+        source_fault = λ e observed. inr (untouched (source.left oc) c);
       };
       accum = λ at is. absurd (cc);
       done = λ is. absurd (cc);
-      circuit = λ tells none kept. inr refl;
-      directory_taken = λ tells. ([], refl, omega arith);
+      circuit = λ observed none kept. inr refl;
+      directory_taken = λ observed. ([], refl, omega arith);
       directory_count = omega arith;
     }

@@ -2,11 +2,11 @@
 pub mod Below
 pub use Rattle.gts_app.specs.Reading.{IsOldReadEnd, IsReadEnd, ReadsDirectory, ReadsOldDirectory}
 pub use Rattle.gts_app.specs.Laws.{IsEntryOf, KeepsLaws, state_of}
-pub use Rattle.gts_app.specs.Commands.{IsCommand, IsSettled, OpensJournal, ReadsApart, ServesCircuits, since_at}
+pub use Rattle.gts_app.specs.Commands.{IsCommand, IsSettled, moment_at, since_at}
 pub use Rattle.gts_app.specs.Init.{Inits, IsInitEnd}
 pub use Rattle.gts_app.specs.Generate.{Generates}
 pub use Rattle.gts_app.specs.Ending.{refusal, status_compacted, status_of}
-pub use Rattle.gts_app.specs.Opening.{BeginsWith, IsOfFiles, IsOrigin, IsRefusal, Opens}
+pub use Rattle.gts_app.specs.Opening.{BeginsWith, IsOfFiles, IsOrigin, IsRefusal, Opens, handed}
 pub use Rattle.gts_app.specs.Replay.{BecauseFull, BecauseRecorded, BecauseTooLarge, BreaksAt, BreaksTogether, Does, ForNoReason, HasRoom, IsNoCapture, IsReplayEnd, Lacks, NeverFull, Replays, StopsAtCompacting, StopsAtReopening, Untouched, WithoutReason, World, counted, counted_by, history, world}
 pub use Rattle.gts_app.specs.Show.{Reported, Shows}
 pub use Rattle.gts_app.specs.Compact.{Compacts, IsCompactEnd, IsCompacted, IsTooLarge, Over, StaysThere}
@@ -20,5 +20,6 @@ pub use Rattle.gts_app.specs.Ship.{ShippedAs, ShipsFeed, status_shipped}
 pub use Rattle.gts_app.specs.Follow.{ComesTo, FollowedAs, FollowsFeed, RefusedBy, TakenAs, TakesFeed, status_followed}
 pub use Rattle.gts_app.specs.Count.{Behind, CountsEngine, CountsTraffic, EndsWithoutTable, SaysTable, table_behind}
 pub use Rattle.gts_app.specs.declared.status.Status.{Status}
-pub use Rattle.gts_app.specs.declared.status.Status.TheVariants.{Accum, Capture, Changed, Damaged, Directory, DiskFault, Diverged, Done, Exists, Feed, Full, LineFault, LongSession, NoJournal, NoMemory, NotThis, OldDirectory, OldVersion, SayFault, SourceFault, Spent, Waits, Words}
+pub use Rattle.gts_app.specs.declared.world.Handed.{Handed}
+pub use Rattle.gts_app.specs.declared.status.Status.TheVariants.{Capture, Changed, Closed, Damaged, Directory, DiskFault, Done, Exists, Feed, File, Full, InputFault, LineFault, LongSession, NoJournal, NoMemory, OldDirectory, OldVersion, OtherDirectory, OtherFeed, OutputFault, TicketsSpent, Usage}
 unfoldable pub use Below.*

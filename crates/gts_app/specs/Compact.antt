@@ -11,7 +11,7 @@ use Rattle.gts_app.specs.Opening.{IsRefusal, Refuses}
 -- where source and station tell, the directory is read under which the files open to a need, and this holds of both
 abbrev pub Over : {S P : Type 0} → SourceMeanings S → StationMeanings P → S → P → (directories.Directory → Need → Type 0) → Type 0
 Over source station directory old OfIt =
-    source.tells → station.tells → (d : directories.Directory) × (n : Need) × (directory_of_bytes (source.left directory) ≡ Ok d)
+    source.observed → station.observed → (d : directories.Directory) × (n : Need) × (directory_of_bytes (source.left directory) ≡ Ok d)
     × (opens d (seen (station.calls old)) ≡ Ok n) × OfIt d n
 
 -- At each moment since the files were synced, in the middle of a write too, a crash leaves files that open to the same; and
@@ -57,21 +57,21 @@ pub record Compacts {S P : Type 0} (source : SourceMeanings S) (station : Statio
   -- it has no other end
   pub ends : IsCompactEnd status
   -- nothing is said
-  pub silent : source.tells → station.tells → said_by (station.calls new) ≡ said_by (station.calls old)
+  pub silent : source.observed → station.observed → said_by (station.calls new) ≡ said_by (station.calls old)
   -- under a directory that is accepted, where the files open, a compacted journal has room and the devices don't fail, it is
   -- done, but for memory
-  pub complete : source.tells → station.tells → (d : directories.Directory) (n : Need)
+  pub complete : source.observed → station.observed → (d : directories.Directory) (n : Need)
       → directory_of_bytes (source.left old_directory) ≡ Ok d → opens d (seen (station.calls old)) ≡ Ok n
       → full_compacted d (begun n) ≡ None
       → (Rose (source.faults old_directory) (source.faults new_directory) → ⊥)
       → (Rose (station.disk_faults old) (station.disk_faults new) → ⊥) → (status ≡ Done) ⊎ (status ≡ NoMemory)
   -- and where the files open to a fault, that is answered
-  pub answered : source.tells → station.tells → (d : directories.Directory) (fault : OpenFault)
+  pub answered : source.observed → station.observed → (d : directories.Directory) (fault : OpenFault)
       → directory_of_bytes (source.left old_directory) ≡ Ok d → opens d (seen (station.calls old)) ≡ Err fault
       → (Rose (source.faults old_directory) (source.faults new_directory) → ⊥)
       → (Rose (station.disk_faults old) (station.disk_faults new) → ⊥) → (status ≡ refusal fault) ⊎ (status ≡ NoMemory)
   -- what is read, and that no count falls
-  pub taken : source.tells → (taken : List ℕ) × (source.left old_directory ≡ taken ++ source.left new_directory)
+  pub taken : source.observed → (taken : List ℕ) × (source.left old_directory ≡ taken ++ source.left new_directory)
       × (length taken ≤ LONGEST_DIRECTORY + 1)
   pub counts : (source.faults old_directory ≤ source.faults new_directory) × (station.disk_faults old ≤ station.disk_faults new)
       × (station.say_faults old ≤ station.say_faults new)

@@ -1,15 +1,15 @@
 -- What each end of the command `count` means for what it works on.
 use Rattle.std.specs.Prelude.{◌≡◌, ◌⊎◌, ℕ, ◌≤◌, List, ◌∷◌, Ok, None}
-use Rattle.gts_app.specs.Cited.Below.{Breaks, Counts, Did, Engine, Entry, Ghosts as StationMeanings, Holds, IsOrdered, IsWholeOf, Need, OpensWith, Origin, Parts, ReplayEnd, Rose, Says, SourceMeanings, State, Step, Traffic, directory_of_bytes, need, opens, seen, state_at, table, used_at}
+use Rattle.gts_app.specs.Cited.Below.{Breaks, CountedParts, Counts, Did, Engine, Entry, Ghosts as StationMeanings, Holds, IsOrdered, IsWholeOf, Need, OpensWith, Origin, ReplayEnd, Rose, Says, SourceMeanings, State, Step, Traffic, directory_of_bytes, need, opens, seen, state_at, table, used_at}
 use Rattle.gts_directory.specs.Directory as directories
 use Rattle.gts_replay.specs.declared.end.ReplayEnd.TheVariants as end
 use Rattle.gts_app.specs.declared.status.Status.{Status}
-use Rattle.gts_app.specs.declared.status.Status.TheVariants.{Done, SayFault, NoMemory}
+use Rattle.gts_app.specs.declared.status.Status.TheVariants.{Done, OutputFault, NoMemory}
 use Rattle.gts_app.specs.Ending.{status_of}
 use Rattle.gts_app.specs.Replay.{World, world, Replays, Under, Does, history, counted, HasRoom}
 
 -- whatever state the core of an engine holds, the numbers beside it are those of its need
-abbrev pub CountsEngine : {P : Type 0} → Parts (Engine P) → Type 0
+abbrev pub CountsEngine : {P : Type 0} → CountedParts (Engine P) → Type 0
 CountsEngine parts =
     (s : State) (h : List Entry) → Holds parts.switch.directory parts.switch.core s → IsOrdered parts.switch.directory s
     → Counts parts.switch.directory s h parts.counting
@@ -35,7 +35,7 @@ Behind source station before old new OfTable =
 abbrev pub SaysTable : {S P : Type 0} → SourceMeanings S → StationMeanings P → Status → P → (old new : World S S P) → Type 0
 SaysTable source station Done before old new =
     Behind source station before old new (λ table. station.calls new.station ≡ Did (Says 0 table) ∷ station.calls before)
-SaysTable source station SayFault before old new =
+SaysTable source station OutputFault before old new =
     Rose (station.say_faults before) (station.say_faults new.station)
     × Behind source station before old new (λ table. Breaks (Says 0 table) (station.calls before) (station.calls new.station))
 SaysTable source station NoMemory before old new = new.station ≡ before
@@ -55,7 +55,7 @@ pub record CountsTraffic {S P : Type 0} (source : SourceMeanings S) (station : S
   pub done : status ≡ Done → SaysTable source station Done before old new
   -- a capture under a directory that is accepted, and a journal that opens under it and has room, over devices that don't fail,
   -- is done, but for memory
-  pub complete : source.tells → station.tells
+  pub complete : source.observed → station.observed
       → (d : directories.Directory) (n : Need) (steps : List Step)
       → directory_of_bytes (source.left old.directory) ≡ Ok d → opens d (seen (station.calls old.station)) ≡ Ok n
       → IsWholeOf Traffic d (source.left old.capture) steps → HasRoom d (seen (station.calls old.station)) steps

@@ -6,7 +6,7 @@ use Rattle.gts_directory.specs.Directory as directories
 use Rattle.gts_record.specs.declared.fault.OpenFault.TheVariants as opening
 use Rattle.gts_standby.specs.declared.end.FollowEnd.TheVariants as follow
 use Rattle.gts_app.specs.declared.status.Status.{Status}
-use Rattle.gts_app.specs.declared.status.Status.TheVariants.{Done, Directory, NoJournal, OldVersion, NotThis, Damaged, Feed, Diverged, DiskFault, SourceFault, NoMemory}
+use Rattle.gts_app.specs.declared.status.Status.TheVariants.{Done, Directory, NoJournal, OldVersion, OtherDirectory, Damaged, Feed, OtherFeed, DiskFault, InputFault, NoMemory}
 use Rattle.gts_app.specs.Ending.{refusal}
 use Rattle.gts_app.specs.Replay.{World}
 use Rattle.gts_app.specs.Pack.{IsUnbegun, IsTurnedAway}
@@ -16,15 +16,15 @@ abbrev pub status_followed : FollowEnd → Status
 status_followed follow.Done = Done
 status_followed (follow.Open fault) = refusal fault
 status_followed (follow.Feed at) = Feed at
-status_followed (follow.Diverged index own fed) = Diverged index own fed
-status_followed follow.SourceFault = SourceFault
+status_followed (follow.Diverged index own fed) = OtherFeed index own fed
+status_followed follow.SourceFault = InputFault
 status_followed follow.DiskFault = DiskFault
 status_followed follow.NoMemory = NoMemory
 
 -- where source and station tell, a directory is read, and this holds of it
 abbrev pub Under : {S P : Type 0} → SourceMeanings S → StationMeanings P → World S S P → (directories.Directory → Type 0) → Type 0
 Under source station old OfIt =
-    source.tells → station.tells → (d : directories.Directory) × (directory_of_bytes (source.left old.directory) ≡ Ok d) × OfIt d
+    source.observed → station.observed → (d : directories.Directory) × (directory_of_bytes (source.left old.directory) ≡ Ok d) × OfIt d
 
 -- The files opened, and the bytes of the feed came to this beside them, with an end as it is answered. The journal has all that
 -- they add, behind what it had or behind the checkpoint with which it begins anew, and nothing else.
@@ -48,21 +48,21 @@ TakenAs answer source station old new =
 pub record RefusedBy {S P : Type 0} (fault : OpenFault) (source : SourceMeanings S) (station : StationMeanings P)
     (old new : World S S P) : Type 0 where
   pub opened : Under source station old (λ d. opens d (seen (station.calls old.station)) ≡ Err fault)
-  pub only_syncs : source.tells → station.tells → OnlySyncs (station.calls old.station) (station.calls new.station)
-  pub unread : source.tells → station.tells → new.capture ≡ old.capture
+  pub only_syncs : source.observed → station.observed → OnlySyncs (station.calls old.station) (station.calls new.station)
+  pub unread : source.observed → station.observed → new.capture ≡ old.capture
 
 -- For each status, what it means: the feed was taken to its end; or up to where it is bad, or of another history; or why it was not.
 abbrev pub FollowedAs : {S P : Type 0} → SourceMeanings S → StationMeanings P → Status → (old new : World S S P) → Type 0
-FollowedAs source station Done old new = TakenAs follow.Done source station old new × (source.tells → source.left new.capture ≡ [])
+FollowedAs source station Done old new = TakenAs follow.Done source station old new × (source.observed → source.left new.capture ≡ [])
 FollowedAs source station (Feed at) old new = TakenAs (follow.Feed at) source station old new
-FollowedAs source station (Diverged index own fed) old new = TakenAs (follow.Diverged index own fed) source station old new
+FollowedAs source station (OtherFeed index own fed) old new = TakenAs (follow.Diverged index own fed) source station old new
 FollowedAs source station (Directory fault) old new = IsTurnedAway source fault old new
 FollowedAs source station NoJournal old new = RefusedBy opening.NoJournal source station old new
 FollowedAs source station OldVersion old new = RefusedBy opening.OldVersion source station old new
-FollowedAs source station (NotThis want found) old new = RefusedBy (opening.NotThis want found) source station old new
+FollowedAs source station (OtherDirectory want found) old new = RefusedBy (opening.NotThis want found) source station old new
 FollowedAs source station (Damaged file at) old new = RefusedBy (opening.Damaged file at) source station old new
 FollowedAs source station DiskFault old new = Rose (station.disk_faults old.station) (station.disk_faults new.station)
-FollowedAs source station SourceFault old new =
+FollowedAs source station InputFault old new =
     (IsUnbegun old new × Rose (source.faults old.directory) (source.faults new.directory))
     ⊎ Rose (source.faults old.capture) (source.faults new.capture)
 FollowedAs source station NoMemory old new = Unit {0}
@@ -80,20 +80,20 @@ pub record FollowsFeed {S P : Type 0} (source : SourceMeanings S) (station : Sta
     (old new : World S S P) : Type 0 where
   pub means : FollowedAs source station status old new
   -- a crash at any moment leaves what the journal had, and a first part of what the feed adds
-  pub moments : source.tells → station.tells → (d : directories.Directory) (s : State) (taken : Taken)
+  pub moments : source.observed → station.observed → (d : directories.Directory) (s : State) (taken : Taken)
       → ComesTo source station old d s taken
       → EachOpens d s taken (station.calls old.station) (station.calls new.station)
   -- over devices that don't fail, a feed ends as it comes to, but for memory
-  pub complete : source.tells → station.tells → (d : directories.Directory) (s : State) (taken : Taken)
+  pub complete : source.observed → station.observed → (d : directories.Directory) (s : State) (taken : Taken)
       → ComesTo source station old d s taken
       → (Rose (source.faults old.directory) (source.faults new.directory) → ⊥)
       → (Rose (source.faults old.capture) (source.faults new.capture) → ⊥)
       → (Rose (station.disk_faults old.station) (station.disk_faults new.station) → ⊥)
       → ((answer : FollowEnd) × IsEnd answer × (status ≡ status_followed answer) × EndsAs answer taken.end) ⊎ (status ≡ NoMemory)
   -- nothing is said
-  pub silent : station.tells → said_by (station.calls new.station) ≡ said_by (station.calls old.station)
+  pub silent : station.observed → said_by (station.calls new.station) ≡ said_by (station.calls old.station)
   -- what is read of the directory, and that no count falls
-  pub directory_taken : source.tells → (taken : List ℕ) × (source.left old.directory ≡ taken ++ source.left new.directory)
+  pub directory_taken : source.observed → (taken : List ℕ) × (source.left old.directory ≡ taken ++ source.left new.directory)
       × (length taken ≤ LONGEST_DIRECTORY + 1)
   pub source_counts : (source.faults old.directory ≤ source.faults new.directory)
       × (source.faults old.capture ≤ source.faults new.capture)

@@ -8,7 +8,7 @@ use Rattle.gts_event.specs.declared.fault.SwitchFault.TheVariants as switch
 use Rattle.gts_record.specs.declared.fault.OpenFault.TheVariants as opening
 use Rattle.gts_migrate.specs.declared.fault.MigrateFault.TheVariants as fault
 use Rattle.gts_app.specs.declared.status.Status.{Status}
-use Rattle.gts_app.specs.declared.status.Status.TheVariants.{Done, Directory, OldDirectory, Changed, Waits, NoJournal, OldVersion, NotThis, Damaged, DiskFault, SourceFault, SayFault, Full, NoMemory}
+use Rattle.gts_app.specs.declared.status.Status.TheVariants.{Done, Directory, OldDirectory, Changed, Closed, NoJournal, OldVersion, OtherDirectory, Damaged, DiskFault, InputFault, OutputFault, Full, NoMemory}
 use Rattle.gts_app.specs.Ending.{refusal}
 use Rattle.gts_app.specs.Pack.{IsTurnedAway}
 use Rattle.gts_app.specs.Replay.{World}
@@ -17,10 +17,10 @@ use Rattle.gts_app.specs.Replay.{World}
 abbrev pub status_migrated : Result (Unit {0}) MigrateFault → Status
 status_migrated (Ok done) = Done
 status_migrated (Err (fault.Open e)) = refusal e
-status_migrated (Err (fault.Waits circuit count)) = Waits circuit count
+status_migrated (Err (fault.Waits circuit count)) = Closed circuit count
 status_migrated (Err (fault.Full used need limit)) = Full used need limit
 status_migrated (Err fault.DiskFault) = DiskFault
-status_migrated (Err fault.SayFault) = SayFault
+status_migrated (Err fault.SayFault) = OutputFault
 status_migrated (Err fault.NoMemory) = NoMemory
 
 -- the bytes of the two sources are these directories, the new one and the old one
@@ -32,31 +32,31 @@ pub record UnderBoth {S P : Type 0} (source : SourceMeanings S) (w : World S S P
     (OfThem : directories.Directory → directories.Directory → Type 0) : Type 0 where
   pub new : directories.Directory
   pub old : directories.Directory
-  pub read : source.tells → AreRead source w new old
+  pub read : source.observed → AreRead source w new old
   pub holds : OfThem new old
 
--- The new directory takes over from the old one, and where the station tells, the files open to a state under that, of which
+-- The new directory takes over from the old one, and where the station is observed, the files open to a state under that, of which
 -- this holds.
 pub record OpensUnder {S P : Type 0} (station : StationMeanings P) (w : World S S P) (new old : directories.Directory)
     (OfIt : State → Type 0) : Type 0 where
   pub takes : TakesOver new old
-  pub opened : station.tells → (s : State) × (used : ℕ) × (files_open_any old (seen (station.calls w.station)) ≡ Ok (s, used)) × OfIt s
+  pub opened : station.observed → (s : State) × (used : ℕ) × (files_open_any old (seen (station.calls w.station)) ≡ Ok (s, used)) × OfIt s
 
 -- the files are left alone, but for a sync that was tried
 abbrev pub IsLeftAlone : {S P : Type 0} → StationMeanings P → World S S P → World S S P → Type 0
-IsLeftAlone station w v = station.tells → OnlySyncs (station.calls w.station) (station.calls v.station)
+IsLeftAlone station w v = station.observed → OnlySyncs (station.calls w.station) (station.calls v.station)
 
 -- Under the old directory, from which the new one takes over, the files open to this fault, and are left alone.
 abbrev pub IsRefusedBy : {S P : Type 0} → SourceMeanings S → StationMeanings P → World S S P → World S S P → OpenFault → Type 0
 IsRefusedBy source station w v e =
-    UnderBoth source w (λ new old. TakesOver new old × (station.tells → opens_any old (seen (station.calls w.station)) ≡ Err e))
+    UnderBoth source w (λ new old. TakesOver new old × (station.observed → opens_any old (seen (station.calls w.station)) ≡ Err e))
     × IsLeftAlone station w v
 
 -- the station was not touched, and the old directory's bytes have this fault
 abbrev pub IsOldRefused : {S P : Type 0} → SourceMeanings S → World S S P → World S S P → DirFault → Type 0
 IsOldRefused source w v e =
     (v.station ≡ w.station)
-    × (source.tells → (d : directories.Directory) × (directory_of_bytes (source.left w.directory) ≡ Ok d)
+    × (source.observed → (d : directories.Directory) × (directory_of_bytes (source.left w.directory) ≡ Ok d)
     × (directory_of_bytes (source.left w.capture) ≡ Err e))
 
 -- something waits on a closed circuit, and is refused
@@ -80,10 +80,10 @@ MigratedAs waiting source station (OldDirectory e) w v = IsOldRefused source w v
 MigratedAs waiting source station (Changed part row) w v =
     (v.station ≡ w.station) × UnderBoth source w (λ new old. first_change new old ≡ Some (record { part = part; row = row }))
 MigratedAs waiting source station NoJournal w v = IsRefusedBy source station w v opening.NoJournal
-MigratedAs waiting source station OldVersion w v = station.tells → ⊥
-MigratedAs waiting source station (NotThis want found) w v = IsRefusedBy source station w v (opening.NotThis want found)
+MigratedAs waiting source station OldVersion w v = station.observed → ⊥
+MigratedAs waiting source station (OtherDirectory want found) w v = IsRefusedBy source station w v (opening.NotThis want found)
 MigratedAs waiting source station (Damaged file at) w v = IsRefusedBy source station w v (opening.Damaged file at)
-MigratedAs waiting source station (Waits row count) w v =
+MigratedAs waiting source station (Closed row count) w v =
     UnderBoth source w (λ new old. OpensUnder station w new old
     (λ s. RefusesWaiting waiting new (need old s) (row, count)))
     × IsLeftAlone station w v
@@ -92,8 +92,8 @@ MigratedAs waiting source station (Full used wanted limit) w v =
     (λ s. IsFullCompacted new (goes_on new old (need old s)) (switch.Full used wanted limit)))
     × IsLeftAlone station w v
 MigratedAs waiting source station DiskFault w v = Rose (station.disk_faults w.station) (station.disk_faults v.station)
-MigratedAs waiting source station SayFault w v = (waiting ≡ Dropped) × Rose (station.say_faults w.station) (station.say_faults v.station)
-MigratedAs waiting source station SourceFault w v =
+MigratedAs waiting source station OutputFault w v = (waiting ≡ Dropped) × Rose (station.say_faults w.station) (station.say_faults v.station)
+MigratedAs waiting source station InputFault w v =
     (v.station ≡ w.station)
     × (Rose (source.faults w.directory) (source.faults v.directory) ⊎ Rose (source.faults w.capture) (source.faults v.capture))
 MigratedAs waiting source station NoMemory w v = IsLeftAlone station w v
@@ -115,39 +115,39 @@ IsCalm source w v =
 -- so much of a source was read at most
 abbrev pub ReadsFew : {S : Type 0} → SourceMeanings S → S → S → Type 0
 ReadsFew source old new =
-    source.tells → (taken : List ℕ) × (source.left old ≡ taken ++ source.left new) × (length taken ≤ LONGEST_DIRECTORY + 1)
+    source.observed → (taken : List ℕ) × (source.left old ≡ taken ++ source.left new) × (length taken ≤ LONGEST_DIRECTORY + 1)
 
 -- What its end means, and what holds of every run.
 pub record Migrates {S P : Type 0} (waiting : Waiting) (source : SourceMeanings S) (station : StationMeanings P) (status : Status)
     (w v : World S S P) : Type 0 where
   pub means : MigratedAs waiting source station status w v
   -- a crash at any moment since the sync of the opening leaves a journal under one of the directories
-  pub moments : source.tells → station.tells → (new old : directories.Directory) (n : Need) → AreRead source w new old
+  pub moments : source.observed → station.observed → (new old : directories.Directory) (n : Need) → AreRead source w new old
       → opens_any old (seen (station.calls w.station)) ≡ Ok n → LeavesJournal waiting station w v new old n
   -- nothing is said where what waits is refused
-  pub silent : station.tells → waiting ≡ Refused → said_by (station.calls v.station) ≡ said_by (station.calls w.station)
+  pub silent : station.observed → waiting ≡ Refused → said_by (station.calls v.station) ≡ said_by (station.calls w.station)
   -- an old directory that is refused, a row that doesn't stay, and a fault of the files are answered, but for memory and devices
-  pub old_refused : source.tells → (new : directories.Directory) (e : DirFault) → directory_of_bytes (source.left w.directory) ≡ Ok new
+  pub old_refused : source.observed → (new : directories.Directory) (e : DirFault) → directory_of_bytes (source.left w.directory) ≡ Ok new
       → directory_of_bytes (source.left w.capture) ≡ Err e → IsCalm source w v → (status ≡ OldDirectory e) ⊎ (status ≡ NoMemory)
-  pub changed : source.tells → (new old : directories.Directory) (c : Change) → AreRead source w new old → first_change new old ≡ Some c
+  pub changed : source.observed → (new old : directories.Directory) (c : Change) → AreRead source w new old → first_change new old ≡ Some c
       → IsCalm source w v → (status ≡ Changed c.part c.row) ⊎ (status ≡ NoMemory)
-  pub answered : source.tells → station.tells → (new old : directories.Directory) (e : OpenFault) → AreRead source w new old
+  pub answered : source.observed → station.observed → (new old : directories.Directory) (e : OpenFault) → AreRead source w new old
       → TakesOver new old → opens_any old (seen (station.calls w.station)) ≡ Err e → IsCalm source w v
       → (Rose (station.disk_faults w.station) (station.disk_faults v.station) → ⊥) → (status ≡ refusal e) ⊎ (status ≡ NoMemory)
   -- what waits on a circuit that is closed in the new directory is told, unless it is to be dropped
-  pub refused : source.tells → station.tells → (new old : directories.Directory) (s : State) (used : ℕ) (found : ℕ × ℕ)
+  pub refused : source.observed → station.observed → (new old : directories.Directory) (s : State) (used : ℕ) (found : ℕ × ℕ)
       → AreRead source w new old → TakesOver new old → files_open_any old (seen (station.calls w.station)) ≡ Ok (s, used)
       → RefusesWaiting waiting new (need old s) found → IsCalm source w v
-      → (Rose (station.disk_faults w.station) (station.disk_faults v.station) → ⊥) → (status ≡ Waits found.0 found.1) ⊎ (status ≡ NoMemory)
+      → (Rose (station.disk_faults w.station) (station.disk_faults v.station) → ⊥) → (status ≡ Closed found.0 found.1) ⊎ (status ≡ NoMemory)
   -- where the files open, and nothing is refused that waits, and there is room, and no device fails, it is done, but for memory
-  pub complete : source.tells → station.tells → (new old : directories.Directory) (s : State) (used : ℕ) → AreRead source w new old
+  pub complete : source.observed → station.observed → (new old : directories.Directory) (s : State) (used : ℕ) → AreRead source w new old
       → TakesOver new old → files_open_any old (seen (station.calls w.station)) ≡ Ok (s, used)
       → MayGo waiting new (need old s)
       → full_compacted new (goes_on new old (need old s)) ≡ None → IsCalm source w v
       → (Rose (station.disk_faults w.station) (station.disk_faults v.station) → ⊥)
       → (Rose (station.say_faults w.station) (station.say_faults v.station) → ⊥) → (status ≡ Done) ⊎ (status ≡ NoMemory)
   -- where the directory can't be read, the old one isn't
-  pub unread : source.tells → (e : DirFault) → directory_of_bytes (source.left w.directory) ≡ Err e → v.capture ≡ w.capture
+  pub unread : source.observed → (e : DirFault) → directory_of_bytes (source.left w.directory) ≡ Err e → v.capture ≡ w.capture
   -- what is read, and that no count falls
   pub taken : ReadsFew source w.directory v.directory
   pub old_taken : ReadsFew source w.capture v.capture

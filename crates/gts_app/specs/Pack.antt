@@ -4,19 +4,19 @@ use Rattle.gts_app.specs.Cited.Below.{DirFault, Ghosts as StationMeanings, IsBad
 use Rattle.gts_directory.specs.Directory as directories
 use Rattle.gts_accum.specs.declared.pack_end.PackEnd.TheVariants as end
 use Rattle.gts_app.specs.declared.status.Status.{Status}
-use Rattle.gts_app.specs.declared.status.Status.TheVariants.{Done, Directory, Accum, SourceFault, SayFault, NoMemory}
+use Rattle.gts_app.specs.declared.status.Status.TheVariants.{Done, Directory, File, InputFault, OutputFault, NoMemory}
 use Rattle.gts_app.specs.Replay.{World}
 
 abbrev pub status_packed : PackEnd → Status
 status_packed end.Done = Done
-status_packed (end.Bad at) = Accum at
-status_packed end.SourceFault = SourceFault
-status_packed end.SayFault = SayFault
+status_packed (end.Bad at) = File at
+status_packed end.SourceFault = InputFault
+status_packed end.SayFault = OutputFault
 status_packed end.NoMemory = NoMemory
 
--- where the source tells, the directory's bytes are a directory
+-- where the source is observed, the directory's bytes are a directory
 abbrev pub IsAccepted : {S P : Type 0} → SourceMeanings S → World S S P → Type 0
-IsAccepted source old = source.tells → (d : directories.Directory) × (directory_of_bytes (source.left old.directory) ≡ Ok d)
+IsAccepted source old = source.observed → (d : directories.Directory) × (directory_of_bytes (source.left old.directory) ≡ Ok d)
 
 -- nothing was read of what stands beside the directory, and nothing was done with the station
 abbrev pub IsUnbegun : {S P : Type 0} → World S S P → World S S P → Type 0
@@ -24,25 +24,25 @@ IsUnbegun old new = (new.capture ≡ old.capture) × (new.station ≡ old.statio
 
 -- the directory has this fault, and nothing else was read, and nothing said
 abbrev pub IsTurnedAway : {S P : Type 0} → SourceMeanings S → DirFault → World S S P → World S S P → Type 0
-IsTurnedAway source fault old new = IsUnbegun old new × (source.tells → directory_of_bytes (source.left old.directory) ≡ Err fault)
+IsTurnedAway source fault old new = IsUnbegun old new × (source.observed → directory_of_bytes (source.left old.directory) ≡ Err fault)
 
 -- For each status, what it means: the file of the stream's messages was said on channel 0, with its end where the stream isn't bad.
 abbrev pub PackedAs : {S P : Type 0} → SourceMeanings S → StationMeanings P → Status → World S S P → World S S P → Type 0
 PackedAs source station Done old new =
     IsAccepted source old
-    × (source.tells → (bad_in_stream (source.left old.capture) ≡ None)
-    × (station.tells → SaysOnly (station.calls old.station) (station.calls new.station) (on 0 (packed (source.left old.capture)))))
-PackedAs source station (Accum at) old new =
+    × (source.observed → (bad_in_stream (source.left old.capture) ≡ None)
+    × (station.observed → SaysOnly (station.calls old.station) (station.calls new.station) (on 0 (packed (source.left old.capture)))))
+PackedAs source station (File at) old new =
     IsAccepted source old
-    × (source.tells → IsBad station.tells (station.calls old.station) (station.calls new.station) (source.left old.capture) at)
-PackedAs source station SayFault old new =
+    × (source.observed → IsBad station.observed (station.calls old.station) (station.calls new.station) (source.left old.capture) at)
+PackedAs source station OutputFault old new =
     Rose (station.say_faults old.station) (station.say_faults new.station)
-    × (source.tells → station.tells
+    × (source.observed → station.observed
     → SaysFront (station.calls old.station) (station.calls new.station) (on 0 (packed (source.left old.capture))))
-PackedAs source station SourceFault old new =
+PackedAs source station InputFault old new =
     (IsUnbegun old new × Rose (source.faults old.directory) (source.faults new.directory))
     ⊎ (Rose (source.faults old.capture) (source.faults new.capture)
-    × (source.tells → IsTaken station.tells (station.calls old.station) (station.calls new.station)
+    × (source.observed → IsTaken station.observed (station.calls old.station) (station.calls new.station)
     (source.left old.capture) (source.left new.capture)))
 PackedAs source station (Directory fault) old new = IsTurnedAway source fault old new
 PackedAs source station NoMemory old new = IsUnbegun old new
@@ -50,13 +50,13 @@ PackedAs source station _ old new = ⊥
 
 -- Of the source of the directory no more is read than it may have and a byte, no count falls, and the files stay.
 pub record KeepsFiles {S P : Type 0} (source : SourceMeanings S) (station : StationMeanings P) (old new : World S S P) : Type 0 where
-  pub taken : source.tells → (taken : List ℕ) × (source.left old.directory ≡ taken ++ source.left new.directory)
+  pub taken : source.observed → (taken : List ℕ) × (source.left old.directory ≡ taken ++ source.left new.directory)
       × (length taken ≤ LONGEST_DIRECTORY + 1)
   pub source_counts : (source.faults old.directory ≤ source.faults new.directory)
       × (source.faults old.capture ≤ source.faults new.capture)
   pub station_counts : (station.say_faults old.station ≤ station.say_faults new.station)
       × (station.disk_faults new.station ≡ station.disk_faults old.station)
-  pub files : station.tells → (k : ℕ) → seen (station.calls new.station) k ≡ seen (station.calls old.station) k
+  pub files : station.observed → (k : ℕ) → seen (station.calls new.station) k ≡ seen (station.calls old.station) k
 
 -- what its end means, and what holds of every run
 pub record PacksStream {S P : Type 0} (source : SourceMeanings S) (station : StationMeanings P) (status : Status)

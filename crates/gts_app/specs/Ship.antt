@@ -5,7 +5,7 @@ use Rattle.gts_directory.specs.Directory as directories
 use Rattle.gts_record.specs.declared.fault.OpenFault.TheVariants as opening
 use Rattle.gts_standby.specs.declared.fault.ShipFault.TheVariants as ship
 use Rattle.gts_app.specs.declared.status.Status.{Status}
-use Rattle.gts_app.specs.declared.status.Status.TheVariants.{Done, Directory, NoJournal, OldVersion, NotThis, Damaged, DiskFault, SourceFault, SayFault, NoMemory}
+use Rattle.gts_app.specs.declared.status.Status.TheVariants.{Done, Directory, NoJournal, OldVersion, OtherDirectory, Damaged, DiskFault, InputFault, OutputFault, NoMemory}
 use Rattle.gts_app.specs.Ending.{refusal}
 
 -- a fault keeps its name
@@ -13,13 +13,13 @@ abbrev pub status_shipped : Result (Unit {0}) ShipFault → Status
 status_shipped (Ok _) = Done
 status_shipped (Err (ship.Open fault)) = refusal fault
 status_shipped (Err ship.DiskFault) = DiskFault
-status_shipped (Err ship.SayFault) = SayFault
+status_shipped (Err ship.SayFault) = OutputFault
 status_shipped (Err ship.NoMemory) = NoMemory
 
 -- where source and station tell, a directory is read, and this holds of it
 abbrev pub Under : {S P : Type 0} → SourceMeanings S → StationMeanings P → S → (directories.Directory → Type 0) → Type 0
 Under source station directory OfIt =
-    source.tells → station.tells → (d : directories.Directory) × (directory_of_bytes (source.left directory) ≡ Ok d) × OfIt d
+    source.observed → station.observed → (d : directories.Directory) × (directory_of_bytes (source.left directory) ≡ Ok d) × OfIt d
 
 -- a front of what was asked for was said, and nothing else
 abbrev pub SaysSome : {S P : Type 0} → Option Since → SourceMeanings S → StationMeanings P → S → (old new : P) → Type 0
@@ -39,16 +39,17 @@ ShippedAs since source station Done od old nd new =
     Under source station od
     (λ d. ShipsOnly d (station.calls old) (station.calls new) (asked_of d (station.calls old) since))
 ShippedAs since source station (Directory fault) od old nd new =
-    (new ≡ old) × (source.tells → directory_of_bytes (source.left od) ≡ Err fault)
+    (new ≡ old) × (source.observed → directory_of_bytes (source.left od) ≡ Err fault)
 ShippedAs since source station NoJournal od old nd new = RefusedBy opening.NoJournal since source station od old new
 ShippedAs since source station OldVersion od old nd new = RefusedBy opening.OldVersion since source station od old new
-ShippedAs since source station (NotThis want found) od old nd new = RefusedBy (opening.NotThis want found) since source station od old new
+ShippedAs since source station (OtherDirectory want found) od old nd new =
+    RefusedBy (opening.NotThis want found) since source station od old new
 ShippedAs since source station (Damaged file at) od old nd new = RefusedBy (opening.Damaged file at) since source station od old new
 ShippedAs since source station DiskFault od old nd new =
     Rose (station.disk_faults old) (station.disk_faults new) × SaysSome since source station od old new
-ShippedAs since source station SayFault od old nd new =
+ShippedAs since source station OutputFault od old nd new =
     Rose (station.say_faults old) (station.say_faults new) × SaysSome since source station od old new
-ShippedAs since source station SourceFault od old nd new = (new ≡ old) × Rose (source.faults od) (source.faults nd)
+ShippedAs since source station InputFault od old nd new = (new ≡ old) × Rose (source.faults od) (source.faults nd)
 ShippedAs since source station NoMemory od old nd new = (new ≡ old) ⊎ SaysSome since source station od old new
 ShippedAs since source station _ od old nd new = ⊥
 
@@ -57,9 +58,9 @@ pub record ShipsFeed {S P : Type 0} (since : Option Since) (source : SourceMeani
     (old_directory : S) (old : P) (new_directory : S) (new : P) : Type 0 where
   pub means : ShippedAs since source station status old_directory old new_directory new
   -- what reads of the files give stays
-  pub files : station.tells → (k : ℕ) → seen (station.calls new) k ≡ seen (station.calls old) k
+  pub files : station.observed → (k : ℕ) → seen (station.calls new) k ≡ seen (station.calls old) k
   -- what is read, and that no count falls
-  pub taken : source.tells → (taken : List ℕ) × (source.left old_directory ≡ taken ++ source.left new_directory)
+  pub taken : source.observed → (taken : List ℕ) × (source.left old_directory ≡ taken ++ source.left new_directory)
       × (length taken ≤ LONGEST_DIRECTORY + 1)
   pub counts : (source.faults old_directory ≤ source.faults new_directory) × (station.disk_faults old ≤ station.disk_faults new)
       × (station.say_faults old ≤ station.say_faults new)

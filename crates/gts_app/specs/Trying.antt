@@ -5,13 +5,13 @@ use Rattle.gts_app.specs.Cited.Below.{Breaks, Change, Did, DirFault, Ghosts as S
 use Rattle.gts_directory.specs.Directory as directories
 use Rattle.gts_record.specs.declared.fault.OpenFault.TheVariants as opening
 use Rattle.gts_app.specs.declared.status.Status.{Status}
-use Rattle.gts_app.specs.declared.status.Status.TheVariants.{Done, Directory, OldDirectory, Changed, NoJournal, OldVersion, NotThis, Damaged, DiskFault, SourceFault, SayFault, NoMemory}
+use Rattle.gts_app.specs.declared.status.Status.TheVariants.{Done, Directory, OldDirectory, Changed, NoJournal, OldVersion, OtherDirectory, Damaged, DiskFault, InputFault, OutputFault, NoMemory}
 use Rattle.gts_app.specs.Ending.{refusal}
 use Rattle.gts_app.specs.Migrate.{AreRead, UnderBoth, OpensUnder, IsLeftAlone, IsRefusedBy, IsOldRefused, IsCalm, ReadsFew}
 use Rattle.gts_app.specs.Pack.{IsTurnedAway}
 use Rattle.gts_app.specs.Replay.{World}
 
--- The new directory takes over from the old one, and where the station tells, the files open to a state under that; this holds of
+-- The new directory takes over from the old one, and where the station is observed, the files open to a state under that; this holds of
 -- the report of what would change if it were taken over.
 abbrev pub Tried : {S P : Type 0} → SourceMeanings S → StationMeanings P → World S S P → (List ℕ → Type 0) → Type 0
 Tried source station w OfText =
@@ -22,7 +22,7 @@ Tried source station w OfText =
 abbrev pub TriedAs : {S P : Type 0} → SourceMeanings S → StationMeanings P → Status → World S S P → World S S P → Type 0
 TriedAs source station Done w v =
     Tried source station w (λ text. station.calls v.station ≡ Did (Says 0 text) ∷ Did Syncs ∷ station.calls w.station)
-TriedAs source station SayFault w v =
+TriedAs source station OutputFault w v =
     Rose (station.say_faults w.station) (station.say_faults v.station)
     × Tried source station w (λ text. Breaks (Says 0 text) (Did Syncs ∷ station.calls w.station) (station.calls v.station))
 TriedAs source station (Directory e) w v = IsTurnedAway source e w v
@@ -30,11 +30,11 @@ TriedAs source station (OldDirectory e) w v = IsOldRefused source w v e
 TriedAs source station (Changed part row) w v =
     (v.station ≡ w.station) × UnderBoth source w (λ new old. first_change new old ≡ Some (record { part = part; row = row }))
 TriedAs source station NoJournal w v = IsRefusedBy source station w v opening.NoJournal
-TriedAs source station OldVersion w v = station.tells → ⊥
-TriedAs source station (NotThis want found) w v = IsRefusedBy source station w v (opening.NotThis want found)
+TriedAs source station OldVersion w v = station.observed → ⊥
+TriedAs source station (OtherDirectory want found) w v = IsRefusedBy source station w v (opening.NotThis want found)
 TriedAs source station (Damaged file at) w v = IsRefusedBy source station w v (opening.Damaged file at)
 TriedAs source station DiskFault w v = Rose (station.disk_faults w.station) (station.disk_faults v.station)
-TriedAs source station SourceFault w v =
+TriedAs source station InputFault w v =
     (v.station ≡ w.station)
     × (Rose (source.faults w.directory) (source.faults v.directory) ⊎ Rose (source.faults w.capture) (source.faults v.capture))
 TriedAs source station NoMemory w v = IsLeftAlone station w v
@@ -43,7 +43,7 @@ TriedAs source station _ w v = ⊥
 -- the ends at which something may have been said
 abbrev pub MayHaveSaid : Status → Type 0
 MayHaveSaid Done = Unit {0}
-MayHaveSaid SayFault = Unit {0}
+MayHaveSaid OutputFault = Unit {0}
 MayHaveSaid _ = ⊥
 
 -- What its end means, and what holds of every run.
@@ -51,23 +51,23 @@ pub record TriesMigration {S P : Type 0} (source : SourceMeanings S) (station : 
     (w v : World S S P) : Type 0 where
   pub means : TriedAs source station status w v
   -- nothing is written; and where nothing was said, at most a sync was tried
-  pub files : station.tells → (k : ℕ) → seen (station.calls v.station) k ≡ seen (station.calls w.station) k
-  pub only_syncs : station.tells → (MayHaveSaid status → ⊥) → OnlySyncs (station.calls w.station) (station.calls v.station)
+  pub files : station.observed → (k : ℕ) → seen (station.calls v.station) k ≡ seen (station.calls w.station) k
+  pub only_syncs : station.observed → (MayHaveSaid status → ⊥) → OnlySyncs (station.calls w.station) (station.calls v.station)
   -- an old directory that is refused, a row that doesn't stay, and a fault of the files are answered, but for memory and devices
-  pub old_refused : source.tells → (new : directories.Directory) (e : DirFault) → directory_of_bytes (source.left w.directory) ≡ Ok new
+  pub old_refused : source.observed → (new : directories.Directory) (e : DirFault) → directory_of_bytes (source.left w.directory) ≡ Ok new
       → directory_of_bytes (source.left w.capture) ≡ Err e → IsCalm source w v → (status ≡ OldDirectory e) ⊎ (status ≡ NoMemory)
-  pub changed : source.tells → (new old : directories.Directory) (c : Change) → AreRead source w new old → first_change new old ≡ Some c
+  pub changed : source.observed → (new old : directories.Directory) (c : Change) → AreRead source w new old → first_change new old ≡ Some c
       → IsCalm source w v → (status ≡ Changed c.part c.row) ⊎ (status ≡ NoMemory)
-  pub answered : source.tells → station.tells → (new old : directories.Directory) (e : OpenFault) → AreRead source w new old
+  pub answered : source.observed → station.observed → (new old : directories.Directory) (e : OpenFault) → AreRead source w new old
       → TakesOver new old → opens_any old (seen (station.calls w.station)) ≡ Err e → IsCalm source w v
       → (Rose (station.disk_faults w.station) (station.disk_faults v.station) → ⊥) → (status ≡ refusal e) ⊎ (status ≡ NoMemory)
   -- where the files open, and no device fails, it is done, but for memory, also where `migrate` would refuse it
-  pub complete : source.tells → station.tells → (new old : directories.Directory) (s : State) (used : ℕ) → AreRead source w new old
+  pub complete : source.observed → station.observed → (new old : directories.Directory) (s : State) (used : ℕ) → AreRead source w new old
       → TakesOver new old → files_open_any old (seen (station.calls w.station)) ≡ Ok (s, used) → IsCalm source w v
       → (Rose (station.disk_faults w.station) (station.disk_faults v.station) → ⊥)
       → (Rose (station.say_faults w.station) (station.say_faults v.station) → ⊥) → (status ≡ Done) ⊎ (status ≡ NoMemory)
   -- where the directory can't be read, the old one isn't
-  pub unread : source.tells → (e : DirFault) → directory_of_bytes (source.left w.directory) ≡ Err e → v.capture ≡ w.capture
+  pub unread : source.observed → (e : DirFault) → directory_of_bytes (source.left w.directory) ≡ Err e → v.capture ≡ w.capture
   -- what is read, and that no count falls
   pub taken : ReadsFew source w.directory v.directory
   pub old_taken : ReadsFew source w.capture v.capture

@@ -1,7 +1,6 @@
-ghost use Rattle.std.specs.Prelude.{◌≡◌, ◌⊎◌, ℕ, Some};
-ghost use Rattle.gts_app.specs.Cited.{Generates, Inits, IsCommand, IsNoCapture, IsSettled, OpensJournal, ReadsApart, Replays, ServesCircuits, command_of, lines_seen as seen, world};
+ghost use Rattle.std.specs.Prelude.{◌≡◌, ◌⊎◌, ℕ, List, Some, None};
+ghost use Rattle.gts_app.specs.Cited.{Compacts, CountsTraffic, FollowsFeed, Generates, Inits, IsCommand, IsNoCapture, IsSettled, Migrates, NamesGaps, PacksStream, Replays, Serves, ShipsFeed, Shows, TriesMigration, Unpacks, command_of, lines_seen as seen, moment_at, since_at};
 
-use crate::Status;
 use crate::commands::check::check;
 use crate::commands::compact::compact;
 use crate::commands::count::count;
@@ -16,9 +15,10 @@ use crate::commands::serve::serve;
 use crate::commands::ship::ship;
 use crate::commands::show::show;
 use crate::commands::unpack::unpack;
+use crate::{Ended, Status, World};
 use gts_connection::CaptureKind;
+use gts_gap::Moment;
 use gts_migrate::Waiting;
-use gts_missing::Moment;
 use gts_receiver::WITHOUT_END;
 use gts_standby::Since;
 use gts_traits::{Gate, Lines, Source, Station, WordList};
@@ -27,28 +27,24 @@ use std::alloc::Global;
 use std::sync::Wait;
 use std::thread::Threads;
 
-/// How a command ended and the station that it handed back, and beside them the capture.
-fn beside<P, S>(ended: (Status, P), capture: S) -> (Status, P, S)
-    ensures status { result.0 ≡ ended.0 }
-    ensures station { result.1 ≡ ended.1 }
-    ensures capture { result.2 ≡ capture }
+/// What a command worked on, beside how it ended.
+fn ended<S, P>(status: Status, world: World<S, S, P>) -> Ended<S, P>
+    ensures status { result.status ≡ status }
+    ensures world { result.world ≡ world }
 {
-    let (status, station) = ended;
-    (status, station, capture)
+    Ended { status, world }
 }
 
 /// Runs the command that the words name: `init`, `replay`, `serve`, `show`, `compact`, `generate`, `migrate`, `migrate drop`,
-/// `migrate check`, `unpack`, `pack`, `gaps`, `ship`, `follow` or `count`. The station and the capture are handed back.
+/// `migrate check`, `unpack`, `pack`, `gaps`, `ship`, `follow` or `count`. What it worked on is handed back.
 pub fn run<R, S, P, L, G>(
     rt: &R,
     alloc: Global,
     words: &WordList,
-    directory: &mut S,
-    mut capture: S,
-    mut station: P,
+    mut world: World<S, S, P>,
     lines: &mut L,
     gate: &G,
-) -> (Status, P, S)
+) -> Ended<S, P>
 where
     R: Threads + Wait + Sync,
     S: Source,
@@ -58,33 +54,72 @@ where
     L::Out: Drop,
     G: Gate,
     // The words are looked at first; other words change nothing. A circuit is looked for in the directory.
-    ensures words { (result.0 ≡ Status.Words → IsSettled words.now → ⊥)
+    ensures words { (result.status ≡ Status.Usage → IsSettled words.now → ⊥)
         × ((IsCommand words.now → ⊥)
-        → (result.0 ≡ Status.Words) ⊎ (result.0 ≡ Status.NoMemory)) }
-    ensures unchanged { (IsCommand words.now → ⊥) →
-        (directory.new ≡ directory.old) × (result.1 ≡ station) × (result.2 ≡ capture) }
+        → (result.status ≡ Status.Usage) ⊎ (result.status ≡ Status.NoMemory)) }
+    ensures unchanged { (IsCommand words.now → ⊥) → result.world ≡ world }
 
-    // What each end of a command means.
-    ensures init { command_of words.now ≡ Some Command.Init → (result.2 ≡ capture)
-        × Inits S.Source P.Station result.0 directory.old station directory.new result.1 }
+    // What each end of a command means that works on the journal, and reads the directory alone.
+    ensures init { command_of words.now ≡ Some Command.Init → (result.world.capture ≡ world.capture)
+        × Inits S.Source P.Station result.status
+        world.directory world.station result.world.directory result.world.station }
+    ensures show { command_of words.now ≡ Some Command.Show → (result.world.capture ≡ world.capture)
+        × Shows S.Source P.Station result.status
+        world.directory world.station result.world.directory result.world.station }
+    ensures compact { command_of words.now ≡ Some Command.Compact
+        → (result.world.capture ≡ world.capture) × Compacts S.Source P.Station result.status
+        world.directory world.station result.world.directory result.world.station }
+    ensures ship { command_of words.now ≡ Some Command.Ship → (result.world.capture ≡ world.capture)
+        × ShipsFeed None S.Source P.Station result.status
+        world.directory world.station result.world.directory result.world.station }
+    ensures ship_since { (used : ℕ) (seal : List ℕ)
+        → command_of words.now ≡ Some (Command.ShipSince used seal)
+        → (result.world.capture ≡ world.capture)
+        × ShipsFeed (Some (since_at used seal)) S.Source P.Station result.status
+        world.directory world.station result.world.directory result.world.station }
+
+    // And of one that reads something beside the directory.
     ensures replay { command_of words.now ≡ Some Command.Replay
-        → Replays CaptureKind.Journaled S.Source S.Source P.Station result.0
-        (world directory.old capture station) (world directory.new result.2 result.1) }
-    ensures journal { OpensJournal S.Source P.Station (command_of words.now) result.0
-        (world directory.old capture station) (world directory.new result.2 result.1) }
-    ensures serve { ServesCircuits S.Source P.Station L.In.tells L.Out.tells (command_of words.now)
-        result.0 (world directory.old capture station) (world directory.new result.2 result.1)
-        (seen L.Lines lines.old) (seen L.Lines lines.new) }
+        → Replays CaptureKind.Journaled S.Source S.Source P.Station
+        result.status world result.world }
+    ensures count { command_of words.now ≡ Some Command.Count
+        → CountsTraffic S.Source P.Station result.status world result.world }
+    ensures unpack { (c : ℕ) → command_of words.now ≡ Some (Command.Unpack c)
+        → Unpacks S.Source P.Station c result.status world result.world }
+    ensures pack { command_of words.now ≡ Some Command.Pack
+        → PacksStream S.Source P.Station result.status world result.world }
+    ensures gaps { (day hour minute : ℕ)
+        → command_of words.now ≡ Some (Command.Gaps day hour minute)
+        → NamesGaps S.Source P.Station (moment_at day hour minute)
+        result.status world result.world }
+    ensures migrate { command_of words.now ≡ Some Command.Migrate
+        → Migrates Waiting.Refused S.Source P.Station result.status world result.world }
+    ensures migrate_drop { command_of words.now ≡ Some Command.MigrateDrop
+        → Migrates Waiting.Dropped S.Source P.Station result.status world result.world }
+    ensures migrate_check { command_of words.now ≡ Some Command.MigrateCheck
+        → TriesMigration S.Source P.Station result.status world result.world }
+    ensures follow { command_of words.now ≡ Some Command.Follow
+        → FollowsFeed S.Source P.Station result.status world result.world }
+
+    // And of those over lines, and without a journal.
+    ensures serve { (n : ℕ) → command_of words.now ≡ Some (Command.Serve n)
+        → (result.world.capture ≡ world.capture)
+        × Serves S.Source P.Station L.In.observed L.Out.observed n result.status
+        world.directory world.station (seen L.Lines lines.old)
+        result.world.directory result.world.station (seen L.Lines lines.new) }
+    ensures serve_always { command_of words.now ≡ Some Command.ServeAlways
+        → (result.world.capture ≡ world.capture)
+        × Serves S.Source P.Station L.In.observed L.Out.observed WITHOUT_END result.status
+        world.directory world.station (seen L.Lines lines.old)
+        result.world.directory result.world.station (seen L.Lines lines.new) }
     ensures generate { (count : ℕ) → command_of words.now ≡ Some (Command.Generate count)
-        → (directory.new ≡ directory.old) × (result.2 ≡ capture)
-        × Generates P.Station result.0 count station result.1 }
-    ensures apart { ReadsApart S.Source P.Station (command_of words.now) result.0
-        (world directory.old capture station) (world directory.new result.2 result.1) }
+        → (result.world.directory ≡ world.directory) × (result.world.capture ≡ world.capture)
+        × Generates P.Station result.status count world.station result.world.station }
 
     // Bytes that are no capture of the directory are not done.
-    ensures no_capture { command_of words.now ≡ Some Command.Replay → S.tells → P.tells
-        → IsNoCapture (S.left directory.old) (S.left capture)
-        → result.0 ≡ Status.Done → ⊥ }
+    ensures no_capture { command_of words.now ≡ Some Command.Replay → S.observed → P.observed
+        → IsNoCapture (S.left world.directory) (S.left world.capture)
+        → result.status ≡ Status.Done → ⊥ }
 
     // No other command changes the lines.
     ensures untouched { ((connections : ℕ)
@@ -94,56 +129,38 @@ where
     a_count_is_within_its_limits();
     let command = match read_words(alloc, words) {
         Ok(command) => command,
-        Err(WordsFault::Words) => return (Status::Words, station, capture),
-        Err(WordsFault::NoMemory) => return (Status::NoMemory, station, capture),
+        Err(WordsFault::Words) => return ended(Status::Usage, world),
+        Err(WordsFault::NoMemory) => return ended(Status::NoMemory, world),
     };
     match command {
-        Command::Init => (init(alloc, directory, &mut station), station, capture),
-        Command::Replay => beside(replay(alloc, directory, &mut capture, station), capture),
-        Command::Show => beside(show(alloc, directory, station), capture),
-        Command::Compact => beside(compact(alloc, directory, station), capture),
-        Command::Serve { connections } => {
-            let many = u64::from(connections);
-            let served = serve(rt, alloc, directory, station, lines, many, gate);
-            beside(served, capture)
+        // Those that work on the journal.
+        Command::Init => ended(init(alloc, &mut world), world),
+        Command::Show => show(alloc, world),
+        Command::Compact => compact(alloc, world),
+        Command::Ship => ended(ship(alloc, &mut world, None), world),
+        Command::ShipSince { used, seal } => {
+            let since = Some(Since { used, seal });
+            ended(ship(alloc, &mut world, since), world)
         }
-        Command::ServeAlways => {
-            let served = serve(rt, alloc, directory, station, lines, WITHOUT_END, gate);
-            beside(served, capture)
-        }
-        Command::Generate { count } => (generate(alloc, count, &mut station), station, capture),
-        Command::Migrate => {
-            let waiting = Waiting::Refused;
-            beside(
-                migrate(alloc, directory, &mut capture, station, waiting),
-                capture,
-            )
-        }
-        Command::MigrateDrop => {
-            let waiting = Waiting::Dropped;
-            beside(
-                migrate(alloc, directory, &mut capture, station, waiting),
-                capture,
-            )
-        }
-        Command::MigrateCheck => beside(check(alloc, directory, &mut capture, station), capture),
-        Command::Pack => {
-            let status = pack(alloc, directory, &mut capture, &mut station);
-            (status, station, capture)
-        }
+        // Those that read something beside the directory.
+        Command::Replay => replay(alloc, world),
+        Command::Count => count(alloc, world),
+        Command::Unpack { c } => unpack(alloc, world, c),
+        Command::Pack => ended(pack(alloc, &mut world), world),
         Command::Gaps { day, hour, minute } => {
             let moment = Moment { day, hour, minute };
-            let status = gaps(alloc, moment, directory, &mut capture, &mut station);
-            (status, station, capture)
+            ended(gaps(alloc, &mut world, moment), world)
         }
-        Command::Unpack { c } => unpack(alloc, c, directory, capture, station),
-        Command::Ship => (ship(alloc, directory, &mut station, None), station, capture),
-        Command::ShipSince { used, seal } => {
-            let since = Since { used, seal };
-            let status = ship(alloc, directory, &mut station, Some(since));
-            (status, station, capture)
+        Command::Migrate => migrate(alloc, world, Waiting::Refused),
+        Command::MigrateDrop => migrate(alloc, world, Waiting::Dropped),
+        Command::MigrateCheck => ended(check(alloc, &mut world), world),
+        Command::Follow => follow(alloc, world),
+        // Those over lines, and without a journal.
+        Command::Serve { connections } => {
+            let many = u64::from(connections);
+            serve(rt, alloc, world, lines, many, gate)
         }
-        Command::Follow => beside(follow(alloc, directory, &mut capture, station), capture),
-        Command::Count => beside(count(alloc, directory, &mut capture, station), capture),
+        Command::ServeAlways => serve(rt, alloc, world, lines, WITHOUT_END, gate),
+        Command::Generate { count } => ended(generate(alloc, &mut world, count), world),
     }
 }

@@ -3,6 +3,8 @@
 #![tactic(auto)]
 
 #[cfg(test)]
+mod left;
+#[cfg(test)]
 mod loopback;
 #[cfg(test)]
 mod runs;

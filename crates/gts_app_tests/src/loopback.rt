@@ -1,6 +1,7 @@
 //! The switch between two neighbours over loopback: what one of them sends comes to the other.
 
-use gts_app::{Status, run};
+use crate::left::Left;
+use gts_app::{Status, World, run};
 use gts_memory::{MemSink, MemSource, MemStation};
 use gts_peer::talk;
 use gts_tcp::{TcpLines, dial, listen};
@@ -52,7 +53,7 @@ struct Circuits {
 /// How the run of the switch ended, and what each neighbour got.
 #[derive(Drop)]
 struct Ends {
-    switch: Result<(Status, MemStation), NoMemory>,
+    switch: Result<Left, NoMemory>,
     at_a: Result<MemSink, Failed>,
     at_b: Result<MemSink, Failed>,
 }
@@ -94,12 +95,7 @@ fn directory_of(alloc: Global, circuits: Circuits) -> Result<String, Fail> {
 }
 
 /// Runs a command over lines on loopback.
-fn run_word<R>(
-    rt: &R,
-    word: &str,
-    text: &[u8],
-    station: MemStation,
-) -> Result<(Status, MemStation), NoMemory>
+fn run_word<R>(rt: &R, word: &str, text: &[u8], station: MemStation) -> Result<Left, NoMemory>
 where
     R: AllocGlobal
         + Threads
@@ -112,20 +108,17 @@ where
     let alloc = rt.alloc();
     let mut words = WordList::new();
     words.push(alloc, word)?;
-    let mut directory = MemSource::new(alloc, text, &[])?;
-    let capture = MemSource::new(alloc, b"", &[])?;
-    let mut lines = TcpLines::new(rt, Some(TRIES));
-    let (status, station, _) = run(
-        rt,
-        alloc,
-        &words,
-        &mut directory,
-        capture,
+    let world = World {
+        directory: MemSource::new(alloc, text, &[])?,
+        capture: MemSource::new(alloc, b"", &[])?,
         station,
-        &mut lines,
-        &FreeGate,
-    );
-    Ok((status, station))
+    };
+    let mut lines = TcpLines::new(rt, Some(TRIES));
+    let ended = run(rt, alloc, &words, world, &mut lines, &FreeGate);
+    Ok(Left {
+        status: ended.status,
+        station: ended.world.station,
+    })
 }
 
 /// A station on which a journal of this directory was made.
@@ -140,7 +133,7 @@ where
         + Net<Listener = TcpListener, Stream = TcpStream>,
 {
     let station = MemStation::new(rt.alloc(), &[])?;
-    let (status, station) = run_word(rt, "init", text, station)?;
+    let Left { status, station } = run_word(rt, "init", text, station)?;
     if status != Status::Done {
         return Err(Fail::from("no journal was made"));
     }
@@ -148,12 +141,7 @@ where
 }
 
 /// Serves the circuits. A neighbour that waits for a switch which has stopped is let go.
-fn serve<R>(
-    rt: &R,
-    circuits: Circuits,
-    text: &[u8],
-    station: MemStation,
-) -> Result<(Status, MemStation), NoMemory>
+fn serve<R>(rt: &R, circuits: Circuits, text: &[u8], station: MemStation) -> Result<Left, NoMemory>
 where
     R: AllocGlobal
         + Threads
@@ -219,7 +207,7 @@ fn what_one_neighbour_sends_comes_to_the_other(rt: HostRuntime) -> Result<(), Fa
     let text = directory_of(rt.alloc(), circuits)?;
     let station = with_journal(&rt, text.as_bytes())?;
     let Ends { switch, at_a, at_b } = run_all(&rt, circuits, text.as_bytes(), station);
-    let (status, station) = switch?;
+    let Left { status, station } = switch?;
     is_served(&rt, status, &station);
     assert!(rt; at_a?.bytes() == b"".as_slice());
     assert!(rt; at_b?.bytes() == FRAMES);

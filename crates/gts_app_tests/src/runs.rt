@@ -6,7 +6,8 @@ mod serves;
 mod stops;
 mod waits;
 
-use gts_app::{Status, run};
+use crate::left::Left;
+use gts_app::{Status, World, run};
 use gts_memory::{MemLines, MemSource, MemStation, Touched};
 use gts_traits::{FreeGate, WordList};
 use std::alloc::Global;
@@ -57,23 +58,22 @@ const REPORT: &[u8] = b"accepted 2\n\
 fn run_on<R: AllocGlobal + Threads + Wait + Sync>(
     rt: &R,
     words: &WordList,
-    mut directory: MemSource,
+    directory: MemSource,
     capture: MemSource,
     station: MemStation,
     lines: &mut MemLines,
-) -> (Status, MemStation) {
+) -> Left {
     let alloc = rt.alloc();
-    let (status, station, _) = run(
-        rt,
-        alloc,
-        words,
-        &mut directory,
+    let world = World {
+        directory,
         capture,
         station,
-        lines,
-        &FreeGate,
-    );
-    (status, station)
+    };
+    let ended = run(rt, alloc, words, world, lines, &FreeGate);
+    Left {
+        status: ended.status,
+        station: ended.world.station,
+    }
 }
 
 /// A list of one word.
@@ -90,7 +90,7 @@ fn run_under<R: AllocGlobal + Threads + Wait + Sync>(
     directory: &[u8],
     capture: &[u8],
     station: MemStation,
-) -> Result<(Status, MemStation), Fail> {
+) -> Result<Left, Fail> {
     let alloc = rt.alloc();
     let words = word(alloc, text)?;
     let directory = MemSource::new(alloc, directory, &[])?;
@@ -105,7 +105,7 @@ fn run_word<R: AllocGlobal + Threads + Wait + Sync>(
     text: &str,
     capture: &[u8],
     station: MemStation,
-) -> Result<(Status, MemStation), Fail> {
+) -> Result<Left, Fail> {
     run_under(rt, text, DIRECTORY, capture, station)
 }
 
@@ -115,10 +115,11 @@ fn with_journal<R: AllocGlobal + Threads + Wait + Sync>(
     calls: &[u64],
 ) -> Result<MemStation, Fail> {
     let station = MemStation::new(rt.alloc(), calls)?;
-    match run_word(rt, "init", b"", station)? {
-        (Status::Done, station) => Ok(station),
-        _ => Err(Fail::from("no journal was made")),
+    let Left { status, station } = run_word(rt, "init", b"", station)?;
+    if status != Status::Done {
+        return Err(Fail::from("no journal was made"));
     }
+    Ok(station)
 }
 
 /// Replays a capture over a new journal, on a station whose listed calls fail.
@@ -126,7 +127,7 @@ fn replayed<R: AllocGlobal + Threads + Wait + Sync>(
     rt: &R,
     capture: &[u8],
     calls: &[u64],
-) -> Result<(Status, MemStation), Fail> {
+) -> Result<Left, Fail> {
     let station = with_journal(rt, calls)?;
     run_word(rt, "replay", capture, station)
 }
@@ -147,12 +148,12 @@ fn goes_on<R: AllocGlobal + Threads + Wait + Sync + Abort>(
     behind: u64,
     left: MemStation,
 ) -> Result<(), Fail> {
-    let (status, left) = run_word(rt, "replay", AGAIN, left)?;
+    let Left { status, station } = run_word(rt, "replay", AGAIN, left)?;
     assert!(rt; status == Status::Done, "call {behind}");
-    assert!(rt; are_numbered(left.said(2)), "call {behind}");
-    let before = left.said(0).len();
-    let (_, left) = run_word(rt, "show", b"", left)?;
-    let Some(report) = left.said(0).get(before..) else {
+    assert!(rt; are_numbered(station.said(2)), "call {behind}");
+    let before = station.said(0).len();
+    let Left { station, .. } = run_word(rt, "show", b"", station)?;
+    let Some(report) = station.said(0).get(before..) else {
         return Err(Fail::from("no report"));
     };
     assert!(rt; report.starts_with(REPORT), "call {behind}");

@@ -1,2 +1,9 @@
 pub mod Calls
+pub mod Fed
+pub mod Reading
+pub mod Going
+pub mod Desks
+pub mod Frames
+pub mod Given
 pub mod Cited
+pub use Rattle.gts_lock.specs.History.{entries}

@@ -7,11 +7,11 @@ use Rattle.gts_event.specs.declared.values.Need.{Need}
 use Rattle.gts_event.specs.Need as needs
 use Rattle.gts_event.proofs.LawLemmas.{sound-parts}
 use Rattle.gts_opening.proofs.FileLemmas.{fits-sound}
-use Rattle.gts_checkpoint.proofs.LooseLemmas.{behind-in_front}
+use Rattle.gts_checkpoint.proofs.CheckpointBytesLemmas.{behind-in_front}
 use Rattle.gts_checkpoint.proofs.ReadLemmas.{Stands, Counted, need_read, fit_bodies, over_limit}
 
-pub bytes_there : (loose bytes : List ℕ) → laid loose ≡ laid bytes → bytes_from (laid loose) 0 41 ≡ bytes
-bytes_there loose bytes same = ap (λ l. bytes_from l 0 41) same ∙ behind-in_front bytes 41 (omega arith)
+pub bytes_there : (checkpoint_bytes bytes : List ℕ) → laid checkpoint_bytes ≡ laid bytes → bytes_from (laid checkpoint_bytes) 0 41 ≡ bytes
+bytes_there checkpoint_bytes bytes same = ap (λ l. bytes_from l 0 41) same ∙ behind-in_front bytes 41 (omega arith)
 
 fits_there : (v : Version) (d : Directory) (bytes : List ℕ) (m : needs.Need) → d.limit < 256 ^ 4 → IsCheckpoint v d bytes m → FitsNeed m
 fits_there v d bytes m low is = fits-sound v d m is.sound (omega (arith, is.room, low))

@@ -2,12 +2,12 @@ pub mod AloneLemmas
 pub mod AscendingLemmas
 pub mod NamedLemmas
 pub mod SoundLemmas
-pub mod PenLemmas
+pub mod WriterLemmas
 pub mod PieceLemmas
 pub mod NeedLemmas
 pub mod FrontLemmas
 pub mod ReadLemmas
 pub mod SealLemmas
-pub mod LooseLemmas
+pub mod CheckpointBytesLemmas
 pub mod DecodeLemmas
 pub mod LawLemmas

@@ -1,13 +1,13 @@
 -- A need as it is written.
 use Rattle.std.proofs.Common.{◌≡◌, ℕ, ◌+◌, ◌*◌, ◌^◌, ◌<◌, ◌≤◌, List, [], ◌∷◌, ◌++◌, Bool, cond, take, length, map, flat_map, refl, sym, ap, subst, ◌∙◌, append_assoc, length-append, arith}
-use Rattle.gts_checkpoint.specs.Cited.{AllByRecursion, Call, CanPutBulletin, CanPutCircuit, Cuts, Did, FitsByte, HasWritten, IsSynced, Pen, Syncs, Writes, bulletin_head, bulletin_of, bulletin_text, bytes_of, checkpoint_file, checkpoint_text, circuit_need_of, circuit_text, closed_gate, head_text, header_text, magic, need_of, open_gate, overwritten, put_by, sealed_need, seen, written, written_bulletin, written_circuit}
+use Rattle.gts_checkpoint.specs.Cited.{AllByRecursion, Call, CanPutBulletin, CanPutCircuit, Cuts, Did, FitsByte, HasWritten, IsSynced, SealingWriter, Syncs, Writes, bulletin_head, bulletin_of, bulletin_text, bytes_of, checkpoint_file, checkpoint_text, circuit_need_of, circuit_text, closed_gate, head_text, header_text, magic, need_of, open_gate, overwritten, put_by, sealed_need, seen, written, written_bulletin, written_circuit}
 use Rattle.gts_event.specs.declared.values.Bulletin.{Bulletin}
 use Rattle.gts_event.specs.declared.values.CircuitNeed.{CircuitNeed}
 use Rattle.gts_event.specs.declared.values.Need.{Need}
 use Rattle.std.proofs.lemmas.List.{append-nil, length-map}
 use Rattle.std.proofs.lemmas.Bool.{eq-eqb}
 use Rattle.gts_event.specs.Need as needs
-use Rattle.gts_checkpoint.proofs.PenLemmas.{written_end}
+use Rattle.gts_checkpoint.proofs.WriterLemmas.{written_end}
 use Rattle.gts_checkpoint.proofs.PieceLemmas.{head_long}
 use Rattle.gts_opening.proofs.LawLemmas.{length-numbers}
 
@@ -82,15 +82,15 @@ file_is mark n =
     ∙ ap (λ (l : List ℕ). ((m ++ mark) ++ (open_gate ∷ l)) ++ c) (sym (append-nil s))
 
 -- what was put behind what a file has is what it has then, where nothing is held
-pub file_has : (text : List ℕ) (old new : List Call) (pen next : Pen) → pen.held ≡ [] → next.held ≡ [] → next.file ≡ pen.file → put_by new next ≡ put_by old pen ++ text
-    → seen new pen.file ≡ seen old pen.file ++ text
-file_has text old new pen next held none in_file put =
-    sym (append-nil (seen new pen.file))
-    ∙ ap (λ (l : List ℕ). seen new pen.file ++ l) (sym none)
+pub file_has : (text : List ℕ) (old new : List Call) (writer next : SealingWriter) → writer.held ≡ [] → next.held ≡ [] → next.file ≡ writer.file → put_by new next ≡ put_by old writer ++ text
+    → seen new writer.file ≡ seen old writer.file ++ text
+file_has text old new writer next held none in_file put =
+    sym (append-nil (seen new writer.file))
+    ∙ ap (λ (l : List ℕ). seen new writer.file ++ l) (sym none)
     ∙ ap (λ (k : ℕ). seen new k ++ next.held) (sym in_file)
     ∙ put
-    ∙ ap (λ (l : List ℕ). (seen old pen.file ++ l) ++ text) held
-    ∙ ap (λ (l : List ℕ). l ++ text) (append-nil (seen old pen.file))
+    ∙ ap (λ (l : List ℕ). (seen old writer.file ++ l) ++ text) held
+    ∙ ap (λ (l : List ℕ). l ++ text) (append-nil (seen old writer.file))
 
 -- ---- cut before, and synced behind
 

@@ -1,7 +1,7 @@
 pub mod Alone
-pub mod Pen
+pub mod SealingWriter
 pub mod Writing
 pub mod Reading
 pub mod Sound
-pub mod Loose
+pub mod CheckpointBytes
 pub mod Cited

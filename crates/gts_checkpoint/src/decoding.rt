@@ -2,7 +2,7 @@
 ghost use Rattle.std.specs.Prelude.{◌≡◌, IfOk, IfSome, IfNone};
 ghost use Rattle.gts_checkpoint.specs.Cited.{IsCheckpoint, Need as NeedOf, need_of, written};
 
-use crate::loose::Loose;
+use crate::checkpoint_bytes::CheckpointBytes;
 use crate::reading::{FIRST_RECORD, gate_behind, need_at, waiting};
 use crate::sound::is_sound;
 use gts_alphabet::NoMemory;
@@ -20,8 +20,8 @@ pub fn decode(alloc: Global, bytes: &[u8], directory: &Directory) -> Result<Opti
         ((n : NeedOf) → IsCheckpoint written directory.now bytes.now n → ⊥)) }
 {
     let limit = directory.limit();
-    let mut loose = Loose::new(bytes);
-    let Ok(found) = need_at(alloc, &mut loose, 0, directory.circuits()) else {
+    let mut checkpoint_bytes = CheckpointBytes::new(bytes);
+    let Ok(found) = need_at(alloc, &mut checkpoint_bytes, 0, directory.circuits()) else {
         return Err(NoMemory);
     };
     let Some((need, at)) = found else {

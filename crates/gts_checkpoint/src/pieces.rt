@@ -1,12 +1,11 @@
 //! The pieces of a checkpoint, read from a place of a file on.
 ghost use Rattle.std.specs.Prelude.{◌≡◌, ◌+◌, ◌*◌, ◌^◌, ◌<◌, ◌≤◌, true, false, length, IfOk, IfErr, IfSome, IfNone, IsSome, Ok, IsErrOf, vec_len};
-ghost use Rattle.gts_checkpoint.specs.Cited.{ArePlaces, BeginsWith, FindsBulletin, FindsBytes, FindsCircuit, FindsNumbers, FitsValueCircuit, HasCause, IsNoHead, IsReadFault, LONGEST_BODY as longest_body, Rose, bulletin_head, bytes_from, circuit_head, kind_of};
+ghost use Rattle.gts_checkpoint.specs.Cited.{ArePlaces, BeginsWith, FindsBulletin, FindsBytes, FindsCircuit, FindsNumbers, FitsValueCircuit, HasCause, IsNoHead, IsReadFault, LONGEST_BODY as longest_body, Rose, bulletin_head, bytes_from, circuit_head};
 
-use crate::numbers::{number_in_eight, number_in_four};
 use gts_alphabet::LONGEST_BODY;
 use gts_event::{Bulletin, Bytes, CircuitNeed, Items, Places};
 use gts_frame::Kind;
-use gts_record::OpenFault;
+use gts_record::{OpenFault, number_in_eight, number_in_four, read_kind};
 use gts_traits::{Failed, Station};
 use std::alloc::{AllocError, Global};
 
@@ -18,28 +17,16 @@ pub(crate) fn fetch<P: Station>(
     into: &mut [u8],
 ) -> Result<bool, Failed>
     requires { file < 3 }
-    ensures whole { P.tells → result ≡ Ok true
+    ensures whole { P.observed → result ≡ Ok true
         → BeginsWith (bytes_from (P.calls station.old) file at) into.new }
-    ensures short { P.tells → result ≡ Ok false
+    ensures short { P.observed → result ≡ Ok false
         → length (bytes_from (P.calls station.old) file at) < length into.old }
-    ensures told { P.tells → P.calls station.new ≡ P.calls station.old }
+    ensures told { P.observed → P.calls station.new ≡ P.calls station.old }
     ensures cause { HasCause result (P.disk_faults station.old) (P.disk_faults station.new) }
     ensures say { P.say_faults station.new ≡ P.say_faults station.old }
 {
     let count = station.read(file, at, into)?;
     Ok(count == into.len())
-}
-
-// The type of frame that a letter stands for.
-fn read_kind(letter: u8) -> Option<Kind>
-    ensures { result ≡ kind_of letter }
-{
-    match letter {
-        b'A' => Some(Kind::An),
-        b'B' => Some(Kind::Bi),
-        b'F' => Some(Kind::Fx),
-        _ => None,
-    }
 }
 
 /// What stands in front of a body.
@@ -94,10 +81,10 @@ pub(crate) fn body_at<P: Station>(
     size: u32,
 ) -> Result<Option<Bytes>, OpenFault>
     requires file { file < 3 }
-    ensures found { P.tells → IfOk result
+    ensures found { P.observed → IfOk result
         (FindsBytes (bytes_from (P.calls station.old) file at) size) }
     ensures size { IfOk result (λ found. IfSome found (λ body. length body ≡ size)) }
-    ensures told { P.tells → P.calls station.new ≡ P.calls station.old }
+    ensures told { P.observed → P.calls station.new ≡ P.calls station.old }
     ensures kind { IfErr result IsReadFault }
     ensures disk_fault { IsErrOf result OpenFault.DiskFault
         → Rose (P.disk_faults station.old) (P.disk_faults station.new) }
@@ -121,11 +108,11 @@ pub(crate) fn bulletin_at<P: Station>(
 ) -> Result<Option<Bulletin>, OpenFault>
     requires file { file < 3 }
     requires place { at < 2 ^ 62 }
-    ensures found { P.tells → IfOk result
+    ensures found { P.observed → IfOk result
         (FindsBulletin (bytes_from (P.calls station.old) file at)) }
     ensures short { IfOk result (λ found. IfSome found (λ b. (b.position < 2 ^ 64)
         × (length b.body ≤ longest_body))) }
-    ensures told { P.tells → P.calls station.new ≡ P.calls station.old }
+    ensures told { P.observed → P.calls station.new ≡ P.calls station.old }
     ensures kind { IfErr result IsReadFault }
     ensures disk_fault { IsErrOf result OpenFault.DiskFault
         → Rose (P.disk_faults station.old) (P.disk_faults station.new) }
@@ -160,11 +147,11 @@ fn positions_at<P: Station>(
 ) -> Result<Option<Places>, OpenFault>
     requires file { file < 3 }
     requires place { at < 2 ^ 62 }
-    ensures found { P.tells → IfOk result
+    ensures found { P.observed → IfOk result
         (FindsNumbers (bytes_from (P.calls station.old) file at) count) }
     ensures size { IfOk result (λ found. IfSome found (λ ps. length ps ≡ count)) }
     ensures fits { IfOk result (λ found. IfSome found ArePlaces) }
-    ensures told { P.tells → P.calls station.new ≡ P.calls station.old }
+    ensures told { P.observed → P.calls station.new ≡ P.calls station.old }
     ensures kind { IfErr result IsReadFault }
     ensures disk_fault { IsErrOf result OpenFault.DiskFault
         → Rose (P.disk_faults station.old) (P.disk_faults station.new) }
@@ -215,10 +202,10 @@ pub(crate) fn circuit_at<P: Station>(
 ) -> Result<Option<CircuitNeed>, OpenFault>
     requires file { file < 3 }
     requires place { at < 2 ^ 61 }
-    ensures found { P.tells → IfOk result
+    ensures found { P.observed → IfOk result
         (FindsCircuit (bytes_from (P.calls station.old) file at)) }
     ensures fits { IfOk result (λ found. IfSome found FitsValueCircuit) }
-    ensures told { P.tells → P.calls station.new ≡ P.calls station.old }
+    ensures told { P.observed → P.calls station.new ≡ P.calls station.old }
     ensures kind { IfErr result IsReadFault }
     ensures disk_fault { IsErrOf result OpenFault.DiskFault
         → Rose (P.disk_faults station.old) (P.disk_faults station.new) }

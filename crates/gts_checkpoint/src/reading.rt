@@ -3,12 +3,11 @@ ghost use Rattle.gts_checkpoint.specs.Cited.{CanBegin, FindsText, FitsNeed, HasC
 ghost use Rattle.gts_event.specs.Items as items;
 
 use crate::lists::{bulletins_at, circuits_at};
-use crate::numbers::{number_in_eight, number_in_four};
 use crate::pieces::fetch;
 use crate::sound::is_sound;
 use gts_directory::Directory;
 use gts_event::{CircuitNeed, Need};
-use gts_record::{OpenFault, Sealer, Version, first_seal};
+use gts_record::{OpenFault, Sealer, Version, first_seal, number_in_eight, number_in_four};
 use gts_traits::{Failed, Station};
 use std::alloc::Global;
 
@@ -57,14 +56,14 @@ pub(crate) fn need_at<P: Station>(
 ) -> Result<Option<(Need, u64)>, OpenFault>
     requires file { file < 3 }
     requires few { circuits ≤ 64 }
-    ensures found { P.tells → IfOk result (λ found. FindsText
+    ensures found { P.observed → IfOk result (λ found. FindsText
         (bytes_from (P.calls station.old) file 41) circuits (first_of found)) }
     ensures fits { IfOk result (λ found. IfSome found (λ n. FitsNeed (items.need_of n.0))) }
     ensures unowed { IfOk result (λ found. IfSome found
         (λ n. unowed (items.need_of n.0) ≡ items.need_of n.0)) }
     ensures place { IfOk result (λ found. IfSome found
         (λ n. n.1 ≡ 41 + length (checkpoint_text (items.need_of n.0)))) }
-    ensures told { P.tells → P.calls station.new ≡ P.calls station.old }
+    ensures told { P.observed → P.calls station.new ≡ P.calls station.old }
     ensures kind { IfErr result IsReadFault }
     ensures disk_fault { IsErrOf result OpenFault.DiskFault
         → Rose (P.disk_faults station.old) (P.disk_faults station.new) }
@@ -137,12 +136,12 @@ fn seal_of<P: Station>(
 ) -> Result<Option<[u8; 32]>, Failed>
     requires file { file < 2 }
     requires size { size ≤ 2 ^ 30 }
-    requires there { P.tells → size ≤ length (bytes_from (P.calls station.old) file 41) }
-    ensures found { P.tells → IfOk result (λ found. IfSome found (λ last. held version last
+    requires there { P.observed → size ≤ length (bytes_from (P.calls station.old) file 41) }
+    ensures found { P.observed → IfOk result (λ found. IfSome found (λ last. held version last
         ≡ seal version (held version before.now)
         (take size (bytes_from (P.calls station.old) file 41)))) }
-    ensures some { P.tells → IfOk result (λ found. IsSome found) }
-    ensures told { P.tells → P.calls station.new ≡ P.calls station.old }
+    ensures some { P.observed → IfOk result (λ found. IsSome found) }
+    ensures told { P.observed → P.calls station.new ≡ P.calls station.old }
     ensures cause { HasCause result (P.disk_faults station.old) (P.disk_faults station.new) }
     ensures say { P.say_faults station.new ≡ P.say_faults station.old }
 {
@@ -171,14 +170,14 @@ fn seal_at<P: Station>(
 ) -> Result<Option<[u8; 32]>, OpenFault>
     requires file { file < 2 }
     requires size { size ≤ 2 ^ 30 }
-    requires there { P.tells → size ≤ length (bytes_from (P.calls station.old) file 41) }
-    ensures found { P.tells → IfOk result (λ found. IfSome found (λ last. held version last
+    requires there { P.observed → size ≤ length (bytes_from (P.calls station.old) file 41) }
+    ensures found { P.observed → IfOk result (λ found. IfSome found (λ last. held version last
         ≡ seal version (held version before.now)
         (take size (bytes_from (P.calls station.old) file 41)))) }
-    ensures stands { P.tells → IfOk result (λ found. is_some found
+    ensures stands { P.observed → IfOk result (λ found. is_some found
         ≡ is_sealed_front version (held version before.now)
         (bytes_from (P.calls station.old) file 41) size) }
-    ensures told { P.tells → P.calls station.new ≡ P.calls station.old }
+    ensures told { P.observed → P.calls station.new ≡ P.calls station.old }
     ensures kind { IfErr result IsReadFault }
     ensures disk_fault { IsErrOf result OpenFault.DiskFault
         → Rose (P.disk_faults station.old) (P.disk_faults station.new) }
@@ -210,16 +209,16 @@ pub fn read<P: Station>(
     directory: &Directory,
 ) -> Result<(Need, u64, [u8; 32]), OpenFault>
     requires { file < 2 }
-    ensures found { P.tells → IfOk result (λ found. HasRead version directory.now
+    ensures found { P.observed → IfOk result (λ found. HasRead version directory.now
         (bytes_from (P.calls station.old) file 41) (items.need_of found.0)
         (held version found.2)) }
     ensures begins { IfOk result
         (λ found. CanBegin version directory.now (items.need_of found.0) found.1) }
 
     // Damage is answered exactly where no checkpoint stands there with its seal that may be the first record.
-    ensures fault { P.tells → IfErr result (IsDamage version directory.now file
+    ensures fault { P.observed → IfErr result (IsDamage version directory.now file
         (bytes_from (P.calls station.old) file 41)) }
-    ensures told { P.tells → P.calls station.new ≡ P.calls station.old }
+    ensures told { P.observed → P.calls station.new ≡ P.calls station.old }
     ensures disk_fault { IsErrOf result OpenFault.DiskFault
         → Rose (P.disk_faults station.old) (P.disk_faults station.new) }
     ensures later { P.disk_faults station.old ≤ P.disk_faults station.new }

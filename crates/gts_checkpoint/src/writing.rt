@@ -1,13 +1,12 @@
 ghost use Rattle.std.specs.Prelude.{◌≡◌, ◌+◌, ◌^◌, ◌<◌, ◌≤◌, [], ◌∷◌, ◌++◌, length, flat_map, IfOk, OnOk, IsErrOf};
-ghost use Rattle.gts_checkpoint.specs.Cited.{AllByRecursion, CanPutBulletin, CanPutCircuit, FitBytes, HasCause, HasPut, HasWritten, OnlyOn, Rose, Seals, Stands, WorksBeside, bulletin_head, bytes_of, checkpoint_text, circuit_head, closed_gate, compacted_bytes, count_of, first_seal, head_text, header_text, held, letter_text, need_seal, seal, sealed, seen, written, written_bulletin, written_circuit};
+ghost use Rattle.gts_checkpoint.specs.Cited.{AllByRecursion, CanPutBulletin, CanPutCircuit, FitBytes, HasCause, HasPut, HasWritten, OnlyOn, Rose, Seals, Stands, WorksBeside, bulletin_head, bytes_of, checkpoint_text, circuit_head, closed_gate, compacted_bytes, count_of, first_seal, head_text, header_text, held, need_seal, seal, sealed, seen, written, written_bulletin, written_circuit};
 ghost use Rattle.gts_event.specs.Items as items;
 
 use crate::fault::WriteFault;
-use crate::numbers::{eight_bytes, four_bytes};
-use crate::pen::Pen;
+use crate::writer::SealingWriter;
 use gts_event::{Bulletin, CircuitNeed, Need};
 use gts_frame::Kind;
-use gts_record::{HEADER, Sealer, Version, first_seal};
+use gts_record::{HEADER, Sealer, Version, eight_bytes, first_seal, four_bytes, letter_of};
 use gts_traits::{Failed, Station};
 use std::alloc::Global;
 
@@ -42,17 +41,6 @@ fn head(circuits: u32, accepted: u64, bulletins: u32) -> [u8; 20]
     text
 }
 
-/// The letter that stands for the type of a frame.
-fn letter_of(kind: Kind) -> u8
-    ensures { result ∷ [] ≡ letter_text kind }
-{
-    match kind {
-        Kind::An => b'A',
-        Kind::Bi => b'B',
-        Kind::Fx => b'F',
-    }
-}
-
 /// What stands in front of a body.
 fn before_body(position: u64, from: u8, kind: Kind, size: u32) -> [u8; 16]
     ensures { result ≡ bulletin_head position from kind size }
@@ -78,166 +66,179 @@ fn before_positions(draws: u64, waiting: u32, kept: u32) -> [u8; 16]
 
 /// Puts a bulletin.
 fn put_bulletin<P: Station>(
-    pen: &mut Pen,
+    writer: &mut SealingWriter,
     station: &mut P,
     bulletin: &Bulletin,
 ) -> Result<(), Failed>
     requires from { bulletin.now.from < 256 }
     requires short { length bulletin.now.body < 2 ^ 32 }
-    requires room { count_of pen.old + length (written_bulletin bulletin.now) ≤ 2 ^ 40 }
-    requires stands { P.tells → Stands (P.calls station.old) pen.old }
-    ensures put { OnOk result (HasPut P.tells (written_bulletin bulletin.now)
-        (P.calls station.old) pen.old (P.calls station.new) pen.new) }
-    ensures alone { P.tells → OnlyOn pen.old.file (P.calls station.old) (P.calls station.new) }
+    requires room { count_of writer.old + length (written_bulletin bulletin.now) ≤ 2 ^ 40 }
+    requires stands { P.observed → Stands (P.calls station.old) writer.old }
+    ensures put { OnOk result (HasPut P.observed (written_bulletin bulletin.now)
+        (P.calls station.old) writer.old (P.calls station.new) writer.new) }
+    ensures alone { P.observed → OnlyOn writer.old.file (P.calls station.old)
+        (P.calls station.new) }
     ensures cause { HasCause result (P.disk_faults station.old) (P.disk_faults station.new) }
     ensures say { P.say_faults station.new ≡ P.say_faults station.old }
 {
     let body = bulletin.body.as_slice();
     let from = bulletin.from as u8;
     let text = before_body(bulletin.position, from, bulletin.kind, body.len() as u32);
-    pen.put(station, &text)?;
-    pen.put(station, body)
+    writer.put(station, &text)?;
+    writer.put(station, body)
 }
 
 /// Puts bulletins.
 fn put_bulletins<P: Station>(
-    pen: &mut Pen,
+    writer: &mut SealingWriter,
     station: &mut P,
     bulletins: &[Bulletin],
 ) -> Result<(), Failed>
     requires from { AllByRecursion CanPutBulletin bulletins.now }
-    requires room { count_of pen.old + length (flat_map written_bulletin bulletins.now) ≤ 2 ^ 40 }
-    requires stands { P.tells → Stands (P.calls station.old) pen.old }
-    ensures put { OnOk result (HasPut P.tells (flat_map written_bulletin bulletins.now)
-        (P.calls station.old) pen.old (P.calls station.new) pen.new) }
-    ensures alone { P.tells → OnlyOn pen.old.file (P.calls station.old) (P.calls station.new) }
+    requires room { count_of writer.old + length
+        (flat_map written_bulletin bulletins.now) ≤ 2 ^ 40 }
+    requires stands { P.observed → Stands (P.calls station.old) writer.old }
+    ensures put { OnOk result (HasPut P.observed (flat_map written_bulletin bulletins.now)
+        (P.calls station.old) writer.old (P.calls station.new) writer.new) }
+    ensures alone { P.observed → OnlyOn writer.old.file (P.calls station.old)
+        (P.calls station.new) }
     ensures cause { HasCause result (P.disk_faults station.old) (P.disk_faults station.new) }
     ensures say { P.say_faults station.new ≡ P.say_faults station.old }
 {
     for bulletin in bulletins {
-        put_bulletin(pen, station, bulletin)?;
+        put_bulletin(writer, station, bulletin)?;
     }
     Ok(())
 }
 
 /// Puts positions.
 fn put_positions<P: Station>(
-    pen: &mut Pen,
+    writer: &mut SealingWriter,
     station: &mut P,
     positions: &[u64],
 ) -> Result<(), Failed>
-    requires room { count_of pen.old + length (flat_map (bytes_of 8) positions.now) ≤ 2 ^ 40 }
-    requires stands { P.tells → Stands (P.calls station.old) pen.old }
-    ensures put { OnOk result (HasPut P.tells (flat_map (bytes_of 8) positions.now)
-        (P.calls station.old) pen.old (P.calls station.new) pen.new) }
-    ensures alone { P.tells → OnlyOn pen.old.file (P.calls station.old) (P.calls station.new) }
+    requires room { count_of writer.old + length (flat_map (bytes_of 8) positions.now) ≤ 2 ^ 40 }
+    requires stands { P.observed → Stands (P.calls station.old) writer.old }
+    ensures put { OnOk result (HasPut P.observed (flat_map (bytes_of 8) positions.now)
+        (P.calls station.old) writer.old (P.calls station.new) writer.new) }
+    ensures alone { P.observed → OnlyOn writer.old.file (P.calls station.old)
+        (P.calls station.new) }
     ensures cause { HasCause result (P.disk_faults station.old) (P.disk_faults station.new) }
     ensures say { P.say_faults station.new ≡ P.say_faults station.old }
 {
     for position in positions {
-        pen.put(station, &eight_bytes(*position))?;
+        writer.put(station, &eight_bytes(*position))?;
     }
     Ok(())
 }
 
 /// Puts what is needed of a circuit.
 fn put_circuit<P: Station>(
-    pen: &mut Pen,
+    writer: &mut SealingWriter,
     station: &mut P,
     circuit: &CircuitNeed,
 ) -> Result<(), Failed>
     requires waiting { length circuit.now.waiting < 2 ^ 32 }
     requires kept { length circuit.now.kept < 2 ^ 32 }
-    requires room { count_of pen.old + length (written_circuit circuit.now) ≤ 2 ^ 40 }
-    requires stands { P.tells → Stands (P.calls station.old) pen.old }
-    ensures put { OnOk result (HasPut P.tells (written_circuit circuit.now)
-        (P.calls station.old) pen.old (P.calls station.new) pen.new) }
-    ensures alone { P.tells → OnlyOn pen.old.file (P.calls station.old) (P.calls station.new) }
+    requires room { count_of writer.old + length (written_circuit circuit.now) ≤ 2 ^ 40 }
+    requires stands { P.observed → Stands (P.calls station.old) writer.old }
+    ensures put { OnOk result (HasPut P.observed (written_circuit circuit.now)
+        (P.calls station.old) writer.old (P.calls station.new) writer.new) }
+    ensures alone { P.observed → OnlyOn writer.old.file (P.calls station.old)
+        (P.calls station.new) }
     ensures cause { HasCause result (P.disk_faults station.old) (P.disk_faults station.new) }
     ensures say { P.say_faults station.new ≡ P.say_faults station.old }
 {
     let waiting = circuit.waiting.as_slice();
     let kept = circuit.kept.as_slice();
     let text = before_positions(circuit.draws, waiting.len() as u32, kept.len() as u32);
-    pen.put(station, &text)?;
-    put_positions(pen, station, waiting)?;
-    put_positions(pen, station, kept)
+    writer.put(station, &text)?;
+    put_positions(writer, station, waiting)?;
+    put_positions(writer, station, kept)
 }
 
 /// Puts what is needed of circuits.
 fn put_circuits<P: Station>(
-    pen: &mut Pen,
+    writer: &mut SealingWriter,
     station: &mut P,
     circuits: &[CircuitNeed],
 ) -> Result<(), Failed>
     requires few { AllByRecursion CanPutCircuit circuits.now }
-    requires room { count_of pen.old + length (flat_map written_circuit circuits.now) ≤ 2 ^ 40 }
-    requires stands { P.tells → Stands (P.calls station.old) pen.old }
-    ensures put { OnOk result (HasPut P.tells (flat_map written_circuit circuits.now)
-        (P.calls station.old) pen.old (P.calls station.new) pen.new) }
-    ensures alone { P.tells → OnlyOn pen.old.file (P.calls station.old) (P.calls station.new) }
+    requires room { count_of writer.old + length (flat_map written_circuit circuits.now) ≤ 2 ^ 40 }
+    requires stands { P.observed → Stands (P.calls station.old) writer.old }
+    ensures put { OnOk result (HasPut P.observed (flat_map written_circuit circuits.now)
+        (P.calls station.old) writer.old (P.calls station.new) writer.new) }
+    ensures alone { P.observed → OnlyOn writer.old.file (P.calls station.old)
+        (P.calls station.new) }
     ensures cause { HasCause result (P.disk_faults station.old) (P.disk_faults station.new) }
     ensures say { P.say_faults station.new ≡ P.say_faults station.old }
 {
     for circuit in circuits {
-        put_circuit(pen, station, circuit)?;
+        put_circuit(writer, station, circuit)?;
     }
     Ok(())
 }
 
 /// Puts the checkpoint of a need.
-fn put_need<P: Station>(pen: &mut Pen, station: &mut P, need: &Need) -> Result<(), Failed>
+fn put_need<P: Station>(
+    writer: &mut SealingWriter,
+    station: &mut P,
+    need: &Need,
+) -> Result<(), Failed>
     requires fits { FitBytes (items.need_of need.now) }
     requires small { length (checkpoint_text (items.need_of need.now)) ≤ 2 ^ 30 }
-    requires room { count_of pen.old + length (checkpoint_text (items.need_of need.now)) ≤ 2 ^ 40 }
-    requires stands { P.tells → Stands (P.calls station.old) pen.old }
-    ensures put { OnOk result (HasPut P.tells (checkpoint_text (items.need_of need.now))
-        (P.calls station.old) pen.old (P.calls station.new) pen.new) }
-    ensures alone { P.tells → OnlyOn pen.old.file (P.calls station.old) (P.calls station.new) }
+    requires room { count_of writer.old + length (checkpoint_text
+        (items.need_of need.now)) ≤ 2 ^ 40 }
+    requires stands { P.observed → Stands (P.calls station.old) writer.old }
+    ensures put { OnOk result (HasPut P.observed (checkpoint_text (items.need_of need.now))
+        (P.calls station.old) writer.old (P.calls station.new) writer.new) }
+    ensures alone { P.observed → OnlyOn writer.old.file (P.calls station.old)
+        (P.calls station.new) }
     ensures cause { HasCause result (P.disk_faults station.old) (P.disk_faults station.new) }
     ensures say { P.say_faults station.new ≡ P.say_faults station.old }
 {
     let circuits = need.circuits.as_slice();
     let bulletins = need.bulletins.as_slice();
     let text = head(circuits.len() as u32, need.accepted, bulletins.len() as u32);
-    pen.put(station, &text)?;
-    put_bulletins(pen, station, bulletins)?;
-    put_circuits(pen, station, circuits)
+    writer.put(station, &text)?;
+    put_bulletins(writer, station, bulletins)?;
+    put_circuits(writer, station, circuits)
 }
 
 /// Puts the checkpoint of a need, its seal and a closed gate, and writes all of it; answers the seal.
 fn put_all<P: Station>(
-    pen: &mut Pen,
+    writer: &mut SealingWriter,
     station: &mut P,
     before: &[u8; 32],
     need: &Need,
 ) -> Result<[u8; 32], Failed>
-    requires begins { (pen.old.place ≡ 41) × (pen.old.held ≡ []) }
-    requires seals { Seals pen.old.sealer written (held written before.now) [] }
+    requires begins { (writer.old.place ≡ 41) × (writer.old.held ≡ []) }
+    requires seals { Seals writer.old.sealer written (held written before.now) [] }
     requires fits { FitBytes (items.need_of need.now) }
     requires room { compacted_bytes written (items.need_of need.now) ≤ 2 ^ 30 }
-    requires stands { P.tells → Stands (P.calls station.old) pen.old }
-    ensures written { P.tells → OnOk result (seen (P.calls station.new) pen.old.file
-        ≡ seen (P.calls station.old) pen.old.file ++ (sealed written (held written before.now)
+    requires stands { P.observed → Stands (P.calls station.old) writer.old }
+    ensures written { P.observed → OnOk result (seen (P.calls station.new) writer.old.file
+        ≡ seen (P.calls station.old) writer.old.file ++ (sealed written (held written before.now)
         (checkpoint_text (items.need_of need.now)) ++ closed_gate ∷ [])) }
     ensures seal { IfOk result (λ last. held written last ≡ seal written (held written before.now)
         (checkpoint_text (items.need_of need.now))) }
-    ensures alone { P.tells → OnlyOn pen.old.file (P.calls station.old) (P.calls station.new) }
+    ensures alone { P.observed → OnlyOn writer.old.file (P.calls station.old)
+        (P.calls station.new) }
     ensures cause { HasCause result (P.disk_faults station.old) (P.disk_faults station.new) }
     ensures say { P.say_faults station.new ≡ P.say_faults station.old }
 {
-    put_need(pen, station, need)?;
-    let seal = pen.take_seal();
+    put_need(writer, station, need)?;
+    let seal = writer.take_seal();
     let count = Version::written().seal_size();
-    pen.put(station, &seal[..count])?;
-    pen.put(station, &[CLOSED])?;
-    pen.flush(station)?;
+    writer.put(station, &seal[..count])?;
+    writer.put(station, &[CLOSED])?;
+    writer.flush(station)?;
     Ok(seal)
 }
 
 /// Cuts the file to nothing and syncs, writes it and syncs; answers the checkpoint's seal.
 fn write_with<P: Station>(
-    pen: &mut Pen,
+    writer: &mut SealingWriter,
     station: &mut P,
     file: u32,
     mark: [u8; 32],
@@ -245,16 +246,16 @@ fn write_with<P: Station>(
     need: &Need,
 ) -> Result<[u8; 32], Failed>
     requires file { file < 2 }
-    requires begins { (pen.old.file ≡ file) × (pen.old.place ≡ 41) × (pen.old.held ≡ []) }
-    requires seals { Seals pen.old.sealer written (held written before.now) [] }
+    requires begins { (writer.old.file ≡ file) × (writer.old.place ≡ 41) × (writer.old.held ≡ []) }
+    requires seals { Seals writer.old.sealer written (held written before.now) [] }
     requires first { held written before.now ≡ first_seal written mark }
     requires fits { FitBytes (items.need_of need.now) }
     requires room { compacted_bytes written (items.need_of need.now) ≤ 2 ^ 30 }
-    ensures written { P.tells → OnOk result (HasWritten mark (items.need_of need.now) file
+    ensures written { P.observed → OnOk result (HasWritten mark (items.need_of need.now) file
         (P.calls station.new)) }
     ensures seal { IfOk result
         (λ last. held written last ≡ need_seal mark (items.need_of need.now)) }
-    ensures alone { P.tells → OnlyOn file (P.calls station.old) (P.calls station.new) }
+    ensures alone { P.observed → OnlyOn file (P.calls station.old) (P.calls station.new) }
     ensures cause { HasCause result (P.disk_faults station.old) (P.disk_faults station.new) }
     ensures say { P.say_faults station.new ≡ P.say_faults station.old }
 {
@@ -262,7 +263,7 @@ fn write_with<P: Station>(
     station.sync()?;
     let front = header(mark);
     station.write_at(file, 0, &front)?;
-    let seal = put_all(pen, station, before, need)?;
+    let seal = put_all(writer, station, before, need)?;
     station.sync()?;
     Ok(seal)
 }
@@ -279,12 +280,12 @@ pub fn write<P: Station>(
     requires file { file < 2 }
     requires fits { FitBytes (items.need_of need.now) }
     requires room { compacted_bytes written (items.need_of need.now) ≤ 2 ^ 30 }
-    ensures written { P.tells → OnOk result (HasWritten mark (items.need_of need.now) file
+    ensures written { P.observed → OnOk result (HasWritten mark (items.need_of need.now) file
         (P.calls station.new)) }
     ensures seal { IfOk result
         (λ last. held written last ≡ need_seal mark (items.need_of need.now)) }
     // A crash at any moment leaves the other files as they were, and so does a fault.
-    ensures beside { P.tells → WorksBeside file (P.calls station.old) (P.calls station.new) }
+    ensures beside { P.observed → WorksBeside file (P.calls station.old) (P.calls station.new) }
     ensures no_memory { IsErrOf result WriteFault.NoMemory → station.new ≡ station.old }
     ensures disk_fault { IsErrOf result WriteFault.DiskFault
         → Rose (P.disk_faults station.old) (P.disk_faults station.new) }
@@ -294,7 +295,7 @@ pub fn write<P: Station>(
     let version = Version::written();
     let before = first_seal(version, &mark);
     let sealer = Sealer::new(version, &before);
-    let mut pen = Pen::new(alloc, file, BEGIN, sealer)?;
-    let seal = write_with(&mut pen, station, file, mark, &before, need)?;
+    let mut writer = SealingWriter::new(alloc, file, BEGIN, sealer)?;
+    let seal = write_with(&mut writer, station, file, mark, &before, need)?;
     Ok(seal)
 }

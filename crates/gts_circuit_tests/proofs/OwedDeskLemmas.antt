@@ -3,9 +3,9 @@ use Rattle.std.proofs.Common.{◌≡◌, ℕ, zero, suc, ◌+◌, ◌<◌, arith
 use Rattle.std.proofs.lemmas.List.{append-nil, map-append}
 use Rattle.gts_circuit_tests.specs.Cited.{An, Done, Entry, Event, Feeds, Frame, HasCauses, Heard, IsCaused, IsSpent, Lost, Nothing, Seen, Spent, State, Step, Taken, TakesSome, after, after_all, begun, dec, events_of_signs, frame, history_of, is_event, message_of, one_circuit, one_owed, outcome, seen_by, signs_of_step, state_at, taken}
 use Rattle.gts_frame.specs.declared.step.Step.TheVariants as steps
-use Rattle.gts_feed.specs.declared.fed.FeedEnd.TheVariants as ends
+use Rattle.gts_calls.specs.declared.fed.FeedEnd.TheVariants as ends
 use Rattle.gts_opening.proofs.LawLemmas.{caused-nothing, caused-entry}
-use Rattle.gts_desk.specs.{entries}
+use Rattle.gts_calls.specs.{entries}
 
 pub spent : (count : ℕ) → IsSpent (seen_by count) (seen_by count)
 spent count = record { is = refl }

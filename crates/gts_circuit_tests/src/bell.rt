@@ -1,5 +1,5 @@
 use gts_alphabet::MOST_CIRCUITS;
-use gts_bell::{Bell, Bells, Look};
+use gts_lock::{Bell, Bells, Look};
 use std::process::Abort;
 use std::sync::Wait;
 use std::test::Fail;

@@ -1,8 +1,7 @@
-use gts_bell::Bell;
-use gts_desk::{Desk, Given};
+use gts_calls::{Desk, Fed, FeedEnd, Given, is_event, next_step};
 use gts_event::{Outcome, SwitchFault};
-use gts_feed::{Fed, FeedEnd, is_event, next_step};
 use gts_frame::{Decoder, Kind, write_frame};
+use gts_lock::Bell;
 use gts_memory::MemSink;
 use gts_sender::{SendEnd, send};
 use gts_traits::{Failed, FreeGate, Sink};
@@ -61,7 +60,7 @@ impl Desk for OwedDesk {
     }
 }
 
-/// A sink that takes five bytes at once, and fails from its third call on. It tells nothing to contracts.
+/// A sink that takes five bytes at once, and fails from its third call on. Its bytes are not observed.
 #[derive(Drop)]
 struct NarrowSink {
     bytes: Vec<u8>,
@@ -70,7 +69,7 @@ struct NarrowSink {
 }
 
 impl Sink for NarrowSink {
-    ghost tells = { ⊥ };
+    ghost observed = { ⊥ };
 
     ghost written = { λ s. s.bytes.items };
 

@@ -1,17 +1,15 @@
 //! A run of two circuits over lines in memory.
 ghost use Rattle.std.specs.Prelude.{◌≡◌, ◌≤◌, []};
 ghost use Rattle.gts_receiver.specs.Service as service;
-ghost use Rattle.gts_housed.specs.Housed.{Stands};
+ghost use Rattle.gts_circuits.specs.Housed.{Stands};
 
-use gts_circuits::an_opened_engine_stands_for_no_entry;
+use gts_circuits::{Began, ServeEnd, Served, an_opened_engine_stands_for_no_entry, serve};
 use gts_directory::Directory;
 use gts_engine::{Engine, an_opened_engine_begins_with_what_the_files_open_to};
-use gts_fixtures::two_circuits;
-use gts_housed::Began;
 use gts_journal::Journal;
 use gts_memory::{MemLines, MemStation};
+use gts_parts_tests::two_circuits;
 use gts_sender::SendEnd;
-use gts_serve::{ServeEnd, Served, serve};
 use gts_traits::{FreeGate, Station};
 use std::alloc::Global;
 use std::marker::Brand;
@@ -51,8 +49,8 @@ where
     B: Began + Send,
     requires some { 1 ≤ connections }
     requires mode { B.beginning.makes_room ≡ service.goes_on connections }
-    requires stands { Stands P.tells P.calls P.disk_faults P.say_faults B.beginning [] engine }
-    requires tells { P.tells }
+    requires stands { Stands P.observed P.calls P.disk_faults P.say_faults B.beginning [] engine }
+    requires observed { P.observed }
 {
     let served: Served<P, B> = serve(rt, alloc, engine, lines, connections, &FreeGate);
     let Served { engine, end, pass } = served;
@@ -60,7 +58,7 @@ where
     (station, end, pass.is_some())
 }
 
-/// Opens the journal of a station that tells, and serves its circuits.
+/// Opens the journal of a station that is observed, and serves its circuits.
 fn open_and_run<R, P>(
     rt: &R,
     alloc: Global,
@@ -72,7 +70,7 @@ fn open_and_run<R, P>(
 where
     R: Threads + Wait + Sync,
     P: Station + Send + Drop,
-    requires tells { P.tells }
+    requires observed { P.observed }
     requires some { 1 ≤ connections }
 {
     // What its history begins with.

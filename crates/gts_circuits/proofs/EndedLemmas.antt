@@ -9,7 +9,7 @@ module _ (b : Beginning) {S K : Type 0} (source : SourceMeanings S) (sink : Sink
   works = map ends (works_of hall sockets)
 
   abbrev Gathered : ℕ → List (Work S K) → Type 0
-  Gathered n ws = AreGathered b source.tells source.begun source.left source.faults sink.tells sink.written sink.faults p lines n ws
+  Gathered n ws = AreGathered b source.observed source.begun source.left source.faults sink.observed sink.written sink.faults p lines n ws
 
   pub have_ended : {ws : List (Work S K)} → ws ≡ works → length p.joined ≡ length ws → Gathered (length ws) ws → Ended b source sink hall sockets p lines
   have_ended {ws} is joined gathered = record {
@@ -23,13 +23,13 @@ module _ (b : Beginning) {S K : Type 0} (source : SourceMeanings S) (sink : Sink
 
     pub are_joined : p.parted ≡ 2 * length sockets → AllJoined p
     are_joined parted =
-        all_joined b source.tells source.begun source.left source.faults sink.tells sink.written sink.faults p lines works (2 * length sockets) parted (each_name hall sockets) all_gathered
+        all_joined b source.observed source.begun source.left source.faults sink.observed sink.written sink.faults p lines works (2 * length sockets) parted (each_name hall sockets) all_gathered
 
     pub lines_stand : Accounts p p.seen → (p.full ≡ true → length p.seen ≡ MOST_TURNS) → LinesStand b source sink hall sockets p.seen lines
     lines_stand accounts full =
-        all_stand b source.tells source.begun source.left source.faults sink.tells sink.written sink.faults p lines works all_gathered accounts full (each_ended hall sockets)
+        all_stand b source.observed source.begun source.left source.faults sink.observed sink.written sink.faults p lines works all_gathered accounts full (each_ended hall sockets)
 
     pub names_are : NamesAreJoined p p.seen → entries_under 0 p.seen ≡ [] → NamesAreUpTo (2 * length sockets) p.seen
     names_are names none =
-        names_up_to b source.tells source.begun source.left source.faults sink.tells sink.written sink.faults p lines works (2 * length sockets)
+        names_up_to b source.observed source.begun source.left source.faults sink.observed sink.written sink.faults p lines works (2 * length sockets)
         (λ k w at. let n = each_worker hall sockets k w at in (n.1, n.2)) (ended.counted ∙ sym (count_works hall sockets)) all_gathered names none

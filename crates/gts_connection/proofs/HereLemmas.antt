@@ -1,6 +1,6 @@
 -- The entries of a capture come on circuits of the directory.
 use Rattle.std.proofs.Common.{◌≡◌, ℕ, zero, suc, ◌+◌, Bool, true, nat_lt, List, [], ◌∷◌, ◌++◌, length, get_or, drop, replicate, Option, Some, None, refl, ap, ◌∙◌}
-use Rattle.gts_connection.specs.Cited.{AreStepsOf, CaptureKind, Compact, Connections, Directory, Drain, Entry, Event, Feed, Frame, IsHeadOf, KeepAlive, LostField, Piece, Reopen, Restart, State, Step, Take, Taken, after_all, after_step, all_done, circuit_of_event, connection, entries, entries_from, entries_of_step, events_added, events_of, head_of, is_here, left_to_give, list_all, loss_of, no_bytes, on_circuit}
+use Rattle.gts_connection.specs.Cited.{AreStepsOf, CaptureKind, Compact, Connections, Directory, Drain, Entry, Event, Feed, Frame, FrameField, IsHeadOf, KeepAlive, Piece, Reopen, Restart, State, Step, Take, Taken, after_all, after_step, all_done, circuit_of_event, connection, entries, entries_from, entries_of_step, events_added, events_of, head_of, is_here, left_to_give, list_all, loss_of, no_bytes, on_circuit}
 use Rattle.std.proofs.lemmas.Bool.{and_parts, and_from, lt-ltb}
 use Rattle.std.proofs.lemmas.List.Folds.{list_all-append}
 use Rattle.gts_connection.proofs.StreamLemmas.{connection-is}
@@ -14,7 +14,7 @@ pieces_below n c [] h = refl
 pieces_below n c (Frame kind message ∷ ps) h = and_from (nat_lt c n) (list_all (below n) (events_of c ps)) h (pieces_below n c ps h)
 pieces_below n c (KeepAlive kind ∷ ps) h = pieces_below n c ps h
 
-loss_below : (n c : ℕ) (field : Option LostField) → nat_lt c n ≡ true → list_all (below n) (loss_of c field) ≡ true
+loss_below : (n c : ℕ) (field : Option FrameField) → nat_lt c n ≡ true → list_all (below n) (loss_of c field) ≡ true
 loss_below n c None h = refl
 loss_below n c (Some field) h = and_from (nat_lt c n) true h refl
 

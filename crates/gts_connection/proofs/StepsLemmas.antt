@@ -1,6 +1,6 @@
 -- The events of a connection are those of the signs that its bytes show.
 use Rattle.std.proofs.Common.{◌≡◌, ℕ, zero, suc, ◌+◌, Bool, true, false, ◌==◌, cond, List, [], ◌∷◌, ◌++◌, length, drop, take, Option, Some, None, refl, sym, ap, ◌∙◌, find, not, nat_eq}
-use Rattle.gts_connection.specs.Cited.{An, Bi, Breaks, Carries, Decoding, Event, Frame, Fx, Heard, IsFramed, KeepAlive, KeepsAlive, Kind, Lost, LostField, Piece, ReadsOn, Sign, break_at, break_of, connection, event_at, events_added, events_in, events_of, events_of_signs, field_at, frame, has_piece, is_front, length_in, letters, loss_at, loss_of, range_with_len, sign_at, signs_from, signs_in, signs_of, signs_of_step, starts_with}
+use Rattle.gts_connection.specs.Cited.{An, Bi, Breaks, Carries, Decoding, Event, Frame, FrameField, Fx, Heard, IsFramed, KeepAlive, KeepsAlive, Kind, Lost, Piece, ReadsOn, Sign, break_at, break_of, connection, event_at, events_added, events_in, events_of, events_of_signs, field_at, frame, has_piece, is_front, length_in, letters, loss_at, loss_of, range_with_len, sign_at, signs_from, signs_in, signs_of, signs_of_step, starts_with}
 use Rattle.gts_frame.specs.declared.step.Step.{Step}
 use Rattle.std.proofs.Math.Seq.{drop-append_seam}
 use Rattle.gts_frame.proofs.LawLemmas.{signs-piece}
@@ -16,12 +16,12 @@ events-pieces c [] = refl
 events-pieces c (Frame kind message ∷ ps) = ap (λ (es : List Event). Heard c kind message ∷ es) (events-pieces c ps)
 events-pieces c (KeepAlive kind ∷ ps) = events-pieces c ps
 
-events-break : (c : ℕ) (field : Option LostField) → events_of_signs c (break_of field) ≡ loss_of c field
+events-break : (c : ℕ) (field : Option FrameField) → events_of_signs c (break_of field) ≡ loss_of c field
 events-break c None = refl
 events-break c (Some field) = refl
 
 -- the signs of pieces and of a loss are their events
-pub events-shown : (c : ℕ) (ps : List Piece) (field : Option LostField) → events_of_signs c (signs_of ps ++ break_of field) ≡ events_of c ps ++ loss_of c field
+pub events-shown : (c : ℕ) (ps : List Piece) (field : Option FrameField) → events_of_signs c (signs_of ps ++ break_of field) ≡ events_of c ps ++ loss_of c field
 events-shown c ps field =
     signs-append c (signs_of ps) (break_of field)
     ∙ ap (λ (es : List Event). es ++ events_of_signs c (break_of field)) (events-pieces c ps)

@@ -1,6 +1,6 @@
 -- Any bytes of a connection have the events that are computed and no others, and more bytes only add events.
 use Rattle.std.proofs.Common.{◌≡◌, ℕ, true, false, List, [], ◌∷◌, ◌++◌, length, drop, Option, Some, None, refl, sym, ap, subst, ◌∙◌, IsSome}
-use Rattle.gts_connection.specs.Cited.{Event, Frame, IsConnection, IsStreamFront, KeepAlive, LostField, Piece, Shows, Sign, break_of, connection, events_added, events_of, events_of_signs, held_in, is_lost, list_any, loss_of, open_part, signs_in, signs_of}
+use Rattle.gts_connection.specs.Cited.{Event, Frame, FrameField, IsConnection, IsStreamFront, KeepAlive, Piece, Shows, Sign, break_of, connection, events_added, events_of, events_of_signs, held_in, is_lost, list_any, loss_of, open_part, signs_in, signs_of}
 use Rattle.std.proofs.lemmas.List.{append-nil, append_assoc, append_cancel_left}
 use Rattle.std.proofs.Math.Seq.{drop-append_seam}
 use Rattle.gts_frame.proofs.LawLemmas.{shows-computed, shows-one, open-front, front-open, reads-open, reads-lost}
@@ -67,7 +67,7 @@ lost-held c bytes =
     let events : connection c bytes ≡ events_of c s.pieces ++ loss_of c s.field = connection-signs c bytes ∙ ap (events_of_signs c) s.signs_are ∙ events-shown c s.pieces s.field in
     go s.rest s.field (shows-one bytes (signs_in bytes) s).1 (ap (list_any is_lost) events ∙ none_lost c s.pieces (loss_of c s.field))
   where
-    go : (rest : List ℕ) (field : Option LostField) → held_in bytes ≡ open_part rest field → list_any is_lost (connection c bytes) ≡ list_any is_lost (loss_of c field)
+    go : (rest : List ℕ) (field : Option FrameField) → held_in bytes ≡ open_part rest field → list_any is_lost (connection c bytes) ≡ list_any is_lost (loss_of c field)
         → (list_any is_lost (connection c bytes) ≡ true → held_in bytes ≡ None) × (IsSome (held_in bytes) → list_any is_lost (connection c bytes) ≡ false)
         × (list_any is_lost (connection c bytes) ≡ false → IsSome (held_in bytes))
     go rest None held lost = ((λ t. absurd (cc)), (λ some. lost), (λ f. rw held refl))

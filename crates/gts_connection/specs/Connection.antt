@@ -1,6 +1,6 @@
 -- What comes over a connection: the messages of its frames, and the loss of synchronisation (profile).
 use Rattle.std.specs.Prelude.{◌≡◌, ℕ, zero, suc, ◌+◌, Bool, true, false, not, ◌==◌, nat_eq, List, [], ◌∷◌, ◌++◌, length, take, drop, find, flat_map, Option, Some, None, if◌then◌else◌}
-use Rattle.gts_connection.specs.Cited.Below.{AllByRecursion, An, Bi, Event, Frame, Fx, Heard, IsPiece, KeepAlive, Lost, LostField, Piece, Rest, field_at, has_piece, is_front, length_in, letters, piece_text, range_with_len, starts_with}
+use Rattle.gts_connection.specs.Cited.Below.{AllByRecursion, An, Bi, Event, Frame, FrameField, Fx, Heard, IsPiece, KeepAlive, Lost, Piece, Rest, field_at, has_piece, is_front, length_in, letters, piece_text, range_with_len, starts_with}
 
 -- ---- as a grammar
 
@@ -11,7 +11,7 @@ events_of circuit (Frame kind message ∷ pieces) = Heard circuit kind message �
 events_of circuit (KeepAlive kind ∷ pieces) = events_of circuit pieces
 
 -- the event of a loss, where there is one
-abbrev pub loss_of : ℕ → Option LostField → List Event
+abbrev pub loss_of : ℕ → Option FrameField → List Event
 loss_of circuit None = []
 loss_of circuit (Some field) = Lost circuit field ∷ []
 
@@ -21,7 +21,7 @@ pub record IsConnection (circuit : ℕ) (bytes : List ℕ) (events : List Event)
   pub each : AllByRecursion IsPiece pieces
   pub rest : List ℕ
   pub text : bytes ≡ flat_map piece_text pieces ++ rest
-  pub field : Option LostField
+  pub field : Option FrameField
   pub ending : Rest rest field
   pub events_are : events ≡ events_of circuit pieces ++ loss_of circuit field
 

@@ -1,6 +1,6 @@
 -- What a message was found to be, and what was found of it.
 use Rattle.std.specs.Prelude.{◌≡◌, ℕ, List, Result, Ok, count_ones, ⊤}
-use Rattle.gts_core.specs.Cited.Below.{AllByRecursion, Directory, IsItem, Item, ReqField, heading_of_message, items_of, mask_of, named}
+use Rattle.gts_core.specs.Cited.Below.{AllByRecursion, Directory, IsItem, Item, RequestField, heading_of_message, items_of, mask_of, named}
 use Rattle.gts_core.specs.declared.answer.Asking.{Asking}
 use Rattle.gts_core.specs.declared.answer.Judged.{Judged}
 use Rattle.gts_core.specs.declared.answer.Judged.TheVariants as judged
@@ -21,7 +21,7 @@ pub record AsksFor (items : List Item) (asking : Asking) : Type 0 where
   pub sound : AllByRecursion IsItem asking.request
 
 -- where a request was found, it was read so, and no bulletin was found
-abbrev pub Asks : Result (List Item) ReqField → Judged → Type 0
+abbrev pub Asks : Result (List Item) RequestField → Judged → Type 0
 Asks read (judged.Refused refusal) = ⊤
 Asks read (judged.Asked asking) = (read ≡ Ok asking.request) × AllByRecursion IsItem asking.request
 Asks read (judged.Duplicate position) = ⊤

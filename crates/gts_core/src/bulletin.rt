@@ -1,7 +1,7 @@
 ghost use Rattle.std.specs.Prelude.{◌≡◌, ◌≤◌, Ok, count_ones};
 ghost use Rattle.gts_core.specs.Cited.{IsDigestOf, digest_of, fields_of, parts_of, split_at};
 
-use gts_message::Parts;
+use gts_message::SplitMessage;
 use std::marker::Model;
 
 /// A message that is a new bulletin, with what was found of it: its parts, the digest of its heading and its text, and the
@@ -9,7 +9,7 @@ use std::marker::Model;
 #[derive(Drop)]
 pub struct Bulletin<'m> {
     message: &'m [u8],
-    parts: Parts<'m>,
+    parts: SplitMessage<'m>,
     digest: [u8; 32],
     mask: u64,
 }
@@ -28,7 +28,7 @@ impl<'m> Bulletin<'m> {
     /// A message as a new bulletin for the circuits of a mask.
     pub(crate) fn new(
         message: &'m [u8],
-        parts: Parts<'m>,
+        parts: SplitMessage<'m>,
         digest: [u8; 32],
         mask: u64,
     ) -> Bulletin<'m>
@@ -46,7 +46,7 @@ impl<'m> Bulletin<'m> {
     }
 
     /// The parts of its message.
-    pub fn parts(&self) -> Parts<'m>
+    pub fn parts(&self) -> SplitMessage<'m>
         ensures { split_at self.now.message ≡ Ok (parts_of result) }
     {
         self.parts

@@ -2,7 +2,7 @@
 use Rattle.std.proofs.Common.{◌≡◌, ℕ, ◌⊎◌, inl, inr, Bool, true, false, List, [], ◌∷◌, ◌++◌, Result, Ok, Err, refl, sym, ap, subst, ◌∙◌, is_err}
 use Rattle.std.proofs.lemmas.Bool.{true≢false}
 use Rattle.std.proofs.lemmas.List.{append-nil, append_assoc, map-append}
-use Rattle.gts_count.specs.Cited.{AfterCall, AfterSettled, AfterSettling, Alone, AtOnce, Behind, Counting, Counts, CountsIf, Directory, DiskFault, Done, Doubt, Entry, Event, Full, GathersOne, GoesOn, HasDoubt, HasUnsaid, Heard, Idle, IsAccepted, IsAnswerCause, IsAnswered, IsCompacting, IsCutShort, IsInDoubt, IsOneMore, IsReopening, IsSettling, IsTold, Kind, MayLeave, NoMemory, OpenFault, Outcome, Parts, SayFault, ShowsTable, Spent, Standing, State, Stopped, SwitchFault, Unsaid, after, after_all, all_done, all_unsaid, counted_meanings, meanings_by, need, outcome, outcome_at, outdated, restart_of, settled, state_at, table, table_of, tally_of}
+use Rattle.gts_count.specs.Cited.{AfterCall, AfterSettled, AfterSettling, Alone, AtOnce, Behind, CountedParts, Counting, Counts, CountsIf, Directory, DiskFault, Done, Doubt, Entry, Event, Full, GathersOne, GoesOn, HasDoubt, HasUnsaid, Heard, Idle, IsAccepted, IsAnswerCause, IsAnswered, IsCompacting, IsCutShort, IsInDoubt, IsOneMore, IsReopening, IsSettling, IsTold, Kind, MayLeave, NoMemory, OpenFault, Outcome, SayFault, ShowsTable, Spent, Standing, State, Stopped, SwitchFault, Unsaid, after, after_all, all_done, all_unsaid, counted_meanings, need, outcome, outcome_at, outdated, restart_of, settled, state_at, table, table_of, tally_of}
 use Rattle.gts_event.proofs.LawLemmas.{after_all-append}
 use Rattle.gts_count.proofs.CountingLemmas.{counts_more, counts_failed, same_after, outdated_after}
 use Rattle.gts_count.proofs.TakingLemmas.{counts_restarted}
@@ -25,12 +25,12 @@ module _ {O T : Type 0} (meanings : Standing O T) where
   state_appended now o entries events = after_all-append (meanings.directory now) (meanings.begin o) entries (all_done events)
 
   -- the numbers of a state under the directory that the switch has then
-  under : (state : Directory → State) (h : List Entry) (old new : Parts T) → meanings.directory new.switch ≡ meanings.directory old.switch
+  under : (state : Directory → State) (h : List Entry) (old new : CountedParts T) → meanings.directory new.switch ≡ meanings.directory old.switch
       → Counts (meanings.directory old.switch) (state (meanings.directory old.switch)) h new.counting → Counts (meanings.directory new.switch) (state (meanings.directory new.switch)) h new.counting
   under state h old new same counts = subst (λ (d : Directory). Counts d (state d) h new.counting) (sym same) counts
 
   -- the numbers of a history with more entries, under the directory that the switch has then
-  behind : (o : O) (h xs : List Entry) (old new : Parts T) → meanings.directory new.switch ≡ meanings.directory old.switch
+  behind : (o : O) (h xs : List Entry) (old new : CountedParts T) → meanings.directory new.switch ≡ meanings.directory old.switch
       → Counts (meanings.directory old.switch) (after_all (meanings.directory old.switch) (state_at meanings old.switch o h) xs) (h ++ xs) new.counting
       → Counts (meanings.directory new.switch) (state_at meanings new.switch o (h ++ xs)) (h ++ xs) new.counting
   behind o h xs old new same counts =
@@ -41,7 +41,7 @@ module _ {O T : Type 0} (meanings : Standing O T) where
 
   -- ---- what was gathered, with the numbers of its state
 
-  module _ (o : O) (entries : List Entry) (events : List Event) (old new : Parts T) (same : meanings.directory new.switch ≡ meanings.directory old.switch) where
+  module _ (o : O) (entries : List Entry) (events : List Event) (old new : CountedParts T) (same : meanings.directory new.switch ≡ meanings.directory old.switch) where
     abbrev d : Directory
     d = meanings.directory old.switch
 
@@ -138,7 +138,7 @@ module _ {O T : Type 0} (meanings : Standing O T) where
 
   -- ---- the calls
 
-  pub counted_call : (event : Event) (result : Result Outcome SwitchFault) (old new : Parts T) → IsAnswered meanings event result old.switch new.switch
+  pub counted_call : (event : Event) (result : Result Outcome SwitchFault) (old new : CountedParts T) → IsAnswered meanings event result old.switch new.switch
       → ((o : O) (entries : List Entry) (events : List Event) → meanings.gathers o entries events old.switch → IsTold result (meanings.directory old.switch) (state_with old.switch o entries events) event
       → Counts (meanings.directory old.switch) (state_with old.switch o entries events) entries old.counting
       → GoesOn (meanings.directory old.switch) (state_with old.switch o entries events) entries event result new.counting)
@@ -154,7 +154,7 @@ module _ {O T : Type 0} (meanings : Standing O T) where
     caused = λ o entries events stood fault e. t.caused o entries events stood.0 fault e;
   }
 
-  pub counted_settles : (result : Result (Unit {0}) SwitchFault) (old new : Parts T) → IsSettling meanings result old.switch new.switch → AfterSettled result old.counting new.counting → IsSettling (counted_meanings meanings) result old new
+  pub counted_settles : (result : Result (Unit {0}) SwitchFault) (old new : CountedParts T) → IsSettling meanings result old.switch new.switch → AfterSettled result old.counting new.counting → IsSettling (counted_meanings meanings) result old new
   counted_settles result old new r noted = record {
     directory = r.directory;
     settles = λ o entries events stood. counted_settling o entries events old new r.directory result noted stood.1 (r.settles o entries events stood.0);
@@ -170,14 +170,14 @@ module _ {O T : Type 0} (meanings : Standing O T) where
         );
   }
 
-  pub counted_leave : (now : Parts T) → MayLeave meanings now.switch → MayLeave (counted_meanings meanings) now
+  pub counted_leave : (now : CountedParts T) → MayLeave meanings now.switch → MayLeave (counted_meanings meanings) now
   counted_leave now leave = λ o h c kind m stood accepted. (
     leave o h c kind m stood.0 accepted,
     behind o h (Idle (Heard c kind m) NoMemory ∷ []) now now refl (counts_more (meanings.directory now.switch) (state_at meanings now.switch o h) h (Idle (Heard c kind m) NoMemory ∷ []) now.counting stood.1),
   )
 
   -- a message that was left, since there was no memory for its numbers, once all was settled
-  pub left_call : (c : ℕ) (kind : Kind) (m : List ℕ) (old mid new : Parts T) (answer : Result (Unit {0}) SwitchFault) (u : Unit {0}) → mid.switch ≡ old.switch
+  pub left_call : (c : ℕ) (kind : Kind) (m : List ℕ) (old mid new : CountedParts T) (answer : Result (Unit {0}) SwitchFault) (u : Unit {0}) → mid.switch ≡ old.switch
       → ((d : Directory) (s : State) (h : List Entry) → Counts d s h old.counting → Counts d s h mid.counting)
       → ((d : Directory) (s : State) (h : List Entry) → Counts d s h old.counting → IsAccepted (outcome d s (Heard c kind m)))
       → IsSettling (counted_meanings meanings) answer mid new → answer ≡ Ok u → MayLeave meanings new.switch
@@ -216,7 +216,7 @@ module _ {O T : Type 0} (meanings : Standing O T) where
           (accepted (meanings.directory old.switch) (state_with old.switch o entries events) entries stood.1)
 
   -- settling failed before a message was left
-  pub unsettled_call : (event : Event) (old mid new : Parts T) (answer : Result (Unit {0}) SwitchFault) (fault : SwitchFault) → mid.switch ≡ old.switch
+  pub unsettled_call : (event : Event) (old mid new : CountedParts T) (answer : Result (Unit {0}) SwitchFault) (fault : SwitchFault) → mid.switch ≡ old.switch
       → ((d : Directory) (s : State) (h : List Entry) → Counts d s h old.counting → Counts d s h mid.counting)
       → IsSettling (counted_meanings meanings) answer mid new → answer ≡ Err fault → IsAnswered (counted_meanings meanings) event (Err fault) old new
   unsettled_call event old mid new answer fault same keeps settling is = record {
@@ -256,8 +256,8 @@ module _ {O T : Type 0} (meanings : Standing O T) where
       caused o entries events Spent a = absurd a
       caused o entries events NoMemory a = absurd a
 
-  pub counted_reopening : (tells : Type 0) (result : Result (Unit {0}) OpenFault) (old new : Parts T) → new.counting ≡ old.counting → IsReopening meanings tells result old.switch new.switch → IsReopening (counted_meanings meanings) tells result old new
-  counted_reopening tells result old new same r = record {
+  pub counted_reopening : (observed : Type 0) (result : Result (Unit {0}) OpenFault) (old new : CountedParts T) → new.counting ≡ old.counting → IsReopening meanings observed result old.switch new.switch → IsReopening (counted_meanings meanings) observed result old new
+  counted_reopening observed result old new same r = record {
     directory = r.directory;
     adds = λ o h stood.
         let d : Directory = meanings.directory old.switch in
@@ -269,7 +269,7 @@ module _ {O T : Type 0} (meanings : Standing O T) where
     fault = λ told o h stood f e. r.fault told o h stood.0 f e;
   }
 
-  pub counted_compacting : (result : Result (Unit {0}) SwitchFault) (old new : Parts T) → new.counting ≡ old.counting → IsCompacting meanings result old.switch new.switch → IsCompacting (counted_meanings meanings) result old new
+  pub counted_compacting : (result : Result (Unit {0}) SwitchFault) (old new : CountedParts T) → new.counting ≡ old.counting → IsCompacting meanings result old.switch new.switch → IsCompacting (counted_meanings meanings) result old new
   counted_compacting result old new same r = record {
     directory = r.directory;
     begins = r.begins;
@@ -284,17 +284,9 @@ module _ {O T : Type 0} (meanings : Standing O T) where
           subst (λ (d : Directory). Counts d (after_all d (meanings.begin o) h) h new.counting) (sym r.directory)
           (subst (λ (c : Counting). Counts (meanings.directory old.switch) (state_at meanings old.switch o h) h c) (sym same) counts)
 
--- what holds of the parts holds of what stands for what they do
-module _ {O T W : Type 0} (parts : W → Parts T) (meanings : Standing O T) where
-  pub reopening_by : (tells : Type 0) (result : Result (Unit {0}) OpenFault) (old new : W) → IsReopening (counted_meanings meanings) tells result (parts old) (parts new) → IsReopening (meanings_by parts meanings) tells result old new
-  reopening_by tells result old new r = record { directory = r.directory; adds = r.adds; fault = r.fault }
-
-  pub compacting_by : (result : Result (Unit {0}) SwitchFault) (old new : W) → IsCompacting (counted_meanings meanings) result (parts old) (parts new) → IsCompacting (meanings_by parts meanings) result old new
-  compacting_by result old new r = record { directory = r.directory; begins = r.begins; done = r.done; left = r.left; idle = r.idle; caused = r.caused }
-
 -- the table of the numbers is that of the need
 module _ {O T : Type 0} (meanings : Standing O T) where
-  pub shows : (parts : Parts T) (text : List ℕ) → text ≡ table_of (tally_of parts.counting.numbers) → ShowsTable meanings parts text
+  pub shows : (parts : CountedParts T) (text : List ℕ) → text ≡ table_of (tally_of parts.counting.numbers) → ShowsTable meanings parts text
   shows parts text is o h stood said sure =
       is ∙ go parts.counting.current stood.1
     where

@@ -1,6 +1,6 @@
 -- What is kept beside a switch, by what the switch answers.
 use Rattle.std.proofs.Common.{◌≡◌, ℕ, suc, ◌<◌, ◌⊎◌, inl, inr, Bool, true, false, ◌&&◌, cond, List, [], ◌∷◌, ◌++◌, length, reverse, Option, Some, None, Result, Ok, Err, refl, sym, ap, subst, ◌∙◌, arith, append_assoc, IsTrue, nat_eq, take}
-use Rattle.gts_count.specs.Cited.{Accepted, AfterAccepted, AfterHeard, All, Arrival, Asked, Buffer, Bulletin, CanNote, Circuit, Counting, Counts, CountsIf, Directory, DiskFault, Doubt, Draw, Duplicate, Entry, Field, Follows, Full, GoesOn, HasDoubt, HasUnsaid, HeadingFields, Heard, IsAccepted, IsReady, IsTold, KeepsRest, Kind, Knows, LineLost, Message, MessageParts, NoMemory, Notes, Nothing, Numbers, Outcome, Prepares, Refused, Resend, SayFault, Spent, State, Stopped, SwitchFault, Unsaid, WasRead, after, answer_to, arrived, body_of, duplicate, find, has_row, heading_of, heading_text, heard_of, is_recent, is_same_heading, key_of, named, outcome, outdated, pointwise, text_of, verdict}
+use Rattle.gts_count.specs.Cited.{Accepted, AfterAccepted, AfterHeard, All, Arrival, Asked, Buffer, Bulletin, CanNote, Circuit, Counting, Counts, CountsIf, Directory, DiskFault, Doubt, Draw, Duplicate, Entry, Follows, Full, GoesOn, HasDoubt, HasUnsaid, HeadingFields, Heard, IsAccepted, IsReady, IsTold, KeepsRest, Kind, Knows, LineLost, Message, MessageField, MessageParts, NoMemory, Notes, Nothing, Numbers, Outcome, Prepares, Refused, Resend, SayFault, Spent, State, Stopped, SwitchFault, Unsaid, WasRead, after, answer_to, arrived, body_of, duplicate, find, has_row, heading_of, heading_text, heard_of, is_recent, is_same_heading, key_of, named, outcome, outdated, pointwise, text_of, verdict}
 use Rattle.std.proofs.lemmas.Bool.{true≢false, and_parts}
 use Rattle.std.proofs.lemmas.List.{length-map, reverse-append}
 use Rattle.std.proofs.lemmas.List.Elements.{All-append}
@@ -52,7 +52,7 @@ no_twin d t rows h text all none = go (duplicate d t h text) refl
 
 outcome_read : (d : Directory) (t : State) (c : ℕ) (kind : Kind) (m : List ℕ) (w : WasRead d m) → duplicate d t w.parts.heading w.parts.text ≡ None → outcome d t (Heard c kind m) ≡ Accepted t.count (length (named d c w.parts.heading))
 outcome_read d t c kind m w none =
-    ap (λ (r : Result MessageParts Field). elim r as (λ _. Outcome) [ Err field ↦ Refused (Message field) | Ok parts ↦ verdict d t c parts ]) w.read
+    ap (λ (r : Result MessageParts MessageField). elim r as (λ _. Outcome) [ Err field ↦ Refused (Message field) | Ok parts ↦ verdict d t c parts ]) w.read
     ∙ ap (λ (b : Bool). cond b (answer_to d t c (Rattle.gts_request.specs.Request.request_at w.parts.text)) (elim (duplicate d t w.parts.heading w.parts.text) as (λ _. Outcome) [ Some b ↦ Duplicate b.position | None ↦ Accepted t.count (length (named d c w.parts.heading)) ])) w.other
     ∙ ap (λ (o : Option Bulletin). elim o as (λ _. Outcome) [ Some b ↦ Duplicate b.position | None ↦ Accepted t.count (length (named d c w.parts.heading)) ]) none
 

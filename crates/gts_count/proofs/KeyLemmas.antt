@@ -1,6 +1,6 @@
 -- The key of a bulletin is its first eleven bytes, and stands so in its frames.
 use Rattle.std.proofs.Common.{◌≡◌, ℕ, ◌+◌, ◌<◌, ◌≤◌, true, ◌==◌, cond, List, [], ◌∷◌, ◌++◌, length, set, take, drop, Option, Some, None, Result, Ok, Err, refl, sym, ap, ◌∙◌, arith, length-append, is_ok}
-use Rattle.gts_count.specs.Cited.{Bulletin, Choice, CircuitState, Directory, Draws, EOL, Field, HeadingFields, IsBody, IsHeading, Kind, MessageParts, Nothing_waits, Outside, Repeats, SOH, State, Taken, after, after_take, body_at, body_of, bulletin_at, channel_bytes, choice, dec, digits_on, drawn, enumerate_from, find, frame, group_text, heading_of, heading_text, idle, key_of, key_of_frame, letters, line, message_end, message_of, no_heading, number_in, numbered_frame, on, on_circuit, split_at, spoken, with_drawn}
+use Rattle.gts_count.specs.Cited.{Bulletin, Choice, CircuitState, Directory, Draws, EOL, HeadingFields, IsBody, IsHeading, Kind, MessageField, MessageParts, Nothing_waits, Outside, Repeats, SOH, State, Taken, after, after_take, body_at, body_of, bulletin_at, channel_bytes, choice, dec, digits_on, drawn, enumerate_from, find, frame, frame_of_draw, group_text, heading_of, heading_text, idle, key_of, key_of_frame, letters, message_end, message_of, no_heading, number_in, numbered_frame, on, on_circuit, split_at, spoken, with_drawn}
 use Rattle.std.proofs.lemmas.Bool.{true≢false, eq-eqb, ne_eqb}
 use Rattle.std.proofs.lemmas.List.{take-append-le, get_or-set_same}
 use Rattle.std.proofs.Math.Seq.{drop-append-add}
@@ -45,12 +45,12 @@ front_is : (a b : List ℕ) → 11 ≤ length a → (11 ≤ length (a ++ b)) × 
 front_is a b long = (omega (arith, long, length-append a b), take-append-le 11 a b long)
 
 heading_is : (body : List ℕ) (found : HeadingFields × List ℕ) → body_at body ≡ Ok found → heading_of body ≡ found.0
-heading_is body found e = ap (λ (r : Result (HeadingFields × List ℕ) Field). elim r as (λ _. HeadingFields) [ Ok found ↦ found.0 | Err _ ↦ no_heading ]) e
+heading_is body found e = ap (λ (r : Result (HeadingFields × List ℕ) MessageField). elim r as (λ _. HeadingFields) [ Ok found ↦ found.0 | Err _ ↦ no_heading ]) e
 
 pub key_body : (body : List ℕ) → is_ok (body_at body) ≡ true → (11 ≤ length body) × (take 11 body ≡ key_of body)
 key_body body good = go (body_at body) refl good
   where
-    go : (r : Result (HeadingFields × List ℕ) Field) → body_at body ≡ r → is_ok r ≡ true → (11 ≤ length body) × (take 11 body ≡ key_of body)
+    go : (r : Result (HeadingFields × List ℕ) MessageField) → body_at body ≡ r → is_ok r ≡ true → (11 ≤ length body) × (take 11 body ≡ key_of body)
     go (Err field) e ok = absurd (true≢false (sym ok))
     go (Ok found) e ok =
         let is : IsBody body found.0 found.1 = body_is_spelled body found.1 found.0 e in
@@ -65,7 +65,7 @@ key_body body good = go (body_at body) refl good
 -- the body of a message that could be read
 pub key_message : (m : List ℕ) (parts : MessageParts) → split_at m ≡ Ok parts → (body_of m ≡ parts.body) × (11 ≤ length parts.body) × (take 11 parts.body ≡ key_of (body_of m)) × (heading_of (body_of m) ≡ parts.heading)
 key_message m parts e =
-    let same : body_of m ≡ parts.body = ap (λ (r : Result MessageParts Field). elim r as (λ _. List ℕ) [ Err _ ↦ [] | Ok p ↦ p.body ]) e in
+    let same : body_of m ≡ parts.body = ap (λ (r : Result MessageParts MessageField). elim r as (λ _. List ℕ) [ Err _ ↦ [] | Ok p ↦ p.body ]) e in
     let read : body_at parts.body ≡ Ok (parts.heading, parts.text) = body_of_message m parts e in
     let key = key_body parts.body (ap is_ok read) in
     (same, key.0, key.1 ∙ sym (ap key_of same), ap heading_of same ∙ heading_is parts.body (parts.heading, parts.text) read)
@@ -111,7 +111,7 @@ find_last e (t ∷ ts) p =
 pub draw_says : (d : Directory) (t : State) (c i p : ℕ) (b : Bulletin) → c < length t.circuits → choice d t c ≡ Draws i p → find (λ x. x.position == p) t.accepted ≡ Some b
     → spoken d t (Taken c) ≡ on (c + 1) (numbered_frame (digits_on d c) i b)
 draw_says d t c i p b here is there =
-    ap said_so is ∙ ap (λ (u : State). on (c + 1) (line d u c i)) then ∙ ap (on (c + 1)) (ap line_so found ∙ ap frame_so there)
+    ap said_so is ∙ ap (λ (u : State). on (c + 1) (frame_of_draw d u c i)) then ∙ ap (on (c + 1)) (ap line_so found ∙ ap frame_so there)
   where
     q : CircuitState
     q = on_circuit t c
@@ -121,8 +121,8 @@ draw_says d t c i p b here is there =
 
     said_so : Choice → Outside
     said_so ch = elim ch as (λ _. Outside) [
-      | Repeats index ↦ on (c + 1) (line d (after d t (Taken c)) c index)
-      | Draws index position ↦ on (c + 1) (line d (after d t (Taken c)) c index)
+      | Repeats index ↦ on (c + 1) (frame_of_draw d (after d t (Taken c)) c index)
+      | Draws index position ↦ on (c + 1) (frame_of_draw d (after d t (Taken c)) c index)
       | Nothing_waits ↦ []
     ]
 

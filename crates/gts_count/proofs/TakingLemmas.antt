@@ -1,6 +1,6 @@
 -- What a take leads to, a loss, and an opening of the journal, beside the numbers.
 use Rattle.std.proofs.Common.{◌≡◌, ℕ, zero, suc, ◌+◌, ◌<◌, Bool, true, false, ◌&&◌, ◌==◌, cond, List, [], ◌∷◌, ◌++◌, length, get_or, map, Option, Some, None, Result, Ok, Err, slice_get, refl, sym, ap, ◌∙◌, arith, IsTrue}
-use Rattle.gts_count.specs.Cited.{Accepted, AfterHeard, AfterTaken, Asked, Bulletin, Circuit, Counting, Counts, Directory, DiskFault, Draw, Duplicate, Entry, Follows, Full, GoesOn, IsDrawn, IsTold, Knows, LineLost, Lost, LostField, NoMemory, Nothing, OpenFault, Outcome, Refused, Resend, Restarted, SayFault, Spent, State, Stopped, SwitchFault, Taken, after, after_all, choice, digits_on, find, has_row, is_bulletin, key_of, key_of_frame, list_all, numbered_frame, on, outcome, restart_of, restarted, spoken}
+use Rattle.gts_count.specs.Cited.{Accepted, AfterHeard, AfterTaken, Asked, Bulletin, Circuit, Counting, Counts, Directory, DiskFault, Draw, Duplicate, Entry, Follows, FrameField, Full, GoesOn, IsDrawn, IsTold, Knows, LineLost, Lost, NoMemory, Nothing, OpenFault, Outcome, Refused, Resend, Restarted, SayFault, Spent, State, Stopped, SwitchFault, Taken, after, after_all, choice, digits_on, find, has_row, is_bulletin, key_of, key_of_frame, list_all, numbered_frame, on, outcome, restart_of, restarted, spoken}
 use Rattle.std.proofs.lemmas.Bool.{true≢false}
 use Rattle.std.proofs.lemmas.List.{length-map}
 use Rattle.gts_event.proofs.LawLemmas.{outcome-same, spoken-same, bulletin-parts}
@@ -75,7 +75,7 @@ module _ (d : Directory) (s : State) (h : List Entry) (old new : Counting) (c : 
 
 module _ (d : Directory) (s : State) (h : List Entry) (old new : Counting) where
   -- a loss changes no state
-  pub counts_lost : (c : ℕ) (field : LostField) (result : Result Outcome SwitchFault) → AfterHeard None result old new → Counts d s h old → GoesOn d s h (Lost c field) result new
+  pub counts_lost : (c : ℕ) (field : FrameField) (result : Result Outcome SwitchFault) → AfterHeard None result old new → Counts d s h old → GoesOn d s h (Lost c field) result new
   counts_lost c field (Ok (Accepted p n)) noted counts = same_after d s h old new noted counts
   counts_lost c field (Ok (Duplicate p)) noted counts = same_after d s h old new noted counts
   counts_lost c field (Ok (Asked a b)) noted counts = same_after d s h old new noted counts

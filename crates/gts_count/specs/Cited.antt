@@ -12,7 +12,7 @@ pub use Rattle.gts_count.specs.Text.{AreInOrder, SortedRows, entry_text, is_coun
 pub use Rattle.gts_count.specs.Start.{AreBodies, Begins, HasEachRow, HasKeys, HasRings, HaveRows, NotesAll, NotesDraws, NotesKept, NotesStart, Starts, at_position, key_by, nothing_drawn, ring_with}
 pub use Rattle.gts_count.specs.declared.counting.Counting.{Counting}
 pub use Rattle.gts_count.specs.declared.numbers.Numbers.{Numbers}
-pub use Rattle.gts_count.specs.declared.parts.Parts.{Parts}
+pub use Rattle.gts_count.specs.declared.parts.CountedParts.{CountedParts}
 pub use Rattle.gts_count.specs.declared.recent.Arrival.{Arrival}
 pub use Rattle.gts_count.specs.declared.recent.Recent.{Recent}
 pub use Rattle.gts_count.specs.declared.rows.Row.{Row}

@@ -4,12 +4,12 @@ ghost use Rattle.gts_count.specs.Numbers.{IsSound};
 use crate::start::counting_of;
 use crate::steps::{compact, hear, leave, lose, restart, settle, take};
 use crate::text::table;
-use crate::{Counting, Parts};
+use crate::{CountedParts, Counting};
 use gts_alphabet::NoMemory;
 use gts_calls::Switch;
 use gts_directory::Directory;
 use gts_event::{Need, Outcome, SwitchFault};
-use gts_frame::{FrameBuf, Kind, LostField};
+use gts_frame::{FrameBuf, FrameField, Kind};
 use gts_record::OpenFault;
 use std::alloc::Global;
 
@@ -17,7 +17,7 @@ use std::alloc::Global;
 /// need of the history and of what was gathered, counted from scratch, until a device failed.
 #[derive(Drop)]
 pub struct Counted<T> {
-    pub parts: Parts<T>,
+    pub parts: CountedParts<T>,
     ghost sound: { IsSound parts.counting.numbers },
 }
 
@@ -28,7 +28,7 @@ impl<T: Switch> Switch for Counted<T> {
 
     ghost meanings = { meanings_by (λ c. c.parts) T.meanings };
 
-    ghost tells = { T.tells };
+    ghost observed = { T.observed };
 
     ghost disk_faults = { λ c. T.disk_faults c.parts.switch };
 
@@ -48,7 +48,7 @@ impl<T: Switch> Switch for Counted<T> {
         hear(&mut self.parts, alloc, c, kind, message)
     }
 
-    fn lost(&mut self, c: u32, field: LostField) -> Result<Outcome, SwitchFault> {
+    fn lost(&mut self, c: u32, field: FrameField) -> Result<Outcome, SwitchFault> {
         lose(&mut self.parts, c, field)
     }
 
@@ -95,7 +95,7 @@ impl<T: Switch> Counted<T> {
     {
         match counting_of(alloc, directory, need) {
             Ok(counting) => Ok(Counted {
-                parts: Parts { switch, counting },
+                parts: CountedParts { switch, counting },
             }),
             Err(NoMemory) => Err((switch, NoMemory)),
         }
@@ -118,7 +118,7 @@ impl<T> Counted<T> {
         ensures counting { result.parts.counting ≡ counting }
     {
         Counted {
-            parts: Parts { switch, counting },
+            parts: CountedParts { switch, counting },
         }
     }
 
@@ -127,7 +127,7 @@ impl<T> Counted<T> {
         ensures { result ≡ self.parts.switch }
     {
         let Counted { parts } = self;
-        let Parts {
+        let CountedParts {
             switch,
             counting: _,
         } = parts;

@@ -18,7 +18,7 @@ pub use counted::Counted;
 pub use counting::{Counting, key_in, note_heard, note_taken, ready};
 pub use laws::an_accepted_message_joins_the_window;
 pub use numbers::Numbers;
-pub use parts::Parts;
+pub use parts::CountedParts;
 pub use recent::{Arrival, Recent, arrived};
 pub use rows::{Row, add_row, has_row, join, join_draw, leave, leave_draw};
 pub use start::counting_of;

@@ -2,19 +2,19 @@
 ghost use Rattle.std.specs.Prelude.{◌≡◌, ◌<◌, ◌≤◌, length};
 ghost use Rattle.gts_count.specs.Cited.{AfterSettled, HasCallCause, HasReopenCause, Heard, IsAnswered, IsCompacting, IsReopening, IsSettling, IsSound, LONGEST_MESSAGE, LeavesFrame, Lost, MayLeave, Taken, counted_meanings};
 
-use crate::Parts;
+use crate::CountedParts;
 use crate::counting::{note_heard, note_taken, ready};
 use gts_alphabet::NoMemory;
 use gts_calls::Switch;
 use gts_event::{Outcome, SwitchFault};
-use gts_frame::{FrameBuf, Kind, LostField};
+use gts_frame::{FrameBuf, FrameField, Kind};
 use gts_record::OpenFault;
 use std::alloc::Global;
 
 /// A message came whole. The growth that its numbers want is taken first: where there is no memory for it, the switch isn't
 /// called, and what was gathered is settled.
 pub fn hear<T: Switch>(
-    parts: &mut Parts<T>,
+    parts: &mut CountedParts<T>,
     alloc: Global,
     c: u32,
     kind: Kind,
@@ -46,9 +46,9 @@ pub fn hear<T: Switch>(
 
 /// Synchronisation was lost. Takes no memory.
 pub fn lose<T: Switch>(
-    parts: &mut Parts<T>,
+    parts: &mut CountedParts<T>,
     c: u32,
-    field: LostField,
+    field: FrameField,
 ) -> Result<Outcome, SwitchFault>
     requires circuit { c < length (T.meanings.directory parts.old.switch).circuits }
     requires sound { IsSound parts.old.counting.numbers }
@@ -66,7 +66,7 @@ pub fn lose<T: Switch>(
 
 /// One take. Wants no memory for the numbers: each bulletin that waits has its row.
 pub fn take<T: Switch>(
-    parts: &mut Parts<T>,
+    parts: &mut CountedParts<T>,
     c: u32,
     out: &mut FrameBuf,
 ) -> Result<Outcome, SwitchFault>
@@ -86,7 +86,7 @@ pub fn take<T: Switch>(
 }
 
 /// Settles what was gathered, which was counted already. Takes no memory.
-pub fn settle<T: Switch>(parts: &mut Parts<T>) -> Result<(), SwitchFault>
+pub fn settle<T: Switch>(parts: &mut CountedParts<T>) -> Result<(), SwitchFault>
     requires sound { IsSound parts.old.counting.numbers }
     ensures settling { IsSettling (counted_meanings T.meanings) result parts.old parts.new }
     ensures switch { IsSettling T.meanings result parts.old.switch parts.new.switch }
@@ -104,15 +104,15 @@ pub fn settle<T: Switch>(parts: &mut Parts<T>) -> Result<(), SwitchFault>
 }
 
 /// A message may be left for want of memory: it changes no numbers. Does nothing.
-pub fn leave<T: Switch>(parts: &Parts<T>)
+pub fn leave<T: Switch>(parts: &CountedParts<T>)
     ensures { MayLeave (counted_meanings T.meanings) parts.now }
 {
     parts.switch.leave();
 }
 
 /// Opens the journal again, which changes no numbers.
-pub fn restart<T: Switch>(parts: &mut Parts<T>, alloc: Global) -> Result<(), OpenFault>
-    ensures reopening { IsReopening (counted_meanings T.meanings) T.tells result
+pub fn restart<T: Switch>(parts: &mut CountedParts<T>, alloc: Global) -> Result<(), OpenFault>
+    ensures reopening { IsReopening (counted_meanings T.meanings) T.observed result
         parts.old parts.new }
     ensures counting { parts.new.counting ≡ parts.old.counting }
     ensures cause { HasReopenCause result
@@ -123,7 +123,7 @@ pub fn restart<T: Switch>(parts: &mut Parts<T>, alloc: Global) -> Result<(), Ope
 }
 
 /// Compacts the journal, which changes no numbers.
-pub fn compact<T: Switch>(parts: &mut Parts<T>, alloc: Global) -> Result<(), SwitchFault>
+pub fn compact<T: Switch>(parts: &mut CountedParts<T>, alloc: Global) -> Result<(), SwitchFault>
     ensures compacting { IsCompacting (counted_meanings T.meanings) result parts.old parts.new }
     ensures counting { parts.new.counting ≡ parts.old.counting }
     ensures cause { HasCallCause result

@@ -1,6 +1,6 @@
 -- Calls over the parts of an engine: room is made, an event enters, and it is told.
 use Rattle.std.proofs.Common.{◌≡◌, ◌≤◌, ◌++◌, ◌∷◌, if◌then◌else◌, Bool, true, false, inl, inr, ℕ, List, [], Option, Some, None, Result, Ok, Err, refl, sym, ap, subst, ◌∙◌, arith, IfErr, IfOk, OnOk, slice_index_or, ◌<◌}
-use Rattle.gts_engine.specs.Cited.{AnswersIn, Call, Core, Device, Directory, DiskFault, Engine, Event, Full, HasCallCause, HasEntered, HasTold, Holds, IsAnswered, IsDeviceFault, IsSound, LeavesCall, MayHaveSettled, NoMemory, Outcome, Outside, Parts, Rose, SayFault, SayMode, Spent, State, Stopped, SwitchFault, by_station, engine_of, held_pieces, joined, meanings_of, most_drawn, on, outcome, spoken, stopped_after}
+use Rattle.gts_engine.specs.Cited.{AnswersIn, Call, Core, Device, Directory, DiskFault, Engine, EngineParts, Event, Full, HasCallCause, HasEntered, HasTold, Holds, IsAnswered, IsDeviceFault, IsSound, LeavesCall, MayHaveSettled, NoMemory, Outcome, Outside, Rose, SayFault, SayMode, Spent, State, Stopped, SwitchFault, by_station, engine_of, held_pieces, joined, meanings_of, most_drawn, on, outcome, spoken, stopped_after}
 use Rattle.gts_engine.proofs.TurnLemmas.{goes_on}
 use Rattle.gts_engine.proofs.AnswerLemmas.{EachHeld, answered, stopped_leaves}
 use Rattle.gts_engine.proofs.GatherLemmas.{fails_after}
@@ -16,35 +16,35 @@ cause_then first result a b c x y z p q = record {
   say_failed = λ e. omega (arith, p.say_later, q.say_failed e);
 }
 
-module _ {P : Type 0} (tells : Type 0) (calls : P → List Call) (disk say : P → ℕ) (result : Result (Unit {0}) SwitchFault) (old mid : Parts P) where
-  pub may_directory : MayHaveSettled tells calls disk say result old mid → mid.directory ≡ old.directory
+module _ {P : Type 0} (observed : Type 0) (calls : P → List Call) (disk say : P → ℕ) (result : Result (Unit {0}) SwitchFault) (old mid : EngineParts P) where
+  pub may_directory : MayHaveSettled observed calls disk say result old mid → mid.directory ≡ old.directory
   may_directory (inl same) = ap part_directory same.1
   may_directory (inr settled) = ap part_directory settled.rest
 
-  pub may_core : MayHaveSettled tells calls disk say result old mid → mid.core ≡ old.core
+  pub may_core : MayHaveSettled observed calls disk say result old mid → mid.core ≡ old.core
   may_core (inl same) = ap part_core same.1
   may_core (inr settled) = ap part_core settled.rest
 
-  pub may_sound : MayHaveSettled tells calls disk say result old mid → IsSound tells calls old → IsSound tells calls mid
-  may_sound (inl same) sound = subst (λ (p : Parts P). IsSound tells calls p) (sym same.1) sound
+  pub may_sound : MayHaveSettled observed calls disk say result old mid → IsSound observed calls old → IsSound observed calls mid
+  may_sound (inl same) sound = subst (λ (p : EngineParts P). IsSound observed calls p) (sym same.1) sound
   may_sound (inr settled) sound = settled.sound
 
   -- where nothing was gathered, nothing failed
-  pub may_ok : MayHaveSettled tells calls disk say result old mid → (engine_of old).gathered ≡ false → result ≡ Ok tt
+  pub may_ok : MayHaveSettled observed calls disk say result old mid → (engine_of old).gathered ≡ false → result ≡ Ok tt
   may_ok (inl same) none = same.0
   may_ok (inr settled) none = (settled.nothing none).0
 
   -- where nothing was gathered, nothing is held
-  pub may_quiet : MayHaveSettled tells calls disk say result old mid → IsSound tells calls old → (engine_of old).gathered ≡ false → (engine_of mid).held ≡ []
+  pub may_quiet : MayHaveSettled observed calls disk say result old mid → IsSound observed calls old → (engine_of old).gathered ≡ false → (engine_of mid).held ≡ []
   may_quiet (inl same) sound none = ap part_held same.1 ∙ ap held_pieces (sound.rests none)
   may_quiet (inr settled) sound none = ap held_pieces settled.silent
 
   -- only a device fails
-  pub may_kind : MayHaveSettled tells calls disk say result old mid → IfErr result IsDeviceFault
+  pub may_kind : MayHaveSettled observed calls disk say result old mid → IfErr result IsDeviceFault
   may_kind (inl same) = subst (λ (r : Result (Unit {0}) SwitchFault). IfErr r IsDeviceFault) (sym same.0) tt
   may_kind (inr settled) = settled.kind
 
-  pub may_stops : MayHaveSettled tells calls disk say result old mid → mid.stopped ≡ stopped_after old.stopped result
+  pub may_stops : MayHaveSettled observed calls disk say result old mid → mid.stopped ≡ stopped_after old.stopped result
   may_stops (inl same) = ap part_stopped same.1 ∙ sym (ap (stopped_after old.stopped) same.0)
   may_stops (inr settled) = settled.stops
 
@@ -57,23 +57,23 @@ module _ {P : Type 0} (tells : Type 0) (calls : P → List Call) (disk say : P �
     say_failed = λ e. absurd (let no : ◌≡◌ {A = Result (Unit {0}) SwitchFault} (Ok tt) (Err SayFault) = sym ok ∙ e in cc no);
   }
 
-  pub may_cause : MayHaveSettled tells calls disk say result old mid → HasCallCause result (disk old.station) (disk mid.station) (say old.station) (say mid.station)
+  pub may_cause : MayHaveSettled observed calls disk say result old mid → HasCallCause result (disk old.station) (disk mid.station) (say old.station) (say mid.station)
   may_cause (inl same) = subst (λ (p : P). HasCallCause result (disk old.station) (disk p) (say old.station) (say p)) (sym (ap part_station same.1)) (unfailed same.0)
   may_cause (inr settled) = settled.cause
 
 -- as many bytes are in use, where room could be made
-pub may_used : {P : Type 0} (tells : Type 0) (calls : P → List Call) (disk say : P → ℕ) (result : Result (Unit {0}) SwitchFault) (old mid : Parts P) → MayHaveSettled tells calls disk say result old mid → result ≡ Ok tt
+pub may_used : {P : Type 0} (observed : Type 0) (calls : P → List Call) (disk say : P → ℕ) (result : Result (Unit {0}) SwitchFault) (old mid : EngineParts P) → MayHaveSettled observed calls disk say result old mid → result ≡ Ok tt
     → (engine_of mid).used ≡ (engine_of old).used
-may_used tells calls disk say result old mid (inl same) ok = ap part_used same.1
-may_used tells calls disk say result old mid (inr settled) ok = subst (λ (r : Result (Unit {0}) SwitchFault). OnOk r ((engine_of mid).used ≡ (engine_of old).used)) ok settled.used
+may_used observed calls disk say result old mid (inl same) ok = ap part_used same.1
+may_used observed calls disk say result old mid (inr settled) ok = subst (λ (r : Result (Unit {0}) SwitchFault). OnOk r ((engine_of mid).used ≡ (engine_of old).used)) ok settled.used
 
 -- as many draws are counted where room could be made, or none
-pub draws_still : {P : Type 0} (tells : Type 0) (calls : P → List Call) (disk say : P → ℕ) (result : Result (Unit {0}) SwitchFault) (old mid : Parts P) (c : ℕ) → MayHaveSettled tells calls disk say result old mid
+pub draws_still : {P : Type 0} (observed : Type 0) (calls : P → List Call) (disk say : P → ℕ) (result : Result (Unit {0}) SwitchFault) (old mid : EngineParts P) (c : ℕ) → MayHaveSettled observed calls disk say result old mid
     → slice_index_or old.drawn c 0 < most_drawn old.directory c → slice_index_or mid.drawn c 0 < most_drawn mid.directory c
-draws_still {P} tells calls disk say result old mid c (inl same) few = subst (λ (p : Parts P). slice_index_or p.drawn c 0 < most_drawn p.directory c) (sym same.1) few
-draws_still tells calls disk say result old mid c (inr settled) few =
+draws_still {P} observed calls disk say result old mid c (inl same) few = subst (λ (p : EngineParts P). slice_index_or p.drawn c 0 < most_drawn p.directory c) (sym same.1) few
+draws_still observed calls disk say result old mid c (inr settled) few =
     let D : Directory → Type 0 = λ d. slice_index_or mid.drawn c 0 < most_drawn d c in
-    subst D (sym (ap part_directory settled.rest)) (omega (arith, few, drawn_settled tells calls disk say result old mid settled c))
+    subst D (sym (ap part_directory settled.rest)) (omega (arith, few, drawn_settled observed calls disk say result old mid settled c))
 
 -- ---- answers with the same fault
 
@@ -122,57 +122,57 @@ told_cause (Err f) a b x y fault later same = record {
   say_failed = λ e. fault.1;
 }
 
-module _ {P : Type 0} (tells : Type 0) (calls : P → List Call) (disk say : P → ℕ) (first old : Parts P) (cleared : Result (Unit {0}) SwitchFault)
-    (clears : MayHaveSettled tells calls disk say cleared first old) (ok : cleared ≡ Ok tt) (going : first.stopped ≡ None) where
+module _ {P : Type 0} (observed : Type 0) (calls : P → List Call) (disk say : P → ℕ) (first old : EngineParts P) (cleared : Result (Unit {0}) SwitchFault)
+    (clears : MayHaveSettled observed calls disk say cleared first old) (ok : cleared ≡ Ok tt) (going : first.stopped ≡ None) where
   -- the engine goes on behind what was cleared
   pub goes_cleared : old.stopped ≡ None
-  goes_cleared = may_stops tells calls disk say cleared first old clears ∙ ap (stopped_after first.stopped) ok ∙ going
+  goes_cleared = may_stops observed calls disk say cleared first old clears ∙ ap (stopped_after first.stopped) ok ∙ going
 
   -- what holds of the core behind what was cleared, held of it before
   pub each_before : (Q : Directory → State → Type 0) → ((s : State) → Holds old.directory old.core s → Q old.directory s) → (s : State) → Holds first.directory first.core s → Q first.directory s
   each_before Q each s holds =
       let H : Core → Type 0 = λ k. Holds first.directory k s in
       let D : Directory → Type 0 = λ d. Holds d old.core s → Q d s in
-      subst D (may_directory tells calls disk say cleared first old clears) (each s) (subst H (sym (may_core tells calls disk say cleared first old clears)) holds)
+      subst D (may_directory observed calls disk say cleared first old clears) (each s) (subst H (sym (may_core observed calls disk say cleared first old clears)) holds)
 
   -- and what held of it before holds still
   pub each_behind : (Q : Directory → State → Type 0) → ((s : State) → Holds first.directory first.core s → Q first.directory s) → (s : State) → Holds old.directory old.core s → Q old.directory s
   each_behind Q each s holds =
       let H : Core → Type 0 = λ k. Holds old.directory k s in
       let D : Directory → Type 0 = λ d. Holds d first.core s → Q d s in
-      subst D (sym (may_directory tells calls disk say cleared first old clears)) (each s) (subst H (may_core tells calls disk say cleared first old clears) holds)
+      subst D (sym (may_directory observed calls disk say cleared first old clears)) (each s) (subst H (may_core observed calls disk say cleared first old clears) holds)
 
-module _ {P : Type 0} (tells : Type 0) (calls : P → List Call) (disk say : P → ℕ) (mode : SayMode) (event : Event) (first old : Parts P) (cleared : Result (Unit {0}) SwitchFault)
-    (clears : MayHaveSettled tells calls disk say cleared first old) where
+module _ {P : Type 0} (observed : Type 0) (calls : P → List Call) (disk say : P → ℕ) (mode : SayMode) (event : Event) (first old : EngineParts P) (cleared : Result (Unit {0}) SwitchFault)
+    (clears : MayHaveSettled observed calls disk say cleared first old) where
   -- no room could be made
-  pub answers_uncleared : (fault : SwitchFault) → cleared ≡ Err fault → IsSound tells calls first → AnswersIn tells calls disk say mode event (Err fault) first old
+  pub answers_uncleared : (fault : SwitchFault) → cleared ≡ Err fault → IsSound observed calls first → AnswersIn observed calls disk say mode event (Err fault) first old
   answers_uncleared fault failed sound = record {
-    called = λ o entries events kept. fails_after tells calls mode o entries events event disk say cleared fault first old failed clears kept;
+    called = λ o entries events kept. fails_after observed calls mode o entries events event disk say cleared fault first old failed clears kept;
     outcome = tt;
-    directory = may_directory tells calls disk say cleared first old clears;
-    sound = may_sound tells calls disk say cleared first old clears sound;
-    stops = may_stops tells calls disk say cleared first old clears ∙ ap (stopped_after first.stopped) failed ∙ stops_alike (Unit {0}) Outcome first.stopped fault;
-    cause = cause_alike cleared fault (disk first.station) (disk old.station) (say first.station) (say old.station) failed (may_cause tells calls disk say cleared first old clears);
+    directory = may_directory observed calls disk say cleared first old clears;
+    sound = may_sound observed calls disk say cleared first old clears sound;
+    stops = may_stops observed calls disk say cleared first old clears ∙ ap (stopped_after first.stopped) failed ∙ stops_alike (Unit {0}) Outcome first.stopped fault;
+    cause = cause_alike cleared fault (disk first.station) (disk old.station) (say first.station) (say old.station) failed (may_cause observed calls disk say cleared first old clears);
   }
 
   module _ (ok : cleared ≡ Ok tt) (going : first.stopped ≡ None) where
     going_old : old.stopped ≡ None
-    going_old = goes_cleared tells calls disk say first old cleared clears ok going
+    going_old = goes_cleared observed calls disk say first old cleared clears ok going
 
-    module _ (mid : Parts P) (result : Outcome) (enters : HasEntered tells calls event result old mid) where
+    module _ (mid : EngineParts P) (result : Outcome) (enters : HasEntered observed calls event result old mid) where
       outcome_first : (s : State) → Holds first.directory first.core s → result ≡ outcome first.directory s event
-      outcome_first = each_before tells calls disk say first old cleared clears ok going (λ d s. result ≡ outcome d s event) enters.entered.step.outcome
+      outcome_first = each_before observed calls disk say first old cleared clears ok going (λ d s. result ≡ outcome d s event) enters.entered.step.outcome
 
       directory_all : mid.directory ≡ first.directory
-      directory_all = enters.entered.directory ∙ may_directory tells calls disk say cleared first old clears
+      directory_all = enters.entered.directory ∙ may_directory observed calls disk say cleared first old clears
 
       cause_mid : HasCallCause cleared (disk first.station) (disk mid.station) (say first.station) (say mid.station)
       cause_mid =
           let C : P → Type 0 = λ p. HasCallCause cleared (disk first.station) (disk p) (say first.station) (say p) in
-          subst C (sym enters.station) (may_cause tells calls disk say cleared first old clears)
+          subst C (sym enters.station) (may_cause observed calls disk say cleared first old clears)
 
-      module _ (new : Parts P) (channel : ℕ) (bytes : List ℕ) (r : Result (Unit {0}) SwitchFault) (told : HasTold tells calls disk say channel bytes r mid new)
-          (says : EachHeld tells calls mode event (engine_of old) (λ d s. by_station mode (spoken d s event) ≡ on channel bytes)) where
+      module _ (new : EngineParts P) (channel : ℕ) (bytes : List ℕ) (r : Result (Unit {0}) SwitchFault) (told : HasTold observed calls disk say channel bytes r mid new)
+          (says : EachHeld observed calls mode event (engine_of old) (λ d s. by_station mode (spoken d s event) ≡ on channel bytes)) where
         told_directory : new.directory ≡ first.directory
         told_directory = by_cases (engine_of mid).gathered refl
           where
@@ -185,24 +185,24 @@ module _ {P : Type 0} (tells : Type 0) (calls : P → List Call) (disk say : P �
             cause_then cleared r (disk first.station) (disk mid.station) (disk new.station) (say first.station) (say mid.station) (say new.station) cause_mid
             (told_cause r (disk mid.station) (disk new.station) (say mid.station) (say new.station) told.fault told.later told.disk_stays)
 
-        pub answers_told : r ≡ Ok tt → AnswersIn tells calls disk say mode event (Ok result) first new
+        pub answers_told : r ≡ Ok tt → AnswersIn observed calls disk say mode event (Ok result) first new
         answers_told done = record {
-          called = told_well tells calls disk say mode event first old mid new going_old cleared ok clears result enters enters.entered.stopped channel bytes r told says done;
+          called = told_well observed calls disk say mode event first old mid new going_old cleared ok clears result enters enters.entered.stopped channel bytes r told says done;
           outcome = outcome_first;
           directory = told_directory;
-          sound = told_sound tells calls disk say mode event first old mid new going_old cleared ok clears result enters enters.entered.stopped channel bytes r told says;
+          sound = told_sound observed calls disk say mode event first old mid new going_old cleared ok clears result enters enters.entered.stopped channel bytes r told says;
           stops = told.stops ∙ ap (stopped_after mid.stopped) done ∙ enters.entered.stopped ∙ sym going;
           cause = cause_none r tt result (disk first.station) (disk new.station) (say first.station) (say new.station) done cause_all;
         }
 
-        pub answers_choked : (fault : SwitchFault) → r ≡ Err fault → AnswersIn tells calls disk say mode event (Err fault) first new
+        pub answers_choked : (fault : SwitchFault) → r ≡ Err fault → AnswersIn observed calls disk say mode event (Err fault) first new
         answers_choked fault failed = record {
           called =
-              let L : SwitchFault → Type 0 = λ f. LeavesCall tells calls mode event (Err f) (engine_of first) (engine_of new) in
-              subst L (sym is_say) (told_badly tells calls disk say mode event first old mid new going_old cleared ok clears result enters enters.entered.stopped channel bytes r told says fault failed);
+              let L : SwitchFault → Type 0 = λ f. LeavesCall observed calls mode event (Err f) (engine_of first) (engine_of new) in
+              subst L (sym is_say) (told_badly observed calls disk say mode event first old mid new going_old cleared ok clears result enters enters.entered.stopped channel bytes r told says fault failed);
           outcome = tt;
           directory = told_directory;
-          sound = told_sound tells calls disk say mode event first old mid new going_old cleared ok clears result enters enters.entered.stopped channel bytes r told says;
+          sound = told_sound observed calls disk say mode event first old mid new going_old cleared ok clears result enters enters.entered.stopped channel bytes r told says;
           stops = told.stops ∙ ap (stopped_after mid.stopped) failed ∙ stops_by fault is_say;
           cause = cause_alike r fault (disk first.station) (disk new.station) (say first.station) (say new.station) failed cause_all;
         }
@@ -216,11 +216,11 @@ module _ {P : Type 0} (tells : Type 0) (calls : P → List Call) (disk say : P �
                 subst S (sym is) refl
 
       -- or nothing is said of it
-      module _ (new : Parts P) (rest : new ≡ record mid { held = new.held }) (same : (engine_of mid).gathered ≡ false → new ≡ mid) (held : (engine_of new).held ≡ (if (engine_of mid).gathered then (engine_of mid).held ++ [] ∷ [] else (engine_of mid).held))
-          (silent : EachHeld tells calls mode event (engine_of old) (λ d s. by_station mode (spoken d s event) ≡ [])) where
-        pub answers_untold : AnswersIn tells calls disk say mode event (Ok result) first new
+      module _ (new : EngineParts P) (rest : new ≡ record mid { held = new.held }) (same : (engine_of mid).gathered ≡ false → new ≡ mid) (held : (engine_of new).held ≡ (if (engine_of mid).gathered then (engine_of mid).held ++ [] ∷ [] else (engine_of mid).held))
+          (silent : EachHeld observed calls mode event (engine_of old) (λ d s. by_station mode (spoken d s event) ≡ [])) where
+        pub answers_untold : AnswersIn observed calls disk say mode event (Ok result) first new
         answers_untold = record {
-          called = untold tells calls disk say mode event first old mid new going_old cleared ok clears result enters enters.entered.stopped rest held silent;
+          called = untold observed calls disk say mode event first old mid new going_old cleared ok clears result enters enters.entered.stopped rest held silent;
           outcome = outcome_first;
           directory = ap part_directory rest ∙ directory_all;
           sound = sound_untold (engine_of mid).gathered refl;
@@ -230,9 +230,9 @@ module _ {P : Type 0} (tells : Type 0) (calls : P → List Call) (disk say : P �
               subst C (sym (ap part_station rest)) (cause_none cleared tt result (disk first.station) (disk mid.station) (say first.station) (say mid.station) ok cause_mid);
         }
           where
-            sound_untold : (b : Bool) → (engine_of mid).gathered ≡ b → IsSound tells calls new
+            sound_untold : (b : Bool) → (engine_of mid).gathered ≡ b → IsSound observed calls new
             sound_untold true gathered =
-                let S : Parts P → Type 0 = λ x. IsSound tells calls x in
+                let S : EngineParts P → Type 0 = λ x. IsSound observed calls x in
                 subst S (sym rest) (record {
                   goes = λ going_still. enters.sound.goes enters.entered.stopped;
                   few = enters.sound.few;
@@ -240,7 +240,7 @@ module _ {P : Type 0} (tells : Type 0) (calls : P → List Call) (disk say : P �
                   undrawn = λ none. absurd (cc (gathered, none));
                   idle = λ by is. absurd (goes_on mid.stopped by is enters.entered.stopped);
                 })
-            sound_untold false none = let S : Parts P → Type 0 = λ x. IsSound tells calls x in subst S (sym (same none)) enters.sound
+            sound_untold false none = let S : EngineParts P → Type 0 = λ x. IsSound observed calls x in subst S (sym (same none)) enters.sound
 
         -- where nothing was gathered before it, nothing is to be said
         pub quiet_untold : (engine_of old).held ≡ [] → joined (engine_of new).held ≡ []
@@ -258,13 +258,13 @@ module _ {P : Type 0} (tells : Type 0) (calls : P → List Call) (disk say : P �
 
 -- ---- the same in the words of a switch
 
-pub in_words : {P : Type 0} (tells : Type 0) (calls : P → List Call) (disk say : P → ℕ) (mode : SayMode) (event : Event) (result : Result Outcome SwitchFault) (old new : Parts P) → old.stopped ≡ None
-    → AnswersIn tells calls disk say mode event result old new → IsAnswered (meanings_of tells calls mode) event result (engine_of old) (engine_of new)
-in_words tells calls disk say mode event result old new going a =
-    answered tells calls mode event result (engine_of old) (engine_of new) a.directory
+pub in_words : {P : Type 0} (observed : Type 0) (calls : P → List Call) (disk say : P → ℕ) (mode : SayMode) (event : Event) (result : Result Outcome SwitchFault) (old new : EngineParts P) → old.stopped ≡ None
+    → AnswersIn observed calls disk say mode event result old new → IsAnswered (meanings_of observed calls mode) event result (engine_of old) (engine_of new)
+in_words observed calls disk say mode event result old new going a =
+    answered observed calls mode event result (engine_of old) (engine_of new) a.directory
     (λ answer is. (going, let R : Result Outcome SwitchFault → Type 0 = λ r. IfOk r (λ x. (s : State) → Holds old.directory old.core s → x ≡ outcome old.directory s event) in subst R is a.outcome))
     a.called
 
 -- one that stopped answers that alone
-pub stopped_answer : {P : Type 0} (tells : Type 0) (calls : P → List Call) (mode : SayMode) (event : Event) (by : Device) (e : Engine P) → e.stopped ≡ Some by → IsAnswered (meanings_of tells calls mode) event (Err (Stopped by)) e e
-stopped_answer tells calls mode event by e is = answered tells calls mode event (Err (Stopped by)) e e refl (λ answer no. absurd (cc no)) (stopped_leaves tells calls mode event by e is)
+pub stopped_answer : {P : Type 0} (observed : Type 0) (calls : P → List Call) (mode : SayMode) (event : Event) (by : Device) (e : Engine P) → e.stopped ≡ Some by → IsAnswered (meanings_of observed calls mode) event (Err (Stopped by)) e e
+stopped_answer observed calls mode event by e is = answered observed calls mode event (Err (Stopped by)) e e refl (λ answer no. absurd (cc no)) (stopped_leaves observed calls mode event by e is)

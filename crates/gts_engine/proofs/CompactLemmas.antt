@@ -13,7 +13,7 @@ use Rattle.gts_engine.proofs.ReopenLemmas.{opens_by}
 
 -- ---- an engine that goes on
 
-module _ (tells : Type 0) (d : Directory) (old : List Call) (core : Core) (j : InHand) (g : IsGoing tells d old core j) (n : Need) (n_is : n ≡ need d g.state) where
+module _ (observed : Type 0) (d : Directory) (old : List Call) (core : Core) (j : InHand) (g : IsGoing observed d old core j) (n : Need) (n_is : n ≡ need d g.state) where
   pub sound : is_sound d n ≡ true
   sound = ap (is_sound d) n_is ∙ sound-held d g.state g.few g.held
 
@@ -31,7 +31,7 @@ module _ (tells : Type 0) (d : Directory) (old : List Call) (core : Core) (j : I
       subst (λ (m : Need). compacted_bytes written m + draw_size written * due (begun m) ≤ d.limit) (sym is)
       (omega (arith, l, ap (λ (k : ℕ). draw_size written * k) (due-left d g.state g.held.ordered.circuits)))
 
-  module _ (low : j.file < 2) (tell : tells) where
+  module _ (low : j.file < 2) (tell : observed) where
     stood : StandsFor d (unowed_state g.state) old j
     stood = g.stands tell
 
@@ -136,7 +136,7 @@ module _ (tells : Type 0) (d : Directory) (old : List Call) (core : Core) (j : I
 
   -- the engine goes on, with what its need begins
   pub goes_on_compacted : (new : List Call) (place : InHand) (used : ℕ) (last : List ℕ) → used ≡ compacted_bytes written n → place ≡ selecting_at written other used last j → full_compacted d g.state ≡ None
-      → (tells → StandsFor d (unowed_state (begun n)) new place) → IsGoing tells d new core place
+      → (observed → StandsFor d (unowed_state (begun n)) new place) → IsGoing observed d new core place
   goes_on_compacted new place used last size at free stands =
       let room : compacted_bytes written n + draw_size written * due (begun n) ≤ d.limit = has_room n_is free in
       record {
@@ -185,5 +185,5 @@ module _ (d : Directory) (s : State) (n : Need) (size : ℕ) (is : n ≡ need d 
   size_few = omega (arith, size_is, room, low)
 
 -- nothing was done yet
-pub stays_at : (tells : Type 0) (d : Directory) (calls : List Call) (core : Core) (j : InHand) → IsGoing tells d calls core j → tells → (s : State) → Holds d core s → EachSince calls calls (OpensAsBefore d s)
-stays_at tells d calls core j g tell s holds = started calls (OpensAsBefore d s) (λ files image. (refl, images tells d calls core j g tell s holds files image))
+pub stays_at : (observed : Type 0) (d : Directory) (calls : List Call) (core : Core) (j : InHand) → IsGoing observed d calls core j → observed → (s : State) → Holds d core s → EachSince calls calls (OpensAsBefore d s)
+stays_at observed d calls core j g tell s holds = started calls (OpensAsBefore d s) (λ files image. (refl, images observed d calls core j g tell s holds files image))

@@ -38,41 +38,41 @@ all_and_one : (P : ℕ → Type 0) (cs : List ℕ) (k : ℕ) → AllByRecursion 
 all_and_one P [] k all one = (one, tt)
 all_and_one P (c ∷ cs) k all one = (all.0, all_and_one P cs k all.1 one)
 
-module _ (tells : Type 0) (mode : SayMode) (o : Origin) (h : List Entry) (old new : Shown) (kept : Keeps tells mode o h old) (going : old.stopped ≡ None) (directory : new.directory ≡ old.directory)
-    (gathered : new.gathered ≡ false) (held : new.held ≡ []) (silent : tells → said_by new.calls ≡ said_by old.calls)
-    (moments : tells → EachSince old.calls new.calls (OpensAsBefore o.directory (state_at o h))) where
+module _ (observed : Type 0) (mode : SayMode) (o : Origin) (h : List Entry) (old new : Shown) (kept : Keeps observed mode o h old) (going : old.stopped ≡ None) (directory : new.directory ≡ old.directory)
+    (gathered : new.gathered ≡ false) (held : new.held ≡ []) (silent : observed → said_by new.calls ≡ said_by old.calls)
+    (moments : observed → EachSince old.calls new.calls (OpensAsBefore o.directory (state_at o h))) where
   free : HasFailed None h
   free = subst (λ (x : Option Device). HasFailed x h) going kept.failed
 
-  said_before : tells → SaidSince o.calls old.calls (told mode o h)
+  said_before : observed → SaidSince o.calls old.calls (told mode o h)
   said_before tell = let P : Option Device → Type 0 = λ x. HasSaid mode o h x old.calls in subst P going (kept.leaves tell).said
 
   own : IsReading h h
   own = read_itself h free.0
 
-  moments_on : tells → EachSince o.calls new.calls (LeavesFront mode o h)
+  moments_on : observed → EachSince o.calls new.calls (LeavesFront mode o h)
   moments_on tell =
       joined (LeavesFront mode o h) (OpensAsBefore o.directory (state_at o h)) o.calls old.calls new.calls (told mode o h)
       (kept.leaves tell).moments (said_before tell) (moments tell)
       (λ files later left. whole mode o h h files (told mode o h ++ later) [] own left.1
       (sym (append-nil (told mode o h)) ∙ ap (λ (l : Outside). told mode o h ++ l) (sym left.0) ∙ sym (append-nil (told mode o h ++ later))))
 
-  now_on : tells → (files : Files) → IsImage new.calls files → OpensToReading o h files
+  now_on : observed → (files : Files) → IsImage new.calls files → OpensToReading o h files
   now_on tell files image = (h, own, (at_end (OpensAsBefore o.directory (state_at o h)) old.calls new.calls (moments tell) files image).1)
 
-  said_on : tells → SaidSince o.calls new.calls (told mode o h)
+  said_on : observed → SaidSince o.calls new.calls (told mode o h)
   said_on tell = silent tell ∙ said_before tell
 
   -- it was compacted
   pub compacted_keeps : new.stopped ≡ None → new.core ≡ old.core → is_sound o.directory (need o.directory (state_at o h)) ≡ true
-      → new.used ≡ compacted_bytes written (need o.directory (state_at o h)) → Keeps tells mode (compacted_after o h) h new
+      → new.used ≡ compacted_bytes written (need o.directory (state_at o h)) → Keeps observed mode (compacted_after o h) h new
   compacted_keeps goes core sound used =
       let holds = kept.core going in
       let F : Option Device → Type 0 = λ x. HasFailed x h in
       let K : Core → Type 0 = λ k. Holds o.directory k (state_at o h) in
       let n : Need = need o.directory (state_at o h) in
       let all : List Entry → Type 0 = λ es. SameNeed o.directory (begun (need o.directory (state_at o es))) (state_at o es) in
-      settle_keeps tells mode (compacted_after o h) h new (directory ∙ kept.directory)
+      settle_keeps observed mode (compacted_after o h) h new (directory ∙ kept.directory)
       (λ e. subst K (sym core) holds)
       (λ e. used ∙ sym (used_compacted o h))
       gathered held
@@ -88,7 +88,7 @@ module _ (tells : Type 0) (mode : SayMode) (o : Origin) (h : List Entry) (old ne
       record { moments = weaker (LeavesFront mode o h) (LeavesFront mode (compacted_after o h) h) o.calls new.calls (front_on mode o h h) (moments_on tell); now = now_on tell; said = subst R (sym goes) (said_on tell) })
 
   -- the disk failed meanwhile
-  pub left_behind : new.stopped ≡ Some Disk → IsLeft tells mode o h new
+  pub left_behind : new.stopped ≡ Some Disk → IsLeft observed mode o h new
   left_behind stopped = record {
     directory = directory ∙ kept.directory;
     stopped = stopped;
@@ -100,33 +100,33 @@ module _ (tells : Type 0) (mode : SayMode) (o : Origin) (h : List Entry) (old ne
 
 -- ---- the engine
 
-module _ {P : Type 0} (tells : Type 0) (calls : P → List Call) (old new : Engine P) (going : old.stopped ≡ None) (directory : new.directory ≡ old.directory)
-    (gathered : new.gathered ≡ false) (held : new.held ≡ []) (silent : tells → said_by (calls new.station) ≡ said_by (calls old.station))
-    (moments : tells → StaysAt old.directory old.core (calls old.station) (calls new.station)) where
-  moments_at : (mode : SayMode) (o : Origin) (h : List Entry) → Keeps tells mode o h (shown calls old) → tells → EachSince (calls old.station) (calls new.station) (OpensAsBefore o.directory (state_at o h))
+module _ {P : Type 0} (observed : Type 0) (calls : P → List Call) (old new : Engine P) (going : old.stopped ≡ None) (directory : new.directory ≡ old.directory)
+    (gathered : new.gathered ≡ false) (held : new.held ≡ []) (silent : observed → said_by (calls new.station) ≡ said_by (calls old.station))
+    (moments : observed → StaysAt old.directory old.core (calls old.station) (calls new.station)) where
+  moments_at : (mode : SayMode) (o : Origin) (h : List Entry) → Keeps observed mode o h (shown calls old) → observed → EachSince (calls old.station) (calls new.station) (OpensAsBefore o.directory (state_at o h))
   moments_at mode o h kept tell =
       let M : Directory → Type 0 = λ d. Holds d old.core (state_at o h) → EachSince (calls old.station) (calls new.station) (OpensAsBefore d (state_at o h)) in
       subst M kept.directory (λ holds. moments tell (state_at o h) holds) (kept.core going)
 
   pub compacted_so : (n : Need) → Needs old.core n → new.stopped ≡ None → new.core ≡ old.core → is_sound old.directory n ≡ true → new.used ≡ compacted_bytes written n
-      → IsCompaction tells calls (Ok tt) old new
+      → IsCompaction observed calls (Ok tt) old new
   compacted_so n needs goes core sound used = record {
     directory = directory;
     done = λ e mode o h kept.
         let n_is : n ≡ need o.directory (state_at o h) = needs o.directory (state_at o h) (kept.core going) in
         let S : Directory → Type 0 = λ d. is_sound d n ≡ true in
         let T : Need → Type 0 = λ m. is_sound o.directory m ≡ true in
-        compacted_keeps tells mode o h (shown calls old) (shown calls new) kept going directory gathered held silent (moments_at mode o h kept) goes core
+        compacted_keeps observed mode o h (shown calls old) (shown calls new) kept going directory gathered held silent (moments_at mode o h kept) goes core
         (subst T n_is (subst S kept.directory sound)) (used ∙ ap (compacted_bytes written) n_is);
     failed = λ e. absurd (cc e);
   }
 
-  pub left_so : new.stopped ≡ Some Disk → IsCompaction tells calls (Err DiskFault) old new
+  pub left_so : new.stopped ≡ Some Disk → IsCompaction observed calls (Err DiskFault) old new
   left_so stopped = record {
     directory = directory;
     done = λ e. absurd (cc e);
-    failed = λ e mode o h kept. left_behind tells mode o h (shown calls old) (shown calls new) kept going directory gathered held silent (moments_at mode o h kept) stopped;
+    failed = λ e mode o h kept. left_behind observed mode o h (shown calls old) (shown calls new) kept going directory gathered held silent (moments_at mode o h kept) stopped;
   }
 
-pub memory_so : {P : Type 0} (tells : Type 0) (calls : P → List Call) (old new : Engine P) → new.directory ≡ old.directory → IsCompaction tells calls (Err NoMemory) old new
-memory_so tells calls old new directory = record { directory = directory; done = λ e. absurd (cc e); failed = λ e. absurd (cc e) }
+pub memory_so : {P : Type 0} (observed : Type 0) (calls : P → List Call) (old new : Engine P) → new.directory ≡ old.directory → IsCompaction observed calls (Err NoMemory) old new
+memory_so observed calls old new directory = record { directory = directory; done = λ e. absurd (cc e); failed = λ e. absurd (cc e) }

@@ -1,6 +1,6 @@
 -- One event more is gathered: what an engine keeps then, and what a call leaves.
 use Rattle.std.proofs.Common.{◌≡◌, ◌⊎◌, ◌+◌, ◌≤◌, true, false, inl, inr, ℕ, Bool, List, [], ◌∷◌, ◌++◌, Option, None, Result, Ok, Err, refl, sym, ap, subst, ◌∙◌, arith}
-use Rattle.gts_engine.specs.Cited.{AfterCall, AfterSettling, Alone, AreGathered, AtOnce, Behind, Call, Device, Directory, DiskFault, Done, Engine, Enters, Entry, Event, Full, Gathers, GathersOne, HasFailed, HasFewDraws, Holds, IsOneMore, Keeps, Leaving, MayHaveSettled, NoMemory, Origin, Outcome, Outside, Parts, Record, SayFault, SayMode, Shown, Spent, Standing, State, Stopped, SwitchFault, after, after_all, all_done, by_station, draws_among, draws_in, engine_of, event_record, gathered_after, meanings_of, outcome, pieces, record_bytes, shown, shows, slice_index_or, spoken, state_at, state_behind, used_at, used_behind}
+use Rattle.gts_engine.specs.Cited.{AfterCall, AfterSettling, Alone, AreGathered, AtOnce, Behind, Call, Device, Directory, DiskFault, Done, Engine, EngineParts, Enters, Entry, Event, Full, Gathers, GathersOne, HasFailed, HasFewDraws, Holds, IsOneMore, Keeps, Leaving, MayHaveSettled, NoMemory, Origin, Outcome, Outside, Record, SayFault, SayMode, Shown, Spent, Standing, State, Stopped, SwitchFault, after, after_all, all_done, by_station, draws_among, draws_in, engine_of, event_record, gathered_after, meanings_of, outcome, pieces, record_bytes, shown, shows, slice_index_or, spoken, state_at, state_behind, used_at, used_behind}
 use Rattle.std.proofs.lemmas.List.{append-nil}
 use Rattle.gts_event.proofs.LawLemmas.{after_all-append}
 use Rattle.gts_engine.proofs.SettleLemmas.{done_append}
@@ -35,18 +35,18 @@ gathered_one old new d s [] e are after is going =
     (is, going, some_record (event_record d s e) (ap (λ (b : Bool). gathered_after b (event_record d s e)) (sym are) ∙ sym after ∙ is))
 gathered_one old new d s (x ∷ es) e are after is going = (is, going, are.2)
 
-module _ (tells : Type 0) (mode : SayMode) (o : Origin) (h : List Entry) (events : List Event) (event : Event) (old mid : Shown) (kept : Gathers tells mode o h events old) (going : old.stopped ≡ None)
+module _ (observed : Type 0) (mode : SayMode) (o : Origin) (h : List Entry) (events : List Event) (event : Event) (old mid : Shown) (kept : Gathers observed mode o h events old) (going : old.stopped ≡ None)
     (result : Outcome) (enters : Enters o.directory event result old mid) where
   abbrev s : State
   s = state_behind o h events
 
   -- it is gathered, and what is said of it held
   pub gathers_more : (new : Shown) (piece : Outside) → new ≡ record mid { held = new.held } → mid.gathered ≡ true → new.held ≡ old.held ++ piece ∷ [] → by_station mode (spoken o.directory s event) ≡ piece → HasFewDraws o.directory mid.drawn
-      → Gathers tells mode o h (events ++ event ∷ []) new
+      → Gathers observed mode o h (events ++ event ∷ []) new
   gathers_more new piece rest gathered held says few =
       let d : Directory = o.directory in
       let holds : Holds d old.core s = kept.core going in
-      let P : Shown → Type 0 = λ e. Gathers tells mode o h (events ++ event ∷ []) e in
+      let P : Shown → Type 0 = λ e. Gathers observed mode o h (events ++ event ∷ []) e in
       let counted : (c : ℕ) → draws_among d (state_at o h) c (events ++ event ∷ []) ≤ slice_index_or mid.drawn c 0 = λ c.
       omega (arith, draws_append d (state_at o h) c events event, kept.drawn c, enters.drawn s holds c) in
       subst P (sym rest) (record {
@@ -70,9 +70,9 @@ module _ (tells : Type 0) (mode : SayMode) (o : Origin) (h : List Entry) (events
 -- ---- what a call leaves
 
 -- nothing is gathered where no record is
-pub none_gathered : (tells : Type 0) (mode : SayMode) (o : Origin) (h : List Entry) (events : List Event) (e : Shown) → Gathers tells mode o h events e → e.gathered ≡ false → events ≡ []
-none_gathered tells mode o h [] e kept none = refl
-none_gathered tells mode o h (x ∷ events) e kept none = absurd (let yes : e.gathered ≡ true = kept.gathered.0 in cc (yes, none))
+pub none_gathered : (observed : Type 0) (mode : SayMode) (o : Origin) (h : List Entry) (events : List Event) (e : Shown) → Gathers observed mode o h events e → e.gathered ≡ false → events ≡ []
+none_gathered observed mode o h [] e kept none = refl
+none_gathered observed mode o h (x ∷ events) e kept none = absurd (let yes : e.gathered ≡ true = kept.gathered.0 in cc (yes, none))
 
 -- with what was gathered, or with that settled
 abbrev pub MayBeSettled : (entries : List Entry) (events : List Event) (front : List Entry) (more : List Event) → Type 0
@@ -89,19 +89,19 @@ all_so_far entries events front more (inl same) none =
     same.0 ∙ sym (append-nil entries) ∙ ap (λ (es : List Event). entries ++ all_done es) (sym none ∙ same.1)
 all_so_far entries events front more (inr settled) none = settled.0
 
-module _ {P : Type 0} (tells : Type 0) (calls : P → List Call) (mode : SayMode) (o : Origin) (entries : List Entry) (events : List Event) (event : Event) where
+module _ {P : Type 0} (observed : Type 0) (calls : P → List Call) (mode : SayMode) (o : Origin) (entries : List Entry) (events : List Event) (event : Event) where
   abbrev meanings : Standing Origin (Engine P)
-  meanings = meanings_of tells calls mode
+  meanings = meanings_of observed calls mode
 
   -- an engine that may have settled what it gathered stands for the same
   pub record Starts (e : Engine P) : Type 0 where
     pub front : List Entry
     pub more : List Event
     pub is : MayBeSettled entries events front more
-    pub gathers : Gathers tells mode o front more (shown calls e)
+    pub gathers : Gathers observed mode o front more (shown calls e)
 
   -- it was gathered
-  pub gathered_call : (mid new : Engine P) (starts : Starts mid) → Gathers tells mode o starts.front (starts.more ++ event ∷ []) (shown calls new) → GathersOne meanings o entries events event new
+  pub gathered_call : (mid new : Engine P) (starts : Starts mid) → Gathers observed mode o starts.front (starts.more ++ event ∷ []) (shown calls new) → GathersOne meanings o entries events event new
   gathered_call mid new starts gathers =
       record { front = starts.front; more = starts.more ++ event ∷ []; one = one_behind entries events event starts.front starts.more starts.is; gathers = gathers }
 
@@ -109,7 +109,7 @@ module _ {P : Type 0} (tells : Type 0) (calls : P → List Call) (mode : SayMode
   so_far mid starts none = all_so_far entries events starts.front starts.more starts.is none
 
   -- it was said at once
-  pub said_call : (mid new : Engine P) (starts : Starts mid) → starts.more ≡ [] → Keeps tells mode o (starts.front ++ Done event ∷ []) (shown calls new) → GathersOne meanings o entries events event new
+  pub said_call : (mid new : Engine P) (starts : Starts mid) → starts.more ≡ [] → Keeps observed mode o (starts.front ++ Done event ∷ []) (shown calls new) → GathersOne meanings o entries events event new
   said_call mid new starts none keeps = record {
     front = starts.front ++ Done event ∷ [];
     more = [];
@@ -118,10 +118,10 @@ module _ {P : Type 0} (tells : Type 0) (calls : P → List Call) (mode : SayMode
   }
 
   -- what may have settled begins it
-  pub starts_after : (disk say : P → ℕ) (result : Result (Unit {0}) SwitchFault) (old mid : Parts P) → result ≡ Ok tt → MayHaveSettled tells calls disk say result old mid
-      → Gathers tells mode o entries events (shows calls old) → Starts (engine_of mid)
+  pub starts_after : (disk say : P → ℕ) (result : Result (Unit {0}) SwitchFault) (old mid : EngineParts P) → result ≡ Ok tt → MayHaveSettled observed calls disk say result old mid
+      → Gathers observed mode o entries events (shows calls old) → Starts (engine_of mid)
   starts_after disk say result old mid done (inl same) kept =
-      let G : Parts P → Type 0 = λ p. Gathers tells mode o entries events (shows calls p) in
+      let G : EngineParts P → Type 0 = λ p. Gathers observed mode o entries events (shows calls p) in
       record { front = entries; more = events; is = inl (refl, refl); gathers = subst G (sym same.1) kept }
   starts_after disk say result old mid done (inr settled) kept =
       let A : Result (Unit {0}) SwitchFault → Type 0 = λ r. AfterSettling meanings o entries events r (engine_of mid) in
@@ -136,8 +136,8 @@ module _ {P : Type 0} (tells : Type 0) (calls : P → List Call) (mode : SayMode
   fails_by Spent e after = absurd after
   fails_by NoMemory e after = absurd after
 
-  pub fails_after : (disk say : P → ℕ) (result : Result (Unit {0}) SwitchFault) (fault : SwitchFault) (old mid : Parts P) → result ≡ Err fault → MayHaveSettled tells calls disk say result old mid
-      → Gathers tells mode o entries events (shows calls old) → AfterCall meanings o entries events event (Err fault) (engine_of mid)
+  pub fails_after : (disk say : P → ℕ) (result : Result (Unit {0}) SwitchFault) (fault : SwitchFault) (old mid : EngineParts P) → result ≡ Err fault → MayHaveSettled observed calls disk say result old mid
+      → Gathers observed mode o entries events (shows calls old) → AfterCall meanings o entries events event (Err fault) (engine_of mid)
   fails_after disk say result fault old mid failed (inl same) kept = absurd (let no : ◌≡◌ {A = Result (Unit {0}) SwitchFault} (Ok tt) (Err fault) = sym same.0 ∙ failed in cc no)
   fails_after disk say result fault old mid failed (inr settled) kept =
       let A : Result (Unit {0}) SwitchFault → Type 0 = λ r. AfterSettling meanings o entries events r (engine_of mid) in

@@ -1,16 +1,16 @@
 -- Pieces that are held, said one behind the other, over the parts of an engine.
 use Rattle.std.proofs.Common.{◌≡◌, ◌<◌, ◌≤◌, ◌+◌, ℕ, List, [], ◌∷◌, ◌++◌, length, take, drop, Result, Ok, Err, refl, sym, ap, subst, ◌∙◌, arith, add-one, take_all}
-use Rattle.gts_engine.specs.Cited.{BringsAndSays, Call, Directory, DiskFault, EachSince, FailsAt, Gathered, HasBrought, InHand, MayBring, OnlyBrought, OnlySaid, OpensAlong, Outside, Parts, SaidSince, Saying, Sayings, SaysHeld, StandsFor, StandsUnlessDisk, State, SwitchFault, TriesPiece, after_records, held_pieces, joined, pieces_of, said_by, slice_index_or}
+use Rattle.gts_engine.specs.Cited.{BringsAndSays, Call, Directory, DiskFault, EachSince, EngineParts, FailsAt, Gathered, HasBrought, InHand, MayBring, OnlyBrought, OnlySaid, OpensAlong, Outside, SaidSince, Saying, Sayings, SaysHeld, StandsFor, StandsUnlessDisk, State, SwitchFault, TriesPiece, after_records, held_pieces, joined, pieces_of, said_by, slice_index_or}
 use Rattle.gts_engine.proofs.PieceLemmas.{piece_stands, piece_moments, failed_part, piece_said, nothing_yet, brought_only, brought_then}
 use Rattle.gts_traits.proofs.LawLemmas.{SaidSince-refl}
 
-abbrev pub sayings_in : {P : Type 0} → Parts P → Sayings
+abbrev pub sayings_in : {P : Type 0} → EngineParts P → Sayings
 sayings_in p = p.held
 
-abbrev pub journal_in : {P : Type 0} → Parts P → InHand
+abbrev pub journal_in : {P : Type 0} → EngineParts P → InHand
 journal_in p = p.journal
 
-abbrev pub batch_in : {P : Type 0} → Parts P → Gathered
+abbrev pub batch_in : {P : Type 0} → EngineParts P → Gathered
 batch_in p = p.batch
 
 -- one piece for each of them
@@ -19,21 +19,21 @@ pieces_length [] bytes = refl
 pieces_length (s ∷ each) bytes = omega (arith, pieces_length each (drop s.size bytes))
 
 -- the pieces before one of them were said, over the parts
-pub record SaysUpTo {P : Type 0} (tells : Type 0) (calls : P → List Call) (disk say : P → ℕ) (first : Parts P) (i : ℕ) (now : Parts P) : Type 0 where
+pub record SaysUpTo {P : Type 0} (observed : Type 0) (calls : P → List Call) (disk say : P → ℕ) (first : EngineParts P) (i : ℕ) (now : EngineParts P) : Type 0 where
   pub rest : OnlySaid first now
   pub going : now.stopped ≡ first.stopped
-  pub said : tells → SaidSince (calls first.station) (calls now.station) (joined (take i (held_pieces first.held)))
-  pub moments : tells → (s : State) → StandsFor first.directory s (calls first.station) first.journal
+  pub said : observed → SaidSince (calls first.station) (calls now.station) (joined (take i (held_pieces first.held)))
+  pub moments : observed → (s : State) → StandsFor first.directory s (calls first.station) first.journal
       → EachSince (calls first.station) (calls now.station) (OpensAlong first.directory s (joined (held_pieces first.held)))
-  pub stands : tells → (s : State) → StandsFor first.directory s (calls first.station) first.journal → StandsFor first.directory s (calls now.station) first.journal
+  pub stands : observed → (s : State) → StandsFor first.directory s (calls first.station) first.journal → StandsFor first.directory s (calls now.station) first.journal
   pub later : say first.station ≤ say now.station
   pub disk_stays : disk now.station ≡ disk first.station
 
-module _ {P : Type 0} (tells : Type 0) (calls : P → List Call) (disk say : P → ℕ) (first : Parts P) where
+module _ {P : Type 0} (observed : Type 0) (calls : P → List Call) (disk say : P → ℕ) (first : EngineParts P) where
   abbrev pieces : List Outside
   pieces = held_pieces first.held
 
-  pub none_so_far : SaysUpTo tells calls disk say first 0 first
+  pub none_so_far : SaysUpTo observed calls disk say first 0 first
   none_so_far = record {
     rest = refl;
     going = refl;
@@ -45,43 +45,43 @@ module _ {P : Type 0} (tells : Type 0) (calls : P → List Call) (disk say : P �
   }
 
   -- all of them
-  pub said_all : (n : ℕ) (now : Parts P) → n ≡ length first.held.each → SaysUpTo tells calls disk say first n now → tells → SaidSince (calls first.station) (calls now.station) (joined (held_pieces first.held))
+  pub said_all : (n : ℕ) (now : EngineParts P) → n ≡ length first.held.each → SaysUpTo observed calls disk say first n now → observed → SaidSince (calls first.station) (calls now.station) (joined (held_pieces first.held))
   said_all n now is up tell =
       let whole : take n (held_pieces first.held) ≡ held_pieces first.held = take_all n (held_pieces first.held) (omega (arith, is, pieces_length first.held.each first.held.bytes)) in
       subst (λ (ps : List Outside). SaidSince (calls first.station) (calls now.station) (joined ps)) whole (up.said tell)
 
-  pub holds_all : (n : ℕ) (now : Parts P) → SaysUpTo tells calls disk say first n now → tells → SaysHeld first.directory (held_pieces first.held) (calls first.station) (calls now.station) first.journal
+  pub holds_all : (n : ℕ) (now : EngineParts P) → SaysUpTo observed calls disk say first n now → observed → SaysHeld first.directory (held_pieces first.held) (calls first.station) (calls now.station) first.journal
   holds_all n now up tell = record { moments = up.moments tell; stands = up.stands tell }
 
-  module _ (i : ℕ) (mid new : Parts P) (up : SaysUpTo tells calls disk say first i mid) (within : i < length first.held.each) {T : Type 0} (result : Result T SwitchFault)
-      (told : tells → TriesPiece (slice_index_or (held_pieces mid.held) i []) result (calls mid.station) (calls new.station)) (rest : OnlySaid mid new)
+  module _ (i : ℕ) (mid new : EngineParts P) (up : SaysUpTo observed calls disk say first i mid) (within : i < length first.held.each) {T : Type 0} (result : Result T SwitchFault)
+      (told : observed → TriesPiece (slice_index_or (held_pieces mid.held) i []) result (calls mid.station) (calls new.station)) (rest : OnlySaid mid new)
       (later : say mid.station ≤ say new.station) (same_disk : disk new.station ≡ disk mid.station) where
     within_pieces : i < length (held_pieces first.held)
     within_pieces = omega (arith, within, pieces_length first.held.each first.held.bytes)
 
-    tries : tells → TriesPiece (slice_index_or (held_pieces first.held) i []) result (calls mid.station) (calls new.station)
+    tries : observed → TriesPiece (slice_index_or (held_pieces first.held) i []) result (calls mid.station) (calls new.station)
     tries tell =
         let T : Sayings → Type 0 = λ h. TriesPiece (slice_index_or (held_pieces h) i []) result (calls mid.station) (calls new.station) in
         subst T (ap sayings_in up.rest) (told tell)
 
-    moments_now : tells → (s : State) → StandsFor first.directory s (calls first.station) first.journal
+    moments_now : observed → (s : State) → StandsFor first.directory s (calls first.station) first.journal
         → EachSince (calls first.station) (calls new.station) (OpensAlong first.directory s (joined (held_pieces first.held)))
     moments_now tell s stands =
         piece_moments first.directory (held_pieces first.held) (calls first.station) (calls mid.station) first.journal i within_pieces (up.said tell) result (calls new.station) (tries tell)
         s (up.stands tell s stands) (up.moments tell s stands)
 
-    stands_now : tells → (s : State) → StandsFor first.directory s (calls first.station) first.journal → StandsFor first.directory s (calls new.station) first.journal
+    stands_now : observed → (s : State) → StandsFor first.directory s (calls first.station) first.journal → StandsFor first.directory s (calls new.station) first.journal
     stands_now tell s stands =
         piece_stands first.directory (held_pieces first.held) (calls first.station) (calls mid.station) first.journal i within_pieces (up.said tell) result (calls new.station) (tries tell)
         s (up.stands tell s stands)
 
     only : OnlySaid first new
     only =
-        let R : Parts P → Type 0 = λ p. new ≡ record p { station = new.station; stopped = new.stopped } in
+        let R : EngineParts P → Type 0 = λ p. new ≡ record p { station = new.station; stopped = new.stopped } in
         subst R up.rest rest
 
     -- one piece more
-    pub one_further : (x : T) → result ≡ Ok x → new.stopped ≡ mid.stopped → SaysUpTo tells calls disk say first (i + 1) new
+    pub one_further : (x : T) → result ≡ Ok x → new.stopped ≡ mid.stopped → SaysUpTo observed calls disk say first (i + 1) new
     one_further x ok going = record {
       rest = only;
       going = going ∙ up.going;
@@ -94,10 +94,10 @@ module _ {P : Type 0} (tells : Type 0) (calls : P → List Call) (disk say : P �
     }
 
     -- or saying failed there
-    pub holds_failed : tells → SaysHeld first.directory (held_pieces first.held) (calls first.station) (calls new.station) first.journal
+    pub holds_failed : observed → SaysHeld first.directory (held_pieces first.held) (calls first.station) (calls new.station) first.journal
     holds_failed tell = record { moments = moments_now tell; stands = stands_now tell }
 
-    pub fails_there : FailsAt tells (held_pieces first.held) i (calls first.station) (calls new.station)
+    pub fails_there : FailsAt observed (held_pieces first.held) i (calls first.station) (calls new.station)
     fails_there = record {
       within = within_pieces;
       said = λ tell. failed_part first.directory (held_pieces first.held) (calls first.station) (calls mid.station) first.journal i within_pieces (up.said tell) result (calls new.station) (tries tell);
@@ -108,30 +108,30 @@ module _ {P : Type 0} (tells : Type 0) (calls : P → List Call) (disk say : P �
 
 -- ---- behind what was brought into the journal
 
-module _ {P : Type 0} (tells : Type 0) (calls : P → List Call) (old mid new : Parts P) (rest : OnlyBrought old mid) where
+module _ {P : Type 0} (observed : Type 0) (calls : P → List Call) (old mid new : EngineParts P) (rest : OnlyBrought old mid) where
   says_there : SaysHeld mid.directory (held_pieces mid.held) (calls mid.station) (calls new.station) mid.journal → SaysHeld old.directory (held_pieces old.held) (calls mid.station) (calls new.station) mid.journal
   says_there says =
-      let H : Parts P → Type 0 = λ p. SaysHeld p.directory (held_pieces p.held) (calls mid.station) (calls new.station) mid.journal in
+      let H : EngineParts P → Type 0 = λ p. SaysHeld p.directory (held_pieces p.held) (calls mid.station) (calls new.station) mid.journal in
       subst H rest says
 
   pub only_brought : OnlySaid mid new → OnlyBrought old new
   only_brought said =
-      let N : Parts P → Type 0 = λ p. new ≡ record p { station = new.station; stopped = new.stopped } in
-      let J : InHand → Gathered → Parts P = λ j b. record old { station = new.station; journal = j; batch = b; stopped = new.stopped } in
+      let N : EngineParts P → Type 0 = λ p. new ≡ record p { station = new.station; stopped = new.stopped } in
+      let J : InHand → Gathered → EngineParts P = λ j b. record old { station = new.station; journal = j; batch = b; stopped = new.stopped } in
       subst N rest said ∙ ap (λ (j : InHand). J j mid.batch) (sym (ap journal_in said)) ∙ ap (λ (b : Gathered). J new.journal b) (sym (ap batch_in said))
 
-  module _ (silent : tells → said_by (calls mid.station) ≡ said_by (calls old.station)) (moments : tells → MayBring old.directory (calls old.station) old.journal old.batch (calls mid.station)) where
+  module _ (silent : observed → said_by (calls mid.station) ≡ said_by (calls old.station)) (moments : observed → MayBring old.directory (calls old.station) old.journal old.batch (calls mid.station)) where
     -- the disk failed
-    pub brings_nothing : tells → BringsAndSays (Err DiskFault) (calls old.station) (calls mid.station) old mid.journal
+    pub brings_nothing : observed → BringsAndSays (Err DiskFault) (calls old.station) (calls mid.station) old mid.journal
     brings_nothing tell s rs stands next = record {
       moments = brought_only old.directory s (after_records old.directory s rs) (joined (held_pieces old.held)) (calls old.station) (calls mid.station) (moments tell s rs stands next);
       stands = tt;
     }
 
     -- or all was brought, and then pieces were said
-    module _ (brought : tells → HasBrought old.directory (calls old.station) old.journal old.batch (calls mid.station) mid.journal) (said : OnlySaid mid new)
-        (says : tells → SaysHeld mid.directory (held_pieces mid.held) (calls mid.station) (calls new.station) mid.journal) where
-      pub brings_all : (r : Result (Unit {0}) SwitchFault) → ((d : Directory) (t : State) (cs : List Call) (j : InHand) → StandsFor d t cs j → StandsUnlessDisk d t r cs j) → tells
+    module _ (brought : observed → HasBrought old.directory (calls old.station) old.journal old.batch (calls mid.station) mid.journal) (said : OnlySaid mid new)
+        (says : observed → SaysHeld mid.directory (held_pieces mid.held) (calls mid.station) (calls new.station) mid.journal) where
+      pub brings_all : (r : Result (Unit {0}) SwitchFault) → ((d : Directory) (t : State) (cs : List Call) (j : InHand) → StandsFor d t cs j → StandsUnlessDisk d t r cs j) → observed
           → BringsAndSays r (calls old.station) (calls new.station) old new.journal
       brings_all r unless tell s rs stands next =
           let t : State = after_records old.directory s rs in
@@ -144,17 +144,17 @@ module _ {P : Type 0} (tells : Type 0) (calls : P → List Call) (old mid new : 
           }
 
       -- what was said
-      since_old : (outside : Outside) → tells → SaidSince (calls mid.station) (calls new.station) outside → SaidSince (calls old.station) (calls new.station) outside
+      since_old : (outside : Outside) → observed → SaidSince (calls mid.station) (calls new.station) outside → SaidSince (calls old.station) (calls new.station) outside
       since_old outside tell since = since ∙ ap (λ (l : Outside). l ++ outside) (silent tell)
 
-      pub said_behind : (tells → SaidSince (calls mid.station) (calls new.station) (joined (held_pieces mid.held))) → tells → SaidSince (calls old.station) (calls new.station) (joined (held_pieces old.held))
+      pub said_behind : (observed → SaidSince (calls mid.station) (calls new.station) (joined (held_pieces mid.held))) → observed → SaidSince (calls old.station) (calls new.station) (joined (held_pieces old.held))
       said_behind since tell =
-          let H : Parts P → Type 0 = λ p. SaidSince (calls old.station) (calls new.station) (joined (held_pieces p.held)) in
+          let H : EngineParts P → Type 0 = λ p. SaidSince (calls old.station) (calls new.station) (joined (held_pieces p.held)) in
           subst H rest (since_old (joined (held_pieces mid.held)) tell (since tell))
 
-      pub fails_behind : (i : ℕ) → FailsAt tells (held_pieces mid.held) i (calls mid.station) (calls new.station) → FailsAt tells (held_pieces old.held) i (calls old.station) (calls new.station)
+      pub fails_behind : (i : ℕ) → FailsAt observed (held_pieces mid.held) i (calls mid.station) (calls new.station) → FailsAt observed (held_pieces old.held) i (calls old.station) (calls new.station)
       fails_behind i failed =
-          let H : Parts P → Type 0 = λ p. FailsAt tells (held_pieces p.held) i (calls old.station) (calls new.station) in
+          let H : EngineParts P → Type 0 = λ p. FailsAt observed (held_pieces p.held) i (calls old.station) (calls new.station) in
           subst H rest (record {
             within = failed.within;
             said = λ tell. let f = failed.said tell in (f.0, f.1, since_old (joined (take i (held_pieces mid.held)) ++ f.0) tell f.2);

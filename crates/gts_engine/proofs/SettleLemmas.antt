@@ -70,7 +70,7 @@ stops_unsaid h (event ∷ events) none once =
 
 -- ---- an engine that goes on
 
-module _ (tells : Type 0) (mode : SayMode) (o : Origin) (h : List Entry) (events : List Event) (old : Shown) (kept : Gathers tells mode o h events old) (going : old.stopped ≡ None) where
+module _ (observed : Type 0) (mode : SayMode) (o : Origin) (h : List Entry) (events : List Event) (old : Shown) (kept : Gathers observed mode o h events old) (going : old.stopped ≡ None) where
   abbrev s : State
   s = state_at o h
 
@@ -84,24 +84,24 @@ module _ (tells : Type 0) (mode : SayMode) (o : Origin) (h : List Entry) (events
   none : HasFailed None h
   none = subst (λ (x : Option Device). HasFailed x h) going kept.failed
 
-  said_so_far : tells → SaidSince o.calls old.calls (told mode o h)
+  said_so_far : observed → SaidSince o.calls old.calls (told mode o h)
   said_so_far tell = let P : Option Device → Type 0 = λ x. HasSaid mode o h x old.calls in subst P going (kept.leaves tell).said
 
   module _ (new : Shown) (directory : new.directory ≡ old.directory) (gathered : new.gathered ≡ false) (held : new.held ≡ [])
-      (between : tells → EachSince old.calls new.calls (OpensBetween o.directory s t all)) where
+      (between : observed → EachSince old.calls new.calls (OpensBetween o.directory s t all)) where
     -- the moments, in a longer history of which each reading of this one is a front
     moments_in : (g read more : List Entry) → ((r : List Entry) → IsReading h r → (back : List Entry) × IsReading g (r ++ back)) → read ≡ h ++ more → IsReading g read → state_at o read ≡ t → told mode o read ≡ told mode o h ++ all
-        → tells → EachSince o.calls new.calls (LeavesFront mode o g)
+        → observed → EachSince o.calls new.calls (LeavesFront mode o g)
     moments_in g read more readings is reading after heard tell =
         brought mode o h g read more t all old.calls new.calls readings is reading after heard (kept.leaves tell).moments (said_so_far tell) (between tell)
 
     -- the disk failed
-    pub doubted : new.stopped ≡ Some Disk → BeginsWithRecord o.directory s events → (tells → said_by new.calls ≡ said_by old.calls) → Keeps tells mode o (h ++ Doubt events ∷ []) new
+    pub doubted : new.stopped ≡ Some Disk → BeginsWithRecord o.directory s events → (observed → said_by new.calls ≡ said_by old.calls) → Keeps observed mode o (h ++ Doubt events ∷ []) new
     doubted stopped begins silent =
         let g : List Entry = h ++ Doubt events ∷ [] in
         let read : List Entry = h ++ all_done events in
         let P : Option Device → Type 0 = λ x. HasFailed x g in
-        settle_keeps tells mode o g new (directory ∙ kept.directory)
+        settle_keeps observed mode o g new (directory ∙ kept.directory)
         (λ e. absurd (goes_on new.stopped Disk stopped e))
         (λ e. absurd (goes_on new.stopped Disk stopped e))
         gathered held
@@ -129,14 +129,14 @@ module _ (tells : Type 0) (mode : SayMode) (o : Origin) (h : List Entry) (events
     Images = (files : Files) → IsImage new.calls files → opens o.directory files ≡ Ok (need o.directory (restarted o.directory t))
 
     -- all of it is in the journal, and was said
-    pub settled_all : new.stopped ≡ None → new.core ≡ old.core → new.used ≡ old.used → (tells → Images) → (tells → SaidSince old.calls new.calls all) → Keeps tells mode o (h ++ all_done events) new
+    pub settled_all : new.stopped ≡ None → new.core ≡ old.core → new.used ≡ old.used → (observed → Images) → (observed → SaidSince old.calls new.calls all) → Keeps observed mode o (h ++ all_done events) new
     settled_all goes core used images heard =
         let g : List Entry = h ++ all_done events in
         let holds = kept.core going in
         let P : Option Device → Type 0 = λ x. HasFailed x g in
         let Q : Core → Type 0 = λ c. Holds o.directory c (state_at o g) in
         let own : IsReading g g = read_itself g (no_doubt_marked true h events none.0) in
-        settle_keeps tells mode o g new (directory ∙ kept.directory)
+        settle_keeps observed mode o g new (directory ∙ kept.directory)
         (λ e. subst Q (sym core) (subst (Holds o.directory old.core) (sym (state_behind_marked true o h events)) holds))
         (λ e. used ∙ kept.used going ∙ sym (used_marked true o h events holds.keeps kept.anchors))
         gathered held
@@ -192,16 +192,16 @@ module _ (tells : Type 0) (mode : SayMode) (o : Origin) (h : List Entry) (events
       no_doubt_cut : HasDoubt g → ⊥
       no_doubt_cut = no_doubt_marked false front behind (no_doubt_marked true h before none.0)
 
-      pub cut_keeps : new.stopped ≡ Some Say → (tells → Images)
-          → (tells → (part : Outside) × IsFront part (by_station mode (spoken o.directory (after_all o.directory s (all_done before)) first)) × SaidSince old.calls new.calls (by_station mode (said o.directory s (all_done before)) ++ part))
-          → Keeps tells mode o g new
+      pub cut_keeps : new.stopped ≡ Some Say → (observed → Images)
+          → (observed → (part : Outside) × IsFront part (by_station mode (spoken o.directory (after_all o.directory s (all_done before)) first)) × SaidSince old.calls new.calls (by_station mode (said o.directory s (all_done before)) ++ part))
+          → Keeps observed mode o g new
       cut_keeps stopped images heard =
           let P : Option Device → Type 0 = λ x. HasFailed x g in
           let own : IsReading g g = read_itself g no_doubt_cut in
           let going_on : HasFailed None front = still_going h before none in
           let more : List Entry = all_done before ++ all_unsaid behind in
           let joint : g ≡ h ++ more = append_assoc h (all_done before) (all_unsaid behind) in
-          settle_keeps tells mode o g new (directory ∙ kept.directory)
+          settle_keeps observed mode o g new (directory ∙ kept.directory)
           (λ e. absurd (goes_on new.stopped Say stopped e))
           (λ e. absurd (goes_on new.stopped Say stopped e))
           gathered held

@@ -3,22 +3,22 @@ use Rattle.std.specs.Prelude.{◌≡◌, ◌≢◌, ◌-◌, ◌^◌, ℕ, min, 
 use Rattle.gts_engine.specs.Cited.Below.{Call, Core, Directory, DiskFault, EachSince, Entry, Full, HasCallCause, Holds, NoMemory, OpensAsBefore, State, Stopped, SwitchFault, checkpoint_file, checkpoint_text, compacted_size, full_compacted, need, seen, selected}
 use Rattle.gts_engine.specs.declared.room.CheckpointFull.{CheckpointFull}
 use Rattle.gts_engine.specs.declared.mode.SayMode.{SayMode}
-use Rattle.gts_engine.specs.declared.parts.Parts.{Parts}
+use Rattle.gts_engine.specs.declared.parts.EngineParts.{EngineParts}
 use Rattle.gts_engine.specs.Engine.{Engine, engine_of, shown}
 use Rattle.gts_engine.specs.Origin.{Origin, compacted_after}
 use Rattle.gts_engine.specs.Keeping.{IsLeft, IsFullCompacted, Keeps}
 use Rattle.gts_engine.specs.Going.{stopped_after}
-use Rattle.gts_engine.specs.Parts.{IsSound}
+use Rattle.gts_engine.specs.EngineParts.{IsSound}
 
 -- The journal was to be compacted, with this answer: the engine stands for the same entries, behind which the journal was
 -- compacted; or it was left behind them.
-pub record IsCompaction {P : Type 0} (tells : Type 0) (calls : P → List Call)
+pub record IsCompaction {P : Type 0} (observed : Type 0) (calls : P → List Call)
     (result : Result (Unit {0}) SwitchFault) (old new : Engine P) : Type 0 where
   pub directory : new.directory ≡ old.directory
-  pub done : result ≡ Ok tt → (mode : SayMode) (o : Origin) (h : List Entry) → Keeps tells mode o h (shown calls old)
-      → Keeps tells mode (compacted_after o h) h (shown calls new)
-  pub failed : result ≡ Err DiskFault → (mode : SayMode) (o : Origin) (h : List Entry) → Keeps tells mode o h (shown calls old)
-      → IsLeft tells mode o h (shown calls new)
+  pub done : result ≡ Ok tt → (mode : SayMode) (o : Origin) (h : List Entry) → Keeps observed mode o h (shown calls old)
+      → Keeps observed mode (compacted_after o h) h (shown calls new)
+  pub failed : result ≡ Err DiskFault → (mode : SayMode) (o : Origin) (h : List Entry) → Keeps observed mode o h (shown calls old)
+      → IsLeft observed mode o h (shown calls new)
 
 -- The other file is selected, and the one before stays as it is. The other one is the checkpoint of the need alone, and all of it
 -- is in use.
@@ -53,7 +53,7 @@ IsIdleFault (Err NoMemory) = Unit {0}
 IsIdleFault _ = ⊥
 
 -- only the station, the journal, what is gathered for it and what stopped it are other ones
-abbrev pub IsBehind : {P : Type 0} → (old new : Parts P) → Type 0
+abbrev pub IsBehind : {P : Type 0} → (old new : EngineParts P) → Type 0
 IsBehind old new = new ≡ record old { station = new.station; journal = new.journal; batch = new.batch; stopped = new.stopped }
 
 -- each moment opens to the state that the core holds, and nothing is said
@@ -67,12 +67,12 @@ IsWriteFault NoMemory = Unit {0}
 IsWriteFault _ = ⊥
 
 -- The journal of the parts of an engine that goes on was to go on in its other file, behind a checkpoint for which there is room.
-pub record Rewrites {P : Type 0} (tells : Type 0) (calls : P → List Call) (disk say : P → ℕ)
-    (result : Result (Unit {0}) SwitchFault) (old new : Parts P) : Type 0 where
-  pub compaction : IsCompaction tells calls result (engine_of old) (engine_of new)
-  pub sound : IsSound tells calls new
-  pub moments : tells → StaysAt old.directory old.core (calls old.station) (calls new.station)
-  pub written : tells → OnOk result ((s : State) → Holds old.directory old.core s
+pub record Rewrites {P : Type 0} (observed : Type 0) (calls : P → List Call) (disk say : P → ℕ)
+    (result : Result (Unit {0}) SwitchFault) (old new : EngineParts P) : Type 0 where
+  pub compaction : IsCompaction observed calls result (engine_of old) (engine_of new)
+  pub sound : IsSound observed calls new
+  pub moments : observed → StaysAt old.directory old.core (calls old.station) (calls new.station)
+  pub written : observed → OnOk result ((s : State) → Holds old.directory old.core s
       → IsRewritten old.directory s (calls old.station) (calls new.station) (engine_of new).used)
   pub stops : new.stopped ≡ stopped_after old.stopped result
   pub kind : IfErr result IsWriteFault

@@ -3,13 +3,13 @@ use Rattle.std.specs.Prelude.{◌≡◌, ◌⊎◌, ℕ, ◌<◌, ◌≤◌, len
 use Rattle.gts_engine.specs.Cited.Below.{AfterCall, AfterSettling, AreNext, Call, Directory, DiskFault, EachSince, Entry, Event, Files, Gathered, HasCallCause, Holds, InHand, IsAnswered, IsFront, IsSettling, OpensTo, OpensToOneOf, Outcome, Outside, Record, Rose, SaidSince, SayFault, Says, StandsFor, State, SwitchFault, Taken, Tries, after_records, on, outcome as outcome_of, said_by, slice_index_or}
 use Rattle.gts_engine.specs.declared.mode.SayMode.{SayMode}
 use Rattle.gts_engine.specs.declared.mode.SayMode.TheVariants.{Caller}
-use Rattle.gts_engine.specs.declared.parts.Parts.{Parts}
+use Rattle.gts_engine.specs.declared.parts.EngineParts.{EngineParts}
 use Rattle.gts_engine.specs.Sayings.{held_pieces, joined, no_sayings}
 use Rattle.gts_engine.specs.Engine.{Engine, engine_of, shown}
 use Rattle.gts_engine.specs.Origin.{Origin}
 use Rattle.gts_engine.specs.Keeping.{Gathers, state_behind, meanings_of, none_drawn}
 use Rattle.gts_engine.specs.Going.{stopped_after}
-use Rattle.gts_engine.specs.Parts.{IsSound, IsIdleAnswer, shows, OnlySaid}
+use Rattle.gts_engine.specs.EngineParts.{IsSound, IsIdleAnswer, shows, OnlySaid}
 
 -- whatever state the journal stood for, and whatever records were gathered, a crash since leaves that state, or the one with all
 -- of them
@@ -23,11 +23,11 @@ HasBrought d old j b new next =
     (s : State) (rs : List Record) → StandsFor d s old j → AreNext d s j rs b → StandsFor d (after_records d s rs) new next
 
 -- only the station, the journal, what was gathered and what stopped it are other ones
-abbrev pub OnlyBrought : {P : Type 0} → (old new : Parts P) → Type 0
+abbrev pub OnlyBrought : {P : Type 0} → (old new : EngineParts P) → Type 0
 OnlyBrought old new = new ≡ record old { station = new.station; journal = new.journal; batch = new.batch; stopped = new.stopped }
 
 -- and what is held, and the counts of draws
-abbrev pub OnlySettled : {P : Type 0} → (old new : Parts P) → Type 0
+abbrev pub OnlySettled : {P : Type 0} → (old new : EngineParts P) → Type 0
 OnlySettled old new =
     new ≡ record old {
       station = new.station;
@@ -58,20 +58,20 @@ TriesPiece piece result old new =
     × (Tries (Says channel bytes) result old new ⊎ ((bytes ≡ []) × (new ≡ old)))
 
 -- saying failed at this one of these pieces: those before it were said, and of it a front
-pub record FailsAt (tells : Type 0) (pieces : List Outside) (i : ℕ) (old new : List Call) : Type 0 where
+pub record FailsAt (observed : Type 0) (pieces : List Outside) (i : ℕ) (old new : List Call) : Type 0 where
   pub within : i < length pieces
-  pub said : tells → (part : Outside) × IsFront part (slice_index_or pieces i []) × SaidSince old new (joined (take i pieces) ++ part)
+  pub said : observed → (part : Outside) × IsFront part (slice_index_or pieces i []) × SaidSince old new (joined (take i pieces) ++ part)
 
 -- all of them were said, or saying failed at one of them
 abbrev pub SaysAll : Type 0 → List Outside → Result (Unit {0}) ℕ → List Call → List Call → Type 0
-SaysAll tells pieces (Ok _) old new = tells → SaidSince old new (joined pieces)
-SaysAll tells pieces (Err i) old new = FailsAt tells pieces i old new
+SaysAll observed pieces (Ok _) old new = observed → SaidSince old new (joined pieces)
+SaysAll observed pieces (Err i) old new = FailsAt observed pieces i old new
 
 -- what was said of them, by the answer
 abbrev pub SaysBy : Type 0 → List Outside → Result (Unit {0}) SwitchFault → List Call → List Call → Type 0
-SaysBy tells pieces (Ok _) old new = tells → SaidSince old new (joined pieces)
-SaysBy tells pieces (Err SayFault) old new = (i : ℕ) × FailsAt tells pieces i old new
-SaysBy tells pieces (Err _) old new = tells → said_by new ≡ said_by old
+SaysBy observed pieces (Ok _) old new = observed → SaidSince old new (joined pieces)
+SaysBy observed pieces (Err SayFault) old new = (i : ℕ) × FailsAt observed pieces i old new
+SaysBy observed pieces (Err _) old new = observed → said_by new ≡ said_by old
 
 -- the journal stands for a state, unless the disk failed
 abbrev pub StandsUnlessDisk : Directory → State → Result (Unit {0}) SwitchFault → List Call → InHand → Type 0
@@ -85,7 +85,7 @@ pub record Brings (d : Directory) (s t : State) (pieces : List Outside) (result 
   pub stands : StandsUnlessDisk d t result new next
 
 -- whatever state the journal of these parts stood for, and whatever records were gathered
-abbrev pub BringsAndSays : {P : Type 0} → Result (Unit {0}) SwitchFault → (old new : List Call) → Parts P → InHand → Type 0
+abbrev pub BringsAndSays : {P : Type 0} → Result (Unit {0}) SwitchFault → (old new : List Call) → EngineParts P → InHand → Type 0
 BringsAndSays result old new parts next =
     (s : State) (rs : List Record) → StandsFor parts.directory s old parts.journal → AreNext parts.directory s parts.journal rs parts.batch
     → Brings parts.directory s (after_records parts.directory s rs) (held_pieces parts.held) result old new next
@@ -97,13 +97,13 @@ IsDeviceFault SayFault = Unit {0}
 IsDeviceFault _ = ⊥
 
 -- only what is held is another one
-abbrev pub OnlyHeld : {P : Type 0} → (old new : Parts P) → Type 0
+abbrev pub OnlyHeld : {P : Type 0} → (old new : EngineParts P) → Type 0
 OnlyHeld old new = new ≡ record old { held = new.held }
 
 -- Bytes were to be said on a channel, with this answer: at once, where nothing was gathered; else they are held behind what is held.
-pub record HasTold {P : Type 0} (tells : Type 0) (calls : P → List Call) (disk say : P → ℕ) (channel : ℕ) (bytes : List ℕ)
-    (result : Result (Unit {0}) SwitchFault) (old new : Parts P) : Type 0 where
-  pub told : (engine_of old).gathered ≡ false → tells → Tries (Says channel bytes) result (calls old.station) (calls new.station)
+pub record HasTold {P : Type 0} (observed : Type 0) (calls : P → List Call) (disk say : P → ℕ) (channel : ℕ) (bytes : List ℕ)
+    (result : Result (Unit {0}) SwitchFault) (old new : EngineParts P) : Type 0 where
+  pub told : (engine_of old).gathered ≡ false → observed → Tries (Says channel bytes) result (calls old.station) (calls new.station)
   pub rest : (engine_of old).gathered ≡ false → OnlySaid old new
   pub held : (engine_of old).gathered ≡ true
       → (result ≡ Ok tt) × OnlyHeld old new × ((engine_of new).held ≡ (engine_of old).held ++ on channel bytes ∷ [])
@@ -113,12 +113,12 @@ pub record HasTold {P : Type 0} (tells : Type 0) (calls : P → List Call) (disk
   pub disk_stays : disk new.station ≡ disk old.station
 
 -- What was gathered in an engine that goes on was to be brought into the journal and said, with this answer.
-pub record HasSettled {P : Type 0} (tells : Type 0) (calls : P → List Call) (disk say : P → ℕ)
-    (result : Result (Unit {0}) SwitchFault) (old new : Parts P) : Type 0 where
+pub record HasSettled {P : Type 0} (observed : Type 0) (calls : P → List Call) (disk say : P → ℕ)
+    (result : Result (Unit {0}) SwitchFault) (old new : EngineParts P) : Type 0 where
   pub settles : (mode : SayMode) (o : Origin) (entries : List Entry) (events : List Event)
-      → Gathers tells mode o entries events (shows calls old)
-      → AfterSettling (meanings_of tells calls mode) o entries events result (engine_of new)
-  pub sound : IsSound tells calls new
+      → Gathers observed mode o entries events (shows calls old)
+      → AfterSettling (meanings_of observed calls mode) o entries events result (engine_of new)
+  pub sound : IsSound observed calls new
   pub stops : new.stopped ≡ stopped_after old.stopped result
   pub kind : IfErr result IsDeviceFault
   pub rest : OnlySettled old new
@@ -131,58 +131,59 @@ pub record HasSettled {P : Type 0} (tells : Type 0) (calls : P → List Call) (d
 
 -- the parts stay as they are, or what was gathered was settled
 abbrev pub MayHaveSettled : {P : Type 0} → Type 0 → (P → List Call) → (disk say : P → ℕ) → Result (Unit {0}) SwitchFault
-    → (old new : Parts P) → Type 0
-MayHaveSettled tells calls disk say result old new = ((result ≡ Ok tt) × (new ≡ old)) ⊎ HasSettled tells calls disk say result old new
+    → (old new : EngineParts P) → Type 0
+MayHaveSettled observed calls disk say result old new = ((result ≡ Ok tt) × (new ≡ old)) ⊎ HasSettled observed calls disk say result old new
 
 -- What a call for an event leaves, whatever entries the engine stood for and whatever events were gathered.
 abbrev pub LeavesCall : {P : Type 0} → Type 0 → (P → List Call) → SayMode → Event → Result Outcome SwitchFault → (old new : Engine P)
     → Type 0
-LeavesCall tells calls mode event result old new =
-    (o : Origin) (entries : List Entry) (events : List Event) → Gathers tells mode o entries events (shown calls old)
-    → AfterCall (meanings_of tells calls mode) o entries events event result new
+LeavesCall observed calls mode event result old new =
+    (o : Origin) (entries : List Entry) (events : List Event) → Gathers observed mode o entries events (shown calls old)
+    → AfterCall (meanings_of observed calls mode) o entries events event result new
 
 -- A call over the parts was answered so, and leaves by the way in which frames are said what a call leaves. The answer is the
 -- outcome; the parts are sound again; and a device that failed stopped them, and was counted.
-pub record AnswersIn {P : Type 0} (tells : Type 0) (calls : P → List Call) (disk say : P → ℕ) (mode : SayMode) (event : Event)
-    (result : Result Outcome SwitchFault) (old new : Parts P) : Type 0 where
-  pub called : LeavesCall tells calls mode event result (engine_of old) (engine_of new)
+pub record AnswersIn {P : Type 0} (observed : Type 0) (calls : P → List Call) (disk say : P → ℕ) (mode : SayMode) (event : Event)
+    (result : Result Outcome SwitchFault) (old new : EngineParts P) : Type 0 where
+  pub called : LeavesCall observed calls mode event result (engine_of old) (engine_of new)
   pub outcome : IfOk result (λ answer. (s : State) → Holds old.directory old.core s → answer ≡ outcome_of old.directory s event)
   pub directory : new.directory ≡ old.directory
-  pub sound : IsSound tells calls new
+  pub sound : IsSound observed calls new
   pub stops : new.stopped ≡ stopped_after old.stopped result
   pub cause : HasCallCause result (disk old.station) (disk new.station) (say old.station) (say new.station)
 
 -- whoever says the frames
 abbrev pub Answers : {P : Type 0} → Type 0 → (P → List Call) → (disk say : P → ℕ) → Event → Result Outcome SwitchFault
-    → (old new : Parts P) → Type 0
-Answers tells calls disk say event result old new = (mode : SayMode) → AnswersIn tells calls disk say mode event result old new
+    → (old new : EngineParts P) → Type 0
+Answers observed calls disk say event result old new = (mode : SayMode) → AnswersIn observed calls disk say mode event result old new
 
 -- what a call on an engine was answered, and leaves, as an engine that gathers
 abbrev pub GathersEntry : {P : Type 0} → Type 0 → (P → List Call) → SayMode → Event → Result Outcome SwitchFault → (old new : Engine P)
     → Type 0
-GathersEntry tells calls mode event result old new = IsAnswered (meanings_of tells calls mode) event result old new
+GathersEntry observed calls mode event result old new = IsAnswered (meanings_of observed calls mode) event result old new
 
 -- A take on c was gathered behind whatever events were, and nothing was settled before: the answer is the event's outcome. The caller
 -- says the frame.
-pub record TakesBehind {P : Type 0} (tells : Type 0) (calls : P → List Call) (c : ℕ) (answer : Outcome) (old new : Engine P) : Type 0 where
+pub record TakesBehind {P : Type 0} (observed : Type 0) (calls : P → List Call) (c : ℕ) (answer : Outcome)
+    (old new : Engine P) : Type 0 where
   pub directory : new.directory ≡ old.directory
-  pub gathers : (o : Origin) (entries : List Entry) (events : List Event) → Gathers tells Caller o entries events (shown calls old)
-      → Gathers tells Caller o entries (events ++ Taken c ∷ []) (shown calls new)
-  pub outcome : (o : Origin) (entries : List Entry) (events : List Event) → Gathers tells Caller o entries events (shown calls old)
+  pub gathers : (o : Origin) (entries : List Entry) (events : List Event) → Gathers observed Caller o entries events (shown calls old)
+      → Gathers observed Caller o entries (events ++ Taken c ∷ []) (shown calls new)
+  pub outcome : (o : Origin) (entries : List Entry) (events : List Event) → Gathers observed Caller o entries events (shown calls old)
       → answer ≡ outcome_of o.directory (state_behind o entries events) (Taken c)
 
 -- A call changed nothing: what was gathered before it is settled, and nothing is gathered.
-pub record HasOnlySettled {P : Type 0} (tells : Type 0) (calls : P → List Call) (old new : Engine P) : Type 0 where
-  pub settling : (mode : SayMode) → IsSettling (meanings_of tells calls mode) (Ok tt) old new
+pub record HasOnlySettled {P : Type 0} (observed : Type 0) (calls : P → List Call) (old new : Engine P) : Type 0 where
+  pub settling : (mode : SayMode) → IsSettling (meanings_of observed calls mode) (Ok tt) old new
   pub emptied : new.gathered ≡ false
 
 -- where nothing changed
 abbrev pub OnIdle : {P : Type 0} → Type 0 → (P → List Call) → Result Outcome SwitchFault → (old new : Engine P) → Type 0
-OnIdle tells calls result old new = IsIdleAnswer result → HasOnlySettled tells calls old new
+OnIdle observed calls result old new = IsIdleAnswer result → HasOnlySettled observed calls old new
 
 -- What was gathered was to be settled, whoever says the frames. Nothing is gathered any more.
-pub record SettlesEngine {P : Type 0} (tells : Type 0) (calls : P → List Call) (result : Result (Unit {0}) SwitchFault)
+pub record SettlesEngine {P : Type 0} (observed : Type 0) (calls : P → List Call) (result : Result (Unit {0}) SwitchFault)
     (old new : Engine P) : Type 0 where
-  pub settling : (mode : SayMode) → IsSettling (meanings_of tells calls mode) result old new
+  pub settling : (mode : SayMode) → IsSettling (meanings_of observed calls mode) result old new
   pub emptied : new.gathered ≡ false
   pub nothing : old.gathered ≡ false → (result ≡ Ok tt) × (new ≡ old)

@@ -24,17 +24,17 @@ abbrev pub bytes_wanted : Result Outcome SwitchFault → Option ℕ
 bytes_wanted (Err (Full used need limit)) = Some need
 bytes_wanted _ = None
 
-module _ (tells : Type 0) (mode : SayMode) (o : Origin) (h : List Entry) (event : Event)
+module _ (observed : Type 0) (mode : SayMode) (o : Origin) (h : List Entry) (event : Event)
     (result : Result Outcome SwitchFault) (e : Shown) where
   -- The entry was added behind these, to a journal as it was, which had room for what was done.
   pub record AddsPlain : Type 0 where
-    pub keeps : Keeps tells mode o (h ++ entry_of event result) e
+    pub keeps : Keeps observed mode o (h ++ entry_of event result) e
     pub had_room : IsOk result → full o.directory (state_at o h) (used_at o h) event ≡ None
 
   -- The journal was full for the event, and a compacted one has room with bytes to spare: behind these entries it was compacted,
   -- and then the entry was added.
   pub record AddsCompacted : Type 0 where
-    pub keeps : Keeps tells mode (compacted_after o h) (h ++ entry_of event result) e
+    pub keeps : Keeps observed mode (compacted_after o h) (h ++ entry_of event result) e
     pub was_full : IsSome (full o.directory (state_at o h) (used_at o h) event)
     pub has_room : full_with_spare o.directory (state_at o h) event ≡ None
 
@@ -50,23 +50,23 @@ outcome_behind o h event = outcome o.directory (state_at o h) event
 -- A message was heard so, and room was made for it: whatever entries the engine stood for, it stands for these and the entry,
 -- with the journal compacted in front of that exactly where there was no room and a compacted journal has it. The answer is the
 -- outcome. A fault has its cause: Full is answered only where a compacted journal would be full, too.
-pub record IsHeardWithRoom {P : Type 0} (tells : Type 0) (calls : P → List Call) (mode : SayMode) (event : Event)
+pub record IsHeardWithRoom {P : Type 0} (observed : Type 0) (calls : P → List Call) (mode : SayMode) (event : Event)
     (result : Result Outcome SwitchFault) (old new : Engine P) : Type 0 where
   pub directory : new.directory ≡ old.directory
-  pub adds : (o : Origin) (h : List Entry) → Keeps tells mode o h (shown calls old)
-      → AddsPlain tells mode o h event result (shown calls new) ⊎ AddsCompacted tells mode o h event result (shown calls new)
-  pub outcome : (o : Origin) (h : List Entry) → Keeps tells mode o h (shown calls old)
+  pub adds : (o : Origin) (h : List Entry) → Keeps observed mode o h (shown calls old)
+      → AddsPlain observed mode o h event result (shown calls new) ⊎ AddsCompacted observed mode o h event result (shown calls new)
+  pub outcome : (o : Origin) (h : List Entry) → Keeps observed mode o h (shown calls old)
       → (answer : Outcome) → result ≡ Ok answer → answer ≡ outcome_behind o h event
-  pub caused : (o : Origin) (h : List Entry) → Keeps tells mode o h (shown calls old)
+  pub caused : (o : Origin) (h : List Entry) → Keeps observed mode o h (shown calls old)
       → (fault : SwitchFault) → result ≡ Err fault → IsCause (IsFullEither o h event) h (outcome_behind o h event) fault
 
 -- whoever says the frames
 abbrev pub HearsWithRoom : {P : Type 0} → Type 0 → (P → List Call) → Event → Result Outcome SwitchFault → (old new : Engine P) → Type 0
-HearsWithRoom tells calls event result old new = (mode : SayMode) → IsHeardWithRoom tells calls mode event result old new
+HearsWithRoom observed calls event result old new = (mode : SayMode) → IsHeardWithRoom observed calls mode event result old new
 
 -- ---- the same, behind what was gathered
 
-module _ {P : Type 0} (tells : Type 0) (calls : P → List Call) (mode : SayMode) (o : Origin) (entries : List Entry) (events : List Event)
+module _ {P : Type 0} (observed : Type 0) (calls : P → List Call) (mode : SayMode) (o : Origin) (entries : List Entry) (events : List Event)
     (event : Event) (result : Result Outcome SwitchFault) (new : Engine P) where
   -- the entries, with what was gathered behind them
   abbrev pub so_far : List Entry
@@ -74,37 +74,37 @@ module _ {P : Type 0} (tells : Type 0) (calls : P → List Call) (mode : SayMode
 
   -- The event came to a journal as it was, which had room for what was done.
   pub record GathersPlain : Type 0 where
-    pub leaves : AfterCall (meanings_of tells calls mode) o entries events event result new
+    pub leaves : AfterCall (meanings_of observed calls mode) o entries events event result new
     pub had_room : IsOk result → full o.directory (state_at o so_far) (used_at o so_far) event ≡ None
 
   -- The journal was full for the event, and a compacted one has room with bytes to spare: what was gathered was settled, the
   -- journal was compacted behind it, and then the event came.
   pub record GathersCompacted : Type 0 where
-    pub leaves : AfterCall (meanings_of tells calls mode) (compacted_after o so_far) so_far [] event result new
+    pub leaves : AfterCall (meanings_of observed calls mode) (compacted_after o so_far) so_far [] event result new
     pub was_full : IsSome (full o.directory (state_at o so_far) (used_at o so_far) event)
     pub has_room : full_with_spare o.directory (state_at o so_far) event ≡ None
 
   -- What was gathered was settled, and the disk failed while the journal was compacted behind it: the event is in doubt.
   pub record GathersNone : Type 0 where
     pub fault : result ≡ Err DiskFault
-    pub keeps : Keeps tells mode o (so_far ++ Doubt (event ∷ []) ∷ []) (shown calls new)
+    pub keeps : Keeps observed mode o (so_far ++ Doubt (event ∷ []) ∷ []) (shown calls new)
 
 -- A message was heard so, which may be gathered, and room was made for it: whatever entries the engine stood for, and whatever
 -- events it had gathered. The answer is the outcome. A fault has its cause: Full is answered only where a compacted journal would be
 -- full, too.
-pub record IsGatheredWithRoom {P : Type 0} (tells : Type 0) (calls : P → List Call) (mode : SayMode) (event : Event)
+pub record IsGatheredWithRoom {P : Type 0} (observed : Type 0) (calls : P → List Call) (mode : SayMode) (event : Event)
     (result : Result Outcome SwitchFault) (old new : Engine P) : Type 0 where
   pub directory : new.directory ≡ old.directory
-  pub adds : (o : Origin) (entries : List Entry) (events : List Event) → Gathers tells mode o entries events (shown calls old)
-      → GathersPlain tells calls mode o entries events event result new
-      ⊎ (GathersCompacted tells calls mode o entries events event result new
-      ⊎ GathersNone tells calls mode o entries events event result new)
-  pub outcome : (o : Origin) (entries : List Entry) (events : List Event) → Gathers tells mode o entries events (shown calls old)
+  pub adds : (o : Origin) (entries : List Entry) (events : List Event) → Gathers observed mode o entries events (shown calls old)
+      → GathersPlain observed calls mode o entries events event result new
+      ⊎ (GathersCompacted observed calls mode o entries events event result new
+      ⊎ GathersNone observed calls mode o entries events event result new)
+  pub outcome : (o : Origin) (entries : List Entry) (events : List Event) → Gathers observed mode o entries events (shown calls old)
       → (answer : Outcome) → result ≡ Ok answer → answer ≡ outcome_behind o (entries ++ all_done events) event
-  pub caused : (o : Origin) (entries : List Entry) (events : List Event) → Gathers tells mode o entries events (shown calls old)
+  pub caused : (o : Origin) (entries : List Entry) (events : List Event) → Gathers observed mode o entries events (shown calls old)
       → (fault : SwitchFault) → result ≡ Err fault → let h : List Entry = entries ++ all_done events in
       IsAnswerCause (IsFullEither o h event) h (outcome_behind o h event) fault
 
 -- whoever says the frames
 abbrev pub GathersWithRoom : {P : Type 0} → Type 0 → (P → List Call) → Event → Result Outcome SwitchFault → (old new : Engine P) → Type 0
-GathersWithRoom tells calls event result old new = (mode : SayMode) → IsGatheredWithRoom tells calls mode event result old new
+GathersWithRoom observed calls event result old new = (mode : SayMode) → IsGatheredWithRoom observed calls mode event result old new

@@ -2,7 +2,7 @@ ghost use Rattle.std.specs.Prelude.{◌≡◌, ◌≢◌, ◌-◌, ◌^◌, ◌<
 ghost use Rattle.gts_engine.specs.Cited.{EachSince, FitBytes, GivesRoom, HasWritten, Holds, IsBehind, IsClosedAt, IsSizeAt, IsSound, IsWriteFault, LeavesBoth, Needs, Rewrites, Rose, StandsOn, State, WorksBeside, checkpoint_text, compacted_bytes, engine_of, full_compacted, held, need_of, need_seal, no_records, said_by, seen, selecting, stopped_after, written};
 ghost use Rattle.gts_engine.specs.Compacting.{IsRoomFault};
 
-use crate::parts::Parts;
+use crate::parts::EngineParts;
 use crate::room::{check_checkpoint, compacted_size};
 use gts_checkpoint::{WriteFault, write};
 use gts_core::a_core_has_the_waiting_draws_of_its_state;
@@ -11,9 +11,9 @@ use gts_traits::Station;
 use std::alloc::Global;
 
 /// Whether a checkpoint of this size leaves room for all draws that are due.
-pub fn check_room<P: Station>(parts: &Parts<P>, size: u64) -> Result<(), SwitchFault>
+pub fn check_room<P: Station>(parts: &EngineParts<P>, size: u64) -> Result<(), SwitchFault>
     requires going { parts.now.stopped ≡ None }
-    requires sound { IsSound P.tells P.calls parts.now }
+    requires sound { IsSound P.observed P.calls parts.now }
     requires rests { (engine_of parts.now).gathered ≡ false }
     ensures room { (s : State) → Holds parts.now.directory parts.now.core s
         → IsSizeAt parts.now.directory s size → GivesRoom result parts.now.directory s }
@@ -32,7 +32,7 @@ pub fn check_room<P: Station>(parts: &Parts<P>, size: u64) -> Result<(), SwitchF
 
 /// Writes the checkpoint of a need to a file that isn't selected, and answers its seal. A failure of the disk stops the engine.
 fn put<P: Station>(
-    parts: &mut Parts<P>,
+    parts: &mut EngineParts<P>,
     alloc: Global,
     file: u32,
     mark: [u8; 32],
@@ -41,10 +41,10 @@ fn put<P: Station>(
     requires file { file < 2 }
     requires fits { FitBytes (need_of need.now) }
     requires room { compacted_bytes written (need_of need.now) ≤ 2 ^ 30 }
-    ensures written { P.tells → OnOk result (HasWritten mark (need_of need.now)
+    ensures written { P.observed → OnOk result (HasWritten mark (need_of need.now)
         file (P.calls parts.new.station)) }
     ensures seal { IfOk result (λ last. held written last ≡ need_seal mark (need_of need.now)) }
-    ensures beside { P.tells
+    ensures beside { P.observed
         → WorksBeside file (P.calls parts.old.station) (P.calls parts.new.station) }
     ensures rest { parts.new
         ≡ record parts.old { station = parts.new.station; stopped = parts.new.stopped } }
@@ -68,7 +68,7 @@ fn put<P: Station>(
 
 /// Selects the other file. A failure stops the engine.
 fn choose<P: Station>(
-    parts: &mut Parts<P>,
+    parts: &mut EngineParts<P>,
     file: u32,
     used: u64,
     seal: [u8; 32],
@@ -76,20 +76,20 @@ fn choose<P: Station>(
     requires file { file < 2 }
     requires other { file ≢ parts.old.journal.file }
     requires used { used ≤ 2 ^ 40 }
-    requires stands { P.tells → StandsOn (P.calls parts.old.station) parts.old.journal }
-    requires whole { P.tells
+    requires stands { P.observed → StandsOn (P.calls parts.old.station) parts.old.journal }
+    requires whole { P.observed
         → IsClosedAt (P.calls parts.old.station) parts.old.journal file used }
     ensures place { OnOk result (parts.new.journal
         ≡ selecting written file used (held written seal) parts.old.journal) }
     ensures batch { MatchResult result (λ done. parts.new.batch ≡ no_records parts.new.journal)
         (λ fault. parts.new.batch ≡ parts.old.batch) }
-    ensures stands { P.tells
+    ensures stands { P.observed
         → OnOk result (StandsOn (P.calls parts.new.station) parts.new.journal) }
-    ensures files { P.tells → (k : ℕ) → k ≢ 2 → OnOk result
+    ensures files { P.observed → (k : ℕ) → k ≢ 2 → OnOk result
         (seen (P.calls parts.new.station) k ≡ seen (P.calls parts.old.station) k) }
-    ensures moments { P.tells → EachSince (P.calls parts.old.station) (P.calls parts.new.station)
+    ensures moments { P.observed → EachSince (P.calls parts.old.station) (P.calls parts.new.station)
         (LeavesBoth (P.calls parts.old.station)) }
-    ensures silent { P.tells
+    ensures silent { P.observed
         → said_by (P.calls parts.new.station) ≡ said_by (P.calls parts.old.station) }
     ensures rest { IsBehind parts.old parts.new }
     ensures stops { parts.new.stopped ≡ stopped_after parts.old.stopped result }
@@ -112,22 +112,22 @@ fn choose<P: Station>(
 
 /// Writes the checkpoint of a need, for which there is room, to the file that isn't selected, and selects that.
 pub fn rewrite<P: Station>(
-    parts: &mut Parts<P>,
+    parts: &mut EngineParts<P>,
     alloc: Global,
     need: &Need,
     size: u64,
 ) -> Result<(), SwitchFault>
     requires going { parts.old.stopped ≡ None }
-    requires sound { IsSound P.tells P.calls parts.old }
+    requires sound { IsSound P.observed P.calls parts.old }
     requires rests { (engine_of parts.old).gathered ≡ false }
     requires need { Needs parts.old.core (need_of need.now) }
     requires size { size ≡ min (length (checkpoint_text (need_of need.now))) (2 ^ 64 - 1) }
     requires free { (s : State) → Holds parts.old.directory parts.old.core s
         → full_compacted parts.old.directory s ≡ None }
-    ensures { Rewrites P.tells P.calls P.disk_faults P.say_faults result parts.old parts.new }
+    ensures { Rewrites P.observed P.calls P.disk_faults P.say_faults result parts.old parts.new }
 {
     // A directory is within its bounds.
-    let _ = (parts.directory.circuits(), parts.directory.limit());
+    parts.directory.bounds_hold();
     let mark = parts.directory.mark();
     let other = 1 - parts.journal.file();
     let used = compacted_size(size);

@@ -1,24 +1,24 @@
 ghost use Rattle.std.specs.Prelude.{◌≡◌, ◌<◌, length, None};
 ghost use Rattle.gts_engine.specs.Cited.{Answers, IsIdleAnswer, IsSound, Lost};
 
-use crate::parts::Parts;
+use crate::parts::EngineParts;
 use crate::receipts::say_receipt;
 use crate::steps::make_room;
 use gts_event::{LONGEST_RECEIPT, Outcome, SwitchFault};
-use gts_frame::LostField;
+use gts_frame::FrameField;
 use gts_traits::Station;
 
 /// Synchronisation was lost on circuit `c`, in this field of a frame: the receipt of that is said behind what was gathered. Takes no
 /// memory.
 pub fn lose<P: Station>(
-    parts: &mut Parts<P>,
+    parts: &mut EngineParts<P>,
     c: u32,
-    field: LostField,
+    field: FrameField,
 ) -> Result<Outcome, SwitchFault>
     requires going { parts.old.stopped ≡ None }
-    requires sound { IsSound P.tells P.calls parts.old }
+    requires sound { IsSound P.observed P.calls parts.old }
     requires circuit { c < length parts.old.directory.circuits }
-    ensures answered { Answers P.tells P.calls P.disk_faults P.say_faults (Lost c field) result
+    ensures answered { Answers P.observed P.calls P.disk_faults P.say_faults (Lost c field) result
         parts.old parts.new }
     ensures active { IsIdleAnswer result → ⊥ }
 {

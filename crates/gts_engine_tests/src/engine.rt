@@ -2,10 +2,10 @@ use gts_calls::Switch;
 use gts_directory::{CircuitRow, DirRows, Directory, RuleRow};
 use gts_engine::{Engine, SayMode};
 use gts_event::{Device, Outcome};
-use gts_fixtures::{MARK, is_same, two_circuits};
-use gts_frame::{FrameBuf, Kind, LostField};
+use gts_frame::{FrameBuf, FrameField, Kind};
 use gts_journal::Journal;
 use gts_memory::MemStation;
+use gts_parts_tests::{MARK, is_same, two_circuits};
 use std::alloc::Global;
 use std::net::Ipv4Addr;
 use std::test::Fail;
@@ -118,7 +118,7 @@ fn lost(engine: &mut Engine<MemStation>) -> Option<Outcome> {
     if engine.directory().circuits() == 0 {
         return None;
     }
-    Engine::lost(engine, 0, LostField::Kind).ok()
+    Engine::lost(engine, 0, FrameField::Kind).ok()
 }
 
 /// What stopped an engine after a message and a loss.

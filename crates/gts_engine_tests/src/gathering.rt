@@ -4,9 +4,9 @@ use crate::engine::{engine, numbered, small, station_in};
 use crate::journal::crashed;
 use gts_engine::{Engine, SayMode};
 use gts_event::{Device, SwitchFault};
-use gts_fixtures::is_same;
-use gts_frame::{FrameBuf, Kind, LostField};
+use gts_frame::{FrameBuf, FrameField, Kind};
 use gts_memory::{MemStation, Touched};
+use gts_parts_tests::is_same;
 use std::alloc::Global;
 use std::test::Fail;
 
@@ -60,7 +60,7 @@ fn gather(
             engine.gather_take(1, out, SayMode::Station)?;
         }
         Event::Lose => {
-            engine.gather_lost(0, LostField::Kind)?;
+            engine.gather_lost(0, FrameField::Kind)?;
         }
     }
     Ok(())

@@ -1,10 +1,10 @@
 ghost use Rattle.std.specs.Prelude.{◌≡◌, ◌≤◌, ◌^◌, true, length, IfOk};
 ghost use Rattle.gts_journal.specs.Cited.{IsCurrent, StandsOn};
 
-use gts_fixtures::is_same;
 use gts_frame::Kind;
 use gts_journal::{InitFault, Journal, OpenFault, Record, Version};
 use gts_memory::{MemStation, Touched};
+use gts_parts_tests::is_same;
 use gts_traits::Station;
 use std::alloc::Global;
 use std::test::Fail;
@@ -31,7 +31,7 @@ const UNSEALED: &[u8] =
 fn read_to_end<P: Station>(alloc: Global, station: &mut P) -> Result<(Journal, u64), OpenFault>
     ensures current { IfOk result (λ x. IsCurrent x.0) }
     ensures end { IfOk result (λ x. x.0.ended ≡ true) }
-    ensures stands { P.tells → IfOk result (λ x. StandsOn (P.calls station.new) x.0) }
+    ensures stands { P.observed → IfOk result (λ x. StandsOn (P.calls station.new) x.0) }
 {
     let mut journal = Journal::start(alloc, station, MARK)?;
     let mut count: u64 = 0;

@@ -1,8 +1,8 @@
 ghost use Rattle.std.specs.Prelude.{◌≤◌, ◌^◌, length};
 
 use gts_directory::Directory;
-use gts_fixtures::two_circuits;
 use gts_memory::MemStation;
+use gts_parts_tests::two_circuits;
 use gts_recovery::{OpenFault, open_core};
 use gts_traits::Station;
 use std::alloc::Global;

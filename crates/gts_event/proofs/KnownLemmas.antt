@@ -1,6 +1,6 @@
 -- What is known is a duplicate.
 use Rattle.std.proofs.Common.{◌≡◌, ℕ, zero, suc, Bool, true, false, ◌&&◌, nat_eq, cond, List, [], ◌∷◌, ◌++◌, length, reverse, find, Option, Some, None, is_some, Result, Ok, Err, refl, sym, ap, ◌∙◌, slice_get}
-use Rattle.gts_event.specs.Cited.{Accepted, Bulletin, Directory, Duplicate, Entry, Field, HeadingFields, Heard, Kind, Knows, KnowsMessage, Message, MessageParts, Outcome, Refused, State, WasRead, after, after_all, after_heard, answer_to, body_of, duplicate, heading_of, heading_text, is_recent, is_same_heading, named, outcome, pointwise, request_at, text_of, verdict}
+use Rattle.gts_event.specs.Cited.{Accepted, Bulletin, Directory, Duplicate, Entry, HeadingFields, Heard, Kind, Knows, KnowsMessage, Message, MessageField, MessageParts, Outcome, Refused, State, WasRead, after, after_all, after_heard, answer_to, body_of, duplicate, heading_of, heading_text, is_recent, is_same_heading, named, outcome, pointwise, request_at, text_of, verdict}
 use Rattle.std.proofs.lemmas.Bool.{true≢false, and_from}
 use Rattle.std.proofs.lemmas.List.{append_assoc, reverse-append}
 use Rattle.gts_event.proofs.BulletinLemmas.{was_read, body_at-read, heading-read}
@@ -45,7 +45,7 @@ knows d s entries b i at near =
 -- ---- a message that was accepted is known
 
 text-read : (d : Directory) (message : List ℕ) (w : WasRead d message) → text_of (body_of message) ≡ w.parts.text
-text-read d message w = ap (λ (r : Result (HeadingFields × List ℕ) Field). elim r as (λ _. List ℕ) [ Ok found ↦ found.1 | Err _ ↦ [] ]) (body_at-read d message w)
+text-read d message w = ap (λ (r : Result (HeadingFields × List ℕ) MessageField). elim r as (λ _. List ℕ) [ Ok found ↦ found.1 | Err _ ↦ [] ]) (body_at-read d message w)
 
 as_duplicate : (o : Option Bulletin) (new : Outcome) → is_some o ≡ true → (p : ℕ) × (elim o as (λ _. Outcome) [ Some b ↦ Duplicate b.position | None ↦ new ] ≡ Duplicate p)
 as_duplicate (Some b) new e = (b.position, refl)
@@ -57,7 +57,7 @@ again d t c kind m w known =
     let found : Outcome = elim (duplicate d t w.parts.heading w.parts.text) as (λ _. Outcome) [ Some b ↦ Duplicate b.position | None ↦ new ] in
     let r = as_duplicate (duplicate d t w.parts.heading w.parts.text) new known in (
       r.0,
-      ap (λ (x : Result MessageParts Field). elim x as (λ _. Outcome) [ Err field ↦ Refused (Message field) | Ok parts ↦ verdict d t c parts ]) w.read
+      ap (λ (x : Result MessageParts MessageField). elim x as (λ _. Outcome) [ Err field ↦ Refused (Message field) | Ok parts ↦ verdict d t c parts ]) w.read
           ∙ ap (λ b. cond b (answer_to d t c (request_at w.parts.text)) found) w.other ∙ r.1,
     )
 

@@ -1,6 +1,6 @@
 -- What is turned away, and the lines of kept draws.
 use Rattle.std.proofs.Common.{◌≡◌, cond, ◌||◌, ℕ, ◌+◌, ◌<◌, ◌≤◌, Bool, true, false, ◌==◌, inl, inr, nat_le, nat_lt, List, [], ◌∷◌, length, Some, refl, ap, arith}
-use Rattle.gts_event.specs.Cited.{Accepted, Asked, Bulletin, Choice, CircuitState, Directory, Draw, Draws, Duplicate, Event, HasLine, HeadingFields, Heard, IsHeld, IsTurnedAway, Kind, LineLost, Lost, Nothing, Nothing_waits, Outcome, Outside, Refused, Repeats, Resend, State, Taken, after, after_heard, after_take, choice, circuit_need, circuit_of_event, draws, enumerate_from, find, has, heading_of_message, is_kept, is_there, kept_on, line, no_heading, on, on_circuit, outcome, receipt_text, spoken}
+use Rattle.gts_event.specs.Cited.{Accepted, Asked, Bulletin, Choice, CircuitState, Directory, Draw, Draws, Duplicate, Event, HasFrame, HeadingFields, Heard, IsHeld, IsTurnedAway, Kind, LineLost, Lost, Nothing, Nothing_waits, Outcome, Outside, Refused, Repeats, Resend, State, Taken, after, after_heard, after_take, choice, circuit_need, circuit_of_event, draws, enumerate_from, find, frame_of_draw, has, heading_of_message, is_kept, is_there, kept_on, no_heading, on, on_circuit, outcome, receipt_text, spoken}
 use Rattle.std.proofs.lemmas.Bool.{leb-true, ltb-true, eq-eqb, cases_lt, and_parts, or_left, or_right}
 use Rattle.gts_event.proofs.OrderLemmas.{list_all-has}
 use Rattle.gts_event.proofs.LeftLemmas.{kept_positions, length-kept}
@@ -51,8 +51,8 @@ turned-said d s (Taken c) h = absurd (no_take (choice d s c) h)
 abbrev said_take : Directory → State → ℕ → Choice → Outside
 said_take d t c ch =
     elim ch as (λ _. Outside) [
-      | Repeats index ↦ on (c + 1) (line d t c index)
-      | Draws index position ↦ on (c + 1) (line d t c index)
+      | Repeats index ↦ on (c + 1) (frame_of_draw d t c index)
+      | Draws index position ↦ on (c + 1) (frame_of_draw d t c index)
       | Nothing_waits ↦ []
     ]
 
@@ -95,8 +95,8 @@ bulletin_there p (b ∷ bs) h = go (b.position == p) (bulletin_there p bs) h
     go true rest more = (b, refl)
     go false rest more = rest more
 
-pub kept-line : (d : Directory) (s : State) (c i : ℕ) → c < length d.circuits → IsHeld d s → is_kept (circuit_need (kept_on d c) (on_circuit s c)) i ≡ true → HasLine s c i
-kept-line d s c i lt held h =
+pub kept-frame_of_draw : (d : Directory) (s : State) (c i : ℕ) → c < length d.circuits → IsHeld d s → is_kept (circuit_need (kept_on d c) (on_circuit s c)) i ≡ true → HasFrame s c i
+kept-frame_of_draw d s c i lt held h =
     let q : CircuitState = on_circuit s c in
     let k : ℕ = kept_on d c in
     let both = and_parts (nat_le (draws q) (i + length (kept_positions k q))) (nat_lt i (draws q)) h in

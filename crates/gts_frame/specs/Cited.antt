@@ -8,7 +8,7 @@ pub use Rattle.gts_frame.specs.State.{Drops, IsHead, IsInMessage, IsSound, Takes
 pub use Rattle.gts_frame.specs.declared.head.Head.{Head}
 pub use Rattle.gts_frame.specs.declared.kind.Kind.{Kind}
 pub use Rattle.gts_frame.specs.declared.kind.Kind.TheVariants.{An, Bi, Fx}
-pub use Rattle.gts_frame.specs.declared.lost.LostField.{LostField}
+pub use Rattle.gts_frame.specs.declared.lost.FrameField.{FrameField}
 pub use Rattle.gts_frame.specs.declared.state.Taken.{Taken}
 pub use Rattle.gts_frame.specs.declared.step.Step.{Step}
 unfoldable pub use Below.*

@@ -1,6 +1,6 @@
 -- The text of a request, and how it is read.
 use Rattle.std.proofs.Common.{◌≡◌, ℕ, zero, suc, ◌<◌, ◌≤◌, ◌^◌, inl, inr, Bool, true, false, ◌&&◌, ◌||◌, ◌==◌, nat_le, List, [], ◌∷◌, ◌++◌, length, take, drop, map, Ok, Err, Some, None, refl, sym, ap, subst, ◌∙◌, append_assoc, if◌then◌else◌, arith, take_while, codes, Result}
-use Rattle.gts_gap.specs.Cited.{AllByRecursion, Cccc, EOL, Field, IsDigits, Item, Number, Numbers, ReqField, Run, Sqn, are_capitals, ask_text, behind_asker, bytes_from, capitals_at, count_at, dec, digits_value, front_text, is_ascii_digit, item_text, items_at, items_of, items_text, list_all, more_text, numbers_at, numbers_of, request_at, run_at, text_of}
+use Rattle.gts_gap.specs.Cited.{AllByRecursion, Cccc, EOL, IsDigits, Item, MessageField, Number, Numbers, RequestField, Run, Sqn, are_capitals, ask_text, behind_asker, bytes_from, capitals_at, count_at, dec, digits_value, front_text, is_ascii_digit, item_text, items_at, items_of, items_text, list_all, more_text, numbers_at, numbers_of, request_at, run_at, text_of}
 use Rattle.gts_request.specs.Request.{◌>>=◌, number_at}
 use Rattle.std.proofs.lemmas.Bool.{eqb-true, eq-eqb, le-leb, and_parts}
 use Rattle.std.proofs.lemmas.List.{append-nil, length-append, take_at, drop_at}
@@ -11,19 +11,19 @@ use Rattle.std.proofs.lemmas.List.Sums.{take_while-cons}
 abbrev pub triples : ℕ → List Run → List (ℕ × ℕ × ℕ)
 triples w rs = map (λ run. (run.first, run.last, w)) rs
 
-abbrev ok_of : ℕ → List ℕ → Result (ℕ × List ℕ) ReqField
+abbrev ok_of : ℕ → List ℕ → Result (ℕ × List ℕ) RequestField
 ok_of n rest = Ok (n, rest)
 
-abbrev item_of : (w first last : ℕ) → List ℕ → Result (Item × List ℕ) ReqField
+abbrev item_of : (w first last : ℕ) → List ℕ → Result (Item × List ℕ) RequestField
 item_of w first last rest = Ok (Numbers w first last, rest)
 
-abbrev count_of : ℕ → Result ℕ ReqField
+abbrev count_of : ℕ → Result ℕ RequestField
 count_of k = if (k == 3) || (k == 5) then Ok k else Err Number
 
-abbrev just : ℕ → Result ℕ ReqField
+abbrev just : ℕ → Result ℕ RequestField
 just k = Ok k
 
-abbrev found : List ℕ → List ℕ → Result (List ℕ × List ℕ) Field
+abbrev found : List ℕ → List ℕ → Result (List ℕ × List ℕ) MessageField
 found front back = Ok (front, back)
 
 -- ---- one line

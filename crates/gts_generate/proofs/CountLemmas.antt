@@ -1,6 +1,6 @@
 -- What was accepted and drawn, event by event.
 use Rattle.std.proofs.Common.{◌≡◌, ℕ, ◌+◌, ◌<◌, ◌≤◌, Bool, true, false, cond, Option, Some, None, Result, Ok, Err, List, [], ◌∷◌, ◌++◌, length, get_or, map, inl, inr, refl, ap, arith, count_by, sum, zip, is_none, nat_lt}
-use Rattle.gts_generate.specs.Cited.{Accepted, Asked, Bulletin, Choice, Circuit, CircuitNeed, CircuitState, Directory, Done, Doubt, Draw, Draws, Duplicate, Entry, Event, Field, Heard, Idle, IsOrdered, Item, Kind, LineLost, Lost, Many, Message, MessageParts, Nothing, Nothing_waits, Outcome, Refused, Repeats, ReqField, Resend, Restarted, State, Taken, Unsaid, after, after_all, after_entry, after_heard, after_take, all_owed_last, answer, answer_to, choice, circuit_need, draws, draws_in, duplicate, enumerate_from, found, has, heading_of_message, idle, is_accepted, is_draw, is_request, items_of, keeps_one, most_owed, named, need, on_circuit, outcome, outcome_of, outcomes, owed_again, owed_last, places, request_at, split_at, sum_by, verdict, waiting, with_drawn, with_repeated, with_routed}
+use Rattle.gts_generate.specs.Cited.{Accepted, Asked, Bulletin, Choice, Circuit, CircuitNeed, CircuitState, Directory, Done, Doubt, Draw, Draws, Duplicate, Entry, Event, Heard, Idle, IsOrdered, Item, Kind, LineLost, Lost, Many, Message, MessageField, MessageParts, Nothing, Nothing_waits, Outcome, Refused, Repeats, RequestField, Resend, Restarted, State, Taken, Unsaid, after, after_all, after_entry, after_heard, after_take, all_owed_last, answer, answer_to, choice, circuit_need, draws, draws_in, duplicate, enumerate_from, found, has, heading_of_message, idle, is_accepted, is_draw, is_request, items_of, keeps_one, most_owed, named, need, on_circuit, outcome, outcome_of, outcomes, owed_again, owed_last, places, request_at, split_at, sum_by, verdict, waiting, with_drawn, with_repeated, with_routed}
 use Rattle.std.proofs.lemmas.Bool.{cases_lt}
 use Rattle.std.proofs.lemmas.List.{set_past, get_or_past, length-append}
 use Rattle.std.proofs.lemmas.List.Sums.{sum_by-append, sum_by-cons, sum_by-set}
@@ -116,7 +116,7 @@ heard-answer owed ps = go (nat_lt most_owed (owed + length (found ps)))
     go true = tt
     go false = tt
 
-heard-request : (d : Directory) (s : State) (c : ℕ) (r : Result (List Item) ReqField) → IsHeard (answer_to d s c r)
+heard-request : (d : Directory) (s : State) (c : ℕ) (r : Result (List Item) RequestField) → IsHeard (answer_to d s c r)
 heard-request d s c (Err field) = tt
 heard-request d s c (Ok items) = heard-answer (length (on_circuit s c).owed) (places d s c items)
 
@@ -134,7 +134,7 @@ heard-verdict d s c parts = go (is_request d parts.heading)
     go true = heard-request d s c (request_at parts.text)
     go false = heard-new s.count (length (named d c parts.heading)) (duplicate d s parts.heading parts.text)
 
-heard-read : (d : Directory) (s : State) (c : ℕ) (r : Result MessageParts Field)
+heard-read : (d : Directory) (s : State) (c : ℕ) (r : Result MessageParts MessageField)
     → IsHeard (elim r [ Err field ↦ Refused (Message field) | Ok parts ↦ verdict d s c parts ])
 heard-read d s c (Err field) = tt
 heard-read d s c (Ok parts) = heard-verdict d s c parts

@@ -1,7 +1,7 @@
 -- Each take that gives something says one frame, where each bulletin has one end.
 use Rattle.std.proofs.Common.{◌≡◌, ℕ, suc, zero, ◌+◌, ◌-◌, ◌<◌, ◌≤◌, Bool, true, false, cond, ◌&&◌, ◌==◌, nat_le, nat_lt, Option, Some, None, List, [], ◌∷◌, ◌++◌, length, get_or, map, inl, inr, refl, sym, ap, subst, ◌∙◌, arith, count_by}
-use Rattle.gts_generate.specs.Cited.{Accepted, Asked, Bulletin, Choice, Circuit, CircuitState, Directory, Done, Doubt, Draw, Draws, Duplicate, ETX, Entry, Event, HasLine, Heard, Idle, IsGap, IsHeld, IsMessage, IsOrdered, Kind, LineLost, Lost, Nothing, Nothing_waits, Outcome, Refused, Repeats, Resend, Restarted, State, Taken, Unsaid, WasRead, after, after_entry, after_heard, after_take, bulletin_at, choice, choice_of, circuit_need, dec, digits_on, drawn, draws, find, frames_in, frames_said, heading_of_message, idle, is_circuit, is_draw, is_here, is_kept, is_resend, keeps_one, kept_on, last_of, list_all, message_of, next, no_heading, number_in, numbered_frame, on, on_circuit, outcome, outcome_of, outcomes, owes_kept, receipt_text, said, spoken, spoken_of, with_drawn, with_repeated, zip}
-use Rattle.gts_event.specs.Said.{line}
+use Rattle.gts_generate.specs.Cited.{Accepted, Asked, Bulletin, Choice, Circuit, CircuitState, Directory, Done, Doubt, Draw, Draws, Duplicate, ETX, Entry, Event, HasFrame, Heard, Idle, IsGap, IsHeld, IsMessage, IsOrdered, Kind, LineLost, Lost, Nothing, Nothing_waits, Outcome, Refused, Repeats, Resend, Restarted, State, Taken, Unsaid, WasRead, after, after_entry, after_heard, after_take, bulletin_at, choice, choice_of, circuit_need, dec, digits_on, drawn, draws, find, frames_in, frames_said, heading_of_message, idle, is_circuit, is_draw, is_here, is_kept, is_resend, keeps_one, kept_on, last_of, list_all, message_of, next, no_heading, number_in, numbered_frame, on, on_circuit, outcome, outcome_of, outcomes, owes_kept, receipt_text, said, spoken, spoken_of, with_drawn, with_repeated, zip}
+use Rattle.gts_event.specs.Said.{frame_of_draw}
 use Rattle.gts_event.specs.History.{body_of}
 use Rattle.std.proofs.lemmas.Bool.{eqb-true, eq-eqb, le-leb, lt-ltb, ltb-true, and_parts, and_from}
 use Rattle.std.proofs.lemmas.List.{get_or-set_same, length-append, length-drop, length-map}
@@ -9,7 +9,7 @@ use Rattle.std.proofs.lemmas.List.Folds.{list_all-append}
 use Rattle.std.proofs.lemmas.List.FromFn.{length-enumerate_from}
 use Rattle.std.proofs.lemmas.List.Sums.{sum_by-append}
 use Rattle.gts_message.proofs.LawLemmas.{split_takes}
-use Rattle.gts_event.proofs.LawLemmas.{was_read, body-read, held-all, draw_index, kept-line, keeps_get}
+use Rattle.gts_event.proofs.LawLemmas.{was_read, body-read, held-all, draw_index, kept-frame_of_draw, keeps_get}
 use Rattle.gts_generate.proofs.ByteLemmas.{lacks, lacks-append, lacks-dec}
 use Rattle.gts_generate.proofs.ReceiptLemmas.{take_outcome, said_take}
 use Rattle.gts_generate.proofs.CountLemmas.{IsHeard, heard-event}
@@ -108,11 +108,11 @@ ends-numbered digits index b =
     let number : List ℕ = dec digits (number_in digits index) in
     ends-frame b.kind (message_of number b.body) ∙ ends-message number b.body (lacks-dec ETX digits (number_in digits index) (omega arith))
 
-line-ends : (d : Directory) (s : State) (c i : ℕ) → HasLine s c i → list_all one_end s.accepted ≡ true → frames_in (line d s c i) ≡ 1
-line-ends d s c i there all =
+frame_of_draw-ends : (d : Directory) (s : State) (c i : ℕ) → HasFrame s c i → list_all one_end s.accepted ≡ true → frames_in (frame_of_draw d s c i) ≡ 1
+frame_of_draw-ends d s c i there all =
     let draw : ℕ × ℕ = there.0 in
     let b : Bulletin = there.1 in
-    let is : line d s c i ≡ numbered_frame (digits_on d c) i b = ap (of_draw d s c i) there.2 ∙ ap (of_bulletin (digits_on d c) i) there.3 in
+    let is : frame_of_draw d s c i ≡ numbered_frame (digits_on d c) i b = ap (of_draw d s c i) there.2 ∙ ap (of_bulletin (digits_on d c) i) there.3 in
     let one : one_end b ≡ true = found-passes (λ (x : Bulletin). x.position == draw.1) one_end s.accepted b there.3 all in
     ap frames_in is ∙ ends-numbered (digits_on d c) i b ∙ eqb-true (frames_in b.body) 1 one
 
@@ -162,10 +162,10 @@ circuit-here c low = and_from (nat_le 1 (c + 1)) (nat_le (c + 1) 8) (le-leb 1 (c
 
 -- on a circuit of the directory the line of a kept draw is one frame
 one-frame : (d : Directory) (s : State) (c i : ℕ) → length d.circuits ≤ 8 → c < length d.circuits → IsHeld d s → list_all one_end s.accepted ≡ true
-    → is_kept (circuit_need (kept_on d c) (on_circuit s c)) i ≡ true → frames_in (frames_said (on (c + 1) (line d s c i))) ≡ 1
+    → is_kept (circuit_need (kept_on d c) (on_circuit s c)) i ≡ true → frames_in (frames_said (on (c + 1) (frame_of_draw d s c i))) ≡ 1
 one-frame d s c i few here held all kept =
-    ap frames_in (frames-where true (c + 1) (line d s c i) (circuit-here c (omega arith)))
-    ∙ line-ends d s c i (kept-line d s c i here held kept) all
+    ap frames_in (frames-where true (c + 1) (frame_of_draw d s c i) (circuit-here c (omega arith)))
+    ∙ frame_of_draw-ends d s c i (kept-frame_of_draw d s c i here held kept) all
 
 -- the index that was repeated or drawn is kept behind the take
 kept-behind : (d : Directory) (s : State) (c i : ℕ) (q : CircuitState) → is_kept (circuit_need (kept_on d c) q) i ≡ true → on_circuit s c ≡ q

@@ -2,14 +2,14 @@
 use Rattle.std.proofs.Common.{◌≡◌, ℕ, ◌+◌, Bool, true, false, cond, not, ◌==◌, List, [], ◌∷◌, ◌++◌, refl, sym, ap, subst, ◌∙◌, arith, codes, count_by}
 use Rattle.std.proofs.lemmas.Bool.{and_parts}
 use Rattle.std.proofs.lemmas.List.Sums.{sum_by-append}
-use Rattle.gts_generate.specs.Cited.{Accepted, Asked, Choice, Directory, Done, Doubt, Draw, Draws, Duplicate, Entry, Event, HeadingFields, Heard, Idle, IsHeading, IsMessage, Kind, LineLost, Lost, LostField, Many, Message, Nothing, Nothing_waits, Outcome, Outside, Refusal, Refused, Repeats, Request, Resend, Restarted, State, Taken, Unsaid, WasRead, after, after_entry, channel_bytes, choice, heading_of_message, heading_text, is_duplicate, is_granted, lines_from, lost_text, no_heading, on, outcome, outcome_of, outcomes, receipt_text, receipts_of, refusal_text, said, spoken, spoken_of, then_number}
-use Rattle.gts_event.specs.Said.{line}
+use Rattle.gts_generate.specs.Cited.{Accepted, Asked, Choice, Directory, Done, Doubt, Draw, Draws, Duplicate, Entry, Event, FrameField, HeadingFields, Heard, Idle, IsHeading, IsMessage, Kind, LineLost, Lost, Many, Message, Nothing, Nothing_waits, Outcome, Outside, Refusal, Refused, Repeats, Request, Resend, Restarted, State, Taken, Unsaid, WasRead, after, after_entry, channel_bytes, choice, heading_of_message, heading_text, is_duplicate, is_granted, lines_from, lost_text, no_heading, on, outcome, outcome_of, outcomes, receipt_text, receipts_of, refusal_text, said, spoken, spoken_of, then_number}
+use Rattle.gts_event.specs.Said.{frame_of_draw}
 use Rattle.gts_message.proofs.LawLemmas.{split_takes}
 use Rattle.gts_traits.proofs.LawLemmas.{channel_bytes-append, channel_bytes-on, channel_bytes-on_other}
 use Rattle.gts_event.proofs.LawLemmas.{was_read, heading_of_message-read}
-use Rattle.gts_heading.specs.declared.field.Field.TheVariants as field
-use Rattle.gts_request.specs.declared.fault.ReqField.TheVariants as asked
-use Rattle.gts_frame.specs.declared.lost.LostField.TheVariants as lost
+use Rattle.gts_heading.specs.declared.field.MessageField.TheVariants as field
+use Rattle.gts_request.specs.declared.fault.RequestField.TheVariants as asked
+use Rattle.gts_frame.specs.declared.lost.FrameField.TheVariants as lost
 use Rattle.gts_generate.proofs.ByteLemmas.{lacks, lacks-append, lacks-decimal, lacks-heading}
 
 -- the rest of a line up to its LF
@@ -42,7 +42,7 @@ refusal (Request asked.Asker) = refl
 refusal (Request _) = refl
 refusal Many = refl
 
-loss : (field : LostField) → lacks 10 (32 ∷ lost_text field) ≡ true
+loss : (field : FrameField) → lacks 10 (32 ∷ lost_text field) ≡ true
 loss lost.Length = refl
 loss lost.Kind = refl
 loss lost.Soh = refl
@@ -112,15 +112,15 @@ take_outcome ch = elim ch as (λ _. Outcome) [ Repeats index ↦ Resend index | 
 abbrev pub said_take : Directory → State → ℕ → Choice → Outside
 said_take d t c ch =
     elim ch as (λ _. Outside) [
-      | Repeats index ↦ on (c + 1) (line d t c index)
-      | Draws index position ↦ on (c + 1) (line d t c index)
+      | Repeats index ↦ on (c + 1) (frame_of_draw d t c index)
+      | Draws index position ↦ on (c + 1) (frame_of_draw d t c index)
       | Nothing_waits ↦ []
     ]
 
 -- a take has no receipt, and nothing is said of it on channel 0
 take-untold : (d : Directory) (t : State) (c : ℕ) (ch : Choice) → channel_bytes 0 (said_take d t c ch) ≡ receipt_text c (take_outcome ch) no_heading
-take-untold d t c (Repeats i) = channel_bytes-on_other 0 (c + 1) (line d t c i) (λ e. absurd (omega arith))
-take-untold d t c (Draws i p) = channel_bytes-on_other 0 (c + 1) (line d t c i) (λ e. absurd (omega arith))
+take-untold d t c (Repeats i) = channel_bytes-on_other 0 (c + 1) (frame_of_draw d t c i) (λ e. absurd (omega arith))
+take-untold d t c (Draws i p) = channel_bytes-on_other 0 (c + 1) (frame_of_draw d t c i) (λ e. absurd (omega arith))
 take-untold d t c Nothing_waits = refl
 
 take-heading : (ch : Choice) → HasHeading (take_outcome ch) no_heading

@@ -1,6 +1,6 @@
 -- What a run of the day's capture comes to, from how it ended.
 use Rattle.std.proofs.Common.{◌≡◌, ℕ, ◌≤◌, List, [], ◌∷◌, ◌++◌, length, map, sum, Option, Some, None, Result, Ok, Err, IsTrue, refl, sym, ap, subst, ◌∙◌, arith, replicate, if◌then◌else◌, nat_eq}
-use Rattle.gts_generate.specs.Cited.{AllByRecursion, BeginsDay, Compact, Connections, Device, Did, Disk, Done, Doubt, Drain, EachOwedFew, EachRoutedOnce, EndHead, Ends, EndsDay, Engine, Entry, Event, Feed, Files, HasFailed, HasRead, HasSaid, Holds, IsCut, IsDone, IsFullOn, IsOrdered, IsStart, IsWhole, Journaled, Keeps, Need, Needs, One, OpenFault, Opened, Outside, Reading, Reopen, ReplayEnd, Restart, Restarted, Say, SayMode, StandsFor, State, Station, StationInMemory, Step, StopsAtFault, Syncs, Take, Told, Two, Unsaid, Version, after_all, after_step, all_done, begun, calls_on, capture, circuit_need_of, compacted_at, compactions, day_origin, day_summary, directory, draws_in, draws_of, empty, entries, entries_from, entries_of_step, events_added, file_opens, files_open, flat_map, full, head_text, history, is_sound, journal_text, need, need_of, new_journal, no_bytes, nothing, opened_of, opens, origin_behind, origin_of, outside_of, readable, restarted, said_by, seen, selected, settled, shown, slice_index_or, start, starts_with, state_after, state_at, step_text, steps, summary_lines, summary_text, switch_meanings, takes_of_drain, used_at, written}
+use Rattle.gts_generate.specs.Cited.{AllByRecursion, BeginsDay, Compact, Connections, Device, Did, Disk, Done, Doubt, Drain, EachOwedFew, EachRoutedOnce, EndHead, Ends, EndsDay, Engine, Entry, Event, Feed, Files, HasFailed, HasRead, HasSaid, Holds, IsCut, IsDone, IsFullOn, IsOrdered, IsStart, IsWhole, Journaled, Keeps, Need, Needs, ObservedOrigin, One, OpenFault, Opened, Outside, Reading, Reopen, ReplayEnd, Restart, Restarted, Say, SayMode, StandsFor, State, Station, StationInMemory, Step, StopsAtFault, Syncs, Take, Two, Unsaid, Version, after_all, after_step, all_done, begun, calls_on, capture, circuit_need_of, compacted_at, compactions, day_origin, day_summary, directory, draws_in, draws_of, empty, entries, entries_from, entries_of_step, events_added, file_opens, files_open, flat_map, full, head_text, history, is_sound, journal_text, need, need_of, new_journal, no_bytes, nothing, opened_of, opens, origin_behind, origin_of, outside_of, readable, restarted, said_by, seen, selected, settled, shown, slice_index_or, start, starts_with, state_after, state_at, step_text, steps, summary_lines, summary_text, switch_meanings, takes_of_drain, used_at, written}
 use Rattle.gts_directory.specs.Directory as directories
 use Rattle.gts_event.specs.declared.values.Need as values
 use Rattle.gts_event.specs.declared.values.CircuitNeed as value_circuits
@@ -116,7 +116,7 @@ begun-day d mark old e same mark_is first third silent under reads synced begins
 -- ---- how the run ended
 
 module _ (count : ℕ) (first last : Engine StationInMemory) (b : BeginsDay first) (few : count ≤ 100000) where
-  abbrev o : Told (Unit {0})
+  abbrev o : ObservedOrigin (Unit {0})
   o = record { told = tt; origin = day_origin (calls_on first.station) }
 
   -- the entries of the steps that were read are those of the day
@@ -174,7 +174,7 @@ module _ (count : ℕ) (first last : Engine StationInMemory) (b : BeginsDay firs
   }
 
   module _ (e : ReplayEnd) (bytes left : List ℕ) (is : bytes ≡ capture count)
-      (ends : (t : Told (Unit {0})) (h : List Entry) → StandsFor (switch_meanings (Unit {0}) calls_on) t (length h) h first
+      (ends : (t : ObservedOrigin (Unit {0})) (h : List Entry) → StandsFor (switch_meanings (Unit {0}) calls_on) t (length h) h first
       → Ends (switch_meanings (Unit {0}) calls_on) (Unit {0}) Journaled t h (Unit {0}) e first last bytes left) where
     all : Ends (switch_meanings (Unit {0}) calls_on) (Unit {0}) Journaled o [] (Unit {0}) e first last (capture count) left
     all = subst (λ (bs : List ℕ). Ends (switch_meanings (Unit {0}) calls_on) (Unit {0}) Journaled o [] (Unit {0}) e first last bs left) is (ends o [] stands-for)

@@ -4,13 +4,12 @@ ghost use Rattle.gts_generate.specs.Day as day;
 
 use crate::MOST_MESSAGES;
 use crate::message::{ending, turn};
-use gts_say::Piece;
-use gts_traits::{Failed, Source};
+use gts_traits::{Failed, Piece, Source};
 use std::marker::Model;
 
 /// A piece, how much of it was taken, the number of the message that the next piece is of, and how many messages there are.
 #[derive(Drop)]
-pub(crate) struct Parts {
+pub(crate) struct GeneratedParts {
     piece: Piece,
     taken: usize,
     next: u32,
@@ -20,7 +19,7 @@ pub(crate) struct Parts {
 /// The capture of a day, made piece by piece as it is read. It keeps one piece, and takes no memory.
 #[derive(Drop)]
 pub struct Generated {
-    parts: Parts,
+    parts: GeneratedParts,
 }
 
 impl Model for Generated {
@@ -41,7 +40,7 @@ impl Generated {
         ensures { result ≡ day.capture count }
     {
         Generated {
-            parts: Parts {
+            parts: GeneratedParts {
                 piece: Piece::new(),
                 taken: 0,
                 next: 0,
@@ -70,7 +69,7 @@ fn next_piece(next: u32, count: u32) -> Option<Piece>
 }
 
 /// Makes the next piece, where the last one was taken whole.
-fn fill(parts: &mut Parts)
+fn fill(parts: &mut GeneratedParts)
     requires { IsSound parts.old }
     ensures sound { IsSound parts.new }
     ensures same { bytes_left parts.new ≡ bytes_left parts.old }
@@ -87,7 +86,7 @@ fn fill(parts: &mut Parts)
 }
 
 impl Source for Generated {
-    ghost tells = { Unit {0} };
+    ghost observed = { Unit {0} };
 
     ghost left = { λ g. g };
 

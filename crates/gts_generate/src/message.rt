@@ -6,7 +6,7 @@ ghost use Rattle.gts_generate.specs.Day as day;
 use crate::{CIRCUITS, MOST_MESSAGES};
 use gts_alphabet::{EOL, ETX, FRAME_HEAD, SOH, digits_of};
 use gts_frame::Kind;
-use gts_say::{LONGEST_PIECE, Piece};
+use gts_traits::{LONGEST_PIECE, Piece};
 
 /// The bytes of a heading without a group.
 const HEADING: usize = 18;

@@ -1,6 +1,6 @@
 -- One pair of laws for each field: what was read is spelled so, and what is spelled so is read.
 use Rattle.std.proofs.Common.{◌≡◌, ℕ, ◌<◌, ◌≤◌, ◌⊎◌, inl, inr, Bool, true, false, ◌&&◌, cond, eqb, leb, List, [], ◌∷◌, ◌++◌, length, take, drop, Option, Some, None, Result, Ok, Err, IsTrue, nat_eq, nat_le, refl, sym, ap, subst, ◌∙◌, append_assoc, arith}
-use Rattle.gts_heading.specs.Cited.{Bbb, EOL, Field, IsGap, NoBlank, after_gap, after_word, are_capitals, bare_group_at, capitals_at, dec, digits_value, group_at, group_text, is_ascii_digit, is_ascii_uppercase, is_bbb, is_group, letters_at, list_all, message_group_at, starts_with, two_digits_at}
+use Rattle.gts_heading.specs.Cited.{Bbb, EOL, IsGap, MessageField, NoBlank, after_gap, after_word, are_capitals, bare_group_at, capitals_at, dec, digits_value, group_at, group_text, is_ascii_digit, is_ascii_uppercase, is_bbb, is_group, letters_at, list_all, message_group_at, starts_with, two_digits_at}
 use Rattle.gts_heading.specs.Reading.{◌>>=◌}
 use Rattle.std.proofs.lemmas.Bool.{leb-true, le-leb, ne_eqb, and_parts, false≢true}
 use Rattle.std.proofs.lemmas.Bool.Decides.{Decides-eqb}
@@ -9,12 +9,12 @@ use Rattle.std.proofs.lemmas.Slice.Eq.{starts_is}
 use Rattle.gts_alphabet.proofs.LawLemmas.{length-dec, AllDigits-dec, digits_value-dec, dec-digits_value, AllDigits-from_test, test_from_AllDigits}
 
 -- the value of a step that did not fail
-pub bind_ok : {A B : Type 0} (r : Result A Field) (f : A → Result B Field) (y : B) → (r >>= f) ≡ Ok y → (x : A) × (r ≡ Ok x) × (f x ≡ Ok y)
+pub bind_ok : {A B : Type 0} (r : Result A MessageField) (f : A → Result B MessageField) (y : B) → (r >>= f) ≡ Ok y → (x : A) × (r ≡ Ok x) × (f x ≡ Ok y)
 bind_ok (Ok x) f y e = (x, refl, e)
 bind_ok (Err d) f y e = absurd cc
 
 -- what follows from a step that did not fail
-pub step_ok : {A B : Type 0} (r : Result A Field) (f : A → Result B Field) (y : B) (P : Type 0) → (r >>= f) ≡ Ok y → ((x : A) → r ≡ Ok x → f x ≡ Ok y → P) → P
+pub step_ok : {A B : Type 0} (r : Result A MessageField) (f : A → Result B MessageField) (y : B) (P : Type 0) → (r >>= f) ≡ Ok y → ((x : A) → r ≡ Ok x → f x ≡ Ok y → P) → P
 step_ok r f y P e next = let step = bind_ok r f y e in next step.0 step.1 step.2
 
 -- one more part of the front
@@ -22,7 +22,7 @@ pub and_part : (bytes front rest part more : List ℕ) → bytes ≡ front ++ re
 and_part bytes front rest part more e f = e ∙ ap (λ (r : List ℕ). front ++ r) f ∙ sym (append_assoc front part more)
 
 -- a test that passed
-pub chosen : {A : Type 0} (b : Bool) (d : Field) (x y : A) → cond b (Ok x) (Err d) ≡ Ok y → (b ≡ true) × (x ≡ y)
+pub chosen : {A : Type 0} (b : Bool) (d : MessageField) (x y : A) → cond b (Ok x) (Err d) ≡ Ok y → (b ≡ true) × (x ≡ y)
 chosen true d x y e = (refl, cc)
 chosen false d x y e = absurd cc
 
@@ -31,7 +31,7 @@ pub chosen_of : {A : Type 0} (b : Bool) (x y z : A) → cond b x y ≡ z → ((b
 chosen_of true x y z e = inl (refl, e)
 chosen_of false x y z e = inr (refl, e)
 
-abbrev done : {A : Type 0} → A → Result A Field
+abbrev done : {A : Type 0} → A → Result A MessageField
 done x = Ok x
 
 pub ok_is : {A : Type 0} (x y : A) → done x ≡ done y → x ≡ y
@@ -42,19 +42,19 @@ ok_is x y e = cc
 pub starts_so : (bytes word : List ℕ) → starts_with nat_eq bytes word ≡ true → bytes ≡ word ++ drop (length word) bytes
 starts_so bytes word e = (starts_is Decides-eqb bytes word (starts_with nat_eq bytes word) refl).0 e
 
-pub word_takes : (word : List ℕ) (field : Field) (bytes rest : List ℕ) → after_word word field bytes ≡ Ok rest → bytes ≡ word ++ rest
+pub word_takes : (word : List ℕ) (field : MessageField) (bytes rest : List ℕ) → after_word word field bytes ≡ Ok rest → bytes ≡ word ++ rest
 word_takes word field bytes rest e =
     let passed = chosen (starts_with nat_eq bytes word) field (drop (length word) bytes) rest e in
     starts_so bytes word passed.0 ∙ ap (λ (r : List ℕ). word ++ r) passed.1
 
-pub word_again : (word : List ℕ) (field : Field) (rest : List ℕ) → after_word word field (word ++ rest) ≡ Ok rest
+pub word_again : (word : List ℕ) (field : MessageField) (rest : List ℕ) → after_word word field (word ++ rest) ≡ Ok rest
 word_again word field rest =
     let starts = (starts_is Decides-eqb (word ++ rest) word (starts_with nat_eq (word ++ rest) word) refl).1 rest refl in
     rw (starts, drop_at word rest (length word) refl) refl
 
 -- ---- capitals
 
-pub capitals_take : (count : ℕ) (field : Field) (bytes : List ℕ) (x : List ℕ × List ℕ) → capitals_at count field bytes ≡ Ok x
+pub capitals_take : (count : ℕ) (field : MessageField) (bytes : List ℕ) (x : List ℕ × List ℕ) → capitals_at count field bytes ≡ Ok x
     → (bytes ≡ x.0 ++ x.1) × (length x.0 ≡ count) × IsTrue (are_capitals x.0)
 capitals_take count field bytes x e =
     let passed = chosen (nat_le count (length bytes) && are_capitals (take count bytes)) field (take count bytes, drop count bytes) x e in
@@ -63,7 +63,7 @@ capitals_take count field bytes x e =
     subst (λ (y : List ℕ × List ℕ). (bytes ≡ y.0 ++ y.1) × (length y.0 ≡ count) × IsTrue (are_capitals y.0)) passed.1
     (sym (take-append-drop count bytes), length-take-le count bytes long, both.1)
 
-pub capitals_again : (count : ℕ) (field : Field) (letters rest : List ℕ) → length letters ≡ count → IsTrue (are_capitals letters)
+pub capitals_again : (count : ℕ) (field : MessageField) (letters rest : List ℕ) → length letters ≡ count → IsTrue (are_capitals letters)
     → capitals_at count field (letters ++ rest) ≡ Ok (letters, rest)
 capitals_again count field letters rest len capitals =
     let long : leb count (length (letters ++ rest)) ≡ true = le-leb _ _ (omega (arith, length-append letters rest)) in
@@ -71,7 +71,7 @@ capitals_again count field letters rest len capitals =
 
 -- ---- two digits
 
-pub digits_take : (low high : ℕ) (field : Field) (bytes : List ℕ) (x : ℕ × List ℕ) → two_digits_at low high field bytes ≡ Ok x
+pub digits_take : (low high : ℕ) (field : MessageField) (bytes : List ℕ) (x : ℕ × List ℕ) → two_digits_at low high field bytes ≡ Ok x
     → (bytes ≡ dec 2 x.0 ++ x.1) × (low ≤ x.0) × (x.0 ≤ high)
 digits_take low high field bytes x e =
     let two = take 2 bytes in
@@ -86,7 +86,7 @@ digits_take low high field bytes x e =
     subst (λ (y : ℕ × List ℕ). (bytes ≡ dec 2 y.0 ++ y.1) × (low ≤ y.0) × (y.0 ≤ high)) passed.1
     (parts, leb-true _ _ above.1, leb-true _ _ below.1)
 
-pub digits_again : (low high : ℕ) (field : Field) (n : ℕ) (rest : List ℕ) → low ≤ n → n ≤ high → n < 100
+pub digits_again : (low high : ℕ) (field : MessageField) (n : ℕ) (rest : List ℕ) → low ≤ n → n ≤ high → n < 100
     → two_digits_at low high field (dec 2 n ++ rest) ≡ Ok (n, rest)
 digits_again low high field n rest above below small =
     let width = length-dec 2 n in

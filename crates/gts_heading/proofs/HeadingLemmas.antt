@@ -1,7 +1,7 @@
 -- Headings as a whole: what was read is spelled so, and what is spelled so is read.
 use Rattle.std.proofs.Common.{◌≡◌, ℕ, suc, ◌-◌, ◌<◌, ◌≤◌, List, [], ◌∷◌, ◌++◌, length, take, drop, Option, None, Result, Ok, Err, IsTrue, refl, sym, ap, subst, ◌∙◌, append_assoc, arith, IfOk, IsOkAnd}
 use Rattle.std.proofs.lemmas.List.{append-nil, drop_at, take-append-drop, append_cancel_right, length-append, length-drop}
-use Rattle.gts_heading.specs.Cited.{Aa, Cccc, Day, EOL, Field, Heading, HeadingEnd, HeadingFields, Hour, Ii, IsGap, IsHeading, IsHeadingLine, Minute, NoBlank, Reads, Tt, after_gap, after_word, bare_group_at, bare_heading_at, capitals_at, dec, fields_of, group_text, heading_at, heading_text, is_group, message_group_at, plain_heading_at, two_digits_at, with_group}
+use Rattle.gts_heading.specs.Cited.{Aa, Cccc, Day, EOL, Heading, HeadingEnd, HeadingFields, Hour, Ii, IsGap, IsHeading, IsHeadingLine, MessageField, Minute, NoBlank, Reads, Tt, after_gap, after_word, bare_group_at, bare_heading_at, capitals_at, dec, fields_of, group_text, heading_at, heading_text, is_group, message_group_at, plain_heading_at, two_digits_at, with_group}
 use Rattle.gts_heading.specs.Reading.{◌>>=◌}
 use Rattle.gts_heading.proofs.FieldLemmas.{bind_ok, step_ok, and_part, ok_is, word_takes, capitals_take, capitals_again, digits_take, digits_again, bare_group_takes, bare_group_again, message_group_takes, message_group_again, gap_takes, gap_again}
 
@@ -16,7 +16,7 @@ plain_of tt aa ii cccc day hour minute =
     record { tt = tt; aa = aa; ii = ii; cccc = cccc; day = day; hour = hour; minute = minute; bbb = None }
 
 abbrev Read : Type 0
-Read = Result (HeadingFields × List ℕ) Field
+Read = Result (HeadingFields × List ℕ) MessageField
 
 -- the reading from each field on
 abbrev from_minute : List ℕ → List ℕ → ℕ → List ℕ → ℕ → ℕ → List ℕ → Read
@@ -229,18 +229,18 @@ front_length bytes text rest n fits e dropped = omega (arith, ap length e, lengt
 abbrev read_from : List ℕ → Heading × ℕ → HeadingFields × List ℕ
 read_from bytes found = (fields_of found.0, drop found.1 bytes)
 
-pub bare_heading : (bytes : List ℕ) (r : Result (Heading × ℕ) Field) → Reads (read_from bytes) r (bare_heading_at bytes)
+pub bare_heading : (bytes : List ℕ) (r : Result (Heading × ℕ) MessageField) → Reads (read_from bytes) r (bare_heading_at bytes)
     → IfOk r (λ found. IsHeading (fields_of found.0))
 bare_heading bytes (Ok found) e = (bare_takes bytes (read_from bytes found) e).heading
 bare_heading bytes (Err field) e = tt
 
-pub bare_spelled : (bytes : List ℕ) (r : Result (Heading × ℕ) Field) → Reads (read_from bytes) r (bare_heading_at bytes)
+pub bare_spelled : (bytes : List ℕ) (r : Result (Heading × ℕ) MessageField) → Reads (read_from bytes) r (bare_heading_at bytes)
     → IfOk r (λ found. take found.1 bytes ≡ heading_text (fields_of found.0))
 bare_spelled bytes (Ok found) e =
     front_is bytes (heading_text (fields_of found.0)) found.1 (bare_takes bytes (read_from bytes found) e).spelled
 bare_spelled bytes (Err field) e = tt
 
-pub bare_only : (bytes : List ℕ) (r : Result (Heading × ℕ) Field)
+pub bare_only : (bytes : List ℕ) (r : Result (Heading × ℕ) MessageField)
     → IfOk r (λ found. found.1 ≤ length bytes) → Reads (read_from bytes) r (bare_heading_at bytes)
     → (h : HeadingFields) (rest : List ℕ) → IsHeading h → NoBlank rest → bytes ≡ heading_text h ++ rest
     → IsOkAnd r (λ found. (fields_of found.0 ≡ h) × (found.1 ≡ length (heading_text h)))
@@ -252,12 +252,12 @@ bare_only bytes (Err field) fits e h rest is none spelled =
     let apart = sym e ∙ ap bare_heading_at spelled ∙ bare_again h rest is none in
     absurd cc
 
-pub line_heading : (bytes : List ℕ) (r : Result (Heading × ℕ) Field) → Reads (read_from bytes) r (heading_at bytes)
+pub line_heading : (bytes : List ℕ) (r : Result (Heading × ℕ) MessageField) → Reads (read_from bytes) r (heading_at bytes)
     → IfOk r (λ found. IsHeading (fields_of found.0))
 line_heading bytes (Ok found) e = (line_takes bytes (read_from bytes found) e).heading
 line_heading bytes (Err field) e = tt
 
-pub line_spelled : (bytes : List ℕ) (r : Result (Heading × ℕ) Field) → Reads (read_from bytes) r (heading_at bytes)
+pub line_spelled : (bytes : List ℕ) (r : Result (Heading × ℕ) MessageField) → Reads (read_from bytes) r (heading_at bytes)
     → IfOk r (λ found. IsHeadingLine (take found.1 bytes) (fields_of found.0))
 line_spelled bytes (Ok found) e =
     let taken = line_takes bytes (read_from bytes found) e in
@@ -265,7 +265,7 @@ line_spelled bytes (Ok found) e =
     (gap, taken.spelled.1, front_is bytes (heading_text (fields_of found.0) ++ gap ++ EOL) found.1 taken.spelled.2)
 line_spelled bytes (Err field) e = tt
 
-pub line_only : (bytes : List ℕ) (r : Result (Heading × ℕ) Field)
+pub line_only : (bytes : List ℕ) (r : Result (Heading × ℕ) MessageField)
     → IfOk r (λ found. found.1 ≤ length bytes) → Reads (read_from bytes) r (heading_at bytes)
     → (h : HeadingFields) (line rest : List ℕ) → IsHeading h → IsHeadingLine line h → bytes ≡ line ++ rest
     → IsOkAnd r (λ found. (fields_of found.0 ≡ h) × (found.1 ≡ length line))

@@ -5,7 +5,7 @@ pub use Rattle.gts_heading.specs.Heading.{HeadingFields, IsGap, IsHeading, IsHea
 unfoldable pub use Rattle.gts_heading.specs.Heading.{heading_text}
 pub use Rattle.gts_heading.specs.Reading.{NoBlank, after_gap, after_word, capitals_at, group_at, letters_at, two_digits_at, with_group}
 unfoldable pub use Rattle.gts_heading.specs.Reading.{bare_group_at, bare_heading_at, heading_at, message_group_at, plain_heading_at}
-pub use Rattle.gts_heading.specs.declared.field.Field.{Field}
-pub use Rattle.gts_heading.specs.declared.field.Field.TheVariants.{Aa, Bbb, Cccc, Day, HeadingEnd, Hour, Ii, Minute, Tt}
+pub use Rattle.gts_heading.specs.declared.field.MessageField.{MessageField}
+pub use Rattle.gts_heading.specs.declared.field.MessageField.TheVariants.{Aa, Bbb, Cccc, Day, HeadingEnd, Hour, Ii, Minute, Tt}
 pub use Rattle.gts_heading.specs.declared.heading.Heading.{Heading}
 unfoldable pub use Below.*

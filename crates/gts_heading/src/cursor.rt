@@ -2,7 +2,7 @@ ghost use Rattle.std.specs.Prelude.{◌≡◌, ◌≤◌, List, ℕ, IsTrue, IfO
 ghost use Rattle.gts_heading.specs.Cited.{Reads, after_gap, after_word, capitals_at, letters_at, starts_with, two_digits_at};
 ghost use Rattle.gts_heading.specs.Letters as letters;
 
-use crate::Field;
+use crate::MessageField;
 use crate::letters::{are_capitals, is_bbb};
 use gts_alphabet::{BLANK, decimal_value};
 use std::marker::Model;
@@ -43,7 +43,7 @@ impl<'a> Cursor<'a> {
     }
 
     /// Passes over this word. The refusal is the field that was given.
-    pub fn word(&mut self, word: &[u8], field: Field) -> Result<(), Field>
+    pub fn word(&mut self, word: &[u8], field: MessageField) -> Result<(), MessageField>
         ensures exact { Reads (λ _. self.new) result (after_word word.now field self.old) }
         ensures stays { OnErr result (self.new ≡ self.old) }
     {
@@ -64,7 +64,7 @@ impl<'a> Cursor<'a> {
     }
 
     /// Reads so many capitals. The refusal is the field that was given.
-    pub fn capitals<const N: usize>(&mut self, field: Field) -> Result<[u8; N], Field>
+    pub fn capitals<const N: usize>(&mut self, field: MessageField) -> Result<[u8; N], MessageField>
         ensures exact { Reads (λ letters. (letters, self.new)) result
             (capitals_at N field self.old) }
         ensures capitals { IfOk result (λ capitals. IsTrue (letters.are_capitals capitals)) }
@@ -79,7 +79,7 @@ impl<'a> Cursor<'a> {
     }
 
     /// Reads a number of two digits, from low to high. The refusal is the field that was given.
-    pub fn two_digits(&mut self, low: u8, high: u8, field: Field) -> Result<u8, Field>
+    pub fn two_digits(&mut self, low: u8, high: u8, field: MessageField) -> Result<u8, MessageField>
         ensures exact { Reads (λ number. (number, self.new)) result
             (two_digits_at low high field self.old) }
         ensures range { IfOk result (λ number. (low ≤ number) × (number ≤ high)) }
@@ -95,14 +95,14 @@ impl<'a> Cursor<'a> {
     }
 
     /// Reads the three letters of a BBB group (this project's profile). The refusal is `Bbb`.
-    pub fn group(&mut self) -> Result<[u8; 3], Field>
+    pub fn group(&mut self) -> Result<[u8; 3], MessageField>
         ensures exact { Reads (λ group. (group, self.new)) result (letters_at self.old) }
         ensures group { IfOk result (λ group. IsTrue (letters.is_bbb group)) }
         ensures stays { OnErr result (self.new ≡ self.old) }
     {
-        let (letters, rest) = self.rest.split_first_chunk::<3>().ok_or(Field::Bbb)?;
+        let (letters, rest) = self.rest.split_first_chunk::<3>().ok_or(MessageField::Bbb)?;
         if !is_bbb(*letters) {
-            return Err(Field::Bbb);
+            return Err(MessageField::Bbb);
         }
         self.rest = rest;
         Ok(*letters)

@@ -1,5 +1,5 @@
 ghost use Rattle.std.specs.Prelude.{◌≡◌, ◌≤◌, length};
-ghost use Rattle.gts_heading.specs.Field.{field_text};
+ghost use Rattle.gts_heading.specs.MessageField.{field_text};
 
 use thiserror::Error;
 
@@ -7,7 +7,7 @@ use thiserror::Error;
 /// blanks, the ranges and the limit are this project's profile).
 #[derive(Clone, Copy, Debug, PartialEq, Eq, Error)]
 #[error("a message is refused by its field {}", self.text())]
-pub enum Field {
+pub enum MessageField {
     /// The message begins with SOH CR CR LF.
     StartLine,
     /// The run of digits that follows has three digits or five.
@@ -38,27 +38,27 @@ pub enum Field {
     Size,
 }
 
-impl Field {
+impl MessageField {
     /// The name of the field, as a receipt has it (this project's profile): at most twelve characters.
     pub fn text(self) -> &'static str
         ensures text { result.now ≡ field_text self }
         ensures short { length result.now ≤ 12 }
     {
         match self {
-            Field::StartLine => "StartLine",
-            Field::Number => "Number",
-            Field::HeadingStart => "HeadingStart",
-            Field::Tt => "TT",
-            Field::Aa => "AA",
-            Field::Ii => "ii",
-            Field::Cccc => "CCCC",
-            Field::Day => "Day",
-            Field::Hour => "Hour",
-            Field::Minute => "Minute",
-            Field::Bbb => "BBB",
-            Field::HeadingEnd => "HeadingEnd",
-            Field::End => "End",
-            Field::Size => "Size",
+            MessageField::StartLine => "StartLine",
+            MessageField::Number => "Number",
+            MessageField::HeadingStart => "HeadingStart",
+            MessageField::Tt => "TT",
+            MessageField::Aa => "AA",
+            MessageField::Ii => "ii",
+            MessageField::Cccc => "CCCC",
+            MessageField::Day => "Day",
+            MessageField::Hour => "Hour",
+            MessageField::Minute => "Minute",
+            MessageField::Bbb => "BBB",
+            MessageField::HeadingEnd => "HeadingEnd",
+            MessageField::End => "End",
+            MessageField::Size => "Size",
         }
     }
 }

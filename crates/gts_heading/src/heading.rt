@@ -1,7 +1,7 @@
 ghost use Rattle.std.specs.Prelude.{◌≡◌, ◌<◌, ◌≤◌, ◌+◌, ◌++◌, List, ℕ, IsTrue, IsNone, IsSome, IfOk, IsOkAnd, length, take, drop};
 ghost use Rattle.gts_heading.specs.Letters.{are_capitals, is_group};
 
-use crate::{Cursor, Field};
+use crate::{Cursor, MessageField};
 use gts_alphabet::{BLANK, CR, EOL, digits_of};
 
 /// An abbreviated heading (the Manual's message format; the range of `ii` and the BBB groups are this project's
@@ -40,7 +40,7 @@ impl Heading {
 
     /// Reads a heading at the front, with a BBB group where a blank follows the minute, and answers how many bytes it
     /// has: 18 or 22. The refusal is the first field from `Tt` to `Bbb` that isn't there.
-    pub fn read_bare(bytes: &[u8]) -> Result<(Heading, usize), Field>
+    pub fn read_bare(bytes: &[u8]) -> Result<(Heading, usize), MessageField>
         ensures length { IfOk result (λ found. found.1 ≤ length bytes.now) }
         // What is read is a heading, spelled so.
         ensures heading { IfOk result (λ found. IsHeading (fields_of found.0)) }
@@ -59,7 +59,7 @@ impl Heading {
 
     /// Reads a heading, one meaningless blank where there is one, and CR CR LF, and answers how many bytes these have
     /// together. The refusal is the first field from `Tt` to `HeadingEnd` that isn't there.
-    pub fn read(bytes: &[u8]) -> Result<(Heading, usize), Field>
+    pub fn read(bytes: &[u8]) -> Result<(Heading, usize), MessageField>
         ensures length { IfOk result (λ found. found.1 ≤ length bytes.now) }
         // What is read is the line of a heading.
         ensures heading { IfOk result (λ found. IsHeading (fields_of found.0)) }
@@ -112,7 +112,7 @@ impl Heading {
     }
 
     /// Reads a heading and its group, with their length.
-    fn bare_with_length(bytes: &[u8]) -> Result<(Heading, usize), Field>
+    fn bare_with_length(bytes: &[u8]) -> Result<(Heading, usize), MessageField>
         ensures length { IfOk result (λ found. found.1 ≤ length bytes.now) }
         ensures exact { Reads (λ found. (fields_of found.0, drop found.1 bytes.now)) result
             (bare_heading_at bytes.now) }
@@ -123,7 +123,7 @@ impl Heading {
     }
 
     /// Reads a heading and the end of its line, with their length.
-    fn line_with_length(bytes: &[u8]) -> Result<(Heading, usize), Field>
+    fn line_with_length(bytes: &[u8]) -> Result<(Heading, usize), MessageField>
         ensures length { IfOk result (λ found. found.1 ≤ length bytes.now) }
         ensures exact { Reads (λ found. (fields_of found.0, drop found.1 bytes.now)) result
             (heading_at bytes.now) }
@@ -135,7 +135,7 @@ impl Heading {
 
     /// Reads a heading and its group.
     #[tactic(auto, unfolding(crate::specs::Reading::bare_heading_at))]
-    fn bare(cursor: &mut Cursor<'_>) -> Result<Heading, Field>
+    fn bare(cursor: &mut Cursor<'_>) -> Result<Heading, MessageField>
         ensures { Reads (λ heading. (fields_of heading, cursor.new)) result
             (bare_heading_at cursor.old) }
     {
@@ -146,32 +146,32 @@ impl Heading {
 
     /// Reads a heading, its group and the end of its line.
     #[tactic(auto, unfolding(crate::specs::Reading::heading_at))]
-    fn line(cursor: &mut Cursor<'_>) -> Result<Heading, Field>
+    fn line(cursor: &mut Cursor<'_>) -> Result<Heading, MessageField>
         ensures { Reads (λ heading. (fields_of heading, cursor.new)) result
             (heading_at cursor.old) }
     {
         let mut heading = Heading::plain(cursor)?;
         heading.bbb = Heading::message_group(cursor)?;
         cursor.gap();
-        cursor.word(&EOL, Field::HeadingEnd)?;
+        cursor.word(&EOL, MessageField::HeadingEnd)?;
         Ok(heading)
     }
 
     /// Reads a heading without its group.
     #[tactic(auto, unfolding(crate::specs::Reading::plain_heading_at))]
-    fn plain(cursor: &mut Cursor<'_>) -> Result<Heading, Field>
+    fn plain(cursor: &mut Cursor<'_>) -> Result<Heading, MessageField>
         ensures { Reads (λ heading. (fields_of heading, cursor.new)) result
             (plain_heading_at cursor.old) }
     {
-        let tt = cursor.capitals(Field::Tt)?;
-        let aa = cursor.capitals(Field::Aa)?;
-        let ii = cursor.two_digits(0, 99, Field::Ii)?;
-        cursor.word(&[BLANK], Field::Cccc)?;
-        let cccc = cursor.capitals(Field::Cccc)?;
-        cursor.word(&[BLANK], Field::Day)?;
-        let day = cursor.two_digits(1, 31, Field::Day)?;
-        let hour = cursor.two_digits(0, 23, Field::Hour)?;
-        let minute = cursor.two_digits(0, 59, Field::Minute)?;
+        let tt = cursor.capitals(MessageField::Tt)?;
+        let aa = cursor.capitals(MessageField::Aa)?;
+        let ii = cursor.two_digits(0, 99, MessageField::Ii)?;
+        cursor.word(&[BLANK], MessageField::Cccc)?;
+        let cccc = cursor.capitals(MessageField::Cccc)?;
+        cursor.word(&[BLANK], MessageField::Day)?;
+        let day = cursor.two_digits(1, 31, MessageField::Day)?;
+        let hour = cursor.two_digits(0, 23, MessageField::Hour)?;
+        let minute = cursor.two_digits(0, 59, MessageField::Minute)?;
         Ok(Heading {
             tt,
             aa,
@@ -186,7 +186,7 @@ impl Heading {
 
     /// Reads the group behind a blank, where a blank follows.
     #[tactic(auto, unfolding(crate::specs::Reading::bare_group_at))]
-    fn bare_group(cursor: &mut Cursor<'_>) -> Result<Option<[u8; 3]>, Field>
+    fn bare_group(cursor: &mut Cursor<'_>) -> Result<Option<[u8; 3]>, MessageField>
         ensures exact { Reads (λ group. (group, cursor.new)) result (bare_group_at cursor.old) }
         ensures group { IfOk result (λ group. IsTrue (is_group group)) }
     {
@@ -200,7 +200,7 @@ impl Heading {
 
     /// Reads the group behind a blank, where a blank follows that no CR follows.
     #[tactic(auto, unfolding(crate::specs::Reading::message_group_at))]
-    fn message_group(cursor: &mut Cursor<'_>) -> Result<Option<[u8; 3]>, Field>
+    fn message_group(cursor: &mut Cursor<'_>) -> Result<Option<[u8; 3]>, MessageField>
         ensures exact { Reads (λ group. (group, cursor.new)) result (message_group_at cursor.old) }
         ensures group { IfOk result (λ group. IsTrue (is_group group)) }
     {

@@ -3,13 +3,13 @@
 ghost use Rattle.std.specs.Prelude.{◌≡◌, ◌++◌, ◌↔◌, ℕ, List, Ok};
 ghost use Rattle.gts_heading.specs.Cited.{EOL, HeadingFields, IsGap, IsHeading, NoBlank, after_gap, after_word, bare_heading_at, heading_at, heading_text};
 
-use crate::Field;
+use crate::MessageField;
 
 /// A word is passed over exactly where the bytes begin with it.
 pub fn words_are_passed_over()
-    ensures read { (word bytes rest : List ℕ) (field : Field)
+    ensures read { (word bytes rest : List ℕ) (field : MessageField)
         → after_word word field bytes ≡ Ok rest → bytes ≡ word ++ rest }
-    ensures spelled { (word rest : List ℕ) (field : Field)
+    ensures spelled { (word rest : List ℕ) (field : MessageField)
         → after_word word field (word ++ rest) ≡ Ok rest }
 {}
 

@@ -10,7 +10,7 @@ mod letters;
 mod worked;
 
 pub use cursor::Cursor;
-pub use field::Field;
+pub use field::MessageField;
 pub use heading::Heading;
 pub use laws::{
     gaps_are_passed_over, headings_are_known_by_their_texts, read_heading_is_spelled,

@@ -1,9 +1,9 @@
 -- The steps of appending a batch.
 use Rattle.std.proofs.Common.{◌≡◌, ◌≢◌, ◌⊎◌, inl, true, false, ℕ, zero, suc, ◌+◌, ◌-◌, ◌<◌, ◌≤◌, cond, List, [], ◌∷◌, ◌++◌, length, take, drop, refl, sym, ◌∙◌, ap, subst, arith, append_assoc, length-append, nat_eq}
-use Rattle.gts_journal.specs.Cited.{Call, Did, EachSince, EndsAt, Gathered, Gathers, InHand, IsBlock, LeavesAllOrNone, OnlyTears, Record, StandsOn, Syncs, Version, Writes, beyond_block, chain_text, closed_gate, file_of, file_with_block, front_of, held, last_seal, open_gate, opened_part, overwritten, record_text, said_by, seal, sealed, seen, starts_with, texts_of}
+use Rattle.gts_journal.specs.Cited.{Call, Did, EachSince, EndsAt, Gathered, Gathers, HasBlock, InHand, IsBlock, LeavesAllOrNone, OnlyTears, Record, StandsOn, Syncs, Version, Writes, beyond_block, chain_text, closed_gate, file_of, front_of, held, last_seal, open_gate, opened_part, overwritten, record_text, said_by, seal, sealed, seen, starts_with, texts_of}
 use borrow.Rule.Slice.PartMut.{put_mid, post_of}
 use Rattle.std.proofs.Math.ListN.{set}
-use Rattle.std.proofs.Math.Seq.{set-append_seam}
+use Rattle.std.proofs.Math.Seq.{set-append_seam, take-add}
 use Rattle.std.proofs.lemmas.List.{append-nil, take_at, length-take, length-take-le, length-drop, map-append}
 use Rattle.gts_traits.proofs.LawLemmas.{weaker, joined, seen_written, seen_elsewhere}
 use Rattle.gts_record.proofs.LawLemmas.{chain_text-append, last_seal-append}
@@ -39,15 +39,15 @@ module _ (old : List Call) (j : InHand) (stands : StandsOn old j) (ended : j.end
     journal = inl (torn_behind (front_of old j) j.gate at n (file_of old j) (files j.file) ends (left.torn stands.file_synced));
   }) each
 
-  module _ (bytes : List ℕ) (mid : List Call) (is : bytes ≡ behind ++ closed_gate ∷ []) (done : mid ≡ Did Syncs ∷ Did (Writes j.file (j.gate + 1) bytes) ∷ old) where
+  module _ (more bytes : List ℕ) (mid : List Call) (is : bytes ≡ behind ++ closed_gate ∷ more) (done : mid ≡ Did Syncs ∷ Did (Writes j.file (j.gate + 1) bytes) ∷ old) where
     abbrev rest : List ℕ
-    rest = drop (j.gate + 1 + length (behind ++ closed_gate ∷ [])) (file_of old j)
+    rest = more ++ drop (j.gate + 1 + length (behind ++ closed_gate ∷ more)) (file_of old j)
 
     written : seen mid j.file ≡ front_of old j ++ ends.gate ∷ (behind ++ closed_gate ∷ rest)
     written =
         ap (λ (l : List Call). seen l j.file) done ∙ seen_written old j.file (j.gate + 1) bytes
         ∙ ap (λ (l : List ℕ). overwritten (file_of old j) (j.gate + 1) l) is
-        ∙ written_is (front_of old j) j.gate at behind (file_of old j) ends
+        ∙ written_is (front_of old j) j.gate at behind more (file_of old j) ends
 
     abbrev staged_file : Staged (front_of old j) behind (seen mid j.file)
     staged_file = record { gate = ends.gate; behind = rest; closed = ends.closed; is = written }
@@ -69,37 +69,39 @@ module _ (old : List Call) (j : InHand) (stands : StandsOn old j) (ended : j.end
         })
 
     module _ (new : List Call) (last : new ≡ Did Syncs ∷ Did (Writes j.file j.gate (open_gate ∷ [])) ∷ mid) where
-      pub added : seen new j.file ≡ file_with_block old j text
+      added : seen new j.file ≡ front_of old j ++ text ++ rest
       added =
           ap (λ (l : List Call). seen l j.file) last ∙ seen_written mid j.file j.gate (open_gate ∷ [])
           ∙ written_gate (front_of old j) j.gate at behind (seen mid j.file) staged_file
           ∙ ap (λ (l : List ℕ). front_of old j ++ l) (ap (λ (l : List ℕ). open_gate ∷ l) (sym (append_assoc behind (closed_gate ∷ []) rest))
-          ∙ ap (λ (l : List ℕ). l ++ rest) (sym block.1)
-          ∙ ap (λ (n : ℕ). text ++ drop n (file_of old j)) (let e : j.gate + 1 + length (behind ++ closed_gate ∷ []) ≡ j.gate + length text = omega (arith, ap length block.1) in e))
-          ∙ sym (append_assoc (front_of old j) text (drop (j.gate + length text) (file_of old j)))
+          ∙ ap (λ (l : List ℕ). l ++ rest) (sym block.1))
+          ∙ sym (append_assoc (front_of old j) text rest)
+
+      pub has_block : HasBlock old j text (seen new j.file)
+      has_block = (rest, added)
 
       pub others_after : (k : ℕ) → k ≢ j.file → seen new k ≡ seen old k
       others_after k other = ap (λ (l : List Call). seen l k) last ∙ seen_elsewhere mid j.file j.gate (open_gate ∷ []) k other ∙ elsewhere k other
 
       -- what stands before the gate at the end, and that gate
-      split : seen new j.file ≡ (front_of old j ++ open_gate ∷ behind) ++ closed_gate ∷ drop (j.gate + length text) (file_of old j)
+      split : seen new j.file ≡ (front_of old j ++ open_gate ∷ behind) ++ closed_gate ∷ rest
       split =
-          added ∙ append_assoc (front_of old j) text (drop (j.gate + length text) (file_of old j)) ∙ ap (λ (l : List ℕ). front_of old j ++ (l ++ drop (j.gate + length text) (file_of old j))) block.1
-          ∙ ap (λ (l : List ℕ). front_of old j ++ open_gate ∷ l) (append_assoc behind (closed_gate ∷ []) (drop (j.gate + length text) (file_of old j)))
-          ∙ sym (append_assoc (front_of old j) (open_gate ∷ behind) (closed_gate ∷ drop (j.gate + length text) (file_of old j)))
+          added ∙ append_assoc (front_of old j) text (rest) ∙ ap (λ (l : List ℕ). front_of old j ++ (l ++ rest)) block.1
+          ∙ ap (λ (l : List ℕ). front_of old j ++ open_gate ∷ l) (append_assoc behind (closed_gate ∷ []) (rest))
+          ∙ sym (append_assoc (front_of old j) (open_gate ∷ behind) (closed_gate ∷ rest))
 
       front_after : take (j.gate + (length text - 1)) (seen new j.file) ≡ front_of old j ++ open_gate ∷ behind
       front_after =
           ap (λ (l : List ℕ). take (j.gate + (length text - 1)) l) split
-          ∙ take_at (front_of old j ++ open_gate ∷ behind) (closed_gate ∷ drop (j.gate + length text) (file_of old j)) (j.gate + (length text - 1))
+          ∙ take_at (front_of old j ++ open_gate ∷ behind) (closed_gate ∷ rest) (j.gate + (length text - 1))
           (omega (arith, at, long, length-append (front_of old j) (open_gate ∷ behind)))
 
       ends_after : EndsAt (take (j.gate + (length text - 1)) (seen new j.file)) (seen new j.file)
       ends_after = record {
         gate = closed_gate;
-        behind = drop (j.gate + length text) (file_of old j);
+        behind = rest;
         closed = refl;
-        is = split ∙ ap (λ (l : List ℕ). l ++ closed_gate ∷ drop (j.gate + length text) (file_of old j)) (sym front_after);
+        is = split ∙ ap (λ (l : List ℕ). l ++ closed_gate ∷ rest) (sym front_after);
       }
 
       pub stands_after : (seals : List ℕ) → StandsOn new (beyond_block j text seals)
@@ -118,13 +120,19 @@ take-nil : (n : ℕ) → take {A = ℕ} n [] ≡ []
 take-nil zero = refl
 take-nil (suc n) = refl
 
--- what is written behind the gate
-pub block_bytes : (text items : List ℕ) (size : ℕ) (block : IsBlock text) → 0 < size → take size items ≡ text → take (size - 1) (drop 1 items) ≡ block.0 ++ closed_gate ∷ []
-block_bytes text [] size block some is = absurd (let none : [] ≡ open_gate ∷ (block.0 ++ closed_gate ∷ []) = sym (take-nil size) ∙ is ∙ block.1 in cc none)
-block_bytes text (x ∷ xs) zero block some is = absurd (omega (arith, some))
-block_bytes text (x ∷ xs) (suc n) block some is =
-    let whole : x ∷ take n xs ≡ open_gate ∷ (block.0 ++ closed_gate ∷ []) = is ∙ block.1 in
-    ap (λ (m : ℕ). take m xs) (let e : suc n - 1 ≡ n = omega arith in e) ∙ cc whole
+-- what is written behind the gate, with so much that stands behind it
+pub block_bytes : (text items : List ℕ) (size end : ℕ) (block : IsBlock text) → 0 < size → size ≤ end → take size items ≡ text
+    → take (end - 1) (drop 1 items) ≡ block.0 ++ closed_gate ∷ take (end - size) (drop size items)
+block_bytes text [] size end block some whole is = absurd (let none : [] ≡ open_gate ∷ (block.0 ++ closed_gate ∷ []) = sym (take-nil size) ∙ is ∙ block.1 in cc none)
+block_bytes text (x ∷ xs) zero end block some whole is = absurd (omega (arith, some))
+block_bytes text (x ∷ xs) (suc n) end block some whole is =
+    let all : x ∷ take n xs ≡ open_gate ∷ (block.0 ++ closed_gate ∷ []) = is ∙ block.1 in
+    let own : take n xs ≡ block.0 ++ closed_gate ∷ [] = cc all in
+    let more : List ℕ = take (end - suc n) (drop n xs) in
+    ap (λ (m : ℕ). take m xs) (let e : end - 1 ≡ n + (end - suc n) = omega (arith, whole) in e)
+    ∙ take-add n (end - suc n) xs
+    ∙ ap (λ (l : List ℕ). l ++ more) own
+    ∙ append_assoc block.0 (closed_gate ∷ []) more
 
 -- a journal behind a batch
 pub placed : (k j : InHand) (v : Version) (size : ℕ) (items last : List ℕ) (b : Gathered) → k ≡ j → record { version = v; text = take size items; seal = held v last } ≡ b → b.version ≡ j.version → size ≤ length items

@@ -269,12 +269,12 @@ module _ (d : Directory) (s : State) (calls : List Call) (j : InHand) (f : Stand
         let part : opened_part b.text ≡ chain_text j.version j.seal (texts_of rs) =
         gathered_part j.seal rs b next.gathers ∙ ap (λ (v : Version). chain_text v j.seal (texts_of rs)) next.version in
         let chained : List ℕ = chain_text b.version j.seal (texts_of rs) in
-        let back : List ℕ = drop (j.gate + length b.text) (file_of calls j) in
+        let back : List ℕ = has.text.0 in
         let ends : EndsAt (front_of calls j ++ opened_part b.text) (file_of new then) = record {
           gate = closed_gate;
           behind = back;
           closed = refl;
-          is = has.text ∙ append_assoc (front_of calls j) b.text back ∙ ap (λ (l : List ℕ). front_of calls j ++ (l ++ back)) next.gathers.text ∙ ap (λ (l : List ℕ). front_of calls j ++ l) (append_assoc chained (closed_gate ∷ []) back)
+          is = has.text.1 ∙ append_assoc (front_of calls j) b.text back ∙ ap (λ (l : List ℕ). front_of calls j ++ (l ++ back)) next.gathers.text ∙ ap (λ (l : List ℕ). front_of calls j ++ l) (append_assoc chained (closed_gate ∷ []) back)
               ∙ sym (append_assoc (front_of calls j) chained (closed_gate ∷ back)) ∙ ap (λ (l : List ℕ). (front_of calls j ++ l) ++ closed_gate ∷ back) (sym (gathered_part j.seal rs b next.gathers));
         } in
         let opened = all_file (file_of new then) ends in

@@ -1,5 +1,5 @@
 -- Records that are appended behind one gate, and what that leaves of the files.
-use Rattle.std.specs.Prelude.{◌≡◌, ◌⊎◌, false, ℕ, ◌+◌, ◌-◌, List, [], ◌∷◌, ◌++◌, length, take, drop}
+use Rattle.std.specs.Prelude.{◌≡◌, ◌⊎◌, false, ℕ, ◌+◌, ◌-◌, List, [], ◌∷◌, ◌++◌, length, take}
 use Rattle.gts_journal.specs.Cited.Below.{AreAdmitted, Call, Directory, EachSince, Files, MayStand, Outside, Record, State, Version, after_records, chain_text, closed_gate, last_seal, open_gate, seen, texts_of, written}
 use Rattle.gts_journal.specs.Law.{OpensTo}
 use Rattle.gts_journal.specs.Hand.{InHand}
@@ -29,9 +29,9 @@ IsBlock text = (behind : List ℕ) × (text ≡ open_gate ∷ (behind ++ closed_
 abbrev pub opened_part : List ℕ → List ℕ
 opened_part text = take (length text - 1) text
 
--- the journal's file with a block in the place of its closed gate
-abbrev pub file_with_block : List Call → InHand → List ℕ → List ℕ
-file_with_block calls j text = front_of calls j ++ text ++ drop (j.gate + length text) (file_of calls j)
+-- a file with a block in the place of the journal's closed gate, and anything behind it
+abbrev pub HasBlock : List Call → InHand → List ℕ → List ℕ → Type 0
+HasBlock calls j text file = (behind : List ℕ) × (file ≡ front_of calls j ++ text ++ behind)
 
 -- the journal behind a block that was appended, whose last seal is this one
 abbrev pub beyond_block : InHand → List ℕ → List ℕ → InHand
@@ -39,7 +39,7 @@ beyond_block j text last = record j { gate = j.gate + (length text - 1); seal = 
 
 -- what appending a block leaves: it stands there, and the journal at its closed gate
 pub record HasAppendedBlock (old : List Call) (j : InHand) (b : Gathered) (new : List Call) (next : InHand) : Type 0 where
-  pub text : file_of new next ≡ file_with_block old j b.text
+  pub text : HasBlock old j b.text (file_of new next)
   pub stands : StandsOn new next
   pub place : next ≡ beyond_block j b.text b.seal
 

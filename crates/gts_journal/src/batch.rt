@@ -1,16 +1,24 @@
 ghost use Rattle.std.specs.Prelude.{◌≡◌, ◌≢◌, ◌+◌, ◌-◌, ◌≤◌, ◌<◌, ◌^◌, ◌==◌, true, ℕ, List, [], ◌∷◌, ◌++◌, length, IfOk, OnOk};
-ghost use Rattle.gts_journal.specs.Cited.{EachSince, Gathers, HasCause, IsBlock, IsRecord, LeavesAllOrNone, Record as RecordOf, StandsOn, beyond_block, file_of, file_with_block, no_records, record_of, record_size, record_text, said_by, seen};
+ghost use Rattle.gts_journal.specs.Cited.{EachSince, Gathers, HasBlock, HasCause, IsBlock, IsRecord, LeavesAllOrNone, Record as RecordOf, StandsOn, beyond_block, file_of, no_records, record_of, record_size, record_text, said_by, seen};
 
 use crate::opening::zeros;
-use crate::{CLOSED, Journal, OPEN};
+use crate::{CLOSED, Journal, LARGEST_FILE, OPEN};
 use gts_alphabet::NoMemory;
 use gts_record::{Record, Version, encode_sealed};
 use gts_traits::{Failed, Station, write_synced};
 use std::alloc::Global;
+use std::cmp::max;
 use std::marker::Model;
 
 /// How many bytes of records, with their seals and gates, may be gathered.
 pub const MOST_GATHERED: usize = 1 << 20;
+
+/// So many bytes more a file of records is made to have at once, where small batches are appended to it: a sync behind a write that
+/// leaves a file's size as it is costs less. From that size on, so that a small journal has the bytes of its records alone.
+const STEP: usize = 1 << 18;
+
+/// A batch is small up to so many bytes.
+const SMALL: usize = 1 << 14;
 
 /// Records that are to be appended behind one gate: all of them come to stand in the journal, or none.
 #[derive(Drop)]
@@ -94,6 +102,24 @@ impl Batch {
     }
 }
 
+/// How much of the front of a batch's buffer is written for its records, which are so many bytes, at a gate of a file that reaches so far:
+/// they alone, or what happens to stand behind them too, which makes the file longer. Nobody reads that.
+fn extent(gate: u64, reach: u64, size: usize) -> usize
+    requires most { size ≤ MOST_GATHERED }
+    requires room { gate + size ≤ 2 ^ 40 }
+    ensures whole { size ≤ result }
+    ensures most { result ≤ MOST_GATHERED }
+    ensures room { gate + result ≤ 2 ^ 40 }
+{
+    let further = size + STEP;
+    let is_far = gate >= STEP as u64 && gate + further as u64 <= LARGEST_FILE;
+    if is_far && size <= SMALL && reach < gate + size as u64 {
+        further
+    } else {
+        size
+    }
+}
+
 impl Journal {
     /// A batch without a record, which is to be appended at the end of the journal.
     pub fn batch(&self, alloc: Global) -> Result<Batch, NoMemory>
@@ -121,29 +147,33 @@ impl Journal {
         requires version { batch.old.version ≡ self.old.version }
         requires end { self.old.ended ≡ true }
         requires room { self.old.gate + length batch.old.text ≤ 2 ^ 40 }
-        requires stands { P.tells → StandsOn (P.calls station.old) self.old }
+        requires stands { P.observed → StandsOn (P.calls station.old) self.old }
 
-        // The records stand there, and behind them a closed gate. Each crash leaves that, since the journal stands there.
-        ensures added { P.tells → OnOk result (file_of (P.calls station.new) self.new
-            ≡ file_with_block (P.calls station.old) self.old batch.old.text) }
-        ensures stands { P.tells → OnOk result (StandsOn (P.calls station.new) self.new) }
+        // The records stand there, and behind them a closed gate, behind which anything may stand. Each crash leaves that, since the
+        // journal stands there.
+        ensures added { P.observed → OnOk result (HasBlock (P.calls station.old) self.old
+            batch.old.text (file_of (P.calls station.new) self.new)) }
+        ensures stands { P.observed → OnOk result (StandsOn (P.calls station.new) self.new) }
         ensures place { OnOk result
             (self.new ≡ beyond_block self.old batch.old.text batch.old.seal) }
-        ensures others { P.tells → (k : ℕ) → k ≢ self.old.file
+        ensures others { P.observed → (k : ℕ) → k ≢ self.old.file
             → OnOk result (seen (P.calls station.new) k ≡ seen (P.calls station.old) k) }
         ensures emptied { OnOk result (batch.new ≡ no_records self.new) }
 
         // A crash at any moment of the call leaves the journal as it was, or with all records of the batch.
-        ensures moments { P.tells → EachSince (P.calls station.old) (P.calls station.new)
+        ensures moments { P.observed → EachSince (P.calls station.old) (P.calls station.new)
             (LeavesAllOrNone (P.calls station.old) self.old batch.old.text) }
-        ensures silent { P.tells → said_by (P.calls station.new) ≡ said_by (P.calls station.old) }
+        ensures silent { P.observed → said_by (P.calls station.new) ≡ said_by
+            (P.calls station.old) }
         ensures cause { HasCause result (P.disk_faults station.old) (P.disk_faults station.new) }
         ensures say { P.say_faults station.new ≡ P.say_faults station.old }
     {
         let size = batch.size;
-        let block = &batch.buffer[1..size];
+        let end = extent(self.gate, self.reach, size);
+        let block = &batch.buffer[1..end];
         write_synced(station, self.file, self.gate + 1, block)?;
         write_synced(station, self.file, self.gate, &[OPEN])?;
+        self.reach = max(self.reach, self.gate + end as u64);
         self.gate += size as u64 - 1;
         self.seal = batch.seal;
         self.begin = 0;

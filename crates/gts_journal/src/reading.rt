@@ -48,9 +48,9 @@ impl Journal {
             ≡ record self.old { ahead = self.new.ahead; is_all = self.new.is_all } }
         ensures enough { OnOk result
             ((self.new.is_all ≡ true) ⊎ (LONGEST ≤ length self.new.ahead)) }
-        ensures stands { P.tells → StandsOn (P.calls station.old) self.old
+        ensures stands { P.observed → StandsOn (P.calls station.old) self.old
             → StandsOn (P.calls station.new) self.new }
-        ensures told { P.tells → P.calls station.new ≡ P.calls station.old }
+        ensures told { P.observed → P.calls station.new ≡ P.calls station.old }
         ensures cause { HasCause result (P.disk_faults station.old) (P.disk_faults station.new) }
         ensures say { P.say_faults station.new ≡ P.say_faults station.old }
     {
@@ -69,9 +69,9 @@ impl Journal {
             ≡ record self.old { ahead = self.new.ahead; is_all = self.new.is_all } }
         ensures enough { OnOk result
             ((self.new.is_all ≡ true) ⊎ (LONGEST ≤ length self.new.ahead)) }
-        ensures stands { P.tells → StandsOn (P.calls station.old) self.old
+        ensures stands { P.observed → StandsOn (P.calls station.old) self.old
             → StandsOn (P.calls station.new) self.new }
-        ensures told { P.tells → P.calls station.new ≡ P.calls station.old }
+        ensures told { P.observed → P.calls station.new ≡ P.calls station.old }
         ensures cause { HasCause result (P.disk_faults station.old) (P.disk_faults station.new) }
         ensures say { P.say_faults station.new ≡ P.say_faults station.old }
     {
@@ -86,14 +86,14 @@ impl Journal {
     pub fn next<P: Station>(&mut self, station: &mut P) -> Result<Option<Record<'_>>, OpenFault>
         requires open { self.old.ended ≡ false }
         requires room { self.old.gate < 2 ^ 40 }
-        requires stands { P.tells → StandsOn (P.calls station.old) self.old }
+        requires stands { P.observed → StandsOn (P.calls station.old) self.old }
         // Once the record is let go, the journal stands behind it.
         ensures* after { sem 𝓛 (GoesOn self.entry
             (λ next. IfOk result (λ found. HasGoneOn self.old found next)
-            × (P.tells → StandsOn (P.calls station.new) next))) }
-        ensures read { P.tells → Gives result (next_entry (P.calls station.old) self.old) }
+            × (P.observed → StandsOn (P.calls station.new) next))) }
+        ensures read { P.observed → Gives result (next_entry (P.calls station.old) self.old) }
         ensures sound { IfOk result (λ found. IfSome found (λ r. IsRecord (record_of r))) }
-        ensures told { P.tells → P.calls station.new ≡ P.calls station.old }
+        ensures told { P.observed → P.calls station.new ≡ P.calls station.old }
         ensures memory { IsErrOf result OpenFault.NoMemory → ⊥ }
         ensures disk_fault { IsErrOf result OpenFault.DiskFault
             → Rose (P.disk_faults station.old) (P.disk_faults station.new) }

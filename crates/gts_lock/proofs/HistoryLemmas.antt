@@ -70,9 +70,6 @@ module _ {E : Type 0} where
   pub starts_is : (h seen : List (ℕ × E)) → h ≡ seen → StartsWith h seen
   starts_is h seen e = ([], e ∙ sym (append-nil seen))
 
-  pub starts_length : (h seen : List (ℕ × E)) → StartsWith h seen → length seen ≤ length h
-  starts_length h seen s = let e = ap length s.1 ∙ length-append seen s.0 in omega arith
-
   empty : (r : List (ℕ × E)) → length r ≡ 0 → r ≡ []
   empty [] e = refl
   empty (x ∷ xs) e = absurd (omega arith)
@@ -153,9 +150,6 @@ module _ {E : Type 0} where
 
   pub among_push : (j : List (ℕ × List E)) (x : ℕ × List E) (n : ℕ) → IsAmong j n → IsAmong (j ++ x ∷ []) n
   among_push j x n a = (a.0, a.1, at_longer j (x ∷ []) a.0 (n, a.1) a.2)
-
-  pub among_last : (j : List (ℕ × List E)) (n : ℕ) (own : List E) → IsAmong (j ++ (n, own) ∷ []) n
-  among_last j n own = (length j, own, at_last j (n, own) (length j) refl)
 
   pub among_pushed : (j : List (ℕ × List E)) (x : ℕ × List E) (n : ℕ) → IsAmong (j ++ x ∷ []) n → IsAmong j n ⊎ (x.0 ≡ n)
   among_pushed j x n a = ⊎_elim (λ e. inl (a.0, a.1, e)) (λ t. inr (ap (λ (y : ℕ × List E). y.0) t.1)) (at_push j x (n, a.1) a.0 a.2)

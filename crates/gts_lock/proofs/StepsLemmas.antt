@@ -50,10 +50,6 @@ module _ {T E : Type 0} (stands : T → List E → Type 0) where
   next_is : (s : St) (r : Rule s) → get_or s.words 1 0 ≡ r.common.next
   next_is s r = ap (λ (ws : List ℕ). get_or ws 1 0) r.words
 
-  -- the fact about an idle view that gets another stage or mark
-  abbrev idle_turn : (c : Common E) (i : ℕ) (seen : List (ℕ × E)) → FitsStage c i seen Idle
-  idle_turn c i seen = tt
-
   refit : (c : Common E) (i : ℕ) (v : View E) (stage : Stage) (full : Bool) → Fits c i v → FitsStage c i v.seen stage → (full ≡ true → c.next ≡ MOST_TURNS) → Fits c i (record v { stage = stage; full = full })
   refit c i v stage full f turn mark = record {
     named = f.named;
@@ -162,10 +158,6 @@ module _ {T E : Type 0} (stands : T → List E → Type 0) where
   joined_own s r id v f k y e = dite (ℕ_discrete v.name 0)
       (λ z. (r.each_joined k y (ap (λ (l : List (ℕ × List E)). get_elem? l k) (sym (f.first z).1) ∙ e)).own)
       (λ z. absurd (some-ne-none y (sym e ∙ ap (λ (l : List (ℕ × List E)). get_elem? l k) (f.other z))))
-
-  -- the ticket of a view that waits or holds
-  same_drawer : (c : Common E) (i j t : ℕ) (seen : List (ℕ × E)) (st : Stage) → st ≡ Waiting t → FitsStage c i seen st → c.serving ≡ t → (c.serving ≤ t) × (t < c.next) × (c.drawer t ≡ i)
-  same_drawer c i j t seen st is f e = subst (FitsStage c i seen) is f
 
   pub looks : (slots id : ℕ) (m : Sat) (t : ℕ) → m.0.stage ≡ Waiting t → Allows Rule slots id m 0 (λ n. n) (Looks stands (step slots 0 0 0 none) m)
   looks slots id m t waits s r _ at _ =
@@ -322,9 +314,9 @@ module _ {T E : Type 0} (stands : T → List E → Type 0) where
       )
 
   -- of the entry something is told
-  pub raises_some : (tells : E → Type 0) (slots id : ℕ) (m : Sat) (t : ℕ) (e : E) (x : T) → m.0.stage ≡ Holding t → m.1 ≡ (0, Some x) ∷ [] → tells e → stands x (entries m.0.seen ++ e ∷ [])
-      → Allows Rule slots id m 0 (λ n. (n + 1) % 18446744073709551616) (RaisesSome tells (step slots 0 1 0 none) m)
-  raises_some tells slots id m t e x holds slot known told s r at_word at small =
+  pub raises_some : (fact : E → Type 0) (slots id : ℕ) (m : Sat) (t : ℕ) (e : E) (x : T) → m.0.stage ≡ Holding t → m.1 ≡ (0, Some x) ∷ [] → fact e → stands x (entries m.0.seen ++ e ∷ [])
+      → Allows Rule slots id m 0 (λ n. (n + 1) % 18446744073709551616) (RaisesSome fact (step slots 0 1 0 none) m)
+  raises_some fact slots id m t e x holds slot known told s r at_word at small =
       let a = raises slots id m t (e ∷ []) x holds slot refl told s r at_word at small in
       (a.0, a.1, a.2, a.3, (e, known, a.4))
 

@@ -2,7 +2,7 @@
 use Rattle.std.specs.Prelude.{[]}
 use Rattle.std.specs.Borrow.{Fml, RattleType, MutBor, Lends}
 use mir.Syntax.{named}
-use Rattle.gts_lock.specs.declared.told.Told.{Ghosts}
+use Rattle.gts_lock.specs.declared.history.HasHistory.{Ghosts}
 use Rattle.gts_lock.specs.Passes.{Held, with_value}
 use Rattle.gts_lock.specs.contracts.turn.Turn.{the_row}
 

@@ -45,7 +45,7 @@ module _ {T E : Type 0} where
 
   -- the next ticket is served, and the turn added an entry of which this holds
   abbrev pub RaisesSome : (E → Type 0) → Step (Option T) → Me (Option T) (View E) → ℕ → Me (Option T) (View E) → Type 0
-  RaisesSome tells st m found n = (entry : E) × tells entry × (n ≡ (ended (entry ∷ []) m.0, rest m.1))
+  RaisesSome fact st m found n = (entry : E) × fact entry × (n ≡ (ended (entry ∷ []) m.0, rest m.1))
 
   -- nothing changes; what the other of two joined views had seen is a beginning of what is seen now, if it isn't longer
   abbrev pub Compares : Step (Option T) → Me (Option T) (View E) → ℕ → Me (Option T) (View E) → Type 0

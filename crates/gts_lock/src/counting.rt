@@ -7,8 +7,8 @@ ghost use Rattle.gts_lock.specs.Passes.{after_adding, after_split, Known, AllJoi
 ghost use Rattle.gts_lock.specs.Counting.{Counts, IsOf, AreSplitOff};
 
 use crate::hall::Hall;
+use crate::history::HasHistory;
 use crate::pass::Pass;
-use crate::told::Told;
 use crate::turn::Turn;
 use std::sync::Wait;
 
@@ -18,7 +18,7 @@ pub(crate) struct Count {
     pub(crate) turns: u64,
 }
 
-impl Told for Count {
+impl HasHistory for Count {
     type Entry = u32;
 
     ghost use Rattle.std.specs.Prelude.{◌≡◌, length};

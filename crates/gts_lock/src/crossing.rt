@@ -1,7 +1,7 @@
 //! What may go from one thread to another.
 use crate::hall::Hall;
+use crate::history::HasHistory;
 use crate::pass::Pass;
-use crate::told::Told;
 use crate::turn::Turn;
 
 // Takes what may go to another thread.
@@ -11,7 +11,7 @@ fn sent<X: Send>(_value: &X) {}
 fn shared<X: Sync>(_value: &X) {}
 
 /// Threads share a hall where its value may go from one to another, and there passes and turns may, too.
-pub fn halls_passes_and_turns_cross_threads<T: Told + Send>(
+pub fn halls_passes_and_turns_cross_threads<T: HasHistory + Send>(
     hall: &Hall<T>,
     pass: &Pass<T>,
     turn: &Turn<'_, T>,

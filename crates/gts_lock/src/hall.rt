@@ -1,12 +1,12 @@
 ghost use Rattle.std.specs.Prelude.{◌≡◌, ◌≢◌, ℕ, ◌<◌, ◌+◌, ◌≤◌, ◌||◌, List, [], ◌∷◌, ◌++◌, length, true, false, Some, None, IfOk, IfErr, MatchOption};
 ghost use Rattle.gts_lock.specs.Cited.{Accounts, AllJoined, Holding, Idle, Known, NamesAreJoined, Spent, StartsWith, Takes, Waiting, after_join, after_seeing, after_split, ended, entries, first_pass, marked, split_off, staged};
 
+use crate::history::{Adds, EntryFact, HasHistory};
 use crate::limits::MOST_TURNS;
 use crate::pass::Pass;
 use crate::queue::Queue;
 use crate::rule::InTurn;
 use crate::steps::{Compare, Copied, Draw, Look, Part, Raise, RaiseSome};
-use crate::told::{Adds, Tells, Told};
 use crate::turn::Turn;
 use crate::view::View;
 use atomic_table::{Refused, Seat, Table};
@@ -17,13 +17,13 @@ use std::sync::Wait;
 
 /// A lock round a value that keeps a history. Passes take their turns in the order in which they drew their tickets, and
 /// each turn adds one entry.
-pub struct Hall<T: Told> {
+pub struct Hall<T: HasHistory> {
     table: Table<Option<T>, View<T::Entry>, (), InTurn<T>, Global>,
     // Nothing is claimed of it: a turn is taken where the table says so.
     queue: Queue,
 }
 
-impl<T: Told> Model for Hall<T> {
+impl<T: HasHistory> Model for Hall<T> {
     ghost use Rattle.std.specs.Prelude.{◌≡◌};
     ghost use Rattle.atomic_table.specs.Seated.{TableId};
 
@@ -34,7 +34,7 @@ impl<T: Told> Model for Hall<T> {
     ghost invariant = { λ h. (h.table.shared.table_id.words ≡ 2) × (h.table.shared.table_id.slots ≡ 1) };
 }
 
-impl<T: Told> Hall<T> {
+impl<T: HasHistory> Hall<T> {
     /// A hall round a value that stands for the empty history, and its first pass, whose name is 0.
     /// Without memory the value comes back.
     pub fn new(alloc: Global, value: T) -> Result<(Hall<T>, Pass<T>), (T, NoMemory)>
@@ -208,7 +208,7 @@ impl<T: Told> Hall<T> {
     }
 
     // The same, where of the entry no more is told than something that holds of it.
-    pub(crate) fn end_turn_some<N: Tells<T::Entry>>(
+    pub(crate) fn end_turn_some<N: EntryFact<T::Entry>>(
         &self,
         mut seat: Seat<Option<T>, View<T::Entry>>,
         value: T,
@@ -216,10 +216,10 @@ impl<T: Told> Hall<T> {
         requires hall { seat.table_id ≡ self.now }
         requires slot { seat.me.1 ≡ (0, None) ∷ [] }
         requires holds { (t : ℕ) × (seat.me.0.stage ≡ Holding t) }
-        requires stands { (entry : T.Entry) × N.tells entry
+        requires stands { (entry : T.Entry) × N.fact entry
             × T.stands value (entries seat.me.0.seen ++ entry ∷ []) }
         ensures table { result.table_id ≡ seat.table_id }
-        ensures me { (entry : T.Entry) × N.tells entry
+        ensures me { (entry : T.Entry) × N.fact entry
             × (result.me ≡ (ended (entry ∷ []) seat.me.0, [])) }
     {
         let shared = &self.table.shared;

@@ -1,4 +1,4 @@
-use crate::told::Told;
+use crate::history::HasHistory;
 use crate::view::View;
 use atomic_table::Seat;
 use std::marker::Model;
@@ -6,11 +6,11 @@ use std::marker::Model;
 /// The right to enter a hall, and what its owner has seen of the history. All passes of one hall see beginnings of one
 /// history. It has no bytes.
 #[derive(Drop)]
-pub struct Pass<T: Told> {
+pub struct Pass<T: HasHistory> {
     pub(crate) seat: Seat<Option<T>, View<T::Entry>>,
 }
 
-impl<T: Told> Model for Pass<T> {
+impl<T: HasHistory> Model for Pass<T> {
     ghost use Rattle.std.specs.Prelude.{◌≡◌, []};
     ghost use Rattle.gts_lock.specs.Passes.{Known};
 

@@ -1,4 +1,4 @@
-use gts_bell::Bell;
+use crate::Bell;
 use std::array;
 
 // At so many bells those sleep who wait for their turns.

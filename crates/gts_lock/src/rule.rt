@@ -1,4 +1,4 @@
-use crate::told::Told;
+use crate::history::HasHistory;
 use crate::view::View;
 use atomic_table::TableRule;
 use std::marker::PhantomData;
@@ -9,7 +9,7 @@ pub struct InTurn<T> {
     of: PhantomData<T>,
 }
 
-impl<T: Told> TableRule<Option<T>, View<T::Entry>, ()> for InTurn<T> {
+impl<T: HasHistory> TableRule<Option<T>, View<T::Entry>, ()> for InTurn<T> {
     ghost use Rattle.gts_lock.specs.Views.{newcomer};
     ghost use Rattle.gts_lock.specs.Rule as rule;
 

@@ -1,5 +1,5 @@
 //! The kinds of step at a hall's table, and what each tells the pass that makes it.
-use crate::told::{Adds, Tells, Told};
+use crate::history::{Adds, EntryFact, HasHistory};
 use crate::view::View;
 use atomic_table::{Join, Play, Split};
 use std::marker::PhantomData;
@@ -18,7 +18,7 @@ pub(crate) struct Look<T> {
     of: PhantomData<T>,
 }
 
-impl<T: Told> Play<Option<T>, View<T::Entry>> for Look<T> {
+impl<T: HasHistory> Play<Option<T>, View<T::Entry>> for Look<T> {
     ghost use Rattle.gts_lock.specs.Steps.{Looks};
 
     ghost then = { Looks T.stands };
@@ -40,10 +40,10 @@ pub(crate) struct RaiseSome<N> {
     of: PhantomData<N>,
 }
 
-impl<T, E, N: Tells<E>> Play<Option<T>, View<E>> for RaiseSome<N> {
+impl<T, E, N: EntryFact<E>> Play<Option<T>, View<E>> for RaiseSome<N> {
     ghost use Rattle.gts_lock.specs.Steps.{RaisesSome};
 
-    ghost then = { RaisesSome N.tells };
+    ghost then = { RaisesSome N.fact };
 }
 
 /// Looks whether both of two joined passes had seen beginnings of one history.

@@ -13,7 +13,7 @@ use std::test::Fail;
 use std::thread;
 use std::thread::Threads;
 
-impl Told for Vec<u32> {
+impl HasHistory for Vec<u32> {
     type Entry = u32;
 
     ghost use Rattle.std.specs.Prelude.{◌≡◌};

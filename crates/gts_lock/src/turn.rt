@@ -5,20 +5,20 @@ ghost use Rattle.gts_lock.specs.Passes.{after_adding};
 ghost use Rattle.gts_lock.specs.Lending.{lends_value};
 
 use crate::hall::Hall;
+use crate::history::{EntryFact, HasHistory};
 use crate::pass::Pass;
-use crate::told::{Tells, Told};
 use crate::view::View;
 use atomic_table::Seat;
 use std::marker::{Brand, Model};
 
 /// The turn of a pass: until it leaves, no other pass has the value.
-pub struct Turn<'a, T: Told> {
+pub struct Turn<'a, T: HasHistory> {
     pub(crate) hall: &'a Hall<T>,
     pub(crate) seat: Seat<Option<T>, View<T::Entry>>,
     pub(crate) value: T,
 }
 
-impl<'a, T: Told> Model for Turn<'a, T> {
+impl<'a, T: HasHistory> Model for Turn<'a, T> {
     ghost use Rattle.std.specs.Prelude.{◌≡◌, [], ◌∷◌, None};
     ghost use Rattle.gts_lock.specs.Passes.{Held};
 
@@ -31,10 +31,11 @@ impl<'a, T: Told> Model for Turn<'a, T> {
     ghost invariant = { λ t. (t.hall.now ≡ t.seat.table_id) × (t.seat.me.1 ≡ (0, None) ∷ []) × IsHolding t.seat.me.0 };
 }
 
-impl<'a, T: Told> Turn<'a, T> {
+impl<'a, T: HasHistory> Turn<'a, T> {
     /// Lends the value. What is written through it is the turn's value.
     pub fn value(&mut self) -> &mut T
-        ensures* writes_back { sem 𝓛 (lends_value T.row T.Entry.row T.Told self.entry result) }
+        ensures* writes_back { sem 𝓛
+            (lends_value T.row T.Entry.row T.HasHistory self.entry result) }
         ensures value { result.now ≡ self.old.value }
     {
         &mut self.value
@@ -55,10 +56,10 @@ impl<'a, T: Told> Turn<'a, T> {
 
     /// The same, where the entry is not known, but that something holds of it: there is one, and the value stands for the history
     /// with that.
-    pub fn leave_some<N: Tells<T::Entry>>(self) -> Pass<T>
-        requires { (entry : T.Entry) × N.tells entry
+    pub fn leave_some<N: EntryFact<T::Entry>>(self) -> Pass<T>
+        requires { (entry : T.Entry) × N.fact entry
             × T.stands self.value (entries self.pass.seen ++ entry ∷ []) }
-        ensures pass { (entry : T.Entry) × N.tells entry
+        ensures pass { (entry : T.Entry) × N.fact entry
             × (result ≡ after_adding self.entry.pass entry) }
         ensures own { result.own ≡ entries_under result.name result.seen }
     {

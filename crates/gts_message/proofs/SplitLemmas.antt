@@ -1,6 +1,6 @@
 -- The parts of a message: what was read is spelled so, and what is spelled so is read.
 use Rattle.std.proofs.Common.{◌≡◌, ℕ, ◌-◌, ◌^◌, ◌<◌, ◌≤◌, ◌⊎◌, inl, inr, Bool, true, false, ◌&&◌, ◌||◌, ◌==◌, cond, leb, List, [], ◌∷◌, ◌++◌, length, take, drop, Option, Some, None, Result, Ok, Err, nat_eq, nat_le, refl, sym, ap, subst, ◌∙◌, append_assoc, arith, IfOk, IsOkAnd}
-use Rattle.gts_message.specs.Cited.{AllDigits, Bor, EOL, End, Field, Heading, HeadingFields, HeadingStart, IsBody, IsGap, IsMessage, LONGEST_BODY, MessageParts, Number, Parts, Reads, SOH, Size, StartLine, after_gap, after_word, body_at, dec, digit_run, digits_value, ends_with, fault, fields_of, heading_at, heading_text, is_ascii_digit, list_all, message_end, message_of, number_at, parts_of, prefix_len, split_at, take_while, text_at}
+use Rattle.gts_message.specs.Cited.{AllDigits, Bor, EOL, End, Heading, HeadingFields, HeadingStart, IsBody, IsGap, IsMessage, LONGEST_BODY, MessageField, MessageParts, Number, Reads, SOH, Size, SplitMessage, StartLine, after_gap, after_word, body_at, dec, digit_run, digits_value, ends_with, fault, fields_of, heading_at, heading_text, is_ascii_digit, list_all, message_end, message_of, number_at, parts_of, prefix_len, split_at, take_while, text_at}
 use Rattle.gts_heading.specs.Reading.{◌>>=◌}
 use Rattle.std.proofs.lemmas.Bool.{leb-true, le-leb, lt-leb, eqb-true, and_parts, and_from, or_cases}
 use Rattle.std.proofs.lemmas.Bool.Decides.{Decides-eqb}
@@ -12,17 +12,17 @@ use Rattle.gts_alphabet.proofs.LawLemmas.{length-dec, AllDigits-dec, digits_valu
 use Rattle.gts_heading.proofs.LawLemmas.{word_takes, gap_takes, gap_again, line_is_spelled, line_again, and_part, chosen}
 
 -- what went wrong in a reading
-abbrev fault_of : Result MessageParts Field → Option Field
+abbrev fault_of : Result MessageParts MessageField → Option MessageField
 fault_of read = elim read [ Ok _ ↦ None | Err field ↦ Some field ]
 
 -- ---- steps of a reading
 
 -- what follows from a step that did not fail
-step_ok : {A B : Type 0} (r : Result A Field) (f : A → Result B Field) (y : B) (P : Type 0) → (r >>= f) ≡ Ok y → ((x : A) → r ≡ Ok x → f x ≡ Ok y → P) → P
+step_ok : {A B : Type 0} (r : Result A MessageField) (f : A → Result B MessageField) (y : B) (P : Type 0) → (r >>= f) ≡ Ok y → ((x : A) → r ≡ Ok x → f x ≡ Ok y → P) → P
 step_ok (Ok x) f y P e next = next x refl e
 step_ok (Err d) f y P e next = absurd cc
 
-abbrev done : {A : Type 0} → A → Result A Field
+abbrev done : {A : Type 0} → A → Result A MessageField
 done x = Ok x
 
 ok_is : {A : Type 0} (x y : A) → done x ≡ done y → x ≡ y
@@ -125,7 +125,7 @@ abbrev made_of : ℕ → ℕ → HeadingFields → List ℕ → List ℕ → Mes
 made_of number digits heading text body = record { number = number; digits = digits; heading = heading; text = text; body = body }
 
 -- what a body within the limit gives
-abbrev within_limit : List ℕ → MessageParts → Result MessageParts Field
+abbrev within_limit : List ℕ → MessageParts → Result MessageParts MessageField
 within_limit body parts = cond (nat_le (length body) LONGEST_BODY) (Ok parts) (Err Size)
 
 -- the parts between the start and the body
@@ -198,7 +198,7 @@ split_again message parts is =
 
 -- ---- the fault of a message
 
-fault_none : (message : List ℕ) (r : Result MessageParts Field) → split_at message ≡ r → fault_of r ≡ None → (parts : MessageParts) × IsMessage message parts
+fault_none : (message : List ℕ) (r : Result MessageParts MessageField) → split_at message ≡ r → fault_of r ≡ None → (parts : MessageParts) × IsMessage message parts
 fault_none message (Ok parts) e none = (parts, split_takes message parts e)
 fault_none message (Err field) e none = absurd cc
 
@@ -214,12 +214,12 @@ fault-message message parts is = ap fault_of (split_again message parts is)
 abbrev body_parts : Heading × Bor (List ℕ) → HeadingFields × List ℕ
 body_parts found = (fields_of found.0, found.1.now)
 
-pub body_found : (body : List ℕ) (r : Result (Heading × Bor (List ℕ)) Field) → Reads body_parts r (body_at body)
+pub body_found : (body : List ℕ) (r : Result (Heading × Bor (List ℕ)) MessageField) → Reads body_parts r (body_at body)
     → IfOk r (λ found. IsBody body (fields_of found.0) found.1.now)
 body_found body (Ok found) e = body_takes body (body_parts found) e
 body_found body (Err field) e = tt
 
-pub body_only : (body : List ℕ) (r : Result (Heading × Bor (List ℕ)) Field) → Reads body_parts r (body_at body)
+pub body_only : (body : List ℕ) (r : Result (Heading × Bor (List ℕ)) MessageField) → Reads body_parts r (body_at body)
     → (h : HeadingFields) (text : List ℕ) → IsBody body h text → IsOkAnd r (λ found. (fields_of found.0 ≡ h) × (found.1.now ≡ text))
 body_only body (Ok found) e h text is =
     let same = ok_is (body_parts found) (h, text) (sym e ∙ body_again body h text is) in
@@ -228,12 +228,12 @@ body_only body (Err field) e h text is =
     let apart = sym e ∙ body_again body h text is in
     absurd cc
 
-pub message_found : (message : List ℕ) (r : Result Parts Field) → Reads parts_of r (split_at message)
+pub message_found : (message : List ℕ) (r : Result SplitMessage MessageField) → Reads parts_of r (split_at message)
     → IfOk r (λ parts. IsMessage message (parts_of parts))
 message_found message (Ok parts) e = split_takes message (parts_of parts) e
 message_found message (Err field) e = tt
 
-pub message_only : (message : List ℕ) (r : Result Parts Field) → Reads parts_of r (split_at message)
+pub message_only : (message : List ℕ) (r : Result SplitMessage MessageField) → Reads parts_of r (split_at message)
     → (parts : MessageParts) → IsMessage message parts → IsOkAnd r (λ found. parts_of found ≡ parts)
 message_only message (Ok found) e parts is = ok_is (parts_of found) parts (sym e ∙ split_again message parts is)
 message_only message (Err field) e parts is =

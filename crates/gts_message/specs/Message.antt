@@ -1,9 +1,9 @@
 -- A message as the concatenation of its parts, and its fields read from left to right (the Manual's message format; the
 -- gaps and the limit are this project's profile).
 use Rattle.std.specs.Prelude.{◌≡◌, ◌⊎◌, ℕ, ◌-◌, ◌<◌, ◌≤◌, ◌^◌, ◌&&◌, ◌||◌, ◌==◌, nat_eq, nat_le, List, [], ◌∷◌, ◌++◌, length, take, drop, take_while, Option, Some, None, Result, Ok, Err, if◌then◌else◌}
-use Rattle.gts_message.specs.Cited.Below.{EOL, ETX, End, Field, HeadingFields, HeadingStart, IsGap, IsHeading, LONGEST_BODY, Number, SOH, Size, StartLine, after_gap, after_word, dec, digits_value, ends_with, fields_of, heading_at, heading_text, is_ascii_digit, message_of}
+use Rattle.gts_message.specs.Cited.Below.{EOL, ETX, End, HeadingFields, HeadingStart, IsGap, IsHeading, LONGEST_BODY, MessageField, Number, SOH, Size, StartLine, after_gap, after_word, dec, digits_value, ends_with, fields_of, heading_at, heading_text, is_ascii_digit, message_of}
 use Rattle.gts_heading.specs.Reading.{◌>>=◌}
-use Rattle.gts_message.specs.declared.message.Parts.{Parts}
+use Rattle.gts_message.specs.declared.message.SplitMessage.{SplitMessage}
 
 -- the parts of a message, without where they lie in memory
 pub record MessageParts : Type 0 where
@@ -35,25 +35,25 @@ abbrev pub digit_run : List ℕ → List ℕ
 digit_run bytes = take_while is_ascii_digit bytes
 
 -- a number of three digits or five, how many, and the bytes behind them
-unfoldable pub number_at : List ℕ → Result (ℕ × ℕ × List ℕ) Field
+unfoldable pub number_at : List ℕ → Result (ℕ × ℕ × List ℕ) MessageField
 number_at bytes =
     if (length (digit_run bytes) == 3) || (length (digit_run bytes) == 5)
     then Ok (digits_value 10 (digit_run bytes), length (digit_run bytes), drop (length (digit_run bytes)) bytes)
     else Err Number
 
 -- the text: all but the end
-unfoldable pub text_at : List ℕ → Result (List ℕ) Field
+unfoldable pub text_at : List ℕ → Result (List ℕ) MessageField
 text_at bytes = if nat_le 4 (length bytes) && ends_with nat_eq bytes message_end then Ok (take (length bytes - 4) bytes) else Err End
 
 -- the heading and the text of a body
-unfoldable pub body_at : List ℕ → Result (HeadingFields × List ℕ) Field
+unfoldable pub body_at : List ℕ → Result (HeadingFields × List ℕ) MessageField
 body_at body = do
   heading ← heading_at body
   text ← text_at heading.1
   Ok (heading.0, text)
 
 -- the parts of a message, or the first field at fault
-unfoldable pub split_at : List ℕ → Result MessageParts Field
+unfoldable pub split_at : List ℕ → Result MessageParts MessageField
 split_at message = do
   start ← after_word (SOH ∷ EOL) StartLine message
   number ← number_at start
@@ -64,9 +64,9 @@ split_at message = do
       else Err Size
 
 -- the first field at fault; none exactly where it is a message
-abbrev pub fault : List ℕ → Option Field
+abbrev pub fault : List ℕ → Option MessageField
 fault message = elim (split_at message) [ Ok _ ↦ None | Err field ↦ Some field ]
 
 -- the parts that a call answers
-abbrev pub parts_of : Parts → MessageParts
+abbrev pub parts_of : SplitMessage → MessageParts
 parts_of p = record { number = p.number; digits = p.digits; heading = fields_of p.heading; text = p.text.now; body = p.body.now }

@@ -4,7 +4,7 @@ ghost use Rattle.std.specs.Prelude.{◌≡◌, ◌<◌, ◌≤◌, ◌^◌, ◌+
 ghost use Rattle.gts_message.specs.Cited.{HeadingFields, IsBody, IsGap, IsMessage, MessageParts, body_at, dec, fault, message_of, split_at};
 
 use gts_alphabet::LONGEST_BODY;
-use gts_heading::Field;
+use gts_heading::MessageField;
 
 /// What is spelled as a message, or as a body, is read as these parts.
 pub fn spelled_message_is_split()
@@ -43,5 +43,5 @@ pub fn body_limit()
         → split_at (message_of (dec 5 p.number ++ gap) p.body) ≡ Ok p }
     ensures refused { (n : ℕ) (gap body text : List ℕ) (h : HeadingFields) → n < 10 ^ 5 → IsGap gap
         → IsBody body h text → LONGEST_BODY < length body
-        → split_at (message_of (dec 5 n ++ gap) body) ≡ Err Field.Size }
+        → split_at (message_of (dec 5 n ++ gap) body) ≡ Err MessageField.Size }
 {}

@@ -3,14 +3,14 @@ ghost use Rattle.gts_message.specs.Cited.{HeadingFields, Reads, fields_of};
 
 use crate::reading::{number_of_run, text_before_end};
 use gts_alphabet::{CR, EOL, LF, LONGEST_BODY, SOH};
-use gts_heading::{Cursor, Field, Heading};
+use gts_heading::{Cursor, Heading, MessageField};
 
 /// How every message begins: SOH CR CR LF.
 const START: [u8; 4] = [SOH, CR, CR, LF];
 
 /// The parts of a message, which they borrow.
 #[derive(Clone, Copy, Debug)]
-pub struct Parts<'a> {
+pub struct SplitMessage<'a> {
     /// The sequence number.
     pub number: u32,
     /// How many digits the sequence number has: 3 or 5.
@@ -34,7 +34,7 @@ impl Message {
 
     /// Takes a message apart. The refusal is the first field, from left to right, that isn't as the Manual and this
     /// project's profile have it; a byte that isn't there is a fault of the field in which it would stand.
-    pub fn split(message: &[u8]) -> Result<Parts<'_>, Field>
+    pub fn split(message: &[u8]) -> Result<SplitMessage<'_>, MessageField>
         // What is read is a message of these parts.
         ensures found { IfOk result (λ parts. IsMessage message.now (parts_of parts)) }
         // What is a message is read, and has no other parts.
@@ -48,21 +48,21 @@ impl Message {
 
     /// Reads the fields from left to right.
     #[tactic(auto, unfolding(crate::specs::Message::split_at))]
-    fn parts(message: &[u8]) -> Result<Parts<'_>, Field>
+    fn parts(message: &[u8]) -> Result<SplitMessage<'_>, MessageField>
         ensures { Reads parts_of result (split_at message.now) }
     {
         let mut cursor = Cursor::new(message);
-        cursor.word(&START, Field::StartLine)?;
+        cursor.word(&START, MessageField::StartLine)?;
         let (number, digits, rest) = number_of_run(cursor.rest())?;
         let mut cursor = Cursor::new(rest);
         cursor.gap();
-        cursor.word(&EOL, Field::HeadingStart)?;
+        cursor.word(&EOL, MessageField::HeadingStart)?;
         let body = cursor.rest();
         let (heading, text) = Body::parts(body)?;
         if body.len() > LONGEST_BODY {
-            return Err(Field::Size);
+            return Err(MessageField::Size);
         }
-        Ok(Parts {
+        Ok(SplitMessage {
             number,
             digits,
             heading,
@@ -76,7 +76,7 @@ impl Body {
     ghost use Rattle.gts_message.specs.Message.{IsBody, body_at};
 
     /// Takes a body apart: its heading and its text. The refusal is the first field from `Tt` to `End`.
-    pub fn split(body: &[u8]) -> Result<(Heading, &[u8]), Field>
+    pub fn split(body: &[u8]) -> Result<(Heading, &[u8]), MessageField>
         // What is read is a body with this heading and this text.
         ensures found { IfOk result (λ found. IsBody body.now (fields_of found.0) found.1.now) }
         // What is a body is read, and has no other heading and text.
@@ -91,7 +91,7 @@ impl Body {
 
     /// Reads the line of the heading, and what stands before the end.
     #[tactic(auto, unfolding(crate::specs::Message::body_at))]
-    fn parts(body: &[u8]) -> Result<(Heading, &[u8]), Field>
+    fn parts(body: &[u8]) -> Result<(Heading, &[u8]), MessageField>
         ensures { Reads (λ found. (fields_of found.0, found.1.now)) result (body_at body.now) }
     {
         let (heading, length) = Heading::read(body)?;

@@ -3,20 +3,20 @@ ghost use Rattle.gts_alphabet.specs.Reads.{Reads};
 ghost use Rattle.gts_message.specs.Message as message;
 
 use gts_alphabet::{CR, ETX, LF, decimal_value};
-use gts_heading::Field;
+use gts_heading::MessageField;
 
 /// How every message ends: CR CR LF ETX.
 const END: [u8; 4] = [CR, CR, LF, ETX];
 
 /// The number of three digits or five at the front, how many they are, and the bytes behind them.
 #[tactic(auto, unfolding(crate::specs::Message::number_at))]
-pub(crate) fn number_of_run(bytes: &[u8]) -> Result<(u32, u8, &[u8]), Field>
+pub(crate) fn number_of_run(bytes: &[u8]) -> Result<(u32, u8, &[u8]), MessageField>
     ensures { Reads (λ found. (found.0, found.1, found.2.now)) result
         (message.number_at bytes.now) }
 {
     let run = digit_count(bytes);
     if run != 3 && run != 5 {
-        return Err(Field::Number);
+        return Err(MessageField::Number);
     }
     let (digits, rest) = bytes.split_at(run);
     let number = decimal_value(digits).unwrap();
@@ -36,11 +36,11 @@ fn digit_count(bytes: &[u8]) -> usize
 
 /// The text: what stands before the end of the message.
 #[tactic(auto, unfolding(crate::specs::Message::text_at))]
-pub(crate) fn text_before_end(bytes: &[u8]) -> Result<&[u8], Field>
+pub(crate) fn text_before_end(bytes: &[u8]) -> Result<&[u8], MessageField>
     ensures { Reads (λ text. text.now) result (message.text_at bytes.now) }
 {
     if !bytes.ends_with(&END) {
-        return Err(Field::End);
+        return Err(MessageField::End);
     }
     Ok(&bytes[..bytes.len() - END.len()])
 }

@@ -4,7 +4,7 @@ ghost use Rattle.std.specs.Prelude.{◌≡◌, ◌++◌, [], ◌∷◌, Ok, Err,
 ghost use Rattle.gts_message.specs.Cited.{EOL, ETX, SOH, message_end, message_of, split_at};
 ghost use Rattle.gts_message.specs.Worked.{grouped_parts, plain_heading, plain_parts, ten_binary_bytes, worked_message};
 
-use gts_heading::Field;
+use gts_heading::MessageField;
 
 /// Messages are taken apart into their parts.
 pub fn worked_messages()
@@ -26,39 +26,42 @@ pub fn worked_messages()
 
 /// Each field but the size is refused by the shortest message that shows it, and by some that are nearly messages.
 pub fn worked_refusals()
-    ensures no_bytes { split_at [] ≡ Err Field.StartLine }
-    ensures no_line_feed { split_at (SOH ∷ 13 ∷ 13 ∷ []) ≡ Err Field.StartLine }
-    ensures etx_for_line_feed { split_at (SOH ∷ 13 ∷ 13 ∷ ETX ∷ []) ≡ Err Field.StartLine }
-    ensures no_number { split_at (SOH ∷ EOL) ≡ Err Field.Number }
+    ensures no_bytes { split_at [] ≡ Err MessageField.StartLine }
+    ensures no_line_feed { split_at (SOH ∷ 13 ∷ 13 ∷ []) ≡ Err MessageField.StartLine }
+    ensures etx_for_line_feed { split_at (SOH ∷ 13 ∷ 13 ∷ ETX ∷ []) ≡ Err MessageField.StartLine }
+    ensures no_number { split_at (SOH ∷ EOL) ≡ Err MessageField.Number }
     ensures four_digits { split_at (worked_message (codes "0001") plain_heading (codes "NIL="))
-        ≡ Err Field.Number }
+        ≡ Err MessageField.Number }
     ensures six_digits { split_at (worked_message (codes "000001") plain_heading (codes "NIL="))
-        ≡ Err Field.Number }
-    ensures no_heading_start { split_at (SOH ∷ EOL ++ codes "001") ≡ Err Field.HeadingStart }
+        ≡ Err MessageField.Number }
+    ensures no_heading_start { split_at (SOH ∷ EOL ++ codes "001") ≡ Err MessageField.HeadingStart }
     ensures two_blanks_behind_the_number { split_at
         (worked_message (codes "001  ") plain_heading (codes "NIL="))
-        ≡ Err Field.HeadingStart }
-    ensures no_type { split_at (message_of (codes "001") []) ≡ Err Field.Tt }
-    ensures no_area { split_at (message_of (codes "001") (codes "SM")) ≡ Err Field.Aa }
-    ensures no_ii { split_at (message_of (codes "001") (codes "SMVG")) ≡ Err Field.Ii }
-    ensures no_centre { split_at (message_of (codes "001") (codes "SMVG01")) ≡ Err Field.Cccc }
-    ensures no_day { split_at (message_of (codes "001") (codes "SMVG01 TVSV")) ≡ Err Field.Day }
+        ≡ Err MessageField.HeadingStart }
+    ensures no_type { split_at (message_of (codes "001") []) ≡ Err MessageField.Tt }
+    ensures no_area { split_at (message_of (codes "001") (codes "SM")) ≡ Err MessageField.Aa }
+    ensures no_ii { split_at (message_of (codes "001") (codes "SMVG")) ≡ Err MessageField.Ii }
+    ensures no_centre { split_at (message_of (codes "001") (codes "SMVG01"))
+        ≡ Err MessageField.Cccc }
+    ensures no_day { split_at (message_of (codes "001") (codes "SMVG01 TVSV"))
+        ≡ Err MessageField.Day }
     ensures no_hour { split_at (message_of (codes "001") (codes "SMVG01 TVSV 28"))
-        ≡ Err Field.Hour }
+        ≡ Err MessageField.Hour }
     ensures no_minute { split_at (message_of (codes "001") (codes "SMVG01 TVSV 2800"))
-        ≡ Err Field.Minute }
+        ≡ Err MessageField.Minute }
     ensures no_group { split_at (message_of (codes "001") (plain_heading ++ codes " "))
-        ≡ Err Field.Bbb }
+        ≡ Err MessageField.Bbb }
     ensures no_heading_end { split_at (message_of (codes "001") plain_heading)
-        ≡ Err Field.HeadingEnd }
-    ensures no_end { split_at (message_of (codes "001") (plain_heading ++ EOL)) ≡ Err Field.End }
+        ≡ Err MessageField.HeadingEnd }
+    ensures no_end { split_at (message_of (codes "001") (plain_heading ++ EOL))
+        ≡ Err MessageField.End }
     ensures hour_24 { split_at
         (worked_message (codes "001") (codes "SMVG01 TVSV 282400") (codes "NIL="))
-        ≡ Err Field.Hour }
+        ≡ Err MessageField.Hour }
     ensures unknown_group { split_at
         (worked_message (codes "001") (plain_heading ++ codes " COR") (codes "NIL="))
-        ≡ Err Field.Bbb }
+        ≡ Err MessageField.Bbb }
     ensures one_line_end_for_two { split_at
         (message_of (codes "001") (plain_heading ++ message_end))
-        ≡ Err Field.End }
+        ≡ Err MessageField.End }
 {}

@@ -218,7 +218,7 @@ said_part bytes fault calls mid spoken same (inr (inr broke)) =
 
 -- ---- once the journal was opened
 
-module _ (tells : Type 0) (old new : Directory) (takes : TakesOver new old) (mid : List Call) (core : Core) (j : InHand) (g : IsOpenedAny tells old mid core j) where
+module _ (observed : Type 0) (old new : Directory) (takes : TakesOver new old) (mid : List Call) (core : Core) (j : InHand) (g : IsOpenedAny observed old mid core j) where
   pub sound_need : is_sound old (need old g.state) ≡ true
   sound_need = sound-held old g.state g.kept.few g.kept.held
 
@@ -243,7 +243,7 @@ module _ (tells : Type 0) (old new : Directory) (takes : TakesOver new old) (mid
         room = subst (λ (m : Need). compacted_bytes written m + draw_size written * due (begun m) ≤ new.limit) is fits;
       }
 
-  pub can_migrate : (n : Need) → IsBrought old new core n → keeps_one new ≡ true → tells → CanMigrate old new g.state n mid j
+  pub can_migrate : (n : Need) → IsBrought old new core n → keeps_one new ≡ true → observed → CanMigrate old new g.state n mid j
   can_migrate n brought keeps tell = record {
     takes = takes;
     stands = g.stands tell;
@@ -252,7 +252,7 @@ module _ (tells : Type 0) (old new : Directory) (takes : TakesOver new old) (mid
     brought = brought g.state g.kept.holds;
   }
 
-  module _ (tell : tells) (before : List Call) (synced : mid ≡ Did Syncs ∷ before) where
+  module _ (tell : observed) (before : List Call) (synced : mid ≡ Did Syncs ∷ before) where
     pub files_here : files_open_any old (seen before) ≡ Ok (g.state, j.gate + 1)
     files_here =
         let here : files_open_any old (seen mid) ≡ Ok (g.state, j.gate + 1) =

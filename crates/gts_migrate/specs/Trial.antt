@@ -25,7 +25,7 @@ refusal new old n = or_waits (waits_on_closed new n) (as_told (full_compacted ne
 
 -- the files open to this state, where it is told
 abbrev pub OpensTo : Type 0 → Directory → Files → State → Type 0
-OpensTo tells d files s = tells → (used : ℕ) × (files_open_any d files ≡ Ok (s, used))
+OpensTo observed d files s = observed → (used : ℕ) × (files_open_any d files ≡ Ok (s, used))
 
 -- The trial is that of a state of which this holds: it has the need of that, which is sound.
 pub record IsTried (old new : Directory) (OfIt : State → Type 0) (t : Trial) : Type 0 where

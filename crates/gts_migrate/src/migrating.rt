@@ -18,26 +18,26 @@ fn take_over<P: Station>(
     waiting: Waiting,
 ) -> Result<(), MigrateFault>
     requires { TakesOver new.now old.now }
-    ensures moments { P.tells → (n : NeedOf) → WasOpened result
+    ensures moments { P.observed → (n : NeedOf) → WasOpened result
         → StaysEither waiting old.now new.now n (P.calls station.old) (P.calls station.new) }
-    ensures migrated { P.tells → (s : State) (used : ℕ)
+    ensures migrated { P.observed → (s : State) (used : ℕ)
         → files_open_any old.now (seen (P.calls station.old)) ≡ Ok (s, used)
         → OnOk result (IsMigrated old.now new.now s (P.calls station.old) (P.calls station.new)) }
-    ensures full { P.tells → (s : State) (used : ℕ)
+    ensures full { P.observed → (s : State) (used : ℕ)
         → files_open_any old.now (seen (P.calls station.old)) ≡ Ok (s, used)
         → GivesRoomFor result new.now (goes_on new.now old.now (need_at old.now s)) }
-    ensures waiting { P.tells → (s : State) (used : ℕ)
+    ensures waiting { P.observed → (s : State) (used : ℕ)
         → files_open_any old.now (seen (P.calls station.old)) ≡ Ok (s, used)
         → AnswersWaiting waiting result (waits_on_closed new.now (need_at old.now s)) }
-    ensures opening { P.tells
+    ensures opening { P.observed
         → AnswersOpening result (opens_any old.now (seen (P.calls station.old))) }
-    ensures said { P.tells → (s : State) (used : ℕ)
+    ensures said { P.observed → (s : State) (used : ℕ)
         → files_open_any old.now (seen (P.calls station.old)) ≡ Ok (s, used)
         → SaysFor result (sayings waiting new.now (need_at old.now s)) (P.calls station.old)
         (P.calls station.new) }
-    ensures silent { P.tells → (waiting ≡ Waiting.Refused) ⊎ LeavesFiles result
+    ensures silent { P.observed → (waiting ≡ Waiting.Refused) ⊎ LeavesFiles result
         → said_by (P.calls station.new) ≡ said_by (P.calls station.old) }
-    ensures told { P.tells → LeavesFiles result
+    ensures told { P.observed → LeavesFiles result
         → OnlySyncs (P.calls station.old) (P.calls station.new) }
     ensures disk { IsDiskFaultOf result
         → Rose (P.disk_faults station.old) (P.disk_faults station.new) }
@@ -46,7 +46,7 @@ fn take_over<P: Station>(
     ensures unsaid { waiting ≡ Waiting.Refused → IsSayFaultOf result → ⊥ }
 {
     // A limit leaves few draws due.
-    let _ = old.limit();
+    old.bounds_hold();
     let (core, journal) = open_core_any(alloc, station, old)?;
     let prepared = prepare(alloc, &core, old, new, waiting)?;
     rewrite(alloc, station, journal, new, &prepared)
@@ -69,32 +69,33 @@ pub fn migrate<P: Station>(
 
     // A crash at any moment since the sync of the opening leaves files that open under the old directory to what they opened to,
     // with a front of the receipts said, or under the new one to what that takes over of it, with all said.
-    ensures moments { P.tells → (n : NeedOf) → WasOpened result.1
+    ensures moments { P.observed → (n : NeedOf) → WasOpened result.1
         → StaysEither waiting old.now new n (P.calls station) (P.calls result.0) }
-    ensures migrated { P.tells → (s : State) (used : ℕ)
+    ensures migrated { P.observed → (s : State) (used : ℕ)
         → files_open_any old.now (seen (P.calls station)) ≡ Ok (s, used)
         → OnOk result.1 (IsMigrated old.now new s (P.calls station) (P.calls result.0)) }
-    ensures full { P.tells → (s : State) (used : ℕ)
+    ensures full { P.observed → (s : State) (used : ℕ)
         → files_open_any old.now (seen (P.calls station)) ≡ Ok (s, used)
         → GivesRoomFor result.1 new (goes_on new old.now (need_at old.now s)) }
 
     // What waits on a circuit that is closed in the new directory is told and refused, unless it is to be dropped.
-    ensures waiting { P.tells → (s : State) (used : ℕ)
+    ensures waiting { P.observed → (s : State) (used : ℕ)
         → files_open_any old.now (seen (P.calls station)) ≡ Ok (s, used)
         → AnswersWaiting waiting result.1 (waits_on_closed new (need_at old.now s)) }
 
     // A fault of the files is answered exactly where they open to it, in the version that they have.
-    ensures opening { P.tells
+    ensures opening { P.observed
         → AnswersOpening result.1 (opens_any old.now (seen (P.calls station))) }
 
     // Once the journal was taken over, exactly the receipts of all that was dropped were said, in their order.
-    ensures said { P.tells → (s : State) (used : ℕ)
+    ensures said { P.observed → (s : State) (used : ℕ)
         → files_open_any old.now (seen (P.calls station)) ≡ Ok (s, used)
         → SaysFor result.1 (sayings waiting new (need_at old.now s)) (P.calls station)
         (P.calls result.0) }
-    ensures silent { P.tells → (waiting ≡ Waiting.Refused) ⊎ LeavesFiles result.1
+    ensures silent { P.observed → (waiting ≡ Waiting.Refused) ⊎ LeavesFiles result.1
         → said_by (P.calls result.0) ≡ said_by (P.calls station) }
-    ensures told { P.tells → LeavesFiles result.1 → OnlySyncs (P.calls station) (P.calls result.0) }
+    ensures told { P.observed → LeavesFiles result.1 → OnlySyncs (P.calls station)
+        (P.calls result.0) }
     ensures disk { IsDiskFaultOf result.1
         → Rose (P.disk_faults station) (P.disk_faults result.0) }
     ensures later { P.disk_faults station ≤ P.disk_faults result.0 }

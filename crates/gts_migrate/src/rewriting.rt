@@ -12,7 +12,7 @@ use std::alloc::Global;
 
 /// Says receipts on the channel of receipts, in one call, where there are any.
 fn say_receipts<P: Station>(station: &mut P, receipts: &[u8]) -> Result<(), MigrateFault>
-    ensures told { P.tells
+    ensures told { P.observed
         → SaysAll receipts.now result (P.calls station.old) (P.calls station.new) }
     ensures none { receipts.now ≡ [] → (station.new ≡ station.old) × IsOk result }
     ensures kind { IfErr result (λ fault. fault ≡ MigrateFault.SayFault) }
@@ -40,15 +40,15 @@ pub(crate) fn rewrite<P: Station>(
     requires fits { FitsFor new.now (need_of prepared.now.need) }
     requires size { prepared.now.size
         ≡ min (length (checkpoint_text (need_of prepared.now.need))) (2 ^ 64 - 1) }
-    requires stands { P.tells → StandsOn (P.calls station.old) journal }
-    ensures moments { P.tells → (old : DirectoryOf) (s : State)
+    requires stands { P.observed → StandsOn (P.calls station.old) journal }
+    ensures moments { P.observed → (old : DirectoryOf) (s : State)
         → CanMigrate old new.now s (need_of prepared.now.need) (P.calls station.old) journal
         → EachSince (P.calls station.old) (P.calls station.new)
         (OpensWithAt (on 0 prepared.now.receipts.items) old new.now s) }
-    ensures written { P.tells → OnOk result ((old : DirectoryOf) (s : State)
+    ensures written { P.observed → OnOk result ((old : DirectoryOf) (s : State)
         → CanMigrate old new.now s (need_of prepared.now.need) (P.calls station.old) journal
         → IsMigrated old new.now s (P.calls station.old) (P.calls station.new)) }
-    ensures said { P.tells → SaysFor result (on 0 prepared.now.receipts.items)
+    ensures said { P.observed → SaysFor result (on 0 prepared.now.receipts.items)
         (P.calls station.old) (P.calls station.new) }
     ensures unsaid { prepared.now.receipts.items ≡ [] → IsSayFaultOf result → ⊥ }
     ensures kind { IfErr result IsWriteFaultOf }
@@ -59,7 +59,7 @@ pub(crate) fn rewrite<P: Station>(
     ensures say { CountsSays result (P.say_faults station.old) (P.say_faults station.new) }
 {
     // A directory is within its bounds.
-    let _ = (new.circuits(), new.limit());
+    new.bounds_hold();
     let mut journal = journal;
     let other = 1 - journal.file();
     let used = compacted_size(prepared.size);

@@ -49,23 +49,24 @@ pub fn try_over<P: Station>(
 ) -> Result<Trial, OpenFault>
     requires { TakesOver new.now old.now }
 
-    // It is what `migrate` would come to, over the state to which the files open where the station tells.
+    // It is what `migrate` would come to, over the state to which the files open where the station is observed.
     ensures tried { IfOk result (IsTried old.now new.now
-        (OpensTo P.tells old.now (seen (P.calls station.old)))) }
-    ensures synced { P.tells → OnOk result (P.calls station.new ≡ Did Syncs ∷ P.calls station.old) }
+        (OpensTo P.observed old.now (seen (P.calls station.old)))) }
+    ensures synced { P.observed → OnOk result (P.calls station.new
+        ≡ Did Syncs ∷ P.calls station.old) }
 
     // A fault of the files is answered exactly where they open to it.
-    ensures fault { P.tells → IfErr result (λ e. IsAnswer e
+    ensures fault { P.observed → IfErr result (λ e. IsAnswer e
         (opens_any old.now (seen (P.calls station.old)))) }
-    ensures never_older { P.tells → IfErr result (λ e. e ≢ OpenFault.OldVersion) }
-    ensures told { P.tells → OnlySyncs (P.calls station.old) (P.calls station.new) }
+    ensures never_older { P.observed → IfErr result (λ e. e ≢ OpenFault.OldVersion) }
+    ensures told { P.observed → OnlySyncs (P.calls station.old) (P.calls station.new) }
     ensures disk_fault { IsErrOf result OpenFault.DiskFault
         → Rose (P.disk_faults station.old) (P.disk_faults station.new) }
     ensures later { P.disk_faults station.old ≤ P.disk_faults station.new }
     ensures say { P.say_faults station.new ≡ P.say_faults station.old }
 {
     // A limit leaves few draws due.
-    let _ = old.limit();
+    old.bounds_hold();
     let (core, _journal) = open_core_any(alloc, station, old)?;
     let refusal = refusal_of(alloc, &core, old, new)?;
     let need = core.need(alloc)?;

@@ -8,7 +8,7 @@ use std::fs::File;
 use std::io::Read;
 use std::rt::Files;
 
-/// A source over a file, which it opens at the first read and keeps open. It tells no bytes.
+/// A source over a file, which it opens at the first read and keeps open. Its bytes are not observed.
 #[derive(Drop)]
 pub struct FileSource<'a, R: Files> {
     rt: &'a R,
@@ -78,7 +78,7 @@ fn read_on<R: Files>(
 }
 
 impl<R: Files> Source for FileSource<'_, R> {
-    ghost tells = { ⊥ };
+    ghost observed = { ⊥ };
 
     ghost left = { λ _. [] };
 

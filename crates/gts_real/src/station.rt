@@ -11,7 +11,7 @@ use std::rt::Files;
 
 /// The station of the program, in the current folder. Journal file k is `journal.k`; one that isn't there has size 0, and
 /// is made by its first write or cut. Channel 0 is standard output, and channel `c + 1` is appended to `circuit.NN.out`,
-/// NN being `c` in two digits. It tells nothing of what was done with it.
+/// NN being `c` in two digits. What is done with it is not observed.
 ///
 /// A station that may write takes the lock on the journal by its first call on a file, so two of them exclude one another. One
 /// that was opened for reading takes none, and may be used beside one that writes.
@@ -92,7 +92,7 @@ impl<'a, R: Files<File = File> + Print + AllocGlobal> FileStation<'a, R> {
 }
 
 impl<R: Files<File = File> + Print + AllocGlobal> Station for FileStation<'_, R> {
-    ghost tells = { ⊥ };
+    ghost observed = { ⊥ };
 
     ghost calls = { λ _. [] };
 

@@ -1,13 +1,13 @@
 -- What a piece comes to that was fed at the desk.
 use Rattle.std.proofs.Common.{◌≡◌, Bool, ℕ, ◌+◌, ◌≤◌, List, [], ◌∷◌, ◌++◌, length, take, drop, Result, Ok, Err, refl, sym, ap, ◌∙◌, subst, arith, append_assoc, take-append-drop, IsSome}
 use Rattle.std.proofs.lemmas.List.{append-nil, length-take-le}
-use Rattle.gts_receiver.specs.Cited.{AddsAny, AddsAtFault, AddsEntries, AddsFault, AddsFed, Answers, Decoding, DiskFault, Doubt, EndsOver, EndsWith, Entry, Event, Fault, Fed, FeedEnd, Feeds, Full, GoesOn, Heard, Hears, Idle, IsSpent, IsWanting, Kind, LeavesLast, LostField, LostSync, NoMemory, Outcome, PassesBetween, Reads, Receiving, SayFault, SaysNoMore, Seen, Spent, Stopped, SwitchFault, Takes, TriesOn, TurnsTogether, Unsaid, all_done, all_unsaid, events_added, fault_entries, held_in, own, settled, settled_own}
+use Rattle.gts_receiver.specs.Cited.{AddsAny, AddsAtFault, AddsEntries, AddsFault, AddsFed, Answers, Decoding, DiskFault, Doubt, EndsOver, EndsWith, Entry, Event, Fault, Fed, FeedEnd, Feeds, FrameField, Full, GoesOn, Heard, Hears, Idle, IsSpent, IsWanting, Kind, LeavesLast, LostSync, NoMemory, Outcome, PassesBetween, Reads, Receiving, SayFault, SaysNoMore, Seen, Spent, Stopped, SwitchFault, Takes, TriesOn, TurnsTogether, Unsaid, all_done, all_unsaid, events_added, fault_entries, held_in, own, settled, settled_own}
 use Rattle.gts_event.specs.declared.event.Event.TheVariants as events
 use Rattle.gts_frame.proofs.LawLemmas.{front-open}
-use Rattle.gts_feed.specs.Fed as feeding
-use Rattle.gts_feed.specs.declared.fed.FeedEnd.TheVariants as fed_ends
-use Rattle.gts_desk.specs.Desks as desks
-use Rattle.gts_desk.proofs.LawLemmas.{goes_any, goes_on_spent, goes_further, halfway}
+use Rattle.gts_calls.specs.Fed as feeding
+use Rattle.gts_calls.specs.declared.fed.FeedEnd.TheVariants as fed_ends
+use Rattle.gts_calls.specs.Desks as desks
+use Rattle.gts_calls.proofs.LawLemmas.{goes_any, goes_on_spent, goes_further, halfway}
 use Rattle.gts_receiver.proofs.SettledLemmas.{settled-append, settled_all, any_settled, no_try, stopped_tries, disk_tries, say_tries, spent_tries}
 use Rattle.gts_receiver.proofs.FaultLemmas as faults
 use Rattle.gts_receiver.proofs.FaultLemmas.{done_settles, hears_go}
@@ -42,7 +42,7 @@ module _ (w : Bool) (c : ℕ) (first now later : Seen) (given piece : List ℕ) 
       (told w c first now later given x so_far (goes_any now later a.0 a.2) (settles a.0 a.2 a.1) (keeps open_before), takes.held)
 
   -- synchronisation was lost
-  pub fed_lost : (field : LostField) (at : ℕ) → fed.end ≡ fed_ends.Lost field → desks.Feeds c more decoder.message fed.end now later
+  pub fed_lost : (field : FrameField) (at : ℕ) → fed.end ≡ fed_ends.Lost field → desks.Feeds c more decoder.message fed.end now later
       → fed.taken ≤ length piece → at ≡ length given + fed.taken → Reads w c first later (given ++ piece) (LostSync field at)
   fed_lost field at is added within place =
       let loses : feeding.LosesLast given x = subst (EndsOver given x) is takes.ends in

@@ -2,8 +2,8 @@
 use Rattle.std.proofs.Common.{◌≡◌, ℕ, ◌+◌, ◌≤◌, arith, Bool, true, false, not, List, [], ◌∷◌, ◌++◌, Result, Ok, Err, refl, ap, ◌∙◌}
 use Rattle.std.proofs.lemmas.List.{append-nil}
 use Rattle.std.proofs.lemmas.List.Elements.{filter-append}
-use Rattle.gts_receiver.specs.Cited.{AddsAny, AddsEntries, AddsJust, Answers, AreMost, Device, DiskFault, Done, Doubt, Entry, Event, Full, GoesOn, Heard, Hears, Idle, Kind, Lost, LostField, NoMemory, Outcome, SayFault, SaysNoMore, Seen, Spent, State, Stopped, SwitchFault, Taken, TriesOn, Unsaid, all_done, is_try, is_wanting, outcome, own, settled, settled_own}
-use Rattle.gts_desk.proofs.LawLemmas.{just, own_added, turned, own_any, goes_on, goes_on_spent, goes_further}
+use Rattle.gts_receiver.specs.Cited.{AddsAny, AddsEntries, AddsJust, Answers, AreMost, Device, DiskFault, Done, Doubt, Entry, Event, FrameField, Full, GoesOn, Heard, Hears, Idle, Kind, Lost, NoMemory, Outcome, SayFault, SaysNoMore, Seen, Spent, State, Stopped, SwitchFault, Taken, TriesOn, Unsaid, all_done, is_try, is_wanting, outcome, own, settled, settled_own}
+use Rattle.gts_calls.proofs.LawLemmas.{just, own_added, turned, own_any, goes_on, goes_on_spent, goes_further}
 
 pub settled-append : (w : Bool) (xs ys : List Entry) → settled w (xs ++ ys) ≡ settled w xs ++ settled w ys
 settled-append true xs ys = filter-append (λ (e : Entry). not (is_try e)) xs ys
@@ -47,7 +47,7 @@ tries_on w c kind message SayFault turns kept = λ yes is. absurd (cc is)
 tries_on w c kind message (Stopped by) turns kept = λ yes is. absurd (cc is)
 tries_on w c kind message Spent turns kept = λ yes is. absurd (cc is)
 
-pub no_try : (w : Bool) (c : ℕ) (field : LostField) (fault : SwitchFault) (turns : ℕ) → TriesOn w (Lost c field) fault turns
+pub no_try : (w : Bool) (c : ℕ) (field : FrameField) (fault : SwitchFault) (turns : ℕ) → TriesOn w (Lost c field) fault turns
 no_try w c field fault turns = λ yes is. absurd (cc is)
 
 -- at other answers no event is tried again

@@ -118,9 +118,9 @@ module _ {O W : Type 0} (meanings : Standing O W) (begun now : W) (o : O) (h : L
   -- ---- when all steps are done
 
   -- settling failed
-  pub settling_stops : (kind : CaptureKind) (tells : Type 0) (bytes : List ℕ) (fault : SwitchFault) (later : W) → Continues kind d tells bytes steps → IsSettling meanings (Err fault) now later
-      → StopsAtFault meanings kind o h tells fault begun later bytes
-  settling_stops kind tells bytes fault later c settling = record {
+  pub settling_stops : (kind : CaptureKind) (observed : Type 0) (bytes : List ℕ) (fault : SwitchFault) (later : W) → Continues kind d observed bytes steps → IsSettling meanings (Err fault) now later
+      → StopsAtFault meanings kind o h observed fault begun later bytes
+  settling_stops kind observed bytes fault later c settling = record {
     steps = c.all;
     read = c.read;
     breaks = subst (λ (xs : List Entry). BreaksOff meanings at (length h) h xs fault later) (ap (λ (xs : List Entry). xs ++ b.0) (append-nil es) ∙ sym b.1)
@@ -162,8 +162,8 @@ module _ {O W : Type 0} (meanings : Standing O W) (begun now : W) (o : O) (h : L
 
   -- ---- in a step
 
-  module _ (kind : CaptureKind) (tells : Type 0) (bytes : List ℕ) (step : Step) (same : meanings.directory now ≡ meanings.directory begun) (begin : meanings.begin p ≡ meanings.begin o)
-      (follow : Follows kind d tells bytes steps step) where
+  module _ (kind : CaptureKind) (observed : Type 0) (bytes : List ℕ) (step : Step) (same : meanings.directory now ≡ meanings.directory begun) (begin : meanings.begin p ≡ meanings.begin o)
+      (follow : Follows kind d observed bytes steps step) where
     abbrev added : List Entry
     added = entries_of_step (state_at meanings now p (h ++ es)) (connections_after d (no_bytes d) steps) step
 

@@ -4,7 +4,7 @@ use Rattle.gts_replay.specs.Cited.{Bad, BreaksAtCompaction, BreaksOff, CaptureKi
 use Rattle.gts_event.specs.declared.fault.SwitchFault.TheVariants as switch
 use Rattle.gts_record.specs.declared.fault.OpenFault.TheVariants as opening
 use Rattle.gts_connection.proofs.LawLemmas.{reads, whole_is_read, early_is_none}
-use Rattle.gts_capture.proofs.LawLemmas.{at_end, at_bad, taken_head}
+use Rattle.gts_replay.proofs.LawLemmas.{at_end, at_bad, taken_head}
 use Rattle.gts_replay.specs.declared.end.ReplayEnd.TheVariants as end
 use Rattle.gts_replay.specs.declared.fault.StepFault.TheVariants as step
 use Rattle.gts_replay.proofs.GoingLemmas.{settled_all, settles_all}
@@ -15,9 +15,9 @@ use Rattle.gts_replay.proofs.BreakingLemmas.{settling_stops, step_breaks, step_r
 
 -- ---- one end each
 
-done_ends : {O W : Type 0} (meanings : Standing O W) (station : Type 0) (kind : CaptureKind) (o : O) (h : List Entry) (tells : Type 0) (old new : W) (bytes left : List ℕ)
-    → IsDone meanings kind o h tells old new bytes → Ends meanings station kind o h tells end.Done old new bytes left
-done_ends meanings station kind o h tells old new bytes left is = record {
+done_ends : {O W : Type 0} (meanings : Standing O W) (station : Type 0) (kind : CaptureKind) (o : O) (h : List Entry) (observed : Type 0) (old new : W) (bytes left : List ℕ)
+    → IsDone meanings kind o h observed old new bytes → Ends meanings station kind o h observed end.Done old new bytes left
+done_ends meanings station kind o h observed old new bytes left is = record {
   done = λ e. is;
   capture = λ at e. absurd (cc);
   source_fault = λ e. absurd (cc);
@@ -27,11 +27,11 @@ done_ends meanings station kind o h tells old new bytes left is = record {
   no_memory = λ e. absurd (cc);
 }
 
-cut_ends : {O W : Type 0} (meanings : Standing O W) (station : Type 0) (kind : CaptureKind) (o : O) (h : List Entry) (tells : Type 0) (at : ℕ) (old new : W) (bytes left : List ℕ)
-    → IsCut meanings kind o h tells at old new bytes → Ends meanings station kind o h tells (end.Capture at) old new bytes left
-cut_ends meanings station kind o h tells at old new bytes left is = record {
+cut_ends : {O W : Type 0} (meanings : Standing O W) (station : Type 0) (kind : CaptureKind) (o : O) (h : List Entry) (observed : Type 0) (at : ℕ) (old new : W) (bytes left : List ℕ)
+    → IsCut meanings kind o h observed at old new bytes → Ends meanings station kind o h observed (end.Capture at) old new bytes left
+cut_ends meanings station kind o h observed at old new bytes left is = record {
   done = λ e. absurd (cc);
-  capture = λ place e. let same : at ≡ place = cc in subst (λ (k : ℕ). IsCut meanings kind o h tells k old new bytes) same is;
+  capture = λ place e. let same : at ≡ place = cc in subst (λ (k : ℕ). IsCut meanings kind o h observed k old new bytes) same is;
   source_fault = λ e. absurd (cc);
   reopen = λ fault e. absurd (cc);
   compaction = λ fault e. absurd (cc);
@@ -39,9 +39,9 @@ cut_ends meanings station kind o h tells at old new bytes left is = record {
   no_memory = λ e. absurd (cc);
 }
 
-source_ends : {O W : Type 0} (meanings : Standing O W) (station : Type 0) (kind : CaptureKind) (o : O) (h : List Entry) (tells : Type 0) (old new : W) (bytes left : List ℕ)
-    → LosesSource meanings kind o h tells old new bytes left → Ends meanings station kind o h tells end.SourceFault old new bytes left
-source_ends meanings station kind o h tells old new bytes left is = record {
+source_ends : {O W : Type 0} (meanings : Standing O W) (station : Type 0) (kind : CaptureKind) (o : O) (h : List Entry) (observed : Type 0) (old new : W) (bytes left : List ℕ)
+    → LosesSource meanings kind o h observed old new bytes left → Ends meanings station kind o h observed end.SourceFault old new bytes left
+source_ends meanings station kind o h observed old new bytes left is = record {
   done = λ e. absurd (cc);
   capture = λ at e. absurd (cc);
   source_fault = λ e. is;
@@ -51,45 +51,45 @@ source_ends meanings station kind o h tells old new bytes left is = record {
   no_memory = λ e. absurd (cc);
 }
 
-reopen_ends : {O W : Type 0} (meanings : Standing O W) (station : Type 0) (kind : CaptureKind) (o : O) (h : List Entry) (tells : Type 0) (f : OpenFault) (old new : W) (bytes left : List ℕ)
-    → StopsAtRestart meanings station kind o h tells f old new bytes → Ends meanings station kind o h tells (end.Reopen f) old new bytes left
-reopen_ends meanings station kind o h tells f old new bytes left is = record {
+reopen_ends : {O W : Type 0} (meanings : Standing O W) (station : Type 0) (kind : CaptureKind) (o : O) (h : List Entry) (observed : Type 0) (f : OpenFault) (old new : W) (bytes left : List ℕ)
+    → StopsAtRestart meanings station kind o h observed f old new bytes → Ends meanings station kind o h observed (end.Reopen f) old new bytes left
+reopen_ends meanings station kind o h observed f old new bytes left is = record {
   done = λ e. absurd (cc);
   capture = λ at e. absurd (cc);
   source_fault = λ e. absurd (cc);
-  reopen = λ fault e. let same : f ≡ fault = cc in subst (λ (x : OpenFault). StopsAtRestart meanings station kind o h tells x old new bytes) same is;
+  reopen = λ fault e. let same : f ≡ fault = cc in subst (λ (x : OpenFault). StopsAtRestart meanings station kind o h observed x old new bytes) same is;
   compaction = λ fault e. absurd (cc);
   fault = λ fault e. absurd (cc);
   no_memory = λ e. absurd (cc);
 }
 
-fault_ends : {O W : Type 0} (meanings : Standing O W) (station : Type 0) (kind : CaptureKind) (o : O) (h : List Entry) (tells : Type 0) (f : SwitchFault) (old new : W) (bytes left : List ℕ)
-    → StopsAtFault meanings kind o h tells f old new bytes → Ends meanings station kind o h tells (end.Fault f) old new bytes left
-fault_ends meanings station kind o h tells f old new bytes left is = record {
+fault_ends : {O W : Type 0} (meanings : Standing O W) (station : Type 0) (kind : CaptureKind) (o : O) (h : List Entry) (observed : Type 0) (f : SwitchFault) (old new : W) (bytes left : List ℕ)
+    → StopsAtFault meanings kind o h observed f old new bytes → Ends meanings station kind o h observed (end.Fault f) old new bytes left
+fault_ends meanings station kind o h observed f old new bytes left is = record {
   done = λ e. absurd (cc);
   capture = λ at e. absurd (cc);
   source_fault = λ e. absurd (cc);
   reopen = λ fault e. absurd (cc);
   compaction = λ fault e. absurd (cc);
-  fault = λ fault e. let same : f ≡ fault = cc in subst (λ (x : SwitchFault). StopsAtFault meanings kind o h tells x old new bytes) same is;
+  fault = λ fault e. let same : f ≡ fault = cc in subst (λ (x : SwitchFault). StopsAtFault meanings kind o h observed x old new bytes) same is;
   no_memory = λ e. absurd (cc);
 }
 
-compaction_ends : {O W : Type 0} (meanings : Standing O W) (station : Type 0) (kind : CaptureKind) (o : O) (h : List Entry) (tells : Type 0) (f : SwitchFault) (old new : W) (bytes left : List ℕ)
-    → StopsAtCompaction meanings kind o h tells f old new bytes → Ends meanings station kind o h tells (end.Compaction f) old new bytes left
-compaction_ends meanings station kind o h tells f old new bytes left is = record {
+compaction_ends : {O W : Type 0} (meanings : Standing O W) (station : Type 0) (kind : CaptureKind) (o : O) (h : List Entry) (observed : Type 0) (f : SwitchFault) (old new : W) (bytes left : List ℕ)
+    → StopsAtCompaction meanings kind o h observed f old new bytes → Ends meanings station kind o h observed (end.Compaction f) old new bytes left
+compaction_ends meanings station kind o h observed f old new bytes left is = record {
   done = λ e. absurd (cc);
   capture = λ at e. absurd (cc);
   source_fault = λ e. absurd (cc);
   reopen = λ fault e. absurd (cc);
-  compaction = λ fault e. let same : f ≡ fault = cc in subst (λ (x : SwitchFault). StopsAtCompaction meanings kind o h tells x old new bytes) same is;
+  compaction = λ fault e. let same : f ≡ fault = cc in subst (λ (x : SwitchFault). StopsAtCompaction meanings kind o h observed x old new bytes) same is;
   fault = λ fault e. absurd (cc);
   no_memory = λ e. absurd (cc);
 }
 
-memory_ends : {O W : Type 0} (meanings : Standing O W) (station : Type 0) (kind : CaptureKind) (o : O) (h : List Entry) (tells : Type 0) (old new : W) (bytes left : List ℕ)
-    → LacksMemory meanings station kind o h tells old new bytes → Ends meanings station kind o h tells end.NoMemory old new bytes left
-memory_ends meanings station kind o h tells old new bytes left is = record {
+memory_ends : {O W : Type 0} (meanings : Standing O W) (station : Type 0) (kind : CaptureKind) (o : O) (h : List Entry) (observed : Type 0) (old new : W) (bytes left : List ℕ)
+    → LacksMemory meanings station kind o h observed old new bytes → Ends meanings station kind o h observed end.NoMemory old new bytes left
+memory_ends meanings station kind o h observed old new bytes left is = record {
   done = λ e. absurd (cc);
   capture = λ at e. absurd (cc);
   source_fault = λ e. absurd (cc);
@@ -100,11 +100,11 @@ memory_ends meanings station kind o h tells old new bytes left is = record {
 }
 
 -- before the first step
-pub ends_unmade : {O W : Type 0} (meanings : Standing O W) (station : Type 0) (kind : CaptureKind) (o : O) (h : List Entry) (tells : Type 0) (now : W) (bytes left : List ℕ)
-    → StandsFor meanings o (length h) h now → Ends meanings station kind o h tells end.NoMemory now now bytes left
-ends_unmade meanings station kind o h tells now bytes left start =
+pub ends_unmade : {O W : Type 0} (meanings : Standing O W) (station : Type 0) (kind : CaptureKind) (o : O) (h : List Entry) (observed : Type 0) (now : W) (bytes left : List ℕ)
+    → StandsFor meanings o (length h) h now → Ends meanings station kind o h observed end.NoMemory now now bytes left
+ends_unmade meanings station kind o h observed now bytes left start =
     let r = reads kind (meanings.directory now) (readable bytes) in
-    memory_ends meanings station kind o h tells now now bytes left record {
+    memory_ends meanings station kind o h observed now now bytes left record {
       steps = r.0;
       read = λ t. (r.1, r.2);
       stands = inl record { same = refl; stands = settled_all meanings o h now start.stands };
@@ -128,56 +128,56 @@ two_each (s ∷ steps) =
     let more = two_each steps in
     omega (arith, more, two_bytes (head_of s), length-append (step_text s) (flat_map step_text steps), length-append (head_text (head_of s)) (bytes_of_step s))
 
-module _ {O W : Type 0} (meanings : Standing O W) (kind : CaptureKind) (station tells : Type 0) (bytes : List ℕ) (begun : W) where
+module _ {O W : Type 0} (meanings : Standing O W) (kind : CaptureKind) (station observed : Type 0) (bytes : List ℕ) (begun : W) where
   abbrev d : Directory
   d = meanings.directory begun
 
   -- ---- an end, once it was settled
 
   -- what was gathered of these steps was settled, or that failed
-  settled_ends : (o : O) (h : List Entry) (steps : List Step) (now : W) (g : Gathered meanings begun o h steps now) → Continues kind d tells bytes steps
-      → (e result : ReplayEnd) (later : W) (left : List ℕ) → (HasDone meanings o h steps begun later → Ends meanings station kind o h tells e begun later bytes left)
-      → SettlesTo meanings e result now later → Ends meanings station kind o h tells result begun later bytes left
-  settled_ends o h steps now g c e result later left ends t = subst (λ (r : ReplayEnd). Ends meanings station kind o h tells r begun later bytes left) (sym t.is) (go t.answer t.settling)
+  settled_ends : (o : O) (h : List Entry) (steps : List Step) (now : W) (g : Gathered meanings begun o h steps now) → Continues kind d observed bytes steps
+      → (e result : ReplayEnd) (later : W) (left : List ℕ) → (HasDone meanings o h steps begun later → Ends meanings station kind o h observed e begun later bytes left)
+      → SettlesTo meanings e result now later → Ends meanings station kind o h observed result begun later bytes left
+  settled_ends o h steps now g c e result later left ends t = subst (λ (r : ReplayEnd). Ends meanings station kind o h observed r begun later bytes left) (sym t.is) (go t.answer t.settling)
     where
-      go : (answer : Result (Unit {0}) SwitchFault) → IsSettling meanings answer now later → Ends meanings station kind o h tells (settled_end e answer) begun later bytes left
+      go : (answer : Result (Unit {0}) SwitchFault) → IsSettling meanings answer now later → Ends meanings station kind o h observed (settled_end e answer) begun later bytes left
       go (Ok u) settling = ends (settles_all meanings (origin_done meanings begun o h steps) g.first (h ++ entries_at meanings begun o h steps) now later u g.stands settling)
-      go (Err fault) settling = fault_ends meanings station kind o h tells fault begun later bytes left (settling_stops meanings begun now o h steps g kind tells bytes fault later c settling)
+      go (Err fault) settling = fault_ends meanings station kind o h observed fault begun later bytes left (settling_stops meanings begun now o h steps g kind observed bytes fault later c settling)
 
   -- an end with nothing to settle
-  rests : (o : O) (h : List Entry) (e result : ReplayEnd) (now later : W) (left : List ℕ) → Ends meanings station kind o h tells e begun now bytes left → (result ≡ e) × (later ≡ now)
-      → Ends meanings station kind o h tells result begun later bytes left
+  rests : (o : O) (h : List Entry) (e result : ReplayEnd) (now later : W) (left : List ℕ) → Ends meanings station kind o h observed e begun now bytes left → (result ≡ e) × (later ≡ now)
+      → Ends meanings station kind o h observed result begun later bytes left
   rests o h e result now later left ends same =
-      subst (λ (r : ReplayEnd). Ends meanings station kind o h tells r begun later bytes left) (sym same.0)
-      (subst (λ (w : W). Ends meanings station kind o h tells e begun w bytes left) (sym same.1) ends)
+      subst (λ (r : ReplayEnd). Ends meanings station kind o h observed r begun later bytes left) (sym same.0)
+      (subst (λ (w : W). Ends meanings station kind o h observed e begun w bytes left) (sym same.1) ends)
 
   -- ---- at a head
 
-  module _ (steps : List Step) (old : Held) (before : List ℕ) (ds : List Decoding) (now : W) (runs : Runs meanings kind tells bytes begun steps old before ds now) where
-    pub ends_done : (new : Held) (after left : List ℕ) → (tells → old.ahead ++ before ≡ head_text EndHead ++ (new.ahead ++ after)) → old.at + length (head_text EndHead) ≤ LONGEST_CAPTURE
+  module _ (steps : List Step) (old : Held) (before : List ℕ) (ds : List Decoding) (now : W) (runs : Runs meanings kind observed bytes begun steps old before ds now) where
+    pub ends_done : (new : Held) (after left : List ℕ) → (observed → old.ahead ++ before ≡ head_text EndHead ++ (new.ahead ++ after)) → old.at + length (head_text EndHead) ≤ LONGEST_CAPTURE
         → (result : ReplayEnd) (later : W) → SettlesBehind meanings end.Done result now later
-        → (o : O) (h : List Entry) → StandsFor meanings o (length h) h begun → Ends meanings station kind o h tells result begun later bytes left
+        → (o : O) (h : List Entry) → StandsFor meanings o (length h) h begun → Ends meanings station kind o h observed result begun later bytes left
     ends_done new after left told within result later settles o h start =
         let R : List ℕ → Type 0 = λ xs. IsReadTo kind d bytes steps old xs in
-        let whole : (tells → IsWholeOf kind d bytes steps) = λ t. at_end kind d bytes (new.ahead ++ after) steps old (subst R (told t) (runs.read t)) within in
-        settled_ends o h steps now (runs.stands o h start) (continues_alone kind d tells bytes steps (λ t. (length (flat_map step_text steps ++ head_text EndHead), whole_is_read kind d bytes steps (whole t)))) end.Done result later left
-        (λ stands. done_ends meanings station kind o h tells begun later bytes left record { steps = steps; are = runs.are; whole = whole; stands = stands }) settles
+        let whole : (observed → IsWholeOf kind d bytes steps) = λ t. at_end kind d bytes (new.ahead ++ after) steps old (subst R (told t) (runs.read t)) within in
+        settled_ends o h steps now (runs.stands o h start) (continues_alone kind d observed bytes steps (λ t. (length (flat_map step_text steps ++ head_text EndHead), whole_is_read kind d bytes steps (whole t)))) end.Done result later left
+        (λ stands. done_ends meanings station kind o h observed begun later bytes left record { steps = steps; are = runs.are; whole = whole; stands = stands }) settles
 
-    pub ends_bad : (left : List ℕ) (at : ℕ) → length d.circuits ≤ 100 → (tells → IsBadAt old (readable_from old.at (old.ahead ++ before)) at)
+    pub ends_bad : (left : List ℕ) (at : ℕ) → length d.circuits ≤ 100 → (observed → IsBadAt old (readable_from old.at (old.ahead ++ before)) at)
         → (result : ReplayEnd) (later : W) → SettlesBehind meanings (end.Capture at) result now later
-        → (o : O) (h : List Entry) → StandsFor meanings o (length h) h begun → Ends meanings station kind o h tells result begun later bytes left
+        → (o : O) (h : List Entry) → StandsFor meanings o (length h) h begun → Ends meanings station kind o h observed result begun later bytes left
     ends_bad left at few bad result later settles o h start =
-        let early : (tells → EndsEarlyOf kind d bytes steps at) = λ t. at_bad kind d bytes (old.ahead ++ before) steps old at (runs.read t) (bad t) in
-        settled_ends o h steps now (runs.stands o h start) (continues_alone kind d tells bytes steps (λ t. (at, (early t).0))) (end.Capture at) result later left
-        (λ stands. cut_ends meanings station kind o h tells at begun later bytes left
+        let early : (observed → EndsEarlyOf kind d bytes steps at) = λ t. at_bad kind d bytes (old.ahead ++ before) steps old at (runs.read t) (bad t) in
+        settled_ends o h steps now (runs.stands o h start) (continues_alone kind d observed bytes steps (λ t. (at, (early t).0))) (end.Capture at) result later left
+        (λ stands. cut_ends meanings station kind o h observed at begun later bytes left
         record { steps = steps; early = early; none = λ t others w. early_is_none kind d bytes steps others at few (early t) w; stands = stands }) settles
 
-    pub ends_source : (new : Held) (after : List ℕ) → IsSameCapture old new → (tells → StopsInHead old new before after)
+    pub ends_source : (new : Held) (after : List ℕ) → IsSameCapture old new → (observed → StopsInHead old new before after)
         → (result : ReplayEnd) (later : W) → SettlesBehind meanings end.SourceFault result now later
-        → (o : O) (h : List Entry) → StandsFor meanings o (length h) h begun → Ends meanings station kind o h tells result begun later bytes after
+        → (o : O) (h : List Entry) → StandsFor meanings o (length h) h begun → Ends meanings station kind o h observed result begun later bytes after
     ends_source new after same stops result later settles o h start =
-        settled_ends o h steps now (runs.stands o h start) (continues_read kind d tells bytes steps old (old.ahead ++ before) runs.read) end.SourceFault result later after
-        (λ stands. source_ends meanings station kind o h tells begun later bytes after record {
+        settled_ends o h steps now (runs.stands o h start) (continues_read kind d observed bytes steps old (old.ahead ++ before) runs.read) end.SourceFault result later after
+        (λ stands. source_ends meanings station kind o h observed begun later bytes after record {
           steps = steps;
           taken = λ t. taken_head kind d bytes before after steps old new (runs.read t) same (stops t);
           stands = stands;
@@ -185,13 +185,13 @@ module _ {O W : Type 0} (meanings : Standing O W) (kind : CaptureKind) (station 
 
     pub ends_never : (left : List ℕ) (at : ℕ) → 2 ^ 64 - 1 ≤ length steps
         → (result : ReplayEnd) (later : W) → SettlesBehind meanings (end.Capture at) result now later
-        → (o : O) (h : List Entry) → StandsFor meanings o (length h) h begun → Ends meanings station kind o h tells result begun later bytes left
+        → (o : O) (h : List Entry) → StandsFor meanings o (length h) h begun → Ends meanings station kind o h observed result begun later bytes left
     ends_never left at many result later settles o h start =
-        let never : (tells → ⊥) = λ t.
+        let never : (observed → ⊥) = λ t.
         let r = runs.read t in
         omega (arith, many, two_each steps, r.place, r.within) in
-        settled_ends o h steps now (runs.stands o h start) (continues_alone kind d tells bytes steps (λ t. absurd (never t))) (end.Capture at) result later left
-        (λ stands. cut_ends meanings station kind o h tells at begun later bytes left record { steps = steps; early = λ t. absurd (never t); none = λ t. absurd (never t); stands = stands }) settles
+        settled_ends o h steps now (runs.stands o h start) (continues_alone kind d observed bytes steps (λ t. absurd (never t))) (end.Capture at) result later left
+        (λ stands. cut_ends meanings station kind o h observed at begun later bytes left record { steps = steps; early = λ t. absurd (never t); none = λ t. absurd (never t); stands = stands }) settles
 
 -- ---- in a step
 
@@ -217,13 +217,13 @@ earlier_by meanings at first h more (switch.Stopped by) now sure b =
 earlier_by meanings at first h more switch.Spent now sure b = tt
 earlier_by meanings at first h more switch.NoMemory now sure b = tt
 
-pub ends_step : {O W : Type 0} (meanings : Standing O W) (kind : CaptureKind) (station tells : Type 0) (bytes : List ℕ) (begun : W) (steps : List Step) (old mid new : Held) (before left after : List ℕ)
+pub ends_step : {O W : Type 0} (meanings : Standing O W) (kind : CaptureKind) (station observed : Type 0) (bytes : List ℕ) (begun : W) (steps : List Step) (old mid new : Held) (before left after : List ℕ)
     (ds ds_now : List Decoding) (now later : W) (head : Head) (fault : StepFault) → length (meanings.directory begun).circuits ≤ 100
-    → Runs meanings kind tells bytes begun steps old before ds now → meanings.directory now ≡ meanings.directory begun → ReadsHead tells head old mid before left
-    → DoesStep meanings station tells head (Err fault) mid new left after ds ds_now now later
+    → Runs meanings kind observed bytes begun steps old before ds now → meanings.directory now ≡ meanings.directory begun → ReadsHead observed head old mid before left
+    → DoesStep meanings station observed head (Err fault) mid new left after ds ds_now now later
     → (result : ReplayEnd) (last : W) → SettlesBehind meanings (end_of fault) result later last
-    → (o : O) (h : List Entry) → StandsFor meanings o (length h) h begun → Ends meanings station kind o h tells result begun last bytes after
-ends_step {O} {W} meanings kind station tells bytes begun steps old mid new before left after ds ds_now now later head fault few runs same reads does result last settles o h start = go fault does settles
+    → (o : O) (h : List Entry) → StandsFor meanings o (length h) h begun → Ends meanings station kind o h observed result begun last bytes after
+ends_step {O} {W} meanings kind station observed bytes begun steps old mid new before left after ds ds_now now later head fault few runs same reads does result last settles o h start = go fault does settles
   where
     d : Directory
     d = meanings.directory begun
@@ -247,22 +247,22 @@ ends_step {O} {W} meanings kind station tells bytes begun steps old mid new befo
     on = stands_on meanings begun now o h steps same (runs.begins o h) start g
 
     Does : StepFault → Type 0
-    Does f = DoesStep meanings station tells head (Err f) mid new left after ds ds_now now later
+    Does f = DoesStep meanings station observed head (Err f) mid new left after ds ds_now now later
 
-    whole : (e : ReplayEnd) → Ends meanings station kind o h tells e begun later bytes after → (result ≡ e) × (last ≡ later) → Ends meanings station kind o h tells result begun last bytes after
-    whole e ends is = rests meanings kind station tells bytes begun o h e result later last after ends is
+    whole : (e : ReplayEnd) → Ends meanings station kind o h observed e begun later bytes after → (result ≡ e) × (last ≡ later) → Ends meanings station kind o h observed result begun last bytes after
+    whole e ends is = rests meanings kind station observed bytes begun o h e result later last after ends is
 
-    follow_of : (f : StepFault) (w : Does f) → TakesPart tells (bytes_of_step w.step) mid left → Follows kind d tells bytes steps w.step
-    follow_of f w taken = follows kind d tells bytes steps w.step old mid before left head runs.read reads valid w.of_head taken
+    follow_of : (f : StepFault) (w : Does f) → TakesPart observed (bytes_of_step w.step) mid left → Follows kind d observed bytes steps w.step
+    follow_of f w taken = follows kind d observed bytes steps w.step old mid before left head runs.read reads valid w.of_head taken
 
-    no_more : (f : StepFault) (w : Does f) → TakesNoMore tells (bytes_of_step w.step) mid left → Follows kind d tells bytes steps w.step
-    no_more f w taken = follow_of f w (part_taken tells (bytes_of_step w.step) mid left taken)
+    no_more : (f : StepFault) (w : Does f) → TakesNoMore observed (bytes_of_step w.step) mid left → Follows kind d observed bytes steps w.step
+    no_more f w taken = follow_of f w (part_taken observed (bytes_of_step w.step) mid left taken)
 
-    breaks : (f : SwitchFault) (w : Does (step.Switch f)) (follow : Follows kind d tells bytes steps w.step)
+    breaks : (f : SwitchFault) (w : Does (step.Switch f)) (follow : Follows kind d observed bytes steps w.step)
         → BreaksOff meanings (origin_at meanings o h follow.goes.all begun) (length h) h (entries_at meanings begun o h follow.goes.all) f later
-    breaks f w follow = step_breaks meanings begun now o h steps g kind tells bytes w.step same (runs.begins o h) follow f later (w.went bs p g.first (h ++ es) runs.decode on)
+    breaks f w follow = step_breaks meanings begun now o h steps g kind observed bytes w.step same (runs.begins o h) follow f later (w.went bs p g.first (h ++ es) runs.decode on)
 
-    uncompacts : (f : SwitchFault) (w : Does (step.Compaction f)) (follow : Follows kind d tells bytes steps w.step) → BreaksAtCompaction meanings o h follow.goes.all f begun later
+    uncompacts : (f : SwitchFault) (w : Does (step.Compaction f)) (follow : Follows kind d observed bytes steps w.step) → BreaksAtCompaction meanings o h follow.goes.all f begun later
     uncompacts f w follow =
         let u = w.went bs p g.first (h ++ es) runs.decode on in
         record {
@@ -273,7 +273,7 @@ ends_step {O} {W} meanings kind station tells bytes begun steps old mid new befo
           cause = u.cause;
         }
 
-    stops : (f : SwitchFault) → IsLasting f → (w : Does (step.Switch f)) → StopsAtFault meanings kind o h tells f begun later bytes
+    stops : (f : SwitchFault) → IsLasting f → (w : Does (step.Switch f)) → StopsAtFault meanings kind o h observed f begun later bytes
     stops f lasting w =
         let follow = no_more (step.Switch f) w w.taken in
         let b = breaks f w follow in
@@ -290,19 +290,19 @@ ends_step {O} {W} meanings kind station tells bytes begun steps old mid new befo
     journaled s of (inl e) = subst (λ (k : Head). IsHeadOf kind d k) (journal_head head s of (inl e) ∙ ap head_of e) valid
     journaled s of (inr e) = subst (λ (k : Head). IsHeadOf kind d k) (journal_head head s of (inr e) ∙ ap head_of e) valid
 
-    unopened : (f : OpenFault) → (f ≡ opening.NoMemory → ⊥) → (w : Does (step.Reopen f)) → StopsAtRestart meanings station kind o h tells f begun later bytes
+    unopened : (f : OpenFault) → (f ≡ opening.NoMemory → ⊥) → (w : Does (step.Reopen f)) → StopsAtRestart meanings station kind o h observed f begun later bytes
     unopened f memory w =
         let follow = no_more (step.Reopen f) w w.taken in
         let r = w.went bs p g.first (h ++ es) runs.decode on in
         record {
           steps = follow.goes.all;
           read = follow.goes.read;
-          breaks = step_restart meanings begun now o h steps g kind tells bytes w.step same (runs.begins o h) follow station f later r.1;
+          breaks = step_restart meanings begun now o h steps g kind observed bytes w.step same (runs.begins o h) follow station f later r.1;
           of_kind = journaled w.step w.of_head (inl r.0);
           memory = memory;
         }
 
-    uncompacted : (f : SwitchFault) → IsLasting f → (w : Does (step.Compaction f)) → StopsAtCompaction meanings kind o h tells f begun later bytes
+    uncompacted : (f : SwitchFault) → IsLasting f → (w : Does (step.Compaction f)) → StopsAtCompaction meanings kind o h observed f begun later bytes
     uncompacted f lasting w =
         let follow = no_more (step.Compaction f) w w.taken in
         let u = w.went bs p g.first (h ++ es) runs.decode on in
@@ -316,37 +316,37 @@ ends_step {O} {W} meanings kind station tells bytes begun steps old mid new befo
           earlier = uncompacted_before (meanings.is_full_compacted p (h ++ es)) h es f sure u.cause;
         }
 
-    fault_is : (f : SwitchFault) → IsLasting f → Does (step.Switch f) → (result ≡ end.Fault f) × (last ≡ later) → Ends meanings station kind o h tells result begun last bytes after
-    fault_is f lasting w is = whole (end.Fault f) (fault_ends meanings station kind o h tells f begun later bytes after (stops f lasting w)) is
+    fault_is : (f : SwitchFault) → IsLasting f → Does (step.Switch f) → (result ≡ end.Fault f) × (last ≡ later) → Ends meanings station kind o h observed result begun last bytes after
+    fault_is f lasting w is = whole (end.Fault f) (fault_ends meanings station kind o h observed f begun later bytes after (stops f lasting w)) is
 
-    reopen_is : (f : OpenFault) → (f ≡ opening.NoMemory → ⊥) → Does (step.Reopen f) → (result ≡ end.Reopen f) × (last ≡ later) → Ends meanings station kind o h tells result begun last bytes after
-    reopen_is f memory w is = whole (end.Reopen f) (reopen_ends meanings station kind o h tells f begun later bytes after (unopened f memory w)) is
+    reopen_is : (f : OpenFault) → (f ≡ opening.NoMemory → ⊥) → Does (step.Reopen f) → (result ≡ end.Reopen f) × (last ≡ later) → Ends meanings station kind o h observed result begun last bytes after
+    reopen_is f memory w is = whole (end.Reopen f) (reopen_ends meanings station kind o h observed f begun later bytes after (unopened f memory w)) is
 
-    compaction_is : (f : SwitchFault) → IsLasting f → Does (step.Compaction f) → (result ≡ end.Compaction f) × (last ≡ later) → Ends meanings station kind o h tells result begun last bytes after
-    compaction_is f lasting w is = whole (end.Compaction f) (compaction_ends meanings station kind o h tells f begun later bytes after (uncompacted f lasting w)) is
+    compaction_is : (f : SwitchFault) → IsLasting f → Does (step.Compaction f) → (result ≡ end.Compaction f) × (last ≡ later) → Ends meanings station kind o h observed result begun last bytes after
+    compaction_is f lasting w is = whole (end.Compaction f) (compaction_ends meanings station kind o h observed f begun later bytes after (uncompacted f lasting w)) is
 
-    memory_is : LacksMemory meanings station kind o h tells begun later bytes → (result ≡ end.NoMemory) × (last ≡ later) → Ends meanings station kind o h tells result begun last bytes after
-    memory_is lacks is = whole end.NoMemory (memory_ends meanings station kind o h tells begun later bytes after lacks) is
+    memory_is : LacksMemory meanings station kind o h observed begun later bytes → (result ≡ end.NoMemory) × (last ≡ later) → Ends meanings station kind o h observed result begun last bytes after
+    memory_is lacks is = whole end.NoMemory (memory_ends meanings station kind o h observed begun later bytes after lacks) is
 
-    go : (f : StepFault) → Does f → SettlesBehind meanings (end_of f) result later last → Ends meanings station kind o h tells result begun last bytes after
+    go : (f : StepFault) → Does f → SettlesBehind meanings (end_of f) result later last → Ends meanings station kind o h observed result begun last bytes after
     go (step.Capture (Bad at)) w settles =
-        let early : (tells → EndsEarlyOf kind d bytes (steps ++ w.step ∷ []) at) = λ t. cut_in kind d bytes steps old mid before left at tells head w.step t (runs.read t) reads valid w.of_head w.taken in
-        settled_ends meanings kind station tells bytes begun o h (steps ++ w.step ∷ []) later
+        let early : (observed → EndsEarlyOf kind d bytes (steps ++ w.step ∷ []) at) = λ t. cut_in kind d bytes steps old mid before left at observed head w.step t (runs.read t) reads valid w.of_head w.taken in
+        settled_ends meanings kind station observed bytes begun o h (steps ++ w.step ∷ []) later
         (gathered_more meanings begun now later o h steps w.step same (runs.begins o h) g (w.went bs p g.first (h ++ es) runs.decode on))
-        (continues_alone kind d tells bytes (steps ++ w.step ∷ []) (λ t. (at, (early t).0))) (end.Capture at) result last after
-        (λ stands. cut_ends meanings station kind o h tells at begun last bytes after record {
+        (continues_alone kind d observed bytes (steps ++ w.step ∷ []) (λ t. (at, (early t).0))) (end.Capture at) result last after
+        (λ stands. cut_ends meanings station kind o h observed at begun last bytes after record {
           steps = steps ++ w.step ∷ [];
           early = early;
           none = λ t others k. early_is_none kind d bytes (steps ++ w.step ∷ []) others at few (early t) k;
           stands = stands;
         }) settles
     go (step.Capture SourceFault) w settles =
-        settled_ends meanings kind station tells bytes begun o h (steps ++ w.step ∷ []) later
+        settled_ends meanings kind station observed bytes begun o h (steps ++ w.step ∷ []) later
         (gathered_more meanings begun now later o h steps w.step same (runs.begins o h) g (w.went bs p g.first (h ++ es) runs.decode on))
-        (follow_of (step.Capture SourceFault) w (part_stopped tells (bytes_of_step w.step) mid left after w.taken)).goes end.SourceFault result last after
-        (λ stands. source_ends meanings station kind o h tells begun last bytes after record {
+        (follow_of (step.Capture SourceFault) w (part_stopped observed (bytes_of_step w.step) mid left after w.taken)).goes end.SourceFault result last after
+        (λ stands. source_ends meanings station kind o h observed begun last bytes after record {
           steps = steps ++ w.step ∷ [];
-          taken = λ t. lost_in kind d bytes steps old mid before left after tells head w.step t (runs.read t) reads valid w.of_head w.taken;
+          taken = λ t. lost_in kind d bytes steps old mid before left after observed head w.step t (runs.read t) reads valid w.of_head w.taken;
           stands = stands;
         }) settles
     go (step.Reopen opening.NoJournal) w settles = reopen_is opening.NoJournal (λ e. cc) w settles
@@ -360,7 +360,7 @@ ends_step {O} {W} meanings kind station tells bytes begun steps old mid new befo
         memory_is record {
           steps = follow.goes.all;
           read = follow.goes.read;
-          stands = inr (inl (step_restart meanings begun now o h steps g kind tells bytes w.step same (runs.begins o h) follow station opening.NoMemory later r.1));
+          stands = inr (inl (step_restart meanings begun now o h steps g kind observed bytes w.step same (runs.begins o h) follow station opening.NoMemory later r.1));
         } settles
     go (step.Switch switch.DiskFault) w settles = fault_is switch.DiskFault tt w settles
     go (step.Switch switch.SayFault) w settles = fault_is switch.SayFault tt w settles

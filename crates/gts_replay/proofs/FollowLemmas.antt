@@ -3,17 +3,17 @@ use Rattle.std.proofs.Common.{◌≡◌, ℕ, ◌+◌, ◌<◌, ◌≤◌, List,
 use Rattle.gts_replay.specs.Cited.{AllByRecursion, CaptureKind, Compact, CompactHead, Connections, Directory, Drain, DrainHead, EndHead, EndsBehind, EndsEarlyOf, Entry, Feed, FeedHead, Head, Held, IsHeadIn, IsHeadOf, IsInFeed, IsReadTo, IsStepOf, IsTaken, LONGEST_CAPTURE, ReadingOf, Reopen, ReopenHead, Restart, RestartHead, State, Step, StopsBehind, Take, TakeHead, TakesNoMore, after_all, all_done, bytes_announced, bytes_of_step, compactions, compactions_from, connections_after, entries, entries_from, events_added, head_of, head_text, no_bytes, readable_from, step_text, with_bytes}
 use Rattle.std.proofs.lemmas.List.{append-nil, nil_from_length}
 use Rattle.gts_connection.proofs.LawLemmas.{entries_go_on, compactions_go_on, compactions_between}
-use Rattle.gts_capture.proofs.LawLemmas.{one_step, in_feed, head_goes_on, feed_goes_on, taken_feed}
+use Rattle.gts_replay.proofs.LawLemmas.{one_step, in_feed, head_goes_on, feed_goes_on, taken_feed}
 use Rattle.gts_replay.proofs.FeedingLemmas.{done_twice}
 use Rattle.gts_replay.proofs.RunLemmas.{ReadsHead}
 
 -- ---- what of the capture was read
 
 -- the bytes end in a step: it is a feed
-pub cut_in : (kind : CaptureKind) (d : Directory) (bytes : List ℕ) (steps : List Step) (old mid : Held) (before left : List ℕ) (at : ℕ) (tells : Type 0) (head : Head) (step : Step) → tells
-    → IsReadTo kind d bytes steps old (old.ahead ++ before) → ReadsHead tells head old mid before left → IsHeadOf kind d head → IsStepOf head step → EndsBehind tells (bytes_of_step step) at mid left
+pub cut_in : (kind : CaptureKind) (d : Directory) (bytes : List ℕ) (steps : List Step) (old mid : Held) (before left : List ℕ) (at : ℕ) (observed : Type 0) (head : Head) (step : Step) → observed
+    → IsReadTo kind d bytes steps old (old.ahead ++ before) → ReadsHead observed head old mid before left → IsHeadOf kind d head → IsStepOf head step → EndsBehind observed (bytes_of_step step) at mid left
     → EndsEarlyOf kind d bytes (steps ++ step ∷ []) at
-cut_in kind d bytes steps old mid before left at tells (FeedHead c n) step t read reads valid of ends =
+cut_in kind d bytes steps old mid before left at observed (FeedHead c n) step t read reads valid of ends =
     let x : List ℕ = of.0 in
     let feed : step ≡ Feed c x = of.1 in
     let same : bytes_of_step step ≡ x = ap bytes_of_step feed in
@@ -28,18 +28,18 @@ cut_in kind d bytes steps old mid before left at tells (FeedHead c n) step t rea
     let S : Step → Type 0 = λ s. EndsEarlyOf kind d bytes (steps ++ s ∷ []) at in
     let K : ℕ → Type 0 = λ k. EndsEarlyOf kind d bytes (steps ++ Feed c x ∷ []) k in
     subst S (sym feed) (subst K (here ∙ sym (ends.place t)) found)
-cut_in kind d bytes steps old mid before left at tells (TakeHead c) step t read reads valid of ends = absurd (let s = ends.short t in omega (arith, s, reads.feed))
-cut_in kind d bytes steps old mid before left at tells (ReopenHead c) step t read reads valid of ends = absurd (let s = ends.short t in omega (arith, s, reads.feed))
-cut_in kind d bytes steps old mid before left at tells (DrainHead c) step t read reads valid of ends = absurd (let s = ends.short t in omega (arith, s, reads.feed))
-cut_in kind d bytes steps old mid before left at tells RestartHead step t read reads valid of ends = absurd (let s = ends.short t in omega (arith, s, reads.feed))
-cut_in kind d bytes steps old mid before left at tells CompactHead step t read reads valid of ends = absurd (let s = ends.short t in omega (arith, s, reads.feed))
-cut_in kind d bytes steps old mid before left at tells EndHead step t read reads valid of ends = absurd (let s = ends.short t in omega (arith, s, reads.feed))
+cut_in kind d bytes steps old mid before left at observed (TakeHead c) step t read reads valid of ends = absurd (let s = ends.short t in omega (arith, s, reads.feed))
+cut_in kind d bytes steps old mid before left at observed (ReopenHead c) step t read reads valid of ends = absurd (let s = ends.short t in omega (arith, s, reads.feed))
+cut_in kind d bytes steps old mid before left at observed (DrainHead c) step t read reads valid of ends = absurd (let s = ends.short t in omega (arith, s, reads.feed))
+cut_in kind d bytes steps old mid before left at observed RestartHead step t read reads valid of ends = absurd (let s = ends.short t in omega (arith, s, reads.feed))
+cut_in kind d bytes steps old mid before left at observed CompactHead step t read reads valid of ends = absurd (let s = ends.short t in omega (arith, s, reads.feed))
+cut_in kind d bytes steps old mid before left at observed EndHead step t read reads valid of ends = absurd (let s = ends.short t in omega (arith, s, reads.feed))
 
 -- the source fails in a step: it is a feed
-pub lost_in : (kind : CaptureKind) (d : Directory) (bytes : List ℕ) (steps : List Step) (old mid : Held) (before left after : List ℕ) (tells : Type 0) (head : Head) (step : Step) → tells
-    → IsReadTo kind d bytes steps old (old.ahead ++ before) → ReadsHead tells head old mid before left → IsHeadOf kind d head → IsStepOf head step → StopsBehind tells (bytes_of_step step) mid left after
+pub lost_in : (kind : CaptureKind) (d : Directory) (bytes : List ℕ) (steps : List Step) (old mid : Held) (before left after : List ℕ) (observed : Type 0) (head : Head) (step : Step) → observed
+    → IsReadTo kind d bytes steps old (old.ahead ++ before) → ReadsHead observed head old mid before left → IsHeadOf kind d head → IsStepOf head step → StopsBehind observed (bytes_of_step step) mid left after
     → IsTaken kind d bytes (steps ++ step ∷ []) after
-lost_in kind d bytes steps old mid before left after tells (FeedHead c n) step t read reads valid of stops =
+lost_in kind d bytes steps old mid before left after observed (FeedHead c n) step t read reads valid of stops =
     let x : List ℕ = of.0 in
     let feed : step ≡ Feed c x = of.1 in
     let same : bytes_of_step step ≡ x = ap bytes_of_step feed in
@@ -51,12 +51,12 @@ lost_in kind d bytes steps old mid before left after tells (FeedHead c n) step t
     record { read = subst (λ (xs : List ℕ). IsReadTo kind d bytes steps old xs) all read; head = valid; most = omega (arith, short); within = let w = stops.within reads.within in omega (arith, w, here) } in
     let found = taken_feed kind d bytes x after steps old c n f short in
     subst (λ (s : Step). IsTaken kind d bytes (steps ++ s ∷ []) after) (sym feed) found
-lost_in kind d bytes steps old mid before left after tells (TakeHead c) step t read reads valid of stops = absurd (let s = stops.short t in omega (arith, s, reads.feed))
-lost_in kind d bytes steps old mid before left after tells (ReopenHead c) step t read reads valid of stops = absurd (let s = stops.short t in omega (arith, s, reads.feed))
-lost_in kind d bytes steps old mid before left after tells (DrainHead c) step t read reads valid of stops = absurd (let s = stops.short t in omega (arith, s, reads.feed))
-lost_in kind d bytes steps old mid before left after tells RestartHead step t read reads valid of stops = absurd (let s = stops.short t in omega (arith, s, reads.feed))
-lost_in kind d bytes steps old mid before left after tells CompactHead step t read reads valid of stops = absurd (let s = stops.short t in omega (arith, s, reads.feed))
-lost_in kind d bytes steps old mid before left after tells EndHead step t read reads valid of stops = absurd (let s = stops.short t in omega (arith, s, reads.feed))
+lost_in kind d bytes steps old mid before left after observed (TakeHead c) step t read reads valid of stops = absurd (let s = stops.short t in omega (arith, s, reads.feed))
+lost_in kind d bytes steps old mid before left after observed (ReopenHead c) step t read reads valid of stops = absurd (let s = stops.short t in omega (arith, s, reads.feed))
+lost_in kind d bytes steps old mid before left after observed (DrainHead c) step t read reads valid of stops = absurd (let s = stops.short t in omega (arith, s, reads.feed))
+lost_in kind d bytes steps old mid before left after observed RestartHead step t read reads valid of stops = absurd (let s = stops.short t in omega (arith, s, reads.feed))
+lost_in kind d bytes steps old mid before left after observed CompactHead step t read reads valid of stops = absurd (let s = stops.short t in omega (arith, s, reads.feed))
+lost_in kind d bytes steps old mid before left after observed EndHead step t read reads valid of stops = absurd (let s = stops.short t in omega (arith, s, reads.feed))
 
 abbrev pub AllFrom : ℕ → List ℕ → Type 0
 AllFrom n ks = AllByRecursion (λ k. n ≤ k) ks
@@ -66,15 +66,15 @@ from_between n all m [] le each = tt
 from_between n all m (k ∷ ks) le each = (omega (arith, le, each.0.0), from_between n all m ks le each.1)
 
 -- The steps of a capture go on with these: their entries are the first, and their compactions.
-pub record Continues (kind : CaptureKind) (d : Directory) (tells : Type 0) (bytes : List ℕ) (steps : List Step) : Type 0 where
+pub record Continues (kind : CaptureKind) (d : Directory) (observed : Type 0) (bytes : List ℕ) (steps : List Step) : Type 0 where
   pub all : List Step
-  pub read : tells → (at : ℕ) × ReadingOf kind d bytes all at
+  pub read : observed → (at : ℕ) × ReadingOf kind d bytes all at
   pub behind : (s : State) → (more : List Entry) × (entries d s all ≡ entries d s steps ++ more)
   pub counts : (s : State) (n : ℕ) → (later : List ℕ) × (compactions d s n all ≡ compactions d s n steps ++ later) × AllFrom (n + length (entries d s steps)) later
 
 -- where they are all
-pub continues_alone : (kind : CaptureKind) (d : Directory) (tells : Type 0) (bytes : List ℕ) (steps : List Step) → (tells → (at : ℕ) × ReadingOf kind d bytes steps at) → Continues kind d tells bytes steps
-continues_alone kind d tells bytes steps read = record {
+pub continues_alone : (kind : CaptureKind) (d : Directory) (observed : Type 0) (bytes : List ℕ) (steps : List Step) → (observed → (at : ℕ) × ReadingOf kind d bytes steps at) → Continues kind d observed bytes steps
+continues_alone kind d observed bytes steps read = record {
   all = steps;
   read = read;
   behind = λ s. ([], sym (append-nil (entries d s steps)));
@@ -82,9 +82,9 @@ continues_alone kind d tells bytes steps read = record {
 }
 
 -- behind them the capture goes on with a head, or ends
-abbrev pub continues_read : (kind : CaptureKind) (d : Directory) (tells : Type 0) (bytes : List ℕ) (steps : List Step) (held : Held) (left : List ℕ) → (tells → IsReadTo kind d bytes steps held left)
-    → Continues kind d tells bytes steps
-continues_read kind d tells bytes steps held left read =
+abbrev pub continues_read : (kind : CaptureKind) (d : Directory) (observed : Type 0) (bytes : List ℕ) (steps : List Step) (held : Held) (left : List ℕ) → (observed → IsReadTo kind d bytes steps held left)
+    → Continues kind d observed bytes steps
+continues_read kind d observed bytes steps held left read =
     let on = head_goes_on kind d held.at left in
     record {
       all = steps ++ on.more;
@@ -102,8 +102,8 @@ continues_read kind d tells bytes steps held left read =
     }
 
 -- The steps of the capture, of which the entries of the steps so far and of the step in work are the first.
-pub record Follows (kind : CaptureKind) (d : Directory) (tells : Type 0) (bytes : List ℕ) (steps : List Step) (step : Step) : Type 0 where
-  pub goes : Continues kind d tells bytes (steps ++ step ∷ [])
+pub record Follows (kind : CaptureKind) (d : Directory) (observed : Type 0) (bytes : List ℕ) (steps : List Step) (step : Step) : Type 0 where
+  pub goes : Continues kind d observed bytes (steps ++ step ∷ [])
   pub next : Step
   pub rest : List Step
   pub parts : goes.all ≡ steps ++ next ∷ rest
@@ -117,13 +117,13 @@ announced (Drain c) = refl
 announced Restart = refl
 announced Compact = refl
 
-follows_bare : (kind : CaptureKind) (d : Directory) (tells : Type 0) (bytes : List ℕ) (steps : List Step) (step : Step) (old mid : Held) (before left : List ℕ) (head : Head)
-    → (tells → IsReadTo kind d bytes steps old (old.ahead ++ before)) → ReadsHead tells head old mid before left → head_of step ≡ head → bytes_announced head ≡ 0 → Follows kind d tells bytes steps step
-follows_bare kind d tells bytes steps step old mid before left head read reads whole none =
+follows_bare : (kind : CaptureKind) (d : Directory) (observed : Type 0) (bytes : List ℕ) (steps : List Step) (step : Step) (old mid : Held) (before left : List ℕ) (head : Head)
+    → (observed → IsReadTo kind d bytes steps old (old.ahead ++ before)) → ReadsHead observed head old mid before left → head_of step ≡ head → bytes_announced head ≡ 0 → Follows kind d observed bytes steps step
+follows_bare kind d observed bytes steps step old mid before left head read reads whole none =
     let nothing : bytes_of_step step ≡ [] = nil_from_length (bytes_of_step step) (announced step ∙ ap bytes_announced whole ∙ none) in
     let text : step_text step ≡ head_text head = ap (λ (xs : List ℕ). head_text (head_of step) ++ xs) nothing ∙ append-nil (head_text (head_of step)) ∙ ap head_text whole in
     record {
-      goes = continues_read kind d tells bytes (steps ++ step ∷ []) mid (mid.ahead ++ left)
+      goes = continues_read kind d observed bytes (steps ++ step ∷ []) mid (mid.ahead ++ left)
           (λ t. one_step kind d bytes (old.ahead ++ before) (mid.ahead ++ left) steps step old mid (read t) (subst (λ (k : Head). IsHeadIn old.circuits old.kind k) (sym whole) reads.valid)
           (reads.told t ∙ ap (λ (xs : List ℕ). xs ++ (mid.ahead ++ left)) (sym text)) reads.same (reads.at ∙ ap (λ (xs : List ℕ). old.at + length xs) (sym text)) reads.within);
       next = step;
@@ -177,28 +177,28 @@ feed_counts d s n steps more c x y =
     )
 
 -- the bytes of a step that were taken: of a feed maybe a part
-pub record TakesPart (tells : Type 0) (bytes : List ℕ) (old : Held) (before : List ℕ) : Type 0 where
+pub record TakesPart (observed : Type 0) (bytes : List ℕ) (old : Held) (before : List ℕ) : Type 0 where
   pub rest : List ℕ
-  pub told : tells → old.ahead ++ before ≡ bytes ++ rest
-  pub most : tells → length bytes ≤ old.feed
+  pub told : observed → old.ahead ++ before ≡ bytes ++ rest
+  pub most : observed → length bytes ≤ old.feed
   pub within : old.at ≤ LONGEST_CAPTURE → old.at + length bytes ≤ LONGEST_CAPTURE
 
-pub part_taken : (tells : Type 0) (bytes : List ℕ) (old : Held) (before : List ℕ) → TakesNoMore tells bytes old before → TakesPart tells bytes old before
-part_taken tells bytes old before taken = record { rest = taken.rest; told = taken.told; most = λ t. taken.most; within = taken.within }
+pub part_taken : (observed : Type 0) (bytes : List ℕ) (old : Held) (before : List ℕ) → TakesNoMore observed bytes old before → TakesPart observed bytes old before
+part_taken observed bytes old before taken = record { rest = taken.rest; told = taken.told; most = λ t. taken.most; within = taken.within }
 
-pub part_stopped : (tells : Type 0) (bytes : List ℕ) (old : Held) (before after : List ℕ) → StopsBehind tells bytes old before after → TakesPart tells bytes old before
-part_stopped tells bytes old before after stops = record { rest = after; told = stops.told; most = λ t. let short = stops.short t in omega (arith, short); within = stops.within }
+pub part_stopped : (observed : Type 0) (bytes : List ℕ) (old : Held) (before after : List ℕ) → StopsBehind observed bytes old before after → TakesPart observed bytes old before
+part_stopped observed bytes old before after stops = record { rest = after; told = stops.told; most = λ t. let short = stops.short t in omega (arith, short); within = stops.within }
 
-pub follows : (kind : CaptureKind) (d : Directory) (tells : Type 0) (bytes : List ℕ) (steps : List Step) (step : Step) (old mid : Held) (before left : List ℕ) (head : Head)
-    → (tells → IsReadTo kind d bytes steps old (old.ahead ++ before)) → ReadsHead tells head old mid before left → IsHeadOf kind d head → IsStepOf head step
-    → TakesPart tells (bytes_of_step step) mid left → Follows kind d tells bytes steps step
-follows kind d tells bytes steps step old mid before left (FeedHead c n) read reads valid of taken =
+pub follows : (kind : CaptureKind) (d : Directory) (observed : Type 0) (bytes : List ℕ) (steps : List Step) (step : Step) (old mid : Held) (before left : List ℕ) (head : Head)
+    → (observed → IsReadTo kind d bytes steps old (old.ahead ++ before)) → ReadsHead observed head old mid before left → IsHeadOf kind d head → IsStepOf head step
+    → TakesPart observed (bytes_of_step step) mid left → Follows kind d observed bytes steps step
+follows kind d observed bytes steps step old mid before left (FeedHead c n) read reads valid of taken =
     let x : List ℕ = of.0 in
     let feed : step ≡ Feed c x = of.1 in
     let same : bytes_of_step step ≡ x = ap bytes_of_step feed in
     let text : List ℕ = head_text (FeedHead c n) ++ x in
     let on = feed_goes_on kind d c n (old.at + length text) x taken.rest in
-    let found : Follows kind d tells bytes steps (Feed c x) = record {
+    let found : Follows kind d observed bytes steps (Feed c x) = record {
       goes = record {
         all = steps ++ Feed c (x ++ on.rest) ∷ on.more;
         read = λ t.
@@ -220,10 +220,10 @@ follows kind d tells bytes steps step old mid before left (FeedHead c n) read re
       parts = refl;
       compacts = λ e. absurd (cc);
     } in
-    subst (λ (s : Step). Follows kind d tells bytes steps s) (sym feed) found
-follows kind d tells bytes steps step old mid before left (TakeHead c) read reads valid of taken = follows_bare kind d tells bytes steps step old mid before left (TakeHead c) read reads of refl
-follows kind d tells bytes steps step old mid before left (ReopenHead c) read reads valid of taken = follows_bare kind d tells bytes steps step old mid before left (ReopenHead c) read reads of refl
-follows kind d tells bytes steps step old mid before left (DrainHead c) read reads valid of taken = follows_bare kind d tells bytes steps step old mid before left (DrainHead c) read reads of refl
-follows kind d tells bytes steps step old mid before left RestartHead read reads valid of taken = follows_bare kind d tells bytes steps step old mid before left RestartHead read reads of refl
-follows kind d tells bytes steps step old mid before left CompactHead read reads valid of taken = follows_bare kind d tells bytes steps step old mid before left CompactHead read reads of refl
-follows kind d tells bytes steps step old mid before left EndHead read reads valid of taken = follows_bare kind d tells bytes steps step old mid before left EndHead read reads of refl
+    subst (λ (s : Step). Follows kind d observed bytes steps s) (sym feed) found
+follows kind d observed bytes steps step old mid before left (TakeHead c) read reads valid of taken = follows_bare kind d observed bytes steps step old mid before left (TakeHead c) read reads of refl
+follows kind d observed bytes steps step old mid before left (ReopenHead c) read reads valid of taken = follows_bare kind d observed bytes steps step old mid before left (ReopenHead c) read reads of refl
+follows kind d observed bytes steps step old mid before left (DrainHead c) read reads valid of taken = follows_bare kind d observed bytes steps step old mid before left (DrainHead c) read reads of refl
+follows kind d observed bytes steps step old mid before left RestartHead read reads valid of taken = follows_bare kind d observed bytes steps step old mid before left RestartHead read reads of refl
+follows kind d observed bytes steps step old mid before left CompactHead read reads valid of taken = follows_bare kind d observed bytes steps step old mid before left CompactHead read reads of refl
+follows kind d observed bytes steps step old mid before left EndHead read reads valid of taken = follows_bare kind d observed bytes steps step old mid before left EndHead read reads of refl

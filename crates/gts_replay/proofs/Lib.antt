@@ -10,3 +10,9 @@ pub mod BreakingLemmas
 pub mod EndLemmas
 pub mod CauseLemmas
 pub mod OriginLemmas
+pub mod HeadFieldLemmas
+pub mod HeadLemmas
+pub mod HeldLemmas
+pub mod ProgressLemmas
+pub mod GoesOnLemmas
+pub mod LawLemmas

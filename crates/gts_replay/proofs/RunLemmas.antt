@@ -4,7 +4,7 @@ use Rattle.std.proofs.lemmas.List.{append-nil}
 use Rattle.gts_replay.specs.Cited.{AreStepsOf, CaptureKind, Compact, CompactHead, Connections, Decode, Decoding, Directory, DoesStep, Drain, DrainHead, EndHead, Entry, Feed, FeedHead, Head, Held, IsHeadIn, IsHeadOf, IsReadTo, IsSameCapture, IsStart, IsStepOf, LONGEST_CAPTURE, Reopen, ReopenHead, Restart, RestartHead, Standing, Stands, StandsFor, State, Step, Take, TakeHead, Takes, after_all, after_step, at_start, bytes_announced, bytes_of_step, compacted_at, compactions_at, connections_after, count_at, entries_at, entries_of_step, first_after, head_of, head_text, no_bytes, origin_after, state_at, step_text}
 use Rattle.gts_event.proofs.LawLemmas.{after_all-append}
 use Rattle.gts_connection.proofs.LawLemmas.{entries_go_on, connections_go_on}
-use Rattle.gts_capture.proofs.LawLemmas.{begins, one_step}
+use Rattle.gts_replay.proofs.LawLemmas.{begins, one_step}
 use Rattle.gts_replay.proofs.GoingLemmas.{stands_same, within_all}
 use Rattle.gts_replay.proofs.OriginLemmas.{AllWithin, wider, within_append, counts_more, origin_more}
 
@@ -22,28 +22,28 @@ pub record Gathered {O W : Type 0} (meanings : Standing O W) (begun : W) (o : O)
 
 -- These steps were done: the switch stands for their entries, the decoders have what came on their connections, and the reader
 -- stands behind them.
-pub record Runs {O W : Type 0} (meanings : Standing O W) (kind : CaptureKind) (tells : Type 0) (bytes : List ℕ) (begun : W) (steps : List Step) (held : Held) (left : List ℕ) (ds : List Decoding) (now : W) : Type 0 where
+pub record Runs {O W : Type 0} (meanings : Standing O W) (kind : CaptureKind) (observed : Type 0) (bytes : List ℕ) (begun : W) (steps : List Step) (held : Held) (left : List ℕ) (ds : List Decoding) (now : W) : Type 0 where
   pub circuits : held.circuits ≡ length (meanings.directory begun).circuits
   pub of_kind : held.kind ≡ kind
   pub taken : held.feed ≡ 0
   pub are : AreStepsOf kind (meanings.directory begun) steps
-  pub read : tells → IsReadTo kind (meanings.directory begun) bytes steps held (held.ahead ++ left)
+  pub read : observed → IsReadTo kind (meanings.directory begun) bytes steps held (held.ahead ++ left)
   pub decode : Decode ds (connections_after (meanings.directory begun) (no_bytes (meanings.directory begun)) steps)
   pub stands : (o : O) (h : List Entry) → StandsFor meanings o (length h) h begun → Gathered meanings begun o h steps now
   pub begins : (o : O) (h : List Entry) → meanings.begin (origin_done meanings begun o h steps) ≡ meanings.begin o
 
 -- a head was read
-pub record ReadsHead (tells : Type 0) (head : Head) (old new : Held) (before after : List ℕ) : Type 0 where
-  pub told : tells → old.ahead ++ before ≡ head_text head ++ (new.ahead ++ after)
+pub record ReadsHead (observed : Type 0) (head : Head) (old new : Held) (before after : List ℕ) : Type 0 where
+  pub told : observed → old.ahead ++ before ≡ head_text head ++ (new.ahead ++ after)
   pub valid : IsHeadIn old.circuits old.kind head
   pub feed : new.feed ≡ bytes_announced head
   pub at : new.at ≡ old.at + length (head_text head)
   pub within : new.at ≤ LONGEST_CAPTURE
   pub same : IsSameCapture old new
 
-pub runs_none : {O W : Type 0} (meanings : Standing O W) (kind : CaptureKind) (tells : Type 0) (bytes : List ℕ) (begun : W) (held : Held) (ds : List Decoding)
-    → held ≡ at_start (length (meanings.directory begun).circuits) kind → Decode ds (no_bytes (meanings.directory begun)) → Runs meanings kind tells bytes begun [] held bytes ds begun
-runs_none meanings kind tells bytes begun held ds is decode =
+pub runs_none : {O W : Type 0} (meanings : Standing O W) (kind : CaptureKind) (observed : Type 0) (bytes : List ℕ) (begun : W) (held : Held) (ds : List Decoding)
+    → held ≡ at_start (length (meanings.directory begun).circuits) kind → Decode ds (no_bytes (meanings.directory begun)) → Runs meanings kind observed bytes begun [] held bytes ds begun
+runs_none meanings kind observed bytes begun held ds is decode =
     let d : Directory = meanings.directory begun in
     let P : Held → Type 0 = λ x. IsReadTo kind d bytes [] x (x.ahead ++ bytes) in
     record {
@@ -155,16 +155,16 @@ gathered_more {O} {W} meanings begun now later o h steps step same begin g stand
     }
 
 -- one step more was done
-pub runs_more : {O W : Type 0} (meanings : Standing O W) (kind : CaptureKind) (station tells : Type 0) (bytes : List ℕ) (begun : W) (steps : List Step) (old mid new : Held) (before left after : List ℕ)
-    (ds ds_now : List Decoding) (now later : W) (head : Head) → Runs meanings kind tells bytes begun steps old before ds now → meanings.directory now ≡ meanings.directory begun
-    → ReadsHead tells head old mid before left → (does : DoesStep meanings station tells head (Ok tt) mid new left after ds ds_now now later)
-    → Runs meanings kind tells bytes begun (steps ++ does.step ∷ []) new after ds_now later
-runs_more meanings kind station tells bytes begun steps old mid new before left after ds ds_now now later head runs same reads does =
+pub runs_more : {O W : Type 0} (meanings : Standing O W) (kind : CaptureKind) (station observed : Type 0) (bytes : List ℕ) (begun : W) (steps : List Step) (old mid new : Held) (before left after : List ℕ)
+    (ds ds_now : List Decoding) (now later : W) (head : Head) → Runs meanings kind observed bytes begun steps old before ds now → meanings.directory now ≡ meanings.directory begun
+    → ReadsHead observed head old mid before left → (does : DoesStep meanings station observed head (Ok tt) mid new left after ds ds_now now later)
+    → Runs meanings kind observed bytes begun (steps ++ does.step ∷ []) new after ds_now later
+runs_more meanings kind station observed bytes begun steps old mid new before left after ds ds_now now later head runs same reads does =
     let d : Directory = meanings.directory begun in
     let step : Step = does.step in
     let bs : Connections = connections_after d (no_bytes d) steps in
     let x : List ℕ = bytes_of_step step in
-    let taken : Takes tells x mid new left after = does.taken.0 in
+    let taken : Takes observed x mid new left after = does.taken.0 in
     let none : new.feed ≡ 0 = does.taken.1 in
     let size : length x ≡ bytes_announced head = omega (arith, taken.feed, none, reads.feed) in
     let whole : head_of step ≡ head = step_whole head step does.of_head size in

@@ -12,13 +12,13 @@ same_capture held = record { circuits = refl; kind = refl }
 
 -- ---- a feed's bytes, piece by piece
 
-pub takes_none : (tells : Type 0) (held : Held) (left : List ℕ) → Takes tells [] held held left left
-takes_none tells held left = record { told = λ _. refl; feed = omega arith; at = omega arith; within = λ w. w; same = same_capture held }
+pub takes_none : (observed : Type 0) (held : Held) (left : List ℕ) → Takes observed [] held held left left
+takes_none observed held left = record { told = λ _. refl; feed = omega arith; at = omega arith; within = λ w. w; same = same_capture held }
 
-pub takes_more : (tells : Type 0) (bytes piece : List ℕ) (old now new : Held) (before left after : List ℕ) → Takes tells bytes old now before left
-    → (tells → now.ahead ++ left ≡ piece ++ (new.ahead ++ after)) → new.feed + length piece ≡ now.feed → new.at ≡ now.at + length piece → new.at ≤ LONGEST_CAPTURE → IsSameCapture now new
-    → Takes tells (bytes ++ piece) old new before after
-takes_more tells bytes piece old now new before left after taken told feed place inside same = record {
+pub takes_more : (observed : Type 0) (bytes piece : List ℕ) (old now new : Held) (before left after : List ℕ) → Takes observed bytes old now before left
+    → (observed → now.ahead ++ left ≡ piece ++ (new.ahead ++ after)) → new.feed + length piece ≡ now.feed → new.at ≡ now.at + length piece → new.at ≤ LONGEST_CAPTURE → IsSameCapture now new
+    → Takes observed (bytes ++ piece) old new before after
+takes_more observed bytes piece old now new before left after taken told feed place inside same = record {
   told = λ t. taken.told t ∙ ap (λ (xs : List ℕ). bytes ++ xs) (told t) ∙ sym (append_assoc bytes piece (new.ahead ++ after));
   feed = omega (arith, feed, taken.feed, length-append bytes piece);
   at = omega (arith, place, taken.at, length-append bytes piece);
@@ -27,9 +27,9 @@ takes_more tells bytes piece old now new before left after taken told feed place
 }
 
 -- the bytes end in the feed
-pub takes_end : (tells : Type 0) (bytes : List ℕ) (old now : Held) (before left : List ℕ) (at : ℕ) → Takes tells bytes old now before left → (tells → EndsInFeed now (readable_from now.at (now.ahead ++ left)) at)
-    → EndsBehind tells bytes at old before
-takes_end tells bytes old now before left at taken ends = record {
+pub takes_end : (observed : Type 0) (bytes : List ℕ) (old now : Held) (before left : List ℕ) (at : ℕ) → Takes observed bytes old now before left → (observed → EndsInFeed now (readable_from now.at (now.ahead ++ left)) at)
+    → EndsBehind observed bytes at old before
+takes_end observed bytes old now before left at taken ends = record {
   rest = now.ahead ++ left;
   told = taken.told;
   short = λ t. let more = (ends t).announced in omega (arith, more, taken.feed);
@@ -39,19 +39,19 @@ takes_end tells bytes old now before left at taken ends = record {
 }
 
 -- the source failed in the feed
-pub takes_stop : (tells : Type 0) (bytes : List ℕ) (old now new : Held) (before left after : List ℕ) → Takes tells bytes old now before left → (tells → StopsInFeed now new left after)
-    → 0 < now.feed → StopsBehind tells bytes old before after
-takes_stop tells bytes old now new before left after taken stops some = record {
+pub takes_stop : (observed : Type 0) (bytes : List ℕ) (old now new : Held) (before left after : List ℕ) → Takes observed bytes old now before left → (observed → StopsInFeed now new left after)
+    → 0 < now.feed → StopsBehind observed bytes old before after
+takes_stop observed bytes old now new before left after taken stops some = record {
   told = λ t. taken.told t ∙ ap (λ (xs : List ℕ). bytes ++ (xs ++ left)) (stops t).empty ∙ ap (λ (xs : List ℕ). bytes ++ xs) (sym (stops t).kept);
   short = λ t. omega (arith, some, taken.feed);
   within = λ w. let inside = taken.within w in omega (arith, inside, taken.at);
 }
 
 -- no more was taken than these bytes and a piece
-pub takes_at_most : (tells : Type 0) (bytes piece : List ℕ) (old now new : Held) (before left after : List ℕ) → Takes tells bytes old now before left
-    → (tells → now.ahead ++ left ≡ piece ++ (new.ahead ++ after)) → new.feed + length piece ≡ now.feed → new.at ≡ now.at + length piece → new.at ≤ LONGEST_CAPTURE
-    → TakesNoMore tells (bytes ++ piece) old before
-takes_at_most tells bytes piece old now new before left after taken told feed place inside = record {
+pub takes_at_most : (observed : Type 0) (bytes piece : List ℕ) (old now new : Held) (before left after : List ℕ) → Takes observed bytes old now before left
+    → (observed → now.ahead ++ left ≡ piece ++ (new.ahead ++ after)) → new.feed + length piece ≡ now.feed → new.at ≡ now.at + length piece → new.at ≤ LONGEST_CAPTURE
+    → TakesNoMore observed (bytes ++ piece) old before
+takes_at_most observed bytes piece old now new before left after taken told feed place inside = record {
   rest = new.ahead ++ after;
   told = λ t. taken.told t ∙ ap (λ (xs : List ℕ). bytes ++ xs) (told t) ∙ sym (append_assoc bytes piece (new.ahead ++ after));
   most = omega (arith, feed, taken.feed, length-append bytes piece);
@@ -59,29 +59,29 @@ takes_at_most tells bytes piece old now new before left after taken told feed pl
 }
 
 -- nothing was taken
-nothing_taken : (tells : Type 0) (held : Held) (left : List ℕ) → TakesNoMore tells [] held left
-nothing_taken tells held left = record { rest = held.ahead ++ left; told = λ _. refl; most = omega arith; within = λ w. omega (arith, w) }
+nothing_taken : (observed : Type 0) (held : Held) (left : List ℕ) → TakesNoMore observed [] held left
+nothing_taken observed held left = record { rest = held.ahead ++ left; told = λ _. refl; most = omega arith; within = λ w. omega (arith, w) }
 
 -- ---- a step of each head
 
-module _ {O W : Type 0} (meanings : Standing O W) (station tells : Type 0) (held : Held) (left : List ℕ) (ds : List Decoding) where
+module _ {O W : Type 0} (meanings : Standing O W) (station observed : Type 0) (held : Held) (left : List ℕ) (ds : List Decoding) where
   pub does_take : (c : ℕ) (old new : W) (result : Result Outcome SwitchFault) (answer : Outcome)
-      → IsAnswered meanings (Taken c) result old new → result ≡ Ok answer → held.feed ≡ 0 → DoesStep meanings station tells (TakeHead c) (Ok tt) held held left left ds ds old new
+      → IsAnswered meanings (Taken c) result old new → result ≡ Ok answer → held.feed ≡ 0 → DoesStep meanings station observed (TakeHead c) (Ok tt) held held left left ds ds old new
   does_take c old new result answer called is none = record {
     step = Take c;
     of_head = refl;
-    taken = (takes_none tells held left, none);
+    taken = (takes_none observed held left, none);
     went = λ bs o first h decode start. one_done meanings (Taken c) result answer old new called is o first h start.stands;
     decode = λ bs e. e;
     begins = λ o h. refl;
   }
 
   pub fails_take : (c : ℕ) (old new : W) (result : Result Outcome SwitchFault) (fault : SwitchFault)
-      → IsAnswered meanings (Taken c) result old new → result ≡ Err fault → DoesStep meanings station tells (TakeHead c) (Err (step.Switch fault)) held held left left ds ds old new
+      → IsAnswered meanings (Taken c) result old new → result ≡ Err fault → DoesStep meanings station observed (TakeHead c) (Err (step.Switch fault)) held held left left ds ds old new
   fails_take c old new result fault called is = record {
     step = Take c;
     of_head = refl;
-    taken = nothing_taken tells held left;
+    taken = nothing_taken observed held left;
     went = λ bs o first h decode start. call_breaks meanings (Taken c) result fault old new called is o first h start.stands;
     decode = λ bs e. tt;
     begins = λ o h. tt;
@@ -89,11 +89,11 @@ module _ {O W : Type 0} (meanings : Standing O W) (station tells : Type 0) (held
 
   pub does_drain : (c : ℕ) (old new : W)
       → ((o : O) (first : ℕ) (h : List Entry) → StandsFor meanings o first h old → Stands meanings o first (h ++ all_done (takes_of_drain (state_at meanings old o h) c)) new)
-      → held.feed ≡ 0 → DoesStep meanings station tells (DrainHead c) (Ok tt) held held left left ds ds old new
+      → held.feed ≡ 0 → DoesStep meanings station observed (DrainHead c) (Ok tt) held held left left ds ds old new
   does_drain c old new goes none = record {
     step = Drain c;
     of_head = refl;
-    taken = (takes_none tells held left, none);
+    taken = (takes_none observed held left, none);
     went = λ bs o first h decode start. goes o first h start;
     decode = λ bs e. e;
     begins = λ o h. refl;
@@ -101,22 +101,22 @@ module _ {O W : Type 0} (meanings : Standing O W) (station tells : Type 0) (held
 
   pub fails_drain : (c : ℕ) (old new : W) (fault : SwitchFault)
       → ((o : O) (first : ℕ) (h : List Entry) → StandsFor meanings o first h old → BreaksOff meanings (λ _. o) first h (all_done (takes_of_drain (state_at meanings old o h) c)) fault new)
-      → DoesStep meanings station tells (DrainHead c) (Err (step.Switch fault)) held held left left ds ds old new
+      → DoesStep meanings station observed (DrainHead c) (Err (step.Switch fault)) held held left left ds ds old new
   fails_drain c old new fault goes = record {
     step = Drain c;
     of_head = refl;
-    taken = nothing_taken tells held left;
+    taken = nothing_taken observed held left;
     went = λ bs o first h decode start. goes o first h start;
     decode = λ bs e. tt;
     begins = λ o h. tt;
   }
 
   pub does_reopen : (c : ℕ) (next : Decoding) (old : W)
-      → next ≡ fresh → held.feed ≡ 0 → DoesStep meanings station tells (ReopenHead c) (Ok tt) held held left left ds (set ds c next) old old
+      → next ≡ fresh → held.feed ≡ 0 → DoesStep meanings station observed (ReopenHead c) (Ok tt) held held left left ds (set ds c next) old old
   does_reopen c next old is none = record {
     step = Reopen c;
     of_head = refl;
-    taken = (takes_none tells held left, none);
+    taken = (takes_none observed held left, none);
     went = λ bs o first h decode start. stands_same meanings o first h (h ++ []) old (sym (append-nil h)) start.stands;
     decode = λ bs e. decode_set ds bs c next [] e (ap (λ (d : Decoding). d.held) is);
     begins = λ o h. refl;
@@ -124,11 +124,11 @@ module _ {O W : Type 0} (meanings : Standing O W) (station tells : Type 0) (held
 
   -- what was gathered was to be settled before the journal is opened again
   pub unsettled_restart : (old new : W) (result : Result (Unit {0}) SwitchFault) (fault : SwitchFault)
-      → IsSettling meanings result old new → result ≡ Err fault → DoesStep meanings station tells RestartHead (Err (step.Switch fault)) held held left left ds ds old new
+      → IsSettling meanings result old new → result ≡ Err fault → DoesStep meanings station observed RestartHead (Err (step.Switch fault)) held held left left ds ds old new
   unsettled_restart old new result fault settling is = record {
     step = Restart;
     of_head = refl;
-    taken = nothing_taken tells held left;
+    taken = nothing_taken observed held left;
     went = λ bs o first h decode start.
         settles_not meanings o first h (Restarted ∷ []) old new fault start.stands (subst (λ (r : Result (Unit {0}) SwitchFault). IsSettling meanings r old new) is settling);
     decode = λ bs e. tt;
@@ -136,11 +136,11 @@ module _ {O W : Type 0} (meanings : Standing O W) (station tells : Type 0) (held
   }
 
   pub unsettled_compact : (old new : W) (result : Result (Unit {0}) SwitchFault) (fault : SwitchFault)
-      → IsSettling meanings result old new → result ≡ Err fault → DoesStep meanings station tells CompactHead (Err (step.Switch fault)) held held left left ds ds old new
+      → IsSettling meanings result old new → result ≡ Err fault → DoesStep meanings station observed CompactHead (Err (step.Switch fault)) held held left left ds ds old new
   unsettled_compact old new result fault settling is = record {
     step = Compact;
     of_head = refl;
-    taken = nothing_taken tells held left;
+    taken = nothing_taken observed held left;
     went = λ bs o first h decode start. settles_not meanings o first h [] old new fault start.stands (subst (λ (r : Result (Unit {0}) SwitchFault). IsSettling meanings r old new) is settling);
     decode = λ bs e. tt;
     begins = λ o h. tt;
@@ -153,11 +153,11 @@ module _ {O W : Type 0} (meanings : Standing O W) (station tells : Type 0) (held
 
     pub does_restart : (ds_now : List Decoding) (result : Result (Unit {0}) OpenFault) (u : Unit {0})
         → IsReopening meanings station result mid new → result ≡ Ok u → ds_now ≡ map (λ _. fresh) ds → length ds ≡ length (meanings.directory old).circuits → held.feed ≡ 0
-        → DoesStep meanings station tells RestartHead (Ok tt) held held left left ds ds_now old new
+        → DoesStep meanings station observed RestartHead (Ok tt) held held left left ds ds_now old new
     does_restart ds_now result u reopening is anew each none = record {
       step = Restart;
       of_head = refl;
-      taken = (takes_none tells held left, none);
+      taken = (takes_none observed held left, none);
       went = λ bs o first h decode start.
           stands_settled meanings o (length h) (h ++ Restarted ∷ []) new (omega (arith, length-append h (Restarted ∷ [])))
           (subst (λ (r : Result (Unit {0}) OpenFault). settled meanings o (h ++ restart_of r) new) is (reopening.adds o h (rests o first h start.stands)));
@@ -166,11 +166,11 @@ module _ {O W : Type 0} (meanings : Standing O W) (station tells : Type 0) (held
     }
 
     pub fails_restart : (result : Result (Unit {0}) OpenFault) (fault : OpenFault)
-        → IsReopening meanings station result mid new → result ≡ Err fault → DoesStep meanings station tells RestartHead (Err (step.Reopen fault)) held held left left ds ds old new
+        → IsReopening meanings station result mid new → result ≡ Err fault → DoesStep meanings station observed RestartHead (Err (step.Reopen fault)) held held left left ds ds old new
     fails_restart result fault reopening is = record {
       step = Restart;
       of_head = refl;
-      taken = nothing_taken tells held left;
+      taken = nothing_taken observed held left;
       went = λ bs o first h decode start. (
         refl,
         record {
@@ -186,11 +186,11 @@ module _ {O W : Type 0} (meanings : Standing O W) (station tells : Type 0) (held
     }
 
     pub does_compact : (result : Result (Unit {0}) SwitchFault) (u : Unit {0})
-        → IsCompacting meanings result mid new → result ≡ Ok u → held.feed ≡ 0 → DoesStep meanings station tells CompactHead (Ok tt) held held left left ds ds old new
+        → IsCompacting meanings result mid new → result ≡ Ok u → held.feed ≡ 0 → DoesStep meanings station observed CompactHead (Ok tt) held held left left ds ds old new
     does_compact result u compacting is none = record {
       step = Compact;
       of_head = refl;
-      taken = (takes_none tells held left, none);
+      taken = (takes_none observed held left, none);
       went = λ bs o first h decode start.
           stands_same meanings (meanings.compacts o h) (length h) h (h ++ []) new (sym (append-nil h))
           (stands_settled meanings (meanings.compacts o h) (length h) h new (omega arith) (compacting.done o h (rests o first h start.stands) is));
@@ -199,11 +199,11 @@ module _ {O W : Type 0} (meanings : Standing O W) (station tells : Type 0) (held
     }
 
     pub fails_compact : (result : Result (Unit {0}) SwitchFault) (fault : SwitchFault)
-        → IsCompacting meanings result mid new → result ≡ Err fault → DoesStep meanings station tells CompactHead (Err (step.Compaction fault)) held held left left ds ds old new
+        → IsCompacting meanings result mid new → result ≡ Err fault → DoesStep meanings station observed CompactHead (Err (step.Compaction fault)) held held left left ds ds old new
     fails_compact result fault compacting is = record {
       step = Compact;
       of_head = refl;
-      taken = nothing_taken tells held left;
+      taken = nothing_taken observed held left;
       went = λ bs o first h decode start.
           let stands : settled meanings o h mid = rests o first h start.stands in
           record { at_step = refl; remains = remains o h stands fault is; cause = compacting.caused o h stands fault is };
@@ -219,16 +219,16 @@ module _ {O W : Type 0} (meanings : Standing O W) (station tells : Type 0) (held
         remains o h stands switch.Spent e = compacting.idle o h stands switch.Spent e tt
         remains o h stands switch.NoMemory e = compacting.idle o h stands switch.NoMemory e tt
 
-pub does_feed : {O W : Type 0} (meanings : Standing O W) (station tells : Type 0) (c n : ℕ) (result : Result (Unit {0}) StepFault) (held held_now : Held) (left left_now : List ℕ)
-    (ds : List Decoding) (x next : Decoding) (old new : W) → c < length ds → Feeds meanings tells c result held held_now left left_now (get_or ds c x) next old new
-    → DoesStep meanings station tells (FeedHead c n) result held held_now left left_now ds (set ds c next) old new
-does_feed meanings station tells c n result held held_now left left_now ds x next old new within feeds = go result feeds
+pub does_feed : {O W : Type 0} (meanings : Standing O W) (station observed : Type 0) (c n : ℕ) (result : Result (Unit {0}) StepFault) (held held_now : Held) (left left_now : List ℕ)
+    (ds : List Decoding) (x next : Decoding) (old new : W) → c < length ds → Feeds meanings observed c result held held_now left left_now (get_or ds c x) next old new
+    → DoesStep meanings station observed (FeedHead c n) result held held_now left left_now ds (set ds c next) old new
+does_feed meanings station observed c n result held held_now left left_now ds x next old new within feeds = go result feeds
   where
     holds : (bs : Connections) → Decode ds bs → (get_or ds c x).held ≡ held_in (get_or bs c [])
     holds bs e = decode_at ds bs c x within e
 
-    go : (r : Result (Unit {0}) StepFault) → Feeds meanings tells c r held held_now left left_now (get_or ds c x) next old new
-        → DoesStep meanings station tells (FeedHead c n) r held held_now left left_now ds (set ds c next) old new
+    go : (r : Result (Unit {0}) StepFault) → Feeds meanings observed c r held held_now left left_now (get_or ds c x) next old new
+        → DoesStep meanings station observed (FeedHead c n) r held held_now left left_now ds (set ds c next) old new
     go (Ok u) f = record {
       step = Feed c f.bytes;
       of_head = (f.bytes, refl);

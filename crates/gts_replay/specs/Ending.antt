@@ -1,6 +1,8 @@
 -- How a step of a capture was done, or was not done to its end.
 use Rattle.std.specs.Prelude.{◌≡◌, ◌⊎◌, ℕ, ◌+◌, ◌<◌, ◌≤◌, List, [], ◌++◌, length, Result, Ok, Err, IsErrOf, OnOk}
-use Rattle.gts_replay.specs.Cited.Below.{Bad, BreaksOff, CaptureKind, Compact, Connections, Decoding, Entry, Feed, FeedHead, Head, Held, IsCompactCause, IsSameCapture, IsSettling, LONGEST_CAPTURE, Restart, Rose, SourceFault, Standing, Stands, Step, SwitchFault, after_step, bytes_of_step, entries_of_step, head_of, readable_from}
+use Rattle.gts_replay.specs.declared.capture_fault.CaptureFault.TheVariants.{Bad, SourceFault}
+use Rattle.gts_replay.specs.Cited.Below.{BreaksOff, CaptureKind, Compact, Connections, Decoding, Entry, Feed, FeedHead, Head, IsCompactCause, IsSettling, LONGEST_CAPTURE, Restart, Rose, Standing, Stands, Step, SwitchFault, after_step, bytes_of_step, entries_of_step, head_of}
+use Rattle.gts_replay.specs.Held.{Held, IsSameCapture, readable_from}
 use Rattle.gts_replay.specs.Going.{StandsFor, state_at, BreaksAtRestart, Remains, Decode, IsFed, BreaksFeed}
 use Rattle.gts_event.specs.declared.fault.SwitchFault.TheVariants as switch
 use Rattle.gts_record.specs.declared.fault.OpenFault.TheVariants as opening
@@ -24,41 +26,41 @@ end_of (step.Switch fault) = end.Fault fault
 -- ---- what was taken of a capture
 
 -- these bytes of a feed were taken
-pub record Takes (tells : Type 0) (bytes : List ℕ) (old new : Held) (before after : List ℕ) : Type 0 where
-  pub told : tells → old.ahead ++ before ≡ bytes ++ (new.ahead ++ after)
+pub record Takes (observed : Type 0) (bytes : List ℕ) (old new : Held) (before after : List ℕ) : Type 0 where
+  pub told : observed → old.ahead ++ before ≡ bytes ++ (new.ahead ++ after)
   pub feed : new.feed + length bytes ≡ old.feed
   pub at : new.at ≡ old.at + length bytes
   pub within : old.at ≤ LONGEST_CAPTURE → new.at ≤ LONGEST_CAPTURE
   pub same : IsSameCapture old new
 
 -- the bytes that are read of the source end in a feed behind these, at this place
-pub record EndsBehind (tells : Type 0) (bytes : List ℕ) (at : ℕ) (old : Held) (before : List ℕ) : Type 0 where
+pub record EndsBehind (observed : Type 0) (bytes : List ℕ) (at : ℕ) (old : Held) (before : List ℕ) : Type 0 where
   pub rest : List ℕ
-  pub told : tells → old.ahead ++ before ≡ bytes ++ rest
-  pub short : tells → length bytes < old.feed
-  pub place : tells → at ≡ old.at + length bytes
+  pub told : observed → old.ahead ++ before ≡ bytes ++ rest
+  pub short : observed → length bytes < old.feed
+  pub place : observed → at ≡ old.at + length bytes
   pub within : old.at ≤ LONGEST_CAPTURE → old.at + length bytes ≤ LONGEST_CAPTURE
-  pub nothing : tells → readable_from (old.at + length bytes) rest ≡ []
+  pub nothing : observed → readable_from (old.at + length bytes) rest ≡ []
 
 -- the source failed in a feed behind these bytes
-pub record StopsBehind (tells : Type 0) (bytes : List ℕ) (old : Held) (before after : List ℕ) : Type 0 where
-  pub told : tells → old.ahead ++ before ≡ bytes ++ after
-  pub short : tells → length bytes < old.feed
+pub record StopsBehind (observed : Type 0) (bytes : List ℕ) (old : Held) (before after : List ℕ) : Type 0 where
+  pub told : observed → old.ahead ++ before ≡ bytes ++ after
+  pub short : observed → length bytes < old.feed
   pub within : old.at ≤ LONGEST_CAPTURE → old.at + length bytes ≤ LONGEST_CAPTURE
 
 -- no more than these bytes were taken of a feed
-pub record TakesNoMore (tells : Type 0) (bytes : List ℕ) (old : Held) (before : List ℕ) : Type 0 where
+pub record TakesNoMore (observed : Type 0) (bytes : List ℕ) (old : Held) (before : List ℕ) : Type 0 where
   pub rest : List ℕ
-  pub told : tells → old.ahead ++ before ≡ bytes ++ rest
+  pub told : observed → old.ahead ++ before ≡ bytes ++ rest
   pub most : length bytes ≤ old.feed
   pub within : old.at ≤ LONGEST_CAPTURE → old.at + length bytes ≤ LONGEST_CAPTURE
 
 -- what a step takes behind its head, by its answer
 abbrev pub HasTaken : Type 0 → List ℕ → Result (Unit {0}) StepFault → Held → Held → List ℕ → List ℕ → Type 0
-HasTaken tells bytes (Ok _) old new before after = Takes tells bytes old new before after × (new.feed ≡ 0)
-HasTaken tells bytes (Err (step.Capture (Bad at))) old new before after = EndsBehind tells bytes at old before
-HasTaken tells bytes (Err (step.Capture SourceFault)) old new before after = StopsBehind tells bytes old before after
-HasTaken tells bytes (Err _) old new before after = TakesNoMore tells bytes old before
+HasTaken observed bytes (Ok _) old new before after = Takes observed bytes old new before after × (new.feed ≡ 0)
+HasTaken observed bytes (Err (step.Capture (Bad at))) old new before after = EndsBehind observed bytes at old before
+HasTaken observed bytes (Err (step.Capture SourceFault)) old new before after = StopsBehind observed bytes old before after
+HasTaken observed bytes (Err _) old new before after = TakesNoMore observed bytes old before
 
 -- ---- which entries were added
 
@@ -99,11 +101,11 @@ Went meanings station o first h more s (Err (step.Compaction fault)) now = IsUnc
 Went meanings station o first h more s (Err (step.Switch fault)) now = BreaksOff meanings (λ _. o) first h more fault now
 
 -- Bytes of a feed came on a circuit: what they add was added, or what stands before a fault, and then the decoder took them.
-pub record Feeds {O W : Type 0} (meanings : Standing O W) (tells : Type 0) (c : ℕ) (result : Result (Unit {0}) StepFault)
+pub record Feeds {O W : Type 0} (meanings : Standing O W) (observed : Type 0) (c : ℕ) (result : Result (Unit {0}) StepFault)
     (held held_now : Held) (left left_now : List ℕ)
     (decoder decoder_now : Decoding) (old new : W) : Type 0 where
   pub bytes : List ℕ
-  pub taken : HasTaken tells bytes result held held_now left left_now
+  pub taken : HasTaken observed bytes result held held_now left left_now
   pub fed : IsFedOr meanings c decoder old bytes result decoder_now new
 
 -- a step of this head; of a feed no more than so many bytes
@@ -113,12 +115,13 @@ IsStepOf head step = head_of step ≡ head
 
 -- A step of this head was to be done: its entries were added, or those before a fault, and then the decoders have what came
 -- on their connections.
-pub record DoesStep {O W : Type 0} (meanings : Standing O W) (station tells : Type 0) (head : Head) (result : Result (Unit {0}) StepFault)
+pub record DoesStep {O W : Type 0} (meanings : Standing O W) (station observed : Type 0) (head : Head)
+    (result : Result (Unit {0}) StepFault)
     (held held_now : Held) (left left_now : List ℕ)
     (decoders decoders_now : List Decoding) (old new : W) : Type 0 where
   pub step : Step
   pub of_head : IsStepOf head step
-  pub taken : HasTaken tells (bytes_of_step step) result held held_now left left_now
+  pub taken : HasTaken observed (bytes_of_step step) result held held_now left left_now
   pub went : (bs : Connections) (o : O) (first : ℕ) (h : List Entry) → Decode decoders bs → StandsFor meanings o first h old
       → Went meanings station o first h (entries_of_step (state_at meanings old o h) bs step) step result new
   pub begins : (o : O) (h : List Entry) → OnOk result (meanings.begin (origin_after meanings o h step) ≡ meanings.begin o)
@@ -148,9 +151,9 @@ SettlesBehind meanings e result old new = (result ≡ e) × (new ≡ old)
 -- How a run ends, once it was settled: it is said of whatever settling leaves.
 abbrev pub EndsSettled : {O W : Type 0} → Standing O W → Type 0 → CaptureKind → O → List Entry → Type 0 → ReplayEnd → (old new : W)
     → (bytes left : List ℕ) → Type 0
-EndsSettled {O} {W} meanings station kind o h tells e old new bytes left =
+EndsSettled {O} {W} meanings station kind o h observed e old new bytes left =
     (result : ReplayEnd) (now : W) → SettlesBehind meanings e result new now
-    → Ends meanings station kind o h tells result old now bytes left
+    → Ends meanings station kind o h observed result old now bytes left
 
 -- a fault of a device that the run didn't end with is answered only where its count rose, and no count falls
 pub record HasSettleCause (e result : ReplayEnd) (disk disk_now say say_now : ℕ) : Type 0 where

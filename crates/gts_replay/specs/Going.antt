@@ -1,8 +1,7 @@
 -- Entries that a run was to add, and those that it added.
-use Rattle.std.specs.Prelude.{◌≡◌, ℕ, List, [], ◌∷◌, ◌++◌, length, take, map}
+use Rattle.std.specs.Prelude.{IsTrue, List, [], length, map, take, ℕ, ◌++◌, ◌∷◌, ◌≡◌}
 use Rattle.gts_replay.specs.Cited.Below.{Connections, Decoding, Directory, DiskFault, EachOwedFew, EachRoutedOnce, Entry, IsOrdered, IsReopenFault, OpenFault, Restarted, Standing, Stands, State, SwitchFault, after_all, all_done, done_by, events_added, held_in, keeps_one, settled}
-use Rattle.std.specs.Prelude.{IsTrue}
-pub use Rattle.gts_feed.specs.Going.{BreaksTogether, BreaksIdle, BreaksOff, Goes}
+pub use Rattle.gts_calls.specs.Going.{BreaksTogether, BreaksIdle, BreaksOff, Goes}
 
 -- A state from which a drain ends: each circuit keeps a draw, and what each state of a history keeps is there; no position
 -- was routed twice to a circuit, and no circuit is owed more than it may be.

@@ -1,6 +1,7 @@
 -- What a run of a capture through a switch left: what of the capture was read, and which of its entries were added.
 use Rattle.std.specs.Prelude.{◌≡◌, ℕ, ◌≤◌, ◌⊎◌, List, ◌∷◌, ◌++◌, length}
-use Rattle.gts_replay.specs.Cited.Below.{AreStepsOf, BreaksIdle, BreaksOff, CaptureKind, Compact, Disk, DiskFault, EndsEarlyOf, Entry, HasDoubt, HasUnsaid, IsCompactCause, IsTaken, IsWholeOf, Journaled, NoMemory, OpenFault, ReadingOf, Rose, Say, SayFault, Spent, Standing, Step, Stopped, SwitchFault, compactions, entries, settled}
+use Rattle.gts_replay.specs.Cited.Below.{AreStepsOf, BreaksIdle, BreaksOff, CaptureKind, Compact, Disk, DiskFault, EndsEarlyOf, Entry, HasDoubt, HasUnsaid, IsCompactCause, IsWholeOf, Journaled, NoMemory, OpenFault, ReadingOf, Rose, Say, SayFault, Spent, Standing, Step, Stopped, SwitchFault, compactions, entries, settled}
+use Rattle.gts_replay.specs.Progress.{IsTaken}
 use Rattle.gts_replay.specs.Going.{state_at, compacted_at, origin_behind, BreaksAtRestart, Remains}
 use Rattle.gts_record.specs.declared.fault.OpenFault.TheVariants as opening
 use Rattle.gts_replay.specs.declared.end.ReplayEnd.{ReplayEnd}
@@ -26,30 +27,30 @@ HasNoCapture meanings kind now bytes = (steps : List Step) → IsWholeOf kind (m
 
 -- The capture was read through its end, and the entries of all its steps were added.
 pub record IsDone {O W : Type 0} (meanings : Standing O W) (kind : CaptureKind) (o : O) (h : List Entry)
-    (tells : Type 0) (old new : W) (bytes : List ℕ) : Type 0 where
+    (observed : Type 0) (old new : W) (bytes : List ℕ) : Type 0 where
   pub steps : List Step
   pub are : AreStepsOf kind (meanings.directory old) steps
-  pub whole : tells → IsWholeOf kind (meanings.directory old) bytes steps
+  pub whole : observed → IsWholeOf kind (meanings.directory old) bytes steps
   pub stands : HasDone meanings o h steps old new
 
 -- The bytes are no capture: they are bad at this place, or end there. The entries of the steps before were added.
 pub record IsCut {O W : Type 0} (meanings : Standing O W) (kind : CaptureKind) (o : O) (h : List Entry)
-    (tells : Type 0) (at : ℕ) (old new : W) (bytes : List ℕ) : Type 0 where
+    (observed : Type 0) (at : ℕ) (old new : W) (bytes : List ℕ) : Type 0 where
   pub steps : List Step
-  pub early : tells → EndsEarlyOf kind (meanings.directory old) bytes steps at
-  pub none : tells → HasNoCapture meanings kind old bytes
+  pub early : observed → EndsEarlyOf kind (meanings.directory old) bytes steps at
+  pub none : observed → HasNoCapture meanings kind old bytes
   pub stands : HasDone meanings o h steps old new
 
 -- The source failed. The entries of the steps that had been taken from it were added.
 pub record LosesSource {O W : Type 0} (meanings : Standing O W) (kind : CaptureKind) (o : O) (h : List Entry)
-    (tells : Type 0) (old new : W) (bytes left : List ℕ) : Type 0 where
+    (observed : Type 0) (old new : W) (bytes left : List ℕ) : Type 0 where
   pub steps : List Step
-  pub taken : tells → IsTaken kind (meanings.directory old) bytes steps left
+  pub taken : observed → IsTaken kind (meanings.directory old) bytes steps left
   pub stands : HasDone meanings o h steps old new
 
 -- these are the steps of the capture, whole or not
 abbrev pub AreRead : {O W : Type 0} → Standing O W → CaptureKind → W → Type 0 → List ℕ → List Step → Type 0
-AreRead meanings kind now tells bytes steps = tells → (at : ℕ) × ReadingOf kind (meanings.directory now) bytes steps at
+AreRead meanings kind now observed bytes steps = observed → (at : ℕ) × ReadingOf kind (meanings.directory now) bytes steps at
 
 -- a fault of a switch that may end a run: it is never given up, and want of memory is an end of its own
 abbrev pub IsLasting : SwitchFault → Type 0
@@ -70,18 +71,18 @@ origin_at meanings o h steps old = origin_behind meanings o (compactions_at mean
 -- The switch answered with this fault. Of the entries of the capture's steps those before were added. Where a device failed, the
 -- last of those that it was asked for are in doubt, or unsaid; none of those that there were before the run.
 pub record StopsAtFault {O W : Type 0} (meanings : Standing O W) (kind : CaptureKind) (o : O) (h : List Entry)
-    (tells : Type 0) (fault : SwitchFault) (old new : W) (bytes : List ℕ) : Type 0 where
+    (observed : Type 0) (fault : SwitchFault) (old new : W) (bytes : List ℕ) : Type 0 where
   pub steps : List Step
-  pub read : AreRead meanings kind old tells bytes steps
+  pub read : AreRead meanings kind old observed bytes steps
   pub breaks : BreaksOff meanings (origin_at meanings o h steps old) (length h) h (entries_at meanings old o h steps) fault new
   pub lasting : IsLasting fault
   pub earlier : StoppedBefore h fault
 
 -- The journal was not opened again. Of the entries of the capture's steps, those before were added.
 pub record StopsAtRestart {O W : Type 0} (meanings : Standing O W) (station : Type 0) (kind : CaptureKind) (o : O) (h : List Entry)
-    (tells : Type 0) (fault : OpenFault) (old new : W) (bytes : List ℕ) : Type 0 where
+    (observed : Type 0) (fault : OpenFault) (old new : W) (bytes : List ℕ) : Type 0 where
   pub steps : List Step
-  pub read : AreRead meanings kind old tells bytes steps
+  pub read : AreRead meanings kind old observed bytes steps
   pub breaks : BreaksAtRestart meanings station (origin_at meanings o h steps old) h (entries_at meanings old o h steps) fault new
   pub of_kind : kind ≡ Journaled
   pub memory : fault ≡ opening.NoMemory → ⊥
@@ -100,9 +101,9 @@ pub record BreaksAtCompaction {O W : Type 0} (meanings : Standing O W) (o : O) (
 
 -- The journal was not compacted. The entries of the capture's steps before were added.
 pub record StopsAtCompaction {O W : Type 0} (meanings : Standing O W) (kind : CaptureKind) (o : O) (h : List Entry)
-    (tells : Type 0) (fault : SwitchFault) (old new : W) (bytes : List ℕ) : Type 0 where
+    (observed : Type 0) (fault : SwitchFault) (old new : W) (bytes : List ℕ) : Type 0 where
   pub steps : List Step
-  pub read : AreRead meanings kind old tells bytes steps
+  pub read : AreRead meanings kind old observed bytes steps
   pub breaks : BreaksAtCompaction meanings o h steps fault old new
   pub of_kind : kind ≡ Journaled
   pub lasting : IsLasting fault
@@ -116,9 +117,9 @@ pub record IsUnbegun {O W : Type 0} (meanings : Standing O W) (o : O) (h : List 
 -- There was no memory: before the first step; or of the entries of the capture's steps, those before were added, and the journal
 -- was not opened again or compacted there; or those before an event, and that it was left for want of memory.
 pub record LacksMemory {O W : Type 0} (meanings : Standing O W) (station : Type 0) (kind : CaptureKind) (o : O) (h : List Entry)
-    (tells : Type 0) (old new : W) (bytes : List ℕ) : Type 0 where
+    (observed : Type 0) (old new : W) (bytes : List ℕ) : Type 0 where
   pub steps : List Step
-  pub read : AreRead meanings kind old tells bytes steps
+  pub read : AreRead meanings kind old observed bytes steps
   pub stands : IsUnbegun meanings o h old new
       ⊎ (BreaksAtRestart meanings station (origin_at meanings o h steps old) h (entries_at meanings old o h steps) opening.NoMemory new
       ⊎ (BreaksAtCompaction meanings o h steps NoMemory old new
@@ -127,14 +128,14 @@ pub record LacksMemory {O W : Type 0} (meanings : Standing O W) (station : Type 
 -- How a run of a capture of this kind ended, by its answer: of a switch that stood for these entries since this origin, over a source with
 -- these bytes.
 pub record Ends {O W : Type 0} (meanings : Standing O W) (station : Type 0) (kind : CaptureKind) (o : O) (h : List Entry)
-    (tells : Type 0) (result : ReplayEnd) (old new : W) (bytes left : List ℕ) : Type 0 where
-  pub done : result ≡ end.Done → IsDone meanings kind o h tells old new bytes
-  pub capture : (at : ℕ) → result ≡ end.Capture at → IsCut meanings kind o h tells at old new bytes
-  pub source_fault : result ≡ end.SourceFault → LosesSource meanings kind o h tells old new bytes left
-  pub reopen : (fault : OpenFault) → result ≡ end.Reopen fault → StopsAtRestart meanings station kind o h tells fault old new bytes
-  pub compaction : (fault : SwitchFault) → result ≡ end.Compaction fault → StopsAtCompaction meanings kind o h tells fault old new bytes
-  pub fault : (fault : SwitchFault) → result ≡ end.Fault fault → StopsAtFault meanings kind o h tells fault old new bytes
-  pub no_memory : result ≡ end.NoMemory → LacksMemory meanings station kind o h tells old new bytes
+    (observed : Type 0) (result : ReplayEnd) (old new : W) (bytes left : List ℕ) : Type 0 where
+  pub done : result ≡ end.Done → IsDone meanings kind o h observed old new bytes
+  pub capture : (at : ℕ) → result ≡ end.Capture at → IsCut meanings kind o h observed at old new bytes
+  pub source_fault : result ≡ end.SourceFault → LosesSource meanings kind o h observed old new bytes left
+  pub reopen : (fault : OpenFault) → result ≡ end.Reopen fault → StopsAtRestart meanings station kind o h observed fault old new bytes
+  pub compaction : (fault : SwitchFault) → result ≡ end.Compaction fault → StopsAtCompaction meanings kind o h observed fault old new bytes
+  pub fault : (fault : SwitchFault) → result ≡ end.Fault fault → StopsAtFault meanings kind o h observed fault old new bytes
+  pub no_memory : result ≡ end.NoMemory → LacksMemory meanings station kind o h observed old new bytes
 
 -- a fault of a device is answered only where its count rose, and no count falls
 pub record HasReplayCause (result : ReplayEnd) (disk disk_now say say_now source source_now : ℕ) : Type 0 where

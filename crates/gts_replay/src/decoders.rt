@@ -6,7 +6,7 @@ use gts_frame::Decoder;
 use std::alloc::Global;
 
 /// A decoder of a new connection for each of so many circuits.
-pub(crate) fn new_decoders(alloc: Global, circuits: u32) -> Result<Vec<Decoder>, NoMemory>
+pub fn new_decoders(alloc: Global, circuits: u32) -> Result<Vec<Decoder>, NoMemory>
     ensures { IfOk result (λ decoders. decoders.items ≡ replicate circuits fresh) }
 {
     let mut decoders = Vec::with_capacity(alloc, circuits as usize)?;
@@ -17,7 +17,7 @@ pub(crate) fn new_decoders(alloc: Global, circuits: u32) -> Result<Vec<Decoder>,
 }
 
 /// Every circuit begins a new connection.
-pub(crate) fn reopen_all(decoders: &mut [Decoder])
+pub fn reopen_all(decoders: &mut [Decoder])
     ensures { decoders.new ≡ map (λ _. fresh) decoders.old }
 {
     for decoder in decoders.iter_mut() {

@@ -1,8 +1,8 @@
 ghost use Rattle.std.specs.Prelude.{◌≡◌};
 ghost use Rattle.gts_replay.specs.Ending.{end_of};
 
+use crate::CaptureFault;
 use crate::fault::StepFault;
-use gts_capture::CaptureFault;
 use gts_event::SwitchFault;
 use gts_record::OpenFault;
 

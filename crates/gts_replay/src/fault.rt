@@ -1,4 +1,4 @@
-use gts_capture::CaptureFault;
+use crate::CaptureFault;
 use gts_event::SwitchFault;
 use gts_record::OpenFault;
 

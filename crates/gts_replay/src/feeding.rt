@@ -1,11 +1,10 @@
 ghost use Rattle.std.specs.Prelude.{◌≡◌, ◌<◌, ◌++◌, ℕ, List, length, OnOk};
 ghost use Rattle.gts_replay.specs.Cited.{Entry, Feeds, Goes, HasCallCause, HasRunCause, Stands, all_done, events_added, held_in};
 
+use crate::Steps;
 use crate::fault::StepFault;
-use gts_calls::Switch;
-use gts_capture::Steps;
+use gts_calls::{Switch, feed as feed_on};
 use gts_event::SwitchFault;
-use gts_feed::feed as feed_on;
 use gts_frame::Decoder;
 use gts_traits::Source;
 use std::alloc::Global;
@@ -23,7 +22,7 @@ pub(crate) fn feed<W: Switch, S: Source>(
 ) -> Result<(), StepFault>
     requires circuit { c < length (W.meanings.directory switch.old).circuits }
     requires piece { 0 < length piece.old }
-    ensures feeds { Feeds W.meanings S.tells c result steps.old steps.new (S.left capture.old)
+    ensures feeds { Feeds W.meanings S.observed c result steps.old steps.new (S.left capture.old)
         (S.left capture.new) decoder.old decoder.new switch.old switch.new }
     ensures directory { W.meanings.directory switch.new ≡ W.meanings.directory switch.old }
     ensures cause { HasRunCause result (W.disk_faults switch.old) (W.disk_faults switch.new)

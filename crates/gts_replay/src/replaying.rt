@@ -1,14 +1,14 @@
 ghost use Rattle.std.specs.Prelude.{◌≡◌, ◌<◌, ◌≤◌, List, length};
 ghost use Rattle.gts_replay.specs.Cited.{Decode, DoesStep, Ends, EndsSettled, Entry, HasReplayCause, HasRunCause, HasSettleCause, IsHeadIn, SettlesBehind, StandsFor, at_start, bytes_announced, no_bytes};
-ghost use Rattle.gts_capture.specs.Heads.{head_of};
+ghost use Rattle.gts_replay.specs.Heads.{head_of};
 
 use crate::decoders::{new_decoders, reopen_all};
 use crate::draining::drain;
 use crate::end::{ReplayEnd, end_after};
 use crate::fault::StepFault;
 use crate::feeding::feed;
+use crate::{Head, Steps};
 use gts_calls::Switch;
-use gts_capture::{Head, Steps};
 use gts_connection::CaptureKind;
 use gts_frame::{Decoder, FrameBuf};
 use gts_traits::Source;
@@ -28,8 +28,8 @@ pub fn replay<W: Switch, S: Source>(
     kind: CaptureKind,
 ) -> ReplayEnd
     ensures ends { (o : W.Origin) (h : List Entry)
-        → StandsFor W.meanings o (length h) h switch.old → Ends W.meanings W.tells kind o h
-        S.tells result switch.old switch.new (S.left capture.old) (S.left capture.new) }
+        → StandsFor W.meanings o (length h) h switch.old → Ends W.meanings W.observed kind o h
+        S.observed result switch.old switch.new (S.left capture.old) (S.left capture.new) }
     ensures directory { W.meanings.directory switch.new ≡ W.meanings.directory switch.old }
     ensures cause { HasReplayCause result (W.disk_faults switch.old) (W.disk_faults switch.new)
         (W.say_faults switch.old) (W.say_faults switch.new)
@@ -90,7 +90,8 @@ fn run<W: Switch, S: Source>(
     requires piece { 0 < length piece.old }
     requires decode { Decode decoders.old (no_bytes (W.meanings.directory switch.old)) }
     ensures ends { (o : W.Origin) (h : List Entry) → StandsFor W.meanings o (length h) h switch.old
-        → EndsSettled W.meanings W.tells steps.old.kind o h S.tells result switch.old switch.new
+        → EndsSettled W.meanings W.observed steps.old.kind o h S.observed result switch.old
+        switch.new
         (S.left capture.old) (S.left capture.new) }
     ensures directory { W.meanings.directory switch.new ≡ W.meanings.directory switch.old }
     ensures cause { HasReplayCause result (W.disk_faults switch.old) (W.disk_faults switch.new)
@@ -128,7 +129,8 @@ fn do_step<W: Switch, S: Source>(
     requires piece { 0 < length piece.old }
     requires feed { steps.old.feed ≡ bytes_announced (head_of head) }
     requires decoders { length decoders.old ≡ length (W.meanings.directory switch.old).circuits }
-    ensures does { DoesStep W.meanings W.tells S.tells (head_of head) result steps.old steps.new
+    ensures does { DoesStep W.meanings W.observed S.observed
+        (head_of head) result steps.old steps.new
         (S.left capture.old) (S.left capture.new) decoders.old decoders.new switch.old switch.new }
     ensures directory { W.meanings.directory switch.new ≡ W.meanings.directory switch.old }
     ensures cause { HasRunCause result (W.disk_faults switch.old) (W.disk_faults switch.new)

@@ -1,6 +1,6 @@
 use gts_accum::{PackEnd, Unpacked, pack};
-use gts_fixtures::is_same;
 use gts_memory::{MemSource, MemStation};
+use gts_parts_tests::is_same;
 use gts_traits::Source;
 use std::alloc::Global;
 use std::test::Fail;

@@ -1,6 +1,6 @@
-use gts_capture::{CaptureFault, Head, Steps};
 use gts_connection::CaptureKind;
 use gts_memory::MemSource;
+use gts_replay::{CaptureFault, Head, Steps};
 use gts_traits::{NoMemory, Source};
 use std::alloc::Global;
 use std::test::Fail;

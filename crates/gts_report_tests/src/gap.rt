@@ -1,7 +1,7 @@
 ghost use Rattle.std.specs.Prelude.{◌≡◌, length, IfOk};
 
-use gts_fixtures::is_same;
 use gts_gap::{AskText, GapTable};
+use gts_parts_tests::is_same;
 use std::alloc::Global;
 use std::test::Fail;
 

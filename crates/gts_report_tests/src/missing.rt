@@ -1,8 +1,8 @@
 use gts_directory::Directory;
 use gts_dirfile::read_directory;
-use gts_fixtures::is_same;
+use gts_gap::{GapsEnd, Moment, gaps};
 use gts_memory::{MemSource, MemStation};
-use gts_missing::{GapsEnd, Moment, gaps};
+use gts_parts_tests::is_same;
 use gts_traits::Station;
 use std::alloc::Global;
 use std::test::Fail;

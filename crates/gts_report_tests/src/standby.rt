@@ -1,6 +1,6 @@
 use gts_directory::Directory;
-use gts_fixtures::{is_same, two_circuits};
 use gts_memory::{MemSource, MemStation, Touched};
+use gts_parts_tests::{is_same, two_circuits};
 use gts_standby::{FollowEnd, ShipFault, follow, ship};
 use gts_traits::Station;
 use std::alloc::Global;

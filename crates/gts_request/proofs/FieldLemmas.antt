@@ -1,6 +1,6 @@
 -- The fields of a line as they are spelled, and as they are read.
 use Rattle.std.proofs.Common.{◌≡◌, inl, inr, ℕ, suc, ◌+◌, ◌<◌, ◌≤◌, ◌^◌, ◌==◌, Bool, true, false, nat_eq, List, [], ◌∷◌, ◌++◌, length, take, drop, Result, Ok, Err, refl, sym, ap, subst, ◌∙◌, append_assoc, arith, if◌then◌else◌, ◌||◌, take_while}
-use Rattle.gts_request.specs.Cited.{Ahd, AskedHeading, Asker, Cccc, EndsBefore, Entry, Field, HeadingFields, IsCount, IsEntry, Item, LacksEntry, LacksNumber, Latest, Line, LineEnd, LineStart, Number, Numbers, One, Range, ReqField, Sqn, after_word, asked, bare_heading_at, count_at, dec, digits_value, entry_text, heading_item, is_ascii_digit, item_at, list_all, number_at, numbers_at, run_at, starts_with}
+use Rattle.gts_request.specs.Cited.{Ahd, AskedHeading, Asker, Cccc, EndsBefore, Entry, HeadingFields, IsCount, IsEntry, Item, LacksEntry, LacksNumber, Latest, Line, LineEnd, LineStart, MessageField, Number, Numbers, One, Range, RequestField, Sqn, after_word, asked, bare_heading_at, count_at, dec, digits_value, entry_text, heading_item, is_ascii_digit, item_at, list_all, number_at, numbers_at, run_at, starts_with}
 use Rattle.gts_request.specs.Request.{◌>>=◌}
 use Rattle.std.proofs.lemmas.Bool.{eqb-true, eq-eqb, false≢true, and_parts}
 use Rattle.std.proofs.lemmas.Int.Digits.{digits_value-lt}
@@ -16,7 +16,7 @@ use Rattle.gts_request.proofs.RequestLemmas.{last_at}
 pub begins : (word bytes : List ℕ) → starts_with nat_eq bytes word ≡ true → bytes ≡ word ++ drop (length word) bytes
 begins word bytes is =
     let passed : after_word word Cccc bytes ≡ Ok (drop (length word) bytes) =
-    ap (λ (t : Bool). let r : Result (List ℕ) Field = if t then Ok (drop (length word) bytes) else Err Cccc in r) is in
+    ap (λ (t : Bool). let r : Result (List ℕ) MessageField = if t then Ok (drop (length word) bytes) else Err Cccc in r) is in
     word_takes word Cccc bytes (drop (length word) bytes) passed
 
 -- ---- a run of digits
@@ -54,11 +54,11 @@ run_of_dec w n rest ends = run_on (dec w n) rest (test_from_AllDigits (dec w n) 
 
 -- ---- a number
 
-abbrev ok_of : ℕ → List ℕ → Result (ℕ × List ℕ) ReqField
+abbrev ok_of : ℕ → List ℕ → Result (ℕ × List ℕ) RequestField
 ok_of n rest = Ok (n, rest)
 
 -- a number of so many digits stands here, or the run has not so many
-abbrev pub NumberView : ℕ → List ℕ → Result (ℕ × List ℕ) ReqField → Type 0
+abbrev pub NumberView : ℕ → List ℕ → Result (ℕ × List ℕ) RequestField → Type 0
 NumberView w bytes (Ok read) = (read.0 < 10 ^ w) × (bytes ≡ dec w read.0 ++ read.1) × (run_at read.1 ≡ 0)
 NumberView w bytes (Err field) = (field ≡ Number) × (run_at bytes ≡ w → ⊥)
 
@@ -94,10 +94,10 @@ no_number w bytes none = go (run_at bytes == w) refl
 
 -- ---- the count of a number's digits
 
-abbrev count_of : ℕ → Result ℕ ReqField
+abbrev count_of : ℕ → Result ℕ RequestField
 count_of k = if (k == 3) || (k == 5) then Ok k else Err Number
 
-abbrev just : ℕ → Result ℕ ReqField
+abbrev just : ℕ → Result ℕ RequestField
 just k = Ok k
 
 counted : (w : ℕ) → IsCount w → count_of w ≡ Ok w
@@ -107,7 +107,7 @@ counted w (inr five) = ap count_of five ∙ ap just (sym five)
 pub count_again : (w : ℕ) (bytes : List ℕ) → IsCount w → run_at bytes ≡ w → count_at bytes ≡ Ok w
 count_again w bytes is run = ap count_of run ∙ counted w is
 
-abbrev pub CountView : List ℕ → Result ℕ ReqField → Type 0
+abbrev pub CountView : List ℕ → Result ℕ RequestField → Type 0
 CountView bytes (Ok w) = IsCount w × (run_at bytes ≡ w)
 CountView bytes (Err field) = (field ≡ Number) × (IsCount (run_at bytes) → ⊥)
 
@@ -129,21 +129,21 @@ count_view bytes = go (run_at bytes == 3) (run_at bytes == 5) refl refl
 pub no_count : (bytes : List ℕ) → (IsCount (run_at bytes) → ⊥) → count_at bytes ≡ Err Number
 no_count bytes none = go (count_at bytes) (count_view bytes)
   where
-    go : (r : Result ℕ ReqField) → CountView bytes r → r ≡ Err Number
+    go : (r : Result ℕ RequestField) → CountView bytes r → r ≡ Err Number
     go (Ok w) v = absurd (none (let P : ℕ → Type 0 = λ k. IsCount k in subst P (sym v.1) v.0))
-    go (Err field) v = ap (λ (f : ReqField). let r : Result ℕ ReqField = Err f in r) v.0
+    go (Err field) v = ap (λ (f : RequestField). let r : Result ℕ RequestField = Err f in r) v.0
 
 -- ---- numbers
 
-with_last : ℕ → ℕ → Result (ℕ × List ℕ) ReqField → Result (Item × List ℕ) ReqField
+with_last : ℕ → ℕ → Result (ℕ × List ℕ) RequestField → Result (Item × List ℕ) RequestField
 with_last w first r = r >>= λ last. Ok (Numbers w first last.0, last.1)
 
 -- what was read of an item, or what isn't there
-abbrev pub ItemView : Line → List ℕ → Result (Item × List ℕ) ReqField → Type 0
+abbrev pub ItemView : Line → List ℕ → Result (Item × List ℕ) RequestField → Type 0
 ItemView kind bytes (Ok read) = (entry : Entry) × IsEntry kind entry × EndsBefore read.1 entry × (bytes ≡ entry_text entry ++ read.1) × (read.0 ≡ asked entry)
 ItemView kind bytes (Err field) = LacksEntry kind bytes field
 
-abbrev LastAt : ℕ → ℕ × List ℕ → Bool → Result (ℕ × List ℕ) ReqField
+abbrev LastAt : ℕ → ℕ × List ℕ → Bool → Result (ℕ × List ℕ) RequestField
 LastAt w first t = if t then number_at w (drop 1 first.1) else Ok first
 
 last_view : (w : ℕ) (bytes : List ℕ) (first : ℕ × List ℕ) → IsCount w → NumberView w bytes (Ok first)
@@ -151,7 +151,7 @@ last_view : (w : ℕ) (bytes : List ℕ) (first : ℕ × List ℕ) → IsCount w
 unfolding with_last
 last_view w bytes first is v = go (starts_with nat_eq first.1 (45 ∷ [])) refl
   where
-    range : first.1 ≡ 45 ∷ drop 1 first.1 → (r : Result (ℕ × List ℕ) ReqField) → NumberView w (drop 1 first.1) r → ItemView Sqn bytes (with_last w first.0 r)
+    range : first.1 ≡ 45 ∷ drop 1 first.1 → (r : Result (ℕ × List ℕ) RequestField) → NumberView w (drop 1 first.1) r → ItemView Sqn bytes (with_last w first.0 r)
     range dash (Ok last) l = (
       Range w first.0 last.0,
       (is, v.0, l.0),
@@ -160,32 +160,32 @@ last_view w bytes first is v = go (starts_with nat_eq first.1 (45 ∷ [])) refl
       refl,
     )
     range dash (Err field) l =
-        let P : ReqField → Type 0 = λ f. LacksEntry Sqn bytes f in
+        let P : RequestField → Type 0 = λ f. LacksEntry Sqn bytes f in
         subst P (sym l.0) (refl, inr (w, first.0, drop 1 first.1, is, v.0, v.1 ∙ ap (λ (t : List ℕ). dec w first.0 ++ t) dash, l.1))
 
     go : (t : Bool) → starts_with nat_eq first.1 (45 ∷ []) ≡ t → ItemView Sqn bytes (with_last w first.0 (LastAt w first t))
     go true dash = range (begins (45 ∷ []) first.1 dash) (number_at w (drop 1 first.1)) (number_view w (drop 1 first.1))
     go false none = (One w first.0, (is, v.0), (v.2, none), v.1, refl)
 
-abbrev Both : List ℕ → ℕ → Result (ℕ × List ℕ) ReqField → Result (Item × List ℕ) ReqField
+abbrev Both : List ℕ → ℕ → Result (ℕ × List ℕ) RequestField → Result (Item × List ℕ) RequestField
 Both bytes w r = r >>= λ first. last_at w first >>= λ last. Ok (Numbers w first.0 last.0, last.1)
 
 numbers_view : (bytes : List ℕ) → ItemView Sqn bytes (numbers_at bytes)
 unfolding with_last
 numbers_view bytes = go (count_at bytes) (count_view bytes)
   where
-    first : (w : ℕ) → IsCount w → run_at bytes ≡ w → (r : Result (ℕ × List ℕ) ReqField) → NumberView w bytes r → ItemView Sqn bytes (Both bytes w r)
+    first : (w : ℕ) → IsCount w → run_at bytes ≡ w → (r : Result (ℕ × List ℕ) RequestField) → NumberView w bytes r → ItemView Sqn bytes (Both bytes w r)
     first w is run (Ok read) v = last_view w bytes read is v
     first w is run (Err field) v = absurd (v.1 run)
 
-    go : (r : Result ℕ ReqField) → CountView bytes r → ItemView Sqn bytes (r >>= λ w. Both bytes w (number_at w bytes))
+    go : (r : Result ℕ RequestField) → CountView bytes r → ItemView Sqn bytes (r >>= λ w. Both bytes w (number_at w bytes))
     go (Ok w) v = first w v.0 v.1 (number_at w bytes) (number_view w bytes)
-    go (Err field) v = let P : ReqField → Type 0 = λ f. LacksEntry Sqn bytes f in subst P (sym v.0) (refl, inl v.1)
+    go (Err field) v = let P : RequestField → Type 0 = λ f. LacksEntry Sqn bytes f in subst P (sym v.0) (refl, inl v.1)
 
 heading_view : (bytes : List ℕ) → ItemView Ahd bytes (item_at Ahd bytes)
 heading_view bytes = go (bare_heading_at bytes) refl
   where
-    go : (r : Result (HeadingFields × List ℕ) Field) → bare_heading_at bytes ≡ r → ItemView Ahd bytes (heading_item r)
+    go : (r : Result (HeadingFields × List ℕ) MessageField) → bare_heading_at bytes ≡ r → ItemView Ahd bytes (heading_item r)
     go (Ok found) is =
         let spelled = bare_is_spelled bytes found.1 found.0 is in
         (Latest found.0, spelled.0, ap bare_heading_at (sym spelled.1) ∙ is, spelled.1, refl)
@@ -217,7 +217,7 @@ item_again Ahd (One w n) rest is ends = absurd is
 item_again Ahd (Range w first last) rest is ends = absurd is
 item_again Ahd (Latest heading) rest is ends = ap heading_item ends
 
-pub item_lacks : (kind : Line) (bytes : List ℕ) (field : ReqField) → LacksEntry kind bytes field → item_at kind bytes ≡ Err field
+pub item_lacks : (kind : Line) (bytes : List ℕ) (field : RequestField) → LacksEntry kind bytes field → item_at kind bytes ≡ Err field
 item_lacks kind bytes Asker lacks = absurd lacks
 item_lacks kind bytes LineStart lacks = absurd lacks
 item_lacks kind bytes LineEnd lacks = absurd lacks
@@ -232,6 +232,6 @@ item_lacks Sqn bytes Number lacks = go lacks.1
 item_lacks Sqn bytes AskedHeading lacks = absurd (let e : Sqn ≡ Ahd = lacks.0 in cc)
 item_lacks Ahd bytes AskedHeading lacks = go (bare_heading_at bytes) refl
   where
-    go : (r : Result (HeadingFields × List ℕ) Field) → bare_heading_at bytes ≡ r → heading_item r ≡ Err AskedHeading
+    go : (r : Result (HeadingFields × List ℕ) MessageField) → bare_heading_at bytes ≡ r → heading_item r ≡ Err AskedHeading
     go (Ok found) is = absurd (lacks.1 found is)
     go (Err field) is = refl

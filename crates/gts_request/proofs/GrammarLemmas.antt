@@ -1,6 +1,6 @@
 -- A request's text by its grammar, and as it is read from left to right.
 use Rattle.std.proofs.Common.{◌≡◌, ◌⊎◌, ◌↔◌, inl, inr, ℕ, zero, suc, ◌<◌, ◌&&◌, Bool, true, false, nat_eq, nat_le, List, [], ◌∷◌, ◌++◌, length, take, drop, map, Option, Some, None, Result, Ok, Err, refl, sym, ap, subst, ◌∙◌, append_assoc, arith, if◌then◌else◌}
-use Rattle.gts_request.specs.Cited.{Ahd, AllByRecursion, AskedLine, Asker, Cccc, EndsBefore, Entry, Field, IsAsker, IsEntry, IsLine, IsRequestFor, Item, Lacks, LacksEnd, LacksEntry, LacksLine, Latest, Line, LineEnd, LineStart, One, Place, Range, ReqField, Sqn, StopsAt, StopsAtLine, StopsInLine, are_capitals, asked, behind_asker, behind_item, behind_line, bytes_from, capitals_at, entry_text, item_at, items_at, items_from, line_items, line_start, line_start_at, line_text, lines_items, lines_text, request_at, slashed, starts_with, step_at}
+use Rattle.gts_request.specs.Cited.{Ahd, AllByRecursion, AskedLine, Asker, Cccc, EndsBefore, Entry, IsAsker, IsEntry, IsLine, IsRequestFor, Item, Lacks, LacksEnd, LacksEntry, LacksLine, Latest, Line, LineEnd, LineStart, MessageField, One, Place, Range, RequestField, Sqn, StopsAt, StopsAtLine, StopsInLine, are_capitals, asked, behind_asker, behind_item, behind_line, bytes_from, capitals_at, entry_text, item_at, items_at, items_from, line_items, line_start, line_start_at, line_text, lines_items, lines_text, request_at, slashed, starts_with, step_at}
 use Rattle.gts_request.specs.Request.{◌>>=◌}
 use Rattle.std.proofs.lemmas.Bool.{le-leb, leb-true, false≢true}
 use Rattle.std.proofs.lemmas.List.{append-nil, length-append, length-take-le, take_at, drop_at, take-append-drop}
@@ -11,7 +11,7 @@ use Rattle.gts_request.proofs.RequestLemmas.{items_after, fault_at, fault_of_fir
 -- ---- what is behind an item
 
 -- the start of a line stands here, or it doesn't
-abbrev StartView : List ℕ → Result Place ReqField → Type 0
+abbrev StartView : List ℕ → Result Place RequestField → Type 0
 StartView bytes (Ok place) = bytes ≡ line_start place.0 ++ place.1
 StartView bytes (Err field) = (field ≡ LineStart) × LacksLine bytes
 
@@ -31,14 +31,14 @@ start_again Ahd rest = refl
 start_lacks : (bytes : List ℕ) → LacksLine bytes → line_start_at bytes ≡ Err LineStart
 start_lacks bytes lacks = rw (lacks.0, lacks.1) refl
 
-abbrev EndView : Line → List ℕ → Result (Option Place) ReqField → Type 0
+abbrev EndView : Line → List ℕ → Result (Option Place) RequestField → Type 0
 EndView kind bytes (Ok None) = bytes ≡ 61 ∷ []
 EndView kind bytes (Ok (Some place)) = ((place.0 ≡ kind) × (bytes ≡ 47 ∷ place.1)) ⊎ (bytes ≡ 61 ∷ (line_start place.0 ++ place.1))
 EndView kind bytes (Err field) =
     ((field ≡ LineStart) × (rest : List ℕ) × (bytes ≡ 61 ∷ rest) × (rest ≡ [] → ⊥) × LacksLine rest)
     ⊎ ((field ≡ LineEnd) × Lacks (47 ∷ []) bytes × Lacks (61 ∷ []) bytes)
 
-abbrev AfterEquals : List ℕ → Result (Option Place) ReqField → Type 0
+abbrev AfterEquals : List ℕ → Result (Option Place) RequestField → Type 0
 AfterEquals rest (Ok None) = rest ≡ []
 AfterEquals rest (Ok (Some place)) = rest ≡ line_start place.0 ++ place.1
 AfterEquals rest (Err field) = (field ≡ LineStart) × (rest ≡ [] → ⊥) × LacksLine rest
@@ -50,14 +50,14 @@ equals_view : (rest : List ℕ) → AfterEquals rest (behind_line rest)
 equals_view [] = refl
 equals_view (x ∷ xs) = go (line_start_at (x ∷ xs)) (start_view (x ∷ xs))
   where
-    go : (r : Result Place ReqField) → StartView (x ∷ xs) r → AfterEquals (x ∷ xs) (r >>= λ place. Ok (Some place))
+    go : (r : Result Place RequestField) → StartView (x ∷ xs) r → AfterEquals (x ∷ xs) (r >>= λ place. Ok (Some place))
     go (Ok place) v = v
     go (Err field) v = (v.0, nonempty x xs, v.1)
 
 end_view : (kind : Line) (bytes : List ℕ) → EndView kind bytes (behind_item kind bytes)
 end_view kind bytes = go (starts_with nat_eq bytes (47 ∷ [])) (starts_with nat_eq bytes (61 ∷ [])) refl refl
   where
-    more : bytes ≡ 61 ∷ drop 1 bytes → (r : Result (Option Place) ReqField) → AfterEquals (drop 1 bytes) r → EndView kind bytes r
+    more : bytes ≡ 61 ∷ drop 1 bytes → (r : Result (Option Place) RequestField) → AfterEquals (drop 1 bytes) r → EndView kind bytes r
     more is (Ok None) v = is ∙ ap (λ (l : List ℕ). 61 ∷ l) v
     more is (Ok (Some place)) v = inr (is ∙ ap (λ (l : List ℕ). 61 ∷ l) v)
     more is (Err field) v = inl (v.0, drop 1 bytes, is, v.1, v.2)
@@ -80,10 +80,10 @@ ends_at Sqn (Latest heading) rest x is e = absurd is
 ends_at Ahd (Latest heading) rest x is (inl e) = bare_again heading (x ∷ rest) is (rw e refl)
 ends_at Ahd (Latest heading) rest x is (inr e) = bare_again heading (x ∷ rest) is (rw e refl)
 
-abbrev Behind : Line → Item → Result (Option Place) ReqField → Result (Item × Option Place) ReqField
+abbrev Behind : Line → Item → Result (Option Place) RequestField → Result (Item × Option Place) RequestField
 Behind kind item r = r >>= λ next. Ok (item, next)
 
-abbrev Step : Line → Result (Item × List ℕ) ReqField → Result (Item × Option Place) ReqField
+abbrev Step : Line → Result (Item × List ℕ) RequestField → Result (Item × Option Place) RequestField
 Step kind r = r >>= λ item. Behind kind item.0 (behind_item kind item.1)
 
 step_of : (kind : Line) (entry : Entry) (rest : List ℕ) → IsEntry kind entry → EndsBefore rest entry
@@ -91,21 +91,21 @@ step_of : (kind : Line) (entry : Entry) (rest : List ℕ) → IsEntry kind entry
 step_of kind entry rest is ends = ap (Step kind) (item_again kind entry rest is ends)
 
 -- what comes behind a line's end
-pub after : List ℕ → Result (List Item) ReqField
+pub after : List ℕ → Result (List Item) RequestField
 after rest = behind_line rest >>= items_from
 
-abbrev Prepend : List Item → Result (List Item) ReqField → Result (List Item) ReqField
+abbrev Prepend : List Item → Result (List Item) RequestField → Result (List Item) RequestField
 Prepend items r = r >>= λ more. Ok (items ++ more)
 
-prepend_twice : (xs ys : List Item) (r : Result (List Item) ReqField) → Prepend xs (Prepend ys r) ≡ Prepend (xs ++ ys) r
-prepend_twice xs ys (Ok items) = ap (λ (l : List Item). let r : Result (List Item) ReqField = Ok l in r) (sym (append_assoc xs ys items))
+prepend_twice : (xs ys : List Item) (r : Result (List Item) RequestField) → Prepend xs (Prepend ys r) ≡ Prepend (xs ++ ys) r
+prepend_twice xs ys (Ok items) = ap (λ (l : List Item). let r : Result (List Item) RequestField = Ok l in r) (sym (append_assoc xs ys items))
 prepend_twice xs ys (Err field) = refl
 
 slash_again : (kind : Line) (before : List Entry) (rest : List ℕ) → AllByRecursion (IsEntry kind) before
     → items_from (Some (kind, slashed before ++ rest)) ≡ Prepend (map asked before) (items_from (Some (kind, rest)))
 slash_again kind [] rest all = go (items_from (Some (kind, rest)))
   where
-    go : (r : Result (List Item) ReqField) → r ≡ Prepend [] r
+    go : (r : Result (List Item) RequestField) → r ≡ Prepend [] r
     go (Ok items) = refl
     go (Err field) = refl
 slash_again kind (entry ∷ more) rest all =
@@ -125,7 +125,7 @@ last_again kind entry rest is = go (behind_line rest) refl
     bytes : List ℕ
     bytes = entry_text entry ++ 61 ∷ rest
 
-    go : (r : Result (Option Place) ReqField) → behind_line rest ≡ r → items_from (Some (kind, bytes)) ≡ Prepend (asked entry ∷ []) (r >>= items_from)
+    go : (r : Result (Option Place) RequestField) → behind_line rest ≡ r → items_from (Some (kind, bytes)) ≡ Prepend (asked entry ∷ []) (r >>= items_from)
     go (Ok next) e =
         let step : step_at (kind, bytes) ≡ Ok (asked entry, next) = step_of kind entry (61 ∷ rest) is (ends_at kind entry rest 61 is (inr refl)) ∙ ap (Behind kind (asked entry)) e in
         items_after (kind, bytes) (asked entry, next) step
@@ -150,7 +150,7 @@ line_again line rest is =
 pub lines_again : (lines : List AskedLine) (rest : List ℕ) → AllByRecursion IsLine lines → after (lines_text lines ++ rest) ≡ Prepend (lines_items lines) (after rest)
 lines_again [] rest all = go (after rest)
   where
-    go : (r : Result (List Item) ReqField) → r ≡ Prepend [] r
+    go : (r : Result (List Item) RequestField) → r ≡ Prepend [] r
     go (Ok items) = refl
     go (Err field) = refl
 lines_again (line ∷ more) rest all =
@@ -172,7 +172,7 @@ record ReadsOn (kind : Line) (bytes : List ℕ) (items : List Item) : Type 0 whe
   asked_for : items ≡ map asked before ++ (asked last ∷ lines_items lines)
 
 -- from an entry on its line and further ones are whole, and then one stops
-record StopsLater (kind : Line) (bytes : List ℕ) (field : ReqField) : Type 0 where
+record StopsLater (kind : Line) (bytes : List ℕ) (field : RequestField) : Type 0 where
   before : List Entry
   last : Entry
   lines : List AskedLine
@@ -184,12 +184,12 @@ record StopsLater (kind : Line) (bytes : List ℕ) (field : ReqField) : Type 0 w
   goes_on : rest ≡ [] → ⊥
   stops : StopsAtLine rest field
 
-abbrev PlaceView : Line → List ℕ → Result (List Item) ReqField → Type 0
+abbrev PlaceView : Line → List ℕ → Result (List Item) RequestField → Type 0
 PlaceView kind bytes (Ok items) = ReadsOn kind bytes items
 PlaceView kind bytes (Err field) = StopsInLine kind bytes field ⊎ StopsLater kind bytes field
 
 -- behind an entry and `/` the line goes on
-behind_slash : (kind : Line) (entry : Entry) (bytes rest : List ℕ) (r : Result (List Item) ReqField) → IsEntry kind entry → bytes ≡ entry_text entry ++ 47 ∷ rest
+behind_slash : (kind : Line) (entry : Entry) (bytes rest : List ℕ) (r : Result (List Item) RequestField) → IsEntry kind entry → bytes ≡ entry_text entry ++ 47 ∷ rest
     → PlaceView kind rest r → PlaceView kind bytes (r >>= λ items. Ok (asked entry ∷ items))
 behind_slash kind entry bytes rest (Ok items) is spelled v = record {
   before = entry ∷ v.before;
@@ -230,7 +230,7 @@ start_is_there Sqn rest e = nonempty 13 _ e
 start_is_there Ahd rest e = nonempty 13 _ e
 
 -- behind an entry and `=` another line begins
-behind_equals : (kind : Line) (entry : Entry) (bytes : List ℕ) (next : Line) (rest : List ℕ) (r : Result (List Item) ReqField) → IsEntry kind entry
+behind_equals : (kind : Line) (entry : Entry) (bytes : List ℕ) (next : Line) (rest : List ℕ) (r : Result (List Item) RequestField) → IsEntry kind entry
     → bytes ≡ entry_text entry ++ 61 ∷ (line_start next ++ rest) → PlaceView next rest r → PlaceView kind bytes (r >>= λ items. Ok (asked entry ∷ items))
 behind_equals kind entry bytes next rest (Ok items) is spelled v = record {
   before = [];
@@ -277,15 +277,15 @@ nearer front x rest bytes n spelled h = let e : length bytes ≡ length (front +
 abbrev Placed : ℕ → Place → Type 0
 Placed n place = PlaceView place.0 place.1 (items_at n (Some place))
 
-abbrev With : ℕ → Result (Item × Option Place) ReqField → Result (List Item) ReqField
+abbrev With : ℕ → Result (Item × Option Place) RequestField → Result (List Item) RequestField
 With n r = r >>= λ step. items_at n step.1 >>= λ items. Ok (step.0 ∷ items)
 
 -- an entry that was read, and what is behind it
 entry_view : (n : ℕ) (kind : Line) (bytes : List ℕ) (entry : Entry) (rest : List ℕ) → IsEntry kind entry → EndsBefore rest entry → bytes ≡ entry_text entry ++ rest
-    → length bytes < suc n → ((place : Place) → length place.1 < n → Placed n place) → (r : Result (Option Place) ReqField) → EndView kind rest r
+    → length bytes < suc n → ((place : Place) → length place.1 < n → Placed n place) → (r : Result (Option Place) RequestField) → EndView kind rest r
     → PlaceView kind bytes (With n (Behind kind (asked entry) r))
 entry_view n kind bytes entry rest is ends spelled h again (Ok None) v =
-    let P : Result (List Item) ReqField → Type 0 = λ r. PlaceView kind bytes (r >>= λ items. Ok (asked entry ∷ items)) in
+    let P : Result (List Item) RequestField → Type 0 = λ r. PlaceView kind bytes (r >>= λ items. Ok (asked entry ∷ items)) in
     subst P (sym (none_at n)) (record {
       before = [];
       last = entry;
@@ -329,7 +329,7 @@ place_view : (n : ℕ) (place : Place) → length place.1 < n → Placed n place
 place_view zero place h = absurd (omega arith)
 place_view (suc n) place h = go (λ next k. place_view n next k) (item_at place.0 place.1) (item_view place.0 place.1)
   where
-    go : ((next : Place) → length next.1 < n → Placed n next) → (r : Result (Item × List ℕ) ReqField) → ItemView place.0 place.1 r
+    go : ((next : Place) → length next.1 < n → Placed n next) → (r : Result (Item × List ℕ) RequestField) → ItemView place.0 place.1 r
         → PlaceView place.0 place.1 (With n (Step place.0 r))
     go again (Ok read) (entry, is, ends, spelled, same) =
         let P : Item → Type 0 = λ item. PlaceView place.0 place.1 (With n (Behind place.0 item (behind_item place.0 read.1))) in
@@ -338,11 +338,11 @@ place_view (suc n) place h = go (λ next k. place_view n next k) (item_at place.
 
 -- ---- the whole text, as it is read
 
-abbrev CapitalsView : List ℕ → Result (List ℕ × List ℕ) Field → Type 0
+abbrev CapitalsView : List ℕ → Result (List ℕ × List ℕ) MessageField → Type 0
 CapitalsView text (Ok read) = IsAsker read.0 × (text ≡ read.0 ++ read.1)
 CapitalsView text (Err field) = (asker rest : List ℕ) → IsAsker asker → text ≡ asker ++ rest → ⊥
 
-abbrev found : List ℕ → List ℕ → Result (List ℕ × List ℕ) Field
+abbrev found : List ℕ → List ℕ → Result (List ℕ × List ℕ) MessageField
 found front back = Ok (front, back)
 
 asker_again : (asker rest : List ℕ) → IsAsker asker → capitals_at 4 Cccc (asker ++ rest) ≡ Ok (asker, rest)
@@ -373,14 +373,14 @@ capitals_view text = go (nat_le 4 (length text) && are_capitals (take 4 text)) r
         ((length-take-le 4 text (leb-true 4 (length text) both.0), both.1), sym (take-append-drop 4 text))
     go false is = none is
 
-abbrev TextView : List ℕ → Result (List Item) ReqField → Type 0
+abbrev TextView : List ℕ → Result (List Item) RequestField → Type 0
 TextView text (Ok items) = IsRequestFor text items
 TextView text (Err field) = StopsAt text field
 
-abbrev pub opened : Result Place ReqField → Result (List Item) ReqField
+abbrev pub opened : Result Place RequestField → Result (List Item) RequestField
 opened r = r >>= λ place. items_at (bytes_from (Some place)) (Some place)
 
-lines_view : (asker rest : List ℕ) (kind : Line) (bytes : List ℕ) (r : Result (List Item) ReqField) → IsAsker asker → rest ≡ line_start kind ++ bytes
+lines_view : (asker rest : List ℕ) (kind : Line) (bytes : List ℕ) (r : Result (List Item) RequestField) → IsAsker asker → rest ≡ line_start kind ++ bytes
     → PlaceView kind bytes r → TextView (asker ++ rest) r
 lines_view asker rest kind bytes (Ok items) is spelled v = record {
   asker = asker;
@@ -412,7 +412,7 @@ lines_view asker rest kind bytes (Err field) is spelled (inr v) = inr (record {
   stops = v.stops;
 })
 
-start_leads : (asker rest : List ℕ) (r : Result Place ReqField) → IsAsker asker → StartView rest r → TextView (asker ++ rest) (opened r)
+start_leads : (asker rest : List ℕ) (r : Result Place RequestField) → IsAsker asker → StartView rest r → TextView (asker ++ rest) (opened r)
 start_leads asker rest (Ok place) is v =
     lines_view asker rest place.0 place.1 (items_at (bytes_from (Some place)) (Some place)) is v (place_view (suc (length place.1)) place (omega arith))
 start_leads asker rest (Err field) is v = inr (record {
@@ -430,7 +430,7 @@ text_view : (text : List ℕ) → TextView text (request_at text)
 unfolding request_at
 text_view text = go (capitals_at 4 Cccc text) (capitals_view text)
   where
-    go : (r : Result (List ℕ × List ℕ) Field) → CapitalsView text r → TextView text (opened (behind_asker r))
+    go : (r : Result (List ℕ × List ℕ) MessageField) → CapitalsView text r → TextView text (opened (behind_asker r))
     go (Ok read) v =
         let P : List ℕ → Type 0 = λ bytes. TextView bytes (opened (line_start_at read.1)) in
         subst P (sym v.1) (start_leads read.0 read.1 (line_start_at read.1) v.0 (start_view read.1))
@@ -440,14 +440,14 @@ text_view text = go (capitals_at 4 Cccc text) (capitals_view text)
 
 behind_of : (asker rest : List ℕ) → IsAsker asker → request_at (asker ++ rest) ≡ opened (line_start_at rest)
 unfolding request_at
-behind_of asker rest is = ap (λ (r : Result (List ℕ × List ℕ) Field). opened (behind_asker r)) (asker_again asker rest is)
+behind_of asker rest is = ap (λ (r : Result (List ℕ × List ℕ) MessageField). opened (behind_asker r)) (asker_again asker rest is)
 
 after_opens : (rest : List ℕ) → (rest ≡ [] → ⊥) → after rest ≡ opened (line_start_at rest)
 unfolding after items_from
 after_opens [] some = absurd (some refl)
 after_opens (x ∷ xs) some = go (line_start_at (x ∷ xs))
   where
-    go : (r : Result Place ReqField) → ((r >>= λ place. Ok (Some place)) >>= items_from) ≡ opened r
+    go : (r : Result Place RequestField) → ((r >>= λ place. Ok (Some place)) >>= items_from) ≡ opened r
     go (Ok place) = refl
     go (Err field) = refl
 
@@ -468,30 +468,30 @@ items_again text items is =
     ap request_at is.spelled ∙ behind_of is.asker (lines_text lines) is.is_asker
     ∙ ap (λ (l : List ℕ). opened (line_start_at l)) (sym (append-nil (lines_text lines)))
     ∙ opened_lines is.line is.more [] is.are_lines
-    ∙ ap (λ (l : List Item). let r : Result (List Item) ReqField = Ok l in r) (append-nil (lines_items lines) ∙ sym is.asked_for)
+    ∙ ap (λ (l : List Item). let r : Result (List Item) RequestField = Ok l in r) (append-nil (lines_items lines) ∙ sym is.asked_for)
 
 -- no entry, or no end behind it
-lacks_again : (kind : Line) (bytes : List ℕ) (field : ReqField) → LacksEntry kind bytes field ⊎ ((field ≡ LineEnd) × LacksEnd kind bytes) → items_from (Some (kind, bytes)) ≡ Err field
+lacks_again : (kind : Line) (bytes : List ℕ) (field : RequestField) → LacksEntry kind bytes field ⊎ ((field ≡ LineEnd) × LacksEnd kind bytes) → items_from (Some (kind, bytes)) ≡ Err field
 lacks_again kind bytes field (inl lacks) = fault_at (kind, bytes) field (ap (Step kind) (item_lacks kind bytes field lacks))
 lacks_again kind bytes field (inr lacks) =
     let end = lacks.1 in
     let none : behind_item kind end.rest ≡ Err LineEnd = rw (end.no_slash, end.no_equals) refl in
     let step : step_at (kind, entry_text end.entry ++ end.rest) ≡ Err LineEnd = step_of kind end.entry end.rest end.is_entry end.ends ∙ ap (Behind kind (asked end.entry)) none in
     ap (λ (l : List ℕ). items_from (Some (kind, l))) end.spelled ∙ fault_at (kind, entry_text end.entry ++ end.rest) LineEnd step
-    ∙ ap (λ (f : ReqField). let r : Result (List Item) ReqField = Err f in r) (sym lacks.0)
+    ∙ ap (λ (f : RequestField). let r : Result (List Item) RequestField = Err f in r) (sym lacks.0)
 
-line_stops : (kind : Line) (bytes : List ℕ) (field : ReqField) → StopsInLine kind bytes field → items_from (Some (kind, bytes)) ≡ Err field
+line_stops : (kind : Line) (bytes : List ℕ) (field : RequestField) → StopsInLine kind bytes field → items_from (Some (kind, bytes)) ≡ Err field
 line_stops kind bytes field s =
     ap (λ (l : List ℕ). items_from (Some (kind, l))) s.spelled ∙ slash_again kind s.before s.rest s.are_entries
     ∙ ap (Prepend (map asked s.before)) (lacks_again kind s.rest field s.lacks)
 
-start_stops : (rest : List ℕ) (field : ReqField) → StopsAtLine rest field → opened (line_start_at rest) ≡ Err field
+start_stops : (rest : List ℕ) (field : RequestField) → StopsAtLine rest field → opened (line_start_at rest) ≡ Err field
 unfolding items_from
-start_stops rest field (inl s) = ap opened (start_lacks rest s.1) ∙ ap (λ (f : ReqField). let r : Result (List Item) ReqField = Err f in r) (sym s.0)
+start_stops rest field (inl s) = ap opened (start_lacks rest s.1) ∙ ap (λ (f : RequestField). let r : Result (List Item) RequestField = Err f in r) (sym s.0)
 start_stops rest field (inr (kind, bytes, spelled, s)) =
     ap (λ (l : List ℕ). opened (line_start_at l)) spelled ∙ ap opened (start_again kind bytes) ∙ line_stops kind bytes field s
 
-stops_again : (asker : List ℕ) (lines : List AskedLine) (rest : List ℕ) (field : ReqField) → IsAsker asker → AllByRecursion IsLine lines → (rest ≡ [] → lines ≡ []) → StopsAtLine rest field
+stops_again : (asker : List ℕ) (lines : List AskedLine) (rest : List ℕ) (field : RequestField) → IsAsker asker → AllByRecursion IsLine lines → (rest ≡ [] → lines ≡ []) → StopsAtLine rest field
     → request_at (asker ++ (lines_text lines ++ rest)) ≡ Err field
 stops_again asker [] rest field is all goes s = behind_of asker rest is ∙ start_stops rest field s
 stops_again asker (line ∷ more) rest field is all goes s =
@@ -499,18 +499,18 @@ stops_again asker (line ∷ more) rest field is all goes s =
     behind_of asker (lines_text (line ∷ more) ++ rest) is ∙ opened_lines line more rest all
     ∙ ap (Prepend (lines_items (line ∷ more))) (after_opens rest some ∙ start_stops rest field s)
 
-pub fault_again : (text : List ℕ) (field : ReqField) → StopsAt text field → request_at text ≡ Err field
+pub fault_again : (text : List ℕ) (field : RequestField) → StopsAt text field → request_at text ≡ Err field
 fault_again text field (inl (same, none)) = go (capitals_at 4 Cccc text) refl (capitals_view text)
   where
-    go : (r : Result (List ℕ × List ℕ) Field) → capitals_at 4 Cccc text ≡ r → CapitalsView text r → request_at text ≡ Err field
+    go : (r : Result (List ℕ × List ℕ) MessageField) → capitals_at 4 Cccc text ≡ r → CapitalsView text r → request_at text ≡ Err field
     go (Ok read) is v = absurd (none read.0 read.1 v.0 v.1)
-    go (Err f) is v = fault_of_first text Asker (ap behind_asker is) ∙ ap (λ (e : ReqField). let r : Result (List Item) ReqField = Err e in r) (sym same)
+    go (Err f) is v = fault_of_first text Asker (ap behind_asker is) ∙ ap (λ (e : RequestField). let r : Result (List Item) RequestField = Err e in r) (sym same)
 fault_again text field (inr s) = ap request_at s.spelled ∙ stops_again s.asker s.lines s.rest field s.is_asker s.are_lines s.goes_on s.stops
 
 -- ---- both ways
 
 pub items_both : (text : List ℕ) (items : List Item) → (request_at text ≡ Ok items) ↔ IsRequestFor text items
-items_both text items = (λ e. let P : Result (List Item) ReqField → Type 0 = λ r. TextView text r in subst P e (text_view text), items_again text items)
+items_both text items = (λ e. let P : Result (List Item) RequestField → Type 0 = λ r. TextView text r in subst P e (text_view text), items_again text items)
 
-pub fault_both : (text : List ℕ) (field : ReqField) → (request_at text ≡ Err field) ↔ StopsAt text field
-fault_both text field = (λ e. let P : Result (List Item) ReqField → Type 0 = λ r. TextView text r in subst P e (text_view text), fault_again text field)
+pub fault_both : (text : List ℕ) (field : RequestField) → (request_at text ≡ Err field) ↔ StopsAt text field
+fault_both text field = (λ e. let P : Result (List Item) RequestField → Type 0 = λ r. TextView text r in subst P e (text_view text), fault_again text field)

@@ -5,8 +5,8 @@ unfoldable pub use Rattle.gts_request.specs.Request.{request_at}
 pub use Rattle.gts_request.specs.Grammar.{AskedLine, EndsBefore, Entry, IsAsker, IsEntry, IsLine, IsRequestFor, Lacks, LacksEnd, LacksEntry, LacksLine, LacksNumber, Latest, One, Range, StopsAt, StopsAtLine, StopsInLine, asked, entry_text, line_items, line_start, line_text, lines_items, lines_text, slashed}
 pub use Rattle.gts_request.specs.Places.{item_of, next_of, place_of, read_of, step_of}
 unfoldable pub use Rattle.gts_request.specs.Places.{items_from, items_left}
-pub use Rattle.gts_request.specs.declared.fault.ReqField.{ReqField}
-pub use Rattle.gts_request.specs.declared.fault.ReqField.TheVariants.{AskedHeading, Asker, LineEnd, LineStart, Number}
+pub use Rattle.gts_request.specs.declared.fault.RequestField.{RequestField}
+pub use Rattle.gts_request.specs.declared.fault.RequestField.TheVariants.{AskedHeading, Asker, LineEnd, LineStart, Number}
 pub use Rattle.gts_request.specs.declared.line.Line.{Line}
 pub use Rattle.gts_request.specs.declared.line.Line.TheVariants.{Ahd, Sqn}
 unfoldable pub use Below.*

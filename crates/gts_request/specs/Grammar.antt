@@ -2,8 +2,8 @@
 -- Manual's form). Nothing here reads from left to right.
 use Rattle.std.specs.Prelude.{◌≡◌, ◌⊎◌, ℕ, ◌^◌, ◌<◌, false, nat_eq, List, [], ◌∷◌, ◌++◌, length, map, Ok, IsTrue, codes}
 use Rattle.gts_request.specs.Cited.Below.{AllByRecursion, EOL, HeadingFields, IsCount, IsHeading, are_capitals, bare_heading_at, dec, heading_text, starts_with}
-use Rattle.gts_request.specs.declared.fault.ReqField.{ReqField}
-use Rattle.gts_request.specs.declared.fault.ReqField.TheVariants.{Asker, LineStart, Number, AskedHeading, LineEnd}
+use Rattle.gts_request.specs.declared.fault.RequestField.{RequestField}
+use Rattle.gts_request.specs.declared.fault.RequestField.TheVariants.{Asker, LineStart, Number, AskedHeading, LineEnd}
 use Rattle.gts_request.specs.declared.line.Line.{Line}
 use Rattle.gts_request.specs.declared.line.Line.TheVariants.{Sqn, Ahd}
 use Rattle.gts_request.specs.Request.{Item, Numbers, OfHeading, run_at}
@@ -108,7 +108,7 @@ abbrev pub LacksHeading : List ℕ → Type 0
 LacksHeading bytes = (found : HeadingFields × List ℕ) → bare_heading_at bytes ≡ Ok found → ⊥
 
 -- where an entry must stand, the first field that isn't there
-abbrev pub LacksEntry : Line → List ℕ → ReqField → Type 0
+abbrev pub LacksEntry : Line → List ℕ → RequestField → Type 0
 LacksEntry kind bytes Asker = ⊥
 LacksEntry kind bytes LineStart = ⊥
 LacksEntry kind bytes Number = (kind ≡ Sqn) × LacksNumber bytes
@@ -126,7 +126,7 @@ pub record LacksEnd (kind : Line) (bytes : List ℕ) : Type 0 where
   pub no_equals : Lacks (61 ∷ []) rest
 
 -- behind so many entries of a line, each with `/` behind it, an entry or its end isn't there
-pub record StopsInLine (kind : Line) (bytes : List ℕ) (field : ReqField) : Type 0 where
+pub record StopsInLine (kind : Line) (bytes : List ℕ) (field : RequestField) : Type 0 where
   pub before : List Entry
   pub rest : List ℕ
   pub are_entries : AllByRecursion (IsEntry kind) before
@@ -137,13 +137,13 @@ abbrev pub LacksLine : List ℕ → Type 0
 LacksLine bytes = Lacks (line_start Sqn) bytes × Lacks (line_start Ahd) bytes
 
 -- where a line must stand, its start isn't there, or it stops
-abbrev pub StopsAtLine : List ℕ → ReqField → Type 0
+abbrev pub StopsAtLine : List ℕ → RequestField → Type 0
 StopsAtLine bytes field =
     ((field ≡ LineStart) × LacksLine bytes)
     ⊎ ((kind : Line) × (rest : List ℕ) × (bytes ≡ line_start kind ++ rest) × StopsInLine kind rest field)
 
 -- behind an asker and the lines that are whole (behind none of them also at the text's end) a line stops
-pub record StopsInText (text : List ℕ) (field : ReqField) : Type 0 where
+pub record StopsInText (text : List ℕ) (field : RequestField) : Type 0 where
   pub asker : List ℕ
   pub lines : List AskedLine
   pub rest : List ℕ
@@ -154,5 +154,5 @@ pub record StopsInText (text : List ℕ) (field : ReqField) : Type 0 where
   pub stops : StopsAtLine rest field
 
 -- the longest front that the grammar goes on through ends at this field
-abbrev pub StopsAt : List ℕ → ReqField → Type 0
+abbrev pub StopsAt : List ℕ → RequestField → Type 0
 StopsAt text field = ((field ≡ Asker) × ((asker rest : List ℕ) → IsAsker asker → text ≡ asker ++ rest → ⊥)) ⊎ StopsInText text field

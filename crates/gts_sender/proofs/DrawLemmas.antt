@@ -1,8 +1,8 @@
 -- The turns of a sender.
 use Rattle.std.proofs.Common.{◌≡◌, ℕ, ◌≤◌, Bool, Result, zero, suc, ◌+◌, List, [], ◌∷◌, ◌++◌, length, Some, None, true, false, Ok, Err, refl, sym, ap, ◌∙◌, subst, arith, append_assoc, length-append, replicate}
 use Rattle.std.proofs.lemmas.List.{append-nil, map-append}
-use Rattle.gts_sender.specs.Cited.{Accepted, AddsAll, AddsEntries, AnswersTake, Asked, Breaks, Directory, DiskFault, Done, Doubt, Draw, Duplicate, Entry, Fails, Frame, Full, Gave, GaveAll, GaveNoMore, Idle, IsFront, LeavesFrame, LineLost, NoMemory, Nothing, Outcome, Refused, Resend, SayFault, Seen, SendEnd, Sending, SendsMore, Spent, State, Stopped, SwitchFault, Taken, TakesSome, TookLast, WroteFrames, WroteGiven, WroteUpTo, after, after_all, after_takes, begun, fault_takes, frames, given_index, line, most_beside, outcome, own, own_frames, state_at, takes, texts, under}
-use Rattle.gts_desk.proofs.LawLemmas.{own_added, frames_added, frames_behind, frames_one, own_spent, frames_spent, goes_on, goes_on_spent, goes_further, stays}
+use Rattle.gts_sender.specs.Cited.{Accepted, AddsAll, AddsEntries, AnswersTake, Asked, Breaks, Directory, DiskFault, Done, Doubt, Draw, Duplicate, Entry, Fails, Frame, Full, Gave, GaveAll, GaveNoMore, Idle, IsFront, LeavesFrame, LineLost, NoMemory, Nothing, Outcome, Refused, Resend, SayFault, Seen, SendEnd, Sending, SendsMore, Spent, State, Stopped, SwitchFault, Taken, TakesSome, TookLast, WroteFrames, WroteGiven, WroteUpTo, after, after_all, after_takes, begun, fault_takes, frame_of_draw, frames, given_index, most_beside, outcome, own, own_frames, state_at, takes, texts, under}
+use Rattle.gts_calls.proofs.LawLemmas.{own_added, frames_added, frames_behind, frames_one, own_spent, frames_spent, goes_on, goes_on_spent, goes_further, stays}
 use Rattle.gts_sender.specs.declared.end.SendEnd.TheVariants as ends
 use Rattle.gts_sender.proofs.TurnLemmas.{taken, one_take, takes_plus, state_behind, gave_nothing, frames_given, frames_no_more, gave_front}
 
@@ -62,8 +62,8 @@ module _ (c : ℕ) (first old new : Seen) (sent : List ℕ) (so_far : Sending c 
         let k : ℕ = length front in
         let g : GaveAll old.directory s c front × Gave old.directory (after_takes old.directory s c k) c frame =
         gave_front old.directory s c front frame back (subst (GaveAll old.directory s c) parts gave) in
-        let text : frame.text ≡ line new.directory (after new.directory (state_at new (up_to k)) (Taken c)) c frame.index =
-        g.1.text ∙ sym (same_there (λ d t. line d (after d t (Taken c)) c frame.index) k) in
+        let text : frame.text ≡ frame_of_draw new.directory (after new.directory (state_at new (up_to k)) (Taken c)) c frame.index =
+        g.1.text ∙ sym (same_there (λ d t. frame_of_draw d (after d t (Taken c)) c frame.index) k) in
         record {
           desk = goes_further first old new so_far.desk (goes_on old new (takes c n) turn);
           count = so_far.count + n;
@@ -186,9 +186,9 @@ module _ (c : ℕ) (old new : Seen) (given : List Frame) where
 
 -- one that gave the frame of an index left that frame
 left_line : (d : Directory) (s : State) (c : ℕ) (out : List ℕ) (o : Outcome) (index : ℕ) → LeavesFrame d c out o s → given_index o ≡ Some index
-    → out ≡ line d (after d s (Taken c)) c index
-left_line d s c out (Resend k) index leaves is = let e : k ≡ index = cc is in leaves ∙ ap (line d (after d s (Taken c)) c) e
-left_line d s c out (Draw k) index leaves is = let e : k ≡ index = cc is in leaves ∙ ap (line d (after d s (Taken c)) c) e
+    → out ≡ frame_of_draw d (after d s (Taken c)) c index
+left_line d s c out (Resend k) index leaves is = let e : k ≡ index = cc is in leaves ∙ ap (frame_of_draw d (after d s (Taken c)) c) e
+left_line d s c out (Draw k) index leaves is = let e : k ≡ index = cc is in leaves ∙ ap (frame_of_draw d (after d s (Taken c)) c) e
 left_line d s c out (Accepted position circuits) index leaves is = absurd (cc is)
 left_line d s c out (Duplicate position) index leaves is = absurd (cc is)
 left_line d s c out (Asked found missing) index leaves is = absurd (cc is)

@@ -1,10 +1,10 @@
 -- The takes of one turn, and the frames that they gave.
 use Rattle.std.proofs.Common.{◌≡◌, ◌⊎◌, ℕ, zero, suc, ◌+◌, List, [], ◌∷◌, ◌++◌, length, Some, None, inl, inr, refl, sym, ap, ◌∙◌, add-one, replicate}
 use Rattle.std.proofs.lemmas.List.{append-nil, map-append, replicate-append-replicate}
-use Rattle.gts_sender.specs.Cited.{Accepted, Asked, Choice, Directory, Done, Draw, Draws, Duplicate, Entry, Frame, Gave, GaveAll, GaveNoMore, LineLost, Nothing, Nothing_waits, Outcome, Refused, Repeats, Resend, State, Taken, after, after_all, after_takes, choice, frame_of, frame_of_outcome, frames, given_index, line, outcome, takes, texts, under}
+use Rattle.gts_sender.specs.Cited.{Accepted, Asked, Choice, Directory, Done, Draw, Draws, Duplicate, Entry, Frame, Gave, GaveAll, GaveNoMore, LineLost, Nothing, Nothing_waits, Outcome, Refused, Repeats, Resend, State, Taken, after, after_all, after_takes, choice, frame_of, frame_of_draw, frame_of_outcome, frames, given_index, outcome, takes, texts, under}
 use Rattle.gts_event.proofs.LawLemmas.{after_all-append}
-use Rattle.gts_desk.specs.{entries}
-use Rattle.gts_desk.proofs.LawLemmas.{frames_append, frames_one}
+use Rattle.gts_calls.specs.{entries}
+use Rattle.gts_calls.proofs.LawLemmas.{frames_append, frames_one}
 
 abbrev pub taken : ℕ → Entry
 taken c = Done (Taken c)
@@ -53,9 +53,9 @@ pub gave_nothing : (d : Directory) (s : State) (c : ℕ) (o : Outcome) → o ≡
 gave_nothing d s c o is none = no_frame (choice d s c) o is none
 
 -- one that gave the frame of an index gave its line
-given_line : (d : Directory) (t : State) (c : ℕ) (o : Outcome) (index : ℕ) → given_index o ≡ Some index → frame_of_outcome d t c o ≡ line d t c index
-given_line d t c (Resend k) index is = let e : k ≡ index = cc is in ap (line d t c) e
-given_line d t c (Draw k) index is = let e : k ≡ index = cc is in ap (line d t c) e
+given_line : (d : Directory) (t : State) (c : ℕ) (o : Outcome) (index : ℕ) → given_index o ≡ Some index → frame_of_outcome d t c o ≡ frame_of_draw d t c index
+given_line d t c (Resend k) index is = let e : k ≡ index = cc is in ap (frame_of_draw d t c) e
+given_line d t c (Draw k) index is = let e : k ≡ index = cc is in ap (frame_of_draw d t c) e
 given_line d t c (Accepted position circuits) index is = absurd (cc is)
 given_line d t c (Duplicate position) index is = absurd (cc is)
 given_line d t c (Asked found missing) index is = absurd (cc is)

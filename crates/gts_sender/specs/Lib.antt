@@ -1,3 +1,3 @@
 pub mod Sender
 pub mod Cited
-pub use Rattle.gts_desk.specs.Given.{takes}
+pub use Rattle.gts_calls.specs.Given.{takes}

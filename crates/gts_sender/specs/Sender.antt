@@ -1,6 +1,6 @@
 -- What a sender adds at its desk, and what it writes.
 use Rattle.std.specs.Prelude.{◌≡◌, ℕ, ◌≤◌, Bool, true, false, List, [], ◌∷◌, ◌++◌, replicate, Option, Some, None, Result, Ok, Err}
-use Rattle.gts_sender.specs.Cited.Below.{Answers, DiskFault, Done, Doubt, Entry, Frame, GoesOn, IsFront, LeavesFrame, NoMemory, Nothing, Outcome, SayFault, Seen, Spent, SwitchFault, Taken, after, begun, entry_of, frames, given_index, line, most_beside, outcome, own, own_frames, state_at, takes, under}
+use Rattle.gts_sender.specs.Cited.Below.{Answers, DiskFault, Done, Doubt, Entry, Frame, GoesOn, IsFront, LeavesFrame, NoMemory, Nothing, Outcome, SayFault, Seen, Spent, SwitchFault, Taken, after, begun, entry_of, frame_of_draw, frames, given_index, most_beside, outcome, own, own_frames, state_at, takes, under}
 use Rattle.gts_sender.specs.declared.end.SendEnd.{SendEnd}
 use Rattle.gts_sender.specs.declared.end.SendEnd.TheVariants.{Quiet, LineFault, Fault}
 
@@ -67,7 +67,7 @@ pub record Breaks (c index : ℕ) (old new : Seen) (bytes : List ℕ) : Type 0 w
   pub whole : List ℕ
   pub part : List ℕ
   pub drawn : frames new.directory (begun new.start) new.name before ≡ own_frames old ++ whole
-  pub front : IsFront part (line new.directory (after new.directory (state_at new before) (Taken c)) c index)
+  pub front : IsFront part (frame_of_draw new.directory (after new.directory (state_at new before) (Taken c)) c index)
   pub bytes_are : bytes ≡ whole ++ part
 
 -- The entries of takes on c that were answered with this fault in one turn, so many beside the first: they are in doubt, all together; or

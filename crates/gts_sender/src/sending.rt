@@ -3,10 +3,10 @@ ghost use Rattle.gts_sender.specs.Cited.{LineStood, Rose, Sends, SendsMore, Wrot
 
 use crate::SendEnd;
 use crate::writing::{write_all, write_frames};
-use gts_bell::{Bell, Look};
-use gts_desk::{Desk, Frames, Given};
+use gts_calls::{Desk, Frames, Given};
 use gts_event::Outcome;
 use gts_frame::FrameBuf;
+use gts_lock::{Bell, Look};
 use gts_traits::{Failed, Gate, Point, Sink};
 use std::sync::Wait;
 
@@ -24,7 +24,7 @@ pub fn send<R: Wait, D: Desk, K: Sink, G: Gate>(
 ) -> SendEnd
     requires { c < length (D.seen desk.old).directory.circuits }
     ensures sent { (bytes : List ℕ) × Sends c (D.seen desk.old) (D.seen desk.new) bytes result
-        × (K.tells → K.written sink.new ≡ K.written sink.old ++ bytes) }
+        × (K.observed → K.written sink.new ≡ K.written sink.old ++ bytes) }
     ensures later { K.faults sink.old ≤ K.faults sink.new }
     ensures fault { (index : ℕ) → result ≡ SendEnd.LineFault index
         → Rose (K.faults sink.old) (K.faults sink.new) }
@@ -48,7 +48,7 @@ pub fn send<R: Wait, D: Desk, K: Sink, G: Gate>(
 
 /// Lets the sink keep its line alive, and sleeps at the bell, at most until the sink wants to be asked again.
 fn rest<R: Wait, K: Sink>(rt: &R, sink: &mut K, bell: &Bell, seen: Look)
-    ensures unwritten { K.tells → K.written sink.new ≡ K.written sink.old }
+    ensures unwritten { K.observed → K.written sink.new ≡ K.written sink.old }
     ensures sound { K.faults sink.new ≡ K.faults sink.old }
 {
     match sink.nothing_due() {
@@ -69,7 +69,7 @@ fn send_some<D: Desk, K: Sink, G: Gate>(
     ensures directory { (D.seen desk.new).directory ≡ (D.seen desk.old).directory }
     ensures tried { (bytes : List ℕ)
         × SendsMore c (D.seen desk.old) (D.seen desk.new) bytes result
-        × (K.tells → K.written sink.new ≡ K.written sink.old ++ bytes) }
+        × (K.observed → K.written sink.new ≡ K.written sink.old ++ bytes) }
     ensures later { K.faults sink.old ≤ K.faults sink.new }
     ensures fault { (index : ℕ) → result ≡ Err (SendEnd.LineFault index)
         → Rose (K.faults sink.old) (K.faults sink.new) }
@@ -94,7 +94,7 @@ fn pass_sent<G: Gate>(c: u32, frames: &Frames, gate: &G) {
 /// Writes the frame that a take with this outcome left in `out`. False where it gave none.
 pub fn write_given<K: Sink>(outcome: Outcome, sink: &mut K, out: &FrameBuf) -> Result<bool, SendEnd>
     ensures wrote { (bytes : List ℕ) × WroteGiven outcome out.now bytes result
-        × (K.tells → K.written sink.new ≡ K.written sink.old ++ bytes) }
+        × (K.observed → K.written sink.new ≡ K.written sink.old ++ bytes) }
     ensures later { K.faults sink.old ≤ K.faults sink.new }
     ensures fault { (index : ℕ) → result ≡ Err (SendEnd.LineFault index)
         → Rose (K.faults sink.old) (K.faults sink.new) }

@@ -6,11 +6,11 @@ use Rattle.gts_standby.specs.Cited.{Accept, Breaks, Call, Core, Directory, Drew,
 use Rattle.gts_record.specs.Record.{record_at}
 use Rattle.gts_record.proofs.LawLemmas.{record_at-found, sealed_at-stands, sealed_fits, length-sealed}
 
-pub holds_of : (tells : Type 0) (d : Directory) (calls : List Call) (core : Core) (j : InHand) (o : IsOpened tells d calls core j) → HoldsAt tells d o.state calls core j
-holds_of tells d calls core j o = record { kept = o.kept; current = o.current; ended = o.ended; stands = o.stands }
+pub holds_of : (observed : Type 0) (d : Directory) (calls : List Call) (core : Core) (j : InHand) (o : IsOpened observed d calls core j) → HoldsAt observed d o.state calls core j
+holds_of observed d calls core j o = record { kept = o.kept; current = o.current; ended = o.ended; stands = o.stands }
 
-pub opened_by : (tells : Type 0) (d : Directory) (s : State) (calls : List Call) (core : Core) (j : InHand) → HoldsAt tells d s calls core j → IsOpened tells d calls core j
-opened_by tells d s calls core j h = record { state = s; kept = h.kept; current = h.current; ended = h.ended; stands = h.stands }
+pub opened_by : (observed : Type 0) (d : Directory) (s : State) (calls : List Call) (core : Core) (j : InHand) → HoldsAt observed d s calls core j → IsOpened observed d calls core j
+opened_by observed d s calls core j h = record { state = s; kept = h.kept; current = h.current; ended = h.ended; stands = h.stands }
 
 pub gate_so : (used : ℕ) (j : InHand) → used ≡ cond j.ended (j.gate + 1) j.gate → j.ended ≡ true → used - 1 ≡ j.gate
 gate_so used j is ended = let e : used ≡ j.gate + 1 = is ∙ ap (λ (b : Bool). cond b (j.gate + 1) j.gate) ended in omega (arith, e)

@@ -4,7 +4,7 @@ use Rattle.gts_standby.specs.Cited.{Call, Damaged, Did, Directory, GoesOnBehind,
 use Rattle.gts_checkpoint.specs.Reading.{HasRead}
 use Rattle.std.proofs.lemmas.Bool.{and_parts}
 use Rattle.std.proofs.lemmas.List.{take_at, append-nil}
-use Rattle.gts_say.proofs.SayLemmas.{said_none}
+use Rattle.gts_traits.proofs.SayLemmas.{said_none}
 use Rattle.gts_record.specs.declared.fault.OpenFault.TheVariants as opening
 use Rattle.gts_record.proofs.LawLemmas.{length-sealed}
 use Rattle.gts_journal.proofs.LawLemmas.{faulty_header, opens_behind}

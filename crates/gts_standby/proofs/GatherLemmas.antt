@@ -64,7 +64,7 @@ refused_there at before fed left r found = record {
 
 -- ---- the core holds the state behind the records
 
-module _ (tells stells : Type 0) (d : Directory) (s : State) (rs : List Record) (calls : List Call) (core : Core) (g : Gathering) (h : HoldsBehind tells d s rs calls core g) (ahead : InFeed) (left : List ℕ)
+module _ (observed stells : Type 0) (d : Directory) (s : State) (rs : List Record) (calls : List Call) (core : Core) (g : Gathering) (h : HoldsBehind observed d s rs calls core g) (ahead : InFeed) (left : List ℕ)
     (size : ℕ) (core_now : Core) (next : Gathering) (ahead_now : InFeed) (left_now : List ℕ) (one : HasGatheredOne stells d core g ahead left size core_now next ahead_now left_now) where
   abbrev t : State
   t = after_records d s rs
@@ -103,7 +103,7 @@ module _ (tells stells : Type 0) (d : Directory) (s : State) (rs : List Record) 
       (next_more d s g.journal rs r g.batch next.batch h.stands.current h.stands.next one.version more (record { fits = one.fits; admitted = subst P at ok }))
 
   -- so it does behind one more
-  pub held_one : HoldsBehind tells d s (rs ++ r ∷ []) calls core_now next
+  pub held_one : HoldsBehind observed d s (rs ++ r ∷ []) calls core_now next
   held_one = record {
     stands = record {
       next = next_now;
@@ -116,11 +116,11 @@ module _ (tells stells : Type 0) (d : Directory) (s : State) (rs : List Record) 
     kept = kept_now;
   }
 
-pub gathered_of : (tells : Type 0) (d : Directory) (calls : List Call) (core : Core) (g : Gathering) → IsGathering tells d calls core g → IsGathered tells d calls g
-gathered_of tells d calls core g o = record { settled = o.settled; records = o.records; stands = o.holds.stands }
+pub gathered_of : (observed : Type 0) (d : Directory) (calls : List Call) (core : Core) (g : Gathering) → IsGathering observed d calls core g → IsGathered observed d calls g
+gathered_of observed d calls core g o = record { settled = o.settled; records = o.records; stands = o.holds.stands }
 
-pub can_gather : (tells : Type 0) (d : Directory) (calls : List Call) (core : Core) (g : Gathering) → IsGathering tells d calls core g → CanGather d core g
-can_gather tells d calls core g o = record {
+pub can_gather : (observed : Type 0) (d : Directory) (calls : List Call) (core : Core) (g : Gathering) → IsGathering observed d calls core g → CanGather d core g
+can_gather observed d calls core g o = record {
   state = after_records d o.settled o.records;
   kept = o.holds.kept;
   seal_is = o.holds.stands.seal_is;
@@ -128,30 +128,30 @@ can_gather tells d calls core g o = record {
   version = o.holds.stands.next.version ∙ o.holds.stands.current;
 }
 
-pub gathered_one : (tells stells : Type 0) (d : Directory) (calls : List Call) (core : Core) (g : Gathering) (ahead : InFeed) (left : List ℕ) (size : ℕ) (core_now : Core) (next : Gathering) (ahead_now : InFeed) (left_now : List ℕ)
-    → IsGathering tells d calls core g → HasGatheredOne stells d core g ahead left size core_now next ahead_now left_now → IsGathering tells d calls core_now next
-gathered_one tells stells d calls core g ahead left size core_now next ahead_now left_now o one = record {
+pub gathered_one : (observed stells : Type 0) (d : Directory) (calls : List Call) (core : Core) (g : Gathering) (ahead : InFeed) (left : List ℕ) (size : ℕ) (core_now : Core) (next : Gathering) (ahead_now : InFeed) (left_now : List ℕ)
+    → IsGathering observed d calls core g → HasGatheredOne stells d core g ahead left size core_now next ahead_now left_now → IsGathering observed d calls core_now next
+gathered_one observed stells d calls core g ahead left size core_now next ahead_now left_now o one = record {
   settled = o.settled;
   records = o.records ++ one.r ∷ [];
-  holds = held_one tells stells d o.settled o.records calls core g o.holds ahead left size core_now next ahead_now left_now one;
+  holds = held_one observed stells d o.settled o.records calls core g o.holds ahead left size core_now next ahead_now left_now one;
 }
 
-pub gate_grows : (tells stells : Type 0) (d : Directory) (calls : List Call) (core : Core) (g : Gathering) (ahead : InFeed) (left : List ℕ) (size : ℕ) (core_now : Core) (next : Gathering) (ahead_now : InFeed) (left_now : List ℕ)
-    → IsGathering tells d calls core g → HasGatheredOne stells d core g ahead left size core_now next ahead_now left_now → gate_behind next ≡ gate_behind g + size + 1
-gate_grows tells stells d calls core g ahead left size core_now next ahead_now left_now o one =
-    omega (arith, gate_on tells stells d o.settled o.records calls core g o.holds ahead left size core_now next ahead_now left_now one, one.size_is)
+pub gate_grows : (observed stells : Type 0) (d : Directory) (calls : List Call) (core : Core) (g : Gathering) (ahead : InFeed) (left : List ℕ) (size : ℕ) (core_now : Core) (next : Gathering) (ahead_now : InFeed) (left_now : List ℕ)
+    → IsGathering observed d calls core g → HasGatheredOne stells d core g ahead left size core_now next ahead_now left_now → gate_behind next ≡ gate_behind g + size + 1
+gate_grows observed stells d calls core g ahead left size core_now next ahead_now left_now o one =
+    omega (arith, gate_on observed stells d o.settled o.records calls core g o.holds ahead left size core_now next ahead_now left_now one, one.size_is)
 
 -- ---- what was gathered is brought
 
-pub brings_none : (tells : Type 0) (d : Directory) (s : State) (rs : List Record) (calls : List Call) (g : Gathering) → StandsBehind tells d s rs calls g → length g.batch.text ≡ 1 → HasBrought tells d s rs g calls g
-brings_none tells d s rs calls g h one =
+pub brings_none : (observed : Type 0) (d : Directory) (s : State) (rs : List Record) (calls : List Call) (g : Gathering) → StandsBehind observed d s rs calls g → length g.batch.text ≡ 1 → HasBrought observed d s rs g calls g
+brings_none observed d s rs calls g h one =
     let none : rs ≡ [] = none_gathered g.journal.seal rs g.batch h.next.gathers one in
-    let P : List Record → Type 0 = λ l. HasBrought tells d s l g calls g in
-    subst P (sym none) (record { stands = subst (λ (l : List Record). StandsBehind tells d s l calls g) none h; gate_is = refl; seal_is = refl })
+    let P : List Record → Type 0 = λ l. HasBrought observed d s l g calls g in
+    subst P (sym none) (record { stands = subst (λ (l : List Record). StandsBehind observed d s l calls g) none h; gate_is = refl; seal_is = refl })
 
-pub brings_all : (tells : Type 0) (d : Directory) (s : State) (rs : List Record) (old new : List Call) (g next : Gathering) → StandsBehind tells d s rs old g → next.journal ≡ beyond_block g.journal g.batch.text g.batch.seal
-    → next.batch ≡ no_records next.journal → next.seal ≡ g.seal → (tells → HasAppendedBlock old g.journal g.batch new next.journal) → HasBrought tells d s rs g new next
-brings_all tells d s rs old new g next h place emptied same appended =
+pub brings_all : (observed : Type 0) (d : Directory) (s : State) (rs : List Record) (old new : List Call) (g next : Gathering) → StandsBehind observed d s rs old g → next.journal ≡ beyond_block g.journal g.batch.text g.batch.seal
+    → next.batch ≡ no_records next.journal → next.seal ≡ g.seal → (observed → HasAppendedBlock old g.journal g.batch new next.journal) → HasBrought observed d s rs g new next
+brings_all observed d s rs old new g next h place emptied same appended =
     let t : State = after_records d s rs in
     let gate : next.journal.gate ≡ gate_behind g = ap (λ (k : InHand). k.gate) place in
     let at : gate_behind next ≡ gate_behind g = omega (arith, gate, ap (λ (b : Gathered). length b.text) emptied) in
@@ -170,35 +170,35 @@ brings_all tells d s rs old new g next h place emptied same appended =
     }
 
 -- nothing was done
-pub still_brings : (tells : Type 0) → tells → (d : Directory) (calls : List Call) (g : Gathering) → MayBring tells d calls g calls
-still_brings tells tell d calls g = λ s rs h. started calls (OpensToOneOf d s (after_records d s rs)) (λ files image. (refl, inl (images_open d s calls g.journal (h.stands tell) files image)))
+pub still_brings : (observed : Type 0) → observed → (d : Directory) (calls : List Call) (g : Gathering) → MayBring observed d calls g calls
+still_brings observed tell d calls g = λ s rs h. started calls (OpensToOneOf d s (after_records d s rs)) (λ files image. (refl, inl (images_open d s calls g.journal (h.stands tell) files image)))
 
 -- the place behind the records stays
-pub gate_stays : (tells : Type 0) (d : Directory) (old new : List Call) (g next : Gathering) → IsGathered tells d old g → MayHaveBrought tells d old g new next → gate_behind next ≡ gate_behind g
-gate_stays tells d old new g next o (inl same) = ap gate_behind same.1
-gate_stays tells d old new g next o (inr brings) = (brings o.settled o.records o.stands).gate_is
+pub gate_stays : (observed : Type 0) (d : Directory) (old new : List Call) (g next : Gathering) → IsGathered observed d old g → MayHaveBrought observed d old g new next → gate_behind next ≡ gate_behind g
+gate_stays observed d old new g next o (inl same) = ap gate_behind same.1
+gate_stays observed d old new g next o (inr brings) = (brings o.settled o.records o.stands).gate_is
 
 -- the core holds the state behind them still
-pub brought_holds : (tells : Type 0) (d : Directory) (s : State) (rs : List Record) (new : List Call) (core : Core) (g next : Gathering) → IsKept written d core (gate_behind g) (after_records d s rs)
-    → HasBrought tells d s rs g new next → HoldsBehind tells d (after_records d s rs) [] new core next
-brought_holds tells d s rs new core g next kept brought = record {
+pub brought_holds : (observed : Type 0) (d : Directory) (s : State) (rs : List Record) (new : List Call) (core : Core) (g next : Gathering) → IsKept written d core (gate_behind g) (after_records d s rs)
+    → HasBrought observed d s rs g new next → HoldsBehind observed d (after_records d s rs) [] new core next
+brought_holds observed d s rs new core g next kept brought = record {
   stands = brought.stands;
   kept = subst (λ (k : ℕ). IsKept written d core k (after_records d s rs)) (sym brought.gate_is) kept;
 }
 
-pub has_room : (tells : Type 0) (d : Directory) (old new : List Call) (core : Core) (g next : Gathering) → IsGathering tells d old core g → MayHaveBrought tells d old g new next → IsGathering tells d new core next
-has_room tells d old new core g next o (inl same) = subst (λ (x : Gathering). IsGathering tells d new core x) (sym same.1) (subst (λ (l : List Call). IsGathering tells d l core g) (sym same.0) o)
-has_room tells d old new core g next o (inr brings) = record {
+pub has_room : (observed : Type 0) (d : Directory) (old new : List Call) (core : Core) (g next : Gathering) → IsGathering observed d old core g → MayHaveBrought observed d old g new next → IsGathering observed d new core next
+has_room observed d old new core g next o (inl same) = subst (λ (x : Gathering). IsGathering observed d new core x) (sym same.1) (subst (λ (l : List Call). IsGathering observed d l core g) (sym same.0) o)
+has_room observed d old new core g next o (inr brings) = record {
   settled = after_records d o.settled o.records;
   records = [];
-  holds = brought_holds tells d o.settled o.records new core g next o.holds.kept (brings o.settled o.records o.holds.stands);
+  holds = brought_holds observed d o.settled o.records new core g next o.holds.kept (brings o.settled o.records o.holds.stands);
 }
 
 -- ---- nothing was gathered yet
 
-pub began : (tells : Type 0) (d : Directory) (s : State) (calls : List Call) (core : Core) (j : InHand) (g : Gathering) → HoldsAt tells d s calls core j → g.journal ≡ j → g.batch ≡ no_records j → held j.version g.seal ≡ j.seal
-    → HoldsBehind tells d s [] calls core g
-began tells d s calls core j g h journal batch seals =
+pub began : (observed : Type 0) (d : Directory) (s : State) (calls : List Call) (core : Core) (j : InHand) (g : Gathering) → HoldsAt observed d s calls core j → g.journal ≡ j → g.batch ≡ no_records j → held j.version g.seal ≡ j.seal
+    → HoldsBehind observed d s [] calls core g
+began observed d s calls core j g h journal batch seals =
     let gate : gate_behind g ≡ j.gate = omega (arith, ap (λ (k : InHand). k.gate) journal, ap (λ (b : Gathered). length b.text) batch) in
     record {
       stands = record {

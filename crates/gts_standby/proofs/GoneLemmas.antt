@@ -34,7 +34,7 @@ abbrev still : Directory → State → Gathering → ℕ → ℕ → List ℕ �
 still d t g n at fed = add_all written d n g.batch.seal t (gate_behind g) at fed
 
 -- The feed comes to the records that are in the journal, to those that were gathered, and to what it comes to from here on.
-pub record HasGone (tells : Type 0) (d : Directory) (s : State) (used : ℕ) (last : List ℕ) (all : Taken) (old : List Call) (calls : List Call) (core : Core) (g : Gathering) (at : ℕ) (ahead : InFeed) (left : List ℕ) : Type 0 where
+pub record HasGone (observed : Type 0) (d : Directory) (s : State) (used : ℕ) (last : List ℕ) (all : Taken) (old : List Call) (calls : List Call) (core : Core) (g : Gathering) (at : ℕ) (ahead : InFeed) (left : List ℕ) : Type 0 where
   pub done : List Record
   pub more : List Record
   pub settled : State
@@ -43,7 +43,7 @@ pub record HasGone (tells : Type 0) (d : Directory) (s : State) (used : ℕ) (la
   pub fed : List ℕ
   pub n : ℕ
   pub enough : length fed ≤ n
-  pub holds : HoldsBehind tells d settled more calls core g
+  pub holds : HoldsBehind observed d settled more calls core g
   pub read : HasRead fed ahead left
   pub records : all.records ≡ (done ++ more) ++ (still d (after_records d settled more) g n at fed).records
   pub end_is : all.end ≡ (still d (after_records d settled more) g n at fed).end
@@ -51,10 +51,10 @@ pub record HasGone (tells : Type 0) (d : Directory) (s : State) (used : ℕ) (la
   pub silent : said_by calls ≡ said_by old
   pub moments : EachSince old calls (OpensWithin d s all)
 
-pub begun_there : (tells : Type 0) → tells → (d : Directory) (s : State) (calls : List Call) (core : Core) (j : InHand) (g : Gathering) (at : ℕ) (ahead : InFeed) (left fed : List ℕ) (n : ℕ) → HoldsAt tells d s calls core j
-    → g.journal ≡ j → g.batch ≡ no_records j → HoldsBehind tells d s [] calls core g → HasRead fed ahead left → length fed ≤ n
-    → HasGone tells d s (j.gate + 1) j.seal (add_all written d n j.seal s j.gate at fed) calls calls core g at ahead left
-begun_there tells tell d s calls core j g at ahead left fed n h journal batch holds read enough =
+pub begun_there : (observed : Type 0) → observed → (d : Directory) (s : State) (calls : List Call) (core : Core) (j : InHand) (g : Gathering) (at : ℕ) (ahead : InFeed) (left fed : List ℕ) (n : ℕ) → HoldsAt observed d s calls core j
+    → g.journal ≡ j → g.batch ≡ no_records j → HoldsBehind observed d s [] calls core g → HasRead fed ahead left → length fed ≤ n
+    → HasGone observed d s (j.gate + 1) j.seal (add_all written d n j.seal s j.gate at fed) calls calls core g at ahead left
+begun_there observed tell d s calls core j g at ahead left fed n h journal batch holds read enough =
     let all : Taken = add_all written d n j.seal s j.gate at fed in
     let gate : gate_behind g ≡ j.gate = omega (arith, ap (λ (k : InHand). k.gate) journal, ap (λ (b : Gathered). length b.text) batch) in
     let same : all ≡ still d s g n at fed =
@@ -77,8 +77,8 @@ begun_there tells tell d s calls core j g at ahead left fed n h journal batch ho
       moments = started calls (OpensWithin d s all) (λ files image. AsBefore refl (images_open d s calls j (h.stands tell) files image));
     }
 
-module _ (tells stells : Type 0) (tell : tells) (stell : stells) (d : Directory) (s : State) (used : ℕ) (last : List ℕ) (all : Taken) (old mid : List Call) (core : Core) (x : Gathering) (at : ℕ) (ahead : InFeed) (left : List ℕ)
-    (g : HasGone tells d s used last all old mid core x at ahead left) where
+module _ (observed stells : Type 0) (tell : observed) (stell : stells) (d : Directory) (s : State) (used : ℕ) (last : List ℕ) (all : Taken) (old mid : List Call) (core : Core) (x : Gathering) (at : ℕ) (ahead : InFeed) (left : List ℕ)
+    (g : HasGone observed d s used last all old mid core x at ahead left) where
   abbrev t : State
   t = after_records d g.settled g.more
 
@@ -102,7 +102,7 @@ module _ (tells stells : Type 0) (tell : tells) (stell : stells) (d : Directory)
       let P : State → Type 0 = λ q. OpensTo d q files in
       WithFront (g.done ++ g.more) (still d t x g.n at g.fed).records g.records quiet (start_is (g.done ++ g.more) files (subst P both_so opens))
 
-  pub moments_on : (new : List Call) → MayBring tells d mid x new → EachSince old new (OpensWithin d s all)
+  pub moments_on : (new : List Call) → MayBring observed d mid x new → EachSince old new (OpensWithin d s all)
   moments_on new may = joined (OpensWithin d s all) (OpensToOneOf d g.settled t) old mid new [] g.moments silent_so (may g.settled g.more g.holds.stands) either_so
 
   -- what they read to
@@ -120,8 +120,8 @@ module _ (tells stells : Type 0) (tell : tells) (stell : stells) (d : Directory)
       ∙ sym (read-append d (s, used, last) g.done g.more)
 
   -- they were brought
-  pub all_brought : (new : List Call) (next : Gathering) → HasBrought tells d g.settled g.more x new next → said_by new ≡ said_by mid → MayBring tells d mid x new
-      → HasGone tells d s used last all old new core next at ahead left
+  pub all_brought : (new : List Call) (next : Gathering) → HasBrought observed d g.settled g.more x new next → said_by new ≡ said_by mid → MayBring observed d mid x new
+      → HasGone observed d s used last all old new core next at ahead left
   all_brought new next brought quiet may =
       let same : still d t x g.n at g.fed ≡ still d t next g.n at g.fed =
       ap (λ (k : ℕ). add_all written d g.n x.batch.seal t k at g.fed) (sym brought.gate_is)
@@ -139,7 +139,7 @@ module _ (tells stells : Type 0) (tell : tells) (stell : stells) (d : Directory)
         fed = g.fed;
         n = g.n;
         enough = g.enough;
-        holds = brought_holds tells d g.settled g.more new core x next g.holds.kept brought;
+        holds = brought_holds observed d g.settled g.more new core x next g.holds.kept brought;
         read = g.read;
         records = g.records ∙ ap (λ (y : Taken). (g.done ++ g.more) ++ y.records) same ∙ ap (λ (l : List Record). l ++ (still d t next g.n at g.fed).records) (sym (append-nil (g.done ++ g.more)));
         end_is = g.end_is ∙ ap (λ (y : Taken). y.end) same;
@@ -149,21 +149,21 @@ module _ (tells stells : Type 0) (tell : tells) (stell : stells) (d : Directory)
       }
 
   -- where there wasn't room
-  pub room_made : (new : List Call) (next : Gathering) → MayHaveBrought tells d mid x new next → said_by new ≡ said_by mid → MayBring tells d mid x new → HasGone tells d s used last all old new core next at ahead left
+  pub room_made : (new : List Call) (next : Gathering) → MayHaveBrought observed d mid x new next → said_by new ≡ said_by mid → MayBring observed d mid x new → HasGone observed d s used last all old new core next at ahead left
   room_made new next (inl same) quiet may =
-      subst (λ (y : Gathering). HasGone tells d s used last all old new core y at ahead left) (sym same.1) (subst (λ (l : List Call). HasGone tells d s used last all old l core x at ahead left) (sym same.0) g)
+      subst (λ (y : Gathering). HasGone observed d s used last all old new core y at ahead left) (sym same.1) (subst (λ (l : List Call). HasGone observed d s used last all old l core x at ahead left) (sym same.0) g)
   room_made new next (inr brings) quiet may = all_brought new next (brings g.settled g.more g.holds.stands) quiet may
 
   -- one more was gathered
   pub one_more : (size : ℕ) (core_now : Core) (next : Gathering) (ahead_now : InFeed) (left_now : List ℕ) → HasGatheredOne stells d core x ahead left size core_now next ahead_now left_now
-      → HasGone tells d s used last all old mid core_now next (at + size) ahead_now left_now
+      → HasGone observed d s used last all old mid core_now next (at + size) ahead_now left_now
   one_more size core_now next ahead_now left_now one =
       let r : Record = one.r in
       let found = one.read stell g.fed g.read in
-      let admitted = ok tells stells d g.settled g.more mid core x g.holds ahead left size core_now next ahead_now left_now one in
-      let gate = gate_on tells stells d g.settled g.more mid core x g.holds ahead left size core_now next ahead_now left_now one in
-      let seals = seal_on tells stells d g.settled g.more mid core x g.holds ahead left size core_now next ahead_now left_now one in
-      let states = state_on tells stells d g.settled g.more mid core x g.holds ahead left size core_now next ahead_now left_now one in
+      let admitted = ok observed stells d g.settled g.more mid core x g.holds ahead left size core_now next ahead_now left_now one in
+      let gate = gate_on observed stells d g.settled g.more mid core x g.holds ahead left size core_now next ahead_now left_now one in
+      let seals = seal_on observed stells d g.settled g.more mid core x g.holds ahead left size core_now next ahead_now left_now one in
+      let states = state_on observed stells d g.settled g.more mid core x g.holds ahead left size core_now next ahead_now left_now one in
       let here : record_behind written d x.batch.seal t (gate_behind x) g.fed ≡ Some r = next_is d x.batch.seal t (gate_behind x) g.fed r found.0 admitted in
       let rest : Taken = add_all written d (g.n - 1) (seal written x.batch.seal (record_text r)) (after d t (event_of_record r)) (gate_behind x + record_size written r) (at + (record_size written r - 1)) (drop (record_size written r - 1) g.fed) in
       let step : still d t x g.n at g.fed ≡ adding r rest = one_step d g.n x.batch.seal t (gate_behind x) at g.fed r g.enough here in
@@ -182,7 +182,7 @@ module _ (tells stells : Type 0) (tell : tells) (stell : stells) (d : Directory)
         fed = drop size g.fed;
         n = g.n - 1;
         enough = omega (arith, length-drop size g.fed, g.enough, one.size_is, some_text r, not_empty d x.batch.seal t (gate_behind x) g.fed r here);
-        holds = held_one tells stells d g.settled g.more mid core x g.holds ahead left size core_now next ahead_now left_now one;
+        holds = held_one observed stells d g.settled g.more mid core x g.holds ahead left size core_now next ahead_now left_now one;
         read = found.1;
         records = g.records ∙ ap (λ (y : Taken). (g.done ++ g.more) ++ y.records) step ∙ sym (append_assoc (g.done ++ g.more) (r ∷ []) rest.records)
             ∙ ap (λ (l : List Record). l ++ rest.records) joined_so ∙ ap (λ (y : Taken). (g.done ++ (g.more ++ r ∷ [])) ++ y.records) same;
@@ -194,13 +194,13 @@ module _ (tells stells : Type 0) (tell : tells) (stell : stells) (d : Directory)
 
   -- ---- at the feed's end
 
-  broke_off : (answer : FollowEnd) (new : List Call) (left_now : List ℕ) → (IsEnd answer → ⊥) → MayBring tells d mid x new → HasAdded answer d s used last all old new left_now
+  broke_off : (answer : FollowEnd) (new : List Call) (left_now : List ℕ) → (IsEnd answer → ⊥) → MayBring observed d mid x new → HasAdded answer d s used last all old new left_now
   broke_off answer new left_now fault may = record { ends = λ e. absurd (fault e); opened = λ e. absurd (fault e); reads = λ e. absurd (fault e); moments = moments_on new may }
 
-  pub disk_failed : (answer : FollowEnd) (new : List Call) (left_now : List ℕ) → answer ≡ DiskFault → MayBring tells d mid x new → HasAdded answer d s used last all old new left_now
+  pub disk_failed : (answer : FollowEnd) (new : List Call) (left_now : List ℕ) → answer ≡ DiskFault → MayBring observed d mid x new → HasAdded answer d s used last all old new left_now
   disk_failed answer new left_now is may = subst (λ (e : FollowEnd). HasAdded e d s used last all old new left_now) (sym is) (broke_off DiskFault new left_now (λ e. e) may)
 
-  ended : (answer : FollowEnd) (new : List Call) (next : Gathering) (left_now : List ℕ) → HasBrought tells d g.settled g.more x new next → MayBring tells d mid x new
+  ended : (answer : FollowEnd) (new : List Call) (next : Gathering) (left_now : List ℕ) → HasBrought observed d g.settled g.more x new next → MayBring observed d mid x new
       → record_behind written d x.batch.seal t (gate_behind x) g.fed ≡ None → StopsAt answer (cond (may_be_cut written g.fed) (stopped Ends) (stopped (Breaks at))) left_now
       → HasAdded answer d s used last all old new left_now
   ended answer new next left_now brought may none stops =
@@ -225,14 +225,14 @@ module _ (tells stells : Type 0) (tell : tells) (stell : stells) (d : Directory)
       }
 
   pub finished : (answer end : FollowEnd) (new : List Call) (y next : Gathering) (left_now : List ℕ) → IsFedEnd end → y ≡ x → GathersNone end stells d core x at ahead left left_now
-      → IsFinished answer end tells d mid y new next → MayBring tells d mid y new → HasAdded answer d s used last all old new left_now
+      → IsFinished answer end observed d mid y new next → MayBring observed d mid y new → HasAdded answer d s used last all old new left_now
   finished answer end new y next left_now kind same stops done may =
-      by_done (subst (λ (z : Gathering). IsFinished answer end tells d mid z new next) same done)
+      by_done (subst (λ (z : Gathering). IsFinished answer end observed d mid z new next) same done)
     where
-      may_here : MayBring tells d mid x new
-      may_here = subst (λ (z : Gathering). MayBring tells d mid z new) same may
+      may_here : MayBring observed d mid x new
+      may_here = subst (λ (z : Gathering). MayBring observed d mid z new) same may
 
-      by_end : (e : FollowEnd) → IsFedEnd e → GathersNone e stells d core x at ahead left left_now → HasBrought tells d g.settled g.more x new next → HasAdded e d s used last all old new left_now
+      by_end : (e : FollowEnd) → IsFedEnd e → GathersNone e stells d core x at ahead left left_now → HasBrought observed d g.settled g.more x new next → HasAdded e d s used last all old new left_now
       by_end Done kind none brought = let here = none stell t g.fed g.holds.kept g.read tt in ended Done new next left_now brought may_here here.0 here.1
       by_end (Feed place) kind none brought = let here = none stell t g.fed g.holds.kept g.read tt in ended (Feed place) new next left_now brought may_here here.0 here.1
       by_end SourceFault kind none brought = broke_off SourceFault new left_now (λ e. e) may_here
@@ -241,14 +241,14 @@ module _ (tells stells : Type 0) (tell : tells) (stell : stells) (d : Directory)
       by_end (Open fault) kind none brought = absurd kind
       by_end (Diverged index own fed) kind none brought = absurd kind
 
-      by_done : IsFinished answer end tells d mid x new next → HasAdded answer d s used last all old new left_now
+      by_done : IsFinished answer end observed d mid x new next → HasAdded answer d s used last all old new left_now
       by_done (inl both) =
           subst (λ (e : FollowEnd). HasAdded e d s used last all old new left_now) (sym both.0) (by_end end kind stops (both.1 g.settled g.more g.holds.stands))
       by_done (inr disk) = disk_failed answer new left_now disk may_here
 
 -- there was no memory at the beginning
-pub none_added : (tells : Type 0) → tells → (d : Directory) (s : State) (calls : List Call) (core : Core) (j : InHand) (all : Taken) (left : List ℕ) → HoldsAt tells d s calls core j → HasAdded NoMemory d s (j.gate + 1) j.seal all calls calls left
-none_added tells tell d s calls core j all left h = record {
+pub none_added : (observed : Type 0) → observed → (d : Directory) (s : State) (calls : List Call) (core : Core) (j : InHand) (all : Taken) (left : List ℕ) → HoldsAt observed d s calls core j → HasAdded NoMemory d s (j.gate + 1) j.seal all calls calls left
+none_added observed tell d s calls core j all left h = record {
   ends = λ e. absurd e;
   opened = λ e. absurd e;
   reads = λ e. absurd e;

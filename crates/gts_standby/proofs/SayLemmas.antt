@@ -4,7 +4,7 @@ use Rattle.std.proofs.Math.Seq.{take-add}
 use Rattle.std.proofs.lemmas.List.{append-nil, drop-drop, take_all}
 use Rattle.gts_standby.specs.Cited.{Call, SaysFront, SaysHere, SaysOnly, Speaks, on}
 use Rattle.gts_traits.proofs.LawLemmas.{on-append}
-use Rattle.gts_say.proofs.SayLemmas.{said_none, said_more, front_behind, front_more}
+use Rattle.gts_traits.proofs.SayLemmas.{said_none, said_more, front_behind, front_more}
 
 pub says_none : (calls : List Call) → SaysHere calls calls []
 says_none calls = record { only = said_none calls; stands = λ j stands. stands }

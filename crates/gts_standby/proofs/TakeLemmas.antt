@@ -1,5 +1,5 @@
 -- A feed is taken into a journal that opens.
-use Rattle.std.proofs.Common.{◌≡◌, ◌⊎◌, inl, inr, ℕ, zero, suc, ◌+◌, ◌-◌, ◌<◌, ◌≤◌, Bool, true, false, cond, ◌&&◌, List, [], ◌∷◌, ◌++◌, length, drop, Option, Some, None, Result, Ok, Err, refl, sym, ap, subst, ◌∙◌, arith, length-drop}
+use Rattle.std.proofs.Common.{◌≡◌, ◌⊎◌, inl, inr, ℕ, zero, suc, ◌+◌, ◌-◌, ◌<◌, ◌≤◌, Bool, true, false, cond, ◌&&◌, List, [], ◌∷◌, ◌++◌, length, drop, Option, Some, None, Result, Ok, Err, refl, sym, ap, subst, ◌∙◌, arith}
 use Rattle.std.proofs.lemmas.Bool.{cases_lt}
 use Rattle.std.proofs.lemmas.List.{append-nil}
 use Rattle.gts_standby.specs.Cited.{Answers, AsBefore, BeforeIt, Breaks, Call, Core, Damaged, Did, Directory, DiskFault, Diverged, Done, EachOpens, EachSince, End, Ends, EndsAs, EndsBegin, Feed, Files, FollowEnd, HasAdded, HasBegun, HasRead, HasTaken, HoldsAt, InFeed, InHand, IsAddEnd, IsEnd, IsFedEnd, IsOpened, IsReadEnd, IsTakenEnd, Leads, LeavesAlone, Need, NoMemory, OnlySyncs, Open, OpenFault, OpensAsBefore, OpensOneOf, OpensTo, OpensWithin, Outside, Parts, Piece, Read, ReadsAll, Record, SourceFault, StandsFor, State, StopsAs, StopsAt, Syncs, Taken, Version, WithFront, WithinIt, add_all, admits_checkpoint, after, after_records, begin_first, begin_with, begun, begun_taken, by_header, by_piece, checkpoint_text, comes_to, compacted_bytes, compare_first, empty, entry_at, event_of_record, feed_at, file_of, file_opens, files_read, first_seal, header_fault, is_checkpoint, is_checkpoint_fed, is_further, is_other, is_other_first, magic, may_be_cut, need, need_in, open_end, opens, or_anew, own_seals, read_after, read_begun, read_behind, record_behind, record_size, record_text, records_at, restarted, said_by, seal, seals_at, seals_behind, seen, selected, selected_bytes, start_of, state_after, stopped, take_records, taken, unread, written}
@@ -21,11 +21,11 @@ reads_kept d read old new (inl is) there = ap (λ (l : List Call). files_read wr
 reads_kept d read old new (inr (inl same)) there = ap (λ (l : List Call). files_read written d (seen l)) same ∙ there
 reads_kept d read old new (inr (inr left)) there = ap (λ (l : List Call). files_read written d (seen l)) left.2 ∙ there
 
-pub holds_kept : (tells : Type 0) (d : Directory) (s : State) (old new : List Call) (core : Core) (j : InHand) → (tells → OnlySyncs old new) → HoldsAt tells d s old core j → HoldsAt tells d s new core j
-holds_kept tells d s old new core j syncs h = record { kept = h.kept; current = h.current; ended = h.ended; stands = λ tell. syncs_stand d s old new j (syncs tell) (h.stands tell) }
+pub holds_kept : (observed : Type 0) (d : Directory) (s : State) (old new : List Call) (core : Core) (j : InHand) → (observed → OnlySyncs old new) → HoldsAt observed d s old core j → HoldsAt observed d s new core j
+holds_kept observed d s old new core j syncs h = record { kept = h.kept; current = h.current; ended = h.ended; stands = λ tell. syncs_stand d s old new j (syncs tell) (h.stands tell) }
 
-pub opened_kept : (tells : Type 0) (d : Directory) (old new : List Call) (core : Core) (j : InHand) → (tells → OnlySyncs old new) → IsOpened tells d old core j → IsOpened tells d new core j
-opened_kept tells d old new core j syncs o = opened_by tells d o.state new core j (holds_kept tells d o.state old new core j syncs (holds_of tells d old core j o))
+pub opened_kept : (observed : Type 0) (d : Directory) (old new : List Call) (core : Core) (j : InHand) → (observed → OnlySyncs old new) → IsOpened observed d old core j → IsOpened observed d new core j
+opened_kept observed d old new core j syncs o = opened_by observed d o.state new core j (holds_kept observed d o.state old new core j syncs (holds_of observed d old core j o))
 
 kept_moments : (d : Directory) (s : State) (taken : Taken) (old new : List Call) (j : InHand) → StandsFor d s old j → OnlySyncs old new → EachSince old new (OpensWithin d s taken)
 kept_moments d s taken old new j f syncs =
@@ -150,13 +150,10 @@ abbrev by_found : Directory → List ℕ → Piece → Taken
 by_found d fed piece = by_piece 40 piece (λ size other. begin_with written d (first_seal written d.mark) size fed (need_in fed))
 
 -- the checkpoint was taken, and records are added behind it
-module _ (tells : Type 0) (tell : tells) (d : Directory) (s : State) (fed : List ℕ) (old mid : List Call) (at : ℕ) (core : Core) (next : InHand) (ahead : InFeed) (left : List ℕ)
-    (b : HasBegun tells d s fed old at mid core next ahead left) where
+module _ (observed : Type 0) (tell : observed) (d : Directory) (s : State) (fed : List ℕ) (old mid : List Call) (at : ℕ) (core : Core) (next : InHand) (ahead : InFeed) (left : List ℕ)
+    (b : HasBegun observed d s fed old at mid core next ahead left) where
   abbrev behind_it : ℕ → Taken
   behind_it place = add_all written d (length fed) next.seal (begun b.n) next.gate place (drop b.size fed)
-
-  pub enough_left : length (drop b.size fed) ≤ length fed
-  enough_left = omega (arith, length-drop b.size fed)
 
   none_begins : (behind_it at).begins ≡ None
   none_begins = no_begin d (length fed) next.seal (begun b.n) next.gate at (drop b.size fed)

@@ -8,12 +8,12 @@ use Rattle.gts_standby.specs.Taking.{Taken, add_all}
 use Rattle.gts_standby.specs.Following.{EndsAs, IsEnd, state_after, read_after, OpensWithin}
 use Rattle.gts_standby.specs.Reading.{HasRead, ReadsAll}
 
--- The journal is at its end, and the core holds the state that it stands for, which is this one, where the station tells.
-pub record HoldsAt (tells : Type 0) (d : Directory) (s : State) (calls : List Call) (core : Core) (j : InHand) : Type 0 where
+-- The journal is at its end, and the core holds the state that it stands for, which is this one, where the station is observed.
+pub record HoldsAt (observed : Type 0) (d : Directory) (s : State) (calls : List Call) (core : Core) (j : InHand) : Type 0 where
   pub kept : IsKept written d core j.gate s
   pub current : j.version ≡ written
   pub ended : j.ended ≡ true
-  pub stands : tells → StandsFor d s calls j
+  pub stands : observed → StandsFor d s calls j
 
 -- all that a feed adds was to be added
 pub record HasAdded (answer : FollowEnd) (d : Directory) (s : State) (used : ℕ) (last : List ℕ) (taken : Taken) (old new : List Call)
@@ -24,10 +24,10 @@ pub record HasAdded (answer : FollowEnd) (d : Directory) (s : State) (used : ℕ
   pub moments : EachSince old new (OpensWithin d s taken)
 
 -- so it is of whatever state the journal stands for, and whatever the feed has left
-abbrev pub AddsAll : FollowEnd → (tells : Type 0) → Directory → ℕ → List Call → Core → InHand → InFeed → List ℕ → List Call → List ℕ
+abbrev pub AddsAll : FollowEnd → (observed : Type 0) → Directory → ℕ → List Call → Core → InHand → InFeed → List ℕ → List Call → List ℕ
     → Type 0
-AddsAll answer tells d at old core j ahead left new left_now =
-    (s : State) (fed : List ℕ) (n : ℕ) → HoldsAt tells d s old core j → HasRead fed ahead left → length fed ≤ n
+AddsAll answer observed d at old core j ahead left new left_now =
+    (s : State) (fed : List ℕ) (n : ℕ) → HoldsAt observed d s old core j → HasRead fed ahead left → length fed ≤ n
     → HasAdded answer d s (j.gate + 1) j.seal (add_all written d n j.seal s j.gate at fed) old new left_now
 
 -- what may be answered where records are added

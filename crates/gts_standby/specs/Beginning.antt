@@ -20,7 +20,7 @@ IsPutEnd NoMemory = Unit {0}
 IsPutEnd end = ⊥
 
 -- The journal begins with the checkpoint that stands at the front of the feed's records, and its seal; the feed goes on behind them.
-pub record HasBegun (tells : Type 0) (d : Directory) (s : State) (fed : List ℕ) (old : List Call) (at : ℕ)
+pub record HasBegun (observed : Type 0) (d : Directory) (s : State) (fed : List ℕ) (old : List Call) (at : ℕ)
     (new : List Call) (core : Core) (next : InHand) (ahead : InFeed) (left : List ℕ) : Type 0 where
   pub n : Need
   pub size : ℕ
@@ -31,7 +31,7 @@ pub record HasBegun (tells : Type 0) (d : Directory) (s : State) (fed : List ℕ
   pub place : at ≡ 40 + size
   pub gate_is : next.gate + 1 ≡ compacted_bytes written n
   pub seal_is : next.seal ≡ seal written (first_seal written d.mark) (checkpoint_text n)
-  pub holds : HoldsAt tells d (begun n) new core next
+  pub holds : HoldsAt observed d (begun n) new core next
   pub read : HasRead (drop size fed) ahead left
   pub silent : said_by new ≡ said_by old
   pub moments : EachSince old new (OpensOneOf d s (begun n))
@@ -47,14 +47,14 @@ pub data EndsBegin (answer : FollowEnd) (d : Directory) (s : State) (fed : List 
   WithinIt : (n : Need) → (begun_taken d fed).begins ≡ Some n → EachSince old new (OpensOneOf d s (begun n)) → (IsEnd answer → ⊥)
       → EndsBegin answer d s fed old new left
 
-abbrev pub Begins : Result (Core × ℕ) FollowEnd → (tells : Type 0) → Directory → State → List ℕ → List Call → List Call
+abbrev pub Begins : Result (Core × ℕ) FollowEnd → (observed : Type 0) → Directory → State → List ℕ → List Call → List Call
     → InHand → InFeed → List ℕ → Type 0
-Begins (Ok found) tells d s fed old new next ahead left = HasBegun tells d s fed old found.1 new found.0 next ahead left
-Begins (Err answer) tells d s fed old new next ahead left = EndsBegin answer d s fed old new left
+Begins (Ok found) observed d s fed old new next ahead left = HasBegun observed d s fed old found.1 new found.0 next ahead left
+Begins (Err answer) observed d s fed old new next ahead left = EndsBegin answer d s fed old new left
 
 -- so it is of whatever state the journal stands for, and whatever the feed has left
-abbrev pub BeginsAny : Result (Core × ℕ) FollowEnd → (tells : Type 0) → Directory → List Call → Core → InHand → InFeed → List ℕ
+abbrev pub BeginsAny : Result (Core × ℕ) FollowEnd → (observed : Type 0) → Directory → List Call → Core → InHand → InFeed → List ℕ
     → List Call → InHand → InFeed → List ℕ → Type 0
-BeginsAny result tells d old core j ahead left new next ahead_now left_now =
-    (s : State) (fed : List ℕ) → HoldsAt tells d s old core j → HasRead fed ahead left
-    → Begins result tells d s fed old new next ahead_now left_now
+BeginsAny result observed d old core j ahead left new next ahead_now left_now =
+    (s : State) (fed : List ℕ) → HoldsAt observed d s old core j → HasRead fed ahead left
+    → Begins result observed d s fed old new next ahead_now left_now

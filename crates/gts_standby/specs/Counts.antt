@@ -14,8 +14,8 @@ pub record KeepsAllCounts (disk disk_now saying saying_now source source_now : �
   pub source_later : source ≤ source_now
 
 -- the journal that is read stands behind a further record, and isn't at its end
-pub record GoesOn (tells : Type 0) (calls : List Call) (old new : InHand) : Type 0 where
+pub record GoesOn (observed : Type 0) (calls : List Call) (old new : InHand) : Type 0 where
   pub going : new.ended ≡ false
-  pub stands : tells → StandsOn calls new
+  pub stands : observed → StandsOn calls new
   pub rises : old.gate < new.gate
   pub version : new.version ≡ old.version

@@ -13,33 +13,34 @@ use Rattle.gts_standby.specs.Reading.{HasRead, StopsAs}
 abbrev pub gate_behind : Gathering → ℕ
 gate_behind g = g.journal.gate + (length g.batch.text - 1)
 
--- The journal is at its end, which is that of this state, where the station tells; and these records were gathered, which may stand
+-- The journal is at its end, which is that of this state, where the station is observed; and these records were gathered, which may stand
 -- there, one behind the other.
-pub record StandsBehind (tells : Type 0) (d : Directory) (s : State) (rs : List Record) (calls : List Call) (g : Gathering) : Type 0 where
+pub record StandsBehind (observed : Type 0) (d : Directory) (s : State) (rs : List Record) (calls : List Call)
+    (g : Gathering) : Type 0 where
   pub next : AreNext d s g.journal rs g.batch
   pub seal_is : held written g.seal ≡ g.batch.seal
   pub current : g.journal.version ≡ written
   pub ended : g.journal.ended ≡ true
   pub room : gate_behind g + 1 ≤ d.limit
-  pub stands : tells → StandsFor d s calls g.journal
+  pub stands : observed → StandsFor d s calls g.journal
 
 -- so it is of a state and of records
-pub record IsGathered (tells : Type 0) (d : Directory) (calls : List Call) (g : Gathering) : Type 0 where
+pub record IsGathered (observed : Type 0) (d : Directory) (calls : List Call) (g : Gathering) : Type 0 where
   pub settled : State
   pub records : List Record
-  pub stands : StandsBehind tells d settled records calls g
+  pub stands : StandsBehind observed d settled records calls g
 
 -- and the core holds the state behind the records
-pub record HoldsBehind (tells : Type 0) (d : Directory) (s : State) (rs : List Record) (calls : List Call) (core : Core) (g : Gathering)
+pub record HoldsBehind (observed : Type 0) (d : Directory) (s : State) (rs : List Record) (calls : List Call) (core : Core) (g : Gathering)
     : Type 0 where
-  pub stands : StandsBehind tells d s rs calls g
+  pub stands : StandsBehind observed d s rs calls g
   pub kept : IsKept written d core (gate_behind g) (after_records d s rs)
 
 -- so it is of a state and of records
-pub record IsGathering (tells : Type 0) (d : Directory) (calls : List Call) (core : Core) (g : Gathering) : Type 0 where
+pub record IsGathering (observed : Type 0) (d : Directory) (calls : List Call) (core : Core) (g : Gathering) : Type 0 where
   pub settled : State
   pub records : List Record
-  pub holds : HoldsBehind tells d settled records calls core g
+  pub holds : HoldsBehind observed d settled records calls core g
 
 -- the core holds a state, and another record may be judged behind what was gathered
 pub record CanGather (d : Directory) (core : Core) (g : Gathering) : Type 0 where
@@ -53,7 +54,7 @@ pub record CanGather (d : Directory) (core : Core) (g : Gathering) : Type 0 wher
 
 -- One record more was gathered, which may stand behind the others in whatever state the core held; it then holds the state behind
 -- that. The feed goes on behind the record.
-pub record HasGatheredOne (tells : Type 0) (d : Directory) (core : Core) (g : Gathering) (ahead : InFeed) (left : List ℕ) (size : ℕ)
+pub record HasGatheredOne (observed : Type 0) (d : Directory) (core : Core) (g : Gathering) (ahead : InFeed) (left : List ℕ) (size : ℕ)
     (core_now : Core) (next : Gathering) (ahead_now : InFeed) (left_now : List ℕ) : Type 0 where
   pub r : Record
   pub fits : FitsRecord r
@@ -65,46 +66,48 @@ pub record HasGatheredOne (tells : Type 0) (d : Directory) (core : Core) (g : Ga
   pub gathers : (before : List ℕ) (rs : List Record) → Gathers before rs g.batch → Gathers before (rs ++ r ∷ []) next.batch
   pub long : length next.batch.text ≡ length g.batch.text + record_size written r
   pub seal_is : held written next.seal ≡ seal written g.batch.seal (record_text r)
-  pub read : tells → (fed : List ℕ) → HasRead fed ahead left
+  pub read : observed → (fed : List ℕ) → HasRead fed ahead left
       → (sealed_at written g.batch.seal fed ≡ Some r) × HasRead (drop size fed) ahead_now left_now
 
 -- the feed ends there, and no record was gathered
-abbrev pub GathersNone : FollowEnd → (tells : Type 0) → Directory → Core → Gathering → ℕ → InFeed → List ℕ → List ℕ → Type 0
-GathersNone answer tells d core g at ahead left left_now =
-    tells → (s : State) (fed : List ℕ) → IsKept written d core (gate_behind g) s → HasRead fed ahead left → IsEnd answer
+abbrev pub GathersNone : FollowEnd → (observed : Type 0) → Directory → Core → Gathering → ℕ → InFeed → List ℕ → List ℕ → Type 0
+GathersNone answer observed d core g at ahead left left_now =
+    observed → (s : State) (fed : List ℕ) → IsKept written d core (gate_behind g) s → HasRead fed ahead left → IsEnd answer
     → (record_behind written d g.batch.seal s (gate_behind g) fed ≡ None)
     × StopsAs answer (if may_be_cut written fed then stopped Ends else stopped (Breaks at)) left_now
 
 -- one record more was to be gathered
-abbrev pub GathersNext : Result ℕ FollowEnd → (tells : Type 0) → Directory → Core → Gathering → ℕ → InFeed → List ℕ → Core → Gathering
+abbrev pub GathersNext : Result ℕ FollowEnd → (observed : Type 0) → Directory → Core → Gathering → ℕ → InFeed → List ℕ → Core → Gathering
     → InFeed → List ℕ → Type 0
-GathersNext (Ok size) tells d core g at ahead left core_now next ahead_now left_now =
-    HasGatheredOne tells d core g ahead left size core_now next ahead_now left_now
-GathersNext (Err answer) tells d core g at ahead left core_now next ahead_now left_now =
-    GathersNone answer tells d core g at ahead left left_now
+GathersNext (Ok size) observed d core g at ahead left core_now next ahead_now left_now =
+    HasGatheredOne observed d core g ahead left size core_now next ahead_now left_now
+GathersNext (Err answer) observed d core g at ahead left core_now next ahead_now left_now =
+    GathersNone answer observed d core g at ahead left left_now
 
 -- ---- what was gathered is brought into the journal
 
 -- The journal is at its end, which is that of the state behind the records; nothing is gathered.
-pub record HasBrought (tells : Type 0) (d : Directory) (s : State) (rs : List Record) (g : Gathering) (new : List Call) (next : Gathering)
+pub record HasBrought (observed : Type 0) (d : Directory) (s : State) (rs : List Record) (g : Gathering) (new : List Call)
+    (next : Gathering)
     : Type 0 where
-  pub stands : StandsBehind tells d (after_records d s rs) [] new next
+  pub stands : StandsBehind observed d (after_records d s rs) [] new next
   pub gate_is : gate_behind next ≡ gate_behind g
   pub seal_is : next.batch.seal ≡ g.batch.seal
 
 -- so it is of whatever state the journal had come to, and whatever records were gathered
-abbrev pub Brings : (tells : Type 0) → Directory → List Call → Gathering → List Call → Gathering → Type 0
-Brings tells d old g new next = (s : State) (rs : List Record) → StandsBehind tells d s rs old g → HasBrought tells d s rs g new next
+abbrev pub Brings : (observed : Type 0) → Directory → List Call → Gathering → List Call → Gathering → Type 0
+Brings observed d old g new next = (s : State) (rs : List Record) → StandsBehind observed d s rs old g
+    → HasBrought observed d s rs g new next
 
 -- nothing was done, or so it is
-abbrev pub MayHaveBrought : (tells : Type 0) → Directory → List Call → Gathering → List Call → Gathering → Type 0
-MayHaveBrought tells d old g new next = ((new ≡ old) × (next ≡ g)) ⊎ Brings tells d old g new next
+abbrev pub MayHaveBrought : (observed : Type 0) → Directory → List Call → Gathering → List Call → Gathering → Type 0
+MayHaveBrought observed d old g new next = ((new ≡ old) × (next ≡ g)) ⊎ Brings observed d old g new next
 
 -- a crash since leaves the state to which the journal had come, or the one behind all of the records
-abbrev pub MayBring : (tells : Type 0) → Directory → List Call → Gathering → List Call → Type 0
-MayBring tells d old g new =
-    (s : State) (rs : List Record) → StandsBehind tells d s rs old g → EachSince old new (OpensToOneOf d s (after_records d s rs))
+abbrev pub MayBring : (observed : Type 0) → Directory → List Call → Gathering → List Call → Type 0
+MayBring observed d old g new =
+    (s : State) (rs : List Record) → StandsBehind observed d s rs old g → EachSince old new (OpensToOneOf d s (after_records d s rs))
 
 -- it was answered with this end once all of that was brought, or with a fault of the disk
-abbrev pub IsFinished : FollowEnd → FollowEnd → (tells : Type 0) → Directory → List Call → Gathering → List Call → Gathering → Type 0
-IsFinished answer end tells d old g new next = ((answer ≡ end) × Brings tells d old g new next) ⊎ (answer ≡ DiskFault)
+abbrev pub IsFinished : FollowEnd → FollowEnd → (observed : Type 0) → Directory → List Call → Gathering → List Call → Gathering → Type 0
+IsFinished answer end observed d old g new next = ((answer ≡ end) × Brings observed d old g new next) ⊎ (answer ≡ DiskFault)

@@ -98,10 +98,10 @@ Passes (Ok _) d calls j end place last found = IsBefore d calls j end place last
 Passes (Err e) d calls j end place last found = IsQuiet e
 
 -- So it is of each journal that stands in front of these places, whatever is behind the last one.
-abbrev pub PassesUnder : {T : Type 0} → Result T ShipFault → (tells : Type 0) → (InHand → (end place : ℕ) → Type 0)
+abbrev pub PassesUnder : {T : Type 0} → Result T ShipFault → (observed : Type 0) → (InHand → (end place : ℕ) → Type 0)
     → List Call → InHand → List Call → InHand → Type 0
-PassesUnder result tells Low old j new next =
-    tells → (d : Directory) (end place : ℕ) (last : List ℕ) (found : Option (List ℕ))
+PassesUnder result observed Low old j new next =
+    observed → (d : Directory) (end place : ℕ) (last : List ℕ) (found : Option (List ℕ))
     → IsBefore d old j end place last found → Low j end place → Passes result d new next end place last found
 
 -- a gate is in front of both

@@ -29,24 +29,24 @@ pub record HasTaken (answer : FollowEnd) (d : Directory) (s : State) (used : ℕ
   pub added : HasAdded answer d s used last taken old new left
 
 -- So it is of a journal without records, of whatever state it stands for, and whatever the feed has left.
-abbrev pub TakesFirst : FollowEnd → (tells : Type 0) → Directory → List Call → Core → InHand → InFeed → List ℕ → List Call → List ℕ
+abbrev pub TakesFirst : FollowEnd → (observed : Type 0) → Directory → List Call → Core → InHand → InFeed → List ℕ → List Call → List ℕ
     → Type 0
-TakesFirst answer tells d old core j ahead left new left_now =
-    (s : State) (fed : List ℕ) → HoldsAt tells d s old core j → j.seal ≡ first_seal written d.mark → HasRead fed ahead left
+TakesFirst answer observed d old core j ahead left new left_now =
+    (s : State) (fed : List ℕ) → HoldsAt observed d s old core j → j.seal ≡ first_seal written d.mark → HasRead fed ahead left
     → HasTaken answer d s (j.gate + 1) j.seal (take_records written d s j.gate j.seal [] fed) old new left_now
 
 -- So it is of any journal that begins with the feed's checkpoint.
-abbrev pub TakesCheckpoint : FollowEnd → (tells : Type 0) → Directory → List Call → Core → InHand → InFeed → List ℕ → List Call → List ℕ
+abbrev pub TakesCheckpoint : FollowEnd → (observed : Type 0) → Directory → List Call → Core → InHand → InFeed → List ℕ → List Call → List ℕ
     → Type 0
-TakesCheckpoint answer tells d old core j ahead left new left_now =
-    (s : State) (fed : List ℕ) → HoldsAt tells d s old core j → HasRead fed ahead left
+TakesCheckpoint answer observed d old core j ahead left new left_now =
+    (s : State) (fed : List ℕ) → HoldsAt observed d s old core j → HasRead fed ahead left
     → HasTaken answer d s (j.gate + 1) j.seal (begun_taken d fed) old new left_now
 
 -- Where record 0 is another one, it is so of a journal with records, which begins anew, or is answered as it was compared.
-abbrev pub TakesOther : FollowEnd → FollowEnd → (tells : Type 0) → Directory → List Call → Core → InHand → InFeed → List ℕ → List Call
+abbrev pub TakesOther : FollowEnd → FollowEnd → (observed : Type 0) → Directory → List Call → Core → InHand → InFeed → List ℕ → List Call
     → List ℕ → Type 0
-TakesOther compared answer tells d old core j ahead left new left_now =
-    (s : State) (fed : List ℕ) (end : End) → HoldsAt tells d s old core j → HasRead fed ahead left → EndsAs compared end
+TakesOther compared answer observed d old core j ahead left new left_now =
+    (s : State) (fed : List ℕ) (end : End) → HoldsAt observed d s old core j → HasRead fed ahead left → EndsAs compared end
     → HasTaken answer d s (j.gate + 1) j.seal (or_anew d s (begun_taken d fed) (stopped end)) old new left_now
 
 -- a checkpoint stands at the front of a feed that a journal of this state may begin anew with, and the feed is there
@@ -54,10 +54,10 @@ abbrev pub FindsFurther : Bool → Directory → State → List ℕ → InFeed �
 FindsFurther is d s fed ahead left = (is ≡ is_further d s (begun_taken d fed)) × (is ≡ true → HasRead fed ahead left)
 
 -- so it is of any journal
-abbrev pub TakesRecords : FollowEnd → (tells : Type 0) → Directory → List Call → Core → InHand → InFeed → List ℕ → List Call → List ℕ
+abbrev pub TakesRecords : FollowEnd → (observed : Type 0) → Directory → List Call → Core → InHand → InFeed → List ℕ → List Call → List ℕ
     → Type 0
-TakesRecords answer tells d old core j ahead left new left_now =
-    (s : State) (fed : List ℕ) → HoldsAt tells d s old core j → HasRead fed ahead left
+TakesRecords answer observed d old core j ahead left new left_now =
+    (s : State) (fed : List ℕ) → HoldsAt observed d s old core j → HasRead fed ahead left
     → HasTaken answer d s (j.gate + 1) j.seal (take_records written d s j.gate j.seal (own_seals d (file_of old j)) fed) old new left_now
 
 -- where all was read ahead, the source has no more

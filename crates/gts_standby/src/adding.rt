@@ -23,13 +23,13 @@ pub(crate) fn add_all<P: Station, S: Source>(
     ahead: &mut Ahead,
     at: u64,
 ) -> FollowEnd
-    requires opened { IsOpened P.tells directory.now (P.calls station.old) core journal }
+    requires opened { IsOpened P.observed directory.now (P.calls station.old) core journal }
     requires place { at ≤ 2 ^ 62 }
-    ensures added { P.tells → S.tells → AddsAll result P.tells directory.now at
+    ensures added { P.observed → S.observed → AddsAll result P.observed directory.now at
         (P.calls station.old) core journal ahead.old (S.left source.old) (P.calls station.new)
         (S.left source.new) }
     ensures kind { IsAddEnd result }
-    ensures silent { P.tells → said_by (P.calls station.new) ≡ said_by (P.calls station.old) }
+    ensures silent { P.observed → said_by (P.calls station.new) ≡ said_by (P.calls station.old) }
     ensures source_fault { result ≡ FollowEnd.SourceFault
         → Rose (S.faults source.old) (S.faults source.new) }
     ensures disk_fault { result ≡ FollowEnd.DiskFault
@@ -37,11 +37,11 @@ pub(crate) fn add_all<P: Station, S: Source>(
     ensures counts { KeepsAllCounts (P.disk_faults station.old) (P.disk_faults station.new)
         (P.say_faults station.old) (P.say_faults station.new) (S.faults source.old)
         (S.faults source.new) }
-    ensures whole { S.tells → IsWhole ahead.old (S.left source.old)
+    ensures whole { S.observed → IsWhole ahead.old (S.left source.old)
         → ReadsAll result (S.left source.new) }
 {
     // A limit is low enough for the places of gates.
-    let _ = directory.limit();
+    directory.bounds_hold();
     let mut gathering = match Gathering::begin(alloc, journal) {
         Ok(gathering) => gathering,
         Err(NoMemory) => return FollowEnd::NoMemory,

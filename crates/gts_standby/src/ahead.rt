@@ -86,7 +86,7 @@ impl Ahead {
     /// Reads one piece more.
     fn read_on<S: Source>(&mut self, source: &mut S) -> Result<(), FollowEnd>
         requires { self.old.is_all ≡ false }
-        ensures kept { S.tells → (fed : List ℕ) → HasRead fed self.old (S.left source.old)
+        ensures kept { S.observed → (fed : List ℕ) → HasRead fed self.old (S.left source.old)
             → OnOk result (HasRead fed self.new (S.left source.new)) }
         ensures longer { OnOk result (length self.old.bytes ≤ length self.new.bytes) }
         ensures further { OnOk result ((self.new.is_all ≡ true)
@@ -114,7 +114,7 @@ impl Ahead {
     /// Reads on until so many bytes are there, or the source has no more.
     pub(crate) fn fill<S: Source>(&mut self, source: &mut S, want: usize) -> Result<(), FollowEnd>
         requires { want ≤ 2 ^ 40 }
-        ensures kept { S.tells → (fed : List ℕ) → HasRead fed self.old (S.left source.old)
+        ensures kept { S.observed → (fed : List ℕ) → HasRead fed self.old (S.left source.old)
             → OnOk result (HasRead fed self.new (S.left source.new)) }
         ensures enough { OnOk result
             ((self.new.is_all ≡ true) ⊎ (want ≤ length self.new.bytes)) }

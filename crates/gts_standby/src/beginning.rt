@@ -27,8 +27,8 @@ fn put<P: Station>(
     requires free { unowed (need_of need.now) ≡ need_of need.now }
     requires fits { FitsLimit written directory.now (need_of need.now) }
     requires size { size ≡ length (checkpoint_text (need_of need.now)) }
-    requires stands { P.tells → StandsOn (P.calls station.old) journal.old }
-    ensures begun { P.tells → OnOk result ((s : State)
+    requires stands { P.observed → StandsOn (P.calls station.old) journal.old }
+    ensures begun { P.observed → OnOk result ((s : State)
         → StandsFor directory.now s (P.calls station.old) journal.old → StandsFor directory.now
         (begun (need_of need.now)) (P.calls station.new) journal.new) }
     ensures gate { OnOk result
@@ -39,10 +39,10 @@ fn put<P: Station>(
     ensures ended { OnOk result (journal.new.ended ≡ true) }
 
     // A crash at any moment leaves the journal as it was, or as it begins with the checkpoint.
-    ensures moments { P.tells → (s : State) → StandsFor directory.now s (P.calls station.old)
+    ensures moments { P.observed → (s : State) → StandsFor directory.now s (P.calls station.old)
         journal.old → EachSince (P.calls station.old) (P.calls station.new)
         (OpensOneOf directory.now s (begun (need_of need.now))) }
-    ensures silent { P.tells → said_by (P.calls station.new) ≡ said_by (P.calls station.old) }
+    ensures silent { P.observed → said_by (P.calls station.new) ≡ said_by (P.calls station.old) }
     ensures kind { IfErr result IsPutEnd }
     ensures disk_fault { IsErrOf result FollowEnd.DiskFault
         → Rose (P.disk_faults station.old) (P.disk_faults station.new) }
@@ -50,7 +50,7 @@ fn put<P: Station>(
         (P.say_faults station.old) (P.say_faults station.new) }
 {
     // A directory is within its bounds.
-    let _ = (directory.circuits(), directory.limit());
+    directory.bounds_hold();
     let other = 1 - journal.file();
     let used = BESIDE_CHECKPOINT + Version::written().seal_size() as u64 + size as u64;
     let seal = match write(alloc, station, other, directory.mark(), need) {
@@ -75,15 +75,16 @@ pub(crate) fn begin<P: Station, S: Source>(
     source: &mut S,
     ahead: &mut Ahead,
 ) -> Result<(Core, u64), FollowEnd>
-    requires { IsOpened P.tells directory.now (P.calls station.old) core.now journal.old }
-    ensures begun { P.tells → S.tells → BeginsAny result P.tells directory.now (P.calls station.old)
+    requires { IsOpened P.observed directory.now (P.calls station.old) core.now journal.old }
+    ensures begun { P.observed → S.observed → BeginsAny result P.observed directory.now
+        (P.calls station.old)
         core.now journal.old ahead.old (S.left source.old) (P.calls station.new) journal.new
         ahead.new (S.left source.new) }
     ensures opened { IfOk result (λ found.
-        IsOpened P.tells directory.now (P.calls station.new) found.0 journal.new) }
+        IsOpened P.observed directory.now (P.calls station.new) found.0 journal.new) }
     ensures place { IfOk result (λ found. found.1 ≤ 2 ^ 62) }
     ensures kind { IfErr result IsAddEnd }
-    ensures silent { P.tells → said_by (P.calls station.new) ≡ said_by (P.calls station.old) }
+    ensures silent { P.observed → said_by (P.calls station.new) ≡ said_by (P.calls station.old) }
     ensures source_fault { IsErrOf result FollowEnd.SourceFault
         → Rose (S.faults source.old) (S.faults source.new) }
     ensures disk_fault { IsErrOf result FollowEnd.DiskFault
@@ -91,7 +92,7 @@ pub(crate) fn begin<P: Station, S: Source>(
     ensures counts { KeepsAllCounts (P.disk_faults station.old) (P.disk_faults station.new)
         (P.say_faults station.old) (P.say_faults station.new) (S.faults source.old)
         (S.faults source.new) }
-    ensures whole { S.tells → IsWhole ahead.old (S.left source.old)
+    ensures whole { S.observed → IsWhole ahead.old (S.left source.old)
         → StaysWhole result ahead.new (S.left source.new) }
 {
     let _ = core;

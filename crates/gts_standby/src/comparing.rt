@@ -40,13 +40,13 @@ fn own_first<P: Station>(
 ) -> Result<(), FollowEnd>
     requires going { own.old.ended ≡ false }
     requires begins { own.old.gate ≡ 40 }
-    requires stands { P.tells → StandsOn (P.calls station.old) own.old }
-    ensures on { P.tells → (end : ℕ) → IsAtFirst directory.now (P.calls station.old) own.old end
+    requires stands { P.observed → StandsOn (P.calls station.old) own.old }
+    ensures on { P.observed → (end : ℕ) → IsAtFirst directory.now (P.calls station.old) own.old end
         → 40 < end → OwnGoesOn result directory.now (P.calls station.new) own.new end
         (seals_here directory.now (P.calls station.old) own.old) }
-    ensures goes { OnOk result (GoesOn P.tells (P.calls station.new) own.old own.new) }
+    ensures goes { OnOk result (GoesOn P.observed (P.calls station.new) own.old own.new) }
     ensures kind { IfErr result IsOwnEnd }
-    ensures told { P.tells → P.calls station.new ≡ P.calls station.old }
+    ensures told { P.observed → P.calls station.new ≡ P.calls station.old }
     ensures disk_fault { IsErrOf result FollowEnd.DiskFault
         → Rose (P.disk_faults station.old) (P.disk_faults station.new) }
     ensures counts { KeepsCounts (P.disk_faults station.old) (P.disk_faults station.new)
@@ -57,7 +57,7 @@ fn own_first<P: Station>(
         return own_next(station, own);
     }
     // A limit is low enough for the place of the gate.
-    let _ = directory.limit();
+    directory.bounds_hold();
     let file = own.file();
     let found = read(alloc, station, own.version(), file, directory)?;
     own.pass(found.1, found.2);
@@ -68,13 +68,13 @@ fn own_first<P: Station>(
 fn own_next<P: Station>(station: &mut P, own: &mut Journal) -> Result<(), FollowEnd>
     requires going { own.old.ended ≡ false }
     requires room { own.old.gate < 2 ^ 40 }
-    requires stands { P.tells → StandsOn (P.calls station.old) own.old }
-    ensures on { P.tells → (d : DirectoryOf) (end : ℕ) (left : List (List ℕ))
+    requires stands { P.observed → StandsOn (P.calls station.old) own.old }
+    ensures on { P.observed → (d : DirectoryOf) (end : ℕ) (left : List (List ℕ))
         → IsAtSeals d (P.calls station.old) own.old end left → own.old.gate < end
         → OwnGoesOn result d (P.calls station.new) own.new end left }
-    ensures goes { OnOk result (GoesOn P.tells (P.calls station.new) own.old own.new) }
+    ensures goes { OnOk result (GoesOn P.observed (P.calls station.new) own.old own.new) }
     ensures kind { IfErr result IsOwnEnd }
-    ensures told { P.tells → P.calls station.new ≡ P.calls station.old }
+    ensures told { P.observed → P.calls station.new ≡ P.calls station.old }
     ensures disk_fault { IsErrOf result FollowEnd.DiskFault
         → Rose (P.disk_faults station.old) (P.disk_faults station.new) }
     ensures counts { KeepsCounts (P.disk_faults station.old) (P.disk_faults station.new)
@@ -99,7 +99,7 @@ fn fed_first<S: Source>(
     before: &[u8; 32],
 ) -> Result<(usize, [u8; 32]), FollowEnd>
     requires { limit ≤ 2 ^ 30 }
-    ensures piece { S.tells → (fed : List ℕ) → HasRead fed ahead.old (S.left source.old)
+    ensures piece { S.observed → (fed : List ℕ) → HasRead fed ahead.old (S.left source.old)
         → FindsPiece result version 40 (first_piece version limit (held version before.now) fed)
         fed ahead.new (S.left source.new) }
     ensures there { IfOk result (λ found. found.0 ≤ length ahead.new.bytes) }
@@ -128,15 +128,15 @@ fn compare_first<P: Station, S: Source>(
     requires current { own.old.version ≡ written }
     requires going { own.old.ended ≡ false }
     requires begins { own.old.gate ≡ 40 }
-    requires stands { P.tells → StandsOn (P.calls station.old) own.old }
-    ensures compared { P.tells → S.tells → ComparesFirstOfAny result directory.now
+    requires stands { P.observed → StandsOn (P.calls station.old) own.old }
+    ensures compared { P.observed → S.observed → ComparesFirstOfAny result directory.now
         (P.calls station.old) own.old ahead.old (S.left source.old) (P.calls station.new) own.new
         ahead.new (S.left source.new) }
-    ensures kept { S.tells → (fed : List ℕ) → HasRead fed ahead.old (S.left source.old)
+    ensures kept { S.observed → (fed : List ℕ) → HasRead fed ahead.old (S.left source.old)
         → KeepsOther result fed ahead.new (S.left source.new) }
     ensures size { IfOk result (λ size. size ≤ 2 ^ 31) }
-    ensures goes { OnOk result (GoesOn P.tells (P.calls station.new) own.old own.new) }
-    ensures told { P.tells → P.calls station.new ≡ P.calls station.old }
+    ensures goes { OnOk result (GoesOn P.observed (P.calls station.new) own.old own.new) }
+    ensures told { P.observed → P.calls station.new ≡ P.calls station.old }
     ensures disk_fault { IsErrOf result FollowEnd.DiskFault
         → Rose (P.disk_faults station.old) (P.disk_faults station.new) }
     ensures counts { KeepsAllCounts (P.disk_faults station.old) (P.disk_faults station.new)
@@ -144,7 +144,7 @@ fn compare_first<P: Station, S: Source>(
         (S.faults source.new) }
     ensures source_fault { IsErrOf result FollowEnd.SourceFault
         → Rose (S.faults source.old) (S.faults source.new) }
-    ensures whole { S.tells → IsWhole ahead.old (S.left source.old)
+    ensures whole { S.observed → IsWhole ahead.old (S.left source.old)
         → StaysWhole result ahead.new (S.left source.new) }
     ensures named { IfErr result IsNamedEnd }
 {
@@ -178,14 +178,14 @@ fn compare_next<P: Station, S: Source>(
     requires current { own.old.version ≡ written }
     requires going { own.old.ended ≡ false }
     requires room { own.old.gate < 2 ^ 40 }
-    requires stands { P.tells → StandsOn (P.calls station.old) own.old }
-    ensures compared { P.tells → S.tells → ComparesNext result index at (P.calls station.old)
+    requires stands { P.observed → StandsOn (P.calls station.old) own.old }
+    ensures compared { P.observed → S.observed → ComparesNext result index at (P.calls station.old)
         own.old ahead.old (S.left source.old) (P.calls station.new) own.new ahead.new
         (S.left source.new) }
     ensures later { 1 ≤ index → IsLater result }
     ensures size { IfOk result (λ size. size ≤ 2 ^ 20) }
-    ensures goes { OnOk result (GoesOn P.tells (P.calls station.new) own.old own.new) }
-    ensures told { P.tells → P.calls station.new ≡ P.calls station.old }
+    ensures goes { OnOk result (GoesOn P.observed (P.calls station.new) own.old own.new) }
+    ensures told { P.observed → P.calls station.new ≡ P.calls station.old }
     ensures disk_fault { IsErrOf result FollowEnd.DiskFault
         → Rose (P.disk_faults station.old) (P.disk_faults station.new) }
     ensures counts { KeepsAllCounts (P.disk_faults station.old) (P.disk_faults station.new)
@@ -193,7 +193,7 @@ fn compare_next<P: Station, S: Source>(
         (S.faults source.new) }
     ensures source_fault { IsErrOf result FollowEnd.SourceFault
         → Rose (S.faults source.old) (S.faults source.new) }
-    ensures whole { S.tells → IsWhole ahead.old (S.left source.old)
+    ensures whole { S.observed → IsWhole ahead.old (S.left source.old)
         → StaysWhole result ahead.new (S.left source.new) }
     ensures named { IfErr result IsNamedEnd }
 {
@@ -228,11 +228,12 @@ fn compare_rest<P: Station, S: Source>(
     requires going { own.old.ended ≡ false }
     requires room { end ≤ 2 ^ 30 }
     requires place { at ≤ 2 ^ 32 }
-    requires stands { P.tells → StandsOn (P.calls station.old) own.old }
-    ensures compared { P.tells → S.tells → ComparesRest result at end (P.calls station.old) own.old
+    requires stands { P.observed → StandsOn (P.calls station.old) own.old }
+    ensures compared { P.observed → S.observed → ComparesRest result at end
+        (P.calls station.old) own.old
         ahead.old (S.left source.old) ahead.new (S.left source.new) }
     ensures later { IsLater result }
-    ensures told { P.tells → P.calls station.new ≡ P.calls station.old }
+    ensures told { P.observed → P.calls station.new ≡ P.calls station.old }
     ensures place { IfOk result (λ at. at ≤ 2 ^ 62) }
     ensures disk_fault { IsErrOf result FollowEnd.DiskFault
         → Rose (P.disk_faults station.old) (P.disk_faults station.new) }
@@ -241,7 +242,7 @@ fn compare_rest<P: Station, S: Source>(
         (S.faults source.new) }
     ensures source_fault { IsErrOf result FollowEnd.SourceFault
         → Rose (S.faults source.old) (S.faults source.new) }
-    ensures whole { S.tells → IsWhole ahead.old (S.left source.old)
+    ensures whole { S.observed → IsWhole ahead.old (S.left source.old)
         → StaysWhole result ahead.new (S.left source.new) }
     ensures named { IfErr result IsNamedEnd }
 {
@@ -267,11 +268,11 @@ pub(crate) fn compare<P: Station, S: Source>(
 ) -> Result<u64, FollowEnd>
     requires some { 40 < end }
     requires room { end ≤ 2 ^ 30 }
-    ensures compared { P.tells → S.tells → ComparesAll result directory.now end
+    ensures compared { P.observed → S.observed → ComparesAll result directory.now end
         (P.calls station.old) ahead.old (S.left source.old) ahead.new (S.left source.new) }
-    ensures kept { S.tells → (fed : List ℕ) → HasRead fed ahead.old (S.left source.old)
+    ensures kept { S.observed → (fed : List ℕ) → HasRead fed ahead.old (S.left source.old)
         → KeepsOther result fed ahead.new (S.left source.new) }
-    ensures told { P.tells → OnlySyncs (P.calls station.old) (P.calls station.new) }
+    ensures told { P.observed → OnlySyncs (P.calls station.old) (P.calls station.new) }
     ensures place { IfOk result (λ at. at ≤ 2 ^ 62) }
     ensures disk_fault { IsErrOf result FollowEnd.DiskFault
         → Rose (P.disk_faults station.old) (P.disk_faults station.new) }
@@ -280,12 +281,12 @@ pub(crate) fn compare<P: Station, S: Source>(
         (S.faults source.new) }
     ensures source_fault { IsErrOf result FollowEnd.SourceFault
         → Rose (S.faults source.old) (S.faults source.new) }
-    ensures whole { S.tells → IsWhole ahead.old (S.left source.old)
+    ensures whole { S.observed → IsWhole ahead.old (S.left source.old)
         → StaysWhole result ahead.new (S.left source.new) }
     ensures named { IfErr result IsNamedEnd }
 {
     // A limit is low enough for what a checkpoint takes.
-    let _ = directory.limit();
+    directory.bounds_hold();
     let mut own = Journal::start(alloc, station, directory.mark())?;
     let size = compare_first(alloc, station, directory, &mut own, source, ahead)?;
     let at = HEADER as u64 + size as u64;

@@ -90,7 +90,7 @@ pub(crate) fn fed_record<S: Source>(
     before: &[u8; 32],
     at: u64,
 ) -> Result<(usize, [u8; 32]), FollowEnd>
-    ensures piece { S.tells → (fed : List ℕ) → HasRead fed ahead.old (S.left source.old)
+    ensures piece { S.observed → (fed : List ℕ) → HasRead fed ahead.old (S.left source.old)
         → FindsPiece result version at (record_piece version (held version before.now) fed)
         fed ahead.new (S.left source.new) }
     ensures there { IfOk result (λ found. found.0 ≤ length ahead.new.bytes) }

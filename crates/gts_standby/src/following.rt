@@ -27,12 +27,12 @@ fn take_checkpoint<P: Station, S: Source>(
     source: &mut S,
     ahead: &mut Ahead,
 ) -> FollowEnd
-    requires { IsOpened P.tells directory.now (P.calls station.old) core journal }
-    ensures taken { P.tells → S.tells → TakesCheckpoint result P.tells directory.now
+    requires { IsOpened P.observed directory.now (P.calls station.old) core journal }
+    ensures taken { P.observed → S.observed → TakesCheckpoint result P.observed directory.now
         (P.calls station.old) core journal ahead.old (S.left source.old) (P.calls station.new)
         (S.left source.new) }
     ensures kind { IsAddEnd result }
-    ensures silent { P.tells → said_by (P.calls station.new) ≡ said_by (P.calls station.old) }
+    ensures silent { P.observed → said_by (P.calls station.new) ≡ said_by (P.calls station.old) }
     ensures source_fault { result ≡ FollowEnd.SourceFault
         → Rose (S.faults source.old) (S.faults source.new) }
     ensures disk_fault { result ≡ FollowEnd.DiskFault
@@ -40,7 +40,7 @@ fn take_checkpoint<P: Station, S: Source>(
     ensures counts { KeepsAllCounts (P.disk_faults station.old) (P.disk_faults station.new)
         (P.say_faults station.old) (P.say_faults station.new) (S.faults source.old)
         (S.faults source.new) }
-    ensures whole { S.tells → IsWhole ahead.old (S.left source.old)
+    ensures whole { S.observed → IsWhole ahead.old (S.left source.old)
         → ReadsAll result (S.left source.new) }
 {
     let mut journal = journal;
@@ -68,12 +68,12 @@ fn take_first<P: Station, S: Source>(
     source: &mut S,
     ahead: &mut Ahead,
 ) -> FollowEnd
-    requires { IsOpened P.tells directory.now (P.calls station.old) core journal }
-    ensures taken { P.tells → S.tells → TakesFirst result P.tells directory.now
+    requires { IsOpened P.observed directory.now (P.calls station.old) core journal }
+    ensures taken { P.observed → S.observed → TakesFirst result P.observed directory.now
         (P.calls station.old) core journal ahead.old (S.left source.old) (P.calls station.new)
         (S.left source.new) }
     ensures kind { IsAddEnd result }
-    ensures silent { P.tells → said_by (P.calls station.new) ≡ said_by (P.calls station.old) }
+    ensures silent { P.observed → said_by (P.calls station.new) ≡ said_by (P.calls station.old) }
     ensures source_fault { result ≡ FollowEnd.SourceFault
         → Rose (S.faults source.old) (S.faults source.new) }
     ensures disk_fault { result ≡ FollowEnd.DiskFault
@@ -81,7 +81,7 @@ fn take_first<P: Station, S: Source>(
     ensures counts { KeepsAllCounts (P.disk_faults station.old) (P.disk_faults station.new)
         (P.say_faults station.old) (P.say_faults station.new) (S.faults source.old)
         (S.faults source.new) }
-    ensures whole { S.tells → IsWhole ahead.old (S.left source.old)
+    ensures whole { S.observed → IsWhole ahead.old (S.left source.old)
         → ReadsAll result (S.left source.new) }
 {
     match is_at_checkpoint(source, ahead) {
@@ -106,12 +106,12 @@ fn take_other<P: Station, S: Source>(
     ahead: &mut Ahead,
     compared: FollowEnd,
 ) -> FollowEnd
-    requires opened { IsOpened P.tells directory.now (P.calls station.old) core journal }
+    requires opened { IsOpened P.observed directory.now (P.calls station.old) core journal }
     requires other { is_other compared ≡ true }
-    ensures taken { P.tells → S.tells → TakesOther compared result P.tells directory.now
+    ensures taken { P.observed → S.observed → TakesOther compared result P.observed directory.now
         (P.calls station.old) core journal ahead.old (S.left source.old) (P.calls station.new)
         (S.left source.new) }
-    ensures silent { P.tells → said_by (P.calls station.new) ≡ said_by (P.calls station.old) }
+    ensures silent { P.observed → said_by (P.calls station.new) ≡ said_by (P.calls station.old) }
     ensures source_fault { result ≡ FollowEnd.SourceFault
         → Rose (S.faults source.old) (S.faults source.new) }
     ensures disk_fault { result ≡ FollowEnd.DiskFault
@@ -119,7 +119,7 @@ fn take_other<P: Station, S: Source>(
     ensures counts { KeepsAllCounts (P.disk_faults station.old) (P.disk_faults station.new)
         (P.say_faults station.old) (P.say_faults station.new) (S.faults source.old)
         (S.faults source.new) }
-    ensures whole { S.tells → IsWhole ahead.old (S.left source.old)
+    ensures whole { S.observed → IsWhole ahead.old (S.left source.old)
         → ReadsAll result (S.left source.new) }
     ensures named { IsNamedEnd result }
 {
@@ -140,11 +140,11 @@ fn take_records<P: Station, S: Source>(
     source: &mut S,
     ahead: &mut Ahead,
 ) -> FollowEnd
-    requires { IsOpened P.tells directory.now (P.calls station.old) core journal }
-    ensures taken { P.tells → S.tells → TakesRecords result P.tells directory.now
+    requires { IsOpened P.observed directory.now (P.calls station.old) core journal }
+    ensures taken { P.observed → S.observed → TakesRecords result P.observed directory.now
         (P.calls station.old) core journal ahead.old (S.left source.old) (P.calls station.new)
         (S.left source.new) }
-    ensures silent { P.tells → said_by (P.calls station.new) ≡ said_by (P.calls station.old) }
+    ensures silent { P.observed → said_by (P.calls station.new) ≡ said_by (P.calls station.old) }
     ensures source_fault { result ≡ FollowEnd.SourceFault
         → Rose (S.faults source.old) (S.faults source.new) }
     ensures disk_fault { result ≡ FollowEnd.DiskFault
@@ -152,12 +152,12 @@ fn take_records<P: Station, S: Source>(
     ensures counts { KeepsAllCounts (P.disk_faults station.old) (P.disk_faults station.new)
         (P.say_faults station.old) (P.say_faults station.new) (S.faults source.old)
         (S.faults source.new) }
-    ensures whole { S.tells → IsWhole ahead.old (S.left source.old)
+    ensures whole { S.observed → IsWhole ahead.old (S.left source.old)
         → ReadsAll result (S.left source.new) }
     ensures named { IsNamedEnd result }
 {
     // A limit is low enough for the places of gates.
-    let _ = directory.limit();
+    directory.bounds_hold();
     let end = journal.used() - 1;
     if end <= HEADER as u64 {
         return take_first(alloc, station, directory, core, journal, source, ahead);
@@ -180,16 +180,16 @@ fn take_feed<P: Station, S: Source>(
     directory: &Directory,
     source: &mut S,
 ) -> FollowEnd
-    ensures answer { P.tells → S.tells → Answers result
+    ensures answer { P.observed → S.observed → Answers result
         (comes_to directory.now (seen (P.calls station.old)) (S.left source.old)) }
-    ensures added { P.tells → S.tells → AddsAllOf result directory.now (P.calls station.old)
+    ensures added { P.observed → S.observed → AddsAllOf result directory.now (P.calls station.old)
         (P.calls station.new) (S.left source.old) }
-    ensures moments { P.tells → S.tells → LeavesFronts directory.now (P.calls station.old)
+    ensures moments { P.observed → S.observed → LeavesFronts directory.now (P.calls station.old)
         (P.calls station.new) (S.left source.old) }
-    ensures done { S.tells → result ≡ FollowEnd.Done → S.left source.new ≡ [] }
-    ensures refused { P.tells → S.tells → LeavesAlone result (P.calls station.old)
+    ensures done { S.observed → result ≡ FollowEnd.Done → S.left source.new ≡ [] }
+    ensures refused { P.observed → S.observed → LeavesAlone result (P.calls station.old)
         (P.calls station.new) (source.new ≡ source.old) }
-    ensures silent { P.tells → said_by (P.calls station.new) ≡ said_by (P.calls station.old) }
+    ensures silent { P.observed → said_by (P.calls station.new) ≡ said_by (P.calls station.old) }
     ensures source_fault { result ≡ FollowEnd.SourceFault
         → Rose (S.faults source.old) (S.faults source.new) }
     ensures disk_fault { result ≡ FollowEnd.DiskFault
@@ -222,25 +222,25 @@ pub fn follow<P: Station, S: Source>(
     source: &mut S,
 ) -> (P, FollowEnd)
     // What is answered is what the feed comes to beside the journal, or the fault to which its files open.
-    ensures answer { P.tells → S.tells → Answers result.1
+    ensures answer { P.observed → S.observed → Answers result.1
         (comes_to directory.now (seen (P.calls station)) (S.left source.old)) }
 
     // At each end of the feed the journal has all that the feed adds. It is the journal from before with that behind it, each seal
     // chained over the one before: nothing else is done to it.
-    ensures added { P.tells → S.tells → AddsAllOf result.1 directory.now (P.calls station)
+    ensures added { P.observed → S.observed → AddsAllOf result.1 directory.now (P.calls station)
         (P.calls result.0) (S.left source.old) }
 
     // A crash at any moment since the sync of the opening leaves a journal that has what it had, and a first part of that.
-    ensures moments { P.tells → S.tells → LeavesFronts directory.now (P.calls station)
+    ensures moments { P.observed → S.observed → LeavesFronts directory.now (P.calls station)
         (P.calls result.0) (S.left source.old) }
 
     // The feed was read to its end.
-    ensures done { S.tells → result.1 ≡ FollowEnd.Done → S.left source.new ≡ [] }
+    ensures done { S.observed → result.1 ≡ FollowEnd.Done → S.left source.new ≡ [] }
 
     // A refusal of the journal writes nothing, and nothing of the feed is read then.
-    ensures refused { P.tells → S.tells → LeavesAlone result.1 (P.calls station)
+    ensures refused { P.observed → S.observed → LeavesAlone result.1 (P.calls station)
         (P.calls result.0) (source.new ≡ source.old) }
-    ensures silent { P.tells → said_by (P.calls result.0) ≡ said_by (P.calls station) }
+    ensures silent { P.observed → said_by (P.calls result.0) ≡ said_by (P.calls station) }
     ensures source_fault { result.1 ≡ FollowEnd.SourceFault
         → Rose (S.faults source.old) (S.faults source.new) }
     ensures disk_fault { result.1 ≡ FollowEnd.DiskFault

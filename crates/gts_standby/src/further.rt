@@ -41,7 +41,7 @@ pub(crate) fn is_further<S: Source>(
     source: &mut S,
     ahead: &mut Ahead,
 ) -> Result<bool, FollowEnd>
-    ensures further { S.tells → (s : State) (fed : List ℕ) → Holds directory.now core.now s
+    ensures further { S.observed → (s : State) (fed : List ℕ) → Holds directory.now core.now s
         → HasRead fed ahead.old (S.left source.old)
         → IfOk result (λ is. FindsFurther is directory.now s fed ahead.new (S.left source.new)) }
     ensures kind { IfErr result IsReadEnd }

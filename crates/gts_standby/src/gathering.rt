@@ -50,19 +50,20 @@ impl Gathering {
     ) -> Result<usize, FollowEnd>
         requires going { CanGather directory.now core.old self.old }
         requires room { length self.old.batch.text + LONGEST < MOST_GATHERED }
-        ensures gathered { GathersNext result S.tells directory.now core.old self.old at ahead.old
+        ensures gathered { GathersNext result S.observed directory.now core.old self.old at
+            ahead.old
             (S.left source.old) core.new self.new ahead.new (S.left source.new) }
         ensures unchanged { OnErr result (self.new ≡ self.old) }
         ensures kind { IfErr result IsFedEnd }
         ensures source_fault { IsErrOf result FollowEnd.SourceFault
             → Rose (S.faults source.old) (S.faults source.new) }
         ensures later { S.faults source.old ≤ S.faults source.new }
-        ensures whole { S.tells → IsWhole ahead.old (S.left source.old)
+        ensures whole { S.observed → IsWhole ahead.old (S.left source.old)
             → StaysWhole result ahead.new (S.left source.new) }
     {
         ahead.fill(source, LONGEST)?;
         // A limit is low enough for the places of gates.
-        let _ = directory.limit();
+        directory.bounds_hold();
         let version = self.journal.version();
         let gate = self.journal.behind_gate() - 1 + self.batch.used();
         match decode_sealed(version, &self.seal, ahead.bytes()) {
@@ -84,16 +85,19 @@ impl Gathering {
 
     /// Brings the records that were gathered into the journal, behind one gate.
     fn bring<P: Station>(&mut self, station: &mut P, directory: &Directory) -> Result<(), FollowEnd>
-        requires { IsGathered P.tells directory.now (P.calls station.old) self.old }
+        requires { IsGathered P.observed directory.now (P.calls station.old) self.old }
         // All of them stand there.
-        ensures brought { OnOk result (Brings P.tells directory.now (P.calls station.old) self.old
+        ensures brought { OnOk result (Brings P.observed directory.now
+            (P.calls station.old) self.old
             (P.calls station.new) self.new) }
         ensures emptied { OnOk result (length self.new.batch.text ≡ 1) }
 
         // A crash at any moment leaves the journal as it was, or with all of them.
-        ensures moments { P.tells → MayBring P.tells directory.now (P.calls station.old) self.old
+        ensures moments { P.observed → MayBring P.observed directory.now
+            (P.calls station.old) self.old
             (P.calls station.new) }
-        ensures silent { P.tells → said_by (P.calls station.new) ≡ said_by (P.calls station.old) }
+        ensures silent { P.observed → said_by (P.calls station.new) ≡ said_by
+            (P.calls station.old) }
         ensures kind { IfErr result (λ end. end ≡ FollowEnd.DiskFault) }
         ensures disk_fault { OnErr result
             (Rose (P.disk_faults station.old) (P.disk_faults station.new)) }
@@ -101,7 +105,7 @@ impl Gathering {
             (P.say_faults station.old) (P.say_faults station.new) }
     {
         // A limit is low enough for the places of gates.
-        let _ = directory.limit();
+        directory.bounds_hold();
         if self.batch.is_empty() {
             return Ok(());
         }
@@ -119,13 +123,15 @@ impl Gathering {
         directory: &Directory,
         ahead: &Ahead,
     ) -> Result<(), FollowEnd>
-        requires { IsGathered P.tells directory.now (P.calls station.old) self.old }
-        ensures brought { OnOk result (MayHaveBrought P.tells directory.now (P.calls station.old)
+        requires { IsGathered P.observed directory.now (P.calls station.old) self.old }
+        ensures brought { OnOk result (MayHaveBrought P.observed directory.now (P.calls station.old)
             self.old (P.calls station.new) self.new) }
         ensures room { OnOk result (length self.new.batch.text + LONGEST < MOST_GATHERED) }
-        ensures moments { P.tells → MayBring P.tells directory.now (P.calls station.old) self.old
+        ensures moments { P.observed → MayBring P.observed directory.now
+            (P.calls station.old) self.old
             (P.calls station.new) }
-        ensures silent { P.tells → said_by (P.calls station.new) ≡ said_by (P.calls station.old) }
+        ensures silent { P.observed → said_by (P.calls station.new) ≡ said_by
+            (P.calls station.old) }
         ensures kind { IfErr result (λ end. end ≡ FollowEnd.DiskFault) }
         ensures disk_fault { OnErr result
             (Rose (P.disk_faults station.old) (P.disk_faults station.new)) }
@@ -146,13 +152,15 @@ impl Gathering {
         directory: &Directory,
         end: FollowEnd,
     ) -> FollowEnd
-        requires gathered { IsGathered P.tells directory.now (P.calls station.old) self.old }
+        requires gathered { IsGathered P.observed directory.now (P.calls station.old) self.old }
         requires fed { IsFedEnd end }
-        ensures finished { IsFinished result end P.tells directory.now (P.calls station.old)
+        ensures finished { IsFinished result end P.observed directory.now (P.calls station.old)
             self.old (P.calls station.new) self.new }
-        ensures moments { P.tells → MayBring P.tells directory.now (P.calls station.old) self.old
+        ensures moments { P.observed → MayBring P.observed directory.now
+            (P.calls station.old) self.old
             (P.calls station.new) }
-        ensures silent { P.tells → said_by (P.calls station.new) ≡ said_by (P.calls station.old) }
+        ensures silent { P.observed → said_by (P.calls station.new) ≡ said_by
+            (P.calls station.old) }
         ensures disk_fault { result ≡ FollowEnd.DiskFault
             → Rose (P.disk_faults station.old) (P.disk_faults station.new) }
         ensures counts { KeepsCounts (P.disk_faults station.old) (P.disk_faults station.new)

@@ -39,7 +39,7 @@ pub(crate) fn take_header<S: Source>(
     ahead: &mut Ahead,
     mark: [u8; 32],
 ) -> Result<(), FollowEnd>
-    ensures taken { S.tells → (fed : List ℕ) → HasRead fed ahead.old (S.left source.old)
+    ensures taken { S.observed → (fed : List ℕ) → HasRead fed ahead.old (S.left source.old)
         → TakesHeader result (magic written ++ mark) fed ahead.new (S.left source.new) }
     ensures kind { IfErr result IsFedEnd }
     ensures source_fault { IsErrOf result FollowEnd.SourceFault

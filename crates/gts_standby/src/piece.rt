@@ -13,7 +13,8 @@ const PIECE: usize = 4096;
 
 /// Says a piece on the operator's channel.
 fn say_piece<P: Station>(station: &mut P, piece: &[u8]) -> Result<(), ShipFault>
-    ensures told { P.tells → Speaks result (P.calls station.old) (P.calls station.new) piece.now }
+    ensures told { P.observed → Speaks result (P.calls station.old)
+        (P.calls station.new) piece.now }
     ensures say_fault { IsErrOf result ShipFault.SayFault
         → Rose (P.say_faults station.old) (P.say_faults station.new) }
     ensures kind { IfErr result (λ e. e ≡ ShipFault.SayFault) }
@@ -37,10 +38,10 @@ pub(crate) fn say_part<P: Station>(
     requires file { file < 2 }
     requires order { from ≤ to }
     requires room { to ≤ 2 ^ 41 }
-    requires there { P.tells → to ≤ length (seen (P.calls station.old) file) }
-    ensures told { P.tells → Speaks result (P.calls station.old) (P.calls station.new)
+    requires there { P.observed → to ≤ length (seen (P.calls station.old) file) }
+    ensures told { P.observed → Speaks result (P.calls station.old) (P.calls station.new)
         (take (to - from) (drop from (seen (P.calls station.old) file))) }
-    ensures kind { P.tells → IfErr result IsQuiet }
+    ensures kind { P.observed → IfErr result IsQuiet }
     ensures named { IfErr result IsNamed }
     ensures disk_fault { IsErrOf result ShipFault.DiskFault
         → Rose (P.disk_faults station.old) (P.disk_faults station.new) }

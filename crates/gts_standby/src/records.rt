@@ -10,12 +10,12 @@ use gts_traits::Station;
 fn say_next<P: Station>(station: &mut P, journal: &mut Journal) -> Result<(), ShipFault>
     requires going { journal.old.ended ≡ false }
     requires room { journal.old.gate < 2 ^ 40 }
-    requires stands { P.tells → StandsOn (P.calls station.old) journal.old }
-    ensures said { P.tells → (d : Directory) (end : ℕ) (left : List ℕ)
+    requires stands { P.observed → StandsOn (P.calls station.old) journal.old }
+    ensures said { P.observed → (d : Directory) (end : ℕ) (left : List ℕ)
         → IsAtGate d (P.calls station.old) journal.old end left → journal.old.gate < end
         → SaysOne result d (P.calls station.old) (P.calls station.new) journal.new end left }
     ensures going { OnOk result (journal.new.ended ≡ false) }
-    ensures stands { P.tells → OnOk result (StandsOn (P.calls station.new) journal.new) }
+    ensures stands { P.observed → OnOk result (StandsOn (P.calls station.new) journal.new) }
     ensures rises { OnOk result (journal.old.gate < journal.new.gate) }
     ensures named { IfErr result IsNamed }
     ensures disk_fault { IsErrOf result ShipFault.DiskFault
@@ -42,8 +42,8 @@ pub(crate) fn say_records<P: Station>(
 ) -> Result<(), ShipFault>
     requires going { journal.old.ended ≡ false }
     requires room { end < 2 ^ 40 }
-    requires stands { P.tells → StandsOn (P.calls station.old) journal.old }
-    ensures said { P.tells → (d : Directory) (left : List ℕ)
+    requires stands { P.observed → StandsOn (P.calls station.old) journal.old }
+    ensures said { P.observed → (d : Directory) (left : List ℕ)
         → IsAtGate d (P.calls station.old) journal.old end left
         → SaysRest result (P.calls station.old) (P.calls station.new) left }
     ensures named { IfErr result IsNamed }

@@ -111,7 +111,7 @@ fn reach<S: Source>(
     requires limit { limit ≤ 2 ^ 30 }
     requires place { at ≤ limit }
     requires size { size ≤ 2 ^ 40 }
-    ensures reached { S.tells → (fed : List ℕ) → HasRead fed ahead.old (S.left source.old)
+    ensures reached { S.observed → (fed : List ℕ) → HasRead fed ahead.old (S.left source.old)
         → Reaches result (feeds.reach limit fed at size) fed ahead.new (S.left source.new) }
     ensures there { IfOk result (λ behind. (behind ≤ length ahead.new.bytes) × (behind ≤ limit)) }
     ensures kind { IfErr result IsFedEnd }
@@ -140,7 +140,7 @@ fn behind_one<S: Source>(
 ) -> Result<usize, FollowEnd>
     requires limit { limit ≤ 2 ^ 30 }
     requires place { at ≤ limit }
-    ensures reached { S.tells → (fed : List ℕ) → HasRead fed ahead.old (S.left source.old)
+    ensures reached { S.observed → (fed : List ℕ) → HasRead fed ahead.old (S.left source.old)
         → Reaches result (behind_listed listed limit fed at) fed ahead.new (S.left source.new) }
     ensures there { IfOk result (λ behind. (behind ≤ length ahead.new.bytes) × (behind ≤ limit)) }
     ensures kind { IfErr result IsFedEnd }
@@ -167,7 +167,7 @@ fn behind_all<S: Source>(
     requires limit { limit ≤ 2 ^ 30 }
     requires place { at ≤ limit }
     requires begins { at ≤ length ahead.old.bytes }
-    ensures reached { S.tells → (fed : List ℕ) → HasRead fed ahead.old (S.left source.old)
+    ensures reached { S.observed → (fed : List ℕ) → HasRead fed ahead.old (S.left source.old)
         → Reaches result (feeds.behind_all (behind_listed listed limit fed) count at)
         fed ahead.new (S.left source.new) }
     ensures there { IfOk result (λ behind. (behind ≤ length ahead.new.bytes) × (behind ≤ limit)) }
@@ -194,7 +194,7 @@ fn behind_lists<S: Source>(
     bulletins: usize,
 ) -> Result<usize, FollowEnd>
     requires limit { limit ≤ 2 ^ 30 }
-    ensures reached { S.tells → (fed : List ℕ) → HasRead fed ahead.old (S.left source.old)
+    ensures reached { S.observed → (fed : List ℕ) → HasRead fed ahead.old (S.left source.old)
         → Reaches result (feeds.behind_counted limit fed bulletins circuits)
         fed ahead.new (S.left source.new) }
     ensures there { IfOk result (λ behind. (behind ≤ length ahead.new.bytes) × (behind ≤ limit)) }
@@ -211,7 +211,7 @@ fn behind_lists<S: Source>(
 /// How many bytes the checkpoint has that stands at the front.
 fn scan<S: Source>(source: &mut S, ahead: &mut Ahead, limit: usize) -> Result<usize, FollowEnd>
     requires limit { limit ≤ 2 ^ 30 }
-    ensures reached { S.tells → (fed : List ℕ) → HasRead fed ahead.old (S.left source.old)
+    ensures reached { S.observed → (fed : List ℕ) → HasRead fed ahead.old (S.left source.old)
         → Reaches result (feeds.behind_checkpoint limit fed) fed ahead.new (S.left source.new) }
     ensures there { IfOk result (λ behind. (behind ≤ length ahead.new.bytes) × (behind ≤ limit)) }
     ensures kind { IfErr result IsFedEnd }
@@ -236,7 +236,7 @@ pub(crate) fn fed_checkpoint<S: Source>(
     before: &[u8; 32],
 ) -> Result<(usize, [u8; 32]), FollowEnd>
     requires { limit ≤ 2 ^ 30 }
-    ensures piece { S.tells → (fed : List ℕ) → HasRead fed ahead.old (S.left source.old)
+    ensures piece { S.observed → (fed : List ℕ) → HasRead fed ahead.old (S.left source.old)
         → FindsPiece result version 40 (feeds.checkpoint_piece version limit
         (held version before.now) fed) fed ahead.new (S.left source.new) }
     ensures there { IfOk result (λ found. found.0 ≤ length ahead.new.bytes) }
@@ -267,7 +267,7 @@ pub(crate) fn is_at_checkpoint<S: Source>(
     source: &mut S,
     ahead: &mut Ahead,
 ) -> Result<bool, FollowEnd>
-    ensures first { S.tells → (fed : List ℕ) → HasRead fed ahead.old (S.left source.old)
+    ensures first { S.observed → (fed : List ℕ) → HasRead fed ahead.old (S.left source.old)
         → IfOk result (λ may. (may ≡ feeds.is_checkpoint_fed fed)
         × HasRead fed ahead.new (S.left source.new)) }
     ensures kind { IfErr result IsReadEnd }

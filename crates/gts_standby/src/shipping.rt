@@ -23,14 +23,14 @@ fn say_checkpoint<P: Station>(
     end: u64,
 ) -> Result<(), ShipFault>
     requires going { journal.old.ended ≡ false }
-    requires stands { P.tells → StandsOn (P.calls station.old) journal.old }
-    requires first { P.tells
+    requires stands { P.observed → StandsOn (P.calls station.old) journal.old }
+    requires first { P.observed
         → IsAtFirst directory.now (P.calls station.old) journal.old end }
-    ensures said { P.tells → SaysOne result directory.now (P.calls station.old)
+    ensures said { P.observed → SaysOne result directory.now (P.calls station.old)
         (P.calls station.new) journal.new end
         (behind_header directory.now (P.calls station.old) journal.old) }
     ensures going { OnOk result (journal.new.ended ≡ false) }
-    ensures stands { P.tells → OnOk result (StandsOn (P.calls station.new) journal.new) }
+    ensures stands { P.observed → OnOk result (StandsOn (P.calls station.new) journal.new) }
     ensures named { IfErr result IsNamed }
     ensures disk_fault { IsErrOf result ShipFault.DiskFault
         → Rose (P.disk_faults station.old) (P.disk_faults station.new) }
@@ -44,7 +44,7 @@ fn say_checkpoint<P: Station>(
         return Ok(());
     }
     // A limit is low enough for the place of the gate.
-    let _ = directory.limit();
+    directory.bounds_hold();
     let file = journal.file();
     let found = read(alloc, station, journal.version(), file, directory)?;
     say_part(station, file, HEADER as u64 + 1, found.1)?;
@@ -62,9 +62,9 @@ fn say_feed<P: Station>(
 ) -> Result<(), ShipFault>
     requires going { journal.ended ≡ false }
     requires room { end < 2 ^ 40 }
-    requires stands { P.tells → StandsOn (P.calls station.old) journal }
-    requires first { P.tells → IsAtFirst directory.now (P.calls station.old) journal end }
-    ensures said { P.tells → SaysRest result (P.calls station.old) (P.calls station.new)
+    requires stands { P.observed → StandsOn (P.calls station.old) journal }
+    requires first { P.observed → IsAtFirst directory.now (P.calls station.old) journal end }
+    ensures said { P.observed → SaysRest result (P.calls station.old) (P.calls station.new)
         (feed journal.version directory.now.mark (file_of (P.calls station.old) journal)) }
     ensures named { IfErr result IsNamed }
     ensures disk_fault { IsErrOf result ShipFault.DiskFault
@@ -88,12 +88,12 @@ pub fn ship<P: Station>(
     directory: &Directory,
 ) -> Result<(), ShipFault>
     // The journal opens, and its feed was said on channel 0, and nothing else.
-    ensures said { P.tells → OnOk result
+    ensures said { P.observed → OnOk result
         (ShipsOnly directory.now (P.calls station.old) (P.calls station.new)
         (feed_of directory.now (P.calls station.old))) }
 
     // A fault of the files is answered exactly where they open to it. Else a front of the feed was said.
-    ensures fault { P.tells → IfErr result (λ e.
+    ensures fault { P.observed → IfErr result (λ e.
         IsShipFault e directory.now (P.calls station.old) (P.calls station.new)
         (feed_of directory.now (P.calls station.old))) }
     ensures named { IfErr result IsNamed }
@@ -105,7 +105,7 @@ pub fn ship<P: Station>(
     ensures say { P.say_faults station.old ≤ P.say_faults station.new }
 {
     // A limit is low enough for the places of gates.
-    let _ = directory.limit();
+    directory.bounds_hold();
     let end = open_core(alloc, station, directory)?.1.used() - 1;
     let journal = Journal::start(alloc, station, directory.mark())?;
     say_feed(alloc, station, directory, journal, end)
@@ -121,12 +121,12 @@ pub fn ship_since<P: Station>(
     since: &Since,
 ) -> Result<(), ShipFault>
     // The journal opens, and what is behind the standby's was said on channel 0, or else all, and nothing else.
-    ensures said { P.tells → OnOk result
+    ensures said { P.observed → OnOk result
         (ShipsOnly directory.now (P.calls station.old) (P.calls station.new)
         (since_of directory.now (P.calls station.old) since.now)) }
 
     // A fault of the files is answered exactly where they open to it. Else a front of that was said.
-    ensures fault { P.tells → IfErr result (λ e.
+    ensures fault { P.observed → IfErr result (λ e.
         IsShipFault e directory.now (P.calls station.old) (P.calls station.new)
         (since_of directory.now (P.calls station.old) since.now)) }
     ensures named { IfErr result IsNamed }
@@ -138,7 +138,7 @@ pub fn ship_since<P: Station>(
     ensures say { P.say_faults station.old ≤ P.say_faults station.new }
 {
     // A limit is low enough for the places of gates.
-    let _ = directory.limit();
+    directory.bounds_hold();
     let end = open_core(alloc, station, directory)?.1.used() - 1;
     let mut journal = Journal::start(alloc, station, directory.mark())?;
     if look_for(alloc, station, directory, &mut journal, end, since)? {

@@ -27,14 +27,14 @@ fn pass_checkpoint<P: Station>(
     journal: &mut Journal,
 ) -> Result<(), ShipFault>
     requires going { journal.old.ended ≡ false }
-    requires stands { P.tells → StandsOn (P.calls station.old) journal.old }
-    ensures passed { P.tells → (end place : ℕ) (last : List ℕ) → IsAtFirst directory.now (P.calls
+    requires stands { P.observed → StandsOn (P.calls station.old) journal.old }
+    ensures passed { P.observed → (end place : ℕ) (last : List ℕ) → IsAtFirst directory.now (P.calls
         station.old) journal.old end → Passes result directory.now (P.calls station.new) journal.new
         end place last (behind_here directory.now (P.calls station.old) journal.old place last) }
     ensures going { OnOk result (journal.new.ended ≡ false) }
-    ensures stands { P.tells → OnOk result (StandsOn (P.calls station.new) journal.new) }
+    ensures stands { P.observed → OnOk result (StandsOn (P.calls station.new) journal.new) }
     ensures version { OnOk result (journal.new.version ≡ journal.old.version) }
-    ensures told { P.tells → P.calls station.new ≡ P.calls station.old }
+    ensures told { P.observed → P.calls station.new ≡ P.calls station.old }
     ensures named { IfErr result IsNamed }
     ensures disk_fault { IsErrOf result ShipFault.DiskFault
         → Rose (P.disk_faults station.old) (P.disk_faults station.new) }
@@ -46,7 +46,7 @@ fn pass_checkpoint<P: Station>(
         return Ok(());
     }
     // A limit is low enough for the place of the gate.
-    let _ = directory.limit();
+    directory.bounds_hold();
     let file = journal.file();
     let found = read(alloc, station, journal.version(), file, directory)?;
     journal.pass(found.1, found.2);
@@ -57,11 +57,11 @@ fn pass_checkpoint<P: Station>(
 fn pass_next<P: Station>(station: &mut P, journal: &mut Journal) -> Result<(), ShipFault>
     requires going { journal.old.ended ≡ false }
     requires room { journal.old.gate < 2 ^ 40 }
-    requires stands { P.tells → StandsOn (P.calls station.old) journal.old }
-    ensures passed { PassesUnder result P.tells IsLower (P.calls station.old) journal.old
+    requires stands { P.observed → StandsOn (P.calls station.old) journal.old }
+    ensures passed { PassesUnder result P.observed IsLower (P.calls station.old) journal.old
         (P.calls station.new) journal.new }
-    ensures goes { OnOk result (GoesOn P.tells (P.calls station.new) journal.old journal.new) }
-    ensures told { P.tells → P.calls station.new ≡ P.calls station.old }
+    ensures goes { OnOk result (GoesOn P.observed (P.calls station.new) journal.old journal.new) }
+    ensures told { P.observed → P.calls station.new ≡ P.calls station.old }
     ensures named { IfErr result IsNamed }
     ensures disk_fault { IsErrOf result ShipFault.DiskFault
         → Rose (P.disk_faults station.old) (P.disk_faults station.new) }
@@ -85,14 +85,14 @@ fn pass_records<P: Station>(
 ) -> Result<(), ShipFault>
     requires going { journal.old.ended ≡ false }
     requires room { stop < 2 ^ 40 }
-    requires stands { P.tells → StandsOn (P.calls station.old) journal.old }
-    ensures passed { PassesUnder result P.tells (IsWithin stop) (P.calls station.old) journal.old
+    requires stands { P.observed → StandsOn (P.calls station.old) journal.old }
+    ensures passed { PassesUnder result P.observed (IsWithin stop) (P.calls station.old) journal.old
         (P.calls station.new) journal.new }
     ensures reached { OnOk result (stop ≤ journal.new.gate) }
     ensures going { OnOk result (journal.new.ended ≡ false) }
-    ensures stands { P.tells → OnOk result (StandsOn (P.calls station.new) journal.new) }
+    ensures stands { P.observed → OnOk result (StandsOn (P.calls station.new) journal.new) }
     ensures version { OnOk result (journal.new.version ≡ journal.old.version) }
-    ensures told { P.tells → P.calls station.new ≡ P.calls station.old }
+    ensures told { P.observed → P.calls station.new ≡ P.calls station.old }
     ensures named { IfErr result IsNamed }
     ensures disk_fault { IsErrOf result ShipFault.DiskFault
         → Rose (P.disk_faults station.old) (P.disk_faults station.new) }
@@ -118,14 +118,14 @@ pub(crate) fn look_for<P: Station>(
 ) -> Result<bool, ShipFault>
     requires going { journal.old.ended ≡ false }
     requires room { end < 2 ^ 40 }
-    requires stands { P.tells → StandsOn (P.calls station.old) journal.old }
-    requires first { P.tells → IsAtFirst directory.now (P.calls station.old) journal.old end }
-    ensures found { P.tells → LooksFor result directory.now (P.calls station.new) journal.new end
+    requires stands { P.observed → StandsOn (P.calls station.old) journal.old }
+    requires first { P.observed → IsAtFirst directory.now (P.calls station.old) journal.old end }
+    ensures found { P.observed → LooksFor result directory.now (P.calls station.new) journal.new end
         (behind_here directory.now (P.calls station.old) journal.old (since.now.used - 1)
         (held journal.old.version since.now.seal)) }
     ensures going { OnOk result (journal.new.ended ≡ false) }
-    ensures stands { P.tells → OnOk result (StandsOn (P.calls station.new) journal.new) }
-    ensures told { P.tells → P.calls station.new ≡ P.calls station.old }
+    ensures stands { P.observed → OnOk result (StandsOn (P.calls station.new) journal.new) }
+    ensures told { P.observed → P.calls station.new ≡ P.calls station.old }
     ensures named { IfErr result IsNamed }
     ensures disk_fault { IsErrOf result ShipFault.DiskFault
         → Rose (P.disk_faults station.old) (P.disk_faults station.new) }

@@ -59,15 +59,15 @@ impl<R: Eprint, P: Station + Causes> ServiceStation<'_, R, P> {
         ensures { self.new.station ≡ self.old.station }
     {
         if failed && self.is_service && self.told.is_none() {
-            self.told = Some(Status::SayFault);
-            tell(self.rt, Status::SayFault, self.station.say_cause());
+            self.told = Some(Status::OutputFault);
+            tell(self.rt, Status::OutputFault, self.station.say_cause());
             self.stop.set();
         }
     }
 }
 
 impl<R: Eprint, P: Station + Causes> Station for ServiceStation<'_, R, P> {
-    ghost tells = { P.tells };
+    ghost observed = { P.observed };
 
     ghost calls = { λ s. P.calls s.station };
 

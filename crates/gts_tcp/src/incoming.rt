@@ -202,7 +202,7 @@ fn is_there(caller: &TcpStream) -> bool {
 }
 
 impl<R: Clock + Eprint> Source for TcpIn<'_, R> {
-    ghost tells = { ⊥ };
+    ghost observed = { ⊥ };
 
     ghost left = { λ _. [] };
 

@@ -258,7 +258,7 @@ impl<'a, R: Net<Listener = TcpListener, Stream = TcpStream> + Clock> TcpOut<'a, 
 }
 
 impl<R: Net<Listener = TcpListener, Stream = TcpStream> + Clock> Sink for TcpOut<'_, R> {
-    ghost tells = { ⊥ };
+    ghost observed = { ⊥ };
 
     ghost written = { λ _. [] };
 

@@ -52,28 +52,18 @@ fn is_option(word: &str) -> bool
 fn alone(name: &str) -> Option<Command>
     ensures { result ≡ commands.alone name.now }
 {
-    if name == "init" {
-        Some(Command::Init)
-    } else if name == "replay" {
-        Some(Command::Replay)
-    } else if name == "serve" {
-        Some(Command::Serve { connections: 1 })
-    } else if name == "show" {
-        Some(Command::Show)
-    } else if name == "compact" {
-        Some(Command::Compact)
-    } else if name == "migrate" {
-        Some(Command::Migrate)
-    } else if name == "pack" {
-        Some(Command::Pack)
-    } else if name == "ship" {
-        Some(Command::Ship)
-    } else if name == "follow" {
-        Some(Command::Follow)
-    } else if name == "count" {
-        Some(Command::Count)
-    } else {
-        None
+    match name.as_bytes() {
+        b"init" => Some(Command::Init),
+        b"replay" => Some(Command::Replay),
+        b"serve" => Some(Command::Serve { connections: 1 }),
+        b"show" => Some(Command::Show),
+        b"compact" => Some(Command::Compact),
+        b"migrate" => Some(Command::Migrate),
+        b"pack" => Some(Command::Pack),
+        b"ship" => Some(Command::Ship),
+        b"follow" => Some(Command::Follow),
+        b"count" => Some(Command::Count),
+        _ => None,
     }
 }
 
@@ -81,12 +71,10 @@ fn alone(name: &str) -> Option<Command>
 fn migrating(word: &str) -> Option<Command>
     ensures { result ≡ commands.migrating word.now }
 {
-    if word == "drop" {
-        Some(Command::MigrateDrop)
-    } else if word == "check" {
-        Some(Command::MigrateCheck)
-    } else {
-        None
+    match word.as_bytes() {
+        b"drop" => Some(Command::MigrateDrop),
+        b"check" => Some(Command::MigrateCheck),
+        _ => None,
     }
 }
 

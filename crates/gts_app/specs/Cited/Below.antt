@@ -1,6 +1,6 @@
 -- What this crate says in words of what lies below it, in one place.
 pub use Rattle.std.specs.List.{AllByRecursion, filter, flat_map, slice_index_or}
-pub use Rattle.gts_traits.specs.Cited.{Breaks, Call, Did, EachSince, Files, IsFront, IsSynced, Rose, SaidSince, Says, Syncs, on, said_by, seen}
+pub use Rattle.gts_traits.specs.Cited.{Breaks, Call, Did, EachSince, Files, IsFront, IsSynced, Rose, SaidSince, Says, SaysFront, SaysOnly, Syncs, on, said_by, seen}
 pub use Rattle.gts_traits.specs.declared.source.Source.{Ghosts as SourceMeanings}
 pub use Rattle.gts_traits.specs.declared.station.Station.{Ghosts}
 pub use Rattle.gts_directory.specs.Cited.{Directory, TakesOver, first_change}
@@ -8,7 +8,7 @@ pub use Rattle.gts_directory.specs.declared.fault.DirFault.{DirFault}
 pub use Rattle.gts_directory.specs.declared.taking_over.Change.{Change}
 pub use Rattle.gts_dirfile.specs.Cited.{directory_of_bytes}
 pub use Rattle.gts_dirfile.specs.declared.limits.TheConstants.{LONGEST_DIRECTORY}
-pub use Rattle.gts_event.specs.Cited.{Draws, EachOwedFew, EachRoutedOnce, EachWaitsOrDrawn, HasLine, IsNowhereElse, IsOrdered, IsRoutedAsNamed, Need, State, after, after_all, after_entry, all_done, all_unsaid, begun, choice, drawn, draws, has, is_sound, keeps_one, line, need, need_of, next, on_circuit, outcome, restarted, takes_of_drain}
+pub use Rattle.gts_event.specs.Cited.{Draws, EachOwedFew, EachRoutedOnce, EachWaitsOrDrawn, HasFrame, IsNowhereElse, IsOrdered, IsRoutedAsNamed, Need, State, after, after_all, after_entry, all_done, all_unsaid, begun, choice, drawn, draws, frame_of_draw, has, is_sound, keeps_one, need, need_of, next, on_circuit, outcome, restarted, takes_of_drain}
 pub use Rattle.gts_event.specs.declared.event.Entry.{Entry}
 pub use Rattle.gts_event.specs.declared.event.Entry.TheVariants.{Done, Doubt, Idle, Restarted, Unsaid}
 pub use Rattle.gts_event.specs.declared.event.Event.{Event}
@@ -29,20 +29,20 @@ pub use Rattle.gts_core.specs.Cited.{Holds, Needs}
 pub use Rattle.gts_journal.specs.Cited.{OnlySyncs, OpensAsBefore, is_begun, selected_bytes}
 pub use Rattle.gts_checkpoint.specs.Cited.{checkpoint_file}
 pub use Rattle.gts_recovery.specs.Cited.{IsAnswer, files_open_any, opens_any}
+pub use Rattle.gts_lock.specs.Cited.{Known, entries, entries_under}
+pub use Rattle.gts_lock.specs.declared.limits.TheConstants.{MOST_TURNS}
 pub use Rattle.gts_calls.specs.Cited.{HasCallCause, IsReopenFault, Standing, settled}
-pub use Rattle.gts_engine.specs.Cited.{Engine, GivesRoom, HasFailed, HasRead, HasSaid, IsCompactFault, IsCompaction, IsFullCompacted, IsIdleFault, IsRewritten, Keeps, Leaving, OpensWith, Origin, StaysAt, Told, compacted_after, origin_of, shown, state_at, switch_meanings, used_at}
+pub use Rattle.gts_engine.specs.Cited.{Engine, GivesRoom, HasFailed, HasRead, HasSaid, IsCompactFault, IsCompaction, IsFullCompacted, IsIdleFault, IsRewritten, Keeps, Leaving, ObservedOrigin, OpensWith, Origin, StaysAt, compacted_after, origin_of, shown, state_at, switch_meanings, used_at}
 pub use Rattle.gts_engine.specs.declared.mode.SayMode.{SayMode}
 pub use Rattle.gts_engine.specs.declared.mode.SayMode.TheVariants.{Caller}
 pub use Rattle.gts_migrate.specs.Cited.{AnswersOpening, AnswersWaiting, CountsSays, GivesRoomFor, IsDiskFaultOf, IsMigrated, IsSayFaultOf, LeavesFiles, OpensEither, SaysFor, WasOpened, sayings, waits_on_closed}
 pub use Rattle.gts_migrate.specs.declared.fault.MigrateFault.{MigrateFault}
 pub use Rattle.gts_migrate.specs.declared.waiting.Waiting.{Waiting}
 pub use Rattle.gts_migrate.specs.declared.waiting.Waiting.TheVariants.{Dropped, Refused}
-pub use Rattle.gts_say.specs.Cited.{SaysFront, SaysOnly}
 pub use Rattle.gts_count.specs.Cited.{Counts, ShowsTable, meanings_by, table}
 pub use Rattle.gts_count.specs.declared.counted.Counted.{Counted}
-pub use Rattle.gts_count.specs.declared.parts.Parts.{Parts}
-pub use Rattle.gts_report.specs.Cited.{report}
-pub use Rattle.gts_changes.specs.Cited.{changes}
+pub use Rattle.gts_count.specs.declared.parts.CountedParts.{CountedParts}
+pub use Rattle.gts_report.specs.Cited.{changes, report}
 pub use Rattle.gts_replay.specs.Cited.{BreaksAtCompaction, BreaksAtRestart, Ends, HasDone, HasReplayCause, IsUnbegun, Remains, StandsFor, compacted_at, compactions_at, entries_at, origin_at, origin_behind}
 pub use Rattle.gts_replay.specs.declared.end.ReplayEnd.{ReplayEnd}
 pub use Rattle.gts_generate.specs.Cited.{IsFullOn, day_summary}
@@ -50,24 +50,21 @@ pub use Rattle.gts_standby.specs.Cited.{Answers, EachOpens, EndsAs, IsEnd, IsNam
 pub use Rattle.gts_standby.specs.declared.end.FollowEnd.{FollowEnd}
 pub use Rattle.gts_standby.specs.declared.fault.ShipFault.{ShipFault}
 pub use Rattle.gts_standby.specs.declared.since.Since.{Since}
-pub use Rattle.gts_accum.specs.Cited.{HasReadCause, HasSayCause, IsBad, IsLeft, IsTaken, Packs, SameFiles, bad_in_stream, badplace, captured, packed}
+pub use Rattle.gts_accum.specs.Cited.{HasReadCause, HasSayCause, HasUnpackCause, IsBad, IsEndAt, IsEndOf, IsLeft, IsTaken, Packs, SameFiles, bad_in_stream, badplace, captured, packed}
+pub use Rattle.gts_accum.specs.declared.end.UnpackEnd.{UnpackEnd}
+pub use Rattle.gts_accum.specs.declared.end.UnpackEnd.TheVariants.{Bad, Ended}
 pub use Rattle.gts_accum.specs.declared.pack_end.PackEnd.{PackEnd}
-pub use Rattle.gts_unpack.specs.Cited.{HasUnpackCause, IsEndAt, IsEndOf}
-pub use Rattle.gts_unpack.specs.declared.end.UnpackEnd.{UnpackEnd}
-pub use Rattle.gts_unpack.specs.declared.end.UnpackEnd.TheVariants.{Bad, Ended}
-pub use Rattle.gts_missing.specs.Cited.{HasGapsCause, IsCutAt, Names, Reads, report_of}
-pub use Rattle.gts_missing.specs.declared.fault.GapsEnd.{GapsEnd}
-pub use Rattle.gts_missing.specs.declared.moment.Moment.{Moment}
-pub use Rattle.gts_lock.specs.Cited.{Known, entries, entries_under}
-pub use Rattle.gts_lock.specs.declared.limits.TheConstants.{MOST_TURNS}
+pub use Rattle.gts_gap.specs.Cited.{HasGapsCause, IsCutAt, Names, Reads, report_of}
+pub use Rattle.gts_gap.specs.declared.fault.GapsEnd.{GapsEnd}
+pub use Rattle.gts_gap.specs.declared.moment.Moment.{Moment}
 pub use Rattle.gts_words.specs.Cited.{command_of}
 pub use Rattle.gts_words.specs.declared.command.Command.{Command}
-pub use Rattle.gts_words.specs.declared.command.Command.TheVariants.{Count, Follow, Gaps, Generate, Init, Migrate, MigrateCheck, MigrateDrop, Pack, Replay, Serve, ServeAlways, Ship, ShipSince, Show, Unpack}
+pub use Rattle.gts_words.specs.declared.command.Command.TheVariants.{Generate, Serve, Unpack}
 pub use Rattle.gts_receiver.specs.Cited.{fault_entries, goes_on}
 pub use Rattle.gts_receiver.specs.declared.end.ReceiveEnd.{ReceiveEnd}
 pub use Rattle.gts_receiver.specs.declared.limits.TheConstants.{WITHOUT_END}
 pub use Rattle.gts_sender.specs.Cited.{fault_takes}
 pub use Rattle.gts_sender.specs.declared.end.SendEnd.{SendEnd}
-pub use Rattle.gts_housed.specs.Cited.{Beginning, IsCrampedFor, Stands, flat, origin_with}
-pub use Rattle.gts_serve.specs.Cited.{AreUntouched, GaveMost, HasFault, IsServed, LinesSeen, ServesCircuit, first_fault, history_of, lines_seen, receiver_first, seen_lines, sender_first, threads_of}
-pub use Rattle.gts_serve.specs.declared.end.ServeEnd.{ServeEnd}
+pub use Rattle.gts_circuits.specs.Causes.{history_of}
+pub use Rattle.gts_circuits.specs.Cited.{AreUntouched, Beginning, GaveMost, HasFault, IsCrampedFor, IsServed, LinesSeen, ServesCircuit, Stands, first_fault, flat, lines_seen, origin_with, receiver_first, seen_lines, sender_first, threads_of}
+pub use Rattle.gts_circuits.specs.declared.end.ServeEnd.{ServeEnd}

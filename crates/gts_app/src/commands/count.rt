@@ -1,11 +1,12 @@
 ghost use Rattle.std.specs.Prelude.{◌≡◌, IfOk, IfErr, IsTrue};
-ghost use Rattle.gts_app.specs.Cited.{CountsEngine, CountsTraffic, EndsWithoutTable, Need as NeedOf, Needs, ShowsTable, is_sound, world};
+ghost use Rattle.gts_app.specs.Cited.{CountsEngine, CountsTraffic, EndsWithoutTable, Need as NeedOf, Needs, ShowsTable, is_sound};
 
-use crate::Status;
 use crate::commands::replay::status_of;
 use crate::commands::show::OPERATOR;
 use crate::laws::a_history_keeps_its_laws;
 use crate::opening::open_engine;
+use crate::world::Handed;
+use crate::{Ended, Status, World};
 use gts_calls::Switch;
 use gts_connection::CaptureKind;
 use gts_count::{Counted, counting_of};
@@ -54,22 +55,20 @@ fn table_behind<T: Switch>(
 }
 
 /// Does what `replay` does with a capture that has no `R` and no `C`, and once it is done says a table of the traffic behind it
-/// on channel 0. The station is handed back.
-pub fn count<S: Source, P: Station>(
-    alloc: Global,
-    directory: &mut S,
-    capture: &mut S,
-    station: P,
-) -> (Status, P)
-    ensures { CountsTraffic S.Source P.Station result.0
-        (world directory.old capture.old station) (world directory.new capture.new result.1) }
+/// on channel 0.
+pub fn count<S: Source, P: Station>(alloc: Global, mut world: World<S, S, P>) -> Ended<S, P>
+    ensures { CountsTraffic S.Source P.Station result.status world result.world }
 {
     // The laws that hold of all that a history comes to; and what the engine's core holds is what the files open to.
     a_history_keeps_its_laws();
     a_start_is_its_own_need();
-    let engine = match open_engine(alloc, directory, station) {
+    let station = world.station;
+    let engine = match open_engine(alloc, &mut world.directory, station) {
         Ok(engine) => engine,
-        Err(refused) => return refused,
+        Err(Handed { status, station }) => {
+            let world = World { station, ..world };
+            return Ended { status, world };
+        }
     };
     // A directory has few circuits, so a capture has one reading.
     let _few = Switch::circuits(&engine);
@@ -77,20 +76,30 @@ pub fn count<S: Source, P: Station>(
         Ok(counted) => counted,
         Err(engine) => {
             let (station, _directory) = engine.into_parts();
-            return (Status::NoMemory, station);
+            let status = Status::NoMemory;
+            let world = World { station, ..world };
+            return Ended { status, world };
         }
     };
+    let capture = &mut world.capture;
     let end = gts_replay::replay(alloc, &mut counted, capture, CaptureKind::Traffic);
     let table = table_behind(alloc, end, &counted);
     let engine = counted.into_inner();
     // The files open with as many bytes in use as the engine counts.
     let _used = engine.used();
-    let (mut station, _directory) = engine.into_parts();
+    let (station, _directory) = engine.into_parts();
+    let mut world = World { station, ..world };
     match table {
-        Err(status) => (status, station),
-        Ok(table) => match station.say(OPERATOR, table.as_slice()) {
-            Err(Failed) => (Status::SayFault, station),
-            Ok(()) => (Status::Done, station),
+        Err(status) => Ended { status, world },
+        Ok(table) => match world.station.say(OPERATOR, table.as_slice()) {
+            Err(Failed) => Ended {
+                status: Status::OutputFault,
+                world,
+            },
+            Ok(()) => Ended {
+                status: Status::Done,
+                world,
+            },
         },
     }
 }

@@ -1,10 +1,10 @@
 ghost use Rattle.std.specs.Prelude.{◌≡◌};
 ghost use Rattle.gts_app.specs.Follow as following;
-ghost use Rattle.gts_app.specs.Cited.{FollowsFeed, world};
+ghost use Rattle.gts_app.specs.Cited.{FollowsFeed};
 
-use crate::Status;
 use crate::directory::directory_of;
 use crate::opening::refusal;
+use crate::{Ended, Status, World};
 use gts_standby::FollowEnd;
 use gts_traits::{Source, Station};
 use std::alloc::Global;
@@ -17,28 +17,26 @@ fn status_of(end: FollowEnd) -> Status
         FollowEnd::Done => Status::Done,
         FollowEnd::Open(fault) => refusal(fault),
         FollowEnd::Feed { at } => Status::Feed { at },
-        FollowEnd::Diverged { index, own, fed } => Status::Diverged { index, own, fed },
-        FollowEnd::SourceFault => Status::SourceFault,
+        FollowEnd::Diverged { index, own, fed } => Status::OtherFeed { index, own, fed },
+        FollowEnd::SourceFault => Status::InputFault,
         FollowEnd::DiskFault => Status::DiskFault,
         FollowEnd::NoMemory => Status::NoMemory,
     }
 }
 
 /// Reads the directory, opens the journal, and takes the feed of another station's journal into it: what both have is compared,
-/// and what the own one doesn't have is checked and appended. Nothing is said. The station is handed back.
-pub fn follow<S: Source, P: Station>(
-    alloc: Global,
-    directory: &mut S,
-    feed: &mut S,
-    station: P,
-) -> (Status, P)
-    ensures { FollowsFeed S.Source P.Station result.0
-        (world directory.old feed.old station) (world directory.new feed.new result.1) }
+/// and what the own one doesn't have is checked and appended. Nothing is said.
+pub fn follow<S: Source, P: Station>(alloc: Global, mut world: World<S, S, P>) -> Ended<S, P>
+    ensures { FollowsFeed S.Source P.Station result.status world result.world }
 {
-    let accepted = match directory_of(alloc, directory) {
+    let accepted = match directory_of(alloc, &mut world.directory) {
         Ok(accepted) => accepted,
-        Err(status) => return (status, station),
+        Err(status) => return Ended { status, world },
     };
+    let station = world.station;
+    let feed = &mut world.capture;
     let (station, end) = gts_standby::follow(alloc, station, &accepted, feed);
-    (status_of(end), station)
+    let status = status_of(end);
+    let world = World { station, ..world };
+    Ended { status, world }
 }

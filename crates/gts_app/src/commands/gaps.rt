@@ -1,10 +1,10 @@
 ghost use Rattle.std.specs.Prelude.{◌≡◌};
 ghost use Rattle.gts_app.specs.Gaps as gapping;
-ghost use Rattle.gts_app.specs.Cited.{NamesGaps, world};
+ghost use Rattle.gts_app.specs.Cited.{NamesGaps};
 
-use crate::Status;
 use crate::directory::directory_of;
-use gts_missing::{GapsEnd, Moment};
+use crate::{Status, World};
+use gts_gap::{GapsEnd, Moment};
 use gts_traits::{Source, Station};
 use std::alloc::Global;
 
@@ -15,8 +15,8 @@ fn status_of(end: GapsEnd) -> Status
     match end {
         GapsEnd::Done => Status::Done,
         GapsEnd::Capture { at } => Status::Capture { at },
-        GapsEnd::SourceFault => Status::SourceFault,
-        GapsEnd::SayFault => Status::SayFault,
+        GapsEnd::SourceFault => Status::InputFault,
+        GapsEnd::SayFault => Status::OutputFault,
         GapsEnd::NoMemory => Status::NoMemory,
     }
 }
@@ -25,18 +25,20 @@ fn status_of(end: GapsEnd) -> Status
 /// for them: lines on channel 0, the request of circuit c on channel c + 1. The files of the journal are not looked at.
 pub fn gaps<S: Source, P: Station>(
     alloc: Global,
+    world: &mut World<S, S, P>,
     moment: Moment,
-    directory: &mut S,
-    capture: &mut S,
-    station: &mut P,
 ) -> Status
-    ensures { NamesGaps S.Source P.Station moment result
-        (world directory.old capture.old station.old)
-        (world directory.new capture.new station.new) }
+    ensures { NamesGaps S.Source P.Station moment result world.old world.new }
 {
-    let directory = match directory_of(alloc, directory) {
+    let directory = match directory_of(alloc, &mut world.directory) {
         Ok(directory) => directory,
         Err(status) => return status,
     };
-    status_of(gts_missing::gaps(alloc, &directory, moment, capture, station))
+    status_of(gts_gap::gaps(
+        alloc,
+        &directory,
+        moment,
+        &mut world.capture,
+        &mut world.station,
+    ))
 }

@@ -1,9 +1,9 @@
 ghost use Rattle.std.specs.Prelude.{◌≡◌};
 ghost use Rattle.gts_app.specs.Pack as packing;
-ghost use Rattle.gts_app.specs.Cited.{PacksStream, world};
+ghost use Rattle.gts_app.specs.Cited.{PacksStream};
 
-use crate::Status;
 use crate::directory::directory_of;
+use crate::{Status, World};
 use gts_accum::PackEnd;
 use gts_traits::{Source, Station};
 use std::alloc::Global;
@@ -14,28 +14,23 @@ fn status_of(end: PackEnd) -> Status
 {
     match end {
         PackEnd::Done => Status::Done,
-        PackEnd::Bad { at } => Status::Accum { at },
-        PackEnd::SourceFault => Status::SourceFault,
-        PackEnd::SayFault => Status::SayFault,
+        PackEnd::Bad { at } => Status::File { at },
+        PackEnd::SourceFault => Status::InputFault,
+        PackEnd::SayFault => Status::OutputFault,
         PackEnd::NoMemory => Status::NoMemory,
     }
 }
 
 /// Reads the directory, and then a stream of frames, and says the file of its messages on channel 0. The files of the journal
 /// are not looked at.
-pub fn pack<S: Source, P: Station>(
-    alloc: Global,
-    directory: &mut S,
-    stream: &mut S,
-    station: &mut P,
-) -> Status
-    ensures { PacksStream S.Source P.Station result
-        (world directory.old stream.old station.old) (world directory.new stream.new station.new) }
+pub fn pack<S: Source, P: Station>(alloc: Global, world: &mut World<S, S, P>) -> Status
+    ensures { PacksStream S.Source P.Station result world.old world.new }
 {
     // Nothing is asked of the directory here: it has to be accepted.
-    let _accepted = match directory_of(alloc, directory) {
+    let _accepted = match directory_of(alloc, &mut world.directory) {
         Ok(accepted) => accepted,
         Err(status) => return status,
     };
-    status_of(gts_accum::pack(alloc, stream, station))
+    let packed = gts_accum::pack(alloc, &mut world.capture, &mut world.station);
+    status_of(packed)
 }

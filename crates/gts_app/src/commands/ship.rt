@@ -2,9 +2,9 @@ ghost use Rattle.std.specs.Prelude.{◌≡◌};
 ghost use Rattle.gts_app.specs.Ship as shipping;
 ghost use Rattle.gts_app.specs.Ship.{ShipsFeed};
 
-use crate::Status;
 use crate::directory::directory_of;
 use crate::opening::refusal;
+use crate::{Status, World};
 use gts_standby::{ShipFault, Since};
 use gts_traits::{Source, Station};
 use std::alloc::Global;
@@ -17,7 +17,7 @@ fn status_of(shipped: Result<(), ShipFault>) -> Status
         Ok(()) => Status::Done,
         Err(ShipFault::Open(fault)) => refusal(fault),
         Err(ShipFault::DiskFault) => Status::DiskFault,
-        Err(ShipFault::SayFault) => Status::SayFault,
+        Err(ShipFault::SayFault) => Status::OutputFault,
         Err(ShipFault::NoMemory) => Status::NoMemory,
     }
 }
@@ -26,19 +26,22 @@ fn status_of(shipped: Result<(), ShipFault>) -> Status
 /// what that station has. The files are synced, and not changed.
 pub fn ship<S: Source, P: Station>(
     alloc: Global,
-    directory: &mut S,
-    station: &mut P,
+    world: &mut World<S, S, P>,
     since: Option<Since>,
 ) -> Status
-    ensures { ShipsFeed since S.Source P.Station result
-        directory.old station.old directory.new station.new }
+    ensures capture { world.new.capture ≡ world.old.capture }
+    ensures ships { ShipsFeed since S.Source P.Station result
+        world.old.directory world.old.station world.new.directory world.new.station }
 {
-    let accepted = match directory_of(alloc, directory) {
+    let accepted = match directory_of(alloc, &mut world.directory) {
         Ok(accepted) => accepted,
         Err(status) => return status,
     };
     match since {
-        None => status_of(gts_standby::ship(alloc, station, &accepted)),
-        Some(since) => status_of(gts_standby::ship_since(alloc, station, &accepted, &since)),
+        None => status_of(gts_standby::ship(alloc, &mut world.station, &accepted)),
+        Some(since) => {
+            let station = &mut world.station;
+            status_of(gts_standby::ship_since(alloc, station, &accepted, &since))
+        }
     }
 }

@@ -6,7 +6,7 @@ use super::*;
 fn init_on_a_disk_that_fails(rt: HostRuntime) -> Result<(), Fail> {
     for call in 0..FIRST {
         let station = MemStation::new(rt.alloc(), &[call])?;
-        let (status, _) = run_word(&rt, "init", b"", station)?;
+        let Left { status, .. } = run_word(&rt, "init", b"", station)?;
         assert!(rt; status == Status::DiskFault, "call {call}");
     }
     Ok(())
@@ -17,17 +17,17 @@ fn ends_and_goes_on<R: AllocGlobal + Threads + Wait + Sync + Abort>(
     rt: &R,
     behind: u64,
 ) -> Result<(), Fail> {
-    let (status, left) = replayed(rt, COMPACTED, &[FIRST.saturating_add(behind)])?;
+    let Left { status, station } = replayed(rt, COMPACTED, &[FIRST.saturating_add(behind)])?;
     assert!(rt;
-        status == Status::DiskFault || status == Status::SayFault,
+        status == Status::DiskFault || status == Status::OutputFault,
         "call {behind}"
     );
-    goes_on(rt, behind, left)
+    goes_on(rt, behind, station)
 }
 
 #[test]
 fn a_call_that_fails_ends_the_run_and_the_next_run_goes_on(rt: HostRuntime) -> Result<(), Fail> {
-    let (status, station) = replayed(&rt, COMPACTED, &[])?;
+    let Left { status, station } = replayed(&rt, COMPACTED, &[])?;
     assert!(rt; status == Status::Done);
     for behind in 0..station.calls().saturating_sub(FIRST) {
         ends_and_goes_on(&rt, behind)?;
@@ -47,14 +47,14 @@ fn replayed_from<R: AllocGlobal + Threads + Wait + Sync>(
     let directory = MemSource::new(alloc, DIRECTORY, directory)?;
     let capture = MemSource::new(alloc, DRAWN, capture)?;
     let mut lines = MemLines::new(alloc, &[])?;
-    let (status, _) = run_on(rt, &words, directory, capture, station, &mut lines);
+    let Left { status, .. } = run_on(rt, &words, directory, capture, station, &mut lines);
     Ok(status)
 }
 
 #[test]
 fn a_source_that_fails_ends_the_run(rt: HostRuntime) -> Result<(), Fail> {
     assert!(rt; replayed_from(&rt, &[], &[])? == Status::Done);
-    assert!(rt; replayed_from(&rt, &[0], &[])? == Status::SourceFault);
-    assert!(rt; replayed_from(&rt, &[], &[0])? == Status::SourceFault);
+    assert!(rt; replayed_from(&rt, &[0], &[])? == Status::InputFault);
+    assert!(rt; replayed_from(&rt, &[], &[0])? == Status::InputFault);
     Ok(())
 }

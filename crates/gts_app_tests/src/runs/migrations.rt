@@ -48,7 +48,7 @@ fn with_older<R: AllocGlobal + Threads + Wait + Sync>(rt: &R) -> Result<MemStati
 fn migrated<R: AllocGlobal + Threads + Wait + Sync>(
     rt: &R,
     station: MemStation,
-) -> Result<(Status, MemStation), Fail> {
+) -> Result<Left, Fail> {
     run_under(rt, "migrate", LONGER, DIRECTORY, station)
 }
 
@@ -56,7 +56,7 @@ fn migrated<R: AllocGlobal + Threads + Wait + Sync>(
 fn went_on<R: AllocGlobal + Threads + Wait + Sync>(
     rt: &R,
     station: MemStation,
-) -> Result<(Status, MemStation), Fail> {
+) -> Result<Left, Fail> {
     run_under(rt, "replay", LONGER, REST, station)
 }
 
@@ -68,10 +68,10 @@ fn is_sent<R: Abort>(rt: &R, call: u64, station: &MemStation) {
 
 #[test]
 fn an_older_journal_is_taken_over(rt: HostRuntime) -> Result<(), Fail> {
-    let (status, station) = migrated(&rt, with_older(&rt)?)?;
+    let Left { status, station } = migrated(&rt, with_older(&rt)?)?;
     assert!(rt; status == Status::Done);
     assert!(rt; station.file(1).len() == 195);
-    let (status, station) = went_on(&rt, station)?;
+    let Left { status, station } = went_on(&rt, station)?;
     assert!(rt; status == Status::Done);
     is_sent(&rt, station.calls(), &station);
     Ok(())
@@ -83,21 +83,24 @@ pub fn opens<R: AllocGlobal + Threads + Wait + Sync + Abort>(
     call: u64,
     left: MemStation,
 ) -> Result<(), Fail> {
-    let (status, mut left) = went_on(rt, left)?;
+    let Left {
+        status,
+        mut station,
+    } = went_on(rt, left)?;
     if status == Status::OldVersion {
-        let (again, station) = migrated(rt, left)?;
-        assert!(rt; again == Status::Done, "call {call}");
-        left = went_on(rt, station)?.1;
+        let taken = migrated(rt, station)?;
+        assert!(rt; taken.status == Status::Done, "call {call}");
+        station = went_on(rt, taken.station)?.station;
     } else {
         assert!(rt; status == Status::Done, "call {call}");
     }
-    is_sent(rt, call, &left);
+    is_sent(rt, call, &station);
     Ok(())
 }
 
 #[test]
 fn it_opens_under_one_of_the_two_whenever_the_machine_stops(rt: HostRuntime) -> Result<(), Fail> {
-    let (_, station) = migrated(&rt, with_older(&rt)?)?;
+    let Left { station, .. } = migrated(&rt, with_older(&rt)?)?;
     for call in OPENED..station.calls() {
         holds_after(&rt, Then::OneOfTwoOpens, &station, call)?;
     }

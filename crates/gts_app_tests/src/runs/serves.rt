@@ -16,7 +16,7 @@ fn served<R: AllocGlobal + Threads + Wait + Sync>(
     rt: &R,
     words: &WordList,
     lines: &mut MemLines,
-) -> Result<(Status, MemStation), Fail> {
+) -> Result<Left, Fail> {
     let alloc = rt.alloc();
     let station = with_journal(rt, &[])?;
     let directory = MemSource::new(alloc, DIRECTORY, &[])?;
@@ -36,7 +36,7 @@ fn what_comes_on_a_circuit_goes_out_on_the_other(rt: HostRuntime) -> Result<(), 
     let words = word(rt.alloc(), "serve")?;
     for (opens, writes, wanted, journal, sent) in ENDS {
         let mut lines = lines_with(rt.alloc(), opens, writes)?;
-        let (status, station) = served(&rt, &words, &mut lines)?;
+        let Left { status, station } = served(&rt, &words, &mut lines)?;
         assert!(rt; status == wanted);
         assert!(rt; station.file(0).len() == journal);
         assert!(rt; lines.sent(0) == b"".as_slice());
@@ -55,7 +55,7 @@ fn a_connection_that_lost_synchronisation_is_followed_by_the_next(
     let mut lines = MemLines::new(alloc, &[])?;
     lines.feed(0, b"0000039 AN")?;
     lines.add(0, FRAME)?;
-    let (status, station) = served(&rt, &words, &mut lines)?;
+    let Left { status, station } = served(&rt, &words, &mut lines)?;
     assert!(rt; status == Status::Done);
     assert!(rt; station.said(0).starts_with(b"LOS 0 Length\nACC 0 0 1 "));
     assert!(rt; lines.sent(1) == FRAME);

@@ -19,13 +19,13 @@ const GATES: [(Touched, &[u8]); 6] = [
 
 #[test]
 fn a_bulletin_was_accepted_where_its_gate_is_open(rt: HostRuntime) -> Result<(), Fail> {
-    let (_, station) = replayed(&rt, DRAWN, &[])?;
+    let Left { station, .. } = replayed(&rt, DRAWN, &[])?;
     for (choice, receipts) in GATES {
         let left = crashed(&station, GATE, choice)?;
-        let (status, left) = run_word(&rt, "replay", DRAWN, left)?;
+        let Left { status, station } = run_word(&rt, "replay", DRAWN, left)?;
         assert!(rt; status == Status::Done);
-        assert!(rt; left.said(0) == receipts);
-        assert!(rt; left.said(2) == FRAME);
+        assert!(rt; station.said(0) == receipts);
+        assert!(rt; station.said(2) == FRAME);
     }
     Ok(())
 }
@@ -68,9 +68,9 @@ fn are_sent_by<R: AllocGlobal + Threads + Wait + Sync + Abort>(
     call: u64,
     left: MemStation,
 ) -> Result<(), Fail> {
-    let (status, left) = run_word(rt, "replay", REST, left)?;
+    let Left { status, station } = run_word(rt, "replay", REST, left)?;
     assert!(rt; status == Status::Done, "call {call}");
-    assert!(rt; are_both_sent(left.said(2)), "call {call}");
+    assert!(rt; are_both_sent(station.said(2)), "call {call}");
     Ok(())
 }
 
@@ -133,7 +133,7 @@ pub fn holds_after<R: AllocGlobal + Threads + Wait + Sync + Abort>(
 
 #[test]
 fn each_number_has_its_bytes_whenever_the_machine_stops(rt: HostRuntime) -> Result<(), Fail> {
-    let (_, station) = replayed(&rt, BOTH, &[])?;
+    let Left { station, .. } = replayed(&rt, BOTH, &[])?;
     for call in FIRST..station.calls() {
         holds_after(&rt, Then::AllIsSent, &station, call)?;
     }
@@ -142,7 +142,7 @@ fn each_number_has_its_bytes_whenever_the_machine_stops(rt: HostRuntime) -> Resu
 
 #[test]
 fn the_next_run_goes_on_whenever_the_machine_stops(rt: HostRuntime) -> Result<(), Fail> {
-    let (_, station) = replayed(&rt, COMPACTED, &[])?;
+    let Left { station, .. } = replayed(&rt, COMPACTED, &[])?;
     for call in FIRST..station.calls() {
         holds_after(&rt, Then::TheNextRunGoesOn, &station, call)?;
     }

@@ -27,7 +27,7 @@ fn has_gone_out(frames: &AtomicU64) -> bool {
     false
 }
 
-/// What the neighbour on a circuit sends: at once, or only when a frame has gone out. It tells no bytes.
+/// What the neighbour on a circuit sends: at once, or only when a frame has gone out. Its bytes are not observed.
 #[derive(Drop)]
 struct Sending<'a> {
     bytes: &'a [u8],
@@ -37,7 +37,7 @@ struct Sending<'a> {
 }
 
 impl Source for Sending<'_> {
-    ghost tells = { ⊥ };
+    ghost observed = { ⊥ };
 
     ghost left = { λ _. [] };
 
@@ -63,7 +63,7 @@ impl Line for Sending<'_> {
     }
 }
 
-/// What the neighbour on a circuit gets. It tells no bytes.
+/// What the neighbour on a circuit gets. Its bytes are not observed.
 #[derive(Drop)]
 struct Getting<'a> {
     got: Vec<u8>,
@@ -73,7 +73,7 @@ struct Getting<'a> {
 }
 
 impl Sink for Getting<'_> {
-    ghost tells = { ⊥ };
+    ghost observed = { ⊥ };
 
     ghost written = { λ _. [] };
 
@@ -187,7 +187,7 @@ fn with_journal_of_three<R: AllocGlobal + Threads + Wait + Sync>(
     let directory = MemSource::new(alloc, THREE, &[])?;
     let capture = MemSource::new(alloc, b"", &[])?;
     let mut lines = MemLines::new(alloc, &[])?;
-    Ok(run_on(rt, &words, directory, capture, station, &mut lines).1)
+    Ok(run_on(rt, &words, directory, capture, station, &mut lines).station)
 }
 
 /// Serves neighbours over a new journal.
@@ -198,19 +198,13 @@ fn end_of_neighbours<R: AllocGlobal + Threads + Wait + Sync>(
     let alloc = rt.alloc();
     let words = word(alloc, "serve")?;
     let station = with_journal_of_three(rt)?;
-    let mut directory = MemSource::new(alloc, THREE, &[])?;
-    let capture = MemSource::new(alloc, b"", &[])?;
-    let (status, _, _) = run(
-        rt,
-        alloc,
-        &words,
-        &mut directory,
-        capture,
+    let world = World {
+        directory: MemSource::new(alloc, THREE, &[])?,
+        capture: MemSource::new(alloc, b"", &[])?,
         station,
-        neighbours,
-        &FreeGate,
-    );
-    Ok(status)
+    };
+    let ended = run(rt, alloc, &words, world, neighbours, &FreeGate);
+    Ok(ended.status)
 }
 
 /// Neighbours of whom the one on this circuit sends the second bulletin, when it has waited for the first, which the other one

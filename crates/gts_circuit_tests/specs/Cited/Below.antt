@@ -15,8 +15,7 @@ pub use Rattle.gts_event.specs.declared.fault.SwitchFault.TheVariants.{Spent}
 pub use Rattle.gts_event.specs.declared.outcome.Outcome.TheVariants.{Nothing}
 pub use Rattle.gts_connection.specs.Cited.{events_added, events_of_signs}
 pub use Rattle.gts_opening.specs.Cited.{IsCaused}
-pub use Rattle.gts_feed.specs.Cited.{is_event}
+pub use Rattle.gts_calls.specs.Cited.{Feeds, Frame, HasCauses, IsSpent, Seen, TakesSome, history_of, is_event, state_at}
 pub use Rattle.gts_engine.specs.declared.mode.SayMode.TheVariants.{Caller}
-pub use Rattle.gts_desk.specs.Cited.{Feeds, Frame, HasCauses, IsSpent, Seen, TakesSome, history_of, state_at}
 pub use Rattle.gts_receiver.specs.Cited.{goes_on}
 pub use Rattle.gts_circuits.specs.Cited.{opened_as}

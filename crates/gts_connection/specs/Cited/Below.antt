@@ -9,7 +9,7 @@ unfoldable pub use Rattle.gts_message.specs.Cited.{body_at, number_at, split_at,
 pub use Rattle.gts_frame.specs.Cited.{Breaks, Carries, Decoding, Frame, IsFramed, IsFront, IsPiece, IsStreamFront, KeepAlive, KeepsAlive, Piece, ReadsOn, Rest, Shows, Sign, break_at, break_of, field_at, frame, has_piece, held_in, is_front, length_in, letters, open_part, piece_text, sign_at, signs_from, signs_in, signs_of, signs_of_step}
 pub use Rattle.gts_frame.specs.declared.kind.Kind.{Kind}
 pub use Rattle.gts_frame.specs.declared.kind.Kind.TheVariants.{An, Bi, Fx}
-pub use Rattle.gts_frame.specs.declared.lost.LostField.{LostField}
+pub use Rattle.gts_frame.specs.declared.lost.FrameField.{FrameField}
 unfoldable pub use Rattle.gts_request.specs.Cited.{request_at}
 pub use Rattle.gts_directory.specs.Cited.{Directory}
 pub use Rattle.gts_event.specs.Cited.{State, after_all, all_done, circuit_of_event, empty, is_here, left_to_give, on_circuit, takes_of_drain}

@@ -3,15 +3,15 @@ pub use Rattle.std.specs.List.{AllByRecursion, last_or, list_all, slice_index_or
 pub use Rattle.gts_alphabet.specs.declared.limits.TheConstants.{CHANNELS, LONGEST_BODY, LONGEST_FRAME, MOST_CIRCUITS}
 pub use Rattle.gts_traits.specs.Cited.{Call, Did, EachSince, Files, IsFront, IsImage, MayLeaveAlong, Outside, Rose, SaidSince, Says, Syncs, Tries, channel_bytes, on, said_by, seen, stable}
 pub use Rattle.gts_heading.specs.Cited.{HeadingFields, fields_of}
-pub use Rattle.gts_heading.specs.declared.field.Field.{Field}
+pub use Rattle.gts_heading.specs.declared.field.MessageField.{MessageField}
 pub use Rattle.gts_message.specs.Cited.{MessageParts, parts_of}
 unfoldable pub use Rattle.gts_message.specs.Cited.{split_at}
 pub use Rattle.gts_frame.specs.declared.kind.Kind.{Kind}
 pub use Rattle.gts_frame.specs.declared.kind.Kind.TheVariants.{An, Bi, Fx}
-pub use Rattle.gts_frame.specs.declared.lost.LostField.{LostField}
+pub use Rattle.gts_frame.specs.declared.lost.FrameField.{FrameField}
 pub use Rattle.gts_directory.specs.Cited.{Circuit, Directory, circuit_of_row, mask_of, named}
 pub use Rattle.gts_directory.specs.declared.limits.TheConstants.{GREATEST_LIMIT, MOST_REPEAT}
-pub use Rattle.gts_event.specs.Cited.{Choice, CircuitState, Draws, EachRoutedOnce, HasPositions, IsHeld, Need, NeedsHeading, Nothing_waits, Repeats, SameNeed, State, after, after_all, after_entry, all_done, all_owed_last, all_unsaid, begun, body_of, choice, circuit_of_event, heading_of_message, is_sound, keeps_one, line, most_accepted, need, need_of, no_heading, outcome, owed_again, owed_last, receipt_of, receipt_text, restarted, said}
+pub use Rattle.gts_event.specs.Cited.{Choice, CircuitState, Draws, EachRoutedOnce, HasPositions, IsHeld, Need, NeedsHeading, Nothing_waits, Repeats, SameNeed, State, after, after_all, after_entry, all_done, all_owed_last, all_unsaid, begun, body_of, choice, circuit_of_event, frame_of_draw, heading_of_message, is_sound, keeps_one, most_accepted, need, need_of, no_heading, outcome, owed_again, owed_last, receipt_of, receipt_text, restarted, said}
 pub use Rattle.gts_event.specs.Cited.{spoken, spoken_of, waiting}
 pub use Rattle.gts_event.specs.declared.event.Entry.{Entry}
 pub use Rattle.gts_event.specs.declared.event.Entry.TheVariants.{Done, Doubt, Idle, Restarted, Unsaid}

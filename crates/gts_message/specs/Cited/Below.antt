@@ -9,6 +9,6 @@ pub use Rattle.gts_alphabet.specs.declared.characters.TheConstants.{EOL, ETX, SO
 pub use Rattle.gts_alphabet.specs.declared.limits.TheConstants.{LONGEST_BODY}
 pub use Rattle.gts_heading.specs.Cited.{HeadingFields, IsGap, IsHeading, after_gap, after_word, fields_of}
 unfoldable pub use Rattle.gts_heading.specs.Cited.{bare_group_at, heading_at, heading_text, message_group_at, plain_heading_at}
-pub use Rattle.gts_heading.specs.declared.field.Field.{Field}
-pub use Rattle.gts_heading.specs.declared.field.Field.TheVariants.{End, HeadingStart, Number, Size, StartLine}
+pub use Rattle.gts_heading.specs.declared.field.MessageField.{MessageField}
+pub use Rattle.gts_heading.specs.declared.field.MessageField.TheVariants.{End, HeadingStart, Number, Size, StartLine}
 pub use Rattle.gts_heading.specs.declared.heading.Heading.{Heading}

@@ -8,7 +8,7 @@ pub use Rattle.gts_traits.specs.declared.failed.Failed.{Failed}
 pub use Rattle.gts_heading.specs.Cited.{HeadingFields}
 unfoldable pub use Rattle.gts_heading.specs.Cited.{bare_group_at, bare_heading_at, heading_at, heading_text, message_group_at}
 unfoldable pub use Rattle.gts_heading.specs.Cited.{plain_heading_at}
-pub use Rattle.gts_heading.specs.declared.field.Field.{Field}
+pub use Rattle.gts_heading.specs.declared.field.MessageField.{MessageField}
 pub use Rattle.gts_message.specs.Cited.{MessageParts}
 unfoldable pub use Rattle.gts_message.specs.Cited.{body_at, number_at, split_at, text_at}
 pub use Rattle.gts_frame.specs.Cited.{letters}
@@ -16,7 +16,7 @@ pub use Rattle.gts_frame.specs.declared.kind.Kind.{Kind}
 pub use Rattle.gts_frame.specs.declared.kind.Kind.TheVariants.{An, Bi, Fx}
 pub use Rattle.gts_request.specs.Cited.{Item}
 unfoldable pub use Rattle.gts_request.specs.Cited.{request_at}
-pub use Rattle.gts_request.specs.declared.fault.ReqField.{ReqField}
+pub use Rattle.gts_request.specs.declared.fault.RequestField.{RequestField}
 pub use Rattle.gts_directory.specs.Cited.{Circuit, Directory, is_named, named}
 pub use Rattle.gts_event.specs.Cited.{Bulletin, Choice, CircuitNeed, CircuitState, Draws, EachOwedFew, EachRoutedOnce, HasPositions, IsHeld, IsOrdered, Need, Nothing_waits, Repeats, RoutedOnce, SameNeed, State, WasRead, after, after_all, after_entry, after_heard, after_take, all_done, all_owed_last, answer_to, begun, begun_circuit, body_of, choice, choice_of, circuit_need, circuit_of_event, draws, duplicate, empty, found, has, heading_of_message}
 pub use Rattle.gts_event.specs.Cited.{idle, is_bulletin, is_circuit_sound, is_here, is_needed, is_request, is_sound, items_of, keeps_one, most_accepted, most_owed, need, next, no_heading, nothing, on_circuit, outcome, owed_again, owed_last, places, restarted, said, verdict, waiting, with_bulletin, with_drawn, with_routed}

@@ -5,7 +5,7 @@ pub use Rattle.gts_traits.specs.Cited.{Begun, HasParts, Part, Rose}
 pub use Rattle.gts_traits.specs.declared.source.Source.{Ghosts}
 pub use Rattle.gts_frame.specs.Cited.{Decoding, IsStreamFront, held_in}
 pub use Rattle.gts_frame.specs.declared.kind.Kind.{Kind}
-pub use Rattle.gts_frame.specs.declared.lost.LostField.{LostField}
+pub use Rattle.gts_frame.specs.declared.lost.FrameField.{FrameField}
 pub use Rattle.gts_event.specs.Cited.{State, all_done, all_unsaid, outcome}
 pub use Rattle.gts_event.specs.declared.event.Entry.{Entry}
 pub use Rattle.gts_event.specs.declared.event.Entry.TheVariants.{Done, Doubt, Idle, Unsaid}
@@ -16,8 +16,6 @@ pub use Rattle.gts_event.specs.declared.fault.SwitchFault.{SwitchFault}
 pub use Rattle.gts_event.specs.declared.fault.SwitchFault.TheVariants.{DiskFault, Full, NoMemory, SayFault, Spent, Stopped}
 pub use Rattle.gts_event.specs.declared.outcome.Outcome.{Outcome}
 pub use Rattle.gts_connection.specs.Cited.{connection, events_added, events_of_signs}
-pub use Rattle.gts_calls.specs.Cited.{entry_of}
-pub use Rattle.gts_feed.specs.Cited.{AddsAtFault, AddsFed, EndsOver, EndsWith, IsWanting, LeavesLast, LosesLast, Takes, TurnsTogether}
-pub use Rattle.gts_feed.specs.declared.fed.Fed.{Fed}
-pub use Rattle.gts_feed.specs.declared.fed.FeedEnd.{FeedEnd}
-pub use Rattle.gts_desk.specs.Cited.{AddsAny, AddsEntries, AddsJust, Answers, GoesOn, IsSpent, PassesBetween, SaysNoMore, Seen, own}
+pub use Rattle.gts_calls.specs.Cited.{AddsAny, AddsAtFault, AddsEntries, AddsFed, AddsJust, Answers, EndsOver, EndsWith, GoesOn, IsSpent, IsWanting, LeavesLast, LosesLast, PassesBetween, SaysNoMore, Seen, Takes, TurnsTogether, entry_of, own}
+pub use Rattle.gts_calls.specs.declared.fed.Fed.{Fed}
+pub use Rattle.gts_calls.specs.declared.fed.FeedEnd.{FeedEnd}

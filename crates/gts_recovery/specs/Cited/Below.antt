@@ -4,7 +4,7 @@ pub use Rattle.std.specs.List.{AllByRecursion, enumerate_from, list_all, list_an
 pub use Rattle.gts_alphabet.specs.Cited.{message_of}
 pub use Rattle.gts_traits.specs.Cited.{Call, Did, Files, Rose, Syncs, seen}
 pub use Rattle.gts_heading.specs.Cited.{HeadingFields}
-pub use Rattle.gts_heading.specs.declared.field.Field.{Field}
+pub use Rattle.gts_heading.specs.declared.field.MessageField.{MessageField}
 pub use Rattle.gts_message.specs.Cited.{MessageParts}
 pub use Rattle.gts_frame.specs.declared.kind.Kind.{Kind}
 unfoldable pub use Rattle.gts_request.specs.Cited.{request_at}

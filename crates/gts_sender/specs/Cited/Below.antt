@@ -2,7 +2,7 @@
 pub use Rattle.std.specs.List.{slice_index_or}
 pub use Rattle.gts_traits.specs.Cited.{IsFront, Rose}
 pub use Rattle.gts_directory.specs.Cited.{Directory}
-pub use Rattle.gts_event.specs.Cited.{Choice, Draws, Nothing_waits, Repeats, State, after, after_all, begun, choice, line, outcome}
+pub use Rattle.gts_event.specs.Cited.{Choice, Draws, Nothing_waits, Repeats, State, after, after_all, begun, choice, frame_of_draw, outcome}
 pub use Rattle.gts_event.specs.declared.event.Entry.{Entry}
 pub use Rattle.gts_event.specs.declared.event.Entry.TheVariants.{Done, Doubt, Idle}
 pub use Rattle.gts_event.specs.declared.event.Event.TheVariants.{Taken}
@@ -10,6 +10,6 @@ pub use Rattle.gts_event.specs.declared.fault.SwitchFault.{SwitchFault}
 pub use Rattle.gts_event.specs.declared.fault.SwitchFault.TheVariants.{DiskFault, Full, NoMemory, SayFault, Spent, Stopped}
 pub use Rattle.gts_event.specs.declared.outcome.Outcome.{Outcome}
 pub use Rattle.gts_event.specs.declared.outcome.Outcome.TheVariants.{Accepted, Asked, Draw, Duplicate, LineLost, Nothing, Refused, Resend}
-pub use Rattle.gts_calls.specs.Cited.{entry_of}
-pub use Rattle.gts_desk.specs.Cited.{AddsAll, AddsEntries, Answers, Frame, Gave, GaveAll, GaveNoMore, GoesOn, Laid, LeavesFrame, Seen, TakesSome, after_takes, frame_of, frame_of_outcome, frames, frames_in, frames_of, given_index, most_beside, no_frame, own, own_frames, sizes_of, state_at, takes, under}
-pub use Rattle.gts_desk.specs.declared.given.Placed.{Placed}
+pub use Rattle.gts_calls.specs.Cited.{AddsAll, AddsEntries, Answers, Frame, Gave, GaveAll, GaveNoMore, GoesOn, Laid, Seen, TakesSome, after_takes, entry_of, frame_of, frame_of_outcome, frames, frames_in, frames_of, given_index, most_beside, no_frame, own, own_frames, sizes_of, state_at, takes, under}
+pub use Rattle.gts_calls.specs.Desks.{LeavesFrame}
+pub use Rattle.gts_calls.specs.declared.given.Placed.{Placed}

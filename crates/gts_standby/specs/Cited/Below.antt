@@ -2,7 +2,7 @@
 pub use Rattle.std.specs.Cmp.Lexicographic.{pointwise, same_text}
 pub use Rattle.std.specs.List.{AllByRecursion, flat_map, list_all, list_any, slice_index_or, starts_with}
 pub use Rattle.gts_alphabet.specs.declared.limits.TheConstants.{LONGEST_BODY}
-pub use Rattle.gts_traits.specs.Cited.{Call, Did, EachSince, Files, Outside, Rose, SaidSince, Syncs, on, said_by, seen}
+pub use Rattle.gts_traits.specs.Cited.{Call, Did, EachSince, Files, Outside, Rose, SaidSince, SaysFront, SaysOnly, Syncs, on, said_by, seen}
 pub use Rattle.gts_frame.specs.declared.kind.Kind.{Kind}
 pub use Rattle.gts_frame.specs.declared.kind.Kind.TheVariants.{An, Bi, Fx}
 pub use Rattle.gts_directory.specs.Cited.{Directory}
@@ -18,4 +18,3 @@ pub use Rattle.gts_journal.specs.Cited.{AreNext, Gathered, Gathers, Gives, HasAp
 pub use Rattle.gts_journal.specs.declared.batch.TheConstants.{MOST_GATHERED}
 pub use Rattle.gts_checkpoint.specs.Cited.{BeginsWith, HasWritten, IsCheckpoint, IsDamage, LeavesOthers, WorksBeside, bytes_from, need_seal}
 pub use Rattle.gts_recovery.specs.Cited.{Follows, IsAnswer, IsJudged, IsKept, IsOpened}
-pub use Rattle.gts_say.specs.Cited.{SaysFront, SaysOnly}

@@ -17,15 +17,15 @@ returns-in-Ok-eq0-clause-packs g c = λ s.
     let left : g.S.Source.left c.read.new.self ≡ [] = sym (ap (λ (n : ℕ). take n c.read.new.into ++ g.S.Source.left c.read.new.self) zero) ∙ sym read.0 ∙ none in
     let text : g.S.Source.left c.args.stream.now ≡ bytes = taken.1 s ∙ ap (λ (l : List ℕ). bytes ++ l) none ∙ append-nil bytes in
     let packs = c.finish.ensures.ends first bytes st.held taken.2 st.holds (c.rest.ensures ∙ ap (λ (o : Option (List ℕ)). length (unwrap_or o [])) st.is) in
-    subst (λ (l : List ℕ). Packs g.P.Station.tells c.finish.result l (g.S.Source.left c.read.new.self) first now) (sym text)
-    (subst (λ (l : List ℕ). Packs g.P.Station.tells c.finish.result bytes l first now) (sym left) packs)
+    subst (λ (l : List ℕ). Packs g.P.Station.observed c.finish.result l (g.S.Source.left c.read.new.self) first now) (sym text)
+    (subst (λ (l : List ℕ). Packs g.P.Station.observed c.finish.result bytes l first now) (sym left) packs)
 
 pub returns-in-Ok-eq0-clause-files : goal.returns-in-Ok-eq0-clause-files
 returns-in-Ok-eq0-clause-files g c =
     let taken = c.loop-decoder.invariant.taken in
     let st = taken.3 in
     let first : List Call = g.P.Station.calls c.args.station.now in
-    same_files g.P.Station.tells c.finish.result taken.0 [] first (g.P.Station.calls c.finish.new.station)
+    same_files g.P.Station.observed c.finish.result taken.0 [] first (g.P.Station.calls c.finish.new.station)
     (c.finish.ensures.ends first taken.0 st.held taken.2 st.holds (c.rest.ensures ∙ ap (λ (o : Option (List ℕ)). length (unwrap_or o [])) st.is))
 
 pub returns-in-Ok-eq0-clause-source : goal.returns-in-Ok-eq0-clause-source
@@ -38,7 +38,7 @@ pub returns-in-Err-Lost-clause-packs : goal.returns-in-Err-Lost-clause-packs
 returns-in-Err-Lost-clause-packs g c = λ s.
     let taken = c.loop-decoder.invariant.taken in
     let bytes : List ℕ = taken.0 in
-    let tells = g.P.Station.tells in
+    let observed = g.P.Station.observed in
     let first : List Call = g.P.Station.calls c.args.station.now in
     let now : List Call = g.P.Station.calls c.take_piece.new.station in
     let into : List ℕ = c.read.new.into in
@@ -47,18 +47,18 @@ returns-in-Err-Lost-clause-packs g c = λ s.
     let new : List ℕ = g.S.Source.left c.read.new.self in
     let text = read_text (g.S.Source.left c.args.stream.now) bytes (g.S.Source.left c.loop-decoder.stream) into new room count (taken.1 s) (c.in-Ok-read.ensures.bytes s).0 (omega (arith, c.min-room.ensures))
     (omega (arith, c.in-Ok-read.ensures.count)) in
-    let E : Result (Unit {0}) Stop → Type 0 = λ r. PieceEnds tells first now (bytes ++ take room into) r c.take_piece.new.decoder in
+    let E : Result (Unit {0}) Stop → Type 0 = λ r. PieceEnds observed first now (bytes ++ take room into) r c.take_piece.new.decoder in
     let ends : E (Err (Lost c.in-Err-Lost.at)) =
     subst E (c.in-Err-Lost.is ∙ ap (λ (e : Stop). Err e) c.in-Err-Lost.field-0-is) (c.take_piece.ensures.ends first bytes taken.2 taken.3) in
-    subst (λ (at : ℕ). IsBad tells first now (g.S.Source.left c.args.stream.now) at) (sym c.in-Err-Lost.at-is)
-    (subst (λ (l : List ℕ). IsBad tells first now l c.in-Err-Lost.at) (sym text) (ends (drop room (take count into) ++ new)))
+    subst (λ (at : ℕ). IsBad observed first now (g.S.Source.left c.args.stream.now) at) (sym c.in-Err-Lost.at-is)
+    (subst (λ (l : List ℕ). IsBad observed first now l c.in-Err-Lost.at) (sym text) (ends (drop room (take count into) ++ new)))
 
 pub returns-in-Err-Lost-clause-files : goal.returns-in-Err-Lost-clause-files
 returns-in-Err-Lost-clause-files g c = λ t.
     let taken = c.loop-decoder.invariant.taken in
     let first : List Call = g.P.Station.calls c.args.station.now in
     let now : List Call = g.P.Station.calls c.take_piece.new.station in
-    let E : Result (Unit {0}) Stop → Type 0 = λ r. PieceEnds g.P.Station.tells first now (taken.0 ++ take c.min-room.result c.read.new.into) r c.take_piece.new.decoder in
+    let E : Result (Unit {0}) Stop → Type 0 = λ r. PieceEnds g.P.Station.observed first now (taken.0 ++ take c.min-room.result c.read.new.into) r c.take_piece.new.decoder in
     let ends : E (Err (Lost c.in-Err-Lost.at)) =
     subst E (c.in-Err-Lost.is ∙ ap (λ (e : Stop). Err e) c.in-Err-Lost.field-0-is) (c.take_piece.ensures.ends first taken.0 taken.2 taken.3) in
     ((ends []).said t).files
@@ -75,7 +75,7 @@ returns-in-Err-Unsaid-clause-packs g c = λ s t.
     let new : List ℕ = g.S.Source.left c.read.new.self in
     let text = read_text (g.S.Source.left c.args.stream.now) bytes (g.S.Source.left c.loop-decoder.stream) into new room count (taken.1 s) (c.in-Ok-read.ensures.bytes s).0 (omega (arith, c.min-room.ensures))
     (omega (arith, c.in-Ok-read.ensures.count)) in
-    let E : Result (Unit {0}) Stop → Type 0 = λ r. PieceEnds g.P.Station.tells first now (bytes ++ take room into) r c.take_piece.new.decoder in
+    let E : Result (Unit {0}) Stop → Type 0 = λ r. PieceEnds g.P.Station.observed first now (bytes ++ take room into) r c.take_piece.new.decoder in
     let ends : E (Err Unsaid) = subst E (c.in-Err-Unsaid.is ∙ ap (λ (e : Stop). Err e) c.in-Err-Unsaid.field-0-is) (c.take_piece.ensures.ends first bytes taken.2 taken.3) in
     subst (λ (l : List ℕ). SaysFront first now (on 0 (packed l))) (sym text) (ends (drop room (take count into) ++ new) t)
 
@@ -84,7 +84,7 @@ returns-in-Err-Unsaid-clause-files g c = λ t.
     let taken = c.loop-decoder.invariant.taken in
     let first : List Call = g.P.Station.calls c.args.station.now in
     let now : List Call = g.P.Station.calls c.take_piece.new.station in
-    let E : Result (Unit {0}) Stop → Type 0 = λ r. PieceEnds g.P.Station.tells first now (taken.0 ++ take c.min-room.result c.read.new.into) r c.take_piece.new.decoder in
+    let E : Result (Unit {0}) Stop → Type 0 = λ r. PieceEnds g.P.Station.observed first now (taken.0 ++ take c.min-room.result c.read.new.into) r c.take_piece.new.decoder in
     let ends : E (Err Unsaid) = subst E (c.in-Err-Unsaid.is ∙ ap (λ (e : Stop). Err e) c.in-Err-Unsaid.field-0-is) (c.take_piece.ensures.ends first taken.0 taken.2 taken.3) in
     (ends [] t).said.files
 
@@ -92,7 +92,7 @@ pub returns-then-room-count-clause-packs : goal.returns-then-room-count-clause-p
 returns-then-room-count-clause-packs g c = λ s.
     let taken = c.loop-decoder.invariant.taken in
     let bytes : List ℕ = taken.0 in
-    let tells = g.P.Station.tells in
+    let observed = g.P.Station.observed in
     let first : List Call = g.P.Station.calls c.args.station.now in
     let now : List Call = g.P.Station.calls c.take_piece.new.station in
     let into : List ℕ = c.read.new.into in
@@ -101,22 +101,22 @@ returns-then-room-count-clause-packs g c = λ s.
     let new : List ℕ = g.S.Source.left c.read.new.self in
     let few : count ≤ length into = omega (arith, c.in-Ok-read.ensures.count) in
     let text = read_text (g.S.Source.left c.args.stream.now) bytes (g.S.Source.left c.loop-decoder.stream) into new room count (taken.1 s) (c.in-Ok-read.ensures.bytes s).0 (omega (arith, c.min-room.ensures)) few in
-    let E : Result (Unit {0}) Stop → Type 0 = λ r. PieceEnds tells first now (bytes ++ take room into) r c.take_piece.new.decoder in
-    let stands : Stands tells first now (bytes ++ take room into) c.take_piece.new.decoder = subst E c.in-Ok-take_piece.is (c.take_piece.ensures.ends first bytes taken.2 taken.3) in
+    let E : Result (Unit {0}) Stop → Type 0 = λ r. PieceEnds observed first now (bytes ++ take room into) r c.take_piece.new.decoder in
+    let stands : Stands observed first now (bytes ++ take room into) c.take_piece.new.decoder = subst E c.in-Ok-take_piece.is (c.take_piece.ensures.ends first bytes taken.2 taken.3) in
     let more : List ℕ = drop room (take count into) ++ new in
     let long : length (bytes ++ take room into) ≡ LONGEST_STREAM =
     omega (arith, length-append bytes (take room into), length-take-le room into (omega (arith, few, c.if-room-count.true)), taken.2, c.min-room.ensures, c.if-room-count.true, c.loop-decoder.invariant.short) in
     let some : 1 ≤ length more =
     omega (arith, length-append (drop room (take count into)) new, length-drop room (take count into), length-take-le count into few, c.if-room-count.true) in
-    subst (λ (l : List ℕ). IsBad tells first now l LONGEST_STREAM) (sym text) (goes_past tells first now (bytes ++ take room into) more stands.held stands.holds long some)
+    subst (λ (l : List ℕ). IsBad observed first now l LONGEST_STREAM) (sym text) (goes_past observed first now (bytes ++ take room into) more stands.held stands.holds long some)
 
 pub returns-then-room-count-clause-files : goal.returns-then-room-count-clause-files
 returns-then-room-count-clause-files g c = λ t.
     let taken = c.loop-decoder.invariant.taken in
     let first : List Call = g.P.Station.calls c.args.station.now in
     let now : List Call = g.P.Station.calls c.take_piece.new.station in
-    let E : Result (Unit {0}) Stop → Type 0 = λ r. PieceEnds g.P.Station.tells first now (taken.0 ++ take c.min-room.result c.read.new.into) r c.take_piece.new.decoder in
-    let stands : Stands g.P.Station.tells first now (taken.0 ++ take c.min-room.result c.read.new.into) c.take_piece.new.decoder =
+    let E : Result (Unit {0}) Stop → Type 0 = λ r. PieceEnds g.P.Station.observed first now (taken.0 ++ take c.min-room.result c.read.new.into) r c.take_piece.new.decoder in
+    let stands : Stands g.P.Station.observed first now (taken.0 ++ take c.min-room.result c.read.new.into) c.take_piece.new.decoder =
     subst E c.in-Ok-take_piece.is (c.take_piece.ensures.ends first taken.0 taken.2 taken.3) in
     (stands.holds.said t).files
 
@@ -131,8 +131,8 @@ loop-decoder-preserved g c =
     let count : ℕ = c.in-Ok-read.count in
     let few : count ≤ length into = omega (arith, c.in-Ok-read.ensures.count) in
     let all : room ≡ count = omega (arith, c.min-room.ensures, c.if-room-count.false) in
-    let E : Result (Unit {0}) Stop → Type 0 = λ r. PieceEnds g.P.Station.tells first now (bytes ++ take room into) r c.take_piece.new.decoder in
-    let stands : Stands g.P.Station.tells first now (bytes ++ take room into) c.take_piece.new.decoder = subst E c.in-Ok-take_piece.is (c.take_piece.ensures.ends first bytes taken.2 taken.3) in
+    let E : Result (Unit {0}) Stop → Type 0 = λ r. PieceEnds g.P.Station.observed first now (bytes ++ take room into) r c.take_piece.new.decoder in
+    let stands : Stands g.P.Station.observed first now (bytes ++ take room into) c.take_piece.new.decoder = subst E c.in-Ok-take_piece.is (c.take_piece.ensures.ends first bytes taken.2 taken.3) in
     record {
       taken = (
         bytes ++ take room into,

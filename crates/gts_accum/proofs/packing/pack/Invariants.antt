@@ -5,8 +5,8 @@ use Rattle.gts_accum.proofs.packing.pack.Given as goal
 -- the bytes so far were taken
 abbrev pub invariant-loop-decoder : goal.invariant-loop-decoder
 invariant-loop-decoder g l = record {
-  taken : (bytes : List ℕ) × (g.S.Source.tells → g.S.Source.left l.fn.stream ≡ bytes ++ g.S.Source.left l.stream) × (l.at ≡ length bytes)
-      × Stands g.P.Station.tells (g.P.Station.calls l.fn.station) (g.P.Station.calls l.station) bytes l.decoder;
+  taken : (bytes : List ℕ) × (g.S.Source.observed → g.S.Source.left l.fn.stream ≡ bytes ++ g.S.Source.left l.stream) × (l.at ≡ length bytes)
+      × Stands g.P.Station.observed (g.P.Station.calls l.fn.station) (g.P.Station.calls l.station) bytes l.decoder;
   short : l.at ≤ LONGEST_STREAM;
   read_later : g.S.Source.faults l.fn.stream ≤ g.S.Source.faults l.stream;
   say_later : g.P.Station.say_faults l.fn.station ≤ g.P.Station.say_faults l.station;

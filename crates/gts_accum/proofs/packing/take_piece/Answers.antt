@@ -12,7 +12,7 @@ returns-in-Lost-clause-ends g c = λ first before here stands more.
     let rest : List ℕ = c.loop-rest.rest.now in
     let is : IsStep rest n c.take-count.result.1 c.loop-rest.decoder c.take-count.new.self =
     record { count = c.take-count.ensures.count; some = first_of (search rules, grind (arith, common_steps)); makes = c.take-count.ensures.step; after = c.take-count.ensures.after; reads = c.take-count.ensures.reads } in
-    piece_lost g.P.Station.tells first (g.P.Station.calls c.loop-rest.station) before taken.0 rest c.args.piece.now more c.args.start c.loop-rest.at n c.take-count.result.1 c.in-Lost.field-0
+    piece_lost g.P.Station.observed first (g.P.Station.calls c.loop-rest.station) before taken.0 rest c.args.piece.now more c.args.start c.loop-rest.at n c.take-count.result.1 c.in-Lost.field-0
     c.loop-rest.decoder c.take-count.new.self (taken.3 first before stands) is c.in-Lost.is taken.1 taken.2 here c.requires
 
 pub returns-in-Err-clause-ends : goal.returns-in-Err-clause-ends
@@ -24,7 +24,7 @@ returns-in-Err-clause-ends g c = λ first before here stands more.
     let is : IsStep rest n c.take-count.result.1 c.loop-rest.decoder next =
     record { count = c.take-count.ensures.count; some = first_of (search rules, grind (arith, common_steps)); makes = c.take-count.ensures.step; after = c.take-count.ensures.after; reads = c.take-count.ensures.reads } in
     let T : List ℕ → Result (Unit {0}) Failed → Type 0 = λ m r. Tells r (on 0 (entries_text (messages_of (signs_of_step c.take-count.result.1 m)))) (g.P.Station.calls c.loop-rest.station) (g.P.Station.calls c.say_step.new.station) in
-    piece_unsaid g.P.Station.tells first (g.P.Station.calls c.loop-rest.station) (g.P.Station.calls c.say_step.new.station) before taken.0 rest c.args.piece.now more c.args.start n c.take-count.result.1
+    piece_unsaid g.P.Station.observed first (g.P.Station.calls c.loop-rest.station) (g.P.Station.calls c.say_step.new.station) before taken.0 rest c.args.piece.now more c.args.start n c.take-count.result.1
     c.loop-rest.decoder next (taken.3 first before stands) is taken.1 here c.requires
     (λ t. subst (λ (m : List ℕ). T m (Err c.in-Err.field-0)) c.message.ensures (subst (T c.message.result.now) c.in-Err.is (c.say_step.ensures.told t)))
 
@@ -42,8 +42,8 @@ loop-rest-preserved g c =
         taken.0 ++ take n rest,
         rest_of_piece taken.0 rest c.args.piece.now n taken.1,
         omega (arith, taken.2, length-append taken.0 (take n rest), length-take-le n rest c.take-count.ensures.count),
-        λ first before stands. subst (λ (l : List ℕ). Stands g.P.Station.tells first (g.P.Station.calls c.say_step.new.station) l next) (append_assoc before taken.0 (take n rest))
-            (piece_more g.P.Station.tells first (g.P.Station.calls c.loop-rest.station) (g.P.Station.calls c.say_step.new.station) (before ++ taken.0) rest n c.take-count.result.1
+        λ first before stands. subst (λ (l : List ℕ). Stands g.P.Station.observed first (g.P.Station.calls c.say_step.new.station) l next) (append_assoc before taken.0 (take n rest))
+            (piece_more g.P.Station.observed first (g.P.Station.calls c.loop-rest.station) (g.P.Station.calls c.say_step.new.station) (before ++ taken.0) rest n c.take-count.result.1
             c.loop-rest.decoder next (taken.3 first before stands) is c.in_default.not-Lost
             (λ t. subst (λ (m : List ℕ). T m (Ok c.in_default-say_step.field-0)) c.message.ensures (subst (T c.message.result.now) c.in_default-say_step.is (c.say_step.ensures.told t)))),
       );

@@ -11,7 +11,7 @@ returns-in_default-found-clause-none c =
     let bytes = c.args.bytes.now in
     let low : d.limit < 256 ^ 4 = omega (arith, c.limit-limit.ensures.value, c.limit-limit.ensures.range.1) in
     let F : List ℕ → Type 0 = λ l. FindsText l c.circuits.result (first_of c.in-Ok.found) in
-    let finds = subst F (bytes_there c.new-loose.result.bytes.now bytes c.new-loose.ensures) (c.in-Ok.ensures.found tt) in
+    let finds = subst F (bytes_there c.new-checkpoint_bytes.result.bytes.now bytes c.new-checkpoint_bytes.ensures) (c.in-Ok.ensures.found tt) in
     no_text written d bytes c.circuits.result c.in-Ok.found c.circuits.ensures.value low c.in_default-found.is finds
 
 pub returns-then-at-bytes-clause-none : goal.returns-then-at-bytes-clause-none
@@ -21,7 +21,7 @@ returns-then-at-bytes-clause-none c =
     let n : Need = c.in-Some.need in
     let low : d.limit < 256 ^ 4 = omega (arith, c.limit-limit.ensures.value, c.limit-limit.ensures.range.1) in
     let F : List ℕ → Type 0 = λ l. FindsText l c.circuits.result (first_of c.in-Ok.found) in
-    let finds = subst F (bytes_there c.new-loose.result.bytes.now bytes c.new-loose.ensures) (c.in-Ok.ensures.found tt) in
+    let finds = subst F (bytes_there c.new-checkpoint_bytes.result.bytes.now bytes c.new-checkpoint_bytes.ensures) (c.in-Ok.ensures.found tt) in
     let stands = stands_there bytes c.circuits.result c.in-Ok.found n c.in-Some.at c.in-Some.is finds c.in-Ok.ensures.fits c.in-Ok.ensures.unowed in
     let P : Option (Need × ℕ) → Type 0 = λ o. IfSome o (λ f. f.1 ≡ 41 + length (checkpoint_text (need_of f.0))) in
     let place = subst P c.in-Some.is c.in-Ok.ensures.place in
@@ -33,7 +33,7 @@ returns-in_default-gate_behind-clause-none c =
     let bytes = c.args.bytes.now in
     let n : Need = c.in-Some.need in
     let F : List ℕ → Type 0 = λ l. FindsText l c.circuits.result (first_of c.in-Ok.found) in
-    let finds = subst F (bytes_there c.new-loose.result.bytes.now bytes c.new-loose.ensures) (c.in-Ok.ensures.found tt) in
+    let finds = subst F (bytes_there c.new-checkpoint_bytes.result.bytes.now bytes c.new-checkpoint_bytes.ensures) (c.in-Ok.ensures.found tt) in
     let stands = stands_there bytes c.circuits.result c.in-Ok.found n c.in-Some.at c.in-Some.is finds c.in-Ok.ensures.fits c.in-Ok.ensures.unowed in
     let counts = counts_there d c.in-Ok.found n c.in-Some.at c.waiting-due.result c.limit-limit.result c.as_slice.result.now c.in-Some.is c.in-Ok.ensures.place c.waiting-due.ensures c.as_slice.ensures
     c.limit-limit.ensures.value c.limit-limit.ensures.range.1 in
@@ -49,7 +49,7 @@ returns-then-not-branch-clause-none c =
     let n : Need = c.in-Some.need in
     let low : d.limit < 256 ^ 4 = omega (arith, c.limit-limit.ensures.value, c.limit-limit.ensures.range.1) in
     let F : List ℕ → Type 0 = λ l. FindsText l c.circuits.result (first_of c.in-Ok.found) in
-    let finds = subst F (bytes_there c.new-loose.result.bytes.now bytes c.new-loose.ensures) (c.in-Ok.ensures.found tt) in
+    let finds = subst F (bytes_there c.new-checkpoint_bytes.result.bytes.now bytes c.new-checkpoint_bytes.ensures) (c.in-Ok.ensures.found tt) in
     let stands = stands_there bytes c.circuits.result c.in-Ok.found n c.in-Some.at c.in-Some.is finds c.in-Ok.ensures.fits c.in-Ok.ensures.unowed in
     no_history written d bytes (need_of n) low stands (sym c.in_ok-is_sound.ensures ∙ c.if-not-branch.true)
 
@@ -60,7 +60,7 @@ returns-clause-found c =
     let n : Need = c.in-Some.need in
     let at : ℕ = c.in-Some.at in
     let F : List ℕ → Type 0 = λ l. FindsText l c.circuits.result (first_of c.in-Ok.found) in
-    let finds = subst F (bytes_there c.new-loose.result.bytes.now bytes c.new-loose.ensures) (c.in-Ok.ensures.found tt) in
+    let finds = subst F (bytes_there c.new-checkpoint_bytes.result.bytes.now bytes c.new-checkpoint_bytes.ensures) (c.in-Ok.ensures.found tt) in
     let stands = stands_there bytes c.circuits.result c.in-Ok.found n at c.in-Some.is finds c.in-Ok.ensures.fits c.in-Ok.ensures.unowed in
     let counts = counts_there d c.in-Ok.found n at c.waiting-due.result c.limit-limit.result c.as_slice.result.now c.in-Some.is c.in-Ok.ensures.place c.waiting-due.ensures c.as_slice.ensures
     c.limit-limit.ensures.value c.limit-limit.ensures.range.1 in

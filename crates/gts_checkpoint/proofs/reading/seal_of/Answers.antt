@@ -13,34 +13,34 @@ loop-done-preserved g c =
     let long : length part ≡ count = c.fetch.auto.into ∙ length-take-le count c.loop-done.piece (omega (arith, c.min-count.array_long, c.min-count.ensures)) in
     record {
       inside = omega (arith, c.min-count.ensures, inv.inside);
-      seals = λ tells.
+      seals = λ observed.
           let before : List ℕ = held c.args.version c.args.before.now in
           let calls = g.P.Station.calls c.args.station.now in
           let all : List ℕ = bytes_from calls c.args.file 41 in
-          let there : done ≤ length all = omega (arith, inv.inside, c.requires.there tells) in
-          let begins = same_place (λ l. BeginsWith l part) (g.P.Station.calls c.loop-done.station) calls c.args.file c.from.result done (inv.told tells) c.from.ensures (c.in_ok-fetch.ensures.whole tells (ap Ok c.if-not-branch.false)) in
+          let there : done ≤ length all = omega (arith, inv.inside, c.requires.there observed) in
+          let begins = same_place (λ l. BeginsWith l part) (g.P.Station.calls c.loop-done.station) calls c.args.file c.from.result done (inv.told observed) c.from.ensures (c.in_ok-fetch.ensures.whole observed (ap Ok c.if-not-branch.false)) in
           let S : List ℕ → Type 0 = λ l. Seals c.add.new.self c.args.version before l in
-          subst S (piece_there calls c.args.file done part there begins ∙ ap (λ (k : ℕ). take (done + k) all) long) (c.add.ensures c.args.version before (take done all) (inv.seals tells));
-      told = λ tells. c.in_ok-fetch.ensures.told tells ∙ inv.told tells;
+          subst S (piece_there calls c.args.file done part there begins ∙ ap (λ (k : ℕ). take (done + k) all) long) (c.add.ensures c.args.version before (take done all) (inv.seals observed));
+      told = λ observed. c.in_ok-fetch.ensures.told observed ∙ inv.told observed;
       later = omega (arith, inv.later, c.fetch.ensures.cause.later);
       say = c.fetch.ensures.say ∙ inv.say;
     }
 
 pub returns-then-not-branch-clause-some : goal.returns-then-not-branch-clause-some
-returns-then-not-branch-clause-some g c = λ tells.
+returns-then-not-branch-clause-some g c = λ observed.
     let inv = c.loop-done.invariant in
     let calls = g.P.Station.calls c.args.station.now in
     let count : ℕ = c.min-count.result in
-    let short = c.in_ok-fetch.ensures.short tells (ap Ok c.if-not-branch.true) in
+    let short = c.in_ok-fetch.ensures.short observed (ap Ok c.if-not-branch.true) in
     let few : length (bytes_from (g.P.Station.calls c.loop-done.station) c.args.file (41 + c.from.result)) < count =
     omega (arith, short, length-take-le count c.loop-done.piece (omega (arith, c.min-count.array_long, c.min-count.ensures))) in
-    absurd (enough calls c.args.file c.loop-done.done c.args.size count inv.inside (c.requires.there tells) (omega (arith, c.min-count.ensures))
-    (same_place (λ l. length l < count) (g.P.Station.calls c.loop-done.station) calls c.args.file c.from.result c.loop-done.done (inv.told tells) c.from.ensures few))
+    absurd (enough calls c.args.file c.loop-done.done c.args.size count inv.inside (c.requires.there observed) (omega (arith, c.min-count.ensures))
+    (same_place (λ l. length l < count) (g.P.Station.calls c.loop-done.station) calls c.args.file c.from.result c.loop-done.done (inv.told observed) c.from.ensures few))
 
 pub returns-clause-found : goal.returns-clause-found
-returns-clause-found g c = λ tells.
+returns-clause-found g c = λ observed.
     let inv = c.loop-done.invariant in
     let before : List ℕ = held c.args.version c.args.before.now in
     let all : List ℕ = bytes_from (g.P.Station.calls c.args.station.now) c.args.file 41 in
     let all_done : c.loop-done.done ≡ c.args.size = omega (arith, inv.inside, c.loop-done-test.false) in
-    c.seal.ensures.held c.args.version before (take c.loop-done.done all) (inv.seals tells) ∙ ap (λ (k : ℕ). seal c.args.version before (take k all)) all_done
+    c.seal.ensures.held c.args.version before (take c.loop-done.done all) (inv.seals observed) ∙ ap (λ (k : ℕ). seal c.args.version before (take k all)) all_done

@@ -6,8 +6,8 @@ use Rattle.gts_checkpoint.proofs.reading.seal_of.Given as goal
 abbrev pub invariant-loop-done : goal.invariant-loop-done
 invariant-loop-done g l = record {
   inside : l.done ≤ l.size;
-  seals : g.P.Station.tells → Seals l.sealer l.fn.version (held l.fn.version l.before) (take l.done (bytes_from (g.P.Station.calls l.fn.station) l.file 41));
-  told : g.P.Station.tells → g.P.Station.calls l.station ≡ g.P.Station.calls l.fn.station;
+  seals : g.P.Station.observed → Seals l.sealer l.fn.version (held l.fn.version l.before) (take l.done (bytes_from (g.P.Station.calls l.fn.station) l.file 41));
+  told : g.P.Station.observed → g.P.Station.calls l.station ≡ g.P.Station.calls l.fn.station;
   later : g.P.Station.disk_faults l.fn.station ≤ g.P.Station.disk_faults l.station;
   say : g.P.Station.say_faults l.station ≡ g.P.Station.say_faults l.fn.station;
 }

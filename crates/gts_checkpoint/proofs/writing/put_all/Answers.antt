@@ -1,38 +1,38 @@
 use Rattle.std.proofs.Common.{◌≡◌, ◌++◌, ℕ, List, [], ◌∷◌, sym, ap, subst, ◌∙◌, append_assoc, take}
 use Rattle.std.proofs.lemmas.List.{append-nil}
 use Rattle.gts_checkpoint.specs.Cited.{OnlyOn, checkpoint_text, closed_gate, held, need_of, put_by, seal, seal_size, written}
-use Rattle.gts_checkpoint.specs.Pen as pens
+use Rattle.gts_checkpoint.specs.SealingWriter as writers
 use Rattle.gts_checkpoint.proofs.AloneLemmas.{on_on}
-use Rattle.gts_checkpoint.proofs.PenLemmas.{put_more, put_apart}
+use Rattle.gts_checkpoint.proofs.WriterLemmas.{put_more, put_apart}
 use Rattle.gts_checkpoint.proofs.NeedLemmas.{file_has}
 use Rattle.gts_checkpoint.proofs.writing.put_all.Goals as goal
 
 pub returns-in_err-put-clause-alone : goal.returns-in_err-put-clause-alone
-returns-in_err-put-clause-alone g c = λ tells.
-    let file : ℕ = c.args.pen.now.file in
+returns-in_err-put-clause-alone g c = λ observed.
+    let file : ℕ = c.args.writer.now.file in
     let a = g.P.Station.calls c.args.station.now in
     let b = g.P.Station.calls c.put_need.new.station in
     let d = g.P.Station.calls c.put.new.station in
     let S : ℕ → Type 0 = λ k. OnlyOn k b d in
-    let taken : c.take_seal-seal.new.self.file ≡ file = ap (λ (p : pens.Pen). p.file) c.take_seal-seal.ensures.place ∙ c.in_ok-put_need.ensures.put.file in
-    on_on file a b d (c.put_need.ensures.alone tells) (subst S taken (c.put.ensures.alone tells))
+    let taken : c.take_seal-seal.new.self.file ≡ file = ap (λ (p : writers.SealingWriter). p.file) c.take_seal-seal.ensures.place ∙ c.in_ok-put_need.ensures.put.file in
+    on_on file a b d (c.put_need.ensures.alone observed) (subst S taken (c.put.ensures.alone observed))
 
 pub returns-in_err-put-2-clause-alone : goal.returns-in_err-put-2-clause-alone
-returns-in_err-put-2-clause-alone g c = λ tells.
-    let file : ℕ = c.args.pen.now.file in
+returns-in_err-put-2-clause-alone g c = λ observed.
+    let file : ℕ = c.args.writer.now.file in
     let a = g.P.Station.calls c.args.station.now in
     let b = g.P.Station.calls c.put_need.new.station in
     let d = g.P.Station.calls c.put.new.station in
     let e = g.P.Station.calls c.put-2.new.station in
     let S : ℕ → Type 0 = λ k. OnlyOn k b d in
     let T : ℕ → Type 0 = λ k. OnlyOn k d e in
-    let taken : c.take_seal-seal.new.self.file ≡ file = ap (λ (p : pens.Pen). p.file) c.take_seal-seal.ensures.place ∙ c.in_ok-put_need.ensures.put.file in
-    on_on file a d e (on_on file a b d (c.put_need.ensures.alone tells) (subst S taken (c.put.ensures.alone tells)))
-    (subst T (c.in_ok-put.ensures.put.file ∙ taken) (c.put-2.ensures.alone tells))
+    let taken : c.take_seal-seal.new.self.file ≡ file = ap (λ (p : writers.SealingWriter). p.file) c.take_seal-seal.ensures.place ∙ c.in_ok-put_need.ensures.put.file in
+    on_on file a d e (on_on file a b d (c.put_need.ensures.alone observed) (subst S taken (c.put.ensures.alone observed)))
+    (subst T (c.in_ok-put.ensures.put.file ∙ taken) (c.put-2.ensures.alone observed))
 
 pub returns-in_err-flush-clause-alone : goal.returns-in_err-flush-clause-alone
-returns-in_err-flush-clause-alone g c = λ tells.
-    let file : ℕ = c.args.pen.now.file in
+returns-in_err-flush-clause-alone g c = λ observed.
+    let file : ℕ = c.args.writer.now.file in
     let a = g.P.Station.calls c.args.station.now in
     let b = g.P.Station.calls c.put_need.new.station in
     let d = g.P.Station.calls c.put.new.station in
@@ -41,15 +41,15 @@ returns-in_err-flush-clause-alone g c = λ tells.
     let S : ℕ → Type 0 = λ k. OnlyOn k b d in
     let T : ℕ → Type 0 = λ k. OnlyOn k d e in
     let U : ℕ → Type 0 = λ k. OnlyOn k e f in
-    let taken : c.take_seal-seal.new.self.file ≡ file = ap (λ (p : pens.Pen). p.file) c.take_seal-seal.ensures.place ∙ c.in_ok-put_need.ensures.put.file in
+    let taken : c.take_seal-seal.new.self.file ≡ file = ap (λ (p : writers.SealingWriter). p.file) c.take_seal-seal.ensures.place ∙ c.in_ok-put_need.ensures.put.file in
     on_on file a e f
-    (on_on file a d e (on_on file a b d (c.put_need.ensures.alone tells) (subst S taken (c.put.ensures.alone tells)))
-    (subst T (c.in_ok-put.ensures.put.file ∙ taken) (c.put-2.ensures.alone tells)))
-    (subst U (c.in_ok-put-2.ensures.put.file ∙ c.in_ok-put.ensures.put.file ∙ taken) (c.flush.ensures.alone tells))
+    (on_on file a d e (on_on file a b d (c.put_need.ensures.alone observed) (subst S taken (c.put.ensures.alone observed)))
+    (subst T (c.in_ok-put.ensures.put.file ∙ taken) (c.put-2.ensures.alone observed)))
+    (subst U (c.in_ok-put-2.ensures.put.file ∙ c.in_ok-put.ensures.put.file ∙ taken) (c.flush.ensures.alone observed))
 
 pub returns-clause-alone : goal.returns-clause-alone
-returns-clause-alone g c = λ tells.
-    let file : ℕ = c.args.pen.now.file in
+returns-clause-alone g c = λ observed.
+    let file : ℕ = c.args.writer.now.file in
     let a = g.P.Station.calls c.args.station.now in
     let b = g.P.Station.calls c.put_need.new.station in
     let d = g.P.Station.calls c.put.new.station in
@@ -58,15 +58,15 @@ returns-clause-alone g c = λ tells.
     let S : ℕ → Type 0 = λ k. OnlyOn k b d in
     let T : ℕ → Type 0 = λ k. OnlyOn k d e in
     let U : ℕ → Type 0 = λ k. OnlyOn k e f in
-    let taken : c.take_seal-seal.new.self.file ≡ file = ap (λ (p : pens.Pen). p.file) c.take_seal-seal.ensures.place ∙ c.in_ok-put_need.ensures.put.file in
+    let taken : c.take_seal-seal.new.self.file ≡ file = ap (λ (p : writers.SealingWriter). p.file) c.take_seal-seal.ensures.place ∙ c.in_ok-put_need.ensures.put.file in
     on_on file a e f
-    (on_on file a d e (on_on file a b d (c.put_need.ensures.alone tells) (subst S taken (c.put.ensures.alone tells)))
-    (subst T (c.in_ok-put.ensures.put.file ∙ taken) (c.put-2.ensures.alone tells)))
-    (subst U (c.in_ok-put-2.ensures.put.file ∙ c.in_ok-put.ensures.put.file ∙ taken) (c.flush.ensures.alone tells))
+    (on_on file a d e (on_on file a b d (c.put_need.ensures.alone observed) (subst S taken (c.put.ensures.alone observed)))
+    (subst T (c.in_ok-put.ensures.put.file ∙ taken) (c.put-2.ensures.alone observed)))
+    (subst U (c.in_ok-put-2.ensures.put.file ∙ c.in_ok-put.ensures.put.file ∙ taken) (c.flush.ensures.alone observed))
 
 pub returns-clause-written : goal.returns-clause-written
-returns-clause-written g c = λ tells.
-    let t = g.P.Station.tells in
+returns-clause-written g c = λ observed.
+    let t = g.P.Station.observed in
     let cp : List ℕ = checkpoint_text (need_of c.args.need.now) in
     let before : List ℕ = held written c.args.before.now in
     let a = g.P.Station.calls c.args.station.now in
@@ -74,8 +74,8 @@ returns-clause-written g c = λ tells.
     let d = g.P.Station.calls c.put.new.station in
     let e = g.P.Station.calls c.put-2.new.station in
     let f = g.P.Station.calls c.flush.new.station in
-    let p = c.args.pen.now in
-    let q = c.put_need.new.pen in
+    let p = c.args.writer.now in
+    let q = c.put_need.new.writer in
     let u = c.flush.new.self in
     let k : List ℕ = closed_gate ∷ [] in
     let sl : List ℕ = take c.seal_size-count.result c.take_seal-seal.result in
@@ -85,11 +85,11 @@ returns-clause-written g c = λ tells.
     let rest = put_more t (sl ++ k) [] b e f c.take_seal-seal.new.self c.put-2.new.self u
     (put_more t sl k b d e c.take_seal-seal.new.self c.put.new.self c.put-2.new.self c.in_ok-put.ensures.put c.in_ok-put-2.ensures.put) c.in_ok-flush.ensures.put in
     let text : put_by f u ≡ put_by a p ++ ((cp ++ seal written before cp) ++ k) =
-    put_apart t cp ((sl ++ k) ++ []) a b f p q c.take_seal-seal.new.self u tells (c.requires.stands tells) c.in_ok-put_need.ensures.put c.take_seal-seal.ensures.place rest
+    put_apart t cp ((sl ++ k) ++ []) a b f p q c.take_seal-seal.new.self u observed (c.requires.stands observed) c.in_ok-put_need.ensures.put c.take_seal-seal.ensures.place rest
     ∙ append_assoc (put_by a p) cp ((sl ++ k) ++ [])
     ∙ ap (λ (l : List ℕ). put_by a p ++ (cp ++ l)) (append-nil (sl ++ k))
     ∙ ap (λ (l : List ℕ). put_by a p ++ l) (sym (append_assoc cp sl k))
     ∙ ap (λ (l : List ℕ). put_by a p ++ ((cp ++ l) ++ k)) last in
     file_has ((cp ++ seal written before cp) ++ k) a f p u c.requires.begins.1 c.in_ok-flush.ensures.held
-    (c.in_ok-flush.ensures.put.file ∙ c.in_ok-put-2.ensures.put.file ∙ c.in_ok-put.ensures.put.file ∙ ap (λ (r : pens.Pen). r.file) c.take_seal-seal.ensures.place ∙ c.in_ok-put_need.ensures.put.file)
+    (c.in_ok-flush.ensures.put.file ∙ c.in_ok-put-2.ensures.put.file ∙ c.in_ok-put.ensures.put.file ∙ ap (λ (r : writers.SealingWriter). r.file) c.take_seal-seal.ensures.place ∙ c.in_ok-put_need.ensures.put.file)
     text

@@ -10,33 +10,33 @@ returns-in_err-bring-clause-brings g c = λ tell.
     let old = c.args.parts.now in
     let mid = c.bring.new.parts in
     let F : SwitchFault → Type 0 = λ f. BringsAndSays (Err f) (g.P.Station.calls old.station) (g.P.Station.calls mid.station) old mid.journal in
-    rw (p.1, p.2) (subst F (sym c.in_err-bring.ensures.fault.0) (brings_nothing g.P.Station.tells g.P.Station.calls old mid mid c.bring.ensures.rest c.bring.ensures.silent c.bring.ensures.moments tell))
+    rw (p.1, p.2) (subst F (sym c.in_err-bring.ensures.fault.0) (brings_nothing g.P.Station.observed g.P.Station.calls old mid mid c.bring.ensures.rest c.bring.ensures.silent c.bring.ensures.moments tell))
 
 pub returns-in_err-bring-clause-said : goal.returns-in_err-bring-clause-said
 returns-in_err-bring-clause-said g c =
     let p = err_from_is_err_and c.from_residual.result c.from_residual.ensures.1 in
     let old = c.args.parts.now in
     let mid = c.bring.new.parts in
-    let F : SwitchFault → Type 0 = λ f. SaysBy g.P.Station.tells (held_pieces old.held) (Err f) (g.P.Station.calls old.station) (g.P.Station.calls mid.station) in
+    let F : SwitchFault → Type 0 = λ f. SaysBy g.P.Station.observed (held_pieces old.held) (Err f) (g.P.Station.calls old.station) (g.P.Station.calls mid.station) in
     rw (p.1, p.2) (subst F (sym c.in_err-bring.ensures.fault.0) c.bring.ensures.silent)
 
 pub returns-in-Ok-clause-brings : goal.returns-in-Ok-clause-brings
-returns-in-Ok-clause-brings g c = brings_all g.P.Station.tells g.P.Station.calls c.args.parts.now c.bring.new.parts c.say_held.new.parts c.bring.ensures.rest c.bring.ensures.silent c.bring.ensures.moments c.in_ok-bring.ensures.stands c.say_held.ensures.rest c.say_held.ensures.says (Ok tt) (λ d t cs j stands. stands)
+returns-in-Ok-clause-brings g c = brings_all g.P.Station.observed g.P.Station.calls c.args.parts.now c.bring.new.parts c.say_held.new.parts c.bring.ensures.rest c.bring.ensures.silent c.bring.ensures.moments c.in_ok-bring.ensures.stands c.say_held.ensures.rest c.say_held.ensures.says (Ok tt) (λ d t cs j stands. stands)
 
 pub returns-in-Ok-clause-said : goal.returns-in-Ok-clause-said
-returns-in-Ok-clause-said g c = said_behind g.P.Station.tells g.P.Station.calls c.args.parts.now c.bring.new.parts c.say_held.new.parts c.bring.ensures.rest c.bring.ensures.silent c.bring.ensures.moments c.in_ok-bring.ensures.stands c.say_held.ensures.rest c.say_held.ensures.says c.in-Ok.ensures.said
+returns-in-Ok-clause-said g c = said_behind g.P.Station.observed g.P.Station.calls c.args.parts.now c.bring.new.parts c.say_held.new.parts c.bring.ensures.rest c.bring.ensures.silent c.bring.ensures.moments c.in_ok-bring.ensures.stands c.say_held.ensures.rest c.say_held.ensures.says c.in-Ok.ensures.said
 
 pub returns-in-Ok-clause-rest : goal.returns-in-Ok-clause-rest
-returns-in-Ok-clause-rest g c = only_brought g.P.Station.tells g.P.Station.calls c.args.parts.now c.bring.new.parts c.say_held.new.parts c.bring.ensures.rest c.say_held.ensures.rest
+returns-in-Ok-clause-rest g c = only_brought g.P.Station.observed g.P.Station.calls c.args.parts.now c.bring.new.parts c.say_held.new.parts c.bring.ensures.rest c.say_held.ensures.rest
 
 pub returns-in-Ok-clause-place : goal.returns-in-Ok-clause-place
 returns-in-Ok-clause-place g c = ap journal_in c.say_held.ensures.rest ∙ c.in_ok-bring.ensures.place
 
 pub returns-in-Err-clause-brings : goal.returns-in-Err-clause-brings
-returns-in-Err-clause-brings g c = brings_all g.P.Station.tells g.P.Station.calls c.args.parts.now c.bring.new.parts c.say_held.new.parts c.bring.ensures.rest c.bring.ensures.silent c.bring.ensures.moments c.in_ok-bring.ensures.stands c.say_held.ensures.rest c.say_held.ensures.says (Err SayFault) (λ d t cs j stands. stands)
+returns-in-Err-clause-brings g c = brings_all g.P.Station.observed g.P.Station.calls c.args.parts.now c.bring.new.parts c.say_held.new.parts c.bring.ensures.rest c.bring.ensures.silent c.bring.ensures.moments c.in_ok-bring.ensures.stands c.say_held.ensures.rest c.say_held.ensures.says (Err SayFault) (λ d t cs j stands. stands)
 
 pub returns-in-Err-clause-said : goal.returns-in-Err-clause-said
-returns-in-Err-clause-said g c = (c.in-Err.field-0, fails_behind g.P.Station.tells g.P.Station.calls c.args.parts.now c.bring.new.parts c.say_held.new.parts c.bring.ensures.rest c.bring.ensures.silent c.bring.ensures.moments c.in_ok-bring.ensures.stands c.say_held.ensures.rest c.say_held.ensures.says c.in-Err.field-0 c.in-Err.ensures.said)
+returns-in-Err-clause-said g c = (c.in-Err.field-0, fails_behind g.P.Station.observed g.P.Station.calls c.args.parts.now c.bring.new.parts c.say_held.new.parts c.bring.ensures.rest c.bring.ensures.silent c.bring.ensures.moments c.in_ok-bring.ensures.stands c.say_held.ensures.rest c.say_held.ensures.says c.in-Err.field-0 c.in-Err.ensures.said)
 
 pub returns-in-Err-clause-rest : goal.returns-in-Err-clause-rest
-returns-in-Err-clause-rest g c = only_brought g.P.Station.tells g.P.Station.calls c.args.parts.now c.bring.new.parts c.say_held.new.parts c.bring.ensures.rest c.say_held.ensures.rest
+returns-in-Err-clause-rest g c = only_brought g.P.Station.observed g.P.Station.calls c.args.parts.now c.bring.new.parts c.say_held.new.parts c.bring.ensures.rest c.say_held.ensures.rest

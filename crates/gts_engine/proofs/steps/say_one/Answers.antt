@@ -9,15 +9,15 @@ on_none channel [] e = refl
 on_none channel (x ∷ bytes) e = absurd (cc e)
 
 pub returns-then-next-at-clause-told : goal.returns-then-next-at-clause-told
-returns-then-next-at-clause-told g c = λ tells.
+returns-then-next-at-clause-told g c = λ observed.
     let size : length c.saying-channel.result.1.now ≡ 0 = omega (arith, c.if-next-at.true) in
     (c.saying-channel.result.0, c.saying-channel.result.1.now, c.saying-channel.ensures.piece, inr (nil_from_length c.saying-channel.result.1.now size, refl))
 
 pub returns-in-Ok-clause-told : goal.returns-in-Ok-clause-told
-returns-in-Ok-clause-told g c = λ tells. (c.saying-channel.result.0, c.saying-channel.result.1.now, c.saying-channel.ensures.piece, inl (c.in-Ok.ensures.told tells))
+returns-in-Ok-clause-told g c = λ observed. (c.saying-channel.result.0, c.saying-channel.result.1.now, c.saying-channel.ensures.piece, inl (c.in-Ok.ensures.told observed))
 
 pub returns-in-Err-clause-told : goal.returns-in-Err-clause-told
-returns-in-Err-clause-told g c = λ tells. (c.saying-channel.result.0, c.saying-channel.result.1.now, c.saying-channel.ensures.piece, inl (c.in-Err.ensures.told tells))
+returns-in-Err-clause-told g c = λ observed. (c.saying-channel.result.0, c.saying-channel.result.1.now, c.saying-channel.ensures.piece, inl (c.in-Err.ensures.told observed))
 
 pub returns-in-Err-clause-silent : goal.returns-in-Err-clause-silent
 returns-in-Err-clause-silent g c = λ empty.

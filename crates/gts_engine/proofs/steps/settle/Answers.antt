@@ -1,5 +1,5 @@
 use Rattle.std.proofs.Common.{◌≡◌, ℕ, List, refl, sym, subst, ◌∙◌, arith, true, false, Ok}
-use Rattle.gts_engine.specs.Cited.{HasSettled, Parts, engine_of, no_records, no_sayings}
+use Rattle.gts_engine.specs.Cited.{EngineParts, HasSettled, engine_of, no_records, no_sayings}
 use Rattle.std.proofs.lemmas.Bool.{eqb-false}
 use Rattle.gts_engine.proofs.SettlingLemmas.{none_told, some_told, block_of, nothing_settled, all_settled, few_none}
 use Rattle.gts_engine.proofs.AnsweringLemmas.{unfailed}
@@ -9,14 +9,14 @@ pub returns-then-is_empty-clause-settles : goal.returns-then-is_empty-clause-set
 returns-then-is_empty-clause-settles g c =
     let old = c.args.parts.now in
     let none : (engine_of old).gathered ≡ false = none_told _ c.is_empty.result c.is_empty.ensures.value c.if-is_empty.true in
-    nothing_settled g.P.Station.tells g.P.Station.calls g.P.Station.disk_faults g.P.Station.say_faults old c.requires.sound none (unfailed g.P.Station.tells g.P.Station.calls g.P.Station.disk_faults g.P.Station.say_faults (Ok tt) old old refl)
+    nothing_settled g.P.Station.observed g.P.Station.calls g.P.Station.disk_faults g.P.Station.say_faults old c.requires.sound none (unfailed g.P.Station.observed g.P.Station.calls g.P.Station.disk_faults g.P.Station.say_faults (Ok tt) old old refl)
 
 pub bring_and_say-result-requires-clause-some : goal.bring_and_say-result-requires-clause-some
 bring_and_say-result-requires-clause-some g c =
     let old = c.args.parts.now in
     let s0 = c.requires.sound.goes c.requires.going in
     let other = eqb-false _ 1 (sym c.is_empty.ensures.value ∙ c.if-is_empty.false) in
-    block_of g.P.Station.tells old.directory (g.P.Station.calls old.station) old.core old.journal old.batch s0 (omega (arith, c.is_empty.ensures.closed, other))
+    block_of g.P.Station.observed old.directory (g.P.Station.calls old.station) old.core old.journal old.batch s0 (omega (arith, c.is_empty.ensures.closed, other))
 
 pub bring_and_say-result-requires-clause-version : goal.bring_and_say-result-requires-clause-version
 bring_and_say-result-requires-clause-version g c = (c.requires.sound.goes c.requires.going).next.version
@@ -28,7 +28,7 @@ pub bring_and_say-result-requires-clause-room : goal.bring_and_say-result-requir
 bring_and_say-result-requires-clause-room g c = omega (arith, (c.requires.sound.goes c.requires.going).room, c.args.parts.now.within.limit)
 
 pub bring_and_say-result-requires-clause-stands : goal.bring_and_say-result-requires-clause-stands
-bring_and_say-result-requires-clause-stands g c = λ tells. ((c.requires.sound.goes c.requires.going).stands tells).stands
+bring_and_say-result-requires-clause-stands g c = λ observed. ((c.requires.sound.goes c.requires.going).stands observed).stands
 
 pub returns-clause-settles : goal.returns-clause-settles
 returns-clause-settles g c =
@@ -37,7 +37,7 @@ returns-clause-settles g c =
     let result = c.bring_and_say-result.result in
     let b = c.bring_and_say-result.ensures in
     let some : (engine_of old).gathered ≡ true = some_told _ c.is_empty.result c.is_empty.ensures.value c.is_empty.ensures.closed c.if-is_empty.false in
-    let H : Parts g.row.P.Denot → Type 0 = λ p. HasSettled g.P.Station.tells g.P.Station.calls g.P.Station.disk_faults g.P.Station.say_faults result old p in
-    let D : List ℕ → Parts g.row.P.Denot = λ drawn. record mid { batch = no_records mid.journal; held = no_sayings; drawn = drawn } in
+    let H : EngineParts g.row.P.Denot → Type 0 = λ p. HasSettled g.P.Station.observed g.P.Station.calls g.P.Station.disk_faults g.P.Station.say_faults result old p in
+    let D : List ℕ → EngineParts g.row.P.Denot = λ drawn. record mid { batch = no_records mid.journal; held = no_sayings; drawn = drawn } in
     let S : List ℕ → Type 0 = λ drawn. H (D drawn) in
-    subst H (sym c.clear.ensures.rest) (subst S (sym c.clear.ensures.drawn) (all_settled g.P.Station.tells g.P.Station.calls g.P.Station.disk_faults g.P.Station.say_faults old mid c.requires.going c.requires.sound some result b.brings b.said b.place b.rest b.stops b.kind b.cause (few_none old.directory)))
+    subst H (sym c.clear.ensures.rest) (subst S (sym c.clear.ensures.drawn) (all_settled g.P.Station.observed g.P.Station.calls g.P.Station.disk_faults g.P.Station.say_faults old mid c.requires.going c.requires.sound some result b.brings b.said b.place b.rest b.stops b.kind b.cause (few_none old.directory)))

@@ -1,11 +1,11 @@
 use Rattle.std.proofs.Common.{◌≡◌, true, false, refl, ap, arith}
 use Rattle.std.proofs.Props.{props}
-use Rattle.gts_engine.specs.Cited.{IsWithin, Parts, Sayings, engine_of}
+use Rattle.gts_engine.specs.Cited.{EngineParts, IsWithin, Sayings, engine_of}
 use Rattle.gts_engine.proofs.SettlingLemmas.{none_told, some_told}
 use Rattle.gts_engine.proofs.steps.tell.Goals as goal
 
 -- what a directory says of itself has one proof
-held_alone : {P : Type 0} (p : Parts P) (h : Sayings) (within : IsWithin p.directory) → record p { held = h; within = within } ≡ record p { held = h }
+held_alone : {P : Type 0} (p : EngineParts P) (h : Sayings) (within : IsWithin p.directory) → record p { held = h; within = within } ≡ record p { held = h }
 held_alone p h within =
     let one : within ≡ p.within = hlevel props in
     ap (λ (w : IsWithin p.directory). record p { held = h; within = w }) one

@@ -7,7 +7,7 @@ abbrev pub invariant-loop-journal : goal.invariant-loop-journal
 invariant-loop-journal g l = record {
   going : l.journal.ended ≡ false;
   current : IsCurrent l.journal;
-  stands : g.P.Station.tells → StandsOn (g.P.Station.calls l.station) l.journal;
+  stands : g.P.Station.observed → StandsOn (g.P.Station.calls l.station) l.journal;
 }
 
 abbrev pub decreases-loop-journal : goal.decreases-loop-journal

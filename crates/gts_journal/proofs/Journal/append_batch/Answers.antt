@@ -1,55 +1,58 @@
 use Rattle.std.proofs.Common.{◌≡◌, ◌+◌, ◌-◌, ℕ, [], ◌∷◌, ◌++◌, List, length, take, drop, sym, ap, ◌∙◌, subst, arith}
-use Rattle.gts_journal.specs.Cited.{Did, EachSince, Gathered, InHand, OnlyTears, StandsOn, Syncs, Writes, closed_gate, open_gate}
+use Rattle.gts_journal.specs.Cited.{Did, EachSince, Gathered, HasBlock, InHand, OnlyTears, StandsOn, Syncs, Writes, closed_gate, open_gate, seen}
 use Rattle.gts_journal.specs.contracts.Journal.{the_view}
-use Rattle.gts_journal.proofs.BatchLemmas.{block_bytes, placed, staged_moments, opened_moments, stands_after}
+use Rattle.gts_journal.proofs.BatchLemmas.{block_bytes, has_block, placed, staged_moments, opened_moments, stands_after}
 use Rattle.gts_journal.proofs.Journal.append_batch.Goals as goal
 
 pub returns-in_err-write_synced-clause-moments : goal.returns-in_err-write_synced-clause-moments
-returns-in_err-write_synced-clause-moments g c = λ tells.
+returns-in_err-write_synced-clause-moments g c = λ observed.
     let old = g.P.Station.calls c.args.station.now in
     let mid = g.P.Station.calls c.write_synced.new.station in
     let text : List ℕ = c.args.batch.now.text in
-    let bytes : List ℕ = take (c.batch.inside.size - 1) (drop 1 c.deref.result.now) in
-    let is : bytes ≡ c.requires.some.0 ++ closed_gate ∷ [] =
-    block_bytes text c.deref.result.now c.batch.inside.size c.requires.some c.batch.invariant.0
+    let bytes : List ℕ = take (c.extent-end.result - 1) (drop 1 c.deref.result.now) in
+    let more : List ℕ = take (c.extent-end.result - c.batch.inside.size) (drop c.batch.inside.size c.deref.result.now) in
+    let is : bytes ≡ c.requires.some.0 ++ closed_gate ∷ more =
+    block_bytes text c.deref.result.now c.batch.inside.size c.extent-end.result c.requires.some c.batch.invariant.0 c.extent-end.ensures.whole
     (ap (λ (l : List ℕ). take c.batch.inside.size l) c.deref.ensures.value ∙ ap (λ (b : Gathered). b.text) c.batch.view_is) in
     let P : InHand → Type 0 = λ j. EachSince old mid (OnlyTears old j.file (j.gate + 1) (length bytes)) in
-    staged_moments old c.args.self.now (c.requires.stands tells) c.requires.end text c.requires.some (length bytes) mid
-    (subst P c.self.view_is (c.write_synced.ensures.moments tells))
+    staged_moments old c.args.self.now (c.requires.stands observed) c.requires.end text c.requires.some (length bytes) mid
+    (subst P c.self.view_is (c.write_synced.ensures.moments observed))
 
 pub returns-in_err-write_synced-2-clause-moments : goal.returns-in_err-write_synced-2-clause-moments
-returns-in_err-write_synced-2-clause-moments g c = λ tells.
+returns-in_err-write_synced-2-clause-moments g c = λ observed.
     let old = g.P.Station.calls c.args.station.now in
     let mid = g.P.Station.calls c.write_synced.new.station in
     let new = g.P.Station.calls c.write_synced-2.new.station in
     let text : List ℕ = c.args.batch.now.text in
-    let bytes : List ℕ = take (c.batch.inside.size - 1) (drop 1 c.deref.result.now) in
-    let is : bytes ≡ c.requires.some.0 ++ closed_gate ∷ [] =
-    block_bytes text c.deref.result.now c.batch.inside.size c.requires.some c.batch.invariant.0
+    let bytes : List ℕ = take (c.extent-end.result - 1) (drop 1 c.deref.result.now) in
+    let more : List ℕ = take (c.extent-end.result - c.batch.inside.size) (drop c.batch.inside.size c.deref.result.now) in
+    let is : bytes ≡ c.requires.some.0 ++ closed_gate ∷ more =
+    block_bytes text c.deref.result.now c.batch.inside.size c.extent-end.result c.requires.some c.batch.invariant.0 c.extent-end.ensures.whole
     (ap (λ (l : List ℕ). take c.batch.inside.size l) c.deref.ensures.value ∙ ap (λ (b : Gathered). b.text) c.batch.view_is) in
     let P : InHand → Type 0 = λ j. EachSince old mid (OnlyTears old j.file (j.gate + 1) (length bytes)) in
     let Q : InHand → Type 0 = λ j. EachSince mid new (OnlyTears mid j.file j.gate 1) in
     let R : InHand → Type 0 = λ j. mid ≡ Did Syncs ∷ Did (Writes j.file (j.gate + 1) bytes) ∷ old in
-    opened_moments old c.args.self.now (c.requires.stands tells) c.requires.end text c.requires.some bytes mid is
-    (subst R c.self.view_is (c.in_ok-write_synced.ensures.done tells)) new (subst P c.self.view_is (c.write_synced.ensures.moments tells))
-    (c.write_synced.ensures.silent tells) (subst Q c.self.view_is (c.write_synced-2.ensures.moments tells))
+    opened_moments old c.args.self.now (c.requires.stands observed) c.requires.end text c.requires.some more bytes mid is
+    (subst R c.self.view_is (c.in_ok-write_synced.ensures.done observed)) new (subst P c.self.view_is (c.write_synced.ensures.moments observed))
+    (c.write_synced.ensures.silent observed) (subst Q c.self.view_is (c.write_synced-2.ensures.moments observed))
 
 pub returns-clause-moments : goal.returns-clause-moments
-returns-clause-moments g c = λ tells.
+returns-clause-moments g c = λ observed.
     let old = g.P.Station.calls c.args.station.now in
     let mid = g.P.Station.calls c.write_synced.new.station in
     let new = g.P.Station.calls c.write_synced-2.new.station in
     let text : List ℕ = c.args.batch.now.text in
-    let bytes : List ℕ = take (c.batch.inside.size - 1) (drop 1 c.deref.result.now) in
-    let is : bytes ≡ c.requires.some.0 ++ closed_gate ∷ [] =
-    block_bytes text c.deref.result.now c.batch.inside.size c.requires.some c.batch.invariant.0
+    let bytes : List ℕ = take (c.extent-end.result - 1) (drop 1 c.deref.result.now) in
+    let more : List ℕ = take (c.extent-end.result - c.batch.inside.size) (drop c.batch.inside.size c.deref.result.now) in
+    let is : bytes ≡ c.requires.some.0 ++ closed_gate ∷ more =
+    block_bytes text c.deref.result.now c.batch.inside.size c.extent-end.result c.requires.some c.batch.invariant.0 c.extent-end.ensures.whole
     (ap (λ (l : List ℕ). take c.batch.inside.size l) c.deref.ensures.value ∙ ap (λ (b : Gathered). b.text) c.batch.view_is) in
     let P : InHand → Type 0 = λ j. EachSince old mid (OnlyTears old j.file (j.gate + 1) (length bytes)) in
     let Q : InHand → Type 0 = λ j. EachSince mid new (OnlyTears mid j.file j.gate 1) in
     let R : InHand → Type 0 = λ j. mid ≡ Did Syncs ∷ Did (Writes j.file (j.gate + 1) bytes) ∷ old in
-    opened_moments old c.args.self.now (c.requires.stands tells) c.requires.end text c.requires.some bytes mid is
-    (subst R c.self.view_is (c.in_ok-write_synced.ensures.done tells)) new (subst P c.self.view_is (c.write_synced.ensures.moments tells))
-    (c.write_synced.ensures.silent tells) (subst Q c.self.view_is (c.write_synced-2.ensures.moments tells))
+    opened_moments old c.args.self.now (c.requires.stands observed) c.requires.end text c.requires.some more bytes mid is
+    (subst R c.self.view_is (c.in_ok-write_synced.ensures.done observed)) new (subst P c.self.view_is (c.write_synced.ensures.moments observed))
+    (c.write_synced.ensures.silent observed) (subst Q c.self.view_is (c.write_synced-2.ensures.moments observed))
 
 pub returns-clause-place : goal.returns-clause-place
 returns-clause-place g c =
@@ -57,19 +60,38 @@ returns-clause-place g c =
     (omega (arith, c.batch.invariant))
 
 pub returns-clause-stands : goal.returns-clause-stands
-returns-clause-stands g c = λ tells.
+returns-clause-stands g c = λ observed.
     let old = g.P.Station.calls c.args.station.now in
     let mid = g.P.Station.calls c.write_synced.new.station in
     let new = g.P.Station.calls c.write_synced-2.new.station in
     let text : List ℕ = c.args.batch.now.text in
-    let bytes : List ℕ = take (c.batch.inside.size - 1) (drop 1 c.deref.result.now) in
-    let is : bytes ≡ c.requires.some.0 ++ closed_gate ∷ [] =
-    block_bytes text c.deref.result.now c.batch.inside.size c.requires.some c.batch.invariant.0
+    let bytes : List ℕ = take (c.extent-end.result - 1) (drop 1 c.deref.result.now) in
+    let more : List ℕ = take (c.extent-end.result - c.batch.inside.size) (drop c.batch.inside.size c.deref.result.now) in
+    let is : bytes ≡ c.requires.some.0 ++ closed_gate ∷ more =
+    block_bytes text c.deref.result.now c.batch.inside.size c.extent-end.result c.requires.some c.batch.invariant.0 c.extent-end.ensures.whole
     (ap (λ (l : List ℕ). take c.batch.inside.size l) c.deref.ensures.value ∙ ap (λ (b : Gathered). b.text) c.batch.view_is) in
     let R : InHand → Type 0 = λ j. mid ≡ Did Syncs ∷ Did (Writes j.file (j.gate + 1) bytes) ∷ old in
     let S : InHand → Type 0 = λ j. new ≡ Did Syncs ∷ Did (Writes j.file j.gate (open_gate ∷ [])) ∷ mid in
     let at = placed (the_view c.self.inside) c.args.self.now c.batch.inside.version c.batch.inside.size c.batch.inside.buffer.items c.batch.inside.seal c.args.batch.now c.self.view_is c.batch.view_is c.requires.version
     (omega (arith, c.batch.invariant)) in
     subst (StandsOn new) (sym at)
-    (stands_after old c.args.self.now (c.requires.stands tells) c.requires.end text c.requires.some bytes mid is
-    (subst R c.self.view_is (c.in_ok-write_synced.ensures.done tells)) new (subst S c.self.view_is (c.in_ok-write_synced-2.ensures.done tells)) c.args.batch.now.seal)
+    (stands_after old c.args.self.now (c.requires.stands observed) c.requires.end text c.requires.some more bytes mid is
+    (subst R c.self.view_is (c.in_ok-write_synced.ensures.done observed)) new (subst S c.self.view_is (c.in_ok-write_synced-2.ensures.done observed)) c.args.batch.now.seal)
+
+pub returns-clause-added : goal.returns-clause-added
+returns-clause-added g c = λ observed.
+    let old = g.P.Station.calls c.args.station.now in
+    let mid = g.P.Station.calls c.write_synced.new.station in
+    let new = g.P.Station.calls c.write_synced-2.new.station in
+    let text : List ℕ = c.args.batch.now.text in
+    let bytes : List ℕ = take (c.extent-end.result - 1) (drop 1 c.deref.result.now) in
+    let more : List ℕ = take (c.extent-end.result - c.batch.inside.size) (drop c.batch.inside.size c.deref.result.now) in
+    let is : bytes ≡ c.requires.some.0 ++ closed_gate ∷ more =
+    block_bytes text c.deref.result.now c.batch.inside.size c.extent-end.result c.requires.some c.batch.invariant.0 c.extent-end.ensures.whole
+    (ap (λ (l : List ℕ). take c.batch.inside.size l) c.deref.ensures.value ∙ ap (λ (b : Gathered). b.text) c.batch.view_is) in
+    let R : InHand → Type 0 = λ j. mid ≡ Did Syncs ∷ Did (Writes j.file (j.gate + 1) bytes) ∷ old in
+    let S : InHand → Type 0 = λ j. new ≡ Did Syncs ∷ Did (Writes j.file j.gate (open_gate ∷ [])) ∷ mid in
+    let P : InHand → Type 0 = λ j. HasBlock old c.args.self.now text (seen new j.file) in
+    subst P (sym c.self.view_is)
+    (has_block old c.args.self.now (c.requires.stands observed) c.requires.end text c.requires.some more bytes mid is
+    (subst R c.self.view_is (c.in_ok-write_synced.ensures.done observed)) new (subst S c.self.view_is (c.in_ok-write_synced-2.ensures.done observed)))

@@ -29,8 +29,8 @@ waiting_failed T Dropped found NoMemory is = is
 
 pub prepare-requires-clause-due : goal.prepare-requires-clause-due
 prepare-requires-clause-due g c =
-    few_due g.P.Station.tells c.args.old.now c.args.new.now c.requires (g.P.Station.calls c.open_core_any.new.station) c.in_ok-core.core c.in_ok-core.journal c.in_ok-core.ensures.opened
-    (omega (arith, c.limit.ensures.value, c.limit.ensures.range.1))
+    few_due g.P.Station.observed c.args.old.now c.args.new.now c.requires (g.P.Station.calls c.open_core_any.new.station) c.in_ok-core.core c.in_ok-core.journal c.in_ok-core.ensures.opened
+    (omega (arith, c.bounds_hold.ensures.greatest))
 
 pub rewrite-requires-clause-fits : goal.rewrite-requires-clause-fits
 rewrite-requires-clause-fits g c =
@@ -42,7 +42,7 @@ rewrite-requires-clause-fits g c =
     let o = c.in_ok-core.ensures.opened in
     let n = need_of c.in_ok-prepared.prepared.need in
     let brought = c.in_ok-prepared.ensures.brought in
-    fits_for g.P.Station.tells old new c.requires mid core j o n brought (c.in_ok-prepared.ensures.room o.state o.kept.holds)
+    fits_for g.P.Station.observed old new c.requires mid core j o n brought (c.in_ok-prepared.ensures.room o.state o.kept.holds)
 
 pub returns-clause-moments : goal.returns-clause-moments
 returns-clause-moments g c = λ tell k was is.
@@ -57,12 +57,12 @@ returns-clause-moments g c = λ tell k was is.
     let before = g.P.Station.calls c.args.station.now in
     let synced = c.in_ok-core.ensures.synced tell in
     let after = g.P.Station.calls c.rewrite.new.station in
-    let can = can_migrate g.P.Station.tells old new c.requires mid core j o n brought c.in_ok-prepared.ensures.keeps tell in
+    let can = can_migrate g.P.Station.observed old new c.requires mid core j o n brought c.in_ok-prepared.ensures.keeps tell in
     let each = c.rewrite.ensures.moments tell old o.state can in
     let text = c.in_ok-prepared.ensures.text o.state o.kept.holds ∙ sym (sayings_again c.args.waiting new old o.state) in
     let same = subst (λ (l : Outside). EachSince mid after (OpensWith l old new (need old (restarted old o.state)))) text each in
     let here = subst (λ (calls : List Call). EachSince calls after (OpensEither c.args.waiting old new (need old (restarted old o.state)))) synced same in
-    subst (λ (m : Need). EachSince (Did Syncs ∷ before) after (OpensEither c.args.waiting old new m)) (need_is g.P.Station.tells old new c.requires mid core j o tell before synced k is) here
+    subst (λ (m : Need). EachSince (Did Syncs ∷ before) after (OpensEither c.args.waiting old new m)) (need_is g.P.Station.observed old new c.requires mid core j o tell before synced k is) here
 
 pub returns-clause-migrated : goal.returns-clause-migrated
 returns-clause-migrated g c = λ tell s used is.
@@ -76,9 +76,9 @@ returns-clause-migrated g c = λ tell s used is.
     let brought = c.in_ok-prepared.ensures.brought in
     let before = g.P.Station.calls c.args.station.now in
     let synced = c.in_ok-core.ensures.synced tell in
-    let can = can_migrate g.P.Station.tells old new c.requires mid core j o n brought c.in_ok-prepared.ensures.keeps tell in
+    let can = can_migrate g.P.Station.observed old new c.requires mid core j o n brought c.in_ok-prepared.ensures.keeps tell in
     migrated_after c.rewrite.result old new o.state s n before mid (g.P.Station.calls c.rewrite.new.station) j synced
-    (state_is g.P.Station.tells old new c.requires mid core j o tell before synced s used is) can (c.rewrite.ensures.written tell)
+    (state_is g.P.Station.observed old new c.requires mid core j o tell before synced s used is) can (c.rewrite.ensures.written tell)
 
 pub returns-clause-full : goal.returns-clause-full
 returns-clause-full g c = λ tell s used is.
@@ -90,7 +90,7 @@ returns-clause-full g c = λ tell s used is.
     let o = c.in_ok-core.ensures.opened in
     let before = g.P.Station.calls c.args.station.now in
     let synced = c.in_ok-core.ensures.synced tell in
-    let same = state_is g.P.Station.tells old new c.requires mid core j o tell before synced s used is in
+    let same = state_is g.P.Station.observed old new c.requires mid core j o tell before synced s used is in
     let free : full_compacted new (goes_on new old (need old o.state)) ≡ None = c.in_ok-prepared.ensures.room o.state o.kept.holds in
     room_after c.rewrite.result new (goes_on new old (need old s)) c.rewrite.ensures.kind
     (subst (λ (t : State). full_compacted new (goes_on new old (need old t)) ≡ None) (sym same) free)
@@ -105,7 +105,7 @@ returns-clause-waiting g c = λ tell s used is.
     let o = c.in_ok-core.ensures.opened in
     let before = g.P.Station.calls c.args.station.now in
     let synced = c.in_ok-core.ensures.synced tell in
-    let same = state_is g.P.Station.tells old new c.requires mid core j o tell before synced s used is in
+    let same = state_is g.P.Station.observed old new c.requires mid core j o tell before synced s used is in
     let none = c.in_ok-prepared.ensures.waiting o.state o.kept.holds in
     waiting_after c.args.waiting c.rewrite.result (waits_on_closed new (need old s)) c.rewrite.ensures.kind
     (subst (λ (t : State). AnswersWaiting {T = Unit {0}} c.args.waiting (Ok tt) (waits_on_closed new (need old t))) (sym same) (waiting_done c.args.waiting (waits_on_closed new (need old o.state)) c.in_ok-prepared.prepared none))
@@ -121,7 +121,7 @@ returns-clause-opening g c = λ tell.
     let before = g.P.Station.calls c.args.station.now in
     let synced = c.in_ok-core.ensures.synced tell in
     opening_after c.rewrite.result (opens_any old (seen before)) (need old (restarted old o.state)) c.rewrite.ensures.kind
-    (opens_so g.P.Station.tells old new c.requires mid core j o tell before synced)
+    (opens_so g.P.Station.observed old new c.requires mid core j o tell before synced)
 
 pub returns-clause-told : goal.returns-clause-told
 returns-clause-told g c = λ tell leaves.
@@ -143,8 +143,8 @@ returns-in_err-prepared-clause-moments g c = λ tell k was is.
     let o = c.in_ok-core.ensures.opened in
     let before = g.P.Station.calls c.args.station.now in
     let synced = c.in_ok-core.ensures.synced tell in
-    subst (λ (m : Need). EachSince (Did Syncs ∷ before) mid (OpensEither c.args.waiting old new m)) (need_is g.P.Station.tells old new c.requires mid core j o tell before synced k is)
-    (at_rest g.P.Station.tells old new c.requires mid core j o tell before synced (sayings c.args.waiting new (need old (restarted old o.state))))
+    subst (λ (m : Need). EachSince (Did Syncs ∷ before) mid (OpensEither c.args.waiting old new m)) (need_is g.P.Station.observed old new c.requires mid core j o tell before synced k is)
+    (at_rest g.P.Station.observed old new c.requires mid core j o tell before synced (sayings c.args.waiting new (need old (restarted old o.state))))
 
 pub returns-in_err-prepared-clause-full : goal.returns-in_err-prepared-clause-full
 returns-in_err-prepared-clause-full g c = λ tell s used is.
@@ -158,7 +158,7 @@ returns-in_err-prepared-clause-full g c = λ tell s used is.
     let synced = c.in_ok-core.ensures.synced tell in
     let p = err_from_is_err_and c.from_residual-in_err-prepared.result c.from_residual-in_err-prepared.ensures.1 in
     rw (p.1, p.2)
-    (subst (λ (t : State). IsRoomAnswer c.in_err-prepared.field-0.0 new (goes_on new old (need old t))) (sym (state_is g.P.Station.tells old new c.requires mid core j o tell before synced s used is))
+    (subst (λ (t : State). IsRoomAnswer c.in_err-prepared.field-0.0 new (goes_on new old (need old t))) (sym (state_is g.P.Station.observed old new c.requires mid core j o tell before synced s used is))
     (c.in_err-prepared.ensures.room o.state o.kept.holds))
 
 -- where it was refused before anything was written, the files opened
@@ -183,7 +183,7 @@ returns-in_err-prepared-clause-opening g c = λ tell.
     let p = err_from_is_err_and c.from_residual-in_err-prepared.result c.from_residual-in_err-prepared.ensures.1 in
     rw (p.1, p.2)
     (opening_before c.in_err-prepared.field-0.0 (opens_any old (seen before)) (need old (restarted old o.state)) c.in_err-prepared.ensures.kind
-    (opens_so g.P.Station.tells old new c.requires mid core j o tell before synced))
+    (opens_so g.P.Station.observed old new c.requires mid core j o tell before synced))
 
 pub returns-in_err-prepared-clause-waiting : goal.returns-in_err-prepared-clause-waiting
 returns-in_err-prepared-clause-waiting g c = λ tell s used is.
@@ -198,7 +198,7 @@ returns-in_err-prepared-clause-waiting g c = λ tell s used is.
     let p = err_from_is_err_and c.from_residual-in_err-prepared.result c.from_residual-in_err-prepared.ensures.1 in
     rw (p.1, p.2)
     (subst (λ (t : State). AnswersWaiting {T = Unit {0}} c.args.waiting (Err c.in_err-prepared.field-0.0) (waits_on_closed new (need old t)))
-    (sym (state_is g.P.Station.tells old new c.requires mid core j o tell before synced s used is))
+    (sym (state_is g.P.Station.observed old new c.requires mid core j o tell before synced s used is))
     (waiting_failed _ c.args.waiting (waits_on_closed new (need old o.state)) c.in_err-prepared.field-0.0 (c.in_err-prepared.ensures.waiting o.state o.kept.holds)))
 
 pub returns-clause-said : goal.returns-clause-said
@@ -213,7 +213,7 @@ returns-clause-said g c = λ tell s used is.
     let synced = c.in_ok-core.ensures.synced tell in
     let after = g.P.Station.calls c.rewrite.new.station in
     let bytes = c.in_ok-prepared.prepared.receipts.items in
-    let same = state_is g.P.Station.tells old new c.requires mid core j o tell before synced s used is in
+    let same = state_is g.P.Station.observed old new c.requires mid core j o tell before synced s used is in
     let text = c.in_ok-prepared.ensures.text o.state o.kept.holds ∙ ap (λ (t : State). sayings c.args.waiting new (need old t)) (sym same) in
     said_after c.rewrite.result (sayings c.args.waiting new (need old s)) before mid after synced
     (subst (λ (l : Outside). SaysFor c.rewrite.result l mid after) text (c.rewrite.ensures.said tell))

@@ -7,12 +7,12 @@ use Rattle.gts_migrate.proofs.MigratingLemmas.{writing, speaking, spoke, stands_
 use Rattle.gts_migrate.proofs.rewriting.rewrite.Goals as goal
 
 pub compacted_size-used-requires : goal.compacted_size-used-requires
-compacted_size-used-requires g c = omega (arith, c.requires.size, c.requires.fits.room, c.limit.ensures.value, c.limit.ensures.range.1)
+compacted_size-used-requires g c = omega (arith, c.requires.size, c.requires.fits.room, c.bounds_hold.ensures.greatest)
 
 pub write-requires-clause-fits : goal.write-requires-clause-fits
 write-requires-clause-fits g c =
-    let few : c.circuits.result ≤ 64 = c.circuits.ensures.few in
-    fit_bytes c.args.new.now (need_of c.args.prepared.now.need) (omega (arith, few, c.circuits.ensures.value)) c.requires.fits.sound
+    let few : length c.args.new.now.circuits ≤ 64 = c.bounds_hold.ensures.circuits in
+    fit_bytes c.args.new.now (need_of c.args.prepared.now.need) (omega (arith, few)) c.requires.fits.sound
 
 pub select-requires-clause-stands : goal.select-requires-clause-stands
 select-requires-clause-stands g c = λ tell.
@@ -33,7 +33,7 @@ select-requires-clause-closed g c = λ tell.
     let spoken = g.P.Station.calls c.say_receipts.new.station in
     let bytes = c.args.prepared.now.receipts.items in
     let long : length c.mark.result ≡ 32 = search rules in
-    let low : c.args.new.now.limit < 2 ^ 63 = omega (arith, c.limit.ensures.value, c.limit.ensures.range.1) in
+    let low : c.args.new.now.limit < 2 ^ 63 = omega (arith, c.bounds_hold.ensures.greatest) in
     let used_is : c.compacted_size-used.result ≡ compacted_bytes written n = omega (arith, c.compacted_size-used.ensures, c.requires.size, c.requires.fits.room, low) in
     closed_spoken bytes mid spoken c.args.journal (1 - c.file-other.result) c.compacted_size-used.result (spoke bytes c.in_ok-say_receipts.field-0 mid spoken (subst (λ (l : List ℕ). SaysAll {T = Unit {0}} {E = MigrateFault} l (Ok c.in_ok-say_receipts.field-0) mid spoken) c.as_slice.ensures.value (c.in_ok-say_receipts.ensures.told tell)))
     (closed_there c.mark.result n (1 - c.file-other.result) mid c.args.journal c.compacted_size-used.result (c.in_ok-seal.ensures.written tell) long used_is)
@@ -56,7 +56,7 @@ returns-clause-moments g c = λ tell from s can.
     let there : HasWritten c.mark.result n (1 - j.file) mid = subst (λ (k : ℕ). HasWritten c.mark.result n k mid) file_is (c.in_ok-seal.ensures.written tell) in
     let wrote : HasWritten new.mark n (1 - j.file) mid = subst (λ (mark : List ℕ). HasWritten mark n (1 - j.file) mid) c.mark.ensures there in
     let size : length new.mark ≡ 32 = ap (λ (mark : List ℕ). length mark) (sym c.mark.ensures) ∙ long in
-    let limit : new.limit < 256 ^ 4 = omega (arith, c.limit.ensures.value, c.limit.ensures.range.1) in
+    let limit : new.limit < 256 ^ 4 = omega (arith, c.bounds_hold.ensures.greatest) in
     all_moments from new s n old j bytes can low mid beside spoken sp since wrote c.requires.fits size limit (g.P.Station.calls c.select.new.station) (c.select.ensures.moments tell)
 
 pub returns-in_err-select-clause-moments : goal.returns-in_err-select-clause-moments
@@ -77,7 +77,7 @@ returns-in_err-select-clause-moments g c = λ tell from s can.
     let there : HasWritten c.mark.result n (1 - j.file) mid = subst (λ (k : ℕ). HasWritten c.mark.result n k mid) file_is (c.in_ok-seal.ensures.written tell) in
     let wrote : HasWritten new.mark n (1 - j.file) mid = subst (λ (mark : List ℕ). HasWritten mark n (1 - j.file) mid) c.mark.ensures there in
     let size : length new.mark ≡ 32 = ap (λ (mark : List ℕ). length mark) (sym c.mark.ensures) ∙ long in
-    let limit : new.limit < 256 ^ 4 = omega (arith, c.limit.ensures.value, c.limit.ensures.range.1) in
+    let limit : new.limit < 256 ^ 4 = omega (arith, c.bounds_hold.ensures.greatest) in
     all_moments from new s n old j bytes can low mid beside spoken sp since wrote c.requires.fits size limit (g.P.Station.calls c.select.new.station) (c.select.ensures.moments tell)
 
 pub returns-clause-written : goal.returns-clause-written
@@ -98,7 +98,7 @@ returns-clause-written g c = λ tell from s can.
     let there : HasWritten c.mark.result n (1 - j.file) mid = subst (λ (k : ℕ). HasWritten c.mark.result n k mid) file_is (c.in_ok-seal.ensures.written tell) in
     let wrote : HasWritten new.mark n (1 - j.file) mid = subst (λ (mark : List ℕ). HasWritten mark n (1 - j.file) mid) c.mark.ensures there in
     let size : length new.mark ≡ 32 = ap (λ (mark : List ℕ). length mark) (sym c.mark.ensures) ∙ long in
-    let limit : new.limit < 256 ^ 4 = omega (arith, c.limit.ensures.value, c.limit.ensures.range.1) in
+    let limit : new.limit < 256 ^ 4 = omega (arith, c.bounds_hold.ensures.greatest) in
     let used : ℕ = c.compacted_size-used.result in
     let seal : List ℕ = held written c.in_ok-seal.seal in
     let at = c.in_ok-select.ensures.place ∙ ap (λ (k : ℕ). selecting written k used seal j) file_is in

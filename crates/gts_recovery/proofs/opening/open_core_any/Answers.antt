@@ -12,7 +12,7 @@ begin-requires g c = record {
   going = c.in_ok-journal.ensures.begins.1;
   stands = c.in_ok-journal.ensures.stands;
   letter = c.in_ok-journal.ensures.checkpoint;
-  limit = omega (arith, c.limit.ensures.value, c.limit.ensures.range.0);
+  limit = omega (arith, c.bounds_hold.ensures.least);
 }
 
 pub returns-clause-opened : goal.returns-clause-opened
@@ -21,7 +21,7 @@ returns-clause-opened g c =
     let v : Version = version_of (selected_bytes (seen old)) in
     let new = g.P.Station.calls c.start_any.new.station in
     opened_any c.args.directory.now old new (g.P.Station.calls c.admit_all.new.station) c.admit_all.new.core c.in_ok-journal.journal c.admit_all.new.journal
-    (omega (arith, c.limit.ensures.value, c.limit.ensures.range.1))
+    (omega (arith, c.bounds_hold.ensures.greatest))
     (λ tell. started v c.args.directory.now old new c.in_ok-journal.journal (c.in_ok-journal.ensures.synced tell) (c.in_ok-journal.ensures.stands tell)
     (subst (λ (mark : List ℕ). fault_sought true mark (seen old) ≡ None) c.mark.ensures (c.in_ok-journal.ensures.fault tell)) (c.in_ok-journal.ensures.version tell))
     (λ tell. c.admit_all.ensures.told tell ∙ c.in_ok-core.ensures.told tell) (c.in_ok-admit_all.ensures.version ∙ c.in_ok-core.ensures.version)

@@ -10,7 +10,7 @@ use Rattle.gts_replay.proofs.feeding.feed.Goals as goal
 
 pub loop-count-init : goal.loop-count-init
 loop-count-init g c = record {
-  fed = ([], takes_none g.S.Source.tells c.args.steps.now (g.S.Source.left c.args.capture.now), fed_none g.W.Switch.meanings c.args.c c.args.decoder.now c.args.switch.now);
+  fed = ([], takes_none g.S.Source.observed c.args.steps.now (g.S.Source.left c.args.capture.now), fed_none g.W.Switch.meanings c.args.c c.args.decoder.now c.args.switch.now);
   directory = refl;
   disk_later = omega arith;
   say_later = omega arith;
@@ -20,17 +20,17 @@ loop-count-init g c = record {
 pub returns-in_err-count-clause-feeds : goal.returns-in_err-count-clause-feeds
 returns-in_err-count-clause-feeds g c =
     let fed = c.loop-count.invariant.fed in
-    let F : CaptureFault → Type 0 = λ fault. Feeds g.W.Switch.meanings g.S.Source.tells c.args.c (Err (step.Capture fault)) c.args.steps.now c.bytes.new.self (g.S.Source.left c.args.capture.now) (g.S.Source.left c.bytes.new.source)
+    let F : CaptureFault → Type 0 = λ fault. Feeds g.W.Switch.meanings g.S.Source.observed c.args.c (Err (step.Capture fault)) c.args.steps.now c.bytes.new.self (g.S.Source.left c.args.capture.now) (g.S.Source.left c.bytes.new.source)
     c.args.decoder.now c.loop-count.decoder c.args.switch.now c.loop-count.switch in
     let go : (fault : CaptureFault) → c.bytes.result ≡ Err fault → F fault = elim [
       | Bad at ↦ λ is. record {
         bytes = fed.0;
-        taken = takes_end g.S.Source.tells fed.0 c.args.steps.now c.loop-count.steps (g.S.Source.left c.args.capture.now) (g.S.Source.left c.loop-count.capture) at fed.1 (λ t. c.bytes.ensures.bad t at is);
+        taken = takes_end g.S.Source.observed fed.0 c.args.steps.now c.loop-count.steps (g.S.Source.left c.args.capture.now) (g.S.Source.left c.loop-count.capture) at fed.1 (λ t. c.bytes.ensures.bad t at is);
         fed = fed.2;
       }
       | SourceFault ↦ λ is. record {
         bytes = fed.0;
-        taken = takes_stop g.S.Source.tells fed.0 c.args.steps.now c.loop-count.steps c.bytes.new.self (g.S.Source.left c.args.capture.now) (g.S.Source.left c.loop-count.capture) (g.S.Source.left c.bytes.new.source)
+        taken = takes_stop g.S.Source.observed fed.0 c.args.steps.now c.loop-count.steps c.bytes.new.self (g.S.Source.left c.args.capture.now) (g.S.Source.left c.loop-count.capture) (g.S.Source.left c.bytes.new.source)
             fed.1 (λ t. c.bytes.ensures.source_fault t is) (c.bytes.ensures.left (ap is_err is));
         fed = fed.2;
       }
@@ -50,10 +50,10 @@ returns-in_err-map_err-clause-feeds g c =
     let long : length piece ≡ n = length-take-le n into (omega (arith, IfOk-at_ok _ came c.bytes.ensures.most, c.bytes.auto.into)) in
     let m = mapped_err c.feed_piece.result c.map_err-in-loop-count.result _ c.in_err-map_err.field-0.0 c.map_err-in-loop-count.ensures.cases c.in_err-map_err.was in
     let p = err_from_is_err_and c.from_residual-in_err-map_err.result c.from_residual-in_err-map_err.ensures.1 in
-    let broken : Feeds g.W.Switch.meanings g.S.Source.tells c.args.c (Err (step.Switch m.0)) c.args.steps.now c.bytes.new.self (g.S.Source.left c.args.capture.now) (g.S.Source.left c.bytes.new.source)
+    let broken : Feeds g.W.Switch.meanings g.S.Source.observed c.args.c (Err (step.Switch m.0)) c.args.steps.now c.bytes.new.self (g.S.Source.left c.args.capture.now) (g.S.Source.left c.bytes.new.source)
     c.args.decoder.now c.feed_piece.new.decoder c.args.switch.now c.feed_piece.new.switch = record {
       bytes = fed.0 ++ piece;
-      taken = takes_at_most g.S.Source.tells fed.0 piece c.args.steps.now c.loop-count.steps c.bytes.new.self (g.S.Source.left c.args.capture.now) (g.S.Source.left c.loop-count.capture) (g.S.Source.left c.bytes.new.source)
+      taken = takes_at_most g.S.Source.observed fed.0 piece c.args.steps.now c.loop-count.steps c.bytes.new.self (g.S.Source.left c.args.capture.now) (g.S.Source.left c.loop-count.capture) (g.S.Source.left c.bytes.new.source)
           fed.1 (λ t. IfOk-at_ok _ came (c.bytes.ensures.told t)) (omega (arith, long, passed.feed)) (omega (arith, long, passed.at)) passed.within;
       fed = breaks_piece g.W.Switch.meanings c.args.c c.args.decoder.now c.args.switch.now fed.0 piece c.loop-count.decoder c.loop-count.switch c.feed_piece.new.switch m.0 fed.2
           (λ before o first h held stands. subst (λ (r : Result (Unit {0}) SwitchFault). Goes g.W.Switch.meanings o first h (all_done (events_added c.args.c before piece)) r c.feed_piece.new.switch)
@@ -74,7 +74,7 @@ loop-count-preserved g c =
     record {
       fed = (
         fed.0 ++ piece,
-        takes_more g.S.Source.tells fed.0 piece c.args.steps.now c.loop-count.steps c.bytes.new.self (g.S.Source.left c.args.capture.now) (g.S.Source.left c.loop-count.capture) (g.S.Source.left c.bytes.new.source)
+        takes_more g.S.Source.observed fed.0 piece c.args.steps.now c.loop-count.steps c.bytes.new.self (g.S.Source.left c.args.capture.now) (g.S.Source.left c.loop-count.capture) (g.S.Source.left c.bytes.new.source)
             fed.1 (λ t. IfOk-at_ok _ came (c.bytes.ensures.told t)) (omega (arith, long, passed.feed)) (omega (arith, long, passed.at)) passed.within c.bytes.ensures.same,
         fed_piece g.W.Switch.meanings c.args.c c.args.decoder.now c.args.switch.now fed.0 piece c.loop-count.decoder c.feed_piece.new.decoder c.loop-count.switch c.feed_piece.new.switch fed.2
             (λ before is. subst (λ (r : Result (Unit {0}) SwitchFault). OnOk r (c.feed_piece.new.decoder.held ≡ held_in (before ++ piece))) dealt (c.feed_piece.ensures.held before is))

@@ -5,7 +5,7 @@ use Rattle.gts_replay.proofs.feeding.feed.Given as goal
 -- the bytes so far were taken and dealt with
 abbrev pub invariant-loop-count : goal.invariant-loop-count
 invariant-loop-count g l = record {
-  fed : (bytes : List ℕ) × Takes g.S.Source.tells bytes l.fn.steps l.steps (g.S.Source.left l.fn.capture) (g.S.Source.left l.capture)
+  fed : (bytes : List ℕ) × Takes g.S.Source.observed bytes l.fn.steps l.steps (g.S.Source.left l.fn.capture) (g.S.Source.left l.capture)
       × IsFed g.W.Switch.meanings l.c l.fn.decoder l.fn.switch bytes l.decoder l.switch;
   directory : g.W.Switch.meanings.directory l.switch ≡ g.W.Switch.meanings.directory l.fn.switch;
   disk_later : g.W.Switch.disk_faults l.fn.switch ≤ g.W.Switch.disk_faults l.switch;

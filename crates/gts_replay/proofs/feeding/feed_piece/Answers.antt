@@ -2,7 +2,7 @@ use Rattle.std.proofs.Common.{◌≡◌, ◌++◌, ℕ, List, [], take, drop, Re
 use Rattle.std.proofs.lemmas.List.{append_assoc, take-append-drop}
 use Rattle.std.proofs.lemmas.Result.{err_from_is_err_and}
 use Rattle.gts_replay.specs.Cited.{BreaksOff, Goes, SwitchFault, all_done, answer_of, events_added}
-use Rattle.gts_feed.proofs.FedLemmas.{goes_of}
+use Rattle.gts_calls.proofs.FedLemmas.{goes_of}
 use Rattle.gts_replay.proofs.FeedingLemmas.{fed_none, fed_piece, breaks_rest, slice_from}
 use Rattle.gts_replay.proofs.feeding.feed_piece.Goals as goal
 

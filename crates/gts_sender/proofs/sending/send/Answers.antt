@@ -7,7 +7,7 @@ use Rattle.gts_sender.proofs.sending.send.Goals as goal
 pub loop-init : goal.loop-init
 loop-init g c = record {
   directory = refl;
-  sent = ([], sending_nothing c.args.c (g.D.Desk.seen c.args.desk.now), λ tells. sym (append-nil (g.K.Sink.written c.args.sink.now)));
+  sent = ([], sending_nothing c.args.c (g.D.Desk.seen c.args.desk.now), λ observed. sym (append-nil (g.K.Sink.written c.args.sink.now)));
   sound = refl;
   can = search rules;
 }
@@ -22,7 +22,7 @@ loop-preserved-in-Ok-true g c =
       sent = (
         i.sent.0 ++ t.0,
         subst P c.in-Ok-true.field-0-test (t.1 (g.D.Desk.seen c.args.desk.now) i.sent.0 i.sent.1),
-        λ tells. t.2 tells ∙ ap (λ (l : List ℕ). l ++ t.0) (i.sent.2 tells) ∙ append_assoc (g.K.Sink.written c.args.sink.now) i.sent.0 t.0,
+        λ observed. t.2 observed ∙ ap (λ (l : List ℕ). l ++ t.0) (i.sent.2 observed) ∙ append_assoc (g.K.Sink.written c.args.sink.now) i.sent.0 t.0,
       );
       sound = c.in-Ok-true.ensures.sound ∙ i.sound;
       can = search rules;
@@ -35,7 +35,7 @@ returns-then-seen-clause-sent g c =
     let P : Bool → Type 0 = λ b. Tried c.args.c (g.D.Desk.seen c.args.desk.now) (g.D.Desk.seen c.send_some.new.desk) (i.sent.0 ++ t.0) (Ok b) in (
       i.sent.0 ++ t.0,
       subst P c.in-Ok-false.field-0-test (t.1 (g.D.Desk.seen c.args.desk.now) i.sent.0 i.sent.1),
-      λ tells. t.2 tells ∙ ap (λ (l : List ℕ). l ++ t.0) (i.sent.2 tells) ∙ append_assoc (g.K.Sink.written c.args.sink.now) i.sent.0 t.0,
+      λ observed. t.2 observed ∙ ap (λ (l : List ℕ). l ++ t.0) (i.sent.2 observed) ∙ append_assoc (g.K.Sink.written c.args.sink.now) i.sent.0 t.0,
     )
 
 pub loop-preserved : goal.loop-preserved
@@ -48,7 +48,7 @@ loop-preserved g c =
       sent = (
         i.sent.0 ++ t.0,
         (subst P c.in-Ok-false.field-0-test (t.1 (g.D.Desk.seen c.args.desk.now) i.sent.0 i.sent.1)).0,
-        λ tells. c.rest.ensures.unwritten tells ∙ t.2 tells ∙ ap (λ (l : List ℕ). l ++ t.0) (i.sent.2 tells) ∙ append_assoc (g.K.Sink.written c.args.sink.now) i.sent.0 t.0,
+        λ observed. c.rest.ensures.unwritten observed ∙ t.2 observed ∙ ap (λ (l : List ℕ). l ++ t.0) (i.sent.2 observed) ∙ append_assoc (g.K.Sink.written c.args.sink.now) i.sent.0 t.0,
       );
       sound = c.rest.ensures.sound ∙ c.in-Ok-false.ensures.sound ∙ i.sound;
       can = search rules;
@@ -60,5 +60,5 @@ returns-in-Err-clause-sent g c =
     let t = c.in-Err.ensures.tried in (
       i.sent.0 ++ t.0,
       t.1 (g.D.Desk.seen c.args.desk.now) i.sent.0 i.sent.1,
-      λ tells. t.2 tells ∙ ap (λ (l : List ℕ). l ++ t.0) (i.sent.2 tells) ∙ append_assoc (g.K.Sink.written c.args.sink.now) i.sent.0 t.0,
+      λ observed. t.2 observed ∙ ap (λ (l : List ℕ). l ++ t.0) (i.sent.2 observed) ∙ append_assoc (g.K.Sink.written c.args.sink.now) i.sent.0 t.0,
     )

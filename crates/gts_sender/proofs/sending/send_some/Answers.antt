@@ -1,7 +1,7 @@
 use Rattle.std.proofs.Common.{[], Ok, Err, sym}
 use Rattle.std.proofs.lemmas.List.{append-nil}
 use Rattle.std.proofs.lemmas.Result.{err_from_is_err_and}
-use Rattle.gts_desk.specs.Given.{frames_of}
+use Rattle.gts_calls.specs.Given.{frames_of}
 use Rattle.gts_sender.proofs.DrawLemmas.{turn_sent, turn_broke, turn_failed}
 use Rattle.gts_sender.proofs.sending.send_some.Goals as goal
 
@@ -13,7 +13,7 @@ returns-in_err-more-clause-tried g c =
       (λ first sent so_far.
           let p = err_from_is_err_and c.from_residual.result c.from_residual.ensures.1 in
           rw (p.1, p.2) (turn_failed c.args.c (g.D.Desk.seen c.args.desk.now) now (frames_of c.take_some.new.given.frames) e.field-0.0 e.ensures first sent so_far)),
-      (λ tells. sym (append-nil (g.K.Sink.written c.args.sink.now))),
+      (λ observed. sym (append-nil (g.K.Sink.written c.args.sink.now))),
     )
 
 pub returns-in_err-write_frames-clause-tried : goal.returns-in_err-write_frames-clause-tried

@@ -13,7 +13,7 @@ loop-rest-preserved g c =
       written = (
         i.written.0 ++ take n c.loop-rest.rest.now,
         i.written.1 ∙ ap (λ (l : List ℕ). i.written.0 ++ l) (cut n c.loop-rest.rest.now) ∙ sym (append_assoc i.written.0 (take n c.loop-rest.rest.now) _),
-        λ tells. c.in_ok-count.ensures.bytes tells ∙ ap (λ (l : List ℕ). l ++ take n c.loop-rest.rest.now) (i.written.2 tells) ∙ append_assoc (g.K.Sink.written c.args.sink.now) i.written.0 (take n c.loop-rest.rest.now),
+        λ observed. c.in_ok-count.ensures.bytes observed ∙ ap (λ (l : List ℕ). l ++ take n c.loop-rest.rest.now) (i.written.2 observed) ∙ append_assoc (g.K.Sink.written c.args.sink.now) i.written.0 (take n c.loop-rest.rest.now),
       );
       sound = c.in_ok-count.ensures.sound ∙ i.sound;
     }

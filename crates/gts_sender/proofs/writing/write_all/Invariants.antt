@@ -4,7 +4,7 @@ use Rattle.gts_sender.proofs.writing.write_all.Given as goal
 -- a front was written, and the rest is left
 abbrev pub invariant-loop-rest : goal.invariant-loop-rest
 invariant-loop-rest g l = record {
-  written : (bytes : List ℕ) × (l.fn.piece ≡ bytes ++ l.rest) × (g.K.Sink.tells → g.K.Sink.written l.sink ≡ g.K.Sink.written l.fn.sink ++ bytes);
+  written : (bytes : List ℕ) × (l.fn.piece ≡ bytes ++ l.rest) × (g.K.Sink.observed → g.K.Sink.written l.sink ≡ g.K.Sink.written l.fn.sink ++ bytes);
   sound : g.K.Sink.faults l.sink ≡ g.K.Sink.faults l.fn.sink;
 }
 

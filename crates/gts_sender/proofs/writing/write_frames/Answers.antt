@@ -5,7 +5,7 @@ use Rattle.gts_sender.proofs.WritingLemmas.{there, one_more, all_of, up_to, fron
 use Rattle.gts_sender.proofs.writing.write_frames.Goals as goal
 
 pub loop-i-init : goal.loop-i-init
-loop-i-init g c = record { at = refl; written = ([], refl, λ tells. sym (append-nil (g.K.Sink.written c.args.sink.now))); sound = refl }
+loop-i-init g c = record { at = refl; written = ([], refl, λ observed. sym (append-nil (g.K.Sink.written c.args.sink.now))); sound = refl }
 
 pub loop-i-preserved : goal.loop-i-preserved
 loop-i-preserved g c =
@@ -20,7 +20,7 @@ loop-i-preserved g c =
       written = (
         texts (take (c.loop-i.i + 1) given),
         refl,
-        λ tells. w.2 tells ∙ ap (λ (l : List ℕ). l ++ w.0) (i.written.2 tells) ∙ append_assoc (g.K.Sink.written c.args.sink.now) i.written.0 w.0
+        λ observed. w.2 observed ∙ ap (λ (l : List ℕ). l ++ w.0) (i.written.2 observed) ∙ append_assoc (g.K.Sink.written c.args.sink.now) i.written.0 w.0
             ∙ ap (λ (l : List ℕ). g.K.Sink.written c.args.sink.now ++ l)
             (ap (λ (l : List ℕ). l ++ w.0) i.written.1 ∙ ap (λ (l : List ℕ). texts (take c.loop-i.i given) ++ l) w.1 ∙ sym (one_more given c.loop-i.i frame within c.frame-index.ensures.frame)),
       );
@@ -36,7 +36,7 @@ returns-in_default-clause-wrote g c =
     let within : c.loop-i.i < length given = there c.args.frames.now c.loop-i.i (omega (arith, c.loop-i-test.true, c.count-i-end.ensures)) in (
       texts (take c.loop-i.i given) ++ w.0,
       up_to given c.loop-i.i frame w.0 within c.frame-index.ensures.frame (front_of c.write_all.result frame.text w.0 w.1),
-      λ tells. w.2 tells ∙ ap (λ (l : List ℕ). l ++ w.0) (i.written.2 tells) ∙ append_assoc (g.K.Sink.written c.args.sink.now) i.written.0 w.0
+      λ observed. w.2 observed ∙ ap (λ (l : List ℕ). l ++ w.0) (i.written.2 observed) ∙ append_assoc (g.K.Sink.written c.args.sink.now) i.written.0 w.0
           ∙ ap (λ (l : List ℕ). g.K.Sink.written c.args.sink.now ++ (l ++ w.0)) i.written.1,
     )
 

@@ -7,6 +7,6 @@ abbrev pub invariant-loop-i : goal.invariant-loop-i
 invariant-loop-i g l = record {
   at : l.at ≡ sizes_of (take l.i l.fn.frames.each);
   written : (bytes : List ℕ) × (bytes ≡ texts (take l.i (frames_of l.fn.frames)))
-      × (g.K.Sink.tells → g.K.Sink.written l.sink ≡ g.K.Sink.written l.fn.sink ++ bytes);
+      × (g.K.Sink.observed → g.K.Sink.written l.sink ≡ g.K.Sink.written l.fn.sink ++ bytes);
   sound : g.K.Sink.faults l.sink ≡ g.K.Sink.faults l.fn.sink;
 }

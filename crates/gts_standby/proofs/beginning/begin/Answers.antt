@@ -94,7 +94,7 @@ returns-clause-begun g c = λ tell told s fed holds read.
         kept = kept_begun written d c.in_ok-core.core n next.gate c.in_ok-core.ensures cp.sound cp.free (omega (arith, cp.room, c.in_ok-put.ensures.gate));
         current = c.in_ok-put.ensures.current;
         ended = c.in_ok-put.ensures.ended;
-        stands = λ tells. c.in_ok-put.ensures.begun tells s (holds.stands tells);
+        stands = λ observed. c.in_ok-put.ensures.begun observed s (holds.stands observed);
       };
       read = subst (λ (a : InFeed). HasRead (drop size fed) a left) (sym c.pass.ensures) (passed fed left ahead size found.1 c.in_ok-behind.ensures.there);
       silent = c.put.ensures.silent tell;

@@ -7,8 +7,8 @@ use Rattle.gts_standby.proofs.beginning.put.Goals as goal
 
 pub write-requires-clause-fits : goal.write-requires-clause-fits
 write-requires-clause-fits g c =
-    let few : c.circuits.result ≤ 64 = c.circuits.ensures.few in
-    fit_bytes c.args.directory.now (need_of c.args.need.now) (omega (arith, few, c.circuits.ensures.value)) c.requires.sound
+    let few : length c.args.directory.now.circuits ≤ 64 = c.bounds_hold.ensures.circuits in
+    fit_bytes c.args.directory.now (need_of c.args.need.now) (omega (arith, few)) c.requires.sound
 
 pub select-requires-clause-stands : goal.select-requires-clause-stands
 select-requires-clause-stands g c = λ tell.
@@ -42,7 +42,7 @@ returns-in-Ok-select-clause-begun g c = λ tell s f.
     let beside : WorksBeside (1 - j.file) old mid = subst (λ (k : ℕ). WorksBeside k old mid) file_is (c.write.ensures.beside tell) in
     let size : length d.mark ≡ 32 = (let long : length c.mark.result ≡ 32 = search rules in ap (λ (mark : List ℕ). length mark) (sym c.mark.ensures) ∙ long) in
     let wrote : HasWritten d.mark n (1 - c.file-other.result) mid = subst (λ (mark : List ℕ). HasWritten mark n (1 - c.file-other.result) mid) c.mark.ensures (c.in-Ok.ensures.written tell) in
-    let limit : d.limit < 256 ^ 4 = omega (arith, c.limit.ensures.value, c.limit.ensures.range.1) in
+    let limit : d.limit < 256 ^ 4 = omega (arith, c.bounds_hold.ensures.greatest) in
     let used : ℕ = 42 + c.seal_size.result + c.args.size in
     let seal : c.seal_size.result ≡ seal_size written = c.seal_size.ensures.value ∙ ap seal_size c.written.ensures in
     let used_is : compacted_bytes written n - 1 + 1 ≡ used = omega (arith, seal, c.requires.size) in
@@ -67,7 +67,7 @@ returns-in-Ok-select-clause-moments g c = λ tell s f.
     let size : length d.mark ≡ 32 = (let long : length c.mark.result ≡ 32 = search rules in ap (λ (mark : List ℕ). length mark) (sym c.mark.ensures) ∙ long) in
     let there : HasWritten c.mark.result n (1 - j.file) mid = subst (λ (k : ℕ). HasWritten c.mark.result n k mid) file_is (c.in-Ok.ensures.written tell) in
     let wrote : HasWritten d.mark n (1 - j.file) mid = subst (λ (mark : List ℕ). HasWritten mark n (1 - j.file) mid) c.mark.ensures there in
-    let limit : d.limit < 256 ^ 4 = omega (arith, c.limit.ensures.value, c.limit.ensures.range.1) in
+    let limit : d.limit < 256 ^ 4 = omega (arith, c.bounds_hold.ensures.greatest) in
     all_moments d s n old j f low mid beside _ _ (holds_begun d n (1 - j.file) mid wrote size limit c.requires.sound c.requires.free c.requires.fits) (g.P.Station.calls c.select.new.station) (c.select.ensures.moments tell)
 
 pub returns-in-Err-clause-moments : goal.returns-in-Err-clause-moments
@@ -83,5 +83,5 @@ returns-in-Err-clause-moments g c = λ tell s f.
     let size : length d.mark ≡ 32 = (let long : length c.mark.result ≡ 32 = search rules in ap (λ (mark : List ℕ). length mark) (sym c.mark.ensures) ∙ long) in
     let there : HasWritten c.mark.result n (1 - j.file) mid = subst (λ (k : ℕ). HasWritten c.mark.result n k mid) file_is (c.in-Ok.ensures.written tell) in
     let wrote : HasWritten d.mark n (1 - j.file) mid = subst (λ (mark : List ℕ). HasWritten mark n (1 - j.file) mid) c.mark.ensures there in
-    let limit : d.limit < 256 ^ 4 = omega (arith, c.limit.ensures.value, c.limit.ensures.range.1) in
+    let limit : d.limit < 256 ^ 4 = omega (arith, c.bounds_hold.ensures.greatest) in
     all_moments d s n old j f low mid beside _ _ (holds_begun d n (1 - j.file) mid wrote size limit c.requires.sound c.requires.free c.requires.fits) (g.P.Station.calls c.select.new.station) (c.select.ensures.moments tell)

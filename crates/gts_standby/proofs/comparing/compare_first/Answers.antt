@@ -9,7 +9,7 @@ use Rattle.gts_standby.proofs.OtherLemmas.{fed_other, own_other, no_other}
 use Rattle.gts_standby.proofs.comparing.compare_first.Goals as goal
 
 pub returns-in_err-size-clause-compared : goal.returns-in_err-size-clause-compared
-returns-in_err-size-clause-compared g c = λ tells told end fed first low read.
+returns-in_err-size-clause-compared g c = λ observed told end fed first low read.
     let d = c.args.directory.now in
     let j = c.args.own.now in
     let old = g.P.Station.calls c.args.station.now in
@@ -19,11 +19,11 @@ returns-in_err-size-clause-compared g c = λ tells told end fed first low read.
     (c.in_err-size.ensures.piece told fed read))
 
 pub returns-in_err-own_first-clause-compared : goal.returns-in_err-own_first-clause-compared
-returns-in_err-own_first-clause-compared g c = λ tells told end fed first low read.
-    rw (returned c.from_residual-in_err-own_first.result c.in_err-own_first.field-0.0 c.from_residual-in_err-own_first.ensures.1) (λ behind. device_stops c.in_err-own_first.field-0.0 (c.in_err-own_first.ensures.on tells end first low) _ _)
+returns-in_err-own_first-clause-compared g c = λ observed told end fed first low read.
+    rw (returned c.from_residual-in_err-own_first.result c.in_err-own_first.field-0.0 c.from_residual-in_err-own_first.ensures.1) (λ behind. device_stops c.in_err-own_first.field-0.0 (c.in_err-own_first.ensures.on observed end first low) _ _)
 
 pub returns-then-not-is_same-clause-compared : goal.returns-then-not-is_same-clause-compared
-returns-then-not-is_same-clause-compared g c = λ tells told end fed first low read behind.
+returns-then-not-is_same-clause-compared g c = λ observed told end fed first low read behind.
     let d = c.args.directory.now in
     let j = c.args.own.now in
     let old = g.P.Station.calls c.args.station.now in
@@ -31,7 +31,7 @@ returns-then-not-is_same-clause-compared g c = λ tells told end fed first low r
     let next = c.own_first.new.own in
     let v = c.version-version.result in
     let array = c.in_ok-size.fed in
-    let one = c.in_ok-own_first.ensures.on tells end first low in
+    let one = c.in_ok-own_first.ensures.on observed end first low in
     let found = c.in_ok-size.ensures.piece told fed read in
     let limited = subst (λ (k : ℕ). first_piece v k (held v c.seal-before.result) fed ≡ Sealed c.in_ok-size.size (held v array)) c.limit-limit.ensures.value found.0 in
     let other : false ≡ pointwise nat_eq (held v c.seal-seal.result) (held v array) = search rules in
@@ -43,7 +43,7 @@ returns-then-not-is_same-clause-compared g c = λ tells told end fed first low r
     (fed_so j v c.seal-before.result array c.version-version.ensures c.seal-before.ensures c.requires.current)
 
 pub returns-clause-compared : goal.returns-clause-compared
-returns-clause-compared g c = λ tells told end fed first low read.
+returns-clause-compared g c = λ observed told end fed first low read.
     let d = c.args.directory.now in
     let j = c.args.own.now in
     let old = g.P.Station.calls c.args.station.now in
@@ -51,7 +51,7 @@ returns-clause-compared g c = λ tells told end fed first low read.
     let next = c.own_first.new.own in
     let v = c.version-version.result in
     let array = c.in_ok-size.fed in
-    let one = c.in_ok-own_first.ensures.on tells end first low in
+    let one = c.in_ok-own_first.ensures.on observed end first low in
     let found = c.in_ok-size.ensures.piece told fed read in
     let limited = subst (λ (k : ℕ). first_piece v k (held v c.seal-before.result) fed ≡ Sealed c.in_ok-size.size (held v array)) c.limit-limit.ensures.value found.0 in
     let same : true ≡ pointwise nat_eq (held v c.seal-seal.result) (held v array) = search rules in

@@ -9,23 +9,23 @@ use Rattle.gts_standby.proofs.OtherLemmas.{fed_other, own_other, later_other}
 use Rattle.gts_standby.proofs.comparing.compare_next.Goals as goal
 
 pub returns-in_err-size-clause-compared : goal.returns-in_err-size-clause-compared
-returns-in_err-size-clause-compared g c = λ tells told d end left fed on low read.
+returns-in_err-size-clause-compared g c = λ observed told d end left fed on low read.
     let j = c.args.own.now in
     rw (returned c.from_residual.result c.in_err-size.field-0.0 c.from_residual.ensures.1)
     (stops_at c.in_err-size.field-0.0 d (g.P.Station.calls c.args.station.now) j c.version-version.result c.seal-before.result end left c.args.index c.args.at fed _ c.version-version.ensures c.seal-before.ensures on low
     (c.in_err-size.ensures.piece told fed read))
 
 pub returns-in_err-own_next-clause-compared : goal.returns-in_err-own_next-clause-compared
-returns-in_err-own_next-clause-compared g c = λ tells told d end left fed on low read.
-    rw (returned c.from_residual-in_err-own_next.result c.in_err-own_next.field-0.0 c.from_residual-in_err-own_next.ensures.1) (λ behind. device_stops c.in_err-own_next.field-0.0 (c.in_err-own_next.ensures.on tells d end left on low) _ _)
+returns-in_err-own_next-clause-compared g c = λ observed told d end left fed on low read.
+    rw (returned c.from_residual-in_err-own_next.result c.in_err-own_next.field-0.0 c.from_residual-in_err-own_next.ensures.1) (λ behind. device_stops c.in_err-own_next.field-0.0 (c.in_err-own_next.ensures.on observed d end left on low) _ _)
 
 pub returns-then-not-is_same-clause-compared : goal.returns-then-not-is_same-clause-compared
-returns-then-not-is_same-clause-compared g c = λ tells told d end left fed on low read behind.
+returns-then-not-is_same-clause-compared g c = λ observed told d end left fed on low read behind.
     let j = c.args.own.now in
     let next = c.own_next.new.own in
     let v = c.version-version.result in
     let array = c.in_ok-size.fed in
-    let one = c.in_ok-own_next.ensures.on tells d end left on low in
+    let one = c.in_ok-own_next.ensures.on observed d end left on low in
     let found = c.in_ok-size.ensures.piece told fed read in
     let other : false ≡ pointwise nat_eq (held v c.seal-seal.result) (held v array) = search rules in
     diverged _ v c.args.index c.seal-seal.result array next.seal (held j.version array) _
@@ -36,12 +36,12 @@ returns-then-not-is_same-clause-compared g c = λ tells told d end left fed on l
     (fed_so j v c.seal-before.result array c.version-version.ensures c.seal-before.ensures c.requires.current)
 
 pub returns-clause-compared : goal.returns-clause-compared
-returns-clause-compared g c = λ tells told d end left fed on low read.
+returns-clause-compared g c = λ observed told d end left fed on low read.
     let j = c.args.own.now in
     let next = c.own_next.new.own in
     let v = c.version-version.result in
     let array = c.in_ok-size.fed in
-    let one = c.in_ok-own_next.ensures.on tells d end left on low in
+    let one = c.in_ok-own_next.ensures.on observed d end left on low in
     let found = c.in_ok-size.ensures.piece told fed read in
     let same : true ≡ pointwise nat_eq (held v c.seal-seal.result) (held v array) = search rules in
     let left_now = g.S.Source.left c.fed_record.new.source in

@@ -16,33 +16,33 @@ loop-alloc-preserved g c =
       count = omega (arith, inv.count, c.in_ok-size.ensures.goes.rises);
       few = omega (arith, inv.count, at_gate, c.loop-alloc-test.true);
       further = omega (arith, inv.further);
-      gone = λ tells told d left fed on read.
-          let so = inv.gone tells told d left fed on read in
+      gone = λ observed told d left fed on read.
+          let so = inv.gone observed told d left fed on read in
           far_on d _ _ c.args.end _ _ j c.compare_next.new.own c.loop-alloc.index c.loop-alloc.at c.in_ok-size.size _ _ _ _ so inv.version
-          (c.in_ok-size.ensures.compared tells told d c.args.end so.rest so.fed so.on (omega (arith, at_gate, c.loop-alloc-test.true)) so.read);
+          (c.in_ok-size.ensures.compared observed told d c.args.end so.rest so.fed so.on (omega (arith, at_gate, c.loop-alloc-test.true)) so.read);
       whole = λ told w. c.in_ok-size.ensures.whole told (inv.whole told w);
-      told = λ tells. c.compare_next.ensures.told tells ∙ inv.told tells;
+      told = λ observed. c.compare_next.ensures.told observed ∙ inv.told observed;
       later = omega (arith, inv.later, c.compare_next.ensures.counts.later);
       say = c.compare_next.ensures.counts.say ∙ inv.say;
       source_later = omega (arith, inv.source_later, c.compare_next.ensures.counts.source_later);
     }
 
 pub returns-in_err-size-clause-compared : goal.returns-in_err-size-clause-compared
-returns-in_err-size-clause-compared g c = λ tells told d left fed on read.
+returns-in_err-size-clause-compared g c = λ observed told d left fed on read.
     let inv = c.loop-alloc.invariant in
     let j = c.loop-alloc.own in
     let at_gate : c.used.result ≡ j.gate = c.used.ensures ∙ ap (λ (b : Bool). cond b (j.gate + 1) j.gate) inv.going in
-    let so = inv.gone tells told d left fed on read in
+    let so = inv.gone observed told d left fed on read in
     rw (returned c.from_residual.result c.in_err-size.field-0.0 c.from_residual.ensures.1)
     (far_stops c.in_err-size.field-0.0 d _ _ c.args.end _ j c.loop-alloc.index c.loop-alloc.at _ _ _ so inv.version
-    (c.in_err-size.ensures.compared tells told d c.args.end so.rest so.fed so.on (omega (arith, at_gate, c.loop-alloc-test.true)) so.read))
+    (c.in_err-size.ensures.compared observed told d c.args.end so.rest so.fed so.on (omega (arith, at_gate, c.loop-alloc-test.true)) so.read))
 
 pub returns-clause-compared : goal.returns-clause-compared
-returns-clause-compared g c = λ tells told d left fed on read.
+returns-clause-compared g c = λ observed told d left fed on read.
     let inv = c.loop-alloc.invariant in
     let j = c.loop-alloc.own in
     let at_gate : c.used.result ≡ j.gate = c.used.ensures ∙ ap (λ (b : Bool). cond b (j.gate + 1) j.gate) inv.going in
-    far_done d _ _ c.args.end _ j c.loop-alloc.index c.loop-alloc.at _ _ (inv.gone tells told d left fed on read) (omega (arith, at_gate, c.loop-alloc-test.false))
+    far_done d _ _ c.args.end _ j c.loop-alloc.index c.loop-alloc.at _ _ (inv.gone observed told d left fed on read) (omega (arith, at_gate, c.loop-alloc-test.false))
 
 pub returns-clause-place : goal.returns-clause-place
 returns-clause-place g c =

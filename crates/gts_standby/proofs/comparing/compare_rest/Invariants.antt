@@ -8,17 +8,17 @@ abbrev pub invariant-loop-alloc : goal.invariant-loop-alloc
 invariant-loop-alloc g l = record {
   going : l.own.ended ≡ false;
   version : l.own.version ≡ l.fn.own.version;
-  stands : g.P.Station.tells → StandsOn (g.P.Station.calls l.station) l.own;
+  stands : g.P.Station.observed → StandsOn (g.P.Station.calls l.station) l.own;
   place : l.at ≤ 2 ^ 32 + l.index * 2 ^ 20;
   count : l.index ≤ l.own.gate + 1;
   few : l.index ≤ l.end + 1;
   further : 1 ≤ l.index;
-  gone : g.P.Station.tells → g.S.Source.tells → (d : Directory) (left : List (List ℕ)) (fed : List ℕ)
+  gone : g.P.Station.observed → g.S.Source.observed → (d : Directory) (left : List (List ℕ)) (fed : List ℕ)
       → IsAtSeals d (g.P.Station.calls l.fn.station) l.fn.own l.end left → HasRead fed l.fn.ahead (g.S.Source.left l.fn.source)
       → HasGoneFar d l.fn.own.version (λ behind. compare_all l.fn.own.version behind left l.fn.own.seal 1 l.initial.at fed) l.end
       (g.P.Station.calls l.station) l.own l.index l.at l.ahead (g.S.Source.left l.source);
-  whole : g.S.Source.tells → IsWhole l.fn.ahead (g.S.Source.left l.fn.source) → IsWhole l.ahead (g.S.Source.left l.source);
-  told : g.P.Station.tells → g.P.Station.calls l.station ≡ g.P.Station.calls l.fn.station;
+  whole : g.S.Source.observed → IsWhole l.fn.ahead (g.S.Source.left l.fn.source) → IsWhole l.ahead (g.S.Source.left l.source);
+  told : g.P.Station.observed → g.P.Station.calls l.station ≡ g.P.Station.calls l.fn.station;
   later : g.P.Station.disk_faults l.fn.station ≤ g.P.Station.disk_faults l.station;
   say : g.P.Station.say_faults l.station ≡ g.P.Station.say_faults l.fn.station;
   source_later : g.S.Source.faults l.fn.source ≤ g.S.Source.faults l.source;

@@ -6,69 +6,69 @@ use Rattle.gts_standby.proofs.NamedLemmas.{named_open, named_fed}
 use Rattle.gts_standby.proofs.following.take_feed.Goals as goal
 
 pub returns-in-Ok-take_header-clause-answer : goal.returns-in-Ok-take_header-clause-answer
-returns-in-Ok-take_header-clause-answer g c = λ tells told.
+returns-in-Ok-take_header-clause-answer g c = λ observed told.
     let d = c.args.directory.now in
     let o = c.in-Ok.ensures.opened in
     let j = c.in-Ok.opened.1 in
     let fed = g.S.Source.left c.args.source.now in
     let read : HasRead fed c.new-ahead.result fed = subst (λ (a : InFeed). HasRead fed a fed) (sym c.new-ahead.ensures) (all_unread fed) in
-    let synced = c.in-Ok.ensures.synced tells in
-    let f = o.stands tells in
+    let synced = c.in-Ok.ensures.synced observed in
+    let f = o.stands observed in
     let header = c.in-Ok-take_header.ensures.taken told fed read in
-    let has = c.take_records.ensures.taken tells told o.state (drop 40 fed) (holds_of _ d _ _ j o) header.1 in
+    let has = c.take_records.ensures.taken observed told o.state (drop 40 fed) (holds_of _ d _ _ j o) header.1 in
     let whole = behind_taken d _ _ j o.state fed synced f c.take_records.result c.mark.result _ _ c.mark.ensures header.0 has in
     answers_there d _ _ j o.state fed synced f c.take_records.result _ _ whole
 
 pub returns-in-Ok-take_header-clause-added : goal.returns-in-Ok-take_header-clause-added
-returns-in-Ok-take_header-clause-added g c = λ tells told.
+returns-in-Ok-take_header-clause-added g c = λ observed told.
     let d = c.args.directory.now in
     let o = c.in-Ok.ensures.opened in
     let j = c.in-Ok.opened.1 in
     let fed = g.S.Source.left c.args.source.now in
     let read : HasRead fed c.new-ahead.result fed = subst (λ (a : InFeed). HasRead fed a fed) (sym c.new-ahead.ensures) (all_unread fed) in
-    let synced = c.in-Ok.ensures.synced tells in
-    let f = o.stands tells in
+    let synced = c.in-Ok.ensures.synced observed in
+    let f = o.stands observed in
     let header = c.in-Ok-take_header.ensures.taken told fed read in
-    let has = c.take_records.ensures.taken tells told o.state (drop 40 fed) (holds_of _ d _ _ j o) header.1 in
+    let has = c.take_records.ensures.taken observed told o.state (drop 40 fed) (holds_of _ d _ _ j o) header.1 in
     let whole = behind_taken d _ _ j o.state fed synced f c.take_records.result c.mark.result _ _ c.mark.ensures header.0 has in
     record { opened = added_there d _ _ j o.state fed synced f c.take_records.result _ _ whole; reads = reads_after_there d _ _ j o.state fed synced f c.take_records.result _ _ whole }
 
 pub returns-in-Ok-take_header-clause-moments : goal.returns-in-Ok-take_header-clause-moments
-returns-in-Ok-take_header-clause-moments g c = λ tells told s used last taken reads comes.
+returns-in-Ok-take_header-clause-moments g c = λ observed told s used last taken reads comes.
     let d = c.args.directory.now in
     let o = c.in-Ok.ensures.opened in
     let j = c.in-Ok.opened.1 in
     let fed = g.S.Source.left c.args.source.now in
     let read : HasRead fed c.new-ahead.result fed = subst (λ (a : InFeed). HasRead fed a fed) (sym c.new-ahead.ensures) (all_unread fed) in
-    let synced = c.in-Ok.ensures.synced tells in
-    let f = o.stands tells in
+    let synced = c.in-Ok.ensures.synced observed in
+    let f = o.stands observed in
     let header = c.in-Ok-take_header.ensures.taken told fed read in
-    let has = c.take_records.ensures.taken tells told o.state (drop 40 fed) (holds_of _ d _ _ j o) header.1 in
+    let has = c.take_records.ensures.taken observed told o.state (drop 40 fed) (holds_of _ d _ _ j o) header.1 in
     let whole = behind_taken d _ _ j o.state fed synced f c.take_records.result c.mark.result _ _ c.mark.ensures header.0 has in
     moments_there d _ _ j o.state fed synced f c.take_records.result _ _ whole s used last taken reads comes
 
 pub returns-in-Err-take_header-clause-answer : goal.returns-in-Err-take_header-clause-answer
-returns-in-Err-take_header-clause-answer g c = λ tells told.
+returns-in-Err-take_header-clause-answer g c = λ observed told.
     let d = c.args.directory.now in
     let o = c.in-Ok.ensures.opened in
     let j = c.in-Ok.opened.1 in
     let fed = g.S.Source.left c.args.source.now in
     let read : HasRead fed c.new-ahead.result fed = subst (λ (a : InFeed). HasRead fed a fed) (sym c.new-ahead.ensures) (all_unread fed) in
-    let synced = c.in-Ok.ensures.synced tells in
-    let f = o.stands tells in
+    let synced = c.in-Ok.ensures.synced observed in
+    let f = o.stands observed in
     let header = c.in-Err-take_header.ensures.taken told fed read in
     let whole = header_taken d _ _ j o.state fed synced f c.in-Err-take_header.end c.mark.result _ c.mark.ensures header in
     answers_there d _ _ j o.state fed synced f c.in-Err-take_header.end _ _ whole
 
 pub returns-in-Err-take_header-clause-added : goal.returns-in-Err-take_header-clause-added
-returns-in-Err-take_header-clause-added g c = λ tells told.
+returns-in-Err-take_header-clause-added g c = λ observed told.
     let d = c.args.directory.now in
     let o = c.in-Ok.ensures.opened in
     let j = c.in-Ok.opened.1 in
     let fed = g.S.Source.left c.args.source.now in
     let read : HasRead fed c.new-ahead.result fed = subst (λ (a : InFeed). HasRead fed a fed) (sym c.new-ahead.ensures) (all_unread fed) in
-    let synced = c.in-Ok.ensures.synced tells in
-    let f = o.stands tells in
+    let synced = c.in-Ok.ensures.synced observed in
+    let f = o.stands observed in
     let header = c.in-Err-take_header.ensures.taken told fed read in
     let whole = header_taken d _ _ j o.state fed synced f c.in-Err-take_header.end c.mark.result _ c.mark.ensures header in
     record { opened = added_there d _ _ j o.state fed synced f c.in-Err-take_header.end _ _ whole; reads = reads_after_there d _ _ j o.state fed synced f c.in-Err-take_header.end _ _ whole }
@@ -93,23 +93,23 @@ pub returns-in-Err-take_header-clause-named : goal.returns-in-Err-take_header-cl
 returns-in-Err-take_header-clause-named g c = named_fed c.in-Err-take_header.end c.in-Err-take_header.ensures.kind
 
 pub returns-in-Err-clause-refused : goal.returns-in-Err-clause-refused
-returns-in-Err-clause-refused g c = λ tells told. rw c.from.ensures (open_alone c.in-Err.fault _ _ _ (c.open_core.ensures.told tells) refl)
+returns-in-Err-clause-refused g c = λ observed told. rw c.from.ensures (open_alone c.in-Err.fault _ _ _ (c.open_core.ensures.told observed) refl)
 
 pub returns-in-Ok-take_header-clause-refused : goal.returns-in-Ok-take_header-clause-refused
-returns-in-Ok-take_header-clause-refused g c = λ tells told.
+returns-in-Ok-take_header-clause-refused g c = λ observed told.
     let d = c.args.directory.now in
     let o = c.in-Ok.ensures.opened in
     let j = c.in-Ok.opened.1 in
     let fed = g.S.Source.left c.args.source.now in
     let read : HasRead fed c.new-ahead.result fed = subst (λ (a : InFeed). HasRead fed a fed) (sym c.new-ahead.ensures) (all_unread fed) in
     let header = c.in-Ok-take_header.ensures.taken told fed read in
-    let has = c.take_records.ensures.taken tells told o.state (drop 40 fed) (holds_of _ d _ _ j o) header.1 in
+    let has = c.take_records.ensures.taken observed told o.state (drop 40 fed) (holds_of _ d _ _ j o) header.1 in
     taken_alone c.take_records.result _ _ _ has.kind
 
 pub returns-in-Err-take_header-clause-refused : goal.returns-in-Err-take_header-clause-refused
-returns-in-Err-take_header-clause-refused g c = λ tells told. fed_alone c.in-Err-take_header.end _ _ _ c.in-Err-take_header.ensures.kind
+returns-in-Err-take_header-clause-refused g c = λ observed told. fed_alone c.in-Err-take_header.end _ _ _ c.in-Err-take_header.ensures.kind
 
 pub returns-in-Err-clause-added : goal.returns-in-Err-clause-added
-returns-in-Err-clause-added g c = λ tells told.
+returns-in-Err-clause-added g c = λ observed told.
     let none : IsEnd c.from.result → ⊥ = λ e. open_no_end c.in-Err.fault (subst IsEnd c.from.ensures e) in
     record { opened = λ s used last taken reads comes e. absurd (none e); reads = λ read taken reads comes e. absurd (none e) }

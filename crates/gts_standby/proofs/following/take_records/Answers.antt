@@ -7,57 +7,57 @@ use Rattle.gts_standby.specs.Reading.{is_other}
 use Rattle.gts_standby.proofs.following.take_records.Goals as goal
 
 pub returns-then-end-clause-taken : goal.returns-then-end-clause-taken
-returns-then-end-clause-taken g c = λ tells told s fed h read.
+returns-then-end-clause-taken g c = λ observed told s fed h read.
     let d = c.args.directory.now in
     let j = c.args.journal in
-    let f = h.stands tells in
+    let f = h.stands observed in
     let gate = gate_so c.used-end.result j c.used-end.ensures h.ended in
     let here : c.used-end.result - 1 ≤ 40 = search rules in
     let low : j.gate ≤ 40 = omega (arith, gate, here) in
-    first_taken c.take_first.result d s _ _ j fed _ f low (c.take_first.ensures.taken tells told s fed h (first_there d s _ j f low) read)
+    first_taken c.take_first.result d s _ _ j fed _ f low (c.take_first.ensures.taken observed told s fed h (first_there d s _ j f low) read)
 
 pub add_all-requires-clause-opened : goal.add_all-requires-clause-opened
 add_all-requires-clause-opened g c = opened_kept _ c.args.directory.now _ _ c.args.core c.args.journal (λ tell. c.compare.ensures.told tell) c.requires
 
 pub returns-in-Ok-clause-taken : goal.returns-in-Ok-clause-taken
-returns-in-Ok-clause-taken g c = λ tells told s fed h read.
+returns-in-Ok-clause-taken g c = λ observed told s fed h read.
     let d = c.args.directory.now in
     let j = c.args.journal in
-    let f = h.stands tells in
+    let f = h.stands observed in
     let gate = gate_so c.used-end.result j c.used-end.ensures h.ended in
     let here : 40 < c.used-end.result - 1 = search rules in
     let low : 40 < j.gate = omega (arith, gate, here) in
-    let compared = c.in-Ok.ensures.compared tells told s j fed f (sym gate) read in
+    let compared = c.in-Ok.ensures.compared observed told s j fed f (sym gate) read in
     let holds = holds_kept _ d s _ _ c.args.core j (λ tell. c.compare.ensures.told tell) h in
-    goes_compared d s _ _ j fed f (c.compare.ensures.told tells) low c.add_all.result _ c.in-Ok.at compared.0 _ compared.1 c.add_all.ensures.kind
-    (c.add_all.ensures.added tells told s compared.0 (length compared.0) holds compared.2 (omega arith))
+    goes_compared d s _ _ j fed f (c.compare.ensures.told observed) low c.add_all.result _ c.in-Ok.at compared.0 _ compared.1 c.add_all.ensures.kind
+    (c.add_all.ensures.added observed told s compared.0 (length compared.0) holds compared.2 (omega arith))
 
 pub returns-then-not-is_other-clause-taken : goal.returns-then-not-is_other-clause-taken
-returns-then-not-is_other-clause-taken g c = λ tells told s fed h read.
+returns-then-not-is_other-clause-taken g c = λ observed told s fed h read.
     let d = c.args.directory.now in
     let j = c.args.journal in
-    let f = h.stands tells in
+    let f = h.stands observed in
     let gate = gate_so c.used-end.result j c.used-end.ensures h.ended in
     let here : 40 < c.used-end.result - 1 = search rules in
     let low : 40 < j.gate = omega (arith, gate, here) in
     let same : is_other c.in-Err.end ≡ false = search rules in
-    ends_compared d s _ _ j fed f (c.compare.ensures.told tells) low c.in-Err.end _ same (c.in-Err.ensures.compared tells told s j fed f (sym gate) read)
+    ends_compared d s _ _ j fed f (c.compare.ensures.told observed) low c.in-Err.end _ same (c.in-Err.ensures.compared observed told s j fed f (sym gate) read)
 
 pub take_other-requires-clause-opened : goal.take_other-requires-clause-opened
 take_other-requires-clause-opened g c = opened_kept _ c.args.directory.now _ _ c.args.core c.args.journal (λ tell. c.compare.ensures.told tell) c.requires
 
 pub returns-else-not-is_other-clause-taken : goal.returns-else-not-is_other-clause-taken
-returns-else-not-is_other-clause-taken g c = λ tells told s fed h read.
+returns-else-not-is_other-clause-taken g c = λ observed told s fed h read.
     let d = c.args.directory.now in
     let j = c.args.journal in
-    let f = h.stands tells in
+    let f = h.stands observed in
     let gate = gate_so c.used-end.result j c.used-end.ensures h.ended in
     let here : 40 < c.used-end.result - 1 = search rules in
     let low : 40 < j.gate = omega (arith, gate, here) in
     let other : is_other c.in-Err.end ≡ true = search rules in
     let holds = holds_kept _ d s _ _ c.args.core j (λ tell. c.compare.ensures.told tell) h in
-    other_compared d s _ _ j fed f (c.compare.ensures.told tells) low c.in-Err.end c.take_other.result _ _ _ other (c.in-Err.ensures.compared tells told s j fed f (sym gate) read)
-    (λ end is. c.take_other.ensures.taken tells told s fed end holds (c.in-Err.ensures.kept told fed read other) is)
+    other_compared d s _ _ j fed f (c.compare.ensures.told observed) low c.in-Err.end c.take_other.result _ _ _ other (c.in-Err.ensures.compared observed told s j fed f (sym gate) read)
+    (λ end is. c.take_other.ensures.taken observed told s fed end holds (c.in-Err.ensures.kept told fed read other) is)
 
 pub returns-then-end-clause-whole : goal.returns-then-end-clause-whole
 returns-then-end-clause-whole g c = λ told w. c.take_first.ensures.whole told w

@@ -7,7 +7,7 @@ abbrev pub invariant-loop-at : goal.invariant-loop-at
 invariant-loop-at g l = record {
   begun : l.from ≤ l.at;
   inside : l.at ≤ l.to;
-  says : g.P.Station.tells → SaysHere (g.P.Station.calls l.fn.station) (g.P.Station.calls l.station) (take (l.at - l.from) (drop l.from (seen (g.P.Station.calls l.fn.station) l.file)));
+  says : g.P.Station.observed → SaysHere (g.P.Station.calls l.fn.station) (g.P.Station.calls l.station) (take (l.at - l.from) (drop l.from (seen (g.P.Station.calls l.fn.station) l.file)));
   later : g.P.Station.disk_faults l.fn.station ≤ g.P.Station.disk_faults l.station;
   say : g.P.Station.say_faults l.fn.station ≤ g.P.Station.say_faults l.station;
 }

@@ -6,8 +6,8 @@ use Rattle.gts_standby.proofs.records.say_records.Given as goal
 abbrev pub invariant-loop-station : goal.invariant-loop-station
 invariant-loop-station g l = record {
   going : l.journal.ended ≡ false;
-  stands : g.P.Station.tells → StandsOn (g.P.Station.calls l.station) l.journal;
-  said : g.P.Station.tells → (d : Directory) (left : List ℕ) → IsAtGate d (g.P.Station.calls l.fn.station) l.fn.journal l.end left
+  stands : g.P.Station.observed → StandsOn (g.P.Station.calls l.station) l.journal;
+  said : g.P.Station.observed → (d : Directory) (left : List ℕ) → IsAtGate d (g.P.Station.calls l.fn.station) l.fn.journal l.end left
       → GoesOnBehind d (g.P.Station.calls l.fn.station) (g.P.Station.calls l.station) l.journal l.end left;
   later : g.P.Station.disk_faults l.fn.station ≤ g.P.Station.disk_faults l.station;
   say : g.P.Station.say_faults l.fn.station ≤ g.P.Station.say_faults l.station;

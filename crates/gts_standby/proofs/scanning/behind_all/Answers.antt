@@ -8,26 +8,26 @@ pub loop-left-preserved : goal.loop-left-preserved
 loop-left-preserved g c =
     let inv = c.loop-left.invariant in
     record {
-      gone = λ tells fed read. (c.in_ok-at.ensures.reached tells fed (inv.gone tells fed read)).1;
-      same = λ tells fed read.
-          inv.same tells fed read
+      gone = λ observed fed read. (c.in_ok-at.ensures.reached observed fed (inv.gone observed fed read)).1;
+      same = λ observed fed read.
+          inv.same observed fed read
           ∙ all_on (behind_listed c.args.listed c.args.limit fed) c.loop-left.left c.loop-left.at c.in_ok-at.at (omega (arith, c.loop-left-test.true))
-          (c.in_ok-at.ensures.reached tells fed (inv.gone tells fed read)).0;
+          (c.in_ok-at.ensures.reached observed fed (inv.gone observed fed read)).0;
       place = c.in_ok-at.ensures.there.1;
       there = c.in_ok-at.ensures.there.0;
       later = omega (arith, inv.later, c.behind_one.ensures.later);
     }
 
 pub returns-in_err-at-clause-reached : goal.returns-in_err-at-clause-reached
-returns-in_err-at-clause-reached g c = λ tells fed read.
+returns-in_err-at-clause-reached g c = λ observed fed read.
     let inv = c.loop-left.invariant in
     let end = c.in_err-at.field-0.0 in
     let one : ℕ → feeds.Reached = behind_listed c.args.listed c.args.limit fed in
     reaches_err c.from_residual.result end (feeds.behind_all one c.loop-left.left c.loop-left.at) (feeds.behind_all one c.args.count c.args.at) fed
-    c.behind_one.new.ahead (g.S.Source.left c.behind_one.new.source) c.from_residual.ensures.1 (inv.same tells fed read)
-    (all_end end one c.loop-left.left c.loop-left.at fed _ _ (omega (arith, c.loop-left-test.true)) (c.in_err-at.ensures.reached tells fed (inv.gone tells fed read)))
+    c.behind_one.new.ahead (g.S.Source.left c.behind_one.new.source) c.from_residual.ensures.1 (inv.same observed fed read)
+    (all_end end one c.loop-left.left c.loop-left.at fed _ _ (omega (arith, c.loop-left-test.true)) (c.in_err-at.ensures.reached observed fed (inv.gone observed fed read)))
 
 pub returns-clause-reached : goal.returns-clause-reached
-returns-clause-reached g c = λ tells fed read.
+returns-clause-reached g c = λ observed fed read.
     let inv = c.loop-left.invariant in
-    (inv.same tells fed read ∙ all_done (behind_listed c.args.listed c.args.limit fed) c.loop-left.left c.loop-left.at (omega (arith, c.loop-left-test.false)), inv.gone tells fed read)
+    (inv.same observed fed read ∙ all_done (behind_listed c.args.listed c.args.limit fed) c.loop-left.left c.loop-left.at (omega (arith, c.loop-left-test.false)), inv.gone observed fed read)

@@ -6,8 +6,8 @@ use Rattle.gts_standby.proofs.scanning.behind_all.Given as goal
 -- so many were passed
 abbrev pub invariant-loop-left : goal.invariant-loop-left
 invariant-loop-left g l = record {
-  gone : g.S.Source.tells → (fed : List ℕ) → HasRead fed l.fn.ahead (g.S.Source.left l.fn.source) → HasRead fed l.ahead (g.S.Source.left l.source);
-  same : g.S.Source.tells → (fed : List ℕ) → HasRead fed l.fn.ahead (g.S.Source.left l.fn.source)
+  gone : g.S.Source.observed → (fed : List ℕ) → HasRead fed l.fn.ahead (g.S.Source.left l.fn.source) → HasRead fed l.ahead (g.S.Source.left l.source);
+  same : g.S.Source.observed → (fed : List ℕ) → HasRead fed l.fn.ahead (g.S.Source.left l.fn.source)
       → feeds.behind_all (behind_listed l.listed l.limit fed) l.count l.initial.at ≡ feeds.behind_all (behind_listed l.listed l.limit fed) l.left l.at;
   place : l.at ≤ l.limit;
   there : l.at ≤ length l.ahead.bytes;

@@ -5,8 +5,8 @@ use Rattle.gts_standby.proofs.ScanLemmas.{or_else_read, reaches_same}
 use Rattle.gts_standby.proofs.scanning.scan.Goals as goal
 
 pub returns-in-None-clause-reached : goal.returns-in-None-clause-reached
-returns-in-None-clause-reached g c = λ tells fed read.
-    let now = c.in_ok-fill.ensures.kept tells fed read in
+returns-in-None-clause-reached g c = λ observed fed read.
+    let now = c.in_ok-fill.ensures.kept observed fed read in
     let limit = c.args.limit in
     let front : List ℕ = feeds.or_else feeds.least_front fed 0 in
     let same : feeds.or_else feeds.least_front c.bytes.result.now 0 ≡ front =
@@ -15,8 +15,8 @@ returns-in-None-clause-reached g c = λ tells fed read.
     (ap (λ (b : Bool). cond b (feeds.behind_counted limit fed (feeds.number_at front 16) (feeds.number_at front 4)) feeds.Bad) other, refl)
 
 pub returns-in-Some-clause-reached : goal.returns-in-Some-clause-reached
-returns-in-Some-clause-reached g c = λ tells fed read.
-    let now = c.in_ok-fill.ensures.kept tells fed read in
+returns-in-Some-clause-reached g c = λ observed fed read.
+    let now = c.in_ok-fill.ensures.kept observed fed read in
     let limit = c.args.limit in
     let front : List ℕ = feeds.or_else feeds.least_front fed 0 in
     let same : feeds.or_else feeds.least_front c.bytes.result.now 0 ≡ front =
@@ -28,4 +28,4 @@ returns-in-Some-clause-reached g c = λ tells fed read.
     reaches_same c.behind_lists.result (feeds.behind_counted limit fed c.in-Some.bulletins c.in-Some.circuits) (feeds.behind_checkpoint limit fed) fed c.behind_lists.new.ahead (g.S.Source.left c.behind_lists.new.source)
     (ap (λ (b : Bool). cond b (feeds.behind_counted limit fed (feeds.number_at front 16) (feeds.number_at front 4)) feeds.Bad) is
     ∙ ap (λ (k : ℕ). feeds.behind_counted limit fed k (feeds.number_at front 4)) bulletins ∙ ap (feeds.behind_counted limit fed c.in-Some.bulletins) circuits)
-    (c.behind_lists.ensures.reached tells fed now)
+    (c.behind_lists.ensures.reached observed fed now)

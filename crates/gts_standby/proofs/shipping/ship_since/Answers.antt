@@ -6,26 +6,26 @@ use Rattle.gts_standby.proofs.SinceLemmas.{rest_since, rest_whole, looked_quietl
 use Rattle.gts_standby.proofs.shipping.ship_since.Goals as goal
 
 pub returns-in_err-open_core-clause-fault : goal.returns-in_err-open_core-clause-fault
-returns-in_err-open_core-clause-fault g c = λ tells.
+returns-in_err-open_core-clause-fault g c = λ observed.
     let d = c.args.directory.now in
     let old = g.P.Station.calls c.args.station.now in
     let new = g.P.Station.calls c.open_core.new.station in
     rw (returned c.from_residual.result (ship_fault c.in_err-open_core.field-0.0) c.from_residual.ensures.1)
-    (open_answer d old new c.in_err-open_core.field-0.0 (since_of d old c.args.since.now) (c.in_err-open_core.ensures.told tells) (c.in_err-open_core.ensures.fault tells))
+    (open_answer d old new c.in_err-open_core.field-0.0 (since_of d old c.args.since.now) (c.in_err-open_core.ensures.told observed) (c.in_err-open_core.ensures.fault observed))
 
 pub returns-in_err-journal-clause-fault : goal.returns-in_err-journal-clause-fault
-returns-in_err-journal-clause-fault g c = λ tells.
+returns-in_err-journal-clause-fault g c = λ observed.
     let d = c.args.directory.now in
     let old = g.P.Station.calls c.args.station.now in
     let mid = g.P.Station.calls c.open_core.new.station in
     let new = g.P.Station.calls c.start.new.station in
     let o = c.in_ok-open_core.ensures.opened in
-    let quiet = quiet_start c.in_err-journal.field-0.0 (first_fault c.mark.result (seen mid)) (c.in_err-journal.ensures.fault tells) (λ f is. no_header_fault d mid c.in_ok-open_core.field-0.1 o.state c.mark.result f (o.stands tells) o.current c.mark.ensures is) in
+    let quiet = quiet_start c.in_err-journal.field-0.0 (first_fault c.mark.result (seen mid)) (c.in_err-journal.ensures.fault observed) (λ f is. no_header_fault d mid c.in_ok-open_core.field-0.1 o.state c.mark.result f (o.stands observed) o.current c.mark.ensures is) in
     rw (returned c.from_residual-in_err-journal.result (ship_fault c.in_err-journal.field-0.0) c.from_residual-in_err-journal.ensures.1)
-    (not_started d old mid new (ship_fault c.in_err-journal.field-0.0) (since_of d old c.args.since.now) (synced_quiet old mid (c.in_ok-open_core.ensures.synced tells)) (c.in_err-journal.ensures.told tells) quiet)
+    (not_started d old mid new (ship_fault c.in_err-journal.field-0.0) (since_of d old c.args.since.now) (synced_quiet old mid (c.in_ok-open_core.ensures.synced observed)) (c.in_err-journal.ensures.told observed) quiet)
 
 pub look_for-requires-clause-first : goal.look_for-requires-clause-first
-look_for-requires-clause-first g c = λ tells.
+look_for-requires-clause-first g c = λ observed.
     let d = c.args.directory.now in
     let old = g.P.Station.calls c.args.station.now in
     let mid = g.P.Station.calls c.open_core.new.station in
@@ -36,11 +36,11 @@ look_for-requires-clause-first g c = λ tells.
     let end : c.used-end.result - 1 ≡ opened.gate =
     (let u : c.used-end.result ≡ opened.gate + 1 = c.used-end.ensures ∙ ap (λ (b : Bool). cond b (opened.gate + 1) opened.gate) o.ended in omega (arith, u)) in
     subst (λ (k : ℕ). IsAtFirst d now j k) (sym end)
-    (at_first d old mid now opened j o.state c.mark.result (c.in_ok-open_core.ensures.synced tells) (c.in_ok-journal.ensures.synced tells) (o.stands tells) o.current c.mark.ensures c.in_ok-journal.ensures.begins.0 c.in_ok-journal.ensures.version
-    c.in_ok-journal.ensures.seal (c.in_ok-journal.ensures.stands tells) (c.in_ok-journal.ensures.fault tells) (c.in_ok-journal.ensures.checkpoint tells))
+    (at_first d old mid now opened j o.state c.mark.result (c.in_ok-open_core.ensures.synced observed) (c.in_ok-journal.ensures.synced observed) (o.stands observed) o.current c.mark.ensures c.in_ok-journal.ensures.begins.0 c.in_ok-journal.ensures.version
+    c.in_ok-journal.ensures.seal (c.in_ok-journal.ensures.stands observed) (c.in_ok-journal.ensures.fault observed) (c.in_ok-journal.ensures.checkpoint observed))
 
 pub returns-in_err-look_for-clause-fault : goal.returns-in_err-look_for-clause-fault
-returns-in_err-look_for-clause-fault g c = λ tells.
+returns-in_err-look_for-clause-fault g c = λ observed.
     let d = c.args.directory.now in
     let old = g.P.Station.calls c.args.station.now in
     let mid = g.P.Station.calls c.open_core.new.station in
@@ -48,10 +48,10 @@ returns-in_err-look_for-clause-fault g c = λ tells.
     let look = g.P.Station.calls c.look_for.new.station in
     rw (returned c.from_residual-in_err-look_for.result c.in_err-look_for.field-0.0 c.from_residual-in_err-look_for.ensures.1)
     (failed_quietly d old look c.in_err-look_for.field-0.0 (since_of d old c.args.since.now)
-    (looked_quietly old mid now look (c.in_ok-open_core.ensures.synced tells) (c.in_ok-journal.ensures.synced tells) (c.in_err-look_for.ensures.told tells)) (c.in_err-look_for.ensures.found tells))
+    (looked_quietly old mid now look (c.in_ok-open_core.ensures.synced observed) (c.in_ok-journal.ensures.synced observed) (c.in_err-look_for.ensures.told observed)) (c.in_err-look_for.ensures.found observed))
 
 pub returns-then-branch-clause-said : goal.returns-then-branch-clause-said
-returns-then-branch-clause-said g c = λ tells.
+returns-then-branch-clause-said g c = λ observed.
     let d = c.args.directory.now in
     let old = g.P.Station.calls c.args.station.now in
     let mid = g.P.Station.calls c.open_core.new.station in
@@ -59,30 +59,30 @@ returns-then-branch-clause-said g c = λ tells.
     let look = g.P.Station.calls c.look_for.new.station in
     let new = g.P.Station.calls c.say_records.new.station in
     let o = c.in_ok-open_core.ensures.opened in
-    let first = c.in_ok-open_core.ensures.synced tells in
-    let second = c.in_ok-journal.ensures.synced tells in
+    let first = c.in_ok-open_core.ensures.synced observed in
+    let second = c.in_ok-journal.ensures.synced observed in
     let on : c.in_ok-look_for.field-0 ≡ true = search rules in
-    says_opened c.say_records.result d old now new (need d (restarted d o.state)) (since_of d old c.args.since.now) (opened_to d old mid c.in_ok-open_core.field-0.1 o.state first (o.stands tells) o.current) (twice_quiet old mid now first second)
+    says_opened c.say_records.result d old now new (need d (restarted d o.state)) (since_of d old c.args.since.now) (opened_to d old mid c.in_ok-open_core.field-0.1 o.state first (o.stands observed) o.current) (twice_quiet old mid now first second)
     (rest_since c.say_records.result d old mid now look new c.in_ok-journal.journal c.look_for.new.journal c.args.since.now (c.used-end.result - 1) c.in_ok-look_for.field-0 first second c.in_ok-journal.ensures.version
-    (c.in_ok-journal.ensures.stands tells) (c.in_ok-look_for.ensures.told tells) on (c.in_ok-look_for.ensures.found tells) (c.say_records.ensures.said tells d))
+    (c.in_ok-journal.ensures.stands observed) (c.in_ok-look_for.ensures.told observed) on (c.in_ok-look_for.ensures.found observed) (c.say_records.ensures.said observed d))
 
 pub returns-then-branch-clause-fault : goal.returns-then-branch-clause-fault
-returns-then-branch-clause-fault g c = λ tells.
+returns-then-branch-clause-fault g c = λ observed.
     let d = c.args.directory.now in
     let old = g.P.Station.calls c.args.station.now in
     let mid = g.P.Station.calls c.open_core.new.station in
     let now = g.P.Station.calls c.start.new.station in
     let look = g.P.Station.calls c.look_for.new.station in
     let new = g.P.Station.calls c.say_records.new.station in
-    let first = c.in_ok-open_core.ensures.synced tells in
-    let second = c.in_ok-journal.ensures.synced tells in
+    let first = c.in_ok-open_core.ensures.synced observed in
+    let second = c.in_ok-journal.ensures.synced observed in
     let on : c.in_ok-look_for.field-0 ≡ true = search rules in
     breaks_opened c.say_records.result d old now new (since_of d old c.args.since.now) (twice_quiet old mid now first second)
     (rest_since c.say_records.result d old mid now look new c.in_ok-journal.journal c.look_for.new.journal c.args.since.now (c.used-end.result - 1) c.in_ok-look_for.field-0 first second c.in_ok-journal.ensures.version
-    (c.in_ok-journal.ensures.stands tells) (c.in_ok-look_for.ensures.told tells) on (c.in_ok-look_for.ensures.found tells) (c.say_records.ensures.said tells d))
+    (c.in_ok-journal.ensures.stands observed) (c.in_ok-look_for.ensures.told observed) on (c.in_ok-look_for.ensures.found observed) (c.say_records.ensures.said observed d))
 
 pub returns-in_err-whole-clause-fault : goal.returns-in_err-whole-clause-fault
-returns-in_err-whole-clause-fault g c = λ tells.
+returns-in_err-whole-clause-fault g c = λ observed.
     let d = c.args.directory.now in
     let old = g.P.Station.calls c.args.station.now in
     let mid = g.P.Station.calls c.open_core.new.station in
@@ -91,16 +91,16 @@ returns-in_err-whole-clause-fault g c = λ tells.
     let new = g.P.Station.calls c.start-2.new.station in
     let o = c.in_ok-open_core.ensures.opened in
     let opened = c.in_ok-open_core.field-0.1 in
-    let first = c.in_ok-open_core.ensures.synced tells in
-    let second = c.in_ok-journal.ensures.synced tells in
-    let told = c.in_ok-look_for.ensures.told tells in
-    let read = read_later d mid now look (Ok (o.state, opened.gate + 1, opened.seal)) second told (read_to d mid opened o.state (o.stands tells) o.current) in
-    let quiet = quiet_start c.in_err-whole.field-0.0 (first_fault c.mark-2.result (seen look)) (c.in_err-whole.ensures.fault tells) (λ f is. no_fault_where d look (o.state, opened.gate + 1, opened.seal) c.mark-2.result f read c.mark-2.ensures is) in
+    let first = c.in_ok-open_core.ensures.synced observed in
+    let second = c.in_ok-journal.ensures.synced observed in
+    let told = c.in_ok-look_for.ensures.told observed in
+    let read = read_later d mid now look (Ok (o.state, opened.gate + 1, opened.seal)) second told (read_to d mid opened o.state (o.stands observed) o.current) in
+    let quiet = quiet_start c.in_err-whole.field-0.0 (first_fault c.mark-2.result (seen look)) (c.in_err-whole.ensures.fault observed) (λ f is. no_fault_where d look (o.state, opened.gate + 1, opened.seal) c.mark-2.result f read c.mark-2.ensures is) in
     rw (returned c.from_residual-in_err-whole.result (ship_fault c.in_err-whole.field-0.0) c.from_residual-in_err-whole.ensures.1)
-    (not_started d old look new (ship_fault c.in_err-whole.field-0.0) (since_of d old c.args.since.now) (looked_quietly old mid now look first second told) (c.in_err-whole.ensures.told tells) quiet)
+    (not_started d old look new (ship_fault c.in_err-whole.field-0.0) (since_of d old c.args.since.now) (looked_quietly old mid now look first second told) (c.in_err-whole.ensures.told observed) quiet)
 
 pub say_feed-requires-clause-first : goal.say_feed-requires-clause-first
-say_feed-requires-clause-first g c = λ tells.
+say_feed-requires-clause-first g c = λ observed.
     let d = c.args.directory.now in
     let mid = g.P.Station.calls c.open_core.new.station in
     let now = g.P.Station.calls c.start.new.station in
@@ -109,15 +109,15 @@ say_feed-requires-clause-first g c = λ tells.
     let o = c.in_ok-open_core.ensures.opened in
     let opened = c.in_ok-open_core.field-0.1 in
     let whole = c.in_ok-whole.whole in
-    let read = read_later d mid now look (Ok (o.state, opened.gate + 1, opened.seal)) (c.in_ok-journal.ensures.synced tells) (c.in_ok-look_for.ensures.told tells) (read_to d mid opened o.state (o.stands tells) o.current) in
+    let read = read_later d mid now look (Ok (o.state, opened.gate + 1, opened.seal)) (c.in_ok-journal.ensures.synced observed) (c.in_ok-look_for.ensures.told observed) (read_to d mid opened o.state (o.stands observed) o.current) in
     let end : c.used-end.result - 1 ≡ opened.gate =
     (let u : c.used-end.result ≡ opened.gate + 1 = c.used-end.ensures ∙ ap (λ (b : Bool). cond b (opened.gate + 1) opened.gate) o.ended in omega (arith, u)) in
     subst (λ (k : ℕ). IsAtFirst d again whole k) (sym end)
-    (at_opened d look again whole o.state c.mark-2.result opened.gate opened.seal (c.in_ok-whole.ensures.synced tells) read c.mark-2.ensures c.in_ok-whole.ensures.begins.0 c.in_ok-whole.ensures.version
-    c.in_ok-whole.ensures.seal (c.in_ok-whole.ensures.stands tells) (c.in_ok-whole.ensures.fault tells) (c.in_ok-whole.ensures.checkpoint tells))
+    (at_opened d look again whole o.state c.mark-2.result opened.gate opened.seal (c.in_ok-whole.ensures.synced observed) read c.mark-2.ensures c.in_ok-whole.ensures.begins.0 c.in_ok-whole.ensures.version
+    c.in_ok-whole.ensures.seal (c.in_ok-whole.ensures.stands observed) (c.in_ok-whole.ensures.fault observed) (c.in_ok-whole.ensures.checkpoint observed))
 
 pub returns-clause-said : goal.returns-clause-said
-returns-clause-said g c = λ tells.
+returns-clause-said g c = λ observed.
     let d = c.args.directory.now in
     let old = g.P.Station.calls c.args.station.now in
     let mid = g.P.Station.calls c.open_core.new.station in
@@ -126,18 +126,18 @@ returns-clause-said g c = λ tells.
     let again = g.P.Station.calls c.start-2.new.station in
     let new = g.P.Station.calls c.say_feed.new.station in
     let o = c.in_ok-open_core.ensures.opened in
-    let first = c.in_ok-open_core.ensures.synced tells in
-    let second = c.in_ok-journal.ensures.synced tells in
-    let told = c.in_ok-look_for.ensures.told tells in
-    let third = c.in_ok-whole.ensures.synced tells in
+    let first = c.in_ok-open_core.ensures.synced observed in
+    let second = c.in_ok-journal.ensures.synced observed in
+    let told = c.in_ok-look_for.ensures.told observed in
+    let third = c.in_ok-whole.ensures.synced observed in
     let off : c.in_ok-look_for.field-0 ≡ false = search rules in
-    says_opened c.say_feed.result d old again new (need d (restarted d o.state)) (since_of d old c.args.since.now) (opened_to d old mid c.in_ok-open_core.field-0.1 o.state first (o.stands tells) o.current)
+    says_opened c.say_feed.result d old again new (need d (restarted d o.state)) (since_of d old c.args.since.now) (opened_to d old mid c.in_ok-open_core.field-0.1 o.state first (o.stands observed) o.current)
     (again_quietly old mid now look again first second told third)
     (rest_whole c.say_feed.result d old mid now look again new c.in_ok-journal.journal c.look_for.new.journal c.in_ok-whole.whole c.args.since.now (c.used-end.result - 1) c.in_ok-look_for.field-0 first second c.in_ok-journal.ensures.version
-    (c.in_ok-journal.ensures.stands tells) told off (c.in_ok-look_for.ensures.found tells) third c.in_ok-whole.ensures.version (c.in_ok-whole.ensures.stands tells) (c.say_feed.ensures.said tells))
+    (c.in_ok-journal.ensures.stands observed) told off (c.in_ok-look_for.ensures.found observed) third c.in_ok-whole.ensures.version (c.in_ok-whole.ensures.stands observed) (c.say_feed.ensures.said observed))
 
 pub returns-clause-fault : goal.returns-clause-fault
-returns-clause-fault g c = λ tells.
+returns-clause-fault g c = λ observed.
     let d = c.args.directory.now in
     let old = g.P.Station.calls c.args.station.now in
     let mid = g.P.Station.calls c.open_core.new.station in
@@ -145,11 +145,11 @@ returns-clause-fault g c = λ tells.
     let look = g.P.Station.calls c.look_for.new.station in
     let again = g.P.Station.calls c.start-2.new.station in
     let new = g.P.Station.calls c.say_feed.new.station in
-    let first = c.in_ok-open_core.ensures.synced tells in
-    let second = c.in_ok-journal.ensures.synced tells in
-    let told = c.in_ok-look_for.ensures.told tells in
-    let third = c.in_ok-whole.ensures.synced tells in
+    let first = c.in_ok-open_core.ensures.synced observed in
+    let second = c.in_ok-journal.ensures.synced observed in
+    let told = c.in_ok-look_for.ensures.told observed in
+    let third = c.in_ok-whole.ensures.synced observed in
     let off : c.in_ok-look_for.field-0 ≡ false = search rules in
     breaks_opened c.say_feed.result d old again new (since_of d old c.args.since.now) (again_quietly old mid now look again first second told third)
     (rest_whole c.say_feed.result d old mid now look again new c.in_ok-journal.journal c.look_for.new.journal c.in_ok-whole.whole c.args.since.now (c.used-end.result - 1) c.in_ok-look_for.field-0 first second c.in_ok-journal.ensures.version
-    (c.in_ok-journal.ensures.stands tells) told off (c.in_ok-look_for.ensures.found tells) third c.in_ok-whole.ensures.version (c.in_ok-whole.ensures.stands tells) (c.say_feed.ensures.said tells))
+    (c.in_ok-journal.ensures.stands observed) told off (c.in_ok-look_for.ensures.found observed) third c.in_ok-whole.ensures.version (c.in_ok-whole.ensures.stands observed) (c.say_feed.ensures.said observed))

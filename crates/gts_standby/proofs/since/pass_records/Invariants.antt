@@ -7,11 +7,11 @@ abbrev pub invariant-loop-station : goal.invariant-loop-station
 invariant-loop-station g l = record {
   going : l.journal.ended ≡ false;
   version : l.journal.version ≡ l.fn.journal.version;
-  stands : g.P.Station.tells → StandsOn (g.P.Station.calls l.station) l.journal;
-  passed : g.P.Station.tells → (d : Directory) (end place : ℕ) (last : List ℕ) (found : Option (List ℕ))
+  stands : g.P.Station.observed → StandsOn (g.P.Station.calls l.station) l.journal;
+  passed : g.P.Station.observed → (d : Directory) (end place : ℕ) (last : List ℕ) (found : Option (List ℕ))
       → IsBefore d (g.P.Station.calls l.fn.station) l.fn.journal end place last found → IsWithin l.stop l.fn.journal end place
       → IsBefore d (g.P.Station.calls l.station) l.journal end place last found;
-  told : g.P.Station.tells → g.P.Station.calls l.station ≡ g.P.Station.calls l.fn.station;
+  told : g.P.Station.observed → g.P.Station.calls l.station ≡ g.P.Station.calls l.fn.station;
   later : g.P.Station.disk_faults l.fn.station ≤ g.P.Station.disk_faults l.station;
   say : g.P.Station.say_faults l.station ≡ g.P.Station.say_faults l.fn.station;
 }

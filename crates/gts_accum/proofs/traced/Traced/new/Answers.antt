@@ -7,10 +7,10 @@ pub invariant_of-result : goal.invariant_of-result
 invariant_of-result g c =
     let left = g.S.Source.left in
     record {
-      place = λ tells. c.new.ensures.bad ∙ ap badplace (c.requires.file tells);
-      short = λ tells. omega (arith, ap length c.new.ensures.capture, c.a_capture_of_a_file_is_short.ensures (left c.args.source) c.args.c);
-      covers = λ tells.
-          covers-fresh left g.B.OfFile.file g.B.OfFile.circuit c.new.result (ap left c.new.ensures.source ∙ c.requires.file tells)
+      place = λ observed. c.new.ensures.bad ∙ ap badplace (c.requires.file observed);
+      short = λ observed. omega (arith, ap length c.new.ensures.capture, c.a_capture_of_a_file_is_short.ensures (left c.args.source) c.args.c);
+      covers = λ observed.
+          covers-fresh left g.B.OfFile.file g.B.OfFile.circuit c.new.result (ap left c.new.ensures.source ∙ c.requires.file observed)
           (λ more. c.new.ensures.fresh more ∙ ap (λ (n : ℕ). rest_of n (reading more)) c.requires.circuit);
       due = c.new.ensures.due;
     }

@@ -9,11 +9,11 @@ invariant_of-self g c =
     let old = c.self.inside.unpacked in
     let new = c.read.new.self in
     record {
-      place = λ tells. c.read.ensures.bad tells ∙ c.self.invariant.place tells;
-      short = λ tells.
-          omega (arith, takes_shorter c.read.result (capture_left left old) (capture_left left new) c.read.new.into (c.read.ensures.bytes tells), c.self.invariant.short tells);
-      covers = λ tells.
-          covers-on left g.B.OfFile.file g.B.OfFile.circuit old new (given_by c.read.result c.read.new.into) (c.self.invariant.covers tells)
-          (c.read.ensures.passes tells);
+      place = λ observed. c.read.ensures.bad observed ∙ c.self.invariant.place observed;
+      short = λ observed.
+          omega (arith, takes_shorter c.read.result (capture_left left old) (capture_left left new) c.read.new.into (c.read.ensures.bytes observed), c.self.invariant.short observed);
+      covers = λ observed.
+          covers-on left g.B.OfFile.file g.B.OfFile.circuit old new (given_by c.read.result c.read.new.into) (c.self.invariant.covers observed)
+          (c.read.ensures.passes observed);
       due = c.read.ensures.due;
     }

@@ -7,24 +7,24 @@ use Rattle.gts_app.proofs.commands.check.check.Goals as goal
 
 pub returns-in-Err : goal.returns-in-Err
 returns-in-Err g c =
-    new_unread g.S.Source g.P.Station c.in-Err.status c.args.directory.now c.directory_file_of.new.source c.args.old_directory.now c.args.station
-    (subst (λ r. ReadsDirectory g.S.Source r c.args.directory.now c.directory_file_of.new.source) c.in-Err.is c.directory_file_of.ensures)
+    new_unread g.S.Source g.P.Station c.in-Err.status c.args.world.now.directory c.directory_file_of.new.source c.args.world.now.capture c.args.world.now.station
+    (subst (λ r. ReadsDirectory g.S.Source r c.args.world.now.directory c.directory_file_of.new.source) c.in-Err.is c.directory_file_of.ensures)
 
 pub returns-in-Err-old_directory_file_of : goal.returns-in-Err-old_directory_file_of
 returns-in-Err-old_directory_file_of g c =
-    let od = c.args.directory.now in
+    let od = c.args.world.now.directory in
     let nd = c.directory_file_of.new.source in
-    let oc = c.args.old_directory.now in
+    let oc = c.args.world.now.capture in
     let nc = c.old_directory_file_of.new.source in
-    old_unread g.S.Source g.P.Station c.in-Err-old_directory_file_of.status c.in-Ok.file od nd oc nc c.args.station
+    old_unread g.S.Source g.P.Station c.in-Err-old_directory_file_of.status c.in-Ok.file od nd oc nc c.args.world.now.station
     (subst (λ r. ReadsDirectory g.S.Source r od nd) c.in-Ok.is c.directory_file_of.ensures)
     (subst (λ r. ReadsOldDirectory g.S.Source r oc nc) c.in-Err-old_directory_file_of.is c.old_directory_file_of.ensures)
 
 pub returns-in-Err-changes : goal.returns-in-Err-changes
 returns-in-Err-changes g c =
-    let od = c.args.directory.now in
+    let od = c.args.world.now.directory in
     let nd = c.directory_file_of.new.source in
-    let oc = c.args.old_directory.now in
+    let oc = c.args.world.now.capture in
     let nc = c.old_directory_file_of.new.source in
     let d = c.in-Ok.file in
     let o = c.in-Ok-old_directory_file_of.file in
@@ -33,14 +33,14 @@ returns-in-Err-changes g c =
     let takes = subst (λ x. TakesOver x o) c.directory.ensures (subst (λ x. TakesOver c.directory.result.now x) c.directory-2.ensures (c.in_default.ensures.takes_over.0 refl)) in
     let e = c.in-Err-changes.ensures in
     not_opened g.S.Source g.P.Station d o od nd oc nc first second takes (λ change is. none-some change (sym (none_from d o takes) ∙ is))
-    c.args.station c.changes.new.station e.told e.later e.say c.in-Err-changes.fault c.refusal.result c.refusal.ensures e.fault e.never_older
+    c.args.world.now.station c.changes.new.station e.told e.later e.say c.in-Err-changes.fault c.refusal.result c.refusal.ensures e.fault e.never_older
     (λ disk. e.disk_fault (ap (λ (fault : OpenFault). Err fault) disk))
 
 pub returns-in-Err-say : goal.returns-in-Err-say
 returns-in-Err-say g c =
-    let od = c.args.directory.now in
+    let od = c.args.world.now.directory in
     let nd = c.directory_file_of.new.source in
-    let oc = c.args.old_directory.now in
+    let oc = c.args.world.now.capture in
     let nc = c.old_directory_file_of.new.source in
     let d = c.in-Ok.file in
     let o = c.in-Ok-old_directory_file_of.file in
@@ -50,7 +50,7 @@ returns-in-Err-say g c =
     let e = c.in_default-changes.ensures in
     let s = c.in-Err-say.ensures in
     not_said g.S.Source g.P.Station d o od nd oc nc first second takes (λ change is. none-some change (sym (none_from d o takes) ∙ is))
-    c.args.station c.changes.new.station c.say.new.self c.bytes.result.now
+    c.args.world.now.station c.changes.new.station c.say.new.self c.bytes.result.now
     (λ t.
     let x = e.report t in
     (x.0, x.1, x.2, c.bytes.ensures ∙ x.3 ∙ ap (λ (text : List ℕ). text ++ changes d o (need o x.0)) c.new-text.ensures))
@@ -58,9 +58,9 @@ returns-in-Err-say g c =
 
 pub returns : goal.returns
 returns g c =
-    let od = c.args.directory.now in
+    let od = c.args.world.now.directory in
     let nd = c.directory_file_of.new.source in
-    let oc = c.args.old_directory.now in
+    let oc = c.args.world.now.capture in
     let nc = c.old_directory_file_of.new.source in
     let d = c.in-Ok.file in
     let o = c.in-Ok-old_directory_file_of.file in
@@ -70,7 +70,7 @@ returns g c =
     let e = c.in_default-changes.ensures in
     let s = c.in-Ok-say.ensures in
     reported g.S.Source g.P.Station d o od nd oc nc first second takes (λ change is. none-some change (sym (none_from d o takes) ∙ is))
-    c.args.station c.changes.new.station c.say.new.self c.bytes.result.now
+    c.args.world.now.station c.changes.new.station c.say.new.self c.bytes.result.now
     (λ t.
     let x = e.report t in
     (x.0, x.1, x.2, c.bytes.ensures ∙ x.3 ∙ ap (λ (text : List ℕ). text ++ changes d o (need o x.0)) c.new-text.ensures))

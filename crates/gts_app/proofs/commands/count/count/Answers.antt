@@ -5,18 +5,18 @@ use Rattle.gts_app.proofs.commands.count.count.Goals as goal
 
 pub returns-in-Err : goal.returns-in-Err
 returns-in-Err g c =
-    let r = c.in-Err.refused in
-    not_counted g.S.Source g.P.Station r.0 c.args.directory.now c.open_engine.new.directory c.args.capture.now c.args.station r.1 c.open_engine.result c.in-Err.is c.open_engine.ensures
+    let r = c.in-Err.field-0 in
+    not_counted g.S.Source g.P.Station r.status c.args.world.directory c.open_engine.new.directory c.args.world.capture c.args.world.station r.station c.open_engine.result c.in-Err.is c.open_engine.ensures
 
 pub returns-in-Err-count_beside : goal.returns-in-Err-count_beside
 returns-in-Err-count_beside g c =
-    without_numbers g.S.Source g.P.Station c.args.directory.now c.open_engine.new.directory c.args.capture.now c.args.station c.in-Ok.engine c.open_engine.result c.in-Ok.is
+    without_numbers g.S.Source g.P.Station c.args.world.directory c.open_engine.new.directory c.args.world.capture c.args.world.station c.in-Ok.engine c.open_engine.result c.in-Ok.is
     c.open_engine.ensures c.into_parts-station.result.0
     (c.into_parts-station.ensures.station ∙ ap (λ (e : Engine g.row.P.Denot). e.station) c.in-Err-count_beside.ensures.err)
 
 pub returns-in-Err-table : goal.returns-in-Err-table
 returns-in-Err-table g c =
-    let od = c.args.directory.now in
+    let od = c.args.world.directory in
     let nd = c.open_engine.new.directory in
     let first = c.in-Ok-count_beside.counted in
     let last = c.replay-end.new.switch in
@@ -25,16 +25,16 @@ returns-in-Err-table g c =
     let is : c.circuits-few.result ≡ length first.parts.switch.directory.circuits =
     c.circuits-few.ensures.circuits ∙ ap (λ (e : Engine g.row.P.Denot). length e.directory.circuits) (sym switch) in
     omega (arith, is, c.circuits-few.ensures.few) in
-    let opens = subst (λ (e : Engine g.row.P.Denot). Opens g.S.Source g.P.Station (Ok e) od nd c.args.station) (sym switch) c.in-Ok.ensures in
+    let opens = subst (λ (e : Engine g.row.P.Denot). Opens g.S.Source g.P.Station (Ok e) od nd c.args.world.station) (sym switch) c.in-Ok.ensures in
     let files = subst (λ (e : Engine g.row.P.Denot). Leaves g.P.Station e) c.into_inner-engine.ensures c.used-used.ensures.files in
-    ended (λ (x : Counted (Engine g.row.P.Denot)). x.parts) g.S.Source g.P.Station c.replay-end.result od nd c.args.capture.now c.replay-end.new.capture c.args.station first last
+    ended (λ (x : Counted (Engine g.row.P.Denot)). x.parts) g.S.Source g.P.Station c.replay-end.result od nd c.args.world.capture c.replay-end.new.capture c.args.world.station first last
     opens c.in-Ok-count_beside.ensures.counts (λ n es keeps sound. c.a_history_keeps_its_laws.ensures first.parts.switch.directory n es keeps sound) c.replay-end.ensures.ends few
     c.replay-end.ensures.cause files c.in-Err-table.status c.in-Err-table.ensures.none c.into_parts-station-2.result.0
     (c.into_parts-station-2.ensures.station ∙ ap (λ (e : Engine g.row.P.Denot). e.station) c.into_inner-engine.ensures)
 
 pub returns-in-Err-say : goal.returns-in-Err-say
 returns-in-Err-say g c =
-    let od = c.args.directory.now in
+    let od = c.args.world.directory in
     let nd = c.open_engine.new.directory in
     let first = c.in-Ok-count_beside.counted in
     let last = c.replay-end.new.switch in
@@ -43,19 +43,19 @@ returns-in-Err-say g c =
     let is : c.circuits-few.result ≡ length first.parts.switch.directory.circuits =
     c.circuits-few.ensures.circuits ∙ ap (λ (e : Engine g.row.P.Denot). length e.directory.circuits) (sym switch) in
     omega (arith, is, c.circuits-few.ensures.few) in
-    let opens = subst (λ (e : Engine g.row.P.Denot). Opens g.S.Source g.P.Station (Ok e) od nd c.args.station) (sym switch) c.in-Ok.ensures in
+    let opens = subst (λ (e : Engine g.row.P.Denot). Opens g.S.Source g.P.Station (Ok e) od nd c.args.world.station) (sym switch) c.in-Ok.ensures in
     let files = subst (λ (e : Engine g.row.P.Denot). Leaves g.P.Station e) c.into_inner-engine.ensures c.used-used.ensures.files in
-    not_told (λ (x : Counted (Engine g.row.P.Denot)). x.parts) g.S.Source g.P.Station c.replay-end.result od nd c.args.capture.now c.replay-end.new.capture c.args.station first last
+    not_told (λ (x : Counted (Engine g.row.P.Denot)). x.parts) g.S.Source g.P.Station c.replay-end.result od nd c.args.world.capture c.replay-end.new.capture c.args.world.station first last
     opens c.in-Ok-count_beside.ensures.counts (λ n es keeps sound. c.a_history_keeps_its_laws.ensures first.parts.switch.directory n es keeps sound) c.replay-end.ensures.ends few
     c.replay-end.ensures.cause files c.in-Ok-table.ensures.table.0 c.as_slice.result.now
-    (subst (ShowsTable (switch_meanings g.P.Station.tells g.P.Station.calls) last.parts) (sym c.as_slice.ensures.value) c.in-Ok-table.ensures.table.1)
+    (subst (ShowsTable (switch_meanings g.P.Station.observed g.P.Station.calls) last.parts) (sym c.as_slice.ensures.value) c.in-Ok-table.ensures.table.1)
     c.into_parts-station-2.result.0 c.say.new.self
     (c.into_parts-station-2.ensures.station ∙ ap (λ (e : Engine g.row.P.Denot). e.station) c.into_inner-engine.ensures)
     c.in-Err-say.ensures.told (c.in-Err-say.ensures.cause.failed refl) c.in-Err-say.ensures.cause.later c.in-Err-say.ensures.disk
 
 pub returns : goal.returns
 returns g c =
-    let od = c.args.directory.now in
+    let od = c.args.world.directory in
     let nd = c.open_engine.new.directory in
     let first = c.in-Ok-count_beside.counted in
     let last = c.replay-end.new.switch in
@@ -64,12 +64,12 @@ returns g c =
     let is : c.circuits-few.result ≡ length first.parts.switch.directory.circuits =
     c.circuits-few.ensures.circuits ∙ ap (λ (e : Engine g.row.P.Denot). length e.directory.circuits) (sym switch) in
     omega (arith, is, c.circuits-few.ensures.few) in
-    let opens = subst (λ (e : Engine g.row.P.Denot). Opens g.S.Source g.P.Station (Ok e) od nd c.args.station) (sym switch) c.in-Ok.ensures in
+    let opens = subst (λ (e : Engine g.row.P.Denot). Opens g.S.Source g.P.Station (Ok e) od nd c.args.world.station) (sym switch) c.in-Ok.ensures in
     let files = subst (λ (e : Engine g.row.P.Denot). Leaves g.P.Station e) c.into_inner-engine.ensures c.used-used.ensures.files in
-    counted_so (λ (x : Counted (Engine g.row.P.Denot)). x.parts) g.S.Source g.P.Station c.replay-end.result od nd c.args.capture.now c.replay-end.new.capture c.args.station first last
+    counted_so (λ (x : Counted (Engine g.row.P.Denot)). x.parts) g.S.Source g.P.Station c.replay-end.result od nd c.args.world.capture c.replay-end.new.capture c.args.world.station first last
     opens c.in-Ok-count_beside.ensures.counts (λ n es keeps sound. c.a_history_keeps_its_laws.ensures first.parts.switch.directory n es keeps sound) c.replay-end.ensures.ends few
     c.replay-end.ensures.cause files c.in-Ok-table.ensures.table.0 c.as_slice.result.now
-    (subst (ShowsTable (switch_meanings g.P.Station.tells g.P.Station.calls) last.parts) (sym c.as_slice.ensures.value) c.in-Ok-table.ensures.table.1)
+    (subst (ShowsTable (switch_meanings g.P.Station.observed g.P.Station.calls) last.parts) (sym c.as_slice.ensures.value) c.in-Ok-table.ensures.table.1)
     c.into_parts-station-2.result.0 c.say.new.self
     (c.into_parts-station-2.ensures.station ∙ ap (λ (e : Engine g.row.P.Denot). e.station) c.into_inner-engine.ensures)
     c.in-Ok-say.ensures.told c.in-Ok-say.ensures.cause.later c.in-Ok-say.ensures.disk

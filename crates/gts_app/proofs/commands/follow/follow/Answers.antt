@@ -5,17 +5,17 @@ use Rattle.gts_app.proofs.commands.follow.follow.Goals as goal
 
 pub returns-in-Err : goal.returns-in-Err
 returns-in-Err g c =
-    unfollowed g.S.Source g.P.Station c.in-Err.status c.args.directory.now c.directory_of.new.source c.args.feed.now c.args.station
-    (subst (λ r. ReadsDirectory g.S.Source r c.args.directory.now c.directory_of.new.source) c.in-Err.is c.directory_of.ensures)
+    unfollowed g.S.Source g.P.Station c.in-Err.status c.args.world.directory c.directory_of.new.source c.args.world.capture c.args.world.station
+    (subst (λ r. ReadsDirectory g.S.Source r c.args.world.directory c.directory_of.new.source) c.in-Err.is c.directory_of.ensures)
 
 pub returns : goal.returns
 returns g c =
-    let od = c.args.directory.now in
+    let od = c.args.world.directory in
     let nd = c.directory_of.new.source in
     let read = subst (λ r. ReadsDirectory g.S.Source r od nd) c.in-Ok.is c.directory_of.ensures in
     let station = c.follow-station.result.0 in
     let answer = c.follow-station.result.1 in
     let e = c.follow-station.ensures in
-    subst (λ (s : Status). FollowsFeed g.S.Source g.P.Station s (world od c.args.feed.now c.args.station) (world nd c.follow-station.new.source station)) (sym c.status_of.ensures)
-    (followed g.S.Source g.P.Station c.in-Ok.accepted answer od nd c.args.feed.now c.follow-station.new.source c.args.station station read
-    e.answer (λ tells told. (e.added tells told).opened) (λ tells told. (e.added tells told).reads) e.moments e.done e.refused (named_fault answer e.named) e.silent e.source_fault e.disk_fault e.counts.later e.counts.source_later e.counts.say)
+    subst (λ (s : Status). FollowsFeed g.S.Source g.P.Station s (world od c.args.world.capture c.args.world.station) (world nd c.follow-station.new.source station)) (sym c.status_of-status.ensures)
+    (followed g.S.Source g.P.Station c.in-Ok.accepted answer od nd c.args.world.capture c.follow-station.new.source c.args.world.station station read
+    e.answer (λ observed told. (e.added observed told).opened) (λ observed told. (e.added observed told).reads) e.moments e.done e.refused (named_fault answer e.named) e.silent e.source_fault e.disk_fault e.counts.later e.counts.source_later e.counts.say)

@@ -7,24 +7,24 @@ use Rattle.gts_app.proofs.commands.migrate.migrate.Goals as goal
 
 pub returns-in-Err : goal.returns-in-Err
 returns-in-Err g c =
-    new_unread c.args.waiting g.S.Source g.P.Station c.in-Err.status c.args.directory.now c.directory_of.new.source c.args.old_directory.now c.args.station
-    (subst (λ r. ReadsDirectory g.S.Source r c.args.directory.now c.directory_of.new.source) c.in-Err.is c.directory_of.ensures)
+    new_unread c.args.waiting g.S.Source g.P.Station c.in-Err.status c.args.world.directory c.directory_of.new.source c.args.world.capture c.args.world.station
+    (subst (λ r. ReadsDirectory g.S.Source r c.args.world.directory c.directory_of.new.source) c.in-Err.is c.directory_of.ensures)
 
 pub returns-in-Err-old_directory_of : goal.returns-in-Err-old_directory_of
 returns-in-Err-old_directory_of g c =
-    let od = c.args.directory.now in
+    let od = c.args.world.directory in
     let nd = c.directory_of.new.source in
-    let oc = c.args.old_directory.now in
+    let oc = c.args.world.capture in
     let nc = c.old_directory_of.new.source in
-    old_unread c.args.waiting g.S.Source g.P.Station c.in-Err-old_directory_of.status c.in-Ok.directory od nd oc nc c.args.station
+    old_unread c.args.waiting g.S.Source g.P.Station c.in-Err-old_directory_of.status c.in-Ok.directory od nd oc nc c.args.world.station
     (subst (λ r. ReadsDirectory g.S.Source r od nd) c.in-Ok.is c.directory_of.ensures)
     (subst (λ r. ReadsOldDirectory g.S.Source r oc nc) c.in-Err-old_directory_of.is c.old_directory_of.ensures)
 
 pub returns-in-Ok-takes_over : goal.returns-in-Ok-takes_over
 returns-in-Ok-takes_over g c =
-    let od = c.args.directory.now in
+    let od = c.args.world.directory in
     let nd = c.directory_of.new.source in
-    let oc = c.args.old_directory.now in
+    let oc = c.args.world.capture in
     let nc = c.old_directory_of.new.source in
     let d = c.in-Ok.directory in
     let o = c.in-Ok-old_directory_of.directory in
@@ -33,7 +33,7 @@ returns-in-Ok-takes_over g c =
     let takes = c.in-Ok-takes_over.ensures.takes_over.0 refl in
     let m = c.migrate-station in
     taken_over c.args.waiting g.S.Source g.P.Station d o od nd oc nc first second takes
-    (λ change is. none-some change (sym (none_from d o takes) ∙ is)) c.args.station m.result.0 m.result.1 c.status_of.result c.status_of.ensures
+    (λ change is. none-some change (sym (none_from d o takes) ∙ is)) c.args.world.station m.result.0 m.result.1 c.status_of-status.result c.status_of-status.ensures
     (record {
       moments = m.ensures.moments;
       migrated = m.ensures.migrated;

@@ -5,14 +5,14 @@ use Rattle.gts_app.proofs.commands.pack.pack.Goals as goal
 
 pub returns-in-Err : goal.returns-in-Err
 returns-in-Err g c =
-    pack_unread g.S.Source g.P.Station c.in-Err.status c.args.directory.now c.directory_of.new.source c.args.stream.now c.args.station.now
-    (subst (λ r. ReadsDirectory g.S.Source r c.args.directory.now c.directory_of.new.source) c.in-Err.is c.directory_of.ensures)
+    pack_unread g.S.Source g.P.Station c.in-Err.status c.args.world.now.directory c.directory_of.new.source c.args.world.now.capture c.args.world.now.station
+    (subst (λ r. ReadsDirectory g.S.Source r c.args.world.now.directory c.directory_of.new.source) c.in-Err.is c.directory_of.ensures)
 
 pub returns : goal.returns
 returns g c =
-    let od = c.args.directory.now in
+    let od = c.args.world.now.directory in
     let nd = c.directory_of.new.source in
     let read = subst (λ r. ReadsDirectory g.S.Source r od nd) c.in-Ok.is c.directory_of.ensures in
-    let e = c.pack.ensures in
-    subst (λ (s : Status). PacksStream g.S.Source g.P.Station s (world od c.args.stream.now c.args.station.now) (world nd c.pack.new.stream c.pack.new.station)) (sym c.status_of.ensures)
-    (pack_ends g.S.Source g.P.Station c.in-Ok.accepted c.pack.result od nd c.args.stream.now c.pack.new.stream c.args.station.now c.pack.new.station read e.packs e.unmade e.files e.source e.say e.disk)
+    let e = c.pack-packed.ensures in
+    subst (λ (s : Status). PacksStream g.S.Source g.P.Station s (world od c.args.world.now.capture c.args.world.now.station) (world nd c.pack-packed.new.stream c.pack-packed.new.station)) (sym c.status_of.ensures)
+    (pack_ends g.S.Source g.P.Station c.in-Ok.accepted c.pack-packed.result od nd c.args.world.now.capture c.pack-packed.new.stream c.args.world.now.station c.pack-packed.new.station read e.packs e.unmade e.files e.source e.say e.disk)

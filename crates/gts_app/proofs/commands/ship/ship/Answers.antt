@@ -3,29 +3,29 @@ use Rattle.gts_app.specs.Cited.{ReadsDirectory, ShipsFeed, Since, Status, status
 use Rattle.gts_app.proofs.ShippingLemmas.{ship_unread, ship_ends}
 use Rattle.gts_app.proofs.commands.ship.ship.Goals as goal
 
-pub returns-in-Err : goal.returns-in-Err
-returns-in-Err g c =
-    ship_unread c.args.since g.S.Source g.P.Station c.in-Err.status c.args.directory.now c.directory_of.new.source c.args.station.now
-    (subst (λ r. ReadsDirectory g.S.Source r c.args.directory.now c.directory_of.new.source) c.in-Err.is c.directory_of.ensures)
+pub returns-in-Err-clause-ships : goal.returns-in-Err-clause-ships
+returns-in-Err-clause-ships g c =
+    ship_unread c.args.since g.S.Source g.P.Station c.in-Err.status c.args.world.now.directory c.directory_of.new.source c.args.world.now.station
+    (subst (λ r. ReadsDirectory g.S.Source r c.args.world.now.directory c.directory_of.new.source) c.in-Err.is c.directory_of.ensures)
 
-pub returns-in-None : goal.returns-in-None
-returns-in-None g c =
-    let od = c.args.directory.now in
+pub returns-in-None-clause-ships : goal.returns-in-None-clause-ships
+returns-in-None-clause-ships g c =
+    let od = c.args.world.now.directory in
     let nd = c.directory_of.new.source in
     let read = subst (λ r. ReadsDirectory g.S.Source r od nd) c.in-Ok.is c.directory_of.ensures in
     let e = c.ship.ensures in
     let asked : c.args.since ≡ None = c.in-None.is in
-    subst (λ (s : Status). ShipsFeed c.args.since g.S.Source g.P.Station s od c.args.station.now nd c.ship.new.station) (sym c.status_of.ensures)
-    (subst (λ (o : Option Since). ShipsFeed o g.S.Source g.P.Station (status_shipped c.ship.result) od c.args.station.now nd c.ship.new.station) (sym asked)
-    (ship_ends None g.S.Source g.P.Station c.in-Ok.accepted c.ship.result od nd c.args.station.now c.ship.new.station read e.said e.fault e.named e.disk_fault e.say_fault e.later e.say))
+    subst (λ (s : Status). ShipsFeed c.args.since g.S.Source g.P.Station s od c.args.world.now.station nd c.ship.new.station) (sym c.status_of.ensures)
+    (subst (λ (o : Option Since). ShipsFeed o g.S.Source g.P.Station (status_shipped c.ship.result) od c.args.world.now.station nd c.ship.new.station) (sym asked)
+    (ship_ends None g.S.Source g.P.Station c.in-Ok.accepted c.ship.result od nd c.args.world.now.station c.ship.new.station read e.said e.fault e.named e.disk_fault e.say_fault e.later e.say))
 
-pub returns : goal.returns
-returns g c =
-    let od = c.args.directory.now in
+pub returns-clause-ships : goal.returns-clause-ships
+returns-clause-ships g c =
+    let od = c.args.world.now.directory in
     let nd = c.directory_of.new.source in
     let read = subst (λ r. ReadsDirectory g.S.Source r od nd) c.in-Ok.is c.directory_of.ensures in
     let e = c.ship_since.ensures in
     let asked : c.args.since ≡ Some c.in-Some.since = c.in-Some.is in
-    subst (λ (s : Status). ShipsFeed c.args.since g.S.Source g.P.Station s od c.args.station.now nd c.ship_since.new.station) (sym c.status_of-in-Some.ensures)
-    (subst (λ (o : Option Since). ShipsFeed o g.S.Source g.P.Station (status_shipped c.ship_since.result) od c.args.station.now nd c.ship_since.new.station) (sym asked)
-    (ship_ends (Some c.in-Some.since) g.S.Source g.P.Station c.in-Ok.accepted c.ship_since.result od nd c.args.station.now c.ship_since.new.station read e.said e.fault e.named e.disk_fault e.say_fault e.later e.say))
+    subst (λ (s : Status). ShipsFeed c.args.since g.S.Source g.P.Station s od c.args.world.now.station nd c.ship_since.new.station) (sym c.status_of-in-Some.ensures)
+    (subst (λ (o : Option Since). ShipsFeed o g.S.Source g.P.Station (status_shipped c.ship_since.result) od c.args.world.now.station nd c.ship_since.new.station) (sym asked)
+    (ship_ends (Some c.in-Some.since) g.S.Source g.P.Station c.in-Ok.accepted c.ship_since.result od nd c.args.world.now.station c.ship_since.new.station read e.said e.fault e.named e.disk_fault e.say_fault e.later e.say))

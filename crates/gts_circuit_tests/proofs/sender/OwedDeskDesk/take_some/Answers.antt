@@ -1,5 +1,5 @@
 use Rattle.std.proofs.Common.{◌≡◌, List, [], ◌∷◌, ◌++◌, ap, ◌∙◌, arith}
-use Rattle.gts_desk.specs.Given.{Frame, frames_of}
+use Rattle.gts_calls.specs.Given.{Frame, frames_of}
 use Rattle.gts_circuit_tests.proofs.OwedDeskLemmas.{first_on, later_on}
 use Rattle.gts_circuit_tests.proofs.sender.OwedDeskDesk.take_some.Goals as goal
 

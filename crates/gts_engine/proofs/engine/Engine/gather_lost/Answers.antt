@@ -6,14 +6,14 @@ use Rattle.gts_engine.proofs.engine.Engine.gather_lost.Goals as goal
 pub returns-in-Some-clause-called : goal.returns-in-Some-clause-called
 returns-in-Some-clause-called g c =
     let old = c.self.inside.parts in
-    let T : Engine g.row.P.Denot → Type 0 = λ e. (mode : SayMode) → IsAnswered (meanings_of g.P.Station.tells g.P.Station.calls mode) (Lost c.args.c c.args.field) (Err (Stopped c.in-Some.by)) e e in
-    subst T c.self.view_is (λ mode. stopped_answer g.P.Station.tells g.P.Station.calls mode (Lost c.args.c c.args.field) c.in-Some.by (engine_of old) c.in-Some.is)
+    let T : Engine g.row.P.Denot → Type 0 = λ e. (mode : SayMode) → IsAnswered (meanings_of g.P.Station.observed g.P.Station.calls mode) (Lost c.args.c c.args.field) (Err (Stopped c.in-Some.by)) e e in
+    subst T c.self.view_is (λ mode. stopped_answer g.P.Station.observed g.P.Station.calls mode (Lost c.args.c c.args.field) c.in-Some.by (engine_of old) c.in-Some.is)
 
 pub returns-clause-called : goal.returns-clause-called
 returns-clause-called g c =
     let old = c.self.inside.parts in
-    let T : Engine g.row.P.Denot → Type 0 = λ e. (mode : SayMode) → IsAnswered (meanings_of g.P.Station.tells g.P.Station.calls mode) (Lost c.args.c c.args.field) c.lose.result e (engine_of c.lose.new.parts) in
-    subst T c.self.view_is (λ mode. in_words g.P.Station.tells g.P.Station.calls g.P.Station.disk_faults g.P.Station.say_faults mode (Lost c.args.c c.args.field) c.lose.result old c.lose.new.parts c.in_default.is (c.lose.ensures.answered mode))
+    let T : Engine g.row.P.Denot → Type 0 = λ e. (mode : SayMode) → IsAnswered (meanings_of g.P.Station.observed g.P.Station.calls mode) (Lost c.args.c c.args.field) c.lose.result e (engine_of c.lose.new.parts) in
+    subst T c.self.view_is (λ mode. in_words g.P.Station.observed g.P.Station.calls g.P.Station.disk_faults g.P.Station.say_faults mode (Lost c.args.c c.args.field) c.lose.result old c.lose.new.parts c.in_default.is (c.lose.ensures.answered mode))
 
 pub invariant_of-self : goal.invariant_of-self
 invariant_of-self g c = (c.lose.ensures.answered Station).sound

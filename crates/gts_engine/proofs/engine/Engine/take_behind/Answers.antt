@@ -1,5 +1,5 @@
 use Rattle.std.proofs.Common.{◌≡◌, ◌≢◌, true, [], ◌∷◌, ◌++◌, Ok, ap, subst, IfSome}
-use Rattle.gts_engine.specs.Cited.{AnswersIn, Caller, Engine, Nothing, Parts, SaysFrame as Says, Taken, TakesBehind, engine_of, joined}
+use Rattle.gts_engine.specs.Cited.{AnswersIn, Caller, Engine, EngineParts, Nothing, SaysFrame as Says, Taken, TakesBehind, engine_of, joined}
 use Rattle.gts_engine.proofs.BehindLemmas.{takes_behind, silent_behind, each_none, both_some}
 use Rattle.gts_engine.proofs.engine.Engine.take_behind.Goals as goal
 
@@ -7,11 +7,11 @@ pub returns-clause-called : goal.returns-clause-called
 returns-clause-called g c =
     let old = c.self.inside.parts in
     let new = c.take_behind.new.parts in
-    let T : Engine g.row.P.Denot → Type 0 = λ e. IfSome c.take_behind.result (λ o. TakesBehind g.P.Station.tells g.P.Station.calls c.args.c o e (engine_of new)) in
+    let T : Engine g.row.P.Denot → Type 0 = λ e. IfSome c.take_behind.result (λ o. TakesBehind g.P.Station.observed g.P.Station.calls c.args.c o e (engine_of new)) in
     subst T c.self.view_is
-    (both_some c.take_behind.result (λ o. AnswersIn g.P.Station.tells g.P.Station.calls g.P.Station.disk_faults g.P.Station.say_faults Caller (Taken c.args.c) (Ok o) old new)
-    (λ o. ((engine_of old).gathered ≡ true) × ((engine_of new).held ≡ (engine_of old).held ++ [] ∷ [])) (λ o. TakesBehind g.P.Station.tells g.P.Station.calls c.args.c o (engine_of old) (engine_of new))
-    (λ o a h. takes_behind g.P.Station.tells g.P.Station.calls g.P.Station.disk_faults g.P.Station.say_faults c.args.c o old new c.in_default.is h.0 h.1 a)
+    (both_some c.take_behind.result (λ o. AnswersIn g.P.Station.observed g.P.Station.calls g.P.Station.disk_faults g.P.Station.say_faults Caller (Taken c.args.c) (Ok o) old new)
+    (λ o. ((engine_of old).gathered ≡ true) × ((engine_of new).held ≡ (engine_of old).held ++ [] ∷ [])) (λ o. TakesBehind g.P.Station.observed g.P.Station.calls c.args.c o (engine_of old) (engine_of new))
+    (λ o a h. takes_behind g.P.Station.observed g.P.Station.calls g.P.Station.disk_faults g.P.Station.say_faults c.args.c o old new c.in_default.is h.0 h.1 a)
     c.take_behind.ensures.answered
     (both_some c.take_behind.result (λ o. (engine_of old).gathered ≡ true) (λ o. (engine_of new).held ≡ (engine_of old).held ++ [] ∷ []) _ (λ o a h. (a, h)) c.take_behind.ensures.gathered c.take_behind.ensures.held))
 
@@ -25,4 +25,4 @@ returns-clause-silent g c =
     let old = c.self.inside.parts in
     let new = c.take_behind.new.parts in
     let T : Engine g.row.P.Denot → Type 0 = λ e. joined e.held ≡ [] → joined (engine_of new).held ≡ [] in
-    subst T c.self.view_is (silent_behind c.take_behind.result (engine_of old).held (engine_of new).held (each_none c.take_behind.result (new ≡ old) ((engine_of new).held ≡ (engine_of old).held) (λ e. ap (λ (p : Parts g.row.P.Denot). (engine_of p).held) e) c.take_behind.ensures.none) c.take_behind.ensures.held)
+    subst T c.self.view_is (silent_behind c.take_behind.result (engine_of old).held (engine_of new).held (each_none c.take_behind.result (new ≡ old) ((engine_of new).held ≡ (engine_of old).held) (λ e. ap (λ (p : EngineParts g.row.P.Denot). (engine_of p).held) e) c.take_behind.ensures.none) c.take_behind.ensures.held)

@@ -4,7 +4,7 @@ use Rattle.gts_lock.proofs.hall.Hall.await_turn.Goals as goal
 
 pub load-serving-requires : goal.load-serving-requires
 load-serving-requires g c = let i = c.loop.invariant in let two = c.self.invariant in
-    (search rules, omega arith, looks g.T.Told.stands _ _ _ _ (ap (λ (m : _). m.0.stage) i.1 ∙ c.requires.waits))
+    (search rules, omega arith, looks g.T.HasHistory.stands _ _ _ _ (ap (λ (m : _). m.0.stage) i.1 ∙ c.requires.waits))
 
 pub loop-preserved : goal.loop-preserved
 loop-preserved g c = let i = c.loop.invariant in

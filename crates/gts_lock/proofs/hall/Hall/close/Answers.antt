@@ -7,11 +7,11 @@ use Rattle.gts_lock.proofs.hall.Hall.close.Goals as goal
 
 pub split_seat-copy-requires : goal.split_seat-copy-requires
 split_seat-copy-requires g c = let two = c.self.invariant in
-    (search rules, omega arith, copies g.T.Told.stands _ _)
+    (search rules, omega arith, copies g.T.HasHistory.stands _ _)
 
 pub unreachable-requires : goal.unreachable-requires
 unreachable-requires g c =
-    let stands = g.T.Told.stands in
+    let stands = g.T.HasHistory.stands in
     let closing = closes_as stands _ _ c.pass.inside.seat.me.0 _ _ (ap (λ (m : _). m.0) c.split_seat-copy.ensures.2) c.close_with-closed.ensures.values.2
     (ap (λ (p : _). p.name) c.pass.view_is ∙ c.requires.first)
     (resting_idle c.pass.inside.seat.me.0.stage c.pass.inside.seat.table_id _ c.pass.invariant.1 (ap (λ (p : _). p.hall) c.pass.view_is ∙ c.requires.hall))
@@ -20,7 +20,7 @@ unreachable-requires g c =
 
 pub returns-clause-value : goal.returns-clause-value
 returns-clause-value g c =
-    let stands = g.T.Told.stands in
+    let stands = g.T.HasHistory.stands in
     let closing = closes_as stands _ _ c.pass.inside.seat.me.0 _ _ (ap (λ (m : _). m.0) c.split_seat-copy.ensures.2) c.close_with-closed.ensures.values.2
     (ap (λ (p : _). p.name) c.pass.view_is ∙ c.requires.first)
     (resting_idle c.pass.inside.seat.me.0.stage c.pass.inside.seat.table_id _ c.pass.invariant.1 (ap (λ (p : _). p.hall) c.pass.view_is ∙ c.requires.hall))
@@ -29,7 +29,7 @@ returns-clause-value g c =
 
 pub returns-clause-accounts : goal.returns-clause-accounts
 returns-clause-accounts g c =
-    let stands = g.T.Told.stands in
+    let stands = g.T.HasHistory.stands in
     let closing = closes_as stands _ _ c.pass.inside.seat.me.0 _ _ (ap (λ (m : _). m.0) c.split_seat-copy.ensures.2) c.close_with-closed.ensures.values.2
     (ap (λ (p : _). p.name) c.pass.view_is ∙ c.requires.first)
     (resting_idle c.pass.inside.seat.me.0.stage c.pass.inside.seat.table_id _ c.pass.invariant.1 (ap (λ (p : _). p.hall) c.pass.view_is ∙ c.requires.hall))
@@ -38,7 +38,7 @@ returns-clause-accounts g c =
 
 pub returns-clause-names : goal.returns-clause-names
 returns-clause-names g c =
-    let stands = g.T.Told.stands in
+    let stands = g.T.HasHistory.stands in
     let closing = closes_as stands _ _ c.pass.inside.seat.me.0 _ _ (ap (λ (m : _). m.0) c.split_seat-copy.ensures.2) c.close_with-closed.ensures.values.2
     (ap (λ (p : _). p.name) c.pass.view_is ∙ c.requires.first)
     (resting_idle c.pass.inside.seat.me.0.stage c.pass.inside.seat.table_id _ c.pass.invariant.1 (ap (λ (p : _). p.hall) c.pass.view_is ∙ c.requires.hall))
@@ -47,7 +47,7 @@ returns-clause-names g c =
 
 pub returns-clause-full : goal.returns-clause-full
 returns-clause-full g c =
-    let stands = g.T.Told.stands in
+    let stands = g.T.HasHistory.stands in
     let closing = closes_as stands _ _ c.pass.inside.seat.me.0 _ _ (ap (λ (m : _). m.0) c.split_seat-copy.ensures.2) c.close_with-closed.ensures.values.2
     (ap (λ (p : _). p.name) c.pass.view_is ∙ c.requires.first)
     (resting_idle c.pass.inside.seat.me.0.stage c.pass.inside.seat.table_id _ c.pass.invariant.1 (ap (λ (p : _). p.hall) c.pass.view_is ∙ c.requires.hall))
@@ -56,7 +56,7 @@ returns-clause-full g c =
 
 pub returns-clause-few : goal.returns-clause-few
 returns-clause-few g c =
-    let stands = g.T.Told.stands in
+    let stands = g.T.HasHistory.stands in
     let closing = closes_as stands _ _ c.pass.inside.seat.me.0 _ _ (ap (λ (m : _). m.0) c.split_seat-copy.ensures.2) c.close_with-closed.ensures.values.2
     (ap (λ (p : _). p.name) c.pass.view_is ∙ c.requires.first)
     (resting_idle c.pass.inside.seat.me.0.stage c.pass.inside.seat.table_id _ c.pass.invariant.1 (ap (λ (p : _). p.hall) c.pass.view_is ∙ c.requires.hall))

@@ -11,7 +11,7 @@ join_seat-requires g c = let two = c.self.invariant in (
   search rules,
   c.other.invariant.0,
   omega arith,
-  joins g.T.Told.stands _ _ _ _ (ap (λ (p : _). p.name) c.first.view_is ∙ c.requires.first)
+  joins g.T.HasHistory.stands _ _ _ _ (ap (λ (p : _). p.name) c.first.view_is ∙ c.requires.first)
       (resting_idle c.first.inside.seat.me.0.stage c.first.inside.seat.table_id _ c.first.invariant.1 (ap (λ (p : _). p.hall) c.first.view_is ∙ c.requires.hall.0))
       (resting_idle c.other.inside.seat.me.0.stage c.other.inside.seat.table_id _ c.other.invariant.1 (ap (λ (p : _). p.hall) c.other.view_is ∙ c.requires.hall.1)),
 )
@@ -20,7 +20,7 @@ pub load-requires : goal.load-requires
 load-requires g c = let two = c.self.invariant in (
   search rules,
   omega arith,
-  compares g.T.Told.stands _ _ _ (ap (λ (m : _). m.0.stage) c.join_seat.ensures.2 ∙ resting_idle c.first.inside.seat.me.0.stage c.first.inside.seat.table_id _ c.first.invariant.1 (ap (λ (p : _). p.hall) c.first.view_is ∙ c.requires.hall.0)),
+  compares g.T.HasHistory.stands _ _ _ (ap (λ (m : _). m.0.stage) c.join_seat.ensures.2 ∙ resting_idle c.first.inside.seat.me.0.stage c.first.inside.seat.table_id _ c.first.invariant.1 (ap (λ (p : _). p.hall) c.first.view_is ∙ c.requires.hall.0)),
 )
 
 pub returns-clause-first_seen : goal.returns-clause-first_seen

@@ -5,7 +5,7 @@ use Rattle.gts_standby.proofs.ahead.Ahead.fill.Given as goal
 -- what was read and what the source has left are still the feed
 abbrev pub invariant-loop-self : goal.invariant-loop-self
 invariant-loop-self g l = record {
-  kept : g.S.Source.tells → (fed : List ℕ) → HasRead fed l.fn.self (g.S.Source.left l.fn.source) → HasRead fed l.self (g.S.Source.left l.source);
+  kept : g.S.Source.observed → (fed : List ℕ) → HasRead fed l.fn.self (g.S.Source.left l.fn.source) → HasRead fed l.self (g.S.Source.left l.source);
   later : g.S.Source.faults l.fn.source ≤ g.S.Source.faults l.source;
 }
 

@@ -6,10 +6,10 @@ use Rattle.gts_standby.proofs.gathering.Gathering.bring.Goals as goal
 
 pub returns-then-is_empty-clause-brought : goal.returns-then-is_empty-clause-brought
 returns-then-is_empty-clause-brought g c = λ s rs h.
-    brings_none g.P.Station.tells c.args.directory.now s rs (g.P.Station.calls c.args.station.now) c.args.self.now h (eqb-true _ 1 (sym c.is_empty.ensures.value ∙ c.if-is_empty.true))
+    brings_none g.P.Station.observed c.args.directory.now s rs (g.P.Station.calls c.args.station.now) c.args.self.now h (eqb-true _ 1 (sym c.is_empty.ensures.value ∙ c.if-is_empty.true))
 
 pub returns-then-is_empty-clause-moments : goal.returns-then-is_empty-clause-moments
-returns-then-is_empty-clause-moments g c = λ tell. still_brings g.P.Station.tells tell c.args.directory.now (g.P.Station.calls c.args.station.now) c.args.self.now
+returns-then-is_empty-clause-moments g c = λ tell. still_brings g.P.Station.observed tell c.args.directory.now (g.P.Station.calls c.args.station.now) c.args.self.now
 
 pub append_batch-requires-clause-some : goal.append_batch-requires-clause-some
 append_batch-requires-clause-some g c =
@@ -18,7 +18,7 @@ append_batch-requires-clause-some g c =
 
 pub returns-in-Ok-clause-brought : goal.returns-in-Ok-clause-brought
 returns-in-Ok-clause-brought g c = λ s rs h.
-    brings_all g.P.Station.tells c.args.directory.now s rs (g.P.Station.calls c.args.station.now) (g.P.Station.calls c.append_batch.new.station) c.args.self.now
+    brings_all g.P.Station.observed c.args.directory.now s rs (g.P.Station.calls c.args.station.now) (g.P.Station.calls c.append_batch.new.station) c.args.self.now
     (record { journal = c.append_batch.new.self; batch = c.append_batch.new.batch; seal = c.args.self.now.seal }) h c.in-Ok.ensures.place c.in-Ok.ensures.emptied refl
     (λ tell. record { text = c.in-Ok.ensures.added tell; stands = c.in-Ok.ensures.stands tell; place = c.in-Ok.ensures.place })
 

@@ -1,0 +1,162 @@
+-- How the run of a file ended, by the run of the capture that it stands for.
+use Rattle.std.proofs.Common.{◌≡◌, ℕ, ◌<◌, ◌≤◌, List, [], ◌++◌, length, Option, Some, None, inl, inr, refl, sym, subst, arith}
+use Rattle.std.proofs.lemmas.List.{append-nil}
+use Rattle.gts_accum.specs.declared.end.UnpackEnd.TheVariants.{Bad}
+use Rattle.gts_accum.specs.Cited.{Directory, Ended, EndsEarly, HasReplayCause, HasUnpackCause, IsEndAt, IsEndOf, IsFileEnd, IsLeft, IsPlaceMet, IsWhole, Journaled, ReplayEnd, Rose, Standing, StandsFor, Step, UnpackEnd, Unpacks, badplace, captured, readable, reading, steps_read}
+use Rattle.gts_replay.specs.Cited.{Ends}
+use Rattle.gts_event.specs.declared.event.Entry.{Entry}
+use Rattle.gts_connection.specs.Cited.{Reading}
+use Rattle.gts_connection.proofs.LawLemmas.{reads_once, early_is_none}
+use Rattle.gts_replay.specs.declared.end.ReplayEnd.TheVariants as end
+use Rattle.gts_accum.proofs.LawLemmas.{file-whole, file-early}
+
+-- ---- the one reading of the capture
+
+-- a capture that was read through its end is that of a file without a bad place
+whole-one : (d : Directory) (file : List ℕ) (c : ℕ) (steps : List Step) → length d.circuits ≤ 100 → c < length d.circuits
+    → IsWhole d (captured file c) steps → badplace file ≡ None
+whole-one d file c steps few here w = go (badplace file) refl
+  where
+    go : (place : Option ℕ) → badplace file ≡ place → badplace file ≡ None
+    go None none = none
+    go (Some at) some = absurd (early_is_none Journaled d (captured file c) (steps_read c (reading file)) steps (length (captured file c)) few (file-early d file c at here some) w)
+
+-- and one that ends early is that of a file with one, and ends with its bytes
+record IsCutFile (d : Directory) (file : List ℕ) (c : ℕ) (steps : List Step) : Type 0 where
+  place : ℕ
+  bad : badplace file ≡ Some place
+  read : Reading d (captured file c) steps (length (captured file c))
+
+cut-one : (d : Directory) (file : List ℕ) (c at : ℕ) (steps : List Step) → length d.circuits ≤ 100 → c < length d.circuits
+    → EndsEarly d (captured file c) steps at → IsCutFile d file c steps
+cut-one d file c at steps few here early = go (badplace file) refl
+  where
+    go : (place : Option ℕ) → badplace file ≡ place → IsCutFile d file c steps
+    go None none = absurd (early_is_none Journaled d (captured file c) steps (steps_read c (reading file)) at few early (file-whole d file c here none))
+    go (Some place) some =
+        let same = reads_once Journaled d (readable (captured file c)) steps (steps_read c (reading file)) at (length (captured file c)) few early.0 (file-early d file c place here some).0 in
+        let P : ℕ → Type 0 = λ n. Reading d (captured file c) steps n in
+        record { place = place; bad = some; read = subst P same.1 early.0 }
+
+-- ---- the end
+
+-- an end of the capture's run that is no early one is that of the file's
+uncut : (r : ReplayEnd) (result : UnpackEnd) → ((at : ℕ) → r ≡ end.Capture at → ⊥) → result ≡ Ended r → IsEndOf r result
+uncut end.Done result other is = is
+uncut (end.Capture at) result other is = absurd (other at refl)
+uncut end.SourceFault result other is = is
+uncut (end.Reopen fault) result other is = is
+uncut (end.Fault fault) result other is = is
+uncut (end.Compaction fault) result other is = is
+uncut end.NoMemory result other is = is
+
+-- what a file's run is told to have met
+told : {O W : Type 0} (meanings : Standing O W) (station observed : Type 0) (o : O) (h : List Entry) (r : ReplayEnd) (old new : W) (file left : List ℕ) (c : ℕ)
+    → length (meanings.directory old).circuits ≤ 100 → c < length (meanings.directory old).circuits → observed
+    → Ends meanings station Journaled o h observed r old new (captured file c) left → ((at : ℕ) → r ≡ end.Capture at → ⊥) → IsEndAt (badplace file) (Ended r)
+told meanings station observed o h end.Done old new file left c few here tell ends other =
+    let d = ends.done refl in whole-one (meanings.directory old) file c d.steps few here (d.whole tell)
+told meanings station observed o h (end.Capture at) old new file left c few here tell ends other = absurd (other at refl)
+told meanings station observed o h end.SourceFault old new file left c few here tell ends other = tt
+told meanings station observed o h (end.Reopen fault) old new file left c few here tell ends other = tt
+told meanings station observed o h (end.Fault fault) old new file left c few here tell ends other = tt
+told meanings station observed o h (end.Compaction fault) old new file left c few here tell ends other = tt
+told meanings station observed o h end.NoMemory old new file left c few here tell ends other = tt
+
+-- the run of the capture didn't end early
+pub from-end : {O W : Type 0} (meanings : Standing O W) (station observed : Type 0) (r : ReplayEnd) (old new : W) (file left : List ℕ) (c : ℕ)
+    → length (meanings.directory old).circuits ≤ 100 → c < length (meanings.directory old).circuits → ((at : ℕ) → r ≡ end.Capture at → ⊥)
+    → ((o : O) (h : List Entry) → StandsFor meanings o (length h) h old → Ends meanings station Journaled o h observed r old new (captured file c) left)
+    → (now : List ℕ) → (observed → IsLeft file now c left) → Unpacks meanings station observed (Ended r) old new file now c
+from-end meanings station observed r old new file left c few here other ends now taken = record {
+  replayed = r;
+  left = left;
+  is = uncut r (Ended r) other refl;
+  ends = ends;
+  place = λ o h stands tell. told meanings station observed o h r old new file left c few here tell (ends o h stands) other;
+  source = λ e tell. inr (taken tell);
+}
+
+-- it did
+pub from-cut : {O W : Type 0} (meanings : Standing O W) (station observed : Type 0) (at : ℕ) (last : UnpackEnd) (old new : W) (file left : List ℕ) (c : ℕ)
+    → length (meanings.directory old).circuits ≤ 100 → c < length (meanings.directory old).circuits
+    → ((o : O) (h : List Entry) → StandsFor meanings o (length h) h old → Ends meanings station Journaled o h observed (end.Capture at) old new (captured file c) left)
+    → IsFileEnd last → (observed → IsPlaceMet (badplace file) last) → (now : List ℕ) → Unpacks meanings station observed last old new file now c
+from-cut meanings station observed at (Bad p) old new file left c few here ends kind met now = record {
+  replayed = end.Capture at;
+  left = left;
+  is = (p, refl);
+  ends = ends;
+  place = λ o h stands tell. elim (met tell p refl) [
+    | inl some ↦ some
+    | inr none ↦
+        let k = (ends o h stands).capture at refl in
+        let cut = cut-one (meanings.directory old) file c at k.steps few here (k.early tell) in
+        absurd (let e = cut.bad in cc)
+  ];
+  source = λ e. absurd (cc);
+}
+from-cut meanings station observed at (Ended end.SourceFault) old new file left c few here ends kind met now = record {
+  replayed = end.SourceFault;
+  left = [];
+  is = refl;
+  ends = λ o h stands.
+      let k = (ends o h stands).capture at refl in
+      let text : captured file c ≡ captured file c ++ [] = sym (append-nil (captured file c)) in
+      record {
+        done = λ e. absurd (cc);
+        capture = λ n e. absurd (cc);
+        source_fault = λ e. record {
+          steps = k.steps;
+          taken = λ tell. record {
+            taken = captured file c;
+            text = text;
+            read = (cut-one (meanings.directory old) file c at k.steps few here (k.early tell)).read;
+          };
+          stands = k.stands;
+        };
+        reopen = λ fault e. absurd (cc);
+        compaction = λ fault e. absurd (cc);
+        fault = λ fault e. absurd (cc);
+        no_memory = λ e. absurd (cc);
+      };
+  place = λ o h stands tell. tt;
+  source = λ e tell. inl refl;
+}
+from-cut meanings station observed at (Ended end.Done) old new file left c few here ends kind met now = absurd kind
+from-cut meanings station observed at (Ended (end.Capture n)) old new file left c few here ends kind met now = absurd kind
+from-cut meanings station observed at (Ended (end.Reopen fault)) old new file left c few here ends kind met now = absurd kind
+from-cut meanings station observed at (Ended (end.Fault fault)) old new file left c few here ends kind met now = absurd kind
+from-cut meanings station observed at (Ended (end.Compaction fault)) old new file left c few here ends kind met now = absurd kind
+from-cut meanings station observed at (Ended end.NoMemory) old new file left c few here ends kind met now = absurd kind
+
+-- ---- causes
+
+pub cause-end : (r : ReplayEnd) (disk disk_now say say_now source source_now : ℕ) → HasReplayCause r disk disk_now say say_now source source_now
+    → HasUnpackCause (Ended r) disk disk_now say say_now source source_now
+cause-end r disk disk_now say say_now source source_now k = record {
+  disk_later = k.disk_later;
+  say_later = k.say_later;
+  source_later = k.source_later;
+  disk_failed = λ e. k.disk_failed (cc);
+  compaction_failed = λ e. k.compaction_failed (cc);
+  reopen_failed = λ e. k.reopen_failed (cc);
+  say_failed = λ e. k.say_failed (cc);
+  source_failed = λ e. k.source_failed (cc);
+}
+
+pub cause-cut : (r : ReplayEnd) (last : UnpackEnd) (disk disk_now say say_now source source_now later : ℕ)
+    → HasReplayCause r disk disk_now say say_now source source_now → IsFileEnd last
+    → (source_now ≤ later) × (last ≡ Ended end.SourceFault → Rose source_now later) → HasUnpackCause last disk disk_now say say_now source later
+cause-cut r last disk disk_now say say_now source source_now later k is more =
+    let P : UnpackEnd → Type 0 = IsFileEnd in
+    record {
+      disk_later = k.disk_later;
+      say_later = k.say_later;
+      source_later = omega (arith, k.source_later, more.0);
+      disk_failed = λ e. absurd (subst P e is);
+      compaction_failed = λ e. absurd (subst P e is);
+      reopen_failed = λ e. absurd (subst P e is);
+      say_failed = λ e. absurd (subst P e is);
+      source_failed = λ e. omega (arith, more.1 e, k.source_later);
+    }

@@ -1,0 +1,16 @@
+use Rattle.std.proofs.Common.{◌≡◌, [], length}
+use Rattle.gts_accum.specs.Cited.{Head, IsSound, Passes, ahead, missing, unpacking_of}
+use Rattle.gts_accum.proofs.parts.UnpackedParts.fill.Given as goal
+
+abbrev pub invariant-loop-self : goal.invariant-loop-self
+invariant-loop-self g l = record {
+  sound : IsSound l.self;
+  given : l.self.next ≡ Head → l.self.given ≡ length l.self.made;
+  circuit : l.self.circuit ≡ l.fn.self.circuit;
+  same : g.S.Source.observed → ahead g.S.Source.left (unpacking_of l.self) ≡ ahead g.S.Source.left (unpacking_of l.fn.self);
+  passes : g.S.Source.observed → Passes g.S.Source.left (unpacking_of l.fn.self) (unpacking_of l.self) [];
+  steady : g.S.Source.faults l.self.source ≡ g.S.Source.faults l.fn.self.source;
+}
+
+abbrev pub decreases-loop-self : goal.decreases-loop-self
+decreases-loop-self g l = missing l.self.next l.self.held

@@ -1,0 +1,66 @@
+use Rattle.std.proofs.Common.{ℕ, ◌≤◌, List, length, sym, ap, subst, ◌∙◌, arith}
+use Rattle.gts_replay.specs.Cited.{Ends}
+use Rattle.gts_event.specs.declared.event.Entry.{Entry}
+use Rattle.gts_accum.specs.Cited.{HasReplayCause, HasUnpackCause, IsLeft, IsPlaceMet, Journaled, ReplayEnd, StandsFor, UnpackEnd, Unpacks, badplace, capture_left, captured}
+use Rattle.gts_accum.proofs.UnpackLemmas.{from-end, from-cut, cause-end, cause-cut}
+use Rattle.gts_accum.proofs.unpacking.unpack_of.Goals as goal
+use Rattle.gts_accum.proofs.unpacking.unpack_of.Goals.{in-Capture, in_default}
+
+pub returns-clause-ends : goal.returns-clause-ends
+returns-clause-ends g c =
+    let meanings = g.W.Switch.meanings in
+    let left = g.S.Source.left in
+    let file : List ℕ = left c.args.file in
+    let now : List ℕ = left c.into_inner.result in
+    let rest : List ℕ = capture_left left c.replay.new.capture in
+    let few : length (meanings.directory c.args.switch.now).circuits ≤ 100 = omega (arith, c.circuits-few.ensures.circuits, c.circuits-few.ensures.few) in
+    let Q : UnpackEnd → Type 0 = λ e. Unpacks meanings g.W.Switch.observed g.S.Source.observed e c.args.switch.now c.replay.new.switch file now c.args.c in
+    let run = λ (o : g.W.Switch.Origin) (h : List Entry) (stands : StandsFor meanings o (length h) h c.args.switch.now).
+    let P : List ℕ → Type 0 = λ bytes. Ends meanings g.W.Switch.observed Journaled o h g.S.Source.observed c.replay.result c.args.switch.now c.replay.new.switch bytes rest in
+    subst P c.new-traced.ensures.capture (c.replay.ensures.ends o h stands) in
+    elim c.match-replay.branch as (λ _. Q c.match-replay.end) [
+      | in-Capture w ↦
+          let T : List ℕ → Type 0 = λ f. IsPlaceMet (badplace f) w.end_of_file-end.result in
+          subst Q (sym w.end-is)
+          (from-cut meanings g.W.Switch.observed g.S.Source.observed w.in-Capture.at w.end_of_file-end.result c.args.switch.now c.replay.new.switch file rest c.args.c few
+          c.requires.circuit
+          (λ o h stands.
+          let R : ReplayEnd → Type 0 = λ r. Ends meanings g.W.Switch.observed Journaled o h g.S.Source.observed r c.args.switch.now c.replay.new.switch (captured file c.args.c) rest in
+          subst R w.in-Capture.is (run o h stands))
+          w.end_of_file-end.ensures.kind (λ observed. subst T (sym (c.requires.file observed)) (w.end_of_file-end.ensures.told observed)) now)
+      | in_default w ↦
+          subst Q (sym w.end-is)
+          (from-end meanings g.W.Switch.observed g.S.Source.observed c.replay.result c.args.switch.now c.replay.new.switch file rest c.args.c few c.requires.circuit
+          w.in_default.not-Capture run now
+          (λ observed.
+          let A : List ℕ → Type 0 = λ f. IsLeft f now c.args.c rest in
+          let B : ℕ → Type 0 = λ n. IsLeft g.B.OfFile.file now n rest in
+          let C : List ℕ → Type 0 = λ l. IsLeft g.B.OfFile.file now g.B.OfFile.circuit l in
+          subst A (sym (c.requires.file observed))
+          (subst B (sym c.requires.picked) (subst C (ap (capture_left left) w.traced-is) (c.into_inner.ensures.left observed)))))
+    ]
+
+pub returns-clause-cause : goal.returns-clause-cause
+returns-clause-cause g c =
+    let faults = g.S.Source.faults in
+    let disk = g.W.Switch.disk_faults in
+    let say = g.W.Switch.say_faults in
+    let old = c.args.switch.now in
+    let new = c.replay.new.switch in
+    let before : ℕ = faults c.args.file in
+    let P : g.row.S.Denot → Type 0 = λ s. HasReplayCause c.replay.result (disk c.args.switch.now) (disk c.replay.new.switch) (say c.args.switch.now) (say c.replay.new.switch) (faults s) (faults c.replay.new.capture.source) in
+    let run = subst P c.new-traced.ensures.source c.replay.ensures.cause in
+    let Q : UnpackEnd → g.row.S.Denot → Type 0 = λ e s. HasUnpackCause e (disk c.args.switch.now) (disk c.replay.new.switch) (say c.args.switch.now) (say c.replay.new.switch) before (faults s) in
+    let A : g.row.S.Denot → Type 0 = λ s. Q c.match-replay.end s in
+    elim c.match-replay.branch as (λ _. A c.into_inner.result) [
+      | in-Capture w ↦
+          let B : UnpackEnd → Type 0 = λ e. Q e w.end_of_file-end.new.traced.source in
+          subst A (sym (c.into_inner.ensures.source ∙ ap (λ t. t.source) w.traced-is))
+          (subst B (sym w.end-is)
+          (cause-cut c.replay.result w.end_of_file-end.result _ _ _ _ before (faults c.replay.new.capture.source) (faults w.end_of_file-end.new.traced.source) run
+          w.end_of_file-end.ensures.kind w.end_of_file-end.ensures.cause))
+      | in_default w ↦
+          let B : UnpackEnd → Type 0 = λ e. Q e c.replay.new.capture.source in
+          subst A (sym (c.into_inner.ensures.source ∙ ap (λ t. t.source) w.traced-is))
+          (subst B (sym w.end-is) (cause-end c.replay.result _ _ _ _ before (faults c.replay.new.capture.source) run))
+    ]

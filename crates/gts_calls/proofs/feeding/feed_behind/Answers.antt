@@ -1,0 +1,83 @@
+use Rattle.std.proofs.Common.{◌≡◌, ◌-◌, ℕ, true, false, List, length, take, drop, sym, ap, subst, ◌∙◌, arith, length-drop}
+use Rattle.gts_calls.specs.Cited.{All, Entry, FeedEnd, GoesFed, GoesOver, IsShortAt, answer_of, events_of_signs, is_all, signs_of_step}
+use Rattle.gts_calls.proofs.OverLemmas.{Held, held_first, held_more, goes_first, goes_more, caused_later, is_that}
+use Rattle.gts_calls.proofs.ReadingLemmas.{slice_from, taken_more}
+use Rattle.gts_calls.proofs.feeding.feed_behind.Goals as goal
+
+pub loop-taken-init : goal.loop-taken-init
+loop-taken-init g c =
+    let meanings = g.W.Listens.meanings in
+    let e = c.deal-end.ensures in
+    let begun : List ℕ = take c.args.begun c.args.piece.now in
+    let start = c.args.decoder.now in
+    let F : List ℕ → (o : g.W.Listens.Origin) (first : ℕ) (h : List Entry) → Type 0 = λ message o first h.
+    GoesFed meanings o first h c.args.c (events_of_signs c.args.c (signs_of_step c.args.step message)) message c.deal-end.result c.deal-end.new.switch in
+    record {
+      least = omega arith;
+      most = c.requires.within;
+      held = held_first begun c.args.step start c.deal-end.result e.ends;
+      goes = goes_first meanings c.args.c begun c.args.step start c.args.switch.now c.deal-end.result c.deal-end.new.switch
+          (λ o first h s. subst (λ (m : List ℕ). F m o first h) c.message.ensures (e.goes o first h s));
+      short = subst (λ (m : List ℕ). IsShortAt c.deal-end.result m) c.message.ensures e.short;
+      directory = e.directory;
+      cause = e.cause;
+    }
+
+pub loop-taken-preserved : goal.loop-taken-preserved
+loop-taken-preserved g c =
+    let meanings = g.W.Listens.meanings in
+    let i = c.loop-taken.invariant in
+    let e = c.next_step-count.ensures in
+    let d = c.deal-end-in-loop-taken.ensures in
+    let piece : List ℕ = c.args.piece.now in
+    let n : ℕ = c.loop-taken.taken in
+    let m : ℕ = c.next_step-count.result.0 in
+    let slice : List ℕ = take (length piece - n) (drop n piece) in
+    let long : length slice ≡ length piece - n = ap length (slice_from n piece) ∙ length-drop n piece in
+    let begun : List ℕ = take c.args.begun piece in
+    let taken : List ℕ = take n piece in
+    let y : List ℕ = take m slice in
+    let start = c.args.decoder.now in
+    let decoder = c.loop-taken.decoder in
+    let next = c.next_step-count.new.decoder in
+    let step = c.next_step-count.result.1 in
+    let end : FeedEnd = c.deal-end-in-loop-taken.result in
+    let now = c.loop-taken.switch in
+    let later = c.deal-end-in-loop-taken.new.switch in
+    let all : c.loop-taken.end ≡ All = is_that c.loop-taken.end (sym c.is_all.ensures ∙ c.if-is_all.true) in
+    let held : Held begun c.args.step start taken All decoder = subst (λ (x : FeedEnd). Held begun c.args.step start taken x decoder) all i.held in
+    let so_far : GoesOver meanings c.args.c begun c.args.step start c.args.switch.now taken decoder.message All now =
+    subst (λ (x : FeedEnd). GoesOver meanings c.args.c begun c.args.step start c.args.switch.now taken decoder.message x now) all i.goes in
+    let F : List ℕ → (o : g.W.Listens.Origin) (first : ℕ) (h : List Entry) → Type 0 = λ message o first h.
+    GoesFed meanings o first h c.args.c (events_of_signs c.args.c (signs_of_step step message)) message end later in
+    record {
+      least = omega (arith, i.least);
+      most = omega (arith, long, e.most, i.most);
+      held = subst (λ (l : List ℕ). Held begun c.args.step start l end next) (taken_more n m piece)
+          (held_more begun taken y c.args.step step start decoder next end held e.reads d.ends);
+      goes = subst (λ (l : List ℕ). GoesOver meanings c.args.c begun c.args.step start c.args.switch.now l next.message end later) (taken_more n m piece)
+          (goes_more meanings c.args.c begun c.args.step start c.args.switch.now taken y decoder.message step decoder next end now later so_far held e.reads
+          (λ o first h s. subst (λ (t : List ℕ). F t o first h) c.message-in-loop-taken.ensures (d.goes o first h s)));
+      short = subst (λ (t : List ℕ). IsShortAt end t) c.message-in-loop-taken.ensures d.short;
+      directory = d.directory ∙ i.directory;
+      cause = caused_later (answer_of c.loop-taken.end) (answer_of end) (g.W.Listens.disk_faults c.args.switch.now) (g.W.Listens.disk_faults now) (g.W.Listens.disk_faults later)
+          (g.W.Listens.say_faults c.args.switch.now) (g.W.Listens.say_faults now) (g.W.Listens.say_faults later) i.cause d.cause;
+    }
+
+pub returns-else-is_all-clause-takes : goal.returns-else-is_all-clause-takes
+returns-else-is_all-clause-takes g c = λ before reads.
+    let h = c.loop-taken.invariant.held before reads in
+    record {
+      held = h.0;
+      ends = h.1;
+      all = λ e. absurd (let no : true ≡ false = sym (ap is_all e) ∙ sym c.is_all.ensures ∙ c.if-is_all.false in cc no);
+    }
+
+pub returns-after-loop-taken-clause-takes : goal.returns-after-loop-taken-clause-takes
+returns-after-loop-taken-clause-takes g c = λ before reads.
+    let h = c.loop-taken.invariant.held before reads in
+    record {
+      held = h.0;
+      ends = h.1;
+      all = λ e. omega (arith, c.loop-taken-test.false, c.loop-taken.invariant.most);
+    }

@@ -1,3 +1,0 @@
--- What the laws of src/progress.rt say, for the proofs of crates above: each is an answer of one of them.
-pub use Rattle.gts_capture.proofs.ProgressLemmas.{begins, one_step, at_end, at_bad, in_feed}
-pub use Rattle.gts_capture.proofs.GoesOnLemmas.{head_goes_on, feed_goes_on, taken_head, taken_feed}

@@ -1,8 +1,0 @@
-use Rattle.gts_capture.proofs.GoesOnLemmas.{taken_head, taken_feed}
-use Rattle.gts_capture.proofs.progress.what_was_taken_is_read.Goals as goal
-
-pub returns-clause-head : goal.returns-clause-head
-returns-clause-head c = taken_head
-
-pub returns-clause-feed : goal.returns-clause-feed
-returns-clause-feed c = taken_feed

@@ -1,3 +1,0 @@
-mod RuleLemmas
-mod CircuitLemmas
-mod DuplicateLemmas

@@ -1,9 +1,0 @@
-use Rattle.std.proofs.Common.{◌≡◌, ◌≤◌, length, map, take}
-use Rattle.gts_changes.specs.Cited.{bulletin_of, recent_among}
-use Rattle.gts_changes.proofs.duplicates.count_recent.Given as goal
-
-abbrev pub invariant-loop-bulletin : goal.invariant-loop-bulletin
-invariant-loop-bulletin l = record {
-  counted : l.count ≡ length (recent_among l.directory l.fn.accepted (map bulletin_of (take l.bulletin-index l.bulletins)));
-  few : l.count ≤ l.bulletin-index;
-}

@@ -1,0 +1,9 @@
+-- What receivers and senders leave of their passes.
+use Rattle.std.proofs.Common.{ℕ, List}
+use Rattle.gts_circuits.specs.Cited.{Fault, GoesOn, LineFault, Quiet, Seen, SendEnd, Sends}
+
+-- a sender's history goes on, however it ends
+pub sends-on : (c : ℕ) (old new : Seen) (bytes : List ℕ) (end : SendEnd) → Sends c old new bytes end → GoesOn old new
+sends-on c old new bytes Quiet s = s.0.desk
+sends-on c old new bytes (LineFault index) s = s.desk
+sends-on c old new bytes (Fault fault) s = s.desk

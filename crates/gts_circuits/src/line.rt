@@ -1,0 +1,22 @@
+use gts_calls::Given;
+use gts_frame::Decoder;
+use gts_receiver::ReceiveEnd;
+use gts_sender::SendEnd;
+
+/// What a worker works on, with the memory that this takes, and the end that it came to.
+#[derive(Drop)]
+pub enum Line<S, K> {
+    /// A receiver's source, how many connections it is to begin, and the decoder of their bytes.
+    Incoming {
+        source: S,
+        connections: u64,
+        decoder: Decoder,
+        end: Option<ReceiveEnd>,
+    },
+    /// A sender's sink, and room for the frames of a turn.
+    Outgoing {
+        sink: K,
+        given: Given,
+        end: Option<SendEnd>,
+    },
+}

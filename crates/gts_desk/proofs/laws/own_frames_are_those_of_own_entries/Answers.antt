@@ -1,5 +1,0 @@
-use Rattle.gts_desk.proofs.HistoryLemmas.{frames_added}
-use Rattle.gts_desk.proofs.laws.own_frames_are_those_of_own_entries.Goals as goal
-
-pub returns : goal.returns
-returns c = frames_added

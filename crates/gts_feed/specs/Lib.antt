@@ -1,4 +1,0 @@
-pub mod Fed
-pub mod Reading
-pub mod Going
-pub mod Cited

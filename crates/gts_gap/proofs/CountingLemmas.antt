@@ -1,0 +1,142 @@
+-- Numbers that are added, as the bytes of a connection come.
+use Rattle.std.proofs.Common.{◌≡◌, ℕ, ◌<◌, List, [], ◌∷◌, ◌++◌, length, get_or, set, drop, map, Result, Ok, Err, refl, sym, ap, subst, ◌∙◌, append_assoc}
+use Rattle.std.proofs.lemmas.Grind.{flat_map-append}
+use Rattle.std.proofs.lemmas.List.{append-nil, length-set, length-map}
+use Rattle.gts_gap.specs.Cited.{Adds, Bad, CaptureFault, Compact, CompactHead, Decode, Decoding, DoesAll, DoesStep, Drain, DrainHead, Event, Feed, FeedHead, Feeds, FeedsAll, FrameStep, Held, IsFed, Numbered, ReadsOn, Reopen, ReopenHead, Restart, RestartHead, Rings, SourceFault, StandsAt, Take, TakeHead, events_added, events_of_signs, fresh, held_in, no_bytes, number_of_event, signs_of_step}
+use Rattle.gts_gap.specs.Counting.{numbers_of}
+use Rattle.gts_connection.proofs.LawLemmas.{added-twice, added-signs}
+use Rattle.gts_replay.proofs.StepLemmas.{takes_none}
+use Rattle.gts_replay.proofs.DecoderLemmas.{decode_at, decode_set, decode_reopened}
+
+-- ---- what is added
+
+pub adds_none : (rings : Rings) (more : ℕ → List Numbered) → ((c : ℕ) → more c ≡ []) → Adds rings rings more
+adds_none rings more none = λ c ns stands.
+    subst (λ (l : List Numbered). StandsAt rings c l) (sym (ap (λ (l : List Numbered). ns ++ l) (none c) ∙ append-nil ns)) stands
+
+pub adds_more : (a b d : Rings) (x y z : ℕ → List Numbered) → Adds a b x → Adds b d y → ((c : ℕ) → z c ≡ x c ++ y c) → Adds a d z
+adds_more a b d x y z first second all = λ c ns stands.
+    subst (λ (l : List Numbered). StandsAt d c l) (append_assoc ns (x c) (y c) ∙ ap (λ (l : List Numbered). ns ++ l) (sym (all c))) (second c (ns ++ x c) (first c ns stands))
+
+pub adds_same : (a b : Rings) (x y : ℕ → List Numbered) → Adds a b x → ((c : ℕ) → y c ≡ x c) → Adds a b y
+adds_same a b x y first same = λ c ns stands. subst (λ (l : List Numbered). StandsAt b c (ns ++ l)) (sym (same c)) (first c ns stands)
+
+nothing_added : (c : ℕ) (before : List ℕ) → events_added c before [] ≡ []
+nothing_added c before = done (added-twice c before [] [])
+  where
+    none : (xs ys : List Event) → xs ≡ xs ++ ys → ys ≡ []
+    none [] ys e = sym e
+    none (x ∷ xs) ys e = none xs ys (ap (drop 1) e)
+
+    done : events_added c before [] ≡ events_added c before [] ++ events_added c (before ++ []) [] → events_added c before [] ≡ []
+    done e =
+        let last = none (events_added c before []) (events_added c (before ++ []) []) e in
+        subst (λ (b : List ℕ). events_added c b [] ≡ []) (append-nil before) last
+
+-- ---- piece by piece
+
+pub fed_none : (c : ℕ) (old : Decoding) (first : Rings) → IsFed c old first [] old first
+fed_none c old first = record {
+  held = λ before is. is ∙ ap held_in (sym (append-nil before));
+  adds = λ before is. adds_none first (numbers_of (events_added c before [])) (λ e. ap (λ (events : List Event). numbers_of events e) (nothing_added c before));
+}
+
+pub fed_piece : (c : ℕ) (old : Decoding) (first : Rings) (bytes piece : List ℕ) (decoder next : Decoding) (now later : Rings) → IsFed c old first bytes decoder now
+    → ((before : List ℕ) → decoder.held ≡ held_in before → next.held ≡ held_in (before ++ piece))
+    → ((before : List ℕ) → decoder.held ≡ held_in before → Adds now later (numbers_of (events_added c before piece)))
+    → IsFed c old first (bytes ++ piece) next later
+fed_piece c old first bytes piece decoder next now later fed held adds = record {
+  held = λ before is. held (before ++ bytes) (fed.held before is) ∙ ap held_in (append_assoc before bytes piece);
+  adds = λ before is.
+      let x : List Event = events_added c before bytes in
+      let y : List Event = events_added c (before ++ bytes) piece in
+      adds_more first now later (numbers_of x) (numbers_of y) (numbers_of (events_added c before (bytes ++ piece))) (fed.adds before is) (adds (before ++ bytes) (fed.held before is))
+      (λ e. ap (λ (events : List Event). numbers_of events e) (added-twice c before bytes piece) ∙ flat_map-append (number_of_event e) x y);
+}
+
+-- one step of the decoder more
+pub fed_step : (c : ℕ) (old : Decoding) (first : Rings) (bytes x : List ℕ) (step : FrameStep) (decoder next : Decoding) (now later : Rings) → IsFed c old first bytes decoder now
+    → ((before : List ℕ) → decoder.held ≡ held_in before → ReadsOn before x step next)
+    → Adds now later (numbers_of (events_of_signs c (signs_of_step step next.message)))
+    → IsFed c old first (bytes ++ x) next later
+fed_step c old first bytes x step decoder next now later fed reads adds =
+    fed_piece c old first bytes x decoder next now later fed (λ before is. (reads before is).held)
+    (λ before is. adds_same now later (numbers_of (events_of_signs c (signs_of_step step next.message))) (numbers_of (events_added c before x)) adds
+    (λ e. ap (λ (events : List Event). numbers_of events e) (added-signs c before x step next (reads before is))))
+
+-- ---- a step of each head
+
+pub does_feed : (observed : Type 0) (c n : ℕ) (held held_now : Held) (left left_now : List ℕ) (ds : List Decoding) (x next : Decoding) (old new : Rings) → c < length ds
+    → FeedsAll observed c held held_now left left_now (get_or ds c x) next old new → DoesAll observed (FeedHead c n) held held_now left left_now ds (set ds c next) old new
+does_feed observed c n held held_now left left_now ds x next old new within f = record {
+  step = Feed c f.bytes;
+  of_head = (f.bytes, refl);
+  taken = f.taken;
+  whole = f.whole;
+  adds = λ bs e. f.fed.adds (get_or bs c []) (decode_at ds bs c x within e);
+  decode = λ d bs each e. decode_set ds bs c next (get_or bs c [] ++ f.bytes) e (f.fed.held (get_or bs c []) (decode_at ds bs c x within e));
+  circuits = length-set ds c next;
+}
+
+pub does_take : (observed : Type 0) (c : ℕ) (held : Held) (left : List ℕ) (ds : List Decoding) (old : Rings) → held.feed ≡ 0 → DoesAll observed (TakeHead c) held held left left ds ds old old
+does_take observed c held left ds old none = record {
+  step = Take c;
+  of_head = refl;
+  taken = takes_none observed held left;
+  whole = none;
+  adds = λ bs e. adds_none old (λ e. []) (λ e. refl);
+  decode = λ d bs each e. e;
+  circuits = refl;
+}
+
+pub does_drain : (observed : Type 0) (c : ℕ) (held : Held) (left : List ℕ) (ds : List Decoding) (old : Rings) → held.feed ≡ 0 → DoesAll observed (DrainHead c) held held left left ds ds old old
+does_drain observed c held left ds old none = record {
+  step = Drain c;
+  of_head = refl;
+  taken = takes_none observed held left;
+  whole = none;
+  adds = λ bs e. adds_none old (λ e. []) (λ e. refl);
+  decode = λ d bs each e. e;
+  circuits = refl;
+}
+
+pub does_compact : (observed : Type 0) (held : Held) (left : List ℕ) (ds : List Decoding) (old : Rings) → held.feed ≡ 0 → DoesAll observed CompactHead held held left left ds ds old old
+does_compact observed held left ds old none = record {
+  step = Compact;
+  of_head = refl;
+  taken = takes_none observed held left;
+  whole = none;
+  adds = λ bs e. adds_none old (λ e. []) (λ e. refl);
+  decode = λ d bs each e. e;
+  circuits = refl;
+}
+
+pub does_reopen : (observed : Type 0) (c : ℕ) (held : Held) (left : List ℕ) (ds : List Decoding) (next : Decoding) (old : Rings) → next ≡ fresh → held.feed ≡ 0
+    → DoesAll observed (ReopenHead c) held held left left ds (set ds c next) old old
+does_reopen observed c held left ds next old is none = record {
+  step = Reopen c;
+  of_head = refl;
+  taken = takes_none observed held left;
+  whole = none;
+  adds = λ bs e. adds_none old (λ e. []) (λ e. refl);
+  decode = λ d bs each e. decode_set ds bs c next [] e (ap (λ (d : Decoding). d.held) is);
+  circuits = length-set ds c next;
+}
+
+pub does_restart : (observed : Type 0) (held : Held) (left : List ℕ) (ds ds_now : List Decoding) (old : Rings) → ds_now ≡ map (λ _. fresh) ds → held.feed ≡ 0
+    → DoesAll observed RestartHead held held left left ds ds_now old old
+does_restart observed held left ds ds_now old anew none = record {
+  step = Restart;
+  of_head = refl;
+  taken = takes_none observed held left;
+  whole = none;
+  adds = λ bs e. adds_none old (λ e. []) (λ e. refl);
+  decode = λ d bs each e. subst (λ (xs : List Decoding). Decode xs (no_bytes d)) (sym anew) (decode_reopened ds d (sym each));
+  circuits = ap length anew ∙ length-map {B = Decoding} ds (λ _. fresh);
+}
+
+pub feeds_step : (observed : Type 0) (c n : ℕ) (result : Result (Unit {0}) CaptureFault) (held held_now : Held) (left left_now : List ℕ) (ds : List Decoding) (x next : Decoding) (old new : Rings) → c < length ds
+    → Feeds observed c result held held_now left left_now (get_or ds c x) next old new → DoesStep observed (FeedHead c n) result held held_now left left_now ds (set ds c next) old new
+feeds_step observed c n (Ok u) held held_now left left_now ds x next old new within f = does_feed observed c n held held_now left left_now ds x next old new within f
+feeds_step observed c n (Err (Bad at)) held held_now left left_now ds x next old new within f = record { step = Feed c f.0; of_head = (f.0, refl); ends = f.1 }
+feeds_step observed c n (Err SourceFault) held held_now left left_now ds x next old new within f = tt

@@ -1,5 +1,0 @@
-use Rattle.gts_housed.proofs.TurningLemmas.{taken}
-use Rattle.gts_housed.proofs.laws.a_desk_answers_what_its_turn_took.Goals as goal
-
-pub returns : goal.returns
-returns g c = taken g.P.Station.tells g.P.Station.calls g.P.Station.disk_faults g.P.Station.say_faults

@@ -1,8 +1,0 @@
-use Rattle.gts_housed.specs.Turning.{AddsFor}
-use Rattle.gts_housed.proofs.turns.leave_fed.Given as goal
-
-abbrev pub ghosts-leave_some : goal.ghosts-leave_some
-ghosts-leave_some g a = record {
-  tells = λ more.
-      AddsFor g.P.Station.tells g.P.Station.calls g.P.Station.disk_faults g.P.Station.say_faults g.B.Began.beginning g.about a.self.pass.seen a.self.value.engine more;
-}

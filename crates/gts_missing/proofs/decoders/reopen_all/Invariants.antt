@@ -1,7 +1,0 @@
-use Rattle.std.proofs.Common.{◌≡◌, ◌++◌, map, take, drop}
-use Rattle.gts_frame.specs.Decoder.{fresh}
-use Rattle.gts_missing.proofs.decoders.reopen_all.Given as goal
-
--- those before the index begin a new connection
-abbrev pub invariant-loop-decoder : goal.invariant-loop-decoder
-invariant-loop-decoder l = l.decoders ≡ map (λ _. fresh) (take l.decoder-index l.initial.decoders) ++ drop l.decoder-index l.initial.decoders

@@ -1,8 +1,0 @@
-use Rattle.std.proofs.Common.{sym, subst}
-use Rattle.gts_missing.specs.Cited.{Adds, FrameStep as Step, events_of_signs, numbers_of, signs_of_step}
-use Rattle.gts_missing.proofs.hearing.deal.Goals as goal
-
-pub returns-in-Frame-clause-adds : goal.returns-in-Frame-clause-adds
-returns-in-Frame-clause-adds c =
-    let A : Step → Type 0 = λ step. Adds c.args.table.now c.hear.new.table (numbers_of (events_of_signs c.args.c (signs_of_step step c.args.message.now))) in
-    subst A (sym c.in-Frame.is) (c.hear.ensures.adds c.in-Frame.field-0)

@@ -1,4 +1,0 @@
-pub mod Counting
-pub mod Saying
-pub mod Ending
-pub mod Cited

@@ -1,0 +1,7 @@
+use Rattle.std.proofs.Common.{◌≡◌, flat_map}
+use Rattle.gts_report.specs.Cited.{behind, need_of, range_with_len}
+use Rattle.gts_report.specs.Changes.{circuit_lines}
+use Rattle.gts_report.proofs.circuits.all_circuit_lines.Given as goal
+
+abbrev pub invariant-loop-c : goal.invariant-loop-c
+invariant-loop-c l = l.all ≡ flat_map (circuit_lines l.new l.old (need_of l.need) (behind l.new l.old (need_of l.need))) (range_with_len 0 l.c)

@@ -1,4 +1,0 @@
--- What files of this crate and of those above cite of it, in one place, and what it cites of those below.
-pub mod Below
-pub use Rattle.gts_say.specs.Say.{SaysFront, SaysOnly, Tells}
-pub use Below.*

@@ -1,2 +1,0 @@
-pub mod Say
-pub mod Cited

@@ -1,0 +1,48 @@
+-- What was said in pieces. For the proofs of crates above too.
+use Rattle.std.proofs.Common.{ℕ, List, [], ◌++◌, Result, Ok, Err, inl, inr, refl, sym, ap, ◌∙◌}
+use Rattle.std.proofs.lemmas.List.{append_assoc}
+use Rattle.gts_traits.specs.Cited.{Call, Outside, Says, SaysFront, SaysOnly, Tells, Tries, on, said_by, seen}
+use Rattle.gts_traits.proofs.OutsideLemmas.{on-append, SaidSince-refl, SaidSince-trans, SaidSince-from_say}
+
+pub said_none : (calls : List Call) → SaysOnly calls calls []
+said_none calls = record { said = SaidSince-refl calls; files = λ file. refl }
+
+pub said_more : (a b c : List Call) (x y : Outside) → SaysOnly a b x → SaysOnly b c y → SaysOnly a c (x ++ y)
+said_more a b c x y first second = record {
+  said = SaidSince-trans a b c x y first.said second.said;
+  files = λ file. second.files file ∙ first.files file;
+}
+
+pub front_behind : (a b c : List Call) (x y : Outside) → SaysOnly a b x → SaysFront b c y → SaysFront a c (x ++ y)
+front_behind a b c x y first second = record {
+  left = x ++ second.left;
+  front = (second.front.0, ap (λ (z : Outside). x ++ z) second.front.1 ∙ sym (append_assoc x second.left second.front.0));
+  said = said_more a b c x second.left first second.said;
+}
+
+pub front_more : (a b : List Call) (x more : Outside) → SaysFront a b x → SaysFront a b (x ++ more)
+front_more a b x more f = record {
+  left = f.left;
+  front = (f.front.0 ++ more, ap (λ (z : Outside). z ++ more) f.front.1 ∙ append_assoc f.left f.front.0 more);
+  said = f.said;
+}
+
+-- a say of bytes on a channel
+pub tells_try : {T E : Type 0} (result : Result T E) (channel : ℕ) (bytes : List ℕ) (old new : List Call) → Tries (Says channel bytes) result old new
+    → Tells result (on channel bytes) old new
+tells_try (Ok done) channel bytes old new is = record {
+  said = SaidSince-from_say channel bytes old new is;
+  files = λ file. ap (λ (calls : List Call). seen calls file) is;
+}
+tells_try (Err e) channel bytes old new broke = elim broke [
+  | inl same ↦ record {
+    left = [];
+    front = (on channel bytes, refl);
+    said = record { said = ap said_by same ∙ SaidSince-refl old; files = λ file. ap (λ (calls : List Call). seen calls file) same };
+  }
+  | inr left ↦ record {
+    left = on channel left.0;
+    front = (on channel left.1.0, ap (on channel) left.1.1 ∙ on-append channel left.0 left.1.0);
+    said = record { said = ap said_by left.2; files = λ file. ap (λ (calls : List Call). seen calls file) left.2 };
+  }
+]
