@@ -1,5 +1,6 @@
 """The receipts with their times (packaging/gts-switch-receipts): beside a writer of 20,000 lines a second the one who stamps them is
-killed and started again and its log is renamed, and each line stands in the logs once, in order, at its place.
+killed and started again and its log is renamed, and each line stands in the logs once, in order, at its place. Where its log was
+removed, it goes on behind what was given back, and where somebody wrote into it, behind its own last line.
 
     --break line    one line is taken out of a log"""
 import os
@@ -8,11 +9,18 @@ import signal
 import subprocess
 import threading
 import time
+from importlib.machinery import SourceFileLoader
+from importlib.util import module_from_spec, spec_from_loader
 
 import gate
+import pytest
 
 STAMPER = os.path.join(gate.TOP, 'packaging/gts-switch-receipts')
 LINES, A_SECOND, KILLS, ROTATIONS = 200_000, 20_000, 12, 6
+# A block of the file system has so many lines of 32 bytes, and so many lines are given back: a hole ends with a line, behind one,
+# in front of one's end, and nowhere.
+OF_A_BLOCK = 128
+GIVEN_BACK = (5 * OF_A_BLOCK, 5 * OF_A_BLOCK + 1, 5 * OF_A_BLOCK - 1, 0)
 STAMPED = re.compile(rb'\d{4}-\d\d-\d\dT\d\d:\d\d:\d\d\.\d{3}Z (\d+) (.*)')
 
 
@@ -83,3 +91,43 @@ def test_no_receipt_is_lost_beside_twenty_thousand_a_second(tmp_path, chance, br
         place += len(found[2]) + 1
     assert len(lines) == LINES
     assert os.stat(receipts).st_size == place
+
+
+@pytest.mark.parametrize('given_back', GIVEN_BACK)
+def test_a_log_that_was_removed_is_begun_anew(tmp_path, broken, given_back):
+    loader = SourceFileLoader('stamper', STAMPER)
+    module = module_from_spec(spec_from_loader('stamper', loader))
+    loader.exec_module(module)
+    receipts, log = str(tmp_path / 'receipts'), str(tmp_path / 'receipts.log')
+    lines = [b'ACC 0 %05d 1 SMVG01 TVSV 28000' % number for number in range(10 * OF_A_BLOCK)]
+    size = len(lines[0]) + 1
+    assert size * OF_A_BLOCK == module.BLOCK
+    with open(receipts, 'w+b') as file:
+        file.write(b''.join(line + b'\n' for line in lines))
+        file.flush()
+        if given_back:
+            module.give_back(file.fileno(), given_back * size)
+    assert stamper(receipts, log, '--to-the-end').wait(gate.SECONDS) == 0
+    stamped = [STAMPED.fullmatch(line) for line in read(log).splitlines()]
+    if broken == 'line':
+        del stamped[-1]
+    places = [int(found[1]) for found in stamped]
+    # At least what wasn't given back is there, whole, and less than a block of what was.
+    assert places == list(range(places[0], size * len(lines), size))
+    assert given_back * size - module.BLOCK <= places[0] <= given_back * size
+    assert [found[2] for found in stamped] == lines[places[0] // size:]
+
+
+def test_what_somebody_wrote_into_the_log_is_passed_over(tmp_path, broken):
+    receipts, log = str(tmp_path / 'receipts'), str(tmp_path / 'receipts.log')
+    lines = [receipt(number) for number in range(20)]
+    for line in lines:
+        with open(receipts, 'ab') as file:
+            file.write(line + b'\n')
+        assert stamper(receipts, log, '--to-the-end').wait(gate.SECONDS) == 0
+        with open(log, 'ab') as file:
+            file.write(b'here the line was mended\n\nZ 7 x\n')
+    stamped = [found[2] for found in map(STAMPED.fullmatch, read(log).splitlines()) if found]
+    if broken == 'line':
+        del stamped[-1]
+    assert stamped == lines

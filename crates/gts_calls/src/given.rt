@@ -1,4 +1,4 @@
-ghost use Rattle.std.specs.Prelude.{◌≡◌, ◌+◌, ◌<◌, ◌≤◌, IsTrue, length, ◌∷◌, [], ◌++◌, take, IfOk, slice_index_or};
+ghost use Rattle.std.specs.Prelude.{◌≡◌, ◌+◌, ◌<◌, ◌≤◌, ◌↔◌, IsTrue, length, ◌∷◌, [], ◌++◌, take, IfOk, slice_index_or};
 ghost use Rattle.gts_calls.specs.Cited.{Frame as FrameType, HasRoom, LONGEST_FRAME, frames_of, no_frame, no_frames, sizes_of};
 
 use gts_alphabet::{LONGEST_FRAME, NoMemory};
@@ -69,7 +69,7 @@ impl Frames {
 
     /// Whether there is room for one frame more, however long it is.
     pub fn has_room(&self) -> bool
-        ensures { IsTrue result → HasRoom self.now }
+        ensures { IsTrue result ↔ HasRoom self.now }
     {
         self.count < MOST_FRAMES && LONGEST_FRAME <= MOST_BYTES - self.size
     }

@@ -17,16 +17,16 @@ use Rattle.gts_lock.specs.contracts.hall.Hall as halls
 use Rattle.gts_lock.specs.contracts.pass.Pass as passes
 use Rattle.gts_lock.proofs.hall.Hall.TheSendSync as hall
 use Rattle.gts_lock.proofs.pass.Pass.TheSendSync as pass
-use Rattle.gts_circuits.specs.declared.began.Began as began
-use Rattle.gts_circuits.specs.contracts.housed.Housed as housed
-use Rattle.gts_circuits.specs.contracts.housed.HousedHasHistory.TheImpl as told
-use Rattle.gts_circuits.proofs.housed.Housed.TheSendSync as housed_crosses
-use Rattle.gts_circuits.specs.contracts.ringing.RunBell as bells
-use Rattle.gts_circuits.proofs.ringing.RunBell.TheSendSync as bell
-use Rattle.gts_circuits.specs.contracts.worker.Worker as worker
-use Rattle.gts_circuits.specs.contracts.worker.Worker.TheInside as inside
-use Rattle.gts_circuits.specs.contracts.line.Line as lines
-use Rattle.gts_circuits.proofs.line.Line.TheSendSync as line
+use Rattle.gts_circuits.specs.declared.hall.began.Began as began
+use Rattle.gts_circuits.specs.contracts.hall.housed.Housed as housed
+use Rattle.gts_circuits.specs.contracts.hall.housed.HousedHasHistory.TheImpl as told
+use Rattle.gts_circuits.proofs.hall.housed.Housed.TheSendSync as housed_crosses
+use Rattle.gts_circuits.specs.contracts.workers.ringing.RunBell as bells
+use Rattle.gts_circuits.proofs.workers.ringing.RunBell.TheSendSync as bell
+use Rattle.gts_circuits.specs.contracts.workers.worker.Worker as worker
+use Rattle.gts_circuits.specs.contracts.workers.worker.Worker.TheInside as inside
+use Rattle.gts_circuits.specs.contracts.workers.line.Line as lines
+use Rattle.gts_circuits.proofs.workers.line.Line.TheSendSync as line
 
 snapshot_send : (Y : RattleType) → IsSend (snapshot.the_row Y)
 snapshot_send Y = record { owned = λ d vs. ((λ vss. (tt, ((λ uss. (tt, tt)), tt))), tt); leaving = λ k f vs. tt }

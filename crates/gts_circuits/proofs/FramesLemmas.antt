@@ -57,7 +57,7 @@ module _ (b : Beginning) (threads : List (ℕ × List Entry)) (history : History
       → EnteredConnections (goes_on connections) c (earlier ++ last ∷ []) end (entries_under (receiver_name c) history)
   entered (Ended rest) r = settled_from r.within.own r.received.ends.0
   entered (LostSync field at) r = settled_from r.within.own r.received.ends.0
-  entered SourceFault r = settled_from r.within.own r.received.ends.0
+  entered SourceFault r = settled_from r.within.own r.received.ends
   entered Long r = settled_from r.within.own r.received.ends.0
   entered (Fault fault) r =
       let f = r.received.ends in

@@ -6,7 +6,7 @@ use Rattle.gts_circuits.specs.Gathering.{Stands}
 use mathlib.Core.Option.{some, some-injective, some-ne-none}
 use lib.ListN.{get_elem?}
 use Rattle.gts_circuits.proofs.HousedLawLemmas.{starts_flat, under_flat}
-use Rattle.gts_circuits.specs.declared.line.Line.TheVariants as lines
+use Rattle.gts_circuits.specs.declared.workers.line.Line.TheVariants as lines
 use Rattle.gts_circuits.proofs.PlacesLemmas.{at_longer, at_behind, at_less, there, map_at}
 use Rattle.gts_circuits.proofs.LawLemmas.{count_receivers, count_works}
 use Rattle.gts_circuits.proofs.PastLemmas.{under_few}

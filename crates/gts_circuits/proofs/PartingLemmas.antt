@@ -2,7 +2,7 @@
 use Rattle.std.proofs.Common.{◌≡◌, ℕ, ◌+◌, true, List, [], ◌∷◌, ◌++◌, Option, Some, None, sym, ap, ◌∙◌, append_assoc}
 use Rattle.std.proofs.lemmas.List.{append-nil}
 use Rattle.gts_circuits.specs.Cited.{Decoding, Given, Incoming, Line, Outgoing, ReceiveEnd, SendEnd, ServeEnd, first_fault, has_end, incoming_of, is_some, outgoing_of, receiver_first, sender_first}
-use Rattle.gts_circuits.specs.declared.line.Line.TheVariants as lines
+use Rattle.gts_circuits.specs.declared.workers.line.Line.TheVariants as lines
 use Rattle.gts_circuits.proofs.PartedLemmas.{incoming-append, outgoing-append, no_end}
 
 module _ {S K : Type 0} where

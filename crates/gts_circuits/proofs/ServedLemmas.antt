@@ -3,7 +3,7 @@ use Rattle.std.proofs.Common.{◌≡◌, inl, inr, ℕ, zero, suc, ◌+◌, ◌-
 use Rattle.std.proofs.lemmas.Bool.{eq-eqb, cases_lt}
 use Rattle.std.proofs.lemmas.List.{append_cancel_right}
 use Rattle.gts_circuits.specs.Cited.{AreOpened, AreOver, Beginning, Begun, Call, Circuit, Directory, Engine, Entry, Event, HasNoPorts, HasPlace, Incoming, IsAtRest, IsClosed, IsDoneIn, IsFinished, IsHandedBack, IsOpened, IsReceived, IsSame, IsSent, IsShutIfClosed, Line, LineStood, LinesSeen, Long, LostSync, MOST_TURNS, NamesAreUpTo, Outgoing, Part, PlaceSeen, ReceiveEnd, Receiver, ReceiverStands, Rose, SendEnd, Sender, ServeEnd, Serves, ServesCircuit, Sockets, SourceFault, StopsAtOpening, Taken, Tells, TookFrames, WentThroughAll, all_done, ends_of, entries, entries_under, events_over, filter, first_fault, flat, goes_on, incoming_of, is_try, on_circuit, outgoing_of, place_of, place_open, receiver_first, receiver_name, sender_first, sender_name, state_at, takes, waiting}
-use Rattle.gts_circuits.specs.declared.end.ServeEnd.TheVariants.{Done}
+use Rattle.gts_circuits.specs.declared.service.end.ServeEnd.TheVariants.{Done}
 use Rattle.gts_receiver.specs.declared.end.ReceiveEnd.TheVariants.{Ended, Fault}
 use Rattle.gts_receiver.specs.Cited.{settled}
 use mathlib.Core.Option.{some, some-injective, some-ne-none}

@@ -5,7 +5,7 @@ use Rattle.gts_circuits.specs.Cited.Below.{Call, Engine, Entry, Event, Idle, IsS
 use Rattle.gts_circuits.specs.Flat.{flat}
 use Rattle.gts_circuits.specs.Working.{receiver_name}
 use Rattle.gts_receiver.specs.Cited.{settled}
-use Rattle.gts_circuits.specs.declared.end.ServeEnd.{ServeEnd}
+use Rattle.gts_circuits.specs.declared.service.end.ServeEnd.{ServeEnd}
 use Rattle.gts_circuits.specs.Serving.{LinesSeen, IsServed}
 
 -- the turns of all threads, and the entries of each: none where no circuit was served

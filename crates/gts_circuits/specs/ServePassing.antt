@@ -1,10 +1,10 @@
 -- The sockets of lines whose workers have ended.
 use Rattle.std.specs.Prelude.{List, [], ◌∷◌, ◌++◌, Some, None}
 use Rattle.gts_circuits.specs.Cited.Below.{ReceiveEnd, SendEnd}
-use Rattle.gts_circuits.specs.declared.line.Line as line
-use Rattle.gts_circuits.specs.declared.line.Line.TheVariants as lines
-use Rattle.gts_circuits.specs.declared.serve_sockets.Incoming.{Incoming}
-use Rattle.gts_circuits.specs.declared.serve_sockets.Outgoing.{Outgoing}
+use Rattle.gts_circuits.specs.declared.workers.line.Line as line
+use Rattle.gts_circuits.specs.declared.workers.line.Line.TheVariants as lines
+use Rattle.gts_circuits.specs.declared.service.ended.Incoming.{Incoming}
+use Rattle.gts_circuits.specs.declared.service.ended.Outgoing.{Outgoing}
 
 module _ {S K : Type 0} where
   -- the source of a line

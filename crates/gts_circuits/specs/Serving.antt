@@ -11,8 +11,8 @@ use Rattle.gts_circuits.specs.Flat.{flat}
 use Rattle.gts_circuits.specs.Working.{fresh, receiver_name, sender_name}
 use Rattle.gts_receiver.specs.Cited.{settled}
 use Rattle.gts_event.specs.declared.event.Entry.TheVariants as of_entry
-use Rattle.gts_circuits.specs.declared.end.ServeEnd.{ServeEnd}
-use Rattle.gts_circuits.specs.declared.end.ServeEnd.TheVariants.{Done, NotOpened, Receiver, Sender, NoMemory}
+use Rattle.gts_circuits.specs.declared.service.end.ServeEnd.{ServeEnd}
+use Rattle.gts_circuits.specs.declared.service.end.ServeEnd.TheVariants.{Done, NotOpened, Receiver, Sender, NoMemory}
 
 -- ---- lines
 
@@ -209,7 +209,7 @@ pub record ServesCircuit (b : Beginning) (source_tells sink_tells : Type 0) (con
   -- its source began these connections, at most as many as it might
   pub parts : source_tells → (now.bytes c).parts ≡ earlier ++ last ∷ []
   pub few : length (earlier ++ last ∷ []) ≤ connections
-  -- where its receiver went through all of them, each was read to its end or lost synchronisation
+  -- where its receiver went through all of them, each was read to its end, lost synchronisation, or gave as many bytes as one may
   pub over : source_tells → WentThroughAll received
       → (length (now.bytes c).parts ≡ connections) × AreOver c (now.bytes c).parts
   pub ended : source_tells → (rest : ℕ) → received ≡ Ended rest → last.left ≡ []
@@ -269,8 +269,8 @@ module _ {P : Type 0} (observed : Type 0) (calls : P → List Call) (disk say : 
     -- a circuit whose sender ended with nothing to send has nothing left, whatever became of the others
     pub quiet : (c : ℕ) (x : ReceiveEnd × SendEnd) → get_elem? ends c ≡ some x → x.1 ≡ Quiet
         → HasNothing b c (entries (flat threads ++ drained))
-    -- done is answered only where each source that is observed began all its connections, and each was read to its end or lost
-    -- synchronisation
+    -- done is answered only where each source that is observed began all its connections, and each was read to its end, lost
+    -- synchronisation, or gave as many bytes as one may
     pub went_through : end ≡ Done → source_tells → (c : ℕ) → c < length ends
         → (length (now.bytes c).parts ≡ connections) × AreOver c (now.bytes c).parts
     -- and only where no line failed

@@ -5,13 +5,13 @@ use lib.ListN.{get_elem?}
 use Rattle.gts_circuits.specs.Cited.Below.{AreOver, Begun, Call, CountsSockets, Engine, Entry, Ghosts as SinkMeanings, HasParts, LineFault, LineStood, Nothing, Part, PlaceSeen, Quiet, Seen, SendEnd, Sending, Sends, SourceFault, SourceMeanings, StationMeanings, TableId, Taken, Tried, WentThroughAll, entries, first_connection, outcome, state_at}
 use Rattle.gts_circuits.specs.Housed.{Beginning, Stands}
 use Rattle.gts_receiver.specs.declared.end.ReceiveEnd.TheVariants.{Ended}
-use Rattle.gts_circuits.specs.declared.line.Line.{Line}
-use Rattle.gts_circuits.specs.declared.sockets.Sockets.{Sockets}
+use Rattle.gts_circuits.specs.declared.workers.line.Line.{Line}
+use Rattle.gts_circuits.specs.declared.workers.sockets.Sockets.{Sockets}
 use Rattle.gts_circuits.specs.Flat.{flat}
 use Rattle.gts_circuits.specs.Working.{sender_name}
-use Rattle.gts_circuits.specs.declared.serve_sockets.Incoming.{Incoming}
-use Rattle.gts_circuits.specs.declared.serve_sockets.Outgoing.{Outgoing}
-use Rattle.gts_circuits.specs.declared.end.ServeEnd.{ServeEnd}
+use Rattle.gts_circuits.specs.declared.service.ended.Incoming.{Incoming}
+use Rattle.gts_circuits.specs.declared.service.ended.Outgoing.{Outgoing}
+use Rattle.gts_circuits.specs.declared.service.end.ServeEnd.{ServeEnd}
 use Rattle.gts_circuits.specs.ServePassing.{incoming_of, outgoing_of, ends_of}
 use Rattle.gts_circuits.specs.Serving.{LinesSeen, IsSame, sender_at, IsReceived, IsSent, IsTake, first_fault}
 

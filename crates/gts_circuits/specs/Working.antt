@@ -4,8 +4,8 @@ use Rattle.gts_circuits.specs.Housed.{Beginning}
 use Rattle.gts_circuits.specs.Cited.Below.{Begun, Entry, Gives, Known, LineFault, LineStood, Part, ReceiveEnd, Receives, Rose, Seen, SendEnd, Sends, SourceFault, TableId, WentThroughAll}
 use Rattle.gts_circuits.specs.Turning.{KnowsOwn, seen_by}
 use Rattle.gts_receiver.specs.declared.end.ReceiveEnd.TheVariants.{Ended}
-use Rattle.gts_circuits.specs.declared.line.Line.{Line}
-use Rattle.gts_circuits.specs.declared.line.Line.TheVariants.{Incoming, Outgoing}
+use Rattle.gts_circuits.specs.declared.workers.line.Line.{Line}
+use Rattle.gts_circuits.specs.declared.workers.line.Line.TheVariants.{Incoming, Outgoing}
 
 -- the socket of a worker: a receiver's source, which is to begin so many connections, or a sender's sink
 pub data Socket (S K : Type 0) : Type 0 where

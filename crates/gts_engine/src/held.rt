@@ -1,4 +1,4 @@
-ghost use Rattle.std.specs.Prelude.{◌≡◌, ◌+◌, ◌<◌, ◌≤◌, IsTrue, length, ◌∷◌, [], ◌++◌, take, IfOk, slice_index_or};
+ghost use Rattle.std.specs.Prelude.{◌≡◌, ◌+◌, ◌<◌, ◌≤◌, ◌↔◌, IsTrue, length, ◌∷◌, [], ◌++◌, take, IfOk, slice_index_or};
 ghost use Rattle.gts_engine.specs.Cited.{CHANNELS, HasRoom, held_pieces, no_sayings, on, sizes_of};
 
 use gts_alphabet::NoMemory;
@@ -63,7 +63,7 @@ impl Held {
 
     /// Whether one saying more of so many bytes may be held.
     pub fn has_room(&self, size: usize) -> bool
-        ensures { IsTrue result → HasRoom self.now size }
+        ensures { IsTrue result ↔ HasRoom self.now size }
     {
         self.count < MOST_SAYINGS && size <= MOST_BYTES - self.size
     }

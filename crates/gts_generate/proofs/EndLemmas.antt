@@ -85,7 +85,7 @@ ends-entry d s (Idle event fault) one all = all
 ends-entry d s (Doubt events) one all = all
 ends-entry d s Restarted one all = all
 
--- ---- the line of a draw
+-- ---- the frame of a draw
 
 abbrev of_bulletin : ℕ → ℕ → Option Bulletin → List ℕ
 of_bulletin digits index r = elim r as (λ _. List ℕ) [ None ↦ [] | Some b ↦ numbered_frame digits index b ]

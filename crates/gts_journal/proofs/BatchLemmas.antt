@@ -1,6 +1,6 @@
 -- The steps of appending a batch.
 use Rattle.std.proofs.Common.{◌≡◌, ◌≢◌, ◌⊎◌, inl, true, false, ℕ, zero, suc, ◌+◌, ◌-◌, ◌<◌, ◌≤◌, cond, List, [], ◌∷◌, ◌++◌, length, take, drop, refl, sym, ◌∙◌, ap, subst, arith, append_assoc, length-append, nat_eq}
-use Rattle.gts_journal.specs.Cited.{Call, Did, EachSince, EndsAt, Gathered, Gathers, HasBlock, InHand, IsBlock, LeavesAllOrNone, OnlyTears, Record, StandsOn, Syncs, Version, Writes, beyond_block, chain_text, closed_gate, file_of, front_of, held, last_seal, open_gate, opened_part, overwritten, record_text, said_by, seal, sealed, seen, starts_with, texts_of}
+use Rattle.gts_journal.specs.Cited.{Call, Did, EachSince, EndsAt, Gathered, Gathers, HasBlock, InHand, IsBlock, LeavesAllOrNone, OnlyTears, ReachesWithin, Record, StandsOn, Syncs, Version, Writes, beyond_block, chain_text, closed_gate, file_of, front_of, held, last_seal, open_gate, opened_part, overwritten, record_text, said_by, seal, sealed, seen, starts_with, texts_of}
 use borrow.Rule.Slice.PartMut.{put_mid, post_of}
 use Rattle.std.proofs.Math.ListN.{set}
 use Rattle.std.proofs.Math.Seq.{set-append_seam, take-add}
@@ -79,6 +79,25 @@ module _ (old : List Call) (j : InHand) (stands : StandsOn old j) (ended : j.end
 
       pub has_block : HasBlock old j text (seen new j.file)
       has_block = (rest, added)
+
+      -- nothing but what was written stands behind the end that the file had
+      pub reaches : (step : ℕ) → length more ≤ step → ReachesWithin step old j text (seen new j.file)
+      reaches step few most was within =
+          let n : ℕ = j.gate + 1 + length (behind ++ closed_gate ∷ more) in
+          omega (
+            arith,
+            ap length added,
+            length-append (front_of old j ++ text) rest,
+            length-append (front_of old j) text,
+            length-append more (drop n (file_of old j)),
+            length-drop n (file_of old j),
+            length-append behind (closed_gate ∷ more),
+            at,
+            long,
+            few,
+            was,
+            within,
+          )
 
       pub others_after : (k : ℕ) → k ≢ j.file → seen new k ≡ seen old k
       others_after k other = ap (λ (l : List Call). seen l k) last ∙ seen_elsewhere mid j.file j.gate (open_gate ∷ []) k other ∙ elsewhere k other

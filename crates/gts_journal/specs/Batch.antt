@@ -1,5 +1,5 @@
 -- Records that are appended behind one gate, and what that leaves of the files.
-use Rattle.std.specs.Prelude.{◌≡◌, ◌⊎◌, false, ℕ, ◌+◌, ◌-◌, List, [], ◌∷◌, ◌++◌, length, take}
+use Rattle.std.specs.Prelude.{◌≡◌, ◌⊎◌, false, ℕ, ◌+◌, ◌-◌, ◌≤◌, List, [], ◌∷◌, ◌++◌, length, take}
 use Rattle.gts_journal.specs.Cited.Below.{AreAdmitted, Call, Directory, EachSince, Files, MayStand, Outside, Record, State, Version, after_records, chain_text, closed_gate, last_seal, open_gate, seen, texts_of, written}
 use Rattle.gts_journal.specs.Law.{OpensTo}
 use Rattle.gts_journal.specs.Hand.{InHand}
@@ -32,6 +32,11 @@ opened_part text = take (length text - 1) text
 -- a file with a block in the place of the journal's closed gate, and anything behind it
 abbrev pub HasBlock : List Call → InHand → List ℕ → List ℕ → Type 0
 HasBlock calls j text file = (behind : List ℕ) × (file ≡ front_of calls j ++ text ++ behind)
+
+-- a file that is no longer than it was, or than so many bytes behind a block in the place of the journal's gate
+abbrev pub ReachesWithin : (step : ℕ) → List Call → InHand → (text file : List ℕ) → Type 0
+ReachesWithin step calls j text file =
+    (most : ℕ) → length (file_of calls j) ≤ most → j.gate + length text + step ≤ most → length file ≤ most
 
 -- the journal behind a block that was appended, whose last seal is this one
 abbrev pub beyond_block : InHand → List ℕ → List ℕ → InHand

@@ -1,5 +1,5 @@
 ghost use Rattle.std.specs.Prelude.{◌≡◌, ◌≢◌, ◌+◌, ◌-◌, ◌≤◌, ◌<◌, ◌^◌, ◌==◌, true, ℕ, List, [], ◌∷◌, ◌++◌, length, IfOk, OnOk};
-ghost use Rattle.gts_journal.specs.Cited.{EachSince, Gathers, HasBlock, HasCause, IsBlock, IsRecord, LeavesAllOrNone, Record as RecordOf, StandsOn, beyond_block, file_of, no_records, record_of, record_size, record_text, said_by, seen};
+ghost use Rattle.gts_journal.specs.Cited.{EachSince, Gathers, HasBlock, HasCause, IsBlock, IsRecord, LeavesAllOrNone, ReachesWithin, Record as RecordOf, STEP, StandsOn, beyond_block, file_of, no_records, record_of, record_size, record_text, said_by, seen};
 
 use crate::opening::zeros;
 use crate::{CLOSED, Journal, LARGEST_FILE, OPEN};
@@ -108,6 +108,7 @@ fn extent(gate: u64, reach: u64, size: usize) -> usize
     requires most { size ≤ MOST_GATHERED }
     requires room { gate + size ≤ 2 ^ 40 }
     ensures whole { size ≤ result }
+    ensures step { result ≤ size + STEP }
     ensures most { result ≤ MOST_GATHERED }
     ensures room { gate + result ≤ 2 ^ 40 }
 {
@@ -159,6 +160,10 @@ impl Journal {
         ensures others { P.observed → (k : ℕ) → k ≢ self.old.file
             → OnOk result (seen (P.calls station.new) k ≡ seen (P.calls station.old) k) }
         ensures emptied { OnOk result (batch.new ≡ no_records self.new) }
+
+        // No longer than it was, or than a step behind the records.
+        ensures reach { P.observed → OnOk result (ReachesWithin STEP (P.calls station.old) self.old
+            batch.old.text (file_of (P.calls station.new) self.new)) }
 
         // A crash at any moment of the call leaves the journal as it was, or with all records of the batch.
         ensures moments { P.observed → EachSince (P.calls station.old) (P.calls station.new)

@@ -134,8 +134,8 @@ impl fmt::Display for Cause {
     }
 }
 
-/// What a call of the system answered, of which an `Err` gets its cause. Each call on a file goes through here, so none that
-/// failed is passed over.
+/// What a call of the system answered, of which an `Err` gets its cause. Each call on a file but the lock's is to go through
+/// here, where none that failed is passed over.
 pub(crate) fn answered<T>(answer: io::Result<T>, place: Place, act: Act) -> Result<T, Cause>
     ensures value { IfOk result (λ x. answer ≡ Ok x) }
     ensures failed { is_err result ≡ is_err answer }

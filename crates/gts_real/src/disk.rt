@@ -24,6 +24,8 @@ pub(crate) struct Disk {
     synced: [bool; 3],
     is_folder_synced: bool,
     owner: Owner,
+    // Why each can't be written, where the system lets it be read alone.
+    refused: [Option<io::Error>; 3],
     // What was read ahead, of which nothing is left when the files change.
     ahead: Ahead,
     // The sync that failed. A later one may succeed without the bytes that it was for, so nothing is done any more.
@@ -50,14 +52,6 @@ fn missing(file: u32, act: Act) -> Cause
     Cause::system(place_of(file), act, io::Error::from(ErrorKind::NotFound))
 }
 
-/// Opens a file for writing where that is allowed, and else for reading.
-fn open_for_writing<R: Files<File = File>>(rt: &R, name: &str) -> io::Result<File> {
-    match OpenOptions::new().read(true).write(true).open(rt, name) {
-        Err(error) if error.kind() == ErrorKind::PermissionDenied => File::open(rt, name),
-        answer => answer,
-    }
-}
-
 /// A file that is there; `None` where it isn't there.
 fn existing(opened: io::Result<File>) -> io::Result<Option<File>> {
     match opened {
@@ -78,8 +72,25 @@ impl Disk {
             synced: [false; 3],
             is_folder_synced: false,
             owner: Owner::Unknown,
+            refused: [None, None, None],
             ahead: Ahead::new(),
             lost: None,
+        }
+    }
+
+    /// Opens a file for writing where that is allowed, and else for reading.
+    fn open_for_writing<R: Files<File = File>>(&mut self, rt: &R, file: u32) -> io::Result<File>
+        requires { file < 3 }
+        ensures reader { self.new.is_reader ≡ self.old.is_reader }
+        ensures lost { self.new.lost ≡ self.old.lost }
+    {
+        let name = NAMES[file as usize];
+        match OpenOptions::new().read(true).write(true).open(rt, name) {
+            Err(error) if error.kind() == ErrorKind::PermissionDenied => {
+                self.refused[file as usize] = Some(error);
+                File::open(rt, name)
+            }
+            answer => answer,
         }
     }
 
@@ -94,7 +105,7 @@ impl Disk {
             let opened = if self.is_reader {
                 File::open(rt, NAMES[place])
             } else {
-                open_for_writing(rt, NAMES[place])
+                self.open_for_writing(rt, file)
             };
             self.files[place] = answered(existing(opened), place_of(file), Act::Open)?;
         }
@@ -178,6 +189,9 @@ impl Disk {
             self.make(rt, 0)?;
         }
         self.owned()?;
+        if let Some(error) = self.refused[file as usize] {
+            return Err(Cause::system(place_of(file), Act::Open, error));
+        }
         if self.opened(file).is_none() {
             self.make(rt, file)?;
         }

@@ -1,8 +1,8 @@
 -- Events that were answered with a fault.
 use Rattle.std.proofs.Common.{◌≡◌, Bool, List, [], ◌∷◌, ◌++◌, Result, Ok, Err, refl, sym, ap, ◌∙◌, subst}
 use Rattle.std.proofs.lemmas.List.{append-nil}
-use Rattle.gts_receiver.specs.Cited.{AddsEntries, AddsFault, AddsJust, Answers, DiskFault, Done, Doubt, Entry, Event, Full, GoesOn, Hears, Idle, IsSpent, NoMemory, Outcome, SayFault, SaysNoMore, Seen, Spent, State, Stopped, SwitchFault, TriesOn, Unsaid, all_done, entry_of, fault_entries, outcome, own, settled, settled_own}
-use Rattle.gts_calls.proofs.LawLemmas.{just, own_added, own_spent, goes_on, goes_further}
+use Rattle.gts_receiver.specs.Cited.{AddsEntries, AddsFault, AddsJust, Answers, DiskFault, Done, Entry, Event, Full, GoesOn, Hears, IsSpent, NoMemory, Outcome, SayFault, SaysNoMore, Seen, Spent, State, Stopped, SwitchFault, TriesOn, all_done, fault_entries, outcome, own, settled, settled_own}
+use Rattle.gts_calls.proofs.LawLemmas.{just, own_added, own_spent, goes_further}
 use Rattle.gts_receiver.proofs.SettledLemmas.{settled_all, none_settled, own_settled, answers_go}
 
 -- what was done adds its entry

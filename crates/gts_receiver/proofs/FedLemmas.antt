@@ -1,7 +1,7 @@
 -- What a piece comes to that was fed at the desk.
 use Rattle.std.proofs.Common.{◌≡◌, Bool, ℕ, ◌+◌, ◌≤◌, List, [], ◌∷◌, ◌++◌, length, take, drop, Result, Ok, Err, refl, sym, ap, ◌∙◌, subst, arith, append_assoc, take-append-drop, IsSome}
 use Rattle.std.proofs.lemmas.List.{append-nil, length-take-le}
-use Rattle.gts_receiver.specs.Cited.{AddsAny, AddsAtFault, AddsEntries, AddsFault, AddsFed, Answers, Decoding, DiskFault, Doubt, EndsOver, EndsWith, Entry, Event, Fault, Fed, FeedEnd, Feeds, FrameField, Full, GoesOn, Heard, Hears, Idle, IsSpent, IsWanting, Kind, LeavesLast, LostSync, NoMemory, Outcome, PassesBetween, Reads, Receiving, SayFault, SaysNoMore, Seen, Spent, Stopped, SwitchFault, Takes, TriesOn, TurnsTogether, Unsaid, all_done, all_unsaid, events_added, fault_entries, held_in, own, settled, settled_own}
+use Rattle.gts_receiver.specs.Cited.{AddsAny, AddsEntries, AddsFault, Answers, Decoding, DiskFault, Doubt, EndsOver, Entry, Event, Fault, Fed, FeedEnd, Feeds, FrameField, Full, GoesOn, Heard, Hears, Idle, IsWanting, Kind, LeavesLast, LostSync, NoMemory, Outcome, PassesBetween, Reads, Receiving, SayFault, SaysNoMore, Seen, Spent, Stopped, SwitchFault, Takes, TriesOn, Unsaid, all_done, all_unsaid, events_added, fault_entries, held_in, own, settled, settled_own}
 use Rattle.gts_event.specs.declared.event.Event.TheVariants as events
 use Rattle.gts_frame.proofs.LawLemmas.{front-open}
 use Rattle.gts_calls.specs.Fed as feeding

@@ -5,7 +5,7 @@ ghost use Rattle.gts_report.specs.Cited.{CircuitNeed as CircuitNeedOf, TakesOver
 ghost use Rattle.gts_report.specs.Changes as changes;
 
 use crate::ReportText;
-use crate::changes_lines::{count_line, word_line};
+use crate::takeover::lines::{count_line, word_line};
 use gts_alphabet::NoMemory;
 use gts_directory::{CircuitRow, Directory, unpadded};
 use gts_event::{CircuitNeed, Need};

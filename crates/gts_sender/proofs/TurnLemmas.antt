@@ -52,7 +52,7 @@ no_frame Nothing_waits o is none = is
 pub gave_nothing : (d : Directory) (s : State) (c : ℕ) (o : Outcome) → o ≡ outcome d s (Taken c) → given_index o ≡ None → o ≡ Nothing
 gave_nothing d s c o is none = no_frame (choice d s c) o is none
 
--- one that gave the frame of an index gave its line
+-- one that gave the frame of an index gave its frame
 given_line : (d : Directory) (t : State) (c : ℕ) (o : Outcome) (index : ℕ) → given_index o ≡ Some index → frame_of_outcome d t c o ≡ frame_of_draw d t c index
 given_line d t c (Resend k) index is = let e : k ≡ index = cc is in ap (frame_of_draw d t c) e
 given_line d t c (Draw k) index is = let e : k ≡ index = cc is in ap (frame_of_draw d t c) e

@@ -29,7 +29,7 @@ pub struct TcpIn<'a, R: Clock + Eprint> {
     stream: Option<TcpStream>,
     faults: u64,
     cause: Option<LineCause>,
-    /// When a caller that was turned away was last told of.
+    /// When the operator was last told of a caller that was turned away, or that none could be let in.
     told: Option<Instant>,
 }
 
@@ -70,21 +70,44 @@ impl<'a, R: Clock + Eprint> TcpIn<'a, R> {
         self.cause
     }
 
-    /// Tells the operator of a caller that was turned away, unless another one was told of within the last minute.
-    fn tell(&mut self, caller: IpAddr)
+    /// Whether the operator is told of something more: nothing was told within the last minute.
+    fn may_tell(&mut self) -> bool
         ensures { self.new.faults ≡ self.old.faults }
     {
         if let Some(told) = self.told
             && let Ok(since) = told.elapsed(self.rt)
             && since.as_secs() < A_MINUTE
         {
-            return;
+            return false;
         }
         self.told = Instant::now(self.rt).ok();
+        true
+    }
+
+    /// Tells the operator of a caller that was turned away.
+    fn tell(&mut self, caller: IpAddr)
+        ensures { self.new.faults ≡ self.old.faults }
+    {
+        if !self.may_tell() {
+            return;
+        }
         let circuit = self.circuit;
         let rt = self.rt;
         // Where it can't be told, the caller is turned away all the same.
         let _ = eprintln!(rt; "gts_switch: circuit {circuit}: turned away {caller}");
+    }
+
+    /// Tells the operator why no caller can be let in.
+    fn tell_failure(&mut self, error: io::Error)
+        ensures { self.new.faults ≡ self.old.faults }
+    {
+        if !self.may_tell() {
+            return;
+        }
+        let circuit = self.circuit;
+        let rt = self.rt;
+        // Where it can't be told, letting in is tried again all the same.
+        let _ = eprintln!(rt; "gts_switch: circuit {circuit}: accept: {error}");
     }
 
     /// The neighbour's next connection, which is looked for again and again. A caller that was gone before it was accepted is passed
@@ -110,7 +133,10 @@ impl<'a, R: Clock + Eprint> TcpIn<'a, R> {
                 Err(error) if error.kind() == ErrorKind::ConnectionAborted => {}
                 Err(error) if self.patience.tries.is_some() => return Err(error),
                 // There may be no descriptor left for a while.
-                Err(_) => pauses.make(self.rt, self.patience.stop),
+                Err(error) => {
+                    self.tell_failure(error);
+                    pauses.make(self.rt, self.patience.stop);
+                }
             }
         }
         Err(io::Error::from(ErrorKind::ConnectionAborted))

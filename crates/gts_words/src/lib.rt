@@ -1,5 +1,5 @@
 //! The words of the command line: which lists are commands. They are read by the kit's reader of command lines, and what it
-//! hands back is compared here.
+//! hands back is compared here; those of `ship since` are read here alone.
 //!
 //! What a user may ask of the program itself, in place of a command: its version, and its commands.
 #![tactic(auto)]

@@ -16,13 +16,13 @@ use std::alloc::{AllocError, Global};
 /// The word in front of those that are read: the program's name.
 const PROGRAM: &str = "gts_switch";
 
-/// The most words of a command.
+/// The most words of a command but `ship since`.
 const MOST_WORDS: u64 = 2;
 
 /// The words of the one command that has more: what a standby station has of a journal.
 const SINCE_WORDS: u64 = 4;
 
-/// A command line has the name of a command, and a count behind it or none.
+/// A command line has the name of a command, and a second word behind it or none.
 fn grammar<'a>(alloc: Global) -> Result<clap::Command<'a>, AllocError>
     ensures { IfOk result (λ line. app_of line ≡ grammar) }
 {

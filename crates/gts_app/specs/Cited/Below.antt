@@ -67,4 +67,4 @@ pub use Rattle.gts_sender.specs.Cited.{fault_takes}
 pub use Rattle.gts_sender.specs.declared.end.SendEnd.{SendEnd}
 pub use Rattle.gts_circuits.specs.Causes.{history_of}
 pub use Rattle.gts_circuits.specs.Cited.{AreUntouched, Beginning, GaveMost, HasFault, IsCrampedFor, IsServed, LinesSeen, ServesCircuit, Stands, first_fault, flat, lines_seen, origin_with, receiver_first, seen_lines, sender_first, threads_of}
-pub use Rattle.gts_circuits.specs.declared.end.ServeEnd.{ServeEnd}
+pub use Rattle.gts_circuits.specs.declared.service.end.ServeEnd.{ServeEnd}

@@ -17,3 +17,8 @@ pub returns-clause-draw : goal.returns-clause-draw
 returns-clause-draw g c = λ yes.
     let most = most_is c.args.parts.now.directory c.args.c (circuit_of_row c.circuit.result.now) c.circuit.ensures.row in
     omega (arith, c.if-parts-c.false, most)
+
+pub returns-then-parts-c-clause-only : goal.returns-then-parts-c-clause-only
+returns-then-parts-c-clause-only g c = λ draw bytes.
+    let most = most_is c.args.parts.now.directory c.args.c (circuit_of_row c.circuit.result.now) c.circuit.ensures.row in
+    absurd (omega (arith, c.if-parts-c.true, most, draw))

@@ -1,7 +1,8 @@
-use Rattle.std.proofs.Common.{◌≡◌, ◌+◌, ◌-◌, ℕ, [], ◌∷◌, ◌++◌, List, length, take, drop, sym, ap, ◌∙◌, subst, arith}
-use Rattle.gts_journal.specs.Cited.{Did, EachSince, Gathered, HasBlock, InHand, OnlyTears, StandsOn, Syncs, Writes, closed_gate, open_gate, seen}
+use Rattle.std.proofs.Common.{◌≡◌, ◌+◌, ◌-◌, ◌≤◌, ℕ, [], ◌∷◌, ◌++◌, List, length, take, drop, sym, ap, ◌∙◌, subst, arith}
+use Rattle.gts_journal.specs.Cited.{Did, EachSince, Gathered, HasBlock, InHand, OnlyTears, ReachesWithin, STEP, StandsOn, Syncs, Writes, closed_gate, open_gate, seen}
 use Rattle.gts_journal.specs.contracts.Journal.{the_view}
-use Rattle.gts_journal.proofs.BatchLemmas.{block_bytes, has_block, placed, staged_moments, opened_moments, stands_after}
+use Rattle.std.proofs.lemmas.List.{length-take}
+use Rattle.gts_journal.proofs.BatchLemmas.{block_bytes, has_block, placed, reaches, staged_moments, opened_moments, stands_after}
 use Rattle.gts_journal.proofs.Journal.append_batch.Goals as goal
 
 pub returns-in_err-write_synced-clause-moments : goal.returns-in_err-write_synced-clause-moments
@@ -95,3 +96,23 @@ returns-clause-added g c = λ observed.
     subst P (sym c.self.view_is)
     (has_block old c.args.self.now (c.requires.stands observed) c.requires.end text c.requires.some more bytes mid is
     (subst R c.self.view_is (c.in_ok-write_synced.ensures.done observed)) new (subst S c.self.view_is (c.in_ok-write_synced-2.ensures.done observed)))
+
+pub returns-clause-reach : goal.returns-clause-reach
+returns-clause-reach g c = λ observed.
+    let old = g.P.Station.calls c.args.station.now in
+    let mid = g.P.Station.calls c.write_synced.new.station in
+    let new = g.P.Station.calls c.write_synced-2.new.station in
+    let text : List ℕ = c.args.batch.now.text in
+    let bytes : List ℕ = take (c.extent-end.result - 1) (drop 1 c.deref.result.now) in
+    let behind : List ℕ = drop c.batch.inside.size c.deref.result.now in
+    let more : List ℕ = take (c.extent-end.result - c.batch.inside.size) behind in
+    let is : bytes ≡ c.requires.some.0 ++ closed_gate ∷ more =
+    block_bytes text c.deref.result.now c.batch.inside.size c.extent-end.result c.requires.some c.batch.invariant.0 c.extent-end.ensures.whole
+    (ap (λ (l : List ℕ). take c.batch.inside.size l) c.deref.ensures.value ∙ ap (λ (b : Gathered). b.text) c.batch.view_is) in
+    let few : length more ≤ STEP = omega (arith, length-take (c.extent-end.result - c.batch.inside.size) behind, c.extent-end.ensures.step) in
+    let R : InHand → Type 0 = λ j. mid ≡ Did Syncs ∷ Did (Writes j.file (j.gate + 1) bytes) ∷ old in
+    let S : InHand → Type 0 = λ j. new ≡ Did Syncs ∷ Did (Writes j.file j.gate (open_gate ∷ [])) ∷ mid in
+    let P : InHand → Type 0 = λ j. ReachesWithin STEP old c.args.self.now text (seen new j.file) in
+    subst P (sym c.self.view_is)
+    (reaches old c.args.self.now (c.requires.stands observed) c.requires.end text c.requires.some more bytes mid is
+    (subst R c.self.view_is (c.in_ok-write_synced.ensures.done observed)) new (subst S c.self.view_is (c.in_ok-write_synced-2.ensures.done observed)) STEP few)

@@ -1,5 +1,0 @@
-use Rattle.gts_circuits.proofs.TurningLemmas.{taken}
-use Rattle.gts_circuits.proofs.housed_laws.a_desk_answers_what_its_turn_took.Goals as goal
-
-pub returns : goal.returns
-returns g c = taken g.P.Station.observed g.P.Station.calls g.P.Station.disk_faults g.P.Station.say_faults

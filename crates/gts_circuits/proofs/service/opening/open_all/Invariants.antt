@@ -1,0 +1,15 @@
+use Rattle.std.proofs.Common.{◌≡◌, ◌≤◌, ◌++◌, length, map, vec_capacity}
+use Rattle.gts_circuits.specs.Cited.{AreOpened, place_asked, seen_lines}
+use Rattle.gts_circuits.proofs.service.opening.open_all.Given as goal
+
+-- the circuits so far are open
+abbrev pub invariant-loop-room : goal.invariant-loop-room
+invariant-loop-room g l = record {
+  can : (goal.iterator-loop-room g).can_next l.room-iterator × (goal.iterator-loop-room g).is_finite l.room-iterator;
+  split : l.yielded ++ l.room-iterator.rest.items ≡ l.fn.rooms.items;
+  place : l.c ≡ length l.yielded;
+  count : length l.sockets.items ≡ length l.yielded;
+  room : length l.fn.rooms.items ≤ vec_capacity l.sockets;
+  opened : AreOpened g.L.In.Source.observed g.L.In.Source.begun g.L.In.Source.left g.L.In.Source.faults g.L.Out.Sink.observed g.L.Out.Sink.written g.L.Out.Sink.faults
+      (seen_lines g.L.Lines.is_open g.L.Lines.faults g.L.Lines.place g.L.Lines.bytes l.fn.lines) (seen_lines g.L.Lines.is_open g.L.Lines.faults g.L.Lines.place g.L.Lines.bytes l.lines) (map place_asked l.fn.rooms.items) l.fn.connections l.sockets.items l.c;
+}

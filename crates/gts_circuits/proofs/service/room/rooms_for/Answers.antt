@@ -1,0 +1,15 @@
+use Rattle.std.proofs.Common.{◌+◌, ◌∷◌, [], List, length, length-append, ap, ◌∙◌, arith}
+use Rattle.gts_directory.specs.Rows.{circuit_of_row}
+use Rattle.gts_circuits.proofs.ItemLemmas.{rooms_more}
+use Rattle.gts_circuits.proofs.service.room.rooms_for.Goals as goal
+
+pub loop-c-preserved : goal.loop-c-preserved
+loop-c-preserved c =
+    let i = c.loop-c.invariant in
+    let rooms = c.loop-c.rooms.items in
+    let is = c.push_reserved.ensures.items in
+    record {
+      count = ap (λ (l : List _). length l) is ∙ length-append rooms (_ ∷ []) ∙ ap (λ (n : _). n + 1) i.count;
+      places = rooms_more c.args.directory.now rooms c.push_reserved.new.self.items _ c.args.directory.now.circuits c.loop-c.c (circuit_of_row c.circuit.result.now) is i.places c.circuit.ensures.row c.place_for.ensures;
+      room = omega (arith, i.room, c.push_reserved.ensures.capacity);
+    }
