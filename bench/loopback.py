@@ -214,6 +214,7 @@ class Listener:
         try:
             while piece := connection.recv(1 << 16):
                 stream += piece
+            connection.close()
         except OSError:
             pass
 

@@ -23,6 +23,8 @@ FILES = ['directory.toml', 'directory.old.toml', 'capture.gts', 'journal.0', 'jo
 # What scripts of a package may call in the clean root.
 TOOLS = ['sh', 'rm', 'install', 'getent', 'useradd', 'systemctl', 'systemd-sysusers', 'systemd-tmpfiles']
 USUAL_LIMIT = 1073741824
+# The group of who reads logs, in the clean root.
+ADM = 4
 DIRECTORY = 'centre = "TVSV"\n[[circuit]]\nname = "A"\npeer = "AAAA"\n'
 
 faults = gate.Faults()
@@ -80,13 +82,18 @@ def check_unit(unit, prefix):
     with open(unit) as file:
         text = file.read()
     wants(f'{unit} has the prefix', (f'={prefix}/' in text, '@PREFIX@' in text), (True, False))
+    # They take as long as the journal is large, or the line slow.
+    if re.search('^Exec.*/(gts_switch compact|gts-switch-follow)', text, re.M):
+        wants(f'{unit} has no limit for its start', re.findall('^TimeoutStartSec=(.*)', text, re.M), ['infinity'])
     if shutil.which('systemd-analyze'):
         more = {**os.environ, 'MANPATH': os.path.join(prefix, 'share/man')}
         units = os.path.dirname(unit)
         beside = [os.path.join(units, name) for name in os.listdir(units) if name.endswith('.service')]
         status, said, line = run(['systemd-analyze', 'verify', '--man=no', unit, *beside], env=more)
         wants(f'{unit} is sound', (status, said, line), (0, '', ''))
-    return [shlex.split(words.replace('%%', '%')) for words in re.findall(r'^Exec\w+=-?(.*)$', text, re.MULTILINE)]
+    # What systemd runs as its own user is about folders of this machine.
+    commands = [words for marks, words in re.findall(r'^Exec\w+=([-+]*)(.*)$', text, re.MULTILINE) if '+' not in marks]
+    return [shlex.split(words.replace('%%', '%')) for words in commands]
 
 
 def check_program(program, commands, folder):
@@ -133,10 +140,16 @@ def check_about(program):
 
 
 def test_what_is_installed(program, broken, tmp_path):
-    prefix, folder = str(tmp_path / 'prefix'), str(tmp_path / 'run')
+    prefix, etc, folder = (str(tmp_path / name) for name in ('prefix', 'etc', 'run'))
     os.mkdir(folder)
-    status, said, line = run([os.path.join(TOP, 'packaging/install'), program], env={**os.environ, 'PREFIX': prefix})
+    places = {**os.environ, 'PREFIX': prefix, 'SYSCONFDIR': etc}
+    status, said, line = run([os.path.join(TOP, 'packaging/install'), program], env=places)
     wants('the installation', (status, line), (0, ''))
+    rotation = Folder('', os.path.join(etc, 'logrotate.d'))
+    wants('what logrotate reads', rotation.read('gts-switch'), Folder('', os.path.join(TOP, 'packaging')).read('gts_switch.logrotate'))
+    rotation.write('gts-switch', '# changed\n')
+    wants('the installation once more', run([os.path.join(TOP, 'packaging/install'), program], env=places)[::2], (0, ''))
+    wants('what somebody changed there', rotation.read('gts-switch'), b'# changed\n')
     wants('it tells of neighbours on other hosts', 'IPAddressAllow' in said, True)
     text = page_text(os.path.join(prefix, 'share/man/man1/gts_switch.1'))
     check_page(text.replace('EXIT STATUS', '').split(' 0 All was done')[0] if broken == 'page' else text)
@@ -164,7 +177,7 @@ def clean_root(at):
     for name in ('status', 'available'):
         open(os.path.join(at, 'var/lib/dpkg', name), 'w').close()
     for name in ('passwd', 'group', 'shadow', 'gshadow'):
-        row = {'passwd': 'root:x:0:0::/:/bin/sh\n', 'group': 'root:x:0:\nadm:x:4:\n'}.get(name, '')
+        row = {'passwd': 'root:x:0:0::/:/bin/sh\n', 'group': f'root:x:0:\nadm:x:{ADM}:\n'}.get(name, '')
         with open(os.path.join(at, 'etc', name), 'w') as file:
             file.write(row)
     with open(os.path.join(at, 'etc/nsswitch.conf'), 'w') as file:
@@ -248,6 +261,10 @@ def test_the_package_in_a_clean_root(package, broken, tmp_path):
         user = [row.split(':') for row in file if row.startswith('gts_switch:')]
     wants('the user', [(row[5], row[6].strip()) for row in user], [('/var/lib/gts_switch', '/usr/sbin/nologin')])
     wants('the folder', (os.path.isdir(folder), os.stat(folder).st_mode & 0o777, os.stat(folder).st_uid), (True, 0o750, int(user[0][2])))
+    # What is made there is of the group adm.
+    logs = os.stat(os.path.join(root, 'var/log/gts_switch'))
+    wants('the folder of the logs', (oct(logs.st_mode & 0o7777), logs.st_uid, logs.st_gid), (oct(0o2750), int(user[0][2]), ADM))
+    wants('what logrotate reads', os.path.exists(os.path.join(root, 'etc/logrotate.d/gts-switch')), True)
     installed = Folder(os.path.join(root, 'usr/bin/gts_switch'), folder, DIRECTORY)
     wants('init of what was installed', installed.run('init'), (0, b'', ''))
     wants('the example directory', os.path.exists(os.path.join(root, 'usr/share/doc/gts-switch/examples/directory.toml')), True)

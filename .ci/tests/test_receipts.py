@@ -1,6 +1,7 @@
 """The receipts with their times (packaging/gts-switch-receipts): beside a writer of 20,000 lines a second the one who stamps them is
 killed and started again and its log is renamed, and each line stands in the logs once, in order, at its place. Where its log was
-removed, it goes on behind what was given back, and where somebody wrote into it, behind its own last line.
+removed, it goes on behind what was given back, and where somebody wrote into it, behind its own last line. Where the receipts are
+renamed, those of the new file follow; zeros among them are passed over.
 
     --break line    one line is taken out of a log"""
 import os
@@ -131,3 +132,62 @@ def test_what_somebody_wrote_into_the_log_is_passed_over(tmp_path, broken):
     if broken == 'line':
         del stamped[-1]
     assert stamped == lines
+
+
+def test_zeros_that_a_loss_of_power_left_are_passed_over(tmp_path, broken):
+    receipts, log = str(tmp_path / 'receipts'), str(tmp_path / 'receipts.log')
+    first, *others = [receipt(number) for number in range(20)]
+    behind = len(first) + 1 + (3 << 20) + 1
+    with open(receipts, 'wb') as file:
+        file.write(first + b'\n' + bytes(3 << 20) + b'\n' + b'\n'.join(others) + b'\n')
+    assert stamper(receipts, log, '--to-the-end').wait(gate.SECONDS) == 0
+    stamped = [STAMPED.fullmatch(line) for line in read(log).splitlines()]
+    if broken == 'line':
+        del stamped[-1]
+    assert stamped[0][2] == first and [found[2] for found in stamped[-len(others):]] == others
+    assert int(stamped[-len(others)][1]) == behind
+
+
+def awaits_lines(log, count):
+    until = time.monotonic() + gate.SECONDS
+    while not os.path.exists(log) or read(log).count(b'\n') < count:
+        assert time.monotonic() < until, read(log)
+        time.sleep(0.02)
+
+
+@pytest.mark.parametrize('runs', [True, False])
+def test_behind_receipts_that_were_renamed_come_those_of_the_new_file(tmp_path, broken, runs):
+    """Also where no stamper runs meanwhile, and a line of the new file ends where the last one did that has its time."""
+    receipts, log = str(tmp_path / 'receipts'), str(tmp_path / 'receipts.log')
+    old, late, new = ([receipt(number) for number in range(first, first + 10)] for first in (10, 20, 30))
+    new += old
+    with open(receipts, 'ab', buffering=0) as file:
+        file.write(b'\n'.join(old) + b'\n')
+        running = stamper(receipts, log)
+        try:
+            awaits_lines(log, len(old))
+            if not runs:
+                running.terminate()
+                running.wait(gate.SECONDS)
+            os.rename(receipts, f'{receipts}.old')
+            if runs:
+                # Who appends to it goes on, until it is begun again.
+                open(receipts, 'w').close()
+                time.sleep(0.5)
+                file.write(b'\n'.join(late) + b'\nhalf of a')
+                awaits_lines(log, len(old + late))
+            with open(receipts, 'ab') as other:
+                other.write(b'\n'.join(new) + b'\n')
+            if runs:
+                awaits_lines(log, len(old + late + new))
+        finally:
+            running.kill()
+            running.wait(gate.SECONDS)
+    assert stamper(receipts, log, '--to-the-end').wait(gate.SECONDS) == 0
+    stamped = [STAMPED.fullmatch(line) for line in read(log).splitlines()]
+    if broken == 'line':
+        del stamped[-1]
+    assert [found[2] for found in stamped] == old + late * runs + new
+    size = len(old[0]) + 1
+    places = [*range(0, len(old + late * runs) * size, size), *range(0, len(new) * size, size)]
+    assert [int(found[1]) for found in stamped] == places

@@ -1,6 +1,6 @@
 -- What `count` comes to, from the opening, the run of the capture and the saying of the table.
 use Rattle.std.proofs.Common.{◌≡◌, ℕ, ◌≤◌, false, List, [], ◌∷◌, length, Result, Ok, Err, None, IsTrue, inl, inr, refl, sym, ap, subst, ◌∙◌, arith}
-use Rattle.gts_app.specs.Cited.{Behind, Breaks, Call, CountedParts, CountsEngine, CountsTraffic, Did, Done, Ends, EndsWithoutTable, Engine, Entry, Files, Ghosts as StationMeanings, Handed, HasReplayCause, IsRefusal, KeepsLaws, Need, NoMemory, ObservedOrigin, Opens, OpensWith, Origin, OutputFault, ReplayEnd, Replays, Rose, Says, SaysTable, ShowsTable, SourceMeanings, StandsFor, Status, Traffic, World, after_all, begun, compacted_at, counted, handed, history, is_sound, keeps_one, meanings_by, need, origin_of, seen, status_of, switch_meanings, table, table_behind, used_at, world}
+use Rattle.gts_app.specs.Cited.{Behind, Breaks, Call, CountedParts, CountsEngine, CountsTraffic, Did, Done, Ends, EndsWithoutTable, Engine, Entry, Failed, Files, Ghosts as StationMeanings, Handed, HasCause, HasReplayCause, IsRefusal, KeepsLaws, Need, NoMemory, ObservedOrigin, Opens, OpensWith, Origin, OutputFault, ReplayEnd, Replays, Rose, Says, SaysTable, ShowsTable, SourceMeanings, StandsFor, Status, Traffic, Tries, World, after_all, begun, compacted_at, counted, handed, history, is_sound, keeps_one, meanings_by, need, origin_of, seen, status_of, status_said, switch_meanings, table, table_behind, used_at, world}
 use Rattle.gts_directory.specs.Directory as directories
 use Rattle.gts_replay.specs.declared.end.ReplayEnd.TheVariants as end
 use Rattle.gts_app.proofs.CompactedLemmas.{compacted_is, counts, counts_within}
@@ -167,7 +167,7 @@ module _ {S P W : Type 0} (parts : W → CountedParts (Engine P)) (source : Sour
           ),
         )
 
-    pub counted_so : (at new : P) → at ≡ behind.station → (w.observed → w.calls new ≡ Did (Says 0 text) ∷ w.calls at) → w.say_faults at ≤ w.say_faults new
+    counted_so : (at new : P) → at ≡ behind.station → (w.observed → w.calls new ≡ Did (Says 0 text) ∷ w.calls at) → w.say_faults at ≤ w.say_faults new
         → w.disk_faults new ≡ w.disk_faults at → CountsTraffic source w Done (world od oc old) (world nd nc new)
     counted_so at new same said later disk =
         let now : w.observed → w.calls new ≡ Did (Says 0 text) ∷ w.calls behind.station
@@ -192,7 +192,7 @@ module _ {S P W : Type 0} (parts : W → CountedParts (Engine P)) (source : Sour
     as_seen calls now (inl unchanged) = ap seen unchanged
     as_seen calls now (inr broke) = ap seen broke.2
 
-    pub not_told : (at new : P) → at ≡ behind.station → (w.observed → Breaks (Says 0 text) (w.calls at) (w.calls new)) → Rose (w.say_faults at) (w.say_faults new)
+    not_told : (at new : P) → at ≡ behind.station → (w.observed → Breaks (Says 0 text) (w.calls at) (w.calls new)) → Rose (w.say_faults at) (w.say_faults new)
         → w.say_faults at ≤ w.say_faults new → w.disk_faults new ≡ w.disk_faults at → CountsTraffic source w OutputFault (world od oc old) (world nd nc new)
     not_told at new same broke rose later disk =
         let now : w.observed → Breaks (Says 0 text) (w.calls behind.station) (w.calls new)
@@ -216,3 +216,9 @@ module _ {S P W : Type 0} (parts : W → CountedParts (Engine P)) (source : Sour
             omega (arith, run.station_counts.1, disk, ap (λ (p : P). w.disk_faults p) same),
           );
         }
+
+    pub said_so : (said : Result (Unit {0}) Failed) (at new : P) → at ≡ behind.station → (w.observed → Tries (Says 0 text) said (w.calls at) (w.calls new))
+        → HasCause said (w.say_faults at) (w.say_faults new) → w.disk_faults new ≡ w.disk_faults at
+        → CountsTraffic source w (status_said said) (world od oc old) (world nd nc new)
+    said_so (Ok _) at new same tries cause disk = counted_so at new same tries cause.later disk
+    said_so (Err _) at new same tries cause disk = not_told at new same tries (cause.failed refl) cause.later disk

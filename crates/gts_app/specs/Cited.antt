@@ -5,7 +5,7 @@ pub use Rattle.gts_app.specs.Laws.{IsEntryOf, KeepsLaws, state_of}
 pub use Rattle.gts_app.specs.Commands.{IsCommand, IsSettled, moment_at, since_at}
 pub use Rattle.gts_app.specs.Init.{Inits, IsInitEnd}
 pub use Rattle.gts_app.specs.Generate.{Generates}
-pub use Rattle.gts_app.specs.Ending.{refusal, status_compacted, status_of}
+pub use Rattle.gts_app.specs.Ending.{refusal, status_compacted, status_of, status_said}
 pub use Rattle.gts_app.specs.Opening.{BeginsWith, IsOfFiles, IsOrigin, IsRefusal, Opens, handed}
 pub use Rattle.gts_app.specs.Replay.{BecauseFull, BecauseRecorded, BecauseTooLarge, BreaksAt, BreaksTogether, Does, ForNoReason, HasRoom, IsNoCapture, IsReplayEnd, Lacks, NeverFull, Replays, StopsAtCompacting, StopsAtReopening, Untouched, WithoutReason, World, counted, counted_by, history, world}
 pub use Rattle.gts_app.specs.Show.{Reported, Shows}

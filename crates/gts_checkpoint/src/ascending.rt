@@ -66,7 +66,7 @@ pub(crate) fn sorted(alloc: Global, numbers: &[u64]) -> Result<Vec<u64>, NoMemor
 }
 
 /// Whether a number is among numbers in ascending order.
-pub(crate) fn is_among(numbers: &[u64], number: u64) -> bool
+pub fn is_among(numbers: &[u64], number: u64) -> bool
     requires { IsNonDecreasing numbers.now }
     ensures { result ≡ has numbers.now number }
 {

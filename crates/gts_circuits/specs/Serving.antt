@@ -1,5 +1,5 @@
 -- What a run of all circuits leaves: the history of all threads and the takes behind it, the bytes of each circuit, and its end.
-use Rattle.std.specs.Prelude.{◌≡◌, ◌⊎◌, ℕ, ◌+◌, ◌*◌, ◌<◌, ◌≤◌, Bool, true, false, List, [], ◌∷◌, ◌++◌, length, map, Option, Some, None, Err, if◌then◌else◌}
+use Rattle.std.specs.Prelude.{◌≡◌, ◌⊎◌, ℕ, ◌+◌, ◌*◌, ◌<◌, ◌≤◌, Bool, true, false, List, [], ◌∷◌, ◌++◌, length, map, Option, Some, None, if◌then◌else◌}
 use mathlib.Core.Option.{some}
 use lib.ListN.{get_elem?}
 use Rattle.gts_circuits.specs.Cited.Below.{AreOver, Call, Circuit, CircuitBytes, Directory, DiskFault, Engine, Entry, Event, IsFront, Known, LineFault, LineStood, LinesMeanings, LostSync, MOST_TURNS, Part, PlaceSeen, Quiet, ReceiveEnd, Receives, Rose, SayFault, Seen, SendEnd, Sends, SourceFault, StartsWith, SwitchFault, TableId, Taken, WentThroughAll, after, all_done, entries, entries_under, events_over, fault_entries, frame_of_draw, frames, given_index, goes_on, ipv4_octets, is_try, most_beside, on_circuit, outcome, state_at, takes, waiting}

@@ -11,3 +11,4 @@ pub mod parting;
 pub mod room;
 pub mod served;
 pub mod serving;
+pub mod threads;

@@ -95,8 +95,7 @@ fn add_receipts(alloc: Global, text: &mut ReportText, receipts: &[u8]) -> Result
 
 /// Writes the summary of a day behind a text: how many messages came; of what the station said, how many duplicates,
 /// requests and repetitions there were, how many bytes went to the circuits, and their SHA-256 in the order in which they were
-/// said; of the need, how many bulletins were accepted and drawn; and how many bytes of the journal are in use. It takes time
-/// quadratic in the number of what was said.
+/// said; of the need, how many bulletins were accepted and drawn; and how many bytes of the journal are in use.
 pub fn summary(
     alloc: Global,
     count: u32,

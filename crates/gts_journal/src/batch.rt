@@ -14,11 +14,14 @@ use std::marker::Model;
 pub const MOST_GATHERED: usize = 1 << 20;
 
 /// So many bytes more a file of records is made to have at once, where small batches are appended to it: a sync behind a write that
-/// leaves a file's size as it is costs less. From that size on, so that a small journal has the bytes of its records alone.
+/// leaves a file's size as it is costs less.
 const STEP: usize = 1 << 18;
 
+/// From so many bytes on a file grows in steps: a small journal has the bytes of its records alone.
+const FIRST_STEP: u64 = 1 << 16;
+
 /// A batch is small up to so many bytes.
-const SMALL: usize = 1 << 14;
+const SMALL: usize = 1 << 16;
 
 /// Records that are to be appended behind one gate: all of them come to stand in the journal, or none.
 #[derive(Drop)]
@@ -113,7 +116,7 @@ fn extent(gate: u64, reach: u64, size: usize) -> usize
     ensures room { gate + result ≤ 2 ^ 40 }
 {
     let further = size + STEP;
-    let is_far = gate >= STEP as u64 && gate + further as u64 <= LARGEST_FILE;
+    let is_far = gate >= FIRST_STEP && gate + further as u64 <= LARGEST_FILE;
     if is_far && size <= SMALL && reach < gate + size as u64 {
         further
     } else {

@@ -6,11 +6,10 @@ use gts_connection::CaptureKind;
 use gts_directory::Directory;
 use gts_dirfile::read_directory;
 use gts_engine::Engine;
-use gts_real::{FileSource, FileStation};
+use gts_real::{FileSource, FileStation, hold_streams};
 use gts_replay::{ReplayEnd, replay};
 use gts_traits::{Source, Station};
 use std::alloc::Global;
-use std::fs::File;
 use std::process::ExitCode;
 
 /// How many bytes of a directory are read at once.
@@ -50,12 +49,7 @@ fn is_done<S: Source, P: Station + Drop>(
 
 /// Ends with 0 where the capture was done, and else with 1.
 fn main(rt: HostRuntime) -> ExitCode {
-    // A standard stream that is closed leaves its number to what is opened next, which is only read: nothing is said over a file.
-    let _streams = [
-        File::open(&rt, "/"),
-        File::open(&rt, "/"),
-        File::open(&rt, "/"),
-    ];
+    let _streams = hold_streams(&rt);
     let mut directory = FileSource::new(&rt, "directory.toml");
     let mut capture = FileSource::new(&rt, "capture.gts");
     let station = FileStation::new(&rt);

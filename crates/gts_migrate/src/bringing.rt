@@ -1,8 +1,9 @@
 //! What a need brings under a directory that takes over from its own.
 
 ghost use Rattle.std.specs.Prelude.{◌≡◌, ◌<◌, ◌||◌, ℕ, [], length, filter, get_or, map, nat_le, OnOk, IfOk, IsTrue, if◌then◌else◌};
-ghost use Rattle.gts_migrate.specs.Cited.{IsNonDecreasing, TakesOver, bulletin_of, circuit_need_of, circuits_under, goes_on, has, is_held, is_sound, keeps_one, last_of, need as need_at, need_of, under_row, unused as unused_of};
+ghost use Rattle.gts_migrate.specs.Cited.{IsNonDecreasing, TakesOver, bulletin_of, circuit_need_of, circuits_under, goes_on, has, is_sound, keeps_one, last_of, need as need_at, need_of, under_row, unused as unused_of};
 
+use gts_checkpoint::{held_positions, is_among};
 use gts_directory::{CircuitRow, Directory};
 use gts_event::{Bulletins, CircuitNeed, CircuitNeeds, Need, Places};
 use gts_traits::NoMemory;
@@ -108,29 +109,6 @@ fn bring_each(
     Ok(circuits)
 }
 
-/// What waits on circuits and what is kept there, in ascending order.
-fn held(alloc: Global, circuits: &[CircuitNeed]) -> Result<Vec<u64>, NoMemory>
-    ensures order { IfOk result (λ held. IsNonDecreasing held.items) }
-    ensures each { IfOk result (λ held. (position : ℕ) → has held.items position
-        ≡ is_held (map circuit_need_of circuits.now) position) }
-{
-    let mut held = Vec::new(alloc);
-    for circuit in circuits {
-        held.extend_from_slice(circuit.waiting.as_slice())?;
-        held.extend_from_slice(circuit.kept.as_slice())?;
-    }
-    held.sort_unstable();
-    Ok(held)
-}
-
-/// Whether a number is among numbers in ascending order.
-pub(crate) fn is_among(numbers: &[u64], number: u64) -> bool
-    requires { IsNonDecreasing numbers.now }
-    ensures { result ≡ has numbers.now number }
-{
-    numbers.binary_search(&number).is_ok()
-}
-
 /// The bulletins from a position on, and those among positions that are held.
 fn keep_needed(
     alloc: Global,
@@ -166,7 +144,7 @@ pub(crate) fn bring_over(
     ensures keeps { OnOk result (IsTrue (keeps_one new.now)) }
 {
     let circuits = bring_each(alloc, &need, old, new)?;
-    let held = held(alloc, circuits.as_slice())?;
+    let held = held_positions(alloc, circuits.as_slice())?;
     let first = need.accepted.saturating_sub(u64::from(new.window()));
     let bulletins = keep_needed(alloc, need.bulletins, first, &held)?;
     Ok(Need {

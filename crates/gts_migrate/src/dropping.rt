@@ -3,8 +3,8 @@
 ghost use Rattle.std.specs.Prelude.{◌≡◌, ◌++◌, [], get_or, is_ok, map, if◌then◌else◌, OnOk, IfOk, IsTrue};
 ghost use Rattle.gts_migrate.specs.Cited.{CanDrop, IsNonDecreasing, IsStart, body_at, bulletin_of, circuit_need_of, drop_receipts, dropped_text, fields_of, flat_map, need_of, receipt_among, receipts_on, then_number, unused, waiting_at};
 
-use crate::bringing::is_among;
 use crate::leaving::waiting_of;
+use gts_checkpoint::is_among;
 use gts_directory::Directory;
 use gts_event::{Bulletin, Need};
 use gts_heading::Heading;

@@ -10,7 +10,9 @@ mod lock;
 mod outputs;
 mod source;
 mod station;
+mod streams;
 
 pub use cause::Cause;
 pub use source::FileSource;
 pub use station::FileStation;
+pub use streams::hold_streams;

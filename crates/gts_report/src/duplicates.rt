@@ -7,7 +7,7 @@ use gts_directory::Directory;
 use gts_event::{Bulletin, Need};
 
 /// Whether a position is among the last accepted ones that are looked at.
-fn is_recent(directory: &Directory, accepted: u64, position: u64) -> bool
+pub(crate) fn is_recent(directory: &Directory, accepted: u64, position: u64) -> bool
     ensures { result ≡ nat_le accepted (position + directory.now.window) }
 {
     accepted.saturating_sub(position) <= u64::from(directory.window())

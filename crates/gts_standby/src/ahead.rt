@@ -70,14 +70,14 @@ impl Ahead {
         self.begin += count;
     }
 
-    /// Moves what is left to the front.
+    /// Moves what is left to the front, where that is less than what was taken: so a byte is moved once.
     fn settle(&mut self)
         ensures { self.new ≡ self.old }
     {
-        if self.begin == 0 {
+        let left = self.bytes.len() - self.begin;
+        if self.begin <= left {
             return;
         }
-        let left = self.bytes.len() - self.begin;
         self.bytes.copy_within(self.begin.., 0);
         self.bytes.truncate(left);
         self.begin = 0;

@@ -43,25 +43,34 @@ pub struct ServiceStation<'a, R: Eprint, P> {
 }
 
 impl<R: Eprint, P: Station + Causes> ServiceStation<'_, R, P> {
-    /// Tells that the disk of a service failed, unless a failure was told.
-    fn looks_at_disk(&mut self, failed: bool)
+    /// Tells that a device of a service failed, unless a failure was told.
+    fn tell_failure(&mut self, status: Status, cause: Option<Cause>)
         ensures { self.new.station ≡ self.old.station }
     {
-        if failed && self.is_service && self.told.is_none() {
-            self.told = Some(Status::DiskFault);
-            tell(self.rt, Status::DiskFault, self.station.disk_cause());
+        if self.is_service && self.told.is_none() {
+            self.told = Some(status);
+            tell(self.rt, status, cause);
             self.stop.set();
         }
     }
 
-    /// Tells that the standard output of a service failed, unless a failure was told.
+    /// Looks whether a call on a journal file failed.
+    fn looks_at_disk(&mut self, failed: bool)
+        ensures { self.new.station ≡ self.old.station }
+    {
+        if failed {
+            let cause = self.station.disk_cause();
+            self.tell_failure(Status::DiskFault, cause);
+        }
+    }
+
+    /// Looks whether a say failed, or keeping what was said.
     fn looks_at_output(&mut self, failed: bool)
         ensures { self.new.station ≡ self.old.station }
     {
-        if failed && self.is_service && self.told.is_none() {
-            self.told = Some(Status::OutputFault);
-            tell(self.rt, Status::OutputFault, self.station.say_cause());
-            self.stop.set();
+        if failed {
+            let cause = self.station.say_cause();
+            self.tell_failure(Status::OutputFault, cause);
         }
     }
 }

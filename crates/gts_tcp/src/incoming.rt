@@ -13,8 +13,9 @@ use std::time::{Clock, Duration, Instant};
 /// How often a connection that is waited for without an end is read in a second.
 const LOOKS_A_SECOND: u64 = 1_000 / LONGEST_WAIT as u64;
 
-/// For how many seconds a circuit tells of no further callers that it turns away, once it has told of one.
-const A_MINUTE: u64 = 60;
+/// For how many seconds a circuit tells of no further callers that it turns away, once it has told of one; and for how many a
+/// neighbour may take at most to end its side of a connection.
+pub(crate) const A_MINUTE: u64 = 60;
 
 /// The connections that a circuit's bytes come in on, one after another. They tell no bytes.
 #[derive(Drop)]
@@ -25,8 +26,10 @@ pub struct TcpIn<'a, R: Clock + Eprint> {
     listener: Option<TcpListener>,
     place: Place,
     patience: Patience<'a>,
-    /// The present connection. None where it isn't accepted yet.
+    /// The present connection. None where it isn't accepted yet, or was read to its end.
     stream: Option<TcpStream>,
+    /// Whether the neighbour has ended the present connection, which is closed then at once.
+    has_ended: bool,
     faults: u64,
     cause: Option<LineCause>,
     /// When the operator was last told of a caller that was turned away, or that none could be let in.
@@ -52,6 +55,7 @@ impl<'a, R: Clock + Eprint> TcpIn<'a, R> {
             place: *at,
             patience,
             stream: None,
+            has_ended: false,
             faults: 0,
             cause: None,
             told: None,
@@ -132,6 +136,10 @@ impl<'a, R: Clock + Eprint> TcpIn<'a, R> {
                 Err(error) if has_waited(&error) => looks.make(self.rt, self.patience.stop),
                 Err(error) if error.kind() == ErrorKind::ConnectionAborted => {}
                 Err(error) if self.patience.tries.is_some() => return Err(error),
+                // Nobody calls on a closed circuit, which is no failure: a service waits there until it is to end.
+                Err(_) if self.listener.is_none() => {
+                    pauses.make(self.rt, self.patience.stop);
+                }
                 // There may be no descriptor left for a while.
                 Err(error) => {
                     self.tell_failure(error);
@@ -157,6 +165,7 @@ impl<'a, R: Clock + Eprint> TcpIn<'a, R> {
         let stream = self.next_caller()?;
         stream.set_read_timeout(Some(Duration::from_millis(u64::from(LONGEST_WAIT))))?;
         self.stream = Some(stream);
+        self.has_ended = false;
         Ok(())
     }
 
@@ -166,18 +175,26 @@ impl<'a, R: Clock + Eprint> TcpIn<'a, R> {
         ensures faults { self.new.faults ≡ self.old.faults }
     {
         let port = self.place.input;
-        if self.stream.is_none() {
+        if self.stream.is_none() && !self.has_ended {
             named(self.accept(), LineCall::Accept, port)?;
         }
-        if self.is_over() {
+        if self.has_ended || self.is_over() {
             return Ok(0);
         }
         let idle = self.place.idle;
         let stop = self.patience.stop;
-        match &mut self.stream {
+        let is_asked = !into.is_empty();
+        let answer = match &mut self.stream {
             Some(stream) => named(read_within(stream, into, idle, stop), LineCall::Read, port),
             None => named(Err(not_connected()), LineCall::Read, port),
+        };
+        if let Ok(0) = answer
+            && is_asked
+        {
+            self.stream = None;
+            self.has_ended = true;
         }
+        answer
     }
 }
 

@@ -2,7 +2,7 @@ ghost use Rattle.std.specs.Prelude.{◌≡◌, ◌≤◌, [], length, IfOk};
 
 use crate::cause::{named, note};
 use crate::dialing::{LONGEST_TRY, dial_once};
-use crate::incoming::not_connected;
+use crate::incoming::{A_MINUTE, not_connected};
 use crate::lines::is_closed;
 use crate::pausing::Pauses;
 use crate::stop::{LONGEST_WAIT, Patience, goes_on, has_waited};
@@ -21,6 +21,9 @@ const SHORT_TRY: u32 = 20;
 
 /// How many pieces of what a neighbour sends on this line are read away before a frame is written.
 const MOST_LOOKS: u32 = 64;
+
+/// How many looks in turn may find nothing of a neighbour that was sent the end: those of five seconds.
+const MOST_SILENT_LOOKS: u32 = 5_000 / LONGEST_WAIT;
 
 /// The way to a neighbour's port, over the connection that stands there now.
 #[derive(Drop)]
@@ -116,9 +119,12 @@ impl<R: Net<Listener = TcpListener, Stream = TcpStream> + Clock> Way<'_, R> {
         }
     }
 
-    /// Nothing is due. Where no connection has stood yet, the port is tried once. Where one stands and nothing was written for a third
+    /// Nothing is due, and on a closed circuit nothing ever is. Where no connection has stood yet, the port is tried once. Where one stands and nothing was written for a third
     /// of the circuit's `idle` seconds, a keep-alive is; a connection that doesn't take it is given up.
     fn keep_up(&mut self) -> Option<u32> {
+        if is_closed(&self.place) {
+            return None;
+        }
         if !self.has_stood && self.connect(LONGEST_TRY).is_err() {
             return Some(self.pauses.next());
         }
@@ -138,17 +144,54 @@ impl<R: Net<Listener = TcpListener, Stream = TcpStream> + Clock> Way<'_, R> {
         Some(third)
     }
 
-    /// Ends the bytes of the connection that stands. Where none has stood, the port is tried once more, so that a neighbour that listens
-    /// hears the end.
+    /// Ends the bytes of the connection that stands, and waits until the neighbour has read them and ends its side. Where none has stood,
+    /// the port is tried once more, so that a neighbour that listens hears the end.
     fn end(&mut self) {
         if !self.has_stood {
             // Where the neighbour isn't there, there is nobody to tell.
             let _ = self.connect(SHORT_TRY);
         }
-        if let Some(stream) = &self.stream {
-            // Where the connection is gone, there is nobody to tell.
-            let _ = stream.shutdown(Shutdown::Write);
+        // Where the connection is gone, there is nobody to tell.
+        if let Some(stream) = &mut self.stream
+            && stream.shutdown(Shutdown::Write).is_ok()
+            && reads_in_turn(stream).is_ok()
+        {
+            hear_out(self.rt, stream, self.patience.stop);
         }
+    }
+}
+
+/// Has a read wait for a short time for a byte.
+fn reads_in_turn(stream: &TcpStream) -> io::Result<()> {
+    stream.set_nonblocking(false)?;
+    stream.set_read_timeout(Some(Duration::from_millis(u64::from(LONGEST_WAIT))))
+}
+
+/// Reads away what a neighbour still sends on a connection on which it was sent the end, until it ends its side too. A connection that
+/// is closed before takes with it what is on the way, once the neighbour sends a byte. One that is silent for five seconds isn't
+/// waited for, and none for more than a minute.
+fn hear_out<R: Clock>(rt: &R, stream: &mut TcpStream, stop: Option<&Stop>) {
+    let begun = Instant::now(rt).ok();
+    let mut piece = [0u8; 64];
+    let mut silent = 0u32;
+    for _ in 0..u64::MAX {
+        if silent >= MOST_SILENT_LOOKS || goes_on(stop).is_err() || !is_within_a_minute(rt, begun) {
+            return;
+        }
+        match stream.read(&mut piece) {
+            Ok(0) => return,
+            Ok(_) => silent = 0,
+            Err(error) if has_waited(&error) => silent = silent.saturating_add(1),
+            Err(_) => return,
+        }
+    }
+}
+
+/// Whether no minute has gone by since this moment. Without a clock one has.
+fn is_within_a_minute<R: Clock>(rt: &R, begun: Option<Instant>) -> bool {
+    match begun.map(|begun| begun.elapsed(rt)) {
+        Some(Ok(since)) => since.as_secs() < A_MINUTE,
+        _ => false,
     }
 }
 
@@ -215,8 +258,8 @@ pub struct TcpOut<'a, R: Net<Listener = TcpListener, Stream = TcpStream> + Clock
 }
 
 impl<'a, R: Net<Listener = TcpListener, Stream = TcpStream> + Clock> TcpOut<'a, R> {
-    /// The way to a neighbour, whose port is tried once now, without waiting. Where something is to be written and no connection
-    /// stands, it is tried so many times at most, or without an end.
+    /// The way to a neighbour, whose port is tried once now, for twenty milliseconds. Where something is to be written and no
+    /// connection stands, it is tried so many times at most, or without an end.
     pub(crate) fn new(rt: &'a R, at: &Place, patience: Patience<'a>) -> TcpOut<'a, R>
         ensures { result.faults ≡ 0 }
     {

@@ -4,11 +4,11 @@ ghost use Rattle.gts_circuits.specs.Turning.{KnowsOwn};
 use crate::hall::began::Began;
 use crate::hall::housed::Housed;
 use crate::hall::turns;
-use crate::workers::room::RoomBell;
+use crate::workers::room::{RoomBell, Seen};
 use gts_calls::{Desk, Fed, FeedEnd, Given, is_event, next_step};
 use gts_event::{Outcome, SwitchFault};
 use gts_frame::{Decoder, Kind};
-use gts_lock::{Bells, Hall, Look, Pass};
+use gts_lock::{Bells, Hall, Pass};
 use gts_traits::Station;
 use std::alloc::Global;
 use std::marker::Model;
@@ -24,7 +24,7 @@ pub struct HallDesk<'a, R: Wait, P: Station, B: Began> {
     bells: &'a Bells,
     room: &'a RoomBell,
     // What was seen at the bell for room before the last try, once this desk waits there.
-    looked: Option<Look>,
+    looked: Option<Seen>,
     // This desk is the one of those that wait there that tries.
     tries: bool,
     pass: Option<Pass<Housed<P, B>>>,

@@ -10,6 +10,7 @@ use crate::service::ended::{Incoming, Outgoing};
 use crate::service::opening::{close_opened, open_all};
 use crate::service::parting::part;
 use crate::service::room::{Room, room_for};
+use crate::service::threads::can_have_threads;
 use crate::workers::closing::{Ran, close};
 use crate::workers::crew::Crew;
 use crate::workers::ringing::RunBell;
@@ -148,8 +149,8 @@ where
 
 /// Serves all circuits, each over so many incoming connections, one after another: takes the memory for their lines and their
 /// workers, opens the lines, runs a receiver and a sender for each, all at once, until each has come to its end, sends what is
-/// left on each circuit whose sender has nothing against it, and hands the lines back. Without memory no line is touched. A
-/// service, whose connections have no end, makes room for bulletins for which the journal has none.
+/// left on each circuit whose sender has nothing against it, and hands the lines back. Without memory, or threads for all workers
+/// at once, no line is touched. A service, whose connections have no end, makes room for bulletins for which the journal has none.
 pub fn serve<R, P, B, L, G>(
     rt: &R,
     alloc: Global,
@@ -176,6 +177,11 @@ where
     let Ok(room) = room_for(alloc, engine.directory()) else {
         return unserved(engine, ServeEnd::NoMemory);
     };
+    // A worker for which no thread can be made would wait for another to end, which a service never does.
+    let workers = 2 * engine.directory().circuits() as usize;
+    if !can_have_threads(rt, workers) {
+        return unserved(engine, ServeEnd::NoMemory);
+    }
     let housed: Housed<P, B> = Housed {
         engine,
         makes_room: goes_on(connections),

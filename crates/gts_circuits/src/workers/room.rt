@@ -2,23 +2,34 @@ use gts_lock::{Bell, Look};
 use std::sync::Wait;
 use std::sync::atomic::{AtomicU64, Ordering};
 
-// So many frames go out before a message is tried again for which there was no room, or so much time passes: a try that finds none looks
-// at all that the engine needs.
+// So many frames go out before those are woken who wait, or so much time passes: a try that finds no room looks at all that the engine
+// needs.
 const FRAMES_A_TRY: u64 = 1_024;
 
 const MILLISECONDS_A_TRY: u32 = 1_000;
 
+// For so long who has tried in vain lets the others come first.
+const MILLISECONDS_OF_GIVING_WAY: u32 = 50;
+
 /// Where receivers sleep that have a message for which there is no room, until draws have gone out, or the engine has stopped. One of them
-/// tries at a time, and where it finds room the others follow. Nothing is claimed of it.
+/// tries at a time, and where it finds room the others follow. Where it finds none, each of the others tries too: it may want less.
+/// Nothing is claimed of it.
 #[derive(Drop)]
 pub struct RoomBell {
     bell: Bell,
     // How many receivers wait for room.
     waiting: AtomicU64,
-    // How many frames have gone out since the last try.
+    // How many frames have gone out.
     sent: AtomicU64,
     // 1 while one of them tries.
     tried: AtomicU64,
+}
+
+/// What a receiver has seen before a try. There is a reason for another one once there is something else to see.
+#[derive(Clone, Copy, PartialEq, Eq)]
+pub struct Seen {
+    look: Look,
+    sent: u64,
 }
 
 impl RoomBell {
@@ -47,40 +58,43 @@ impl RoomBell {
     }
 
     /// What there is to see. Look before a message is tried, so that a draw in between isn't missed.
-    pub fn look(&self) -> Look {
-        self.bell.look()
+    pub fn look(&self) -> Seen {
+        Seen {
+            look: self.bell.look(),
+            sent: self.sent.load(Ordering::SeqCst),
+        }
     }
 
     /// Sleeps until this receiver is the one that may try, `tries` where it was that already. There may be room for its message since it
     /// was looked at.
-    pub fn wait<R: Wait>(&self, rt: &R, seen: Look, tries: bool) {
+    pub fn wait<R: Wait>(&self, rt: &R, seen: Seen, tries: bool) {
         if tries {
-            self.tried.store(0, Ordering::SeqCst);
+            self.give_way(rt, seen);
         }
-        let mut seen = seen;
+        let mut last = seen.look;
         for _ in rt.forever() {
-            self.bell.wait_at_most(rt, seen, MILLISECONDS_A_TRY);
-            let now = self.bell.look();
-            if (now != seen || self.sent.load(Ordering::SeqCst) > 0) && self.begins_to_try() {
+            if self.look() != seen && self.tried.swap(1, Ordering::SeqCst) == 0 {
                 return;
             }
-            seen = now;
+            self.bell.wait_at_most(rt, last, MILLISECONDS_A_TRY);
+            last = self.bell.look();
         }
     }
 
-    // Whether this receiver is the one that tries from now on.
-    fn begins_to_try(&self) -> bool {
-        if self.tried.swap(1, Ordering::SeqCst) == 1 {
-            return false;
+    // This receiver has tried in vain. So that there aren't too many tries, nobody tries for a while; then the others come first.
+    fn give_way<R: Wait>(&self, rt: &R, seen: Seen) {
+        self.bell.wait_at_most(rt, seen.look, MILLISECONDS_A_TRY);
+        self.tried.store(0, Ordering::SeqCst);
+        if self.waiting.load(Ordering::SeqCst) > 1 {
+            let last = self.bell.look();
+            self.bell.wait_at_most(rt, last, MILLISECONDS_OF_GIVING_WAY);
         }
-        self.sent.store(0, Ordering::SeqCst);
-        true
     }
 
-    /// So many frames have gone out; there is room for a try where these and those before are enough of them.
+    /// So many frames have gone out. Those who wait are woken where that makes another so many that there is to be a try.
     pub fn sent(&self, frames: u64) {
         let before = self.sent.fetch_add(frames, Ordering::SeqCst);
-        if before >= FRAMES_A_TRY {
+        if before / FRAMES_A_TRY != before.wrapping_add(frames) / FRAMES_A_TRY {
             self.wake();
         }
     }

@@ -1,21 +1,13 @@
 //! Lines that say a word or a number of something.
 
-ghost use Rattle.std.specs.Prelude.{◌≡◌, ◌++◌, Some, IfOk, OnOk, decimal};
+ghost use Rattle.std.specs.Prelude.{◌≡◌, Some, IfOk};
 ghost use Rattle.gts_report.specs.Changes as changes;
 
 use crate::ReportText;
+use crate::lines::add_number;
 use gts_alphabet::{NoMemory, digits_of};
 use gts_migrate::MigrateFault;
-use itoa::Buffer;
 use std::alloc::Global;
-
-/// Adds a number in decimal digits.
-fn add_number(alloc: Global, text: &mut ReportText, number: u64) -> Result<(), NoMemory>
-    ensures { OnOk result (text.new ≡ text.old ++ decimal number) }
-{
-    let mut digits = Buffer::new();
-    text.add(alloc, digits.format(number).as_bytes())
-}
 
 /// A word about a circuit.
 pub(crate) fn word_line(

@@ -1,6 +1,6 @@
-use Rattle.std.proofs.Common.{◌≡◌, ◌≤◌, length, Ok, sym, ap, subst, ◌∙◌, refl, arith}
-use Rattle.gts_app.specs.Cited.{Counted, Engine, Opens, ShowsTable, switch_meanings}
-use Rattle.gts_app.proofs.TrafficLemmas.{Leaves, not_counted, without_numbers, ended, counted_so, not_told}
+use Rattle.std.proofs.Common.{◌≡◌, ◌≤◌, length, Ok, sym, ap, subst, ◌∙◌, arith}
+use Rattle.gts_app.specs.Cited.{Counted, CountsTraffic, Engine, Opens, ShowsTable, Status, switch_meanings, world}
+use Rattle.gts_app.proofs.TrafficLemmas.{Leaves, not_counted, without_numbers, ended, said_so}
 use Rattle.gts_app.proofs.commands.count.count.Goals as goal
 
 pub returns-in-Err : goal.returns-in-Err
@@ -32,27 +32,6 @@ returns-in-Err-table g c =
     c.replay-end.ensures.cause files c.in-Err-table.status c.in-Err-table.ensures.none c.into_parts-station-2.result.0
     (c.into_parts-station-2.ensures.station ∙ ap (λ (e : Engine g.row.P.Denot). e.station) c.into_inner-engine.ensures)
 
-pub returns-in-Err-say : goal.returns-in-Err-say
-returns-in-Err-say g c =
-    let od = c.args.world.directory in
-    let nd = c.open_engine.new.directory in
-    let first = c.in-Ok-count_beside.counted in
-    let last = c.replay-end.new.switch in
-    let switch = c.in-Ok-count_beside.ensures.switch in
-    let few : length first.parts.switch.directory.circuits ≤ 100 =
-    let is : c.circuits-few.result ≡ length first.parts.switch.directory.circuits =
-    c.circuits-few.ensures.circuits ∙ ap (λ (e : Engine g.row.P.Denot). length e.directory.circuits) (sym switch) in
-    omega (arith, is, c.circuits-few.ensures.few) in
-    let opens = subst (λ (e : Engine g.row.P.Denot). Opens g.S.Source g.P.Station (Ok e) od nd c.args.world.station) (sym switch) c.in-Ok.ensures in
-    let files = subst (λ (e : Engine g.row.P.Denot). Leaves g.P.Station e) c.into_inner-engine.ensures c.used-used.ensures.files in
-    not_told (λ (x : Counted (Engine g.row.P.Denot)). x.parts) g.S.Source g.P.Station c.replay-end.result od nd c.args.world.capture c.replay-end.new.capture c.args.world.station first last
-    opens c.in-Ok-count_beside.ensures.counts (λ n es keeps sound. c.a_history_keeps_its_laws.ensures first.parts.switch.directory n es keeps sound) c.replay-end.ensures.ends few
-    c.replay-end.ensures.cause files c.in-Ok-table.ensures.table.0 c.as_slice.result.now
-    (subst (ShowsTable (switch_meanings g.P.Station.observed g.P.Station.calls) last.parts) (sym c.as_slice.ensures.value) c.in-Ok-table.ensures.table.1)
-    c.into_parts-station-2.result.0 c.say.new.self
-    (c.into_parts-station-2.ensures.station ∙ ap (λ (e : Engine g.row.P.Denot). e.station) c.into_inner-engine.ensures)
-    c.in-Err-say.ensures.told (c.in-Err-say.ensures.cause.failed refl) c.in-Err-say.ensures.cause.later c.in-Err-say.ensures.disk
-
 pub returns : goal.returns
 returns g c =
     let od = c.args.world.directory in
@@ -66,10 +45,11 @@ returns g c =
     omega (arith, is, c.circuits-few.ensures.few) in
     let opens = subst (λ (e : Engine g.row.P.Denot). Opens g.S.Source g.P.Station (Ok e) od nd c.args.world.station) (sym switch) c.in-Ok.ensures in
     let files = subst (λ (e : Engine g.row.P.Denot). Leaves g.P.Station e) c.into_inner-engine.ensures c.used-used.ensures.files in
-    counted_so (λ (x : Counted (Engine g.row.P.Denot)). x.parts) g.S.Source g.P.Station c.replay-end.result od nd c.args.world.capture c.replay-end.new.capture c.args.world.station first last
+    subst (λ (status : Status). CountsTraffic g.S.Source g.P.Station status c.args.world (world nd c.replay-end.new.capture c.say.new.self)) (sym c.status_said-status.ensures)
+    (said_so (λ (x : Counted (Engine g.row.P.Denot)). x.parts) g.S.Source g.P.Station c.replay-end.result od nd c.args.world.capture c.replay-end.new.capture c.args.world.station first last
     opens c.in-Ok-count_beside.ensures.counts (λ n es keeps sound. c.a_history_keeps_its_laws.ensures first.parts.switch.directory n es keeps sound) c.replay-end.ensures.ends few
     c.replay-end.ensures.cause files c.in-Ok-table.ensures.table.0 c.as_slice.result.now
     (subst (ShowsTable (switch_meanings g.P.Station.observed g.P.Station.calls) last.parts) (sym c.as_slice.ensures.value) c.in-Ok-table.ensures.table.1)
-    c.into_parts-station-2.result.0 c.say.new.self
+    c.say.result c.into_parts-station-2.result.0 c.say.new.self
     (c.into_parts-station-2.ensures.station ∙ ap (λ (e : Engine g.row.P.Denot). e.station) c.into_inner-engine.ensures)
-    c.in-Ok-say.ensures.told c.in-Ok-say.ensures.cause.later c.in-Ok-say.ensures.disk
+    c.say.ensures.told c.say.ensures.cause c.say.ensures.disk)

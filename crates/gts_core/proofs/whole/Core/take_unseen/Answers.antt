@@ -1,4 +1,4 @@
-use Rattle.std.proofs.Common.{◌≡◌, ◌<◌, ℕ, length, false, refl, sym, ap, subst, ◌∙◌, arith}
+use Rattle.std.proofs.Common.{◌≡◌, ◌<◌, length, false, refl, sym, ap, subst, ◌∙◌, arith}
 use Rattle.std.proofs.lemmas.Bool.{true≢false}
 use Rattle.std.proofs.lemmas.List.{length-map, length-set, get_or_default}
 use Rattle.gts_core.specs.Cited.{AreParts, CanTake, Core, Directory, Holds, IsStep, Lane, Stands, State, StoreAfter, Taken, after, circuit_at, core_of, frame_kept, idle_lane, index_told, lane_in, level_in, need_on, outcome, plan_of, row_plan, with_item}

@@ -4,7 +4,7 @@ use Rattle.std.proofs.lemmas.List.Sorted.{IsNonDecreasingBy-from_sort}
 use Rattle.gts_event.specs.declared.values.CircuitNeed.{CircuitNeed}
 use Rattle.gts_checkpoint.specs.Sound.{is_held, circuit_need_of}
 use Rattle.gts_checkpoint.proofs.SoundLemmas.{has-sorted}
-use Rattle.gts_migrate.proofs.bringing.held.Goals as goal
+use Rattle.gts_checkpoint.proofs.sound.held_positions.Goals as goal
 
 pub returns-clause-order : goal.returns-clause-order
 returns-clause-order c = IsNonDecreasingBy-from_sort (λ x. x) c.sort_unstable.new.self.items c.sort_unstable.ensures.sorted
