@@ -119,8 +119,9 @@ impl<R: Net<Listener = TcpListener, Stream = TcpStream> + Clock> Way<'_, R> {
         }
     }
 
-    /// Nothing is due, and on a closed circuit nothing ever is. Where no connection has stood yet, the port is tried once. Where one stands and nothing was written for a third
-    /// of the circuit's `idle` seconds, a keep-alive is; a connection that doesn't take it is given up.
+    /// Nothing is due, and on a closed circuit nothing ever is. Where no connection has stood yet, the port is tried once. Where one
+    /// stands and nothing was written for a third of the circuit's `idle` seconds, a keep-alive is; a connection that doesn't take it is
+    /// given up.
     fn keep_up(&mut self) -> Option<u32> {
         if is_closed(&self.place) {
             return None;
