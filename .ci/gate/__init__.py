@@ -176,8 +176,8 @@ def verdict(name, faults, line):
 
 
 def python():
-    """A Python that has pytest and hypothesis: this one, or that of the system."""
-    needs = 'import pytest, hypothesis'
+    """A Python that has pytest, hypothesis and yaml: this one, or that of the system."""
+    needs = 'import pytest, hypothesis, yaml'
     fits = subprocess.run([sys.executable, '-c', needs], stderr=subprocess.DEVNULL).returncode == 0
     return sys.executable if fits else '/usr/bin/python3'
 

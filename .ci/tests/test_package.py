@@ -1,7 +1,8 @@
 """What is installed of the program: by packaging/install under a folder of its own, and as a package of Debian in a root that has nothing
-else. The manual page renders without a warning and names every command, file, end and line; the units are sound; what was installed
-runs; lintian finds no error; and when the package is removed, and purged, each byte of the journal stays. A release is made of a
-clean commit over which the gate has passed, and of nothing else.
+else. The manual page renders without a warning and names every command, file, end and line; the units are sound, and the alerts name
+what is there; what was installed runs; lintian finds no error; what was installed by hand before the package is told; and when that
+is removed, and purged, each byte of the journal stays. A release is made of a clean commit over which the gate has passed, and of
+nothing else.
 
     --break page       the manual page lacks its table of ends
     --break journal    removing the package takes the journal with it
@@ -14,6 +15,7 @@ import subprocess
 
 import gate
 import pytest
+import yaml
 from gate import TOP, Folder
 
 SECONDS = 180
@@ -64,9 +66,21 @@ def lines_of_faults():
     return [(line, statuses[name]) for name, line in arms if name != 'Done']
 
 
+def calls_of(usage):
+    """Each way in which the program is called, by its usage line: its words."""
+    for call in usage.removeprefix('usage: ').replace(' or ', ', ').split(', '):
+        word, _, more = call.partition(' [')
+        yield word
+        yield from (f'{word} {one}' for one in more.rstrip(']').split('|') if one)
+
+
 def check_page(text):
     lines = lines_of_faults()
     usage = next(line for line, _ in lines if line.startswith('usage: '))
+    calls = text.partition(' DESCRIPTION ')[0].split(' gts_switch ')
+    calls = [form for call in calls for form in (call.replace(' [N]', ''), call.replace('[N]', 'N'))]
+    for words in calls_of(usage):
+        wants(f'the synopsis has {words}', words in calls, True)
     for word in re.findall(r'(?:, | or )([a-z]+)', usage.replace('usage: ', ', ')):
         wants(f'the page names {word}', f'gts_switch {word}' in text, True)
     for name in FILES:
@@ -82,6 +96,9 @@ def check_unit(unit, prefix):
     with open(unit) as file:
         text = file.read()
     wants(f'{unit} has the prefix', (f'={prefix}/' in text, '@PREFIX@' in text), (True, False))
+    # What is started again for ever isn't given up behind some quick ends.
+    if 'Restart=always' in text:
+        wants(f'{unit} is started again for ever', re.findall('^StartLimitIntervalSec=(.*)', text, re.M), ['0'])
     # They take as long as the journal is large, or the line slow.
     if re.search('^Exec.*/(gts_switch compact|gts-switch-follow)', text, re.M):
         wants(f'{unit} has no limit for its start', re.findall('^TimeoutStartSec=(.*)', text, re.M), ['infinity'])
@@ -120,6 +137,34 @@ def check_program(program, commands, folder):
     wants('the mark of a start', bool(re.fullmatch(r'START \d{4}-\d\d-\d\dT\d\d:\d\d:\d\dZ\n', said)), True)
     status, said, line = run(serve, folder)
     wants('serve of the unit', (status, said, line.splitlines()[:1]), (10, '', ['gts_switch: line fault on circuit 0']))
+
+
+def units_of(text):
+    """The units that a rule of an alert names."""
+    return re.findall(r'[{,]name="([^"]*)"', text)
+
+
+def test_alerts_are_about_what_is_there(program, tmp_path):
+    """Each rule is whole, and names metrics that gts-switch-status writes and units that are installed."""
+    with open(os.path.join(TOP, 'packaging/alerts.yml')) as file:
+        [group] = yaml.safe_load(file)['groups']
+    folder = Folder(program, str(tmp_path), DIRECTORY)
+    wants('init', folder.run('init'), (0, b'', ''))
+    os.symlink(program, tmp_path / 'gts_switch')
+    more = {**os.environ, 'PATH': f'{tmp_path}:{os.environ["PATH"]}'}
+    status, said, line = run([os.path.join(TOP, 'packaging/gts-switch-status')], folder.at, env=more)
+    wants('what Prometheus is told', (status, line), (0, ''))
+    metrics = set(re.findall(r'^(gts_switch_\w+)', said, re.M))
+    for rule in group['rules']:
+        wants(f'the parts of {rule.get("alert")}', {'alert', 'expr', 'annotations'} <= set(rule) <= {'alert', 'expr', 'for', 'annotations'}, True)
+        wants(f'what {rule["alert"]} says', bool(rule['annotations']['summary']), True)
+        used = re.findall(r'(?<![.\w"])(gts_switch_\w+)(?!\.)\b', re.sub(r'"[^"]*"', '""', rule['expr']))
+        wants(f'metrics of {rule["alert"]}', [name for name in used if name not in metrics], [])
+        units = units_of(rule['expr'])
+        wants(f'units of {rule["alert"]}', [name for name in units if not os.path.exists(os.path.join(TOP, 'packaging', name))], [])
+        wants(f'{rule["alert"]} asks for something', bool(used or units), True)
+    about = {name for rule in group['rules'] for name in units_of(rule['expr'])}
+    wants('the units that alerts are about', about, {f'gts_switch{name}.service' for name in ('', '-receipts', '-standby')})
 
 
 def check_about(program):
@@ -196,9 +241,11 @@ def clean_root(at):
 
 
 def dpkg(root, *words):
+    """How it ended, and all that it said."""
     # What the package depends on isn't in this root, but for what was put there.
-    return run(['dpkg', f'--root={root}', '--force-depends', '--force-unsafe-io', *words],
-               env={**os.environ, 'PATH': '/usr/sbin:/usr/bin:/sbin:/bin', 'LC_ALL': 'C', 'DEBIAN_FRONTEND': 'noninteractive'})
+    words = ['dpkg', f'--root={root}', '--force-depends', '--force-unsafe-io', *words]
+    return run(['sh', '-c', 'exec "$@" 2>&1', 'sh', *words],
+               env={**os.environ, 'PATH': '/usr/sbin:/usr/bin:/sbin:/bin', 'LC_ALL': 'C', 'DEBIAN_FRONTEND': 'noninteractive'})[:2]
 
 
 def everything(folder):
@@ -255,7 +302,15 @@ def test_a_release_is_of_a_clean_commit_over_which_the_gate_has_passed(program, 
 @pytest.mark.skipif(os.geteuid() != 0, reason='a root is entered by root alone')
 def test_the_package_in_a_clean_root(package, broken, tmp_path):
     root = clean_root(str(tmp_path / 'root'))
-    wants('the installation of the package', dpkg(root, '--install', package)[0], 0)
+    by_hand = '/usr/local/lib/systemd/system/gts_switch.service'
+    os.makedirs(os.path.dirname(root + by_hand))
+    open(root + by_hand, 'w').close()
+    status, said = dpkg(root, '--install', package)
+    wants('the installation of the package', status, 0)
+    wants('what was installed by hand is told', f'gts-switch: {by_hand} was installed by hand' in said, True)
+    os.remove(root + by_hand)
+    status, said = dpkg(root, '--install', package)
+    wants('the installation once more', (status, 'by hand' in said), (0, False))
     folder = os.path.join(root, 'var/lib/gts_switch')
     with open(os.path.join(root, 'etc/passwd')) as file:
         user = [row.split(':') for row in file if row.startswith('gts_switch:')]

@@ -1,11 +1,13 @@
 """The receipts with their times (packaging/gts-switch-receipts): beside a writer of 20,000 lines a second the one who stamps them is
 killed and started again and its log is renamed, and each line stands in the logs once, in order, at its place. Where its log was
 removed, it goes on behind what was given back, and where somebody wrote into it, behind its own last line. Where the receipts are
-renamed, those of the new file follow; zeros among them are passed over.
+renamed, those of the new file follow; zeros among them are passed over. Behind a loss of power, which took receipts that the log
+has, those that are left aren't written twice; and one that is full is told in a line.
 
     --break line    one line is taken out of a log"""
 import os
 import re
+import resource
 import signal
 import subprocess
 import threading
@@ -22,6 +24,8 @@ LINES, A_SECOND, KILLS, ROTATIONS = 200_000, 20_000, 12, 6
 # in front of one's end, and nowhere.
 OF_A_BLOCK = 128
 GIVEN_BACK = (5 * OF_A_BLOCK, 5 * OF_A_BLOCK + 1, 5 * OF_A_BLOCK - 1, 0)
+# A loss of power takes so many lines: the last of two that a log has, all of these and one more, and many.
+TAKEN = (1, 3, 2_500)
 STAMPED = re.compile(rb'\d{4}-\d\d-\d\dT\d\d:\d\d:\d\d\.\d{3}Z (\d+) (.*)')
 
 
@@ -191,3 +195,74 @@ def test_behind_receipts_that_were_renamed_come_those_of_the_new_file(tmp_path, 
     size = len(old[0]) + 1
     places = [*range(0, len(old + late * runs) * size, size), *range(0, len(new) * size, size)]
     assert [int(found[1]) for found in stamped] == places
+
+
+def receipts_of(numbers):
+    return b''.join(receipt(number) + b'\n' for number in numbers)
+
+
+def appends(path, text):
+    with open(path, 'ab') as file:
+        file.write(text)
+
+
+def stamps(receipts, *logs):
+    """What the logs have behind all receipts that are there, each with its place."""
+    assert stamper(receipts, logs[-1], '--to-the-end').wait(gate.SECONDS) == 0
+    found = [STAMPED.fullmatch(line) for path in logs for line in read(path).splitlines()]
+    return [(int(line[1]), line[2]) for line in found]
+
+
+@pytest.mark.parametrize('taken', TAKEN)
+def test_a_loss_of_power_has_no_receipt_written_twice(tmp_path, broken, taken):
+    """The switch doesn't bring its receipts to the disk: of those that the log has, the last are gone, a part of a line is left, and
+    the next run goes on behind it. The log was renamed before its last two lines."""
+    receipts, log = str(tmp_path / 'receipts'), str(tmp_path / 'receipts.log')
+    appends(receipts, receipts_of(range(3_000)))
+    stamps(receipts, log)
+    os.rename(log, f'{log}.1')
+    appends(receipts, receipts_of(range(3_000, 3_002)))
+    before = stamps(receipts, f'{log}.1', log)
+    place, _ = before[-taken]
+    os.truncate(receipts, place + 5)
+    appends(receipts, b'\nSTART 2026-11-28T07:00:00Z\n' + receipts_of(range(4_000, 4_010)))
+    behind = stamps(receipts, f'{log}.1', log)
+    if broken == 'line':
+        del behind[-1]
+    is_kept, more, text = behind[:len(before)] == before, behind[len(before):], read(receipts)
+    # The part of a line, the start, and what the new run says.
+    assert is_kept and len(more) == 12
+    assert b''.join(line + b'\n' for _, line in more) == text[place:]
+    assert [at for at, line in more if not text.startswith(line + b'\n', at)] == []
+
+
+def test_a_line_that_another_file_happens_to_have_there_is_not_gone_on_behind(tmp_path, broken):
+    """The receipts were begun anew while no stamper ran, and have a refusal where the log has one in another file."""
+    receipts, log = str(tmp_path / 'receipts'), str(tmp_path / 'receipts.log')
+    old, new = ([b'START 2026-11-28T0%d:00:00Z' % hour] + [b'REF 0 Hour'] * count for hour, count in ((6, 20), (7, 10)))
+    appends(receipts, b'\n'.join(old) + b'\n')
+    before = stamps(receipts, log)
+    os.remove(receipts)
+    appends(receipts, b'\n'.join(new) + b'\n')
+    behind = stamps(receipts, log)
+    if broken == 'line':
+        del behind[-1]
+    assert [line for _, line in behind] == old + new and behind[:len(old)] == before
+
+
+def test_a_full_disk_is_told_in_a_line(tmp_path, broken):
+    """And where there is room again, it goes on: each line is there once."""
+    receipts, log = str(tmp_path / 'receipts'), str(tmp_path / 'receipts.log')
+    lines = [receipt(number) for number in range(3_000)]
+    appends(receipts, b'\n'.join(lines) + b'\n')
+    for _ in range(2):
+        done = subprocess.run(['/usr/bin/python3', STAMPER, receipts, log], cwd=tmp_path, stderr=subprocess.PIPE, timeout=gate.SECONDS,
+                              preexec_fn=lambda: resource.setrlimit(resource.RLIMIT_FSIZE, (40_000, 40_000)))
+        assert (done.returncode, done.stderr.decode()) == (1, f'gts-switch-receipts: {log}: File too large\n')
+    done = subprocess.run(['/usr/bin/python3', STAMPER, receipts, str(tmp_path)], stderr=subprocess.PIPE, timeout=gate.SECONDS)
+    assert (done.returncode, done.stderr.decode()) == (1, f'gts-switch-receipts: {tmp_path}: Is a directory\n')
+    stamped = [line for _, line in stamps(receipts, log)]
+    if broken == 'line':
+        del stamped[-1]
+    is_whole = stamped == lines
+    assert is_whole

@@ -1,6 +1,6 @@
 -- Streams that are packed as they are read.
 use Rattle.std.proofs.Common.{◌≡◌, ℕ, ◌+◌, ◌-◌, ◌<◌, ◌≤◌, min, Bool, false, cond, List, [], ◌∷◌, ◌++◌, length, take, drop, Option, Some, None, refl, sym, ap, subst, ◌∙◌, append_assoc, arith, is_none, option_map, IfSome, Result, Ok, Err}
-use Rattle.std.proofs.lemmas.Bool.{lt-ltb}
+use Rattle.std.proofs.lemmas.Bool.{le-ltb, lt-ltb}
 use Rattle.std.proofs.lemmas.List.{append-nil, length-append, length-drop, length-take-le, take_all, take_at, take-append-drop, take-append-le}
 use Rattle.std.proofs.Math.Seq.{take-append-add}
 use Rattle.std.proofs.lemmas.Option.{none-some}
@@ -199,6 +199,32 @@ told_behind (Err e) a b c x y first second = subst (λ (o : Outside). SaysFront 
 
 pub untold_before : (a b : List Call) (x y : List ℕ) → SaysFront a b (on 0 x) → SaysFront a b (on 0 (x ++ y))
 untold_before a b x y first = subst (λ (o : Outside). SaysFront a b o) (sym (on-append 0 x y)) (front_more a b (on 0 x) (on 0 y) first)
+
+-- ---- the end of a stream in which nothing is left open
+
+none_held : (held : List ℕ) → length held ≡ 0 → held ≡ []
+none_held [] e = refl
+none_held (x ∷ held) e = absurd (omega (arith, e))
+
+-- all of it is looked at
+seen_all : (stream : List ℕ) → length stream ≤ LONGEST_STREAM → stream_seen stream ≡ stream
+seen_all stream few = take_all (min LONGEST_STREAM (length stream)) stream (omega (arith, few))
+
+-- it is bad nowhere
+pub sound_at_end : (stream held : List ℕ) → length stream ≤ LONGEST_STREAM → held_in stream ≡ Some held → length held ≡ 0 → bad_in_stream stream ≡ None
+sound_at_end stream held few is none =
+    let open_none : held_in (stream_seen stream) ≡ Some [] = ap held_in (seen_all stream few) ∙ is ∙ ap (λ (h : List ℕ). Some h) (none_held held none) in
+    bad-kept stream [] open_none ∙ ap (λ (t : Bool). cond t (Some LONGEST_STREAM) None) (le-ltb LONGEST_STREAM (length stream) few)
+
+-- its file is that of its messages, and the end
+pub told_to_end : {T E : Type 0} (result : Result T E) (first now later : List Call) (stream held : List ℕ) → length stream ≤ LONGEST_STREAM
+    → held_in stream ≡ Some held → length held ≡ 0 → SaysOnly first now (on 0 (entries_in stream)) → Tells result (on 0 (head_text Whole 0)) now later
+    → Tells result (on 0 (packed stream)) first later
+told_to_end result first now later stream held few is none said last =
+    let text : packed stream ≡ entries_in stream ++ head_text Whole 0 =
+    ap (λ (o : Option ℕ). entries_in (stream_seen stream) ++ (elim o as (λ _. List ℕ) [ None ↦ head_text Whole 0 | Some at ↦ [] ])) (sound_at_end stream held few is none)
+    ∙ ap (λ (l : List ℕ). entries_in l ++ head_text Whole 0) (seen_all stream few) in
+    subst (λ (l : List ℕ). Tells result (on 0 l) first later) (sym text) (told_behind result first now later (entries_in stream) (head_text Whole 0) said last)
 
 -- ---- one step of the decoder, of a piece
 

@@ -1,7 +1,7 @@
 -- What calls make of a file whose source is observed, one after another.
 use Rattle.std.proofs.Common.{◌≡◌, ◌≤◌, List, ℕ, [], ◌∷◌, ◌++◌, length, take, Result, Ok, Err, refl, sym, ap, ◌∙◌, append_assoc, arith}
 use Rattle.std.proofs.lemmas.List.{length-append}
-use Rattle.gts_accum.specs.Cited.{Covers, Passes, Rest, Takes, Unpacking, ahead, ahead_of, behind, reading, rest_of}
+use Rattle.gts_accum.specs.Cited.{Covers, Passes, Rest, Takes, Unpacking, ahead_of, behind, reading, rest_of}
 use Rattle.gts_accum.proofs.UnpackingLemmas.{with_bad}
 
 no-front : (xs ys : List ℕ) → xs ++ ys ≡ [] → (xs ≡ []) × (ys ≡ [])

@@ -1,6 +1,6 @@
 -- What `follow` comes to, from the directory and what was made of the feed.
 use Rattle.std.proofs.Common.{◌≡◌, ◌⊎◌, ◌≤◌, ℕ, ◌-◌, List, [], Result, Ok, Err, inl, inr, refl, sym, ap, subst, ◌∙◌, arith}
-use Rattle.gts_app.specs.Cited.{Answers, ComesTo, EachOpens, EndsAs, Files, FollowEnd, FollowedAs, FollowsFeed, Ghosts as StationMeanings, IsEnd, IsNamedEnd, IsOfFiles, LeavesAlone, Need, NoMemory, OpenFault, Read, ReadsDirectory, RefusedBy, Rose, SourceMeanings, State, Status, TakenAs, TakesFeed, comes_to, directory_of_bytes, files_read, need, opened_of, opens, own_seals, read_after, restarted, said_by, seen, selected_bytes, state_after, status_followed, taken, world, written}
+use Rattle.gts_app.specs.Cited.{Answers, ComesTo, EachOpens, EndsAs, Files, FollowEnd, FollowedAs, FollowsFeed, Ghosts as StationMeanings, IsEnd, IsNamedEnd, IsOfFiles, LeavesAlone, LeavesUnopened, Need, NoMemory, OnlySyncs, OpenFault, Read, ReadsDirectory, RefusedBy, Rose, SourceMeanings, State, Status, TakenAs, TakesFeed, comes_to, directory_of_bytes, files_read, need, opened_of, opens, own_seals, read_after, restarted, said_by, seen, selected_bytes, state_after, status_followed, taken, world, written}
 use Rattle.gts_standby.specs.Taking.{Taken}
 use Rattle.gts_directory.specs.Directory as directories
 use Rattle.gts_record.specs.declared.fault.OpenFault.TheVariants as opening
@@ -14,8 +14,10 @@ pub unfollowed : {S P : Type 0} (source : SourceMeanings S) (station : StationMe
     → ReadsDirectory source (Err status) od nd → FollowsFeed source station status (world od oc at) (world nd oc at)
 unfollowed source station status od nd oc at h = record {
   means = go (ended status (h.ends status refl));
-  moments = λ observed told d s taken comes. inl (inr (inl refl));
-  complete = λ observed told d s taken comes calm_directory calm_feed calm_disk. ends_so d comes.2 observed calm_directory (ended status (h.ends status refl));
+  moments = λ observed told d read taken comes. inl (inr (inl refl));
+  turned_away = λ observed fault is. (refl, refl);
+  unopened = λ observed told d fault found is. (inr (inl refl), refl);
+  complete = λ observed told d read taken comes calm_directory calm_feed calm_disk. ends_so d comes.0 observed calm_directory (ended status (h.ends status refl));
   silent = λ told. refl;
   directory_taken = h.taken;
   source_counts = (h.cause.later, omega arith);
@@ -93,8 +95,9 @@ module _ {S P : Type 0} (source : SourceMeanings S) (station : StationMeanings P
     → opens d (seen (station.calls new)) ≡ Ok (need d (restarted d (state_after d s t))))
     (records : station.observed → source.observed → (read : State × ℕ × List ℕ) (t : Taken) → files_read written d (seen (station.calls old)) ≡ Ok read
     → comes_to d (seen (station.calls old)) (source.left oc) ≡ Ok t → IsEnd answer → files_read written d (seen (station.calls new)) ≡ Ok (read_after d read t))
-    (moments : station.observed → source.observed → (s : State) (used : ℕ) (last : List ℕ) (t : Taken) → files_read written d (seen (station.calls old)) ≡ Ok (s, used, last)
-    → comes_to d (seen (station.calls old)) (source.left oc) ≡ Ok t → EachOpens d s t (station.calls old) (station.calls new))
+    (moments : station.observed → source.observed → (read : State × ℕ × List ℕ) (t : Taken) → files_read written d (seen (station.calls old)) ≡ Ok read
+    → comes_to d (seen (station.calls old)) (source.left oc) ≡ Ok t → EachOpens d read t (station.calls old) (station.calls new))
+    (alone : station.observed → LeavesUnopened d (station.calls old) (station.calls new) (nc ≡ oc))
     (done : source.observed → answer ≡ follow.Done → source.left nc ≡ [])
     (refused : station.observed → source.observed → LeavesAlone answer (station.calls old) (station.calls new) (nc ≡ oc))
     (named : (fault : OpenFault) → answer ≡ follow.Open fault → IsOfFiles fault)
@@ -160,22 +163,26 @@ module _ {S P : Type 0} (source : SourceMeanings S) (station : StationMeanings P
   under : (X : directories.Directory → Type 0) → source.observed → (e : directories.Directory) → directory_of_bytes (source.left od) ≡ Ok e → X e → X d
   under X observed e is holds = subst X (same_directory e d (directory_of_bytes (source.left od)) is (read observed)) holds
 
-  each_moment : source.observed → station.observed → (e : directories.Directory) (s : State) (t : Taken) → ComesTo source station (world od oc old) e s t
-      → EachOpens e s t (station.calls old) (station.calls new)
-  each_moment observed told e s t comes =
-      let same : d ≡ e = same_directory d e (directory_of_bytes (source.left od)) (read observed) comes.2 in
-      let F : directories.Directory → Type 0 = λ x. files_read written x (seen (station.calls old)) ≡ Ok (s, comes.0, comes.1) in
+  each_moment : source.observed → station.observed → (e : directories.Directory) (from : State × ℕ × List ℕ) (t : Taken) → ComesTo source station (world od oc old) e from t
+      → EachOpens e from t (station.calls old) (station.calls new)
+  each_moment observed told e from t comes =
+      let same : d ≡ e = same_directory d e (directory_of_bytes (source.left od)) (read observed) comes.0 in
+      let F : directories.Directory → Type 0 = λ x. files_read written x (seen (station.calls old)) ≡ Ok from in
       let C : directories.Directory → Type 0 = λ x. comes_to x (seen (station.calls old)) (source.left oc) ≡ Ok t in
-      subst (λ (x : directories.Directory). EachOpens x s t (station.calls old) (station.calls new)) same
-      (moments told observed s comes.0 comes.1 t (subst F (sym same) comes.3) (subst C (sym same) comes.4))
+      subst (λ (x : directories.Directory). EachOpens x from t (station.calls old) (station.calls new)) same
+      (moments told observed from t (subst F (sym same) comes.1) (subst C (sym same) comes.2))
 
-  ended_so : source.observed → station.observed → (e : directories.Directory) (s : State) (t : Taken) → ComesTo source station (world od oc old) e s t
+  left_alone : source.observed → station.observed → (e : directories.Directory) (fault : OpenFault) → directory_of_bytes (source.left od) ≡ Ok e
+      → files_read written e (seen (station.calls old)) ≡ Err fault → OnlySyncs (station.calls old) (station.calls new) × (nc ≡ oc)
+  left_alone observed told e fault is refused = alone told fault (under (λ (x : directories.Directory). files_read written x (seen (station.calls old)) ≡ Err fault) observed e is refused)
+
+  ended_so : source.observed → station.observed → (e : directories.Directory) (from : State × ℕ × List ℕ) (t : Taken) → ComesTo source station (world od oc old) e from t
       → (Rose (source.faults oc) (source.faults nc) → ⊥) → (Rose (station.disk_faults old) (station.disk_faults new) → ⊥)
       → ((a : FollowEnd) × IsEnd a × (status_followed answer ≡ status_followed a) × EndsAs a t.end) ⊎ (status_followed answer ≡ NoMemory)
-  ended_so observed told e s t comes calm_feed calm_disk = go answer refl
+  ended_so observed told e from t comes calm_feed calm_disk = go answer refl
     where
       at : comes_to d (seen (station.calls old)) (source.left oc) ≡ Ok t
-      at = under (λ (x : directories.Directory). comes_to x (seen (station.calls old)) (source.left oc) ≡ Ok t) observed e comes.2 comes.4
+      at = under (λ (x : directories.Directory). comes_to x (seen (station.calls old)) (source.left oc) ≡ Ok t) observed e comes.0 comes.2
 
       so : (a : FollowEnd) → answer ≡ a → Answers a (Ok t)
       so a is = subst (λ (x : FollowEnd). Answers x (Ok t)) is (subst (Answers answer) at (answers told observed))
@@ -193,7 +200,9 @@ module _ {S P : Type 0} (source : SourceMeanings S) (station : StationMeanings P
   followed = record {
     means = means answer refl;
     moments = each_moment;
-    complete = λ observed told e s t comes calm_directory. ended_so observed told e s t comes;
+    turned_away = λ observed fault is. absurd (no_fault d fault (directory_of_bytes (source.left od)) (read observed) is);
+    unopened = left_alone;
+    complete = λ observed told e from t comes calm_directory. ended_so observed told e from t comes;
     silent = silent;
     directory_taken = h.taken;
     source_counts = (h.cause.later, source_later);
@@ -206,8 +215,10 @@ pub unread : {S P : Type 0} (source : SourceMeanings S) (station : StationMeanin
     → FollowsFeed source station NoMemory (world od oc at) (world od oc at)
 unread source station od oc at = record {
   means = tt;
-  moments = λ observed told d s t comes. inl (inr (inl refl));
-  complete = λ observed told d s t comes calm_directory calm_feed calm_disk. inr refl;
+  moments = λ observed told d read t comes. inl (inr (inl refl));
+  turned_away = λ observed fault is. (refl, refl);
+  unopened = λ observed told d fault found is. (inr (inl refl), refl);
+  complete = λ observed told d read t comes calm_directory calm_feed calm_disk. inr refl;
   silent = λ told. refl;
   directory_taken = λ observed. ([], refl, omega arith);
   source_counts = (omega arith, omega arith);

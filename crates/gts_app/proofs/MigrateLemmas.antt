@@ -1,6 +1,6 @@
 -- What `migrate` comes to: where a directory is refused, where a row doesn't stay, and behind the opening of the journal.
 use Rattle.std.proofs.Common.{◌≡◌, ◌≤◌, ◌⊎◌, ℕ, List, [], ◌∷◌, Option, None, Some, Result, Ok, Err, inl, inr, refl, sym, ap, subst, ◌∙◌, arith, OnOk}
-use Rattle.gts_app.specs.Cited.{AnswersOpening, AnswersWaiting, AreRead, Call, Capture, Change, Changed, Closed, CountsSays, Damaged, Did, DirFault, Directory, DiskFault, Done, Dropped, EachSince, Exists, Feed, File, Files, Full, Ghosts as StationMeanings, GivesRoomFor, InputFault, IsDiskFaultOf, IsMigrated, IsOldReadEnd, IsRefusedBy, IsSayFaultOf, LeavesFiles, LeavesJournal, LineFault, LongSession, MayGo, MigrateFault, MigratedAs, Migrates, Need, NoJournal, NoMemory, OldDirectory, OldVersion, OnlySyncs, OpenFault, Opened, OpensEither, OtherDirectory, OtherFeed, OutputFault, ReadsDirectory, ReadsFew, ReadsOldDirectory, Refused, RefusesWaiting, Rose, SaysFor, SourceMeanings, State, Status, SwitchFault, Syncs, TakesOver, TicketsSpent, UnderBoth, Usage, Waiting, WasOpened, directory_of_bytes, files_open_any, first_change, full_compacted, need, opens_any, refusal, restarted, said_by, sayings, seen, status_migrated, waits_on_closed, world}
+use Rattle.gts_app.specs.Cited.{AnswersOpening, AnswersWaiting, AreRead, Call, Capture, Change, Changed, Closed, CountsSays, Damaged, Did, DirFault, Directory, DiskFault, Done, Dropped, EachSince, Exists, Feed, File, Files, Full, Ghosts as StationMeanings, GivesRoomFor, InputFault, IsBegunUnder, IsDiskFaultOf, IsMigrated, IsOldReadEnd, IsRefusedBy, IsSayFaultOf, LeavesFiles, LeavesJournal, LineFault, LongSession, MayGo, MigrateFault, MigratedAs, Migrates, Need, NoJournal, NoMemory, OldDirectory, OldVersion, OnlySyncs, OpenFault, Opened, OpensEither, OtherDirectory, OtherFeed, OutputFault, Outside, ReadsDirectory, ReadsFew, ReadsOldDirectory, Refused, RefusesWaiting, Rose, SaidSince, SaysFor, SaysFrontSince, SourceMeanings, State, Status, SwitchFault, Syncs, TakesOver, TicketsSpent, UnderBoth, Usage, Waiting, WasOpened, directory_of_bytes, files_open_any, first_change, full_compacted, need, opens_any, refusal, restarted, said_by, sayings, seen, status_migrated, waits_on_closed, world}
 use Rattle.gts_migrate.specs.LettingGo.{goes_on}
 use Rattle.gts_directory.specs.Directory as directories
 use Rattle.gts_record.specs.declared.fault.OpenFault.TheVariants as opening
@@ -249,6 +249,10 @@ module _ (d : directories.Directory) where
   free_say Refused n is = is
   free_say Dropped n is = tt
 
+  free_disk : (w : Waiting) (n : Need) → AnswersWaiting {T = Unit {0}} w (Err fault.DiskFault) (waits_on_closed d n) → MayGo w d n
+  free_disk Refused n is = is
+  free_disk Dropped n is = tt
+
 -- counts of saying: they never fall, and stay where nothing is dropped
 says_later : (r : Result (Unit {0}) MigrateFault) (before after : ℕ) → CountsSays r before after → before ≤ after
 says_later (Ok done) before after same = omega (arith, same)
@@ -293,6 +297,13 @@ module _ {S P : Type 0} (w : Waiting) (source : SourceMeanings S) (station : Sta
       → IsRefusedBy source station (world od oc old) (world nd nc new) e
   refused_by e is told = (record { new = d; old = o; read = read_both; holds = (takes, is) }, told)
 
+  -- it was opened, and nothing kept it from being taken over
+  begun_under : (OfReceipts : Outside → Type 0)
+      → (station.observed → (s : State) × (used : ℕ) × (files_open_any o (seen (station.calls old)) ≡ Ok (s, used)) × (MayGo w d (need o s)
+      × (full_compacted d (goes_on d o (need o s)) ≡ None) × OfReceipts (sayings w d (need o s))))
+      → IsBegunUnder w source station (world od oc old) OfReceipts
+  begun_under OfReceipts opened = record { new = d; old = o; read = read_both; holds = record { takes = takes; opened = opened } }
+
   means : (r : Result (Unit {0}) MigrateFault) → Ends r → MigratedAs w source station (status_migrated r) (world od oc old) (world nd nc new)
   means (Ok done) e = record {
     new = d;
@@ -309,7 +320,7 @@ module _ {S P : Type 0} (w : Waiting) (source : SourceMeanings S) (station : Sta
   means (Err (fault.Open opening.OldVersion)) e = λ t. (e.answers t).1 refl
   means (Err (fault.Open (opening.NotThis want found))) e = refused_by (opening.NotThis want found) (λ t. (e.answers t).0) (λ t. e.told t tt)
   means (Err (fault.Open (opening.Damaged file at))) e = refused_by (opening.Damaged file at) (λ t. (e.answers t).0) (λ t. e.told t tt)
-  means (Err (fault.Open opening.DiskFault)) e = e.disk tt
+  means (Err (fault.Open opening.DiskFault)) e = (e.disk tt, inl (λ t. e.told t tt))
   means (Err (fault.Open opening.NoMemory)) e = λ t. e.told t tt
   means (Err (fault.Waits circuit count)) e = (
     record {
@@ -339,8 +350,19 @@ module _ {S P : Type 0} (w : Waiting) (source : SourceMeanings S) (station : Sta
     },
     λ t. e.told t tt,
   )
-  means (Err fault.DiskFault) e = e.disk tt
-  means (Err fault.SayFault) e = (only_dropped w (λ refused. e.unsaid refused tt), e.says.1)
+  means (Err fault.DiskFault) e = (
+    e.disk tt,
+    inr (begun_under (λ text. SaidSince (station.calls old) (station.calls new) [] ⊎ SaidSince (station.calls old) (station.calls new) text) (λ t.
+        let x = files_of o (seen (station.calls old)) (e.answers t).0 (e.answers t).1 in
+        (x.0, x.1, x.2, (free_disk d w (need o x.0) (e.waiting t x.0 x.1 x.2), e.full t x.0 x.1 x.2, e.said t x.0 x.1 x.2)))),
+  )
+  means (Err fault.SayFault) e = (
+    only_dropped w (λ refused. e.unsaid refused tt),
+    e.says.1,
+    begun_under (SaysFrontSince (station.calls old) (station.calls new)) (λ t.
+        let x = files_of o (seen (station.calls old)) (e.answers t).0 (e.answers t).1 in
+        (x.0, x.1, x.2, (free_say d w (need o x.0) (e.waiting t x.0 x.1 x.2), e.full t x.0 x.1 x.2, e.said t x.0 x.1 x.2))),
+  )
   means (Err fault.NoMemory) e = λ t. e.told t tt
 
   -- a fault of the files is answered

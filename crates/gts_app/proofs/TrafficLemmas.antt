@@ -5,9 +5,9 @@ use Rattle.gts_directory.specs.Directory as directories
 use Rattle.gts_replay.specs.declared.end.ReplayEnd.TheVariants as end
 use Rattle.gts_app.proofs.CompactedLemmas.{compacted_is, counts, counts_within}
 use Rattle.gts_app.proofs.CountedLemmas.{ends_below}
-use Rattle.gts_app.proofs.EndLemmas.{history_done, none_unsaid, none_doubt, none_gathered}
+use Rattle.gts_app.proofs.EndLemmas.{Leaves, history_done, none_unsaid, none_doubt, none_gathered}
 use Rattle.gts_app.proofs.RefusalLemmas.{refused, out_of_memory}
-use Rattle.gts_app.proofs.ReplayLemmas.{Run, replays, steps_went, uses, was_done}
+use Rattle.gts_app.proofs.ReplayLemmas.{Run, replays, steps_went, was_done}
 use Rattle.gts_app.proofs.ShowLemmas.{goes_on}
 
 -- ---- no table comes behind it
@@ -50,10 +50,6 @@ without_numbers {S} {P} source w od nd oc old e result is h at same =
     (out_of_memory Traffic source source w od nd oc old e.station (λ told. inl (h.opened e is told).2.0.synced) (h.kept e is).1 (h.kept e is).0 h.taken h.later))
 
 -- ---- a capture was run through the switch that counts
-
--- what an engine that goes on and has gathered nothing leaves opens with the bytes that it counts
-abbrev pub Leaves : {P : Type 0} → StationMeanings P → Engine P → Type 0
-Leaves w e = w.observed → e.stopped ≡ None → e.gathered ≡ false → OpensWith e.directory (seen (w.calls e.station)) e.used
 
 module _ {S P W : Type 0} (parts : W → CountedParts (Engine P)) (source : SourceMeanings S) (w : StationMeanings P) (e : ReplayEnd) (od nd oc nc : S) (old : P) (first last : W)
     (opens : Opens source w (Ok (parts first).switch) od nd old)
@@ -152,17 +148,17 @@ module _ {S P W : Type 0} (parts : W → CountedParts (Engine P)) (source : Sour
           origin = x.2.0;
           ends = below told n x.2.1;
           laws = λ es. laws n es x.2.1.start.keeps x.2.0.sound;
+          files = files;
         } in
-        let now : OpensWith o.directory (seen (w.calls behind.station)) (used_at (counted o done.steps) (history o done.steps)) =
-        uses source source w e od oc nc old engine behind r done.steps done.stands.0 (files told) in (
+        let went = steps_went source source w e od oc nc old engine behind r done.steps done.stands.0 in (
           o,
           x.1 observed,
           x.2.0,
           (
             done.steps,
             done.whole given,
-            steps_went source source w e od oc nc old engine behind r done.steps done.stands.0,
-            subst (λ (fs : Files). OpensWith o.directory fs (used_at (counted o done.steps) (history o done.steps))) (sym (same told)) now,
+            went,
+            subst (λ (fs : Files). OpensWith o.directory fs (used_at (counted o done.steps) (history o done.steps))) (sym (same told)) (went.in_use refl),
             subst OfTable (is_table told n x.2.1) (of told),
           ),
         )

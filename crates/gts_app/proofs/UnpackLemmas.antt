@@ -1,11 +1,12 @@
 -- What each end of a file's run means for the command.
 use Rattle.std.proofs.Common.{◌≡◌, ◌⊎◌, ℕ, ◌<◌, ◌≤◌, false, List, [], length, Result, Ok, Err, None, IsTrue, inl, inr, refl, ap, subst, arith}
-use Rattle.gts_app.specs.Cited.{Bad, Capture, Changed, Closed, Damaged, Directory, DiskFault, Done, Ended, Engine, Entry, Exists, Feed, File, Full, Ghosts as StationMeanings, Handed, HasNoCircuit, HasReplayCause, HasUnpackCause, InputFault, IsEndAt, IsEndOf, IsLeft, IsReadEnd, IsRefusal, IsStatusOf, Journaled, KeepsLaws, LineFault, LongSession, Need, NoJournal, NoMemory, OldDirectory, OldVersion, Opens, OpensWith, OtherDirectory, OtherFeed, OutputFault, ReadsDirectory, ReplayEnd, Rose, SourceMeanings, Status, TicketsSpent, UnpackEnd, Unpacks, Usage, badplace, capture_meanings, captured, directory_of_bytes, handed, is_sound, keeps_one, origin_of, seen, status_of, status_unpacked, switch_meanings, unpacked, world}
+use Rattle.gts_app.specs.Cited.{Bad, Capture, Changed, Closed, Damaged, Directory, DiskFault, Done, Ended, Engine, Entry, Exists, Feed, File, Full, Ghosts as StationMeanings, Handed, HasNoCircuit, HasReplayCause, HasUnpackCause, InputFault, IsEndAt, IsEndOf, IsLeft, IsReadEnd, IsRefusal, IsStatusOf, Journaled, KeepsLaws, LineFault, LongSession, Need, NoJournal, NoMemory, OldDirectory, OldVersion, Opens, OtherDirectory, OtherFeed, OutputFault, ReadsDirectory, ReplayEnd, Rose, SourceMeanings, Status, TicketsSpent, UnpackEnd, Unpacks, Usage, badplace, capture_meanings, captured, directory_of_bytes, handed, is_sound, keeps_one, origin_of, status_of, status_unpacked, switch_meanings, unpacked, world}
 use Rattle.gts_accum.specs.Unpack.{Unpacks as Runs}
 use Rattle.gts_directory.specs.Directory as directories
 use Rattle.gts_event.specs.declared.fault.SwitchFault.TheVariants as switch
 use Rattle.gts_record.specs.declared.fault.OpenFault.TheVariants as opening
 use Rattle.gts_replay.specs.declared.end.ReplayEnd.TheVariants as end
+use Rattle.gts_app.proofs.EndLemmas.{Leaves}
 use Rattle.gts_app.proofs.OpeningLemmas.{no_directory}
 use Rattle.gts_app.proofs.RefusalLemmas.{refused, out_of_memory, same_directory, no_fault}
 use Rattle.gts_app.proofs.ReplayLemmas.{replays}
@@ -124,7 +125,7 @@ pub unpacks : {S P : Type 0} (source : SourceMeanings S) (w : StationMeanings P)
     → Runs (switch_meanings w.observed w.calls) w.observed source.observed result first last (source.left oc) (source.left nc) c
     → length first.directory.circuits ≤ 100 → c < length first.directory.circuits → (source.observed → directory_of_bytes (source.left od) ≡ Ok first.directory)
     → HasUnpackCause result (w.disk_faults first.station) (w.disk_faults last.station) (w.say_faults first.station) (w.say_faults last.station) (source.faults oc) (source.faults nc)
-    → (w.observed → last.stopped ≡ None → last.gathered ≡ false → OpensWith last.directory (seen (w.calls last.station)) last.used)
+    → Leaves w last
     → Unpacks source w c (status_unpacked result) (world od oc old) (world nd nc last.station)
 unpacks source w c result od nd oc nc old first last opens laws run narrow here read cause files =
     let place : source.observed → w.observed → IsEndAt (badplace (source.left oc)) result = λ observed told.

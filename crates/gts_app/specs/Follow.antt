@@ -1,6 +1,6 @@
 -- What each end of the command `follow` means for what it works on.
 use Rattle.std.specs.Prelude.{◌≡◌, ◌⊎◌, ℕ, ◌+◌, ◌≤◌, List, [], ◌++◌, length, Ok, Err}
-use Rattle.gts_app.specs.Cited.Below.{Call, EachOpens, EndsAs, FollowEnd, Ghosts as StationMeanings, IsEnd, LONGEST_DIRECTORY, OnlySyncs, OpenFault, Rose, SourceMeanings, State, comes_to, directory_of_bytes, files_read, need, opens, read_after, restarted, said_by, seen, state_after, written}
+use Rattle.gts_app.specs.Cited.Below.{Call, DirFault, EachOpens, EndsAs, FollowEnd, Ghosts as StationMeanings, IsEnd, LONGEST_DIRECTORY, OnlySyncs, OpenFault, Rose, SourceMeanings, State, comes_to, directory_of_bytes, files_read, need, opens, read_after, restarted, said_by, seen, state_after, written}
 use Rattle.gts_standby.specs.Taking.{Taken}
 use Rattle.gts_directory.specs.Directory as directories
 use Rattle.gts_record.specs.declared.fault.OpenFault.TheVariants as opening
@@ -68,24 +68,33 @@ FollowedAs source station InputFault old new =
 FollowedAs source station NoMemory old new = Unit {0}
 FollowedAs source station _ old new = ⊥
 
--- where a directory is read, the files open and the feed comes to this beside them
-abbrev pub ComesTo : {S P : Type 0} → SourceMeanings S → StationMeanings P → World S S P → directories.Directory → State → Taken → Type 0
-ComesTo source station old d s taken =
-    (used : ℕ) × (last : List ℕ) × (directory_of_bytes (source.left old.directory) ≡ Ok d)
-    × (files_read written d (seen (station.calls old.station)) ≡ Ok (s, used, last))
+-- where a directory is read, the files read to this, and the feed comes to this beside them
+abbrev pub ComesTo : {S P : Type 0} → SourceMeanings S → StationMeanings P → World S S P → directories.Directory → State × ℕ × List ℕ
+    → Taken → Type 0
+ComesTo source station old d read taken =
+    (directory_of_bytes (source.left old.directory) ≡ Ok d)
+    × (files_read written d (seen (station.calls old.station)) ≡ Ok read)
     × (comes_to d (seen (station.calls old.station)) (source.left old.capture) ≡ Ok taken)
 
 -- what its end means, and what holds of every run
 pub record FollowsFeed {S P : Type 0} (source : SourceMeanings S) (station : StationMeanings P) (status : Status)
     (old new : World S S P) : Type 0 where
   pub means : FollowedAs source station status old new
-  -- a crash at any moment leaves what the journal had, and a first part of what the feed adds
-  pub moments : source.observed → station.observed → (d : directories.Directory) (s : State) (taken : Taken)
-      → ComesTo source station old d s taken
-      → EachOpens d s taken (station.calls old.station) (station.calls new.station)
+  -- a crash at any moment leaves the journal from before, with a first part of what the feed adds behind it
+  pub moments : source.observed → station.observed → (d : directories.Directory) (read : State × ℕ × List ℕ) (taken : Taken)
+      → ComesTo source station old d read taken
+      → EachOpens d read taken (station.calls old.station) (station.calls new.station)
+  -- where the directory has a fault, nothing was done, whatever is answered
+  pub turned_away : source.observed → (fault : DirFault) → directory_of_bytes (source.left old.directory) ≡ Err fault
+      → IsUnbegun old new
+  -- where the files don't open, at most a sync was tried, and nothing of the feed is read
+  pub unopened : source.observed → station.observed → (d : directories.Directory) (fault : OpenFault)
+      → directory_of_bytes (source.left old.directory) ≡ Ok d
+      → files_read written d (seen (station.calls old.station)) ≡ Err fault
+      → OnlySyncs (station.calls old.station) (station.calls new.station) × (new.capture ≡ old.capture)
   -- over devices that don't fail, a feed ends as it comes to, but for memory
-  pub complete : source.observed → station.observed → (d : directories.Directory) (s : State) (taken : Taken)
-      → ComesTo source station old d s taken
+  pub complete : source.observed → station.observed → (d : directories.Directory) (read : State × ℕ × List ℕ) (taken : Taken)
+      → ComesTo source station old d read taken
       → (Rose (source.faults old.directory) (source.faults new.directory) → ⊥)
       → (Rose (source.faults old.capture) (source.faults new.capture) → ⊥)
       → (Rose (station.disk_faults old.station) (station.disk_faults new.station) → ⊥)

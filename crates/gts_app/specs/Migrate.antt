@@ -1,7 +1,7 @@
 -- What each end of the commands `migrate` and `migrate drop` means for what they work on: the directory, the old directory in the
 -- place of a capture, and the station.
-use Rattle.std.specs.Prelude.{◌≡◌, ◌⊎◌, ℕ, ◌+◌, ◌≤◌, List, ◌∷◌, ◌++◌, length, None, Some, Result, Ok, Err}
-use Rattle.gts_app.specs.Cited.Below.{Change, Did, DirFault, Dropped, EachSince, Ghosts as StationMeanings, IsFullCompacted, IsMigrated, LONGEST_DIRECTORY, MigrateFault, Need, OnlySyncs, OpenFault, OpensEither, Refused, Rose, SaidSince, SourceMeanings, State, Syncs, TakesOver, Waiting, directory_of_bytes, files_open_any, first_change, full_compacted, need, opens_any, said_by, sayings, seen, waits_on_closed}
+use Rattle.std.specs.Prelude.{◌≡◌, ◌⊎◌, ℕ, ◌+◌, ◌≤◌, List, [], ◌∷◌, ◌++◌, length, None, Some, Result, Ok, Err}
+use Rattle.gts_app.specs.Cited.Below.{Call, Change, Did, DirFault, Dropped, EachSince, Ghosts as StationMeanings, IsFront, IsFullCompacted, IsMigrated, LONGEST_DIRECTORY, MigrateFault, Need, OnlySyncs, OpenFault, OpensEither, Outside, Refused, Rose, SaidSince, SourceMeanings, State, Syncs, TakesOver, Waiting, directory_of_bytes, files_open_any, first_change, full_compacted, need, opens_any, said_by, sayings, seen, waits_on_closed}
 use Rattle.gts_migrate.specs.LettingGo.{goes_on}
 use Rattle.gts_directory.specs.Directory as directories
 use Rattle.gts_event.specs.declared.fault.SwitchFault.TheVariants as switch
@@ -69,7 +69,21 @@ abbrev pub MayGo : Waiting → directories.Directory → Need → Type 0
 MayGo Refused new n = waits_on_closed new n ≡ None
 MayGo Dropped new n = Unit {0}
 
+-- Under the old directory, from which the new one takes over, the files open; nothing is refused that waits, and there is room for what
+-- goes on. Of the receipts of all that is dropped this holds.
+abbrev pub IsBegunUnder : {S P : Type 0} → Waiting → SourceMeanings S → StationMeanings P → World S S P → (Outside → Type 0) → Type 0
+IsBegunUnder waiting source station w OfReceipts =
+    UnderBoth source w (λ new old. OpensUnder station w new old
+    (λ s. MayGo waiting new (need old s) × (full_compacted new (goes_on new old (need old s)) ≡ None)
+    × OfReceipts (sayings waiting new (need old s))))
+
+-- a front of this text was said
+abbrev pub SaysFrontSince : (before now : List Call) → Outside → Type 0
+SaysFrontSince before now text = (front : Outside) × IsFront front text × SaidSince before now front
+
 -- For each status, what it means: the journal was taken over, and the receipts of all that was dropped were said; or what refused it.
+-- Where the disk failed, the journal was not opened and the files are left alone; or it was opened, and nothing was said, or all. Where
+-- saying failed, it was opened, and a front of the receipts was said.
 abbrev pub MigratedAs : {S P : Type 0} → Waiting → SourceMeanings S → StationMeanings P → Status → World S S P → World S S P → Type 0
 MigratedAs waiting source station Done w v =
     UnderBoth source w (λ new old. OpensUnder station w new old
@@ -91,8 +105,14 @@ MigratedAs waiting source station (Full used wanted limit) w v =
     UnderBoth source w (λ new old. OpensUnder station w new old
     (λ s. IsFullCompacted new (goes_on new old (need old s)) (switch.Full used wanted limit)))
     × IsLeftAlone station w v
-MigratedAs waiting source station DiskFault w v = Rose (station.disk_faults w.station) (station.disk_faults v.station)
-MigratedAs waiting source station OutputFault w v = (waiting ≡ Dropped) × Rose (station.say_faults w.station) (station.say_faults v.station)
+MigratedAs waiting source station DiskFault w v =
+    Rose (station.disk_faults w.station) (station.disk_faults v.station)
+    × (IsLeftAlone station w v ⊎ IsBegunUnder waiting source station w
+    (λ text. SaidSince (station.calls w.station) (station.calls v.station) []
+    ⊎ SaidSince (station.calls w.station) (station.calls v.station) text))
+MigratedAs waiting source station OutputFault w v =
+    (waiting ≡ Dropped) × Rose (station.say_faults w.station) (station.say_faults v.station)
+    × IsBegunUnder waiting source station w (SaysFrontSince (station.calls w.station) (station.calls v.station))
 MigratedAs waiting source station InputFault w v =
     (v.station ≡ w.station)
     × (Rose (source.faults w.directory) (source.faults v.directory) ⊎ Rose (source.faults w.capture) (source.faults v.capture))

@@ -1,5 +1,5 @@
 ghost use Rattle.std.specs.Prelude.{◌≡◌, ◌⊎◌, ℕ, List, Some, None};
-ghost use Rattle.gts_app.specs.Cited.{Compacts, CountsTraffic, FollowsFeed, Generates, Inits, IsCommand, IsNoCapture, IsSettled, Migrates, NamesGaps, PacksStream, Replays, Serves, ShipsFeed, Shows, TriesMigration, Unpacks, command_of, lines_seen as seen, moment_at, since_at};
+ghost use Rattle.gts_app.specs.Cited.{Compacts, CountsTraffic, FollowsFeed, Generates, Inits, IsCommand, IsNoCapture, IsSettled, Migrates, NamesGaps, PacksStream, Replays, ServesIn, ShipsFeed, Shows, TriesMigration, Unpacks, WithDirectoryAlone, command_of, lines_seen as seen, moment_at, since_at};
 
 use crate::commands::check::check;
 use crate::commands::compact::compact;
@@ -60,23 +60,17 @@ where
     ensures unchanged { (IsCommand words.now → ⊥) → result.world ≡ world }
 
     // What each end of a command means that works on the journal, and reads the directory alone.
-    ensures init { command_of words.now ≡ Some Command.Init → (result.world.capture ≡ world.capture)
-        × Inits S.Source P.Station result.status
-        world.directory world.station result.world.directory result.world.station }
-    ensures show { command_of words.now ≡ Some Command.Show → (result.world.capture ≡ world.capture)
-        × Shows S.Source P.Station result.status
-        world.directory world.station result.world.directory result.world.station }
+    ensures init { command_of words.now ≡ Some Command.Init
+        → WithDirectoryAlone (Inits S.Source P.Station result.status) world result.world }
+    ensures show { command_of words.now ≡ Some Command.Show
+        → WithDirectoryAlone (Shows S.Source P.Station result.status) world result.world }
     ensures compact { command_of words.now ≡ Some Command.Compact
-        → (result.world.capture ≡ world.capture) × Compacts S.Source P.Station result.status
-        world.directory world.station result.world.directory result.world.station }
-    ensures ship { command_of words.now ≡ Some Command.Ship → (result.world.capture ≡ world.capture)
-        × ShipsFeed None S.Source P.Station result.status
-        world.directory world.station result.world.directory result.world.station }
+        → WithDirectoryAlone (Compacts S.Source P.Station result.status) world result.world }
+    ensures ship { command_of words.now ≡ Some Command.Ship
+        → WithDirectoryAlone (ShipsFeed None S.Source P.Station result.status) world result.world }
     ensures ship_since { (used : ℕ) (seal : List ℕ)
-        → command_of words.now ≡ Some (Command.ShipSince used seal)
-        → (result.world.capture ≡ world.capture)
-        × ShipsFeed (Some (since_at used seal)) S.Source P.Station result.status
-        world.directory world.station result.world.directory result.world.station }
+        → command_of words.now ≡ Some (Command.ShipSince used seal) → WithDirectoryAlone (ShipsFeed
+        (Some (since_at used seal)) S.Source P.Station result.status) world result.world }
 
     // And of one that reads something beside the directory.
     ensures replay { command_of words.now ≡ Some Command.Replay
@@ -89,9 +83,8 @@ where
     ensures pack { command_of words.now ≡ Some Command.Pack
         → PacksStream S.Source P.Station result.status world result.world }
     ensures gaps { (day hour minute : ℕ)
-        → command_of words.now ≡ Some (Command.Gaps day hour minute)
-        → NamesGaps S.Source P.Station (moment_at day hour minute)
-        result.status world result.world }
+        → command_of words.now ≡ Some (Command.Gaps day hour minute) → NamesGaps S.Source
+        P.Station (moment_at day hour minute) result.status world result.world }
     ensures migrate { command_of words.now ≡ Some Command.Migrate
         → Migrates Waiting.Refused S.Source P.Station result.status world result.world }
     ensures migrate_drop { command_of words.now ≡ Some Command.MigrateDrop
@@ -103,15 +96,11 @@ where
 
     // And of those over lines, and without a journal.
     ensures serve { (n : ℕ) → command_of words.now ≡ Some (Command.Serve n)
-        → (result.world.capture ≡ world.capture)
-        × Serves S.Source P.Station L.In.observed L.Out.observed n result.status
-        world.directory world.station (seen L.Lines lines.old)
-        result.world.directory result.world.station (seen L.Lines lines.new) }
+        → ServesIn S.Source P.Station L.In.observed L.Out.observed n result.status
+        world result.world (seen L.Lines lines.old) (seen L.Lines lines.new) }
     ensures serve_always { command_of words.now ≡ Some Command.ServeAlways
-        → (result.world.capture ≡ world.capture)
-        × Serves S.Source P.Station L.In.observed L.Out.observed WITHOUT_END result.status
-        world.directory world.station (seen L.Lines lines.old)
-        result.world.directory result.world.station (seen L.Lines lines.new) }
+        → ServesIn S.Source P.Station L.In.observed L.Out.observed WITHOUT_END result.status
+        world result.world (seen L.Lines lines.old) (seen L.Lines lines.new) }
     ensures generate { (count : ℕ) → command_of words.now ≡ Some (Command.Generate count)
         → (result.world.directory ≡ world.directory) × (result.world.capture ≡ world.capture)
         × Generates P.Station result.status count world.station result.world.station }

@@ -1,10 +1,10 @@
 -- Several messages of a feed, one behind another.
 use Rattle.std.proofs.Common.{◌≡◌, ℕ, List, [], ◌∷◌, ◌++◌, sym, ap, subst, ◌∙◌}
 use Rattle.std.proofs.lemmas.List.{append-nil, append_assoc}
-use Rattle.gts_calls.specs.Cited.{All, BreaksFed, BreaksIdle, BreaksLast, BreaksOff, DiskFault, Entry, Event, Fault, FeedEnd, Full, Goes, GoesFed, Idle, IsCause, NoMemory, SayFault, Spent, Standing, Stands, Stopped, SwitchFault, Wanting, all_done, answer_of, outcome_at, settled}
+use Rattle.gts_calls.specs.Cited.{All, BreaksFed, BreaksIdle, BreaksLast, BreaksOff, BreaksSoon, DiskFault, Doubt, Entry, Event, Fault, FeedEnd, Full, Goes, GoesFed, Idle, IsCause, NoMemory, SayFault, Spent, Standing, Stands, Stopped, SwitchFault, Wanting, all_done, all_unsaid, answer_of, outcome_at, settled}
 use Rattle.gts_calls.specs.declared.fed.FeedEnd.TheVariants.{Lost}
 use Rattle.gts_event.specs.declared.event.Event.TheVariants as event
-use Rattle.gts_calls.proofs.GoingLemmas.{all_done-append, stands_same, then_breaks}
+use Rattle.gts_calls.proofs.GoingLemmas.{all_done-append, stands_same}
 
 module _ {O W : Type 0} (meanings : Standing O W) where
   last_behind : (o : O) (h : List Entry) (xs ys : List Event) (last : Event) (f : SwitchFault) (now : W) → BreaksLast meanings o (h ++ all_done xs) ys last f now → BreaksLast meanings o h (xs ++ ys) last f now
@@ -18,15 +18,26 @@ module _ {O W : Type 0} (meanings : Standing O W) where
         cause = subst (λ (x : List Entry). IsCause (meanings.is_full o x last) x (outcome_at meanings now o x last) f) same b.cause;
       }
 
-  together_behind : (o : O) (first : ℕ) (h : List Entry) (xs ys : List Event) (f : SwitchFault) (now : W) → BreaksOff meanings (λ _. o) first (h ++ all_done xs) (all_done ys) f now
-      → BreaksOff meanings (λ _. o) first h (all_done (xs ++ ys)) f now
-  together_behind o first h xs ys f now b =
-      subst (λ (x : List Entry). BreaksOff meanings (λ _. o) first h x f now) (sym (all_done-append xs ys)) (then_breaks meanings o first h (all_done xs) (all_done ys) f now b)
+  together_behind : (o : O) (first : ℕ) (h : List Entry) (xs ys : List Event) (became : List Event → List Entry) (now : W) → BreaksSoon meanings o first (h ++ all_done xs) ys became now
+      → BreaksSoon meanings o first h (xs ++ ys) became now
+  together_behind o first h xs ys became now b =
+      let t = b.0 in (
+        record {
+          front = t.front;
+          event = t.event;
+          events = t.events;
+          behind = t.behind;
+          parts = ap (λ (x : List Entry). h ++ x) (all_done-append xs ys) ∙ sym (append_assoc h (all_done xs) (all_done ys)) ∙ t.parts;
+          within = t.within;
+          stands = t.stands;
+        },
+        b.1,
+      )
 
   breaks_behind : (o : O) (first : ℕ) (h : List Entry) (c : ℕ) (xs ys : List Event) (f : SwitchFault) (now : W) → BreaksFed meanings o first (h ++ all_done xs) c ys f now
       → BreaksFed meanings o first h c (xs ++ ys) f now
-  breaks_behind o first h c xs ys DiskFault now b = together_behind o first h xs ys DiskFault now b
-  breaks_behind o first h c xs ys SayFault now b = together_behind o first h xs ys SayFault now b
+  breaks_behind o first h c xs ys DiskFault now b = together_behind o first h xs ys (λ es. Doubt es ∷ []) now b
+  breaks_behind o first h c xs ys SayFault now b = together_behind o first h xs ys all_unsaid now b
   breaks_behind o first h c xs ys (Full used need limit) now b = (b.0, last_behind o h xs ys (event.Lost c b.0) (Full used need limit) now b.1)
   breaks_behind o first h c xs ys (Stopped by) now b = (b.0, last_behind o h xs ys b.0 (Stopped by) now b.1)
   breaks_behind o first h c xs ys Spent now b = b
@@ -63,8 +74,8 @@ module _ {O W : Type 0} (meanings : Standing O W) where
   }
 
   breaks_of : (o : O) (first : ℕ) (h : List Entry) (c : ℕ) (events : List Event) (f : SwitchFault) (now : W) → BreaksFed meanings o first h c events f now → BreaksOff meanings (λ _. o) first h (all_done events) f now
-  breaks_of o first h c events DiskFault now b = b
-  breaks_of o first h c events SayFault now b = b
+  breaks_of o first h c events DiskFault now b = b.0
+  breaks_of o first h c events SayFault now b = b.0
   breaks_of o first h c events (Full used need limit) now b = idle_of o h events (event.Lost c b.0) (Full used need limit) now b.1
   breaks_of o first h c events (Stopped by) now b = idle_of o h events b.0 (Stopped by) now b.1
   breaks_of o first h c events Spent now b = absurd b

@@ -2,7 +2,7 @@
 use Rattle.std.proofs.Common.{◌≡◌, ℕ, ◌≤◌, ◌⊎◌, inl, inr, List, [], ◌∷◌, ◌++◌, length, Result, Ok, Err, refl, sym, ap, subst, ◌∙◌, arith, length-append, IsErrAnd, MatchResult}
 use Rattle.std.proofs.lemmas.List.{append-nil, append_assoc, map-append}
 use Rattle.std.proofs.lemmas.Result.{err_from_is_err_and}
-use Rattle.gts_calls.specs.Cited.{AfterCall, AfterSettling, Alone, AtOnce, Behind, BreaksIdle, BreaksOff, BreaksTogether, Directory, DiskFault, Done, Doubt, Entry, Event, Full, GathersOne, Goes, Idle, IsAnswerCause, IsAnswered, IsCause, IsCutShort, IsInDoubt, IsOneMore, IsSettling, NoMemory, Outcome, SayFault, Spent, Standing, Stands, Stopped, SwitchFault, Unsaid, after_all, all_done, all_unsaid, outcome, outcome_at, settled}
+use Rattle.gts_calls.specs.Cited.{AfterCall, AfterSettling, Alone, AtOnce, Behind, BreaksIdle, BreaksOff, BreaksSoon, BreaksTogether, Directory, DiskFault, Done, Doubt, Entry, Event, Full, GathersOne, Goes, Idle, IsAnswerCause, IsAnswered, IsCause, IsCutShort, IsInDoubt, IsOneMore, IsSettling, NoMemory, Outcome, SayFault, Spent, Standing, Stands, Stopped, SwitchFault, Unsaid, after_all, all_done, all_unsaid, outcome, outcome_at, settled}
 
 -- what was answered, by what `map_err` made of it
 pub mapped_ok : {T E D : Type 0} (r : Result T E) (mapped : Result T D) (Q : E → D → Type 0) (x : T) → MatchResult r (λ y. mapped ≡ Ok y) (λ e. IsErrAnd mapped (Q e)) → mapped ≡ Ok x → r ≡ Ok x
@@ -50,6 +50,13 @@ module _ {O W : Type 0} (meanings : Standing O W) where
   together o first h more front back [] became now parts within some s = absurd (some refl)
   together o first h more front back (event ∷ events) became now parts within some s = record { front = front; event = event; events = events; behind = back; parts = parts; within = within; stands = s }
 
+  -- the same of events, with one behind them at most
+  together_soon : (o : O) (first : ℕ) (h front back : List Entry) (all events : List Event) (became : List Event → List Entry) (now : W) → h ++ all_done all ≡ front ++ all_done events ++ back → length back ≤ 1
+      → first ≤ length front → (events ≡ [] → ⊥) → settled meanings o (front ++ became events) now → BreaksSoon meanings o first h all became now
+  together_soon o first h front back all [] became now parts few within some s = absurd (some refl)
+  together_soon o first h front back all (event ∷ events) became now parts few within some s =
+      (record { front = front; event = event; events = events; behind = back; parts = parts; within = within; stands = s }, few)
+
   -- these gathered events are in doubt
   pub in_doubt : (o : O) (first : ℕ) (h more : List Entry) (old new : W) (s : Stands meanings o first h old) → IsInDoubt meanings o s.front s.events new → BreaksOff meanings (λ _. o) first h more DiskFault new
   in_doubt o first h more old new s doubt =
@@ -63,6 +70,21 @@ module _ {O W : Type 0} (meanings : Standing O W) where
       let all : h ≡ front ++ all_done behind =
       s.is ∙ ap (λ (es : List Event). s.front ++ all_done es) cut.is ∙ ap (λ (es : List Entry). s.front ++ es) (all_done-append cut.before behind) ∙ sym (append_assoc s.front (all_done cut.before) (all_done behind)) in
       together o first h more front more behind all_unsaid new (ap (λ (x : List Entry). x ++ more) all) (omega (arith, s.within, length-append s.front (all_done cut.before))) (λ e. cc e) cut.leaves
+
+  -- the same, of events that were to be added behind others
+  pub doubt_soon : (o : O) (first : ℕ) (h k back : List Entry) (all : List Event) (old new : W) (s : Stands meanings o first k old) → h ++ all_done all ≡ k ++ back → length back ≤ 1
+      → IsInDoubt meanings o s.front s.events new → BreaksSoon meanings o first h all (λ events. Doubt events ∷ []) new
+  doubt_soon o first h k back all old new s parts few doubt =
+      together_soon o first h s.front back all s.events (λ events. Doubt events ∷ []) new (parts ∙ ap (λ (x : List Entry). x ++ back) s.is) few s.within doubt.some doubt.leaves
+
+  pub short_soon : (o : O) (first : ℕ) (h k back : List Entry) (all : List Event) (old new : W) (s : Stands meanings o first k old) → h ++ all_done all ≡ k ++ back → length back ≤ 1
+      → IsCutShort meanings o s.front s.events new → BreaksSoon meanings o first h all all_unsaid new
+  short_soon o first h k back all old new s parts few cut =
+      let front : List Entry = s.front ++ all_done cut.before in
+      let behind : List Event = cut.first ∷ cut.rest in
+      let whole : k ≡ front ++ all_done behind =
+      s.is ∙ ap (λ (es : List Event). s.front ++ all_done es) cut.is ∙ ap (λ (es : List Entry). s.front ++ es) (all_done-append cut.before behind) ∙ sym (append_assoc s.front (all_done cut.before) (all_done behind)) in
+      together_soon o first h front back all behind all_unsaid new (parts ∙ ap (λ (x : List Entry). x ++ back) whole) few (omega (arith, s.within, length-append s.front (all_done cut.before))) (λ e. cc e) cut.leaves
 
   -- settling failed
   pub settles_not : (o : O) (first : ℕ) (h more : List Entry) (old new : W) (fault : SwitchFault) → Stands meanings o first h old → IsSettling meanings (Err fault) old new → BreaksOff meanings (λ _. o) first h more fault new

@@ -1,9 +1,9 @@
 -- One message or loss more, behind what a switch stands for.
-use Rattle.std.proofs.Common.{◌≡◌, ℕ, ◌⊎◌, inl, inr, List, [], ◌∷◌, ◌++◌, Result, Ok, Err, refl, sym, subst, ◌∙◌}
+use Rattle.std.proofs.Common.{◌≡◌, ℕ, ◌≤◌, ◌⊎◌, inl, inr, List, [], ◌∷◌, ◌++◌, length, Result, Ok, Err, refl, sym, subst, ◌∙◌, arith}
 use Rattle.std.proofs.lemmas.List.{append-nil}
-use Rattle.gts_calls.specs.Cited.{AfterCall, AfterHearing, BreaksLast, BreaksOff, DiskFault, Done, Doubt, Entry, Event, FrameField, Full, GoesFed, Idle, IsAnswerCause, IsAnswered, IsCause, IsCutShort, IsHeard, IsInDoubt, Kind, NoMemory, Outcome, SayFault, Spent, Standing, Stands, Stopped, SwitchFault, Unsaid, all_done, end_heard, end_lost, outcome_at, settled}
+use Rattle.gts_calls.specs.Cited.{AfterCall, AfterHearing, BreaksLast, BreaksSoon, DiskFault, Done, Doubt, Entry, Event, FrameField, Full, GoesFed, Idle, IsAnswerCause, IsAnswered, IsCause, IsCutShort, IsHeard, IsInDoubt, Kind, NoMemory, Outcome, SayFault, Spent, Standing, Stands, Stopped, SwitchFault, Unsaid, all_done, all_unsaid, end_heard, end_lost, outcome_at, settled}
 use Rattle.gts_event.specs.declared.event.Event.TheVariants as event
-use Rattle.gts_calls.proofs.GoingLemmas.{within_all, cause_at, one_more, in_doubt, cut_short}
+use Rattle.gts_calls.proofs.GoingLemmas.{within_all, cause_at, doubt_soon, one_more, short_soon}
 
 module _ {O W : Type 0} (meanings : Standing O W) where
   pub as_hearing : (o : O) (entries : List Entry) (events : List Event) (e : Event) (result : Result Outcome SwitchFault) (new : W)
@@ -27,8 +27,8 @@ module _ {O W : Type 0} (meanings : Standing O W) where
 
   -- how one event breaks off
   abbrev OneBreaks : O → ℕ → List Entry → Event → SwitchFault → W → Type 0
-  OneBreaks o first h e DiskFault new = BreaksOff meanings (λ _. o) first h (all_done (e ∷ [])) DiskFault new
-  OneBreaks o first h e SayFault new = BreaksOff meanings (λ _. o) first h (all_done (e ∷ [])) SayFault new
+  OneBreaks o first h e DiskFault new = BreaksSoon meanings o first h (e ∷ []) (λ es. Doubt es ∷ []) new
+  OneBreaks o first h e SayFault new = BreaksSoon meanings o first h (e ∷ []) all_unsaid new
   OneBreaks o first h e (Full used need limit) new = BreaksLast meanings o h (e ∷ []) e (Full used need limit) new
   OneBreaks o first h e (Stopped by) new = BreaksLast meanings o h (e ∷ []) e (Stopped by) new
   OneBreaks o first h e Spent new = ⊥
@@ -55,32 +55,34 @@ module _ {O W : Type 0} (meanings : Standing O W) where
           cause = subst P same (cause_at meanings o all e f old new heard.directory cause);
         }
 
-    alone : settled meanings o (all ++ Doubt (e ∷ []) ∷ []) new → BreaksOff meanings (λ _. o) first h (all_done (e ∷ [])) DiskFault new
-    alone left = record {
-      front = h;
-      event = e;
-      events = [];
-      behind = [];
-      parts = sym (append-nil (h ++ Done e ∷ []));
-      within = within_all meanings o first h old s;
-      stands = subst (λ (x : List Entry). settled meanings o (x ++ Doubt (e ∷ []) ∷ []) new) (sym s.is) left;
-    }
+    -- the event is in what became entries together, or alone behind it
+    none_behind : length {A = Entry} [] ≤ 1
+    none_behind = omega arith
 
-    doubt : IsInDoubt meanings o s.front s.events new ⊎ settled meanings o (all ++ Doubt (e ∷ []) ∷ []) new → BreaksOff meanings (λ _. o) first h (all_done (e ∷ [])) DiskFault new
-    doubt (inl d) = in_doubt meanings o first h (all_done (e ∷ [])) old new s d
-    doubt (inr left) = alone left
+    one_behind : length (Done e ∷ []) ≤ 1
+    one_behind = omega arith
 
-    said : IsCutShort meanings o s.front s.events new ⊎ settled meanings o (all ++ Unsaid e ∷ []) new → BreaksOff meanings (λ _. o) first h (all_done (e ∷ [])) SayFault new
-    said (inl cut) = cut_short meanings o first h (all_done (e ∷ [])) old new s cut
-    said (inr last) = record {
-      front = h;
-      event = e;
-      events = [];
-      behind = [];
-      parts = sym (append-nil (h ++ Done e ∷ []));
-      within = within_all meanings o first h old s;
-      stands = subst (λ (x : List Entry). settled meanings o (x ++ Unsaid e ∷ []) new) (sym s.is) last;
-    }
+    alone : (became : List Event → List Entry) → settled meanings o (all ++ became (e ∷ [])) new → BreaksSoon meanings o first h (e ∷ []) became new
+    alone became left = (
+      record {
+        front = h;
+        event = e;
+        events = [];
+        behind = [];
+        parts = sym (append-nil (h ++ Done e ∷ []));
+        within = within_all meanings o first h old s;
+        stands = subst (λ (x : List Entry). settled meanings o (x ++ became (e ∷ [])) new) (sym s.is) left;
+      },
+      none_behind,
+    )
+
+    doubt : IsInDoubt meanings o s.front s.events new ⊎ settled meanings o (all ++ Doubt (e ∷ []) ∷ []) new → BreaksSoon meanings o first h (e ∷ []) (λ es. Doubt es ∷ []) new
+    doubt (inl d) = doubt_soon meanings o first h h (Done e ∷ []) (e ∷ []) old new s refl one_behind d
+    doubt (inr left) = alone (λ es. Doubt es ∷ []) left
+
+    said : IsCutShort meanings o s.front s.events new ⊎ settled meanings o (all ++ Unsaid e ∷ []) new → BreaksSoon meanings o first h (e ∷ []) all_unsaid new
+    said (inl cut) = short_soon meanings o first h h (Done e ∷ []) (e ∷ []) old new s refl one_behind cut
+    said (inr last) = alone all_unsaid last
 
     breaks : (f : SwitchFault) → result ≡ Err f → OneBreaks o first h e f new
     breaks f is = go f (subst (λ (r : Result Outcome SwitchFault). AfterHearing meanings o s.front s.events e r new) is after) (heard.caused o s.front s.events s.gathers f is)

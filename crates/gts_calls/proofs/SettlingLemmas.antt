@@ -1,10 +1,10 @@
 -- What a feed gathered is settled.
-use Rattle.std.proofs.Common.{◌≡◌, ℕ, true, false, List, [], ◌∷◌, ◌++◌, length, Ok, Err, refl, sym, ap, subst, ◌∙◌}
-use Rattle.std.proofs.lemmas.List.{append-nil, append_assoc}
-use Rattle.gts_calls.specs.Cited.{AddsAtFault, AddsFed, AfterSettling, All, BreaksFed, BreaksLast, BreaksOff, BreaksTogether, DiskFault, Done, Doubt, Entry, Event, Fault, FeedEnd, Full, GoesFed, Idle, IsSettling, LeavesLast, NoMemory, SayFault, SettlesFed, Spent, Standing, Stands, Stopped, SwitchFault, TurnsTogether, Wanting, all_done, all_unsaid, is_done, settled}
+use Rattle.std.proofs.Common.{◌≡◌, ℕ, ◌≤◌, true, false, List, [], ◌∷◌, ◌++◌, length, Ok, Err, refl, sym, ap, subst, ◌∙◌, arith}
+use Rattle.std.proofs.lemmas.List.{append-nil, append_assoc, length-map}
+use Rattle.gts_calls.specs.Cited.{AddsAtFault, AddsFed, AfterSettling, All, BreaksFed, BreaksLast, BreaksSoon, DiskFault, Done, Doubt, Entry, Event, Fault, FeedEnd, Full, GoesFed, Idle, IsSettling, LeavesLast, NoMemory, SayFault, SettlesFed, Spent, Standing, Stands, Stopped, SwitchFault, TurnsTogether, Wanting, all_done, all_unsaid, is_done, settled}
 use Rattle.gts_calls.specs.declared.fed.FeedEnd.TheVariants.{Lost}
 use Rattle.gts_event.specs.declared.event.Event.TheVariants as event
-use Rattle.gts_calls.proofs.GoingLemmas.{settles_all, settles_not, then_breaks}
+use Rattle.gts_calls.proofs.GoingLemmas.{doubt_soon, settles_all, short_soon}
 use Rattle.gts_opening.proofs.LawLemmas.{shorter_front}
 
 -- ---- parts of lists
@@ -44,9 +44,10 @@ done_same (x ∷ xs) (y ∷ ys) is =
 
 module _ {O W : Type 0} (meanings : Standing O W) where
   -- events that became something together, behind these entries
-  pub turned_together : (o : O) (h : List Entry) (events : List Event) (became : List Event → List Entry) (now : W) → BreaksTogether meanings (λ _. o) (length h) h (all_done events) became now
+  pub turned_together : (o : O) (h : List Entry) (events : List Event) (became : List Event → List Entry) (now : W) → BreaksSoon meanings o (length h) h events became now
       → (more : List Entry) × TurnsTogether events became more × settled meanings o (h ++ more) now
-  turned_together o h events became now t =
+  turned_together o h events became now soon =
+      let t = soon.0 in
       let some : List Event = t.event ∷ t.events in
       let tail : List Entry = all_done some ++ t.behind in
       let p = shorter_front h (all_done events) t.front tail (t.parts ∙ append_assoc t.front (all_done some) t.behind) t.within in
@@ -61,6 +62,7 @@ module _ {O W : Type 0} (meanings : Standing O W) where
           others = t.events;
           behind = b.behind;
           is = a.is ∙ ap (λ (l : List Event). a.first ++ l) (b.is ∙ ap (λ (l : List Event). l ++ b.behind) (sym same)) ∙ sym (append_assoc a.first some b.behind);
+          few = omega (arith, soon.1, ap length b.tail_is, length-map b.behind (λ (e : Event). Done e));
           added = refl;
         },
         subst (λ (l : List Entry). settled meanings o l now)
@@ -89,21 +91,21 @@ module _ {O W : Type 0} (meanings : Standing O W) where
   -- what was gathered stands, and then settling failed
   fails : (o : O) (h : List Entry) (c : ℕ) (events : List Event) (fault : SwitchFault) (old new : W) → Stands meanings o (length h) (h ++ all_done events) old → IsSettling meanings (Err fault) old new
       → (more : List Entry) × AddsAtFault c events fault more × settled meanings o (h ++ more) new
-  fails o h c events fault old new s settling = go fault (settling.settles o s.front s.events s.gathers) broke
+  fails o h c events fault old new s settling = go fault (settling.settles o s.front s.events s.gathers)
     where
-      broke : BreaksOff meanings (λ _. o) (length h) h (all_done events) fault new
-      broke =
-          let b = settles_not meanings o (length h) (h ++ all_done events) [] old new fault s settling in
-          subst (λ (l : List Entry). BreaksOff meanings (λ _. o) (length h) h l fault new) (append-nil (all_done events)) (then_breaks meanings o (length h) h (all_done events) [] fault new b)
+      parts : h ++ all_done events ≡ (h ++ all_done events) ++ []
+      parts = sym (append-nil (h ++ all_done events))
 
-      go : (f : SwitchFault) → AfterSettling meanings o s.front s.events (Err f) new → BreaksOff meanings (λ _. o) (length h) h (all_done events) f new
-          → (more : List Entry) × AddsAtFault c events f more × settled meanings o (h ++ more) new
-      go DiskFault a b = turned_together o h events (λ es. Doubt es ∷ []) new b
-      go SayFault a b = turned_together o h events all_unsaid new b
-      go (Full used need limit) a b = absurd a
-      go (Stopped by) a b = absurd a
-      go Spent a b = absurd a
-      go NoMemory a b = absurd a
+      few : length {A = Entry} [] ≤ 1
+      few = omega arith
+
+      go : (f : SwitchFault) → AfterSettling meanings o s.front s.events (Err f) new → (more : List Entry) × AddsAtFault c events f more × settled meanings o (h ++ more) new
+      go DiskFault a = turned_together o h events (λ es. Doubt es ∷ []) new (doubt_soon meanings o (length h) h (h ++ all_done events) [] events old new s parts few a)
+      go SayFault a = turned_together o h events all_unsaid new (short_soon meanings o (length h) h (h ++ all_done events) [] events old new s parts few a)
+      go (Full used need limit) a = absurd a
+      go (Stopped by) a = absurd a
+      go Spent a = absurd a
+      go NoMemory a = absurd a
 
   -- ---- what a feed gathered
 

@@ -91,13 +91,15 @@ pub record LeavesLast (events : List Event) (last : Event) (fault : SwitchFault)
   pub is : events ≡ front ++ last ∷ []
   pub added : more ≡ all_done front ++ Idle last fault ∷ []
 
--- these entries: some events in front were done, and some behind them, one or more, became these together
+-- These entries: some events in front were done, and some behind them, one or more, became these together. At most one is behind them,
+-- that with which it came to this.
 pub record TurnsTogether (events : List Event) (became : List Event → List Entry) (more : List Entry) : Type 0 where
   pub front : List Event
   pub first : Event
   pub others : List Event
   pub behind : List Event
   pub is : events ≡ front ++ (first ∷ others) ++ behind
+  pub few : length behind ≤ 1
   pub added : more ≡ all_done front ++ became (first ∷ others)
 
 -- The entries that a fault leaves of these events of circuit c: the disk failed, and events are in doubt together; saying failed; or the

@@ -80,11 +80,17 @@ pub record BreaksLast {O W : Type 0} (meanings : Standing O W) (o : O) (h : List
   pub cause : IsCause (meanings.is_full o (h ++ all_done front) last) (h ++ all_done front)
       (outcome_at meanings now o (h ++ all_done front) last) fault
 
+-- A device failed where events were to be added behind these entries: some became these entries together, and at most one is behind
+-- them, that with which it failed.
+abbrev pub BreaksSoon : {O W : Type 0} → Standing O W → O → (first : ℕ) → List Entry → List Event → (List Event → List Entry) → W → Type 0
+BreaksSoon meanings o first h events became now =
+    (broke : BreaksTogether meanings (λ _. o) first h (all_done events) became now) × (length broke.behind ≤ 1)
+
 -- Events of circuit c were to be added behind these entries, and this fault ended that: a device failed; or the last one was left idle,
 -- and it is no message that was wanting.
 abbrev pub BreaksFed : {O W : Type 0} → Standing O W → O → (first : ℕ) → List Entry → ℕ → List Event → SwitchFault → W → Type 0
-BreaksFed meanings o first h c events DiskFault now = BreaksOff meanings (λ _. o) first h (all_done events) DiskFault now
-BreaksFed meanings o first h c events SayFault now = BreaksOff meanings (λ _. o) first h (all_done events) SayFault now
+BreaksFed meanings o first h c events DiskFault now = BreaksSoon meanings o first h events (λ es. Doubt es ∷ []) now
+BreaksFed meanings o first h c events SayFault now = BreaksSoon meanings o first h events all_unsaid now
 BreaksFed meanings o first h c events (Stopped by) now = (last : Event) × BreaksLast meanings o h events last (Stopped by) now
 BreaksFed meanings o first h c events Spent now = ⊥
 BreaksFed meanings o first h c events (Full used need limit) now =

@@ -6,14 +6,12 @@ use Rattle.gts_event.specs.declared.values.CircuitNeed.{CircuitNeed}
 use Rattle.gts_event.specs.declared.values.Need.{Need}
 use Rattle.std.proofs.lemmas.List.{append-nil, length-map}
 use Rattle.std.proofs.lemmas.Bool.{eq-eqb}
+use Rattle.gts_event.specs.State as states
 use Rattle.gts_event.specs.Need as needs
+use Rattle.gts_event.proofs.ExtentLemmas.{flat_of}
 use Rattle.gts_checkpoint.proofs.WriterLemmas.{written_end}
 use Rattle.gts_checkpoint.proofs.PieceLemmas.{head_long}
 use Rattle.gts_opening.proofs.LawLemmas.{length-numbers}
-
-flat_of : {A B : Type 0} (f : B → List ℕ) (g : A → B) (xs : List A) → flat_map (λ x. f (g x)) xs ≡ flat_map f (map g xs)
-flat_of f g [] = refl
-flat_of f g (x ∷ xs) = ap (λ (l : List ℕ). f (g x) ++ l) (flat_of f g xs)
 
 -- the pieces of a need are its checkpoint
 pub need_text : (n : Need) → head_text (length n.circuits) n.accepted (length n.bulletins) ++ flat_map written_bulletin n.bulletins ++ flat_map written_circuit n.circuits ≡ checkpoint_text (need_of n)
@@ -68,6 +66,30 @@ need_size n =
     let long : length h ≡ 20 = refl in
     let e : 20 + length b + length c ≡ length ((h ++ b) ++ c) = omega (arith, long, length-append h b, length-append (h ++ b) c) in
     e ∙ ap (λ (l : List ℕ). length l) (need_text n)
+
+-- ---- how long it is, by what it holds
+
+bulletins_long : (bs : List states.Bulletin) → length (flat_map bulletin_text bs) ≡ 16 * length bs + length (flat_map (λ (b : states.Bulletin). b.body) bs)
+bulletins_long [] = refl
+bulletins_long (b ∷ bs) =
+    let one : 16 + length b.body ≡ length (bulletin_text b) = body_within (record { position = b.position; from = b.from; kind = b.kind; body = b.body }) in
+    omega (arith, one, length-append (bulletin_text b) (flat_map bulletin_text bs), length-append b.body (flat_map (λ (x : states.Bulletin). x.body) bs), bulletins_long bs)
+
+circuits_long : (cs : List needs.CircuitNeed) → length (flat_map circuit_text cs) ≡ 16 * length cs + 8 * length (flat_map (λ (c : needs.CircuitNeed). c.waiting ++ c.kept) cs)
+circuits_long [] = refl
+circuits_long (c ∷ cs) =
+    let one : 16 + 8 * (length c.waiting + length c.kept) ≡ length (circuit_text c) = lists_within (record { draws = c.draws; waiting = c.waiting; kept = c.kept; owed = c.owed }) in
+    omega (arith, one, length-append (circuit_text c) (flat_map circuit_text cs), length-append c.waiting c.kept, length-append (c.waiting ++ c.kept) (flat_map (λ (x : needs.CircuitNeed). x.waiting ++ x.kept) cs), circuits_long cs)
+
+pub text_long : (n : needs.Need) → length (checkpoint_text n)
+    ≡ 20 + (16 * length n.bulletins + length (flat_map (λ b. b.body) n.bulletins)) + (16 * length n.circuits + 8 * length (flat_map (λ c. c.waiting ++ c.kept) n.circuits))
+text_long n =
+    let h : List ℕ = head_text (length n.circuits) n.accepted (length n.bulletins) in
+    let b : List ℕ = flat_map bulletin_text n.bulletins in
+    let c : List ℕ = flat_map circuit_text n.circuits in
+    let long : length h ≡ 20 = refl in
+    let whole : length (checkpoint_text n) ≡ length ((h ++ b) ++ c) = refl in
+    omega (arith, whole, long, length-append h b, length-append (h ++ b) c, bulletins_long n.bulletins, circuits_long n.circuits)
 
 -- ---- the whole file
 

@@ -1,8 +1,8 @@
 -- How pieces are put one behind the other.
 use Rattle.std.proofs.Common.{◌≡◌, ℕ, zero, suc, ◌+◌, ◌<◌, ◌≤◌, get_or, List, [], ◌∷◌, ◌++◌, length, take, drop, refl, sym, ap, subst, ◌∙◌, append_assoc, length-append, arith, Result, Ok, Err, OnOk}
+use Rattle.gts_event.proofs.ExtentLemmas.{flat_more}
 use Rattle.gts_checkpoint.specs.Cited.{Call, HasPut, SealingWriter, Seals, Stands, count_of, flat_map, overwritten, put_by, seen}
-use Rattle.std.proofs.lemmas.List.{append-nil, take_more}
-use Rattle.std.proofs.lemmas.List.Concat.{flat_map-append}
+use Rattle.std.proofs.lemmas.List.{append-nil}
 use Rattle.std.proofs.lemmas.List.Folds.{length-flat_map-take}
 
 -- two pieces are one
@@ -45,11 +45,6 @@ pub written_end : (xs bytes : List ℕ) → overwritten xs (length xs) bytes ≡
 written_end xs bytes = ap (λ (l : List ℕ). l ++ (bytes ++ drop (length xs + length bytes) xs)) (take_end xs) ∙ ap (λ (l : List ℕ). xs ++ (bytes ++ l)) (drop_past xs (length xs + length bytes) (omega arith)) ∙ ap (λ (l : List ℕ). xs ++ l) (append-nil bytes)
 
 -- ---- piece by piece over a list
-
-pub flat_more : {A : Type 0} (f : A → List ℕ) (xs : List A) (i : ℕ) (x : A) → i < length xs → x ≡ get_or xs i x → flat_map f (take (i + 1) xs) ≡ flat_map f (take i xs) ++ f x
-flat_more {A} f xs i x low is =
-    ap (flat_map f) (take_more xs i x low) ∙ flat_map-append f (take i xs) (get_or xs i x ∷ [])
-    ∙ ap (λ (y : A). flat_map f (take i xs) ++ flat_map f (y ∷ [])) (sym is) ∙ ap (λ (l : List ℕ). flat_map f (take i xs) ++ l) (append-nil (f x))
 
 pub flat_room : {A : Type 0} (f : A → List ℕ) (xs : List A) (i : ℕ) (x : A) → i < length xs → x ≡ get_or xs i x
     → length (flat_map f (take i xs)) + length (f x) ≤ length (flat_map f xs)

@@ -1,5 +1,5 @@
 -- What a run says of why it ended: its history, and what in it a fault leaves.
-use Rattle.std.specs.Prelude.{◌≡◌, ℕ, List, [], ◌∷◌, ◌++◌, length, Option, Some, None}
+use Rattle.std.specs.Prelude.{◌≡◌, ℕ, ◌+◌, List, [], ◌∷◌, ◌++◌, length, Option, Some, None}
 use Rattle.gts_circuits.specs.Housed.{Beginning}
 use Rattle.gts_circuits.specs.Cited.Below.{Call, Engine, Entry, Event, Idle, IsStreamFront, Known, LONGEST_CONNECTION, Part, SwitchFault, all_done, entries_under, events_over, goes_on}
 use Rattle.gts_circuits.specs.Flat.{flat}
@@ -31,11 +31,12 @@ pub record HasFault (entries : List Entry) (fault : SwitchFault) (Because : List
   pub is : entries ≡ front ++ Idle event fault ∷ back
   pub because : Because front event
 
--- On the last of these connections the source of circuit c gave as many bytes as one connection may. Synchronisation was kept over
--- them, and the receiver's own entries are those of all connections, but for the tries of a service.
+-- On the last of the connections that it may begin the source of circuit c gave as many bytes as one connection may. Synchronisation
+-- was kept over them, and the receiver's own entries are those of all connections, but for the tries of a service.
 pub record GaveMost (source_tells : Type 0) (connections : ℕ) (now : LinesSeen) (history : List (ℕ × Entry)) (c : ℕ) : Type 0 where
   pub earlier : List Part
   pub last : Part
+  pub whole : length earlier + 1 ≡ connections
   pub size : length last.given ≡ LONGEST_CONNECTION
   pub kept : IsStreamFront last.given
   pub parts : source_tells → (now.bytes c).parts ≡ earlier ++ last ∷ []

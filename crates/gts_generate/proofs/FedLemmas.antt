@@ -236,7 +236,7 @@ message-fed : (i : ℕ) → IsFramed (message i) × (frames_in (message i) ≡ 1
 message-fed i =
     let is : IsDayBody (body i) = day-body i in
     let number : ℕ = (i / 8 + 1) % 1000 in (
-      IsFramed-message_of number (body i) (omega (arith, is.short)) is.ends,
+      IsFramed-message_of 3 number (body i) (omega arith) (omega (arith, is.short)) is.ends,
       ends-message (dec 3 number) (body i) (lacks-dec ETX 3 number (omega arith)) ∙ is.one,
     )
 

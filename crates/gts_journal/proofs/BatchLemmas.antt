@@ -1,6 +1,6 @@
 -- The steps of appending a batch.
 use Rattle.std.proofs.Common.{◌≡◌, ◌≢◌, ◌⊎◌, inl, true, false, ℕ, zero, suc, ◌+◌, ◌-◌, ◌<◌, ◌≤◌, cond, List, [], ◌∷◌, ◌++◌, length, take, drop, refl, sym, ◌∙◌, ap, subst, arith, append_assoc, length-append, nat_eq}
-use Rattle.gts_journal.specs.Cited.{Call, Did, EachSince, EndsAt, Gathered, Gathers, HasBlock, InHand, IsBlock, LeavesAllOrNone, OnlyTears, ReachesWithin, Record, StandsOn, Syncs, Version, Writes, beyond_block, chain_text, closed_gate, file_of, front_of, held, last_seal, open_gate, opened_part, overwritten, record_text, said_by, seal, sealed, seen, starts_with, texts_of}
+use Rattle.gts_journal.specs.Cited.{Call, Did, EachSince, EndsAt, Gathered, Gathers, HasBlock, InHand, IsBlock, IsPossible, LeavesAllOrNone, OnlyTears, ReachesWithin, Record, StandsOn, Syncs, Version, Writes, beyond_block, chain_text, closed_gate, file_of, front_of, held, last_seal, open_gate, opened_part, overwritten, record_text, said_by, seal, sealed, seen, starts_with, texts_of}
 use borrow.Rule.Slice.PartMut.{put_mid, post_of}
 use Rattle.std.proofs.Math.ListN.{set}
 use Rattle.std.proofs.Math.Seq.{set-append_seam, take-add}
@@ -8,7 +8,7 @@ use Rattle.std.proofs.lemmas.List.{append-nil, take_at, length-take, length-take
 use Rattle.gts_traits.proofs.LawLemmas.{weaker, joined, seen_written, seen_elsewhere}
 use Rattle.gts_record.proofs.LawLemmas.{chain_text-append, last_seal-append}
 use Rattle.gts_journal.proofs.GateLemmas.{gate_at, Staged, torn_behind, written_is, torn_gate, written_gate}
-use Rattle.gts_journal.proofs.AppendLemmas.{not_selector, synced_after}
+use Rattle.gts_journal.proofs.AppendLemmas.{kept_elsewhere, not_selector, synced_after}
 
 -- a block without the closed gate at its end
 pub opened_is : (text : List ℕ) (block : IsBlock text) → opened_part text ≡ open_gate ∷ block.0
@@ -36,6 +36,7 @@ module _ (old : List Call) (j : InHand) (stands : StandsOn old j) (ended : j.end
   staged_moments n mid each = weaker _ (LeavesAllOrNone old j text) old mid (λ files outside left. record {
     silent = left.silent;
     selector = left.others 2 (not_selector old j stands) stands.selector_synced;
+    others = left.others;
     journal = inl (torn_behind (front_of old j) j.gate at n (file_of old j) (files j.file) ends (left.torn stands.file_synced));
   }) each
 
@@ -63,10 +64,15 @@ module _ (old : List Call) (j : InHand) (stands : StandsOn old j) (ended : j.end
         (λ files later left. record {
           silent = left.silent;
           selector = left.others 2 (not_selector old j stands) (synced_after mid _ 2 done) ∙ elsewhere 2 (not_selector old j stands);
+          others = λ k other is. left.others k other (synced_after mid _ k done) ∙ elsewhere k other;
           journal = let P : List ℕ → Type 0 = λ l. EndsAt (front_of old j) (files j.file) ⊎ EndsAt (front_of old j ++ l) (files j.file) in
               subst P (sym (opened_is text block))
               (torn_gate (front_of old j) j.gate at behind (seen mid j.file) (files j.file) staged_file (left.torn (synced_after mid _ j.file done)));
         })
+
+    -- where that write or its sync failed
+    pub others_at_fault : (new : List Call) → EachSince mid new (OnlyTears mid j.file j.gate 1) → IsPossible new → (k : ℕ) → k ≢ j.file → seen new k ≡ seen old k
+    others_at_fault new second possible k other = kept_elsewhere j.file j.gate 1 mid new second possible k other (synced_after mid _ k done) ∙ elsewhere k other
 
     module _ (new : List Call) (last : new ≡ Did Syncs ∷ Did (Writes j.file j.gate (open_gate ∷ [])) ∷ mid) where
       added : seen new j.file ≡ front_of old j ++ text ++ rest

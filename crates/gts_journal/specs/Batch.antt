@@ -1,6 +1,6 @@
 -- Records that are appended behind one gate, and what that leaves of the files.
-use Rattle.std.specs.Prelude.{◌≡◌, ◌⊎◌, false, ℕ, ◌+◌, ◌-◌, ◌≤◌, List, [], ◌∷◌, ◌++◌, length, take}
-use Rattle.gts_journal.specs.Cited.Below.{AreAdmitted, Call, Directory, EachSince, Files, MayStand, Outside, Record, State, Version, after_records, chain_text, closed_gate, last_seal, open_gate, seen, texts_of, written}
+use Rattle.std.specs.Prelude.{◌≡◌, ◌≢◌, ◌⊎◌, false, ℕ, ◌+◌, ◌-◌, ◌≤◌, List, [], ◌∷◌, ◌++◌, length, take}
+use Rattle.gts_journal.specs.Cited.Below.{AreAdmitted, Call, Directory, EachSince, Files, IsSynced, MayStand, Outside, Record, State, Version, after_records, chain_text, closed_gate, last_seal, open_gate, seen, texts_of, written}
 use Rattle.gts_journal.specs.Law.{OpensTo}
 use Rattle.gts_journal.specs.Hand.{InHand}
 use Rattle.gts_journal.specs.Standing.{EndsAt, StandsOn, file_of, front_of}
@@ -48,10 +48,12 @@ pub record HasAppendedBlock (old : List Call) (j : InHand) (b : Gathered) (new :
   pub stands : StandsOn new next
   pub place : next ≡ beyond_block j b.text b.seal
 
--- Nothing is said; the selector is as it was; and the journal ends where it ended, or has all records of the block and then ends.
+-- Nothing is said; the selector is as it was, and so is each other file that was synced; and the journal ends where it ended, or has
+-- all records of the block and then ends.
 pub record LeavesAllOrNone (calls : List Call) (j : InHand) (text : List ℕ) (files : Files) (outside : Outside) : Type 0 where
   pub silent : outside ≡ []
   pub selector : files 2 ≡ seen calls 2
+  pub others : (k : ℕ) → k ≢ j.file → IsSynced calls k → files k ≡ seen calls k
   pub journal : EndsAt (front_of calls j) (files j.file) ⊎ EndsAt (front_of calls j ++ opened_part text) (files j.file)
 
 -- records were gathered that may stand at the journal's gate, one behind the other

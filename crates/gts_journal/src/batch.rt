@@ -1,5 +1,5 @@
-ghost use Rattle.std.specs.Prelude.{◌≡◌, ◌≢◌, ◌+◌, ◌-◌, ◌≤◌, ◌<◌, ◌^◌, ◌==◌, true, ℕ, List, [], ◌∷◌, ◌++◌, length, IfOk, OnOk};
-ghost use Rattle.gts_journal.specs.Cited.{EachSince, Gathers, HasBlock, HasCause, IsBlock, IsRecord, LeavesAllOrNone, ReachesWithin, Record as RecordOf, STEP, StandsOn, beyond_block, file_of, no_records, record_of, record_size, record_text, said_by, seen};
+ghost use Rattle.std.specs.Prelude.{◌≡◌, ◌≢◌, ◌+◌, ◌-◌, ◌≤◌, ◌<◌, ◌^◌, ◌==◌, true, ℕ, List, [], ◌∷◌, ◌++◌, length, IfOk, IsErr, OnOk};
+ghost use Rattle.gts_journal.specs.Cited.{EachSince, Gathers, HasBlock, HasCause, IsBlock, IsRecord, IsSynced, LeavesAllOrNone, ReachesWithin, Record as RecordOf, STEP, StandsOn, beyond_block, file_of, no_records, record_of, record_size, record_text, said_by, seen};
 
 use crate::opening::zeros;
 use crate::{CLOSED, Journal, LARGEST_FILE, OPEN};
@@ -160,15 +160,19 @@ impl Journal {
         ensures stands { P.observed → OnOk result (StandsOn (P.calls station.new) self.new) }
         ensures place { OnOk result
             (self.new ≡ beyond_block self.old batch.old.text batch.old.seal) }
-        ensures others { P.observed → (k : ℕ) → k ≢ self.old.file
-            → OnOk result (seen (P.calls station.new) k ≡ seen (P.calls station.old) k) }
         ensures emptied { OnOk result (batch.new ≡ no_records self.new) }
+
+        // Each other file is as it was; where it failed, each that was synced.
+        ensures others { P.observed → (k : ℕ) → k ≢ self.old.file
+            → (IsErr result → IsSynced (P.calls station.old) k)
+            → seen (P.calls station.new) k ≡ seen (P.calls station.old) k }
 
         // No longer than it was, or than a step behind the records.
         ensures reach { P.observed → OnOk result (ReachesWithin STEP (P.calls station.old) self.old
             batch.old.text (file_of (P.calls station.new) self.new)) }
 
-        // A crash at any moment of the call leaves the journal as it was, or with all records of the batch.
+        // A crash at any moment of the call leaves the journal as it was, or with all records of the batch; and the other files as
+        // they were.
         ensures moments { P.observed → EachSince (P.calls station.old) (P.calls station.new)
             (LeavesAllOrNone (P.calls station.old) self.old batch.old.text) }
         ensures silent { P.observed → said_by (P.calls station.new) ≡ said_by

@@ -2,11 +2,10 @@
 use Rattle.std.proofs.Common.{◌≡◌, ◌≢◌, ◌⊎◌, inl, inr, ℕ, ◌+◌, ◌-◌, ◌^◌, ◌<◌, true, List, [], length, Ok, refl, sym, ap, subst, ◌∙◌, arith}
 use Rattle.std.proofs.lemmas.Bool.{cases_eq}
 use Rattle.std.proofs.lemmas.List.{append-nil}
-use Rattle.gts_standby.specs.Cited.{Call, Directory, EachSince, Files, FitsLimit, HasWritten, HoldsState, InHand, LeavesBoth, LeavesOthers, Need, OpensOneOf, OpensTo, Outside, StandsFor, StandsOn, State, Version, WorksBeside, begun, closed_gate, compacted_bytes, file_opens, is_sound, need_seal, said_by, seen, selected, selecting, unowed, written}
+use Rattle.gts_standby.specs.Cited.{Call, Directory, EachSince, Files, FitsLimit, HasWritten, HoldsState, InHand, LeavesBoth, LeavesOthers, Need, Outside, ReadsToOneOf, StandsFor, StandsOn, State, Version, WorksBeside, begun, closed_gate, compacted_bytes, file_opens, files_read, is_sound, need_seal, read_anew, read_at, said_by, seen, selected, selecting, unowed, written}
 use Rattle.gts_traits.proofs.LawLemmas.{weaker, joined}
 use Rattle.gts_opening.proofs.LawLemmas.{file_opens-checkpoint, selected_few}
 use Rattle.gts_journal.proofs.LawLemmas.{selected_stands, both_left, same_stands_for}
-use Rattle.gts_standby.proofs.AddLemmas.{opened_need}
 
 -- ---- what a crash leaves
 
@@ -26,38 +25,41 @@ module _ (d : Directory) (s : State) (n : Need) (calls : List Call) (j : InHand)
       ap (λ (v : Version). file_opens v d j.file (seen calls j.file)) (sym f.current)
       ∙ ap (λ (k : ℕ). file_opens j.version d k (seen calls k)) (sym f.stands.selected_is) ∙ f.opens_to
 
-  -- files of which one is selected that comes to a state
-  opens_file : (files : Files) (k : ℕ) (t : State) (used : ℕ) (last : List ℕ) → selected files ≡ k → file_opens written d k (files k) ≡ Ok (t, used, last) → OpensTo d t files
-  opens_file files k t used last at reads = ap (opened_need d) (ap (λ (i : ℕ). file_opens written d i (files i)) at ∙ reads)
+  -- files of which one is selected that reads to this
+  reads_file : (files : Files) (k : ℕ) (read : State × ℕ × List ℕ) → selected files ≡ k → file_opens written d k (files k) ≡ Ok read → files_read written d files ≡ Ok read
+  reads_file files k read at is = ap (λ (i : ℕ). file_opens written d i (files i)) at ∙ is
 
   -- while the other file is written
-  pub writing : (t : State) (mid : List Call) → WorksBeside other calls mid → EachSince calls mid (OpensOneOf d s t)
-  writing t mid beside = weaker (LeavesOthers other calls) (OpensOneOf d s t) calls mid
+  pub writing : (then : State × ℕ × List ℕ) (mid : List Call) → WorksBeside other calls mid → EachSince calls mid (ReadsToOneOf d (read_at s j) then)
+  writing then mid beside = weaker (LeavesOthers other calls) (ReadsToOneOf d (read_at s j) then) calls mid
       (λ files outside left. (
         left.silent,
-        inl (opens_file files j.file s (j.gate + 1) j.seal
+        inl (reads_file files j.file (read_at s j)
             (ap (λ (l : List ℕ). selected (λ _. l)) (left.others 2 not_selector f.stands.selector_synced) ∙ f.stands.selected_is)
             (ap (file_opens written d j.file) (left.others j.file not_other f.stands.file_synced) ∙ file_here)),
       )) beside.moments
 
   module _ (mid : List Call) (beside : WorksBeside other calls mid) (used : ℕ) (last : List ℕ) (holds : HoldsState written d (begun n) mid other used last) where
     -- while it is selected
-    choosing : (new : List Call) → EachSince mid new (LeavesBoth mid) → EachSince mid new (OpensOneOf d s (begun n))
-    choosing new each = weaker (LeavesBoth mid) (OpensOneOf d s (begun n)) mid new (λ files outside left. (left.silent, by_choice files outside left)) each
+    choosing : (new : List Call) → EachSince mid new (LeavesBoth mid) → EachSince mid new (ReadsToOneOf d (read_at s j) (begun n, used, last))
+    choosing new each = weaker (LeavesBoth mid) (ReadsToOneOf d (read_at s j) (begun n, used, last)) mid new (λ files outside left. (left.silent, by_choice files outside left)) each
       where
-        by_choice : (files : Files) (outside : Outside) → LeavesBoth mid files outside → OpensTo d s files ⊎ OpensTo d (begun n) files
+        by_choice : (files : Files) (outside : Outside) → LeavesBoth mid files outside → (files_read written d files ≡ Ok (read_at s j)) ⊎ (files_read written d files ≡ Ok (begun n, used, last))
         by_choice files outside left = elim (cases_eq (selected files) j.file) [
-          | inl at ↦ inl (opens_file files j.file s (j.gate + 1) j.seal at (ap (file_opens written d j.file) (both_left mid files left j.file low ∙ beside.seen j.file not_other) ∙ file_here))
+          | inl at ↦ inl (reads_file files j.file (read_at s j) at (ap (file_opens written d j.file) (both_left mid files left j.file low ∙ beside.seen j.file not_other) ∙ file_here))
           | inr elsewhere ↦
-              inr (opens_file files other (begun n) used last (omega (arith, selected_few files, low, elsewhere))
+              inr (reads_file files other (begun n, used, last) (omega (arith, selected_few files, low, elsewhere))
               (ap (file_opens written d other) (both_left mid files left other (omega (arith, low))) ∙ holds))
         ]
 
     -- all of it
-    pub all_moments : (new : List Call) → EachSince mid new (LeavesBoth mid) → EachSince calls new (OpensOneOf d s (begun n))
-    all_moments new each =
-        joined (OpensOneOf d s (begun n)) (OpensOneOf d s (begun n)) calls mid new [] (writing (begun n) mid beside) (beside.silent ∙ sym (append-nil (said_by calls))) (choosing new each)
-        (λ files later left. left)
+    pub all_moments : (new : List Call) → used ≡ compacted_bytes written n → last ≡ need_seal d.mark n → EachSince mid new (LeavesBoth mid) → EachSince calls new (ReadsToOneOf d (read_at s j) (read_anew d n))
+    all_moments new used_is last_is each =
+        let there : EachSince calls new (ReadsToOneOf d (read_at s j) (begun n, used, last)) =
+        joined (ReadsToOneOf d (read_at s j) (begun n, used, last)) (ReadsToOneOf d (read_at s j) (begun n, used, last)) calls mid new [] (writing (begun n, used, last) mid beside)
+        (beside.silent ∙ sym (append-nil (said_by calls))) (choosing new each) (λ files later left. left) in
+        let same : (begun n, used, last) ≡ read_anew d n = ap (λ (k : ℕ). (begun n, k, last)) used_is ∙ ap (λ (l : List ℕ). (begun n, compacted_bytes written n, l)) last_is in
+        subst (λ (y : State × ℕ × List ℕ). EachSince calls new (ReadsToOneOf d (read_at s j) y)) same there
 
 -- the checkpoint's file comes to its need
 pub holds_begun : (d : Directory) (n : Need) (file : ℕ) (mid : List Call) → HasWritten d.mark n file mid → length d.mark ≡ 32 → d.limit < 256 ^ 4 → is_sound d n ≡ true → unowed n ≡ n → FitsLimit written d n

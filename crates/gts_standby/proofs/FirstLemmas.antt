@@ -1,10 +1,11 @@
 -- How a feed begins.
 use Rattle.std.proofs.Common.{◌≡◌, ℕ, ◌+◌, ◌-◌, ◌*◌, ◌≤◌, Bool, true, false, cond, ◌&&◌, nat_eq, nat_le, List, [], ◌∷◌, ◌++◌, length, take, drop, Option, Some, None, Result, Ok, Err, inl, inr, refl, sym, ap, subst, ◌∙◌, arith, append_assoc, length-append, length-drop, take-append-drop, IfErr, OnOk, not}
-use Rattle.gts_standby.specs.Cited.{Call, Damaged, Did, Directory, GoesOnBehind, InHand, IsAnswer, IsAtFirst, IsAtGate, IsDamage, IsFaultOf, IsQuiet, IsShipFault, Need, OnlySyncs, OpenFault, Opened, Reaches, Read, SaysFront, SaysHere, SaysOnly, SaysRest, ShipFault, ShipsOnly, StandsFor, StandsOn, State, Syncs, Version, admits_checkpoint, agreeing, begun, behind_header, checkpoint_feed, checkpoint_opens, checkpoint_text, compacted_bytes, draw_size, due, empty, feed, feed_at, feed_behind, feed_of, file_of, file_opens, files_read, first_fault, first_seal, header_fault, is_at_checkpoint, is_checkpoint, is_sealed, is_sound, magic, need, need_in, on, opened_of, opens, records_at, restarted, said_by, same_text, seal, sealed, seen, selected, selected_bytes, ship_fault, starts_with, written}
+use Rattle.gts_standby.specs.Cited.{Call, Damaged, Did, Directory, GoesOnBehind, InHand, IsAnswer, IsAtFirst, IsAtGate, IsDamage, IsFaultOf, IsQuiet, IsShipFault, Need, OnlySyncs, OpenFault, Opened, Reaches, Read, SaysFront, SaysHere, SaysOnly, SaysRest, ShipFault, ShipsOnly, StandsFor, StandsOn, State, Syncs, Version, admits_checkpoint, agreeing, begun, behind_header, checkpoint_feed, checkpoint_opens, checkpoint_text, compacted_bytes, draw_size, due, empty, feed, feed_at, feed_behind, feed_of, file_of, file_opens, files_read, first_fault, first_seal, header_fault, is_at_checkpoint, is_checkpoint, is_sealed, is_sound, magic, need, need_in, on, opened_of, opens, records_at, restarted, same_text, seal, sealed, seen, selected, selected_bytes, ship_fault, starts_with, written}
+use Rattle.gts_traits.specs.Cited.{Broken}
 use Rattle.gts_checkpoint.specs.Reading.{HasRead}
 use Rattle.std.proofs.lemmas.Bool.{and_parts}
-use Rattle.std.proofs.lemmas.List.{take_at, append-nil}
-use Rattle.gts_traits.proofs.SayLemmas.{said_none}
+use Rattle.std.proofs.lemmas.List.{take_at}
+use Rattle.gts_traits.proofs.SayLemmas.{said_none, said_more, front_behind, untouched_call}
 use Rattle.gts_record.specs.declared.fault.OpenFault.TheVariants as opening
 use Rattle.gts_record.proofs.LawLemmas.{length-sealed}
 use Rattle.gts_journal.proofs.LawLemmas.{faulty_header, opens_behind}
@@ -214,11 +215,19 @@ quiet_start opening.OldVersion found is none = none opening.OldVersion is
 quiet_start (opening.NotThis want there) found is none = none (opening.NotThis want there) is
 quiet_start (opening.Damaged file at) found is none = none (opening.Damaged file at) is
 
--- a sync says nothing
+-- one sync said nothing, and touched no file
+pub synced_quiet : (old mid : List Call) → mid ≡ Did Syncs ∷ old → SaysOnly old mid []
+synced_quiet old mid first =
+    subst (λ (calls : List Call). SaysOnly old calls []) (sym first)
+    (record { said = (said_none old).said; files = λ file. refl; untouched = untouched_call old (Did Syncs ∷ old) (Did Syncs) tt refl })
+
+-- nor did one that was tried
 pub syncs_say_nothing : (old new : List Call) → OnlySyncs old new → SaysOnly old new []
-syncs_say_nothing old new (inl is) = subst (λ (calls : List Call). SaysOnly old calls []) (sym is) (record { said = (said_none old).said; files = λ file. refl })
+syncs_say_nothing old new (inl is) = synced_quiet old new is
 syncs_say_nothing old new (inr (inl same)) = subst (λ (calls : List Call). SaysOnly old calls []) (sym same) (said_none old)
-syncs_say_nothing old new (inr (inr left)) = subst (λ (calls : List Call). SaysOnly old calls []) (sym left.2) (record { said = (said_none old).said; files = λ file. refl })
+syncs_say_nothing old new (inr (inr left)) =
+    subst (λ (calls : List Call). SaysOnly old calls []) (sym left.2)
+    (record { said = (said_none old).said; files = λ file. refl; untouched = untouched_call old (Broken Syncs left.0 ∷ old) (Broken Syncs left.0) tt refl })
 
 nothing_front : (old new : List Call) (x : List ℕ) → SaysOnly old new [] → SaysFront old new (on 0 x)
 nothing_front old new x says = record { left = []; front = (on 0 x, refl); said = says }
@@ -240,23 +249,10 @@ quiet_answer d old new fault.NoMemory x quiet says = says
 
 -- what follows a sync follows what was before it
 pub behind_sync : (old mid new : List Call) (x : List ℕ) → SaysOnly old mid [] → SaysOnly mid new (on 0 x) → SaysOnly old new (on 0 x)
-behind_sync old mid new x first second = said_more_of (on 0 x) first second
-  where
-    said_more_of : (y : List (ℕ × ℕ)) → SaysOnly old mid [] → SaysOnly mid new y → SaysOnly old new y
-    said_more_of y a b = record {
-      said = b.said ∙ ap (λ (l : List (ℕ × ℕ)). l ++ y) (a.said ∙ append-nil (said_by old));
-      files = λ file. b.files file ∙ a.files file;
-    }
+behind_sync old mid new x first second = said_more old mid new [] (on 0 x) first second
 
 pub front_behind_sync : (old mid new : List Call) (x : List ℕ) → SaysOnly old mid [] → SaysFront mid new (on 0 x) → SaysFront old new (on 0 x)
-front_behind_sync old mid new x first second = record {
-  left = second.left;
-  front = second.front;
-  said = record {
-    said = second.said.said ∙ ap (λ (l : List (ℕ × ℕ)). l ++ second.left) (first.said ∙ append-nil (said_by old));
-    files = λ file. second.said.files file ∙ first.files file;
-  };
-}
+front_behind_sync old mid new x first second = front_behind old mid new [] (on 0 x) first second
 
 -- the need that files open to
 pub opens_there : (d : Directory) (mid : List Call) (opened : InHand) (s : State) → StandsFor d s mid opened → opened.version ≡ written → opens d (seen mid) ≡ Ok (need d (restarted d s))
@@ -311,10 +307,7 @@ same_feed d old mid new j first second version stands =
     ap (λ (calls : List Call). seen calls j.file) second ∙ ap (λ (calls : List Call). seen calls j.file) first ∙ ap (seen old) (sym place) in
     ap (λ (v : Version). feed v d.mark (file_of new j)) version ∙ ap (feed written d.mark) bytes
 
--- one sync said nothing, and neither did two
-pub synced_quiet : (old mid : List Call) → mid ≡ Did Syncs ∷ old → SaysOnly old mid []
-synced_quiet old mid first = subst (λ (calls : List Call). SaysOnly old calls []) (sym first) (record { said = (said_none old).said; files = λ file. refl })
-
+-- neither did two
 pub twice_quiet : (old mid now : List Call) → mid ≡ Did Syncs ∷ old → now ≡ Did Syncs ∷ mid → SaysOnly old now []
 twice_quiet old mid now first second = behind_sync old mid now [] (synced_quiet old mid first) (synced_quiet mid now second)
 

@@ -1,12 +1,13 @@
 -- Records of a feed are gathered behind a journal, and brought into it.
 use Rattle.std.proofs.Common.{◌≡◌, inl, inr, ℕ, ◌+◌, ◌<◌, ◌≤◌, Bool, true, cond, List, [], ◌∷◌, ◌++◌, length, Option, Some, refl, sym, ap, subst, ◌∙◌, arith, length-append}
 use Rattle.std.proofs.lemmas.List.{map-append}
-use Rattle.gts_standby.specs.Cited.{AreNext, Breaks, Call, CanGather, Core, Directory, Ends, Feed, Gathered, Gathering, Gathers, HasAppendedBlock, HasBrought, HasGatheredOne, HoldsAt, HoldsBehind, InFeed, InHand, IsBlock, IsGathered, IsGathering, IsJudged, IsKept, MayBring, MayHaveBrought, OpensToOneOf, Record, StandsBehind, StandsFor, State, StopsAs, Version, admits, after, after_records, beyond_block, chain_text, closed_gate, event_of_record, gate_behind, held, last_seal, may_be_cut, no_records, open_gate, record_size, record_text, seal, sealed, sealed_at, stopped, texts_of, written}
+use Rattle.gts_standby.specs.Cited.{AreNext, Breaks, Call, CanGather, Core, Directory, Ends, Feed, Gathered, Gathering, Gathers, HasAppendedBlock, HasBrought, HasGatheredOne, HoldsAt, HoldsBehind, InFeed, InHand, IsBlock, IsGathered, IsGathering, IsJudged, IsKept, MayBring, MayHaveBrought, ReadsToOneOf, Record, StandsBehind, StandsFor, State, StopsAs, Version, admits, after, after_records, beyond_block, chain_text, closed_gate, event_of_record, gate_behind, held, last_seal, may_be_cut, no_records, open_gate, read_at, read_with, record_size, record_text, seal, sealed, sealed_at, stopped, texts_of, written}
 use Rattle.gts_traits.proofs.LawLemmas.{started}
 use Rattle.gts_record.proofs.LawLemmas.{last_seal-append}
-use Rattle.gts_journal.proofs.LawLemmas.{gathered_block, records_more, next_none, next_more, batch_stands, images_open}
+use Rattle.gts_journal.proofs.LawLemmas.{gathered_block, records_more, next_none, next_more, batch_stands}
 use Rattle.gts_recovery.proofs.KeptLemmas.{kept_on}
 use Rattle.gts_standby.proofs.AddLemmas.{whole_uncut}
+use Rattle.gts_standby.proofs.ReadLemmas.{images_read}
 
 -- ---- what was gathered
 
@@ -171,7 +172,8 @@ brings_all observed d s rs old new g next h place emptied same appended =
 
 -- nothing was done
 pub still_brings : (observed : Type 0) → observed → (d : Directory) (calls : List Call) (g : Gathering) → MayBring observed d calls g calls
-still_brings observed tell d calls g = λ s rs h. started calls (OpensToOneOf d s (after_records d s rs)) (λ files image. (refl, inl (images_open d s calls g.journal (h.stands tell) files image)))
+still_brings observed tell d calls g = λ s rs h.
+    started calls (ReadsToOneOf d (read_at s g.journal) (read_with (after_records d s rs) g)) (λ files image. (refl, inl (images_read d s calls g.journal (h.stands tell) files image)))
 
 -- the place behind the records stays
 pub gate_stays : (observed : Type 0) (d : Directory) (old new : List Call) (g next : Gathering) → IsGathered observed d old g → MayHaveBrought observed d old g new next → gate_behind next ≡ gate_behind g

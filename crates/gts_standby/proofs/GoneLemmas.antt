@@ -1,11 +1,11 @@
 -- So many records of a feed were added to a journal, and so many gathered behind it.
 use Rattle.std.proofs.Common.{◌≡◌, inl, inr, ℕ, ◌+◌, ◌-◌, ◌≤◌, cond, List, [], ◌∷◌, ◌++◌, length, drop, Option, Some, None, Ok, refl, sym, ap, subst, ◌∙◌, arith, length-append, length-drop}
 use Rattle.std.proofs.lemmas.List.{append-nil, append_assoc}
-use Rattle.gts_standby.specs.Cited.{AsBefore, Breaks, Call, Core, Directory, DiskFault, Diverged, Done, EachSince, Ends, EndsAs, Feed, Files, FollowEnd, Gathered, Gathering, GathersNone, HasAdded, HasBrought, HasGatheredOne, HasRead, HoldsAt, HoldsBehind, InFeed, InHand, IsEnd, IsFedEnd, IsFinished, MayBring, MayHaveBrought, Need, NoMemory, Open, OpensTo, OpensToOneOf, OpensWithin, Outside, Record, SaidSince, SourceFault, StandsFor, State, StopsAt, Taken, Version, WithFront, add_all, adding, after, after_records, chain_text, closed_gate, event_of_record, gate_behind, last_seal, may_be_cut, no_records, open_gate, read_after, read_begun, read_behind, record_behind, record_size, record_text, said_by, seal, sealed, seen, start_of, stopped, texts_of, written}
+use Rattle.gts_standby.specs.Cited.{Breaks, Call, Core, Directory, DiskFault, Diverged, Done, EachSince, Ends, EndsAs, Feed, Files, FollowEnd, Gathered, Gathering, GathersNone, HasAdded, HasBrought, HasGatheredOne, HasRead, HoldsAt, HoldsBehind, InFeed, InHand, IsEnd, IsFedEnd, IsFinished, MayBring, MayHaveBrought, Need, NoMemory, Open, OpensTo, OpensWithin, Outside, ReadsToOneOf, Record, SaidSince, SourceFault, StandsFor, State, StopsAt, Taken, Version, add_all, adding, after, after_records, chain_text, closed_gate, event_of_record, files_read, gate_behind, last_seal, may_be_cut, no_records, open_gate, read_after, read_at, read_begun, read_behind, read_with, record_behind, record_size, record_text, said_by, seal, sealed, seen, start_of, stopped, texts_of, written}
 use Rattle.gts_traits.proofs.LawLemmas.{started, joined}
 use Rattle.gts_record.proofs.LawLemmas.{length-sealed}
-use Rattle.gts_journal.proofs.LawLemmas.{images_open}
 use Rattle.gts_standby.proofs.AddLemmas.{next_is, read_now, opened_now, no_begin, not_empty, some_text, one_step, no_step}
+use Rattle.gts_standby.proofs.ReadLemmas.{as_before, with_front, images_read}
 use Rattle.gts_standby.proofs.GatherLemmas.{gate_on, ok, seal_on, state_on, held_one, brought_holds}
 use Rattle.gts_opening.proofs.LawLemmas.{after_records-append}
 
@@ -49,7 +49,7 @@ pub record HasGone (observed : Type 0) (d : Directory) (s : State) (used : ℕ) 
   pub end_is : all.end ≡ (still d (after_records d settled more) g n at fed).end
   pub none : all.begins ≡ None
   pub silent : said_by calls ≡ said_by old
-  pub moments : EachSince old calls (OpensWithin d s all)
+  pub moments : EachSince old calls (OpensWithin d (s, used, last) all)
 
 pub begun_there : (observed : Type 0) → observed → (d : Directory) (s : State) (calls : List Call) (core : Core) (j : InHand) (g : Gathering) (at : ℕ) (ahead : InFeed) (left fed : List ℕ) (n : ℕ) → HoldsAt observed d s calls core j
     → g.journal ≡ j → g.batch ≡ no_records j → HoldsBehind observed d s [] calls core g → HasRead fed ahead left → length fed ≤ n
@@ -74,7 +74,7 @@ begun_there observed tell d s calls core j g at ahead left fed n h journal batch
       end_is = ap (λ (t : Taken). t.end) same;
       none = no_begin d n j.seal s j.gate at fed;
       silent = refl;
-      moments = started calls (OpensWithin d s all) (λ files image. AsBefore refl (images_open d s calls j (h.stands tell) files image));
+      moments = started calls (OpensWithin d (read_at s j) all) (λ files image. as_before d (read_at s j) all files [] refl (images_read d s calls j (h.stands tell) files image));
     }
 
 module _ (observed stells : Type 0) (tell : observed) (stell : stells) (d : Directory) (s : State) (used : ℕ) (last : List ℕ) (all : Taken) (old mid : List Call) (core : Core) (x : Gathering) (at : ℕ) (ahead : InFeed) (left : List ℕ)
@@ -92,19 +92,6 @@ module _ (observed stells : Type 0) (tell : observed) (stell : stells) (d : Dire
   both_so : t ≡ after_records d s (g.done ++ g.more)
   both_so = ap (λ (q : State). after_records d q g.more) g.settled_is ∙ sym (after_records-append d s g.done g.more)
 
-  -- a crash while they are brought leaves what was there, or all of them
-  either_so : (files : Files) (later : Outside) → OpensToOneOf d g.settled t files later → OpensWithin d s all files ([] ++ later)
-  either_so files later (quiet, inl opens) =
-      let P : State → Type 0 = λ q. OpensTo d q files in
-      let rest : List Record = (still d t x g.n at g.fed).records in
-      WithFront g.done (g.more ++ rest) (g.records ∙ append_assoc g.done g.more rest) quiet (start_is g.done files (subst P g.settled_is opens))
-  either_so files later (quiet, inr opens) =
-      let P : State → Type 0 = λ q. OpensTo d q files in
-      WithFront (g.done ++ g.more) (still d t x g.n at g.fed).records g.records quiet (start_is (g.done ++ g.more) files (subst P both_so opens))
-
-  pub moments_on : (new : List Call) → MayBring observed d mid x new → EachSince old new (OpensWithin d s all)
-  moments_on new may = joined (OpensWithin d s all) (OpensToOneOf d g.settled t) old mid new [] g.moments silent_so (may g.settled g.more g.holds.stands) either_so
-
   -- what they read to
   read_so : (v : Version) → v ≡ written → (seals : List ℕ) → (text : List ℕ) → text ≡ chain_text v x.journal.seal (texts_of g.more) ++ closed_gate ∷ [] → seals ≡ last_seal v x.journal.seal (texts_of g.more)
       → (t, x.journal.gate + (length text - 1) + 1, seals) ≡ read_behind d (s, used, last) (g.done ++ g.more)
@@ -118,6 +105,27 @@ module _ (observed stells : Type 0) (tell : observed) (stell : stells) (d : Dire
       ∙ sym (read-chain d g.settled (x.journal.gate + 1) x.journal.seal g.more)
       ∙ ap (λ (y : State × ℕ × List ℕ). read_behind d y g.more) g.reads
       ∙ sym (read-append d (s, used, last) g.done g.more)
+
+  -- with these records the files read to what is added so far
+  front_so : (rs back : List Record) (read : State × ℕ × List ℕ) (files : Files) (later : Outside) → all.records ≡ rs ++ back → later ≡ [] → read ≡ read_behind d (s, used, last) rs
+      → files_read written d files ≡ Ok read → OpensWithin d (s, used, last) all files ([] ++ later)
+  front_so rs back read files later parts quiet same is =
+      with_front d (s, used, last) all rs back files ([] ++ later) parts quiet
+      (is ∙ ap (λ (y : State × ℕ × List ℕ). Ok y) same ∙ ap (λ (o : Option Need). Ok (read_behind d (read_begun d (s, used, last) o) rs)) (sym g.none))
+
+  -- a crash while they are brought leaves what was there, or all of them
+  either_so : (files : Files) (later : Outside) → ReadsToOneOf d (read_at g.settled x.journal) (read_with t x) files later → OpensWithin d (s, used, last) all files ([] ++ later)
+  either_so files later (quiet, inl is) =
+      let rest : List Record = (still d t x g.n at g.fed).records in
+      front_so g.done (g.more ++ rest) (read_at g.settled x.journal) files later (g.records ∙ append_assoc g.done g.more rest) quiet g.reads is
+  either_so files later (quiet, inr is) =
+      let next = g.holds.stands.next in
+      front_so (g.done ++ g.more) (still d t x g.n at g.fed).records (read_with t x) files later g.records quiet
+      (read_so x.batch.version (next.version ∙ g.holds.stands.current) x.batch.seal x.batch.text next.gathers.text next.gathers.seal) is
+
+  pub moments_on : (new : List Call) → MayBring observed d mid x new → EachSince old new (OpensWithin d (s, used, last) all)
+  moments_on new may =
+      joined (OpensWithin d (s, used, last) all) (ReadsToOneOf d (read_at g.settled x.journal) (read_with t x)) old mid new [] g.moments silent_so (may g.settled g.more g.holds.stands) either_so
 
   -- they were brought
   pub all_brought : (new : List Call) (next : Gathering) → HasBrought observed d g.settled g.more x new next → said_by new ≡ said_by mid → MayBring observed d mid x new
@@ -252,5 +260,5 @@ none_added observed tell d s calls core j all left h = record {
   ends = λ e. absurd e;
   opened = λ e. absurd e;
   reads = λ e. absurd e;
-  moments = started calls (OpensWithin d s all) (λ files image. AsBefore refl (images_open d s calls j (h.stands tell) files image));
+  moments = started calls (OpensWithin d (read_at s j) all) (λ files image. as_before d (read_at s j) all files [] refl (images_read d s calls j (h.stands tell) files image));
 }

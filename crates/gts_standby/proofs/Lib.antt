@@ -6,6 +6,7 @@ pub mod FirstLemmas
 pub mod HeaderLemmas
 pub mod FedLemmas
 pub mod AddLemmas
+pub mod ReadLemmas
 pub mod GatherLemmas
 pub mod GoneLemmas
 pub mod CompareLemmas

@@ -2,12 +2,13 @@
 use Rattle.std.proofs.Common.{◌≡◌, ◌⊎◌, inl, inr, ℕ, zero, suc, ◌+◌, ◌-◌, ◌<◌, ◌≤◌, Bool, true, false, cond, ◌&&◌, List, [], ◌∷◌, ◌++◌, length, drop, Option, Some, None, Result, Ok, Err, refl, sym, ap, subst, ◌∙◌, arith}
 use Rattle.std.proofs.lemmas.Bool.{cases_lt}
 use Rattle.std.proofs.lemmas.List.{append-nil}
-use Rattle.gts_standby.specs.Cited.{Answers, AsBefore, BeforeIt, Breaks, Call, Core, Damaged, Did, Directory, DiskFault, Diverged, Done, EachOpens, EachSince, End, Ends, EndsAs, EndsBegin, Feed, Files, FollowEnd, HasAdded, HasBegun, HasRead, HasTaken, HoldsAt, InFeed, InHand, IsAddEnd, IsEnd, IsFedEnd, IsOpened, IsReadEnd, IsTakenEnd, Leads, LeavesAlone, Need, NoMemory, OnlySyncs, Open, OpenFault, OpensAsBefore, OpensOneOf, OpensTo, OpensWithin, Outside, Parts, Piece, Read, ReadsAll, Record, SourceFault, StandsFor, State, StopsAs, StopsAt, Syncs, Taken, Version, WithFront, WithinIt, add_all, admits_checkpoint, after, after_records, begin_first, begin_with, begun, begun_taken, by_header, by_piece, checkpoint_text, comes_to, compacted_bytes, compare_first, empty, entry_at, event_of_record, feed_at, file_of, file_opens, files_read, first_seal, header_fault, is_checkpoint, is_checkpoint_fed, is_further, is_other, is_other_first, magic, may_be_cut, need, need_in, open_end, opens, or_anew, own_seals, read_after, read_begun, read_behind, record_behind, record_size, record_text, records_at, restarted, said_by, seal, seals_at, seals_behind, seen, selected, selected_bytes, start_of, state_after, stopped, take_records, taken, unread, written}
+use Rattle.gts_standby.specs.Cited.{Answers, AsBefore, BeforeIt, Breaks, Call, Core, Damaged, Did, Directory, DiskFault, Diverged, Done, EachOpens, EachSince, End, Ends, EndsAs, EndsBegin, Feed, Files, FollowEnd, HasAdded, HasBegun, HasRead, HasTaken, HoldsAt, InFeed, InHand, IsAddEnd, IsEnd, IsFedEnd, IsOpened, IsReadEnd, IsTakenEnd, Leads, LeavesAlone, Need, NoMemory, OnlySyncs, Open, OpenFault, OpensTo, OpensWithin, Outside, Parts, Piece, Read, ReadsAll, ReadsToOneOf, Record, SourceFault, StandsFor, State, StopsAs, StopsAt, Syncs, Taken, Version, WithFront, WithinIt, add_all, admits_checkpoint, after, after_records, begin_first, begin_with, begun, begun_taken, by_header, by_piece, checkpoint_text, comes_to, compacted_bytes, compare_first, empty, entry_at, event_of_record, feed_at, file_of, file_opens, files_read, first_seal, header_fault, is_checkpoint, is_checkpoint_fed, is_further, is_other, is_other_first, magic, may_be_cut, need, need_in, open_end, opens, or_anew, own_seals, read_after, read_anew, read_at, read_begun, read_behind, record_behind, record_size, record_text, records_at, restarted, said_by, seal, seals_at, seals_behind, seen, selected, selected_bytes, start_of, state_after, stopped, take_records, taken, unread, written}
 use Rattle.gts_traits.proofs.LawLemmas.{weaker, joined}
 use Rattle.gts_record.specs.declared.fault.OpenFault.TheVariants as opening
-use Rattle.gts_journal.proofs.LawLemmas.{syncs_silent, syncs_stand, images_open, opening_opens, open_selected, opens_behind, faulty_header, reads_end_there, reads_fault}
+use Rattle.gts_journal.proofs.LawLemmas.{syncs_silent, syncs_stand, open_selected, opens_behind, faulty_header, reads_end_there, reads_fault}
 use Rattle.gts_standby.proofs.FeedLemmas.{leads_on, none_left, left_split}
 use Rattle.gts_standby.proofs.AddLemmas.{holds_of, opened_by, opened_now, read_now, no_begin, added_by}
+use Rattle.gts_standby.proofs.ReadLemmas.{as_before, with_front, opening_reads}
 
 -- ---- at most a sync was tried
 
@@ -27,11 +28,6 @@ holds_kept observed d s old new core j syncs h = record { kept = h.kept; current
 pub opened_kept : (observed : Type 0) (d : Directory) (old new : List Call) (core : Core) (j : InHand) → (observed → OnlySyncs old new) → IsOpened observed d old core j → IsOpened observed d new core j
 opened_kept observed d old new core j syncs o = opened_by observed d o.state new core j (holds_kept observed d o.state old new core j syncs (holds_of observed d old core j o))
 
-kept_moments : (d : Directory) (s : State) (taken : Taken) (old new : List Call) (j : InHand) → StandsFor d s old j → OnlySyncs old new → EachSince old new (OpensWithin d s taken)
-kept_moments d s taken old new j f syncs =
-    weaker (OpensAsBefore d s) (OpensWithin d s taken) old new (λ files outside same. AsBefore same.0 same.1)
-    (opening_opens d s old new (images_open d s old j f) (opened_now d s old j f) syncs)
-
 -- ---- the feed ends, and nothing is added
 
 no_open : (fault : OpenFault) (end : End) → EndsAs (Open fault) end → ⊥
@@ -43,7 +39,7 @@ module _ (d : Directory) (s : State) (old new : List Call) (j : InHand) (taken :
   quiet : (answer : FollowEnd) → IsTakenEnd answer → (IsEnd answer → ⊥) → HasTaken answer d s (j.gate + 1) j.seal taken old new left
   quiet answer kind fault = record {
     kind = kind;
-    added = record { ends = λ e. absurd (fault e); opened = λ e. absurd (fault e); reads = λ e. absurd (fault e); moments = kept_moments d s taken old new j f syncs };
+    added = record { ends = λ e. absurd (fault e); opened = λ e. absurd (fault e); reads = λ e. absurd (fault e); moments = opening_reads d s old j f taken new syncs };
   }
 
   ended : (answer : FollowEnd) → IsTakenEnd answer → StopsAt answer taken left → HasTaken answer d s (j.gate + 1) j.seal taken old new left
@@ -55,7 +51,7 @@ module _ (d : Directory) (s : State) (old new : List Call) (j : InHand) (taken :
       reads = λ _.
           subst (λ (t : Taken). files_read written d (seen new) ≡ Ok (read_after d (s, j.gate + 1, j.seal) t)) (sym stops.is)
           (reads_kept d (Ok (s, j.gate + 1, j.seal)) old new syncs (read_now d s old j f));
-      moments = kept_moments d s taken old new j f syncs;
+      moments = opening_reads d s old j f taken new syncs;
     };
   }
 
@@ -88,20 +84,20 @@ taken_end NoMemory kind = tt
 
 -- ---- a journal that begins with a checkpoint
 
-begun_moments : (d : Directory) (s : State) (old mid : List Call) (n : Need) (taken : Taken) → taken.begins ≡ Some n → EachSince old mid (OpensOneOf d s (begun n)) → EachSince old mid (OpensWithin d s taken)
-begun_moments d s old mid n taken begins each = weaker (OpensOneOf d s (begun n)) (OpensWithin d s taken) old mid one each
+begun_moments : (d : Directory) (from : State × ℕ × List ℕ) (old mid : List Call) (n : Need) (taken : Taken) → taken.begins ≡ Some n → EachSince old mid (ReadsToOneOf d from (read_anew d n)) → EachSince old mid (OpensWithin d from taken)
+begun_moments d from old mid n taken begins each = weaker (ReadsToOneOf d from (read_anew d n)) (OpensWithin d from taken) old mid one each
   where
-    one : (files : Files) (outside : Outside) → OpensOneOf d s (begun n) files outside → OpensWithin d s taken files outside
-    one files outside (quiet, inl there) = AsBefore quiet there
-    one files outside (quiet, inr there) =
-        let P : Option Need → Type 0 = λ o. OpensTo d (after_records d (start_of s o) []) files in WithFront [] taken.records refl quiet (subst P (sym begins) there)
+    one : (files : Files) (outside : Outside) → ReadsToOneOf d from (read_anew d n) files outside → OpensWithin d from taken files outside
+    one files outside (quiet, inl is) = as_before d from taken files outside quiet is
+    one files outside (quiet, inr is) =
+        with_front d from taken [] taken.records files outside refl quiet (is ∙ ap (λ (o : Option Need). Ok (read_begun d from o)) (sym begins))
 
 abbrev beginning : Need → Taken → Taken
 beginning n more = record more { begins = Some n }
 
 begun_added : (answer : FollowEnd) (d : Directory) (s : State) (used : ℕ) (last : List ℕ) (n : Need) (un : ℕ) (ln : List ℕ) (more : Taken) (old mid new : List Call) (left : List ℕ) → more.begins ≡ None
     → un ≡ compacted_bytes written n → ln ≡ seal written (first_seal written d.mark) (checkpoint_text n) → said_by mid ≡ said_by old
-    → EachSince old mid (OpensOneOf d s (begun n)) → HasAdded answer d (begun n) un ln more mid new left → HasAdded answer d s used last (beginning n more) old new left
+    → EachSince old mid (ReadsToOneOf d (s, used, last) (read_anew d n)) → HasAdded answer d (begun n) un ln more mid new left → HasAdded answer d s used last (beginning n more) old new left
 begun_added answer d s used last n un ln more old mid new left none used_is last_is silent each added = record {
   ends = added.ends;
   opened = λ e. (let P : Option Need → Type 0 = λ o. OpensTo d (after_records d (start_of (begun n) o) more.records) (seen new) in subst P none (added.opened e));
@@ -111,14 +107,20 @@ begun_added answer d s used last n un ln more old mid new left none used_is last
       ∙ ap (λ (k : ℕ). Ok (read_behind d (begun n, k, ln) more.records)) used_is
       ∙ ap (λ (l : List ℕ). Ok (read_behind d (begun n, compacted_bytes written n, l) more.records)) last_is;
   moments =
-      joined (OpensWithin d s (beginning n more)) (OpensWithin d (begun n) more) old mid new [] (begun_moments d s old mid n (beginning n more) refl each)
+      joined (OpensWithin d (s, used, last) (beginning n more)) (OpensWithin d (begun n, un, ln) more) old mid new [] (begun_moments d (s, used, last) old mid n (beginning n more) refl each)
       (silent ∙ sym (append-nil (said_by old))) added.moments later_so;
 }
   where
-    later_so : (files : Files) (later : Outside) → OpensWithin d (begun n) more files later → OpensWithin d s (beginning n more) files ([] ++ later)
-    later_so files later (AsBefore quiet there) = WithFront [] more.records refl quiet there
-    later_so files later (WithFront front back is quiet there) =
-        let P : Option Need → Type 0 = λ o. OpensTo d (after_records d (start_of (begun n) o) front) files in WithFront front back is quiet (subst P none there)
+    -- what the journal reads to that begins anew
+    same : (begun n, un, ln) ≡ read_anew d n
+    same = ap (λ (k : ℕ). (begun n, k, ln)) used_is ∙ ap (λ (l : List ℕ). (begun n, compacted_bytes written n, l)) last_is
+
+    later_so : (files : Files) (later : Outside) → OpensWithin d (begun n, un, ln) more files later → OpensWithin d (s, used, last) (beginning n more) files ([] ++ later)
+    later_so files later (AsBefore quiet opens is) =
+        with_front d (s, used, last) (beginning n more) [] more.records files ([] ++ later) refl quiet (is ∙ ap (λ (y : State × ℕ × List ℕ). Ok y) same)
+    later_so files later (WithFront front back parts quiet opens is) =
+        with_front d (s, used, last) (beginning n more) front back files ([] ++ later) parts quiet
+        (is ∙ ap (λ (o : Option Need). Ok (read_behind d (read_begun d (begun n, un, ln) o) front)) none ∙ ap (λ (y : State × ℕ × List ℕ). Ok (read_behind d y front)) same)
 
 abbrev taken_first : Directory → State → InHand → List ℕ → Bool → Taken
 taken_first d s j fed b = cond b (begin_first written d j.seal fed) (add_all written d (length fed) j.seal s j.gate 40 fed)
@@ -139,19 +141,19 @@ checkpoint_taken answer d s j fed old new left is first has =
 
 -- the feed ends at its checkpoint
 pub ends_begun : (answer : FollowEnd) (d : Directory) (s : State) (j : InHand) (fed : List ℕ) (old new : List Call) (left : List ℕ) → StandsFor d s old j → IsAddEnd answer
-    → EndsBegin answer d s fed old new left → HasTaken answer d s (j.gate + 1) j.seal (begun_taken d fed) old new left
+    → EndsBegin answer d (read_at s j) fed old new left → HasTaken answer d s (j.gate + 1) j.seal (begun_taken d fed) old new left
 ends_begun answer d s j fed old new left f kind (BeforeIt same stops) = stops_taken d s old new j (begun_taken d fed) left f (inr (inl same)) answer stops
 ends_begun answer d s j fed old new left f kind (WithinIt n begins each fault) = record {
   kind = taken_end answer kind;
-  added = record { ends = λ e. absurd (fault e); opened = λ e. absurd (fault e); reads = λ e. absurd (fault e); moments = begun_moments d s old new n (begun_taken d fed) begins each };
+  added = record { ends = λ e. absurd (fault e); opened = λ e. absurd (fault e); reads = λ e. absurd (fault e); moments = begun_moments d (read_at s j) old new n (begun_taken d fed) begins each };
 }
 
 abbrev by_found : Directory → List ℕ → Piece → Taken
 by_found d fed piece = by_piece 40 piece (λ size other. begin_with written d (first_seal written d.mark) size fed (need_in fed))
 
 -- the checkpoint was taken, and records are added behind it
-module _ (observed : Type 0) (tell : observed) (d : Directory) (s : State) (fed : List ℕ) (old mid : List Call) (at : ℕ) (core : Core) (next : InHand) (ahead : InFeed) (left : List ℕ)
-    (b : HasBegun observed d s fed old at mid core next ahead left) where
+module _ (observed : Type 0) (tell : observed) (d : Directory) (from : State × ℕ × List ℕ) (fed : List ℕ) (old mid : List Call) (at : ℕ) (core : Core) (next : InHand) (ahead : InFeed) (left : List ℕ)
+    (b : HasBegun observed d from fed old at mid core next ahead left) where
   abbrev behind_it : ℕ → Taken
   behind_it place = add_all written d (length fed) next.seal (begun b.n) next.gate place (drop b.size fed)
 
@@ -163,11 +165,11 @@ module _ (observed : Type 0) (tell : observed) (d : Directory) (s : State) (fed 
       ap (by_found d fed) b.piece ∙ b.begins
       ∙ ap (λ (k : ℕ). beginning b.n (behind_it k)) (sym b.place)
 
-  pub begun_on : (answer : FollowEnd) (used : ℕ) (last : List ℕ) (new : List Call) (left_next : List ℕ) → IsAddEnd answer → HasAdded answer d (begun b.n) (next.gate + 1) next.seal (behind_it at) mid new left_next
-      → HasTaken answer d s used last (begun_taken d fed) old new left_next
-  begun_on answer used last new left_next kind added =
-      let has = begun_added answer d s used last b.n (next.gate + 1) next.seal (behind_it at) old mid new left_next none_begins b.gate_is b.seal_is b.silent b.moments added in
-      record { kind = taken_end answer kind; added = subst (λ (t : Taken). HasAdded answer d s used last t old new left_next) (sym comes_behind) has }
+  pub begun_on : (answer : FollowEnd) (new : List Call) (left_next : List ℕ) → IsAddEnd answer → HasAdded answer d (begun b.n) (next.gate + 1) next.seal (behind_it at) mid new left_next
+      → HasTaken answer d from.0 from.1 from.2 (begun_taken d fed) old new left_next
+  begun_on answer new left_next kind added =
+      let has = begun_added answer d from.0 from.1 from.2 b.n (next.gate + 1) next.seal (behind_it at) old mid new left_next none_begins b.gate_is b.seal_is b.silent b.moments added in
+      record { kind = taken_end answer kind; added = subst (λ (t : Taken). HasAdded answer d from.0 from.1 from.2 t old new left_next) (sym comes_behind) has }
 
 -- ---- whether a journal has records
 
@@ -394,7 +396,7 @@ module _ (d : Directory) (s : State) (old mid : List Call) (j : InHand) (fed : L
       opened = added.opened;
       reads = added.reads;
       moments =
-          joined (OpensWithin d s taken) (OpensWithin d s taken) old mid new [] (kept_moments d s taken old mid j f syncs)
+          joined (OpensWithin d (read_at s j) taken) (OpensWithin d (read_at s j) taken) old mid new [] (opening_reads d s old j f taken mid syncs)
           (syncs_silent old mid syncs ∙ sym (append-nil (said_by old))) added.moments (λ files later is. is);
     };
   }
@@ -591,11 +593,23 @@ module _ (d : Directory) (old mid : List Call) (j : InHand) (s : State) (fed : L
         let same : (s, j.gate + 1, j.seal) ≡ read = cc e in
         has.added.reads ends ∙ ap (λ (x : State × ℕ × List ℕ). Ok (read_after d x all_taken)) same ∙ ap (λ (t : Taken). Ok (read_after d read t)) (same_taken other comes)
 
-    pub moments_there : (t : State) (used : ℕ) (last : List ℕ) (other : Taken) → files_read written d (seen old) ≡ Ok (t, used, last) → comes_to d (seen old) fed ≡ Ok other → EachOpens d t other old new
-    moments_there t used last other reads comes =
-        let by_state : EachSince mid new (OpensWithin d t all_taken) = subst (λ (q : State). EachSince mid new (OpensWithin d q all_taken)) (same_state t used last reads) has.added.moments in
-        let by_taken : EachSince mid new (OpensWithin d t other) = subst (λ (x : Taken). EachSince mid new (OpensWithin d t x)) (same_taken other comes) by_state in
-        inr (subst (λ (l : List Call). EachSince l new (OpensWithin d t other)) synced by_taken)
+    pub moments_there : (read : State × ℕ × List ℕ) (other : Taken) → files_read written d (seen old) ≡ Ok read → comes_to d (seen old) fed ≡ Ok other → EachOpens d read other old new
+    moments_there read other reads comes =
+        let e : Ok (s, j.gate + 1, j.seal) ≡ Ok read = sym reads_there ∙ reads in
+        let same : (s, j.gate + 1, j.seal) ≡ read = cc e in
+        let by_read : EachSince mid new (OpensWithin d read all_taken) = subst (λ (x : State × ℕ × List ℕ). EachSince mid new (OpensWithin d x all_taken)) same has.added.moments in
+        let by_taken : EachSince mid new (OpensWithin d read other) = subst (λ (x : Taken). EachSince mid new (OpensWithin d read x)) (same_taken other comes) by_read in
+        inr (subst (λ (l : List Call). EachSince l new (OpensWithin d read other)) synced by_taken)
+
+-- so the files don't open to a fault
+pub opened_there : (d : Directory) (old mid : List Call) (j : InHand) (s : State) (fault : OpenFault) (X : Type 0) → mid ≡ Did Syncs ∷ old → StandsFor d s mid j → files_read written d (seen old) ≡ Err fault → X
+opened_there d old mid j s fault X synced f is =
+    let failed : Read = Err fault in
+    let opened : Read = Ok (s, j.gate + 1, j.seal) in
+    let there : files_read written d (seen old) ≡ Ok (s, j.gate + 1, j.seal) =
+    sym (ap (λ (l : List Call). files_read written d (seen l)) synced) ∙ ap (λ (v : Version). files_read v d (seen mid)) (sym f.current) ∙ f.opens_to in
+    let e : failed ≡ opened = sym is ∙ there in
+    absurd (cc e)
 
 -- a feed that was taken to its end leaves nothing
 pub done_stops : (answer : FollowEnd) (t : Taken) (left : List ℕ) → StopsAs answer t left → answer ≡ Done → left ≡ []

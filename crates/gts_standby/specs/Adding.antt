@@ -21,7 +21,7 @@ pub record HasAdded (answer : FollowEnd) (d : Directory) (s : State) (used : ℕ
   pub ends : IsEnd answer → EndsAs answer taken.end × ReadsAll answer left
   pub opened : IsEnd answer → OpensTo d (state_after d s taken) (seen new)
   pub reads : IsEnd answer → files_read written d (seen new) ≡ Ok (read_after d (s, used, last) taken)
-  pub moments : EachSince old new (OpensWithin d s taken)
+  pub moments : EachSince old new (OpensWithin d (s, used, last) taken)
 
 -- so it is of whatever state the journal stands for, and whatever the feed has left
 abbrev pub AddsAll : FollowEnd → (observed : Type 0) → Directory → ℕ → List Call → Core → InHand → InFeed → List ℕ → List Call → List ℕ

@@ -1,6 +1,6 @@
 -- What is said of a feed that is taken into a journal.
 use Rattle.std.specs.Prelude.{◌≡◌, ◌⊎◌, ℕ, ◌+◌, ◌-◌, List, [], ◌∷◌, ◌++◌, Option, Some, None, Result, Ok, Err}
-use Rattle.gts_standby.specs.Cited.Below.{Call, Did, Directory, EachSince, Files, Need, OnlySyncs, OpenFault, OpensTo, Outside, Record, State, Syncs, after, after_records, begun, checkpoint_text, compacted_bytes, event_of_record, files_read, first_seal, held, is_checkpoint, need, opens, record_size, record_text, restarted, seal, seen, selected_bytes, written}
+use Rattle.gts_standby.specs.Cited.Below.{Call, Did, Directory, EachSince, Files, InHand, Need, OnlySyncs, OpenFault, OpensTo, Outside, Record, State, Syncs, after, after_records, begun, checkpoint_text, compacted_bytes, event_of_record, files_read, first_seal, held, is_checkpoint, need, opens, record_size, record_text, restarted, seal, seen, selected_bytes, written}
 use Rattle.gts_record.specs.declared.fault.OpenFault.TheVariants as opening
 use Rattle.gts_standby.specs.declared.end.FollowEnd.{FollowEnd}
 use Rattle.gts_standby.specs.declared.end.FollowEnd.TheVariants.{Done, Open, Feed, Diverged, SourceFault, DiskFault, NoMemory}
@@ -47,6 +47,10 @@ abbrev pub LeavesAlone : FollowEnd → List Call → List Call → Type 0 → Ty
 LeavesAlone (Open fault) old new unread = OnlySyncs old new × unread
 LeavesAlone answer old new unread = Unit {0}
 
+-- Where the files don't open, at most a sync was tried, and this holds.
+abbrev pub LeavesUnopened : Directory → List Call → List Call → Type 0 → Type 0
+LeavesUnopened d old new unread = (fault : OpenFault) → files_read written d (seen old) ≡ Err fault → OnlySyncs old new × unread
+
 -- an answer that tells the end of a feed
 abbrev pub IsEnd : FollowEnd → Type 0
 IsEnd Done = Unit {0}
@@ -69,24 +73,40 @@ read_behind d read [] = read
 read_behind d read (r ∷ rs) =
     read_behind d (after d read.0 (event_of_record r), read.1 + record_size written r, seal written read.2 (record_text r)) rs
 
--- the same where the journal begins anew before, or doesn't
+-- what files read to that begin anew with the checkpoint of this need
+abbrev pub read_anew : Directory → Need → State × ℕ × List ℕ
+read_anew d n = (begun n, compacted_bytes written n, seal written (first_seal written d.mark) (checkpoint_text n))
+
+-- what files read to that begin anew with a checkpoint, or don't
 abbrev pub read_begun : Directory → State × ℕ × List ℕ → Option Need → State × ℕ × List ℕ
 read_begun d read None = read
-read_begun d read (Some n) = (begun n, compacted_bytes written n, seal written (first_seal written d.mark) (checkpoint_text n))
+read_begun d read (Some n) = read_anew d n
 
 -- what files that read to this read to behind all that is added
 abbrev pub read_after : Directory → State × ℕ × List ℕ → Taken → State × ℕ × List ℕ
 read_after d read taken = read_behind d (read_begun d read taken.begins) taken.records
 
--- Nothing is said. The files open to the state from before, or to that with a first part of what is added, and no more.
-pub data OpensWithin (d : Directory) (s : State) (taken : Taken) (files : Files) (outside : Outside) : Type 0 where
-  AsBefore : outside ≡ [] → OpensTo d s files → OpensWithin d s taken files outside
+-- what the files of a journal read to that stands for a state
+abbrev pub read_at : State → InHand → State × ℕ × List ℕ
+read_at s j = (s, j.gate + 1, j.seal)
+
+-- nothing is said, and the files read to the first of two, or to the second
+abbrev pub ReadsToOneOf : Directory → State × ℕ × List ℕ → State × ℕ × List ℕ → Files → Outside → Type 0
+ReadsToOneOf d one other files outside =
+    (outside ≡ []) × ((files_read written d files ≡ Ok one) ⊎ (files_read written d files ≡ Ok other))
+
+-- Nothing is said. The files read to what they read to before, or to that and a first part of what is added, its seals chained over
+-- the last one, and no more. So they open to the state from before, or to that with this first part.
+pub data OpensWithin (d : Directory) (read : State × ℕ × List ℕ) (taken : Taken) (files : Files) (outside : Outside) : Type 0 where
+  AsBefore : outside ≡ [] → OpensTo d read.0 files → files_read written d files ≡ Ok read → OpensWithin d read taken files outside
   WithFront : (front back : List Record) → taken.records ≡ front ++ back → outside ≡ []
-      → OpensTo d (after_records d (start_of s taken.begins) front) files → OpensWithin d s taken files outside
+      → OpensTo d (after_records d (start_of read.0 taken.begins) front) files
+      → files_read written d files ≡ Ok (read_after d read (record taken { records = front }))
+      → OpensWithin d read taken files outside
 
 -- From the sync of the opening on each moment leaves so much; or no more than that sync was tried.
-abbrev pub EachOpens : Directory → State → Taken → List Call → List Call → Type 0
-EachOpens d s taken old new = OnlySyncs old new ⊎ EachSince (Did Syncs ∷ old) new (OpensWithin d s taken)
+abbrev pub EachOpens : Directory → State × ℕ × List ℕ → Taken → List Call → List Call → Type 0
+EachOpens d read taken old new = OnlySyncs old new ⊎ EachSince (Did Syncs ∷ old) new (OpensWithin d read taken)
 
 -- Where the files open, and a feed comes to something beside them: at each end of the feed they read to what they read to before and
 -- to all that it adds, its seals chained over the last one, and nothing else.
@@ -106,8 +126,8 @@ pub record AddsAllOf (answer : FollowEnd) (d : Directory) (old new : List Call) 
   pub opened : HasAll answer d old new fed
   pub reads : ReadsAllOf answer d old new fed
 
--- so each crash leaves files that open to a first part of it
+-- so each crash leaves files that read to what they read to before, and to a first part of it
 abbrev pub LeavesFronts : Directory → List Call → List Call → List ℕ → Type 0
 LeavesFronts d old new fed =
-    (s : State) (used : ℕ) (last : List ℕ) (taken : Taken) → files_read written d (seen old) ≡ Ok (s, used, last)
-    → comes_to d (seen old) fed ≡ Ok taken → EachOpens d s taken old new
+    (read : State × ℕ × List ℕ) (taken : Taken) → files_read written d (seen old) ≡ Ok read → comes_to d (seen old) fed ≡ Ok taken
+    → EachOpens d read taken old new

@@ -1,12 +1,12 @@
 -- What it is that records of a feed are gathered behind a journal, and brought into it behind one gate.
 use Rattle.std.specs.Prelude.{◌≡◌, ◌⊎◌, ℕ, ◌+◌, ◌-◌, ◌≤◌, true, List, [], ◌∷◌, ◌++◌, length, drop, if◌then◌else◌, Some, None, Result, Ok, Err}
-use Rattle.gts_standby.specs.Cited.Below.{AreNext, Call, Core, Directory, EachSince, FitsRecord, Follows, Gathers, IsKept, OpensToOneOf, Record, StandsFor, State, admits, after_records, held, record_behind, record_size, record_text, seal, sealed_at, written}
+use Rattle.gts_standby.specs.Cited.Below.{AreNext, Call, Core, Directory, EachSince, FitsRecord, Follows, Gathers, IsKept, Record, StandsFor, State, admits, after_records, held, record_behind, record_size, record_text, seal, sealed_at, written}
 use Rattle.gts_standby.specs.declared.end.FollowEnd.{FollowEnd}
 use Rattle.gts_standby.specs.declared.end.FollowEnd.TheVariants.{DiskFault}
 use Rattle.gts_standby.specs.declared.gathering.Gathering.{Gathering}
 use Rattle.gts_standby.specs.Ahead.{InFeed}
 use Rattle.gts_standby.specs.Taking.{Ends, Breaks, stopped, may_be_cut}
-use Rattle.gts_standby.specs.Following.{IsEnd}
+use Rattle.gts_standby.specs.Following.{IsEnd, ReadsToOneOf, read_at}
 use Rattle.gts_standby.specs.Reading.{HasRead, StopsAs}
 
 -- the place of the gate behind the records that were gathered
@@ -103,10 +103,15 @@ Brings observed d old g new next = (s : State) (rs : List Record) → StandsBehi
 abbrev pub MayHaveBrought : (observed : Type 0) → Directory → List Call → Gathering → List Call → Gathering → Type 0
 MayHaveBrought observed d old g new next = ((new ≡ old) × (next ≡ g)) ⊎ Brings observed d old g new next
 
--- a crash since leaves the state to which the journal had come, or the one behind all of the records
+-- what the files read to with the records that were gathered, which lead to this state
+abbrev pub read_with : State → Gathering → State × ℕ × List ℕ
+read_with t g = (t, gate_behind g + 1, g.batch.seal)
+
+-- a crash since leaves files that read to what the journal had come to, or to that with all of the records
 abbrev pub MayBring : (observed : Type 0) → Directory → List Call → Gathering → List Call → Type 0
 MayBring observed d old g new =
-    (s : State) (rs : List Record) → StandsBehind observed d s rs old g → EachSince old new (OpensToOneOf d s (after_records d s rs))
+    (s : State) (rs : List Record) → StandsBehind observed d s rs old g
+    → EachSince old new (ReadsToOneOf d (read_at s g.journal) (read_with (after_records d s rs) g))
 
 -- it was answered with this end once all of that was brought, or with a fault of the disk
 abbrev pub IsFinished : FollowEnd → FollowEnd → (observed : Type 0) → Directory → List Call → Gathering → List Call → Gathering → Type 0

@@ -1,6 +1,6 @@
 //! A journal begins with the checkpoint of a feed: one without records, or one that begins anew.
 ghost use Rattle.std.specs.Prelude.{◌≡◌, ◌+◌, ◌≤◌, ◌^◌, true, length, IfOk, IfErr, OnOk, IsErrOf, IsTrue};
-ghost use Rattle.gts_standby.specs.Cited.{BeginsAny, EachSince, FitsLimit, IsAddEnd, IsOpened, IsPutEnd, IsWhole, KeepsAllCounts, KeepsCounts, OpensOneOf, Rose, StandsFor, StandsOn, State, StaysWhole, begun, checkpoint_text, compacted_bytes, is_sound, need_of, need_seal, said_by, unowed, written};
+ghost use Rattle.gts_standby.specs.Cited.{BeginsAny, EachSince, FitsLimit, IsAddEnd, IsOpened, IsPutEnd, IsWhole, KeepsAllCounts, KeepsCounts, ReadsToOneOf, Rose, StandsFor, StandsOn, State, StaysWhole, begun, checkpoint_text, compacted_bytes, is_sound, need_of, need_seal, read_anew, read_at, said_by, unowed, written};
 
 use crate::FollowEnd;
 use crate::ahead::Ahead;
@@ -41,7 +41,8 @@ fn put<P: Station>(
     // A crash at any moment leaves the journal as it was, or as it begins with the checkpoint.
     ensures moments { P.observed → (s : State) → StandsFor directory.now s (P.calls station.old)
         journal.old → EachSince (P.calls station.old) (P.calls station.new)
-        (OpensOneOf directory.now s (begun (need_of need.now))) }
+        (ReadsToOneOf directory.now (read_at s journal.old)
+        (read_anew directory.now (need_of need.now))) }
     ensures silent { P.observed → said_by (P.calls station.new) ≡ said_by (P.calls station.old) }
     ensures kind { IfErr result IsPutEnd }
     ensures disk_fault { IsErrOf result FollowEnd.DiskFault

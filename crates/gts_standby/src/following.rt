@@ -1,5 +1,5 @@
 ghost use Rattle.std.specs.Prelude.{◌≡◌, true, []};
-ghost use Rattle.gts_standby.specs.Cited.{AddsAllOf, Answers, IsAddEnd, IsNamedEnd, IsOpened, IsWhole, KeepsAllCounts, LeavesAlone, LeavesFronts, ReadsAll, Rose, TakesCheckpoint, TakesFirst, TakesOther, TakesRecords, comes_to, is_other, said_by, seen};
+ghost use Rattle.gts_standby.specs.Cited.{AddsAllOf, Answers, IsAddEnd, IsNamedEnd, IsOpened, IsWhole, KeepsAllCounts, LeavesAlone, LeavesFronts, LeavesUnopened, ReadsAll, Rose, TakesCheckpoint, TakesFirst, TakesOther, TakesRecords, comes_to, is_other, said_by, seen};
 
 use crate::FollowEnd;
 use crate::adding::add_all;
@@ -189,6 +189,8 @@ fn take_feed<P: Station, S: Source>(
     ensures done { S.observed → result ≡ FollowEnd.Done → S.left source.new ≡ [] }
     ensures refused { P.observed → S.observed → LeavesAlone result (P.calls station.old)
         (P.calls station.new) (source.new ≡ source.old) }
+    ensures unopened { P.observed → LeavesUnopened directory.now (P.calls station.old)
+        (P.calls station.new) (source.new ≡ source.old) }
     ensures silent { P.observed → said_by (P.calls station.new) ≡ said_by (P.calls station.old) }
     ensures source_fault { result ≡ FollowEnd.SourceFault
         → Rose (S.faults source.old) (S.faults source.new) }
@@ -230,7 +232,8 @@ pub fn follow<P: Station, S: Source>(
     ensures added { P.observed → S.observed → AddsAllOf result.1 directory.now (P.calls station)
         (P.calls result.0) (S.left source.old) }
 
-    // A crash at any moment since the sync of the opening leaves a journal that has what it had, and a first part of that.
+    // A crash at any moment since the sync of the opening leaves the journal from before with a first part of that behind it, each
+    // seal chained over the one before.
     ensures moments { P.observed → S.observed → LeavesFronts directory.now (P.calls station)
         (P.calls result.0) (S.left source.old) }
 
@@ -239,6 +242,10 @@ pub fn follow<P: Station, S: Source>(
 
     // A refusal of the journal writes nothing, and nothing of the feed is read then.
     ensures refused { P.observed → S.observed → LeavesAlone result.1 (P.calls station)
+        (P.calls result.0) (source.new ≡ source.old) }
+
+    // Nor is anything written or read where the files don't open, whatever is answered.
+    ensures unopened { P.observed → LeavesUnopened directory.now (P.calls station)
         (P.calls result.0) (source.new ≡ source.old) }
     ensures silent { P.observed → said_by (P.calls result.0) ≡ said_by (P.calls station) }
     ensures source_fault { result.1 ≡ FollowEnd.SourceFault

@@ -3,25 +3,21 @@ ghost use Rattle.std.specs.Prelude.{◌≡◌, ◌≤◌, [], length, IfOk};
 use crate::cause::{named, note};
 use crate::pausing::Pauses;
 use crate::stop::{LONGEST_WAIT, Patience, goes_on, has_waited};
+use crate::telling::{A_MINUTE, News, Teller};
 use crate::{LineCall, LineCause, Stop};
 use gts_traits::{Failed, Line, Place, Source, counted};
 use std::io;
 use std::io::{ErrorKind, Read};
 use std::net::{IpAddr, Ipv4Addr, SocketAddr, TcpListener, TcpStream};
-use std::time::{Clock, Duration, Instant};
+use std::time::{Clock, Duration};
 
 /// How often a connection that is waited for without an end is read in a second.
 const LOOKS_A_SECOND: u64 = 1_000 / LONGEST_WAIT as u64;
-
-/// For how many seconds a circuit tells of no further callers that it turns away, once it has told of one; and for how many a
-/// neighbour may take at most to end its side of a connection.
-pub(crate) const A_MINUTE: u64 = 60;
 
 /// The connections that a circuit's bytes come in on, one after another. They tell no bytes.
 #[derive(Drop)]
 pub struct TcpIn<'a, R: Clock + Eprint> {
     rt: &'a R,
-    circuit: u32,
     /// None where the circuit is closed.
     listener: Option<TcpListener>,
     place: Place,
@@ -32,8 +28,7 @@ pub struct TcpIn<'a, R: Clock + Eprint> {
     has_ended: bool,
     faults: u64,
     cause: Option<LineCause>,
-    /// When the operator was last told of a caller that was turned away, or that none could be let in.
-    told: Option<Instant>,
+    teller: Teller,
 }
 
 impl<'a, R: Clock + Eprint> TcpIn<'a, R> {
@@ -50,7 +45,6 @@ impl<'a, R: Clock + Eprint> TcpIn<'a, R> {
     {
         TcpIn {
             rt,
-            circuit,
             listener,
             place: *at,
             patience,
@@ -58,7 +52,7 @@ impl<'a, R: Clock + Eprint> TcpIn<'a, R> {
             has_ended: false,
             faults: 0,
             cause: None,
-            told: None,
+            teller: Teller::new(circuit),
         }
     }
 
@@ -74,44 +68,20 @@ impl<'a, R: Clock + Eprint> TcpIn<'a, R> {
         self.cause
     }
 
-    /// Whether the operator is told of something more: nothing was told within the last minute.
-    fn may_tell(&mut self) -> bool
+    /// Tells the operator of this, at most once a minute.
+    fn tell(&mut self, news: News)
         ensures { self.new.faults ≡ self.old.faults }
     {
-        if let Some(told) = self.told
-            && let Ok(since) = told.elapsed(self.rt)
-            && since.as_secs() < A_MINUTE
-        {
-            return false;
-        }
-        self.told = Instant::now(self.rt).ok();
-        true
+        self.teller.tell(self.rt, A_MINUTE, news);
     }
 
-    /// Tells the operator of a caller that was turned away.
-    fn tell(&mut self, caller: IpAddr)
+    /// Tells the operator of a failure where a service goes on behind it. A run tells of its own at its end.
+    fn tell_failure(&mut self, cause: LineCause)
         ensures { self.new.faults ≡ self.old.faults }
     {
-        if !self.may_tell() {
-            return;
+        if self.patience.tries.is_none() && goes_on(self.patience.stop).is_ok() {
+            self.tell(News::Failed { cause });
         }
-        let circuit = self.circuit;
-        let rt = self.rt;
-        // Where it can't be told, the caller is turned away all the same.
-        let _ = eprintln!(rt; "gts_switch: circuit {circuit}: turned away {caller}");
-    }
-
-    /// Tells the operator why no caller can be let in.
-    fn tell_failure(&mut self, error: io::Error)
-        ensures { self.new.faults ≡ self.old.faults }
-    {
-        if !self.may_tell() {
-            return;
-        }
-        let circuit = self.circuit;
-        let rt = self.rt;
-        // Where it can't be told, letting in is tried again all the same.
-        let _ = eprintln!(rt; "gts_switch: circuit {circuit}: accept: {error}");
     }
 
     /// The neighbour's next connection, which is looked for again and again. A caller that was gone before it was accepted is passed
@@ -131,7 +101,8 @@ impl<'a, R: Clock + Eprint> TcpIn<'a, R> {
                 }
                 Ok((stream, from)) => {
                     drop(stream);
-                    self.tell(from.ip());
+                    let caller = from.ip();
+                    self.tell(News::TurnedAway { caller });
                 }
                 Err(error) if has_waited(&error) => looks.make(self.rt, self.patience.stop),
                 Err(error) if error.kind() == ErrorKind::ConnectionAborted => {}
@@ -142,7 +113,8 @@ impl<'a, R: Clock + Eprint> TcpIn<'a, R> {
                 }
                 // There may be no descriptor left for a while.
                 Err(error) => {
-                    self.tell_failure(error);
+                    let (call, port) = (LineCall::Accept, self.place.input);
+                    self.tell_failure(LineCause { call, port, error });
                     pauses.make(self.rt, self.patience.stop);
                 }
             }
@@ -255,6 +227,9 @@ impl<R: Clock + Eprint> Source for TcpIn<'_, R> {
     /// or where none could be accepted.
     fn read(&mut self, into: &mut [u8]) -> Result<usize, Failed> {
         let answer = self.read_some(into);
+        if let Err(cause) = answer {
+            self.tell_failure(cause);
+        }
         note(&answer, &mut self.cause);
         counted(answer, &mut self.faults)
     }

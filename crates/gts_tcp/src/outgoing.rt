@@ -2,10 +2,11 @@ ghost use Rattle.std.specs.Prelude.{◌≡◌, ◌≤◌, [], length, IfOk};
 
 use crate::cause::{named, note};
 use crate::dialing::{LONGEST_TRY, dial_once};
-use crate::incoming::{A_MINUTE, not_connected};
+use crate::incoming::not_connected;
 use crate::lines::is_closed;
 use crate::pausing::Pauses;
 use crate::stop::{LONGEST_WAIT, Patience, goes_on, has_waited};
+use crate::telling::{A_MINUTE, AN_HOUR, News, Teller};
 use crate::{LineCall, LineCause, Stop};
 use gts_traits::{Failed, Place, Sink, counted};
 use std::io;
@@ -19,15 +20,21 @@ const KEEP_ALIVE: &[u8] = b"00000000AN";
 /// How many milliseconds a try takes at most that nobody waits for.
 const SHORT_TRY: u32 = 20;
 
-/// How many pieces of what a neighbour sends on this line are read away before a frame is written.
-const MOST_LOOKS: u32 = 64;
+/// How many pieces of what a neighbour sends on this line are read away before a frame is written, and whenever a write has waited.
+const MOST_LOOKS: u32 = 1_024;
+
+/// How many bytes are read away in one piece.
+const LONGEST_LOOK: usize = 1_024;
+
+/// A second in milliseconds: for so long nothing is read of a line on which nothing is due.
+const A_SECOND: u32 = 1_000;
 
 /// How many looks in turn may find nothing of a neighbour that was sent the end: those of five seconds.
 const MOST_SILENT_LOOKS: u32 = 5_000 / LONGEST_WAIT;
 
 /// The way to a neighbour's port, over the connection that stands there now.
 #[derive(Drop)]
-struct Way<'a, R: Net<Listener = TcpListener, Stream = TcpStream> + Clock> {
+struct Way<'a, R: Net<Listener = TcpListener, Stream = TcpStream> + Clock + Eprint> {
     rt: &'a R,
     place: Place,
     patience: Patience<'a>,
@@ -39,9 +46,10 @@ struct Way<'a, R: Net<Listener = TcpListener, Stream = TcpStream> + Clock> {
     pauses: Pauses,
     /// When something was last written.
     written: Option<Instant>,
+    teller: Teller,
 }
 
-impl<R: Net<Listener = TcpListener, Stream = TcpStream> + Clock> Way<'_, R> {
+impl<R: Net<Listener = TcpListener, Stream = TcpStream> + Clock + Eprint> Way<'_, R> {
     /// Connects anew, with one try that takes so many milliseconds at most. Nobody is called on a circuit that is closed.
     fn connect(&mut self, milliseconds: u32) -> io::Result<()> {
         self.stream = None;
@@ -88,6 +96,20 @@ impl<R: Net<Listener = TcpListener, Stream = TcpStream> + Clock> Way<'_, R> {
         }
     }
 
+    /// Tells the operator why the neighbour can't be reached, when that begins and each hour, where a service goes on. A run tells of
+    /// its own failure at its end.
+    fn tell_away(&mut self, cause: LineCause) {
+        if self.patience.tries.is_none() {
+            self.teller.tell(self.rt, AN_HOUR, News::Failed { cause });
+        }
+    }
+
+    /// Tells the operator that the neighbour is there, where it was told that it isn't.
+    fn tell_reached(&mut self) {
+        let port = self.place.output;
+        self.teller.tell_end(self.rt, News::Reached { port });
+    }
+
     /// Writes all of a piece. Where the neighbour has ended the connection, or that breaks, the port is tried so many times at most,
     /// or without an end, and each connection that comes of it begins with the first byte of the piece. The answer is the last
     /// failure where none of them takes all of it, or the run is to end.
@@ -100,12 +122,16 @@ impl<R: Net<Listener = TcpListener, Stream = TcpStream> + Clock> Way<'_, R> {
         let mut pauses = Pauses::new();
         for _ in 0..self.patience.tries.map_or(u64::MAX, u64::from) {
             match self.write_anew(piece) {
-                Ok(()) => return Ok(()),
+                Ok(()) => {
+                    self.tell_reached();
+                    return Ok(());
+                }
                 Err(cause) => last = cause,
             }
             if goes_on(self.patience.stop).is_err() {
                 break;
             }
+            self.tell_away(last);
             pauses.make(self.rt, self.patience.stop);
         }
         Err(last)
@@ -119,30 +145,53 @@ impl<R: Net<Listener = TcpListener, Stream = TcpStream> + Clock> Way<'_, R> {
         }
     }
 
-    /// Nothing is due, and on a closed circuit nothing ever is. Where no connection has stood yet, the port is tried once. Where one
-    /// stands and nothing was written for a third of the circuit's `idle` seconds, a keep-alive is; a connection that doesn't take it is
-    /// given up.
+    /// Tries the port once, and tells what comes of it. False where no connection stands then.
+    fn tries_once(&mut self) -> bool {
+        match named(
+            self.connect(LONGEST_TRY),
+            LineCall::Connect,
+            self.place.output,
+        ) {
+            Ok(()) => {
+                self.tell_reached();
+                true
+            }
+            Err(cause) => {
+                if goes_on(self.patience.stop).is_ok() {
+                    self.tell_away(cause);
+                }
+                false
+            }
+        }
+    }
+
+    /// Nothing is due, and on a closed circuit nothing ever is. Where no connection has stood yet, the port is tried once. On one that
+    /// stands, what the neighbour sends is read away once a second, and where nothing was written for a third of the circuit's `idle`
+    /// seconds, a keep-alive is; a connection that has ended, or doesn't take it, is given up.
     fn keep_up(&mut self) -> Option<u32> {
         if is_closed(&self.place) {
             return None;
         }
-        if !self.has_stood && self.connect(LONGEST_TRY).is_err() {
+        if !self.has_stood && !self.tries_once() {
             return Some(self.pauses.next());
         }
-        let third = u32::from(self.place.idle?) * 1_000 / 3;
         self.look();
         if self.stream.is_none() {
             return None;
         }
+        let Some(idle) = self.place.idle else {
+            return Some(A_SECOND);
+        };
+        let third = third_of(idle);
         let quiet = self.quiet();
         if quiet < third {
-            return Some(third - quiet);
+            return Some((third - quiet).min(A_SECOND));
         }
         if self.write_whole(KEEP_ALIVE).is_err() {
             self.stream = None;
             return None;
         }
-        Some(third)
+        Some(third.min(A_SECOND))
     }
 
     /// Ends the bytes of the connection that stands, and waits until the neighbour has read them and ends its side. Where none has stood,
@@ -173,7 +222,7 @@ fn reads_in_turn(stream: &TcpStream) -> io::Result<()> {
 /// waited for, and none for more than a minute.
 fn hear_out<R: Clock>(rt: &R, stream: &mut TcpStream, stop: Option<&Stop>) {
     let begun = Instant::now(rt).ok();
-    let mut piece = [0u8; 64];
+    let mut piece = [0u8; LONGEST_LOOK];
     let mut silent = 0u32;
     for _ in 0..u64::MAX {
         if silent >= MOST_SILENT_LOOKS || goes_on(stop).is_err() || !is_within_a_minute(rt, begun) {
@@ -222,11 +271,21 @@ fn write_on(stream: &mut TcpStream, piece: &[u8], stop: Option<&Stop>) -> io::Re
         match write_some(stream, rest) {
             Ok(0) => return Err(io::Error::from(ErrorKind::WriteZero)),
             Ok(count) => rest = &rest[count..],
-            Err(error) if has_waited(&error) => {}
+            // A neighbour that answers at length reads no further until its answers are read.
+            Err(error) if has_waited(&error) => {
+                if reads_an_end(stream) {
+                    return Err(not_connected());
+                }
+            }
             Err(error) => return Err(error),
         }
     }
     Err(not_connected())
+}
+
+/// A third of so many seconds, in milliseconds.
+fn third_of(seconds: u16) -> u32 {
+    u32::from(seconds) * A_SECOND / 3
 }
 
 /// A time in milliseconds.
@@ -237,7 +296,7 @@ fn milliseconds_of(time: Duration) -> u32 {
 /// Whether the neighbour has ended a connection, which doesn't wait, or it broke. What the neighbour sends on it is read away, and is
 /// no end.
 fn reads_an_end(stream: &mut TcpStream) -> bool {
-    let mut piece = [0u8; 64];
+    let mut piece = [0u8; LONGEST_LOOK];
     for _ in 0..MOST_LOOKS {
         match stream.read(&mut piece) {
             Ok(0) => return true,
@@ -252,16 +311,16 @@ fn reads_an_end(stream: &mut TcpStream) -> bool {
 /// where a connection breaks within a piece, the next one begins with that piece. So with a frame for a piece each connection
 /// carries whole frames, but for the last frame of one that broke, and whole keep-alives between frames.
 #[derive(Drop)]
-pub struct TcpOut<'a, R: Net<Listener = TcpListener, Stream = TcpStream> + Clock> {
+pub struct TcpOut<'a, R: Net<Listener = TcpListener, Stream = TcpStream> + Clock + Eprint> {
     way: Way<'a, R>,
     faults: u64,
     cause: Option<LineCause>,
 }
 
-impl<'a, R: Net<Listener = TcpListener, Stream = TcpStream> + Clock> TcpOut<'a, R> {
+impl<'a, R: Net<Listener = TcpListener, Stream = TcpStream> + Clock + Eprint> TcpOut<'a, R> {
     /// The way to a neighbour, whose port is tried once now, for twenty milliseconds. Where something is to be written and no
     /// connection stands, it is tried so many times at most, or without an end.
-    pub(crate) fn new(rt: &'a R, at: &Place, patience: Patience<'a>) -> TcpOut<'a, R>
+    pub(crate) fn new(rt: &'a R, circuit: u32, at: &Place, patience: Patience<'a>) -> TcpOut<'a, R>
         ensures { result.faults ≡ 0 }
     {
         let mut way = Way {
@@ -272,6 +331,7 @@ impl<'a, R: Net<Listener = TcpListener, Stream = TcpStream> + Clock> TcpOut<'a, 
             has_stood: false,
             pauses: Pauses::new(),
             written: None,
+            teller: Teller::new(circuit),
         };
         // Where the neighbour isn't there yet, it is tried again later.
         let _ = way.connect(SHORT_TRY);
@@ -301,7 +361,7 @@ impl<'a, R: Net<Listener = TcpListener, Stream = TcpStream> + Clock> TcpOut<'a, 
     }
 }
 
-impl<R: Net<Listener = TcpListener, Stream = TcpStream> + Clock> Sink for TcpOut<'_, R> {
+impl<R: Net<Listener = TcpListener, Stream = TcpStream> + Clock + Eprint> Sink for TcpOut<'_, R> {
     ghost observed = { ⊥ };
 
     ghost written = { λ _. [] };

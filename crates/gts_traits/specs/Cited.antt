@@ -10,6 +10,6 @@ pub use Rattle.gts_traits.specs.Moments.{AsSeen, Behind, EachSince, GoesOn, InCa
 pub use Rattle.gts_traits.specs.Connections.{Begins, Begun, HasParts, Part, first_connection}
 pub use Rattle.gts_traits.specs.Places.{PlaceSeen, nowhere, place_seen}
 pub use Rattle.gts_traits.specs.Lines.{CircuitBytes, CountsSockets, SameElsewhere, no_bytes}
-pub use Rattle.gts_traits.specs.Say.{SaysFront, SaysOnly, Tells}
+pub use Rattle.gts_traits.specs.Say.{EachTouchesNone, SaysFront, SaysOnly, Tells, TouchesNone, WritesNothing}
 pub use Rattle.gts_traits.specs.declared.failed.Failed.{Failed}
 pub use Below.*

@@ -10,7 +10,7 @@ pub use Rattle.gts_frame.specs.Cited.{letters}
 pub use Rattle.gts_frame.specs.declared.kind.Kind.{Kind}
 pub use Rattle.gts_frame.specs.declared.kind.Kind.TheVariants.{An, Bi, Fx}
 pub use Rattle.gts_directory.specs.Cited.{Circuit, Directory, circuit_of_row}
-pub use Rattle.gts_event.specs.Cited.{Bulletin, CircuitNeed, CircuitState, Need, ascends, begun, begun_circuit, bulletin_of, circuit_need, circuit_need_of, has, has_counts, heading_of, is_bulletin, is_circuit_sound, is_distinct, is_kept, is_needed, is_recent, is_sound, is_there, most_owed, need_of, positions_of, waiting}
+pub use Rattle.gts_event.specs.Cited.{Bulletin, CircuitNeed, CircuitState, IsExtentOf, Need, ascends, begun, begun_circuit, bulletin_of, circuit_need, circuit_need_of, has, has_counts, heading_of, is_bulletin, is_circuit_sound, is_distinct, is_kept, is_needed, is_recent, is_sound, is_there, most_owed, need_of, positions_of, waiting}
 pub use Rattle.gts_record.specs.Cited.{bytes_of, closed_gate, draw_size, file_text, first_seal, held, is_sealed, kind_of, magic, number_in, open_gate, seal, seal_size, sealed}
 unfoldable pub use Rattle.gts_record.specs.Cited.{Seals, written}
 pub use Rattle.gts_record.specs.declared.fault.OpenFault.{OpenFault}

@@ -27,6 +27,8 @@ pub struct HallDesk<'a, R: Wait, P: Station, B: Began> {
     looked: Option<Seen>,
     // This desk is the one of those that wait there that tries.
     tries: bool,
+    // The turn before gave frames.
+    gave: bool,
     pass: Option<Pass<Housed<P, B>>>,
 }
 
@@ -66,6 +68,7 @@ impl<'a, R: Wait, P: Station, B: Began> HallDesk<'a, R, P, B> {
             room,
             looked: None,
             tries: false,
+            gave: false,
             pass: Some(pass),
         }
     }
@@ -111,6 +114,7 @@ impl<'a, R: Wait, P: Station, B: Began> HallDesk<'a, R, P, B> {
             room: _,
             looked: _,
             tries: _,
+            gave: _,
             pass,
         } = self;
         let Some(pass) = pass else { unreachable!() };
@@ -176,15 +180,17 @@ impl<'a, R: Wait, P: Station, B: Began> Desk for HallDesk<'a, R, P, B> {
         };
         let (pass, answer) = turns::take_some(self.rt, self.hall, pass, c, given);
         self.pass = Some(pass);
+        let gives = given.frames.count() > 0;
         if answer.is_err() {
             self.wake_all();
-        } else if given.frames.count() > 0 {
+        } else if gives {
             self.room.sent(given.frames.count() as u64);
-            if answer == Ok(false) {
-                // Nothing waits on this circuit any more, and no more may go out.
-                self.room.wake();
-            }
         }
+        if answer == Ok(false) && (gives || self.gave) {
+            // Nothing waits on this circuit any more, and no more may go out.
+            self.room.wake();
+        }
+        self.gave = gives;
         answer
     }
 }

@@ -11,6 +11,12 @@ const MILLISECONDS_A_TRY: u32 = 1_000;
 // For so long who has tried in vain lets the others come first.
 const MILLISECONDS_OF_GIVING_WAY: u32 = 50;
 
+// For so long one that has a reason to try sleeps while another one tries.
+const MILLISECONDS_OF_QUEUEING: u32 = 25;
+
+// Behind so many sleeps without a reason there is a try all the same: memory that has come back isn't told of.
+const SLEEPS_WITHOUT_A_TRY: u32 = 30;
+
 /// Where receivers sleep that have a message for which there is no room, until draws have gone out, or the engine has stopped. One of them
 /// tries at a time, and where it finds room the others follow. Where it finds none, each of the others tries too: it may want less.
 /// Nothing is claimed of it.
@@ -72,11 +78,18 @@ impl RoomBell {
             self.give_way(rt, seen);
         }
         let mut last = seen.look;
+        let mut sleeps = 0u32;
         for _ in rt.forever() {
-            if self.look() != seen && self.tried.swap(1, Ordering::SeqCst) == 0 {
+            let has_reason = self.look() != seen || sleeps >= SLEEPS_WITHOUT_A_TRY;
+            if has_reason && self.tried.swap(1, Ordering::SeqCst) == 0 {
                 return;
             }
-            self.bell.wait_at_most(rt, last, MILLISECONDS_A_TRY);
+            if has_reason {
+                self.bell.wait_at_most(rt, last, MILLISECONDS_OF_QUEUEING);
+            } else {
+                self.bell.wait_at_most(rt, last, MILLISECONDS_A_TRY);
+                sleeps = sleeps.saturating_add(1);
+            }
             last = self.bell.look();
         }
     }

@@ -2,7 +2,7 @@
 pub use Rattle.std.specs.Cmp.Lexicographic.{pointwise, same_text}
 pub use Rattle.std.specs.List.{AllByRecursion, flat_map, list_all, list_any, slice_index_or, starts_with}
 pub use Rattle.gts_alphabet.specs.declared.limits.TheConstants.{LONGEST_BODY}
-pub use Rattle.gts_traits.specs.Cited.{Call, Did, EachSince, Files, Outside, Rose, SaidSince, SaysFront, SaysOnly, Syncs, on, said_by, seen}
+pub use Rattle.gts_traits.specs.Cited.{Call, Did, EachSince, Files, IsImage, Outside, Rose, SaidSince, SaysFront, SaysOnly, Syncs, Tries, on, said_by, seen}
 pub use Rattle.gts_frame.specs.declared.kind.Kind.{Kind}
 pub use Rattle.gts_frame.specs.declared.kind.Kind.TheVariants.{An, Bi, Fx}
 pub use Rattle.gts_directory.specs.Cited.{Directory}
@@ -12,9 +12,9 @@ unfoldable pub use Rattle.gts_record.specs.Cited.{written}
 pub use Rattle.gts_record.specs.declared.fault.OpenFault.{OpenFault}
 pub use Rattle.gts_record.specs.declared.fault.OpenFault.TheVariants.{Damaged}
 pub use Rattle.gts_record.specs.declared.version.Version.{Version}
-pub use Rattle.gts_opening.specs.Cited.{FitsCircuit, FitsLimit, FitsNeed, Opened, Read, admits, admits_checkpoint, after_records, agreeing, bulletin_text, checkpoint_opens, checkpoint_text, circuit_text, compacted_bytes, due, event_of_record, file_opens, files_read, need_in, opened_of, opens, record_behind, records_at, selected, unowed}
+pub use Rattle.gts_opening.specs.Cited.{AreAdmitted, FitsCircuit, FitsLimit, FitsNeed, Opened, Read, admits, admits_checkpoint, after_records, agreeing, bulletin_text, checkpoint_opens, checkpoint_text, circuit_text, compacted_bytes, due, event_of_record, file_opens, files_read, gate_after, need_in, opened_of, opens, record_behind, records_at, selected, unowed}
 pub use Rattle.gts_core.specs.Cited.{Core, Holds}
-pub use Rattle.gts_journal.specs.Cited.{AreNext, Gathered, Gathers, Gives, HasAppendedBlock, HasGoneOn, HoldsState, InHand, IsBlock, IsFaultOf, LeavesBoth, OnlySyncs, OpensAsBefore, OpensTo, OpensToOneOf, StandsFor, StandsOn, beyond_block, entry_at, file_of, first_fault, header_fault, is_at_checkpoint, is_checkpoint, next_entry, next_seal, no_records, selected_bytes, selecting}
+pub use Rattle.gts_journal.specs.Cited.{AreNext, EndsAt, Gathered, Gathers, Gives, HasAppendedBlock, HasGoneOn, HoldsState, InHand, IsBlock, IsFaultOf, LeavesAllOrNone, LeavesBoth, OnlySyncs, OpensTo, StandsFor, StandsOn, beyond_block, entry_at, file_of, first_fault, front_of, header_fault, is_at_checkpoint, is_checkpoint, next_entry, next_seal, no_records, opened_part, selected_bytes, selecting}
 pub use Rattle.gts_journal.specs.declared.batch.TheConstants.{MOST_GATHERED}
 pub use Rattle.gts_checkpoint.specs.Cited.{BeginsWith, HasWritten, IsCheckpoint, IsDamage, LeavesOthers, WorksBeside, bytes_from, need_seal}
 pub use Rattle.gts_recovery.specs.Cited.{Follows, IsAnswer, IsJudged, IsKept, IsOpened}

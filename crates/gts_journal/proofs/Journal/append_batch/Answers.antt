@@ -1,8 +1,9 @@
-use Rattle.std.proofs.Common.{◌≡◌, ◌+◌, ◌-◌, ◌≤◌, ℕ, [], ◌∷◌, ◌++◌, List, length, take, drop, sym, ap, ◌∙◌, subst, arith}
+use Rattle.std.proofs.Common.{◌≡◌, ◌+◌, ◌-◌, ◌≤◌, ℕ, rules, [], ◌∷◌, ◌++◌, List, length, take, drop, sym, ap, ◌∙◌, subst, arith}
 use Rattle.gts_journal.specs.Cited.{Did, EachSince, Gathered, HasBlock, InHand, OnlyTears, ReachesWithin, STEP, StandsOn, Syncs, Writes, closed_gate, open_gate, seen}
 use Rattle.gts_journal.specs.contracts.Journal.{the_view}
 use Rattle.std.proofs.lemmas.List.{length-take}
-use Rattle.gts_journal.proofs.BatchLemmas.{block_bytes, has_block, placed, reaches, staged_moments, opened_moments, stands_after}
+use Rattle.gts_journal.proofs.BatchLemmas.{block_bytes, has_block, others_after, others_at_fault, placed, reaches, staged_moments, opened_moments, stands_after}
+use Rattle.gts_journal.proofs.AppendLemmas.{kept_elsewhere}
 use Rattle.gts_journal.proofs.Journal.append_batch.Goals as goal
 
 pub returns-in_err-write_synced-clause-moments : goal.returns-in_err-write_synced-clause-moments
@@ -116,3 +117,45 @@ returns-clause-reach g c = λ observed.
     subst P (sym c.self.view_is)
     (reaches old c.args.self.now (c.requires.stands observed) c.requires.end text c.requires.some more bytes mid is
     (subst R c.self.view_is (c.in_ok-write_synced.ensures.done observed)) new (subst S c.self.view_is (c.in_ok-write_synced-2.ensures.done observed)) STEP few)
+
+pub returns-in_err-write_synced-clause-others : goal.returns-in_err-write_synced-clause-others
+returns-in_err-write_synced-clause-others g c = λ observed k other synced.
+    let old = g.P.Station.calls c.args.station.now in
+    let mid = g.P.Station.calls c.write_synced.new.station in
+    let bytes : List ℕ = take (c.extent-end.result - 1) (drop 1 c.deref.result.now) in
+    let P : InHand → Type 0 = λ j. EachSince old mid (OnlyTears old j.file (j.gate + 1) (length bytes)) in
+    kept_elsewhere c.args.self.now.file (c.args.self.now.gate + 1) (length bytes) old mid
+    (subst P c.self.view_is (c.write_synced.ensures.moments observed)) (g.met.P.Station.possible c.write_synced.new.station observed) k other (synced (search rules))
+
+pub returns-in_err-write_synced-2-clause-others : goal.returns-in_err-write_synced-2-clause-others
+returns-in_err-write_synced-2-clause-others g c = λ observed k other synced.
+    let old = g.P.Station.calls c.args.station.now in
+    let mid = g.P.Station.calls c.write_synced.new.station in
+    let new = g.P.Station.calls c.write_synced-2.new.station in
+    let text : List ℕ = c.args.batch.now.text in
+    let bytes : List ℕ = take (c.extent-end.result - 1) (drop 1 c.deref.result.now) in
+    let more : List ℕ = take (c.extent-end.result - c.batch.inside.size) (drop c.batch.inside.size c.deref.result.now) in
+    let is : bytes ≡ c.requires.some.0 ++ closed_gate ∷ more =
+    block_bytes text c.deref.result.now c.batch.inside.size c.extent-end.result c.requires.some c.batch.invariant.0 c.extent-end.ensures.whole
+    (ap (λ (l : List ℕ). take c.batch.inside.size l) c.deref.ensures.value ∙ ap (λ (b : Gathered). b.text) c.batch.view_is) in
+    let R : InHand → Type 0 = λ j. mid ≡ Did Syncs ∷ Did (Writes j.file (j.gate + 1) bytes) ∷ old in
+    let Q : InHand → Type 0 = λ j. EachSince mid new (OnlyTears mid j.file j.gate 1) in
+    others_at_fault old c.args.self.now (c.requires.stands observed) c.requires.end text c.requires.some more bytes mid is
+    (subst R c.self.view_is (c.in_ok-write_synced.ensures.done observed)) new (subst Q c.self.view_is (c.write_synced-2.ensures.moments observed))
+    (g.met.P.Station.possible c.write_synced-2.new.station observed) k other
+
+pub returns-clause-others : goal.returns-clause-others
+returns-clause-others g c = λ observed k other synced.
+    let old = g.P.Station.calls c.args.station.now in
+    let mid = g.P.Station.calls c.write_synced.new.station in
+    let new = g.P.Station.calls c.write_synced-2.new.station in
+    let text : List ℕ = c.args.batch.now.text in
+    let bytes : List ℕ = take (c.extent-end.result - 1) (drop 1 c.deref.result.now) in
+    let more : List ℕ = take (c.extent-end.result - c.batch.inside.size) (drop c.batch.inside.size c.deref.result.now) in
+    let is : bytes ≡ c.requires.some.0 ++ closed_gate ∷ more =
+    block_bytes text c.deref.result.now c.batch.inside.size c.extent-end.result c.requires.some c.batch.invariant.0 c.extent-end.ensures.whole
+    (ap (λ (l : List ℕ). take c.batch.inside.size l) c.deref.ensures.value ∙ ap (λ (b : Gathered). b.text) c.batch.view_is) in
+    let R : InHand → Type 0 = λ j. mid ≡ Did Syncs ∷ Did (Writes j.file (j.gate + 1) bytes) ∷ old in
+    let S : InHand → Type 0 = λ j. new ≡ Did Syncs ∷ Did (Writes j.file j.gate (open_gate ∷ [])) ∷ mid in
+    others_after old c.args.self.now (c.requires.stands observed) c.requires.end text c.requires.some more bytes mid is
+    (subst R c.self.view_is (c.in_ok-write_synced.ensures.done observed)) new (subst S c.self.view_is (c.in_ok-write_synced-2.ensures.done observed)) k other

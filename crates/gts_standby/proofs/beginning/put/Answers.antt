@@ -1,4 +1,4 @@
-use Rattle.std.proofs.Common.{rules, ◌≡◌, ◌+◌, ◌-◌, ◌^◌, ◌<◌, ◌≤◌, ℕ, List, length, sym, ap, subst, ◌∙◌, arith}
+use Rattle.std.proofs.Common.{rules, ◌≡◌, ◌+◌, ◌-◌, ◌^◌, ◌<◌, ◌≤◌, ℕ, List, length, refl, sym, ap, subst, ◌∙◌, arith}
 use Rattle.gts_standby.specs.Cited.{HasWritten, HoldsState, WorksBeside, begun, compacted_bytes, held, need_of, need_seal, seal_size, written}
 use Rattle.gts_checkpoint.proofs.LawLemmas.{fit_bytes}
 use Rattle.gts_recovery.proofs.LawLemmas.{closed_there, still_stands}
@@ -68,7 +68,8 @@ returns-in-Ok-select-clause-moments g c = λ tell s f.
     let there : HasWritten c.mark.result n (1 - j.file) mid = subst (λ (k : ℕ). HasWritten c.mark.result n k mid) file_is (c.in-Ok.ensures.written tell) in
     let wrote : HasWritten d.mark n (1 - j.file) mid = subst (λ (mark : List ℕ). HasWritten mark n (1 - j.file) mid) c.mark.ensures there in
     let limit : d.limit < 256 ^ 4 = omega (arith, c.bounds_hold.ensures.greatest) in
-    all_moments d s n old j f low mid beside _ _ (holds_begun d n (1 - j.file) mid wrote size limit c.requires.sound c.requires.free c.requires.fits) (g.P.Station.calls c.select.new.station) (c.select.ensures.moments tell)
+    all_moments d s n old j f low mid beside _ _ (holds_begun d n (1 - j.file) mid wrote size limit c.requires.sound c.requires.free c.requires.fits) (g.P.Station.calls c.select.new.station)
+    (omega arith) refl (c.select.ensures.moments tell)
 
 pub returns-in-Err-clause-moments : goal.returns-in-Err-clause-moments
 returns-in-Err-clause-moments g c = λ tell s f.
@@ -84,4 +85,5 @@ returns-in-Err-clause-moments g c = λ tell s f.
     let there : HasWritten c.mark.result n (1 - j.file) mid = subst (λ (k : ℕ). HasWritten c.mark.result n k mid) file_is (c.in-Ok.ensures.written tell) in
     let wrote : HasWritten d.mark n (1 - j.file) mid = subst (λ (mark : List ℕ). HasWritten mark n (1 - j.file) mid) c.mark.ensures there in
     let limit : d.limit < 256 ^ 4 = omega (arith, c.bounds_hold.ensures.greatest) in
-    all_moments d s n old j f low mid beside _ _ (holds_begun d n (1 - j.file) mid wrote size limit c.requires.sound c.requires.free c.requires.fits) (g.P.Station.calls c.select.new.station) (c.select.ensures.moments tell)
+    all_moments d s n old j f low mid beside _ _ (holds_begun d n (1 - j.file) mid wrote size limit c.requires.sound c.requires.free c.requires.fits) (g.P.Station.calls c.select.new.station)
+    (omega arith) refl (c.select.ensures.moments tell)

@@ -1,7 +1,7 @@
 use Rattle.std.proofs.Common.{refl, drop, sym, subst}
 use Rattle.gts_standby.specs.Cited.{Ends, FollowEnd, HasRead, InFeed, IsEnd, IsNamedEnd, ReadsAll, stopped}
 use Rattle.gts_standby.proofs.AddLemmas.{holds_of}
-use Rattle.gts_standby.proofs.TakeLemmas.{all_unread, behind_taken, header_taken, answers_there, added_there, reads_after_there, moments_there, done_stops, open_alone, open_no_end, taken_alone, fed_alone}
+use Rattle.gts_standby.proofs.TakeLemmas.{all_unread, behind_taken, header_taken, answers_there, added_there, reads_after_there, moments_there, done_stops, open_alone, open_no_end, taken_alone, fed_alone, opened_there}
 use Rattle.gts_standby.proofs.NamedLemmas.{named_open, named_fed}
 use Rattle.gts_standby.proofs.following.take_feed.Goals as goal
 
@@ -34,7 +34,7 @@ returns-in-Ok-take_header-clause-added g c = λ observed told.
     record { opened = added_there d _ _ j o.state fed synced f c.take_records.result _ _ whole; reads = reads_after_there d _ _ j o.state fed synced f c.take_records.result _ _ whole }
 
 pub returns-in-Ok-take_header-clause-moments : goal.returns-in-Ok-take_header-clause-moments
-returns-in-Ok-take_header-clause-moments g c = λ observed told s used last taken reads comes.
+returns-in-Ok-take_header-clause-moments g c = λ observed told from taken reads comes.
     let d = c.args.directory.now in
     let o = c.in-Ok.ensures.opened in
     let j = c.in-Ok.opened.1 in
@@ -45,7 +45,7 @@ returns-in-Ok-take_header-clause-moments g c = λ observed told s used last take
     let header = c.in-Ok-take_header.ensures.taken told fed read in
     let has = c.take_records.ensures.taken observed told o.state (drop 40 fed) (holds_of _ d _ _ j o) header.1 in
     let whole = behind_taken d _ _ j o.state fed synced f c.take_records.result c.mark.result _ _ c.mark.ensures header.0 has in
-    moments_there d _ _ j o.state fed synced f c.take_records.result _ _ whole s used last taken reads comes
+    moments_there d _ _ j o.state fed synced f c.take_records.result _ _ whole from taken reads comes
 
 pub returns-in-Err-take_header-clause-answer : goal.returns-in-Err-take_header-clause-answer
 returns-in-Err-take_header-clause-answer g c = λ observed told.
@@ -108,6 +108,20 @@ returns-in-Ok-take_header-clause-refused g c = λ observed told.
 
 pub returns-in-Err-take_header-clause-refused : goal.returns-in-Err-take_header-clause-refused
 returns-in-Err-take_header-clause-refused g c = λ observed told. fed_alone c.in-Err-take_header.end _ _ _ c.in-Err-take_header.ensures.kind
+
+-- where it opens, it doesn't open to a fault
+pub returns-in-Ok-take_header-clause-unopened : goal.returns-in-Ok-take_header-clause-unopened
+returns-in-Ok-take_header-clause-unopened g c = λ observed fault is.
+    let o = c.in-Ok.ensures.opened in
+    opened_there c.args.directory.now _ _ c.in-Ok.opened.1 o.state fault _ (c.in-Ok.ensures.synced observed) (o.stands observed) is
+
+pub returns-in-Err-take_header-clause-unopened : goal.returns-in-Err-take_header-clause-unopened
+returns-in-Err-take_header-clause-unopened g c = λ observed fault is.
+    let o = c.in-Ok.ensures.opened in
+    opened_there c.args.directory.now _ _ c.in-Ok.opened.1 o.state fault _ (c.in-Ok.ensures.synced observed) (o.stands observed) is
+
+pub returns-in-Err-clause-unopened : goal.returns-in-Err-clause-unopened
+returns-in-Err-clause-unopened g c = λ observed fault is. (c.open_core.ensures.told observed, refl)
 
 pub returns-in-Err-clause-added : goal.returns-in-Err-clause-added
 returns-in-Err-clause-added g c = λ observed told.

@@ -1,6 +1,7 @@
 use Rattle.std.proofs.Common.{◌≡◌, ◌≤◌, length, Ok, sym, ap, subst, ◌∙◌, arith}
 use Rattle.gts_app.specs.Cited.{Counted, CountsTraffic, Engine, Opens, ShowsTable, Status, switch_meanings, world}
-use Rattle.gts_app.proofs.TrafficLemmas.{Leaves, not_counted, without_numbers, ended, said_so}
+use Rattle.gts_app.proofs.EndLemmas.{Leaves}
+use Rattle.gts_app.proofs.TrafficLemmas.{not_counted, without_numbers, ended, said_so}
 use Rattle.gts_app.proofs.commands.count.count.Goals as goal
 
 pub returns-in-Err : goal.returns-in-Err

@@ -1,6 +1,6 @@
 use Rattle.std.proofs.Common.{sym, ◌∙◌, refl, arith}
 use Rattle.std.proofs.lemmas.Bool.{eqb-true, eqb-false}
-use Rattle.gts_journal.proofs.LawLemmas.{batch_opens}
+use Rattle.gts_standby.proofs.ReadLemmas.{batch_reads}
 use Rattle.gts_standby.proofs.GatherLemmas.{block_by, brings_none, brings_all, still_brings}
 use Rattle.gts_standby.proofs.gathering.Gathering.bring.Goals as goal
 
@@ -24,10 +24,10 @@ returns-in-Ok-clause-brought g c = λ s rs h.
 
 pub returns-in-Ok-clause-moments : goal.returns-in-Ok-clause-moments
 returns-in-Ok-clause-moments g c = λ tell s rs h.
-    batch_opens c.args.directory.now s (g.P.Station.calls c.args.station.now) c.args.self.now.journal (h.stands tell) rs c.args.self.now.batch h.next (g.P.Station.calls c.append_batch.new.station)
+    batch_reads c.args.directory.now s (g.P.Station.calls c.args.station.now) c.args.self.now.journal (h.stands tell) rs c.args.self.now.batch h.next (g.P.Station.calls c.append_batch.new.station)
     (c.append_batch.ensures.moments tell)
 
 pub returns-in-Err-clause-moments : goal.returns-in-Err-clause-moments
 returns-in-Err-clause-moments g c = λ tell s rs h.
-    batch_opens c.args.directory.now s (g.P.Station.calls c.args.station.now) c.args.self.now.journal (h.stands tell) rs c.args.self.now.batch h.next (g.P.Station.calls c.append_batch.new.station)
+    batch_reads c.args.directory.now s (g.P.Station.calls c.args.station.now) c.args.self.now.journal (h.stands tell) rs c.args.self.now.batch h.next (g.P.Station.calls c.append_batch.new.station)
     (c.append_batch.ensures.moments tell)

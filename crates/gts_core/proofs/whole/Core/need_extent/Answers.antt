@@ -1,0 +1,34 @@
+use Rattle.gts_core.specs.Cited.{Core, HasExtent, Holds, IsExtentOf, IsGathered, Lane, Need, NeedsExtent, core_of, plan_of, row_plan}
+use Rattle.std.proofs.Common.{List, length, sym, ap, ◌∙◌, subst, arith}
+use Rattle.std.proofs.lemmas.List.{length-map}
+use Rattle.std.proofs.lemmas.Result.{IfOk-weaker}
+use Rattle.gts_event.specs.declared.extent.NeedExtent.{NeedExtent}
+use Rattle.gts_core.proofs.GatherLemmas.{need_gathered}
+use Rattle.gts_core.proofs.whole.Core.need_extent.Goals as goal
+
+pub extent_in-requires-clause-stored : goal.extent_in-requires-clause-stored
+extent_in-requires-clause-stored c =
+    let i = c.self.inside in
+    let v = c.self.invariant in
+    omega (
+      arith,
+      ap (λ (ls : List Lane). length ls) c.as_slice-lanes.ensures.value,
+      v.parts.lanes,
+      ap length v.parts.kept,
+      length-map v.directory.circuits row_plan,
+      length-map i.store.circuits plan_of,
+    )
+
+pub extent_in-requires-clause-few : goal.extent_in-requires-clause-few
+extent_in-requires-clause-few c = omega (arith, ap (λ (ls : List Lane). length ls) c.as_slice-lanes.ensures.value, c.self.invariant.few)
+
+pub returns : goal.returns
+returns c =
+    let i = c.self.inside in
+    let v = core_of i in
+    IfOk-weaker c.extent_in.result (λ (e : NeedExtent). HasExtent i.window i.count i.store c.as_slice-lanes.result.now e) (λ (e : NeedExtent). NeedsExtent c.args.self.now e)
+    (λ e has d s h.
+    let own : Holds d v s = subst (λ (k : Core). Holds d k s) (sym c.self.view_is) h in
+    let is : IsGathered i.window i.count i.store v.lanes has.need = subst (λ (ls : List Lane). IsGathered i.window i.count i.store ls has.need) c.as_slice-lanes.ensures.value has.gathered in
+    subst (λ (n : Need). IsExtentOf e n) (need_gathered d v own.state own.parts has.need is ∙ own.need.same) has.extent_of)
+    c.extent_in.ensures

@@ -1,0 +1,84 @@
+use crate::LineCause;
+use std::fmt;
+use std::net::IpAddr;
+use std::time::{Clock, Instant};
+
+/// For how many seconds a circuit tells of no further callers that it turns away, once it has told of one, nor of a line that fails
+/// anew; and for how many a neighbour may take at most to end its side of a connection.
+pub(crate) const A_MINUTE: u64 = 60;
+
+/// For how many seconds a circuit doesn't tell again of a neighbour that isn't there.
+pub(crate) const AN_HOUR: u64 = 3_600;
+
+/// What an operator is told of a circuit's lines while a service goes on.
+#[derive(Clone, Copy)]
+pub(crate) enum News {
+    /// A caller from another address than the neighbour's was turned away.
+    TurnedAway {
+        /// From where it called.
+        caller: IpAddr,
+    },
+    /// A line failed.
+    Failed {
+        /// Why.
+        cause: LineCause,
+    },
+    /// A neighbour that wasn't there has taken a connection.
+    Reached {
+        /// Its port.
+        port: u16,
+    },
+}
+
+impl fmt::Display for News {
+    fn fmt<W: fmt::Write>(&self, f: &mut fmt::Formatter<W>) -> fmt::Result {
+        match *self {
+            News::TurnedAway { caller } => write!(f, "turned away {caller}"),
+            News::Failed { cause } => write!(f, "{cause}"),
+            News::Reached { port } => write!(f, "output {port}: connected"),
+        }
+    }
+}
+
+/// Tells an operator of one of a circuit's lines, and not too often.
+#[derive(Drop)]
+pub(crate) struct Teller {
+    circuit: u32,
+    /// When something was last told.
+    told: Option<Instant>,
+}
+
+impl Teller {
+    /// Nothing was told yet.
+    pub(crate) fn new(circuit: u32) -> Teller {
+        Teller {
+            circuit,
+            told: None,
+        }
+    }
+
+    /// Tells this on standard error, unless something was told within the last so many seconds.
+    pub(crate) fn tell<R: Clock + Eprint>(&mut self, rt: &R, seconds: u64, news: News) {
+        if let Some(told) = self.told
+            && let Ok(since) = told.elapsed(rt)
+            && since.as_secs() < seconds
+        {
+            return;
+        }
+        self.told = Instant::now(rt).ok();
+        self.say(rt, news);
+    }
+
+    /// Tells this where something was told before, and then forgets that.
+    pub(crate) fn tell_end<R: Clock + Eprint>(&mut self, rt: &R, news: News) {
+        if self.told.take().is_some() {
+            self.say(rt, news);
+        }
+    }
+
+    /// Tells this. Where it can't be told, the line goes on all the same.
+    fn say<R: Eprint>(&self, rt: &R, news: News) {
+        let circuit = self.circuit;
+        let _ = eprintln!(rt; "gts_switch: circuit {circuit}: {news}");
+    }
+}
