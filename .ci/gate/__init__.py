@@ -186,7 +186,7 @@ def tested(name, program=None, broken=None, seed=1, seconds=180, nodes=(), more=
     """Becomes a run by pytest of `.ci/tests/test_NAME.py`, of all its tests or those of these names. It comes to an end within so
     many seconds."""
     file = os.path.join(TESTS, f'test_{name}.py')
-    call = ['-q', '-s', '-p', 'no:cacheprovider', '--tb=short', f'--seconds={seconds}', f'--seed={seed}', *more]
+    call = ['-q', '-s', '-rs', '-p', 'no:cacheprovider', '--tb=short', f'--seconds={seconds}', f'--seed={seed}', *more]
     call += [f'--program={os.path.abspath(program)}'] if program else []
     call += [f'--break={broken}'] if broken else []
     call += [f'{file}::{node}' for node in nodes] or [file]

@@ -1,15 +1,18 @@
-"""Backups beside a running switch: what `ship` writes is brought back by `follow`, with each bulletin that had been acknowledged before
-the call; a plain copy of the three files opens to a front of the journal while nothing is compacted; and a copy whose files belong to
-two moments, around compactions, is told by `show`, or is a front too.
+"""Backups beside a running switch: what `ship` writes is brought back by `follow`, with each bulletin that had been acknowledged
+before the call; a plain copy of the three files opens to a front of the journal while nothing is compacted; and a copy whose files
+belong to two moments, around compactions, is told by `show`, or is a front too. The commands of docs/OPERATING.md for a backup, for
+a circuit's file behind a loss of power and for `migrate check` do what it says, as they stand there, also a second time.
 
-    --break copy    the copy by `ship` lacks its second half"""
+    --break copy    the copy by `ship` lacks its second half, also in the last backup"""
 import os
+import re
 import shutil
 import socket
+import subprocess
 import threading
 import time
 
-from gate import Folder, feed
+from gate import TOP, Folder, feed
 from loopback import Neighbour, directory, frame, free_ports
 
 BULLETINS, ROUNDS, SECONDS = 300, 6, 60
@@ -96,3 +99,73 @@ def test_a_copy_around_a_compaction_is_told_or_is_a_front(folder, tmp_path, prog
             status, report, line = other.run('show')
             told = status == 5 and line.startswith(('journal: none', 'journal: file'))
             folder.wants(f'files of two moments ({which:03b})', told or (status == 0 and accepted(report) <= 20 * (number + 1)), True)
+
+
+def commands(begin, more=1):
+    """The lines of code of docs/OPERATING.md from the one on that begins so."""
+    with open(os.path.join(TOP, 'docs/OPERATING.md'), encoding='utf-8') as file:
+        page = file.read()
+    [found] = re.findall(rf'^ +{re.escape(begin)}.*(?:\n    .*){{{more - 1}}}$', page, re.M)
+    return '\n'.join(line.strip() for line in found.split('\n'))
+
+
+def pasted(folder, program, text):
+    """How a shell ends into which this is pasted in the folder, with the program by its name."""
+    named = folder.path('named')
+    os.makedirs(named, exist_ok=True)
+    if not os.path.lexists(os.path.join(named, 'gts_switch')):
+        os.symlink(program, os.path.join(named, 'gts_switch'))
+    done = subprocess.run(['bash', '-c', text], cwd=folder.at, env={**os.environ, 'PATH': f'{named}:{os.environ["PATH"]}'},
+                          stdin=subprocess.DEVNULL, capture_output=True, timeout=SECONDS)
+    return done.returncode, done.stdout
+
+
+def test_the_pages_backup_stays_where_the_next_one_fails(folder, program, broken, tmp_path):
+    somewhere = Folder('', str(tmp_path / 'somewhere'))
+    first, *back = [line.replace('/somewhere', somewhere.at) for line in commands('gts_switch ship >/somewhere', 3).split('\n')]
+    folder.write('directory.toml', directory('AB', 'B', [0, 0, 0, 0]))
+    folder.run('init')
+    folder.run('replay', capture=b''.join(feed(0, frame(k + 1, HEADING, b'%d=' % k)) for k in range(20)) + b'E\n')
+    folder.wants('the backup', pasted(folder, program, first), (0, b''))
+    kept = somewhere.read('backup.gts')
+    folder.wants('what it is', kept, folder.run('ship')[1])
+    # The next one breaks off in its middle, as on a full disk.
+    with open(tmp_path / 'half', 'w') as file:
+        file.write(f'#!/bin/sh\nhead -c 30 {folder.path("journal.0")}\nexit 7\n')
+    os.chmod(tmp_path / 'half', 0o755)
+    os.remove(folder.path('named/gts_switch'))
+    folder.wants('a backup that fails', pasted(folder, str(tmp_path / 'half'), first)[0] == 0, False)
+    os.remove(folder.path('named/gts_switch'))
+    folder.wants('the last one behind it', somewhere.read('backup.gts'), kept)
+    if broken == 'copy':
+        somewhere.write('backup.gts', kept[:len(kept) // 2])
+    folder.wants('what comes back', pasted(folder, program, '\n'.join(back)), (0, folder.run('show')[1]))
+
+
+def test_the_pages_cut_of_a_circuits_file_is_of_that_circuit(folder, program):
+    """Also of a second one, and of one that ends with a whole frame."""
+    text = commands('mkdir -p cut', 2)
+    folder.write('directory.toml', directory('ABCD', 'BCD', [0] * 8))
+    streams = {number: b''.join(frame(k + 1, HEADING, b'%d %d=' % (number, k)) for k in range(10 * number)) for number in (1, 2, 3)}
+    for number, whole in streams.items():
+        folder.write(f'circuit.{number:02}.out', whole + (frame(999, HEADING, b'not whole=')[:-5] if number < 3 else b''))
+    for number, whole in streams.items():
+        pasted(folder, program, text.replace('NN', f'{number:02}'))
+        folder.wants(f'the whole frames of circuit {number}', folder.frames(number), whole)
+    before = folder.frames(1)
+    pasted(folder, program, text.replace('NN', '07'))
+    folder.wants('where there is no such file', (folder.frames(1), folder.frames(7)), (before, b''))
+
+
+def test_the_pages_migrate_check_may_be_called_again(folder, program):
+    with open(os.path.join(TOP, 'docs/OPERATING.md'), encoding='utf-8') as file:
+        spans = re.findall(r'`(mkdir -p try [^`]*|ln [^`]* try/ [^`]*)`', file.read())
+    folder.wants('the commands', len(spans), 2)
+    folder.write('directory.toml', directory('AB', 'B', [0, 0, 0, 0]))
+    folder.write('new.toml', 'window = 7\n' + directory('AB', 'B', [0, 0, 0, 0]))
+    folder.run('init')
+    before = folder.journal()
+    for when in ('once', 'again'):
+        status, said = pasted(folder, program, '\n'.join(spans).replace('NEW', 'new.toml'))
+        folder.wants(f'what would change, {when}', (status, said.endswith(b'end\n')), (0, True))
+    folder.wants('the journal behind it', folder.journal(), before)

@@ -17,7 +17,7 @@ from gate import feed
 from loopback import EOL, messages_of
 
 # How many bulletins come where one circuit gets them, and where ten do.
-BULLETINS, FEWER = 990, 400
+BULLETINS, FEWER = 990, 900
 KILLS = 30
 # So many of these kills, and of those in `compact`, are to be in the middle.
 LEAST = KILLS // 3

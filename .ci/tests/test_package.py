@@ -1,12 +1,15 @@
-"""What is installed of the program: by packaging/install under a folder of its own, and as a package of Debian in a root that has nothing
-else. The manual page renders without a warning and names every command, file, end and line; the units are sound, and the alerts name
-what is there; what was installed runs; lintian finds no error; what was installed by hand before the package is told; and when that
-is removed, and purged, each byte of the journal stays. A release is made of a clean commit over which the gate has passed, and of
-nothing else.
+"""What is installed of the program: by packaging/install under a folder of its own, and as a package of Debian in a root that has
+nothing else. The manual page renders without a warning and names every command, file, end and line; the units are sound, and the
+alerts name what is there, and fire when they should; a standby follows only where no switch is to run; what was installed runs;
+lintian finds no error; what was installed by hand before the package is told; systemd is told of what comes and goes; and when the
+package is removed, and purged, each byte of the journal stays. A release is made of a clean commit over which the gate has passed,
+of the program that the gate tried, and of nothing else.
 
     --break page       the manual page lacks its table of ends
+    --break condition  a standby follows beside a switch that is to run
     --break journal    removing the package takes the journal with it
     --break release    the gate of a release has failed"""
+import hashlib
 import os
 import re
 import shlex
@@ -22,8 +25,14 @@ SECONDS = 180
 EXAMPLE = os.path.join(TOP, 'examples/first')
 FAULTS = os.path.join(TOP, 'crates/gts_switch/src/fault.rt')
 FILES = ['directory.toml', 'directory.old.toml', 'capture.gts', 'journal.0', 'journal.1', 'journal.2', 'circuit.NN.out']
-# What scripts of a package may call in the clean root.
-TOOLS = ['sh', 'rm', 'install', 'getent', 'useradd', 'systemctl', 'systemd-sysusers', 'systemd-tmpfiles']
+# What scripts of a package may call in the clean root. `systemctl` takes down there what it is asked, and fails where it has to.
+TOOLS = ['sh', 'rm', 'install', 'getent', 'useradd', 'systemd-sysusers', 'systemd-tmpfiles']
+SYSTEMCTL = '#!/bin/sh\necho "$*" >>/tmp/systemctl\n[ ! -e /tmp/systemctl_fails ]\n'
+UNITS = ['gts_switch.service', 'gts_switch-receipts.service', 'gts_switch-status.timer', 'gts_switch-standby.timer']
+# Whether a standby follows, by what systemd says of the switch's unit there, and whether that is enabled.
+FOLLOWS = {('inactive', False): True, ('failed', False): True, ('inactive', True): False, ('failed', True): False,
+           ('active', True): False, ('active', False): False, ('activating', False): False, ('deactivating', False): False,
+           ('', False): False}
 USUAL_LIMIT = 1073741824
 # The group of who reads logs, in the clean root.
 ADM = 4
@@ -167,6 +176,28 @@ def test_alerts_are_about_what_is_there(program, tmp_path):
     wants('the units that alerts are about', about, {f'gts_switch{name}.service' for name in ('', '-receipts', '-standby')})
 
 
+@pytest.mark.skipif(not shutil.which('promtool'), reason="the alerts weren't fired: promtool of Debian's prometheus isn't there")
+def test_alerts_fire_when_they_should():
+    status, said, line = run(['promtool', 'test', 'rules', os.path.join(TOP, '.ci/tests/alerts.yml')])
+    wants('the alerts over what Prometheus was told', (status, said if status else '', line if status else ''), (0, '', ''))
+
+
+def test_a_standby_follows_only_where_no_switch_is_to_run(broken, tmp_path):
+    """The condition of its unit, over a systemctl that answers so."""
+    with open(os.path.join(TOP, 'packaging/gts_switch-standby.service')) as file:
+        [condition] = re.findall('^ExecCondition=(.*)$', file.read(), re.M)
+    if broken == 'condition':
+        condition = "/bin/sh -c '! systemctl is-active --quiet gts_switch.service'"
+    stub = tmp_path / 'systemctl'
+    for (state, is_enabled), follows in FOLLOWS.items():
+        stub.write_text(f'#!/bin/sh\ncase $1 in\nis-active) echo "{state}"; [ "{state}" = active ] ;;\n'
+                        f'is-enabled) {"true" if is_enabled else "false"} ;;\nesac\n')
+        stub.chmod(0o755)
+        status, _, line = run(shlex.split(condition), env={**os.environ, 'PATH': f'{tmp_path}:{os.environ["PATH"]}'})
+        what = f'a standby follows where the unit is {state or "unknown"}, {"" if is_enabled else "not "}enabled'
+        wants(what, (status == 0, line), (follows, ''))
+
+
 def check_about(program):
     """What the program tells of itself: its version stands in one place, and its help has each command of the usage line."""
     _, version, _ = run([os.path.join(TOP, 'packaging/version')])
@@ -215,9 +246,13 @@ def test_what_is_installed(program, broken, tmp_path):
 
 
 def clean_root(at):
-    """A root with the tools that a package's scripts call, their libraries, and dpkg's books."""
-    for folder in ('bin', 'etc', 'tmp', 'usr/sbin', 'var/lib/dpkg/info', 'var/lib/dpkg/updates', 'var/log', 'proc', 'dev', 'run'):
+    """A root with the tools that a package's scripts call, their libraries, and dpkg's books. It looks as if systemd ran there."""
+    for folder in ('bin', 'etc', 'tmp', 'usr/sbin', 'var/lib/dpkg/info', 'var/lib/dpkg/updates', 'var/log', 'proc', 'dev',
+                   'run/systemd/system'):
         os.makedirs(os.path.join(at, folder))
+    with open(os.path.join(at, 'bin/systemctl'), 'w') as file:
+        file.write(SYSTEMCTL)
+    os.chmod(os.path.join(at, 'bin/systemctl'), 0o755)
     os.symlink('bin', os.path.join(at, 'sbin'))
     for name in ('status', 'available'):
         open(os.path.join(at, 'var/lib/dpkg', name), 'w').close()
@@ -248,6 +283,14 @@ def dpkg(root, *words):
                env={**os.environ, 'PATH': '/usr/sbin:/usr/bin:/sbin:/bin', 'LC_ALL': 'C', 'DEBIAN_FRONTEND': 'noninteractive'})[:2]
 
 
+def installed_by_hand(root, program):
+    """The paths of programs and units that packaging/install puts into a root where it is called by hand."""
+    places = {**os.environ, 'DESTDIR': root, 'PREFIX': '/usr/local', 'SYSCONFDIR': '/usr/local/etc'}
+    wants('the installation by hand', run([os.path.join(TOP, 'packaging/install'), program], env=places)[::2], (0, ''))
+    return sorted(os.path.join(here, name).removeprefix(root) for part in ('bin', 'lib')
+                  for here, _, names in os.walk(f'{root}/usr/local/{part}') for name in names)
+
+
 def everything(folder):
     """What a folder has: each file's bytes."""
     return {name: Folder('', folder).read(name) for name in sorted(os.listdir(folder))}
@@ -273,6 +316,11 @@ def git(folder, *words):
     return said.strip()
 
 
+def digest_of(path):
+    with open(path, 'rb') as file:
+        return hashlib.sha256(file.read()).hexdigest()
+
+
 @pytest.mark.skipif(not os.path.isdir(os.path.join(TOP, '.git')), reason='a release is made of a commit')
 def test_a_release_is_of_a_clean_commit_over_which_the_gate_has_passed(program, broken, tmp_path):
     clone, log, to = (str(tmp_path / name) for name in ('clone', 'log', 'to'))
@@ -281,9 +329,9 @@ def test_a_release_is_of_a_clean_commit_over_which_the_gate_has_passed(program, 
     shutil.copy(program, os.path.join(clone, 'crates/gts_switch/out/gts_switch'))
     commit, version = git(clone, 'rev-parse', 'HEAD'), run([os.path.join(clone, 'packaging/version')])[1].strip()
 
-    def released(over=commit, last='9 passed, 0 failed (1 crate)'):
+    def released(over=commit, last='9 passed, 0 failed (1 crate)', tried=program, more=''):
         with open(log, 'w') as file:
-            file.write(f'commit {over}\n{last}\n')
+            file.write(f'commit {over}\nprogram {digest_of(tried)}\n{more}{last}\n')
         return run([os.path.join(clone, 'packaging/release'), to, log])[::2]
     wants('another commit', released(over='0' * 40), (1, f"release: the gate didn't run over commit {commit}"))
     wants('a gate that failed', released(last='8 passed, 1 failed'), (1, "release: the gate didn't pass: 8 passed, 1 failed"))
@@ -293,24 +341,38 @@ def test_a_release_is_of_a_clean_commit_over_which_the_gate_has_passed(program, 
     git(clone, 'tag', '-a', '-m', 'a tag', f'v{version}', git(clone, 'commit-tree', '-m', 'another commit', 'HEAD^{tree}'))
     wants('a version that is tagged', released()[0], 1)
     git(clone, 'tag', '-d', f'v{version}')
+    wants('another program', released(tried=log), (1, "release: the program isn't the one that the gate tried"))
     wants('nothing was left', os.path.exists(to), False)
+    wants('a release that leaves a part out', released(more='NOT RUN: a cable\n'), (0, 'NOT RUN: a cable'))
+    shutil.rmtree(to)
     wants('the release', released(last='9 passed, 1 failed' if broken == 'release' else '9 passed, 0 failed'), (0, ''))
     wants('what it has', len(os.listdir(to)), 4)
     wants('its checksums', run(['sha256sum', '--quiet', '-c', f'gts-switch_{version}.sha256'], to), (0, '', ''))
 
 
 @pytest.mark.skipif(os.geteuid() != 0, reason='a root is entered by root alone')
-def test_the_package_in_a_clean_root(package, broken, tmp_path):
+def test_the_package_in_a_clean_root(program, package, broken, tmp_path):
     root = clean_root(str(tmp_path / 'root'))
-    by_hand = '/usr/local/lib/systemd/system/gts_switch.service'
-    os.makedirs(os.path.dirname(root + by_hand))
-    open(root + by_hand, 'w').close()
+    asked = Folder('', os.path.join(root, 'tmp'))
+
+    def told_systemd():
+        """What systemd was asked since the last time, a line each."""
+        lines = asked.read('systemctl').decode().splitlines()
+        asked.remove('systemctl')
+        return lines
+    by_hand = installed_by_hand(root, program)
     status, said = dpkg(root, '--install', package)
     wants('the installation of the package', status, 0)
-    wants('what was installed by hand is told', f'gts-switch: {by_hand} was installed by hand' in said, True)
-    os.remove(root + by_hand)
+    wants('what was installed by hand is told', sorted(re.findall('^gts-switch: (.*) was installed by hand', said, re.M)), by_hand)
+    wants('all of it', len(by_hand), 11)
+    begins = ['daemon-reload', 'try-restart gts_switch.service gts_switch-receipts.service']
+    wants('systemd is told of the units', told_systemd(), begins)
+    shutil.rmtree(os.path.join(root, 'usr/local'))
+    asked.write('systemctl_fails', '')
     status, said = dpkg(root, '--install', package)
-    wants('the installation once more', (status, 'by hand' in said), (0, False))
+    wants('the installation once more, where systemd does not answer', (status, 'by hand' in said), (0, False))
+    wants('systemd is told of the change', told_systemd(), ['daemon-reload', *begins])
+    asked.remove('systemctl_fails')
     folder = os.path.join(root, 'var/lib/gts_switch')
     with open(os.path.join(root, 'etc/passwd')) as file:
         user = [row.split(':') for row in file if row.startswith('gts_switch:')]
@@ -322,16 +384,21 @@ def test_the_package_in_a_clean_root(package, broken, tmp_path):
     wants('what logrotate reads', os.path.exists(os.path.join(root, 'etc/logrotate.d/gts-switch')), True)
     installed = Folder(os.path.join(root, 'usr/bin/gts_switch'), folder, DIRECTORY)
     wants('init of what was installed', installed.run('init'), (0, b'', ''))
-    wants('the example directory', os.path.exists(os.path.join(root, 'usr/share/doc/gts-switch/examples/directory.toml')), True)
+    wants('the examples', sorted(os.listdir(os.path.join(root, 'usr/share/doc/gts-switch/examples'))),
+          ['alerts.yml', 'directory.toml', 'gts.conf', 'gts0.conf', 'gts0.nft'])
     before = everything(folder)
     for word in ('--remove', '--purge'):
         wants(f'{word} of the package', dpkg(root, word, 'gts-switch')[0], 0)
+        ends = ['disable --now ' + ' '.join(UNITS), 'stop gts_switch-standby.service gts_switch-status.service']
+        # A purge begins with a removal, and comes to postrm once more.
+        ends += ['daemon-reload'] * (2 if word == '--purge' else 1)
+        wants(f'what systemd is asked at {word}', told_systemd(), ends)
         if broken == 'journal':
             os.remove(os.path.join(folder, 'journal.0'))
         wants(f'the folder behind {word}', everything(folder) if os.path.isdir(folder) else None, before)
         wants(f'the program behind {word}', os.path.exists(installed.program), False)
         if word == '--remove':
-            wants('the package once more', dpkg(root, '--install', package)[0], 0)
+            wants('the package once more', (dpkg(root, '--install', package)[0], told_systemd()), (0, begins))
             wants('the folder behind that', everything(folder), before)
     left = [os.path.join(here, name) for here, _, names in os.walk(os.path.join(root, 'usr')) for name in names
             if re.search('gts[-_]switch', os.path.join(here, name))]

@@ -1,8 +1,9 @@
-"""The receipts with their times (packaging/gts-switch-receipts): beside a writer of 20,000 lines a second the one who stamps them is
-killed and started again and its log is renamed, and each line stands in the logs once, in order, at its place. Where its log was
+"""The receipts with their times (packaging/gts-switch-receipts): beside a writer of 20,000 lines a second the one who stamps them
+is killed and started again and its log is renamed, and each line stands in the logs once, in order, at its place. Where its log was
 removed, it goes on behind what was given back, and where somebody wrote into it, behind its own last line. Where the receipts are
 renamed, those of the new file follow; zeros among them are passed over. Behind a loss of power, which took receipts that the log
-has, those that are left aren't written twice; and one that is full is told in a line.
+has, those that are left aren't written twice; of two at once the second ends, and says so; and a disk that is full is told in a
+line.
 
     --break line    one line is taken out of a log"""
 import os
@@ -248,6 +249,31 @@ def test_a_line_that_another_file_happens_to_have_there_is_not_gone_on_behind(tm
     if broken == 'line':
         del behind[-1]
     assert [line for _, line in behind] == old + new and behind[:len(old)] == before
+
+
+@pytest.mark.parametrize('behind_a_rename', [False, True])
+def test_of_two_at_once_the_second_ends(tmp_path, broken, behind_a_rename):
+    """It says so in a line, and writes nothing. The first has the new file of receipts too, where the old one is renamed."""
+    receipts, log = str(tmp_path / 'receipts'), str(tmp_path / 'receipts.log')
+    lines = [receipt(number) for number in range(20)]
+    appends(receipts, receipts_of(range(10)))
+    running = stamper(receipts, log)
+    try:
+        awaits_lines(log, 10)
+        if behind_a_rename:
+            os.rename(receipts, f'{receipts}.old')
+        appends(receipts, receipts_of(range(10, 20)))
+        awaits_lines(log, 20)
+        done = subprocess.run(['/usr/bin/python3', STAMPER, receipts, log, '--to-the-end'], cwd=tmp_path, stderr=subprocess.PIPE,
+                              timeout=gate.SECONDS)
+        assert (done.returncode, done.stderr.decode()) == (1, f'gts-switch-receipts: {receipts}: another one is at work here\n')
+    finally:
+        running.kill()
+        running.wait(gate.SECONDS)
+    stamped = [line for _, line in stamps(receipts, log)]
+    if broken == 'line':
+        del stamped[-1]
+    assert stamped == lines
 
 
 def test_a_full_disk_is_told_in_a_line(tmp_path, broken):

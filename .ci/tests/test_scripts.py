@@ -1,12 +1,12 @@
 """The scripts of the gate that are one long run each, as tests: `pytest .ci/tests/test_scripts.py -k network`. The gate calls the
-scripts themselves."""
+scripts themselves. `.ci/edge` isn't one of them: it tries no program that is there."""
 import os
 import subprocess
 
 import gate
 import pytest
 
-LONG = ['always', 'edge', 'lines', 'network', 'standby', 'year']
+LONG = ['always', 'lines', 'network', 'standby', 'year']
 
 
 @pytest.mark.parametrize('name', [name for name in LONG if os.path.exists(os.path.join(gate.TOP, '.ci', name))])

@@ -1,6 +1,6 @@
 -- What `follow` comes to, from the directory and what was made of the feed.
 use Rattle.std.proofs.Common.{◌≡◌, ◌⊎◌, ◌≤◌, ℕ, ◌-◌, List, [], Result, Ok, Err, inl, inr, refl, sym, ap, subst, ◌∙◌, arith}
-use Rattle.gts_app.specs.Cited.{Answers, ComesTo, EachOpens, EndsAs, Files, FollowEnd, FollowedAs, FollowsFeed, Ghosts as StationMeanings, IsEnd, IsNamedEnd, IsOfFiles, LeavesAlone, LeavesUnopened, Need, NoMemory, OnlySyncs, OpenFault, Read, ReadsDirectory, RefusedBy, Rose, SourceMeanings, State, Status, TakenAs, TakesFeed, comes_to, directory_of_bytes, files_read, need, opened_of, opens, own_seals, read_after, restarted, said_by, seen, selected_bytes, state_after, status_followed, taken, world, written}
+use Rattle.gts_app.specs.Cited.{Answers, ComesTo, EachImageReads, EachOpens, EndsAs, Files, FollowEnd, FollowedAs, FollowsFeed, Ghosts as StationMeanings, IsEnd, IsNamedEnd, IsOfFiles, LeavesAlone, LeavesUnopened, Need, NoMemory, OnlySyncs, OpenFault, Read, ReadsDirectory, RefusedBy, Rose, SourceMeanings, State, Status, TakenAs, TakesFeed, comes_to, directory_of_bytes, files_read, need, opened_of, opens, own_seals, read_after, restarted, said_by, seen, selected_bytes, state_after, status_followed, taken, world, written}
 use Rattle.gts_standby.specs.Taking.{Taken}
 use Rattle.gts_directory.specs.Directory as directories
 use Rattle.gts_record.specs.declared.fault.OpenFault.TheVariants as opening
@@ -95,6 +95,8 @@ module _ {S P : Type 0} (source : SourceMeanings S) (station : StationMeanings P
     → opens d (seen (station.calls new)) ≡ Ok (need d (restarted d (state_after d s t))))
     (records : station.observed → source.observed → (read : State × ℕ × List ℕ) (t : Taken) → files_read written d (seen (station.calls old)) ≡ Ok read
     → comes_to d (seen (station.calls old)) (source.left oc) ≡ Ok t → IsEnd answer → files_read written d (seen (station.calls new)) ≡ Ok (read_after d read t))
+    (kept : station.observed → source.observed → (read : State × ℕ × List ℕ) (t : Taken) → files_read written d (seen (station.calls old)) ≡ Ok read
+    → comes_to d (seen (station.calls old)) (source.left oc) ≡ Ok t → IsEnd answer → EachImageReads d (station.calls new) (read_after d read t))
     (moments : station.observed → source.observed → (read : State × ℕ × List ℕ) (t : Taken) → files_read written d (seen (station.calls old)) ≡ Ok read
     → comes_to d (seen (station.calls old)) (source.left oc) ≡ Ok t → EachOpens d read t (station.calls old) (station.calls new))
     (alone : station.observed → LeavesUnopened d (station.calls old) (station.calls new) (nc ≡ oc))
@@ -127,6 +129,7 @@ module _ {S P : Type 0} (source : SourceMeanings S) (station : StationMeanings P
             ends = ends_of answer is t (subst (Answers answer) e (answers told observed));
             opened = added told observed x.0 x.1 x.2 t x.3 e is;
             records = records told observed (x.0, x.1, x.2) t x.3 e is;
+            kept = kept told observed (x.0, x.1, x.2) t x.3 e is;
           }
 
   refused_by : (fault : OpenFault) → answer ≡ follow.Open fault → RefusedBy fault source station (world od oc old) (world nd nc new)

@@ -313,7 +313,7 @@ module _ {S P : Type 0} (w : Waiting) (source : SourceMeanings S) (station : Sta
       takes = takes;
       opened = λ t.
           let x = files_of o (seen (station.calls old)) (e.answers t).0 (e.answers t).1 in
-          (x.0, x.1, x.2, (e.migrated t x.0 x.1 x.2, e.said t x.0 x.1 x.2));
+          (x.0, x.1, x.2, (free_ok d w (need o x.0) done (e.waiting t x.0 x.1 x.2), e.migrated t x.0 x.1 x.2, e.said t x.0 x.1 x.2));
     };
   }
   means (Err (fault.Open opening.NoJournal)) e = refused_by opening.NoJournal (λ t. (e.answers t).0) (λ t. e.told t tt)

@@ -104,8 +104,8 @@ pack_ends source station d end od nd oc nc old new h is unmade files read say di
         → PackedAs source station (status_packed e) (world od oc old) (world nd nc new)
     go packs.Done is unmade read say = (accepted, is)
     go (packs.Bad at) is unmade read say = (accepted, is)
-    go packs.SourceFault is unmade read say = inr (read.failed refl, is)
-    go packs.SayFault is unmade read say = (say.failed refl, is)
+    go packs.SourceFault is unmade read say = inr (accepted, read.failed refl, is)
+    go packs.SayFault is unmade read say = (accepted, say.failed refl, is)
     go packs.NoMemory is unmade read say = unmade refl
 
 pub gaps_ends : {S P : Type 0} (source : SourceMeanings S) (station : StationMeanings P) (moment : Moment) (d : directories.Directory) (end : GapsEnd) (od nd oc nc : S) (old new : P)

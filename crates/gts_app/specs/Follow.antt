@@ -1,6 +1,6 @@
 -- What each end of the command `follow` means for what it works on.
 use Rattle.std.specs.Prelude.{◌≡◌, ◌⊎◌, ℕ, ◌+◌, ◌≤◌, List, [], ◌++◌, length, Ok, Err}
-use Rattle.gts_app.specs.Cited.Below.{Call, DirFault, EachOpens, EndsAs, FollowEnd, Ghosts as StationMeanings, IsEnd, LONGEST_DIRECTORY, OnlySyncs, OpenFault, Rose, SourceMeanings, State, comes_to, directory_of_bytes, files_read, need, opens, read_after, restarted, said_by, seen, state_after, written}
+use Rattle.gts_app.specs.Cited.Below.{Call, DirFault, EachImageReads, EachOpens, EndsAs, FollowEnd, Ghosts as StationMeanings, IsEnd, LONGEST_DIRECTORY, OnlySyncs, OpenFault, Rose, SourceMeanings, State, comes_to, directory_of_bytes, files_read, need, opens, read_after, restarted, said_by, seen, state_after, written}
 use Rattle.gts_standby.specs.Taking.{Taken}
 use Rattle.gts_directory.specs.Directory as directories
 use Rattle.gts_record.specs.declared.fault.OpenFault.TheVariants as opening
@@ -27,7 +27,8 @@ Under source station old OfIt =
     source.observed → station.observed → (d : directories.Directory) × (directory_of_bytes (source.left old.directory) ≡ Ok d) × OfIt d
 
 -- The files opened, and the bytes of the feed came to this beside them, with an end as it is answered. The journal has all that
--- they add, behind what it had or behind the checkpoint with which it begins anew, and nothing else.
+-- they add, behind what it had or behind the checkpoint with which it begins anew, and nothing else; and a loss of power leaves all
+-- of it.
 pub record TakesFeed (d : directories.Directory) (old new : List Call) (fed : List ℕ) (answer : FollowEnd) : Type 0 where
   pub state : State
   pub used : ℕ
@@ -38,6 +39,7 @@ pub record TakesFeed (d : directories.Directory) (old new : List Call) (fed : Li
   pub ends : EndsAs answer taken.end
   pub opened : opens d (seen new) ≡ Ok (need d (restarted d (state_after d state taken)))
   pub records : files_read written d (seen new) ≡ Ok (read_after d (state, used, last) taken)
+  pub kept : EachImageReads d new (read_after d (state, used, last) taken)
 
 -- the feed was taken into the journal of the directory, and this was answered
 abbrev pub TakenAs : {S P : Type 0} → FollowEnd → SourceMeanings S → StationMeanings P → (old new : World S S P) → Type 0

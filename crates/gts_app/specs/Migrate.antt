@@ -81,13 +81,14 @@ IsBegunUnder waiting source station w OfReceipts =
 abbrev pub SaysFrontSince : (before now : List Call) → Outside → Type 0
 SaysFrontSince before now text = (front : Outside) × IsFront front text × SaidSince before now front
 
--- For each status, what it means: the journal was taken over, and the receipts of all that was dropped were said; or what refused it.
+-- For each status, what it means: the journal was taken over, nothing that waits was refused, and the receipts of all that was dropped
+-- were said; or what refused it.
 -- Where the disk failed, the journal was not opened and the files are left alone; or it was opened, and nothing was said, or all. Where
 -- saying failed, it was opened, and a front of the receipts was said.
 abbrev pub MigratedAs : {S P : Type 0} → Waiting → SourceMeanings S → StationMeanings P → Status → World S S P → World S S P → Type 0
 MigratedAs waiting source station Done w v =
     UnderBoth source w (λ new old. OpensUnder station w new old
-    (λ s. IsMigrated old new s (station.calls w.station) (station.calls v.station)
+    (λ s. MayGo waiting new (need old s) × IsMigrated old new s (station.calls w.station) (station.calls v.station)
     × SaidSince (station.calls w.station) (station.calls v.station) (sayings waiting new (need old s))))
 MigratedAs waiting source station (Directory e) w v = IsTurnedAway source e w v
 MigratedAs waiting source station (OldDirectory e) w v = IsOldRefused source w v e

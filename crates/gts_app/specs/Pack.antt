@@ -36,12 +36,12 @@ PackedAs source station (File at) old new =
     IsAccepted source old
     × (source.observed → IsBad station.observed (station.calls old.station) (station.calls new.station) (source.left old.capture) at)
 PackedAs source station OutputFault old new =
-    Rose (station.say_faults old.station) (station.say_faults new.station)
+    IsAccepted source old × Rose (station.say_faults old.station) (station.say_faults new.station)
     × (source.observed → station.observed
     → SaysFront (station.calls old.station) (station.calls new.station) (on 0 (packed (source.left old.capture))))
 PackedAs source station InputFault old new =
     (IsUnbegun old new × Rose (source.faults old.directory) (source.faults new.directory))
-    ⊎ (Rose (source.faults old.capture) (source.faults new.capture)
+    ⊎ (IsAccepted source old × Rose (source.faults old.capture) (source.faults new.capture)
     × (source.observed → IsTaken station.observed (station.calls old.station) (station.calls new.station)
     (source.left old.capture) (source.left new.capture)))
 PackedAs source station (Directory fault) old new = IsTurnedAway source fault old new

@@ -1,6 +1,6 @@
 -- What each end of the command `ship` means for what it works on.
 use Rattle.std.specs.Prelude.{◌≡◌, ◌⊎◌, ℕ, ◌+◌, ◌≤◌, List, ◌++◌, length, Option, Result, Ok, Err}
-use Rattle.gts_app.specs.Cited.Below.{Ghosts as StationMeanings, IsShipFault, LONGEST_DIRECTORY, OpenFault, Rose, SaysFront, ShipFault, ShipsOnly, Since, SourceMeanings, asked_of, directory_of_bytes, on, seen}
+use Rattle.gts_app.specs.Cited.Below.{Ghosts as StationMeanings, IsShipFault, LONGEST_DIRECTORY, OnlySyncs, OpenFault, Rose, SaysFrontSynced, ShipFault, ShipsOnly, Since, SourceMeanings, asked_of, directory_of_bytes, opens, seen}
 use Rattle.gts_directory.specs.Directory as directories
 use Rattle.gts_record.specs.declared.fault.OpenFault.TheVariants as opening
 use Rattle.gts_standby.specs.declared.fault.ShipFault.TheVariants as ship
@@ -21,19 +21,19 @@ abbrev pub Under : {S P : Type 0} → SourceMeanings S → StationMeanings P →
 Under source station directory OfIt =
     source.observed → station.observed → (d : directories.Directory) × (directory_of_bytes (source.left directory) ≡ Ok d) × OfIt d
 
--- a front of what was asked for was said, and nothing else
+-- at most a sync was tried; or the files were synced, and then a front of what was asked for was said, and nothing else
 abbrev pub SaysSome : {S P : Type 0} → Option Since → SourceMeanings S → StationMeanings P → S → (old new : P) → Type 0
 SaysSome since source station directory old new =
-    Under source station directory (λ d. SaysFront (station.calls old) (station.calls new) (on 0 (asked_of d (station.calls old) since)))
+    Under source station directory (λ d. SaysFrontSynced (station.calls old) (station.calls new) (asked_of d (station.calls old) since))
 
--- the files open to this fault, and nothing was said
+-- the files open to this fault, and at most a sync was tried
 abbrev pub RefusedBy : {S P : Type 0} → OpenFault → Option Since → SourceMeanings S → StationMeanings P → S → (old new : P) → Type 0
 RefusedBy fault since source station directory old new =
     Under source station directory
     (λ d. IsShipFault (ship.Open fault) d (station.calls old) (station.calls new) (asked_of d (station.calls old) since))
 
--- For each status, what it means: the journal opens, and what was asked for of its feed was said on channel 0; or why it was not, or
--- not all of it.
+-- For each status, what it means: the journal opens, it was synced, and then what was asked for of its feed was said on channel 0; or
+-- why it was not, or not all of it.
 abbrev pub ShippedAs : {S P : Type 0} → Option Since → SourceMeanings S → StationMeanings P → Status → S → P → S → P → Type 0
 ShippedAs since source station Done od old nd new =
     Under source station od
@@ -59,6 +59,10 @@ pub record ShipsFeed {S P : Type 0} (since : Option Since) (source : SourceMeani
   pub means : ShippedAs since source station status old_directory old new_directory new
   -- what reads of the files give stays
   pub files : station.observed → (k : ℕ) → seen (station.calls new) k ≡ seen (station.calls old) k
+  -- where the files don't open, at most a sync was tried
+  pub unopened : source.observed → station.observed → (d : directories.Directory) (fault : OpenFault)
+      → directory_of_bytes (source.left old_directory) ≡ Ok d → opens d (seen (station.calls old)) ≡ Err fault
+      → OnlySyncs (station.calls old) (station.calls new)
   -- what is read, and that no count falls
   pub taken : source.observed → (taken : List ℕ) × (source.left old_directory ≡ taken ++ source.left new_directory)
       × (length taken ≤ LONGEST_DIRECTORY + 1)

@@ -96,10 +96,10 @@ where
 
     // And of those over lines, and without a journal.
     ensures serve { (n : ℕ) → command_of words.now ≡ Some (Command.Serve n)
-        → ServesIn S.Source P.Station L.In.observed L.Out.observed n result.status
+        → ServesIn S.Source P.Station L.In.Source L.Out.observed n result.status
         world result.world (seen L.Lines lines.old) (seen L.Lines lines.new) }
     ensures serve_always { command_of words.now ≡ Some Command.ServeAlways
-        → ServesIn S.Source P.Station L.In.observed L.Out.observed WITHOUT_END result.status
+        → ServesIn S.Source P.Station L.In.Source L.Out.observed WITHOUT_END result.status
         world result.world (seen L.Lines lines.old) (seen L.Lines lines.new) }
     ensures generate { (count : ℕ) → command_of words.now ≡ Some (Command.Generate count)
         → (result.world.directory ≡ world.directory) × (result.world.capture ≡ world.capture)

@@ -1,8 +1,8 @@
 -- Numbers that ascend, and what is found among them.
-use Rattle.std.proofs.Common.{◌≡◌, ◌≢◌, ℕ, zero, suc, ◌+◌, ◌<◌, ◌≤◌, Bool, true, false, ◌||◌, ◌==◌, ◌⊎◌, inl, inr, nat_lt, List, [], ◌∷◌, length, get_or, Ok, Err, Result, is_ok, refl, sym, arith}
-use Rattle.gts_checkpoint.specs.Cited.{MatchResult, ascends, has, positions}
+use Rattle.std.proofs.Common.{◌≡◌, ◌≢◌, ℕ, zero, suc, ◌+◌, ◌<◌, ◌≤◌, true, false, ◌⊎◌, inl, inr, nat_lt, List, [], ◌∷◌, length, get_or, refl, arith}
+use Rattle.gts_checkpoint.specs.Cited.{ascends, positions}
 use Rattle.gts_event.specs.declared.values.Bulletin.{Bulletin}
-use Rattle.std.proofs.lemmas.Bool.{and_parts, and_from, false_from_ne_true, ltb-true, lt-ltb, eq-eqb, ne_eqb, cases_lt}
+use Rattle.std.proofs.lemmas.Bool.{and_parts, and_from, false_from_ne_true, ltb-true, lt-ltb, cases_lt}
 
 pub rises : (xs : List ℕ) (i j : ℕ) → ascends xs ≡ true → i < j → j < length xs → get_or xs i 0 < get_or xs j 0
 rises [] i j h l m = absurd (omega arith)
@@ -41,31 +41,6 @@ rise-more xs n k h e l i m = go (cases_lt (suc i) n)
       where
         e' : n ≡ suc k
         e' = omega arith
-
--- ---- what is among numbers
-
-pub has-at : (xs : List ℕ) (i n : ℕ) → i < length xs → get_or xs i 0 ≡ n → has xs n ≡ true
-has-at [] i n l e = absurd (omega arith)
-has-at (x ∷ xs) zero n l e = rw (eq-eqb x n e) refl
-has-at (x ∷ xs) (suc i) n l e = go (x == n) (has-at xs i n (omega arith) e)
-  where
-    go : (b : Bool) → has xs n ≡ true → (b || has xs n) ≡ true
-    go true h = refl
-    go false h = h
-
-pub has-not : (xs : List ℕ) (n : ℕ) → ((k : ℕ) → k < length xs → get_or xs k 0 ≢ n) → has xs n ≡ false
-has-not [] n h = refl
-has-not (x ∷ xs) n h = rw (ne_eqb x n (h zero (omega arith))) (has-not xs n (λ k l. h (suc k) (omega arith)))
-
-pub has-searched : (xs : List ℕ) (n : ℕ) (r : Result ℕ ℕ)
-    → MatchResult r (λ i. (i < length xs) × (get_or xs i 0 ≡ n)) (λ i. (i ≤ length xs) × ((k : ℕ) → k < i → get_or xs k 0 < n) × ((k : ℕ) → i ≤ k → k < length xs → n < get_or xs k 0))
-    → is_ok r ≡ has xs n
-has-searched xs n (Ok i) h = sym (has-at xs i n h.0 h.1)
-has-searched xs n (Err i) h = sym (has-not xs n (λ k l. apart k l (cases_lt k i)))
-  where
-    apart : (k : ℕ) → k < length xs → (k < i) ⊎ (i ≤ k) → get_or xs k 0 ≢ n
-    apart k l (inl t) = λ e. let below : get_or xs k 0 < n = h.1 k t in absurd (omega arith)
-    apart k l (inr t) = λ e. let above : n < get_or xs k 0 = h.2 k t l in absurd (omega arith)
 
 -- ---- positions of bulletins
 

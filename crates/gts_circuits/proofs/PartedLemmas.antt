@@ -1,7 +1,7 @@
 -- The sockets of all lines, once the workers have ended.
 use Rattle.std.proofs.Common.{◌≡◌, ℕ, zero, suc, ◌+◌, ◌*◌, ◌<◌, ◌≤◌, true, false, List, [], ◌∷◌, ◌++◌, length, length-append, map, Option, Some, None, refl, sym, ap, ◌∙◌, subst, arith, append_assoc}
 use Rattle.std.proofs.lemmas.List.{append-nil}
-use Rattle.gts_circuits.specs.Cited.{AllStand, AreOpened, Beginning, Begun, EndsWithin, Entry, Incoming, IsOpened, Known, KnowsOwn, Line, LinesSeen, MOST_TURNS, Outgoing, Part, PassKeeps, Passes, PlaceSeen, Reads, ReceiverKeeps, ReceiverStands, Receives, Seen, SenderKeeps, SenderStands, Sends, Sockets, StartsWith, TableId, Tells, Work, Writes, all_of, behind, ends, entries_under, first_connection, flat, fresh, given_before, has_end, incoming_of, outgoing_of, receiver_name, receivers_of, seen_at, seen_by, sender_name, senders_of, sink_of, source_of, works_of}
+use Rattle.gts_circuits.specs.Cited.{AllStand, AreOpened, Beginning, Begun, EndsWithin, Entry, GoesThrough, Incoming, IsOpened, Known, KnowsOwn, Line, LinesSeen, MOST_TURNS, Outgoing, Part, PassKeeps, Passes, PlaceSeen, Reads, ReceiverKeeps, ReceiverStands, Receives, Seen, SenderKeeps, SenderStands, Sends, Sockets, StartsWith, TableId, Tells, Work, Writes, all_of, behind, ends, entries_under, first_connection, flat, fresh, given_before, has_end, incoming_of, outgoing_of, receiver_name, receivers_of, seen_at, seen_by, sender_name, senders_of, sink_of, source_of, works_of}
 use Rattle.gts_circuits.specs.Gathering.{Stands}
 use mathlib.Core.Option.{some, some-injective, some-ne-none}
 use lib.ListN.{get_elem?}
@@ -123,7 +123,8 @@ module _ (b : Beginning) {S K : Type 0} (source_tells : Type 0) (begun_by : S �
   receiver_line c s (lines.Incoming source many decoder (Some end)) p opened for_all front same full keeps ended =
       let r : ReceiverKeeps source_tells begun_by left source_faults c s.connections s.source source (fresh b hall (receiver_name c)) (seen_by b p) end = keeps.keeps in
       let R : Seen → Type 0 = λ d. Receives c s.connections (fresh b hall (receiver_name c)) d r.earlier r.last end in
-      let N : ℕ → Type 0 = λ n. Receives c n (fresh b hall (receiver_name c)) (seen_at b hall (receiver_name c) (length p.own) p.full (flat p.seen)) r.earlier r.last end in (
+      let N : ℕ → Type 0 = λ n. Receives c n (fresh b hall (receiver_name c)) (seen_at b hall (receiver_name c) (length p.own) p.full (flat p.seen)) r.earlier r.last end in
+      let T : ℕ → ℕ → Type 0 = λ n first. GoesThrough source_tells c n first (source_faults source) r.earlier r.last end in (
         record { source = source; end = end },
         refl,
         refl,
@@ -140,6 +141,7 @@ module _ (b : Beginning) {S K : Type 0} (source_tells : Type 0) (begun_by : S �
             received = subst N for_all (subst R (seen_is p (receiver_name c) keeps.hall_is keeps.name) r.received);
           };
           told = λ observed. tells_now (begun_by s.source) (begun_by source) (left s.source) (left source) r.earlier r.last (opened.first observed) (r.gave observed).passes (r.gave observed).left_is;
+          through = subst (λ (n : ℕ). T n 0) for_all (subst (T s.connections) opened.source_fresh r.through);
           over = λ observed. (r.gave observed).over;
           ended = r.ended;
           failed = λ e. let f = r.fault e in omega (arith, opened.source_fresh, f);

@@ -1,8 +1,8 @@
 -- What a run of all circuits leaves, of what opening, the threads, the takes behind them and closing leave.
-use Rattle.std.proofs.Common.{◌≡◌, inl, inr, ℕ, zero, suc, ◌+◌, ◌-◌, ◌*◌, ◌<◌, ◌≤◌, ◌==◌, Bool, true, false, not, cond, List, [], ◌∷◌, ◌++◌, length, map, length-append, Some, refl, sym, ap, ◌∙◌, subst, arith}
+use Rattle.std.proofs.Common.{◌≡◌, ◌⊎◌, inl, inr, ℕ, zero, suc, ◌+◌, ◌-◌, ◌*◌, ◌<◌, ◌≤◌, ◌==◌, Bool, true, false, not, cond, List, [], ◌∷◌, ◌++◌, length, map, length-append, Some, refl, sym, ap, ◌∙◌, subst, arith}
 use Rattle.std.proofs.lemmas.Bool.{eq-eqb, cases_lt}
 use Rattle.std.proofs.lemmas.List.{append_cancel_right}
-use Rattle.gts_circuits.specs.Cited.{AreOpened, AreOver, Beginning, Begun, Call, Circuit, Directory, Engine, Entry, Event, HasNoPorts, HasPlace, Incoming, IsAtRest, IsClosed, IsDoneIn, IsFinished, IsHandedBack, IsOpened, IsReceived, IsSame, IsSent, IsShutIfClosed, Line, LineStood, LinesSeen, Long, LostSync, MOST_TURNS, NamesAreUpTo, Outgoing, Part, PlaceSeen, ReceiveEnd, Receiver, ReceiverStands, Rose, SendEnd, Sender, ServeEnd, Serves, ServesCircuit, Sockets, SourceFault, StopsAtOpening, Taken, Tells, TookFrames, WentThroughAll, all_done, ends_of, entries, entries_under, events_over, filter, first_fault, flat, goes_on, incoming_of, is_try, on_circuit, outgoing_of, place_of, place_open, receiver_first, receiver_name, sender_first, sender_name, state_at, takes, waiting}
+use Rattle.gts_circuits.specs.Cited.{AreOpened, AreOver, Beginning, Begun, Call, Circuit, Directory, Engine, Entry, Event, HasNoPorts, HasPlace, HavePassed, Incoming, IsAtRest, IsClosed, IsDoneIn, IsFinished, IsHandedBack, IsOpened, IsOver, IsReceived, IsSame, IsSent, IsShutIfClosed, Line, LineStood, LinesSeen, Long, LostSync, MOST_TURNS, NamesAreUpTo, Outgoing, Part, PlaceSeen, ReceiveEnd, Receiver, ReceiverStands, Rose, SendEnd, Sender, ServeEnd, Serves, ServesCircuit, Sockets, SourceFault, SourceMeanings, StopsAtOpening, Taken, Tells, TookFrames, WentThroughAll, all_done, ends_of, entries, entries_under, events_over, filter, first_fault, flat, goes_on, incoming_of, is_try, on_circuit, outgoing_of, place_of, place_open, receiver_first, receiver_name, sender_first, sender_name, state_at, takes, waiting}
 use Rattle.gts_circuits.specs.declared.service.end.ServeEnd.TheVariants.{Done}
 use Rattle.gts_receiver.specs.declared.end.ReceiveEnd.TheVariants.{Ended, Fault}
 use Rattle.gts_receiver.specs.Cited.{settled}
@@ -126,6 +126,26 @@ named_at (y ∷ ys) (suc k) e at = named_at ys k e at
 rose_before : (a b c : ℕ) → a ≤ b → Rose b c → Rose a c
 rose_before a b c later rose = omega (arith, later, rose)
 
+-- the count of a source is no lower behind connections that passed
+passed_later : (told : Type 0) (c : ℕ) (parts : List Part) (before now : ℕ) → HavePassed told c parts before now → before ≤ now
+passed_later told c [] before now passed = passed
+passed_later told c (p ∷ ps) before now passed = let rest = passed_later told c ps passed.0 now passed.2 in omega (arith, passed.1.0, rest)
+
+-- of a source that never failed no connection broke
+all_passed : (told : Type 0) (c : ℕ) (parts : List Part) (before now : ℕ) → HavePassed told c parts before now → now ≡ 0 → told → AreOver c parts
+all_passed told c [] before now passed none tells = tt
+all_passed told c (p ∷ ps) before now passed none tells =
+    let rest = passed_later told c ps passed.0 now passed.2 in
+    (unbroken (omega (arith, rest, none)) (passed.1.1 tells), all_passed told c ps passed.0 now passed.2 none tells)
+  where
+    unbroken : passed.0 ≡ 0 → IsOver c p ⊎ Rose before passed.0 → IsOver c p
+    unbroken still (inl over) = over
+    unbroken still (inr rose) = absurd (omega (arith, still, rose))
+
+none_more : (n : ℕ) → (0 < n → ⊥) → n ≡ 0
+none_more zero none = refl
+none_more (suc n) none = absurd (none (omega arith))
+
 same_twice : (l m n : LinesSeen) (c : ℕ) → IsSame l m c → IsSame m n c → IsSame l n c
 same_twice l m n c a b = record { is_open = b.is_open ∙ a.is_open; faults = b.faults ∙ a.faults; place = b.place ∙ a.place; bytes = b.bytes ∙ a.bytes }
 
@@ -151,32 +171,32 @@ shut_at d (r ∷ rows) (suc c) row place at is shut = shut_at d rows c row place
 shut_if_closed : (d : Directory) (now : LinesSeen) (c : ℕ) → HasPlace d now c → IsShutIfClosed d now c
 shut_if_closed d now c at = λ row is shut. shut_at d d.circuits c row (now.place c) at is shut
 
-module _ {S K : Type 0} (source_tells : Type 0) (begun_by : S → Begun) (left : S → List ℕ) (source_faults : S → ℕ) (sink_tells : Type 0) (written : K → List ℕ) (sink_faults : K → ℕ)
+module _ {S K : Type 0} (incoming : SourceMeanings S) (sink_tells : Type 0) (written : K → List ℕ) (sink_faults : K → ℕ)
     (asked : List PlaceSeen) (connections : ℕ) (before mid now : LinesSeen) where
   -- ---- lines of which none was used
 
-  pub handed_back : (d : Directory) → asked ≡ map (place_of d) d.circuits → (c : ℕ) (x : Sockets S K) → IsOpened source_tells begun_by left source_faults sink_tells written sink_faults before mid c x
+  pub handed_back : (d : Directory) → asked ≡ map (place_of d) d.circuits → (c : ℕ) (x : Sockets S K) → IsOpened incoming.observed incoming.begun incoming.left incoming.faults sink_tells written sink_faults before mid c x
       → get_elem? asked c ≡ some (mid.place c)
-      → IsClosed source_tells begun_by left source_faults sink_tells written sink_faults mid now c x.source x.sink → IsHandedBack d source_tells sink_tells before now c
+      → IsClosed incoming.observed incoming.begun incoming.left incoming.faults sink_tells written sink_faults mid now c x.source x.sink → IsHandedBack d incoming.observed sink_tells before now c
   handed_back d asked_is c x o at z = record {
     closed = z.closed;
     place = with_place_of asked mid now d asked_is c at z.place;
     unread = λ observed.
         let parts = z.parts observed in
         let first = o.first observed in
-        let none : parts.given ≡ [] = append_cancel_right parts.given [] (left x.source) (sym parts.told ∙ ap (λ (b : Begun). b.told) first) in (
-          left x.source,
-          parts.is ∙ ap (λ (l : List ℕ). (begun_by x.source).past ++ record { given = l; left = left x.source } ∷ []) none
-              ∙ ap (λ (b : Begun). b.past ++ record { given = []; left = left x.source } ∷ []) first,
+        let none : parts.given ≡ [] = append_cancel_right parts.given [] (incoming.left x.source) (sym parts.told ∙ ap (λ (b : Begun). b.told) first) in (
+          incoming.left x.source,
+          parts.is ∙ ap (λ (l : List ℕ). (incoming.begun x.source).past ++ record { given = l; left = incoming.left x.source } ∷ []) none
+              ∙ ap (λ (b : Begun). b.past ++ record { given = []; left = incoming.left x.source } ∷ []) first,
         );
     taken = λ observed. z.taken observed ∙ o.unwritten observed;
     sound = z.counted.sound (omega (arith, o.source_fresh, o.sink_fresh)) ∙ o.sound;
   }
 
   pub stops : (d : Directory) → asked ≡ map (place_of d) d.circuits → (xs : List (Sockets S K)) (f : ℕ) → f < length d.circuits → length xs ≡ f → mid.is_open f ≡ before.is_open f → Rose (before.faults f) (mid.faults f)
-      → AreOpened source_tells begun_by left source_faults sink_tells written sink_faults before mid asked connections xs (f + 1)
-      → ((c : ℕ) (x : Sockets S K) → get_elem? xs c ≡ some x → IsClosed source_tells begun_by left source_faults sink_tells written sink_faults mid now c x.source x.sink)
-      → ((c : ℕ) → length xs ≤ c → IsSame mid now c) → StopsAtOpening d source_tells sink_tells f before now
+      → AreOpened incoming.observed incoming.begun incoming.left incoming.faults sink_tells written sink_faults before mid asked connections xs (f + 1)
+      → ((c : ℕ) (x : Sockets S K) → get_elem? xs c ≡ some x → IsClosed incoming.observed incoming.begun incoming.left incoming.faults sink_tells written sink_faults mid now c x.source x.sink)
+      → ((c : ℕ) → length xs ≤ c → IsSame mid now c) → StopsAtOpening d incoming.observed sink_tells f before now
   stops d asked_is xs f less many unopened rose opened closed others =
       let same : IsSame mid now f = others f (omega (arith, many)) in
       record {
@@ -193,13 +213,13 @@ module _ {S K : Type 0} (source_tells : Type 0) (begun_by : S → Begun) (left :
   module _ {P : Type 0} (observed : Type 0) (calls : P → List Call) (disk say : P → ℕ) (b : Beginning) (sockets : List (Sockets S K)) (lines : List (Line S K))
       (threads : List (ℕ × List Entry)) (end : ServeEnd) (engine : Engine P)
       (circuits : length sockets ≡ length b.origin.directory.circuits)
-      (opened : AreOpened source_tells begun_by left source_faults sink_tells written sink_faults before mid asked connections sockets (length sockets))
+      (opened : AreOpened incoming.observed incoming.begun incoming.left incoming.faults sink_tells written sink_faults before mid asked connections sockets (length sockets))
       (asked_is : asked ≡ map (place_of b.origin.directory) b.origin.directory.circuits)
       (sources_are : length (incoming_of lines) ≡ length sockets) (sinks_are : length (outgoing_of lines) ≡ length sockets)
       (each_source : (c : ℕ) (x : Incoming S) → get_elem? (incoming_of lines) c ≡ some x
-      → ReceiverStands b source_tells begun_by left source_faults threads (flat threads) c connections x)
+      → ReceiverStands b incoming.observed incoming.begun incoming.left incoming.faults threads (flat threads) c connections x)
       (names : NamesAreUpTo (2 * length sockets) threads)
-      (f : IsFinished observed calls disk say b source_tells begun_by left source_faults sink_tells written sink_faults mid now threads lines end engine)
+      (f : IsFinished observed calls disk say b incoming.observed incoming.begun incoming.left incoming.faults sink_tells written sink_faults mid now threads lines end engine)
       (few : length threads ≤ MOST_TURNS) where
     abbrev ins : List (Incoming S)
     ins = incoming_of lines
@@ -223,13 +243,13 @@ module _ {S K : Type 0} (source_tells : Type 0) (begun_by : S → Begun) (left :
     none_received c = none_under (receiver_name c) drained (λ k x at e. let t = f.drained.takes k x at in not_receiver t.0 c (sym t.2 ∙ e))
 
     -- the connections that a source began
-    parts_are : (c : ℕ) (x : Incoming S) (y : Outgoing K) → IsClosed source_tells begun_by left source_faults sink_tells written sink_faults mid now c x.source y.sink
-        → (earlier : List Part) (last : Part) → Tells (begun_by x.source) (left x.source) earlier last → source_tells → (now.bytes c).parts ≡ earlier ++ last ∷ []
+    parts_are : (c : ℕ) (x : Incoming S) (y : Outgoing K) → IsClosed incoming.observed incoming.begun incoming.left incoming.faults sink_tells written sink_faults mid now c x.source y.sink
+        → (earlier : List Part) (last : Part) → Tells (incoming.begun x.source) (incoming.left x.source) earlier last → incoming.observed → (now.bytes c).parts ≡ earlier ++ last ∷ []
     parts_are c x y z earlier last told observed =
         let parts = z.parts observed in
-        let gave : parts.given ≡ last.given = append_cancel_right parts.given last.given (left x.source) (sym parts.told ∙ told.told) in
-        parts.is ∙ ap (λ (l : List ℕ). (begun_by x.source).past ++ record { given = l; left = left x.source } ∷ []) gave
-        ∙ ap (λ (l : List ℕ). (begun_by x.source).past ++ record { given = last.given; left = l } ∷ []) told.left_is
+        let gave : parts.given ≡ last.given = append_cancel_right parts.given last.given (incoming.left x.source) (sym parts.told ∙ told.told) in
+        parts.is ∙ ap (λ (l : List ℕ). (incoming.begun x.source).past ++ record { given = l; left = incoming.left x.source } ∷ []) gave
+        ∙ ap (λ (l : List ℕ). (incoming.begun x.source).past ++ record { given = last.given; left = l } ∷ []) told.left_is
         ∙ ap (λ (l : List Part). l ++ last ∷ []) told.past
 
     -- a receiver that went through all connections began all
@@ -242,14 +262,16 @@ module _ {S K : Type 0} (source_tells : Type 0) (begun_by : S → Begun) (left :
     all_begun c (Fault fault) r all = absurd all
 
     circuit : (c : ℕ) (x : Incoming S) (y : Outgoing K) → get_elem? ins c ≡ some x → get_elem? f.sinks c ≡ some y
-        → ServesCircuit b source_tells sink_tells connections threads whole before now c x.end y.end
+        → ServesCircuit b incoming sink_tells connections threads whole before now c x.end y.end
     circuit c x y at place =
         let r = each_source c x at in
         let s = f.drained.each c y place in
         let z = f.closed c x y at place in
         let t = there sockets c (let l = at_less ins c x at in omega (arith, l, sources_are)) in
         let o = opened.each c t.0 t.1 in
-        let parts : source_tells → (now.bytes c).parts ≡ r.earlier ++ r.last ∷ [] = λ observed. parts_are c x y z r.earlier r.last (r.told observed) observed in
+        let rose : 0 < incoming.faults x.source → Rose (before.faults c) (now.faults c) = λ more.
+        rose_before (before.faults c) (mid.faults c) (now.faults c) (omega (arith, o.sound)) (z.counted.failed (omega (arith, more))) in
+        let parts : incoming.observed → (now.bytes c).parts ≡ r.earlier ++ r.last ∷ [] = λ observed. parts_are c x y z r.earlier r.last (r.told observed) observed in
         let whole_received = received_more b threads (flat threads) drained c connections r.earlier r.last x.end (none_received c) r.received in
         let placed : HasPlace b.origin.directory now c =
         with_place_of asked mid now b.origin.directory asked_is c (opened.places c (let l = at_less ins c x at in omega (arith, l, sources_are))) z.place in
@@ -263,6 +285,13 @@ module _ {S K : Type 0} (source_tells : Type 0) (begun_by : S → Begun) (left :
           shut = shut_if_closed b.origin.directory now c placed;
           parts = parts;
           few = let f = r.received.received.few in omega (arith, f, length-append r.earlier (r.last ∷ []));
+          source = x.source;
+          gave = z.parts;
+          counted = rose;
+          through = r.through;
+          passed = λ observed still.
+              let none : incoming.faults x.source ≡ 0 = none_more (incoming.faults x.source) (λ more. still (rose more)) in
+              all_passed incoming.observed c r.earlier 0 r.through.begun r.through.passed (let l = r.through.later in omega (arith, l, none)) observed;
           over = λ observed all.
               let A : List Part → Type 0 = λ l. AreOver c l in (
                 ap (λ (l : List Part). length l) (parts observed) ∙ length-append r.earlier (r.last ∷ []) ∙ all_begun c x.end r.received all,
@@ -274,7 +303,7 @@ module _ {S K : Type 0} (source_tells : Type 0) (begun_by : S → Begun) (left :
           took = λ observed.
               let T : List ℕ → Type 0 = λ l. TookFrames b c whole y.end l in
               subst T (sym (z.taken observed ∙ s.told observed)) (took_frames b threads whole c s.bytes y.end s.sent);
-          source_failed = λ e. rose_before (before.faults c) (mid.faults c) (now.faults c) (omega (arith, o.sound)) (z.counted.failed (let l = r.failed e in omega (arith, l)));
+          source_failed = λ e. rose (r.failed e);
           sink_failed = λ index e. rose_before (before.faults c) (mid.faults c) (now.faults c) (omega (arith, o.sound)) (z.counted.failed (let l = s.failed index e in omega (arith, l)));
           sound = λ all stood. let a = r.sound all in let b = s.sound stood in z.counted.sound (omega (arith, a, b)) ∙ o.sound;
           closed = z.closed;
@@ -351,7 +380,7 @@ module _ {S K : Type 0} (source_tells : Type 0) (begun_by : S → Begun) (left :
               let t = both_at c (omega (arith, less, many_ends)) in
               nothing_there b c whole (f.drained.nothing c t.1 (omega (arith, less, many_ends, many_sinks)) t.3 t.5)
 
-      went_through : source_tells → (c : ℕ) → c < length ends → (length (now.bytes c).parts ≡ connections) × AreOver c (now.bytes c).parts
+      went_through : incoming.observed → (c : ℕ) → c < length ends → (length (now.bytes c).parts ≡ connections) × AreOver c (now.bytes c).parts
       went_through observed c less =
           let t = both_at c (omega (arith, less, many_ends)) in
           (circuit c t.0 t.1 t.2 t.3).over observed t.4
@@ -365,7 +394,7 @@ module _ {S K : Type 0} (source_tells : Type 0) (begun_by : S → Begun) (left :
         | inr from ↦ (f.others c (omega (arith, from, many_sinks))).faults ∙ (opened.others c from).faults
       ]
 
-    pub served : (full : Bool) → (full ≡ true → length threads ≡ MOST_TURNS) → Serves observed calls disk say b source_tells sink_tells connections before now threads full engine end
+    pub served : (full : Bool) → (full ≡ true → length threads ≡ MOST_TURNS) → Serves observed calls disk say b incoming sink_tells connections before now threads full engine end
     served full spent = record {
       drained = drained;
       ends = ends;
@@ -374,7 +403,7 @@ module _ {S K : Type 0} (source_tells : Type 0) (begun_by : S → Begun) (left :
       takes = λ k x at. let t = f.drained.takes k x at in (t.0, omega (arith, t.1, many_sinks, many_ends), t.2, t.3);
       circuits = λ c x at.
           let e = ends_at ins f.sinks c x at in
-          let C : ReceiveEnd × SendEnd → Type 0 = λ z. ServesCircuit b source_tells sink_tells connections threads whole before now c z.0 z.1 in
+          let C : ReceiveEnd × SendEnd → Type 0 = λ z. ServesCircuit b incoming sink_tells connections threads whole before now c z.0 z.1 in
           subst C e.4 (circuit c e.0 e.1 e.2 e.3);
       others = λ c from. same_twice before mid now c (opened.others c (omega (arith, from, many_ends))) (f.others c (omega (arith, from, many_ends, many_sinks)));
       names = all_names;

@@ -2,7 +2,7 @@
 use Rattle.std.specs.Prelude.{◌≡◌, ◌⊎◌, ℕ, ◌+◌, ◌*◌, ◌<◌, ◌≤◌, Bool, true, false, List, [], ◌∷◌, ◌++◌, length, map, Option, Some, None, if◌then◌else◌}
 use mathlib.Core.Option.{some}
 use lib.ListN.{get_elem?}
-use Rattle.gts_circuits.specs.Cited.Below.{AreOver, Call, Circuit, CircuitBytes, Directory, DiskFault, Engine, Entry, Event, IsFront, Known, LineFault, LineStood, LinesMeanings, LostSync, MOST_TURNS, Part, PlaceSeen, Quiet, ReceiveEnd, Receives, Rose, SayFault, Seen, SendEnd, Sends, SourceFault, StartsWith, SwitchFault, TableId, Taken, WentThroughAll, after, all_done, entries, entries_under, events_over, fault_entries, frame_of_draw, frames, given_index, goes_on, ipv4_octets, is_try, most_beside, on_circuit, outcome, state_at, takes, waiting}
+use Rattle.gts_circuits.specs.Cited.Below.{AreOver, Call, Circuit, CircuitBytes, Directory, DiskFault, Engine, Entry, Event, GoesThrough, HasParts, IsFront, Known, LineFault, LineStood, LinesMeanings, LostSync, MOST_TURNS, Part, PlaceSeen, Quiet, ReceiveEnd, Receives, Rose, SayFault, Seen, SendEnd, Sends, SourceFault, SourceMeanings, StartsWith, SwitchFault, TableId, Taken, WentThroughAll, after, all_done, entries, entries_under, events_over, fault_entries, frame_of_draw, frames, given_index, goes_on, ipv4_octets, is_try, most_beside, on_circuit, outcome, state_at, takes, waiting}
 use Rattle.gts_circuits.specs.Housed.{Beginning, Stands}
 use Rattle.gts_receiver.specs.declared.end.ReceiveEnd.TheVariants.{Ended, Fault}
 use Rattle.gts_circuits.specs.Gathering.{NamesAreUpTo}
@@ -197,8 +197,9 @@ TookFrames b c history end bytes = bytes ≡ frames_on b c history
 
 -- Circuit c was served at the place that the directory has for it, and came to these ends: what its source gave on its
 -- connections was told, and its sink took what its sender wrote. Its count rose where one of its sockets failed. It was handed back.
-pub record ServesCircuit (b : Beginning) (source_tells sink_tells : Type 0) (connections : ℕ) (threads : List (ℕ × List Entry))
-    (history : List (ℕ × Entry)) (before now : LinesSeen) (c : ℕ) (received : ReceiveEnd) (sent : SendEnd) : Type 0 where
+pub record ServesCircuit {S : Type 0} (b : Beginning) (incoming : SourceMeanings S) (sink_tells : Type 0) (connections : ℕ)
+    (threads : List (ℕ × List Entry)) (history : List (ℕ × Entry)) (before now : LinesSeen) (c : ℕ) (received : ReceiveEnd)
+    (sent : SendEnd) : Type 0 where
   pub earlier : List Part
   pub last : Part
   pub written : List ℕ
@@ -207,12 +208,21 @@ pub record ServesCircuit (b : Beginning) (source_tells sink_tells : Type 0) (con
   pub place : HasPlace b.origin.directory now c
   pub shut : IsShutIfClosed b.origin.directory now c
   -- its source began these connections, at most as many as it might
-  pub parts : source_tells → (now.bytes c).parts ≡ earlier ++ last ∷ []
+  pub parts : incoming.observed → (now.bytes c).parts ≡ earlier ++ last ∷ []
   pub few : length (earlier ++ last ∷ []) ≤ connections
+  -- the source as it was handed back, and its failures
+  pub source : S
+  pub gave : incoming.observed → HasParts (incoming.begun source) (incoming.left source) (now.bytes c).parts
+  pub counted : 0 < incoming.faults source → Rose (before.faults c) (now.faults c)
+  -- It gave up no connection before that was over, or broke, by a failure more. Its failure is the end only where all connections
+  -- had been begun, or where the last one was to be given up, too, and the next one didn't come, by a failure more.
+  pub through : GoesThrough incoming.observed c connections 0 (incoming.faults source) earlier last received
+  -- so where the count of the circuit didn't rise, each connection that was given up was over
+  pub passed : incoming.observed → (Rose (before.faults c) (now.faults c) → ⊥) → AreOver c earlier
   -- where its receiver went through all of them, each was read to its end, lost synchronisation, or gave as many bytes as one may
-  pub over : source_tells → WentThroughAll received
+  pub over : incoming.observed → WentThroughAll received
       → (length (now.bytes c).parts ≡ connections) × AreOver c (now.bytes c).parts
-  pub ended : source_tells → (rest : ℕ) → received ≡ Ended rest → last.left ≡ []
+  pub ended : incoming.observed → (rest : ℕ) → received ≡ Ended rest → last.left ≡ []
   pub taken : sink_tells → (now.bytes c).taken ≡ written
   pub entered : EnteredConnections (goes_on connections) c (earlier ++ last ∷ []) received (entries_under (receiver_name c) history)
   pub took : sink_tells → TookFrames b c history sent (now.bytes c).taken
@@ -247,8 +257,8 @@ pub record HasNothing (b : Beginning) (c : ℕ) (history : List Entry) : Type 0 
   pub owed : (on_circuit (state_at b.origin history) c).owed ≡ []
   pub waits : waiting (on_circuit (state_at b.origin history) c) ≡ []
 
-module _ {P : Type 0} (observed : Type 0) (calls : P → List Call) (disk say : P → ℕ) (b : Beginning)
-    (source_tells sink_tells : Type 0) (connections : ℕ) (before now : LinesSeen) where
+module _ {P S : Type 0} (observed : Type 0) (calls : P → List Call) (disk say : P → ℕ) (b : Beginning)
+    (incoming : SourceMeanings S) (sink_tells : Type 0) (connections : ℕ) (before now : LinesSeen) where
   -- All circuits were served, in these turns of all threads: the engine stands for their history and the takes behind it, and each
   -- circuit has its part of it. The end is the first fault.
   pub record Serves (threads : List (ℕ × List Entry)) (full : Bool) (engine : Engine P) (end : ServeEnd) : Type 0 where
@@ -259,7 +269,7 @@ module _ {P : Type 0} (observed : Type 0) (calls : P → List Call) (disk say : 
     pub takes : (k : ℕ) (x : ℕ × Entry) → get_elem? drained k ≡ some x
         → (c : ℕ) × (c < length ends) × (x.0 ≡ sender_name c) × IsTake c x.1
     pub circuits : (c : ℕ) (x : ReceiveEnd × SendEnd) → get_elem? ends c ≡ some x
-        → ServesCircuit b source_tells sink_tells connections threads (flat threads ++ drained) before now c x.0 x.1
+        → ServesCircuit b incoming sink_tells connections threads (flat threads ++ drained) before now c x.0 x.1
     pub others : (c : ℕ) → length ends ≤ c → IsSame before now c
     pub names : NamesAreUpTo (2 * length ends) (flat threads ++ drained)
     pub full_is : full ≡ true → length threads ≡ MOST_TURNS
@@ -271,7 +281,7 @@ module _ {P : Type 0} (observed : Type 0) (calls : P → List Call) (disk say : 
         → HasNothing b c (entries (flat threads ++ drained))
     -- done is answered only where each source that is observed began all its connections, and each was read to its end, lost
     -- synchronisation, or gave as many bytes as one may
-    pub went_through : end ≡ Done → source_tells → (c : ℕ) → c < length ends
+    pub went_through : end ≡ Done → incoming.observed → (c : ℕ) → c < length ends
         → (length (now.bytes c).parts ≡ connections) × AreOver c (now.bytes c).parts
     -- and only where no line failed
     pub unfailed : end ≡ Done → (c : ℕ) → now.faults c ≡ before.faults c
@@ -280,6 +290,6 @@ module _ {P : Type 0} (observed : Type 0) (calls : P → List Call) (disk say : 
   abbrev pub IsServed : Option (Known (List Entry)) → ServeEnd → Engine P → Type 0
   IsServed (Some pass) end engine = Serves pass.seen pass.full engine end
   IsServed None (NotOpened c) engine =
-      Stands observed calls disk say b [] engine × StopsAtOpening b.origin.directory source_tells sink_tells c before now
+      Stands observed calls disk say b [] engine × StopsAtOpening b.origin.directory incoming.observed sink_tells c before now
   IsServed None NoMemory engine = Stands observed calls disk say b [] engine × AreUntouched before now
   IsServed None end engine = ⊥

@@ -2,7 +2,7 @@
 use Rattle.std.specs.Prelude.{◌≡◌, ℕ, ◌<◌, ◌≤◌, Bool, true, false, List, [], ◌∷◌, ◌++◌, length, Result}
 use mathlib.Core.Option.{some}
 use lib.ListN.{get_elem?}
-use Rattle.gts_circuits.specs.Cited.Below.{AreOver, Begun, Call, CountsSockets, Engine, Entry, Ghosts as SinkMeanings, HasParts, LineFault, LineStood, Nothing, Part, PlaceSeen, Quiet, Seen, SendEnd, Sending, Sends, SourceFault, SourceMeanings, StationMeanings, TableId, Taken, Tried, WentThroughAll, entries, first_connection, outcome, state_at}
+use Rattle.gts_circuits.specs.Cited.Below.{AreOver, Begun, Call, CountsSockets, Engine, Entry, Ghosts as SinkMeanings, GoesThrough, HasParts, LineFault, LineStood, Nothing, Part, PlaceSeen, Quiet, Seen, SendEnd, Sending, Sends, SourceFault, SourceMeanings, StationMeanings, TableId, Taken, Tried, WentThroughAll, entries, first_connection, outcome, state_at}
 use Rattle.gts_circuits.specs.Housed.{Beginning, Stands}
 use Rattle.gts_receiver.specs.declared.end.ReceiveEnd.TheVariants.{Ended}
 use Rattle.gts_circuits.specs.declared.workers.line.Line.{Line}
@@ -62,13 +62,15 @@ pub record Tells (begun : Begun) (left : List ℕ) (earlier : List Part) (last :
   pub left_is : left ≡ last.left
 
 module _ (b : Beginning) {S : Type 0} (observed : Type 0) (begun_by : S → Begun) (left : S → List ℕ) (faults : S → ℕ) where
-  -- the receiver of c has ended, whose source had given nothing at first, might begin so many connections, and had no fault
+  -- The receiver of c has ended, whose source had given nothing at first, might begin so many connections, and had no fault. It gave
+  -- up no connection before that was over or broke.
   pub record ReceiverStands (threads : List (ℕ × List Entry)) (history : List (ℕ × Entry)) (c connections : ℕ) (x : Incoming S)
       : Type 0 where
     pub earlier : List Part
     pub last : Part
     pub received : IsReceived b threads history c connections earlier last x.end
     pub told : observed → Tells (begun_by x.source) (left x.source) earlier last
+    pub through : GoesThrough observed c connections 0 (faults x.source) earlier last x.end
     pub over : observed → WentThroughAll x.end → AreOver c (earlier ++ last ∷ [])
     pub ended : observed → (rest : ℕ) → x.end ≡ Ended rest → left x.source ≡ []
     pub failed : x.end ≡ SourceFault → 0 < faults x.source

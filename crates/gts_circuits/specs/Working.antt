@@ -1,7 +1,7 @@
 -- What a worker keeps.
 use Rattle.std.specs.Prelude.{◌≡◌, ℕ, ◌+◌, ◌*◌, ◌<◌, ◌≤◌, Bool, true, false, List, [], ◌++◌, length, slice_index_or, Option, Some, None}
 use Rattle.gts_circuits.specs.Housed.{Beginning}
-use Rattle.gts_circuits.specs.Cited.Below.{Begun, Entry, Gives, Known, LineFault, LineStood, Part, ReceiveEnd, Receives, Rose, Seen, SendEnd, Sends, SourceFault, TableId, WentThroughAll}
+use Rattle.gts_circuits.specs.Cited.Below.{Begun, Entry, Gives, GoesThrough, Known, LineFault, LineStood, Part, ReceiveEnd, Receives, Rose, Seen, SendEnd, Sends, SourceFault, TableId, WentThroughAll}
 use Rattle.gts_circuits.specs.Turning.{KnowsOwn, seen_by}
 use Rattle.gts_receiver.specs.declared.end.ReceiveEnd.TheVariants.{Ended}
 use Rattle.gts_circuits.specs.declared.workers.line.Line.{Line}
@@ -73,12 +73,14 @@ fresh b hall name = record {
 }
 
 module _ {S : Type 0} (observed : Type 0) (begun_by : S → Begun) (left : S → List ℕ) (faults : S → ℕ) where
-  -- How a receiver over so many connections ended, by its source at first and now, and by what its desk had seen and has seen.
+  -- How a receiver over so many connections ended, by its source at first and now, and by what its desk had seen and has seen. It
+  -- gave up no connection before that was over or broke.
   pub record ReceiverKeeps (c connections : ℕ) (first now : S) (old new : Seen) (end : ReceiveEnd) : Type 0 where
     pub earlier : List Part
     pub last : Part
     pub received : Receives c connections old new earlier last end
     pub gave : observed → Gives c (begun_by first) (left first) earlier last (begun_by now) (left now) end
+    pub through : GoesThrough observed c connections (faults first) (faults now) earlier last end
     pub ended : observed → (rest : ℕ) → end ≡ Ended rest → left now ≡ []
     pub later : faults first ≤ faults now
     pub fault : end ≡ SourceFault → Rose (faults first) (faults now)

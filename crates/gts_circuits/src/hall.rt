@@ -4,6 +4,7 @@
 pub mod began;
 pub mod crossing;
 pub mod desk;
+pub mod entrance;
 pub mod housed;
 pub mod laws;
 pub mod taking;

@@ -1,6 +1,8 @@
 -- What was found of a message is what the definitions read of it.
-use Rattle.std.proofs.Common.{◌≡◌, List, [], ℕ, Result, Ok, Err, sym, ap, ◌∙◌}
-use Rattle.gts_core.specs.Cited.{Asks, Directory, HeadingFields, IsFound, Item, Judged, MessageField, MessageParts, RequestField, heading_of_message, items_of, no_heading, request_at, split_at}
+use Rattle.std.proofs.Common.{◌≡◌, ◌<◌, ◌≤◌, List, [], ◌++◌, length, ℕ, Result, Ok, Err, sym, ap, ◌∙◌, arith}
+use Rattle.std.proofs.lemmas.List.{length-append}
+use Rattle.gts_message.proofs.LawLemmas.{split_takes}
+use Rattle.gts_core.specs.Cited.{Asks, Directory, EOL, HeadingFields, IsFound, Item, Judged, LONGEST_BODY, LONGEST_MESSAGE, MessageField, MessageParts, RequestField, heading_of_message, heading_text, items_of, message_end, no_heading, request_at, split_at}
 use Rattle.gts_core.specs.declared.answer.Judged.TheVariants as judged
 
 pub heading_read : (message : List ℕ) (parts : MessageParts) → split_at message ≡ Ok parts → heading_of_message message ≡ parts.heading
@@ -17,3 +19,13 @@ asks_found d c message parts (judged.Refused refusal) read asks = tt
 asks_found d c message parts (judged.Asked asking) read asks = record { request = sym (items_read message parts asking.request read asks.0); sound = asks.1 }
 asks_found d c message parts (judged.Duplicate position) read asks = tt
 asks_found d c message parts (judged.New bulletin) read asks = absurd asks
+
+-- the text of a message is shorter than the longest message
+pub text_short : (message : List ℕ) (parts : MessageParts) → split_at message ≡ Ok parts → length parts.text < LONGEST_MESSAGE
+text_short message parts read =
+    let is = split_takes message parts read in
+    let (gap, _, at) = is.body.spelled in
+    let front : List ℕ = heading_text parts.heading ++ gap ++ EOL in
+    let short : length parts.body ≤ LONGEST_BODY = is.short in
+    let size : length parts.body ≡ length (front ++ parts.text ++ message_end) = ap length at in
+    omega (arith, short, size, length-append (front ++ parts.text) message_end, length-append front parts.text)

@@ -1,14 +1,36 @@
 ghost use Rattle.std.specs.Prelude.{◌≡◌, ◌≤◌, Ok, count_ones};
-ghost use Rattle.gts_core.specs.Cited.{IsDigestOf, digest_of, fields_of, parts_of, split_at};
+ghost use Rattle.gts_core.specs.Cited.{IsDigestOf, Reads, digest_of, fields_of, message_weighed, parts_of, split_at};
 
-use gts_message::SplitMessage;
+use gts_heading::MessageField;
+use gts_message::{Message, SplitMessage};
 use std::marker::Model;
+
+/// What is weighed.
+#[derive(Clone, Copy)]
+pub enum Weighed<'m> {
+    /// A message, as it came in.
+    Message(&'m [u8]),
+    /// The body of a message, as a journal has it: weighed like a message that has it behind the sequence number 000.
+    Body(&'m [u8]),
+}
+
+impl<'m> Weighed<'m> {
+    /// Its parts, or the first field at fault.
+    pub(crate) fn split(self) -> Result<SplitMessage<'m>, MessageField>
+        ensures { Reads parts_of result (split_at (message_weighed self.entry)) }
+    {
+        match self {
+            Weighed::Message(message) => Message::split(message),
+            Weighed::Body(body) => Message::split_around(body),
+        }
+    }
+}
 
 /// A message that is a new bulletin, with what was found of it: its parts, the digest of its heading and its text, and the
 /// circuits that it is for. Its type keeps that the parts and the digest are those of its message.
 #[derive(Drop)]
 pub struct Bulletin<'m> {
-    message: &'m [u8],
+    weighed: Weighed<'m>,
     parts: SplitMessage<'m>,
     digest: [u8; 32],
     mask: u64,
@@ -25,20 +47,20 @@ impl<'m> Model for Bulletin<'m> {
 }
 
 impl<'m> Bulletin<'m> {
-    /// A message as a new bulletin for the circuits of a mask.
+    /// What was weighed, as a new bulletin for the circuits of a mask.
     pub(crate) fn new(
-        message: &'m [u8],
+        weighed: Weighed<'m>,
         parts: SplitMessage<'m>,
         digest: [u8; 32],
         mask: u64,
     ) -> Bulletin<'m>
-        requires read { split_at message.now ≡ Ok (parts_of parts) }
+        requires read { split_at (message_weighed weighed) ≡ Ok (parts_of parts) }
         requires digest { digest ≡ digest_of (fields_of parts.heading) parts.text.now }
-        ensures message { result.message ≡ message.now }
+        ensures message { result.message ≡ message_weighed weighed.entry }
         ensures mask { result.mask ≡ mask }
     {
         Bulletin {
-            message,
+            weighed,
             parts,
             digest,
             mask,

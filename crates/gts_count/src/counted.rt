@@ -1,14 +1,12 @@
 ghost use Rattle.std.specs.Prelude.{◌≡◌};
 ghost use Rattle.gts_count.specs.Numbers.{IsSound};
 
-use crate::start::counting_of;
 use crate::steps::{compact, hear, leave, lose, restart, settle, take};
 use crate::text::table;
 use crate::{CountedParts, Counting};
 use gts_alphabet::NoMemory;
 use gts_calls::Switch;
-use gts_directory::Directory;
-use gts_event::{Need, Outcome, SwitchFault};
+use gts_event::{Outcome, SwitchFault};
 use gts_frame::{FrameBuf, FrameField, Kind};
 use gts_record::OpenFault;
 use std::alloc::Global;
@@ -74,32 +72,8 @@ impl<T: Switch> Switch for Counted<T> {
 }
 
 impl<T: Switch> Counted<T> {
-    ghost use Rattle.std.specs.Prelude.{IfOk, IfErr, IsTrue};
-    ghost use Rattle.gts_count.specs.Cited.{ShowsTable, StandsWhere, is_sound, need_of};
-
-    /// A switch whose numbers begin with those of a need: with a row for each of its bulletins. A refusal hands the switch back.
-    pub fn new(
-        alloc: Global,
-        switch: T,
-        directory: &Directory,
-        need: &Need,
-    ) -> Result<Counted<T>, (T, NoMemory)>
-        requires directory { T.meanings.directory switch ≡ directory.now }
-        requires sound { IsTrue (is_sound directory.now (need_of need.now)) }
-        ensures switch { IfOk result (λ c. c.parts.switch ≡ switch) }
-
-        // It stands for what the switch stands for, where that has this need.
-        ensures stands { IfOk result (λ c.
-            StandsWhere T.meanings directory.now (need_of need.now) switch c.parts) }
-        ensures err { IfErr result (λ e. e.0 ≡ switch) }
-    {
-        match counting_of(alloc, directory, need) {
-            Ok(counting) => Ok(Counted {
-                parts: CountedParts { switch, counting },
-            }),
-            Err(NoMemory) => Err((switch, NoMemory)),
-        }
-    }
+    ghost use Rattle.std.specs.Prelude.{IfOk};
+    ghost use Rattle.gts_count.specs.Cited.{ShowsTable};
 
     /// The table of the need of the history: the numbers of each key of which not all are 0, of each circuit, and the end. Once
     /// a device failed, the text says nothing of that.

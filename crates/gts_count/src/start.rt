@@ -8,7 +8,7 @@ use crate::{Counting, Numbers, Recent};
 use circular_buffer::HeapCircularBuffer;
 use gts_alphabet::NoMemory;
 use gts_directory::Directory;
-use gts_event::{Bulletin, CircuitNeed, Need};
+use gts_event::{Bulletin, CircuitNeed, Need, is_recent};
 use std::alloc::Global;
 use std::collections::{BTreeMap, HashMap};
 
@@ -64,13 +64,6 @@ fn nothing(alloc: Global, directory: &Directory) -> Result<Numbers, NoMemory>
         rows: HashMap::new(alloc),
         came: none_came(alloc, circuits)?,
     })
-}
-
-/// Whether a position is among the last accepted ones that are looked at.
-fn is_recent(directory: &Directory, accepted: u64, position: u64) -> bool
-    ensures { result ≡ states.is_recent directory.now accepted position }
-{
-    accepted.saturating_sub(position) <= u64::from(directory.window())
 }
 
 /// Notes a bulletin of a need: its key gets a row, and where it is recent it joins the window.

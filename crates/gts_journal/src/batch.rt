@@ -171,8 +171,8 @@ impl Journal {
         ensures reach { P.observed → OnOk result (ReachesWithin STEP (P.calls station.old) self.old
             batch.old.text (file_of (P.calls station.new) self.new)) }
 
-        // A crash at any moment of the call leaves the journal as it was, or with all records of the batch; and the other files as
-        // they were.
+        // A crash at any moment of the call leaves the journal as it was, or with all records of the batch; and the other files that
+        // were synced as they were.
         ensures moments { P.observed → EachSince (P.calls station.old) (P.calls station.new)
             (LeavesAllOrNone (P.calls station.old) self.old batch.old.text) }
         ensures silent { P.observed → said_by (P.calls station.new) ≡ said_by

@@ -1,6 +1,6 @@
 -- The parts of a message: what was read is spelled so, and what is spelled so is read.
-use Rattle.std.proofs.Common.{◌≡◌, ℕ, ◌-◌, ◌^◌, ◌<◌, ◌≤◌, ◌⊎◌, inl, inr, Bool, true, false, ◌&&◌, ◌||◌, ◌==◌, cond, leb, List, [], ◌∷◌, ◌++◌, length, take, drop, Option, Some, None, Result, Ok, Err, nat_eq, nat_le, refl, sym, ap, subst, ◌∙◌, append_assoc, arith, IfOk, IsOkAnd}
-use Rattle.gts_message.specs.Cited.{AllDigits, Bor, EOL, End, Heading, HeadingFields, HeadingStart, IsBody, IsGap, IsMessage, LONGEST_BODY, MessageField, MessageParts, Number, Reads, SOH, Size, SplitMessage, StartLine, after_gap, after_word, body_at, dec, digit_run, digits_value, ends_with, fault, fields_of, heading_at, heading_text, is_ascii_digit, list_all, message_end, message_of, number_at, parts_of, prefix_len, split_at, take_while, text_at}
+use Rattle.std.proofs.Common.{◌≡◌, ℕ, ◌-◌, ◌^◌, ◌<◌, ◌≤◌, ◌⊎◌, inl, inr, Bool, true, false, ◌&&◌, ◌||◌, ◌==◌, cond, leb, List, [], ◌∷◌, ◌++◌, length, take, drop, Option, Some, None, Result, Ok, Err, nat_eq, nat_le, refl, sym, ap, subst, ◌∙◌, append_assoc, arith, IfOk, IsOkAnd, codes}
+use Rattle.gts_message.specs.Cited.{AllDigits, Bor, EOL, End, Heading, HeadingFields, HeadingStart, IsBody, IsGap, IsMessage, LONGEST_BODY, MessageField, MessageParts, Number, Reads, SOH, Size, SplitMessage, StartLine, after_gap, after_word, body_at, dec, digit_run, digits_value, ends_with, fault, fields_of, heading_at, heading_text, is_ascii_digit, list_all, message_end, message_of, number_at, parts_around, parts_of, prefix_len, split_at, take_while, text_at}
 use Rattle.gts_heading.specs.Reading.{◌>>=◌}
 use Rattle.std.proofs.lemmas.Bool.{leb-true, le-leb, lt-leb, eqb-true, and_parts, and_from, or_cases}
 use Rattle.std.proofs.lemmas.Bool.Decides.{Decides-eqb}
@@ -207,6 +207,11 @@ message_from_fault message none = fault_none message (split_at message) refl non
 
 pub fault-message : (message : List ℕ) (parts : MessageParts) → IsMessage message parts → fault message ≡ None
 fault-message message parts is = ap fault_of (split_again message parts is)
+
+-- the message that has a body behind the number 000 is read as its body is
+pub split-around : (body : List ℕ) → split_at (message_of (codes "000") body) ≡ parts_around 0 3 body
+unfolding split_at number_at
+split-around body = refl
 
 -- ---- what the calls answer
 

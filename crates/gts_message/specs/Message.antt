@@ -52,16 +52,21 @@ body_at body = do
   text ← text_at heading.1
   Ok (heading.0, text)
 
+-- the parts of a message of this number, of so many digits, and this body, or the first field of the body at fault
+abbrev pub parts_around : ℕ → ℕ → List ℕ → Result MessageParts MessageField
+parts_around number digits body = do
+  found ← body_at body
+  if nat_le (length body) LONGEST_BODY
+      then Ok (record { number = number; digits = digits; heading = found.0; text = found.1; body = body })
+      else Err Size
+
 -- the parts of a message, or the first field at fault
 unfoldable pub split_at : List ℕ → Result MessageParts MessageField
 split_at message = do
   start ← after_word (SOH ∷ EOL) StartLine message
   number ← number_at start
   body ← after_word EOL HeadingStart (after_gap number.2)
-  found ← body_at body
-  if nat_le (length body) LONGEST_BODY
-      then Ok (record { number = number.0; digits = number.1; heading = found.0; text = found.1; body = body })
-      else Err Size
+  parts_around number.0 number.1 body
 
 -- the first field at fault; none exactly where it is a message
 abbrev pub fault : List ℕ → Option MessageField

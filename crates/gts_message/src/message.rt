@@ -1,5 +1,5 @@
-ghost use Rattle.std.specs.Prelude.{◌≡◌, List, ℕ, IfOk, IsOkAnd};
-ghost use Rattle.gts_message.specs.Cited.{HeadingFields, Reads, fields_of};
+ghost use Rattle.std.specs.Prelude.{◌≡◌, List, ℕ, IfOk, IsOkAnd, codes};
+ghost use Rattle.gts_message.specs.Cited.{HeadingFields, Reads, fields_of, message_of};
 
 use crate::reading::{number_of_run, text_before_end};
 use gts_alphabet::{CR, EOL, LF, LONGEST_BODY, SOH};
@@ -30,7 +30,7 @@ pub struct Message;
 pub struct Body;
 
 impl Message {
-    ghost use Rattle.gts_message.specs.Message.{MessageParts, IsMessage, parts_of, split_at};
+    ghost use Rattle.gts_message.specs.Message.{MessageParts, IsMessage, parts_around, parts_of, split_at};
 
     /// Takes a message apart. The refusal is the first field, from left to right, that isn't as the Manual and this
     /// project's profile have it; a byte that isn't there is a fault of the field in which it would stand.
@@ -46,6 +46,14 @@ impl Message {
         Message::parts(message)
     }
 
+    /// Takes apart the message that has this body behind the sequence number 000, without making it.
+    #[tactic(auto, unfolding(crate::specs::Message::split_at))]
+    pub fn split_around(body: &[u8]) -> Result<SplitMessage<'_>, MessageField>
+        ensures { Reads parts_of result (split_at (message_of (codes "000") body.now)) }
+    {
+        Message::parts_around(0, 3, body)
+    }
+
     /// Reads the fields from left to right.
     #[tactic(auto, unfolding(crate::specs::Message::split_at))]
     fn parts(message: &[u8]) -> Result<SplitMessage<'_>, MessageField>
@@ -57,7 +65,14 @@ impl Message {
         let mut cursor = Cursor::new(rest);
         cursor.gap();
         cursor.word(&EOL, MessageField::HeadingStart)?;
-        let body = cursor.rest();
+        Message::parts_around(number, digits, cursor.rest())
+    }
+
+    /// The parts of a message that has this number, of so many digits, and this body.
+    #[tactic(auto)]
+    fn parts_around(number: u32, digits: u8, body: &[u8]) -> Result<SplitMessage<'_>, MessageField>
+        ensures { Reads parts_of result (parts_around number digits body.now) }
+    {
         let (heading, text) = Body::parts(body)?;
         if body.len() > LONGEST_BODY {
             return Err(MessageField::Size);

@@ -5,7 +5,8 @@ use crate::cause::{Act, Cause, Place, answered, noted};
 use crate::outputs::where_it_can;
 use gts_traits::{Failed, Source};
 use std::fs::File;
-use std::io::Read;
+use std::io;
+use std::io::{ErrorKind, Read};
 use std::rt::Files;
 
 /// A source over a file, which it opens at the first read and keeps open. Its bytes are not observed.
@@ -59,6 +60,19 @@ impl<'a, R: Files<File = File>> FileSource<'a, R> {
     }
 }
 
+/// Reads the next bytes of an open file. A signal that comes meanwhile is no failure.
+fn read_next<F: Read>(file: &mut F, into: &mut [u8]) -> io::Result<usize>
+    ensures { IfOk result (λ count. count ≤ length into.new) }
+{
+    for _ in 0..u64::MAX {
+        match file.read(into) {
+            Err(error) if error.kind() == ErrorKind::Interrupted => {}
+            answer => return answer,
+        }
+    }
+    Err(io::Error::from(ErrorKind::Interrupted))
+}
+
 /// Reads the next bytes of a file, which is opened where it isn't yet.
 fn read_on<R: Files>(
     rt: &R,
@@ -69,10 +83,10 @@ fn read_on<R: Files>(
     ensures { IfOk result (λ count. count ≤ length into.new) }
 {
     if let Some(file) = file {
-        return answered(file.read(into), Place::File(name), Act::Read);
+        return answered(read_next(file, into), Place::File(name), Act::Read);
     }
     let mut opened = answered(File::open(rt, name), Place::File(name), Act::Open)?;
-    let count = opened.read(into);
+    let count = read_next(&mut opened, into);
     *file = Some(opened);
     answered(count, Place::File(name), Act::Read)
 }

@@ -1,17 +1,10 @@
 //! How many bulletins are forgotten whose duplicates were known.
 
-ghost use Rattle.std.specs.Prelude.{◌≡◌, ◌-◌, length, map, nat_le, ◌+◌};
+ghost use Rattle.std.specs.Prelude.{◌≡◌, ◌-◌, length, map};
 ghost use Rattle.gts_report.specs.Cited.{behind, bulletin_of, filter, known, need_of, recent_among};
 
 use gts_directory::Directory;
-use gts_event::{Bulletin, Need};
-
-/// Whether a position is among the last accepted ones that are looked at.
-pub(crate) fn is_recent(directory: &Directory, accepted: u64, position: u64) -> bool
-    ensures { result ≡ nat_le accepted (position + directory.now.window) }
-{
-    accepted.saturating_sub(position) <= u64::from(directory.window())
-}
+use gts_event::{Bulletin, Need, is_recent};
 
 /// How many of some bulletins are recent.
 fn count_recent(directory: &Directory, accepted: u64, bulletins: &[Bulletin]) -> u64

@@ -1,11 +1,11 @@
 -- The records of a journal are compared with those of a feed.
-use Rattle.std.proofs.Common.{◌≡◌, ℕ, ◌+◌, ◌-◌, ◌<◌, ◌≤◌, Bool, true, false, cond, nat_eq, List, [], ◌∷◌, length, drop, Option, Some, Result, Ok, Err, refl, sym, ap, subst, ◌∙◌, arith}
-use Rattle.gts_standby.specs.Cited.{Call, Compares, Did, Directory, DiskFault, Diverged, Done, Feed, FollowEnd, Gives, HasCompared, HasGoneOn, HasRead, InFeed, InHand, IsAtFirst, IsAtSeals, IsBehindOne, IsDamage, IsDevice, IsFaultOf, Leads, Need, NoMemory, Open, OpenFault, Parts, Piece, Sealed, SourceFault, StandsOn, StopsAs, StopsAt, Syncs, Taken, Version, admits_checkpoint, by_piece, checkpoint_seals, checkpoint_text, compacted_bytes, compare_all, compare_first, compared, file_of, first_piece, first_seal, held, is_at_checkpoint, is_checkpoint, need_in, next_entry, next_seal, open_end, own_seals, pointwise, record_of, record_piece, record_size, seal, seals_at, seals_behind, seals_here, seen, selected, stopped, written}
+use Rattle.std.proofs.Common.{◌≡◌, inl, inr, ℕ, ◌+◌, ◌-◌, ◌<◌, ◌≤◌, Bool, true, false, cond, nat_eq, List, [], ◌∷◌, length, drop, Option, Some, Result, Ok, Err, refl, sym, ap, subst, ◌∙◌, arith}
+use Rattle.gts_standby.specs.Cited.{Call, Compares, Did, Directory, DiskFault, Diverged, Done, Feed, FollowEnd, Gives, HasCompared, HasGoneOn, HasRead, InFeed, InHand, IsAtFirst, IsAtSeals, IsBehindOne, IsDamage, IsDevice, IsFaultOf, IsOwnEnd, Leads, Need, NoMemory, Open, OpenFault, Parts, PassesNext, Piece, Sealed, SourceFault, StandsOn, StopsAs, StopsAt, Syncs, Taken, Version, admits_checkpoint, by_piece, checkpoint_seals, checkpoint_text, compacted_bytes, compare_all, compare_first, compared, file_of, first_piece, first_seal, held, is_at_checkpoint, is_checkpoint, need_in, next_entry, next_seal, open_end, own_seals, pointwise, record_of, record_piece, record_size, seal, seals_at, seals_behind, seals_here, seen, selected, stopped, written}
 use Rattle.gts_record.specs.declared.value.Record.{Record}
 use Rattle.gts_checkpoint.specs.Reading.{HasRead as HasReadNeed}
 use Rattle.gts_record.specs.Record as texts
 use Rattle.gts_record.specs.declared.fault.OpenFault.TheVariants as opening
-use Rattle.gts_standby.proofs.FeedLemmas.{leads_on, none_left, left_split}
+use Rattle.gts_standby.proofs.FeedLemmas.{leads_on, none_left, left_split, no_end, no_fault}
 use Rattle.gts_standby.proofs.FirstLemmas.{plain_first, checkpoint_reaches}
 
 -- ---- what a journal answered
@@ -18,6 +18,21 @@ device_entry opening.NoJournal entry gives none = none opening.NoJournal gives
 device_entry opening.OldVersion entry gives none = none opening.OldVersion gives
 device_entry (opening.NotThis want found) entry gives none = none (opening.NotThis want found) gives
 device_entry (opening.Damaged file at) entry gives none = none (opening.Damaged file at) gives
+
+-- where a record stands at the gate and wasn't passed, a device failed
+pub device_passed : (d : Directory) (calls : List Call) (j next : InHand) (end : ℕ) (left : List (List ℕ)) (e : OpenFault) → IsAtSeals d calls j end left → j.gate < end → PassesNext (Err e) (next_entry calls j) j next → IsDevice (open_end e)
+device_passed d calls j next end left e at low (inl gives) =
+    device_entry e (next_entry calls j) gives (λ f is. no_fault j.version d j.file j.seal j.gate (file_of calls j) end at.sent f at.reaches is)
+device_passed d calls j next end left e at low (inr none) = absurd (no_end j.version d j.file j.seal j.gate (file_of calls j) end at.sent at.reaches low none)
+
+-- a fault of the opening is one of the own journal
+pub own_opening : (e : OpenFault) → IsOwnEnd (open_end e)
+own_opening opening.DiskFault = tt
+own_opening opening.NoMemory = tt
+own_opening opening.NoJournal = tt
+own_opening opening.OldVersion = tt
+own_opening (opening.NotThis want found) = tt
+own_opening (opening.Damaged file at) = tt
 
 pub device_read : (v : Version) (d : Directory) (file : ℕ) (bytes : List ℕ) (e : OpenFault) → IsDamage v d file bytes e → (admits_checkpoint v d bytes (need_in bytes) ≡ false → ⊥) → IsDevice (open_end e)
 device_read v d file bytes opening.DiskFault is none = tt

@@ -1,6 +1,6 @@
 -- How a feed begins.
 use Rattle.std.proofs.Common.{◌≡◌, ℕ, ◌+◌, ◌-◌, ◌*◌, ◌≤◌, Bool, true, false, cond, ◌&&◌, nat_eq, nat_le, List, [], ◌∷◌, ◌++◌, length, take, drop, Option, Some, None, Result, Ok, Err, inl, inr, refl, sym, ap, subst, ◌∙◌, arith, append_assoc, length-append, length-drop, take-append-drop, IfErr, OnOk, not}
-use Rattle.gts_standby.specs.Cited.{Call, Damaged, Did, Directory, GoesOnBehind, InHand, IsAnswer, IsAtFirst, IsAtGate, IsDamage, IsFaultOf, IsQuiet, IsShipFault, Need, OnlySyncs, OpenFault, Opened, Reaches, Read, SaysFront, SaysHere, SaysOnly, SaysRest, ShipFault, ShipsOnly, StandsFor, StandsOn, State, Syncs, Version, admits_checkpoint, agreeing, begun, behind_header, checkpoint_feed, checkpoint_opens, checkpoint_text, compacted_bytes, draw_size, due, empty, feed, feed_at, feed_behind, feed_of, file_of, file_opens, files_read, first_fault, first_seal, header_fault, is_at_checkpoint, is_checkpoint, is_sealed, is_sound, magic, need, need_in, on, opened_of, opens, records_at, restarted, same_text, seal, sealed, seen, selected, selected_bytes, ship_fault, starts_with, written}
+use Rattle.gts_standby.specs.Cited.{Call, Damaged, Did, Directory, GoesOnBehind, InHand, IsAnswer, IsAtFirst, IsAtGate, IsDamage, IsFaultOf, IsQuiet, IsShipFault, Need, OnlySyncs, OnlySyncsUnopened, OpenFault, Opened, Reaches, Read, SaysFront, SaysHere, SaysOnly, SaysRest, ShipFault, ShipsOnly, StandsFor, StandsOn, State, Syncs, Version, admits_checkpoint, agreeing, begun, behind_header, checkpoint_feed, checkpoint_opens, checkpoint_text, compacted_bytes, draw_size, due, empty, feed, feed_at, feed_behind, feed_of, file_of, file_opens, files_read, first_fault, first_seal, header_fault, is_at_checkpoint, is_checkpoint, is_sealed, is_sound, magic, need, need_in, on, opened_of, opens, records_at, restarted, same_text, seal, sealed, seen, selected, selected_bytes, ship_fault, starts_with, written}
 use Rattle.gts_traits.specs.Cited.{Broken}
 use Rattle.gts_checkpoint.specs.Reading.{HasRead}
 use Rattle.std.proofs.lemmas.Bool.{and_parts}
@@ -233,19 +233,19 @@ nothing_front : (old new : List Call) (x : List ℕ) → SaysOnly old new [] →
 nothing_front old new x says = record { left = []; front = (on 0 x, refl); said = says }
 
 pub open_answer : (d : Directory) (old new : List Call) (e : OpenFault) (x : List ℕ) → OnlySyncs old new → IsAnswer e (opens d (seen old)) → IsShipFault (ship_fault e) d old new x
-open_answer d old new opening.DiskFault x syncs is = nothing_front old new x (syncs_say_nothing old new syncs)
-open_answer d old new opening.NoMemory x syncs is = nothing_front old new x (syncs_say_nothing old new syncs)
-open_answer d old new opening.NoJournal x syncs is = (is, syncs_say_nothing old new syncs)
-open_answer d old new opening.OldVersion x syncs is = (is, syncs_say_nothing old new syncs)
-open_answer d old new (opening.NotThis want found) x syncs is = (is, syncs_say_nothing old new syncs)
-open_answer d old new (opening.Damaged file at) x syncs is = (is, syncs_say_nothing old new syncs)
+open_answer d old new opening.DiskFault x syncs is = inl syncs
+open_answer d old new opening.NoMemory x syncs is = inl syncs
+open_answer d old new opening.NoJournal x syncs is = (is, syncs)
+open_answer d old new opening.OldVersion x syncs is = (is, syncs)
+open_answer d old new (opening.NotThis want found) x syncs is = (is, syncs)
+open_answer d old new (opening.Damaged file at) x syncs is = (is, syncs)
 
--- a quiet fault is answered with a front of what was to be said
-pub quiet_answer : (d : Directory) (old new : List Call) (e : ShipFault) (x : List ℕ) → IsQuiet e → SaysFront old new (on 0 x) → IsShipFault e d old new x
-quiet_answer d old new (fault.Open f) x quiet says = absurd quiet
-quiet_answer d old new fault.DiskFault x quiet says = says
-quiet_answer d old new fault.SayFault x quiet says = says
-quiet_answer d old new fault.NoMemory x quiet says = says
+-- behind a sync a quiet fault is answered with a front of what was to be said
+pub quiet_answer : (d : Directory) (old mid new : List Call) (e : ShipFault) (x : List ℕ) → mid ≡ Did Syncs ∷ old → IsQuiet e → SaysFront mid new (on 0 x) → IsShipFault e d old new x
+quiet_answer d old mid new (fault.Open f) x first quiet says = absurd quiet
+quiet_answer d old mid new fault.DiskFault x first quiet says = inr (subst (λ (calls : List Call). SaysFront calls new (on 0 x)) first says)
+quiet_answer d old mid new fault.SayFault x first quiet says = inr (subst (λ (calls : List Call). SaysFront calls new (on 0 x)) first says)
+quiet_answer d old mid new fault.NoMemory x first quiet says = inr (subst (λ (calls : List Call). SaysFront calls new (on 0 x)) first says)
 
 -- what follows a sync follows what was before it
 pub behind_sync : (old mid new : List Call) (x : List ℕ) → SaysOnly old mid [] → SaysOnly mid new (on 0 x) → SaysOnly old new (on 0 x)
@@ -307,40 +307,49 @@ same_feed d old mid new j first second version stands =
     ap (λ (calls : List Call). seen calls j.file) second ∙ ap (λ (calls : List Call). seen calls j.file) first ∙ ap (seen old) (sym place) in
     ap (λ (v : Version). feed v d.mark (file_of new j)) version ∙ ap (feed written d.mark) bytes
 
--- neither did two
-pub twice_quiet : (old mid now : List Call) → mid ≡ Did Syncs ∷ old → now ≡ Did Syncs ∷ mid → SaysOnly old now []
-twice_quiet old mid now first second = behind_sync old mid now [] (synced_quiet old mid first) (synced_quiet mid now second)
-
--- behind calls that said nothing, this was said of a journal that opens
-pub says_opened : {T : Type 0} (result : Result T ShipFault) (d : Directory) (old now new : List Call) (n : Need) (x : List ℕ) → opens d (seen old) ≡ Ok n → SaysOnly old now [] → SaysRest result now new x
+-- behind the sync of the opening, and calls that said nothing, this was said of a journal that opens
+pub says_opened : {T : Type 0} (result : Result T ShipFault) (d : Directory) (old mid now new : List Call) (n : Need) (x : List ℕ) → opens d (seen old) ≡ Ok n → mid ≡ Did Syncs ∷ old → SaysOnly mid now [] → SaysRest result now new x
     → OnOk result (ShipsOnly d old new x)
-says_opened (Ok y) d old now new n x opened quiet says = record { need = n; opened = opened; said = behind_sync old now new x quiet says.only }
-says_opened (Err e) d old now new n x opened quiet says = tt
+says_opened (Ok y) d old mid now new n x opened first quiet says = record {
+  need = n;
+  opened = opened;
+  said = subst (λ (calls : List Call). SaysOnly calls new (on 0 x)) first (behind_sync mid now new x quiet says.only);
+}
+says_opened (Err e) d old mid now new n x opened first quiet says = tt
 
-pub breaks_opened : {T : Type 0} (result : Result T ShipFault) (d : Directory) (old now new : List Call) (x : List ℕ) → SaysOnly old now [] → SaysRest result now new x → IfErr result (λ e. IsShipFault e d old new x)
-breaks_opened (Ok y) d old now new x quiet says = tt
-breaks_opened (Err e) d old now new x quiet says = quiet_answer d old new e x says.0 (front_behind_sync old now new x quiet says.1)
+pub breaks_opened : {T : Type 0} (result : Result T ShipFault) (d : Directory) (old mid now new : List Call) (x : List ℕ) → mid ≡ Did Syncs ∷ old → SaysOnly mid now [] → SaysRest result now new x
+    → IfErr result (λ e. IsShipFault e d old new x)
+breaks_opened (Ok y) d old mid now new x first quiet says = tt
+breaks_opened (Err e) d old mid now new x first quiet says = quiet_answer d old mid new e x first says.0 (front_behind_sync mid now new x quiet says.1)
 
 -- nothing was said where a device failed
-pub failed_quietly : (d : Directory) (old new : List Call) (e : ShipFault) (x : List ℕ) → SaysOnly old new [] → IsQuiet e → IsShipFault e d old new x
-failed_quietly d old new e x quiet kind = quiet_answer d old new e x kind (nothing_front old new x quiet)
+pub failed_quietly : (d : Directory) (old mid new : List Call) (e : ShipFault) (x : List ℕ) → mid ≡ Did Syncs ∷ old → SaysOnly mid new [] → IsQuiet e → IsShipFault e d old new x
+failed_quietly d old mid new e x first quiet kind = quiet_answer d old mid new e x first kind (nothing_front mid new x quiet)
 
 -- nothing was said where the journal wasn't started
-pub not_started : (d : Directory) (old mid new : List Call) (e : ShipFault) (x : List ℕ) → SaysOnly old mid [] → OnlySyncs mid new → IsQuiet e → IsShipFault e d old new x
-not_started d old mid new e x quiet syncs kind =
-    quiet_answer d old new e x kind (front_behind_sync old mid new x quiet (nothing_front mid new x (syncs_say_nothing mid new syncs)))
+pub not_started : (d : Directory) (old mid now new : List Call) (e : ShipFault) (x : List ℕ) → mid ≡ Did Syncs ∷ old → SaysOnly mid now [] → OnlySyncs now new → IsQuiet e → IsShipFault e d old new x
+not_started d old mid now new e x first quiet syncs kind =
+    quiet_answer d old mid new e x first kind (front_behind_sync mid now new x quiet (nothing_front now new x (syncs_say_nothing now new syncs)))
 
 -- the need of files that open
 pub opened_to : (d : Directory) (old mid : List Call) (opened : InHand) (s : State) → mid ≡ Did Syncs ∷ old → StandsFor d s mid opened → opened.version ≡ written → opens d (seen old) ≡ Ok (need d (restarted d s))
 opened_to d old mid opened s first for current = ap (λ (calls : List Call). opens d (seen calls)) (sym first) ∙ opens_there d mid opened s for current
 
+-- so the files don't open to a fault
+pub never_unopened : (d : Directory) (old mid new : List Call) (opened : InHand) (s : State) → mid ≡ Did Syncs ∷ old → StandsFor d s mid opened → opened.version ≡ written → OnlySyncsUnopened d old new
+never_unopened d old mid new opened s first for current fault is =
+    let failed : Result Need OpenFault = Err fault in
+    let found : Result Need OpenFault = Ok (need d (restarted d s)) in
+    let e : failed ≡ found = sym is ∙ opened_to d old mid opened s first for current in
+    absurd (cc e)
+
 pub ships_on : {T : Type 0} (result : Result T ShipFault) (d : Directory) (old mid now new : List Call) (j opened : InHand) (s : State) → mid ≡ Did Syncs ∷ old → now ≡ Did Syncs ∷ mid → j.version ≡ written → StandsOn now j
     → StandsFor d s mid opened → opened.version ≡ written → SaysRest result now new (feed j.version d.mark (file_of now j)) → OnOk result (ShipsOnly d old new (feed_of d old))
 ships_on result d old mid now new j opened s first second version stands for current says =
-    says_opened result d old now new (need d (restarted d s)) (feed_of d old) (opened_to d old mid opened s first for current) (twice_quiet old mid now first second)
+    says_opened result d old mid now new (need d (restarted d s)) (feed_of d old) (opened_to d old mid opened s first for current) first (synced_quiet mid now second)
     (subst (SaysRest result now new) (same_feed d old mid now j first second version stands) says)
 
 pub breaks_on : {T : Type 0} (result : Result T ShipFault) (d : Directory) (old mid now new : List Call) (j : InHand) → mid ≡ Did Syncs ∷ old → now ≡ Did Syncs ∷ mid → j.version ≡ written → StandsOn now j
     → SaysRest result now new (feed j.version d.mark (file_of now j)) → IfErr result (λ e. IsShipFault e d old new (feed_of d old))
 breaks_on result d old mid now new j first second version stands says =
-    breaks_opened result d old now new (feed_of d old) (twice_quiet old mid now first second) (subst (SaysRest result now new) (same_feed d old mid now j first second version stands) says)
+    breaks_opened result d old mid now new (feed_of d old) first (synced_quiet mid now second) (subst (SaysRest result now new) (same_feed d old mid now j first second version stands) says)

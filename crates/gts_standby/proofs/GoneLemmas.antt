@@ -203,7 +203,7 @@ module _ (observed stells : Type 0) (tell : observed) (stell : stells) (d : Dire
   -- ---- at the feed's end
 
   broke_off : (answer : FollowEnd) (new : List Call) (left_now : List ℕ) → (IsEnd answer → ⊥) → MayBring observed d mid x new → HasAdded answer d s used last all old new left_now
-  broke_off answer new left_now fault may = record { ends = λ e. absurd (fault e); opened = λ e. absurd (fault e); reads = λ e. absurd (fault e); moments = moments_on new may }
+  broke_off answer new left_now fault may = record { ends = λ e. absurd (fault e); opened = λ e. absurd (fault e); reads = λ e. absurd (fault e); kept = λ e. absurd (fault e); moments = moments_on new may }
 
   pub disk_failed : (answer : FollowEnd) (new : List Call) (left_now : List ℕ) → answer ≡ DiskFault → MayBring observed d mid x new → HasAdded answer d s used last all old new left_now
   disk_failed answer new left_now is may = subst (λ (e : FollowEnd). HasAdded e d s used last all old new left_now) (sym is) (broke_off DiskFault new left_now (λ e. e) may)
@@ -221,14 +221,15 @@ module _ (observed stells : Type 0) (tell : observed) (stell : stells) (d : Dire
       let empty : length next.batch.text ≡ 1 = ap length brought.stands.next.gathers.text in
       let gate : next.journal.gate + 1 ≡ gate_behind x + 1 = omega (arith, brought.gate_is, empty) in
       let seals : next.journal.seal ≡ x.batch.seal = sym brought.stands.next.gathers.seal ∙ brought.seal_is in
+      let so : read_behind d (s, used, last) (g.done ++ g.more) ≡ read_after d (s, used, last) all =
+      ap (read_behind d (s, used, last)) (sym records_all) ∙ ap (λ (o : Option Need). read_behind d (read_begun d (s, used, last) o) all.records) (sym g.none) in
+      let same : read_at t next.journal ≡ read_after d (s, used, last) all =
+      ap (λ (k : ℕ). (t, k, next.journal.seal)) gate ∙ ap (λ (l : List ℕ). (t, gate_behind x + 1, l)) seals ∙ there ∙ so in
       record {
         ends = λ _. (subst (EndsAs answer) (sym end_so) stops.ends, stops.all);
         opened = λ _. start_is all.records (seen new) (subst P (both_so ∙ ap (after_records d s) (sym records_all)) (opened_now d t new next.journal f));
-        reads = λ _.
-            let so : read_behind d (s, used, last) (g.done ++ g.more) ≡ read_after d (s, used, last) all =
-            ap (read_behind d (s, used, last)) (sym records_all) ∙ ap (λ (o : Option Need). read_behind d (read_begun d (s, used, last) o) all.records) (sym g.none) in
-            read_now d t new next.journal f
-            ∙ ap (λ (y : State × ℕ × List ℕ). Ok y) (ap (λ (k : ℕ). (t, k, next.journal.seal)) gate ∙ ap (λ (l : List ℕ). (t, gate_behind x + 1, l)) seals ∙ there ∙ so);
+        reads = λ _. read_now d t new next.journal f ∙ ap (λ (y : State × ℕ × List ℕ). Ok y) same;
+        kept = λ _ files image. images_read d t new next.journal f files image ∙ ap (λ (y : State × ℕ × List ℕ). Ok y) same;
         moments = moments_on new may;
       }
 
@@ -260,5 +261,6 @@ none_added observed tell d s calls core j all left h = record {
   ends = λ e. absurd e;
   opened = λ e. absurd e;
   reads = λ e. absurd e;
+  kept = λ e. absurd e;
   moments = started calls (OpensWithin d (read_at s j) all) (λ files image. as_before d (read_at s j) all files [] refl (images_read d s calls j (h.stands tell) files image));
 }

@@ -1,12 +1,12 @@
 -- What is said of a feed, record by record.
-use Rattle.std.proofs.Common.{◌≡◌, ℕ, ◌+◌, ◌-◌, ◌≤◌, List, [], ◌++◌, take, drop, Option, Some, Result, Ok, Err, refl, sym, ap, subst, ◌∙◌, arith, append_assoc, IfOk, IfErr}
+use Rattle.std.proofs.Common.{◌≡◌, inl, inr, ℕ, ◌+◌, ◌-◌, ◌<◌, ◌≤◌, List, [], ◌++◌, take, drop, Option, Some, Result, Ok, Err, refl, sym, ap, subst, ◌∙◌, arith, append_assoc, IfOk, IfErr}
 use Rattle.std.proofs.lemmas.List.{append-nil}
-use Rattle.gts_standby.specs.Cited.{Call, Directory, Gives, GoesOnBehind, HasGoneOn, InHand, IsAtGate, IsNamed, IsQuiet, OpenFault, Reaches, SaysFront, SaysHere, SaysOne, ShipFault, Speaks, Version, file_of, next_entry, next_seal, on, record_of, record_size, record_text, sealed, seen, ship_fault}
+use Rattle.gts_standby.specs.Cited.{Call, Directory, Gives, GoesOnBehind, HasGoneOn, InHand, IsAtGate, IsNamed, IsQuiet, OpenFault, PassesNext, Reaches, SaysFront, SaysHere, SaysOne, ShipFault, Speaks, Version, file_of, next_entry, next_seal, on, record_of, record_size, record_text, sealed, seen, ship_fault}
 use Rattle.gts_record.specs.declared.value.Record.{Record}
 use Rattle.gts_record.specs.Record as texts
 use Rattle.gts_record.specs.declared.fault.OpenFault.TheVariants as opening
 use Rattle.gts_standby.proofs.SayLemmas.{says_none, says_more, fronts_behind, fronts_more}
-use Rattle.gts_standby.proofs.FeedLemmas.{goes_on, all_said, record_stands}
+use Rattle.gts_standby.proofs.FeedLemmas.{goes_on, all_said, record_stands, no_end, no_fault}
 
 -- ---- what a journal answered
 
@@ -22,6 +22,12 @@ quiet_entry opening.NoJournal entry gives none = none opening.NoJournal gives
 quiet_entry opening.OldVersion entry gives none = none opening.OldVersion gives
 quiet_entry (opening.NotThis want found) entry gives none = none (opening.NotThis want found) gives
 quiet_entry (opening.Damaged file at) entry gives none = none (opening.Damaged file at) gives
+
+-- where a record stands at the gate and wasn't passed, a device failed
+pub quiet_passed : (d : Directory) (calls : List Call) (j next : InHand) (end : ℕ) (left : List ℕ) (e : OpenFault) → IsAtGate d calls j end left → j.gate < end → PassesNext (Err e) (next_entry calls j) j next → IsQuiet (ship_fault e)
+quiet_passed d calls j next end left e at low (inl gives) =
+    quiet_entry e (next_entry calls j) gives (λ f is. no_fault j.version d j.file j.seal j.gate (file_of calls j) end left f at is)
+quiet_passed d calls j next end left e at low (inr none) = absurd (no_end j.version d j.file j.seal j.gate (file_of calls j) end left at low none)
 
 -- a fault of the opening keeps its name
 pub named_opening : (f : OpenFault) → IsNamed (ship_fault f)

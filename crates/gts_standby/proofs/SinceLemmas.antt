@@ -12,7 +12,7 @@ use Rattle.gts_record.specs.declared.fault.OpenFault.TheVariants as opening
 use Rattle.gts_standby.specs.declared.fault.ShipFault.TheVariants as fault
 use Rattle.gts_journal.proofs.LawLemmas.{at_mark, at_found, was_found, opens_behind}
 use Rattle.gts_standby.proofs.FeedLemmas.{some_step, end_behind, same_record, no_record, IsEnd, IsRecord, at_entry}
-use Rattle.gts_standby.proofs.FirstLemmas.{by_admission, same_feed, behind_sync, synced_quiet, twice_quiet}
+use Rattle.gts_standby.proofs.FirstLemmas.{by_admission, same_feed, behind_sync, synced_quiet}
 
 -- ---- what is found at a gate
 
@@ -278,11 +278,11 @@ rest_whole result d old mid now look again new j next whole since end is first s
     subst (SaysRest result again new) asked says
 
 -- looking says nothing
-pub looked_quietly : (old mid now look : List Call) → mid ≡ Did Syncs ∷ old → now ≡ Did Syncs ∷ mid → look ≡ now → SaysOnly old look []
-looked_quietly old mid now look first second told = subst (λ (calls : List Call). SaysOnly old calls []) (sym told) (twice_quiet old mid now first second)
+pub looked_quietly : (mid now look : List Call) → now ≡ Did Syncs ∷ mid → look ≡ now → SaysOnly mid look []
+looked_quietly mid now look second told = subst (λ (calls : List Call). SaysOnly mid calls []) (sym told) (synced_quiet mid now second)
 
-pub again_quietly : (old mid now look again : List Call) → mid ≡ Did Syncs ∷ old → now ≡ Did Syncs ∷ mid → look ≡ now → again ≡ Did Syncs ∷ look → SaysOnly old again []
-again_quietly old mid now look again first second told third = behind_sync old look again [] (looked_quietly old mid now look first second told) (synced_quiet look again third)
+pub again_quietly : (mid now look again : List Call) → now ≡ Did Syncs ∷ mid → look ≡ now → again ≡ Did Syncs ∷ look → SaysOnly mid again []
+again_quietly mid now look again second told third = behind_sync mid look again [] (looked_quietly mid now look second told) (synced_quiet look again third)
 
 -- the files read to the same
 pub read_later : (d : Directory) (mid now look : List Call) (x : Read) → now ≡ Did Syncs ∷ mid → look ≡ now → files_read written d (seen mid) ≡ x → files_read written d (seen look) ≡ x

@@ -2,13 +2,13 @@
 use Rattle.std.proofs.Common.{◌≡◌, ◌⊎◌, inl, inr, ℕ, zero, suc, ◌+◌, ◌-◌, ◌<◌, ◌≤◌, Bool, true, false, cond, ◌&&◌, List, [], ◌∷◌, ◌++◌, length, drop, Option, Some, None, Result, Ok, Err, refl, sym, ap, subst, ◌∙◌, arith}
 use Rattle.std.proofs.lemmas.Bool.{cases_lt}
 use Rattle.std.proofs.lemmas.List.{append-nil}
-use Rattle.gts_standby.specs.Cited.{Answers, AsBefore, BeforeIt, Breaks, Call, Core, Damaged, Did, Directory, DiskFault, Diverged, Done, EachOpens, EachSince, End, Ends, EndsAs, EndsBegin, Feed, Files, FollowEnd, HasAdded, HasBegun, HasRead, HasTaken, HoldsAt, InFeed, InHand, IsAddEnd, IsEnd, IsFedEnd, IsOpened, IsReadEnd, IsTakenEnd, Leads, LeavesAlone, Need, NoMemory, OnlySyncs, Open, OpenFault, OpensTo, OpensWithin, Outside, Parts, Piece, Read, ReadsAll, ReadsToOneOf, Record, SourceFault, StandsFor, State, StopsAs, StopsAt, Syncs, Taken, Version, WithFront, WithinIt, add_all, admits_checkpoint, after, after_records, begin_first, begin_with, begun, begun_taken, by_header, by_piece, checkpoint_text, comes_to, compacted_bytes, compare_first, empty, entry_at, event_of_record, feed_at, file_of, file_opens, files_read, first_seal, header_fault, is_checkpoint, is_checkpoint_fed, is_further, is_other, is_other_first, magic, may_be_cut, need, need_in, open_end, opens, or_anew, own_seals, read_after, read_anew, read_at, read_begun, read_behind, record_behind, record_size, record_text, records_at, restarted, said_by, seal, seals_at, seals_behind, seen, selected, selected_bytes, start_of, state_after, stopped, take_records, taken, unread, written}
+use Rattle.gts_standby.specs.Cited.{Answers, AsBefore, BeforeIt, Breaks, Call, Core, Damaged, Did, Directory, DiskFault, Diverged, Done, EachImageReads, EachOpens, EachSince, End, Ends, EndsAs, EndsBegin, Feed, Files, FollowEnd, HasAdded, HasBegun, HasRead, HasTaken, HoldsAt, InFeed, InHand, IsAddEnd, IsEnd, IsFedEnd, IsOpened, IsReadEnd, IsTakenEnd, Leads, LeavesAlone, Need, NoMemory, OnlySyncs, Open, OpenFault, OpensTo, OpensWithin, Outside, Parts, Piece, Read, ReadsAll, ReadsToOneOf, Record, SourceFault, StandsFor, State, StopsAs, StopsAt, Syncs, Taken, Version, WithFront, WithinIt, add_all, admits_checkpoint, after, after_records, begin_first, begin_with, begun, begun_taken, by_header, by_piece, checkpoint_text, comes_to, compacted_bytes, compare_first, empty, entry_at, event_of_record, feed_at, file_of, file_opens, files_read, first_seal, header_fault, is_checkpoint, is_checkpoint_fed, is_further, is_other, is_other_first, magic, may_be_cut, need, need_in, open_end, opens, or_anew, own_seals, read_after, read_anew, read_at, read_begun, read_behind, record_behind, record_size, record_text, records_at, restarted, said_by, seal, seals_at, seals_behind, seen, selected, selected_bytes, start_of, state_after, stopped, take_records, taken, unread, written}
 use Rattle.gts_traits.proofs.LawLemmas.{weaker, joined}
 use Rattle.gts_record.specs.declared.fault.OpenFault.TheVariants as opening
 use Rattle.gts_journal.proofs.LawLemmas.{syncs_silent, syncs_stand, open_selected, opens_behind, faulty_header, reads_end_there, reads_fault}
 use Rattle.gts_standby.proofs.FeedLemmas.{leads_on, none_left, left_split}
 use Rattle.gts_standby.proofs.AddLemmas.{holds_of, opened_by, opened_now, read_now, no_begin, added_by}
-use Rattle.gts_standby.proofs.ReadLemmas.{as_before, with_front, opening_reads}
+use Rattle.gts_standby.proofs.ReadLemmas.{as_before, with_front, images_read, opening_reads}
 
 -- ---- at most a sync was tried
 
@@ -39,7 +39,7 @@ module _ (d : Directory) (s : State) (old new : List Call) (j : InHand) (taken :
   quiet : (answer : FollowEnd) → IsTakenEnd answer → (IsEnd answer → ⊥) → HasTaken answer d s (j.gate + 1) j.seal taken old new left
   quiet answer kind fault = record {
     kind = kind;
-    added = record { ends = λ e. absurd (fault e); opened = λ e. absurd (fault e); reads = λ e. absurd (fault e); moments = opening_reads d s old j f taken new syncs };
+    added = record { ends = λ e. absurd (fault e); opened = λ e. absurd (fault e); reads = λ e. absurd (fault e); kept = λ e. absurd (fault e); moments = opening_reads d s old j f taken new syncs };
   }
 
   ended : (answer : FollowEnd) → IsTakenEnd answer → StopsAt answer taken left → HasTaken answer d s (j.gate + 1) j.seal taken old new left
@@ -51,6 +51,9 @@ module _ (d : Directory) (s : State) (old new : List Call) (j : InHand) (taken :
       reads = λ _.
           subst (λ (t : Taken). files_read written d (seen new) ≡ Ok (read_after d (s, j.gate + 1, j.seal) t)) (sym stops.is)
           (reads_kept d (Ok (s, j.gate + 1, j.seal)) old new syncs (read_now d s old j f));
+      kept = λ _.
+          subst (λ (t : Taken). EachImageReads d new (read_after d (s, j.gate + 1, j.seal) t)) (sym stops.is)
+          (images_read d s new j (syncs_stand d s old new j syncs f));
       moments = opening_reads d s old j f taken new syncs;
     };
   }
@@ -101,16 +104,20 @@ begun_added : (answer : FollowEnd) (d : Directory) (s : State) (used : ℕ) (las
 begun_added answer d s used last n un ln more old mid new left none used_is last_is silent each added = record {
   ends = added.ends;
   opened = λ e. (let P : Option Need → Type 0 = λ o. OpensTo d (after_records d (start_of (begun n) o) more.records) (seen new) in subst P none (added.opened e));
-  reads = λ e.
-      added.reads e
-      ∙ ap (λ (o : Option Need). Ok (read_behind d (read_begun d (begun n, un, ln) o) more.records)) none
-      ∙ ap (λ (k : ℕ). Ok (read_behind d (begun n, k, ln) more.records)) used_is
-      ∙ ap (λ (l : List ℕ). Ok (read_behind d (begun n, compacted_bytes written n, l) more.records)) last_is;
+  reads = λ e. anew_so (seen new) (added.reads e);
+  kept = λ e files image. anew_so files (added.kept e files image);
   moments =
       joined (OpensWithin d (s, used, last) (beginning n more)) (OpensWithin d (begun n, un, ln) more) old mid new [] (begun_moments d (s, used, last) old mid n (beginning n more) refl each)
       (silent ∙ sym (append-nil (said_by old))) added.moments later_so;
 }
   where
+    -- what stands behind the checkpoint stands behind that of a journal that begins with it
+    anew_so : (files : Files) → files_read written d files ≡ Ok (read_after d (begun n, un, ln) more) → files_read written d files ≡ Ok (read_after d (s, used, last) (beginning n more))
+    anew_so files is =
+        is ∙ ap (λ (o : Option Need). Ok (read_behind d (read_begun d (begun n, un, ln) o) more.records)) none
+        ∙ ap (λ (k : ℕ). Ok (read_behind d (begun n, k, ln) more.records)) used_is
+        ∙ ap (λ (l : List ℕ). Ok (read_behind d (begun n, compacted_bytes written n, l) more.records)) last_is
+
     -- what the journal reads to that begins anew
     same : (begun n, un, ln) ≡ read_anew d n
     same = ap (λ (k : ℕ). (begun n, k, ln)) used_is ∙ ap (λ (l : List ℕ). (begun n, compacted_bytes written n, l)) last_is
@@ -145,7 +152,7 @@ pub ends_begun : (answer : FollowEnd) (d : Directory) (s : State) (j : InHand) (
 ends_begun answer d s j fed old new left f kind (BeforeIt same stops) = stops_taken d s old new j (begun_taken d fed) left f (inr (inl same)) answer stops
 ends_begun answer d s j fed old new left f kind (WithinIt n begins each fault) = record {
   kind = taken_end answer kind;
-  added = record { ends = λ e. absurd (fault e); opened = λ e. absurd (fault e); reads = λ e. absurd (fault e); moments = begun_moments d (read_at s j) old new n (begun_taken d fed) begins each };
+  added = record { ends = λ e. absurd (fault e); opened = λ e. absurd (fault e); reads = λ e. absurd (fault e); kept = λ e. absurd (fault e); moments = begun_moments d (read_at s j) old new n (begun_taken d fed) begins each };
 }
 
 abbrev by_found : Directory → List ℕ → Piece → Taken
@@ -395,6 +402,7 @@ module _ (d : Directory) (s : State) (old mid : List Call) (j : InHand) (fed : L
       ends = added.ends;
       opened = added.opened;
       reads = added.reads;
+      kept = added.kept;
       moments =
           joined (OpensWithin d (read_at s j) taken) (OpensWithin d (read_at s j) taken) old mid new [] (opening_reads d s old j f taken mid syncs)
           (syncs_silent old mid syncs ∙ sym (append-nil (said_by old))) added.moments (λ files later is. is);
@@ -586,12 +594,20 @@ module _ (d : Directory) (old mid : List Call) (j : InHand) (s : State) (fed : L
         let by_state : OpensTo d (state_after d t all_taken) (seen new) = subst (λ (q : State). OpensTo d (state_after d q all_taken) (seen new)) (same_state t used last reads) (has.added.opened ends) in
         subst (λ (x : Taken). OpensTo d (state_after d t x) (seen new)) (same_taken other comes) by_state
 
-    pub reads_after_there : (read : State × ℕ × List ℕ) (other : Taken) → files_read written d (seen old) ≡ Ok read → comes_to d (seen old) fed ≡ Ok other → IsEnd answer
-        → files_read written d (seen new) ≡ Ok (read_after d read other)
-    reads_after_there read other reads comes ends =
+    same_after : (read : State × ℕ × List ℕ) (other : Taken) → files_read written d (seen old) ≡ Ok read → comes_to d (seen old) fed ≡ Ok other
+        → read_after d (s, j.gate + 1, j.seal) all_taken ≡ read_after d read other
+    same_after read other reads comes =
         let e : Ok (s, j.gate + 1, j.seal) ≡ Ok read = sym reads_there ∙ reads in
         let same : (s, j.gate + 1, j.seal) ≡ read = cc e in
-        has.added.reads ends ∙ ap (λ (x : State × ℕ × List ℕ). Ok (read_after d x all_taken)) same ∙ ap (λ (t : Taken). Ok (read_after d read t)) (same_taken other comes)
+        ap (λ (x : State × ℕ × List ℕ). read_after d x all_taken) same ∙ ap (λ (t : Taken). read_after d read t) (same_taken other comes)
+
+    pub reads_after_there : (read : State × ℕ × List ℕ) (other : Taken) → files_read written d (seen old) ≡ Ok read → comes_to d (seen old) fed ≡ Ok other → IsEnd answer
+        → files_read written d (seen new) ≡ Ok (read_after d read other)
+    reads_after_there read other reads comes ends = has.added.reads ends ∙ ap (λ (x : State × ℕ × List ℕ). Ok x) (same_after read other reads comes)
+
+    pub kept_there : (read : State × ℕ × List ℕ) (other : Taken) → files_read written d (seen old) ≡ Ok read → comes_to d (seen old) fed ≡ Ok other → IsEnd answer
+        → EachImageReads d new (read_after d read other)
+    kept_there read other reads comes ends files image = has.added.kept ends files image ∙ ap (λ (x : State × ℕ × List ℕ). Ok x) (same_after read other reads comes)
 
     pub moments_there : (read : State × ℕ × List ℕ) (other : Taken) → files_read written d (seen old) ≡ Ok read → comes_to d (seen old) fed ≡ Ok other → EachOpens d read other old new
     moments_there read other reads comes =

@@ -5,7 +5,7 @@ use Rattle.gts_standby.specs.declared.end.FollowEnd.{FollowEnd}
 use Rattle.gts_standby.specs.declared.end.FollowEnd.TheVariants.{Open, Diverged}
 use Rattle.gts_standby.specs.Ahead.{InFeed}
 use Rattle.gts_standby.specs.Taking.{Taken, add_all}
-use Rattle.gts_standby.specs.Following.{EndsAs, IsEnd, state_after, read_after, OpensWithin}
+use Rattle.gts_standby.specs.Following.{EachImageReads, EndsAs, IsEnd, state_after, read_after, OpensWithin}
 use Rattle.gts_standby.specs.Reading.{HasRead, ReadsAll}
 
 -- The journal is at its end, and the core holds the state that it stands for, which is this one, where the station is observed.
@@ -21,6 +21,7 @@ pub record HasAdded (answer : FollowEnd) (d : Directory) (s : State) (used : ℕ
   pub ends : IsEnd answer → EndsAs answer taken.end × ReadsAll answer left
   pub opened : IsEnd answer → OpensTo d (state_after d s taken) (seen new)
   pub reads : IsEnd answer → files_read written d (seen new) ≡ Ok (read_after d (s, used, last) taken)
+  pub kept : IsEnd answer → EachImageReads d new (read_after d (s, used, last) taken)
   pub moments : EachSince old new (OpensWithin d (s, used, last) taken)
 
 -- so it is of whatever state the journal stands for, and whatever the feed has left

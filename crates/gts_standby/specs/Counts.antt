@@ -1,6 +1,8 @@
 -- What a function that takes a feed keeps of the counts of faults, and of the journal that it reads.
-use Rattle.std.specs.Prelude.{◌≡◌, ◌≤◌, ◌<◌, ℕ, false, List}
-use Rattle.gts_standby.specs.Cited.Below.{Call, InHand, StandsOn}
+use Rattle.std.specs.Prelude.{◌≡◌, ◌⊎◌, ◌≤◌, ◌<◌, ℕ, false, List, Option, Some, None, Result, Ok, Err}
+use Rattle.gts_standby.specs.Cited.Below.{Call, Gives, HasGoneOn, InHand, OpenFault, StandsOn, record_of}
+use Rattle.gts_record.specs.declared.value.Record.{Record}
+use Rattle.gts_record.specs.Record as texts
 
 -- faults of the disk add to their count alone, and saying doesn't fail
 pub record KeepsCounts (disk disk_now saying saying_now : ℕ) : Type 0 where
@@ -19,3 +21,8 @@ pub record GoesOn (observed : Type 0) (calls : List Call) (old new : InHand) : T
   pub stands : observed → StandsOn calls new
   pub rises : old.gate < new.gate
   pub version : new.version ≡ old.version
+
+-- The record at the gate was passed. Or none was: the gate is closed, or what stands there has this fault, or a device failed.
+abbrev pub PassesNext : Result (Unit {0}) OpenFault → Result (Option texts.Record) OpenFault → InHand → InHand → Type 0
+PassesNext (Ok _) entry j next = (r : Record) × (entry ≡ Ok (Some (record_of r))) × HasGoneOn j (Some r) next
+PassesNext (Err e) entry j next = Gives (Err e) entry ⊎ (entry ≡ Ok None)

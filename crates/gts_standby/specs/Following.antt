@@ -1,6 +1,6 @@
 -- What is said of a feed that is taken into a journal.
 use Rattle.std.specs.Prelude.{◌≡◌, ◌⊎◌, ℕ, ◌+◌, ◌-◌, List, [], ◌∷◌, ◌++◌, Option, Some, None, Result, Ok, Err}
-use Rattle.gts_standby.specs.Cited.Below.{Call, Did, Directory, EachSince, Files, InHand, Need, OnlySyncs, OpenFault, OpensTo, Outside, Record, State, Syncs, after, after_records, begun, checkpoint_text, compacted_bytes, event_of_record, files_read, first_seal, held, is_checkpoint, need, opens, record_size, record_text, restarted, seal, seen, selected_bytes, written}
+use Rattle.gts_standby.specs.Cited.Below.{Call, Did, Directory, EachSince, Files, InHand, IsImage, Need, OnlySyncs, OpenFault, OpensTo, Outside, Record, State, Syncs, after, after_records, begun, checkpoint_text, compacted_bytes, event_of_record, files_read, first_seal, held, is_checkpoint, need, opens, record_size, record_text, restarted, seal, seen, selected_bytes, written}
 use Rattle.gts_record.specs.declared.fault.OpenFault.TheVariants as opening
 use Rattle.gts_standby.specs.declared.end.FollowEnd.{FollowEnd}
 use Rattle.gts_standby.specs.declared.end.FollowEnd.TheVariants.{Done, Open, Feed, Diverged, SourceFault, DiskFault, NoMemory}
@@ -121,10 +121,21 @@ HasAll answer d old new fed =
     (s : State) (used : ℕ) (last : List ℕ) (taken : Taken) → files_read written d (seen old) ≡ Ok (s, used, last)
     → comes_to d (seen old) fed ≡ Ok taken → IsEnd answer → opens d (seen new) ≡ Ok (need d (restarted d (state_after d s taken)))
 
--- At each end of the feed the journal has all that the feed adds: it is what it was, with that behind it.
+-- whatever a loss of power leaves now reads to this
+abbrev pub EachImageReads : Directory → List Call → State × ℕ × List ℕ → Type 0
+EachImageReads d calls read = (files : Files) → IsImage calls files → files_read written d files ≡ Ok read
+
+-- and all that it adds is on the disk
+abbrev pub KeepsAllOf : FollowEnd → Directory → List Call → List Call → List ℕ → Type 0
+KeepsAllOf answer d old new fed =
+    (read : State × ℕ × List ℕ) (taken : Taken) → files_read written d (seen old) ≡ Ok read → comes_to d (seen old) fed ≡ Ok taken
+    → IsEnd answer → EachImageReads d new (read_after d read taken)
+
+-- At each end of the feed the journal has all that the feed adds, and keeps it: it is what it was, with that behind it.
 pub record AddsAllOf (answer : FollowEnd) (d : Directory) (old new : List Call) (fed : List ℕ) : Type 0 where
   pub opened : HasAll answer d old new fed
   pub reads : ReadsAllOf answer d old new fed
+  pub kept : KeepsAllOf answer d old new fed
 
 -- so each crash leaves files that read to what they read to before, and to a first part of it
 abbrev pub LeavesFronts : Directory → List Call → List Call → List ℕ → Type 0

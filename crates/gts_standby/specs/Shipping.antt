@@ -1,6 +1,6 @@
 -- What is said of a feed.
-use Rattle.std.specs.Prelude.{◌≡◌, ℕ, ◌+◌, ◌≤◌, List, [], ◌++◌, length, drop, Result, Ok, Err, None}
-use Rattle.gts_standby.specs.Cited.Below.{Call, Directory, InHand, Need, OpenFault, SaysFront, SaysOnly, StandsOn, State, Version, file_of, file_opens, first_seal, header_fault, is_at_checkpoint, is_checkpoint, on, opens, records_at, seen, selected_bytes, written}
+use Rattle.std.specs.Prelude.{◌≡◌, ◌⊎◌, ℕ, ◌+◌, ◌≤◌, List, ◌∷◌, ◌++◌, length, drop, Result, Ok, Err, None}
+use Rattle.gts_standby.specs.Cited.Below.{Call, Did, Directory, InHand, Need, OnlySyncs, OpenFault, SaysFront, SaysOnly, StandsOn, State, Syncs, Version, file_of, file_opens, first_seal, header_fault, is_at_checkpoint, is_checkpoint, on, opens, records_at, seen, selected_bytes, written}
 use Rattle.gts_record.specs.declared.fault.OpenFault.TheVariants as opening
 use Rattle.gts_standby.specs.declared.fault.ShipFault.{ShipFault}
 use Rattle.gts_standby.specs.declared.fault.ShipFault.TheVariants.{Open, DiskFault, NoMemory}
@@ -84,13 +84,22 @@ behind_header d calls j = feed_behind j.version (first_seal j.version d.mark) (f
 abbrev pub feed_of : Directory → List Call → List ℕ
 feed_of d calls = feed written d.mark (selected_bytes (seen calls))
 
--- The journal opens, and these bytes were said on channel 0, and nothing else.
+-- The journal opens. The files were synced, and then these bytes were said on channel 0, and nothing else.
 pub record ShipsOnly (d : Directory) (old new : List Call) (bytes : List ℕ) : Type 0 where
   pub need : Need
   pub opened : opens d (seen old) ≡ Ok need
-  pub said : SaysOnly old new (on 0 bytes)
+  pub said : SaysOnly (Did Syncs ∷ old) new (on 0 bytes)
 
--- A fault of the files is answered where they open to it, and nothing was said. Else a front of these bytes was said.
+-- At most a sync was tried; or the files were synced, and then a front of these bytes was said.
+abbrev pub SaysFrontSynced : List Call → List Call → List ℕ → Type 0
+SaysFrontSynced old new bytes = OnlySyncs old new ⊎ SaysFront (Did Syncs ∷ old) new (on 0 bytes)
+
+-- A fault of the files is answered where they open to it, and at most a sync was tried. Else no more than a front of these bytes was
+-- said, behind a sync.
 abbrev pub IsShipFault : ShipFault → Directory → List Call → List Call → List ℕ → Type 0
-IsShipFault (Open fault) d old new bytes = (opens d (seen old) ≡ Err fault) × SaysOnly old new []
-IsShipFault _ d old new bytes = SaysFront old new (on 0 bytes)
+IsShipFault (Open fault) d old new bytes = (opens d (seen old) ≡ Err fault) × OnlySyncs old new
+IsShipFault _ d old new bytes = SaysFrontSynced old new bytes
+
+-- where the files don't open, at most a sync was tried
+abbrev pub OnlySyncsUnopened : Directory → List Call → List Call → Type 0
+OnlySyncsUnopened d old new = (fault : OpenFault) → opens d (seen old) ≡ Err fault → OnlySyncs old new

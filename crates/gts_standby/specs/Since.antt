@@ -104,10 +104,6 @@ PassesUnder result observed Low old j new next =
     observed → (d : Directory) (end place : ℕ) (last : List ℕ) (found : Option (List ℕ))
     → IsBefore d old j end place last found → Low j end place → Passes result d new next end place last found
 
--- a gate is in front of both
-abbrev pub IsLower : InHand → (end place : ℕ) → Type 0
-IsLower j end place = (j.gate < end) × (j.gate < place)
-
 -- a place is behind neither
 abbrev pub IsWithin : ℕ → InHand → (end place : ℕ) → Type 0
 IsWithin stop j end place = (stop ≤ end) × (stop ≤ place)

@@ -1,14 +1,15 @@
 //! The records that a journal has are compared with those of a feed.
 ghost use Rattle.std.specs.Prelude.{◌≡◌, ◌≤◌, ◌<◌, ◌^◌, ℕ, false, List, nat_eq, length, IfOk, IfErr, OnOk, IsErrOf};
-ghost use Rattle.gts_standby.specs.Cited.{ComparesAll, ComparesFirstOfAny, ComparesNext, ComparesRest, Directory as DirectoryOf, FindsPiece, GoesOn, HasRead, IsAtFirst, IsAtSeals, IsFedEnd, IsLater, IsNamedEnd, IsOwnEnd, IsWhole, KeepsAllCounts, KeepsCounts, KeepsOther, OnlySyncs, OwnGoesOn, Rose, StandsOn, StaysWhole, first_piece, held, is_other, pointwise, seals_here, written};
+ghost use Rattle.gts_standby.specs.Cited.{ComparesAll, ComparesFirstOfAny, ComparesNext, ComparesRest, FindsPiece, GoesOn, HasRead, IsAtFirst, IsFedEnd, IsLater, IsNamedEnd, IsOwnEnd, IsWhole, KeepsAllCounts, KeepsCounts, KeepsOther, OnlySyncs, OwnGoesOn, Rose, StandsOn, StaysWhole, first_piece, held, is_other, pointwise, seals_here, written};
 
 use crate::FollowEnd;
 use crate::ahead::Ahead;
 use crate::fed::fed_record;
+use crate::passing::pass_next;
 use crate::scanning::{fed_checkpoint, is_at_checkpoint};
 use gts_checkpoint::read;
 use gts_directory::Directory;
-use gts_journal::{Journal, OpenFault, Version};
+use gts_journal::{Journal, Version};
 use gts_record::HEADER;
 use gts_traits::{Source, Station};
 use std::alloc::Global;
@@ -54,7 +55,8 @@ fn own_first<P: Station>(
     ensures named { IfErr result IsNamedEnd }
 {
     if !own.at_checkpoint() {
-        return own_next(station, own);
+        pass_next(station, own)?;
+        return Ok(());
     }
     // A limit is low enough for the place of the gate.
     directory.bounds_hold();
@@ -62,31 +64,6 @@ fn own_first<P: Station>(
     let found = read(alloc, station, own.version(), file, directory)?;
     own.pass(found.1, found.2);
     Ok(())
-}
-
-/// Goes on behind the next record of a journal.
-fn own_next<P: Station>(station: &mut P, own: &mut Journal) -> Result<(), FollowEnd>
-    requires going { own.old.ended ≡ false }
-    requires room { own.old.gate < 2 ^ 40 }
-    requires stands { P.observed → StandsOn (P.calls station.old) own.old }
-    ensures on { P.observed → (d : DirectoryOf) (end : ℕ) (left : List (List ℕ))
-        → IsAtSeals d (P.calls station.old) own.old end left → own.old.gate < end
-        → OwnGoesOn result d (P.calls station.new) own.new end left }
-    ensures goes { OnOk result (GoesOn P.observed (P.calls station.new) own.old own.new) }
-    ensures kind { IfErr result IsOwnEnd }
-    ensures told { P.observed → P.calls station.new ≡ P.calls station.old }
-    ensures disk_fault { IsErrOf result FollowEnd.DiskFault
-        → Rose (P.disk_faults station.old) (P.disk_faults station.new) }
-    ensures counts { KeepsCounts (P.disk_faults station.old) (P.disk_faults station.new)
-        (P.say_faults station.old) (P.say_faults station.new) }
-    ensures named { IfErr result IsNamedEnd }
-{
-    let file = own.file();
-    let gate = own.used();
-    match own.next(station)? {
-        Some(_) => Ok(()),
-        None => Err(FollowEnd::Open(OpenFault::Damaged { file, at: gate })),
-    }
 }
 
 /// The first record of a feed: its size with its seal, and that.
@@ -200,7 +177,7 @@ fn compare_next<P: Station, S: Source>(
     let version = own.version();
     let before = own.seal();
     let (size, fed) = fed_record(alloc, source, ahead, version, &before, at)?;
-    own_next(station, own)?;
+    pass_next(station, own)?;
     let seal = own.seal();
     if !is_same(version, &seal, &fed) {
         return Err(FollowEnd::Diverged {

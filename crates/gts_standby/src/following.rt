@@ -227,8 +227,8 @@ pub fn follow<P: Station, S: Source>(
     ensures answer { P.observed → S.observed → Answers result.1
         (comes_to directory.now (seen (P.calls station)) (S.left source.old)) }
 
-    // At each end of the feed the journal has all that the feed adds. It is the journal from before with that behind it, each seal
-    // chained over the one before: nothing else is done to it.
+    // At each end of the feed the journal has all that the feed adds, and a loss of power leaves all of it. It is the journal from
+    // before with that behind it, each seal chained over the one before: nothing else is done to it.
     ensures added { P.observed → S.observed → AddsAllOf result.1 directory.now (P.calls station)
         (P.calls result.0) (S.left source.old) }
 

@@ -13,6 +13,7 @@ mod further;
 mod gathering;
 mod header;
 mod laws;
+mod passing;
 mod piece;
 mod records;
 mod scanning;

@@ -2,8 +2,9 @@ ghost use Rattle.std.specs.Prelude.{◌≡◌, ◌≤◌, ◌<◌, ◌^◌, ℕ,
 ghost use Rattle.gts_standby.specs.Cited.{Directory, IsAtGate, IsNamed, Rose, SaysOne, SaysRest, StandsOn};
 
 use crate::ShipFault;
+use crate::passing::pass_next;
 use crate::piece::say_part;
-use gts_journal::{Journal, OpenFault};
+use gts_journal::Journal;
 use gts_traits::Station;
 
 /// Says the record behind the gate with its seal, and goes on behind it.
@@ -27,9 +28,7 @@ fn say_next<P: Station>(station: &mut P, journal: &mut Journal) -> Result<(), Sh
 {
     let gate = journal.used();
     let file = journal.file();
-    let Some(_) = journal.next(station)? else {
-        return Err(ShipFault::Open(OpenFault::Damaged { file, at: gate }));
-    };
+    pass_next(station, journal)?;
     let behind = journal.used();
     say_part(station, file, gate + 1, behind)
 }

@@ -1,5 +1,5 @@
 ghost use Rattle.std.specs.Prelude.{◌≡◌, ◌≤◌, ◌<◌, ◌^◌, ℕ, false, IfErr, OnOk, IsErrOf};
-ghost use Rattle.gts_standby.specs.Cited.{IsAtFirst, IsNamed, IsShipFault, Rose, SaysOne, SaysRest, ShipsOnly, StandsOn, behind_header, feed, feed_of, file_of, since_of};
+ghost use Rattle.gts_standby.specs.Cited.{IsAtFirst, IsNamed, IsShipFault, OnlySyncsUnopened, Rose, SaysOne, SaysRest, ShipsOnly, StandsOn, behind_header, feed, feed_of, file_of, since_of};
 
 use crate::ShipFault;
 use crate::piece::say_part;
@@ -87,15 +87,19 @@ pub fn ship<P: Station>(
     station: &mut P,
     directory: &Directory,
 ) -> Result<(), ShipFault>
-    // The journal opens, and its feed was said on channel 0, and nothing else.
+    // The journal opens. The files were synced, and then its feed was said on channel 0, and nothing else.
     ensures said { P.observed → OnOk result
         (ShipsOnly directory.now (P.calls station.old) (P.calls station.new)
         (feed_of directory.now (P.calls station.old))) }
 
-    // A fault of the files is answered exactly where they open to it. Else a front of the feed was said.
+    // A fault of the files is answered exactly where they open to it. Else at most a front of the feed was said, behind a sync.
     ensures fault { P.observed → IfErr result (λ e.
         IsShipFault e directory.now (P.calls station.old) (P.calls station.new)
         (feed_of directory.now (P.calls station.old))) }
+
+    // Nothing is said where the files don't open, whatever is answered.
+    ensures unopened { P.observed
+        → OnlySyncsUnopened directory.now (P.calls station.old) (P.calls station.new) }
     ensures named { IfErr result IsNamed }
     ensures disk_fault { IsErrOf result ShipFault.DiskFault
         → Rose (P.disk_faults station.old) (P.disk_faults station.new) }
@@ -120,15 +124,20 @@ pub fn ship_since<P: Station>(
     directory: &Directory,
     since: &Since,
 ) -> Result<(), ShipFault>
-    // The journal opens, and what is behind the standby's was said on channel 0, or else all, and nothing else.
+    // The journal opens. The files were synced, and then what is behind the standby's was said on channel 0, or else all, and nothing
+    // else.
     ensures said { P.observed → OnOk result
         (ShipsOnly directory.now (P.calls station.old) (P.calls station.new)
         (since_of directory.now (P.calls station.old) since.now)) }
 
-    // A fault of the files is answered exactly where they open to it. Else a front of that was said.
+    // A fault of the files is answered exactly where they open to it. Else at most a front of that was said, behind a sync.
     ensures fault { P.observed → IfErr result (λ e.
         IsShipFault e directory.now (P.calls station.old) (P.calls station.new)
         (since_of directory.now (P.calls station.old) since.now)) }
+
+    // Nothing is said where the files don't open, whatever is answered.
+    ensures unopened { P.observed
+        → OnlySyncsUnopened directory.now (P.calls station.old) (P.calls station.new) }
     ensures named { IfErr result IsNamed }
     ensures disk_fault { IsErrOf result ShipFault.DiskFault
         → Rose (P.disk_faults station.old) (P.disk_faults station.new) }
@@ -139,11 +148,11 @@ pub fn ship_since<P: Station>(
 {
     // A limit is low enough for the places of gates.
     directory.bounds_hold();
-    let end = open_core(alloc, station, directory)?.1.used() - 1;
+    let closed = open_core(alloc, station, directory)?.1.used() - 1;
     let mut journal = Journal::start(alloc, station, directory.mark())?;
-    if look_for(alloc, station, directory, &mut journal, end, since)? {
-        return say_records(station, &mut journal, end);
+    if look_for(alloc, station, directory, &mut journal, closed, since)? {
+        return say_records(station, &mut journal, closed);
     }
     let whole = Journal::start(alloc, station, directory.mark())?;
-    say_feed(alloc, station, directory, whole, end)
+    say_feed(alloc, station, directory, whole, closed)
 }

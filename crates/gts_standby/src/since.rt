@@ -1,12 +1,13 @@
 //! A standby station has a first part of a journal: what of the feed is behind it.
 ghost use Rattle.std.specs.Prelude.{◌≡◌, ◌≤◌, ◌<◌, ◌-◌, ◌^◌, ℕ, false, List, IfErr, OnOk, IsErrOf};
-ghost use Rattle.gts_standby.specs.Cited.{GoesOn, IsAtFirst, IsLower, IsNamed, IsWithin, KeepsCounts, LooksFor, Passes, PassesUnder, Rose, StandsOn, behind_here, held, written};
+ghost use Rattle.gts_standby.specs.Cited.{IsAtFirst, IsNamed, IsWithin, KeepsCounts, LooksFor, Passes, PassesUnder, Rose, StandsOn, behind_here, held, written};
 
 use crate::ShipFault;
 use crate::comparing::is_same;
+use crate::passing::pass_next;
 use gts_checkpoint::read;
 use gts_directory::Directory;
-use gts_journal::{Journal, OpenFault};
+use gts_journal::Journal;
 use gts_traits::Station;
 use std::alloc::Global;
 
@@ -51,30 +52,6 @@ fn pass_checkpoint<P: Station>(
     let found = read(alloc, station, journal.version(), file, directory)?;
     journal.pass(found.1, found.2);
     Ok(())
-}
-
-/// Goes on behind the record at the gate.
-fn pass_next<P: Station>(station: &mut P, journal: &mut Journal) -> Result<(), ShipFault>
-    requires going { journal.old.ended ≡ false }
-    requires room { journal.old.gate < 2 ^ 40 }
-    requires stands { P.observed → StandsOn (P.calls station.old) journal.old }
-    ensures passed { PassesUnder result P.observed IsLower (P.calls station.old) journal.old
-        (P.calls station.new) journal.new }
-    ensures goes { OnOk result (GoesOn P.observed (P.calls station.new) journal.old journal.new) }
-    ensures told { P.observed → P.calls station.new ≡ P.calls station.old }
-    ensures named { IfErr result IsNamed }
-    ensures disk_fault { IsErrOf result ShipFault.DiskFault
-        → Rose (P.disk_faults station.old) (P.disk_faults station.new) }
-    ensures say_fault { IsErrOf result ShipFault.SayFault → ⊥ }
-    ensures counts { KeepsCounts (P.disk_faults station.old) (P.disk_faults station.new)
-        (P.say_faults station.old) (P.say_faults station.new) }
-{
-    let file = journal.file();
-    let gate = journal.used();
-    match journal.next(station)? {
-        Some(_) => Ok(()),
-        None => Err(ShipFault::Open(OpenFault::Damaged { file, at: gate })),
-    }
 }
 
 /// Goes on to the first gate that isn't in front of a place.

@@ -28,7 +28,10 @@ pub struct TcpIn<'a, R: Clock + Eprint> {
     has_ended: bool,
     faults: u64,
     cause: Option<LineCause>,
-    teller: Teller,
+    /// Tells of who is turned away.
+    callers: Teller,
+    /// Tells of failures.
+    failures: Teller,
 }
 
 impl<'a, R: Clock + Eprint> TcpIn<'a, R> {
@@ -52,7 +55,8 @@ impl<'a, R: Clock + Eprint> TcpIn<'a, R> {
             has_ended: false,
             faults: 0,
             cause: None,
-            teller: Teller::new(circuit),
+            callers: Teller::new(circuit),
+            failures: Teller::new(circuit),
         }
     }
 
@@ -68,19 +72,21 @@ impl<'a, R: Clock + Eprint> TcpIn<'a, R> {
         self.cause
     }
 
-    /// Tells the operator of this, at most once a minute.
-    fn tell(&mut self, news: News)
+    /// Tells the operator of a caller who is turned away, at most of one a minute.
+    fn tell_turned_away(&mut self, caller: IpAddr)
         ensures { self.new.faults ≡ self.old.faults }
     {
-        self.teller.tell(self.rt, A_MINUTE, news);
+        self.callers
+            .tell(self.rt, A_MINUTE, News::TurnedAway { caller });
     }
 
-    /// Tells the operator of a failure where a service goes on behind it. A run tells of its own at its end.
+    /// Tells the operator of a failure where a service goes on behind it, at most of one a minute. A run tells of its own at its end.
     fn tell_failure(&mut self, cause: LineCause)
         ensures { self.new.faults ≡ self.old.faults }
     {
         if self.patience.tries.is_none() && goes_on(self.patience.stop).is_ok() {
-            self.tell(News::Failed { cause });
+            self.failures
+                .tell(self.rt, A_MINUTE, News::Failed { cause });
         }
     }
 
@@ -95,14 +101,13 @@ impl<'a, R: Clock + Eprint> TcpIn<'a, R> {
             goes_on(self.patience.stop)?;
             match caller_at(&self.listener) {
                 Ok((stream, from)) if is_neighbour(self.place.host, from.ip()) => {
-                    if is_there(&stream) {
+                    if is_ready(&stream) {
                         return Ok(stream);
                     }
                 }
                 Ok((stream, from)) => {
                     drop(stream);
-                    let caller = from.ip();
-                    self.tell(News::TurnedAway { caller });
+                    self.tell_turned_away(from.ip());
                 }
                 Err(error) if has_waited(&error) => looks.make(self.rt, self.patience.stop),
                 Err(error) if error.kind() == ErrorKind::ConnectionAborted => {}
@@ -134,9 +139,7 @@ impl<'a, R: Clock + Eprint> TcpIn<'a, R> {
         if self.is_over() {
             return Ok(());
         }
-        let stream = self.next_caller()?;
-        stream.set_read_timeout(Some(Duration::from_millis(u64::from(LONGEST_WAIT))))?;
-        self.stream = Some(stream);
+        self.stream = Some(self.next_caller()?);
         self.has_ended = false;
         Ok(())
     }
@@ -211,9 +214,11 @@ pub(crate) fn not_connected() -> io::Error {
     io::Error::from(ErrorKind::NotConnected)
 }
 
-/// Whether a caller is still there. One that broke its connection before it was accepted has left an error on it.
-fn is_there(caller: &TcpStream) -> bool {
-    matches!(caller.take_error(), Ok(None))
+/// Whether a caller is still there, and can be read for a short time at once. One that broke its connection before it was accepted
+/// has left an error on it.
+fn is_ready(caller: &TcpStream) -> bool {
+    let shortly = Duration::from_millis(u64::from(LONGEST_WAIT));
+    matches!(caller.take_error(), Ok(None)) && caller.set_read_timeout(Some(shortly)).is_ok()
 }
 
 impl<R: Clock + Eprint> Source for TcpIn<'_, R> {

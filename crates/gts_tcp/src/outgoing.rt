@@ -24,7 +24,7 @@ const SHORT_TRY: u32 = 20;
 const MOST_LOOKS: u32 = 1_024;
 
 /// How many bytes are read away in one piece.
-const LONGEST_LOOK: usize = 1_024;
+const BYTES_A_LOOK: usize = 1_024;
 
 /// A second in milliseconds: for so long nothing is read of a line on which nothing is due.
 const A_SECOND: u32 = 1_000;
@@ -222,7 +222,7 @@ fn reads_in_turn(stream: &TcpStream) -> io::Result<()> {
 /// waited for, and none for more than a minute.
 fn hear_out<R: Clock>(rt: &R, stream: &mut TcpStream, stop: Option<&Stop>) {
     let begun = Instant::now(rt).ok();
-    let mut piece = [0u8; LONGEST_LOOK];
+    let mut piece = [0u8; BYTES_A_LOOK];
     let mut silent = 0u32;
     for _ in 0..u64::MAX {
         if silent >= MOST_SILENT_LOOKS || goes_on(stop).is_err() || !is_within_a_minute(rt, begun) {
@@ -296,12 +296,12 @@ fn milliseconds_of(time: Duration) -> u32 {
 /// Whether the neighbour has ended a connection, which doesn't wait, or it broke. What the neighbour sends on it is read away, and is
 /// no end.
 fn reads_an_end(stream: &mut TcpStream) -> bool {
-    let mut piece = [0u8; LONGEST_LOOK];
+    let mut piece = [0u8; BYTES_A_LOOK];
     for _ in 0..MOST_LOOKS {
         match stream.read(&mut piece) {
             Ok(0) => return true,
             Ok(_) => {}
-            Err(error) => return error.kind() != ErrorKind::WouldBlock,
+            Err(error) => return !has_waited(&error),
         }
     }
     false

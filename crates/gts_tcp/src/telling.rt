@@ -3,8 +3,8 @@ use std::fmt;
 use std::net::IpAddr;
 use std::time::{Clock, Instant};
 
-/// For how many seconds a circuit tells of no further callers that it turns away, once it has told of one, nor of a line that fails
-/// anew; and for how many a neighbour may take at most to end its side of a connection.
+/// For how many seconds a circuit tells of no further caller that it turns away, once it has told of one, and of no further failure
+/// of a line; and for how many a neighbour may take at most to end its side of a connection.
 pub(crate) const A_MINUTE: u64 = 60;
 
 /// For how many seconds a circuit doesn't tell again of a neighbour that isn't there.

@@ -47,7 +47,7 @@ pub use Rattle.gts_report.specs.Cited.{changes, report}
 pub use Rattle.gts_replay.specs.Cited.{BreaksAtCompaction, BreaksAtRestart, Ends, HasDone, HasReplayCause, IsUnbegun, Remains, StandsFor, compacted_at, compactions_at, entries_at, origin_at, origin_behind}
 pub use Rattle.gts_replay.specs.declared.end.ReplayEnd.{ReplayEnd}
 pub use Rattle.gts_generate.specs.Cited.{IsFullOn, day_summary}
-pub use Rattle.gts_standby.specs.Cited.{Answers, EachOpens, EndsAs, IsEnd, IsNamed, IsNamedEnd, IsShipFault, LeavesAlone, LeavesUnopened, ShipsOnly, asked_of, comes_to, own_seals, read_after, state_after, taken}
+pub use Rattle.gts_standby.specs.Cited.{Answers, EachImageReads, EachOpens, EndsAs, IsEnd, IsNamed, IsNamedEnd, IsShipFault, LeavesAlone, LeavesUnopened, OnlySyncsUnopened, SaysFrontSynced, ShipsOnly, asked_of, comes_to, own_seals, read_after, state_after, taken}
 pub use Rattle.gts_standby.specs.declared.end.FollowEnd.{FollowEnd}
 pub use Rattle.gts_standby.specs.declared.fault.ShipFault.{ShipFault}
 pub use Rattle.gts_standby.specs.declared.since.Since.{Since}

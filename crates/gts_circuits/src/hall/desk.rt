@@ -2,15 +2,15 @@ ghost use Rattle.std.specs.Prelude.{◌≡◌, Some};
 ghost use Rattle.gts_circuits.specs.Turning.{KnowsOwn};
 
 use crate::hall::began::Began;
+use crate::hall::entrance::Entrance;
 use crate::hall::housed::Housed;
 use crate::hall::turns;
-use crate::workers::room::{RoomBell, Seen};
+use crate::workers::room::{RoomBell, Waits};
 use gts_calls::{Desk, Fed, FeedEnd, Given, is_event, next_step};
 use gts_event::{Outcome, SwitchFault};
 use gts_frame::{Decoder, Kind};
-use gts_lock::{Bells, Hall, Pass};
+use gts_lock::Pass;
 use gts_traits::Station;
-use std::alloc::Global;
 use std::marker::Model;
 use std::sync::Wait;
 
@@ -18,15 +18,10 @@ use std::sync::Wait;
 /// bells of those circuits are rung on which there is something to send, and after a fault behind which nothing is dealt with, all of
 /// them. After a draw or such a fault the one for room is, where somebody waits for that.
 pub struct HallDesk<'a, R: Wait, P: Station, B: Began> {
-    rt: &'a R,
-    alloc: Global,
-    hall: &'a Hall<Housed<P, B>>,
-    bells: &'a Bells,
+    at: Entrance<'a, R, P, B>,
     room: &'a RoomBell,
-    // What was seen at the bell for room before the last try, once this desk waits there.
-    looked: Option<Seen>,
-    // This desk is the one of those that wait there that tries.
-    tries: bool,
+    // How this desk waits for room.
+    waits: Waits,
     // The turn before gave frames.
     gave: bool,
     pass: Option<Pass<Housed<P, B>>>,
@@ -43,31 +38,24 @@ impl<'a, R: Wait, P: Station, B: Began> Model for HallDesk<'a, R, P, B> {
 
     ghost view = { λ d. pass_of d.pass };
 
-    ghost invariant = { λ d. IsPassAt d.hall.now d.pass };
+    ghost invariant = { λ d. IsPassAt d.at.hall.now d.pass };
 }
 
 impl<'a, R: Wait, P: Station, B: Began> HallDesk<'a, R, P, B> {
     /// The desk of a pass of this hall.
     pub fn new(
-        rt: &'a R,
-        alloc: Global,
-        hall: &'a Hall<Housed<P, B>>,
-        bells: &'a Bells,
+        at: Entrance<'a, R, P, B>,
         room: &'a RoomBell,
         pass: Pass<Housed<P, B>>,
     ) -> HallDesk<'a, R, P, B>
-        requires hall { pass.hall ≡ Some hall.now }
+        requires hall { pass.hall ≡ Some at.hall.now }
         requires own { KnowsOwn pass }
         ensures { result ≡ pass }
     {
         HallDesk {
-            rt,
-            alloc,
-            hall,
-            bells,
+            at,
             room,
-            looked: None,
-            tries: false,
+            waits: Waits::No,
             gave: false,
             pass: Some(pass),
         }
@@ -80,17 +68,14 @@ impl<'a, R: Wait, P: Station, B: Began> HallDesk<'a, R, P, B> {
         if let Err(SwitchFault::Full { .. } | SwitchFault::NoMemory) = answer {
             return;
         }
-        if self.looked.is_some() {
-            self.room.go(self.tries);
-            self.looked = None;
-            self.tries = false;
-        }
+        self.room.go(self.waits);
+        self.waits = Waits::No;
     }
 
     /// Wakes all who wait, for room or for something to send, since nothing is dealt with any more.
     fn wake_all(&self) {
         self.room.wake();
-        self.bells.ring_all();
+        self.at.bells.ring_all();
     }
 
     /// Wakes all who wait, where behind a fault nothing is dealt with any more.
@@ -107,13 +92,9 @@ impl<'a, R: Wait, P: Station, B: Began> HallDesk<'a, R, P, B> {
         ensures own { KnowsOwn result }
     {
         let HallDesk {
-            rt: _,
-            alloc: _,
-            hall: _,
-            bells: _,
+            at: _,
             room: _,
-            looked: _,
-            tries: _,
+            waits: _,
             gave: _,
             pass,
         } = self;
@@ -140,10 +121,9 @@ impl<'a, R: Wait, P: Station, B: Began> Desk for HallDesk<'a, R, P, B> {
         let Some(pass) = self.pass.take() else {
             unreachable!()
         };
-        let (rt, alloc, hall, bells) = (self.rt, self.alloc, self.hall, self.bells);
-        let (pass, fed) = turns::feed(rt, alloc, hall, bells, pass, c, decoder, piece, taken, step);
+        let (pass, fed) = turns::feed(&self.at, pass, c, decoder, piece, taken, step);
         self.pass = Some(pass);
-        bells.ring_marked();
+        self.at.bells.ring_marked();
         if let FeedEnd::Fault(_) = fed.end {
             self.wake_all();
         }
@@ -154,31 +134,23 @@ impl<'a, R: Wait, P: Station, B: Began> Desk for HallDesk<'a, R, P, B> {
         let Some(pass) = self.pass.take() else {
             unreachable!()
         };
-        let (rt, alloc, hall, bells) = (self.rt, self.alloc, self.hall, self.bells);
-        let (pass, answer) = turns::hear(rt, alloc, hall, bells, pass, c, kind, message);
+        let (pass, answer) = turns::hear(&self.at, pass, c, kind, message);
         self.pass = Some(pass);
-        bells.ring_marked();
+        self.at.bells.ring_marked();
         self.waits_on(answer);
         self.wakes(answer);
         answer
     }
 
     fn rest(&mut self) {
-        match self.looked {
-            None => self.room.come(),
-            Some(looked) => {
-                self.room.wait(self.rt, looked, self.tries);
-                self.tries = true;
-            }
-        }
-        self.looked = Some(self.room.look());
+        self.waits = self.room.wait(self.at.rt, self.waits);
     }
 
     fn take_some(&mut self, c: u32, given: &mut Given) -> Result<bool, SwitchFault> {
         let Some(pass) = self.pass.take() else {
             unreachable!()
         };
-        let (pass, answer) = turns::take_some(self.rt, self.hall, pass, c, given);
+        let (pass, answer) = turns::take_some(&self.at, pass, c, given);
         self.pass = Some(pass);
         let gives = given.frames.count() > 0;
         if answer.is_err() {

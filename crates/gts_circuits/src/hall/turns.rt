@@ -8,14 +8,14 @@ ghost use Rattle.gts_circuits.specs.Taking.{LeavesTaken, Taking};
 ghost use Rattle.gts_circuits.specs.Turning.{KnowsOwn, seen_by, Feeding, AddsFor};
 
 use crate::hall::began::Began;
+use crate::hall::entrance::Entrance;
 use crate::hall::housed::Housed;
 use crate::hall::taking;
 use gts_calls::{Fed, FeedEnd, Given, feed_behind, settle_behind};
 use gts_event::{Outcome, SwitchFault};
 use gts_frame::{Decoder, Kind, Step};
-use gts_lock::{Bells, Hall, Pass, Turn};
+use gts_lock::{Bells, Pass, Turn};
 use gts_traits::Station;
-use std::alloc::Global;
 use std::marker::Brand;
 use std::sync::Wait;
 
@@ -97,10 +97,7 @@ fn leave_fed<P: Station, B: Began>(
 /// it. What that gathers is settled, and the bells are marked of those circuits on which there is something to send then. `Spent` as in
 /// `hear`.
 pub(crate) fn feed<R: Wait, P: Station, B: Began>(
-    rt: &R,
-    alloc: Global,
-    hall: &Hall<Housed<P, B>>,
-    bells: &Bells,
+    at: &Entrance<'_, R, P, B>,
     pass: Pass<Housed<P, B>>,
     c: u32,
     decoder: &mut Decoder,
@@ -109,7 +106,7 @@ pub(crate) fn feed<R: Wait, P: Station, B: Began>(
     step: Step,
 ) -> (Pass<Housed<P, B>>, Fed)
     ghost start: { Decoding }
-    requires hall { pass.hall ≡ Some hall.now }
+    requires hall { pass.hall ≡ Some at.now.hall.now }
     requires own { KnowsOwn pass }
     requires circuit { c < length B.beginning.origin.directory.circuits }
     requires within { begun ≤ length piece.now }
@@ -123,69 +120,65 @@ pub(crate) fn feed<R: Wait, P: Station, B: Began>(
         → Feeds c (events_added c before (take result.1.taken piece.now)) decoder.new.message
         result.1.end (seen_by B.beginning pass) (seen_by B.beginning result.0) }
     ensures short { IsShortAt result.1.end decoder.new.message }
-    ensures hall { result.0.hall ≡ Some hall.now }
+    ensures hall { result.0.hall ≡ Some at.now.hall.now }
     ensures own { KnowsOwn result.0 }
 {
-    let mut turn = match hall.enter(rt, pass) {
+    let mut turn = match at.hall.enter(at.rt, pass) {
         Ok(turn) => turn,
         Err(pass) => {
             let end = FeedEnd::Fault(SwitchFault::Spent);
             return (pass, Fed { taken: begun, end });
         }
     };
-    let fed = feed_behind(alloc, turn.value(), c, decoder, piece, begun, step);
+    let fed = feed_behind(at.alloc, turn.value(), c, decoder, piece, begun, step);
     let fed = settle_behind(turn.value(), fed);
-    mark_due(turn.value(), bells);
+    mark_due(turn.value(), at.bells);
     (leave_fed(turn, c, decoder, piece, begun, step, fed), fed)
 }
 
 /// One turn for a message that came whole on circuit `c`, in a frame of this type. The bells are marked of those circuits on which there is
 /// something to send then. `Spent` comes back exactly where no turn was left; the pass is marked then, and adds nothing.
 pub(crate) fn hear<R: Wait, P: Station, B: Began>(
-    rt: &R,
-    alloc: Global,
-    hall: &Hall<Housed<P, B>>,
-    bells: &Bells,
+    at: &Entrance<'_, R, P, B>,
     pass: Pass<Housed<P, B>>,
     c: u32,
     kind: Kind,
     message: &[u8],
 ) -> (Pass<Housed<P, B>>, Result<Outcome, SwitchFault>)
-    requires hall { pass.hall ≡ Some hall.now }
+    requires hall { pass.hall ≡ Some at.now.hall.now }
     requires own { KnowsOwn pass }
     requires circuit { c < length B.beginning.origin.directory.circuits }
     ensures answers { Answers (seen_by B.beginning pass) (Heard c kind message.now)
         SaysNoMore result.1 (seen_by B.beginning result.0) }
-    ensures hall { result.0.hall ≡ Some hall.now }
+    ensures hall { result.0.hall ≡ Some at.now.hall.now }
     ensures own { KnowsOwn result.0 }
 {
-    let mut turn = match hall.enter(rt, pass) {
+    let mut turn = match at.hall.enter(at.rt, pass) {
         Ok(turn) => turn,
         Err(pass) => return (pass, Err(SwitchFault::Spent)),
     };
-    let answer = turn.value().hear(alloc, c, kind, message);
-    mark_due(turn.value(), bells);
+    let answer = turn.value().hear(at.alloc, c, kind, message);
+    mark_due(turn.value(), at.bells);
     (leave_heard(turn, c, kind, message, answer), answer)
 }
 
 /// One turn for takes on circuit `c`, one after another: their frames are left in `given`. Nothing is said of them, so that no saying
 /// can fail. `Spent` as in `hear`. Takes no memory.
 pub(crate) fn take_some<R: Wait, P: Station, B: Began>(
-    rt: &R,
-    hall: &Hall<Housed<P, B>>,
+    at: &Entrance<'_, R, P, B>,
     pass: Pass<Housed<P, B>>,
     c: u32,
     given: &mut Given,
 ) -> (Pass<Housed<P, B>>, Result<bool, SwitchFault>)
-    requires hall { pass.hall ≡ Some hall.now }
+    requires hall { pass.hall ≡ Some at.now.hall.now }
     requires own { KnowsOwn pass }
     requires circuit { c < length B.beginning.origin.directory.circuits }
     ensures taken { TakesSome c (frames_of given.new.frames) result.1
         (seen_by B.beginning pass) (seen_by B.beginning result.0) }
-    ensures hall { result.0.hall ≡ Some hall.now }
+    ensures hall { result.0.hall ≡ Some at.now.hall.now }
     ensures own { KnowsOwn result.0 }
 {
-    let mut turn = match hall.enter(rt, pass) {
+    let mut turn = match at.hall.enter(at.rt, pass) {
         Ok(turn) => turn,
         Err(pass) => {
             given.frames.clear();

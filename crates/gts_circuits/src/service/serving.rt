@@ -123,7 +123,7 @@ where
     requires lines { (2 * length room.rooms.items ≤ vec_capacity room.incoming)
         × (2 * length room.rooms.items ≤ vec_capacity room.outgoing) }
     ensures { IsServed P.observed P.calls P.disk_faults P.say_faults B.beginning
-        L.In.observed L.Out.observed connections (seen L.Lines lines.old)
+        L.In.Source L.Out.observed connections (seen L.Lines lines.old)
         (seen L.Lines lines.new) result.pass result.end result.engine }
 {
     let circuits = room.rooms.len();
@@ -171,7 +171,7 @@ where
     requires mode { B.beginning.makes_room ≡ service.goes_on connections }
     requires stands { Stands P.observed P.calls P.disk_faults P.say_faults B.beginning [] engine }
     ensures { IsServed P.observed P.calls P.disk_faults P.say_faults B.beginning
-        L.In.observed L.Out.observed connections (seen L.Lines lines.old)
+        L.In.Source L.Out.observed connections (seen L.Lines lines.old)
         (seen L.Lines lines.new) result.pass result.end result.engine }
 {
     let Ok(room) = room_for(alloc, engine.directory()) else {

@@ -38,6 +38,17 @@ pub struct Seen {
     sent: u64,
 }
 
+/// How a receiver waits for room.
+#[derive(Clone, Copy)]
+pub enum Waits {
+    /// It doesn't.
+    No,
+    /// It has come, and had seen this before it tried.
+    Came(Seen),
+    /// It is the one of those who wait that tries, and had seen this before its last try.
+    Tries(Seen),
+}
+
 impl RoomBell {
     /// Nobody waits yet.
     pub fn new() -> RoomBell {
@@ -49,34 +60,52 @@ impl RoomBell {
         }
     }
 
-    /// A receiver begins to wait: from now on draws are told to it.
-    pub fn come(&self) {
-        self.waiting.fetch_add(1, Ordering::SeqCst);
-    }
-
-    /// A receiver waits no more: its message found room, or none is wanted any more. Where it was the one that tried, the others may.
-    pub fn go(&self, tries: bool) {
-        self.waiting.fetch_sub(1, Ordering::SeqCst);
-        if tries {
-            self.tried.store(0, Ordering::SeqCst);
-            self.wake();
+    /// A receiver that waited so waits no more: its message found room, or none is wanted any more. Where it was the one that tried, the
+    /// others may.
+    pub fn go(&self, waits: Waits) {
+        match waits {
+            Waits::No => {}
+            Waits::Came(_) => {
+                self.waiting.fetch_sub(1, Ordering::SeqCst);
+            }
+            Waits::Tries(_) => {
+                self.waiting.fetch_sub(1, Ordering::SeqCst);
+                self.tried.store(0, Ordering::SeqCst);
+                self.wake();
+            }
         }
     }
 
-    /// What there is to see. Look before a message is tried, so that a draw in between isn't missed.
-    pub fn look(&self) -> Seen {
+    // What there is to see. Look before a message is tried, so that a draw in between isn't missed.
+    fn look(&self) -> Seen {
         Seen {
             look: self.bell.look(),
             sent: self.sent.load(Ordering::SeqCst),
         }
     }
 
-    /// Sleeps until this receiver is the one that may try, `tries` where it was that already. There may be room for its message since it
-    /// was looked at.
-    pub fn wait<R: Wait>(&self, rt: &R, seen: Seen, tries: bool) {
-        if tries {
-            self.give_way(rt, seen);
+    /// A receiver that waits so is to try once more, and answers how it waits from then on. One that didn't wait comes: draws are told to
+    /// it. One that did sleeps until it is the one that may try.
+    pub fn wait<R: Wait>(&self, rt: &R, waits: Waits) -> Waits {
+        match waits {
+            Waits::No => {
+                self.waiting.fetch_add(1, Ordering::SeqCst);
+                Waits::Came(self.look())
+            }
+            Waits::Came(seen) => {
+                self.sleep(rt, seen);
+                Waits::Tries(self.look())
+            }
+            Waits::Tries(seen) => {
+                self.give_way(rt, seen);
+                self.sleep(rt, seen);
+                Waits::Tries(self.look())
+            }
         }
+    }
+
+    // Sleeps until this receiver is the one that may try. There may be room for its message since it was looked at.
+    fn sleep<R: Wait>(&self, rt: &R, seen: Seen) {
         let mut last = seen.look;
         let mut sleeps = 0u32;
         for _ in rt.forever() {

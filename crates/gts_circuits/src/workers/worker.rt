@@ -2,6 +2,7 @@ ghost use Rattle.std.specs.Prelude.{◌≡◌, ◌<◌, ◌≤◌, length};
 ghost use Rattle.gts_circuits.specs.Cited.{Known, KnowsOwn, ReceiverKeeps, SenderKeeps, seen_by};
 
 use crate::hall::desk::HallDesk;
+use crate::hall::entrance::Entrance;
 use crate::workers::line::Line;
 use crate::workers::ringing::RunBell;
 use crate::{Began, Housed};
@@ -187,8 +188,12 @@ impl<'a, P: Station, B: Began, S: Connections, K: Sink> Worker<'a, P, B, S, K> {
         let Some(pass) = self.pass.take() else {
             unreachable!()
         };
-        let bells = self.bells.bells();
-        let room = self.bells.room();
+        let at = Entrance {
+            rt,
+            alloc,
+            hall: self.hall,
+            bells: self.bells.bells(),
+        };
         match &mut self.line {
             Line::Incoming {
                 source,
@@ -200,7 +205,7 @@ impl<'a, P: Station, B: Began, S: Connections, K: Sink> Worker<'a, P, B, S, K> {
                     self.pass = Some(pass);
                     return;
                 }
-                let desk = HallDesk::new(rt, alloc, self.hall, bells, room, pass);
+                let desk = HallDesk::new(at, self.bells.room(), pass);
                 let many = *connections;
                 let (pass, how) = receive_at(desk, self.circuit, source, many, decoder, gate);
                 *end = Some(how);
@@ -212,8 +217,8 @@ impl<'a, P: Station, B: Began, S: Connections, K: Sink> Worker<'a, P, B, S, K> {
                     self.pass = Some(pass);
                     return;
                 }
-                let desk = HallDesk::new(rt, alloc, self.hall, bells, room, pass);
-                let bell = bells.bell(self.circuit);
+                let desk = HallDesk::new(at, self.bells.room(), pass);
+                let bell = self.bells.bells().bell(self.circuit);
                 let (pass, how) = send_at(rt, desk, self.circuit, sink, given, bell, gate);
                 *end = Some(how);
                 self.pass = Some(pass);

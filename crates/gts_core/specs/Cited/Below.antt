@@ -9,6 +9,7 @@ pub use Rattle.std.specs.Option.{option_or}
 pub use Rattle.std.specs.Simd.Lanes.{zip2}
 pub use Rattle.std.specs.Vec.{with_item}
 pub use Rattle.gts_alphabet.specs.Cited.{message_of}
+pub use Rattle.gts_alphabet.specs.Reads.{Reads}
 unfoldable pub use Rattle.gts_alphabet.specs.Cited.{dec}
 pub use Rattle.gts_alphabet.specs.declared.characters.TheConstants.{EOL, ETX}
 pub use Rattle.gts_alphabet.specs.declared.limits.TheConstants.{LONGEST_BODY, LONGEST_MESSAGE, MOST_CIRCUITS}
@@ -16,7 +17,7 @@ pub use Rattle.gts_traits.specs.Cited.{Outside, on}
 pub use Rattle.gts_heading.specs.Cited.{HeadingFields, fields_of, is_same_heading}
 unfoldable pub use Rattle.gts_heading.specs.Cited.{heading_text}
 pub use Rattle.gts_heading.specs.declared.field.MessageField.{MessageField}
-pub use Rattle.gts_message.specs.Cited.{IsBody, MessageParts, parts_of}
+pub use Rattle.gts_message.specs.Cited.{IsBody, MessageParts, message_end, parts_of}
 unfoldable pub use Rattle.gts_message.specs.Cited.{body_at, split_at}
 pub use Rattle.gts_number.specs.Cited.{IsCount, number_in, numbers_in, range_in}
 pub use Rattle.gts_frame.specs.Cited.{EndsWithEtx, frame}

@@ -1,11 +1,11 @@
 use Rattle.std.proofs.Common.{◌∙◌}
 use Rattle.std.proofs.lemmas.List.Sorted.{searched}
-use Rattle.gts_checkpoint.proofs.AscendingLemmas.{has-searched}
+use Rattle.gts_event.proofs.AmongLemmas.{has_searched}
 use Rattle.gts_checkpoint.proofs.ascending.is_among.Goals as goal
 
 pub returns : goal.returns
 returns c =
     let xs = c.args.numbers.now in
     c.is_ok.ensures.value
-    ∙ has-searched xs c.args.number c.binary_search.result
+    ∙ has_searched xs c.args.number c.binary_search.result
     (searched xs c.args.number c.binary_search.result c.binary_search.ensures.position (λ i j l m. c.requires i j 0 l m))

@@ -1,7 +1,8 @@
 use Rattle.std.proofs.Common.{◌+◌, ◌-◌, ◌/◌, length, Some, ap, ◌∙◌, arith}
 use Rattle.std.proofs.lemmas.Option.{slice_get-get_or}
 use Rattle.gts_checkpoint.specs.Sound.{positions}
-use Rattle.gts_checkpoint.proofs.AscendingLemmas.{has-not, position-at, positions-length, below-half, above-half, found_none}
+use Rattle.gts_event.proofs.AmongLemmas.{has_not}
+use Rattle.gts_checkpoint.proofs.AscendingLemmas.{position-at, positions-length, below-half, above-half, found_none}
 use Rattle.gts_checkpoint.proofs.ascending.place_of.Goals as goal
 
 pub returns-then-here-position-clause-found : goal.returns-then-here-position-clause-found
@@ -39,5 +40,5 @@ loop-low-preserved c =
 pub returns-clause-none : goal.returns-clause-none
 returns-clause-none c =
     let bs = c.args.bulletins.now in
-    has-not (positions bs) c.args.position (λ k l. found_none (positions bs) c.args.position c.loop-low.low (length bs)
+    has_not (positions bs) c.args.position (λ k l. found_none (positions bs) c.args.position c.loop-low.low (length bs)
     c.loop-low.invariant.below (λ k t l. c.loop-low.invariant.above k (omega arith) l) k (omega (arith, positions-length bs)))

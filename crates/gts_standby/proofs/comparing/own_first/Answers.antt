@@ -3,7 +3,7 @@ use Rattle.gts_standby.specs.Cited.{IsDamage, Version, bytes_from, compacted_byt
 use Rattle.gts_checkpoint.specs.Reading.{HasRead}
 use Rattle.gts_standby.proofs.ExitLemmas.{returned}
 use Rattle.gts_standby.proofs.FirstLemmas.{no_damage}
-use Rattle.gts_standby.proofs.CompareLemmas.{device_read, first_leads, behind_first}
+use Rattle.gts_standby.proofs.CompareLemmas.{device_read, device_passed, own_opening, first_leads, behind_first, behind_one}
 use Rattle.gts_standby.proofs.NamedLemmas.{named_open}
 use Rattle.gts_standby.proofs.comparing.own_first.Goals as goal
 
@@ -13,7 +13,24 @@ returns-then-not-at_checkpoint-clause-on g c = λ observed end first low.
     let old = g.P.Station.calls c.args.station.now in
     let j = c.args.own.now in
     let plain : is_at_checkpoint j ≡ false = search rules in
-    c.own_next.ensures.on observed d end _ (first_leads d old j end first plain) (omega (arith, c.requires.begins, low))
+    let passed = c.in_ok-pass_next.ensures.passed observed in
+    behind_one d old _ j c.pass_next.new.journal passed.0 end _ (first_leads d old j end first plain) passed.1 passed.2 (c.in_ok-pass_next.ensures.told observed)
+
+pub returns-in_err-pass_next-clause-on : goal.returns-in_err-pass_next-clause-on
+returns-in_err-pass_next-clause-on g c = λ observed end first low.
+    let d = c.args.directory.now in
+    let old = g.P.Station.calls c.args.station.now in
+    let j = c.args.own.now in
+    let e = c.in_err-pass_next.field-0.0 in
+    let plain : is_at_checkpoint j ≡ false = search rules in
+    rw (returned c.from_residual.result (open_end e) c.from_residual.ensures.1)
+    (device_passed d old j c.pass_next.new.journal end _ e (first_leads d old j end first plain) (omega (arith, c.requires.begins, low)) (c.in_err-pass_next.ensures.passed observed))
+
+pub returns-in_err-pass_next-clause-kind : goal.returns-in_err-pass_next-clause-kind
+returns-in_err-pass_next-clause-kind g c = rw (returned c.from_residual.result (open_end c.in_err-pass_next.field-0.0) c.from_residual.ensures.1) (own_opening c.in_err-pass_next.field-0.0)
+
+pub returns-in_err-pass_next-clause-named : goal.returns-in_err-pass_next-clause-named
+returns-in_err-pass_next-clause-named g c = rw (returned c.from_residual.result (open_end c.in_err-pass_next.field-0.0) c.from_residual.ensures.1) (named_open c.in_err-pass_next.field-0.0)
 
 pub returns-clause-on : goal.returns-clause-on
 returns-clause-on g c = λ observed end first low.
@@ -38,7 +55,7 @@ returns-in_err-found-clause-on g c = λ observed end first low.
     let D : ℕ → Type 0 = λ k. IsDamage c.version.result d k (bytes_from old k 41) c.in_err-found.field-0.0 in
     let E : Version → Type 0 = λ v. IsDamage v d j.file (bytes_from old j.file 41) c.in_err-found.field-0.0 in
     let damage = subst E c.version.ensures (subst D c.file-file.ensures.file (c.in_err-found.ensures.fault observed)) in
-    rw (returned c.from_residual.result (open_end c.in_err-found.field-0.0) c.from_residual.ensures.1) (device_read j.version d j.file (drop 41 (file_of old j)) c.in_err-found.field-0.0 damage (no_damage d old j end first packed))
+    rw (returned c.from_residual-in_err-found.result (open_end c.in_err-found.field-0.0) c.from_residual-in_err-found.ensures.1) (device_read j.version d j.file (drop 41 (file_of old j)) c.in_err-found.field-0.0 damage (no_damage d old j end first packed))
 
 pub returns-in_err-found-clause-named : goal.returns-in_err-found-clause-named
-returns-in_err-found-clause-named g c = rw (returned c.from_residual.result (open_end c.in_err-found.field-0.0) c.from_residual.ensures.1) (named_open c.in_err-found.field-0.0)
+returns-in_err-found-clause-named g c = rw (returned c.from_residual-in_err-found.result (open_end c.in_err-found.field-0.0) c.from_residual-in_err-found.ensures.1) (named_open c.in_err-found.field-0.0)

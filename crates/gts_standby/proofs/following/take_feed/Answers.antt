@@ -1,7 +1,7 @@
 use Rattle.std.proofs.Common.{refl, drop, sym, subst}
 use Rattle.gts_standby.specs.Cited.{Ends, FollowEnd, HasRead, InFeed, IsEnd, IsNamedEnd, ReadsAll, stopped}
 use Rattle.gts_standby.proofs.AddLemmas.{holds_of}
-use Rattle.gts_standby.proofs.TakeLemmas.{all_unread, behind_taken, header_taken, answers_there, added_there, reads_after_there, moments_there, done_stops, open_alone, open_no_end, taken_alone, fed_alone, opened_there}
+use Rattle.gts_standby.proofs.TakeLemmas.{all_unread, behind_taken, header_taken, answers_there, added_there, reads_after_there, kept_there, moments_there, done_stops, open_alone, open_no_end, taken_alone, fed_alone, opened_there}
 use Rattle.gts_standby.proofs.NamedLemmas.{named_open, named_fed}
 use Rattle.gts_standby.proofs.following.take_feed.Goals as goal
 
@@ -31,7 +31,11 @@ returns-in-Ok-take_header-clause-added g c = λ observed told.
     let header = c.in-Ok-take_header.ensures.taken told fed read in
     let has = c.take_records.ensures.taken observed told o.state (drop 40 fed) (holds_of _ d _ _ j o) header.1 in
     let whole = behind_taken d _ _ j o.state fed synced f c.take_records.result c.mark.result _ _ c.mark.ensures header.0 has in
-    record { opened = added_there d _ _ j o.state fed synced f c.take_records.result _ _ whole; reads = reads_after_there d _ _ j o.state fed synced f c.take_records.result _ _ whole }
+    record {
+      opened = added_there d _ _ j o.state fed synced f c.take_records.result _ _ whole;
+      reads = reads_after_there d _ _ j o.state fed synced f c.take_records.result _ _ whole;
+      kept = kept_there d _ _ j o.state fed synced f c.take_records.result _ _ whole;
+    }
 
 pub returns-in-Ok-take_header-clause-moments : goal.returns-in-Ok-take_header-clause-moments
 returns-in-Ok-take_header-clause-moments g c = λ observed told from taken reads comes.
@@ -71,7 +75,11 @@ returns-in-Err-take_header-clause-added g c = λ observed told.
     let f = o.stands observed in
     let header = c.in-Err-take_header.ensures.taken told fed read in
     let whole = header_taken d _ _ j o.state fed synced f c.in-Err-take_header.end c.mark.result _ c.mark.ensures header in
-    record { opened = added_there d _ _ j o.state fed synced f c.in-Err-take_header.end _ _ whole; reads = reads_after_there d _ _ j o.state fed synced f c.in-Err-take_header.end _ _ whole }
+    record {
+      opened = added_there d _ _ j o.state fed synced f c.in-Err-take_header.end _ _ whole;
+      reads = reads_after_there d _ _ j o.state fed synced f c.in-Err-take_header.end _ _ whole;
+      kept = kept_there d _ _ j o.state fed synced f c.in-Err-take_header.end _ _ whole;
+    }
 
 pub returns-in-Err-take_header-clause-done : goal.returns-in-Err-take_header-clause-done
 returns-in-Err-take_header-clause-done g c = λ told is.
@@ -126,4 +134,8 @@ returns-in-Err-clause-unopened g c = λ observed fault is. (c.open_core.ensures.
 pub returns-in-Err-clause-added : goal.returns-in-Err-clause-added
 returns-in-Err-clause-added g c = λ observed told.
     let none : IsEnd c.from.result → ⊥ = λ e. open_no_end c.in-Err.fault (subst IsEnd c.from.ensures e) in
-    record { opened = λ s used last taken reads comes e. absurd (none e); reads = λ read taken reads comes e. absurd (none e) }
+    record {
+      opened = λ s used last taken reads comes e. absurd (none e);
+      reads = λ read taken reads comes e. absurd (none e);
+      kept = λ read taken reads comes e. absurd (none e);
+    }

@@ -2,7 +2,8 @@ use Rattle.std.proofs.Common.{◌≡◌, ◌+◌, ◌-◌, ℕ, Bool, cond, sym,
 use Rattle.gts_standby.specs.Cited.{IsAtFirst, feed_of, first_fault, seen, ship_fault}
 use Rattle.gts_standby.proofs.ExitLemmas.{returned}
 use Rattle.gts_standby.proofs.ShipLemmas.{named_opening}
-use Rattle.gts_standby.proofs.FirstLemmas.{at_first, open_answer, ships_on, breaks_on, synced_quiet, not_started, quiet_start, no_header_fault}
+use Rattle.gts_traits.proofs.SayLemmas.{said_none}
+use Rattle.gts_standby.proofs.FirstLemmas.{at_first, open_answer, never_unopened, ships_on, breaks_on, not_started, quiet_start, no_header_fault}
 use Rattle.gts_standby.proofs.shipping.ship.Goals as goal
 
 pub returns-in_err-open_core-clause-fault : goal.returns-in_err-open_core-clause-fault
@@ -54,7 +55,18 @@ returns-in_err-journal-clause-fault g c = λ observed.
     let new = g.P.Station.calls c.start.new.station in
     let o = c.in_ok-open_core.ensures.opened in
     let quiet = quiet_start c.in_err-journal.field-0.0 (first_fault c.mark.result (seen mid)) (c.in_err-journal.ensures.fault observed) (λ f is. no_header_fault d mid c.in_ok-open_core.field-0.1 o.state c.mark.result f (o.stands observed) o.current c.mark.ensures is) in
-    rw (returned c.from_residual-in_err-journal.result (ship_fault c.in_err-journal.field-0.0) c.from_residual-in_err-journal.ensures.1) (not_started d old mid new (ship_fault c.in_err-journal.field-0.0) (feed_of d old) (synced_quiet old mid (c.in_ok-open_core.ensures.synced observed)) (c.in_err-journal.ensures.told observed) quiet)
+    rw (returned c.from_residual-in_err-journal.result (ship_fault c.in_err-journal.field-0.0) c.from_residual-in_err-journal.ensures.1) (not_started d old mid mid new (ship_fault c.in_err-journal.field-0.0) (feed_of d old) (c.in_ok-open_core.ensures.synced observed) (said_none mid) (c.in_err-journal.ensures.told observed) quiet)
+
+-- where it opens, it doesn't open to a fault
+pub returns-in_err-journal-clause-unopened : goal.returns-in_err-journal-clause-unopened
+returns-in_err-journal-clause-unopened g c = λ observed.
+    let o = c.in_ok-open_core.ensures.opened in
+    never_unopened c.args.directory.now _ (g.P.Station.calls c.open_core.new.station) _ c.in_ok-open_core.field-0.1 o.state (c.in_ok-open_core.ensures.synced observed) (o.stands observed) o.current
+
+pub returns-clause-unopened : goal.returns-clause-unopened
+returns-clause-unopened g c = λ observed.
+    let o = c.in_ok-open_core.ensures.opened in
+    never_unopened c.args.directory.now _ (g.P.Station.calls c.open_core.new.station) _ c.in_ok-open_core.field-0.1 o.state (c.in_ok-open_core.ensures.synced observed) (o.stands observed) o.current
 
 pub returns-in_err-open_core-clause-named : goal.returns-in_err-open_core-clause-named
 returns-in_err-open_core-clause-named g c = rw (returned c.from_residual.result (ship_fault c.in_err-open_core.field-0.0) c.from_residual.ensures.1) (named_opening c.in_err-open_core.field-0.0)

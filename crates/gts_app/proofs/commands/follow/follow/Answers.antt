@@ -18,4 +18,4 @@ returns g c =
     let e = c.follow-station.ensures in
     subst (λ (s : Status). FollowsFeed g.S.Source g.P.Station s (world od c.args.world.capture c.args.world.station) (world nd c.follow-station.new.source station)) (sym c.status_of-status.ensures)
     (followed g.S.Source g.P.Station c.in-Ok.accepted answer od nd c.args.world.capture c.follow-station.new.source c.args.world.station station read
-    e.answer (λ observed told. (e.added observed told).opened) (λ observed told. (e.added observed told).reads) e.moments e.unopened e.done e.refused (named_fault answer e.named) e.silent e.source_fault e.disk_fault e.counts.later e.counts.source_later e.counts.say)
+    e.answer (λ observed told. (e.added observed told).opened) (λ observed told. (e.added observed told).reads) (λ observed told. (e.added observed told).kept) e.moments e.unopened e.done e.refused (named_fault answer e.named) e.silent e.source_fault e.disk_fault e.counts.later e.counts.source_later e.counts.say)

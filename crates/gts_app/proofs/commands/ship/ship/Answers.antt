@@ -17,7 +17,7 @@ returns-in-None-clause-ships g c =
     let asked : c.args.since ≡ None = c.in-None.is in
     subst (λ (s : Status). ShipsFeed c.args.since g.S.Source g.P.Station s od c.args.world.now.station nd c.ship.new.station) (sym c.status_of.ensures)
     (subst (λ (o : Option Since). ShipsFeed o g.S.Source g.P.Station (status_shipped c.ship.result) od c.args.world.now.station nd c.ship.new.station) (sym asked)
-    (ship_ends None g.S.Source g.P.Station c.in-Ok.accepted c.ship.result od nd c.args.world.now.station c.ship.new.station read e.said e.fault e.named e.disk_fault e.say_fault e.later e.say))
+    (ship_ends None g.S.Source g.P.Station c.in-Ok.accepted c.ship.result od nd c.args.world.now.station c.ship.new.station read e.said e.fault e.unopened e.named e.disk_fault e.say_fault e.later e.say))
 
 pub returns-clause-ships : goal.returns-clause-ships
 returns-clause-ships g c =
@@ -28,4 +28,4 @@ returns-clause-ships g c =
     let asked : c.args.since ≡ Some c.in-Some.since = c.in-Some.is in
     subst (λ (s : Status). ShipsFeed c.args.since g.S.Source g.P.Station s od c.args.world.now.station nd c.ship_since.new.station) (sym c.status_of-in-Some.ensures)
     (subst (λ (o : Option Since). ShipsFeed o g.S.Source g.P.Station (status_shipped c.ship_since.result) od c.args.world.now.station nd c.ship_since.new.station) (sym asked)
-    (ship_ends (Some c.in-Some.since) g.S.Source g.P.Station c.in-Ok.accepted c.ship_since.result od nd c.args.world.now.station c.ship_since.new.station read e.said e.fault e.named e.disk_fault e.say_fault e.later e.say))
+    (ship_ends (Some c.in-Some.since) g.S.Source g.P.Station c.in-Ok.accepted c.ship_since.result od nd c.args.world.now.station c.ship_since.new.station read e.said e.fault e.unopened e.named e.disk_fault e.say_fault e.later e.say))

@@ -20,6 +20,7 @@ returns-clause-keeps g c =
       last = r.1;
       received = subst N (sym c.into_pass.ensures.pass) r.2;
       gave = r.3;
+      through = r.4;
       ended = c.receive-end.ensures.ended;
       later = c.receive-end.ensures.later;
       fault = c.receive-end.ensures.fault;

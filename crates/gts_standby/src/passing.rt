@@ -1,0 +1,29 @@
+//! A journal goes on behind a record that nobody looks at.
+ghost use Rattle.std.specs.Prelude.{◌≡◌, ◌<◌, ◌≤◌, ◌^◌, false, OnOk, IsErrOf};
+ghost use Rattle.gts_standby.specs.Cited.{GoesOn, KeepsCounts, PassesNext, Rose, StandsOn, next_entry};
+
+use gts_journal::{Journal, OpenFault};
+use gts_traits::Station;
+
+/// Goes on behind the record at the gate. A closed gate is answered as damage there.
+pub(crate) fn pass_next<P: Station>(station: &mut P, journal: &mut Journal) -> Result<(), OpenFault>
+    requires going { journal.old.ended ≡ false }
+    requires room { journal.old.gate < 2 ^ 40 }
+    requires stands { P.observed → StandsOn (P.calls station.old) journal.old }
+    ensures passed { P.observed → PassesNext result (next_entry (P.calls station.old) journal.old)
+        journal.old journal.new }
+    ensures goes { OnOk result (GoesOn P.observed (P.calls station.new) journal.old journal.new) }
+    ensures room { OnOk result (journal.new.gate ≤ 2 ^ 41) }
+    ensures told { P.observed → P.calls station.new ≡ P.calls station.old }
+    ensures disk_fault { IsErrOf result OpenFault.DiskFault
+        → Rose (P.disk_faults station.old) (P.disk_faults station.new) }
+    ensures counts { KeepsCounts (P.disk_faults station.old) (P.disk_faults station.new)
+        (P.say_faults station.old) (P.say_faults station.new) }
+{
+    let file = journal.file();
+    let gate = journal.used();
+    match journal.next(station)? {
+        Some(_) => Ok(()),
+        None => Err(OpenFault::Damaged { file, at: gate }),
+    }
+}
