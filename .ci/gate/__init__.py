@@ -72,12 +72,12 @@ def program_or_end(path=None):
 
 
 class Folder:
-    """A folder with a directory file, and the program that works in it. `faults` has what was wrong with that, and `count` how
-    often it was run."""
+    """A folder with a directory file, and the program that works in it. `faults` has what was wrong with that, `count` how often it
+    was run, and `cause` the second line of its last fault."""
 
     def __init__(self, program, at, directory=None):
         self.program, self.at = program, at
-        self.faults, self.count = Faults(), 0
+        self.faults, self.count, self.cause = Faults(), 0, ''
         os.makedirs(at, exist_ok=True)
         if directory is not None:
             self.write('directory.toml', directory)
@@ -122,7 +122,8 @@ class Folder:
             self.write('capture.gts', capture)
         done = subprocess.run([self.program, *words], cwd=self.at, stdin=subprocess.DEVNULL, capture_output=True, timeout=seconds,
                               **more)
-        return done.returncode, done.stdout, done.stderr.decode(errors='replace').partition('\n')[0].removeprefix('gts_switch: ')
+        line, self.cause = [text.removeprefix('gts_switch: ') for text in (*done.stderr.decode(errors='replace').split('\n'), '')[:2]]
+        return done.returncode, done.stdout, line
 
     def starts(self, *words, **more):
         """The program as a process whose output is read by the caller, where nothing else is said."""

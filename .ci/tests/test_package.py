@@ -203,9 +203,9 @@ def check_about(program):
     _, version, _ = run([os.path.join(TOP, 'packaging/version')])
     status, said, line = run([program, '--version'])
     wants('--version', (status, said.splitlines()[:1], line), (0, [f'gts_switch {version.strip()}'], ''))
-    if shutil.which('rt'):
-        _, kit, _ = run(['rt', 'version'])
-        wants('the kit', said.splitlines()[-1:], [f'kit: {kit.split()[0]}'])
+    with open(os.path.join(TOP, 'docs/TRUST.md')) as file:
+        kit = re.search(r'`rt version` says `(\S+) logic \w+`', file.read())
+    wants('the kit, which docs/TRUST.md names', said.splitlines()[-1:], [f'kit: {kit[1]}'])
     status, said, line = run([program, '--help'])
     wants('--help', (status, line), (0, ''))
     usage = next(line for line, _ in lines_of_faults() if line.startswith('usage: '))
@@ -328,10 +328,11 @@ def test_a_release_is_of_a_clean_commit_over_which_the_gate_has_passed(program, 
     os.makedirs(os.path.join(clone, 'crates/gts_switch/out'))
     shutil.copy(program, os.path.join(clone, 'crates/gts_switch/out/gts_switch'))
     commit, version = git(clone, 'rev-parse', 'HEAD'), run([os.path.join(clone, 'packaging/version')])[1].strip()
+    own_kit = run([program, '--version'])[1].splitlines()[-1].removeprefix('kit: ')
 
-    def released(over=commit, last='9 passed, 0 failed (1 crate)', tried=program, more=''):
+    def released(over=commit, kit=own_kit, last='9 passed, 0 failed (1 crate)', tried=program, more=''):
         with open(log, 'w') as file:
-            file.write(f'commit {over}\nprogram {digest_of(tried)}\n{more}{last}\n')
+            file.write(f'commit {over}\nkit {kit} logic 0\nprogram {digest_of(tried)}\n{more}{last}\n')
         return run([os.path.join(clone, 'packaging/release'), to, log])[::2]
     wants('another commit', released(over='0' * 40), (1, f"release: the gate didn't run over commit {commit}"))
     wants('a gate that failed', released(last='8 passed, 1 failed'), (1, "release: the gate didn't pass: 8 passed, 1 failed"))
@@ -342,6 +343,7 @@ def test_a_release_is_of_a_clean_commit_over_which_the_gate_has_passed(program, 
     wants('a version that is tagged', released()[0], 1)
     git(clone, 'tag', '-d', f'v{version}')
     wants('another program', released(tried=log), (1, "release: the program isn't the one that the gate tried"))
+    wants('another kit', released(kit='another')[0], 1)
     wants('nothing was left', os.path.exists(to), False)
     wants('a release that leaves a part out', released(more='NOT RUN: a cable\n'), (0, 'NOT RUN: a cable'))
     shutil.rmtree(to)
