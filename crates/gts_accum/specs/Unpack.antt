@@ -1,7 +1,7 @@
 -- What a run of a file through a switch left.
 use Rattle.std.specs.Prelude.{◌≡◌, ◌⊎◌, ℕ, ◌≤◌, List, [], length, Option, Some, None}
 use Rattle.gts_accum.specs.Cited.Below.{DiskFault, Journaled, ReplayEnd, Rose, SayFault, Standing, StandsFor}
-use Rattle.gts_replay.specs.Cited.{Ends}
+use Rattle.gts_replay.specs.Cited.{Ends, IsUnfailed}
 use Rattle.gts_event.specs.declared.event.Entry.{Entry}
 use Rattle.gts_accum.specs.Traced.{IsLeft}
 use Rattle.gts_accum.specs.File.{badplace}
@@ -45,7 +45,12 @@ IsFileEnd _ = ⊥
 abbrev pub IsPlaceMet : Option ℕ → UnpackEnd → Type 0
 IsPlaceMet place result = (at : ℕ) → result ≡ Bad at → (place ≡ Some at) ⊎ (place ≡ None)
 
--- a fault of a device is answered only where its count rose, and no count falls
+-- a run of a file that no device ended: the file is bad, or the run of its capture ended so
+abbrev pub IsUnfailedFile : UnpackEnd → Type 0
+IsUnfailedFile (Bad at) = Unit {0}
+IsUnfailedFile (Ended e) = IsUnfailed e
+
+-- A fault of a device is answered only where its count rose, and no count falls; where no device ended the run, none rose.
 pub record HasUnpackCause (result : UnpackEnd) (disk disk_now say say_now source source_now : ℕ) : Type 0 where
   pub disk_later : disk ≤ disk_now
   pub say_later : say ≤ say_now
@@ -55,3 +60,4 @@ pub record HasUnpackCause (result : UnpackEnd) (disk disk_now say say_now source
   pub reopen_failed : result ≡ Ended (end.Reopen opening.DiskFault) → Rose disk disk_now
   pub say_failed : result ≡ Ended (end.Fault SayFault) → Rose say say_now
   pub source_failed : result ≡ Ended end.SourceFault → Rose source source_now
+  pub sound : IsUnfailedFile result → (disk_now ≡ disk) × (say_now ≡ say) × (source_now ≡ source)

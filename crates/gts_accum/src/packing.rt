@@ -1,4 +1,4 @@
-ghost use Rattle.std.specs.Prelude.{◌≡◌, ◌+◌, ◌≤◌, ◌++◌, ℕ, List, [], length};
+ghost use Rattle.std.specs.Prelude.{◌≡◌, ◌+◌, ◌≤◌, ◌++◌, ℕ, List, [], length, OnOk};
 ghost use Rattle.gts_accum.specs.Cited.{Call, HasCause, HasMessage, IsFramed, Tells, entries_text, entry_text, messages_of, on, signs_of_step, whole};
 ghost use Rattle.gts_accum.specs.Packs as packs;
 
@@ -28,6 +28,7 @@ fn say_entry<P: Station>(message: &[u8], station: &mut P) -> Result<(), Failed>
     ensures told { P.observed → Tells result (on FILE (entry_text (whole message.now)))
         (P.calls station.old) (P.calls station.new) }
     ensures cause { HasCause result (P.say_faults station.old) (P.say_faults station.new) }
+    ensures sound { OnOk result (P.say_faults station.new ≡ P.say_faults station.old) }
     ensures disk { P.disk_faults station.new ≡ P.disk_faults station.old }
 {
     let mut head = [0; ENTRY_HEAD];
@@ -45,6 +46,7 @@ fn say_step<P: Station>(step: Step, message: &[u8], station: &mut P) -> Result<(
         → Tells result (on FILE (entries_text (messages_of (signs_of_step step message.now))))
         (P.calls station.old) (P.calls station.new) }
     ensures cause { HasCause result (P.say_faults station.old) (P.say_faults station.new) }
+    ensures sound { OnOk result (P.say_faults station.new ≡ P.say_faults station.old) }
     ensures disk { P.disk_faults station.new ≡ P.disk_faults station.old }
 {
     match step {

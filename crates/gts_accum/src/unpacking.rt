@@ -1,5 +1,5 @@
 ghost use Rattle.std.specs.Prelude.{◌≡◌, ◌<◌, ◌≤◌, length};
-ghost use Rattle.gts_accum.specs.Cited.{HasUnpackCause, IsFileEnd, IsPlaceMet, Rose, Unpacks, badplace};
+ghost use Rattle.gts_accum.specs.Cited.{HasUnpackCause, IsFileEnd, IsPlaceMet, IsUnfailedFile, Rose, Unpacks, badplace};
 
 use crate::traced::{OfFile, Traced};
 use crate::{UnpackEnd, a_file_is_a_capture};
@@ -18,6 +18,8 @@ fn end_of_file<S: Source, B: OfFile>(traced: &mut Traced<S, B>, at: u64) -> Unpa
     ensures cause { (S.faults traced.old.source ≤ S.faults traced.new.source)
         × (result ≡ UnpackEnd.Ended ReplayEnd.SourceFault
         → Rose (S.faults traced.old.source) (S.faults traced.new.source)) }
+    ensures sound { IsUnfailedFile result
+        → S.faults traced.new.source ≡ S.faults traced.old.source }
 {
     match traced.bad() {
         Ok(place) => UnpackEnd::Bad {

@@ -122,7 +122,7 @@ module _ {S P : Type 0} (source : SourceMeanings S) (w : StationMeanings P) (od 
       source_fault = λ of. absurd (cc);
       only_syncs = λ told. inl (known told).synced;
       say = (h.kept e is).1;
-      later = (h.kept e is).0;
+      later = omega (arith, (h.kept e is).0);
     });
     disk_fault = λ of. absurd (cc);
     ends = tt;
@@ -130,7 +130,7 @@ module _ {S P : Type 0} (source : SourceMeanings S) (w : StationMeanings P) (od 
     complete = λ observed told d n read opened room kept_directory kept_disk. inr refl;
     answered = λ observed told d fault read opened kept_directory kept_disk. inr refl;
     taken = h.taken;
-    counts = (h.later, (h.kept e is).0, omega (arith, (h.kept e is).1));
+    counts = (h.later, omega (arith, (h.kept e is).0), omega (arith, (h.kept e is).1));
   }
 
   module _ (r : Result (Unit {0}) SwitchFault) (new : Engine P) (compaction : IsCompaction w.observed w.calls r e new)

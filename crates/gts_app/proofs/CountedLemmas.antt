@@ -16,7 +16,7 @@ module _ {O T W : Type 0} (parts : W → CountedParts T) (meanings : Standing O 
   together : (steps : List Step) (became : List Event → List Entry)
       → BreaksTogether (meanings_by parts meanings) (origin_at (meanings_by parts meanings) o h steps old) (length h) h (entries_at (meanings_by parts meanings) old o h steps) became new
       → BreaksTogether meanings (origin_at meanings o h steps (parts old).switch) (length h) h (entries_at meanings (parts old).switch o h steps) became (parts new).switch
-  together steps became b = record { front = b.front; event = b.event; events = b.events; behind = b.behind; parts = b.parts; within = b.within; stands = b.stands.0 }
+  together steps became b = record { front = b.front; event = b.event; events = b.events; behind = b.behind; parts = b.parts; within = b.within; few = b.few; stands = b.stands.0 }
 
   idle : (steps : List Step) (fault : SwitchFault)
       → BreaksIdle (meanings_by parts meanings) (origin_at (meanings_by parts meanings) o h steps old) h (entries_at (meanings_by parts meanings) old o h steps) fault new

@@ -47,7 +47,7 @@ pub without_numbers : {S P : Type 0} (source : SourceMeanings S) (w : StationMea
 without_numbers {S} {P} source w od nd oc old e result is h at same =
     subst (λ (p : P). CountsTraffic source w NoMemory (world od oc old) (world nd oc p)) (sym same)
     (as_run source w NoMemory (world od oc old) nd oc e.station (λ done. cc)
-    (out_of_memory Traffic source source w od nd oc old e.station (λ told. inl (h.opened e is told).2.0.synced) (h.kept e is).1 (h.kept e is).0 h.taken h.later))
+    (out_of_memory Traffic source source w od nd oc old e.station (λ told. inl (h.opened e is told).2.0.synced) (h.kept e is).1 (omega (arith, (h.kept e is).0)) h.taken h.later))
 
 -- ---- a capture was run through the switch that counts
 

@@ -1,6 +1,6 @@
 -- What each end of a file's run means for the command.
-use Rattle.std.proofs.Common.{◌≡◌, ◌⊎◌, ℕ, ◌<◌, ◌≤◌, false, List, [], length, Result, Ok, Err, None, IsTrue, inl, inr, refl, ap, subst, arith}
-use Rattle.gts_app.specs.Cited.{Bad, Capture, Changed, Closed, Damaged, Directory, DiskFault, Done, Ended, Engine, Entry, Exists, Feed, File, Full, Ghosts as StationMeanings, Handed, HasNoCircuit, HasReplayCause, HasUnpackCause, InputFault, IsEndAt, IsEndOf, IsLeft, IsReadEnd, IsRefusal, IsStatusOf, Journaled, KeepsLaws, LineFault, LongSession, Need, NoJournal, NoMemory, OldDirectory, OldVersion, Opens, OtherDirectory, OtherFeed, OutputFault, ReadsDirectory, ReplayEnd, Rose, SourceMeanings, Status, TicketsSpent, UnpackEnd, Unpacks, Usage, badplace, capture_meanings, captured, directory_of_bytes, handed, is_sound, keeps_one, origin_of, status_of, status_unpacked, switch_meanings, unpacked, world}
+use Rattle.std.proofs.Common.{◌≡◌, ◌⊎◌, ℕ, ◌<◌, ◌≤◌, false, List, [], length, Result, Ok, Err, None, IsTrue, inl, inr, refl, sym, ap, subst, arith}
+use Rattle.gts_app.specs.Cited.{Bad, Capture, Changed, Closed, Damaged, Directory, DiskFault, Done, Ended, Engine, Entry, Exists, Feed, File, Full, Ghosts as StationMeanings, Handed, HasNoCircuit, HasReplayCause, HasUnpackCause, InputFault, IsEndAt, IsEndOf, IsLeft, IsReadEnd, IsRefusal, IsStatusOf, IsUnfailed, IsUnfailedFile, Journaled, KeepsLaws, LineFault, LongSession, Need, NoJournal, NoMemory, OldDirectory, OldVersion, Opens, OtherDirectory, OtherFeed, OutputFault, ReadsDirectory, ReplayEnd, Rose, SourceMeanings, Status, TicketsSpent, UnpackEnd, Unpacks, Usage, badplace, capture_meanings, captured, directory_of_bytes, handed, is_sound, keeps_one, origin_of, status_of, status_unpacked, switch_meanings, unpacked, world}
 use Rattle.gts_accum.specs.Unpack.{Unpacks as Runs}
 use Rattle.gts_directory.specs.Directory as directories
 use Rattle.gts_event.specs.declared.fault.SwitchFault.TheVariants as switch
@@ -82,7 +82,7 @@ bad-is : (result : UnpackEnd) (at : ℕ) → status_unpacked result ≡ File at 
 bad-is (Bad p) at is = let same : p ≡ at = cc in ap (λ (n : ℕ). Bad n) same
 bad-is (Ended r) at is = absurd (other r (File at) is)
 
-done-is : (result : UnpackEnd) → status_unpacked result ≡ Done → result ≡ Ended end.Done
+pub done-is : (result : UnpackEnd) → status_unpacked result ≡ Done → result ≡ Ended end.Done
 done-is (Bad p) is = absurd (cc)
 done-is (Ended r) is = ap (λ (x : ReplayEnd). Ended x) (other r Done is)
 
@@ -95,6 +95,16 @@ untouched : (file : List ℕ) (c : ℕ) → IsLeft file file c (captured file c)
 untouched file c = record { taken = []; given = []; due = captured [] c; read = refl; capture = refl; part = refl; short = omega arith }
 
 -- ---- causes
+
+-- a run of a capture that no device ended is one of its file
+unfailed-file : (r : ReplayEnd) (result : UnpackEnd) → IsEndOf r result → IsUnfailed r → IsUnfailedFile result
+unfailed-file end.Done result is ends = subst IsUnfailedFile (sym is) tt
+unfailed-file (end.Capture at) result is ends = subst IsUnfailedFile (sym is.1) tt
+unfailed-file end.SourceFault result is ends = absurd ends
+unfailed-file (end.Reopen fault) result is ends = absurd ends
+unfailed-file (end.Compaction fault) result is ends = absurd ends
+unfailed-file (end.Fault fault) result is ends = absurd ends
+unfailed-file end.NoMemory result is ends = absurd ends
 
 replayed-cause : (r : ReplayEnd) (result : UnpackEnd) (disk disk_now say say_now source source_now : ℕ) → IsEndOf r result
     → HasUnpackCause result disk disk_now say say_now source source_now → HasReplayCause r disk disk_now say say_now source source_now
@@ -109,6 +119,7 @@ replayed-cause r result disk disk_now say say_now source source_now is k =
       reopen_failed = λ e. k.reopen_failed (subst P e is);
       say_failed = λ e. k.say_failed (subst P e is);
       source_failed = λ e. k.source_failed (subst P e is);
+      sound = λ ends. k.sound (unfailed-file r result is ends);
     }
 
 -- no end for want of a circuit that is there

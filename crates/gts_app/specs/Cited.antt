@@ -8,6 +8,7 @@ pub use Rattle.gts_app.specs.Generate.{Generates}
 pub use Rattle.gts_app.specs.Ending.{refusal, status_compacted, status_of, status_said}
 pub use Rattle.gts_app.specs.Opening.{BeginsWith, IsOfFiles, IsOrigin, IsRefusal, Opens, handed}
 pub use Rattle.gts_app.specs.Replay.{BecauseFull, BecauseRecorded, BecauseTooLarge, BreaksAt, BreaksTogether, Does, ForNoReason, HasRoom, IsNoCapture, IsReplayEnd, Lacks, NeverFull, Replays, StopsAtCompacting, StopsAtReopening, Untouched, WithoutReason, World, counted, counted_by, history, world}
+pub use Rattle.gts_app.specs.Sound.{NoneFailed}
 pub use Rattle.gts_app.specs.Show.{Reported, Shows}
 pub use Rattle.gts_app.specs.Compact.{Compacts, IsCompactEnd, IsCompacted, IsTooLarge, Over, StaysThere}
 pub use Rattle.gts_app.specs.Serve.{BecauseFullThen, BecauseNoMemory, CameTo, HasEndCause, IsUnhindered, Ran, Serves, ServesIn, status_of_fault, status_served}

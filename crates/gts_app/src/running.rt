@@ -1,5 +1,5 @@
 ghost use Rattle.std.specs.Prelude.{◌≡◌, ◌⊎◌, ℕ, List, Some, None};
-ghost use Rattle.gts_app.specs.Cited.{Compacts, CountsTraffic, FollowsFeed, Generates, Inits, IsCommand, IsNoCapture, IsSettled, Migrates, NamesGaps, PacksStream, Replays, ServesIn, ShipsFeed, Shows, TriesMigration, Unpacks, WithDirectoryAlone, command_of, lines_seen as seen, moment_at, since_at};
+ghost use Rattle.gts_app.specs.Cited.{Compacts, CountsTraffic, FollowsFeed, Generates, Inits, IsCommand, IsNoCapture, IsSettled, Migrates, NamesGaps, NoneFailed, PacksStream, Replays, ServesIn, ShipsFeed, Shows, TriesMigration, Unpacks, WithDirectoryAlone, command_of, lines_seen as seen, moment_at, since_at};
 
 use crate::commands::check::check;
 use crate::commands::compact::compact;
@@ -109,6 +109,10 @@ where
     ensures no_capture { command_of words.now ≡ Some Command.Replay → S.observed → P.observed
         → IsNoCapture (S.left world.directory) (S.left world.capture)
         → result.status ≡ Status.Done → ⊥ }
+
+    // No command is done where a device failed under it: no count of the sources and the station rose.
+    ensures sound { result.status ≡ Status.Done
+        → NoneFailed S.Source P.Station world result.world }
 
     // No other command changes the lines.
     ensures untouched { ((connections : ℕ)

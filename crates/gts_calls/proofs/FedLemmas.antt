@@ -29,6 +29,7 @@ module _ {O W : Type 0} (meanings : Standing O W) where
           behind = t.behind;
           parts = ap (λ (x : List Entry). h ++ x) (all_done-append xs ys) ∙ sym (append_assoc h (all_done xs) (all_done ys)) ∙ t.parts;
           within = t.within;
+          few = t.few;
           stands = t.stands;
         },
         b.1,

@@ -2,7 +2,7 @@
 use Rattle.std.proofs.Common.{◌≡◌, ℕ, ◌≤◌, ◌⊎◌, inl, inr, List, [], ◌∷◌, ◌++◌, length, Result, Ok, Err, refl, sym, ap, subst, ◌∙◌, arith, length-append, IsErrAnd, MatchResult}
 use Rattle.std.proofs.lemmas.List.{append-nil, append_assoc, map-append}
 use Rattle.std.proofs.lemmas.Result.{err_from_is_err_and}
-use Rattle.gts_calls.specs.Cited.{AfterCall, AfterSettling, Alone, AtOnce, Behind, BreaksIdle, BreaksOff, BreaksSoon, BreaksTogether, Directory, DiskFault, Done, Doubt, Entry, Event, Full, GathersOne, Goes, Idle, IsAnswerCause, IsAnswered, IsCause, IsCutShort, IsInDoubt, IsOneMore, IsSettling, NoMemory, Outcome, SayFault, Spent, Standing, Stands, Stopped, SwitchFault, Unsaid, after_all, all_done, all_unsaid, outcome, outcome_at, settled}
+use Rattle.gts_calls.specs.Cited.{AfterCall, AfterSettling, Alone, AtOnce, Behind, BreaksIdle, BreaksOff, BreaksSoon, BreaksTogether, Directory, DiskFault, Done, Doubt, Entry, Event, Full, GathersOne, Goes, Idle, IsAnswerCause, IsAnswered, IsCause, IsCutShort, IsInDoubt, IsOneMore, IsSettling, MOST_TOGETHER, NoMemory, Outcome, SayFault, Spent, Standing, Stands, Stopped, SwitchFault, Unsaid, after_all, all_done, all_unsaid, outcome, outcome_at, settled}
 
 -- what was answered, by what `map_err` made of it
 pub mapped_ok : {T E D : Type 0} (r : Result T E) (mapped : Result T D) (Q : E → D → Type 0) (x : T) → MatchResult r (λ y. mapped ≡ Ok y) (λ e. IsErrAnd mapped (Q e)) → mapped ≡ Ok x → r ≡ Ok x
@@ -13,6 +13,10 @@ pub mapped_err : {T E D : Type 0} (r : Result T E) (mapped : Result T D) (Q : E 
     → (e : E) × (r ≡ Err e) × Q e f
 mapped_err {T} {E} {D} (Ok y) mapped Q f cases is = absurd (let e : Ok y ≡ Err f = sym cases ∙ is in cc e)
 mapped_err {T} {E} {D} (Err e) mapped Q f cases is = (e, refl, subst (λ (m : Result T D). IsErrAnd m (Q e)) is cases)
+
+-- one event is no more than may be gathered
+pub few_one : (event : Event) → length (event ∷ []) ≤ MOST_TOGETHER
+few_one event = omega arith
 
 pub all_done-append : (xs ys : List Event) → all_done (xs ++ ys) ≡ all_done xs ++ all_done ys
 all_done-append xs ys = map-append (λ (e : Event). Done e) xs ys
@@ -46,21 +50,29 @@ module _ {O W : Type 0} (meanings : Standing O W) where
 
   -- the first entries stand, and events behind them became these together
   pub together : (o : O) (first : ℕ) (h more front back : List Entry) (events : List Event) (became : List Event → List Entry) (now : W) → h ++ more ≡ front ++ all_done events ++ back → first ≤ length front
-      → (events ≡ [] → ⊥) → settled meanings o (front ++ became events) now → BreaksTogether meanings (λ _. o) first h more became now
-  together o first h more front back [] became now parts within some s = absurd (some refl)
-  together o first h more front back (event ∷ events) became now parts within some s = record { front = front; event = event; events = events; behind = back; parts = parts; within = within; stands = s }
+      → (events ≡ [] → ⊥) → length events ≤ MOST_TOGETHER → settled meanings o (front ++ became events) now → BreaksTogether meanings (λ _. o) first h more became now
+  together o first h more front back [] became now parts within some few s = absurd (some refl)
+  together o first h more front back (event ∷ events) became now parts within some few s = record { front = front; event = event; events = events; behind = back; parts = parts; within = within; few = few; stands = s }
 
   -- the same of events, with one behind them at most
   together_soon : (o : O) (first : ℕ) (h front back : List Entry) (all events : List Event) (became : List Event → List Entry) (now : W) → h ++ all_done all ≡ front ++ all_done events ++ back → length back ≤ 1
-      → first ≤ length front → (events ≡ [] → ⊥) → settled meanings o (front ++ became events) now → BreaksSoon meanings o first h all became now
-  together_soon o first h front back all [] became now parts few within some s = absurd (some refl)
-  together_soon o first h front back all (event ∷ events) became now parts few within some s =
-      (record { front = front; event = event; events = events; behind = back; parts = parts; within = within; stands = s }, few)
+      → first ≤ length front → (events ≡ [] → ⊥) → length events ≤ MOST_TOGETHER → settled meanings o (front ++ became events) now → BreaksSoon meanings o first h all became now
+  together_soon o first h front back all [] became now parts soon within some few s = absurd (some refl)
+  together_soon o first h front back all (event ∷ events) became now parts soon within some few s =
+      (record { front = front; event = event; events = events; behind = back; parts = parts; within = within; few = few; stands = s }, soon)
+
+  -- few events are gathered, and no more than these are the last of them
+  few_gathered : (o : O) (first : ℕ) (h : List Entry) (now : W) (s : Stands meanings o first h now) → length s.events ≤ MOST_TOGETHER
+  few_gathered o first h now s = meanings.few o s.front s.events now s.gathers
+
+  few_last : (all before behind : List Event) → all ≡ before ++ behind → length all ≤ MOST_TOGETHER → length behind ≤ MOST_TOGETHER
+  few_last all before behind is few = omega (arith, few, ap length is, length-append before behind)
 
   -- these gathered events are in doubt
   pub in_doubt : (o : O) (first : ℕ) (h more : List Entry) (old new : W) (s : Stands meanings o first h old) → IsInDoubt meanings o s.front s.events new → BreaksOff meanings (λ _. o) first h more DiskFault new
   in_doubt o first h more old new s doubt =
-      together o first h more s.front more s.events (λ events. Doubt events ∷ []) new (ap (λ (x : List Entry). x ++ more) s.is) s.within doubt.some doubt.leaves
+      together o first h more s.front more s.events (λ events. Doubt events ∷ []) new (ap (λ (x : List Entry). x ++ more) s.is) s.within doubt.some
+      (few_gathered o first h old s) doubt.leaves
 
   -- saying failed at one of them
   pub cut_short : (o : O) (first : ℕ) (h more : List Entry) (old new : W) (s : Stands meanings o first h old) → IsCutShort meanings o s.front s.events new → BreaksOff meanings (λ _. o) first h more SayFault new
@@ -69,22 +81,24 @@ module _ {O W : Type 0} (meanings : Standing O W) where
       let behind : List Event = cut.first ∷ cut.rest in
       let all : h ≡ front ++ all_done behind =
       s.is ∙ ap (λ (es : List Event). s.front ++ all_done es) cut.is ∙ ap (λ (es : List Entry). s.front ++ es) (all_done-append cut.before behind) ∙ sym (append_assoc s.front (all_done cut.before) (all_done behind)) in
-      together o first h more front more behind all_unsaid new (ap (λ (x : List Entry). x ++ more) all) (omega (arith, s.within, length-append s.front (all_done cut.before))) (λ e. cc e) cut.leaves
+      together o first h more front more behind all_unsaid new (ap (λ (x : List Entry). x ++ more) all) (omega (arith, s.within, length-append s.front (all_done cut.before))) (λ e. cc e)
+      (few_last s.events cut.before behind cut.is (few_gathered o first h old s)) cut.leaves
 
   -- the same, of events that were to be added behind others
   pub doubt_soon : (o : O) (first : ℕ) (h k back : List Entry) (all : List Event) (old new : W) (s : Stands meanings o first k old) → h ++ all_done all ≡ k ++ back → length back ≤ 1
       → IsInDoubt meanings o s.front s.events new → BreaksSoon meanings o first h all (λ events. Doubt events ∷ []) new
-  doubt_soon o first h k back all old new s parts few doubt =
-      together_soon o first h s.front back all s.events (λ events. Doubt events ∷ []) new (parts ∙ ap (λ (x : List Entry). x ++ back) s.is) few s.within doubt.some doubt.leaves
+  doubt_soon o first h k back all old new s parts soon doubt =
+      together_soon o first h s.front back all s.events (λ events. Doubt events ∷ []) new (parts ∙ ap (λ (x : List Entry). x ++ back) s.is) soon s.within doubt.some (few_gathered o first k old s) doubt.leaves
 
   pub short_soon : (o : O) (first : ℕ) (h k back : List Entry) (all : List Event) (old new : W) (s : Stands meanings o first k old) → h ++ all_done all ≡ k ++ back → length back ≤ 1
       → IsCutShort meanings o s.front s.events new → BreaksSoon meanings o first h all all_unsaid new
-  short_soon o first h k back all old new s parts few cut =
+  short_soon o first h k back all old new s parts soon cut =
       let front : List Entry = s.front ++ all_done cut.before in
       let behind : List Event = cut.first ∷ cut.rest in
       let whole : k ≡ front ++ all_done behind =
       s.is ∙ ap (λ (es : List Event). s.front ++ all_done es) cut.is ∙ ap (λ (es : List Entry). s.front ++ es) (all_done-append cut.before behind) ∙ sym (append_assoc s.front (all_done cut.before) (all_done behind)) in
-      together_soon o first h front back all behind all_unsaid new (parts ∙ ap (λ (x : List Entry). x ++ back) whole) few (omega (arith, s.within, length-append s.front (all_done cut.before))) (λ e. cc e) cut.leaves
+      together_soon o first h front back all behind all_unsaid new (parts ∙ ap (λ (x : List Entry). x ++ back) whole) soon (omega (arith, s.within, length-append s.front (all_done cut.before))) (λ e. cc e)
+      (few_last s.events cut.before behind cut.is (few_gathered o first k old s)) cut.leaves
 
   -- settling failed
   pub settles_not : (o : O) (first : ℕ) (h more : List Entry) (old new : W) (fault : SwitchFault) → Stands meanings o first h old → IsSettling meanings (Err fault) old new → BreaksOff meanings (λ _. o) first h more fault new
@@ -179,6 +193,7 @@ module _ {O W : Type 0} (meanings : Standing O W) where
         behind = [];
         parts = sym (append-nil (h ++ Done event ∷ []));
         within = within_all o first h old s;
+        few = few_one event;
         stands = subst (λ (x : List Entry). settled meanings o (x ++ Unsaid event ∷ []) new) (sym s.is) last;
       }
 
@@ -210,7 +225,7 @@ module _ {O W : Type 0} (meanings : Standing O W) where
   then_breaks o first h xs ys fault now b = go fault b
     where
       both : (became : List Event → List Entry) → BreaksTogether meanings (λ _. o) first (h ++ xs) ys became now → BreaksTogether meanings (λ _. o) first h (xs ++ ys) became now
-      both became t = record { front = t.front; event = t.event; events = t.events; behind = t.behind; parts = sym (append_assoc h xs ys) ∙ t.parts; within = t.within; stands = t.stands }
+      both became t = record { front = t.front; event = t.event; events = t.events; behind = t.behind; parts = sym (append_assoc h xs ys) ∙ t.parts; within = t.within; few = t.few; stands = t.stands }
 
       idle : (f : SwitchFault) → BreaksIdle meanings (λ _. o) (h ++ xs) ys f now → BreaksIdle meanings (λ _. o) h (xs ++ ys) f now
       idle f t =
@@ -252,6 +267,7 @@ module _ {O W : Type 0} (meanings : Standing O W) where
             behind = t.behind ++ ys;
             parts = sym (append_assoc h xs ys) ∙ ap (λ (x : List Entry). x ++ ys) t.parts ∙ append_assoc (t.front ++ some) t.behind ys;
             within = t.within;
+            few = t.few;
             stands = t.stands;
           }
 

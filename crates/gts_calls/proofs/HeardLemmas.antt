@@ -3,7 +3,7 @@ use Rattle.std.proofs.Common.{◌≡◌, ℕ, ◌≤◌, ◌⊎◌, inl, inr, Li
 use Rattle.std.proofs.lemmas.List.{append-nil}
 use Rattle.gts_calls.specs.Cited.{AfterCall, AfterHearing, BreaksLast, BreaksSoon, DiskFault, Done, Doubt, Entry, Event, FrameField, Full, GoesFed, Idle, IsAnswerCause, IsAnswered, IsCause, IsCutShort, IsHeard, IsInDoubt, Kind, NoMemory, Outcome, SayFault, Spent, Standing, Stands, Stopped, SwitchFault, Unsaid, all_done, all_unsaid, end_heard, end_lost, outcome_at, settled}
 use Rattle.gts_event.specs.declared.event.Event.TheVariants as event
-use Rattle.gts_calls.proofs.GoingLemmas.{within_all, cause_at, doubt_soon, one_more, short_soon}
+use Rattle.gts_calls.proofs.GoingLemmas.{within_all, cause_at, doubt_soon, few_one, one_more, short_soon}
 
 module _ {O W : Type 0} (meanings : Standing O W) where
   pub as_hearing : (o : O) (entries : List Entry) (events : List Event) (e : Event) (result : Result Outcome SwitchFault) (new : W)
@@ -71,6 +71,7 @@ module _ {O W : Type 0} (meanings : Standing O W) where
         behind = [];
         parts = sym (append-nil (h ++ Done e ∷ []));
         within = within_all meanings o first h old s;
+        few = few_one e;
         stands = subst (λ (x : List Entry). settled meanings o (x ++ became (e ∷ [])) new) (sym s.is) left;
       },
       none_behind,

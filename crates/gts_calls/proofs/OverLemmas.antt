@@ -1,5 +1,5 @@
 -- A feed goes on, step by step.
-use Rattle.std.proofs.Common.{◌≡◌, ℕ, ◌≤◌, true, List, ◌++◌, Result, refl, ap, subst, ◌∙◌, arith, append_assoc}
+use Rattle.std.proofs.Common.{◌≡◌, ℕ, ◌≤◌, true, List, ◌++◌, Result, Ok, refl, ap, subst, ◌∙◌, arith, append_assoc}
 use Rattle.gts_calls.specs.Cited.{All, Decoding, EndsAt, EndsOver, EndsStep, Entry, Event, Fault, FeedEnd, GoesFed, GoesOver, HasCallCause, IsNoLoss, KeepsOver, Reads, Rose, Standing, Stands, Step, SwitchFault, Wanting, all_done, events_added, events_of_signs, held_in, is_all, signs_of_step}
 use Rattle.gts_calls.specs.declared.fed.FeedEnd.TheVariants.{Lost}
 use Rattle.gts_frame.specs.declared.step.Step.TheVariants as steps
@@ -67,14 +67,16 @@ module _ {O W : Type 0} (meanings : Standing O W) (c : ℕ) (begun : List ℕ) (
 rose_from : (a b c : ℕ) → a ≤ b → Rose b c → Rose a c
 rose_from a b c later rose = omega (arith, later, rose)
 
--- a device failed at a later call
-pub caused_later : (before result : Result (Unit {0}) SwitchFault) (disk mid disk_now say heard say_now : ℕ) → HasCallCause before disk mid say heard → HasCallCause result mid disk_now heard say_now
+-- a device failed at a later call, or at none
+pub caused_later : (result : Result (Unit {0}) SwitchFault) (disk mid disk_now say heard say_now : ℕ) → HasCallCause {T = Unit {0}} (Ok tt) disk mid say heard → HasCallCause result mid disk_now heard say_now
     → HasCallCause result disk disk_now say say_now
-caused_later before result disk mid disk_now say heard say_now a b = record {
+caused_later result disk mid disk_now say heard say_now a b = record {
   disk_later = omega (arith, a.disk_later, b.disk_later);
   disk_failed = λ e. rose_from disk mid disk_now a.disk_later (b.disk_failed e);
+  disk_still = λ n. b.disk_still n ∙ a.disk_still (λ e. cc e);
   say_later = omega (arith, a.say_later, b.say_later);
   say_failed = λ e. rose_from say heard say_now a.say_later (b.say_failed e);
+  say_still = λ n. b.say_still n ∙ a.say_still (λ e. cc e);
 }
 
 -- ---- ends

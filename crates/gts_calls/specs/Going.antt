@@ -5,6 +5,7 @@ use Rattle.gts_calls.specs.Cited.Below.{Decoding, DiskFault, Done, Doubt, Entry,
 use Rattle.gts_event.specs.declared.event.Event.TheVariants as event
 use Rattle.gts_calls.specs.Fed.{EndsWith, IsWanting, AddsFed, EndsOver}
 use Rattle.gts_calls.specs.Reading.{Reads}
+use Rattle.gts_calls.specs.declared.switch.TheConstants.{MOST_TOGETHER}
 use Rattle.gts_calls.specs.declared.fed.FeedEnd.{FeedEnd}
 use Rattle.gts_calls.specs.declared.fed.FeedEnd.TheVariants.{All, Lost, Wanting, Fault}
 
@@ -33,7 +34,8 @@ pub record IsHeard {O W : Type 0} (meanings : Standing O W) (event : Event) (res
 -- ---- entries that were to be added
 
 -- A device failed. Of the entries that there were, and that were to be added, the first stand, at least so many, and some events
--- behind them became these entries together. So the switch stands since the origin that it has behind the first.
+-- behind them became these entries together: no more than a switch gathers. So the switch stands since the origin that it has
+-- behind the first.
 pub record BreaksTogether {O W : Type 0} (meanings : Standing O W) (at : List Entry → O) (first : ℕ) (h more : List Entry)
     (became : List Event → List Entry) (now : W) : Type 0 where
   pub front : List Entry
@@ -42,6 +44,7 @@ pub record BreaksTogether {O W : Type 0} (meanings : Standing O W) (at : List En
   pub behind : List Entry
   pub parts : h ++ more ≡ front ++ all_done (event ∷ events) ++ behind
   pub within : first ≤ length front
+  pub few : length (event ∷ events) ≤ MOST_TOGETHER
   pub stands : settled meanings (at front) (front ++ became (event ∷ events)) now
 
 -- Of the entries that were to be added, those before one were, and that was left idle with this fault, which has its cause. So
@@ -108,13 +111,18 @@ GoesFed meanings o first h c events message (Wanting kind fault) now =
     BreaksLast meanings o h events (event.Heard c kind message) fault now × IsWanting fault
 GoesFed meanings o first h c events message (Fault fault) now = BreaksFed meanings o first h c events fault now
 
+-- behind whatever entries the switch stood for, these events of circuit c were to be added, and it ended so
+abbrev pub FeedsBehind : {O W : Type 0} → Standing O W → ℕ → List Event → (message : List ℕ) → FeedEnd → (old new : W) → Type 0
+FeedsBehind {O} meanings c events message end old new =
+    (o : O) (first : ℕ) (h : List Entry) → Stands meanings o first h old → GoesFed meanings o first h c events message end new
+
 -- Bytes were taken that ended with this step, and then more, all of which are these: they have some events, which were to be added
 -- behind whatever entries the switch stood for, and it ended so.
 pub record GoesOver {O W : Type 0} (meanings : Standing O W) (c : ℕ) (begun : List ℕ) (step : Step) (decoder : Decoding) (old : W)
     (taken message : List ℕ) (end : FeedEnd) (new : W) : Type 0 where
   pub events : List Event
   pub are : (before : List ℕ) → Reads before begun step decoder → events_added c before taken ≡ events
-  pub goes : (o : O) (first : ℕ) (h : List Entry) → Stands meanings o first h old → GoesFed meanings o first h c events message end new
+  pub goes : FeedsBehind meanings c events message end old new
 
 -- What a feed gathered that ended so was settled, behind whatever entries nothing was gathered: then it ended so.
 pub record SettlesFed {O W : Type 0} (meanings : Standing O W) (end settled_end : FeedEnd) (old new : W) : Type 0 where

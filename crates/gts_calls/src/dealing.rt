@@ -1,5 +1,5 @@
 ghost use Rattle.std.specs.Prelude.{◌≡◌, ◌<◌, ℕ, List, length};
-ghost use Rattle.gts_calls.specs.Cited.{EndsStep, Entry, GoesFed, HasCallCause, HasMessage, IsShortAt, Stands, answer_of, end_heard, end_lost, events_of_signs, signs_of_step};
+ghost use Rattle.gts_calls.specs.Cited.{EndsStep, FeedsBehind, HasCallCause, HasMessage, IsShortAt, answer_of, end_heard, end_lost, events_of_signs, signs_of_step};
 
 use crate::{FeedEnd, Listens};
 use gts_event::{Outcome, SwitchFault};
@@ -16,9 +16,9 @@ pub fn deal<W: Listens>(
 ) -> FeedEnd
     requires circuit { c < length (W.meanings.directory switch.old).circuits }
     requires message { HasMessage step message.now }
-    ensures goes { (o : W.Origin) (first : ℕ) (h : List Entry)
-        → Stands W.meanings o first h switch.old → GoesFed W.meanings o first h c
-        (events_of_signs c (signs_of_step step message.now)) message.now result switch.new }
+    ensures goes { FeedsBehind W.meanings c
+        (events_of_signs c (signs_of_step step message.now)) message.now result
+        switch.old switch.new }
     ensures ends { EndsStep step result }
     ensures short { IsShortAt result message.now }
     ensures directory { W.meanings.directory switch.new ≡ W.meanings.directory switch.old }

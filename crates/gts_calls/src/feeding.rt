@@ -1,5 +1,5 @@
 ghost use Rattle.std.specs.Prelude.{◌≡◌, ◌<◌, ◌≤◌, ℕ, List, length, take};
-ghost use Rattle.gts_calls.specs.Cited.{Entry, GoesFed, GoesOver, HasCallCause, HasMessage, IsShortAt, Reads, SettlesFed, Stands, Takes, answer_of, events_added, held_in};
+ghost use Rattle.gts_calls.specs.Cited.{FeedsBehind, GoesOver, HasCallCause, HasMessage, IsShortAt, Reads, SettlesFed, Takes, answer_of, events_added, held_in};
 
 use crate::dealing::deal;
 use crate::reading::next_step;
@@ -22,10 +22,9 @@ pub fn feed<W: Listens>(
     ensures some { 0 < result.taken }
     ensures takes { (before : List ℕ) → decoder.old.held ≡ held_in before
         → Takes before piece.now result decoder.new }
-    ensures goes { (before : List ℕ) (o : W.Origin) (first : ℕ) (h : List Entry)
-        → decoder.old.held ≡ held_in before → Stands W.meanings o first h switch.old
-        → GoesFed W.meanings o first h c (events_added c before (take result.taken piece.now))
-        decoder.new.message result.end switch.new }
+    ensures goes { (before : List ℕ) → decoder.old.held ≡ held_in before
+        → FeedsBehind W.meanings c (events_added c before (take result.taken piece.now))
+        decoder.new.message result.end switch.old switch.new }
     ensures directory { W.meanings.directory switch.new ≡ W.meanings.directory switch.old }
     ensures cause { HasCallCause (answer_of result.end)
         (W.disk_faults switch.old) (W.disk_faults switch.new)

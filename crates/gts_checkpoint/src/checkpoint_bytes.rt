@@ -2,7 +2,7 @@
 ghost use Rattle.std.specs.Prelude.{◌≡◌, false, IsErr};
 ghost use Rattle.gts_checkpoint.specs.Cited.{HasCause, laid, laid_is_possible};
 
-use gts_traits::{Failed, Station};
+use gts_traits::{Failed, JournalFile, Station};
 
 /// How many bytes of a file are in front of its first record: the header and a gate.
 const IN_FRONT: u64 = 41;
@@ -50,12 +50,12 @@ impl Station for CheckpointBytes<'_> {
 
     ghost possible = { λ s told. laid_is_possible s.bytes.now };
 
-    fn size(&mut self, _file: u32) -> Result<u64, Failed> {
+    fn size(&mut self, _file: JournalFile) -> Result<u64, Failed> {
         refuse(&mut self.disk_faults)
     }
 
-    fn read(&mut self, file: u32, at: u64, into: &mut [u8]) -> Result<usize, Failed> {
-        if file != 0 || at < IN_FRONT {
+    fn read(&mut self, file: JournalFile, at: u64, into: &mut [u8]) -> Result<usize, Failed> {
+        if file != JournalFile::FIRST || at < IN_FRONT {
             return refuse(&mut self.disk_faults);
         }
         let start = self.bytes.len().min((at - IN_FRONT) as usize);
@@ -64,11 +64,11 @@ impl Station for CheckpointBytes<'_> {
         Ok(count)
     }
 
-    fn write_at(&mut self, _file: u32, _at: u64, _bytes: &[u8]) -> Result<(), Failed> {
+    fn write_at(&mut self, _file: JournalFile, _at: u64, _bytes: &[u8]) -> Result<(), Failed> {
         refuse(&mut self.disk_faults)
     }
 
-    fn cut(&mut self, _file: u32, _size: u64) -> Result<(), Failed> {
+    fn cut(&mut self, _file: JournalFile, _size: u64) -> Result<(), Failed> {
         refuse(&mut self.disk_faults)
     }
 

@@ -9,6 +9,7 @@ use gts_alphabet::NoMemory;
 use gts_directory::Directory;
 use gts_event::Need;
 use gts_record::Version;
+use gts_traits::JournalFile;
 use std::alloc::Global;
 
 /// The need of the one whole checkpoint that these bytes are, without its seal, where it may be the first record of a journal of
@@ -21,7 +22,12 @@ pub fn decode(alloc: Global, bytes: &[u8], directory: &Directory) -> Result<Opti
 {
     let limit = directory.limit();
     let mut checkpoint_bytes = CheckpointBytes::new(bytes);
-    let Ok(found) = need_at(alloc, &mut checkpoint_bytes, 0, directory.circuits()) else {
+    let Ok(found) = need_at(
+        alloc,
+        &mut checkpoint_bytes,
+        JournalFile::FIRST,
+        directory.circuits(),
+    ) else {
         return Err(NoMemory);
     };
     let Some((need, at)) = found else {

@@ -1,28 +1,28 @@
 //! The pieces of a checkpoint, read from a place of a file on.
-ghost use Rattle.std.specs.Prelude.{◌≡◌, ◌+◌, ◌*◌, ◌^◌, ◌<◌, ◌≤◌, true, false, length, IfOk, IfErr, IfSome, IfNone, IsSome, Ok, IsErrOf, vec_len};
+ghost use Rattle.std.specs.Prelude.{◌≡◌, ◌+◌, ◌*◌, ◌^◌, ◌<◌, ◌≤◌, true, false, length, IfOk, IfErr, IfSome, IfNone, IsSome, Ok, IsErrOf, vec_len, OnOk};
 ghost use Rattle.gts_checkpoint.specs.Cited.{ArePlaces, BeginsWith, FindsBulletin, FindsBytes, FindsCircuit, FindsNumbers, FitsValueCircuit, HasCause, IsNoHead, IsReadFault, LONGEST_BODY as longest_body, Rose, bulletin_head, bytes_from, circuit_head};
 
 use gts_alphabet::LONGEST_BODY;
 use gts_event::{Bulletin, Bytes, CircuitNeed, Items, Places};
 use gts_frame::Kind;
 use gts_record::{OpenFault, number_in_eight, number_in_four, read_kind};
-use gts_traits::{Failed, Station};
+use gts_traits::{Failed, JournalFile, Station};
 use std::alloc::{AllocError, Global};
 
 /// Reads as many bytes of a file as there is room for, from a place on: false where fewer are there.
 pub(crate) fn fetch<P: Station>(
     station: &mut P,
-    file: u32,
+    file: JournalFile,
     at: u64,
     into: &mut [u8],
 ) -> Result<bool, Failed>
-    requires { file < 3 }
     ensures whole { P.observed → result ≡ Ok true
         → BeginsWith (bytes_from (P.calls station.old) file at) into.new }
     ensures short { P.observed → result ≡ Ok false
         → length (bytes_from (P.calls station.old) file at) < length into.old }
     ensures told { P.observed → P.calls station.new ≡ P.calls station.old }
     ensures cause { HasCause result (P.disk_faults station.old) (P.disk_faults station.new) }
+    ensures sound { OnOk result (P.disk_faults station.new ≡ P.disk_faults station.old) }
     ensures say { P.say_faults station.new ≡ P.say_faults station.old }
 {
     let count = station.read(file, at, into)?;
@@ -76,11 +76,10 @@ fn zeros(alloc: Global, size: usize) -> Result<Vec<u8>, AllocError>
 pub(crate) fn body_at<P: Station>(
     alloc: Global,
     station: &mut P,
-    file: u32,
+    file: JournalFile,
     at: u64,
     size: u32,
 ) -> Result<Option<Bytes>, OpenFault>
-    requires file { file < 3 }
     ensures found { P.observed → IfOk result
         (FindsBytes (bytes_from (P.calls station.old) file at) size) }
     ensures size { IfOk result (λ found. IfSome found (λ body. length body ≡ size)) }
@@ -89,6 +88,7 @@ pub(crate) fn body_at<P: Station>(
     ensures disk_fault { IsErrOf result OpenFault.DiskFault
         → Rose (P.disk_faults station.old) (P.disk_faults station.new) }
     ensures later { P.disk_faults station.old ≤ P.disk_faults station.new }
+    ensures sound { OnOk result (P.disk_faults station.new ≡ P.disk_faults station.old) }
     ensures say { P.say_faults station.new ≡ P.say_faults station.old }
 {
     let mut body = zeros(alloc, size as usize)?;
@@ -103,10 +103,9 @@ pub(crate) fn body_at<P: Station>(
 pub(crate) fn bulletin_at<P: Station>(
     alloc: Global,
     station: &mut P,
-    file: u32,
+    file: JournalFile,
     at: u64,
 ) -> Result<Option<Bulletin>, OpenFault>
-    requires file { file < 3 }
     requires place { at < 2 ^ 62 }
     ensures found { P.observed → IfOk result
         (FindsBulletin (bytes_from (P.calls station.old) file at)) }
@@ -117,6 +116,7 @@ pub(crate) fn bulletin_at<P: Station>(
     ensures disk_fault { IsErrOf result OpenFault.DiskFault
         → Rose (P.disk_faults station.old) (P.disk_faults station.new) }
     ensures later { P.disk_faults station.old ≤ P.disk_faults station.new }
+    ensures sound { OnOk result (P.disk_faults station.new ≡ P.disk_faults station.old) }
     ensures say { P.say_faults station.new ≡ P.say_faults station.old }
 {
     let mut bytes = [0u8; 16];
@@ -141,11 +141,10 @@ pub(crate) fn bulletin_at<P: Station>(
 fn positions_at<P: Station>(
     alloc: Global,
     station: &mut P,
-    file: u32,
+    file: JournalFile,
     at: u64,
     count: u32,
 ) -> Result<Option<Places>, OpenFault>
-    requires file { file < 3 }
     requires place { at < 2 ^ 62 }
     ensures found { P.observed → IfOk result
         (FindsNumbers (bytes_from (P.calls station.old) file at) count) }
@@ -156,6 +155,7 @@ fn positions_at<P: Station>(
     ensures disk_fault { IsErrOf result OpenFault.DiskFault
         → Rose (P.disk_faults station.old) (P.disk_faults station.new) }
     ensures later { P.disk_faults station.old ≤ P.disk_faults station.new }
+    ensures sound { OnOk result (P.disk_faults station.new ≡ P.disk_faults station.old) }
     ensures say { P.say_faults station.new ≡ P.say_faults station.old }
 {
     let mut places = Places::new();
@@ -197,10 +197,9 @@ fn counts_in(bytes: &[u8]) -> Option<Counts>
 pub(crate) fn circuit_at<P: Station>(
     alloc: Global,
     station: &mut P,
-    file: u32,
+    file: JournalFile,
     at: u64,
 ) -> Result<Option<CircuitNeed>, OpenFault>
-    requires file { file < 3 }
     requires place { at < 2 ^ 61 }
     ensures found { P.observed → IfOk result
         (FindsCircuit (bytes_from (P.calls station.old) file at)) }
@@ -210,6 +209,7 @@ pub(crate) fn circuit_at<P: Station>(
     ensures disk_fault { IsErrOf result OpenFault.DiskFault
         → Rose (P.disk_faults station.old) (P.disk_faults station.new) }
     ensures later { P.disk_faults station.old ≤ P.disk_faults station.new }
+    ensures sound { OnOk result (P.disk_faults station.new ≡ P.disk_faults station.old) }
     ensures say { P.say_faults station.new ≡ P.say_faults station.old }
 {
     let mut bytes = [0u8; 16];

@@ -1,4 +1,4 @@
-ghost use Rattle.std.specs.Prelude.{◌≡◌, ◌+◌, ◌-◌, ◌*◌, ◌<◌, ◌≤◌, ◌^◌, length, take, flat_map, is_some, min, IsSome, IfOk, IfErr, IfSome, IfNone, IsErrOf};
+ghost use Rattle.std.specs.Prelude.{◌≡◌, ◌+◌, ◌-◌, ◌*◌, ◌<◌, ◌≤◌, ◌^◌, length, take, flat_map, is_some, min, IsSome, IfOk, IfErr, IfSome, IfNone, IsErrOf, OnOk};
 ghost use Rattle.gts_checkpoint.specs.Cited.{CanBegin, FindsText, FitsNeed, HasCause, HasRead, IsDamage, IsNoFront, IsReadFault, Rose, bytes_from, checkpoint_text, draw_size, first_of, head_text, held, is_sealed_front, seal, seal_size, unowed, waiting_of};
 ghost use Rattle.gts_event.specs.Items as items;
 
@@ -8,7 +8,7 @@ use crate::sound::is_sound;
 use gts_directory::Directory;
 use gts_event::{CircuitNeed, Need};
 use gts_record::{OpenFault, Sealer, Version, first_seal, number_in_eight, number_in_four};
-use gts_traits::{Failed, Station};
+use gts_traits::{Failed, JournalFile, Station};
 use std::alloc::Global;
 
 /// The place of the record behind the header and the first gate.
@@ -51,10 +51,9 @@ fn front_in(bytes: &[u8]) -> Option<Front>
 pub(crate) fn need_at<P: Station>(
     alloc: Global,
     station: &mut P,
-    file: u32,
+    file: JournalFile,
     circuits: u32,
 ) -> Result<Option<(Need, u64)>, OpenFault>
-    requires file { file < 3 }
     requires few { circuits ≤ 64 }
     ensures found { P.observed → IfOk result (λ found. FindsText
         (bytes_from (P.calls station.old) file 41) circuits (first_of found)) }
@@ -68,6 +67,7 @@ pub(crate) fn need_at<P: Station>(
     ensures disk_fault { IsErrOf result OpenFault.DiskFault
         → Rose (P.disk_faults station.old) (P.disk_faults station.new) }
     ensures later { P.disk_faults station.old ≤ P.disk_faults station.new }
+    ensures sound { OnOk result (P.disk_faults station.new ≡ P.disk_faults station.old) }
     ensures say { P.say_faults station.new ≡ P.say_faults station.old }
 {
     let mut bytes = [0u8; 20];
@@ -131,10 +131,9 @@ fn seal_of<P: Station>(
     station: &mut P,
     version: Version,
     before: &[u8; 32],
-    file: u32,
+    file: JournalFile,
     size: u32,
 ) -> Result<Option<[u8; 32]>, Failed>
-    requires file { file < 2 }
     requires size { size ≤ 2 ^ 30 }
     requires there { P.observed → size ≤ length (bytes_from (P.calls station.old) file 41) }
     ensures found { P.observed → IfOk result (λ found. IfSome found (λ last. held version last
@@ -143,6 +142,7 @@ fn seal_of<P: Station>(
     ensures some { P.observed → IfOk result (λ found. IsSome found) }
     ensures told { P.observed → P.calls station.new ≡ P.calls station.old }
     ensures cause { HasCause result (P.disk_faults station.old) (P.disk_faults station.new) }
+    ensures sound { OnOk result (P.disk_faults station.new ≡ P.disk_faults station.old) }
     ensures say { P.say_faults station.new ≡ P.say_faults station.old }
 {
     let mut sealer = Sealer::new(version, before);
@@ -165,10 +165,9 @@ fn seal_at<P: Station>(
     station: &mut P,
     version: Version,
     before: &[u8; 32],
-    file: u32,
+    file: JournalFile,
     size: u32,
 ) -> Result<Option<[u8; 32]>, OpenFault>
-    requires file { file < 2 }
     requires size { size ≤ 2 ^ 30 }
     requires there { P.observed → size ≤ length (bytes_from (P.calls station.old) file 41) }
     ensures found { P.observed → IfOk result (λ found. IfSome found (λ last. held version last
@@ -182,6 +181,7 @@ fn seal_at<P: Station>(
     ensures disk_fault { IsErrOf result OpenFault.DiskFault
         → Rose (P.disk_faults station.old) (P.disk_faults station.new) }
     ensures later { P.disk_faults station.old ≤ P.disk_faults station.new }
+    ensures sound { OnOk result (P.disk_faults station.new ≡ P.disk_faults station.old) }
     ensures say { P.say_faults station.new ≡ P.say_faults station.old }
 {
     let Some(seal) = seal_of(station, version, before, file, size)? else {
@@ -205,10 +205,9 @@ pub fn read<P: Station>(
     alloc: Global,
     station: &mut P,
     version: Version,
-    file: u32,
+    file: JournalFile,
     directory: &Directory,
 ) -> Result<(Need, u64, [u8; 32]), OpenFault>
-    requires { file < 2 }
     ensures found { P.observed → IfOk result (λ found. HasRead version directory.now
         (bytes_from (P.calls station.old) file 41) (items.need_of found.0)
         (held version found.2)) }
@@ -222,11 +221,12 @@ pub fn read<P: Station>(
     ensures disk_fault { IsErrOf result OpenFault.DiskFault
         → Rose (P.disk_faults station.old) (P.disk_faults station.new) }
     ensures later { P.disk_faults station.old ≤ P.disk_faults station.new }
+    ensures sound { OnOk result (P.disk_faults station.new ≡ P.disk_faults station.old) }
     ensures say { P.say_faults station.new ≡ P.say_faults station.old }
 {
     let limit = directory.limit();
     let damage = OpenFault::Damaged {
-        file,
+        file: file.number(),
         at: FIRST_RECORD,
     };
     let Some((need, at)) = need_at(alloc, station, file, directory.circuits())? else {

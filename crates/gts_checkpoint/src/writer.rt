@@ -2,7 +2,7 @@ ghost use Rattle.std.specs.Prelude.{◌≡◌, ◌+◌, ◌-◌, ◌^◌, ◌<�
 ghost use Rattle.gts_checkpoint.specs.Cited.{HasCause, HasPut, OnlyOn, Seals, Stands, Version as VersionOf, count_of, held, holding, seal};
 
 use gts_record::{Sealer, Version};
-use gts_traits::{Failed, Station};
+use gts_traits::{Failed, JournalFile, Station};
 use std::alloc::{AllocError, Global};
 use std::marker::Model;
 use std::mem::replace;
@@ -14,7 +14,7 @@ const PIECE: usize = 1 << 16;
 /// write.
 #[derive(Drop)]
 pub(crate) struct SealingWriter {
-    file: u32,
+    file: JournalFile,
     place: u64,
     buffer: Vec<u8>,
     filled: usize,
@@ -35,7 +35,7 @@ impl Model for SealingWriter {
       sealer = p.sealer;
     } };
 
-    ghost invariant = { λ p. (p.file < 3) × (p.filled ≤ PIECE) × (vec_len p.buffer ≡ PIECE) };
+    ghost invariant = { λ p. (p.filled ≤ PIECE) × (vec_len p.buffer ≡ PIECE) };
 }
 
 // So many zero bytes.
@@ -49,11 +49,10 @@ impl SealingWriter {
     /// A writer at a place of a file, with a seal that was begun. All the memory that it needs is taken here.
     pub(crate) fn new(
         alloc: Global,
-        file: u32,
+        file: JournalFile,
         place: u64,
         sealer: Sealer,
     ) -> Result<SealingWriter, AllocError>
-        requires { file < 3 }
         ensures { IfOk result
             (λ writer. writer ≡ record { file = file; place = place; held = []; sealer = sealer }) }
     {
@@ -78,6 +77,7 @@ impl SealingWriter {
         ensures alone { P.observed → OnlyOn self.old.file (P.calls station.old)
             (P.calls station.new) }
         ensures cause { HasCause result (P.disk_faults station.old) (P.disk_faults station.new) }
+        ensures sound { OnOk result (P.disk_faults station.new ≡ P.disk_faults station.old) }
         ensures say { P.say_faults station.new ≡ P.say_faults station.old }
     {
         station.write_at(self.file, self.place, bytes)?;
@@ -96,6 +96,7 @@ impl SealingWriter {
         ensures alone { P.observed → OnlyOn self.old.file (P.calls station.old)
             (P.calls station.new) }
         ensures cause { HasCause result (P.disk_faults station.old) (P.disk_faults station.new) }
+        ensures sound { OnOk result (P.disk_faults station.new ≡ P.disk_faults station.old) }
         ensures say { P.say_faults station.new ≡ P.say_faults station.old }
     {
         station.write_at(self.file, self.place, &self.buffer[..self.filled])?;
@@ -137,6 +138,7 @@ impl SealingWriter {
         ensures alone { P.observed → OnlyOn self.old.file (P.calls station.old)
             (P.calls station.new) }
         ensures cause { HasCause result (P.disk_faults station.old) (P.disk_faults station.new) }
+        ensures sound { OnOk result (P.disk_faults station.new ≡ P.disk_faults station.old) }
         ensures say { P.say_faults station.new ≡ P.say_faults station.old }
     {
         if bytes.len() <= PIECE - self.filled {

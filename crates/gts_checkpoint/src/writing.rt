@@ -7,7 +7,7 @@ use crate::writer::SealingWriter;
 use gts_event::{Bulletin, CircuitNeed, Need};
 use gts_frame::Kind;
 use gts_record::{HEADER, Sealer, Version, eight_bytes, first_seal, four_bytes, letter_of};
-use gts_traits::{Failed, Station};
+use gts_traits::{Failed, JournalFile, Station};
 use std::alloc::Global;
 
 /// Where a checkpoint begins: behind the header and an open gate.
@@ -79,6 +79,7 @@ fn put_bulletin<P: Station>(
     ensures alone { P.observed → OnlyOn writer.old.file (P.calls station.old)
         (P.calls station.new) }
     ensures cause { HasCause result (P.disk_faults station.old) (P.disk_faults station.new) }
+    ensures sound { OnOk result (P.disk_faults station.new ≡ P.disk_faults station.old) }
     ensures say { P.say_faults station.new ≡ P.say_faults station.old }
 {
     let body = bulletin.body.as_slice();
@@ -103,6 +104,7 @@ fn put_bulletins<P: Station>(
     ensures alone { P.observed → OnlyOn writer.old.file (P.calls station.old)
         (P.calls station.new) }
     ensures cause { HasCause result (P.disk_faults station.old) (P.disk_faults station.new) }
+    ensures sound { OnOk result (P.disk_faults station.new ≡ P.disk_faults station.old) }
     ensures say { P.say_faults station.new ≡ P.say_faults station.old }
 {
     for bulletin in bulletins {
@@ -124,6 +126,7 @@ fn put_positions<P: Station>(
     ensures alone { P.observed → OnlyOn writer.old.file (P.calls station.old)
         (P.calls station.new) }
     ensures cause { HasCause result (P.disk_faults station.old) (P.disk_faults station.new) }
+    ensures sound { OnOk result (P.disk_faults station.new ≡ P.disk_faults station.old) }
     ensures say { P.say_faults station.new ≡ P.say_faults station.old }
 {
     for position in positions {
@@ -147,6 +150,7 @@ fn put_circuit<P: Station>(
     ensures alone { P.observed → OnlyOn writer.old.file (P.calls station.old)
         (P.calls station.new) }
     ensures cause { HasCause result (P.disk_faults station.old) (P.disk_faults station.new) }
+    ensures sound { OnOk result (P.disk_faults station.new ≡ P.disk_faults station.old) }
     ensures say { P.say_faults station.new ≡ P.say_faults station.old }
 {
     let waiting = circuit.waiting.as_slice();
@@ -171,6 +175,7 @@ fn put_circuits<P: Station>(
     ensures alone { P.observed → OnlyOn writer.old.file (P.calls station.old)
         (P.calls station.new) }
     ensures cause { HasCause result (P.disk_faults station.old) (P.disk_faults station.new) }
+    ensures sound { OnOk result (P.disk_faults station.new ≡ P.disk_faults station.old) }
     ensures say { P.say_faults station.new ≡ P.say_faults station.old }
 {
     for circuit in circuits {
@@ -195,6 +200,7 @@ fn put_need<P: Station>(
     ensures alone { P.observed → OnlyOn writer.old.file (P.calls station.old)
         (P.calls station.new) }
     ensures cause { HasCause result (P.disk_faults station.old) (P.disk_faults station.new) }
+    ensures sound { OnOk result (P.disk_faults station.new ≡ P.disk_faults station.old) }
     ensures say { P.say_faults station.new ≡ P.say_faults station.old }
 {
     let circuits = need.circuits.as_slice();
@@ -225,6 +231,7 @@ fn put_all<P: Station>(
     ensures alone { P.observed → OnlyOn writer.old.file (P.calls station.old)
         (P.calls station.new) }
     ensures cause { HasCause result (P.disk_faults station.old) (P.disk_faults station.new) }
+    ensures sound { OnOk result (P.disk_faults station.new ≡ P.disk_faults station.old) }
     ensures say { P.say_faults station.new ≡ P.say_faults station.old }
 {
     put_need(writer, station, need)?;
@@ -240,12 +247,11 @@ fn put_all<P: Station>(
 fn write_with<P: Station>(
     writer: &mut SealingWriter,
     station: &mut P,
-    file: u32,
+    file: JournalFile,
     mark: [u8; 32],
     before: &[u8; 32],
     need: &Need,
 ) -> Result<[u8; 32], Failed>
-    requires file { file < 2 }
     requires begins { (writer.old.file ≡ file) × (writer.old.place ≡ 41) × (writer.old.held ≡ []) }
     requires seals { Seals writer.old.sealer written (held written before.now) [] }
     requires first { held written before.now ≡ first_seal written mark }
@@ -257,6 +263,7 @@ fn write_with<P: Station>(
         (λ last. held written last ≡ need_seal mark (items.need_of need.now)) }
     ensures alone { P.observed → OnlyOn file (P.calls station.old) (P.calls station.new) }
     ensures cause { HasCause result (P.disk_faults station.old) (P.disk_faults station.new) }
+    ensures sound { OnOk result (P.disk_faults station.new ≡ P.disk_faults station.old) }
     ensures say { P.say_faults station.new ≡ P.say_faults station.old }
 {
     station.cut(file, 0)?;
@@ -273,11 +280,10 @@ fn write_with<P: Station>(
 pub fn write<P: Station>(
     alloc: Global,
     station: &mut P,
-    file: u32,
+    file: JournalFile,
     mark: [u8; 32],
     need: &Need,
 ) -> Result<[u8; 32], WriteFault>
-    requires file { file < 2 }
     requires fits { FitBytes (items.need_of need.now) }
     requires room { compacted_bytes written (items.need_of need.now) ≤ 2 ^ 30 }
     ensures written { P.observed → OnOk result (HasWritten mark (items.need_of need.now) file
@@ -290,6 +296,7 @@ pub fn write<P: Station>(
     ensures disk_fault { IsErrOf result WriteFault.DiskFault
         → Rose (P.disk_faults station.old) (P.disk_faults station.new) }
     ensures later { P.disk_faults station.old ≤ P.disk_faults station.new }
+    ensures sound { OnOk result (P.disk_faults station.new ≡ P.disk_faults station.old) }
     ensures say { P.say_faults station.new ≡ P.say_faults station.old }
 {
     let version = Version::written();

@@ -4,7 +4,7 @@ use Rattle.std.proofs.lemmas.List.{append-nil, append_assoc}
 use Rattle.gts_circuits.specs.Cited.{AfterCall, AfterHearing, AfterSettling, Alone, AreCramped, AtOnce, Beginning, Behind, Call, Caller, Directory, Disk, DiskFault, Done, Doubt, Engine, Entry, Event, Full, GathersCompacted, GathersNone, GathersOne, GathersPlain, HasCallCause, HasDoubt, HasUnsaid, Idle, IsAccepted, IsAnswerCause, IsAnswered, IsCrampedFor, IsCutShort, IsFullEither, IsGatheredWithRoom, IsHeard, IsInDoubt, IsOneMore, IsSettling, NoMemory, Origin, Outcome, Rose, Say, SayFault, Spent, Standing, State, Stopped, SwitchFault, Unsaid, after_all, all_done, all_unsaid, housed_meanings, meanings_of, origin_with, outcome, outcome_at, outcome_behind, settled, state_at, used_at}
 use Rattle.gts_event.specs.Cited.{begun}
 use Rattle.gts_calls.proofs.HeardLemmas.{as_hearing}
-use Rattle.gts_circuits.proofs.StandingLemmas.{split_last, split_end, full_accepts, rose_on, rose_from}
+use Rattle.gts_circuits.proofs.StandingLemmas.{split_last, split_end, full_accepts, rose_on, rose_from, doubt_on, unsaid_on, still_on}
 
 module _ (b : Beginning) where
   -- ---- what is told of entries
@@ -87,6 +87,56 @@ module _ (b : Beginning) where
       let one = facts_one entries (Unsaid e) disk say f (unsaid_allowed entries e disk say rose) in
       subst (λ (l : List Entry). Facts l disk say) (append_assoc entries (Unsaid e ∷ []) (all_unsaid events)) (facts_unsaid (entries ++ Unsaid e ∷ []) events disk say rose one)
 
+  -- ---- counts that are as they were
+
+  -- no device failed at these entries, and so its count is as it was
+  pub record Still (entries : List Entry) (disk say : ℕ) : Type 0 where
+    pub disk_still : (HasDoubt entries → ⊥) → disk ≡ b.disk
+    pub say_still : (HasUnsaid entries → ⊥) → say ≡ b.say
+
+  -- entries that have what these have, and that tell of each fault with which a call was answered
+  pub record Told {T : Type 0} (entries now : List Entry) (result : Result T SwitchFault) : Type 0 where
+    pub doubt_on : HasDoubt entries → HasDoubt now
+    pub unsaid_on : HasUnsaid entries → HasUnsaid now
+    pub doubt : IsErrOf result DiskFault → HasDoubt now
+    pub unsaid : IsErrOf result SayFault → HasUnsaid now
+
+  pub still_now : {T : Type 0} (entries now : List Entry) (result : Result T SwitchFault) (disk disk_now say say_now : ℕ) → HasCallCause result disk disk_now say say_now → Still entries disk say
+      → Told entries now result → Still now disk_now say_now
+  still_now entries now result disk disk_now say say_now cause s t = record {
+    disk_still = still_on b.disk disk disk_now (HasDoubt now) (HasDoubt entries) (IsErrOf result DiskFault) t.doubt_on t.doubt s.disk_still cause.disk_still;
+    say_still = still_on b.say say say_now (HasUnsaid now) (HasUnsaid entries) (IsErrOf result SayFault) t.unsaid_on t.unsaid s.say_still cause.say_still;
+  }
+
+  -- the same entries, those and events that were done, and some more behind these
+  told_same : {T : Type 0} (entries : List Entry) (result r : Result T SwitchFault) → result ≡ r → (IsErrOf r DiskFault → ⊥) → (IsErrOf r SayFault → ⊥) → Told entries entries result
+  told_same entries result r is d s = record { doubt_on = λ x. x; unsaid_on = λ x. x; doubt = λ e. absurd (d (sym is ∙ e)); unsaid = λ e. absurd (s (sym is ∙ e)) }
+
+  told_done : {T : Type 0} (entries : List Entry) (events : List Event) (result r : Result T SwitchFault) → result ≡ r → (IsErrOf r DiskFault → ⊥) → (IsErrOf r SayFault → ⊥)
+      → Told entries (entries ++ all_done events) result
+  told_done entries events result r is d s = record {
+    doubt_on = doubt_on entries (all_done events);
+    unsaid_on = unsaid_on entries (all_done events);
+    doubt = λ e. absurd (d (sym is ∙ e));
+    unsaid = λ e. absurd (s (sym is ∙ e));
+  }
+
+  told_more : {T : Type 0} (entries : List Entry) (events : List Event) (more : List Entry) (result r : Result T SwitchFault) → result ≡ r
+      → (IsErrOf r DiskFault → HasDoubt ((entries ++ all_done events) ++ more)) → (IsErrOf r SayFault → HasUnsaid ((entries ++ all_done events) ++ more))
+      → Told entries ((entries ++ all_done events) ++ more) result
+  told_more entries events more result r is d s = record {
+    doubt_on = λ x. doubt_on (entries ++ all_done events) more (doubt_on entries (all_done events) x);
+    unsaid_on = λ x. unsaid_on (entries ++ all_done events) more (unsaid_on entries (all_done events) x);
+    doubt = λ e. d (sym is ∙ e);
+    unsaid = λ e. s (sym is ∙ e);
+  }
+
+  still_done : (entries : List Entry) (events : List Event) (disk say : ℕ) → Still entries disk say → Still (entries ++ all_done events) disk say
+  still_done entries events disk say s = record {
+    disk_still = λ n. s.disk_still (λ x. n (doubt_on entries (all_done events) x));
+    say_still = λ n. s.say_still (λ x. n (unsaid_on entries (all_done events) x));
+  }
+
 module _ {P W : Type 0} (engine : W → Engine P) (makes : W → Bool) (observed : Type 0) (calls : P → List Call) (disk say : P → ℕ) where
   abbrev pub M : Standing Beginning W
   M = housed_meanings engine makes observed calls disk say
@@ -103,8 +153,8 @@ module _ {P W : Type 0} (engine : W → Engine P) (makes : W → Bool) (observed
   module _ (b : Beginning) (old new : W) (same : makes new ≡ makes old) where
     -- an engine with other compactions
     gathered : (cs : List ℕ) (front : List Entry) (more : List Event) → (b.makes_room ≡ false → cs ≡ []) → makes old ≡ b.makes_room → b.disk ≤ disk_of new → b.say ≤ say_of new
-        → Facts b front (disk_of new) (say_of new) → E.gathers (origin_with b cs) front more (engine new) → M.gathers b front more new
-    gathered cs front more none mode d s f g = (
+        → Facts b front (disk_of new) (say_of new) → Still b front (disk_of new) (say_of new) → E.gathers (origin_with b cs) front more (engine new) → M.gathers b front more new
+    gathered cs front more none mode d s f st g = (
       record {
         compactions = cs;
         keeps = g;
@@ -112,14 +162,17 @@ module _ {P W : Type 0} (engine : W → Engine P) (makes : W → Bool) (observed
         cramped = f.cramped;
         disk_later = d;
         disk_failed = f.disk_failed;
+        disk_still = st.disk_still;
         say_later = s;
         say_failed = f.say_failed;
+        say_still = st.say_still;
       },
       same ∙ mode,
     )
 
     module _ {T : Type 0} (result : Result T SwitchFault) (cause : HasCallCause result (disk_of old) (disk_of new) (say_of old) (say_of new)) (cs : List ℕ) (entries : List Entry) (events : List Event)
-        (none : b.makes_room ≡ false → cs ≡ []) (mode : makes old ≡ b.makes_room) (d : b.disk ≤ disk_of old) (s : b.say ≤ say_of old) (f : Facts b entries (disk_of old) (say_of old)) where
+        (none : b.makes_room ≡ false → cs ≡ []) (mode : makes old ≡ b.makes_room) (d : b.disk ≤ disk_of old) (s : b.say ≤ say_of old) (f : Facts b entries (disk_of old) (say_of old))
+        (st : Still b entries (disk_of old) (say_of old)) where
       d' : b.disk ≤ disk_of new
       d' = omega (arith, d, cause.disk_later)
 
@@ -133,11 +186,12 @@ module _ {P W : Type 0} (engine : W → Engine P) (makes : W → Bool) (observed
       all_now : Facts b (entries ++ all_done events) (disk_of new) (say_of new)
       all_now = facts_done b entries events (disk_of new) (say_of new) now
 
-      stand : (front : List Entry) (more : List Event) → Facts b front (disk_of new) (say_of new) → E.gathers (origin_with b cs) front more (engine new) → M.gathers b front more new
-      stand front more facts g = gathered cs front more none mode d' s' facts g
+      stand : (front : List Entry) (more : List Event) → Facts b front (disk_of new) (say_of new) → Told b entries front result → E.gathers (origin_with b cs) front more (engine new) → M.gathers b front more new
+      stand front more facts told g =
+          gathered cs front more none mode d' s' facts (still_now b entries front result (disk_of old) (disk_of new) (say_of old) (say_of new) cause st told) g
 
-      pub all_settled : settled E (origin_with b cs) (entries ++ all_done events) (engine new) → settled M b (entries ++ all_done events) new
-      all_settled g = stand (entries ++ all_done events) [] all_now g
+      pub all_settled : (x : T) → result ≡ Ok x → settled E (origin_with b cs) (entries ++ all_done events) (engine new) → settled M b (entries ++ all_done events) new
+      all_settled x is g = stand (entries ++ all_done events) [] all_now (told_done b entries events result (Ok x) is (λ e. cc e) (λ e. cc e)) g
 
       disk_rose : result ≡ Err DiskFault → Rose b.disk (disk_of new)
       disk_rose is = rose_from b.disk (disk_of old) (disk_of new) d (cause.disk_failed (failed is))
@@ -155,7 +209,13 @@ module _ {P W : Type 0} (engine : W → Engine P) (makes : W → Bool) (observed
       in_doubt is a = record {
         some = a.some;
         leaves = stand (entries ++ Doubt events ∷ []) []
-            (facts_one b entries (Doubt events) (disk_of new) (say_of new) now (doubt_allowed b entries events (disk_of new) (say_of new) (disk_rose is))) a.leaves;
+            (facts_one b entries (Doubt events) (disk_of new) (say_of new) now (doubt_allowed b entries events (disk_of new) (say_of new) (disk_rose is)))
+            (record {
+              doubt_on = doubt_on entries (Doubt events ∷ []);
+              unsaid_on = unsaid_on entries (Doubt events ∷ []);
+              doubt = λ e. (entries, events, [], refl);
+              unsaid = λ e. absurd (let no : ◌≡◌ {A = Result T SwitchFault} (Err DiskFault) (Err SayFault) = sym is ∙ e in cc no);
+            }) a.leaves;
       }
 
       pub doubt_alone : result ≡ Err DiskFault → (event : Event) → settled E (origin_with b cs) ((entries ++ all_done events) ++ Doubt (event ∷ []) ∷ []) (engine new)
@@ -163,7 +223,8 @@ module _ {P W : Type 0} (engine : W → Engine P) (makes : W → Bool) (observed
       doubt_alone is event g =
           let all : List Entry = entries ++ all_done events in
           stand (all ++ Doubt (event ∷ []) ∷ []) []
-          (facts_one b all (Doubt (event ∷ [])) (disk_of new) (say_of new) all_now (doubt_allowed b all (event ∷ []) (disk_of new) (say_of new) (disk_rose is))) g
+          (facts_one b all (Doubt (event ∷ [])) (disk_of new) (say_of new) all_now (doubt_allowed b all (event ∷ []) (disk_of new) (say_of new) (disk_rose is)))
+          (told_more b entries events (Doubt (event ∷ []) ∷ []) result (Err DiskFault) is (λ e. (all, event ∷ [], [], refl)) (λ e. absurd (cc e))) g
 
       pub cut_short : result ≡ Err SayFault → IsCutShort E (origin_with b cs) entries events (engine new) → IsCutShort M b entries events new
       cut_short is a =
@@ -173,7 +234,8 @@ module _ {P W : Type 0} (engine : W → Engine P) (makes : W → Bool) (observed
             first = a.first;
             rest = a.rest;
             is = a.is;
-            leaves = stand ((entries ++ all_done a.before) ++ all_unsaid (a.first ∷ a.rest)) [] facts a.leaves;
+            leaves = stand ((entries ++ all_done a.before) ++ all_unsaid (a.first ∷ a.rest)) [] facts
+                (told_more b entries a.before (all_unsaid (a.first ∷ a.rest)) result (Err SayFault) is (λ e. absurd (cc e)) (λ e. (entries ++ all_done a.before, a.first, all_unsaid a.rest, refl))) a.leaves;
           }
 
       pub one_unsaid : result ≡ Err SayFault → (event : Event) → settled E (origin_with b cs) ((entries ++ all_done events) ++ Unsaid event ∷ []) (engine new)
@@ -181,17 +243,26 @@ module _ {P W : Type 0} (engine : W → Engine P) (makes : W → Bool) (observed
       one_unsaid is event g =
           let all : List Entry = entries ++ all_done events in
           stand (all ++ Unsaid event ∷ []) []
-          (facts_one b all (Unsaid event) (disk_of new) (say_of new) all_now (unsaid_allowed b all event (disk_of new) (say_of new) (say_rose is))) g
+          (facts_one b all (Unsaid event) (disk_of new) (say_of new) all_now (unsaid_allowed b all event (disk_of new) (say_of new) (say_rose is)))
+          (told_more b entries events (Unsaid event ∷ []) result (Err SayFault) is (λ e. absurd (cc e)) (λ e. (all, event, [], refl))) g
 
-      pub one_idle : (event : Event) (fault : SwitchFault) → (b.makes_room ≡ true → (used need limit : ℕ) → fault ≡ Full used need limit → IsCrampedFor b (entries ++ all_done events) event)
+      pub one_idle : (event : Event) (fault : SwitchFault) → result ≡ Err fault → (fault ≡ DiskFault → ⊥) → (fault ≡ SayFault → ⊥) → (b.makes_room ≡ true → (used need limit : ℕ) → fault ≡ Full used need limit → IsCrampedFor b (entries ++ all_done events) event)
           → settled E (origin_with b cs) ((entries ++ all_done events) ++ Idle event fault ∷ []) (engine new) → settled M b ((entries ++ all_done events) ++ Idle event fault ∷ []) new
-      one_idle event fault full g =
+      one_idle event fault is no_disk no_say full g =
           let all : List Entry = entries ++ all_done events in
-          stand (all ++ Idle event fault ∷ []) [] (facts_one b all (Idle event fault) (disk_of new) (say_of new) all_now (idle_allowed b all event fault (disk_of new) (say_of new) full)) g
+          stand (all ++ Idle event fault ∷ []) [] (facts_one b all (Idle event fault) (disk_of new) (say_of new) all_now (idle_allowed b all event fault (disk_of new) (say_of new) full))
+          (told_more b entries events (Idle event fault ∷ []) result (Err fault) is (λ e. absurd (no_disk (cc e))) (λ e. absurd (no_say (cc e)))) g
 
-      pub one_more : (event : Event) → GathersOne E (origin_with b cs) entries events event (engine new) → GathersOne M b entries events event new
-      one_more event g = record { front = g.front; more = g.more; one = g.one; gathers = stand g.front g.more (facts g.front g.more g.one) g.gathers }
+      pub one_more : (x : T) → result ≡ Ok x → (event : Event) → GathersOne E (origin_with b cs) entries events event (engine new) → GathersOne M b entries events event new
+      one_more x ok event g = record { front = g.front; more = g.more; one = g.one; gathers = stand g.front g.more (facts g.front g.more g.one) (told g.front g.more g.one) g.gathers }
         where
+          told : (front : List Entry) (more : List Event) → IsOneMore entries events event front more → Told b entries front result
+          told front more (Behind is all) = subst (λ (l : List Entry). Told b entries l result) (sym is) (told_same b entries result (Ok x) ok (λ e. cc e) (λ e. cc e))
+          told front more (Alone is all) = subst (λ (l : List Entry). Told b entries l result) (sym is) (told_done b entries events result (Ok x) ok (λ e. cc e) (λ e. cc e))
+          told front more (AtOnce is all) =
+              subst (λ (l : List Entry). Told b entries l result) (sym is)
+              (told_more b entries events (Done event ∷ []) result (Ok x) ok (λ e. absurd (cc e)) (λ e. absurd (cc e)))
+
           facts : (front : List Entry) (more : List Event) → IsOneMore entries events event front more → Facts b front (disk_of new) (say_of new)
           facts front more (Behind is all) = subst (λ (l : List Entry). Facts b l (disk_of new) (say_of new)) (sym is) now
           facts front more (Alone is all) = subst (λ (l : List Entry). Facts b l (disk_of new) (say_of new)) (sym is) all_now
@@ -202,43 +273,43 @@ module _ {P W : Type 0} (engine : W → Engine P) (makes : W → Bool) (observed
     -- what a call leaves
     pub lift_call : (event : Event) (result : Result Outcome SwitchFault) → HasCallCause result (disk_of old) (disk_of new) (say_of old) (say_of new)
         → (cs : List ℕ) (entries : List Entry) (events : List Event) → (b.makes_room ≡ false → cs ≡ []) → makes old ≡ b.makes_room → b.disk ≤ disk_of old → b.say ≤ say_of old
-        → Facts b entries (disk_of old) (say_of old)
+        → Facts b entries (disk_of old) (say_of old) → Still b entries (disk_of old) (say_of old)
         → (b.makes_room ≡ true → (used need limit : ℕ) → result ≡ Err (Full used need limit) → IsCrampedFor b (entries ++ all_done events) event)
         → AfterCall E (origin_with b cs) entries events event result (engine new) → AfterCall M b entries events event result new
-    lift_call event result cause cs entries events none mode d s f full a = go result refl a
+    lift_call event result cause cs entries events none mode d s f st full a = go result refl a
       where
         told : (fault : SwitchFault) → result ≡ Err fault → b.makes_room ≡ true → (used need limit : ℕ) → fault ≡ Full used need limit → IsCrampedFor b (entries ++ all_done events) event
         told fault is m used need limit e = full m used need limit (is ∙ ap (λ (x : SwitchFault). Err x) e)
 
-        idle : (fault : SwitchFault) → result ≡ Err fault → settled E (origin_with b cs) ((entries ++ all_done events) ++ Idle event fault ∷ []) (engine new)
+        idle : (fault : SwitchFault) → result ≡ Err fault → (fault ≡ DiskFault → ⊥) → (fault ≡ SayFault → ⊥) → settled E (origin_with b cs) ((entries ++ all_done events) ++ Idle event fault ∷ []) (engine new)
             → settled M b ((entries ++ all_done events) ++ Idle event fault ∷ []) new
-        idle fault is g = one_idle result cause cs entries events none mode d s f event fault (told fault is) g
+        idle fault is no_disk no_say g = one_idle result cause cs entries events none mode d s f st event fault is no_disk no_say (told fault is) g
 
         said : result ≡ Err SayFault → IsCutShort E (origin_with b cs) entries events (engine new) ⊎ settled E (origin_with b cs) ((entries ++ all_done events) ++ Unsaid event ∷ []) (engine new)
             → IsCutShort M b entries events new ⊎ settled M b ((entries ++ all_done events) ++ Unsaid event ∷ []) new
-        said is (inl cut) = inl (cut_short result cause cs entries events none mode d s f is cut)
-        said is (inr last) = inr (one_unsaid result cause cs entries events none mode d s f is event last)
+        said is (inl cut) = inl (cut_short result cause cs entries events none mode d s f st is cut)
+        said is (inr last) = inr (one_unsaid result cause cs entries events none mode d s f st is event last)
 
         go : (r : Result Outcome SwitchFault) → result ≡ r → AfterCall E (origin_with b cs) entries events event r (engine new) → AfterCall M b entries events event r new
-        go (Ok answer) is g = one_more result cause cs entries events none mode d s f event g
-        go (Err DiskFault) is g = in_doubt result cause cs entries events none mode d s f is g
+        go (Ok answer) is g = one_more result cause cs entries events none mode d s f st answer is event g
+        go (Err DiskFault) is g = in_doubt result cause cs entries events none mode d s f st is g
         go (Err SayFault) is g = said is g
-        go (Err (Full used need limit)) is g = idle (Full used need limit) is g
-        go (Err (Stopped by)) is g = idle (Stopped by) is g
+        go (Err (Full used need limit)) is g = idle (Full used need limit) is (λ e. cc e) (λ e. cc e) g
+        go (Err (Stopped by)) is g = idle (Stopped by) is (λ e. cc e) (λ e. cc e) g
         go (Err Spent) is g = g
-        go (Err NoMemory) is g = idle NoMemory is g
+        go (Err NoMemory) is g = idle NoMemory is (λ e. cc e) (λ e. cc e) g
 
     -- what settling leaves
     pub lift_settling : (result : Result (Unit {0}) SwitchFault) → HasCallCause result (disk_of old) (disk_of new) (say_of old) (say_of new)
         → (cs : List ℕ) (entries : List Entry) (events : List Event) → (b.makes_room ≡ false → cs ≡ []) → makes old ≡ b.makes_room → b.disk ≤ disk_of old → b.say ≤ say_of old
-        → Facts b entries (disk_of old) (say_of old)
+        → Facts b entries (disk_of old) (say_of old) → Still b entries (disk_of old) (say_of old)
         → AfterSettling E (origin_with b cs) entries events result (engine new) → AfterSettling M b entries events result new
-    lift_settling result cause cs entries events none mode d s f a = go result refl a
+    lift_settling result cause cs entries events none mode d s f st a = go result refl a
       where
         go : (r : Result (Unit {0}) SwitchFault) → result ≡ r → AfterSettling E (origin_with b cs) entries events r (engine new) → AfterSettling M b entries events r new
-        go (Ok done) is g = all_settled result cause cs entries events none mode d s f g
-        go (Err DiskFault) is g = in_doubt result cause cs entries events none mode d s f is g
-        go (Err SayFault) is g = cut_short result cause cs entries events none mode d s f is g
+        go (Ok done) is g = all_settled result cause cs entries events none mode d s f st done is g
+        go (Err DiskFault) is g = in_doubt result cause cs entries events none mode d s f st is g
+        go (Err SayFault) is g = cut_short result cause cs entries events none mode d s f st is g
         go (Err (Full used need limit)) is g = g
         go (Err (Stopped by)) is g = g
         go (Err Spent) is g = g
@@ -280,6 +351,9 @@ module _ {P W : Type 0} (engine : W → Engine P) (makes : W → Bool) (observed
   facts_of : (b : Beginning) (entries : List Entry) (events : List Event) (w : W) → M.gathers b entries events w → Facts b entries (disk_of w) (say_of w)
   facts_of b entries events w g = record { cramped = g.0.cramped; disk_failed = g.0.disk_failed; say_failed = g.0.say_failed }
 
+  still_of : (b : Beginning) (entries : List Entry) (events : List Event) (w : W) → M.gathers b entries events w → Still b entries (disk_of w) (say_of w)
+  still_of b entries events w g = record { disk_still = g.0.disk_still; say_still = g.0.say_still }
+
   -- a cause, where fullness is told in other words
   cause_as : (F G : SwitchFault → Type 0) → ((fault : SwitchFault) → F fault → G fault) → (h : List Entry) (o : Outcome) (fault : SwitchFault) → IsAnswerCause F h o fault → IsAnswerCause G h o fault
   cause_as F G turns h o DiskFault c = c
@@ -302,7 +376,7 @@ module _ {P W : Type 0} (engine : W → Engine P) (makes : W → Bool) (observed
         let all : List Entry = entries ++ all_done events in
         let d : Directory = b.origin.directory in
         let s : State = state_at b.origin all in
-        lift_call b old new same event result cause cs entries events g.0.none g.1 g.0.disk_later g.0.say_later (facts_of b entries events old g)
+        lift_call b old new same event result cause cs entries events g.0.none g.1 g.0.disk_later g.0.say_later (facts_of b entries events old g) (still_of b entries events old g)
         (λ m used need limit is. absurd (never (g.1 ∙ m) d s
         (full_accepts d s (used_at o all) event (outcome d s event) (Full used need limit) (t.caused o entries events g.0.keeps (Full used need limit) is))))
         (t.adds o entries events g.0.keeps);
@@ -344,18 +418,18 @@ module _ {P W : Type 0} (engine : W → Engine P) (makes : W → Bool) (observed
           → AfterHearing M b entries events event result new
       adds b entries events g (inl plain) =
           as_hearing M b entries events event result new
-          (lift_call b old new same event result cause g.0.compactions entries events g.0.none g.1 g.0.disk_later g.0.say_later (facts_of b entries events old g)
+          (lift_call b old new same event result cause g.0.compactions entries events g.0.none g.1 g.0.disk_later g.0.say_later (facts_of b entries events old g) (still_of b entries events old g)
           (λ m used need limit is. cramped b entries events g used need limit is) plain.leaves)
       adds b entries events g (inr (inl behind)) =
           let all : List Entry = entries ++ all_done events in
           let cs : List ℕ = g.0.compactions ++ length all ∷ [] in
           compacted b old new same entries events event result
           (lift_call b old new same event result cause cs all [] (unmade b g.1 cs) g.1 g.0.disk_later g.0.say_later
-          (facts_done b entries events (disk_of old) (say_of old) (facts_of b entries events old g))
+          (facts_done b entries events (disk_of old) (say_of old) (facts_of b entries events old g)) (still_done b entries events (disk_of old) (say_of old) (still_of b entries events old g))
           (λ m used need limit is. subst (λ (l : List Entry). IsCrampedFor b l event) (sym (append-nil all)) (cramped b entries events g used need limit is)) behind.leaves)
       adds b entries events g (inr (inr none)) =
           subst (λ (r : Result Outcome SwitchFault). AfterHearing M b entries events event r new) (sym none.fault)
-          (inr (doubt_alone b old new same result cause g.0.compactions entries events g.0.none g.1 g.0.disk_later g.0.say_later (facts_of b entries events old g) none.fault event none.keeps))
+          (inr (doubt_alone b old new same result cause g.0.compactions entries events g.0.none g.1 g.0.disk_later g.0.say_later (facts_of b entries events old g) (still_of b entries events old g) none.fault event none.keeps))
 
   -- settling
   pub settles : (result : Result (Unit {0}) SwitchFault) (old new : W) → makes new ≡ makes old → HasCallCause result (disk_of old) (disk_of new) (say_of old) (say_of new)
@@ -363,12 +437,13 @@ module _ {P W : Type 0} (engine : W → Engine P) (makes : W → Bool) (observed
   settles result old new same cause t = record {
     directory = t.directory;
     settles = λ b entries events g.
-        lift_settling b old new same result cause g.0.compactions entries events g.0.none g.1 g.0.disk_later g.0.say_later (facts_of b entries events old g)
+        lift_settling b old new same result cause g.0.compactions entries events g.0.none g.1 g.0.disk_later g.0.say_later (facts_of b entries events old g) (still_of b entries events old g)
         (t.settles (origin_with b g.0.compactions) entries events g.0.keeps);
     rests = λ b h g.
         let r = t.rests (origin_with b g.0.compactions) h g.0.keeps in (
           r.0,
           gathered b old new same g.0.compactions h [] g.0.none g.1 (omega (arith, g.0.disk_later, cause.disk_later)) (omega (arith, g.0.say_later, cause.say_later))
-              (facts_later b h (disk_of old) (disk_of new) (say_of old) (say_of new) cause.disk_later cause.say_later (facts_of b h [] old g)) r.1,
+              (facts_later b h (disk_of old) (disk_of new) (say_of old) (say_of new) cause.disk_later cause.say_later (facts_of b h [] old g))
+              (still_now b h h result (disk_of old) (disk_of new) (say_of old) (say_of new) cause (still_of b h [] old g) (told_same b h result (Ok tt) r.0 (λ e. cc e) (λ e. cc e))) r.1,
         );
   }

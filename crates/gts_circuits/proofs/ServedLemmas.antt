@@ -10,7 +10,7 @@ use mathlib.Core.Option.{some, some-injective, some-ne-none}
 use lib.ListN.{get_elem?}
 use Rattle.gts_event.specs.declared.event.Entry.TheVariants as of_entry
 use Rattle.gts_sender.specs.declared.end.SendEnd.TheVariants as sending
-use Rattle.gts_circuits.proofs.PlacesLemmas.{at_less, there, halved}
+use Rattle.gts_circuits.proofs.PlacesLemmas.{at_less, in_middle, there, halved}
 use Rattle.gts_circuits.proofs.PastLemmas.{none_under, received_more, not_receiver}
 use Rattle.gts_circuits.proofs.FramesLemmas.{took_frames, entered}
 use Rattle.gts_circuits.proofs.DrainLemmas.{in_both}
@@ -65,6 +65,14 @@ AllDone es = (k : ℕ) (e : Entry) → get_elem? es k ≡ some e → (event : Ev
 
 abbrev AllDoneIn : Bool → List Entry → Type 0
 AllDoneIn w es = (k : ℕ) (e : Entry) → get_elem? es k ≡ some e → IsDoneIn w e
+
+never_doubt : (w : Bool) (events : List Event) → IsDoneIn w (of_entry.Doubt events) → ⊥
+never_doubt w events (inl done) = let no : of_entry.Doubt events ≡ of_entry.Done done.0 = done.1 in cc no
+never_doubt w events (inr try) = let no : false ≡ true = try.1 in cc no
+
+never_unsaid : (w : Bool) (event : Event) → IsDoneIn w (of_entry.Unsaid event) → ⊥
+never_unsaid w event (inl done) = let no : of_entry.Unsaid event ≡ of_entry.Done done.0 = done.1 in cc no
+never_unsaid w event (inr try) = let no : false ≡ true = try.1 in cc no
 
 done_in : (w : Bool) (es : List Entry) → AllDone es → AllDoneIn w es
 done_in w es all k e at = inl (all k e at)
@@ -385,6 +393,13 @@ module _ {S K : Type 0} (incoming : SourceMeanings S) (sink_tells : Type 0) (wri
           let t = both_at c (omega (arith, less, many_ends)) in
           (circuit c t.0 t.1 t.2 t.3).over observed t.4
 
+      -- what was done was neither in doubt nor left unsaid
+      sound : (disk engine.station ≡ b.disk) × (say engine.station ≡ b.say)
+      sound = (
+        f.drained.stands.disk_still (λ (front, events, back, is). never_doubt (goes_on connections) events (at_rest.done_all (length front) (of_entry.Doubt events) (in_middle front (of_entry.Doubt events) back (entries whole) (sym is)))),
+        f.drained.stands.say_still (λ (front, event, back, is). never_unsaid (goes_on connections) event (at_rest.done_all (length front) (of_entry.Unsaid event) (in_middle front (of_entry.Unsaid event) back (entries whole) (sym is)))),
+      )
+
       unfailed : (c : ℕ) → now.faults c ≡ before.faults c
       unfailed c = elim (cases_lt c (length sockets)) as (λ _. now.faults c ≡ before.faults c) [
         | inl less ↦
@@ -417,4 +432,5 @@ module _ {S K : Type 0} (incoming : SourceMeanings S) (sink_tells : Type 0) (wri
           record { owed = none.0; waits = none.1 };
       went_through = went_through;
       unfailed = unfailed;
+      sound = sound;
     }

@@ -1,6 +1,7 @@
 -- What an engine stands for, with the entry that a call adds.
 use Rattle.std.proofs.Common.{◌≡◌, ◌≢◌, ◌⊎◌, inl, inr, ⊎_elim, ℕ, ◌+◌, ◌≤◌, true, false, List, [], ◌∷◌, ◌++◌, length, Option, Some, None, Result, Ok, Err, refl, sym, ap, subst, ◌∙◌, arith, length-append, IsErrOf, IfOk, IfSome}
 use Rattle.gts_circuits.specs.Cited.{Accepted, Adds, AreCramped, Asked, Beginning, Call, Caller, Choice, Device, Directory, DiskFault, Doubt, Draw, Draws, Duplicate, Engine, Entry, Event, Full, HasCallCause, HasDoubt, HasUnsaid, HearsWithRoom, Idle, IsAccepted, IsCalled, IsCrampedFor, Keeps, LeavesFrame, LineLost, NoMemory, Nothing, Nothing_waits, Origin, Outcome, Outside, Refused, Repeats, Resend, Rose, SayFault, Says, Spent, Stands, State, Stopped, SwitchFault, Taken, Unsaid, after, after_all, channel_bytes, choice, entry_by, entry_of, frame_of_draw, meanings_of, on, origin_with, outcome, room, shown, spoken, state_at, used_at}
+use Rattle.std.proofs.lemmas.List.{append_assoc}
 use Rattle.gts_event.specs.Cited.{begun}
 use Rattle.gts_traits.proofs.LawLemmas.{channel_bytes-on}
 
@@ -115,6 +116,23 @@ unsaid_rose b h event result old new from before later failed (front, other, bac
     (λ earlier. rose_on b old new (before (front, other, earlier.0, earlier.1)) later)
     (split_last h (entry_by event result) front (Unsaid other) back e)
 
+-- entries more keep what was in doubt, and what was not said
+pub doubt_on : (h more : List Entry) → HasDoubt h → HasDoubt (h ++ more)
+doubt_on h more (front, events, back, e) = (front, events, back ++ more, ap (λ (l : List Entry). l ++ more) e ∙ append_assoc front (Doubt events ∷ back) more)
+
+pub unsaid_on : (h more : List Entry) → HasUnsaid h → HasUnsaid (h ++ more)
+unsaid_on h more (front, event, back, e) = (front, event, back ++ more, ap (λ (l : List Entry). l ++ more) e ∙ append_assoc front (Unsaid event ∷ back) more)
+
+-- Where no entry tells of a failure (A), none did so before (B), and no call failed (F): the count is as it was.
+pub still_on : (first old new : ℕ) (A B F : Type 0) → (B → A) → (F → A) → ((B → ⊥) → old ≡ first) → ((F → ⊥) → new ≡ old) → (A → ⊥) → new ≡ first
+still_on first old new A B F grows tells before call none = call (λ f. none (tells f)) ∙ before (λ b. none (grows b))
+
+tells_doubt : (h : List Entry) (event : Event) (result : Result Outcome SwitchFault) → IsErrOf result DiskFault → HasDoubt (h ++ entry_by event result ∷ [])
+tells_doubt h event result e = subst (λ (r : Result Outcome SwitchFault). HasDoubt (h ++ entry_by event r ∷ [])) (sym e) (h, event ∷ [], [], refl)
+
+tells_unsaid : (h : List Entry) (event : Event) (result : Result Outcome SwitchFault) → IsErrOf result SayFault → HasUnsaid (h ++ entry_by event result ∷ [])
+tells_unsaid h event result e = subst (λ (r : Result Outcome SwitchFault). HasUnsaid (h ++ entry_by event r ∷ [])) (sym e) (h, event, [], refl)
+
 -- ---- a call
 
 -- Full was answered for the last entry, or for one before it
@@ -146,6 +164,7 @@ module _ {P : Type 0} (observed : Type 0) (calls : P → List Call) (disk say : 
       → result ≢ Err Spent → Stands observed calls disk say b h old → Stands observed calls disk say b (h ++ entry_by event result ∷ []) new
   more_stands h event result old new cause compactions kept none full spent stands =
       let K : List Entry → Type 0 = λ es. Keeps observed Caller (origin_with b compactions) (h ++ es) (shown calls new) in
+      let all : List Entry = h ++ entry_by event result ∷ [] in
       record {
         compactions = compactions;
         keeps = subst K (is_one event result spent) kept;
@@ -153,8 +172,12 @@ module _ {P : Type 0} (observed : Type 0) (calls : P → List Call) (disk say : 
         cramped = cramped_more b h event result stands.cramped full;
         disk_later = omega (arith, stands.disk_later, cause.disk_later);
         disk_failed = doubt_rose b.disk h event result (disk old.station) (disk new.station) stands.disk_later stands.disk_failed cause.disk_later cause.disk_failed;
+        disk_still = still_on b.disk (disk old.station) (disk new.station) (HasDoubt all) (HasDoubt h) (IsErrOf result DiskFault)
+            (doubt_on h (entry_by event result ∷ [])) (tells_doubt h event result) stands.disk_still cause.disk_still;
         say_later = omega (arith, stands.say_later, cause.say_later);
         say_failed = unsaid_rose b.say h event result (say old.station) (say new.station) stands.say_later stands.say_failed cause.say_later cause.say_failed;
+        say_still = still_on b.say (say old.station) (say new.station) (HasUnsaid all) (HasUnsaid h) (IsErrOf result SayFault)
+            (unsaid_on h (entry_by event result ∷ [])) (tells_unsaid h event result) stands.say_still cause.say_still;
       }
 
   pub adds : (h : List Entry) (event : Event) (Holds : Outcome → State → Type 0) (result : Result Outcome SwitchFault) (old new : Engine P)

@@ -187,9 +187,9 @@ module _ {P : Type 0} (observed : Type 0) (calls : P → List Call) (disk say : 
   -- ---- one behind it
 
   pub one_behind : (frames : List Frame) (o : Outcome) (out : List ℕ) (old new : Engine P) → has frames true old → TakesBehind observed calls c o old new → old.gathered ≡ true
-      → (o ≢ Nothing → Says old.core c out) → disk old.station ≤ disk new.station → say old.station ≤ say new.station → joined new.held ≡ []
+      → (o ≢ Nothing → Says old.core c out) → disk new.station ≡ disk old.station → say new.station ≡ say old.station → joined new.held ≡ []
       → has (frames ++ frames_by o out) (gives o) new
-  one_behind frames o out old new t behind gathered says later said silent = go t.taken
+  one_behind frames o out old new t behind gathered says disks saying silent = go t.taken
     where
       origin : Origin
       origin = origin_with b t.stands.compactions
@@ -215,10 +215,12 @@ module _ {P : Type 0} (observed : Type 0) (calls : P → List Call) (disk say : 
         keeps = behind.gathers origin t.front t.events t.stands.keeps;
         none = t.stands.none;
         cramped = t.stands.cramped;
-        disk_later = omega (arith, t.stands.disk_later, later);
-        disk_failed = λ e. rose_on b.disk (disk old.station) (disk new.station) (t.stands.disk_failed e) later;
-        say_later = omega (arith, t.stands.say_later, said);
-        say_failed = λ e. rose_on b.say (say old.station) (say new.station) (t.stands.say_failed e) said;
+        disk_later = omega (arith, t.stands.disk_later, disks);
+        disk_failed = λ e. rose_on b.disk (disk old.station) (disk new.station) (t.stands.disk_failed e) (omega (arith, disks));
+        disk_still = λ n. disks ∙ t.stands.disk_still n;
+        say_later = omega (arith, t.stands.say_later, saying);
+        say_failed = λ e. rose_on b.say (say old.station) (say new.station) (t.stands.say_failed e) (omega (arith, saying));
+        say_still = λ n. saying ∙ t.stands.say_still n;
       }
 
       go : AreTaken h c (length frames) t.front t.events → has (frames ++ frames_by o out) (gives o) new

@@ -55,7 +55,7 @@ module _ {P : Type 0} (observed : Type 0) (calls : P → List Call) (disk say : 
   -- An engine stands for these entries since the beginning, and for these events behind them, which are gathered: it stands for what an
   -- engine does whose caller says the frames, with the compactions that were done meanwhile, of which there are none where no room is
   -- made. Where it is, Full was answered only where a compacted journal would have been full with an eighth of the limit to
-  -- spare. A device failed at an entry only where the count of its faults rose.
+  -- spare. A device failed at an entry only where the count of its faults rose, and where none did at any, the count is as it was.
   pub record StandsWith (entries : List Entry) (events : List Event) (e : Engine P) : Type 0 where
     pub compactions : List ℕ
     pub keeps : Gathers observed Caller (origin_with b compactions) entries events (shown calls e)
@@ -63,8 +63,10 @@ module _ {P : Type 0} (observed : Type 0) (calls : P → List Call) (disk say : 
     pub cramped : b.makes_room ≡ true → AreCramped b entries
     pub disk_later : b.disk ≤ disk e.station
     pub disk_failed : HasDoubt entries → Rose b.disk (disk e.station)
+    pub disk_still : (HasDoubt entries → ⊥) → disk e.station ≡ b.disk
     pub say_later : b.say ≤ say e.station
     pub say_failed : HasUnsaid entries → Rose b.say (say e.station)
+    pub say_still : (HasUnsaid entries → ⊥) → say e.station ≡ b.say
 
   -- it stands for these entries, and nothing is gathered
   abbrev pub Stands : List Entry → Engine P → Type 0
@@ -98,6 +100,7 @@ housed_meanings engine makes observed calls disk say = record {
   directory = λ w. (engine w).directory;
   begin = λ b. begun b.origin.start;
   gathers = λ b entries events w. StandsWith observed calls disk say b entries events (engine w) × (makes w ≡ b.makes_room);
+  few = λ b entries events w gathered. gathered.0.keeps.most;
   is_full = IsFullSince;
   compacts = λ b entries. b;
   left = λ b entries w. (compactions : List ℕ) × IsLeft observed Caller (origin_with b compactions) entries (shown calls (engine w));

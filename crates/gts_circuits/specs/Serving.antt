@@ -283,8 +283,9 @@ module _ {P S : Type 0} (observed : Type 0) (calls : P → List Call) (disk say 
     -- synchronisation, or gave as many bytes as one may
     pub went_through : end ≡ Done → incoming.observed → (c : ℕ) → c < length ends
         → (length (now.bytes c).parts ≡ connections) × AreOver c (now.bytes c).parts
-    -- and only where no line failed
+    -- and only where no line failed, nor the disk, nor standard output
     pub unfailed : end ≡ Done → (c : ℕ) → now.faults c ≡ before.faults c
+    pub sound : end ≡ Done → (disk engine.station ≡ b.disk) × (say engine.station ≡ b.say)
 
   -- What came of a run, by the pass and the end. Without a pass nothing was read, written or said.
   abbrev pub IsServed : Option (Known (List Entry)) → ServeEnd → Engine P → Type 0

@@ -53,6 +53,17 @@ module _ {S K : Type 0} (source_tells : Type 0) (begun_by : S → Begun) (left :
   abbrev pub AreClosedUnused : List (Sockets S K) → Type 0
   AreClosedUnused sockets = (c : ℕ) (x : Sockets S K) → get_elem? sockets c ≡ some x → IsClosed c x.source x.sink
 
+-- The first circuits were opened, and the sockets of each were handed back, in the words of sources and of sinks.
+abbrev pub OpensFirst : {S K : Type 0} → SourceMeanings S → SinkMeanings K → (before now : LinesSeen) → List PlaceSeen → ℕ
+    → List (Sockets S K) → ℕ → Type 0
+OpensFirst source sink before now =
+    AreOpened source.observed source.begun source.left source.faults sink.observed sink.written sink.faults before now
+
+abbrev pub Closes : {S K : Type 0} → SourceMeanings S → SinkMeanings K → (before now : LinesSeen) → List (Incoming S) → List (Outgoing K)
+    → Type 0
+Closes source sink before now =
+    AreClosed source.observed source.begun source.left source.faults sink.observed sink.written sink.faults before now
+
 -- ---- ended workers
 
 -- what a source tells that gave up these connections and is in the last one
@@ -152,6 +163,21 @@ module _ {P K : Type 0} (observed : Type 0) (calls : P → List Call) (disk say 
         → SenderStands b sink_tells written sink_faults threads (flat threads ++ drained) c x
     pub nothing : (c : ℕ) (x : Outgoing K) → c < count → get_elem? lines c ≡ some x → x.end ≡ Quiet
         → GivesNothing b c (flat threads ++ drained)
+
+-- What came of one take on c, and of all takes: the sink took the bytes that they gave. In the words of a station and of a sink.
+abbrev pub WritesOnce : {P K : Type 0} → StationMeanings P → SinkMeanings K → Beginning → ℕ → Result Bool SendEnd → (old new : Engine P)
+    → (sink_old sink_new : K) → Type 0
+WritesOnce station sink b c result old new sink_old sink_new =
+    (bytes : List ℕ)
+    × TakesOnce station.observed station.calls station.disk_faults station.say_faults b c bytes result old new
+    × SinkTook sink.observed sink.written sink_old sink_new bytes
+
+abbrev pub WritesAll : {P K : Type 0} → StationMeanings P → SinkMeanings K → Beginning → ℕ → SendEnd → (old new : Engine P)
+    → (sink_old sink_new : K) → Type 0
+WritesAll station sink b c end old new sink_old sink_new =
+    (bytes : List ℕ)
+    × TakesAll station.observed station.calls station.disk_faults station.say_faults b c bytes end old new
+    × SinkTook sink.observed sink.written sink_old sink_new bytes
 
 -- ---- the end of a run
 

@@ -1,6 +1,6 @@
 -- Several takes on one circuit, one behind another in one turn.
 use Rattle.std.specs.Prelude.{◌≡◌, ◌⊎◌, ℕ, ◌+◌, ◌≤◌, Bool, true, false, List, [], ◌∷◌, ◌++◌, length, replicate, Result, Ok, Err}
-use Rattle.gts_circuits.specs.Cited.Below.{Call, DiskFault, Doubt, Draw, Engine, Entry, Event, Frame, GaveAll, GaveNoMore, Idle, Nothing, Outcome, Resend, Stopped, SwitchFault, Taken, after_takes, joined, most_beside, outcome, state_at, takes}
+use Rattle.gts_circuits.specs.Cited.Below.{Call, DiskFault, Doubt, Draw, Engine, Entry, Event, Frame, GaveAll, GaveNoMore, Idle, Nothing, Outcome, Resend, StationMeanings, Stopped, SwitchFault, Taken, after_takes, joined, most_beside, outcome, state_at, takes}
 use Rattle.gts_circuits.specs.Housed.{Beginning, StandsWith, Stands}
 
 -- the frame that a take with this outcome left in a buffer: none where it gave nothing
@@ -57,8 +57,17 @@ pub record LeavesTaken {P : Type 0} (observed : Type 0) (calls : P → List Call
   pub added : AddsTaken b h c frames result more
   pub stands : Stands observed calls disk say b (h ++ more) e
 
--- what is told of the takes of a turn: on which circuit, what they gave, and what was answered
-pub record Taking : Type 0 where
-  pub c : ℕ
-  pub frames : List Frame
-  pub result : Result Bool SwitchFault
+-- Both in the words of a station, whatever the entries are for which the engine stood: takes of a turn, and takes behind others.
+abbrev pub TurnsTaken : {P : Type 0} → StationMeanings P → Beginning → ℕ → List Frame → Result Bool SwitchFault → (old new : Engine P)
+    → Type 0
+TurnsTaken station b c frames result old new =
+    (h : List Entry) → Stands station.observed station.calls station.disk_faults station.say_faults b h old
+    → (more : List Entry)
+    × LeavesTaken station.observed station.calls station.disk_faults station.say_faults b h c frames result new more
+
+abbrev pub GoesOnTaking : {P : Type 0} → StationMeanings P → Beginning → ℕ → List Frame → Bool → Engine P → List Frame → Bool → Engine P
+    → Type 0
+GoesOnTaking station b c frames gave old frames_now gave_now new =
+    (h : List Entry)
+    → HasTaken station.observed station.calls station.disk_faults station.say_faults b h c frames gave old
+    → HasTaken station.observed station.calls station.disk_faults station.say_faults b h c frames_now gave_now new

@@ -1,7 +1,7 @@
 -- What a worker keeps.
 use Rattle.std.specs.Prelude.{◌≡◌, ℕ, ◌+◌, ◌*◌, ◌<◌, ◌≤◌, Bool, true, false, List, [], ◌++◌, length, slice_index_or, Option, Some, None}
 use Rattle.gts_circuits.specs.Housed.{Beginning}
-use Rattle.gts_circuits.specs.Cited.Below.{Begun, Entry, Gives, GoesThrough, Known, LineFault, LineStood, Part, ReceiveEnd, Receives, Rose, Seen, SendEnd, Sends, SourceFault, TableId, WentThroughAll}
+use Rattle.gts_circuits.specs.Cited.Below.{Begun, Entry, Gives, Ghosts as SinkMeanings, GoesThrough, Known, LineFault, LineStood, Part, ReceiveEnd, Receives, Rose, Seen, SendEnd, Sends, SourceFault, SourceMeanings, TableId, WentThroughAll}
 use Rattle.gts_circuits.specs.Turning.{KnowsOwn, seen_by}
 use Rattle.gts_receiver.specs.declared.end.ReceiveEnd.TheVariants.{Ended}
 use Rattle.gts_circuits.specs.declared.workers.line.Line.{Line}
@@ -121,3 +121,8 @@ module _ (b : Beginning) {S K : Type 0} (source_tells : Type 0) (begun_by : S �
   abbrev pub WorkerKeeps : ℕ → TableId → Socket S K → Line S K → Option (Known (List Entry)) → Type 0
   WorkerKeeps c hall first line (Some p) = PassKeeps c hall first line p
   WorkerKeeps c hall first line None = ⊥
+
+-- that of the pass, in the words of sources and of sinks
+abbrev pub HasKept : {S K : Type 0} → Beginning → SourceMeanings S → SinkMeanings K → ℕ → TableId → Socket S K → Line S K
+    → Known (List Entry) → Type 0
+HasKept b source sink = PassKeeps b source.observed source.begun source.left source.faults sink.observed sink.written sink.faults

@@ -9,5 +9,6 @@ pub mod room;
 pub mod running;
 pub mod sockets;
 pub mod staffing;
+pub mod tools;
 pub mod worker;
 pub mod working;

@@ -16,7 +16,7 @@ pub record NewBulletin : Type 0 where
   pub mask : ℕ
 
 abbrev pub bulletin_of : Inside → NewBulletin
-bulletin_of b = record { message = message_weighed b.weighed; mask = b.mask }
+bulletin_of b = record { message = message_weighed b.weighed; mask = b.named }
 
 -- the parts and the digest are those of the message
 pub record IsSplit (b : Inside) : Type 0 where

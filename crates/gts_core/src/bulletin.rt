@@ -1,6 +1,7 @@
 ghost use Rattle.std.specs.Prelude.{◌≡◌, ◌≤◌, Ok, count_ones};
 ghost use Rattle.gts_core.specs.Cited.{IsDigestOf, Reads, digest_of, fields_of, message_weighed, parts_of, split_at};
 
+use gts_directory::CircuitSet;
 use gts_heading::MessageField;
 use gts_message::{Message, SplitMessage};
 use std::marker::Model;
@@ -33,7 +34,7 @@ pub struct Bulletin<'m> {
     weighed: Weighed<'m>,
     parts: SplitMessage<'m>,
     digest: [u8; 32],
-    mask: u64,
+    named: CircuitSet,
 }
 
 impl<'m> Model for Bulletin<'m> {
@@ -47,23 +48,23 @@ impl<'m> Model for Bulletin<'m> {
 }
 
 impl<'m> Bulletin<'m> {
-    /// What was weighed, as a new bulletin for the circuits of a mask.
+    /// What was weighed, as a new bulletin for these circuits.
     pub(crate) fn new(
         weighed: Weighed<'m>,
         parts: SplitMessage<'m>,
         digest: [u8; 32],
-        mask: u64,
+        named: CircuitSet,
     ) -> Bulletin<'m>
         requires read { split_at (message_weighed weighed) ≡ Ok (parts_of parts) }
         requires digest { digest ≡ digest_of (fields_of parts.heading) parts.text.now }
         ensures message { result.message ≡ message_weighed weighed.entry }
-        ensures mask { result.mask ≡ mask }
+        ensures mask { result.mask ≡ named }
     {
         Bulletin {
             weighed,
             parts,
             digest,
-            mask,
+            named,
         }
     }
 
@@ -81,11 +82,11 @@ impl<'m> Bulletin<'m> {
         self.digest
     }
 
-    /// The circuits that it is for, as the bits of a mask.
-    pub fn mask(&self) -> u64
+    /// The circuits that it is for.
+    pub fn named(&self) -> CircuitSet
         ensures { result ≡ self.now.mask }
     {
-        self.mask
+        self.named
     }
 
     /// For how many circuits it is.
@@ -93,6 +94,6 @@ impl<'m> Bulletin<'m> {
         ensures count { result ≡ count_ones self.now.mask }
         ensures few { result ≤ 64 }
     {
-        self.mask.count_ones()
+        self.named.count()
     }
 }

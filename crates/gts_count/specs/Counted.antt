@@ -18,6 +18,7 @@ meanings_by parts meanings = record {
   gathers = λ o entries events w. meanings.gathers o entries events (parts w).switch
       × (let d : Directory = meanings.directory (parts w).switch in
       Counts d (after_all d (state_at meanings (parts w).switch o entries) (all_done events)) entries (parts w).counting);
+  few = λ o entries events w gathered. meanings.few o entries events (parts w).switch gathered.0;
   is_full = meanings.is_full;
   compacts = meanings.compacts;
   left = λ o h w. meanings.left o h (parts w).switch;

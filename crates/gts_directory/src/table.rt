@@ -6,8 +6,8 @@ ghost use Rattle.gts_directory.specs.Cited.{All, bit_at, fields_of};
 ghost use Rattle.gts_directory.specs.Routing as routing;
 ghost use Rattle.gts_directory.specs.Table as table;
 
-use crate::RuleRow;
 use crate::patterns::ANY;
+use crate::{CircuitSet, RuleRow};
 use gts_alphabet::{NoMemory, digits_of};
 use gts_heading::Heading;
 use std::alloc::Global;
@@ -82,19 +82,19 @@ impl RuleTable {
     }
 
     /// The circuits of all rules that match a heading.
-    pub(crate) fn routed(&self, heading: &Heading) -> u64
+    pub(crate) fn routed(&self, heading: &Heading) -> CircuitSet
         ensures { (k : ℕ) →
             bit_at result k ≡ routing.bit (routing.has_bit self.now (fields_of heading.now) k) }
     {
         let cells = cells_of(heading);
-        let mut mask = 0;
+        let mut set = CircuitSet::NONE;
         for (number, block) in self.blocks.iter().enumerate() {
             let fits = fitting(block, &cells);
             if fits != 0 {
-                mask |= joined(&self.rows[BLOCK_RULES * number..], fits);
+                set = set.union(joined(&self.rows[BLOCK_RULES * number..], fits));
             }
         }
-        mask
+        set
     }
 }
 
@@ -192,16 +192,16 @@ fn meet(block: &Block, cells: &[usize], rules: u64) -> u64
 }
 
 /// The circuits of the rules whose bits are set.
-fn joined(rules: &[RuleRow], fits: u64) -> u64
+fn joined(rules: &[RuleRow], fits: u64) -> CircuitSet
     requires { fits < 2 ^ length rules.now }
     ensures { (k : ℕ) → bit_at result k ≡ table.joined rules.now fits k }
 {
-    let mut mask = 0;
+    let mut set = CircuitSet::NONE;
     let mut left = fits;
     while left != 0 {
         let rule = left.trailing_zeros() as usize;
-        mask |= rules[rule].to;
+        set = set.union(rules[rule].to);
         left -= 1 << rule;
     }
-    mask
+    set
 }

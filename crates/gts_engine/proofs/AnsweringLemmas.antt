@@ -1,19 +1,39 @@
 -- Calls over the parts of an engine: room is made, an event enters, and it is told.
-use Rattle.std.proofs.Common.{◌≡◌, ◌≤◌, ◌++◌, ◌∷◌, if◌then◌else◌, Bool, true, false, inl, inr, ℕ, List, [], Option, Some, None, Result, Ok, Err, refl, sym, ap, subst, ◌∙◌, arith, IfErr, IfOk, OnOk, slice_index_or, ◌<◌}
-use Rattle.gts_engine.specs.Cited.{AnswersIn, Call, Core, Device, Directory, DiskFault, Engine, EngineParts, Event, Full, HasCallCause, HasEntered, HasTold, Holds, IsAnswered, IsDeviceFault, IsSound, LeavesCall, MayHaveSettled, NoMemory, Outcome, Outside, Rose, SayFault, SayMode, Spent, State, Stopped, SwitchFault, by_station, engine_of, held_pieces, joined, meanings_of, most_drawn, on, outcome, spoken, stopped_after}
+use Rattle.std.proofs.Common.{◌≡◌, ◌≤◌, ◌++◌, ◌∷◌, if◌then◌else◌, Bool, true, false, inl, inr, ℕ, List, [], length, Option, Some, None, Result, Ok, Err, refl, sym, ap, subst, ◌∙◌, arith, IfErr, IfNone, IfOk, IfSome, OnOk, slice_index_or, ◌<◌}
+use Rattle.gts_engine.specs.Cited.{AnswersIn, Call, Core, Device, Directory, DiskFault, Engine, EngineParts, Event, Full, HasCallCause, HasEntered, HasTold, Holds, IsAnswered, IsDeviceFault, IsSound, LeavesCall, MOST_TOGETHER, MayHaveSettled, NoMemory, Outcome, Outside, Rose, SayFault, SayMode, Spent, State, Stopped, SwitchFault, by_station, bytes_wanted, engine_of, held_pieces, joined, meanings_of, most_drawn, on, outcome, spoken, stopped_after}
 use Rattle.gts_engine.proofs.TurnLemmas.{goes_on}
 use Rattle.gts_engine.proofs.AnswerLemmas.{EachHeld, answered, stopped_leaves}
 use Rattle.gts_engine.proofs.GatherLemmas.{fails_after}
 use Rattle.gts_engine.proofs.SettlingLemmas.{drawn_settled}
 use Rattle.gts_engine.proofs.StepLemmas.{part_directory, part_station, part_core, part_stopped, part_used, part_held, told_well, told_badly, told_sound, untold}
 
--- the causes of two calls, one after another, of which the first was done
-pub cause_then : {S T : Type 0} (first : Result S SwitchFault) (result : Result T SwitchFault) (a b c x y z : ℕ) → HasCallCause first a b x y → HasCallCause result b c y z → HasCallCause result a c x z
-cause_then first result a b c x y z p q = record {
+-- a call whose answer tells of no device that failed
+abbrev pub NoDevice : {T : Type 0} → Result T SwitchFault → Type 0
+NoDevice r = (r ≡ Err DiskFault → ⊥) × (r ≡ Err SayFault → ⊥)
+
+-- one that was done
+pub no_device_done : {T : Type 0} (r : Result T SwitchFault) (done : T) → r ≡ Ok done → NoDevice r
+no_device_done {T} r done ok = (never DiskFault, never SayFault)
+  where
+    never : (f : SwitchFault) → r ≡ Err f → ⊥
+    never f e = let no : ◌≡◌ {A = Result T SwitchFault} (Ok done) (Err f) = sym ok ∙ e in cc no
+
+-- one that found the journal full
+pub no_device_full : (r : Result Outcome SwitchFault) (bytes : ℕ) → bytes_wanted r ≡ Some bytes → NoDevice r
+no_device_full r bytes wanted = (never DiskFault refl, never SayFault refl)
+  where
+    never : (f : SwitchFault) → bytes_wanted (Err f) ≡ None → r ≡ Err f → ⊥
+    never f none e = let no : None ≡ Some bytes = sym none ∙ sym (ap bytes_wanted e) ∙ wanted in cc no
+
+-- the causes of two calls, one after another, of which the first tells of no device
+pub cause_then : {S T : Type 0} (first : Result S SwitchFault) (result : Result T SwitchFault) (a b c x y z : ℕ) → NoDevice first → HasCallCause first a b x y → HasCallCause result b c y z → HasCallCause result a c x z
+cause_then first result a b c x y z none p q = record {
   disk_later = omega (arith, p.disk_later, q.disk_later);
   disk_failed = λ e. omega (arith, p.disk_later, q.disk_failed e);
+  disk_still = λ no. q.disk_still no ∙ p.disk_still none.0;
   say_later = omega (arith, p.say_later, q.say_later);
   say_failed = λ e. omega (arith, p.say_later, q.say_failed e);
+  say_still = λ no. q.say_still no ∙ p.say_still none.1;
 }
 
 module _ {P : Type 0} (observed : Type 0) (calls : P → List Call) (disk say : P → ℕ) (result : Result (Unit {0}) SwitchFault) (old mid : EngineParts P) where
@@ -53,8 +73,10 @@ module _ {P : Type 0} (observed : Type 0) (calls : P → List Call) (disk say : 
   unfailed ok = record {
     disk_later = omega arith;
     disk_failed = λ e. absurd (let no : ◌≡◌ {A = Result (Unit {0}) SwitchFault} (Ok tt) (Err DiskFault) = sym ok ∙ e in cc no);
+    disk_still = λ no. refl;
     say_later = omega arith;
     say_failed = λ e. absurd (let no : ◌≡◌ {A = Result (Unit {0}) SwitchFault} (Ok tt) (Err SayFault) = sym ok ∙ e in cc no);
+    say_still = λ no. refl;
   }
 
   pub may_cause : MayHaveSettled observed calls disk say result old mid → HasCallCause result (disk old.station) (disk mid.station) (say old.station) (say mid.station)
@@ -91,35 +113,52 @@ pub cause_alike : {S T : Type 0} (result : Result S SwitchFault) (f : SwitchFaul
 cause_alike {S} {T} result f a b x y failed c = record {
   disk_later = c.disk_later;
   disk_failed = λ e. c.disk_failed (failed ∙ by_fault DiskFault e);
+  disk_still = λ no. c.disk_still (λ e. no (back DiskFault e));
   say_later = c.say_later;
   say_failed = λ e. c.say_failed (failed ∙ by_fault SayFault e);
+  say_still = λ no. c.say_still (λ e. no (back SayFault e));
 }
   where
     by_fault : (w : SwitchFault) → (let r : Result T SwitchFault = Err f in r) ≡ Err w → (let r : Result S SwitchFault = Err f in r) ≡ Err w
     by_fault w e = let same : f ≡ w = cc e in (let E : SwitchFault → Result S SwitchFault = λ g. Err g in ap E same)
 
+    back : (w : SwitchFault) → result ≡ Err w → (let r : Result T SwitchFault = Err f in r) ≡ Err w
+    back w e =
+        let both : ◌≡◌ {A = Result S SwitchFault} (Err f) (Err w) = sym failed ∙ e in
+        let same : f ≡ w = cc both in
+        let E : SwitchFault → Result T SwitchFault = λ g. Err g in
+        ap E same
+
 -- an answer that is no fault has no cause
 pub cause_none : {S T : Type 0} (first : Result S SwitchFault) (done : S) (answer : T) (a b x y : ℕ) → first ≡ Ok done → HasCallCause first a b x y → HasCallCause (let r : Result T SwitchFault = Ok answer in r) a b x y
-cause_none first done answer a b x y ok c = record {
-  disk_later = c.disk_later;
-  disk_failed = λ e. absurd (cc e);
-  say_later = c.say_later;
-  say_failed = λ e. absurd (cc e);
-}
+cause_none first done answer a b x y ok c =
+    let none = no_device_done first done ok in
+    record {
+      disk_later = c.disk_later;
+      disk_failed = λ e. absurd (cc e);
+      disk_still = λ no. c.disk_still none.0;
+      say_later = c.say_later;
+      say_failed = λ e. absurd (cc e);
+      say_still = λ no. c.say_still none.1;
+    }
 
 -- the cause of what was told
-told_cause : (r : Result (Unit {0}) SwitchFault) (a b x y : ℕ) → IfErr r (λ fault. (fault ≡ SayFault) × Rose x y) → x ≤ y → b ≡ a → HasCallCause r a b x y
-told_cause (Ok done) a b x y fault later same = record {
+told_cause : (r : Result (Unit {0}) SwitchFault) (a b x y : ℕ) → IfErr r (λ fault. (fault ≡ SayFault) × Rose x y) → x ≤ y → OnOk r (y ≡ x) → b ≡ a → HasCallCause r a b x y
+told_cause (Ok done) a b x y fault later still same = record {
   disk_later = omega (arith, same);
   disk_failed = λ e. absurd (cc e);
+  disk_still = λ no. same;
   say_later = later;
   say_failed = λ e. absurd (cc e);
+  say_still = λ no. still;
 }
-told_cause (Err f) a b x y fault later same = record {
+told_cause (Err f) a b x y fault later still same = record {
   disk_later = omega (arith, same);
   disk_failed = λ e. absurd (let is : f ≡ SayFault = fault.0 in let no : f ≡ DiskFault = cc e in let bad : SayFault ≡ DiskFault = sym is ∙ no in cc bad);
+  disk_still = λ no. same;
   say_later = later;
   say_failed = λ e. fault.1;
+  say_still = λ no. absurd (no (let E : SwitchFault → Result (Unit {0}) SwitchFault = λ g. Err g in ap E fault.0));
 }
 
 module _ {P : Type 0} (observed : Type 0) (calls : P → List Call) (disk say : P → ℕ) (first old : EngineParts P) (cleared : Result (Unit {0}) SwitchFault)
@@ -182,8 +221,9 @@ module _ {P : Type 0} (observed : Type 0) (calls : P → List Call) (disk say : 
 
         cause_all : HasCallCause r (disk first.station) (disk new.station) (say first.station) (say new.station)
         cause_all =
-            cause_then cleared r (disk first.station) (disk mid.station) (disk new.station) (say first.station) (say mid.station) (say new.station) cause_mid
-            (told_cause r (disk mid.station) (disk new.station) (say mid.station) (say new.station) told.fault told.later told.disk_stays)
+            cause_then cleared r (disk first.station) (disk mid.station) (disk new.station) (say first.station) (say mid.station) (say new.station)
+            (no_device_done cleared tt ok) cause_mid
+            (told_cause r (disk mid.station) (disk new.station) (say mid.station) (say new.station) told.fault told.later told.sound told.disk_stays)
 
         pub answers_told : r ≡ Ok tt → AnswersIn observed calls disk say mode event (Ok result) first new
         answers_told done = record {
@@ -217,10 +257,10 @@ module _ {P : Type 0} (observed : Type 0) (calls : P → List Call) (disk say : 
 
       -- or nothing is said of it
       module _ (new : EngineParts P) (rest : new ≡ record mid { held = new.held }) (same : (engine_of mid).gathered ≡ false → new ≡ mid) (held : (engine_of new).held ≡ (if (engine_of mid).gathered then (engine_of mid).held ++ [] ∷ [] else (engine_of mid).held))
-          (silent : EachHeld observed calls mode event (engine_of old) (λ d s. by_station mode (spoken d s event) ≡ [])) where
+          (few : length (engine_of new).held ≤ MOST_TOGETHER) (silent : EachHeld observed calls mode event (engine_of old) (λ d s. by_station mode (spoken d s event) ≡ [])) where
         pub answers_untold : AnswersIn observed calls disk say mode event (Ok result) first new
         answers_untold = record {
-          called = untold observed calls disk say mode event first old mid new going_old cleared ok clears result enters enters.entered.stopped rest held silent;
+          called = untold observed calls disk say mode event first old mid new going_old cleared ok clears result enters enters.entered.stopped rest held few silent;
           outcome = outcome_first;
           directory = ap part_directory rest ∙ directory_all;
           sound = sound_untold (engine_of mid).gathered refl;
@@ -255,6 +295,15 @@ module _ {P : Type 0} (observed : Type 0) (calls : P → List Call) (disk say : 
                 let here : (engine_of new).held ≡ (engine_of mid).held ++ [] ∷ [] = subst H gathered held in
                 ap joined (here ∙ ap (λ (l : List Outside). l ++ [] ∷ []) none_held)
             by_cases false none = ap joined (ap part_held (same none) ∙ none_held)
+
+-- no count of faults changes where what is answered can't fail, or nothing is done
+pub still_counts : {P : Type 0} (observed : Type 0) (calls : P → List Call) (disk say : P → ℕ) (mode : SayMode) (event : Event) (result : Option Outcome) (old new : EngineParts P) → IfNone result (new ≡ old)
+    → IfSome result (λ o. AnswersIn observed calls disk say mode event (Ok o) old new) → (disk new.station ≡ disk old.station) × (say new.station ≡ say old.station)
+still_counts {P} observed calls disk say mode event None old new same answered = (ap (λ (p : EngineParts P). disk p.station) same, ap (λ (p : EngineParts P). say p.station) same)
+still_counts observed calls disk say mode event (Some o) old new same answered =
+    let r : Result Outcome SwitchFault = Ok o in
+    let none = no_device_done r o refl in
+    (answered.cause.disk_still none.0, answered.cause.say_still none.1)
 
 -- ---- the same in the words of a switch
 

@@ -2,7 +2,7 @@
 use Rattle.std.proofs.Common.{◌≡◌, ℕ, suc, ◌+◌, ◌≤◌, true, false, List, [], ◌∷◌, ◌++◌, length, Option, Some, Ok, None, refl, sym, ap, subst, ◌∙◌, arith, length-append, IfNone, IfSome}
 use Rattle.gts_engine.specs.Cited.{Alone, AnswersIn, AreGathered, AtOnce, Behind, Call, Caller, Directory, EngineParts, Entry, Event, Gathers, GathersOne, Holds, IsOneMore, Origin, Outcome, Outside, Record, SayMode, Shown, State, Taken, TakesBehind, after, engine_of, gathered_after, joined, meanings_of, outcome as outcome_of, pieces, shown, state_at, state_behind}
 
-length_pieces : (mode : SayMode) (d : Directory) (s : State) (events : List Event) → length (pieces mode d s events) ≡ length events
+pub length_pieces : (mode : SayMode) (d : Directory) (s : State) (events : List Event) → length (pieces mode d s events) ≡ length events
 length_pieces mode d s [] = refl
 length_pieces mode d s (e ∷ events) = ap suc (length_pieces mode d (after d s e) events)
 

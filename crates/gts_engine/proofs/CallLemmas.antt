@@ -2,7 +2,7 @@
 use Rattle.std.proofs.Common.{◌≡◌, ℕ, List, Option, Some, None, Result, Ok, Err, refl, sym, ap, subst, ◌∙◌, IfErr, IfSome}
 use Rattle.gts_engine.specs.Cited.{Call, Device, DiskFault, Engine, Event, Full, HasCallCause, IsAnswered, IsCalled, IsDeviceFault, IsIdleAnswer, IsSettling, NoMemory, Outcome, SayFault, SayMode, Spent, Stopped, SwitchFault, meanings_of, stopped_after}
 use Rattle.gts_engine.proofs.AnswerLemmas.{called_failed, called_unsettled, called_done}
-use Rattle.gts_engine.proofs.AnsweringLemmas.{cause_then, cause_alike, cause_none}
+use Rattle.gts_engine.proofs.AnsweringLemmas.{NoDevice, cause_then, cause_alike, cause_none}
 
 -- the fault of a device stops by whatever call it was answered, whatever stopped before
 pub device_stops : (S T : Type 0) (fault : SwitchFault) (before other : Option Device) → IsDeviceFault fault → stopped_after before (let r : Result S SwitchFault = Err fault in r) ≡ stopped_after other (let r : Result T SwitchFault = Err fault in r)
@@ -70,12 +70,12 @@ module _ (before between after : Option Device) (first : Result Outcome SwitchFa
   pub stops_done : (answer : Outcome) → first ≡ Ok answer → settled ≡ Ok tt → after ≡ stopped_after before (let r : Result Outcome SwitchFault = Ok answer in r)
   stops_done answer ok is = two ∙ ap (stopped_after between) is ∙ one ∙ ap (stopped_after before) ok
 
-module _ (first : Result Outcome SwitchFault) (settled : Result (Unit {0}) SwitchFault) (a b c x y z : ℕ) (one : HasCallCause first a b x y) (two : HasCallCause settled b c y z) where
+module _ (first : Result Outcome SwitchFault) (settled : Result (Unit {0}) SwitchFault) (a b c x y z : ℕ) (one : HasCallCause first a b x y) (two : HasCallCause settled b c y z) (none : NoDevice first) where
   pub cause_behind : (fault : SwitchFault) → settled ≡ Err fault → HasCallCause (let r : Result Outcome SwitchFault = Err fault in r) a c x z
-  cause_behind fault is = cause_alike settled fault a c x z is (cause_then first settled a b c x y z one two)
+  cause_behind fault is = cause_alike settled fault a c x z is (cause_then first settled a b c x y z none one two)
 
   pub cause_done : (answer : Outcome) → settled ≡ Ok tt → HasCallCause (let r : Result Outcome SwitchFault = Ok answer in r) a c x z
-  cause_done answer is = cause_none settled tt answer a c x z is (cause_then first settled a b c x y z one two)
+  cause_done answer is = cause_none settled tt answer a c x z is (cause_then first settled a b c x y z none one two)
 
 -- ---- one that stopped
 

@@ -1,9 +1,10 @@
 -- One event more is gathered: what an engine keeps then, and what a call leaves.
-use Rattle.std.proofs.Common.{◌≡◌, ◌⊎◌, ◌+◌, ◌≤◌, true, false, inl, inr, ℕ, Bool, List, [], ◌∷◌, ◌++◌, Option, None, Result, Ok, Err, refl, sym, ap, subst, ◌∙◌, arith}
-use Rattle.gts_engine.specs.Cited.{AfterCall, AfterSettling, Alone, AreGathered, AtOnce, Behind, Call, Device, Directory, DiskFault, Done, Engine, EngineParts, Enters, Entry, Event, Full, Gathers, GathersOne, HasFailed, HasFewDraws, Holds, IsOneMore, Keeps, Leaving, MayHaveSettled, NoMemory, Origin, Outcome, Outside, Record, SayFault, SayMode, Shown, Spent, Standing, State, Stopped, SwitchFault, after, after_all, all_done, by_station, draws_among, draws_in, engine_of, event_record, gathered_after, meanings_of, outcome, pieces, record_bytes, shown, shows, slice_index_or, spoken, state_at, state_behind, used_at, used_behind}
+use Rattle.std.proofs.Common.{◌≡◌, ◌⊎◌, ◌+◌, ◌≤◌, true, false, inl, inr, ℕ, Bool, List, [], ◌∷◌, ◌++◌, length, Option, None, Result, Ok, Err, refl, sym, ap, subst, ◌∙◌, arith}
+use Rattle.gts_engine.specs.Cited.{AfterCall, AfterSettling, Alone, AreGathered, AtOnce, Behind, Call, Device, Directory, DiskFault, Done, Engine, EngineParts, Enters, Entry, Event, Full, Gathers, GathersOne, HasFailed, HasFewDraws, Holds, IsOneMore, Keeps, Leaving, MOST_TOGETHER, MayHaveSettled, NoMemory, Origin, Outcome, Outside, Record, SayFault, SayMode, Shown, Spent, Standing, State, Stopped, SwitchFault, after, after_all, all_done, by_station, draws_among, draws_in, engine_of, event_record, gathered_after, meanings_of, outcome, pieces, record_bytes, shown, shows, slice_index_or, spoken, state_at, state_behind, used_at, used_behind}
 use Rattle.std.proofs.lemmas.List.{append-nil}
 use Rattle.gts_event.proofs.LawLemmas.{after_all-append}
 use Rattle.gts_engine.proofs.SettleLemmas.{done_append}
+use Rattle.gts_engine.proofs.BehindLemmas.{length_pieces}
 
 -- ---- one event more
 
@@ -42,22 +43,25 @@ module _ (observed : Type 0) (mode : SayMode) (o : Origin) (h : List Entry) (eve
 
   -- it is gathered, and what is said of it held
   pub gathers_more : (new : Shown) (piece : Outside) → new ≡ record mid { held = new.held } → mid.gathered ≡ true → new.held ≡ old.held ++ piece ∷ [] → by_station mode (spoken o.directory s event) ≡ piece → HasFewDraws o.directory mid.drawn
-      → Gathers observed mode o h (events ++ event ∷ []) new
-  gathers_more new piece rest gathered held says few =
+      → length new.held ≤ MOST_TOGETHER → Gathers observed mode o h (events ++ event ∷ []) new
+  gathers_more new piece rest gathered held says few most =
       let d : Directory = o.directory in
       let holds : Holds d old.core s = kept.core going in
       let P : Shown → Type 0 = λ e. Gathers observed mode o h (events ++ event ∷ []) e in
       let counted : (c : ℕ) → draws_among d (state_at o h) c (events ++ event ∷ []) ≤ slice_index_or mid.drawn c 0 = λ c.
       omega (arith, draws_append d (state_at o h) c events event, kept.drawn c, enters.drawn s holds c) in
+      let all_held : new.held ≡ pieces mode d (state_at o h) (events ++ event ∷ []) =
+      held ∙ ap (λ (ps : List Outside). ps ++ piece ∷ []) kept.held ∙ ap (λ (x : Outside). pieces mode d (state_at o h) events ++ x ∷ []) (sym says)
+      ∙ sym (pieces_append mode d (state_at o h) events event) in
       subst P (sym rest) (record {
         directory = enters.directory ∙ kept.directory;
         core = λ e. subst (Holds d mid.core) (sym (behind_append o h events event)) (enters.step.after s holds);
         used = λ e. enters.used s holds ∙ ap (λ (n : ℕ). n + record_bytes event (outcome d s event)) (kept.used going) ∙ sym (used_append d (state_at o h) (used_at o h) events event);
         gathered = gathered_one old (record mid { held = new.held }) d (state_at o h) events event kept.gathered (enters.gathered s holds) gathered enters.stopped;
-        held = held ∙ ap (λ (ps : List Outside). ps ++ piece ∷ []) kept.held ∙ ap (λ (x : Outside). pieces mode d (state_at o h) events ++ x ∷ []) (sym says)
-            ∙ sym (pieces_append mode d (state_at o h) events event);
+        held = all_held;
         drawn = counted;
         few = λ c. omega (arith, counted c, few c);
+        most = omega (arith, most, ap length all_held, length_pieces mode d (state_at o h) (events ++ event ∷ []));
         failed = (let F : Option Device → Type 0 = λ x. HasFailed x h in subst F (going ∙ sym enters.stopped) kept.failed);
         once = kept.once;
         anchors = kept.anchors;

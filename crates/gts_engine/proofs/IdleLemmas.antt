@@ -8,7 +8,7 @@ use Rattle.gts_engine.proofs.TurnLemmas.{idle}
 use Rattle.gts_engine.proofs.MarkedLemmas.{state_behind_marked}
 use Rattle.gts_engine.proofs.AnswerLemmas.{EachHeld, at_state}
 use Rattle.gts_engine.proofs.StepLemmas.{part_directory, part_station, part_stopped, part_used, part_gathered}
-use Rattle.gts_engine.proofs.AnsweringLemmas.{answers_uncleared}
+use Rattle.gts_engine.proofs.AnsweringLemmas.{NoDevice, answers_uncleared, no_device_done}
 use Rattle.gts_engine.proofs.HearingLemmas.{room_stops}
 
 -- a core that keeps what another holds
@@ -21,6 +21,7 @@ gathers_kept observed mode o h events e core keeps kept = record {
   held = kept.held;
   drawn = kept.drawn;
   few = kept.few;
+  most = kept.most;
   failed = kept.failed;
   once = kept.once;
   anchors = kept.anchors;
@@ -122,13 +123,27 @@ only_settled observed calls disk say old mid new rest keeps settled settles ok =
 }
 
 -- a fault that tells of no device has no cause there
-no_device : (fault : SwitchFault) (r : Result (Unit {0}) SwitchFault) (a b x y : ℕ) → IsRoomFault fault → HasCallCause r a b x y → HasCallCause (let e : Result Outcome SwitchFault = Err fault in e) a b x y
-no_device (Full at wanted limit) r a b x y is c = record { disk_later = c.disk_later; disk_failed = λ e. absurd (cc e); say_later = c.say_later; say_failed = λ e. absurd (cc e) }
-no_device NoMemory r a b x y is c = record { disk_later = c.disk_later; disk_failed = λ e. absurd (cc e); say_later = c.say_later; say_failed = λ e. absurd (cc e) }
-no_device DiskFault r a b x y is c = absurd is
-no_device SayFault r a b x y is c = absurd is
-no_device (Stopped by) r a b x y is c = absurd is
-no_device Spent r a b x y is c = absurd is
+pub no_device : {T : Type 0} (fault : SwitchFault) (r : Result T SwitchFault) (a b x y : ℕ) → IsRoomFault fault → NoDevice r → HasCallCause r a b x y → HasCallCause (let e : Result Outcome SwitchFault = Err fault in e) a b x y
+no_device (Full at wanted limit) r a b x y is none c = record {
+  disk_later = c.disk_later;
+  disk_failed = λ e. absurd (cc e);
+  disk_still = λ no. c.disk_still none.0;
+  say_later = c.say_later;
+  say_failed = λ e. absurd (cc e);
+  say_still = λ no. c.say_still none.1;
+}
+no_device NoMemory r a b x y is none c = record {
+  disk_later = c.disk_later;
+  disk_failed = λ e. absurd (cc e);
+  disk_still = λ no. c.disk_still none.0;
+  say_later = c.say_later;
+  say_failed = λ e. absurd (cc e);
+  say_still = λ no. c.say_still none.1;
+}
+no_device DiskFault r a b x y is none c = absurd is
+no_device SayFault r a b x y is none c = absurd is
+no_device (Stopped by) r a b x y is none c = absurd is
+no_device Spent r a b x y is none c = absurd is
 
 module _ {P : Type 0} (observed : Type 0) (calls : P → List Call) (disk say : P → ℕ) (mode : SayMode) (event : Event) (old mid new : EngineParts P) (rest : mid ≡ record old { core = mid.core }) (keeps : KeepsCore old.core mid.core) where
   -- what is answered behind it is answered
@@ -171,5 +186,5 @@ module _ {P : Type 0} (observed : Type 0) (calls : P → List Call) (disk say : 
       stops = settles.stops ∙ ap (stopped_after mid.stopped) ok ∙ ap part_stopped rest ∙ sym (room_stops fault old.stopped is);
       cause =
           subst (λ (p : P). HasCallCause (let e : Result Outcome SwitchFault = Err fault in e) (disk p) (disk new.station) (say p) (say new.station)) (ap part_station rest)
-          (no_device fault settled (disk mid.station) (disk new.station) (say mid.station) (say new.station) is settles.cause);
+          (no_device fault settled (disk mid.station) (disk new.station) (say mid.station) (say new.station) is (no_device_done settled tt ok) settles.cause);
     }

@@ -1,6 +1,6 @@
 -- Pieces that are held, said one behind the other, over the parts of an engine.
-use Rattle.std.proofs.Common.{◌≡◌, ◌<◌, ◌≤◌, ◌+◌, ℕ, List, [], ◌∷◌, ◌++◌, length, take, drop, Result, Ok, Err, refl, sym, ap, subst, ◌∙◌, arith, add-one, take_all}
-use Rattle.gts_engine.specs.Cited.{BringsAndSays, Call, Directory, DiskFault, EachSince, EngineParts, FailsAt, Gathered, HasBrought, InHand, MayBring, OnlyBrought, OnlySaid, OpensAlong, Outside, SaidSince, Saying, Sayings, SaysHeld, StandsFor, StandsUnlessDisk, State, SwitchFault, TriesPiece, after_records, held_pieces, joined, pieces_of, said_by, slice_index_or}
+use Rattle.std.proofs.Common.{◌≡◌, ◌<◌, ◌≤◌, ◌+◌, ℕ, List, [], ◌∷◌, ◌++◌, length, take, drop, Result, Ok, Err, refl, sym, ap, subst, ◌∙◌, arith, add-one, length-append, take_all}
+use Rattle.gts_engine.specs.Cited.{BringsAndSays, Call, Directory, DiskFault, EachSince, EngineParts, FailsAt, Gathered, HasBrought, HasRoom, InHand, MOST_TOGETHER, MayBring, OnlyBrought, OnlySaid, OpensAlong, Outside, SaidSince, Saying, Sayings, SaysHeld, StandsFor, StandsUnlessDisk, State, SwitchFault, TriesPiece, after_records, held_pieces, joined, pieces_of, said_by, slice_index_or}
 use Rattle.gts_engine.proofs.PieceLemmas.{piece_stands, piece_moments, failed_part, piece_said, nothing_yet, brought_only, brought_then}
 use Rattle.gts_traits.proofs.LawLemmas.{SaidSince-refl}
 
@@ -18,6 +18,13 @@ pub pieces_length : (each : List Saying) (bytes : List ℕ) → length (pieces_o
 pieces_length [] bytes = refl
 pieces_length (s ∷ each) bytes = omega (arith, pieces_length each (drop s.size bytes))
 
+-- few pieces are held where there is room for one more, and with that too
+pub few_held : (h : Sayings) (n : ℕ) (held : List Outside) → HasRoom h n → held ≡ held_pieces h → length held ≤ MOST_TOGETHER
+few_held h n held room is = omega (arith, room.0, ap length is, pieces_length h.each h.bytes)
+
+pub few_more : (h : Sayings) (n : ℕ) (piece : Outside) (held : List Outside) → HasRoom h n → held ≡ held_pieces h ++ piece ∷ [] → length held ≤ MOST_TOGETHER
+few_more h n piece held room is = omega (arith, room.0, ap length is, length-append (held_pieces h) (piece ∷ []), pieces_length h.each h.bytes)
+
 -- the pieces before one of them were said, over the parts
 pub record SaysUpTo {P : Type 0} (observed : Type 0) (calls : P → List Call) (disk say : P → ℕ) (first : EngineParts P) (i : ℕ) (now : EngineParts P) : Type 0 where
   pub rest : OnlySaid first now
@@ -26,7 +33,7 @@ pub record SaysUpTo {P : Type 0} (observed : Type 0) (calls : P → List Call) (
   pub moments : observed → (s : State) → StandsFor first.directory s (calls first.station) first.journal
       → EachSince (calls first.station) (calls now.station) (OpensAlong first.directory s (joined (held_pieces first.held)))
   pub stands : observed → (s : State) → StandsFor first.directory s (calls first.station) first.journal → StandsFor first.directory s (calls now.station) first.journal
-  pub later : say first.station ≤ say now.station
+  pub still : say now.station ≡ say first.station
   pub disk_stays : disk now.station ≡ disk first.station
 
 module _ {P : Type 0} (observed : Type 0) (calls : P → List Call) (disk say : P → ℕ) (first : EngineParts P) where
@@ -40,7 +47,7 @@ module _ {P : Type 0} (observed : Type 0) (calls : P → List Call) (disk say : 
     said = λ tell. SaidSince-refl (calls first.station);
     moments = λ tell s stands. nothing_yet first.directory (held_pieces first.held) (calls first.station) first.journal s stands;
     stands = λ tell s stands. stands;
-    later = omega arith;
+    still = refl;
     disk_stays = refl;
   }
 
@@ -81,15 +88,15 @@ module _ {P : Type 0} (observed : Type 0) (calls : P → List Call) (disk say : 
         subst R up.rest rest
 
     -- one piece more
-    pub one_further : (x : T) → result ≡ Ok x → new.stopped ≡ mid.stopped → SaysUpTo observed calls disk say first (i + 1) new
-    one_further x ok going = record {
+    pub one_further : (x : T) → result ≡ Ok x → new.stopped ≡ mid.stopped → say new.station ≡ say mid.station → SaysUpTo observed calls disk say first (i + 1) new
+    one_further x ok going still = record {
       rest = only;
       going = going ∙ up.going;
       said = λ tell. subst (λ (n : ℕ). SaidSince (calls first.station) (calls new.station) (joined (take n (held_pieces first.held)))) (sym (add-one i))
           (piece_said (held_pieces first.held) (calls first.station) (calls mid.station) (calls new.station) i within_pieces (up.said tell) result x ok (tries tell));
       moments = moments_now;
       stands = stands_now;
-      later = omega (arith, up.later, later);
+      still = still ∙ up.still;
       disk_stays = same_disk ∙ up.disk_stays;
     }
 

@@ -89,7 +89,7 @@ OnlySaid old new = new ≡ record old { station = new.station; stopped = new.sto
 
 -- what a journal's opening costs of the counts of faults
 abbrev pub HasOpenCause : {P : Type 0} → (disk say : P → ℕ) → P → Result (Engine P) (P × OpenFault) → Type 0
-HasOpenCause disk say before (Ok e) = (disk before ≤ disk e.station) × (say e.station ≡ say before)
+HasOpenCause disk say before (Ok e) = (disk e.station ≡ disk before) × (say e.station ≡ say before)
 HasOpenCause disk say before (Err e) = (disk before ≤ disk e.0) × (e.1 ≡ DiskFault → Rose (disk before) (disk e.0)) × (say e.0 ≡ say before)
 
 -- the same, but for want of memory, which comes only where there is room

@@ -1,6 +1,6 @@
 -- What an engine has gathered that isn't in its journal yet, what bringing it there leaves, and what a call leaves that gathers.
 use Rattle.std.specs.Prelude.{◌≡◌, ◌⊎◌, ℕ, ◌<◌, ◌≤◌, length, take, true, false, List, [], ◌∷◌, ◌++◌, Result, Ok, Err, OnOk, IfOk, IfErr}
-use Rattle.gts_engine.specs.Cited.Below.{AfterCall, AfterSettling, AreNext, Call, Directory, DiskFault, EachSince, Entry, Event, Files, Gathered, HasCallCause, Holds, InHand, IsAnswered, IsFront, IsSettling, OpensTo, OpensToOneOf, Outcome, Outside, Record, Rose, SaidSince, SayFault, Says, StandsFor, State, SwitchFault, Taken, Tries, after_records, on, outcome as outcome_of, said_by, slice_index_or}
+use Rattle.gts_engine.specs.Cited.Below.{AfterCall, AfterSettling, AreNext, Call, Directory, DiskFault, EachSince, Entry, Event, Files, Gathered, HasCallCause, Holds, InHand, IsAnswered, IsFront, IsSettling, MOST_TOGETHER, OpensTo, OpensToOneOf, Outcome, Outside, Record, Rose, SaidSince, SayFault, Says, StandsFor, State, SwitchFault, Taken, Tries, after_records, on, outcome as outcome_of, said_by, slice_index_or}
 use Rattle.gts_engine.specs.declared.mode.SayMode.{SayMode}
 use Rattle.gts_engine.specs.declared.mode.SayMode.TheVariants.{Caller}
 use Rattle.gts_engine.specs.declared.parts.EngineParts.{EngineParts}
@@ -107,9 +107,11 @@ pub record HasTold {P : Type 0} (observed : Type 0) (calls : P → List Call) (d
   pub rest : (engine_of old).gathered ≡ false → OnlySaid old new
   pub held : (engine_of old).gathered ≡ true
       → (result ≡ Ok tt) × OnlyHeld old new × ((engine_of new).held ≡ (engine_of old).held ++ on channel bytes ∷ [])
+  pub few : length (engine_of new).held ≤ MOST_TOGETHER
   pub stops : new.stopped ≡ stopped_after old.stopped result
   pub fault : IfErr result (λ fault. (fault ≡ SayFault) × Rose (say old.station) (say new.station))
   pub later : say old.station ≤ say new.station
+  pub sound : OnOk result (say new.station ≡ say old.station)
   pub disk_stays : disk new.station ≡ disk old.station
 
 -- What was gathered in an engine that goes on was to be brought into the journal and said, with this answer.

@@ -1,5 +1,5 @@
 ghost use Rattle.std.specs.Prelude.{◌≡◌, ◌≢◌, ◌-◌, ◌^◌, ◌<◌, ◌≤◌, ℕ, min, length, None, false, IfOk, IfErr, OnOk, MatchResult, IsErrOf};
-ghost use Rattle.gts_engine.specs.Cited.{EachSince, FitBytes, GivesRoom, HasWritten, Holds, IsBehind, IsClosedAt, IsSizeAt, IsSound, IsWriteFault, LeavesBoth, Needs, Rewrites, Rose, StandsOn, State, WorksBeside, checkpoint_text, compacted_bytes, engine_of, full_compacted, held, need_of, need_seal, no_records, said_by, seen, selecting, stopped_after, written};
+ghost use Rattle.gts_engine.specs.Cited.{EachSince, FitBytes, GivesRoom, HasCallCause, HasWritten, Holds, IsBehind, IsClosedAt, IsSizeAt, IsSound, IsWriteFault, LeavesBoth, Needs, Rewrites, StandsOn, State, WorksBeside, checkpoint_text, compacted_bytes, engine_of, full_compacted, held, need_of, need_seal, no_records, said_by, seen, selecting, stopped_after, written};
 ghost use Rattle.gts_engine.specs.Compacting.{IsRoomFault};
 
 use crate::parts::EngineParts;
@@ -7,7 +7,7 @@ use crate::room::{check_checkpoint, compacted_size};
 use gts_checkpoint::{WriteFault, write};
 use gts_core::a_core_has_the_waiting_draws_of_its_state;
 use gts_event::{Device, Need, SwitchFault};
-use gts_traits::Station;
+use gts_traits::{JournalFile, Station};
 use std::alloc::Global;
 
 /// Whether a checkpoint of this size leaves room for all draws that are due.
@@ -34,11 +34,10 @@ pub fn check_room<P: Station>(parts: &EngineParts<P>, size: u64) -> Result<(), S
 fn put<P: Station>(
     parts: &mut EngineParts<P>,
     alloc: Global,
-    file: u32,
+    file: JournalFile,
     mark: [u8; 32],
     need: &Need,
 ) -> Result<[u8; 32], SwitchFault>
-    requires file { file < 2 }
     requires fits { FitBytes (need_of need.now) }
     requires room { compacted_bytes written (need_of need.now) ≤ 2 ^ 30 }
     ensures written { P.observed → OnOk result (HasWritten mark (need_of need.now)
@@ -51,10 +50,9 @@ fn put<P: Station>(
     ensures stops { parts.new.stopped ≡ stopped_after parts.old.stopped result }
     ensures no_memory { IsErrOf result SwitchFault.NoMemory → parts.new ≡ parts.old }
     ensures fault { IfErr result IsWriteFault }
-    ensures disk { IsErrOf result SwitchFault.DiskFault
-        → Rose (P.disk_faults parts.old.station) (P.disk_faults parts.new.station) }
-    ensures later { P.disk_faults parts.old.station ≤ P.disk_faults parts.new.station }
-    ensures say { P.say_faults parts.new.station ≡ P.say_faults parts.old.station }
+    ensures cause { HasCallCause result
+        (P.disk_faults parts.old.station) (P.disk_faults parts.new.station)
+        (P.say_faults parts.old.station) (P.say_faults parts.new.station) }
 {
     match write(alloc, &mut parts.station, file, mark, need) {
         Ok(seal) => Ok(seal),
@@ -69,7 +67,7 @@ fn put<P: Station>(
 /// Selects the other file. A failure stops the engine.
 fn choose<P: Station>(
     parts: &mut EngineParts<P>,
-    file: u32,
+    file: JournalFile,
     used: u64,
     seal: [u8; 32],
 ) -> Result<(), SwitchFault>
@@ -93,10 +91,10 @@ fn choose<P: Station>(
         → said_by (P.calls parts.new.station) ≡ said_by (P.calls parts.old.station) }
     ensures rest { IsBehind parts.old parts.new }
     ensures stops { parts.new.stopped ≡ stopped_after parts.old.stopped result }
-    ensures fault { IfErr result (λ e. (e ≡ SwitchFault.DiskFault)
-        × Rose (P.disk_faults parts.old.station) (P.disk_faults parts.new.station)) }
-    ensures later { P.disk_faults parts.old.station ≤ P.disk_faults parts.new.station }
-    ensures say { P.say_faults parts.new.station ≡ P.say_faults parts.old.station }
+    ensures fault { IfErr result (λ e. e ≡ SwitchFault.DiskFault) }
+    ensures cause { HasCallCause result
+        (P.disk_faults parts.old.station) (P.disk_faults parts.new.station)
+        (P.say_faults parts.old.station) (P.say_faults parts.new.station) }
 {
     match parts.journal.select(&mut parts.station, file, used, seal) {
         Ok(()) => {
@@ -129,7 +127,7 @@ pub fn rewrite<P: Station>(
     // A directory is within its bounds.
     parts.directory.bounds_hold();
     let mark = parts.directory.mark();
-    let other = 1 - parts.journal.file();
+    let other = parts.journal.file().other();
     let used = compacted_size(size);
     let seal = put(parts, alloc, other, mark, need)?;
     choose(parts, other, used, seal)

@@ -2,14 +2,15 @@ ghost use Rattle.std.specs.Prelude.{◌≡◌, ◌+◌, ◌<◌, ◌≤◌, ◌�
 ghost use Rattle.gts_engine.specs.Cited.{CHANNELS, HasRoom, held_pieces, no_sayings, on, sizes_of};
 
 use gts_alphabet::NoMemory;
+use gts_calls::MOST_TOGETHER;
 use std::alloc::Global;
 use std::marker::Model;
 
 /// How many bytes may be held.
 pub const MOST_BYTES: usize = 1 << 20;
 
-/// How many sayings may be held.
-pub const MOST_SAYINGS: usize = 256;
+/// How many sayings may be held: one for each event that is gathered.
+pub const MOST_SAYINGS: usize = MOST_TOGETHER;
 
 /// One saying: its channel, and how many bytes it has.
 #[derive(Clone, Copy)]

@@ -9,7 +9,7 @@ use gts_frame::Kind;
 use gts_memory::MemStation;
 use gts_parts_tests::{MARK, two_circuits};
 use gts_record::{OpenFault, Version};
-use gts_traits::Station;
+use gts_traits::{JournalFile, Station};
 use std::alloc::Global;
 use std::process::Abort;
 use std::test::Fail;
@@ -82,22 +82,28 @@ fn written(rt: &impl Abort, alloc: Global, need: &Need) -> Result<MemStation, Fa
     let behind = Version::written().seal_size() as u64;
     assert!(rt; size(need) < 10_000 - behind);
     let mut station = MemStation::new(alloc, &[])?;
-    write(alloc, &mut station, 1, MARK, need)?;
+    write(alloc, &mut station, JournalFile::SECOND, MARK, need)?;
     Ok(station)
 }
 
 /// Writes a byte over the one that stands in the second file at a place.
 fn put(rt: &impl Abort, station: &mut MemStation, place: u64, byte: u8) -> Result<(), Fail> {
-    let size = station.size(1)?;
+    let size = station.size(JournalFile::SECOND)?;
     assert!(rt; place < size && size < 10_000);
-    station.write_at(1, place, &[byte])?;
+    station.write_at(JournalFile::SECOND, place, &[byte])?;
     Ok(())
 }
 
 /// The need that is read from the second file, and the place of the gate behind it.
 fn found<P: Station>(alloc: Global, station: &mut P) -> Result<(Need, u64), Fail> {
     let directory = two_circuits(alloc)?;
-    let (need, gate, _) = read(alloc, station, Version::written(), 1, &directory)?;
+    let (need, gate, _) = read(
+        alloc,
+        station,
+        Version::written(),
+        JournalFile::SECOND,
+        &directory,
+    )?;
     Ok((need, gate))
 }
 
@@ -111,7 +117,7 @@ fn a_checkpoint_is_read_as_it_was_written(rt: HostRuntime) -> Result<(), Fail> {
     let need = one_draw(rt.alloc(), 3)?;
     assert!(rt; size(&need) == 105);
     let mut station = written(&rt, rt.alloc(), &need)?;
-    assert!(rt; station.size(1)? == 179);
+    assert!(rt; station.size(JournalFile::SECOND)? == 179);
     let (need, gate) = found(rt.alloc(), &mut station)?;
     assert!(rt; gate == 178);
     assert!(rt; has_one_draw(&need));
@@ -143,7 +149,14 @@ fn damaged<R: AllocGlobal + Abort>(rt: &R, letters: u32, place: u64) -> Result<M
 /// Why no checkpoint is read from the second file.
 fn fault_of<P: Station>(alloc: Global, station: &mut P) -> Result<Option<OpenFault>, Fail> {
     let directory = two_circuits(alloc)?;
-    Ok(read(alloc, station, Version::written(), 1, &directory).err())
+    Ok(read(
+        alloc,
+        station,
+        Version::written(),
+        JournalFile::SECOND,
+        &directory,
+    )
+    .err())
 }
 
 #[test]
@@ -166,7 +179,10 @@ fn is_decoded(
     directory: &Directory,
     end: usize,
 ) -> Result<bool, Fail> {
-    let bytes = station.file(1).get(41..end).unwrap_or(&[]);
+    let bytes = station
+        .file(JournalFile::SECOND)
+        .get(41..end)
+        .unwrap_or(&[]);
     Ok(decode(alloc, bytes, directory)?.is_some())
 }
 

@@ -1,11 +1,12 @@
 use gts_calls::Switch;
-use gts_directory::{CircuitRow, DirRows, Directory, RuleRow};
+use gts_directory::{CircuitRow, CircuitSet, DirRows, Directory, RuleRow};
 use gts_engine::{Engine, SayMode};
 use gts_event::{Device, Outcome};
 use gts_frame::{FrameBuf, FrameField, Kind};
 use gts_journal::Journal;
 use gts_memory::MemStation;
 use gts_parts_tests::{MARK, is_same, two_circuits};
+use gts_traits::JournalFile;
 use std::alloc::Global;
 use std::net::Ipv4Addr;
 use std::test::Fail;
@@ -174,9 +175,9 @@ fn a_compacted_journal_has_the_same_size_each_time(rt: HostRuntime) -> Result<()
     let (engine, once, twice) = compacted(alloc, &mut out)?;
     assert!(rt; once == Some(179) && twice == Some(179));
     let station = station_in(engine);
-    assert!(rt; station.file(0).len() == 179);
-    assert!(rt; station.file(1).len() == 179);
-    assert!(rt; is_same(station.file(2), &[0]));
+    assert!(rt; station.file(JournalFile::FIRST).len() == 179);
+    assert!(rt; station.file(JournalFile::SECOND).len() == 179);
+    assert!(rt; is_same(station.file(JournalFile::SELECTOR), &[0]));
     Ok(())
 }
 
@@ -219,7 +220,7 @@ pub fn small(alloc: Global, repeat: u32) -> Result<Directory, Fail> {
     }
     rows.add_rule(RuleRow {
         heading: *b"****** ****",
-        to: 2,
+        to: CircuitSet::NONE.with(1),
     })?;
     Ok(Directory::check(rows)?)
 }

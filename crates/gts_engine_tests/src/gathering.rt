@@ -7,6 +7,7 @@ use gts_event::{Device, SwitchFault};
 use gts_frame::{FrameBuf, FrameField, Kind};
 use gts_memory::{MemStation, Touched};
 use gts_parts_tests::is_same;
+use gts_traits::JournalFile;
 use std::alloc::Global;
 use std::test::Fail;
 
@@ -154,7 +155,12 @@ fn several_events_share_one_gate(rt: HostRuntime) -> Result<(), Fail> {
     let alone = alone(alloc)?;
     assert!(rt; station.calls() == OPENING + GATE + PIECES);
     assert!(rt; alone.calls() == OPENING + 4 * GATE + PIECES);
-    assert!(rt; is_same(station.file(0), alone.file(0)));
+    assert!(rt;
+        is_same(
+            station.file(JournalFile::FIRST),
+            alone.file(JournalFile::FIRST)
+        )
+    );
     assert!(rt; is_same(station.said(0), alone.said(0)));
     assert!(rt; is_same(station.said(2), alone.said(2)));
     Ok(())

@@ -5,7 +5,7 @@ use gts_frame::Kind;
 use gts_journal::{InitFault, Journal, OpenFault, Record, Version};
 use gts_memory::{MemStation, Touched};
 use gts_parts_tests::is_same;
-use gts_traits::Station;
+use gts_traits::{JournalFile, Station};
 use std::alloc::Global;
 use std::test::Fail;
 
@@ -42,7 +42,7 @@ fn read_to_end<P: Station>(alloc: Global, station: &mut P) -> Result<(Journal, u
         count = count.saturating_add(1);
     }
     Err(OpenFault::Damaged {
-        file: journal.file(),
+        file: journal.file().number(),
         at: journal.used(),
     })
 }
@@ -108,7 +108,7 @@ fn a_journal_of_two_records_has_these_bytes(rt: HostRuntime) -> Result<(), Fail>
     let mut station = MemStation::new(alloc, &[])?;
     assert!(rt; fault_of(alloc, &mut station) == Some(OpenFault::NoJournal));
     assert!(rt; two_records(alloc, &mut station) == PLACES);
-    assert!(rt; is_same(station.file(0), SEALED));
+    assert!(rt; is_same(station.file(JournalFile::FIRST), SEALED));
     assert!(rt; read(alloc, &mut station) == Ok(2));
     assert!(rt; size_that_exists(&mut station) == Some(175));
     Ok(())
@@ -193,7 +193,7 @@ fn station_of(alloc: Global, file: &[u8]) -> Result<MemStation, Fail>
     requires { length file.now ≤ 2 ^ 20 }
 {
     let mut station = MemStation::new(alloc, &[])?;
-    station.write_at(0, 0, file)?;
+    station.write_at(JournalFile::FIRST, 0, file)?;
     Ok(station)
 }
 

@@ -4,7 +4,7 @@ use gts_directory::Directory;
 use gts_memory::MemStation;
 use gts_parts_tests::two_circuits;
 use gts_recovery::{OpenFault, open_core};
-use gts_traits::Station;
+use gts_traits::{JournalFile, Station};
 use std::alloc::Global;
 use std::test::Fail;
 
@@ -43,7 +43,7 @@ fn opened<P: Station>(
 ) -> Result<(u64, u64), OpenFault>
     requires { length file.now ≤ 2 ^ 20 }
 {
-    station.write_at(0, 0, file)?;
+    station.write_at(JournalFile::FIRST, 0, file)?;
     let (core, journal) = open_core(alloc, station, directory)?;
     Ok((journal.used(), core.accepted()))
 }

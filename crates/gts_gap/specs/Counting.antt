@@ -1,5 +1,5 @@
 -- A table of the numbers that came in a capture, as its steps are read.
-use Rattle.std.specs.Prelude.{◌≡◌, ℕ, ◌≤◌, ◌<◌, List, [], ◌++◌, length, Result, Ok, Err, flat_map}
+use Rattle.std.specs.Prelude.{◌≡◌, ℕ, ◌≤◌, ◌<◌, List, [], ◌++◌, length, Result, Ok, Err, OnOk, flat_map}
 use Rattle.gts_gap.specs.Cited.Below.{Bad, CaptureFault, Connections, Decode, Decoding, Directory, EndsBehind, EndsEarly, Event, Held, IsStepOf, IsWhole, Rose, SourceFault, Step, Takes, after_step, bytes_of_step, events_added, held_in, no_bytes}
 use Rattle.gts_gap.specs.Numbers.{Numbered}
 use Rattle.gts_gap.specs.Ring.{Ring, StandsAt}
@@ -109,7 +109,9 @@ IsTabled observed d (Ok rings) bytes = IsRead observed d rings bytes
 IsTabled observed d (Err (table.Capture at)) bytes = IsCutAt observed d bytes at
 IsTabled observed d (Err _) bytes = Unit {0}
 
--- the source's fault is answered only where its count rose, and no count falls
+-- the source's fault is answered only where its count rose; with a table, and where the bytes are no capture, it is as before
 pub record HasTableCause {T : Type 0} (result : Result T TableFault) (before now : ℕ) : Type 0 where
   pub later : before ≤ now
   pub failed : result ≡ Err table.SourceFault → Rose before now
+  pub sound : OnOk result (now ≡ before)
+  pub capture : (at : ℕ) → result ≡ Err (table.Capture at) → now ≡ before

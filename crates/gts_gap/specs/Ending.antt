@@ -29,9 +29,16 @@ Names observed heard d moment end.SayFault bytes station now old new =
     Reads observed d bytes (λ steps. heard → SaysFront old new (report_of d moment steps))
 Names observed heard d moment end.NoMemory bytes station now old new = now ≡ station
 
--- a device's fault is answered only where its count rose, and no count falls
+-- no device ended it: what is missing was said, or the bytes are no capture
+abbrev pub IsUnfailed : GapsEnd → Type 0
+IsUnfailed end.Done = Unit {0}
+IsUnfailed (end.Capture at) = Unit {0}
+IsUnfailed _ = ⊥
+
+-- a device's fault is answered only where its count rose, and no count falls; where no device ended it, none rose
 pub record HasGapsCause (result : GapsEnd) (source source_now say say_now : ℕ) : Type 0 where
   pub source_later : source ≤ source_now
   pub say_later : say ≤ say_now
   pub source_failed : result ≡ end.SourceFault → Rose source source_now
   pub say_failed : result ≡ end.SayFault → Rose say say_now
+  pub sound : IsUnfailed result → (source_now ≡ source) × (say_now ≡ say)

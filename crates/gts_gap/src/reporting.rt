@@ -1,4 +1,4 @@
-ghost use Rattle.std.specs.Prelude.{◌≡◌, ◌<◌, ℕ, List, length};
+ghost use Rattle.std.specs.Prelude.{◌≡◌, ◌<◌, ℕ, List, length, OnOk};
 ghost use Rattle.gts_gap.specs.Cited.{AllStand, HasCause, HasGapsCause, Names, Numbered, StandsAt, Tells, report, said_of};
 
 use crate::saying::{OPERATOR, say_request, say_runs};
@@ -22,6 +22,7 @@ fn say_circuit<P: Station>(
         → Tells result (said_of directory.now moment c ns)
         (P.calls station.old) (P.calls station.new) }
     ensures cause { HasCause result (P.say_faults station.old) (P.say_faults station.new) }
+    ensures sound { OnOk result (P.say_faults station.new ≡ P.say_faults station.old) }
     ensures disk { P.disk_faults station.new ≡ P.disk_faults station.old }
 {
     // A directory has few circuits.
@@ -52,6 +53,7 @@ fn say_report<P: Station>(
         → AllStand directory.now table.now came → Tells result (report directory.now moment came)
         (P.calls station.old) (P.calls station.new) }
     ensures cause { HasCause result (P.say_faults station.old) (P.say_faults station.new) }
+    ensures sound { OnOk result (P.say_faults station.new ≡ P.say_faults station.old) }
     ensures disk { P.disk_faults station.new ≡ P.disk_faults station.old }
 {
     for c in 0..directory.circuits() {

@@ -1,4 +1,4 @@
-ghost use Rattle.std.specs.Prelude.{◌≡◌, ◌<◌, ◌≤◌, ◌+◌, ◌++◌, List, length};
+ghost use Rattle.std.specs.Prelude.{◌≡◌, ◌<◌, ◌≤◌, ◌+◌, ◌++◌, List, length, OnOk};
 ghost use Rattle.gts_gap.specs.Cited.{AllByRecursion, CHANNELS, HasCause, HasDigits, IsDigits, Tells, ask_frame, ask_heading, dec, on, run_line, run_lines};
 ghost use Rattle.gts_gap.specs.Saying.{front_text};
 
@@ -54,6 +54,7 @@ pub(crate) fn say_runs<P: Station>(c: u32, runs: Runs<'_>, station: &mut P) -> R
     ensures told { P.observed → Tells result (on OPERATOR (run_lines c runs.entry))
         (P.calls station.old) (P.calls station.new) }
     ensures cause { HasCause result (P.say_faults station.old) (P.say_faults station.new) }
+    ensures sound { OnOk result (P.say_faults station.new ≡ P.say_faults station.old) }
     ensures disk { P.disk_faults station.new ≡ P.disk_faults station.old }
 {
     let mut runs = runs;
@@ -99,6 +100,7 @@ pub(crate) fn say_request<P: Station>(
         (ask_heading peer moment.day moment.hour moment.minute) text.now))
         (P.calls station.old) (P.calls station.new) }
     ensures cause { HasCause result (P.say_faults station.old) (P.say_faults station.new) }
+    ensures sound { OnOk result (P.say_faults station.new ≡ P.say_faults station.old) }
     ensures disk { P.disk_faults station.new ≡ P.disk_faults station.old }
 {
     let front = front_of(peer, moment, AROUND_TEXT + text.len() as u32);

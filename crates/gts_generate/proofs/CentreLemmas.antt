@@ -1,5 +1,5 @@
 -- The rows of the directory, one behind another, and the directory that they are.
-use Rattle.std.proofs.Common.{◌≡◌, ℕ, ◌+◌, List, [], ◌∷◌, ◌++◌, map, refl, sym, ◌∙◌, ap, subst, append_assoc, arith, ◌^◌, Result, Ok, Err, codes, replicate}
+use Rattle.std.proofs.Common.{◌≡◌, ℕ, zero, suc, ◌+◌, ◌%◌, ◌<◌, bit_or, List, [], ◌∷◌, ◌++◌, map, refl, sym, ◌∙◌, ap, subst, append_assoc, arith, ◌^◌, Result, Ok, Err, codes, replicate}
 use Rattle.gts_generate.specs.Cited.{CircuitRow, DirFault, Directory, Rows, RuleRow, checked, circuit_row, dec, directory, level_rows, localhost, no_rows, range_with_len, rows, rule_row}
 use Rattle.std.proofs.lemmas.List.FromFn.{map-range_with_len_more}
 
@@ -26,6 +26,23 @@ pub rule-added : (first old new : Rows) (j : ℕ) (row : RuleRow)
 rule-added first old new j row before is done =
     done ∙ ap (λ (r : Rows). record r { rules = r.rules ++ row ∷ [] }) before
     ∙ ap (λ (l : List RuleRow). record first { rules = l }) (row-more rule_row first.rules j row is)
+
+-- two of the eight circuits, as a set
+two_of_eight : (m : ℕ) → m < 8 → bit_or (bit_or 0 (2 ^ m)) (2 ^ ((m + 3) % 8)) ≡ 2 ^ m + 2 ^ ((m + 3) % 8)
+two_of_eight zero low = refl
+two_of_eight (suc zero) low = refl
+two_of_eight (suc (suc zero)) low = refl
+two_of_eight (suc (suc (suc zero))) low = refl
+two_of_eight (suc (suc (suc (suc zero)))) low = refl
+two_of_eight (suc (suc (suc (suc (suc zero))))) low = refl
+two_of_eight (suc (suc (suc (suc (suc (suc zero)))))) low = refl
+two_of_eight (suc (suc (suc (suc (suc (suc (suc zero))))))) low = refl
+two_of_eight (suc (suc (suc (suc (suc (suc (suc (suc m)))))))) low = absurd (omega arith)
+
+pub circuits_of_rule : (j : ℕ) → bit_or (bit_or 0 (2 ^ (j % 8))) (2 ^ ((j + 3) % 8)) ≡ 2 ^ (j % 8) + 2 ^ ((j + 3) % 8)
+circuits_of_rule j =
+    let same : (j + 3) % 8 ≡ (j % 8 + 3) % 8 = omega arith in
+    rw same (two_of_eight (j % 8) (omega arith))
 
 -- the rows are accepted, and are the directory
 pub rows-are : checked rows ≡ Ok directory

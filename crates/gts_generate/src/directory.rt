@@ -4,7 +4,7 @@ ghost use Rattle.gts_generate.specs.Centre as centre;
 
 use crate::CIRCUITS;
 use gts_alphabet::digits_of;
-use gts_directory::{CircuitRow, DirRows, Directory, LevelRow, RuleRow};
+use gts_directory::{CircuitRow, CircuitSet, DirRows, Directory, LevelRow, RuleRow};
 use gts_traits::NoMemory;
 use std::alloc::Global;
 use std::net::Ipv4Addr;
@@ -50,7 +50,9 @@ fn rule_row(j: u32) -> RuleRow
         heading: [
             b'*', b'*', b'*', b'*', tens, units, b' ', b'*', b'*', b'*', b'*',
         ],
-        to: (1 << (j % CIRCUITS)) + (1 << ((j + 3) % CIRCUITS)),
+        to: CircuitSet::NONE
+            .with((j % CIRCUITS) as usize)
+            .with(((j + 3) % CIRCUITS) as usize),
     }
 }
 

@@ -178,6 +178,7 @@ impl Journal {
         ensures silent { P.observed → said_by (P.calls station.new) ≡ said_by
             (P.calls station.old) }
         ensures cause { HasCause result (P.disk_faults station.old) (P.disk_faults station.new) }
+        ensures sound { OnOk result (P.disk_faults station.new ≡ P.disk_faults station.old) }
         ensures say { P.say_faults station.new ≡ P.say_faults station.old }
     {
         let size = batch.size;

@@ -3,7 +3,7 @@ ghost use Rattle.gts_journal.specs.Cited.{Gives, GoesOn, HasCause, HasGoneOn, Is
 
 use crate::{AHEAD, Journal, LONGEST, OPEN};
 use gts_record::{OpenFault, Record, Version, decode_sealed};
-use gts_traits::{Failed, Station};
+use gts_traits::{Failed, JournalFile, Station};
 
 impl Journal {
     /// The place behind the closed gate; before the end is reached, that of the gate that is read next.
@@ -21,7 +21,7 @@ impl Journal {
     }
 
     /// The selected file.
-    pub fn file(&self) -> u32
+    pub fn file(&self) -> JournalFile
         ensures file { result ≡ self.now.file }
         ensures below { result < 2 }
     {
@@ -52,6 +52,7 @@ impl Journal {
             → StandsOn (P.calls station.new) self.new }
         ensures told { P.observed → P.calls station.new ≡ P.calls station.old }
         ensures cause { HasCause result (P.disk_faults station.old) (P.disk_faults station.new) }
+        ensures sound { OnOk result (P.disk_faults station.new ≡ P.disk_faults station.old) }
         ensures say { P.say_faults station.new ≡ P.say_faults station.old }
     {
         self.begin = 0;
@@ -73,6 +74,7 @@ impl Journal {
             → StandsOn (P.calls station.new) self.new }
         ensures told { P.observed → P.calls station.new ≡ P.calls station.old }
         ensures cause { HasCause result (P.disk_faults station.old) (P.disk_faults station.new) }
+        ensures sound { OnOk result (P.disk_faults station.new ≡ P.disk_faults station.old) }
         ensures say { P.say_faults station.new ≡ P.say_faults station.old }
     {
         if self.is_all || self.end - self.begin >= LONGEST {
@@ -98,12 +100,13 @@ impl Journal {
         ensures disk_fault { IsErrOf result OpenFault.DiskFault
             → Rose (P.disk_faults station.old) (P.disk_faults station.new) }
         ensures later { P.disk_faults station.old ≤ P.disk_faults station.new }
+        ensures still { OnOk result (P.disk_faults station.new ≡ P.disk_faults station.old) }
         ensures say { P.say_faults station.new ≡ P.say_faults station.old }
     {
         self.ready(station)?;
         let [mark, rest @ ..] = &self.buffer[self.begin..self.end] else {
             return Err(OpenFault::Damaged {
-                file: self.file,
+                file: self.file.number(),
                 at: self.gate,
             });
         };
@@ -113,7 +116,7 @@ impl Journal {
         }
         let Some(found) = decode_sealed(self.version, &self.seal, rest) else {
             return Err(OpenFault::Damaged {
-                file: self.file,
+                file: self.file.number(),
                 at: self.gate + 1,
             });
         };

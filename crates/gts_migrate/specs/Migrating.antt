@@ -1,5 +1,5 @@
 -- A journal is taken over: it goes on under a directory that takes over from its own.
-use Rattle.std.specs.Prelude.{◌≡◌, ◌≢◌, ◌⊎◌, ℕ, ◌+◌, ◌*◌, ◌^◌, ◌<◌, ◌≤◌, List, ◌∷◌, Ok, IsTrue}
+use Rattle.std.specs.Prelude.{◌≡◌, ◌≢◌, ◌⊎◌, ◌+◌, ◌*◌, ◌^◌, ◌<◌, ◌≤◌, List, ◌∷◌, Ok, IsTrue}
 use Rattle.gts_migrate.specs.Cited.Below.{Call, Core, Did, Directory, EachSince, Files, Holds, InHand, IsFront, IsImage, Need, Outside, StandsForAny, Syncs, begun, checkpoint_file, compacted_bytes, draw_size, due, is_sound, keeps_one, need, opens, seen, selected, written}
 pub use Rattle.gts_directory.specs.TakingOver.{TakesOver}
 pub use Rattle.gts_event.specs.State.{State}

@@ -42,6 +42,7 @@ fn take_over<P: Station>(
     ensures disk { IsDiskFaultOf result
         → Rose (P.disk_faults station.old) (P.disk_faults station.new) }
     ensures later { P.disk_faults station.old ≤ P.disk_faults station.new }
+    ensures sound { OnOk result (P.disk_faults station.new ≡ P.disk_faults station.old) }
     ensures say { CountsSays result (P.say_faults station.old) (P.say_faults station.new) }
     ensures unsaid { waiting ≡ Waiting.Refused → IsSayFaultOf result → ⊥ }
 {
@@ -99,6 +100,7 @@ pub fn migrate<P: Station>(
     ensures disk { IsDiskFaultOf result.1
         → Rose (P.disk_faults station) (P.disk_faults result.0) }
     ensures later { P.disk_faults station ≤ P.disk_faults result.0 }
+    ensures sound { OnOk result.1 (P.disk_faults result.0 ≡ P.disk_faults station) }
     ensures say { CountsSays result.1 (P.say_faults station) (P.say_faults result.0) }
     ensures unsaid { waiting ≡ Waiting.Refused → IsSayFaultOf result.1 → ⊥ }
 {

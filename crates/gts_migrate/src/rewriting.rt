@@ -56,12 +56,13 @@ pub(crate) fn rewrite<P: Station>(
     ensures disk { IsErrOf result MigrateFault.DiskFault
         → Rose (P.disk_faults station.old) (P.disk_faults station.new) }
     ensures later { P.disk_faults station.old ≤ P.disk_faults station.new }
+    ensures sound { OnOk result (P.disk_faults station.new ≡ P.disk_faults station.old) }
     ensures say { CountsSays result (P.say_faults station.old) (P.say_faults station.new) }
 {
     // A directory is within its bounds.
     new.bounds_hold();
     let mut journal = journal;
-    let other = 1 - journal.file();
+    let other = journal.file().other();
     let used = compacted_size(prepared.size);
     let seal = write(alloc, station, other, new.mark(), &prepared.need)?;
     say_receipts(station, prepared.receipts.as_slice())?;

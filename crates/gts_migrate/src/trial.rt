@@ -63,6 +63,7 @@ pub fn try_over<P: Station>(
     ensures disk_fault { IsErrOf result OpenFault.DiskFault
         → Rose (P.disk_faults station.old) (P.disk_faults station.new) }
     ensures later { P.disk_faults station.old ≤ P.disk_faults station.new }
+    ensures sound { OnOk result (P.disk_faults station.new ≡ P.disk_faults station.old) }
     ensures say { P.say_faults station.new ≡ P.say_faults station.old }
 {
     // A limit leaves few draws due.

@@ -1,4 +1,4 @@
-use gts_directory::{Change, CircuitRow, DirRows, Directory, LevelRow, Part, RuleRow};
+use gts_directory::{Change, CircuitRow, CircuitSet, DirRows, Directory, LevelRow, Part, RuleRow};
 use gts_heading::Heading;
 use std::alloc::Global;
 use std::net::Ipv4Addr;
@@ -40,11 +40,11 @@ fn three_circuits(alloc: Global) -> Result<DirRows, Fail> {
     rows.add_circuit(circuit(b'C', *b"AAAA", 3))?;
     rows.add_rule(RuleRow {
         heading: *b"SM**** ****",
-        to: 0b011,
+        to: CircuitSet::NONE.with(0).with(1),
     })?;
     rows.add_rule(RuleRow {
         heading: *b"****01 ****",
-        to: 0b110,
+        to: CircuitSet::NONE.with(1).with(2),
     })?;
     rows.add_level(LevelRow {
         tt: *b"W*",
@@ -53,21 +53,23 @@ fn three_circuits(alloc: Global) -> Result<DirRows, Fail> {
     Ok(rows)
 }
 
-/// The circuits that a bulletin from a circuit goes to, and its level.
-fn routed(directory: &Directory, from: u32, text: &[u8]) -> Option<(u64, u8)> {
+/// Which of three circuits a bulletin from a circuit goes to, and its level.
+fn routed(directory: &Directory, from: u32, text: &[u8]) -> Option<([bool; 3], u8)> {
     match Heading::read_bare(text) {
         Ok((heading, _)) if from < directory.circuits() => {
-            Some((directory.names(from, &heading), directory.level(&heading)))
+            let named = directory.names(from, &heading);
+            let each = [named.has(0), named.has(1), named.has(2)];
+            Some((each, directory.level(&heading)))
         }
         _ => None,
     }
 }
 
-/// Circuits, texts, the circuits that are named, and levels.
-const ROUTES: [(u32, &[u8], u64, u8); 3] = [
-    (0, b"SMVG01 TVSV 280000", 0b010, 3),
-    (1, b"SMVG01 TVSV 280000", 0b101, 3),
-    (1, b"WWVG02 TVSV 280000", 0, 1),
+/// Circuits, texts, which of three circuits are named, and levels.
+const ROUTES: [(u32, &[u8], [bool; 3], u8); 3] = [
+    (0, b"SMVG01 TVSV 280000", [false, true, false], 3),
+    (1, b"SMVG01 TVSV 280000", [true, false, true], 3),
+    (1, b"WWVG02 TVSV 280000", [false, false, false], 1),
 ];
 
 #[test]
@@ -98,7 +100,7 @@ fn grown(alloc: Global) -> Result<DirRows, Fail> {
     rows.add_circuit(circuit(b'D', *b"DDDD", 3))?;
     rows.add_rule(RuleRow {
         heading: *b"****** ****",
-        to: 0b1000,
+        to: CircuitSet::NONE.with(3),
     })?;
     Ok(rows)
 }

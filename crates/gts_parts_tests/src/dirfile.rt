@@ -1,4 +1,4 @@
-use gts_directory::Directory;
+use gts_directory::{CircuitSet, Directory};
 use gts_dirfile::{ReadFault, read_directory};
 use gts_heading::Heading;
 use std::alloc::Global;
@@ -32,7 +32,7 @@ const MARK: [u8; 32] = [
 ];
 
 /// The circuits that a report from circuit 0 goes to, and its level.
-fn routed(directory: &Directory) -> Option<(u64, u8)> {
+fn routed(directory: &Directory) -> Option<(CircuitSet, u8)> {
     match Heading::read_bare(b"SMVG01 TVSV 280000") {
         Ok((heading, _)) if directory.circuits() > 0 => {
             Some((directory.names(0, &heading), directory.level(&heading)))
@@ -52,7 +52,7 @@ fn a_file_is_read_as_a_directory(rt: HostRuntime) -> Result<(), Fail> {
     assert_eq!(rt; directory.circuits(), 2);
     assert_eq!(rt; directory.limit(), 1_048_576);
     assert_eq!(rt; directory.mark(), MARK);
-    assert_eq!(rt; routed(&directory), Some((0b10, 1)));
+    assert_eq!(rt; routed(&directory), Some((CircuitSet::NONE.with(1), 1)));
     Ok(())
 }
 

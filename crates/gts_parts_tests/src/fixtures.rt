@@ -1,7 +1,7 @@
 //! What the tests of several layers begin with: a small directory, and a comparison of bytes.
 ghost use Rattle.std.specs.Prelude.{◌≡◌, ◌↔◌, IsTrue};
 
-use gts_directory::{CircuitRow, DirRows, Directory, RuleRow};
+use gts_directory::{CircuitRow, CircuitSet, DirRows, Directory, RuleRow};
 use std::alloc::Global;
 use std::net::Ipv4Addr;
 use std::test::Fail;
@@ -31,7 +31,7 @@ pub fn two_circuits(alloc: Global) -> Result<Directory, Fail> {
     }
     rows.add_rule(RuleRow {
         heading: *b"****** ****",
-        to: 3,
+        to: CircuitSet::NONE.with(0).with(1),
     })?;
     Ok(Directory::check(rows)?)
 }

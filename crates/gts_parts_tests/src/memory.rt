@@ -3,8 +3,8 @@ ghost use Rattle.std.specs.Prelude.{◌≡◌, []};
 use crate::ports::between;
 use gts_memory::{MemLines, MemSink, MemSource, MemStation, Touched};
 use gts_traits::{
-    Failed, FreeGate, Gate, Line, Lines, NoMemory, Point, Sink, Source, Station, cut_synced,
-    write_synced,
+    Failed, FreeGate, Gate, JournalFile, Line, Lines, NoMemory, Point, Sink, Source, Station,
+    cut_synced, write_synced,
 };
 use std::test::Fail;
 
@@ -83,10 +83,10 @@ fn a_station_tells_what_each_call_says(rt: HostRuntime) -> Result<(), Fail> {
 fn keep<S: Station>(station: &mut S, into: &mut [u8]) -> Result<usize, Failed>
     requires { S.observed → S.calls station.old ≡ [] }
 {
-    write_synced(station, 1, 0, b"abc")?;
-    station.write_at(1, 1, b"xyz")?;
-    cut_synced(station, 1, 3)?;
-    station.read(1, 1, into)
+    write_synced(station, JournalFile::SECOND, 0, b"abc")?;
+    station.write_at(JournalFile::SECOND, 1, b"xyz")?;
+    cut_synced(station, JournalFile::SECOND, 3)?;
+    station.read(JournalFile::SECOND, 1, into)
 }
 
 #[test]
@@ -95,9 +95,9 @@ fn a_station_keeps_its_files(rt: HostRuntime) -> Result<(), Fail> {
     let mut into = [0; 4];
     assert!(rt; keep(&mut station, &mut into) == Ok(2));
     assert!(rt; into == [120, 121, 0, 0]);
-    assert!(rt; station.size(1) == Ok(3));
-    assert!(rt; station.file(1) == b"axy".as_slice());
-    assert!(rt; station.file(0) == b"".as_slice());
+    assert!(rt; station.size(JournalFile::SECOND) == Ok(3));
+    assert!(rt; station.file(JournalFile::SECOND) == b"axy".as_slice());
+    assert!(rt; station.file(JournalFile::FIRST) == b"".as_slice());
     assert!(rt; station.calls() == 7);
     Ok(())
 }
@@ -152,8 +152,8 @@ fn write_over<S: Station>(station: &mut S) -> Result<(), Failed>
     requires { S.observed → S.calls station.old ≡ [] }
 {
     station.say(0, b"one")?;
-    write_synced(station, 0, 0, b"abc")?;
-    station.write_at(0, 1, b"xyz")?;
+    write_synced(station, JournalFile::FIRST, 0, b"abc")?;
+    station.write_at(JournalFile::FIRST, 1, b"xyz")?;
     station.say(0, b"two")
 }
 
@@ -169,7 +169,11 @@ fn is_left(
         return Ok(false);
     }
     let crashed = station.crashed(call, choice)?;
-    Ok(crashed.file(0) == file && crashed.said(0) == b"one".as_slice() && crashed.calls() == 0)
+    Ok(
+        crashed.file(JournalFile::FIRST) == file
+            && crashed.said(0) == b"one".as_slice()
+            && crashed.calls() == 0,
+    )
 }
 
 /// A call in which the machine stops, a choice for what was touched, and what the first file has then.

@@ -1,5 +1,5 @@
 use gts_real::{FileSource, FileStation};
-use gts_traits::{Failed, Source, Station};
+use gts_traits::{Failed, JournalFile, Source, Station};
 use std::fs;
 use std::test::Fail;
 
@@ -20,14 +20,14 @@ fn written_and_read(
 ) -> Result<(usize, Result<(), Failed>), Failed> {
     let mut first = FileStation::new(rt);
     first.sync()?;
-    first.write_at(1, 0, b"abcdef")?;
-    first.cut(1, 5)?;
-    first.write_at(1, 1, b"xy")?;
+    first.write_at(JournalFile::SECOND, 0, b"abcdef")?;
+    first.cut(JournalFile::SECOND, 5)?;
+    first.write_at(JournalFile::SECOND, 1, b"xy")?;
     first.sync()?;
     // While the first one is there, another only reads.
     let mut second = FileStation::new(rt);
-    let count = second.read(1, 1, into)?;
-    Ok((count, second.cut(1, 0)))
+    let count = second.read(JournalFile::SECOND, 1, into)?;
+    Ok((count, second.cut(JournalFile::SECOND, 0)))
 }
 
 /// What the first two journal files hold.
@@ -42,14 +42,14 @@ fn are_files(rt: &HostRuntime, one: &str, other: &str) -> Result<bool, Fail> {
 fn one_station_at_a_time_changes_the_journal(rt: HostRuntime) -> Result<(), Fail> {
     let mut into = [0u8; 4];
     let mut early = FileStation::new(&rt);
-    assert!(rt; early.size(0) == Ok(0));
+    assert!(rt; early.size(JournalFile::FIRST) == Ok(0));
     let read = written_and_read(&rt, &mut into);
     assert!(rt; read == Ok((4, Err(Failed))));
     assert!(rt; into == *b"xyde");
     // Since the early one looked, the journal was made, and its view is old.
-    assert!(rt; early.write_at(0, 0, b"old") == Err(Failed));
+    assert!(rt; early.write_at(JournalFile::FIRST, 0, b"old") == Err(Failed));
     let mut third = FileStation::new(&rt);
-    assert!(rt; third.write_at(0, 0, b"new") == Ok(()));
+    assert!(rt; third.write_at(JournalFile::FIRST, 0, b"new") == Ok(()));
     assert!(rt; are_files(&rt, "new", "axyde")?);
     remove_journal(&rt)
 }
@@ -62,27 +62,27 @@ fn written_and_seen(
 ) -> Result<([u8; 2], u64), Failed> {
     let mut into = [0u8; 2];
     let mut writer = FileStation::new(rt);
-    writer.write_at(0, 0, b"abcd")?;
+    writer.write_at(JournalFile::FIRST, 0, b"abcd")?;
     reader.sync()?;
-    reader.read(0, 2, &mut into)?;
-    writer.write_at(0, 4, b"ef")?;
-    Ok((into, reader.size(0)?))
+    reader.read(JournalFile::FIRST, 2, &mut into)?;
+    writer.write_at(JournalFile::FIRST, 4, b"ef")?;
+    Ok((into, reader.size(JournalFile::FIRST)?))
 }
 
 #[test]
 fn a_reader_and_a_writer_stand_side_by_side(rt: HostRuntime) -> Result<(), Fail> {
     let mut reader = FileStation::for_reading(&rt);
     // No file is there yet, and the reader makes none.
-    assert!(rt; reader.size(0) == Ok(0));
-    assert!(rt; reader.write_at(0, 0, b"x") == Err(Failed));
+    assert!(rt; reader.size(JournalFile::FIRST) == Ok(0));
+    assert!(rt; reader.write_at(JournalFile::FIRST, 0, b"x") == Err(Failed));
     // What it looks at is free for one that writes, and it sees what was written since.
     let seen = written_and_seen(&rt, &mut reader);
     assert!(rt; seen == Ok((*b"cd", 6)));
-    assert!(rt; reader.cut(0, 1) == Err(Failed));
-    assert!(rt; reader.write_at(1, 0, b"x") == Err(Failed));
+    assert!(rt; reader.cut(JournalFile::FIRST, 1) == Err(Failed));
+    assert!(rt; reader.write_at(JournalFile::SECOND, 0, b"x") == Err(Failed));
     let mut writer = FileStation::new(&rt);
-    assert!(rt; writer.size(0) == Ok(6));
-    assert!(rt; writer.size(1) == Ok(0));
+    assert!(rt; writer.size(JournalFile::FIRST) == Ok(6));
+    assert!(rt; writer.size(JournalFile::SECOND) == Ok(0));
     remove_journal(&rt)
 }
 
@@ -93,9 +93,9 @@ fn a_disk_that_failed_to_sync_is_not_used_again(rt: HostRuntime) -> Result<(), F
     assert!(rt; station.sync() == Err(Failed));
     fs::remove_dir(&rt, "journal.2")?;
     assert!(rt; station.sync() == Err(Failed));
-    assert!(rt; station.size(2) == Err(Failed));
+    assert!(rt; station.size(JournalFile::SELECTOR) == Err(Failed));
     let mut again = FileStation::new(&rt);
-    assert!(rt; again.size(2) == Ok(0));
+    assert!(rt; again.size(JournalFile::SELECTOR) == Ok(0));
     Ok(())
 }
 

@@ -1,5 +1,6 @@
 ghost use Rattle.std.specs.Prelude.{◌≡◌, ◌≤◌, None, length, IfOk, IfSome};
 
+use gts_traits::JournalFile;
 use std::alloc::{AllocError, Global};
 use std::fs::File;
 use std::io;
@@ -12,7 +13,7 @@ const AHEAD: usize = 16_384;
 /// Bytes of one journal file that were read ahead, so that many small reads one behind another are few calls of the system.
 #[derive(Drop)]
 pub(crate) struct Ahead {
-    file: u32,
+    file: JournalFile,
     at: u64,
     bytes: Option<Vec<u8>>,
 }
@@ -45,7 +46,7 @@ impl Ahead {
     /// Nothing was read yet, and no memory is taken.
     pub(crate) fn new() -> Ahead {
         Ahead {
-            file: 0,
+            file: JournalFile::FIRST,
             at: 0,
             bytes: None,
         }
@@ -59,12 +60,12 @@ impl Ahead {
     }
 
     /// Gives so many bytes of a file from a place on, where all of them were read ahead.
-    fn give(&self, number: u32, at: u64, into: &mut [u8]) -> Option<usize>
+    fn give(&self, file: JournalFile, at: u64, into: &mut [u8]) -> Option<usize>
         ensures count { IfSome result (λ count. count ≤ length into.old) }
-        ensures own { IfSome result (λ _. number ≡ self.now.file) }
+        ensures own { IfSome result (λ _. file ≡ self.now.file) }
     {
         let bytes = self.bytes.as_ref()?;
-        if number != self.file || at < self.at {
+        if file != self.file || at < self.at {
             return None;
         }
         let start = at - self.at;
@@ -85,27 +86,27 @@ impl Ahead {
     pub(crate) fn read(
         &mut self,
         alloc: Global,
-        file: &File,
-        number: u32,
+        opened: &File,
+        file: JournalFile,
         at: u64,
         into: &mut [u8],
     ) -> io::Result<usize>
         ensures { IfOk result (λ count. count ≤ length into.old) }
     {
-        if let Some(count) = self.give(number, at, into) {
+        if let Some(count) = self.give(file, at, into) {
             return Ok(count);
         }
         if AHEAD <= into.len() {
-            return read_from(file, at, into);
+            return read_from(opened, at, into);
         }
         let Ok(mut bytes) = room(alloc) else {
-            return read_from(file, at, into);
+            return read_from(opened, at, into);
         };
-        let there = read_from(file, at, &mut bytes)?;
+        let there = read_from(opened, at, &mut bytes)?;
         bytes.truncate(there);
         let count = bytes.len().min(into.len());
         into[..count].copy_from_slice(&bytes[..count]);
-        self.file = number;
+        self.file = file;
         self.at = at;
         self.bytes = Some(bytes);
         Ok(count)

@@ -4,6 +4,7 @@ ghost use Rattle.gts_real.specs.Station.{FailsWhere};
 use crate::ahead::Ahead;
 use crate::cause::{Act, Cause, Place, answered};
 use crate::lock::{Owner, lock};
+use gts_traits::JournalFile;
 use std::fs::{File, OpenOptions};
 use std::io;
 use std::io::ErrorKind;
@@ -32,11 +33,9 @@ pub(crate) struct Disk {
     lost: Option<Cause>,
 }
 
-/// A journal file, by its number.
-fn place_of(file: u32) -> Place
-    requires { file < 3 }
-{
-    Place::File(NAMES[file as usize])
+/// Where a journal file is.
+fn place_of(file: JournalFile) -> Place {
+    Place::File(NAMES[file.number() as usize])
 }
 
 /// Brings the folder's list of files to the disk.
@@ -46,9 +45,7 @@ pub(crate) fn sync_folder<R: Files<File = File>>(rt: &R) -> Result<(), Cause> {
 }
 
 /// The call of the system was made on a file that isn't there.
-fn missing(file: u32, act: Act) -> Cause
-    requires { file < 3 }
-{
+fn missing(file: JournalFile, act: Act) -> Cause {
     Cause::system(place_of(file), act, io::Error::from(ErrorKind::NotFound))
 }
 
@@ -79,15 +76,18 @@ impl Disk {
     }
 
     /// Opens a file for writing where that is allowed, and else for reading.
-    fn open_for_writing<R: Files<File = File>>(&mut self, rt: &R, file: u32) -> io::Result<File>
-        requires { file < 3 }
+    fn open_for_writing<R: Files<File = File>>(
+        &mut self,
+        rt: &R,
+        file: JournalFile,
+    ) -> io::Result<File>
         ensures reader { self.new.is_reader ≡ self.old.is_reader }
         ensures lost { self.new.lost ≡ self.old.lost }
     {
-        let name = NAMES[file as usize];
+        let name = NAMES[file.number() as usize];
         match OpenOptions::new().read(true).write(true).open(rt, name) {
             Err(error) if error.kind() == ErrorKind::PermissionDenied => {
-                self.refused[file as usize] = Some(error);
+                self.refused[file.number() as usize] = Some(error);
                 File::open(rt, name)
             }
             answer => answer,
@@ -95,12 +95,11 @@ impl Disk {
     }
 
     /// Opens a journal file that is there, where it isn't open yet.
-    fn open<R: Files<File = File>>(&mut self, rt: &R, file: u32) -> Result<(), Cause>
-        requires { file < 3 }
+    fn open<R: Files<File = File>>(&mut self, rt: &R, file: JournalFile) -> Result<(), Cause>
         ensures reader { self.new.is_reader ≡ self.old.is_reader }
         ensures lost { self.new.lost ≡ self.old.lost }
     {
-        let place = file as usize;
+        let place = file.number() as usize;
         if self.files[place].is_none() {
             let opened = if self.is_reader {
                 File::open(rt, NAMES[place])
@@ -113,16 +112,13 @@ impl Disk {
     }
 
     /// A journal file that was opened or made.
-    fn opened(&self, file: u32) -> Option<&File>
-        requires { file < 3 }
-    {
-        self.files[file as usize].as_ref()
+    fn opened(&self, file: JournalFile) -> Option<&File> {
+        self.files[file.number() as usize].as_ref()
     }
 
     /// Begins a call on a file. The first call of a station that may write takes the lock, so that what is read stays as it is
     /// until it is written.
-    fn begin<R: Files<File = File>>(&mut self, rt: &R, file: u32) -> Result<(), Cause>
-        requires { file < 3 }
+    fn begin<R: Files<File = File>>(&mut self, rt: &R, file: JournalFile) -> Result<(), Cause>
         ensures reader { self.new.is_reader ≡ self.old.is_reader }
         ensures lost { FailsWhere result (is_some self.old.lost) (is_some self.new.lost) }
     {
@@ -130,8 +126,8 @@ impl Disk {
             return Err(cause);
         }
         if matches!(&self.owner, Owner::Unknown) && !self.is_reader {
-            self.open(rt, 0)?;
-            self.owner = match self.opened(0) {
+            self.open(rt, JournalFile::FIRST)?;
+            self.owner = match self.opened(JournalFile::FIRST) {
                 Some(file) => lock(file),
                 None => Owner::Nobody,
             };
@@ -140,12 +136,11 @@ impl Disk {
     }
 
     /// Makes a journal file. It fails where the file is there.
-    fn make<R: Files<File = File>>(&mut self, rt: &R, file: u32) -> Result<(), Cause>
-        requires { file < 3 }
+    fn make<R: Files<File = File>>(&mut self, rt: &R, file: JournalFile) -> Result<(), Cause>
         ensures reader { self.new.is_reader ≡ self.old.is_reader }
         ensures lost { self.new.lost ≡ self.old.lost }
     {
-        let place = file as usize;
+        let place = file.number() as usize;
         let made = OpenOptions::new()
             .read(true)
             .write(true)
@@ -153,7 +148,7 @@ impl Disk {
             .open(rt, NAMES[place]);
         let made = answered(made, place_of(file), Act::Make)?;
         self.is_folder_synced = false;
-        if file == 0 {
+        if file == JournalFile::FIRST {
             self.owner = lock(&made);
         }
         self.files[place] = Some(made);
@@ -164,8 +159,14 @@ impl Disk {
     fn owned(&self) -> Result<(), Cause> {
         match &self.owner {
             Owner::This => Ok(()),
-            Owner::Refused(error) => Err(Cause::system(place_of(0), Act::Lock, *error)),
-            Owner::Unknown | Owner::Nobody | Owner::Another => Err(Cause::held(place_of(0))),
+            Owner::Refused(error) => Err(Cause::system(
+                place_of(JournalFile::FIRST),
+                Act::Lock,
+                *error,
+            )),
+            Owner::Unknown | Owner::Nobody | Owner::Another => Err(Cause::held(place_of(
+                JournalFile::FIRST,
+            ))),
         }
     }
 
@@ -173,10 +174,9 @@ impl Disk {
     fn begin_change<R: Files<File = File>>(
         &mut self,
         rt: &R,
-        file: u32,
+        file: JournalFile,
         act: Act,
     ) -> Result<(), Cause>
-        requires { file < 3 }
         ensures forgotten { OnOk result (self.new.ahead.bytes ≡ None) }
         ensures reader { FailsWhere result self.old.is_reader self.new.is_reader }
         ensures lost { FailsWhere result (is_some self.old.lost) (is_some self.new.lost) }
@@ -186,23 +186,26 @@ impl Disk {
         }
         self.begin(rt, file)?;
         if matches!(&self.owner, Owner::Nobody) {
-            self.make(rt, 0)?;
+            self.make(rt, JournalFile::FIRST)?;
         }
         self.owned()?;
-        if let Some(error) = self.refused[file as usize] {
+        if let Some(error) = self.refused[file.number() as usize] {
             return Err(Cause::system(place_of(file), Act::Open, error));
         }
         if self.opened(file).is_none() {
             self.make(rt, file)?;
         }
-        self.synced[file as usize] = false;
+        self.synced[file.number() as usize] = false;
         self.ahead.forget();
         Ok(())
     }
 
     /// How many bytes a journal file has: none where it isn't there.
-    pub(crate) fn size<R: Files<File = File>>(&mut self, rt: &R, file: u32) -> Result<u64, Cause>
-        requires { file < 3 }
+    pub(crate) fn size<R: Files<File = File>>(
+        &mut self,
+        rt: &R,
+        file: JournalFile,
+    ) -> Result<u64, Cause>
         ensures reader { self.new.is_reader ≡ self.old.is_reader }
         ensures lost { FailsWhere result (is_some self.old.lost) (is_some self.new.lost) }
     {
@@ -220,17 +223,16 @@ impl Disk {
     pub(crate) fn read<R: Files<File = File> + AllocGlobal>(
         &mut self,
         rt: &R,
-        file: u32,
+        file: JournalFile,
         at: u64,
         into: &mut [u8],
     ) -> Result<usize, Cause>
-        requires { file < 3 }
         ensures within { IfOk result (λ count. count ≤ length into.old) }
         ensures reader { self.new.is_reader ≡ self.old.is_reader }
         ensures lost { FailsWhere result (is_some self.old.lost) (is_some self.new.lost) }
     {
         self.begin(rt, file)?;
-        let Some(opened) = &self.files[file as usize] else {
+        let Some(opened) = &self.files[file.number() as usize] else {
             return Ok(0);
         };
         let answer = self.ahead.read(rt.alloc(), opened, file, at, into);
@@ -241,11 +243,10 @@ impl Disk {
     pub(crate) fn write_at<R: Files<File = File>>(
         &mut self,
         rt: &R,
-        file: u32,
+        file: JournalFile,
         at: u64,
         bytes: &[u8],
     ) -> Result<(), Cause>
-        requires { file < 3 }
         ensures reader { FailsWhere result self.old.is_reader self.new.is_reader }
         ensures lost { FailsWhere result (is_some self.old.lost) (is_some self.new.lost) }
     {
@@ -260,10 +261,9 @@ impl Disk {
     pub(crate) fn cut<R: Files<File = File>>(
         &mut self,
         rt: &R,
-        file: u32,
+        file: JournalFile,
         size: u64,
     ) -> Result<(), Cause>
-        requires { file < 3 }
         ensures reader { FailsWhere result self.old.is_reader self.new.is_reader }
         ensures lost { FailsWhere result (is_some self.old.lost) (is_some self.new.lost) }
     {
@@ -275,19 +275,18 @@ impl Disk {
     }
 
     /// Brings a journal file to the disk, where it was changed. One that wasn't isn't looked for, whether it is there or not.
-    fn sync_file<R: Files<File = File>>(&mut self, rt: &R, file: u32) -> Result<(), Cause>
-        requires { file < 3 }
+    fn sync_file<R: Files<File = File>>(&mut self, rt: &R, file: JournalFile) -> Result<(), Cause>
         ensures reader { self.new.is_reader ≡ self.old.is_reader }
         ensures lost { is_some self.new.lost ≡ is_some self.old.lost }
     {
-        if self.synced[file as usize] {
+        if self.synced[file.number() as usize] {
             return Ok(());
         }
         self.begin(rt, file)?;
         if let Some(opened) = self.opened(file) {
             answered(opened.sync_data(), place_of(file), Act::Sync)?;
         }
-        self.synced[file as usize] = true;
+        self.synced[file.number() as usize] = true;
         Ok(())
     }
 
@@ -311,9 +310,9 @@ impl Disk {
         if let Some(cause) = self.lost {
             return Err(cause);
         }
-        self.sync_file(rt, 0)?;
-        self.sync_file(rt, 1)?;
-        self.sync_file(rt, 2)?;
+        self.sync_file(rt, JournalFile::FIRST)?;
+        self.sync_file(rt, JournalFile::SECOND)?;
+        self.sync_file(rt, JournalFile::SELECTOR)?;
         self.sync_list(rt)
     }
 

@@ -4,7 +4,7 @@ ghost use Rattle.gts_real.specs.Cited.{CHANNELS, FailsWhere, HasCause, faultless
 use crate::cause::{Cause, noted};
 use crate::disk::Disk;
 use crate::outputs::Outputs;
-use gts_traits::{Failed, Station};
+use gts_traits::{Failed, JournalFile, Station};
 use std::fs::File;
 use std::marker::Model;
 use std::rt::Files;
@@ -104,8 +104,7 @@ impl<R: Files<File = File> + Print + AllocGlobal> Station for FileStation<'_, R>
 
     ghost possible = { λ s told. absurd told };
 
-    fn size(&mut self, file: u32) -> Result<u64, Failed>
-        requires { file < 3 }
+    fn size(&mut self, file: JournalFile) -> Result<u64, Failed>
         ensures cause { HasCause result self.old.disk_faults self.new.disk_faults }
         ensures why { OnErr result (IsSome self.new.disk_cause) }
         ensures sound { OnOk result (self.new.disk_faults ≡ self.old.disk_faults) }
@@ -121,8 +120,7 @@ impl<R: Files<File = File> + Print + AllocGlobal> Station for FileStation<'_, R>
         )
     }
 
-    fn read(&mut self, file: u32, at: u64, into: &mut [u8]) -> Result<usize, Failed>
-        requires { file < 3 }
+    fn read(&mut self, file: JournalFile, at: u64, into: &mut [u8]) -> Result<usize, Failed>
         ensures within { IfOk result (λ n. n ≤ length into.old) }
         ensures cause { HasCause result self.old.disk_faults self.new.disk_faults }
         ensures why { OnErr result (IsSome self.new.disk_cause) }
@@ -141,8 +139,7 @@ impl<R: Files<File = File> + Print + AllocGlobal> Station for FileStation<'_, R>
 
     /// Fails also where the station was opened for reading, or another program has the lock on the journal. Then it changes
     /// nothing.
-    fn write_at(&mut self, file: u32, at: u64, bytes: &[u8]) -> Result<(), Failed>
-        requires file { file < 3 }
+    fn write_at(&mut self, file: JournalFile, at: u64, bytes: &[u8]) -> Result<(), Failed>
         requires room { at + length bytes.now ≤ 2 ^ 40 }
         ensures cause { HasCause result self.old.disk_faults self.new.disk_faults }
         ensures why { OnErr result (IsSome self.new.disk_cause) }
@@ -161,8 +158,7 @@ impl<R: Files<File = File> + Print + AllocGlobal> Station for FileStation<'_, R>
 
     /// Fails also where the station was opened for reading, or another program has the lock on the journal. Then it changes
     /// nothing.
-    fn cut(&mut self, file: u32, size: u64) -> Result<(), Failed>
-        requires { file < 3 }
+    fn cut(&mut self, file: JournalFile, size: u64) -> Result<(), Failed>
         ensures cause { HasCause result self.old.disk_faults self.new.disk_faults }
         ensures why { OnErr result (IsSome self.new.disk_cause) }
         ensures sound { OnOk result (self.new.disk_faults ≡ self.old.disk_faults) }

@@ -40,6 +40,7 @@ module _ {O W : Type 0} (meanings : Standing O W) (o p : O) (at : List Entry →
             behind = t.behind ++ rest;
             parts = sym (append_assoc h (es ++ added) rest) ∙ ap (λ (x : List Entry). x ++ rest) (sym (append_assoc h es added) ∙ t.parts) ∙ append_assoc (t.front ++ some) t.behind rest;
             within = omega (arith, least, t.within);
+            few = t.few;
             stands = subst (λ (q : O). settled meanings q (t.front ++ became (t.event ∷ t.events)) now) (sym there) t.stands;
           }
 

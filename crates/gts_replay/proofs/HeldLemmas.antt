@@ -5,7 +5,6 @@ use Rattle.std.proofs.Math.Seq.{take-append-add, take-append_seam}
 use borrow.Rule.Slice.PartMut.{put_mid, post_of}
 use Rattle.gts_replay.specs.declared.head_cursor.Stop.TheVariants.{Bad}
 use Rattle.gts_replay.specs.Cited.{BadByte, CaptureKind, CompactHead, DrainHead, EndHead, EndsInHead, FeedHead, Held, IsBadAt, IsPartIn, IsStop, LONGEST_CAPTURE, ReopenHead, RestartHead, TakeHead, dec, head_text, readable_from}
-use Rattle.gts_replay.specs.declared.head.Head.{Head}
 use Rattle.gts_connection.specs.Capture as capture
 
 -- ---- the part of a buffer from a start to an end

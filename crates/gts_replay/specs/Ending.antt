@@ -10,7 +10,7 @@ use Rattle.gts_replay.specs.declared.end.ReplayEnd.{ReplayEnd}
 use Rattle.gts_replay.specs.declared.end.ReplayEnd.TheVariants as end
 use Rattle.gts_replay.specs.declared.fault.StepFault.{StepFault}
 use Rattle.gts_replay.specs.declared.fault.StepFault.TheVariants as step
-use Rattle.gts_replay.specs.Replay.{Ends}
+use Rattle.gts_replay.specs.Replay.{Ends, IsUnfailed}
 
 -- the end of a run in which a step was not done to its end
 abbrev pub end_of : StepFault → ReplayEnd
@@ -155,15 +155,20 @@ EndsSettled {O} {W} meanings station kind o h observed e old new bytes left =
     (result : ReplayEnd) (now : W) → SettlesBehind meanings e result new now
     → Ends meanings station kind o h observed result old now bytes left
 
--- a fault of a device that the run didn't end with is answered only where its count rose, and no count falls
+-- A fault of a device that the run didn't end with is answered only where its count rose; without one no count rose.
 pub record HasSettleCause (e result : ReplayEnd) (disk disk_now say say_now : ℕ) : Type 0 where
   pub disk_later : disk ≤ disk_now
   pub say_later : say ≤ say_now
   pub disk_failed : result ≡ end.Fault switch.DiskFault → (e ≡ result) ⊎ Rose disk disk_now
   pub say_failed : result ≡ end.Fault switch.SayFault → (e ≡ result) ⊎ Rose say say_now
   pub others : (result ≡ e) ⊎ ((fault : SwitchFault) × (result ≡ end.Fault fault))
+  pub sound : IsUnfailed result → (disk_now ≡ disk) × (say_now ≡ say)
 
--- a fault of a device is answered only where its count rose, and no count falls
+-- no count rose
+abbrev pub AreStill : (disk disk_now say say_now source source_now : ℕ) → Type 0
+AreStill disk disk_now say say_now source source_now = (disk_now ≡ disk) × (say_now ≡ say) × (source_now ≡ source)
+
+-- A fault of a device is answered only where its count rose; where the step was done, or its bytes are bad, no count rose.
 pub record HasRunCause {T : Type 0} (result : Result T StepFault) (disk disk_now say say_now source source_now : ℕ) : Type 0 where
   pub disk_later : disk ≤ disk_now
   pub say_later : say ≤ say_now
@@ -173,3 +178,5 @@ pub record HasRunCause {T : Type 0} (result : Result T StepFault) (disk disk_now
   pub reopen_failed : IsErrOf result (step.Reopen opening.DiskFault) → Rose disk disk_now
   pub say_failed : IsErrOf result (step.Switch switch.SayFault) → Rose say say_now
   pub source_failed : IsErrOf result (step.Capture SourceFault) → Rose source source_now
+  pub sound : OnOk result (AreStill disk disk_now say say_now source source_now)
+  pub bad : (at : ℕ) → IsErrOf result (step.Capture (Bad at)) → AreStill disk disk_now say say_now source source_now

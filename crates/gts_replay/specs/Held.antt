@@ -1,9 +1,9 @@
 -- What a reader of a capture holds, and what its answers say.
-use Rattle.std.specs.Prelude.{◌≡◌, ℕ, ◌+◌, ◌-◌, ◌<◌, ◌≤◌, List, [], ◌∷◌, ◌++◌, length, take, Result, Err}
+use Rattle.std.specs.Prelude.{◌≡◌, ℕ, ◌+◌, ◌-◌, ◌<◌, ◌≤◌, List, [], ◌∷◌, ◌++◌, length, take, Result, Err, OnOk}
 use Rattle.gts_replay.specs.Cited.Below.{CaptureKind, IsFrontIn, IsHeadIn, IsPartIn, LONGEST_CAPTURE, Rose, head_text}
 use Rattle.gts_replay.specs.Heads.{head_of}
 use Rattle.gts_replay.specs.declared.capture_fault.CaptureFault.{CaptureFault}
-use Rattle.gts_replay.specs.declared.capture_fault.CaptureFault.TheVariants.{SourceFault}
+use Rattle.gts_replay.specs.declared.capture_fault.CaptureFault.TheVariants as capture
 use Rattle.gts_replay.specs.declared.head.Head.{Head}
 use Rattle.gts_replay.specs.declared.head_cursor.Stop.{Stop}
 use Rattle.gts_replay.specs.declared.head_cursor.Stop.TheVariants.{More, Bad}
@@ -74,7 +74,9 @@ pub record StopsInFeed (old new : Held) (before after : List ℕ) : Type 0 where
   pub empty : old.ahead ≡ []
   pub unchanged : new ≡ old
 
--- the source's fault is answered only where its count rose
+-- the source's fault is answered only where its count rose, and without one the count is as before
 pub record HasSourceCause {T : Type 0} (result : Result T CaptureFault) (before now : ℕ) : Type 0 where
   pub later : before ≤ now
-  pub failed : result ≡ Err SourceFault → Rose before now
+  pub failed : result ≡ Err capture.SourceFault → Rose before now
+  pub sound : OnOk result (now ≡ before)
+  pub bad : (at : ℕ) → result ≡ Err (capture.Bad at) → now ≡ before

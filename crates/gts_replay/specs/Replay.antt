@@ -137,7 +137,13 @@ pub record Ends {O W : Type 0} (meanings : Standing O W) (station : Type 0) (kin
   pub fault : (fault : SwitchFault) → result ≡ end.Fault fault → StopsAtFault meanings kind o h observed fault old new bytes
   pub no_memory : result ≡ end.NoMemory → LacksMemory meanings station kind o h observed old new bytes
 
--- a fault of a device is answered only where its count rose, and no count falls
+-- a run that no device ended: the capture was read through its end, or its bytes are no capture
+abbrev pub IsUnfailed : ReplayEnd → Type 0
+IsUnfailed end.Done = Unit {0}
+IsUnfailed (end.Capture at) = Unit {0}
+IsUnfailed _ = ⊥
+
+-- A fault of a device is answered only where its count rose, and no count falls; where no device ended the run, none rose.
 pub record HasReplayCause (result : ReplayEnd) (disk disk_now say say_now source source_now : ℕ) : Type 0 where
   pub disk_later : disk ≤ disk_now
   pub say_later : say ≤ say_now
@@ -147,3 +153,4 @@ pub record HasReplayCause (result : ReplayEnd) (disk disk_now say say_now source
   pub reopen_failed : result ≡ end.Reopen opening.DiskFault → Rose disk disk_now
   pub say_failed : result ≡ end.Fault SayFault → Rose say say_now
   pub source_failed : result ≡ end.SourceFault → Rose source source_now
+  pub sound : IsUnfailed result → (disk_now ≡ disk) × (say_now ≡ say) × (source_now ≡ source)

@@ -1,12 +1,12 @@
 //! The rules of one directory that another one doesn't have.
 
 ghost use Rattle.std.specs.Prelude.{◌≡◌, ◌<◌, ◌^◌, ◌==◌, ◌&&◌, ◌++◌, nat_eq, length, IfOk, OnOk};
-ghost use Rattle.gts_report.specs.Cited.{AreRulesOf, Directory as DirectoryOf, MOST_CIRCUITS, bit_at, circuits_in, list_any, pointwise, rule_of_row};
+ghost use Rattle.gts_report.specs.Cited.{AreRulesOf, Directory as DirectoryOf, MOST_CIRCUITS, circuits_in, list_any, pointwise, rule_of_row};
 ghost use Rattle.gts_report.specs.Changes as changes;
 
 use crate::ReportText;
 use gts_alphabet::NoMemory;
-use gts_directory::{Directory, RuleRow, a_mask_is_told_by_its_bits, unpadded};
+use gts_directory::{CircuitSet, Directory, RuleRow, a_mask_is_told_by_its_bits, unpadded};
 use gts_dirfile::DirectoryFile;
 use std::alloc::Global;
 
@@ -18,45 +18,37 @@ fn is_among(rule: &RuleRow, rules: &[RuleRow]) -> bool
     rules.iter().any(|other| rule.heading == other.heading && rule.to == other.to)
 }
 
-/// Whether a mask has a bit.
-fn has_bit(mask: u64, bit: u32) -> bool
-    requires { bit < MOST_CIRCUITS }
-    ensures { result ≡ (bit_at mask bit == 1) }
-{
-    (mask >> bit) % 2 == 1
-}
-
-/// Adds the name of a circuit, where a mask has its bit.
+/// Adds the name of a circuit, where it is in a set.
 fn add_name(
     alloc: Global,
     text: &mut ReportText,
     directory: &Directory,
-    mask: u64,
+    circuits: CircuitSet,
     c: u32,
 ) -> Result<(), NoMemory>
     requires here { c < length directory.now.circuits }
     requires few { c < MOST_CIRCUITS }
-    ensures { OnOk result (text.new ≡ text.old ++ changes.name_text directory.now mask c) }
+    ensures { OnOk result (text.new ≡ text.old ++ changes.name_text directory.now circuits c) }
 {
-    if !has_bit(mask, c) {
+    if !circuits.has(c as usize) {
         return Ok(());
     }
     text.add(alloc, b" ")?;
     text.add(alloc, unpadded(&directory.circuit(c).name))
 }
 
-/// Adds the names of the circuits of a mask.
+/// Adds the names of the circuits of a set.
 fn add_names(
     alloc: Global,
     text: &mut ReportText,
     directory: &Directory,
-    mask: u64,
+    circuits: CircuitSet,
 ) -> Result<(), NoMemory>
     ensures { OnOk result (text.new ≡ text.old ++ changes.names_text directory.now
-        (circuits_in (length directory.now.circuits) mask)) }
+        (circuits_in (length directory.now.circuits) circuits)) }
 {
     for c in 0..directory.circuits() {
-        add_name(alloc, text, directory, mask, c)?;
+        add_name(alloc, text, directory, circuits, c)?;
     }
     Ok(())
 }

@@ -2,7 +2,7 @@ use gts_directory::Directory;
 use gts_memory::{MemSource, MemStation, Touched};
 use gts_parts_tests::{is_same, two_circuits};
 use gts_standby::{FollowEnd, ShipFault, follow, ship};
-use gts_traits::Station;
+use gts_traits::{JournalFile, Station};
 use std::alloc::Global;
 use std::process::Abort;
 use std::test::Fail;
@@ -66,7 +66,7 @@ fn write<P: Station>(station: &mut P, journal: &[u8]) -> Result<(), Fail> {
     if journal.len() > 1000 {
         return Err(Fail::from("too long"));
     }
-    station.write_at(0, 0, journal)?;
+    station.write_at(JournalFile::FIRST, 0, journal)?;
     Ok(())
 }
 
@@ -121,9 +121,9 @@ fn follows_both(alloc: Global, station: MemStation) -> Result<(MemStation, Follo
 fn a_feed_is_taken_into_an_empty_journal(rt: HostRuntime) -> Result<(), Fail> {
     let station = standby(rt.alloc(), EMPTY)?;
     let (station, end) = follows_both(rt.alloc(), station)?;
-    assert!(rt; end == FollowEnd::Done && is_same(station.file(0), BOTH));
+    assert!(rt; end == FollowEnd::Done && is_same(station.file(JournalFile::FIRST), BOTH));
     let (station, end) = follows_both(rt.alloc(), station)?;
-    assert!(rt; end == FollowEnd::Done && is_same(station.file(0), BOTH));
+    assert!(rt; end == FollowEnd::Done && is_same(station.file(JournalFile::FIRST), BOTH));
     Ok(())
 }
 
@@ -140,7 +140,7 @@ fn the_seals_of_records_that_differ_are_told(rt: HostRuntime) -> Result<(), Fail
     let station = standby(rt.alloc(), OTHER)?;
     let (station, end) = follows_both(rt.alloc(), station)?;
     assert!(rt; tells_both_seals(end));
-    assert!(rt; is_same(station.file(0), OTHER));
+    assert!(rt; is_same(station.file(JournalFile::FIRST), OTHER));
     Ok(())
 }
 
@@ -166,8 +166,8 @@ fn is_taken(
     let (standby, end) = followed(alloc, standby, directory, fed.feed)?;
     Ok(
         end == FollowEnd::Done
-            && is_same(standby.file(0), fed.first)
-            && is_same(standby.file(1), fed.second),
+            && is_same(standby.file(JournalFile::FIRST), fed.first)
+            && is_same(standby.file(JournalFile::SECOND), fed.second),
     )
 }
 
@@ -289,7 +289,10 @@ fn a_checkpoint_that_is_behind_is_of_another_history(rt: HostRuntime) -> Result<
     let (station, end) = followed(rt.alloc(), station, &directory, BEFORE)?;
     let is_other = matches!(end, FollowEnd::Diverged { index: 0, .. });
     assert!(rt; is_other);
-    assert!(rt; is_same(station.file(0), BOTH) && station.file(1).is_empty());
+    assert!(rt;
+        is_same(station.file(JournalFile::FIRST), BOTH)
+            && station.file(JournalFile::SECOND).is_empty()
+    );
     Ok(())
 }
 

@@ -1,6 +1,6 @@
 -- What is behind a place ends the feed.
-use Rattle.std.proofs.Common.{◌≡◌, ℕ, zero, suc, ◌+◌, ◌-◌, Bool, true, false, ◌&&◌, nat_eq, nat_le, List, [], ◌∷◌, ◌++◌, length, take, drop, Option, Some, None, inl, inr, refl, sym, ap, subst, ◌∙◌, arith, append_assoc, ◌==◌, ◌⊎◌}
-use Rattle.gts_standby.specs.Cited.{EndsWith, HasFront, IsBehindFront, Need, Record, Version, behind_at, behind_place, checkpoint_text, compacted_bytes, feed, feed_at, feed_behind, first_seal, found_since, held, is_checkpoint, need_in, open_gate, pointwise, record_at, record_size, record_text, same_text, seal, sealed, sealed_at, where_so}
+use Rattle.std.proofs.Common.{◌≡◌, ℕ, zero, suc, ◌+◌, ◌-◌, Bool, true, false, ◌&&◌, nat_eq, nat_le, List, [], ◌∷◌, ◌++◌, length, drop, Option, Some, None, inl, inr, refl, sym, ap, subst, ◌∙◌, arith, append_assoc, ◌==◌, ◌⊎◌}
+use Rattle.gts_standby.specs.Cited.{EndsWith, HasFront, IsBehindFront, Need, Record, Version, behind_at, behind_place, checkpoint_text, compacted_bytes, feed_at, feed_behind, first_seal, found_since, held, is_checkpoint, need_in, open_gate, pointwise, record_at, record_size, record_text, same_text, seal, sealed, sealed_at, where_so}
 use Rattle.std.proofs.lemmas.Bool.{and_parts}
 use Rattle.std.proofs.lemmas.List.{append-nil}
 use Rattle.gts_journal.proofs.LawLemmas.{one_back}

@@ -1,6 +1,6 @@
 -- Whether a feed has another record 0, by how it is answered.
 use Rattle.std.proofs.Common.{◌≡◌, zero, suc, ◌≤◌, ℕ, List, Result, Ok, Err, true, false, refl, sym, ◌∙◌, arith}
-use Rattle.gts_standby.specs.Cited.{DiskFault, Diverged, Done, Feed, FollowEnd, InFeed, IsFedEnd, IsLater, IsOwnEnd, KeepsOther, NoMemory, Open, OpenFault, ReadsAll, SourceFault, is_other, open_end}
+use Rattle.gts_standby.specs.Cited.{DiskFault, Diverged, Done, Feed, FollowEnd, InFeed, IsEnd, IsFedEnd, IsLater, IsOwnEnd, KeepsOther, NoMemory, Open, OpenFault, ReadsAll, SourceFault, is_other, open_end}
 use Rattle.gts_record.specs.declared.fault.OpenFault.TheVariants as opening
 
 pub fed_other : (answer : FollowEnd) → IsFedEnd answer → is_other answer ≡ false
@@ -48,3 +48,12 @@ other_all (Diverged index own fed) left other = tt
 other_all SourceFault left other = tt
 other_all DiskFault left other = tt
 other_all NoMemory left other = tt
+
+pub other_end : (answer : FollowEnd) → is_other answer ≡ true → IsEnd answer
+other_end Done other = tt
+other_end (Open fault) other = absurd (cc other)
+other_end (Feed at) other = tt
+other_end (Diverged index own fed) other = tt
+other_end SourceFault other = absurd (cc other)
+other_end DiskFault other = absurd (cc other)
+other_end NoMemory other = absurd (cc other)

@@ -2,9 +2,9 @@
 use Rattle.std.proofs.Common.{◌≡◌, ℕ, ◌+◌, ◌*◌, ◌-◌, ◌^◌, ◌<◌, ◌≤◌, Bool, true, false, cond, ◌&&◌, List, [], ◌∷◌, ◌++◌, length, take, drop, Option, Some, None, Ok, Err, nat_eq, nat_le, refl, sym, ap, subst, ◌∙◌, arith, length-append, not}
 use Rattle.gts_standby.specs.Cited.{Damaged, Directory, Ends, Files, InFeed, IsCheckpoint, Need, Parts, Piece, Read, Sealed, State, Taken, add_all, admits_checkpoint, begin_first, begin_with, begun, behind_checkpoint, by_piece, checkpoint_piece, checkpoint_text, comes_to, compacted_bytes, compare_all, compare_first, compared, draw_size, due, empty, feed, feed_at, feed_behind, file_opens, files_read, first_seal, header_fault, is_behind, is_bulletin, is_checkpoint, is_checkpoint_fed, is_further, is_sealed, is_sound, list_all, magic, need, need_in, or_anew, own_seals, pointwise, read_after, read_begun, read_behind, records_at, seal, seal_size, sealed, selected, selected_bytes, starts_with, stopped, take_records, taken, unowed, written}
 use Rattle.std.proofs.lemmas.Bool.{and_parts, leb-true}
-use Rattle.std.proofs.lemmas.Bool.Decides.{nat_tests}
+use Rattle.std.proofs.Math.Seq.{take-append_seam}
 use Rattle.std.proofs.lemmas.List.{append-nil, append_assoc}
-use Rattle.gts_record.proofs.LawLemmas.{length-sealed}
+use Rattle.gts_record.proofs.LawLemmas.{length-sealed, starts_with-append}
 use Rattle.gts_opening.proofs.CheckpointLemmas.{need_in-text}
 use Rattle.gts_opening.proofs.FileLemmas.{fits-sound}
 use Rattle.gts_opening.proofs.LawLemmas.{magic_size}
@@ -107,12 +107,8 @@ module _ (d : Directory) (file : ℕ) (bytes : List ℕ) (x : State × ℕ × Li
   there : whole ≤ length sent
   there = omega (arith, length-append (sealed written first text) rest, length-sealed written first text)
 
-  take_text : (xs ys : List ℕ) → take (length xs) (xs ++ ys) ≡ xs
-  take_text [] ys = refl
-  take_text (x ∷ xs) ys = ap (λ (l : List ℕ). x ∷ l) (take_text xs ys)
-
   front : take (length text) sent ≡ text
-  front = ap (take (length text)) sent_is ∙ take_text text (last ++ rest)
+  front = ap (take (length text)) sent_is ∙ take-append_seam text (last ++ rest)
 
   behind : drop (length text) sent ≡ last ++ rest
   behind = ap (drop (length text)) sent_is ∙ drop_text text (last ++ rest) (length text) refl
@@ -121,14 +117,7 @@ module _ (d : Directory) (file : ℕ) (bytes : List ℕ) (x : State × ℕ × Li
   starts_seal =
       ap (λ (l : List ℕ). starts_with nat_eq l (seal written first (take (length text) sent))) behind
       ∙ ap (λ (l : List ℕ). starts_with nat_eq (last ++ rest) (seal written first l)) front
-      ∙ begins last rest
-    where
-      same : (m : ℕ) → nat_eq m m ≡ true
-      same m = grind (arith, nat_tests)
-
-      begins : (xs ys : List ℕ) → starts_with nat_eq (xs ++ ys) xs ≡ true
-      begins [] ys = refl
-      begins (x ∷ xs) ys = ap (λ (b : Bool). b && starts_with nat_eq (xs ++ ys) xs) (same x) ∙ begins xs ys
+      ∙ starts_with-append last rest
 
   pub piece : checkpoint_piece written d.limit first sent ≡ Sealed whole last
   piece =

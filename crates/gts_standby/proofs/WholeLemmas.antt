@@ -1,6 +1,6 @@
 -- At the end of a feed its source has no more.
-use Rattle.std.proofs.Common.{◌≡◌, ◌⊎◌, inl, inr, ℕ, List, ◌++◌, refl, sym, subst}
-use Rattle.gts_standby.specs.Cited.{DiskFault, Diverged, Done, Feed, FollowEnd, HasRead, InFeed, IsOwnEnd, IsPutEnd, IsReadEnd, IsUnsealed, IsWhole, NoMemory, Open, OpenFault, ReadsAll, SourceFault, StopsAs, Taken, Version, open_end}
+use Rattle.std.proofs.Common.{◌≡◌, ◌⊎◌, inl, inr, ℕ, List, ◌++◌, refl, sym, ◌∙◌, subst}
+use Rattle.gts_standby.specs.Cited.{DiskFault, Diverged, Done, Feed, FollowEnd, HasRead, InFeed, IsEnd, IsOwnEnd, IsPutEnd, IsReadEnd, IsUnsealed, IsWhole, NoMemory, Open, OpenFault, ReadsAll, SourceFault, StopsAs, Taken, Version, open_end}
 use Rattle.gts_record.specs.declared.fault.OpenFault.TheVariants as opening
 
 pub whole_read : (ahead : InFeed) (left : List ℕ) → IsWhole ahead left → HasRead (ahead.bytes ++ left) ahead left
@@ -63,3 +63,11 @@ looked_all NoMemory v ahead at left unsealed whole = tt
 pub finished_all : (P : Type 0) (answer end : FollowEnd) (left : List ℕ) → ((answer ≡ end) × P) ⊎ (answer ≡ DiskFault) → ReadsAll end left → ReadsAll answer left
 finished_all P answer end left (inl same) all = subst (λ (e : FollowEnd). ReadsAll e left) (sym same.0) all
 finished_all P answer end left (inr disk) all = subst (λ (e : FollowEnd). ReadsAll e left) (sym disk) tt
+
+pub finished_end : (P : Type 0) (answer end : FollowEnd) → ((answer ≡ end) × P) ⊎ (answer ≡ DiskFault) → IsEnd answer → IsEnd end
+finished_end P answer end (inl same) is = subst IsEnd same.0 is
+finished_end P answer end (inr disk) is = absurd (subst IsEnd disk is)
+
+pub finished_source : (P : Type 0) (answer end : FollowEnd) → ((answer ≡ end) × P) ⊎ (answer ≡ DiskFault) → answer ≡ SourceFault → end ≡ SourceFault
+finished_source P answer end (inl same) is = sym same.0 ∙ is
+finished_source P answer end (inr disk) is = let both : DiskFault ≡ SourceFault = sym disk ∙ is in absurd (cc both)

@@ -1,6 +1,6 @@
 -- What it is that a journal begins with the checkpoint of a feed: one without records, or one that begins anew.
-use Rattle.std.specs.Prelude.{◌≡◌, ℕ, ◌+◌, List, [], length, drop, Some, Result, Ok, Err}
-use Rattle.gts_standby.specs.Cited.Below.{Call, Core, Directory, EachSince, InHand, Need, State, begun, checkpoint_text, compacted_bytes, first_seal, need_in, said_by, seal, written}
+use Rattle.std.specs.Prelude.{◌≡◌, ℕ, ◌+◌, List, length, drop, Some, Result, Ok, Err}
+use Rattle.gts_standby.specs.Cited.Below.{Call, Core, Directory, EachSince, InHand, Need, StandsFor, State, begun, checkpoint_text, compacted_bytes, first_seal, need_in, said_by, seal, written}
 use Rattle.gts_standby.specs.declared.end.FollowEnd.{FollowEnd}
 use Rattle.gts_standby.specs.declared.end.FollowEnd.TheVariants.{DiskFault, NoMemory}
 use Rattle.gts_standby.specs.Ahead.{InFeed}
@@ -14,6 +14,10 @@ abbrev pub IsPutEnd : FollowEnd → Type 0
 IsPutEnd DiskFault = Unit {0}
 IsPutEnd NoMemory = Unit {0}
 IsPutEnd end = ⊥
+
+-- a crash since leaves the journal as it was, or as it begins with the checkpoint of this need
+abbrev pub MayBegin : Directory → Need → List Call → InHand → List Call → Type 0
+MayBegin d n old j new = (s : State) → StandsFor d s old j → EachSince old new (ReadsToOneOf d (read_at s j) (read_anew d n))
 
 -- The journal begins with the checkpoint that stands at the front of the feed's records, and its seal; the feed goes on behind them.
 pub record HasBegun (observed : Type 0) (d : Directory) (from : State × ℕ × List ℕ) (fed : List ℕ) (old : List Call) (at : ℕ)

@@ -1,5 +1,5 @@
 -- What of a feed is sent to a standby station that has a first part of it (profile).
-use Rattle.std.specs.Prelude.{◌≡◌, ◌<◌, ℕ, zero, suc, ◌+◌, ◌-◌, ◌≤◌, Bool, true, false, ◌==◌, ◌&&◌, nat_le, nat_eq, if◌then◌else◌, ◌⊎◌, List, [], ◌∷◌, ◌++◌, length, take, drop, Option, Some, None, Result, Ok, Err}
+use Rattle.std.specs.Prelude.{◌≡◌, ℕ, zero, suc, ◌+◌, ◌-◌, ◌≤◌, Bool, true, false, ◌==◌, ◌&&◌, nat_le, nat_eq, if◌then◌else◌, ◌⊎◌, List, [], ◌∷◌, ◌++◌, length, take, drop, Option, Some, None, Result, Ok, Err}
 use Rattle.gts_standby.specs.Cited.Below.{Call, Directory, InHand, Need, Record, State, Version, checkpoint_text, compacted_bytes, file_of, first_seal, held, is_checkpoint, need_in, open_gate, pointwise, record_size, record_text, records_at, seal, sealed_at, seen, selected_bytes, written}
 use Rattle.gts_standby.specs.declared.since.Since.{Since}
 use Rattle.gts_standby.specs.declared.fault.ShipFault.{ShipFault}

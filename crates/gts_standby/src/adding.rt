@@ -1,13 +1,12 @@
 //! The records of a feed that a journal doesn't have are added to it.
 ghost use Rattle.std.specs.Prelude.{◌≡◌, ◌≤◌, ◌^◌};
-ghost use Rattle.gts_standby.specs.Cited.{AddsAll, IsAddEnd, IsOpened, IsWhole, KeepsAllCounts, ReadsAll, Rose, said_by};
+ghost use Rattle.gts_standby.specs.Cited.{AddsAll, HasEndCounts, IsAddEnd, IsOpened, IsWhole, ReadsAll, said_by};
 
 use crate::FollowEnd;
 use crate::ahead::Ahead;
 use crate::gathering::Gathering;
-use gts_core::Core;
+use crate::standby::Standby;
 use gts_directory::Directory;
-use gts_journal::Journal;
 use gts_traits::{NoMemory, Source, Station};
 use std::alloc::Global;
 
@@ -17,24 +16,20 @@ pub(crate) fn add_all<P: Station, S: Source>(
     alloc: Global,
     station: &mut P,
     directory: &Directory,
-    core: Core,
-    journal: Journal,
+    standby: Standby,
     source: &mut S,
     ahead: &mut Ahead,
     at: u64,
 ) -> FollowEnd
-    requires opened { IsOpened P.observed directory.now (P.calls station.old) core journal }
+    requires opened { IsOpened P.observed directory.now (P.calls station.old)
+        standby.core standby.journal }
     requires place { at ≤ 2 ^ 62 }
     ensures added { P.observed → S.observed → AddsAll result P.observed directory.now at
-        (P.calls station.old) core journal ahead.old (S.left source.old) (P.calls station.new)
-        (S.left source.new) }
+        (P.calls station.old) standby.core standby.journal ahead.old (S.left source.old)
+        (P.calls station.new) (S.left source.new) }
     ensures kind { IsAddEnd result }
     ensures silent { P.observed → said_by (P.calls station.new) ≡ said_by (P.calls station.old) }
-    ensures source_fault { result ≡ FollowEnd.SourceFault
-        → Rose (S.faults source.old) (S.faults source.new) }
-    ensures disk_fault { result ≡ FollowEnd.DiskFault
-        → Rose (P.disk_faults station.old) (P.disk_faults station.new) }
-    ensures counts { KeepsAllCounts (P.disk_faults station.old) (P.disk_faults station.new)
+    ensures counts { HasEndCounts result (P.disk_faults station.old) (P.disk_faults station.new)
         (P.say_faults station.old) (P.say_faults station.new) (S.faults source.old)
         (S.faults source.new) }
     ensures whole { S.observed → IsWhole ahead.old (S.left source.old)
@@ -42,11 +37,11 @@ pub(crate) fn add_all<P: Station, S: Source>(
 {
     // A limit is low enough for the places of gates.
     directory.bounds_hold();
+    let Standby { mut core, journal } = standby;
     let mut gathering = match Gathering::begin(alloc, journal) {
         Ok(gathering) => gathering,
         Err(NoMemory) => return FollowEnd::NoMemory,
     };
-    let mut core = core;
     let mut at = at;
     loop {
         if let Err(end) = gathering.make_room(station, directory, ahead) {

@@ -1,6 +1,6 @@
 //! The bytes of a feed that were read ahead.
 ghost use Rattle.std.specs.Prelude.{◌≡◌, ◌⊎◌, ◌≤◌, ◌<◌, ◌^◌, ℕ, List, true, false, length, drop, OnOk, IfErr, IsErrOf};
-ghost use Rattle.gts_standby.specs.Cited.{HasRead, IsReadEnd, Rose, unread};
+ghost use Rattle.gts_standby.specs.Cited.{HasRead, IsReadEnd, IsStill, Rose, unread};
 
 use crate::FollowEnd;
 use gts_traits::{Failed, Source};
@@ -95,6 +95,7 @@ impl Ahead {
         ensures source_fault { IsErrOf result FollowEnd.SourceFault
             → Rose (S.faults source.old) (S.faults source.new) }
         ensures later { S.faults source.old ≤ S.faults source.new }
+        ensures sound { IsStill result → S.faults source.new ≡ S.faults source.old }
     {
         let mut piece = [0u8; PIECE];
         let count = match source.read(&mut piece) {
@@ -122,6 +123,7 @@ impl Ahead {
         ensures source_fault { IsErrOf result FollowEnd.SourceFault
             → Rose (S.faults source.old) (S.faults source.new) }
         ensures later { S.faults source.old ≤ S.faults source.new }
+        ensures sound { IsStill result → S.faults source.new ≡ S.faults source.old }
     {
         if self.len() < want && !self.is_all {
             self.settle();

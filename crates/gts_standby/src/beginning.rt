@@ -1,6 +1,6 @@
 //! A journal begins with the checkpoint of a feed: one without records, or one that begins anew.
-ghost use Rattle.std.specs.Prelude.{◌≡◌, ◌+◌, ◌≤◌, ◌^◌, true, length, IfOk, IfErr, OnOk, IsErrOf, IsTrue};
-ghost use Rattle.gts_standby.specs.Cited.{BeginsAny, EachSince, FitsLimit, IsAddEnd, IsOpened, IsPutEnd, IsWhole, KeepsAllCounts, KeepsCounts, ReadsToOneOf, Rose, StandsFor, StandsOn, State, StaysWhole, begun, checkpoint_text, compacted_bytes, is_sound, need_of, need_seal, read_anew, read_at, said_by, unowed, written};
+ghost use Rattle.std.specs.Prelude.{◌≡◌, ◌+◌, ◌≤◌, ◌^◌, true, length, IfOk, IfErr, OnOk, IsErrOf, IsTrue, IsOk};
+ghost use Rattle.gts_standby.specs.Cited.{BeginsAny, FitsLimit, IsAddEnd, IsOpened, IsPutEnd, IsStill, IsWhole, KeepsAllCounts, KeepsCounts, MayBegin, Rose, StandsFor, StandsOn, State, StaysWhole, begun, checkpoint_text, compacted_bytes, is_sound, need_of, need_seal, said_by, unowed, written};
 
 use crate::FollowEnd;
 use crate::ahead::Ahead;
@@ -39,20 +39,18 @@ fn put<P: Station>(
     ensures ended { OnOk result (journal.new.ended ≡ true) }
 
     // A crash at any moment leaves the journal as it was, or as it begins with the checkpoint.
-    ensures moments { P.observed → (s : State) → StandsFor directory.now s (P.calls station.old)
-        journal.old → EachSince (P.calls station.old) (P.calls station.new)
-        (ReadsToOneOf directory.now (read_at s journal.old)
-        (read_anew directory.now (need_of need.now))) }
+    ensures moments { P.observed → MayBegin directory.now (need_of need.now)
+        (P.calls station.old) journal.old (P.calls station.new) }
     ensures silent { P.observed → said_by (P.calls station.new) ≡ said_by (P.calls station.old) }
     ensures kind { IfErr result IsPutEnd }
     ensures disk_fault { IsErrOf result FollowEnd.DiskFault
         → Rose (P.disk_faults station.old) (P.disk_faults station.new) }
-    ensures counts { KeepsCounts (P.disk_faults station.old) (P.disk_faults station.new)
-        (P.say_faults station.old) (P.say_faults station.new) }
+    ensures counts { KeepsCounts (IsOk result) (P.disk_faults station.old)
+        (P.disk_faults station.new) (P.say_faults station.old) (P.say_faults station.new) }
 {
     // A directory is within its bounds.
     directory.bounds_hold();
-    let other = 1 - journal.file();
+    let other = journal.file().other();
     let used = BESIDE_CHECKPOINT + Version::written().seal_size() as u64 + size as u64;
     let seal = match write(alloc, station, other, directory.mark(), need) {
         Ok(seal) => seal,
@@ -78,9 +76,8 @@ pub(crate) fn begin<P: Station, S: Source>(
 ) -> Result<(Core, u64), FollowEnd>
     requires { IsOpened P.observed directory.now (P.calls station.old) core.now journal.old }
     ensures begun { P.observed → S.observed → BeginsAny result P.observed directory.now
-        (P.calls station.old)
-        core.now journal.old ahead.old (S.left source.old) (P.calls station.new) journal.new
-        ahead.new (S.left source.new) }
+        (P.calls station.old) core.now journal.old ahead.old (S.left source.old)
+        (P.calls station.new) journal.new ahead.new (S.left source.new) }
     ensures opened { IfOk result (λ found.
         IsOpened P.observed directory.now (P.calls station.new) found.0 journal.new) }
     ensures place { IfOk result (λ found. found.1 ≤ 2 ^ 62) }
@@ -90,9 +87,9 @@ pub(crate) fn begin<P: Station, S: Source>(
         → Rose (S.faults source.old) (S.faults source.new) }
     ensures disk_fault { IsErrOf result FollowEnd.DiskFault
         → Rose (P.disk_faults station.old) (P.disk_faults station.new) }
-    ensures counts { KeepsAllCounts (P.disk_faults station.old) (P.disk_faults station.new)
-        (P.say_faults station.old) (P.say_faults station.new) (S.faults source.old)
-        (S.faults source.new) }
+    ensures counts { KeepsAllCounts (IsStill result) (P.disk_faults station.old)
+        (P.disk_faults station.new) (P.say_faults station.old) (P.say_faults station.new)
+        (S.faults source.old) (S.faults source.new) }
     ensures whole { S.observed → IsWhole ahead.old (S.left source.old)
         → StaysWhole result ahead.new (S.left source.new) }
 {

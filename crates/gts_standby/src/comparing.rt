@@ -1,6 +1,6 @@
 //! The records that a journal has are compared with those of a feed.
-ghost use Rattle.std.specs.Prelude.{◌≡◌, ◌≤◌, ◌<◌, ◌^◌, ℕ, false, List, nat_eq, length, IfOk, IfErr, OnOk, IsErrOf};
-ghost use Rattle.gts_standby.specs.Cited.{ComparesAll, ComparesFirstOfAny, ComparesNext, ComparesRest, FindsPiece, GoesOn, HasRead, IsAtFirst, IsFedEnd, IsLater, IsNamedEnd, IsOwnEnd, IsWhole, KeepsAllCounts, KeepsCounts, KeepsOther, OnlySyncs, OwnGoesOn, Rose, StandsOn, StaysWhole, first_piece, held, is_other, pointwise, seals_here, written};
+ghost use Rattle.std.specs.Prelude.{◌≡◌, ◌≤◌, ◌<◌, ◌^◌, ℕ, false, List, nat_eq, length, IfOk, IfErr, OnOk, IsErrOf, IsOk};
+ghost use Rattle.gts_standby.specs.Cited.{ComparesAll, ComparesFirstOfAny, ComparesNext, ComparesRest, FindsPiece, GoesOn, HasRead, IsAtFirst, IsFedEnd, IsLater, IsNamedEnd, IsOwnEnd, IsStill, IsWhole, KeepsAllCounts, KeepsCounts, KeepsOther, OnlySyncs, OwnGoesOn, Rose, StandsOn, StaysWhole, first_piece, held, is_other, pointwise, seals_here, written};
 
 use crate::FollowEnd;
 use crate::ahead::Ahead;
@@ -50,8 +50,8 @@ fn own_first<P: Station>(
     ensures told { P.observed → P.calls station.new ≡ P.calls station.old }
     ensures disk_fault { IsErrOf result FollowEnd.DiskFault
         → Rose (P.disk_faults station.old) (P.disk_faults station.new) }
-    ensures counts { KeepsCounts (P.disk_faults station.old) (P.disk_faults station.new)
-        (P.say_faults station.old) (P.say_faults station.new) }
+    ensures counts { KeepsCounts (IsOk result) (P.disk_faults station.old)
+        (P.disk_faults station.new) (P.say_faults station.old) (P.say_faults station.new) }
     ensures named { IfErr result IsNamedEnd }
 {
     if !own.at_checkpoint() {
@@ -85,6 +85,7 @@ fn fed_first<S: Source>(
     ensures source_fault { IsErrOf result FollowEnd.SourceFault
         → Rose (S.faults source.old) (S.faults source.new) }
     ensures source_later { S.faults source.old ≤ S.faults source.new }
+    ensures sound { IsStill result → S.faults source.new ≡ S.faults source.old }
 {
     if is_at_checkpoint(source, ahead)? {
         fed_checkpoint(source, ahead, limit, version, before)
@@ -116,9 +117,9 @@ fn compare_first<P: Station, S: Source>(
     ensures told { P.observed → P.calls station.new ≡ P.calls station.old }
     ensures disk_fault { IsErrOf result FollowEnd.DiskFault
         → Rose (P.disk_faults station.old) (P.disk_faults station.new) }
-    ensures counts { KeepsAllCounts (P.disk_faults station.old) (P.disk_faults station.new)
-        (P.say_faults station.old) (P.say_faults station.new) (S.faults source.old)
-        (S.faults source.new) }
+    ensures counts { KeepsAllCounts (IsStill result) (P.disk_faults station.old)
+        (P.disk_faults station.new) (P.say_faults station.old) (P.say_faults station.new)
+        (S.faults source.old) (S.faults source.new) }
     ensures source_fault { IsErrOf result FollowEnd.SourceFault
         → Rose (S.faults source.old) (S.faults source.new) }
     ensures whole { S.observed → IsWhole ahead.old (S.left source.old)
@@ -165,9 +166,9 @@ fn compare_next<P: Station, S: Source>(
     ensures told { P.observed → P.calls station.new ≡ P.calls station.old }
     ensures disk_fault { IsErrOf result FollowEnd.DiskFault
         → Rose (P.disk_faults station.old) (P.disk_faults station.new) }
-    ensures counts { KeepsAllCounts (P.disk_faults station.old) (P.disk_faults station.new)
-        (P.say_faults station.old) (P.say_faults station.new) (S.faults source.old)
-        (S.faults source.new) }
+    ensures counts { KeepsAllCounts (IsStill result) (P.disk_faults station.old)
+        (P.disk_faults station.new) (P.say_faults station.old) (P.say_faults station.new)
+        (S.faults source.old) (S.faults source.new) }
     ensures source_fault { IsErrOf result FollowEnd.SourceFault
         → Rose (S.faults source.old) (S.faults source.new) }
     ensures whole { S.observed → IsWhole ahead.old (S.left source.old)
@@ -214,9 +215,9 @@ fn compare_rest<P: Station, S: Source>(
     ensures place { IfOk result (λ at. at ≤ 2 ^ 62) }
     ensures disk_fault { IsErrOf result FollowEnd.DiskFault
         → Rose (P.disk_faults station.old) (P.disk_faults station.new) }
-    ensures counts { KeepsAllCounts (P.disk_faults station.old) (P.disk_faults station.new)
-        (P.say_faults station.old) (P.say_faults station.new) (S.faults source.old)
-        (S.faults source.new) }
+    ensures counts { KeepsAllCounts (IsStill result) (P.disk_faults station.old)
+        (P.disk_faults station.new) (P.say_faults station.old) (P.say_faults station.new)
+        (S.faults source.old) (S.faults source.new) }
     ensures source_fault { IsErrOf result FollowEnd.SourceFault
         → Rose (S.faults source.old) (S.faults source.new) }
     ensures whole { S.observed → IsWhole ahead.old (S.left source.old)
@@ -253,9 +254,9 @@ pub(crate) fn compare<P: Station, S: Source>(
     ensures place { IfOk result (λ at. at ≤ 2 ^ 62) }
     ensures disk_fault { IsErrOf result FollowEnd.DiskFault
         → Rose (P.disk_faults station.old) (P.disk_faults station.new) }
-    ensures counts { KeepsAllCounts (P.disk_faults station.old) (P.disk_faults station.new)
-        (P.say_faults station.old) (P.say_faults station.new) (S.faults source.old)
-        (S.faults source.new) }
+    ensures counts { KeepsAllCounts (IsStill result) (P.disk_faults station.old)
+        (P.disk_faults station.new) (P.say_faults station.old) (P.say_faults station.new)
+        (S.faults source.old) (S.faults source.new) }
     ensures source_fault { IsErrOf result FollowEnd.SourceFault
         → Rose (S.faults source.old) (S.faults source.new) }
     ensures whole { S.observed → IsWhole ahead.old (S.left source.old)

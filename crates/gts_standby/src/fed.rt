@@ -1,6 +1,6 @@
 //! The next record of a feed.
 ghost use Rattle.std.specs.Prelude.{◌≡◌, ◌≤◌, ◌+◌, ◌++◌, ℕ, List, true, is_some, length, drop, replicate, IfOk, IfErr, IsErrOf};
-ghost use Rattle.gts_standby.specs.Cited.{Breaks, Ends, FindsPiece, HasRead, IsFedEnd, IsLookedEnd, IsUnsealed, Rose, held, may_be_cut, may_begin, record_piece, stopped};
+ghost use Rattle.gts_standby.specs.Cited.{Breaks, Ends, FindsPiece, HasRead, IsFedEnd, IsLookedEnd, IsStill, IsUnsealed, Rose, held, may_be_cut, may_begin, record_piece, stopped};
 ghost use Rattle.gts_record.specs.Record.{record_at};
 
 use crate::FollowEnd;
@@ -99,6 +99,7 @@ pub(crate) fn fed_record<S: Source>(
     ensures source_fault { IsErrOf result FollowEnd.SourceFault
         → Rose (S.faults source.old) (S.faults source.new) }
     ensures later { S.faults source.old ≤ S.faults source.new }
+    ensures sound { IsStill result → S.faults source.new ≡ S.faults source.old }
 {
     ahead.fill(source, LONGEST)?;
     match decode_sealed(version, before, ahead.bytes()) {

@@ -1,5 +1,5 @@
 ghost use Rattle.std.specs.Prelude.{◌≡◌, true, []};
-ghost use Rattle.gts_standby.specs.Cited.{AddsAllOf, Answers, IsAddEnd, IsNamedEnd, IsOpened, IsWhole, KeepsAllCounts, LeavesAlone, LeavesFronts, LeavesUnopened, ReadsAll, Rose, TakesCheckpoint, TakesFirst, TakesOther, TakesRecords, comes_to, is_other, said_by, seen};
+ghost use Rattle.gts_standby.specs.Cited.{AddsAllOf, Answers, HasEndCounts, IsAddEnd, IsNamedEnd, IsOpened, IsWhole, LeavesAlone, LeavesFronts, LeavesUnopened, ReadsAll, TakesCheckpoint, TakesFirst, TakesOther, TakesRecords, comes_to, is_other, said_by, seen};
 
 use crate::FollowEnd;
 use crate::adding::add_all;
@@ -9,9 +9,8 @@ use crate::comparing::{compare, is_other};
 use crate::further::is_further;
 use crate::header::take_header;
 use crate::scanning::is_at_checkpoint;
-use gts_core::Core;
+use crate::standby::Standby;
 use gts_directory::Directory;
-use gts_journal::Journal;
 use gts_record::HEADER;
 use gts_recovery::open_core;
 use gts_traits::{Source, Station};
@@ -22,28 +21,24 @@ fn take_checkpoint<P: Station, S: Source>(
     alloc: Global,
     station: &mut P,
     directory: &Directory,
-    core: Core,
-    journal: Journal,
+    standby: Standby,
     source: &mut S,
     ahead: &mut Ahead,
 ) -> FollowEnd
-    requires { IsOpened P.observed directory.now (P.calls station.old) core journal }
+    requires { IsOpened P.observed directory.now (P.calls station.old)
+        standby.core standby.journal }
     ensures taken { P.observed → S.observed → TakesCheckpoint result P.observed directory.now
-        (P.calls station.old) core journal ahead.old (S.left source.old) (P.calls station.new)
-        (S.left source.new) }
+        (P.calls station.old) standby.core standby.journal ahead.old (S.left source.old)
+        (P.calls station.new) (S.left source.new) }
     ensures kind { IsAddEnd result }
     ensures silent { P.observed → said_by (P.calls station.new) ≡ said_by (P.calls station.old) }
-    ensures source_fault { result ≡ FollowEnd.SourceFault
-        → Rose (S.faults source.old) (S.faults source.new) }
-    ensures disk_fault { result ≡ FollowEnd.DiskFault
-        → Rose (P.disk_faults station.old) (P.disk_faults station.new) }
-    ensures counts { KeepsAllCounts (P.disk_faults station.old) (P.disk_faults station.new)
+    ensures counts { HasEndCounts result (P.disk_faults station.old) (P.disk_faults station.new)
         (P.say_faults station.old) (P.say_faults station.new) (S.faults source.old)
         (S.faults source.new) }
     ensures whole { S.observed → IsWhole ahead.old (S.left source.old)
         → ReadsAll result (S.left source.new) }
 {
-    let mut journal = journal;
+    let Standby { core, mut journal } = standby;
     match begin(
         alloc,
         station,
@@ -53,7 +48,10 @@ fn take_checkpoint<P: Station, S: Source>(
         source,
         ahead,
     ) {
-        Ok((core, at)) => add_all(alloc, station, directory, core, journal, source, ahead, at),
+        Ok((core, at)) => {
+            let standby = Standby { core, journal };
+            add_all(alloc, station, directory, standby, source, ahead, at)
+        }
         Err(end) => end,
     }
 }
@@ -63,32 +61,28 @@ fn take_first<P: Station, S: Source>(
     alloc: Global,
     station: &mut P,
     directory: &Directory,
-    core: Core,
-    journal: Journal,
+    standby: Standby,
     source: &mut S,
     ahead: &mut Ahead,
 ) -> FollowEnd
-    requires { IsOpened P.observed directory.now (P.calls station.old) core journal }
+    requires { IsOpened P.observed directory.now (P.calls station.old)
+        standby.core standby.journal }
     ensures taken { P.observed → S.observed → TakesFirst result P.observed directory.now
-        (P.calls station.old) core journal ahead.old (S.left source.old) (P.calls station.new)
-        (S.left source.new) }
+        (P.calls station.old) standby.core standby.journal ahead.old (S.left source.old)
+        (P.calls station.new) (S.left source.new) }
     ensures kind { IsAddEnd result }
     ensures silent { P.observed → said_by (P.calls station.new) ≡ said_by (P.calls station.old) }
-    ensures source_fault { result ≡ FollowEnd.SourceFault
-        → Rose (S.faults source.old) (S.faults source.new) }
-    ensures disk_fault { result ≡ FollowEnd.DiskFault
-        → Rose (P.disk_faults station.old) (P.disk_faults station.new) }
-    ensures counts { KeepsAllCounts (P.disk_faults station.old) (P.disk_faults station.new)
+    ensures counts { HasEndCounts result (P.disk_faults station.old) (P.disk_faults station.new)
         (P.say_faults station.old) (P.say_faults station.new) (S.faults source.old)
         (S.faults source.new) }
     ensures whole { S.observed → IsWhole ahead.old (S.left source.old)
         → ReadsAll result (S.left source.new) }
 {
     match is_at_checkpoint(source, ahead) {
-        Ok(true) => take_checkpoint(alloc, station, directory, core, journal, source, ahead),
+        Ok(true) => take_checkpoint(alloc, station, directory, standby, source, ahead),
         Ok(false) => {
             let at = HEADER as u64;
-            add_all(alloc, station, directory, core, journal, source, ahead, at)
+            add_all(alloc, station, directory, standby, source, ahead, at)
         }
         Err(end) => end,
     }
@@ -100,31 +94,27 @@ fn take_other<P: Station, S: Source>(
     alloc: Global,
     station: &mut P,
     directory: &Directory,
-    core: Core,
-    journal: Journal,
+    standby: Standby,
     source: &mut S,
     ahead: &mut Ahead,
     compared: FollowEnd,
 ) -> FollowEnd
-    requires opened { IsOpened P.observed directory.now (P.calls station.old) core journal }
+    requires opened { IsOpened P.observed directory.now (P.calls station.old)
+        standby.core standby.journal }
     requires other { is_other compared ≡ true }
     ensures taken { P.observed → S.observed → TakesOther compared result P.observed directory.now
-        (P.calls station.old) core journal ahead.old (S.left source.old) (P.calls station.new)
-        (S.left source.new) }
+        (P.calls station.old) standby.core standby.journal ahead.old (S.left source.old)
+        (P.calls station.new) (S.left source.new) }
     ensures silent { P.observed → said_by (P.calls station.new) ≡ said_by (P.calls station.old) }
-    ensures source_fault { result ≡ FollowEnd.SourceFault
-        → Rose (S.faults source.old) (S.faults source.new) }
-    ensures disk_fault { result ≡ FollowEnd.DiskFault
-        → Rose (P.disk_faults station.old) (P.disk_faults station.new) }
-    ensures counts { KeepsAllCounts (P.disk_faults station.old) (P.disk_faults station.new)
+    ensures counts { HasEndCounts result (P.disk_faults station.old) (P.disk_faults station.new)
         (P.say_faults station.old) (P.say_faults station.new) (S.faults source.old)
         (S.faults source.new) }
     ensures whole { S.observed → IsWhole ahead.old (S.left source.old)
         → ReadsAll result (S.left source.new) }
     ensures named { IsNamedEnd result }
 {
-    match is_further(alloc, directory, &core, source, ahead) {
-        Ok(true) => take_checkpoint(alloc, station, directory, core, journal, source, ahead),
+    match is_further(alloc, directory, &standby.core, source, ahead) {
+        Ok(true) => take_checkpoint(alloc, station, directory, standby, source, ahead),
         Ok(false) => compared,
         Err(end) => end,
     }
@@ -135,21 +125,17 @@ fn take_records<P: Station, S: Source>(
     alloc: Global,
     station: &mut P,
     directory: &Directory,
-    core: Core,
-    journal: Journal,
+    standby: Standby,
     source: &mut S,
     ahead: &mut Ahead,
 ) -> FollowEnd
-    requires { IsOpened P.observed directory.now (P.calls station.old) core journal }
+    requires { IsOpened P.observed directory.now (P.calls station.old)
+        standby.core standby.journal }
     ensures taken { P.observed → S.observed → TakesRecords result P.observed directory.now
-        (P.calls station.old) core journal ahead.old (S.left source.old) (P.calls station.new)
-        (S.left source.new) }
+        (P.calls station.old) standby.core standby.journal ahead.old (S.left source.old)
+        (P.calls station.new) (S.left source.new) }
     ensures silent { P.observed → said_by (P.calls station.new) ≡ said_by (P.calls station.old) }
-    ensures source_fault { result ≡ FollowEnd.SourceFault
-        → Rose (S.faults source.old) (S.faults source.new) }
-    ensures disk_fault { result ≡ FollowEnd.DiskFault
-        → Rose (P.disk_faults station.old) (P.disk_faults station.new) }
-    ensures counts { KeepsAllCounts (P.disk_faults station.old) (P.disk_faults station.new)
+    ensures counts { HasEndCounts result (P.disk_faults station.old) (P.disk_faults station.new)
         (P.say_faults station.old) (P.say_faults station.new) (S.faults source.old)
         (S.faults source.new) }
     ensures whole { S.observed → IsWhole ahead.old (S.left source.old)
@@ -158,17 +144,17 @@ fn take_records<P: Station, S: Source>(
 {
     // A limit is low enough for the places of gates.
     directory.bounds_hold();
-    let end = journal.used() - 1;
+    let end = standby.journal.used() - 1;
     if end <= HEADER as u64 {
-        return take_first(alloc, station, directory, core, journal, source, ahead);
+        return take_first(alloc, station, directory, standby, source, ahead);
     }
     match compare(alloc, station, directory, end, source, ahead) {
-        Ok(at) => add_all(alloc, station, directory, core, journal, source, ahead, at),
+        Ok(at) => add_all(alloc, station, directory, standby, source, ahead, at),
         Err(end) => {
             if !is_other(end) {
                 return end;
             }
-            take_other(alloc, station, directory, core, journal, source, ahead, end)
+            take_other(alloc, station, directory, standby, source, ahead, end)
         }
     }
 }
@@ -192,11 +178,7 @@ fn take_feed<P: Station, S: Source>(
     ensures unopened { P.observed → LeavesUnopened directory.now (P.calls station.old)
         (P.calls station.new) (source.new ≡ source.old) }
     ensures silent { P.observed → said_by (P.calls station.new) ≡ said_by (P.calls station.old) }
-    ensures source_fault { result ≡ FollowEnd.SourceFault
-        → Rose (S.faults source.old) (S.faults source.new) }
-    ensures disk_fault { result ≡ FollowEnd.DiskFault
-        → Rose (P.disk_faults station.old) (P.disk_faults station.new) }
-    ensures counts { KeepsAllCounts (P.disk_faults station.old) (P.disk_faults station.new)
+    ensures counts { HasEndCounts result (P.disk_faults station.old) (P.disk_faults station.new)
         (P.say_faults station.old) (P.say_faults station.new) (S.faults source.old)
         (S.faults source.new) }
     ensures named { IsNamedEnd result }
@@ -207,7 +189,10 @@ fn take_feed<P: Station, S: Source>(
     };
     let mut ahead = Ahead::new(alloc);
     match take_header(source, &mut ahead, directory.mark()) {
-        Ok(()) => take_records(alloc, station, directory, core, journal, source, &mut ahead),
+        Ok(()) => {
+            let standby = Standby { core, journal };
+            take_records(alloc, station, directory, standby, source, &mut ahead)
+        }
         Err(end) => end,
     }
 }
@@ -248,11 +233,9 @@ pub fn follow<P: Station, S: Source>(
     ensures unopened { P.observed → LeavesUnopened directory.now (P.calls station)
         (P.calls result.0) (source.new ≡ source.old) }
     ensures silent { P.observed → said_by (P.calls result.0) ≡ said_by (P.calls station) }
-    ensures source_fault { result.1 ≡ FollowEnd.SourceFault
-        → Rose (S.faults source.old) (S.faults source.new) }
-    ensures disk_fault { result.1 ≡ FollowEnd.DiskFault
-        → Rose (P.disk_faults station) (P.disk_faults result.0) }
-    ensures counts { KeepsAllCounts (P.disk_faults station) (P.disk_faults result.0)
+
+    // A device's fault is answered only where that device failed, and at an end of the feed none did.
+    ensures counts { HasEndCounts result.1 (P.disk_faults station) (P.disk_faults result.0)
         (P.say_faults station) (P.say_faults result.0) (S.faults source.old) (S.faults source.new) }
 
     // A fault of the disk, and want of memory, have names of their own.

@@ -19,6 +19,7 @@ mod records;
 mod scanning;
 mod shipping;
 mod since;
+mod standby;
 
 pub use end::FollowEnd;
 pub use fault::ShipFault;

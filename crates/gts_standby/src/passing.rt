@@ -1,5 +1,5 @@
 //! A journal goes on behind a record that nobody looks at.
-ghost use Rattle.std.specs.Prelude.{◌≡◌, ◌<◌, ◌≤◌, ◌^◌, false, OnOk, IsErrOf};
+ghost use Rattle.std.specs.Prelude.{◌≡◌, ◌<◌, ◌≤◌, ◌^◌, false, OnOk, IsErrOf, IsOk};
 ghost use Rattle.gts_standby.specs.Cited.{GoesOn, KeepsCounts, PassesNext, Rose, StandsOn, next_entry};
 
 use gts_journal::{Journal, OpenFault};
@@ -17,13 +17,16 @@ pub(crate) fn pass_next<P: Station>(station: &mut P, journal: &mut Journal) -> R
     ensures told { P.observed → P.calls station.new ≡ P.calls station.old }
     ensures disk_fault { IsErrOf result OpenFault.DiskFault
         → Rose (P.disk_faults station.old) (P.disk_faults station.new) }
-    ensures counts { KeepsCounts (P.disk_faults station.old) (P.disk_faults station.new)
-        (P.say_faults station.old) (P.say_faults station.new) }
+    ensures counts { KeepsCounts (IsOk result) (P.disk_faults station.old)
+        (P.disk_faults station.new) (P.say_faults station.old) (P.say_faults station.new) }
 {
     let file = journal.file();
     let gate = journal.used();
     match journal.next(station)? {
         Some(_) => Ok(()),
-        None => Err(OpenFault::Damaged { file, at: gate }),
+        None => Err(OpenFault::Damaged {
+            file: file.number(),
+            at: gate,
+        }),
     }
 }

@@ -1,9 +1,9 @@
-ghost use Rattle.std.specs.Prelude.{◌≡◌, ◌≤◌, ◌<◌, ◌-◌, ◌^◌, length, take, drop, IfErr, IsErrOf};
+ghost use Rattle.std.specs.Prelude.{◌≡◌, ◌≤◌, ◌<◌, ◌-◌, ◌^◌, length, take, drop, IfErr, IsErrOf, OnOk};
 ghost use Rattle.gts_standby.specs.Cited.{IsNamed, IsQuiet, Rose, Speaks, seen};
 
 use crate::ShipFault;
 use gts_journal::OpenFault;
-use gts_traits::{Failed, Station};
+use gts_traits::{Failed, JournalFile, Station};
 
 /// The channel of receipts, reports and feeds.
 const OPERATOR: u32 = 0;
@@ -19,6 +19,7 @@ fn say_piece<P: Station>(station: &mut P, piece: &[u8]) -> Result<(), ShipFault>
         → Rose (P.say_faults station.old) (P.say_faults station.new) }
     ensures kind { IfErr result (λ e. e ≡ ShipFault.SayFault) }
     ensures later { P.say_faults station.old ≤ P.say_faults station.new }
+    ensures sound { OnOk result (P.say_faults station.new ≡ P.say_faults station.old) }
     ensures disk { P.disk_faults station.new ≡ P.disk_faults station.old }
 {
     match station.say(OPERATOR, piece) {
@@ -31,11 +32,10 @@ fn say_piece<P: Station>(station: &mut P, piece: &[u8]) -> Result<(), ShipFault>
 /// piece that isn't whole.
 pub(crate) fn say_part<P: Station>(
     station: &mut P,
-    file: u32,
+    file: JournalFile,
     from: u64,
     to: u64,
 ) -> Result<(), ShipFault>
-    requires file { file < 2 }
     requires order { from ≤ to }
     requires room { to ≤ 2 ^ 41 }
     requires there { P.observed → to ≤ length (seen (P.calls station.old) file) }
@@ -49,6 +49,8 @@ pub(crate) fn say_part<P: Station>(
         → Rose (P.say_faults station.old) (P.say_faults station.new) }
     ensures later { P.disk_faults station.old ≤ P.disk_faults station.new }
     ensures say { P.say_faults station.old ≤ P.say_faults station.new }
+    ensures sound { OnOk result ((P.disk_faults station.new ≡ P.disk_faults station.old)
+        × (P.say_faults station.new ≡ P.say_faults station.old)) }
 {
     let mut piece = [0u8; PIECE];
     let mut at = from;
@@ -57,7 +59,10 @@ pub(crate) fn say_part<P: Station>(
         let part = &mut piece[..count];
         let found = station.read(file, at, part)?;
         if found < count {
-            return Err(ShipFault::Open(OpenFault::Damaged { file, at }));
+            return Err(ShipFault::Open(OpenFault::Damaged {
+                file: file.number(),
+                at,
+            }));
         }
         say_piece(station, part)?;
         at += count as u64;

@@ -25,6 +25,8 @@ fn say_next<P: Station>(station: &mut P, journal: &mut Journal) -> Result<(), Sh
         → Rose (P.say_faults station.old) (P.say_faults station.new) }
     ensures later { P.disk_faults station.old ≤ P.disk_faults station.new }
     ensures say { P.say_faults station.old ≤ P.say_faults station.new }
+    ensures sound { OnOk result ((P.disk_faults station.new ≡ P.disk_faults station.old)
+        × (P.say_faults station.new ≡ P.say_faults station.old)) }
 {
     let gate = journal.used();
     let file = journal.file();
@@ -52,6 +54,8 @@ pub(crate) fn say_records<P: Station>(
         → Rose (P.say_faults station.old) (P.say_faults station.new) }
     ensures later { P.disk_faults station.old ≤ P.disk_faults station.new }
     ensures say { P.say_faults station.old ≤ P.say_faults station.new }
+    ensures sound { OnOk result ((P.disk_faults station.new ≡ P.disk_faults station.old)
+        × (P.say_faults station.new ≡ P.say_faults station.old)) }
 {
     while journal.used() < end {
         say_next(station, journal)?;

@@ -1,6 +1,6 @@
 //! The checkpoint at the front of a feed's records: how long it is, and its seal.
 ghost use Rattle.std.specs.Prelude.{◌≡◌, ◌≤◌, ◌<◌, ◌+◌, ◌*◌, ◌^◌, ℕ, List, length, replicate, Some, None, IfOk, IfSome, IfErr, IsErrOf};
-ghost use Rattle.gts_standby.specs.Cited.{FindsFront, FindsPiece, HasRead, IsFedEnd, IsReadEnd, Rose, behind_listed, held, listed_size, seal_size};
+ghost use Rattle.gts_standby.specs.Cited.{FindsFront, FindsPiece, HasRead, IsFedEnd, IsReadEnd, IsStill, Rose, behind_listed, held, listed_size, seal_size};
 ghost use Rattle.gts_standby.specs.Reading.{Reaches};
 ghost use Rattle.gts_standby.specs.Taking as feeds;
 
@@ -118,6 +118,7 @@ fn reach<S: Source>(
     ensures source_fault { IsErrOf result FollowEnd.SourceFault
         → Rose (S.faults source.old) (S.faults source.new) }
     ensures later { S.faults source.old ≤ S.faults source.new }
+    ensures sound { IsStill result → S.faults source.new ≡ S.faults source.old }
 {
     let behind = at + size;
     if behind > limit {
@@ -147,6 +148,7 @@ fn behind_one<S: Source>(
     ensures source_fault { IsErrOf result FollowEnd.SourceFault
         → Rose (S.faults source.old) (S.faults source.new) }
     ensures later { S.faults source.old ≤ S.faults source.new }
+    ensures sound { IsStill result → S.faults source.new ≡ S.faults source.old }
 {
     ahead.fill(source, at + HEAD)?;
     match size_in(listed, ahead.bytes(), at) {
@@ -175,6 +177,7 @@ fn behind_all<S: Source>(
     ensures source_fault { IsErrOf result FollowEnd.SourceFault
         → Rose (S.faults source.old) (S.faults source.new) }
     ensures later { S.faults source.old ≤ S.faults source.new }
+    ensures sound { IsStill result → S.faults source.new ≡ S.faults source.old }
 {
     let mut at = at;
     let mut left = count;
@@ -202,6 +205,7 @@ fn behind_lists<S: Source>(
     ensures source_fault { IsErrOf result FollowEnd.SourceFault
         → Rose (S.faults source.old) (S.faults source.new) }
     ensures later { S.faults source.old ≤ S.faults source.new }
+    ensures sound { IsStill result → S.faults source.new ≡ S.faults source.old }
 {
     let front = reach(source, ahead, limit, 0, FRONT)?;
     let at = behind_all(source, ahead, limit, Listed::Bulletin, front, bulletins)?;
@@ -218,6 +222,7 @@ fn scan<S: Source>(source: &mut S, ahead: &mut Ahead, limit: usize) -> Result<us
     ensures source_fault { IsErrOf result FollowEnd.SourceFault
         → Rose (S.faults source.old) (S.faults source.new) }
     ensures later { S.faults source.old ≤ S.faults source.new }
+    ensures sound { IsStill result → S.faults source.new ≡ S.faults source.old }
 {
     ahead.fill(source, FRONT)?;
     match front_in(ahead.bytes()) {
@@ -246,6 +251,7 @@ pub(crate) fn fed_checkpoint<S: Source>(
     ensures source_fault { IsErrOf result FollowEnd.SourceFault
         → Rose (S.faults source.old) (S.faults source.new) }
     ensures source_later { S.faults source.old ≤ S.faults source.new }
+    ensures sound { IsStill result → S.faults source.new ≡ S.faults source.old }
 {
     let size = scan(source, ahead, limit as usize)?;
     let count = version.seal_size();
@@ -274,6 +280,7 @@ pub(crate) fn is_at_checkpoint<S: Source>(
     ensures source_fault { IsErrOf result FollowEnd.SourceFault
         → Rose (S.faults source.old) (S.faults source.new) }
     ensures source_later { S.faults source.old ≤ S.faults source.new }
+    ensures sound { IsStill result → S.faults source.new ≡ S.faults source.old }
 {
     ahead.fill(source, 1)?;
     Ok(ahead.bytes().starts_with(b"C"))

@@ -38,6 +38,8 @@ fn say_checkpoint<P: Station>(
         → Rose (P.say_faults station.old) (P.say_faults station.new) }
     ensures later { P.disk_faults station.old ≤ P.disk_faults station.new }
     ensures say { P.say_faults station.old ≤ P.say_faults station.new }
+    ensures sound { OnOk result ((P.disk_faults station.new ≡ P.disk_faults station.old)
+        × (P.say_faults station.new ≡ P.say_faults station.old)) }
 {
     let _ = end;
     if !journal.at_checkpoint() {
@@ -73,6 +75,8 @@ fn say_feed<P: Station>(
         → Rose (P.say_faults station.old) (P.say_faults station.new) }
     ensures later { P.disk_faults station.old ≤ P.disk_faults station.new }
     ensures say { P.say_faults station.old ≤ P.say_faults station.new }
+    ensures sound { OnOk result ((P.disk_faults station.new ≡ P.disk_faults station.old)
+        × (P.say_faults station.new ≡ P.say_faults station.old)) }
 {
     let mut journal = journal;
     say_part(station, journal.file(), 0, HEADER as u64)?;
@@ -107,6 +111,8 @@ pub fn ship<P: Station>(
         → Rose (P.say_faults station.old) (P.say_faults station.new) }
     ensures later { P.disk_faults station.old ≤ P.disk_faults station.new }
     ensures say { P.say_faults station.old ≤ P.say_faults station.new }
+    ensures sound { OnOk result ((P.disk_faults station.new ≡ P.disk_faults station.old)
+        × (P.say_faults station.new ≡ P.say_faults station.old)) }
 {
     // A limit is low enough for the places of gates.
     directory.bounds_hold();
@@ -145,6 +151,8 @@ pub fn ship_since<P: Station>(
         → Rose (P.say_faults station.old) (P.say_faults station.new) }
     ensures later { P.disk_faults station.old ≤ P.disk_faults station.new }
     ensures say { P.say_faults station.old ≤ P.say_faults station.new }
+    ensures sound { OnOk result ((P.disk_faults station.new ≡ P.disk_faults station.old)
+        × (P.say_faults station.new ≡ P.say_faults station.old)) }
 {
     // A limit is low enough for the places of gates.
     directory.bounds_hold();

@@ -1,5 +1,5 @@
 //! A standby station has a first part of a journal: what of the feed is behind it.
-ghost use Rattle.std.specs.Prelude.{◌≡◌, ◌≤◌, ◌<◌, ◌-◌, ◌^◌, ℕ, false, List, IfErr, OnOk, IsErrOf};
+ghost use Rattle.std.specs.Prelude.{◌≡◌, ◌≤◌, ◌<◌, ◌-◌, ◌^◌, ℕ, false, List, IfErr, OnOk, IsErrOf, IsOk};
 ghost use Rattle.gts_standby.specs.Cited.{IsAtFirst, IsNamed, IsWithin, KeepsCounts, LooksFor, Passes, PassesUnder, Rose, StandsOn, behind_here, held, written};
 
 use crate::ShipFault;
@@ -40,8 +40,8 @@ fn pass_checkpoint<P: Station>(
     ensures disk_fault { IsErrOf result ShipFault.DiskFault
         → Rose (P.disk_faults station.old) (P.disk_faults station.new) }
     ensures say_fault { IsErrOf result ShipFault.SayFault → ⊥ }
-    ensures counts { KeepsCounts (P.disk_faults station.old) (P.disk_faults station.new)
-        (P.say_faults station.old) (P.say_faults station.new) }
+    ensures counts { KeepsCounts (IsOk result) (P.disk_faults station.old)
+        (P.disk_faults station.new) (P.say_faults station.old) (P.say_faults station.new) }
 {
     if !journal.at_checkpoint() {
         return Ok(());
@@ -74,8 +74,8 @@ fn pass_records<P: Station>(
     ensures disk_fault { IsErrOf result ShipFault.DiskFault
         → Rose (P.disk_faults station.old) (P.disk_faults station.new) }
     ensures say_fault { IsErrOf result ShipFault.SayFault → ⊥ }
-    ensures counts { KeepsCounts (P.disk_faults station.old) (P.disk_faults station.new)
-        (P.say_faults station.old) (P.say_faults station.new) }
+    ensures counts { KeepsCounts (IsOk result) (P.disk_faults station.old)
+        (P.disk_faults station.new) (P.say_faults station.old) (P.say_faults station.new) }
 {
     while journal.used() < stop {
         pass_next(station, journal)?;
@@ -107,8 +107,8 @@ pub(crate) fn look_for<P: Station>(
     ensures disk_fault { IsErrOf result ShipFault.DiskFault
         → Rose (P.disk_faults station.old) (P.disk_faults station.new) }
     ensures say_fault { IsErrOf result ShipFault.SayFault → ⊥ }
-    ensures counts { KeepsCounts (P.disk_faults station.old) (P.disk_faults station.new)
-        (P.say_faults station.old) (P.say_faults station.new) }
+    ensures counts { KeepsCounts (IsOk result) (P.disk_faults station.old)
+        (P.disk_faults station.new) (P.say_faults station.old) (P.say_faults station.new) }
 {
     pass_checkpoint(alloc, station, directory, journal)?;
     let place = since.used.saturating_sub(1);

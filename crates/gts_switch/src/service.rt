@@ -6,7 +6,7 @@ use crate::telling::tell;
 use gts_app::Status;
 use gts_real::{Cause, FileStation};
 use gts_tcp::Stop;
-use gts_traits::{Failed, Station};
+use gts_traits::{Failed, JournalFile, Station};
 use std::fs::File;
 use std::rt::Files;
 
@@ -88,25 +88,25 @@ impl<R: Eprint, P: Station + Causes> Station for ServiceStation<'_, R, P> {
 
     ghost possible = { λ s told. P.possible s.station told };
 
-    fn size(&mut self, file: u32) -> Result<u64, Failed> {
+    fn size(&mut self, file: JournalFile) -> Result<u64, Failed> {
         let result = self.station.size(file);
         self.looks_at_disk(result.is_err());
         result
     }
 
-    fn read(&mut self, file: u32, at: u64, into: &mut [u8]) -> Result<usize, Failed> {
+    fn read(&mut self, file: JournalFile, at: u64, into: &mut [u8]) -> Result<usize, Failed> {
         let result = self.station.read(file, at, into);
         self.looks_at_disk(result.is_err());
         result
     }
 
-    fn write_at(&mut self, file: u32, at: u64, bytes: &[u8]) -> Result<(), Failed> {
+    fn write_at(&mut self, file: JournalFile, at: u64, bytes: &[u8]) -> Result<(), Failed> {
         let result = self.station.write_at(file, at, bytes);
         self.looks_at_disk(result.is_err());
         result
     }
 
-    fn cut(&mut self, file: u32, size: u64) -> Result<(), Failed> {
+    fn cut(&mut self, file: JournalFile, size: u64) -> Result<(), Failed> {
         let result = self.station.cut(file, size);
         self.looks_at_disk(result.is_err());
         result

@@ -33,6 +33,7 @@ pub use Rattle.gts_recovery.specs.Cited.{IsAnswer, files_open_any, opens_any}
 pub use Rattle.gts_lock.specs.Cited.{Known, entries, entries_under}
 pub use Rattle.gts_lock.specs.declared.limits.TheConstants.{MOST_TURNS}
 pub use Rattle.gts_calls.specs.Cited.{HasCallCause, IsReopenFault, Standing, settled}
+pub use Rattle.gts_calls.specs.declared.switch.TheConstants.{MOST_TOGETHER}
 pub use Rattle.gts_engine.specs.Cited.{Engine, GivesRoom, HasFailed, HasRead, HasSaid, IsCompactFault, IsCompaction, IsFullCompacted, IsIdleFault, IsRewritten, Keeps, Leaving, ObservedOrigin, OpensWith, Origin, StaysAt, compacted_after, origin_of, shown, state_at, switch_meanings, used_at}
 pub use Rattle.gts_engine.specs.declared.mode.SayMode.{SayMode}
 pub use Rattle.gts_engine.specs.declared.mode.SayMode.TheVariants.{Caller}
@@ -44,14 +45,14 @@ pub use Rattle.gts_count.specs.Cited.{Counts, ShowsTable, meanings_by, table}
 pub use Rattle.gts_count.specs.declared.counted.Counted.{Counted}
 pub use Rattle.gts_count.specs.declared.parts.CountedParts.{CountedParts}
 pub use Rattle.gts_report.specs.Cited.{changes, report}
-pub use Rattle.gts_replay.specs.Cited.{BreaksAtCompaction, BreaksAtRestart, Ends, HasDone, HasReplayCause, IsUnbegun, Remains, StandsFor, compacted_at, compactions_at, entries_at, origin_at, origin_behind}
+pub use Rattle.gts_replay.specs.Cited.{BreaksAtCompaction, BreaksAtRestart, Ends, HasDone, HasReplayCause, IsUnbegun, IsUnfailed, Remains, StandsFor, compacted_at, compactions_at, entries_at, origin_at, origin_behind}
 pub use Rattle.gts_replay.specs.declared.end.ReplayEnd.{ReplayEnd}
 pub use Rattle.gts_generate.specs.Cited.{IsFullOn, day_summary}
 pub use Rattle.gts_standby.specs.Cited.{Answers, EachImageReads, EachOpens, EndsAs, IsEnd, IsNamed, IsNamedEnd, IsShipFault, LeavesAlone, LeavesUnopened, OnlySyncsUnopened, SaysFrontSynced, ShipsOnly, asked_of, comes_to, own_seals, read_after, state_after, taken}
 pub use Rattle.gts_standby.specs.declared.end.FollowEnd.{FollowEnd}
 pub use Rattle.gts_standby.specs.declared.fault.ShipFault.{ShipFault}
 pub use Rattle.gts_standby.specs.declared.since.Since.{Since}
-pub use Rattle.gts_accum.specs.Cited.{HasReadCause, HasSayCause, HasUnpackCause, IsBad, IsEndAt, IsEndOf, IsLeft, IsTaken, Packs, SameFiles, bad_in_stream, badplace, captured, packed}
+pub use Rattle.gts_accum.specs.Cited.{HasReadCause, HasSayCause, HasUnpackCause, IsBad, IsEndAt, IsEndOf, IsLeft, IsTaken, IsUnfailedFile, Packs, SameFiles, bad_in_stream, badplace, captured, packed}
 pub use Rattle.gts_accum.specs.declared.end.UnpackEnd.{UnpackEnd}
 pub use Rattle.gts_accum.specs.declared.end.UnpackEnd.TheVariants.{Bad, Ended}
 pub use Rattle.gts_accum.specs.declared.pack_end.PackEnd.{PackEnd}

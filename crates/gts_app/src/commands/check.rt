@@ -1,4 +1,5 @@
-ghost use Rattle.gts_app.specs.Cited.{TriesMigration};
+ghost use Rattle.std.specs.Prelude.{◌≡◌};
+ghost use Rattle.gts_app.specs.Cited.{NoneFailed, TriesMigration};
 
 use crate::commands::show::OPERATOR;
 use crate::directory::{directory_file_of, old_directory_file_of};
@@ -13,7 +14,8 @@ use std::alloc::Global;
 /// what would change if it were taken over, and whether `migrate` would refuse it. The files are synced, and not changed.
 /// Where the directory is at fault, the old one isn't read.
 pub fn check<S: Source, P: Station>(alloc: Global, world: &mut World<S, S, P>) -> Status
-    ensures { TriesMigration S.Source P.Station result world.old world.new }
+    ensures tries { TriesMigration S.Source P.Station result world.old world.new }
+    ensures sound { result ≡ Status.Done → NoneFailed S.Source P.Station world.old world.new }
 {
     let new = match directory_file_of(alloc, &mut world.directory) {
         Ok(file) => file,

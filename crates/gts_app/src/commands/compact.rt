@@ -1,5 +1,5 @@
 ghost use Rattle.std.specs.Prelude.{◌≡◌};
-ghost use Rattle.gts_app.specs.Cited.{Compacts, status_compacted};
+ghost use Rattle.gts_app.specs.Cited.{Compacts, NoneFailed, status_compacted};
 
 use crate::opening::open_engine;
 use crate::world::Handed;
@@ -26,6 +26,8 @@ pub fn compact<S: Source, P: Station>(alloc: Global, mut world: World<S, S, P>) 
     ensures capture { result.world.capture ≡ world.capture }
     ensures compacts { Compacts S.Source P.Station result.status
         world.directory world.station result.world.directory result.world.station }
+    ensures sound { result.status ≡ Status.Done
+        → NoneFailed S.Source P.Station world result.world }
 {
     // What the engine's core holds is what the files open to.
     a_start_is_its_own_need();

@@ -1,5 +1,5 @@
 ghost use Rattle.std.specs.Prelude.{◌≡◌, IfOk, IfErr, IsTrue};
-ghost use Rattle.gts_app.specs.Cited.{CountsEngine, CountsTraffic, EndsWithoutTable, Need as NeedOf, Needs, ShowsTable, is_sound};
+ghost use Rattle.gts_app.specs.Cited.{CountsEngine, CountsTraffic, EndsWithoutTable, Need as NeedOf, Needs, NoneFailed, ShowsTable, is_sound};
 
 use crate::commands::replay::status_of;
 use crate::commands::show::{OPERATOR, status_said};
@@ -57,7 +57,9 @@ fn table_behind<T: Switch>(
 /// Does what `replay` does with a capture that has no `R` and no `C`, and once it is done says a table of the traffic behind it
 /// on channel 0.
 pub fn count<S: Source, P: Station>(alloc: Global, mut world: World<S, S, P>) -> Ended<S, P>
-    ensures { CountsTraffic S.Source P.Station result.status world result.world }
+    ensures counts { CountsTraffic S.Source P.Station result.status world result.world }
+    ensures sound { result.status ≡ Status.Done
+        → NoneFailed S.Source P.Station world result.world }
 {
     // The laws that hold of all that a history comes to; and what the engine's core holds is what the files open to.
     a_history_keeps_its_laws();

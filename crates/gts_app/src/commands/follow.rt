@@ -1,6 +1,6 @@
 ghost use Rattle.std.specs.Prelude.{◌≡◌};
 ghost use Rattle.gts_app.specs.Follow as following;
-ghost use Rattle.gts_app.specs.Cited.{FollowsFeed};
+ghost use Rattle.gts_app.specs.Cited.{FollowsFeed, NoneFailed};
 
 use crate::directory::directory_of;
 use crate::opening::refusal;
@@ -27,7 +27,9 @@ fn status_of(end: FollowEnd) -> Status
 /// Reads the directory, opens the journal, and takes the feed of another station's journal into it: what both have is compared,
 /// and what the own one doesn't have is checked and appended. Nothing is said.
 pub fn follow<S: Source, P: Station>(alloc: Global, mut world: World<S, S, P>) -> Ended<S, P>
-    ensures { FollowsFeed S.Source P.Station result.status world result.world }
+    ensures follows { FollowsFeed S.Source P.Station result.status world result.world }
+    ensures sound { result.status ≡ Status.Done
+        → NoneFailed S.Source P.Station world result.world }
 {
     let accepted = match directory_of(alloc, &mut world.directory) {
         Ok(accepted) => accepted,

@@ -1,6 +1,6 @@
 ghost use Rattle.std.specs.Prelude.{◌≡◌};
 ghost use Rattle.gts_app.specs.Gaps as gapping;
-ghost use Rattle.gts_app.specs.Cited.{NamesGaps};
+ghost use Rattle.gts_app.specs.Cited.{NamesGaps, NoneFailed};
 
 use crate::directory::directory_of;
 use crate::{Status, World};
@@ -28,7 +28,8 @@ pub fn gaps<S: Source, P: Station>(
     world: &mut World<S, S, P>,
     moment: Moment,
 ) -> Status
-    ensures { NamesGaps S.Source P.Station moment result world.old world.new }
+    ensures names { NamesGaps S.Source P.Station moment result world.old world.new }
+    ensures sound { result ≡ Status.Done → NoneFailed S.Source P.Station world.old world.new }
 {
     let directory = match directory_of(alloc, &mut world.directory) {
         Ok(directory) => directory,

@@ -1,6 +1,6 @@
 ghost use Rattle.std.specs.Prelude.{◌≡◌};
 ghost use Rattle.gts_app.specs.Migrate as migrating;
-ghost use Rattle.gts_app.specs.Cited.{Migrates};
+ghost use Rattle.gts_app.specs.Cited.{Migrates, NoneFailed};
 
 use crate::directory::{directory_of, old_directory_of};
 use crate::opening::refusal;
@@ -36,7 +36,9 @@ pub fn migrate<S: Source, P: Station>(
     mut world: World<S, S, P>,
     waiting: Waiting,
 ) -> Ended<S, P>
-    ensures { Migrates waiting S.Source P.Station result.status world result.world }
+    ensures migrates { Migrates waiting S.Source P.Station result.status world result.world }
+    ensures sound { result.status ≡ Status.Done
+        → NoneFailed S.Source P.Station world result.world }
 {
     let new = match directory_of(alloc, &mut world.directory) {
         Ok(directory) => directory,

@@ -1,6 +1,6 @@
 ghost use Rattle.std.specs.Prelude.{◌≡◌};
 ghost use Rattle.gts_app.specs.Pack as packing;
-ghost use Rattle.gts_app.specs.Cited.{PacksStream};
+ghost use Rattle.gts_app.specs.Cited.{NoneFailed, PacksStream};
 
 use crate::directory::directory_of;
 use crate::{Status, World};
@@ -24,7 +24,8 @@ fn status_of(end: PackEnd) -> Status
 /// Reads the directory, and then a stream of frames, and says the file of its messages on channel 0. The files of the journal
 /// are not looked at.
 pub fn pack<S: Source, P: Station>(alloc: Global, world: &mut World<S, S, P>) -> Status
-    ensures { PacksStream S.Source P.Station result world.old world.new }
+    ensures packs { PacksStream S.Source P.Station result world.old world.new }
+    ensures sound { result ≡ Status.Done → NoneFailed S.Source P.Station world.old world.new }
 {
     // Nothing is asked of the directory here: it has to be accepted.
     let _accepted = match directory_of(alloc, &mut world.directory) {

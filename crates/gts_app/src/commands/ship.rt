@@ -1,6 +1,7 @@
 ghost use Rattle.std.specs.Prelude.{◌≡◌};
 ghost use Rattle.gts_app.specs.Ship as shipping;
 ghost use Rattle.gts_app.specs.Ship.{ShipsFeed};
+ghost use Rattle.gts_app.specs.Sound.{NoneFailed};
 
 use crate::directory::directory_of;
 use crate::opening::refusal;
@@ -32,6 +33,7 @@ pub fn ship<S: Source, P: Station>(
     ensures capture { world.new.capture ≡ world.old.capture }
     ensures ships { ShipsFeed since S.Source P.Station result
         world.old.directory world.old.station world.new.directory world.new.station }
+    ensures sound { result ≡ Status.Done → NoneFailed S.Source P.Station world.old world.new }
 {
     let accepted = match directory_of(alloc, &mut world.directory) {
         Ok(accepted) => accepted,

@@ -1,5 +1,5 @@
 ghost use Rattle.std.specs.Prelude.{◌≡◌};
-ghost use Rattle.gts_app.specs.Cited.{Unpacks, status_unpacked};
+ghost use Rattle.gts_app.specs.Cited.{NoneFailed, Unpacks, status_unpacked};
 
 use crate::commands::replay;
 use crate::directory::directory_of;
@@ -29,7 +29,9 @@ pub fn unpack<S: Source, P: Station>(
     mut world: World<S, S, P>,
     c: u32,
 ) -> Ended<S, P>
-    ensures { Unpacks S.Source P.Station c result.status world result.world }
+    ensures unpacks { Unpacks S.Source P.Station c result.status world result.world }
+    ensures sound { result.status ≡ Status.Done
+        → NoneFailed S.Source P.Station world result.world }
 {
     // The laws that hold of all that a history comes to.
     a_history_keeps_its_laws();

@@ -2,7 +2,7 @@
 
 use super::stops::{Then, holds_after};
 use super::*;
-use gts_traits::Station;
+use gts_traits::{JournalFile, Station};
 
 /// The same directory with a circuit more, which the rule names too.
 const LONGER: &[u8] = b"centre = \"TVSV\"\n\
@@ -31,7 +31,7 @@ fn station_of(alloc: Global, file: &[u8]) -> Result<MemStation, Fail> {
         return Err(Fail::from("too long"));
     }
     let mut station = MemStation::new(alloc, &[])?;
-    station.write_at(0, 0, file)?;
+    station.write_at(JournalFile::FIRST, 0, file)?;
     station.sync()?;
     Ok(station)
 }
@@ -39,7 +39,7 @@ fn station_of(alloc: Global, file: &[u8]) -> Result<MemStation, Fail> {
 /// A station with a journal of the older version, in which the bulletin was drawn.
 fn with_older<R: AllocGlobal + Threads + Wait + Sync>(rt: &R) -> Result<MemStation, Fail> {
     let made = with_journal(rt, &[])?;
-    let mark = made.file(0).get(8..40).unwrap_or(&[]);
+    let mark = made.file(JournalFile::FIRST).get(8..40).unwrap_or(&[]);
     let file = [b"GTSJ0001".as_slice(), mark, RECORDS].concat(rt.alloc())?;
     station_of(rt.alloc(), &file)
 }
@@ -70,7 +70,7 @@ fn is_sent<R: Abort>(rt: &R, call: u64, station: &MemStation) {
 fn an_older_journal_is_taken_over(rt: HostRuntime) -> Result<(), Fail> {
     let Left { status, station } = migrated(&rt, with_older(&rt)?)?;
     assert!(rt; status == Status::Done);
-    assert!(rt; station.file(1).len() == 195);
+    assert!(rt; station.file(JournalFile::SECOND).len() == 195);
     let Left { status, station } = went_on(&rt, station)?;
     assert!(rt; status == Status::Done);
     is_sent(&rt, station.calls(), &station);

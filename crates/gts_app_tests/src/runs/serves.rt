@@ -1,6 +1,7 @@
 //! The circuits served over lines in memory.
 
 use super::*;
+use gts_traits::JournalFile;
 
 /// Lines on which the neighbour on circuit 0 sends two bulletins. The listed calls of `open` fail, and the listed writes on
 /// circuit 1.
@@ -38,7 +39,7 @@ fn what_comes_on_a_circuit_goes_out_on_the_other(rt: HostRuntime) -> Result<(), 
         let mut lines = lines_with(rt.alloc(), opens, writes)?;
         let Left { status, station } = served(&rt, &words, &mut lines)?;
         assert!(rt; status == wanted);
-        assert!(rt; station.file(0).len() == journal);
+        assert!(rt; station.file(JournalFile::FIRST).len() == journal);
         assert!(rt; lines.sent(0) == b"".as_slice());
         assert!(rt; lines.sent(1).len() == sent);
     }

@@ -2,6 +2,7 @@
 
 use super::migrations::opens;
 use super::*;
+use gts_traits::JournalFile;
 
 /// The call in which the gate of the first bulletin is opened.
 const GATE: u64 = FIRST + 6;
@@ -76,7 +77,9 @@ fn are_sent_by<R: AllocGlobal + Threads + Wait + Sync + Abort>(
 
 /// Whether two stations have the same files.
 fn have_same_files(left: &MemStation, plain: &MemStation) -> bool {
-    left.file(0) == plain.file(0) && left.file(1) == plain.file(1) && left.file(2) == plain.file(2)
+    left.file(JournalFile::FIRST) == plain.file(JournalFile::FIRST)
+        && left.file(JournalFile::SECOND) == plain.file(JournalFile::SECOND)
+        && left.file(JournalFile::SELECTOR) == plain.file(JournalFile::SELECTOR)
 }
 
 /// What a crash may leave in each place that was touched.

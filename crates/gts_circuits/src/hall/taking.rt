@@ -1,6 +1,6 @@
 //! Several takes on one circuit, one behind another in one turn.
-ghost use Rattle.std.specs.Prelude.{◌≡◌, ◌<◌, ◌≤◌, ◌++◌, [], List, length, slice_index_or, map};
-ghost use Rattle.gts_circuits.specs.Cited.{Entry as EntryType, HasRoom, HasTaken, LeavesTaken, Stands, count_of, frames_by, frames_of, gives};
+ghost use Rattle.std.specs.Prelude.{◌≡◌, ◌<◌, ◌≤◌, ◌++◌, [], length, slice_index_or, map};
+ghost use Rattle.gts_circuits.specs.Cited.{GoesOnTaking, HasRoom, TurnsTaken, count_of, frames_by, frames_of, gives};
 
 use crate::hall::began::Began;
 use crate::hall::housed::Housed;
@@ -18,10 +18,8 @@ pub(crate) fn take_some<P: Station, B: Began>(
     given: &mut Given,
 ) -> Result<bool, SwitchFault>
     requires circuit { c < length housed.old.engine.directory.circuits }
-    ensures left { (h : List EntryType)
-        → Stands P.observed P.calls P.disk_faults P.say_faults B.beginning h housed.old.engine
-        → (more : List EntryType) × LeavesTaken P.observed P.calls P.disk_faults P.say_faults
-        B.beginning h c (frames_of given.new.frames) result housed.new.engine more }
+    ensures left { TurnsTaken P.Station B.beginning c (frames_of given.new.frames) result
+        housed.old.engine housed.new.engine }
     ensures mode { housed.new.makes_room ≡ housed.old.makes_room }
 {
     given.frames.clear();
@@ -66,10 +64,8 @@ fn take_behind<P: Station, B: Began>(
 ) -> bool
     requires circuit { c < length housed.old.engine.directory.circuits }
     requires few { count_of (frames_of given.old.frames) gave ≤ most }
-    ensures taken { (h : List EntryType)
-        → HasTaken P.observed P.calls P.disk_faults P.say_faults B.beginning h c
+    ensures taken { GoesOnTaking P.Station B.beginning c
         (frames_of given.old.frames) gave housed.old.engine
-        → HasTaken P.observed P.calls P.disk_faults P.say_faults B.beginning h c
         (frames_of given.new.frames) result housed.new.engine }
     ensures few { count_of (frames_of given.new.frames) result ≤ most }
     ensures mode { housed.new.makes_room ≡ housed.old.makes_room }

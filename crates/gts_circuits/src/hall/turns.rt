@@ -2,20 +2,20 @@
 ghost use Rattle.std.specs.Prelude.{◌≡◌, ◌≢◌, ◌<◌, ◌≤◌, ◌++◌, ◌∷◌, [], true, ℕ, List, length, take, Some, Err};
 ghost use Rattle.gts_circuits.specs.Cited.Below.{Answers, Decoding, Entry as EntryType, Feeds, HasMessage, Heard, IsShortAt, SaysNoMore, Takes, TakesSome, after_adding, entries, events_added, frames_of, is_event};
 ghost use Rattle.gts_calls.specs.Cited.{Reads};
-ghost use Rattle.gts_circuits.specs.Housed.{Stands, entry_by};
+ghost use Rattle.gts_circuits.specs.Housed.{Stands};
 ghost use Rattle.gts_circuits.specs.Flat.{all_of};
-ghost use Rattle.gts_circuits.specs.Taking.{LeavesTaken, Taking};
-ghost use Rattle.gts_circuits.specs.Turning.{KnowsOwn, seen_by, Feeding, AddsFor};
+ghost use Rattle.gts_circuits.specs.Turning.{KnowsOwn, seen_by};
 
 use crate::hall::began::Began;
 use crate::hall::entrance::Entrance;
 use crate::hall::housed::Housed;
 use crate::hall::taking;
 use gts_calls::{Fed, FeedEnd, Given, feed_behind, settle_behind};
-use gts_event::{Outcome, SwitchFault};
+use gts_event::{Entry, Outcome, SwitchFault};
 use gts_frame::{Decoder, Kind, Step};
-use gts_lock::{Bells, Pass, Turn};
+use gts_lock::{Bells, EntryFact, Pass, Turn};
 use gts_traits::Station;
+use std::collections::LinkedList;
 use std::marker::Brand;
 use std::sync::Wait;
 
@@ -28,69 +28,21 @@ fn mark_due<P: Station, B: Began>(housed: &Housed<P, B>, bells: &Bells) {
     }
 }
 
-// Ends a turn for a message that was heard. Its engine stands for one entry more.
-fn leave_heard<P: Station, B: Began>(
+// Ends a turn in which this was done: its engine stands for some entries more, of which something holds. What was done is there for the
+// caller's contract alone, which picks by it what holds of them.
+fn leave<P: Station, B: Began, D, N: EntryFact<LinkedList<Entry>>>(
     turn: Turn<'_, Housed<P, B>>,
-    c: u32,
-    kind: Kind,
-    message: &[u8],
-    answer: Result<Outcome, SwitchFault>,
+    _done: &D,
 ) -> Pass<Housed<P, B>>
-    ghost added: { EntryType }
-    requires entry { added ≡ entry_by (Heard c kind message.now) answer }
-    requires value { Stands P.observed P.calls P.disk_faults P.say_faults B.beginning
-        (all_of (entries turn.pass.seen) ++ added ∷ []) turn.value.engine }
+    requires value { (more : List EntryType) × N.fact more × Stands P.observed P.calls
+        P.disk_faults P.say_faults B.beginning (all_of (entries turn.pass.seen) ++ more)
+        turn.value.engine }
     requires mode { turn.value.makes_room ≡ B.beginning.makes_room }
-    ensures pass { result ≡ after_adding turn.entry.pass (added ∷ []) }
-    ensures own { KnowsOwn result }
-{
-    let _ = (c, kind, message.len(), answer);
-    turn.leave()
-}
-
-// Ends a turn for takes. Its engine stands for some entries more.
-fn leave_taken<P: Station, B: Began>(
-    turn: Turn<'_, Housed<P, B>>,
-    c: u32,
-    given: &Given,
-    answer: Result<bool, SwitchFault>,
-) -> Pass<Housed<P, B>>
-    ghost about: { Taking }
-    requires value { (more : List EntryType)
-        × LeavesTaken P.observed P.calls P.disk_faults P.say_faults B.beginning
-        (all_of (entries turn.pass.seen)) about.c about.frames about.result turn.value.engine more }
-    requires mode { turn.value.makes_room ≡ B.beginning.makes_room }
-    ensures pass { (more : List EntryType)
-        × LeavesTaken P.observed P.calls P.disk_faults P.say_faults B.beginning
-        (all_of (entries turn.entry.pass.seen)) about.c about.frames about.result
-        turn.entry.value.engine more × (result ≡ after_adding turn.entry.pass more) }
-    ensures own { KnowsOwn result }
-{
-    let _ = (c, given.frames.count(), answer);
-    turn.leave_some::<Brand>()
-}
-
-// Ends a turn in which a connection was fed. Its engine stands for some entries more.
-fn leave_fed<P: Station, B: Began>(
-    turn: Turn<'_, Housed<P, B>>,
-    c: u32,
-    decoder: &Decoder,
-    piece: &[u8],
-    begun: usize,
-    step: Step,
-    fed: Fed,
-) -> Pass<Housed<P, B>>
-    ghost about: { Feeding }
-    requires value { (more : List EntryType) × AddsFor P.observed P.calls P.disk_faults P.say_faults
-        B.beginning about turn.pass.seen turn.value.engine more }
-    requires mode { turn.value.makes_room ≡ B.beginning.makes_room }
-    ensures pass { (more : List EntryType) × AddsFor P.observed P.calls P.disk_faults P.say_faults
-        B.beginning about turn.entry.pass.seen turn.entry.value.engine more
+    ensures pass { (more : List EntryType) × N.fact more
         × (result ≡ after_adding turn.entry.pass more) }
     ensures own { KnowsOwn result }
 {
-    let _ = (c, decoder.rest(), piece.len(), begun, step, fed);
-    turn.leave_some::<Brand>()
+    turn.leave_some::<N>()
 }
 
 /// One turn in which a connection on circuit `c` is fed: with the step to which these bytes of the piece came, and then with the rest of
@@ -133,7 +85,8 @@ pub(crate) fn feed<R: Wait, P: Station, B: Began>(
     let fed = feed_behind(at.alloc, turn.value(), c, decoder, piece, begun, step);
     let fed = settle_behind(turn.value(), fed);
     mark_due(turn.value(), at.bells);
-    (leave_fed(turn, c, decoder, piece, begun, step, fed), fed)
+    let done = (c, &*decoder, piece, begun, step, fed);
+    (leave::<P, B, _, Brand>(turn, &done), fed)
 }
 
 /// One turn for a message that came whole on circuit `c`, in a frame of this type. The bells are marked of those circuits on which there is
@@ -159,7 +112,10 @@ pub(crate) fn hear<R: Wait, P: Station, B: Began>(
     };
     let answer = turn.value().hear(at.alloc, c, kind, message);
     mark_due(turn.value(), at.bells);
-    (leave_heard(turn, c, kind, message, answer), answer)
+    (
+        leave::<P, B, _, Brand>(turn, &(c, kind, message, answer)),
+        answer,
+    )
 }
 
 /// One turn for takes on circuit `c`, one after another: their frames are left in `given`. Nothing is said of them, so that no saying
@@ -186,5 +142,5 @@ pub(crate) fn take_some<R: Wait, P: Station, B: Began>(
         }
     };
     let answer = taking::take_some(turn.value(), c, given);
-    (leave_taken(turn, c, given, answer), answer)
+    (leave::<P, B, _, Brand>(turn, &(c, &*given, answer)), answer)
 }

@@ -2,7 +2,7 @@
 ghost use Rattle.std.specs.Prelude.{◌≡◌, ℕ, ◌<◌, ◌≤◌, List, length, Err, OnOk, IfErr};
 ghost use mathlib.Core.Option.{some};
 ghost use lib.ListN.{get_elem?};
-ghost use Rattle.gts_circuits.specs.Cited.{AreDrained, Drains, LineStood, MOST_CIRCUITS, Outgoing as OutgoingOf, Rose, SenderStands, SinkTook, Stands, TakesAll, TakesOnce};
+ghost use Rattle.gts_circuits.specs.Cited.{AreDrained, Drains, LineStood, MOST_CIRCUITS, Rose, WritesAll, WritesOnce};
 
 use crate::service::ended::Outgoing;
 use crate::{Began, Housed};
@@ -21,10 +21,8 @@ fn take_one<P: Station, B: Began, K: Sink>(
 ) -> Result<bool, SendEnd>
     requires { c < length housed.old.engine.directory.circuits }
     ensures directory { housed.new.engine.directory ≡ housed.old.engine.directory }
-    ensures taken { (bytes : List ℕ)
-        × TakesOnce P.observed P.calls P.disk_faults P.say_faults B.beginning c bytes result
-        housed.old.engine housed.new.engine
-        × SinkTook K.observed K.written sink.old sink.new bytes }
+    ensures taken { WritesOnce P.Station K.Sink B.beginning c result
+        housed.old.engine housed.new.engine sink.old sink.new }
     ensures later { K.faults sink.old ≤ K.faults sink.new }
     ensures fault { (index : ℕ) → result ≡ Err (SendEnd.LineFault index)
         → Rose (K.faults sink.old) (K.faults sink.new) }
@@ -46,10 +44,8 @@ fn take_all<R: Wait, P: Station, B: Began, K: Sink>(
 ) -> SendEnd
     requires { c < length housed.old.engine.directory.circuits }
     ensures directory { housed.new.engine.directory ≡ housed.old.engine.directory }
-    ensures taken { (bytes : List ℕ)
-        × TakesAll P.observed P.calls P.disk_faults P.say_faults B.beginning c bytes result
-        housed.old.engine housed.new.engine
-        × SinkTook K.observed K.written sink.old sink.new bytes }
+    ensures taken { WritesAll P.Station K.Sink B.beginning c result
+        housed.old.engine housed.new.engine sink.old sink.new }
     ensures later { K.faults sink.old ≤ K.faults sink.new }
     ensures fault { (index : ℕ) → result ≡ SendEnd.LineFault index
         → Rose (K.faults sink.old) (K.faults sink.new) }

@@ -15,6 +15,7 @@ use crate::workers::closing::{Ran, close};
 use crate::workers::crew::Crew;
 use crate::workers::ringing::RunBell;
 use crate::workers::running::run_all;
+use crate::workers::tools::Tools;
 use crate::{Began, Housed, ServeEnd, Served};
 use gts_engine::Engine;
 use gts_lock::{Hall, Pass};
@@ -93,14 +94,12 @@ where
 /// workers, opens the lines of all circuits in their order, and lets the workers come to their ends. Where one fails to open,
 /// those before it are handed back.
 fn serve_in<R, P, B, L, G>(
-    rt: &R,
-    alloc: Global,
+    tools: &Tools<'_, R, G>,
     hall: Hall<Housed<P, B>>,
     first: Pass<Housed<P, B>>,
     room: Room<L::In, L::Out>,
     lines: &mut L,
     connections: u64,
-    gate: &G,
 ) -> Served<P, B>
 where
     R: Threads + Wait + Sync,
@@ -128,7 +127,7 @@ where
 {
     let circuits = room.rooms.len();
     let bells = RunBell::new(circuits as u64);
-    let Ok(crew) = Crew::with_room(alloc, circuits) else {
+    let Ok(crew) = Crew::with_room(tools.alloc, circuits) else {
         let (housed, _) = hall.close(first);
         return unserved(housed.engine, ServeEnd::NoMemory);
     };
@@ -143,8 +142,14 @@ where
         let (housed, _) = hall.close(first);
         return unserved(housed.engine, ServeEnd::NotOpened { c });
     }
-    let (first, ended) = run_all(rt, alloc, gate, &hall, &bells, first, sockets, crew);
-    finish(rt, close(hall, first, ended), lines, incoming, outgoing)
+    let (first, ended) = run_all(tools, &hall, &bells, first, sockets, crew);
+    finish(
+        tools.rt,
+        close(hall, first, ended),
+        lines,
+        incoming,
+        outgoing,
+    )
 }
 
 /// Serves all circuits, each over so many incoming connections, one after another: takes the memory for their lines and their
@@ -188,7 +193,10 @@ where
         began: PhantomData,
     };
     match Hall::new(alloc, housed) {
-        Ok((hall, first)) => serve_in(rt, alloc, hall, first, room, lines, connections, gate),
+        Ok((hall, first)) => {
+            let tools = Tools { rt, alloc, gate };
+            serve_in(&tools, hall, first, room, lines, connections)
+        }
         Err((housed, _)) => unserved(housed.engine, ServeEnd::NoMemory),
     }
 }

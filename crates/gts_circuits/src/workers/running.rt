@@ -9,20 +9,18 @@ use crate::workers::line::Line;
 use crate::workers::ringing::RunBell;
 use crate::workers::sockets::Sockets;
 use crate::workers::staffing::{line_up, staff};
+use crate::workers::tools::Tools;
 use crate::workers::working::work_all;
 use crate::{Began, Housed};
 use gts_lock::{Hall, Pass};
 use gts_traits::{Gate, Line as Connections, Sink, Station};
-use std::alloc::Global;
 use std::sync::Wait;
 use std::thread::Threads;
 
 /// All circuits at once: for each a receiver and a sender in this hall, until each has come to its end. The pass into which all
 /// others were joined comes back, and the lines of the workers, those of the receivers first.
 pub fn run_all<'a, R, P, B, S, K, G>(
-    rt: &R,
-    alloc: Global,
-    gate: &G,
+    tools: &Tools<'_, R, G>,
     hall: &'a Hall<Housed<P, B>>,
     bells: &'a RunBell,
     first: Pass<Housed<P, B>>,
@@ -57,7 +55,7 @@ where
     } = crew;
     let first = staff(hall, bells, first, sockets, &mut workers, &mut senders);
     line_up(&mut workers, senders);
-    work_all(rt, alloc, gate, workers.as_mut_slice());
+    work_all(tools, workers.as_mut_slice());
     let first = gather(hall, first, workers, &mut lines);
     (first, lines)
 }

@@ -5,6 +5,7 @@ use crate::hall::desk::HallDesk;
 use crate::hall::entrance::Entrance;
 use crate::workers::line::Line;
 use crate::workers::ringing::RunBell;
+use crate::workers::tools::Tools;
 use crate::{Began, Housed};
 use gts_calls::Given;
 use gts_frame::Decoder;
@@ -12,7 +13,6 @@ use gts_lock::{Bell, Hall, Pass};
 use gts_receiver::{PIECE, ReceiveEnd, receive};
 use gts_sender::{SendEnd, send};
 use gts_traits::{Gate, Line as Connections, Sink, Station};
-use std::alloc::Global;
 use std::marker::Model;
 use std::snapshot::Snapshot;
 use std::sync::Wait;
@@ -92,7 +92,7 @@ fn send_at<R: Wait, P: Station, B: Began, K: Sink, G: Gate>(
 
 impl<'a, P: Station, B: Began, S: Connections, K: Sink> Worker<'a, P, B, S, K> {
     ghost use Rattle.std.specs.Prelude.{◌≡◌, ◌<◌, ◌≤◌, true, length};
-    ghost use Rattle.gts_circuits.specs.Cited.{KnowsOwn, MOST_CIRCUITS, PassKeeps, Reads, Writes, begun, fresh, has_end, receiver_name, seen_by, sender_name};
+    ghost use Rattle.gts_circuits.specs.Cited.{HasKept, KnowsOwn, MOST_CIRCUITS, Reads, Writes, begun, fresh, has_end, receiver_name, seen_by, sender_name};
 
     /// The receiver of a circuit, over so many connections, with a pass that has seen nothing.
     pub fn receiver(
@@ -163,9 +163,7 @@ impl<'a, P: Station, B: Began, S: Connections, K: Sink> Worker<'a, P, B, S, K> {
 
     /// The pass and the line, with all that is known of them.
     pub fn finish(self) -> (Pass<Housed<P, B>>, Line<S, K>)
-        ensures keeps { PassKeeps B.beginning S.observed S.begun S.left S.faults K.observed
-            K.written
-            K.faults
+        ensures keeps { HasKept B.beginning S.Source K.Sink
             self.entry.circuit self.entry.hall self.entry.first result.1 result.0 }
         ensures ended { has_end result.1 ≡ self.entry.ended }
     {
@@ -182,12 +180,13 @@ impl<'a, P: Station, B: Began, S: Connections, K: Sink> Worker<'a, P, B, S, K> {
     }
 
     /// Receives or sends, up to an end. What has an end is left as it is.
-    pub fn work<R: Wait, G: Gate>(&mut self, rt: &R, alloc: Global, gate: &G)
+    pub fn work<R: Wait, G: Gate>(&mut self, tools: &Tools<'_, R, G>)
         ensures { self.new ≡ record self.old { ended = true } }
     {
         let Some(pass) = self.pass.take() else {
             unreachable!()
         };
+        let Tools { rt, alloc, gate } = *tools;
         let at = Entrance {
             rt,
             alloc,

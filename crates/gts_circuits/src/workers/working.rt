@@ -3,9 +3,9 @@ ghost use Rattle.gts_circuits.specs.Cited.{AcceptsAt, AcceptsEach, AtAny, Change
 ghost use denote.Param.Send.{IsSend, IsSync};
 
 use crate::Began;
+use crate::workers::tools::Tools;
 use crate::workers::worker::Worker;
 use gts_traits::{Gate, Line, Sink, Station};
-use std::alloc::Global;
 use std::sync::Wait;
 use std::thread;
 use std::thread::Threads;
@@ -13,12 +13,7 @@ use std::thread::Threads;
 /// Lets each worker come to its end, each in a thread of its own where one can be made. The receivers are to be the first half.
 /// Where no thread can be made for the second half, it begins when the first has come to its end: a receiver waits for no sender,
 /// but a sender waits until each receiver has its end.
-pub fn work_all<R, P, B, S, K, G>(
-    rt: &R,
-    alloc: Global,
-    gate: &G,
-    workers: &mut [Worker<'_, P, B, S, K>],
-)
+pub fn work_all<R, P, B, S, K, G>(tools: &Tools<'_, R, G>, workers: &mut [Worker<'_, P, B, S, K>])
 where
     R: Threads + Wait + Sync,
     P: Station + Send,
@@ -30,8 +25,8 @@ where
         → slice_index_or workers.new i d ≡ ends (slice_index_or workers.old i d) }
 {
     in_halves(
-        rt,
-        &|_, worker: &mut Worker<'_, P, B, S, K>| worker.work(rt, alloc, gate),
+        tools.rt,
+        &|_, worker: &mut Worker<'_, P, B, S, K>| worker.work(tools),
         workers,
     );
 }

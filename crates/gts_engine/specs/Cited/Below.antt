@@ -36,4 +36,5 @@ pub use Rattle.gts_journal.specs.Cited.{AreNext, EndsAt, Gathered, InHand, IsBlo
 pub use Rattle.gts_journal.specs.declared.batch.TheConstants.{MOST_GATHERED}
 pub use Rattle.gts_checkpoint.specs.Cited.{FitBytes, HasWritten, LeavesOthers, WorksBeside, checkpoint_file, need_seal}
 pub use Rattle.gts_recovery.specs.Cited.{IsAnswer, IsOpened}
+pub use Rattle.gts_calls.specs.declared.switch.TheConstants.{MOST_TOGETHER}
 pub use Rattle.gts_calls.specs.Cited.{AfterCall, AfterSettling, Alone, AtOnce, Behind, GathersOne, HasCallCause, HasReopenCause, IsAnswerCause, IsAnswered, IsCalled, IsCause, IsCompactCause, IsCompacting, IsCutShort, IsIdle, IsOneMore, IsReopenFault, IsReopening, IsSettling, LeavesFrame, MayLeave, Standing, entry_of, outcome_at, settled}

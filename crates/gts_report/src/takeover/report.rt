@@ -100,6 +100,7 @@ pub fn changes<P: Station>(
     ensures disk_fault { IsErrOf result OpenFault.DiskFault
         → Rose (P.disk_faults station.old) (P.disk_faults station.new) }
     ensures later { P.disk_faults station.old ≤ P.disk_faults station.new }
+    ensures sound { OnOk result (P.disk_faults station.new ≡ P.disk_faults station.old) }
     ensures say { P.say_faults station.new ≡ P.say_faults station.old }
 {
     let trial = try_over(alloc, station, old.directory(), new.directory())?;

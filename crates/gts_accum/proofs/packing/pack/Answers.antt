@@ -29,7 +29,9 @@ returns-in-Ok-eq0-clause-files g c =
     (c.finish.ensures.ends first taken.0 st.held taken.2 st.holds (c.rest.ensures ∙ ap (λ (o : Option (List ℕ)). length (unwrap_or o [])) st.is))
 
 pub returns-in-Ok-eq0-clause-source : goal.returns-in-Ok-eq0-clause-source
-returns-in-Ok-eq0-clause-source g c = record { later = omega (arith, c.loop-decoder.invariant.read_later, c.read.ensures.cause.later); failed = λ e. absurd (c.finish.ensures.read.0 e) }
+returns-in-Ok-eq0-clause-source g c =
+    let still : g.S.Source.faults c.read.new.self ≡ g.S.Source.faults c.args.stream.now = c.in-Ok-eq0.ensures.sound ∙ c.loop-decoder.invariant.read in
+    record { later = omega (arith, still); failed = λ e. absurd (c.finish.ensures.read.0 e); still = λ _. still }
 
 pub returns-in-Ok-eq0-clause-unmade : goal.returns-in-Ok-eq0-clause-unmade
 returns-in-Ok-eq0-clause-unmade g c = λ e. absurd (c.finish.ensures.read.1 e)
@@ -142,7 +144,7 @@ loop-decoder-preserved g c =
         stands,
       );
       short = omega (arith, c.min-room.ensures, c.if-room-count.false, c.loop-decoder.invariant.short);
-      read_later = omega (arith, c.loop-decoder.invariant.read_later, c.read.ensures.cause.later);
-      say_later = omega (arith, c.loop-decoder.invariant.say_later, c.take_piece.ensures.cause.later);
+      read = c.in-Ok-read.ensures.sound ∙ c.loop-decoder.invariant.read;
+      say = c.in-Ok-take_piece.ensures.cause.sound ∙ c.loop-decoder.invariant.say;
       disk = c.take_piece.ensures.disk ∙ c.loop-decoder.invariant.disk;
     }

@@ -8,8 +8,8 @@ invariant-loop-decoder g l = record {
   taken : (bytes : List ℕ) × (g.S.Source.observed → g.S.Source.left l.fn.stream ≡ bytes ++ g.S.Source.left l.stream) × (l.at ≡ length bytes)
       × Stands g.P.Station.observed (g.P.Station.calls l.fn.station) (g.P.Station.calls l.station) bytes l.decoder;
   short : l.at ≤ LONGEST_STREAM;
-  read_later : g.S.Source.faults l.fn.stream ≤ g.S.Source.faults l.stream;
-  say_later : g.P.Station.say_faults l.fn.station ≤ g.P.Station.say_faults l.station;
+  read : g.S.Source.faults l.stream ≡ g.S.Source.faults l.fn.stream;
+  say : g.P.Station.say_faults l.station ≡ g.P.Station.say_faults l.fn.station;
   disk : g.P.Station.disk_faults l.station ≡ g.P.Station.disk_faults l.fn.station;
 }
 

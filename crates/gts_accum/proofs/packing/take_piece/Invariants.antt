@@ -1,4 +1,4 @@
-use Rattle.std.proofs.Common.{◌≡◌, ◌≤◌, ◌+◌, ◌++◌, ℕ, List, length}
+use Rattle.std.proofs.Common.{◌≡◌, ◌+◌, ◌++◌, ℕ, List, length}
 use Rattle.gts_accum.specs.Cited.{Call, Stands}
 use Rattle.gts_accum.proofs.packing.take_piece.Given as goal
 
@@ -8,7 +8,7 @@ invariant-loop-rest g l = record {
   taken : (done : List ℕ) × (l.fn.piece ≡ done ++ l.rest) × (l.at ≡ l.fn.start + length done)
       × ((first : List Call) (before : List ℕ) → Stands g.P.Station.observed first (g.P.Station.calls l.fn.station) before l.fn.decoder
       → Stands g.P.Station.observed first (g.P.Station.calls l.station) (before ++ done) l.decoder);
-  later : g.P.Station.say_faults l.fn.station ≤ g.P.Station.say_faults l.station;
+  sound : g.P.Station.say_faults l.station ≡ g.P.Station.say_faults l.fn.station;
   disk : g.P.Station.disk_faults l.station ≡ g.P.Station.disk_faults l.fn.station;
 }
 

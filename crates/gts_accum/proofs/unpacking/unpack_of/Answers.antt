@@ -1,5 +1,5 @@
 use Rattle.std.proofs.Common.{ℕ, ◌≤◌, List, length, sym, ap, subst, ◌∙◌, arith}
-use Rattle.gts_replay.specs.Cited.{Ends}
+use Rattle.gts_replay.specs.Cited.{Ends, IsUnfailed}
 use Rattle.gts_event.specs.declared.event.Entry.{Entry}
 use Rattle.gts_accum.specs.Cited.{HasReplayCause, HasUnpackCause, IsLeft, IsPlaceMet, Journaled, ReplayEnd, StandsFor, UnpackEnd, Unpacks, badplace, capture_left, captured}
 use Rattle.gts_accum.proofs.UnpackLemmas.{from-end, from-cut, cause-end, cause-cut}
@@ -58,7 +58,7 @@ returns-clause-cause g c =
           subst A (sym (c.into_inner.ensures.source ∙ ap (λ t. t.source) w.traced-is))
           (subst B (sym w.end-is)
           (cause-cut c.replay.result w.end_of_file-end.result _ _ _ _ before (faults c.replay.new.capture.source) (faults w.end_of_file-end.new.traced.source) run
-          w.end_of_file-end.ensures.kind w.end_of_file-end.ensures.cause))
+          (subst IsUnfailed (sym w.in-Capture.is) tt) w.end_of_file-end.ensures.kind w.end_of_file-end.ensures.cause w.end_of_file-end.ensures.sound))
       | in_default w ↦
           let B : UnpackEnd → Type 0 = λ e. Q e c.replay.new.capture.source in
           subst A (sym (c.into_inner.ensures.source ∙ ap (λ t. t.source) w.traced-is))

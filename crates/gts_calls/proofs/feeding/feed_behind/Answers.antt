@@ -1,5 +1,5 @@
 use Rattle.std.proofs.Common.{◌≡◌, ◌-◌, ℕ, true, false, List, length, take, drop, sym, ap, subst, ◌∙◌, arith, length-drop}
-use Rattle.gts_calls.specs.Cited.{All, Entry, FeedEnd, GoesFed, GoesOver, IsShortAt, answer_of, events_of_signs, is_all, signs_of_step}
+use Rattle.gts_calls.specs.Cited.{All, Entry, FeedEnd, GoesFed, GoesOver, HasCallCause, IsShortAt, answer_of, events_of_signs, is_all, signs_of_step}
 use Rattle.gts_calls.proofs.OverLemmas.{Held, held_first, held_more, goes_first, goes_more, caused_later, is_that}
 use Rattle.gts_calls.proofs.ReadingLemmas.{slice_from, taken_more}
 use Rattle.gts_calls.proofs.feeding.feed_behind.Goals as goal
@@ -44,6 +44,8 @@ loop-taken-preserved g c =
     let end : FeedEnd = c.deal-end-in-loop-taken.result in
     let now = c.loop-taken.switch in
     let later = c.deal-end-in-loop-taken.new.switch in
+    let disks = g.W.Listens.disk_faults in
+    let says = g.W.Listens.say_faults in
     let all : c.loop-taken.end ≡ All = is_that c.loop-taken.end (sym c.is_all.ensures ∙ c.if-is_all.true) in
     let held : Held begun c.args.step start taken All decoder = subst (λ (x : FeedEnd). Held begun c.args.step start taken x decoder) all i.held in
     let so_far : GoesOver meanings c.args.c begun c.args.step start c.args.switch.now taken decoder.message All now =
@@ -60,8 +62,8 @@ loop-taken-preserved g c =
           (λ o first h s. subst (λ (t : List ℕ). F t o first h) c.message-in-loop-taken.ensures (d.goes o first h s)));
       short = subst (λ (t : List ℕ). IsShortAt end t) c.message-in-loop-taken.ensures d.short;
       directory = d.directory ∙ i.directory;
-      cause = caused_later (answer_of c.loop-taken.end) (answer_of end) (g.W.Listens.disk_faults c.args.switch.now) (g.W.Listens.disk_faults now) (g.W.Listens.disk_faults later)
-          (g.W.Listens.say_faults c.args.switch.now) (g.W.Listens.say_faults now) (g.W.Listens.say_faults later) i.cause d.cause;
+      cause = caused_later (answer_of end) (disks c.args.switch.now) (disks now) (disks later) (says c.args.switch.now) (says now) (says later)
+          (subst (λ (x : FeedEnd). HasCallCause (answer_of x) (disks c.args.switch.now) (disks now) (says c.args.switch.now) (says now)) all i.cause) d.cause;
     }
 
 pub returns-else-is_all-clause-takes : goal.returns-else-is_all-clause-takes

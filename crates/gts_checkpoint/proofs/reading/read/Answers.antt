@@ -1,5 +1,5 @@
-use Rattle.std.proofs.Common.{rules, ◌≡◌, ◌+◌, ◌-◌, ◌*◌, ◌^◌, ◌<◌, ◌≤◌, ℕ, List, Option, length, refl, sym, subst, ◌∙◌, arith, IfErr, IfSome, IfNone}
-use Rattle.gts_checkpoint.specs.Cited.{Call, CanBegin, FindsText, IsReadFault, bytes_from, draw_size, first_of, need_of, seal_size, unowed}
+use Rattle.std.proofs.Common.{rules, ◌≡◌, ◌+◌, ◌-◌, ◌*◌, ◌^◌, ◌<◌, ◌≤◌, ℕ, List, Option, length, sym, ap, subst, ◌∙◌, arith, IfErr, IfSome, IfNone}
+use Rattle.gts_checkpoint.specs.Cited.{Call, CanBegin, Damaged, FindsText, IsReadFault, bytes_from, draw_size, first_of, need_of, seal_size, unowed}
 use Rattle.gts_event.specs.declared.values.Need.{Need}
 use Rattle.gts_checkpoint.proofs.ReadLemmas.{none_there, stands_there, counts_there, can_begin, no_room, not_sound, no_seal, compares, has_read, size_there, no_damage}
 use Rattle.gts_checkpoint.proofs.SealLemmas.{last_is}
@@ -17,7 +17,7 @@ returns-in_default-clause-fault g c = λ observed.
     let count = c.circuits.result in
     let low : d.limit < 256 ^ 4 = omega (arith, c.limit-limit.ensures.value, c.limit-limit.ensures.range.1) in
     let F : Option (Need × ℕ) → Type 0 = λ o. FindsText bytes count (first_of o) in
-    (refl, none_there c.args.version d bytes count c.circuits.ensures.value low (subst F c.in_default.is (c.in_ok-need.ensures.found observed)))
+    (ap (λ (k : ℕ). Damaged k 41) c.number.ensures.value, none_there c.args.version d bytes count c.circuits.ensures.value low (subst F c.in_default.is (c.in_ok-need.ensures.found observed)))
 
 pub returns-in_default-gate_behind-clause-fault : goal.returns-in_default-gate_behind-clause-fault
 returns-in_default-gate_behind-clause-fault g c = λ observed.
@@ -30,7 +30,7 @@ returns-in_default-gate_behind-clause-fault g c = λ observed.
     let counts = counts_there d c.in_ok-need.field-0 n at c.waiting-due.result c.limit-limit.result c.as_slice.result.now c.in-Some.is c.in_ok-need.ensures.place c.waiting-due.ensures c.as_slice.ensures
     c.limit-limit.ensures.value c.limit-limit.ensures.range.1 in
     let F : Option ℕ → Type 0 = λ o. IfNone o (c.limit-limit.result < at + seal_size v + 1 + draw_size v * c.waiting-due.result) in
-    (refl, no_room v d bytes n at c.waiting-due.result c.limit-limit.result stands counts (subst F c.in_default-gate_behind.is c.gate_behind.ensures.none))
+    (ap (λ (k : ℕ). Damaged k 41) c.number.ensures.value, no_room v d bytes n at c.waiting-due.result c.limit-limit.result stands counts (subst F c.in_default-gate_behind.is c.gate_behind.ensures.none))
 
 pub returns-then-not-branch-clause-fault : goal.returns-then-not-branch-clause-fault
 returns-then-not-branch-clause-fault g c = λ observed.
@@ -39,7 +39,7 @@ returns-then-not-branch-clause-fault g c = λ observed.
     let at : ℕ = c.in-Some.at in
     let bytes = bytes_from (g.P.Station.calls c.args.station.now) c.args.file 41 in
     let stands = stands_there bytes c.circuits.result c.in_ok-need.field-0 n at c.in-Some.is (c.in_ok-need.ensures.found observed) c.in_ok-need.ensures.fits c.in_ok-need.ensures.unowed in
-    (refl, not_sound c.args.version d bytes (need_of n) stands (sym c.in_ok-is_sound.ensures ∙ c.if-not-branch.true))
+    (ap (λ (k : ℕ). Damaged k 41) c.number.ensures.value, not_sound c.args.version d bytes (need_of n) stands (sym c.in_ok-is_sound.ensures ∙ c.if-not-branch.true))
 
 pub seal_at-requires-clause-there : goal.seal_at-requires-clause-there
 seal_at-requires-clause-there g c = λ observed.
@@ -61,7 +61,7 @@ returns-in_default-2-clause-fault g c = λ observed.
     let stands = stands_there bytes c.circuits.result c.in_ok-need.field-0 n at c.in-Some.is (c.in_ok-need.ensures.found observed) c.in_ok-need.ensures.fits c.in_ok-need.ensures.unowed in
     let compared = compares v d (g.P.Station.calls c.args.station.now) (g.P.Station.calls c.need_at.new.station) c.args.file n at c.in_ok-need.field-0 c.first_seal-before.result c.mark.result c.in_ok-seal.field-0 c.in-Some.is
     c.in_ok-need.ensures.place (c.in_ok-need.ensures.told observed) c.first_seal-before.ensures.held c.mark.ensures (c.in_ok-seal.ensures.stands observed) in
-    (refl, no_seal v d bytes (need_of n) c.first_seal-before.result (at - 41) c.in_ok-seal.field-0 stands compared c.in_default-2.is)
+    (ap (λ (k : ℕ). Damaged k 41) c.number.ensures.value, no_seal v d bytes (need_of n) c.first_seal-before.result (at - 41) c.in_ok-seal.field-0 stands compared c.in_default-2.is)
 
 pub returns-clause-begins : goal.returns-clause-begins
 returns-clause-begins g c =

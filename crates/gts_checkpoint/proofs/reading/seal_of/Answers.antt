@@ -22,7 +22,7 @@ loop-done-preserved g c =
           let S : List ℕ → Type 0 = λ l. Seals c.add.new.self c.args.version before l in
           subst S (piece_there calls c.args.file done part there begins ∙ ap (λ (k : ℕ). take (done + k) all) long) (c.add.ensures c.args.version before (take done all) (inv.seals observed));
       told = λ observed. c.in_ok-fetch.ensures.told observed ∙ inv.told observed;
-      later = omega (arith, inv.later, c.fetch.ensures.cause.later);
+      sound = c.in_ok-fetch.ensures.sound ∙ inv.sound;
       say = c.fetch.ensures.say ∙ inv.say;
     }
 

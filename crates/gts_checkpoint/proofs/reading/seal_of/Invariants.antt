@@ -8,7 +8,7 @@ invariant-loop-done g l = record {
   inside : l.done ≤ l.size;
   seals : g.P.Station.observed → Seals l.sealer l.fn.version (held l.fn.version l.before) (take l.done (bytes_from (g.P.Station.calls l.fn.station) l.file 41));
   told : g.P.Station.observed → g.P.Station.calls l.station ≡ g.P.Station.calls l.fn.station;
-  later : g.P.Station.disk_faults l.fn.station ≤ g.P.Station.disk_faults l.station;
+  sound : g.P.Station.disk_faults l.station ≡ g.P.Station.disk_faults l.fn.station;
   say : g.P.Station.say_faults l.station ≡ g.P.Station.say_faults l.fn.station;
 }
 

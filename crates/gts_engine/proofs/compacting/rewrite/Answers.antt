@@ -5,12 +5,11 @@ use Rattle.gts_checkpoint.proofs.LawLemmas.{fit_bytes}
 use Rattle.gts_engine.proofs.CompactLemmas.{sound, size_free, size_few}
 use Rattle.gts_engine.proofs.StepLemmas.{idle_going}
 use Rattle.gts_engine.proofs.RewritingLemmas.{sound_put, moments_put, failed_put, whole_put, moments_all, compaction_by, sound_by, written_by}
+use Rattle.gts_engine.proofs.AnsweringLemmas.{cause_alike, cause_then, no_device_done}
 use Rattle.gts_engine.proofs.compacting.rewrite.Goals as goal
 
-fault_of : (P : SwitchFault → Type 0) (result : Result (Unit {0}) SwitchFault) (e : SwitchFault) → result ≡ Err e → IfErr result (λ x. (x ≡ DiskFault) × P x) → e ≡ DiskFault
-fault_of P result e is h =
-    let F : Result (Unit {0}) SwitchFault → Type 0 = λ r. IfErr r (λ x. (x ≡ DiskFault) × P x) in
-    let here : F (Err e) = subst F is h in here.0
+fault_of : (result : Result (Unit {0}) SwitchFault) (e : SwitchFault) → result ≡ Err e → IfErr result (λ x. x ≡ DiskFault) → e ≡ DiskFault
+fault_of result e is h = let F : Result (Unit {0}) SwitchFault → Type 0 = λ r. IfErr r (λ x. x ≡ DiskFault) in subst F is h
 
 pub put-requires-clause-fits : goal.put-requires-clause-fits
 put-requires-clause-fits g c =
@@ -30,9 +29,9 @@ choose-requires-clause-whole g c =
     let p = c.args.parts.now in
     let g0 = idle_going g.P.Station.observed g.P.Station.calls p c.requires.sound c.requires.going c.requires.rests in
     let n = need_of c.args.need.now in
-    let low : p.journal.file < 2 = omega (arith, c.file-other.ensures.file, c.file-other.ensures.below) in
-    let file : ℕ = 1 - c.file-other.result in
-    let file_is : file ≡ 1 - p.journal.file = ap (λ (k : ℕ). 1 - k) c.file-other.ensures.file in
+    let low : p.journal.file < 2 = omega (arith, c.file.ensures.file, c.file.ensures.below) in
+    let file : ℕ = c.other-other.result in
+    let file_is : file ≡ 1 - p.journal.file = c.other-other.ensures ∙ ap (λ (k : ℕ). 1 - k) c.file.ensures.file in
     let mark = c.mark-mark.result in
     let long : length mark ≡ 32 = search rules in
     let used : ℕ = c.compacted_size-used.result in
@@ -46,9 +45,9 @@ returns g c =
     let p = c.args.parts.now in
     let g0 = idle_going g.P.Station.observed g.P.Station.calls p c.requires.sound c.requires.going c.requires.rests in
     let n = need_of c.args.need.now in
-    let low : p.journal.file < 2 = omega (arith, c.file-other.ensures.file, c.file-other.ensures.below) in
-    let file : ℕ = 1 - c.file-other.result in
-    let file_is : file ≡ 1 - p.journal.file = ap (λ (k : ℕ). 1 - k) c.file-other.ensures.file in
+    let low : p.journal.file < 2 = omega (arith, c.file.ensures.file, c.file.ensures.below) in
+    let file : ℕ = c.other-other.result in
+    let file_is : file ≡ 1 - p.journal.file = c.other-other.ensures ∙ ap (λ (k : ℕ). 1 - k) c.file.ensures.file in
     let mark = c.mark-mark.result in
     let long : length mark ≡ 32 = search rules in
     let used : ℕ = c.compacted_size-used.result in
@@ -57,14 +56,14 @@ returns g c =
     let q = c.put.new.parts in
     let q_none : q.stopped ≡ None = c.in_ok-seal.ensures.stops ∙ c.requires.going in
     record {
-      compaction = compaction_by g.P.Station.observed g.P.Station.calls p c.requires.going c.requires.sound c.requires.rests g0 n c.requires.need c.requires.free low file file_is mark c.mark-mark.ensures long used used_is q c.put.ensures.rest c.put.ensures.beside c.in_ok-seal.ensures.written (held written c.in_ok-seal.seal) c.in_ok-seal.ensures.seal c.choose.new.parts c.choose.ensures.rest c.choose.ensures.silent c.choose.ensures.moments c.choose.result q_none c.choose.ensures.stops (λ e is. fault_of _ c.choose.result e is c.choose.ensures.fault) c.choose.ensures.batch c.choose.ensures.place c.choose.ensures.stands c.choose.ensures.files;
-      sound = sound_by g.P.Station.observed g.P.Station.calls p c.requires.going c.requires.sound c.requires.rests g0 n c.requires.need c.requires.free low file file_is mark c.mark-mark.ensures long used used_is q c.put.ensures.rest c.put.ensures.beside c.in_ok-seal.ensures.written (held written c.in_ok-seal.seal) c.in_ok-seal.ensures.seal c.choose.new.parts c.choose.ensures.rest c.choose.ensures.silent c.choose.ensures.moments c.choose.result q_none c.choose.ensures.stops (λ e is. fault_of _ c.choose.result e is c.choose.ensures.fault) c.choose.ensures.batch c.choose.ensures.place c.choose.ensures.stands c.choose.ensures.files;
+      compaction = compaction_by g.P.Station.observed g.P.Station.calls p c.requires.going c.requires.sound c.requires.rests g0 n c.requires.need c.requires.free low file file_is mark c.mark-mark.ensures long used used_is q c.put.ensures.rest c.put.ensures.beside c.in_ok-seal.ensures.written (held written c.in_ok-seal.seal) c.in_ok-seal.ensures.seal c.choose.new.parts c.choose.ensures.rest c.choose.ensures.silent c.choose.ensures.moments c.choose.result q_none c.choose.ensures.stops (λ e is. fault_of c.choose.result e is c.choose.ensures.fault) c.choose.ensures.batch c.choose.ensures.place c.choose.ensures.stands c.choose.ensures.files;
+      sound = sound_by g.P.Station.observed g.P.Station.calls p c.requires.going c.requires.sound c.requires.rests g0 n c.requires.need c.requires.free low file file_is mark c.mark-mark.ensures long used used_is q c.put.ensures.rest c.put.ensures.beside c.in_ok-seal.ensures.written (held written c.in_ok-seal.seal) c.in_ok-seal.ensures.seal c.choose.new.parts c.choose.ensures.rest c.choose.ensures.silent c.choose.ensures.moments c.choose.result q_none c.choose.ensures.stops (λ e is. fault_of c.choose.result e is c.choose.ensures.fault) c.choose.ensures.batch c.choose.ensures.place c.choose.ensures.stands c.choose.ensures.files;
       moments = moments_all g.P.Station.observed g.P.Station.calls p c.requires.going c.requires.sound c.requires.rests g0 n c.requires.need c.requires.free low file file_is mark c.mark-mark.ensures long used used_is q c.put.ensures.rest c.put.ensures.beside c.in_ok-seal.ensures.written (held written c.in_ok-seal.seal) c.in_ok-seal.ensures.seal c.choose.new.parts c.choose.ensures.rest c.choose.ensures.silent c.choose.ensures.moments;
       written = written_by g.P.Station.observed g.P.Station.calls p c.requires.going c.requires.sound c.requires.rests g0 n c.requires.need c.requires.free low file file_is mark c.mark-mark.ensures long used used_is q c.put.ensures.rest c.put.ensures.beside c.in_ok-seal.ensures.written (held written c.in_ok-seal.seal) c.in_ok-seal.ensures.seal c.choose.new.parts c.choose.ensures.rest c.choose.ensures.silent c.choose.ensures.moments c.choose.result c.choose.ensures.batch c.choose.ensures.place c.choose.ensures.stands c.choose.ensures.files;
       stops = search rules;
       kind = search rules;
       unchanged = search rules;
-      cause = search rules;
+      cause = cause_then c.put.result c.choose.result _ _ _ _ _ _ (no_device_done c.put.result c.in_ok-seal.seal c.in_ok-seal.was) c.put.ensures.cause c.choose.ensures.cause;
     }
 
 pub returns-in_err-seal : goal.returns-in_err-seal
@@ -73,9 +72,9 @@ returns-in_err-seal g c =
     let x = err_from_is_err_and c.from_residual.result c.from_residual.ensures.1 in
     let g0 = idle_going g.P.Station.observed g.P.Station.calls p c.requires.sound c.requires.going c.requires.rests in
     let n = need_of c.args.need.now in
-    let low : p.journal.file < 2 = omega (arith, c.file-other.ensures.file, c.file-other.ensures.below) in
-    let file : ℕ = 1 - c.file-other.result in
-    let file_is : file ≡ 1 - p.journal.file = ap (λ (k : ℕ). 1 - k) c.file-other.ensures.file in
+    let low : p.journal.file < 2 = omega (arith, c.file.ensures.file, c.file.ensures.below) in
+    let file : ℕ = c.other-other.result in
+    let file_is : file ≡ 1 - p.journal.file = c.other-other.ensures ∙ ap (λ (k : ℕ). 1 - k) c.file.ensures.file in
     let mark = c.mark-mark.result in
     let long : length mark ≡ 32 = search rules in
     let used : ℕ = c.compacted_size-used.result in
@@ -91,5 +90,5 @@ returns-in_err-seal g c =
       stops = search rules;
       kind = search rules;
       unchanged = search rules;
-      cause = search rules;
+      cause = cause_alike c.put.result c.in_err-seal.field-0.0 _ _ _ _ c.in_err-seal.was c.put.ensures.cause;
     })

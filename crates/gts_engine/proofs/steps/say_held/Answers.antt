@@ -22,7 +22,7 @@ loop-i-preserved g c =
     let A : Sayings → Type 0 = λ h. c.in-Ok.next ≡ sizes_of (take (c.loop-i.i + 1) h.each) in
     record {
       at = subst A (ap sayings_in c.loop-i.invariant.up.rest) c.in-Ok.ensures.next;
-      up = one_further g.P.Station.observed g.P.Station.calls g.P.Station.disk_faults g.P.Station.say_faults c.args.parts.now c.loop-i.i c.loop-i.parts c.say_one.new.parts c.loop-i.invariant.up (omega (arith, c.loop-i-test.true, c.count-i-end.ensures)) c.say_one.result c.say_one.ensures.told c.say_one.ensures.rest c.say_one.ensures.later c.say_one.ensures.disk c.in-Ok.next c.in-Ok.is c.in-Ok.ensures.stops;
+      up = one_further g.P.Station.observed g.P.Station.calls g.P.Station.disk_faults g.P.Station.say_faults c.args.parts.now c.loop-i.i c.loop-i.parts c.say_one.new.parts c.loop-i.invariant.up (omega (arith, c.loop-i-test.true, c.count-i-end.ensures)) c.say_one.result c.say_one.ensures.told c.say_one.ensures.rest c.say_one.ensures.later c.say_one.ensures.disk c.in-Ok.next c.in-Ok.is c.in-Ok.ensures.stops c.in-Ok.ensures.sound;
     }
 
 pub returns-in-Err-clause-says : goal.returns-in-Err-clause-says

@@ -2,6 +2,8 @@ use Rattle.std.proofs.Common.{◌≡◌, true, false, refl, ap, arith}
 use Rattle.std.proofs.Props.{props}
 use Rattle.gts_engine.specs.Cited.{EngineParts, IsWithin, Sayings, engine_of}
 use Rattle.gts_engine.proofs.SettlingLemmas.{none_told, some_told}
+use Rattle.gts_engine.proofs.SayingLemmas.{few_held, few_more}
+use Rattle.gts_engine.proofs.StepLemmas.{part_held}
 use Rattle.gts_engine.proofs.steps.tell.Goals as goal
 
 -- what a directory says of itself has one proof
@@ -18,9 +20,11 @@ returns-then-is_empty g c =
       told = λ same. c.say_on.ensures.told;
       rest = λ same. c.say_on.ensures.rest;
       held = λ some. absurd (cc (none, some));
+      few = few_held old.held _ _ c.requires.room (ap part_held c.say_on.ensures.rest);
       stops = c.say_on.ensures.stops;
       fault = c.say_on.ensures.fault;
       later = c.say_on.ensures.later;
+      sound = c.say_on.ensures.sound;
       disk_stays = c.say_on.ensures.disk;
     }
 
@@ -32,8 +36,10 @@ returns g c =
       told = λ none. absurd (cc (none, some));
       rest = λ none. absurd (cc (none, some));
       held = λ same. (refl, held_alone c.args.parts.now c.hold.new.self _, c.hold.ensures);
+      few = few_more old.held _ _ _ c.requires.room c.hold.ensures;
       stops = refl;
       fault = tt;
       later = omega arith;
+      sound = refl;
       disk_stays = refl;
     }

@@ -1,6 +1,7 @@
-use Rattle.std.proofs.Common.{◌≡◌, ◌∷◌, ◌++◌, [], if◌then◌else◌, true, false, Bool, List, sym, ap, ◌∙◌}
+use Rattle.std.proofs.Common.{◌≡◌, ◌∷◌, ◌++◌, [], if◌then◌else◌, true, false, Bool, List, refl, sym, ap, ◌∙◌}
 use Rattle.gts_engine.specs.Cited.{Outside, engine_of}
 use Rattle.gts_engine.proofs.SettlingLemmas.{none_told, some_told}
+use Rattle.gts_engine.proofs.SayingLemmas.{few_held, few_more}
 use Rattle.gts_engine.proofs.steps.tell_nothing.Goals as goal
 
 pub returns-then-not-is_empty-clause-held : goal.returns-then-not-is_empty-clause-held
@@ -21,3 +22,9 @@ returns-else-not-is_empty-clause-held g c =
     let none : (engine_of old).gathered ≡ false = none_told _ c.is_empty.result c.is_empty.ensures.value c.if-not-is_empty.false in
     let H : Bool → List Outside = λ b. if b then (engine_of old).held ++ [] ∷ [] else (engine_of old).held in
     ap H (sym none)
+
+pub returns-then-not-is_empty-clause-few : goal.returns-then-not-is_empty-clause-few
+returns-then-not-is_empty-clause-few g c = few_more c.args.parts.now.held _ _ _ c.requires c.hold.ensures
+
+pub returns-else-not-is_empty-clause-few : goal.returns-else-not-is_empty-clause-few
+returns-else-not-is_empty-clause-few g c = few_held c.args.parts.now.held _ _ c.requires refl

@@ -10,7 +10,7 @@ pub loop-count-init : goal.loop-count-init
 loop-count-init g c = record {
   fed = ([], takes_none g.S.Source.observed c.args.steps.now (g.S.Source.left c.args.capture.now), fed_none c.args.c c.args.decoder.now c.args.table.now);
   circuits = refl;
-  later = omega arith;
+  sound = refl;
 }
 
 pub returns-in_err-count-clause-feeds : goal.returns-in_err-count-clause-feeds
@@ -40,5 +40,5 @@ loop-count-preserved g c =
         fed_piece c.args.c c.args.decoder.now c.args.table.now fed.0 piece c.loop-count.decoder c.feed_piece.new.decoder c.loop-count.table c.feed_piece.new.table fed.2 c.feed_piece.ensures.held c.feed_piece.ensures.adds,
       );
       circuits = c.feed_piece.ensures.circuits ∙ c.loop-count.invariant.circuits;
-      later = omega (arith, c.bytes.ensures.cause.later, c.loop-count.invariant.later);
+      sound = c.in_ok-count.ensures.cause.sound ∙ c.loop-count.invariant.sound;
     }

@@ -1,4 +1,4 @@
-use Rattle.std.proofs.Common.{◌≡◌, ◌≤◌, ℕ, List, length}
+use Rattle.std.proofs.Common.{◌≡◌, ℕ, List, length}
 use Rattle.gts_gap.specs.Cited.{IsFed, Takes}
 use Rattle.gts_gap.proofs.hearing.feed.Given as goal
 
@@ -8,7 +8,7 @@ invariant-loop-count g l = record {
   fed : (bytes : List ℕ) × Takes g.S.Source.observed bytes l.fn.steps l.steps (g.S.Source.left l.fn.capture) (g.S.Source.left l.capture)
       × IsFed l.c l.fn.decoder l.fn.table bytes l.decoder l.table;
   circuits : length l.table ≡ length l.fn.table;
-  later : g.S.Source.faults l.fn.capture ≤ g.S.Source.faults l.capture;
+  sound : g.S.Source.faults l.capture ≡ g.S.Source.faults l.fn.capture;
 }
 
 abbrev pub decreases-loop-count : goal.decreases-loop-count

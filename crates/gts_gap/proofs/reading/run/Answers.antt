@@ -13,7 +13,7 @@ loop-init g c = record {
   here = ap (λ (h : Held). h.circuits) c.requires.begins;
   circuits = refl;
   decoders = c.requires.decoders;
-  later = omega arith;
+  sound = refl;
 }
 
 pub returns-in-End-clause-comes : goal.returns-in-End-clause-comes
@@ -77,7 +77,7 @@ loop-preserved g c =
       here = same.circuits ∙ c.next.ensures.same.circuits ∙ c.loop.invariant.here;
       circuits = c.do_step.ensures.circuits ∙ c.loop.invariant.circuits;
       decoders = does.circuits ∙ c.loop.invariant.decoders;
-      later = omega (arith, c.loop.invariant.later, c.next.ensures.cause.later, c.do_step.ensures.cause.later);
+      sound = c.in_ok-do_step.ensures.cause.sound ∙ c.in_ok-head.ensures.cause.sound ∙ c.loop.invariant.sound;
     }
 
 pub returns-clause-comes : goal.returns-clause-comes

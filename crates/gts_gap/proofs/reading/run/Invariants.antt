@@ -1,4 +1,4 @@
-use Rattle.std.proofs.Common.{◌≡◌, ◌≤◌, List, length}
+use Rattle.std.proofs.Common.{◌≡◌, List, length}
 use Rattle.gts_gap.specs.Cited.{Directory, IsNew, Journaled, Step}
 use Rattle.gts_gap.proofs.MissingRunLemmas.{Runs}
 use Rattle.gts_gap.proofs.reading.run.Given as goal
@@ -13,5 +13,5 @@ invariant-loop g l = record {
   here : l.steps.circuits ≡ length l.fn.table;
   circuits : length l.table ≡ length l.fn.table;
   decoders : length l.decoders ≡ length l.fn.table;
-  later : g.S.Source.faults l.fn.capture ≤ g.S.Source.faults l.capture;
+  sound : g.S.Source.faults l.capture ≡ g.S.Source.faults l.fn.capture;
 }

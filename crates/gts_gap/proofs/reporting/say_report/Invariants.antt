@@ -1,4 +1,4 @@
-use Rattle.std.proofs.Common.{◌≡◌, ◌≤◌, ◌<◌, ℕ, List, length}
+use Rattle.std.proofs.Common.{◌≡◌, ◌<◌, ℕ, List, length}
 use Rattle.gts_gap.specs.Cited.{Numbered, SaysOnly, StandsAt, said_from}
 use Rattle.gts_gap.proofs.reporting.say_report.Given as goal
 
@@ -7,6 +7,6 @@ abbrev pub invariant-loop-c : goal.invariant-loop-c
 invariant-loop-c g l = record {
   said : g.P.Station.observed → (numbers : ℕ → List Numbered) → ((c : ℕ) → c < length l.directory.circuits → StandsAt l.table c (numbers c))
       → SaysOnly (g.P.Station.calls l.fn.station) (g.P.Station.calls l.station) (said_from l.directory l.moment numbers 0 l.c);
-  later : g.P.Station.say_faults l.fn.station ≤ g.P.Station.say_faults l.station;
+  sound : g.P.Station.say_faults l.station ≡ g.P.Station.say_faults l.fn.station;
   disk : g.P.Station.disk_faults l.station ≡ g.P.Station.disk_faults l.fn.station;
 }

@@ -1,4 +1,4 @@
-use Rattle.std.proofs.Common.{◌≡◌, ◌∷◌, ◌++◌, List, ℕ, Result, Err, Ok, sym, ap, subst, ◌∙◌, append_assoc, arith}
+use Rattle.std.proofs.Common.{◌≡◌, ◌∷◌, ◌++◌, List, ℕ, Result, Err, Ok, sym, ap, subst, ◌∙◌, append_assoc}
 use Rattle.gts_gap.specs.Cited.{AllByRecursion, Failed, HasDigits, SaysFront, SaysOnly, Tells, on, run_line, run_lines}
 use Rattle.gts_gap.proofs.SayingLemmas.{tells_on, front_on, front_told}
 use Rattle.gts_gap.proofs.saying.say_runs.Goals as goal
@@ -41,6 +41,6 @@ loop-first-preserved g c =
             x.1 ∙ ap (λ (rs : List (ℕ × ℕ × ℕ)). x.0 ++ run_lines c.args.c rs) c.in-Some.ensures.steps ∙ sym (append_assoc x.0 line rest),
             tells_on {T = Unit {0}} {E = Failed} (Ok tt) a b d 0 x.0 line x.2 said,
           );
-      later = omega (arith, c.loop-first.invariant.later, c.say.ensures.cause.later);
+      sound = c.in_ok-say.ensures.sound ∙ c.loop-first.invariant.sound;
       disk = c.say.ensures.disk ∙ c.loop-first.invariant.disk;
     }

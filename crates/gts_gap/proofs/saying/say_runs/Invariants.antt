@@ -1,4 +1,4 @@
-use Rattle.std.proofs.Common.{◌≡◌, ◌≤◌, ◌++◌, List, ℕ}
+use Rattle.std.proofs.Common.{◌≡◌, ◌++◌, List, ℕ}
 use Rattle.gts_gap.specs.Cited.{AllByRecursion, HasDigits, SaysOnly, on, run_lines}
 use Rattle.gts_gap.proofs.saying.say_runs.Given as goal
 
@@ -10,6 +10,6 @@ invariant-loop-first g l = record {
   digits : AllByRecursion HasDigits l.runs;
   said : g.P.Station.observed → (done : List ℕ) × (run_lines l.c l.initial.runs ≡ done ++ run_lines l.c l.runs)
       × SaysOnly (g.P.Station.calls l.fn.station) (g.P.Station.calls l.station) (on 0 done);
-  later : g.P.Station.say_faults l.fn.station ≤ g.P.Station.say_faults l.station;
+  sound : g.P.Station.say_faults l.station ≡ g.P.Station.say_faults l.fn.station;
   disk : g.P.Station.disk_faults l.station ≡ g.P.Station.disk_faults l.fn.station;
 }

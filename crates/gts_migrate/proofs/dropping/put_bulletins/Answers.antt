@@ -1,8 +1,6 @@
-use Rattle.std.proofs.Common.{◌≡◌, ◌++◌, ℕ, [], ◌∷◌, List, length, map, take, get_or, sym, ap, ◌∙◌, arith}
-use Rattle.gts_migrate.specs.Cited.{Bulletin, bulletin_of, flat_map, receipt_among, receipts_on}
-use Rattle.std.proofs.lemmas.List.{take_all, append_assoc, append-nil, map-append, length-map}
-use Rattle.std.proofs.lemmas.List.Concat.{flat_map-cons}
-use Rattle.std.proofs.lemmas.Grind.{flat_map-append, take_at_read}
+use Rattle.std.proofs.Common.{◌++◌, ℕ, List, map, ap, ◌∙◌, arith}
+use Rattle.gts_migrate.specs.Cited.{Bulletin, bulletin_of, flat_map, receipt_among}
+use Rattle.std.proofs.lemmas.List.{take_all, length-map}
 use Rattle.gts_event.specs.declared.values.Bulletin as values
 use Rattle.gts_migrate.proofs.DroppingLemmas.{in_order, body_here, bulletin_here, one_more_receipt, receipts_among}
 use Rattle.gts_migrate.proofs.dropping.put_bulletins.Goals as goal

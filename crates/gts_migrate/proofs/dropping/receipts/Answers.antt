@@ -1,6 +1,6 @@
-use Rattle.std.proofs.Common.{◌≡◌, ℕ, ◌+◌, ◌++◌, suc, [], List, drop, sym, ap, ◌∙◌, arith}
-use Rattle.std.proofs.lemmas.List.{append-nil, append_assoc}
-use Rattle.gts_migrate.specs.Cited.{circuit_of_row, need_of, receipts_from}
+use Rattle.std.proofs.Common.{ℕ, ◌++◌, List, drop, sym, ap, ◌∙◌, arith}
+use Rattle.std.proofs.lemmas.List.{append-nil}
+use Rattle.gts_migrate.specs.Cited.{circuit_of_row, need_of}
 use Rattle.gts_migrate.proofs.DroppingLemmas.{receipts_next, receipts_end}
 use Rattle.gts_migrate.proofs.dropping.receipts.Goals as goal
 

@@ -21,8 +21,8 @@ select-requires-clause-stands g c = λ tell.
     let spoken = g.P.Station.calls c.say_receipts.new.station in
     let bytes = c.args.prepared.now.receipts.items in
     let j = c.args.journal in
-    let low : j.file < 2 = omega (arith, c.file-other.ensures.file, c.file-other.ensures.below) in
-    let file_is : 1 - c.file-other.result ≡ 1 - j.file = ap (λ (k : ℕ). 1 - k) c.file-other.ensures.file in
+    let low : j.file < 2 = omega (arith, c.file.ensures.file, c.file.ensures.below) in
+    let file_is : c.other-other.result ≡ 1 - j.file = c.other-other.ensures ∙ ap (λ (k : ℕ). 1 - k) c.file.ensures.file in
     let beside : WorksBeside (1 - j.file) old mid = subst (λ (k : ℕ). WorksBeside k old mid) file_is (c.write.ensures.beside tell) in
     stands_spoken bytes mid spoken j (spoke bytes c.in_ok-say_receipts.field-0 mid spoken (subst (λ (l : List ℕ). SaysAll {T = Unit {0}} {E = MigrateFault} l (Ok c.in_ok-say_receipts.field-0) mid spoken) c.as_slice.ensures.value (c.in_ok-say_receipts.ensures.told tell))) (still_stands old mid j (c.requires.stands tell) low beside)
 
@@ -35,8 +35,8 @@ select-requires-clause-closed g c = λ tell.
     let long : length c.mark.result ≡ 32 = search rules in
     let low : c.args.new.now.limit < 2 ^ 63 = omega (arith, c.bounds_hold.ensures.greatest) in
     let used_is : c.compacted_size-used.result ≡ compacted_bytes written n = omega (arith, c.compacted_size-used.ensures, c.requires.size, c.requires.fits.room, low) in
-    closed_spoken bytes mid spoken c.args.journal (1 - c.file-other.result) c.compacted_size-used.result (spoke bytes c.in_ok-say_receipts.field-0 mid spoken (subst (λ (l : List ℕ). SaysAll {T = Unit {0}} {E = MigrateFault} l (Ok c.in_ok-say_receipts.field-0) mid spoken) c.as_slice.ensures.value (c.in_ok-say_receipts.ensures.told tell)))
-    (closed_there c.mark.result n (1 - c.file-other.result) mid c.args.journal c.compacted_size-used.result (c.in_ok-seal.ensures.written tell) long used_is)
+    closed_spoken bytes mid spoken c.args.journal c.other-other.result c.compacted_size-used.result (spoke bytes c.in_ok-say_receipts.field-0 mid spoken (subst (λ (l : List ℕ). SaysAll {T = Unit {0}} {E = MigrateFault} l (Ok c.in_ok-say_receipts.field-0) mid spoken) c.as_slice.ensures.value (c.in_ok-say_receipts.ensures.told tell)))
+    (closed_there c.mark.result n c.other-other.result mid c.args.journal c.compacted_size-used.result (c.in_ok-seal.ensures.written tell) long used_is)
 
 pub returns-clause-moments : goal.returns-clause-moments
 returns-clause-moments g c = λ tell from s can.
@@ -47,8 +47,8 @@ returns-clause-moments g c = λ tell from s can.
     let j = c.args.journal in
     let new = c.args.new.now in
     let n = need_of c.args.prepared.now.need in
-    let low : j.file < 2 = omega (arith, c.file-other.ensures.file, c.file-other.ensures.below) in
-    let file_is : 1 - c.file-other.result ≡ 1 - j.file = ap (λ (k : ℕ). 1 - k) c.file-other.ensures.file in
+    let low : j.file < 2 = omega (arith, c.file.ensures.file, c.file.ensures.below) in
+    let file_is : c.other-other.result ≡ 1 - j.file = c.other-other.ensures ∙ ap (λ (k : ℕ). 1 - k) c.file.ensures.file in
     let beside : WorksBeside (1 - j.file) old mid = subst (λ (k : ℕ). WorksBeside k old mid) file_is (c.write.ensures.beside tell) in
     let sp = spoke bytes c.in_ok-say_receipts.field-0 mid spoken (subst (λ (l : List ℕ). SaysAll {T = Unit {0}} {E = MigrateFault} l (Ok c.in_ok-say_receipts.field-0) mid spoken) c.as_slice.ensures.value (c.in_ok-say_receipts.ensures.told tell)) in
     let since = speaking from new s n old j bytes can low mid beside c.say_receipts.result spoken (subst (λ (l : List ℕ). SaysAll l c.say_receipts.result mid spoken) c.as_slice.ensures.value (c.say_receipts.ensures.told tell)) in
@@ -68,8 +68,8 @@ returns-in_err-select-clause-moments g c = λ tell from s can.
     let j = c.args.journal in
     let new = c.args.new.now in
     let n = need_of c.args.prepared.now.need in
-    let low : j.file < 2 = omega (arith, c.file-other.ensures.file, c.file-other.ensures.below) in
-    let file_is : 1 - c.file-other.result ≡ 1 - j.file = ap (λ (k : ℕ). 1 - k) c.file-other.ensures.file in
+    let low : j.file < 2 = omega (arith, c.file.ensures.file, c.file.ensures.below) in
+    let file_is : c.other-other.result ≡ 1 - j.file = c.other-other.ensures ∙ ap (λ (k : ℕ). 1 - k) c.file.ensures.file in
     let beside : WorksBeside (1 - j.file) old mid = subst (λ (k : ℕ). WorksBeside k old mid) file_is (c.write.ensures.beside tell) in
     let sp = spoke bytes c.in_ok-say_receipts.field-0 mid spoken (subst (λ (l : List ℕ). SaysAll {T = Unit {0}} {E = MigrateFault} l (Ok c.in_ok-say_receipts.field-0) mid spoken) c.as_slice.ensures.value (c.in_ok-say_receipts.ensures.told tell)) in
     let since = speaking from new s n old j bytes can low mid beside c.say_receipts.result spoken (subst (λ (l : List ℕ). SaysAll l c.say_receipts.result mid spoken) c.as_slice.ensures.value (c.say_receipts.ensures.told tell)) in
@@ -89,8 +89,8 @@ returns-clause-written g c = λ tell from s can.
     let j = c.args.journal in
     let new = c.args.new.now in
     let n = need_of c.args.prepared.now.need in
-    let low : j.file < 2 = omega (arith, c.file-other.ensures.file, c.file-other.ensures.below) in
-    let file_is : 1 - c.file-other.result ≡ 1 - j.file = ap (λ (k : ℕ). 1 - k) c.file-other.ensures.file in
+    let low : j.file < 2 = omega (arith, c.file.ensures.file, c.file.ensures.below) in
+    let file_is : c.other-other.result ≡ 1 - j.file = c.other-other.ensures ∙ ap (λ (k : ℕ). 1 - k) c.file.ensures.file in
     let beside : WorksBeside (1 - j.file) old mid = subst (λ (k : ℕ). WorksBeside k old mid) file_is (c.write.ensures.beside tell) in
     let sp = spoke bytes c.in_ok-say_receipts.field-0 mid spoken (subst (λ (l : List ℕ). SaysAll {T = Unit {0}} {E = MigrateFault} l (Ok c.in_ok-say_receipts.field-0) mid spoken) c.as_slice.ensures.value (c.in_ok-say_receipts.ensures.told tell)) in
     let since = speaking from new s n old j bytes can low mid beside c.say_receipts.result spoken (subst (λ (l : List ℕ). SaysAll l c.say_receipts.result mid spoken) c.as_slice.ensures.value (c.say_receipts.ensures.told tell)) in
@@ -114,8 +114,8 @@ returns-in_err-say_receipts-clause-moments g c = λ tell from s can.
     let j = c.args.journal in
     let new = c.args.new.now in
     let n = need_of c.args.prepared.now.need in
-    let low : j.file < 2 = omega (arith, c.file-other.ensures.file, c.file-other.ensures.below) in
-    let file_is : 1 - c.file-other.result ≡ 1 - j.file = ap (λ (k : ℕ). 1 - k) c.file-other.ensures.file in
+    let low : j.file < 2 = omega (arith, c.file.ensures.file, c.file.ensures.below) in
+    let file_is : c.other-other.result ≡ 1 - j.file = c.other-other.ensures ∙ ap (λ (k : ℕ). 1 - k) c.file.ensures.file in
     let beside : WorksBeside (1 - j.file) old mid = subst (λ (k : ℕ). WorksBeside k old mid) file_is (c.write.ensures.beside tell) in
     speaking from new s n old j bytes can low mid beside c.say_receipts.result spoken (subst (λ (l : List ℕ). SaysAll l c.say_receipts.result mid spoken) c.as_slice.ensures.value (c.say_receipts.ensures.told tell))
 
@@ -126,8 +126,8 @@ returns-in_err-seal-clause-moments g c = λ tell from s can.
     let j = c.args.journal in
     let new = c.args.new.now in
     let n = need_of c.args.prepared.now.need in
-    let low : j.file < 2 = omega (arith, c.file-other.ensures.file, c.file-other.ensures.below) in
-    let file_is : 1 - c.file-other.result ≡ 1 - j.file = ap (λ (k : ℕ). 1 - k) c.file-other.ensures.file in
+    let low : j.file < 2 = omega (arith, c.file.ensures.file, c.file.ensures.below) in
+    let file_is : c.other-other.result ≡ 1 - j.file = c.other-other.ensures ∙ ap (λ (k : ℕ). 1 - k) c.file.ensures.file in
     let beside : WorksBeside (1 - j.file) old mid = subst (λ (k : ℕ). WorksBeside k old mid) file_is (c.write.ensures.beside tell) in
     writing from new s n old j c.args.prepared.now.receipts.items can low mid beside
 

@@ -9,8 +9,8 @@ pub loop-init : goal.loop-init
 loop-init g c = record {
   drained = λ o first h start. drained_none g.W.Switch.meanings c.args.switch.now o first h c.args.c start;
   directory = refl;
-  disk_later = omega arith;
-  say_later = omega arith;
+  disk = refl;
+  say = refl;
 }
 
 pub returns-in_err-outcome-clause-goes : goal.returns-in_err-outcome-clause-goes
@@ -31,8 +31,8 @@ loop-preserved g c = record {
       (c.loop.invariant.drained o first h start) c.take.ensures.called c.in_ok-outcome.outcome start c.requires.circuit c.in_ok-outcome.was
       (λ e. false≢true (sym c.if-is_nothing.false ∙ c.is_nothing.ensures.nothing.1 e)) c.is_nothing.ensures.few;
   directory = c.take.ensures.called.directory ∙ c.loop.invariant.directory;
-  disk_later = omega (arith, c.take.ensures.cause.disk_later, c.loop.invariant.disk_later);
-  say_later = omega (arith, c.take.ensures.cause.say_later, c.loop.invariant.say_later);
+  disk = c.take.ensures.cause.disk_still (λ e. cc (sym c.in_ok-outcome.was ∙ e)) ∙ c.loop.invariant.disk;
+  say = c.take.ensures.cause.say_still (λ e. cc (sym c.in_ok-outcome.was ∙ e)) ∙ c.loop.invariant.say;
 }
 
 pub returns-clause-goes : goal.returns-clause-goes

@@ -1,4 +1,4 @@
-use Rattle.std.proofs.Common.{◌≡◌, ◌-◌, ◌^◌, ◌≤◌, ℕ, List}
+use Rattle.std.proofs.Common.{◌≡◌, ◌-◌, ◌^◌, ℕ, List}
 use Rattle.gts_replay.specs.Cited.{Entry, StandsFor}
 use Rattle.gts_replay.proofs.DrainLemmas.{Drained}
 use Rattle.gts_replay.proofs.draining.drain.Given as goal
@@ -8,8 +8,8 @@ abbrev pub invariant-loop : goal.invariant-loop
 invariant-loop g l = record {
   drained : (o : g.W.Switch.Origin) (first : ℕ) (h : List Entry) → StandsFor g.W.Switch.meanings o first h l.fn.switch → Drained g.W.Switch.meanings l.fn.switch o first h l.c l.counter l.switch;
   directory : g.W.Switch.meanings.directory l.switch ≡ g.W.Switch.meanings.directory l.fn.switch;
-  disk_later : g.W.Switch.disk_faults l.fn.switch ≤ g.W.Switch.disk_faults l.switch;
-  say_later : g.W.Switch.say_faults l.fn.switch ≤ g.W.Switch.say_faults l.switch;
+  disk : g.W.Switch.disk_faults l.switch ≡ g.W.Switch.disk_faults l.fn.switch;
+  say : g.W.Switch.say_faults l.switch ≡ g.W.Switch.say_faults l.fn.switch;
 }
 
 abbrev pub decreases-loop : goal.decreases-loop

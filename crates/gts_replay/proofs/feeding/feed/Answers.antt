@@ -1,4 +1,4 @@
-use Rattle.std.proofs.Common.{◌≡◌, ◌++◌, ℕ, List, [], take, length, Result, Ok, Err, OnOk, refl, ap, subst, ◌∙◌, arith, is_err}
+use Rattle.std.proofs.Common.{◌≡◌, ◌++◌, ℕ, List, [], take, length, Result, Ok, Err, OnOk, refl, sym, ap, subst, ◌∙◌, arith, is_err}
 use Rattle.std.proofs.lemmas.List.{length-take-le}
 use Rattle.std.proofs.lemmas.Result.{IfOk-at_ok, err_from_is_err_and}
 use Rattle.gts_replay.specs.Cited.{Bad, CaptureFault, Feeds, Goes, SourceFault, SwitchFault, all_done, events_added, held_in}
@@ -12,9 +12,9 @@ pub loop-count-init : goal.loop-count-init
 loop-count-init g c = record {
   fed = ([], takes_none g.S.Source.observed c.args.steps.now (g.S.Source.left c.args.capture.now), fed_none g.W.Switch.meanings c.args.c c.args.decoder.now c.args.switch.now);
   directory = refl;
-  disk_later = omega arith;
-  say_later = omega arith;
-  source_later = omega arith;
+  disk = refl;
+  say = refl;
+  source = refl;
 }
 
 pub returns-in_err-count-clause-feeds : goal.returns-in_err-count-clause-feeds
@@ -82,7 +82,7 @@ loop-count-preserved g c =
             dealt (c.feed_piece.ensures.goes before o first h held stands)),
       );
       directory = c.feed_piece.ensures.directory ∙ c.loop-count.invariant.directory;
-      disk_later = omega (arith, c.feed_piece.ensures.cause.disk_later, c.loop-count.invariant.disk_later);
-      say_later = omega (arith, c.feed_piece.ensures.cause.say_later, c.loop-count.invariant.say_later);
-      source_later = omega (arith, c.bytes.ensures.cause.later, c.loop-count.invariant.source_later);
+      disk = c.feed_piece.ensures.cause.disk_still (λ e. cc (sym dealt ∙ e)) ∙ c.loop-count.invariant.disk;
+      say = c.feed_piece.ensures.cause.say_still (λ e. cc (sym dealt ∙ e)) ∙ c.loop-count.invariant.say;
+      source = subst (λ (r : Result ℕ CaptureFault). OnOk r (g.S.Source.faults c.bytes.new.source ≡ g.S.Source.faults c.loop-count.capture)) came c.bytes.ensures.cause.sound ∙ c.loop-count.invariant.source;
     }

@@ -1,4 +1,4 @@
-use Rattle.std.proofs.Common.{◌≡◌, ◌≤◌, ℕ, List}
+use Rattle.std.proofs.Common.{◌≡◌, ℕ, List}
 use Rattle.gts_replay.specs.Cited.{IsFed, Takes}
 use Rattle.gts_replay.proofs.feeding.feed.Given as goal
 
@@ -8,9 +8,9 @@ invariant-loop-count g l = record {
   fed : (bytes : List ℕ) × Takes g.S.Source.observed bytes l.fn.steps l.steps (g.S.Source.left l.fn.capture) (g.S.Source.left l.capture)
       × IsFed g.W.Switch.meanings l.c l.fn.decoder l.fn.switch bytes l.decoder l.switch;
   directory : g.W.Switch.meanings.directory l.switch ≡ g.W.Switch.meanings.directory l.fn.switch;
-  disk_later : g.W.Switch.disk_faults l.fn.switch ≤ g.W.Switch.disk_faults l.switch;
-  say_later : g.W.Switch.say_faults l.fn.switch ≤ g.W.Switch.say_faults l.switch;
-  source_later : g.S.Source.faults l.fn.capture ≤ g.S.Source.faults l.capture;
+  disk : g.W.Switch.disk_faults l.switch ≡ g.W.Switch.disk_faults l.fn.switch;
+  say : g.W.Switch.say_faults l.switch ≡ g.W.Switch.say_faults l.fn.switch;
+  source : g.S.Source.faults l.capture ≡ g.S.Source.faults l.fn.capture;
 }
 
 abbrev pub decreases-loop-count : goal.decreases-loop-count

@@ -1,4 +1,4 @@
-use Rattle.std.proofs.Common.{◌≡◌, ◌++◌, ℕ, List, [], take, drop, Result, Ok, Err, refl, sym, ap, subst, ◌∙◌, arith}
+use Rattle.std.proofs.Common.{◌≡◌, ◌++◌, ℕ, List, [], take, drop, Result, Ok, Err, refl, sym, ap, subst, ◌∙◌}
 use Rattle.std.proofs.lemmas.List.{append_assoc, take-append-drop}
 use Rattle.std.proofs.lemmas.Result.{err_from_is_err_and}
 use Rattle.gts_replay.specs.Cited.{BreaksOff, Goes, SwitchFault, all_done, answer_of, events_added}
@@ -10,8 +10,8 @@ pub loop-rest-init : goal.loop-rest-init
 loop-rest-init g c = record {
   fed = ([], refl, fed_none g.W.Switch.meanings c.args.c c.args.decoder.now c.args.switch.now);
   directory = refl;
-  disk_later = omega arith;
-  say_later = omega arith;
+  disk = refl;
+  say = refl;
 }
 
 pub loop-rest-preserved : goal.loop-rest-preserved
@@ -34,11 +34,11 @@ loop-rest-preserved g c =
         fed_piece meanings circuit c.args.decoder.now c.args.switch.now fed.0 x c.loop-rest.decoder next c.loop-rest.switch later fed.2
             (λ before is. (c.feed-fed.ensures.takes before is).held)
             (λ before o first h held stands. subst (λ (r : Result (Unit {0}) SwitchFault). Goes meanings o first h (all_done (events_added circuit before x)) r later) done
-            (goes_of meanings o first h circuit (events_added circuit before x) next.message end later (c.feed-fed.ensures.goes before o first h held stands))),
+            (goes_of meanings o first h circuit (events_added circuit before x) next.message end later (c.feed-fed.ensures.goes before held o first h stands))),
       );
       directory = c.feed-fed.ensures.directory ∙ c.loop-rest.invariant.directory;
-      disk_later = omega (arith, c.feed-fed.ensures.cause.disk_later, c.loop-rest.invariant.disk_later);
-      say_later = omega (arith, c.feed-fed.ensures.cause.say_later, c.loop-rest.invariant.say_later);
+      disk = c.feed-fed.ensures.cause.disk_still (λ e. cc (sym done ∙ e)) ∙ c.loop-rest.invariant.disk;
+      say = c.feed-fed.ensures.cause.say_still (λ e. cc (sym done ∙ e)) ∙ c.loop-rest.invariant.say;
     }
 
 pub returns-in_err-answer-clause-goes : goal.returns-in_err-answer-clause-goes
@@ -59,6 +59,6 @@ returns-in_err-answer-clause-goes g c = λ before o first h held stands.
     let broken : BreaksOff meanings (λ _. o) first h (all_done (events_added circuit before (fed.0 ++ (x ++ behind)))) fault later =
     breaks_rest meanings circuit c.args.decoder.now c.args.switch.now fed.0 x behind c.loop-rest.decoder c.loop-rest.switch later fault fed.2
     (λ b p k l is s. subst (λ (r : Result (Unit {0}) SwitchFault). Goes meanings p k l (all_done (events_added circuit b x)) r later) failed
-    (goes_of meanings p k l circuit (events_added circuit b x) next.message end later (c.feed-fed.ensures.goes b p k l is s))) before o first h held stands in
+    (goes_of meanings p k l circuit (events_added circuit b x) next.message end later (c.feed-fed.ensures.goes b is p k l s))) before o first h held stands in
     let p = err_from_is_err_and c.from_residual.result c.from_residual.ensures.1 in
     rw (p.1, p.2) (subst (λ (e : List ℕ). BreaksOff meanings (λ _. o) first h (all_done (events_added circuit before e)) fault later) same broken)

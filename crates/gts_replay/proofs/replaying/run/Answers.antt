@@ -1,5 +1,5 @@
-use Rattle.std.proofs.Common.{◌≡◌, ◌+◌, ◌≤◌, ℕ, List, [], ◌∷◌, ◌++◌, length, Result, Err, refl, sym, ap, subst, ◌∙◌, arith, length-append}
-use Rattle.gts_replay.specs.Cited.{Bad, CaptureFault, DoesStep, End, Ends, HasReplayCause, ReplayEnd, SettlesBehind, SourceFault, StepFault, end_of, line_of}
+use Rattle.std.proofs.Common.{◌≡◌, ◌+◌, ◌≤◌, ℕ, List, [], ◌∷◌, ◌++◌, length, Result, Err, OnOk, refl, sym, ap, subst, ◌∙◌, arith, length-append}
+use Rattle.gts_replay.specs.Cited.{AreStill, Bad, CaptureFault, DoesStep, End, Ends, HasReplayCause, ReplayEnd, SettlesBehind, SourceFault, StepFault, end_of, line_of}
 use Rattle.gts_replay.specs.Heads.{head_of}
 use Rattle.gts_replay.specs.declared.head.Head.{Head}
 use Rattle.gts_replay.specs.declared.fault.StepFault.TheVariants as step
@@ -16,9 +16,9 @@ loop-init g c = record {
     runs_none g.W.Switch.meanings c.args.steps.now.kind g.S.Source.observed (g.S.Source.left c.args.capture.now) c.args.switch.now c.args.steps.now c.args.decoders.now c.requires.begins c.requires.decode,
   );
   directory = refl;
-  disk_later = omega arith;
-  say_later = omega arith;
-  source_later = omega arith;
+  disk = refl;
+  say = refl;
+  source = refl;
 }
 
 pub returns-in-Ok-End-clause-ends : goal.returns-in-Ok-End-clause-ends
@@ -69,8 +69,8 @@ returns-in-Err-do_step g c =
       cause = subst C (sym c.end_after-in-Err-do_step.ensures)
           (caused_step c.do_step.result fault (g.W.Switch.disk_faults c.args.switch.now) (g.W.Switch.disk_faults c.loop.switch) (g.W.Switch.disk_faults c.do_step.new.switch)
           (g.W.Switch.say_faults c.args.switch.now) (g.W.Switch.say_faults c.loop.switch) (g.W.Switch.say_faults c.do_step.new.switch)
-          (g.S.Source.faults c.args.capture.now) (g.S.Source.faults c.next.new.source) (g.S.Source.faults c.do_step.new.capture) c.loop.invariant.disk_later c.loop.invariant.say_later
-          (omega (arith, c.loop.invariant.source_later, c.next.ensures.cause.later)) c.in-Err-do_step.is c.do_step.ensures.cause);
+          (g.S.Source.faults c.args.capture.now) (g.S.Source.faults c.next.new.source) (g.S.Source.faults c.do_step.new.capture) c.loop.invariant.disk c.loop.invariant.say
+          (c.in-Ok.ensures.cause.sound ∙ c.loop.invariant.source) c.in-Err-do_step.is c.do_step.ensures.cause);
     }
 
 pub loop-preserved : goal.loop-preserved
@@ -81,6 +81,8 @@ loop-preserved g c =
     record { told = c.in-Ok.ensures.told; valid = c.in-Ok.ensures.valid; feed = c.in-Ok.ensures.feed; at = c.in-Ok.ensures.at; within = c.in-Ok.ensures.within; same = c.next.ensures.same } in
     let does = subst (λ (r : Result (Unit {0}) StepFault). DoesStep g.W.Switch.meanings g.W.Switch.observed g.S.Source.observed head r c.next.new.self c.do_step.new.steps (g.S.Source.left c.next.new.source)
     (g.S.Source.left c.do_step.new.capture) c.loop.decoders c.do_step.new.decoders c.loop.switch c.do_step.new.switch) c.in_default.is c.do_step.ensures.does in
+    let still = subst (λ (r : Result (Unit {0}) StepFault). OnOk r (AreStill (g.W.Switch.disk_faults c.loop.switch) (g.W.Switch.disk_faults c.do_step.new.switch) (g.W.Switch.say_faults c.loop.switch)
+    (g.W.Switch.say_faults c.do_step.new.switch) (g.S.Source.faults c.next.new.source) (g.S.Source.faults c.do_step.new.capture))) c.in_default.is c.do_step.ensures.cause.sound in
     record {
       done = (
         done.0 ++ does.step ∷ [],
@@ -90,9 +92,9 @@ loop-preserved g c =
             c.loop.invariant.directory reads does,
       );
       directory = c.do_step.ensures.directory ∙ c.loop.invariant.directory;
-      disk_later = omega (arith, c.loop.invariant.disk_later, c.do_step.ensures.cause.disk_later);
-      say_later = omega (arith, c.loop.invariant.say_later, c.do_step.ensures.cause.say_later);
-      source_later = omega (arith, c.loop.invariant.source_later, c.next.ensures.cause.later, c.do_step.ensures.cause.source_later);
+      disk = still.0 ∙ c.loop.invariant.disk;
+      say = still.1 ∙ c.loop.invariant.say;
+      source = still.2 ∙ c.in-Ok.ensures.cause.sound ∙ c.loop.invariant.source;
     }
 
 pub returns-clause-ends : goal.returns-clause-ends

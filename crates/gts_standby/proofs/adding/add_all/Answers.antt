@@ -1,34 +1,34 @@
-use Rattle.std.proofs.Common.{[], refl, sym, subst, ◌∙◌, arith}
-use Rattle.gts_standby.specs.Cited.{Gathering, IsGathered}
+use Rattle.std.proofs.Common.{◌≡◌, ℕ, [], Err, refl, sym, ap, subst, ◌∙◌, arith}
+use Rattle.gts_standby.specs.Cited.{FollowEnd, Gathering, IsGathered, Rose}
 use Rattle.gts_standby.proofs.AddLemmas.{holds_of}
 use Rattle.gts_standby.proofs.GatherLemmas.{gathered_of, can_gather, gathered_one, gate_stays, gate_grows, has_room, began}
 use Rattle.gts_standby.proofs.GoneLemmas.{begun_there, room_made, one_more, disk_failed, finished, none_added}
-use Rattle.gts_standby.proofs.WholeLemmas.{finished_all}
+use Rattle.gts_standby.proofs.WholeLemmas.{finished_all, finished_end, finished_source}
 use Rattle.gts_standby.proofs.adding.add_all.Goals as goal
 
 pub returns-in-Err-clause-added : goal.returns-in-Err-clause-added
-returns-in-Err-clause-added g c = λ observed told s fed n h read enough. none_added g.P.Station.observed observed c.args.directory.now s (g.P.Station.calls c.args.station.now) c.args.core c.args.journal _ _ h
+returns-in-Err-clause-added g c = λ observed told s fed n h read enough. none_added g.P.Station.observed observed c.args.directory.now s (g.P.Station.calls c.args.station.now) c.args.standby.core c.args.standby.journal _ _ h
 
 pub loop-end-init : goal.loop-end-init
 loop-end-init g c =
     let T = g.P.Station.observed in
     let d = c.args.directory.now in
     let calls = g.P.Station.calls c.args.station.now in
-    let j = c.args.journal in
+    let j = c.args.standby.journal in
     let x = c.in-Ok.gathering in
     let e = c.in-Ok.ensures in
     record {
       gathering = record {
         settled = c.requires.opened.state;
         records = [];
-        holds = began T d c.requires.opened.state calls c.args.core j x (holds_of T d calls c.args.core j c.requires.opened) e.journal e.batch e.seal;
+        holds = began T d c.requires.opened.state calls c.args.standby.core j x (holds_of T d calls c.args.standby.core j c.requires.opened) e.journal e.batch e.seal;
       };
       place = omega (arith, c.requires.place);
-      gone = λ observed told s fed n h read enough. begun_there T observed d s calls c.args.core j x _ _ _ fed n h e.journal e.batch (began T d s calls c.args.core j x h e.journal e.batch e.seal) read enough;
+      gone = λ observed told s fed n h read enough. begun_there T observed d s calls c.args.standby.core j x _ _ _ fed n h e.journal e.batch (began T d s calls c.args.standby.core j x h e.journal e.batch e.seal) read enough;
       whole = λ told w. w;
       silent = λ observed. refl;
-      later = omega arith;
-      source_later = omega arith;
+      sound = refl;
+      source_sound = refl;
       say = refl;
     }
 
@@ -88,8 +88,8 @@ loop-end-preserved g c =
           one_more T S observed told d s _ _ _ _ _ _ _ _ _ _ made c.in-Ok-gather.size c.gather.new.core c.gather.new.self _ _ one;
       whole = λ told w. c.in-Ok-gather.ensures.whole told (inv.whole told w);
       silent = λ observed. c.make_room.ensures.silent observed ∙ inv.silent observed;
-      later = omega (arith, inv.later, c.make_room.ensures.counts.later);
-      source_later = omega (arith, inv.source_later, c.gather.ensures.later);
+      sound = c.in_default.ensures.counts.sound refl ∙ inv.sound;
+      source_sound = c.in-Ok-gather.ensures.sound tt ∙ inv.source_sound;
       say = c.make_room.ensures.counts.say ∙ inv.say;
     }
 
@@ -114,3 +114,20 @@ returns-in-Err-gather-clause-added g c = λ observed told s fed n h read enough.
 
 pub returns-in-Err-gather-clause-whole : goal.returns-in-Err-gather-clause-whole
 returns-in-Err-gather-clause-whole g c = λ told w. finished_all _ c.finish.result c.in-Err-gather.end _ c.finish.ensures.finished (c.in-Err-gather.ensures.whole told (c.loop-end.invariant.whole told w))
+
+pub returns-in-Err-gather-clause-counts : goal.returns-in-Err-gather-clause-counts
+returns-in-Err-gather-clause-counts g c =
+    let inv = c.loop-end.invariant in
+    let finished = c.finish.ensures.finished in
+    let end = c.in-Err-gather.end in
+    let disk : g.P.Station.disk_faults c.make_room.new.station ≡ g.P.Station.disk_faults c.args.station.now = c.in_default.ensures.counts.sound refl ∙ inv.sound in
+    record {
+      disk_fault = λ is. subst (λ (k : ℕ). Rose k (g.P.Station.disk_faults c.finish.new.station)) disk (c.finish.ensures.disk_fault is);
+      source_fault = λ is.
+          subst (λ (k : ℕ). Rose k (g.S.Source.faults c.gather.new.source)) inv.source_sound
+          (c.in-Err-gather.ensures.source_fault (ap (λ (e : FollowEnd). Err e) (finished_source _ c.finish.result end finished is)));
+      later = omega (arith, disk, c.finish.ensures.counts.later);
+      sound = λ is. (c.finish.ensures.counts.sound is ∙ disk, c.in-Err-gather.ensures.sound (finished_end _ c.finish.result end finished is) ∙ inv.source_sound);
+      say = c.finish.ensures.counts.say ∙ c.make_room.ensures.counts.say ∙ inv.say;
+      source_later = omega (arith, inv.source_sound, c.gather.ensures.later);
+    }

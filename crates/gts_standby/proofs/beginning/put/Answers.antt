@@ -15,8 +15,8 @@ select-requires-clause-stands g c = λ tell.
     let old = g.P.Station.calls c.args.station.now in
     let mid = g.P.Station.calls c.write.new.station in
     let j = c.args.journal.now in
-    let low : j.file < 2 = omega (arith, c.file-other.ensures.file, c.file-other.ensures.below) in
-    let file_is : 1 - c.file-other.result ≡ 1 - j.file = ap (λ (k : ℕ). 1 - k) c.file-other.ensures.file in
+    let low : j.file < 2 = omega (arith, c.file.ensures.file, c.file.ensures.below) in
+    let file_is : c.other-other.result ≡ 1 - j.file = c.other-other.ensures ∙ ap (λ (k : ℕ). 1 - k) c.file.ensures.file in
     let beside : WorksBeside (1 - j.file) old mid = subst (λ (k : ℕ). WorksBeside k old mid) file_is (c.write.ensures.beside tell) in
     still_stands old mid j (c.requires.stands tell) low beside
 
@@ -26,7 +26,7 @@ select-requires-clause-closed g c = λ tell.
     let long : length c.mark.result ≡ 32 = search rules in
     let seal : c.seal_size.result ≡ seal_size written = c.seal_size.ensures.value ∙ ap seal_size c.written.ensures in
     let used_is : 42 + c.seal_size.result + c.args.size ≡ compacted_bytes written n = omega (arith, seal, c.requires.size) in
-    closed_there c.mark.result n (1 - c.file-other.result) (g.P.Station.calls c.write.new.station) c.args.journal.now (42 + c.seal_size.result + c.args.size)
+    closed_there c.mark.result n c.other-other.result (g.P.Station.calls c.write.new.station) c.args.journal.now (42 + c.seal_size.result + c.args.size)
     (c.in-Ok.ensures.written tell) long used_is
 
 pub returns-in-Ok-select-clause-begun : goal.returns-in-Ok-select-clause-begun
@@ -37,22 +37,22 @@ returns-in-Ok-select-clause-begun g c = λ tell s f.
     let new = g.P.Station.calls c.select.new.station in
     let j = c.args.journal.now in
     let n = need_of c.args.need.now in
-    let low : j.file < 2 = omega (arith, c.file-other.ensures.file, c.file-other.ensures.below) in
-    let file_is : 1 - c.file-other.result ≡ 1 - j.file = ap (λ (k : ℕ). 1 - k) c.file-other.ensures.file in
+    let low : j.file < 2 = omega (arith, c.file.ensures.file, c.file.ensures.below) in
+    let file_is : c.other-other.result ≡ 1 - j.file = c.other-other.ensures ∙ ap (λ (k : ℕ). 1 - k) c.file.ensures.file in
     let beside : WorksBeside (1 - j.file) old mid = subst (λ (k : ℕ). WorksBeside k old mid) file_is (c.write.ensures.beside tell) in
     let size : length d.mark ≡ 32 = (let long : length c.mark.result ≡ 32 = search rules in ap (λ (mark : List ℕ). length mark) (sym c.mark.ensures) ∙ long) in
-    let wrote : HasWritten d.mark n (1 - c.file-other.result) mid = subst (λ (mark : List ℕ). HasWritten mark n (1 - c.file-other.result) mid) c.mark.ensures (c.in-Ok.ensures.written tell) in
+    let wrote : HasWritten d.mark n c.other-other.result mid = subst (λ (mark : List ℕ). HasWritten mark n c.other-other.result mid) c.mark.ensures (c.in-Ok.ensures.written tell) in
     let limit : d.limit < 256 ^ 4 = omega (arith, c.bounds_hold.ensures.greatest) in
     let used : ℕ = 42 + c.seal_size.result + c.args.size in
     let seal : c.seal_size.result ≡ seal_size written = c.seal_size.ensures.value ∙ ap seal_size c.written.ensures in
     let used_is : compacted_bytes written n - 1 + 1 ≡ used = omega (arith, seal, c.requires.size) in
     let last : need_seal d.mark n ≡ held written c.in-Ok.seal = sym (c.in-Ok.ensures.seal ∙ ap (λ (mark : List ℕ). need_seal mark n) c.mark.ensures) in
-    let H : ℕ → Type 0 = λ k. HoldsState written d (begun n) mid (1 - c.file-other.result) k (need_seal d.mark n) in
-    let K : List ℕ → Type 0 = λ l. HoldsState written d (begun n) mid (1 - c.file-other.result) used l in
-    let holds = subst K last (subst H used_is (holds_begun d n (1 - c.file-other.result) mid wrote size limit c.requires.sound c.requires.free c.requires.fits)) in
-    begun_stands d s n mid new j c.select.new.self (1 - c.file-other.result) used (held written c.in-Ok.seal)
+    let H : ℕ → Type 0 = λ k. HoldsState written d (begun n) mid c.other-other.result k (need_seal d.mark n) in
+    let K : List ℕ → Type 0 = λ l. HoldsState written d (begun n) mid c.other-other.result used l in
+    let holds = subst K last (subst H used_is (holds_begun d n c.other-other.result mid wrote size limit c.requires.sound c.requires.free c.requires.fits)) in
+    begun_stands d s n mid new j c.select.new.self c.other-other.result used (held written c.in-Ok.seal)
     (still_stands old mid j f.stands low beside) (still_stands_for d s old mid j f low beside) holds (omega arith)
-    (c.in-Ok-select.ensures.others tell (1 - c.file-other.result) (λ e. omega (arith, e))) (c.in-Ok-select.ensures.stands tell) c.in-Ok-select.ensures.place
+    (c.in-Ok-select.ensures.others tell c.other-other.result (λ e. omega (arith, e))) (c.in-Ok-select.ensures.stands tell) c.in-Ok-select.ensures.place
 
 pub returns-in-Ok-select-clause-moments : goal.returns-in-Ok-select-clause-moments
 returns-in-Ok-select-clause-moments g c = λ tell s f.
@@ -61,8 +61,8 @@ returns-in-Ok-select-clause-moments g c = λ tell s f.
     let mid = g.P.Station.calls c.write.new.station in
     let j = c.args.journal.now in
     let n = need_of c.args.need.now in
-    let low : j.file < 2 = omega (arith, c.file-other.ensures.file, c.file-other.ensures.below) in
-    let file_is : 1 - c.file-other.result ≡ 1 - j.file = ap (λ (k : ℕ). 1 - k) c.file-other.ensures.file in
+    let low : j.file < 2 = omega (arith, c.file.ensures.file, c.file.ensures.below) in
+    let file_is : c.other-other.result ≡ 1 - j.file = c.other-other.ensures ∙ ap (λ (k : ℕ). 1 - k) c.file.ensures.file in
     let beside : WorksBeside (1 - j.file) old mid = subst (λ (k : ℕ). WorksBeside k old mid) file_is (c.write.ensures.beside tell) in
     let size : length d.mark ≡ 32 = (let long : length c.mark.result ≡ 32 = search rules in ap (λ (mark : List ℕ). length mark) (sym c.mark.ensures) ∙ long) in
     let there : HasWritten c.mark.result n (1 - j.file) mid = subst (λ (k : ℕ). HasWritten c.mark.result n k mid) file_is (c.in-Ok.ensures.written tell) in
@@ -78,8 +78,8 @@ returns-in-Err-clause-moments g c = λ tell s f.
     let mid = g.P.Station.calls c.write.new.station in
     let j = c.args.journal.now in
     let n = need_of c.args.need.now in
-    let low : j.file < 2 = omega (arith, c.file-other.ensures.file, c.file-other.ensures.below) in
-    let file_is : 1 - c.file-other.result ≡ 1 - j.file = ap (λ (k : ℕ). 1 - k) c.file-other.ensures.file in
+    let low : j.file < 2 = omega (arith, c.file.ensures.file, c.file.ensures.below) in
+    let file_is : c.other-other.result ≡ 1 - j.file = c.other-other.ensures ∙ ap (λ (k : ℕ). 1 - k) c.file.ensures.file in
     let beside : WorksBeside (1 - j.file) old mid = subst (λ (k : ℕ). WorksBeside k old mid) file_is (c.write.ensures.beside tell) in
     let size : length d.mark ≡ 32 = (let long : length c.mark.result ≡ 32 = search rules in ap (λ (mark : List ℕ). length mark) (sym c.mark.ensures) ∙ long) in
     let there : HasWritten c.mark.result n (1 - j.file) mid = subst (λ (k : ℕ). HasWritten c.mark.result n k mid) file_is (c.in-Ok.ensures.written tell) in

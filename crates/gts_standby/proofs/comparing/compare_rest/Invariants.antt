@@ -19,9 +19,9 @@ invariant-loop-alloc g l = record {
       (g.P.Station.calls l.station) l.own l.index l.at l.ahead (g.S.Source.left l.source);
   whole : g.S.Source.observed → IsWhole l.fn.ahead (g.S.Source.left l.fn.source) → IsWhole l.ahead (g.S.Source.left l.source);
   told : g.P.Station.observed → g.P.Station.calls l.station ≡ g.P.Station.calls l.fn.station;
-  later : g.P.Station.disk_faults l.fn.station ≤ g.P.Station.disk_faults l.station;
+  sound : g.P.Station.disk_faults l.station ≡ g.P.Station.disk_faults l.fn.station;
   say : g.P.Station.say_faults l.station ≡ g.P.Station.say_faults l.fn.station;
-  source_later : g.S.Source.faults l.fn.source ≤ g.S.Source.faults l.source;
+  source_sound : g.S.Source.faults l.source ≡ g.S.Source.faults l.fn.source;
 }
 
 abbrev pub decreases-loop-alloc : goal.decreases-loop-alloc

@@ -7,12 +7,12 @@ use Rattle.gts_standby.proofs.following.take_checkpoint.Goals as goal
 pub returns-in-Ok-clause-taken : goal.returns-in-Ok-clause-taken
 returns-in-Ok-clause-taken g c = λ observed told s fed h read.
     let b = c.in-Ok.ensures.begun observed told s fed h read in
-    begun_on _ observed c.args.directory.now (read_at s c.args.journal) fed _ _ _ _ c.begin.new.journal _ _ b c.add_all.result _ _ c.add_all.ensures.kind
+    begun_on _ observed c.args.directory.now (read_at s c.args.standby.journal) fed _ _ _ _ c.begin.new.journal _ _ b c.add_all.result _ _ c.add_all.ensures.kind
     (c.add_all.ensures.added observed told (begun b.n) (drop b.size fed) (length fed) b.holds b.read (omega (arith, length-drop b.size fed)))
 
 pub returns-clause-taken : goal.returns-clause-taken
 returns-clause-taken g c = λ observed told s fed h read.
-    ends_begun c.in-Err.end c.args.directory.now s c.args.journal fed _ _ _ (h.stands observed) c.in-Err.ensures.kind
+    ends_begun c.in-Err.end c.args.directory.now s c.args.standby.journal fed _ _ _ (h.stands observed) c.in-Err.ensures.kind
     (c.in-Err.ensures.begun observed told s fed h read)
 
 pub returns-in-Ok-clause-whole : goal.returns-in-Ok-clause-whole

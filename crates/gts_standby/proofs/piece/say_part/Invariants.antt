@@ -1,4 +1,4 @@
-use Rattle.std.proofs.Common.{◌-◌, ◌≤◌, take, drop}
+use Rattle.std.proofs.Common.{◌≡◌, ◌-◌, ◌≤◌, take, drop}
 use Rattle.gts_standby.specs.Cited.{SaysHere, seen}
 use Rattle.gts_standby.proofs.piece.say_part.Given as goal
 
@@ -8,8 +8,8 @@ invariant-loop-at g l = record {
   begun : l.from ≤ l.at;
   inside : l.at ≤ l.to;
   says : g.P.Station.observed → SaysHere (g.P.Station.calls l.fn.station) (g.P.Station.calls l.station) (take (l.at - l.from) (drop l.from (seen (g.P.Station.calls l.fn.station) l.file)));
-  later : g.P.Station.disk_faults l.fn.station ≤ g.P.Station.disk_faults l.station;
-  say : g.P.Station.say_faults l.fn.station ≤ g.P.Station.say_faults l.station;
+  sound : g.P.Station.disk_faults l.station ≡ g.P.Station.disk_faults l.fn.station;
+  say : g.P.Station.say_faults l.station ≡ g.P.Station.say_faults l.fn.station;
 }
 
 abbrev pub decreases-loop-at : goal.decreases-loop-at

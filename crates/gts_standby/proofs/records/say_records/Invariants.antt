@@ -1,4 +1,4 @@
-use Rattle.std.proofs.Common.{◌≡◌, ◌-◌, ◌≤◌, ℕ, false, List}
+use Rattle.std.proofs.Common.{◌≡◌, ◌-◌, ℕ, false, List}
 use Rattle.gts_standby.specs.Cited.{Directory, GoesOnBehind, IsAtGate, StandsOn}
 use Rattle.gts_standby.proofs.records.say_records.Given as goal
 
@@ -9,8 +9,8 @@ invariant-loop-station g l = record {
   stands : g.P.Station.observed → StandsOn (g.P.Station.calls l.station) l.journal;
   said : g.P.Station.observed → (d : Directory) (left : List ℕ) → IsAtGate d (g.P.Station.calls l.fn.station) l.fn.journal l.end left
       → GoesOnBehind d (g.P.Station.calls l.fn.station) (g.P.Station.calls l.station) l.journal l.end left;
-  later : g.P.Station.disk_faults l.fn.station ≤ g.P.Station.disk_faults l.station;
-  say : g.P.Station.say_faults l.fn.station ≤ g.P.Station.say_faults l.station;
+  sound : g.P.Station.disk_faults l.station ≡ g.P.Station.disk_faults l.fn.station;
+  say : g.P.Station.say_faults l.station ≡ g.P.Station.say_faults l.fn.station;
 }
 
 abbrev pub decreases-loop-station : goal.decreases-loop-station

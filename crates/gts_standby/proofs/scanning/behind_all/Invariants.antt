@@ -11,7 +11,7 @@ invariant-loop-left g l = record {
       → feeds.behind_all (behind_listed l.listed l.limit fed) l.count l.initial.at ≡ feeds.behind_all (behind_listed l.listed l.limit fed) l.left l.at;
   place : l.at ≤ l.limit;
   there : l.at ≤ length l.ahead.bytes;
-  later : g.S.Source.faults l.fn.source ≤ g.S.Source.faults l.source;
+  sound : g.S.Source.faults l.source ≡ g.S.Source.faults l.fn.source;
 }
 
 abbrev pub decreases-loop-left : goal.decreases-loop-left

@@ -1,4 +1,4 @@
-use Rattle.std.proofs.Common.{rules, ◌≡◌, ◌+◌, ◌-◌, ℕ, Bool, true, false, cond, List, Ok, sym, ap, subst, ◌∙◌, arith}
+use Rattle.std.proofs.Common.{rules, ◌≡◌, ◌+◌, ◌-◌, ℕ, Bool, true, false, cond, Ok, sym, ap, subst, ◌∙◌, arith}
 use Rattle.gts_standby.specs.Cited.{IsAtFirst, first_fault, need, restarted, seen, ship_fault, since_of}
 use Rattle.gts_standby.proofs.ExitLemmas.{returned}
 use Rattle.gts_traits.proofs.SayLemmas.{said_none}

@@ -1,4 +1,4 @@
-use Rattle.std.proofs.Common.{◌≡◌, ◌+◌, Bool, cond, ap, ◌∙◌, arith}
+use Rattle.std.proofs.Common.{◌≡◌, ◌+◌, Bool, cond, refl, ap, ◌∙◌, arith}
 use Rattle.gts_standby.specs.Cited.{file_of, ship_fault}
 use Rattle.gts_standby.specs.declared.fault.ShipFault.TheVariants as fault
 use Rattle.gts_standby.proofs.ExitLemmas.{returned}
@@ -20,7 +20,7 @@ loop-station-preserved g c =
           before_on d (g.P.Station.calls c.loop-station.station) _ j c.pass_next.new.journal record_passed.0 end place last found (inv.passed observed d end place last found it within)
           record_passed.1 record_passed.2 (omega (arith, at_gate, c.loop-station-test.true, within.1)) (c.in_ok-pass_next.ensures.told observed);
       told = λ observed. c.pass_next.ensures.told observed ∙ inv.told observed;
-      later = omega (arith, inv.later, c.pass_next.ensures.counts.later);
+      sound = c.in_ok-pass_next.ensures.counts.sound refl ∙ inv.sound;
       say = c.pass_next.ensures.counts.say ∙ inv.say;
     }
 

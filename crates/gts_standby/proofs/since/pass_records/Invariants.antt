@@ -1,4 +1,4 @@
-use Rattle.std.proofs.Common.{◌≡◌, ◌-◌, ◌≤◌, ℕ, false, List, Option}
+use Rattle.std.proofs.Common.{◌≡◌, ◌-◌, ℕ, false, List, Option}
 use Rattle.gts_standby.specs.Cited.{Directory, IsBefore, IsWithin, StandsOn}
 use Rattle.gts_standby.proofs.since.pass_records.Given as goal
 
@@ -12,7 +12,7 @@ invariant-loop-station g l = record {
       → IsBefore d (g.P.Station.calls l.fn.station) l.fn.journal end place last found → IsWithin l.stop l.fn.journal end place
       → IsBefore d (g.P.Station.calls l.station) l.journal end place last found;
   told : g.P.Station.observed → g.P.Station.calls l.station ≡ g.P.Station.calls l.fn.station;
-  later : g.P.Station.disk_faults l.fn.station ≤ g.P.Station.disk_faults l.station;
+  sound : g.P.Station.disk_faults l.station ≡ g.P.Station.disk_faults l.fn.station;
   say : g.P.Station.say_faults l.station ≡ g.P.Station.say_faults l.fn.station;
 }
 

@@ -1,6 +1,7 @@
-use Rattle.std.proofs.Common.{sym, subst}
+use Rattle.std.proofs.Common.{sym, subst, refl, ap, ◌∙◌}
 use Rattle.gts_app.specs.Cited.{Compacts, Status}
 use Rattle.gts_app.proofs.CompactLemmas.{not_compacted, compacts}
+use Rattle.gts_app.proofs.SoundLemmas.{unopened, compacted, none_of}
 use Rattle.gts_app.proofs.commands.compact.compact.Goals as goal
 
 pub returns-in-Err-clause-compacts : goal.returns-in-Err-clause-compacts
@@ -18,3 +19,20 @@ returns-clause-compacts g c =
     c.a_start_is_its_own_need.ensures c.compact-compacted.result c.compact-compacted.new.self m.compaction (λ told going. m.moments told going none) (λ told. m.written told none)
     (λ s going. m.full s going none) (m.kind none) (m.unchanged none) m.cause c.used-used.ensures.files
     c.into_parts-station.result.0 c.into_parts-station.ensures.station)
+
+pub returns-in-Err-clause-sound : goal.returns-in-Err-clause-sound
+returns-in-Err-clause-sound g c = λ is.
+    let r = c.in-Err.field-0 in
+    absurd (unopened g.S.Source g.P.Station r.status c.args.world.directory c.open_engine.new.directory c.args.world.station r.station c.in-Err.ensures is)
+
+pub returns-clause-sound : goal.returns-clause-sound
+returns-clause-sound g c = λ is.
+    let opened = c.in-Ok.ensures.kept c.in-Ok.engine refl in
+    let m = c.compact-compacted in
+    let done = compacted m.result (sym c.status_of-status.ensures ∙ is) in
+    record {
+      directory = opened.2;
+      capture = refl;
+      disk = ap g.P.Station.disk_faults c.into_parts-station.ensures.station ∙ m.ensures.cause.disk_still (none_of m.result done _) ∙ opened.0;
+      say = ap g.P.Station.say_faults c.into_parts-station.ensures.station ∙ m.ensures.cause.say_still (none_of m.result done _) ∙ opened.1;
+    }

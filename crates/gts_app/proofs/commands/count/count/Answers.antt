@@ -1,22 +1,23 @@
-use Rattle.std.proofs.Common.{◌≡◌, ◌≤◌, length, Ok, sym, ap, subst, ◌∙◌, arith}
-use Rattle.gts_app.specs.Cited.{Counted, CountsTraffic, Engine, Opens, ShowsTable, Status, switch_meanings, world}
+use Rattle.std.proofs.Common.{◌≡◌, ◌≤◌, length, Ok, sym, ap, subst, ◌∙◌, arith, ℕ, refl}
+use Rattle.gts_app.specs.Cited.{Counted, CountsTraffic, Engine, IsUnfailed, Opens, ShowsTable, Status, switch_meanings, world}
 use Rattle.gts_app.proofs.EndLemmas.{Leaves}
 use Rattle.gts_app.proofs.TrafficLemmas.{not_counted, without_numbers, ended, said_so}
+use Rattle.gts_app.proofs.SoundLemmas.{unopened, no_table, said, on_ok}
 use Rattle.gts_app.proofs.commands.count.count.Goals as goal
 
-pub returns-in-Err : goal.returns-in-Err
-returns-in-Err g c =
+pub returns-in-Err-clause-counts : goal.returns-in-Err-clause-counts
+returns-in-Err-clause-counts g c =
     let r = c.in-Err.field-0 in
     not_counted g.S.Source g.P.Station r.status c.args.world.directory c.open_engine.new.directory c.args.world.capture c.args.world.station r.station c.open_engine.result c.in-Err.is c.open_engine.ensures
 
-pub returns-in-Err-count_beside : goal.returns-in-Err-count_beside
-returns-in-Err-count_beside g c =
+pub returns-in-Err-count_beside-clause-counts : goal.returns-in-Err-count_beside-clause-counts
+returns-in-Err-count_beside-clause-counts g c =
     without_numbers g.S.Source g.P.Station c.args.world.directory c.open_engine.new.directory c.args.world.capture c.args.world.station c.in-Ok.engine c.open_engine.result c.in-Ok.is
     c.open_engine.ensures c.into_parts-station.result.0
     (c.into_parts-station.ensures.station ∙ ap (λ (e : Engine g.row.P.Denot). e.station) c.in-Err-count_beside.ensures.err)
 
-pub returns-in-Err-table : goal.returns-in-Err-table
-returns-in-Err-table g c =
+pub returns-in-Err-table-clause-counts : goal.returns-in-Err-table-clause-counts
+returns-in-Err-table-clause-counts g c =
     let od = c.args.world.directory in
     let nd = c.open_engine.new.directory in
     let first = c.in-Ok-count_beside.counted in
@@ -33,8 +34,8 @@ returns-in-Err-table g c =
     c.replay-end.ensures.cause files c.in-Err-table.status c.in-Err-table.ensures.none c.into_parts-station-2.result.0
     (c.into_parts-station-2.ensures.station ∙ ap (λ (e : Engine g.row.P.Denot). e.station) c.into_inner-engine.ensures)
 
-pub returns : goal.returns
-returns g c =
+pub returns-clause-counts : goal.returns-clause-counts
+returns-clause-counts g c =
     let od = c.args.world.directory in
     let nd = c.open_engine.new.directory in
     let first = c.in-Ok-count_beside.counted in
@@ -54,3 +55,27 @@ returns g c =
     c.say.result c.into_parts-station-2.result.0 c.say.new.self
     (c.into_parts-station-2.ensures.station ∙ ap (λ (e : Engine g.row.P.Denot). e.station) c.into_inner-engine.ensures)
     c.say.ensures.told c.say.ensures.cause c.say.ensures.disk)
+
+pub returns-in-Err-clause-sound : goal.returns-in-Err-clause-sound
+returns-in-Err-clause-sound g c = λ is.
+    let r = c.in-Err.field-0 in
+    absurd (unopened g.S.Source g.P.Station r.status c.args.world.directory c.open_engine.new.directory c.args.world.station r.station c.in-Err.ensures is)
+
+pub returns-in-Err-table-clause-sound : goal.returns-in-Err-table-clause-sound
+returns-in-Err-table-clause-sound g c = λ is. absurd (no_table c.replay-end.result c.in-Err-table.status c.in-Err-table.ensures.none is)
+
+pub returns-clause-sound : goal.returns-clause-sound
+returns-clause-sound g c = λ is.
+    let opened = c.in-Ok.ensures.kept c.in-Ok.engine refl in
+    let disks : Engine g.row.P.Denot → ℕ = λ e. g.P.Station.disk_faults e.station in
+    let says : Engine g.row.P.Denot → ℕ = λ e. g.P.Station.say_faults e.station in
+    let switch = c.in-Ok-count_beside.ensures.switch in
+    let still = c.replay-end.ensures.cause.sound (subst IsUnfailed (sym c.in-Ok-table.ensures.table.0) tt) in
+    let so = said c.say.result (sym c.status_said-status.ensures ∙ is) in
+    record {
+      directory = opened.2;
+      capture = still.2;
+      disk = c.say.ensures.disk ∙ ap g.P.Station.disk_faults c.into_parts-station-2.ensures.station ∙ ap disks c.into_inner-engine.ensures ∙ still.0 ∙ ap disks switch ∙ opened.0;
+      say = on_ok c.say.result so c.say.ensures.sound ∙ ap g.P.Station.say_faults c.into_parts-station-2.ensures.station ∙ ap says c.into_inner-engine.ensures ∙ still.1 ∙ ap says switch
+          ∙ opened.1;
+    }

@@ -3,15 +3,16 @@ use Rattle.std.proofs.lemmas.Option.{none-some}
 use Rattle.gts_directory.proofs.TakingOverLemmas.{none_from}
 use Rattle.gts_app.specs.Reading.{ReadsDirectory, ReadsOldDirectory}
 use Rattle.gts_app.proofs.MigrateLemmas.{new_unread, old_unread, taken_over}
+use Rattle.gts_app.proofs.SoundLemmas.{unread, old_unread as old_unread_fails, migrated, on_ok, says_nothing}
 use Rattle.gts_app.proofs.commands.migrate.migrate.Goals as goal
 
-pub returns-in-Err : goal.returns-in-Err
-returns-in-Err g c =
+pub returns-in-Err-clause-migrates : goal.returns-in-Err-clause-migrates
+returns-in-Err-clause-migrates g c =
     new_unread c.args.waiting g.S.Source g.P.Station c.in-Err.status c.args.world.directory c.directory_of.new.source c.args.world.capture c.args.world.station
     (subst (λ r. ReadsDirectory g.S.Source r c.args.world.directory c.directory_of.new.source) c.in-Err.is c.directory_of.ensures)
 
-pub returns-in-Err-old_directory_of : goal.returns-in-Err-old_directory_of
-returns-in-Err-old_directory_of g c =
+pub returns-in-Err-old_directory_of-clause-migrates : goal.returns-in-Err-old_directory_of-clause-migrates
+returns-in-Err-old_directory_of-clause-migrates g c =
     let od = c.args.world.directory in
     let nd = c.directory_of.new.source in
     let oc = c.args.world.capture in
@@ -20,8 +21,8 @@ returns-in-Err-old_directory_of g c =
     (subst (λ r. ReadsDirectory g.S.Source r od nd) c.in-Ok.is c.directory_of.ensures)
     (subst (λ r. ReadsOldDirectory g.S.Source r oc nc) c.in-Err-old_directory_of.is c.old_directory_of.ensures)
 
-pub returns-in-Ok-takes_over : goal.returns-in-Ok-takes_over
-returns-in-Ok-takes_over g c =
+pub returns-in-Ok-takes_over-clause-migrates : goal.returns-in-Ok-takes_over-clause-migrates
+returns-in-Ok-takes_over-clause-migrates g c =
     let od = c.args.world.directory in
     let nd = c.directory_of.new.source in
     let oc = c.args.world.capture in
@@ -46,3 +47,21 @@ returns-in-Ok-takes_over g c =
       says = m.ensures.say;
       unsaid = m.ensures.unsaid;
     }) m.ensures.silent m.ensures.later
+
+pub returns-in-Err-clause-sound : goal.returns-in-Err-clause-sound
+returns-in-Err-clause-sound g c = λ is. absurd (unread g.S.Source c.in-Err.status c.args.world.directory c.directory_of.new.source c.in-Err.ensures is)
+
+pub returns-in-Err-old_directory_of-clause-sound : goal.returns-in-Err-old_directory_of-clause-sound
+returns-in-Err-old_directory_of-clause-sound g c = λ is.
+    absurd (old_unread_fails g.S.Source c.in-Err-old_directory_of.status c.args.world.capture c.old_directory_of.new.source c.in-Err-old_directory_of.ensures is)
+
+pub returns-in-Ok-takes_over-clause-sound : goal.returns-in-Ok-takes_over-clause-sound
+returns-in-Ok-takes_over-clause-sound g c = λ is.
+    let m = c.migrate-station in
+    let done = migrated m.result.1 (sym c.status_of-status.ensures ∙ is) in
+    record {
+      directory = c.in-Ok.ensures.cause.sound;
+      capture = c.in-Ok-old_directory_of.ensures.cause.sound;
+      disk = on_ok m.result.1 done m.ensures.sound;
+      say = says_nothing m.result.1 done m.ensures.say;
+    }

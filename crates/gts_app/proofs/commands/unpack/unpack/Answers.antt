@@ -1,25 +1,26 @@
-use Rattle.std.proofs.Common.{◌≡◌, ◌<◌, ◌≤◌, Ok, length, refl, sym, ap, subst, arith}
+use Rattle.std.proofs.Common.{◌≡◌, ◌<◌, ◌≤◌, Ok, length, refl, sym, ap, subst, arith, ◌∙◌}
 use Rattle.gts_directory.specs.Directory as directories
-use Rattle.gts_app.specs.Cited.{Opens, ReadsDirectory, directory_of_bytes}
-use Rattle.gts_app.proofs.UnpackLemmas.{unpacks, unaccepted, unopened, no-circuit}
+use Rattle.gts_app.specs.Cited.{IsUnfailedFile, Opens, ReadsDirectory, directory_of_bytes}
+use Rattle.gts_app.proofs.UnpackLemmas.{unpacks, unaccepted, unopened, no-circuit, done-is}
+use Rattle.gts_app.proofs.SoundLemmas.{unread, unopened as unopened_fails}
 use Rattle.gts_app.proofs.commands.unpack.unpack.Goals as goal
 
-pub returns-in-Err : goal.returns-in-Err
-returns-in-Err g c =
+pub returns-in-Err-clause-unpacks : goal.returns-in-Err-clause-unpacks
+returns-in-Err-clause-unpacks g c =
     let od = c.args.world.directory in
     let nd = c.directory_of.new.source in
     unaccepted g.S.Source g.P.Station c.args.c c.in-Err.status od nd c.args.world.capture c.args.world.station
     (subst (λ r. ReadsDirectory g.S.Source r od nd) c.in-Err.is c.directory_of.ensures)
 
-pub returns-then-circuits-c : goal.returns-then-circuits-c
-returns-then-circuits-c g c =
+pub returns-then-circuits-c-clause-unpacks : goal.returns-then-circuits-c-clause-unpacks
+returns-then-circuits-c-clause-unpacks g c =
     let od = c.args.world.directory in
     let nd = c.directory_of.new.source in
     no-circuit g.S.Source g.P.Station c.args.c c.in-Ok.directory od nd c.args.world.capture c.args.world.station
     (subst (λ r. ReadsDirectory g.S.Source r od nd) c.in-Ok.is c.directory_of.ensures) (omega (arith, c.circuits.ensures.value, c.if-circuits-c.true))
 
-pub returns-in-Err-open_journal : goal.returns-in-Err-open_journal
-returns-in-Err-open_journal g c =
+pub returns-in-Err-open_journal-clause-unpacks : goal.returns-in-Err-open_journal-clause-unpacks
+returns-in-Err-open_journal-clause-unpacks g c =
     let r = c.in-Err-open_journal.field-0 in
     let od = c.args.world.directory in
     let nd = c.directory_of.new.source in
@@ -29,8 +30,8 @@ returns-in-Err-open_journal g c =
     c.open_journal.result c.in-Err-open_journal.is (c.open_journal.ensures.opens od nd read)
     (omega (arith, c.circuits.ensures.value, c.if-circuits-c.false)) (λ observed. read.read observed d refl)
 
-pub returns : goal.returns
-returns g c =
+pub returns-clause-unpacks : goal.returns-clause-unpacks
+returns-clause-unpacks g c =
     let od = c.args.world.directory in
     let nd = c.directory_of.new.source in
     let d : directories.Directory = c.in-Ok.directory in
@@ -47,3 +48,24 @@ returns g c =
     (λ observed. subst (λ (x : directories.Directory). directory_of_bytes (g.S.Source.left od) ≡ Ok x) (sym same) (read.read observed d refl))
     c.unpack-end.ensures.cause c.used-used.ensures.files
     )
+
+pub returns-in-Err-clause-sound : goal.returns-in-Err-clause-sound
+returns-in-Err-clause-sound g c = λ is. absurd (unread g.S.Source c.in-Err.status c.args.world.directory c.directory_of.new.source c.in-Err.ensures is)
+
+pub returns-in-Err-open_journal-clause-sound : goal.returns-in-Err-open_journal-clause-sound
+returns-in-Err-open_journal-clause-sound g c = λ is.
+    let r = c.in-Err-open_journal.field-0 in
+    absurd (unopened_fails g.S.Source g.P.Station r.status c.args.world.directory c.directory_of.new.source c.args.world.station r.station
+    (c.in-Err-open_journal.ensures.opens c.args.world.directory c.directory_of.new.source c.in-Ok.ensures) is)
+
+pub returns-clause-sound : goal.returns-clause-sound
+returns-clause-sound g c = λ is.
+    let opened = (c.in-Ok-open_journal.ensures.opens c.args.world.directory c.directory_of.new.source c.in-Ok.ensures).kept c.in-Ok-open_journal.engine refl in
+    let done = done-is c.unpack-end.result.0 (sym c.status_of-status.ensures ∙ is) in
+    let still = c.unpack-end.ensures.cause.sound (subst IsUnfailedFile (sym done) tt) in
+    record {
+      directory = c.in-Ok.ensures.cause.sound;
+      capture = still.2;
+      disk = ap g.P.Station.disk_faults c.into_parts-station.ensures.station ∙ still.0 ∙ opened.0;
+      say = ap g.P.Station.say_faults c.into_parts-station.ensures.station ∙ still.1 ∙ opened.1;
+    }

@@ -1,5 +1,5 @@
-use Rattle.std.proofs.Common.{◌≡◌, ◌++◌, Bool, List, length, sym, ap, subst, ◌∙◌, arith}
-use Rattle.gts_circuits.specs.Cited.{Frame, HasTaken, count_of, frames_by, frames_of}
+use Rattle.std.proofs.Common.{◌≡◌, ◌++◌, Bool, true, List, length, sym, ap, subst, ◌∙◌, arith}
+use Rattle.gts_circuits.specs.Cited.{Engine, Frame, HasTaken, count_of, frames_by, frames_of}
 use Rattle.gts_circuits.proofs.TakingLemmas.{count_frames, count_more, one_behind}
 use Rattle.gts_circuits.proofs.hall.taking.take_behind.Goals as goal
 
@@ -17,9 +17,16 @@ loop-gave-preserved g c =
           let has : List Frame → Bool → Type 0 = λ l b. HasTaken g.P.Station.observed g.P.Station.calls g.P.Station.disk_faults g.P.Station.say_faults g.B.Began.beginning h c.args.c l b new in
           let before = subst (λ (b : Bool). HasTaken g.P.Station.observed g.P.Station.calls g.P.Station.disk_faults g.P.Station.say_faults g.B.Began.beginning h c.args.c frames b c.loop-gave.housed.engine) c.loop-gave-test.true (i.taken h start) in
           let after = one_behind g.P.Station.observed g.P.Station.calls g.P.Station.disk_faults g.P.Station.say_faults g.B.Began.beginning h c.args.c frames c.in-Some.outcome c.take_behind.new.out c.loop-gave.housed.engine new
-          before c.in-Some.ensures.called c.in-Some.ensures.gathered c.in-Some.ensures.frame c.take_behind.ensures.cause.0 c.take_behind.ensures.cause.1 (c.take_behind.ensures.silent before.silent) in
+          before c.in-Some.ensures.called c.in-Some.ensures.gathered c.in-Some.ensures.frame c.take_behind.ensures.sound.0 c.take_behind.ensures.sound.1 (c.take_behind.ensures.silent before.silent) in
           subst (λ (l : List Frame). has l c.keep-gave.result) (sym are) (subst (λ (b : Bool). has (frames ++ frames_by c.in-Some.outcome c.take_behind.new.out) b) (sym c.keep-gave.ensures.gave) after);
       few = omega (arith, count, places, c.count.ensures, c.if-count-most.true);
       directory = c.in-Some.ensures.called.directory ∙ i.directory;
       mode = i.mode;
     }
+
+pub returns-in_default-clause-taken : goal.returns-in_default-clause-taken
+returns-in_default-clause-taken g c = λ h start.
+    let frames : List Frame = frames_of c.loop-gave.given.frames in
+    let has : Bool → Engine _ → Type 0 = λ b e. HasTaken g.P.Station.observed g.P.Station.calls g.P.Station.disk_faults g.P.Station.say_faults g.B.Began.beginning h c.args.c frames b e in
+    let before = subst (λ (b : Bool). has b c.loop-gave.housed.engine) c.loop-gave-test.true (c.loop-gave.invariant.taken h start) in
+    subst (λ (e : Engine _). has true e) (sym c.in_default.ensures.none) before

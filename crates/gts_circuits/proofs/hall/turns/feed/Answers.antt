@@ -5,8 +5,8 @@ use Rattle.gts_circuits.proofs.TurningLemmas.{feeds}
 use Rattle.gts_circuits.proofs.FeedingLemmas.{N, fed_more, feeds_spent, short_settled}
 use Rattle.gts_circuits.proofs.hall.turns.feed.Goals as goal
 
-pub leave_fed-requires : goal.leave_fed-requires
-leave_fed-requires g c κs within =
+pub leave-requires : goal.leave-requires
+leave-requires g c =
     let b = g.B.Began.beginning in
     let meanings = N (λ (h : _). h.engine) (λ (h : _). h.makes_room) g.P.Station.observed g.P.Station.calls g.P.Station.disk_faults g.P.Station.say_faults b in
     let h = c.in-Ok.turn.pass.seen in
@@ -31,21 +31,21 @@ leave_fed-requires g c κs within =
     c.settle_behind-fed.new.switch c.feed_behind-fed.result.end stood goes c.value-2.ensures.value c.settle_behind-fed.ensures.settles in
     let K : _ → Type 0 = λ w. (more : List Entry) × AddsFor g.P.Station.observed g.P.Station.calls g.P.Station.disk_faults g.P.Station.say_faults b f h w.engine more × (w.makes_room ≡ b.makes_room) in
     let all = subst K (sym c.value-3.ensures.value) done in
-    (within.0, (within.1, ((all.0, all.1), all.2)))
+    record { value = (all.0, all.1, all.1.stands); mode = all.2 }
 
 pub returns-clause-added : goal.returns-clause-added
 returns-clause-added g c = λ before reads.
     let b = g.B.Began.beginning in
     let h = c.in-Ok.turn.pass.seen in
     let t = c.in-Ok.ensures.same in
-    let p = c.leave_fed.ensures.pass in
+    let p = c.leave.ensures.pass in
     let message : List ℕ = c.feed_behind-fed.new.decoder.message in
     let R : Known (List Entry) → Type 0 = λ k. k.own ≡ entries_under k.name h in
     let same = subst R t c.in-Ok.ensures.accounts.0 in
-    let A : Known (List Entry) → Type 0 = λ k. c.leave_fed.result ≡ after_adding k p.0 in
+    let A : Known (List Entry) → Type 0 = λ k. c.leave.result ≡ after_adding k p.0 in
     let is = subst A t p.2 in
-    subst (λ (es : List Event). Feeds c.args.c es message c.settle_behind-fed.result.end (seen_by b c.args.pass) (seen_by b c.leave_fed.result)) (sym (p.1.are before reads))
-    (feeds g.P.Station.observed g.P.Station.calls g.P.Station.disk_faults g.P.Station.say_faults b c.args.pass c.leave_fed.result h c.value-3.result.now.engine c.in-Ok.ensures.later c.requires.1.1.1.1.0 same
+    subst (λ (es : List Event). Feeds c.args.c es message c.settle_behind-fed.result.end (seen_by b c.args.pass) (seen_by b c.leave.result)) (sym (p.1.are before reads))
+    (feeds g.P.Station.observed g.P.Station.calls g.P.Station.disk_faults g.P.Station.say_faults b c.args.pass c.leave.result h c.value-3.result.now.engine c.in-Ok.ensures.later c.requires.1.1.1.1.0 same
     c.args.c p.1.events message c.settle_behind-fed.result.end p.0 p.1.added is p.1.stands)
 
 pub returns-clause-takes : goal.returns-clause-takes

@@ -1,13 +1,18 @@
-use Rattle.std.proofs.Common.{take}
+use Rattle.std.proofs.Common.{List, take}
+use Rattle.gts_circuits.specs.Cited.{AddsFor, Entry, Feeding}
 use Rattle.gts_circuits.proofs.hall.turns.feed.Given as goal
 
-abbrev pub ghost-leave_fed : goal.ghost-leave_fed
-ghost-leave_fed g a = record {
-  c = a.c;
-  begun = take a.begun a.piece.now;
-  step = a.step;
-  start = g.start;
-  taken = take a.fed.taken a.piece.now;
-  message = a.decoder.now.message;
-  end = a.fed.end;
+abbrev pub ghosts-leave : goal.ghosts-leave
+ghosts-leave g a = record {
+  fact = λ (more : List Entry).
+      let fed : Feeding = record {
+        c = a._done.now.0;
+        begun = take a._done.now.3 a._done.now.2.now;
+        step = a._done.now.4;
+        start = g.start;
+        taken = take a._done.now.5.taken a._done.now.2.now;
+        message = a._done.now.1.now.message;
+        end = a._done.now.5.end;
+      } in
+      AddsFor g.P.Station.observed g.P.Station.calls g.P.Station.disk_faults g.P.Station.say_faults g.B.Began.beginning fed a.turn.pass.seen a.turn.value.engine more;
 }

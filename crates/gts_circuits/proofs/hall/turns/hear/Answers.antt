@@ -3,17 +3,19 @@ use Rattle.gts_circuits.specs.Cited.{Directory, Engine, Entry, Heard, Known, Say
 use Rattle.gts_circuits.proofs.TurningLemmas.{answers}
 use Rattle.gts_circuits.proofs.hall.turns.hear.Goals as goal
 
-pub leave_heard-requires : goal.leave_heard-requires
-leave_heard-requires g c κs within =
+pub leave-requires-clause-value : goal.leave-requires-clause-value
+leave-requires-clause-value g c =
     let h = c.in-Ok.turn.pass.seen in
     let S : Engine _ → Type 0 = λ e. Stands g.P.Station.observed g.P.Station.calls g.P.Station.disk_faults g.P.Station.say_faults g.B.Began.beginning (all_of (entries h)) e in
     let stands = subst S (ap (λ (v : _). v.engine) (sym c.value.ensures.value)) c.in-Ok.ensures.value.0 in
     let adds = c.hear-answer.ensures.adds (all_of (entries h)) stands in
-    let mode = c.hear-answer.ensures.mode ∙ ap (λ (v : _). v.makes_room) c.value.ensures.value ∙ c.in-Ok.ensures.value.1 in
     let A : Engine _ → Type 0 = λ e. Stands g.P.Station.observed g.P.Station.calls g.P.Station.disk_faults g.P.Station.say_faults g.B.Began.beginning
     (all_of (entries h) ++ entry_by (Heard c.args.c c.args.kind c.args.message.now) c.hear-answer.result ∷ []) e in
-    let same = sym c.value-2.ensures.value in
-    (within.0, (within.1, (refl, (subst A (ap (λ (v : _). v.engine) same) adds.stands, ap (λ (v : _). v.makes_room) c.value-2.ensures.value ∙ mode))))
+    (entry_by (Heard c.args.c c.args.kind c.args.message.now) c.hear-answer.result ∷ [], refl, subst A (ap (λ (v : _). v.engine) (sym c.value-2.ensures.value)) adds.stands)
+
+pub leave-requires-clause-mode : goal.leave-requires-clause-mode
+leave-requires-clause-mode g c =
+    ap (λ (v : _). v.makes_room) c.value-2.ensures.value ∙ c.hear-answer.ensures.mode ∙ ap (λ (v : _). v.makes_room) c.value.ensures.value ∙ c.in-Ok.ensures.value.1
 
 pub returns-clause-answers : goal.returns-clause-answers
 returns-clause-answers g c =
@@ -24,10 +26,11 @@ returns-clause-answers g c =
     let t = c.in-Ok.ensures.same in
     let R : Known (List Entry) → Type 0 = λ k. k.own ≡ entries_under k.name h in
     let same = subst R t c.in-Ok.ensures.accounts.0 in
-    let A : Known (List Entry) → Type 0 = λ k. c.leave_heard.result ≡ after_adding k (entry_by (Heard c.args.c c.args.kind c.args.message.now) c.hear-answer.result ∷ []) in
-    let is = subst A t c.leave_heard.ensures.pass in
+    let p = c.leave.ensures.pass in
+    let A : Known (List Entry) → Type 0 = λ k. c.leave.result ≡ after_adding k (entry_by (Heard c.args.c c.args.kind c.args.message.now) c.hear-answer.result ∷ []) in
+    let is = subst A t (p.2 ∙ ap (λ (es : List Entry). after_adding c.in-Ok.turn.pass es) p.1) in
     answers g.P.Station.observed g.P.Station.calls g.P.Station.disk_faults g.P.Station.say_faults g.B.Began.beginning
-    c.args.pass c.leave_heard.result h c.hear-answer.new.self.engine c.in-Ok.ensures.later c.requires.own same (Heard c.args.c c.args.kind c.args.message.now) SaysNoMore c.hear-answer.result adds is
+    c.args.pass c.leave.result h c.hear-answer.new.self.engine c.in-Ok.ensures.later c.requires.own same (Heard c.args.c c.args.kind c.args.message.now) SaysNoMore c.hear-answer.result adds is
 
 pub hear-answer-requires-clause-circuit : goal.hear-answer-requires-clause-circuit
 hear-answer-requires-clause-circuit g c =

@@ -1,5 +1,6 @@
-use Rattle.gts_circuits.specs.Cited.{Heard, entry_by}
+use Rattle.std.proofs.Common.{◌≡◌, List, [], ◌∷◌}
+use Rattle.gts_circuits.specs.Cited.{Entry, Heard, entry_by}
 use Rattle.gts_circuits.proofs.hall.turns.hear.Given as goal
 
-abbrev pub ghost-leave_heard : goal.ghost-leave_heard
-ghost-leave_heard g a = entry_by (Heard a.c a.kind a.message.now) a.answer
+abbrev pub ghosts-leave : goal.ghosts-leave
+ghosts-leave g a = record { fact = λ (more : List Entry). more ≡ entry_by (Heard a._done.now.0 a._done.now.1 a._done.now.2.now) a._done.now.3 ∷ [] }

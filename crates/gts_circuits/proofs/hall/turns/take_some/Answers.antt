@@ -3,25 +3,29 @@ use Rattle.gts_circuits.specs.Cited.{Directory, Engine, Entry, Known, Stands, af
 use Rattle.gts_circuits.proofs.TurningLemmas.{takes_some}
 use Rattle.gts_circuits.proofs.hall.turns.take_some.Goals as goal
 
-pub leave_taken-requires : goal.leave_taken-requires
-leave_taken-requires g c κs within =
+pub leave-requires-clause-value : goal.leave-requires-clause-value
+leave-requires-clause-value g c =
     let h = c.in-Ok.turn.pass.seen in
     let S : Engine _ → Type 0 = λ e. Stands g.P.Station.observed g.P.Station.calls g.P.Station.disk_faults g.P.Station.say_faults g.B.Began.beginning (all_of (entries h)) e in
     let stands = subst S (ap (λ (v : _). v.engine) (sym c.value.ensures.value)) c.in-Ok.ensures.value.0 in
-    let mode = c.take_some-answer.ensures.mode ∙ ap (λ (v : _). v.makes_room) c.value.ensures.value ∙ c.in-Ok.ensures.value.1 in
-    (within.0, (within.1, (c.take_some-answer.ensures.left (all_of (entries h)) stands, mode)))
+    let left = c.take_some-answer.ensures.left (all_of (entries h)) stands in
+    (left.0, left.1, left.1.stands)
+
+pub leave-requires-clause-mode : goal.leave-requires-clause-mode
+leave-requires-clause-mode g c =
+    c.take_some-answer.ensures.mode ∙ ap (λ (v : _). v.makes_room) c.value.ensures.value ∙ c.in-Ok.ensures.value.1
 
 pub returns-clause-taken : goal.returns-clause-taken
 returns-clause-taken g c =
     let b = g.B.Began.beginning in
     let h = c.in-Ok.turn.pass.seen in
     let t = c.in-Ok.ensures.same in
-    let p = c.leave_taken.ensures.pass in
+    let p = c.leave.ensures.pass in
     let R : Known (List Entry) → Type 0 = λ k. k.own ≡ entries_under k.name h in
     let same = subst R t c.in-Ok.ensures.accounts.0 in
-    let A : Known (List Entry) → Type 0 = λ k. c.leave_taken.result ≡ after_adding k p.0 in
+    let A : Known (List Entry) → Type 0 = λ k. c.leave.result ≡ after_adding k p.0 in
     let is = subst A t p.2 in
-    takes_some g.P.Station.observed g.P.Station.calls g.P.Station.disk_faults g.P.Station.say_faults b c.args.pass c.leave_taken.result h c.take_some-answer.new.housed.engine c.in-Ok.ensures.later
+    takes_some g.P.Station.observed g.P.Station.calls g.P.Station.disk_faults g.P.Station.say_faults b c.args.pass c.leave.result h c.take_some-answer.new.housed.engine c.in-Ok.ensures.later
     c.requires.own same c.args.c (frames_of c.take_some-answer.new.given.frames) c.take_some-answer.result p.0 p.1.added is p.1.stands
 
 pub take_some-answer-requires : goal.take_some-answer-requires

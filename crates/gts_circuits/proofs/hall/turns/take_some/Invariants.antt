@@ -1,5 +1,10 @@
-use Rattle.gts_calls.specs.Given.{frames_of}
+use Rattle.std.proofs.Common.{List}
+use Rattle.gts_circuits.specs.Cited.{Entry, LeavesTaken, all_of, entries, frames_of}
 use Rattle.gts_circuits.proofs.hall.turns.take_some.Given as goal
 
-abbrev pub ghost-leave_taken : goal.ghost-leave_taken
-ghost-leave_taken g a = record { c = a.c; frames = frames_of a.given.now.frames; result = a.answer }
+abbrev pub ghosts-leave : goal.ghosts-leave
+ghosts-leave g a = record {
+  fact = λ (more : List Entry).
+      LeavesTaken g.P.Station.observed g.P.Station.calls g.P.Station.disk_faults g.P.Station.say_faults g.B.Began.beginning (all_of (entries a.turn.pass.seen))
+      a._done.now.0 (frames_of a._done.now.1.now.frames) a._done.now.2 a.turn.value.engine more;
+}

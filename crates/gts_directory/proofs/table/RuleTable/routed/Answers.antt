@@ -5,8 +5,8 @@ use Rattle.gts_directory.proofs.CellLemmas.{fits_are, joined-more, joined-nowher
 use Rattle.gts_directory.proofs.table.RuleTable.routed.Goals as goal
 use Rattle.gts_directory.proofs.table.RuleTable.routed.Goals.{then-fits-ne0, else-fits-ne0}
 
-pub joined-mask-requires : goal.joined-mask-requires
-joined-mask-requires c =
+pub joined-requires : goal.joined-requires
+joined-requires c =
     let rows : List RuleRow = c.self.inside.rows.items in
     let h = fields_of c.args.heading.now in
     let fits =
@@ -24,7 +24,7 @@ loop-number-preserved c k =
     c.cells_of-cells.ensures.characters c.cells_of-cells.ensures.inside c.loop-number-test.true c.fitting-fits.ensures in
     elim c.if-fits-ne0.branch [
       | then-fits-ne0 w ↦
-          rw w.mask-is (joined-more rows _ h c.loop-number.mask c.fitting-fits.result _ c.loop-number.number k
-          (rw w.deref.ensures.value (take_rest rows (64 * c.loop-number.number))) fits (c.loop-number.invariant k) (w.joined-mask.ensures k))
-      | else-fits-ne0 w ↦ rw w.mask-is (joined-nowhere rows h c.loop-number.mask c.fitting-fits.result c.loop-number.number k w.if-fits-ne0.false fits (c.loop-number.invariant k))
+          rw (w.set-is, w.union-set.ensures) (joined-more rows _ h c.loop-number.set c.fitting-fits.result _ c.loop-number.number k
+          (rw w.deref.ensures.value (take_rest rows (64 * c.loop-number.number))) fits (c.loop-number.invariant k) (w.joined.ensures k))
+      | else-fits-ne0 w ↦ rw w.set-is (joined-nowhere rows h c.loop-number.set c.fitting-fits.result c.loop-number.number k w.if-fits-ne0.false fits (c.loop-number.invariant k))
     ]

@@ -1,6 +1,6 @@
 use Rattle.std.proofs.Common.{rules, ◌≡◌, Ok, subst}
 use Rattle.std.proofs.lemmas.Result.{IfOk-at_ok}
-use Rattle.gts_engine.specs.Cited.{Engine, Holds, IsSizeAt, State, engine_of, need}
+use Rattle.gts_engine.specs.Cited.{Engine, Holds, IsSizeAt, State, need}
 use Rattle.gts_core.specs.Cited.{NeedsExtent}
 use Rattle.gts_engine.proofs.engine.Engine.checkpoint_size.Goals as goal
 

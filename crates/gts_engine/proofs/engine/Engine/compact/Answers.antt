@@ -3,7 +3,7 @@ use Rattle.gts_engine.specs.Cited.{Device, Engine, GivesRoom, Holds, IsIdleFault
 use Rattle.gts_engine.proofs.CallLemmas.{never_settled, then_stopped, nothing_failed}
 use Rattle.std.proofs.lemmas.Result.{err_from_is_err_and}
 use Rattle.gts_engine.proofs.FirstLemmas.{compacts_settled, compacts_unsettled}
-use Rattle.gts_engine.proofs.AnsweringLemmas.{cause_then}
+use Rattle.gts_engine.proofs.AnsweringLemmas.{cause_then, no_device_done}
 use Rattle.gts_engine.proofs.engine.Engine.compact.Goals as goal
 
 pub compact_settled-requires : goal.compact_settled-requires
@@ -18,7 +18,7 @@ pub returns-clause-compaction : goal.returns-clause-compaction
 returns-clause-compaction g c = compacts_settled g.P.Station.observed g.P.Station.calls c.args.self.now c.settle.new.self c.settle.result c.settle.ensures.settles.settling c.compact_settled.result c.compact_settled.new.self c.compact_settled.ensures.compaction
 
 pub returns-clause-cause : goal.returns-clause-cause
-returns-clause-cause g c = cause_then c.settle.result c.compact_settled.result _ _ _ _ _ _ c.settle.ensures.cause c.compact_settled.ensures.cause
+returns-clause-cause g c = cause_then c.settle.result c.compact_settled.result _ _ _ _ _ _ (no_device_done c.settle.result tt c.in_ok-settle.was) c.settle.ensures.cause c.compact_settled.ensures.cause
 
 pub returns-in_err-settle-clause-stopped : goal.returns-in_err-settle-clause-stopped
 returns-in_err-settle-clause-stopped g c = never_settled _ c.args.self.now.stopped c.settle.result c.in_err-settle.field-0.0 _ c.in_err-settle.was c.settle.ensures.stopped

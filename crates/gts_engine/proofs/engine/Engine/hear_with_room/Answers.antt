@@ -2,7 +2,7 @@ use Rattle.std.proofs.Common.{◌<◌, length, sym, subst}
 use Rattle.std.proofs.lemmas.Result.{err_from_is_err_and}
 use Rattle.gts_engine.specs.Cited.{Directory, Heard, Station}
 use Rattle.gts_engine.proofs.FirstLemmas.{heard_settled, heard_unsettled}
-use Rattle.gts_engine.proofs.AnsweringLemmas.{cause_then}
+use Rattle.gts_engine.proofs.AnsweringLemmas.{cause_then, no_device_done}
 use Rattle.gts_engine.proofs.engine.Engine.hear_with_room.Goals as goal
 
 pub hear_with_room_settled-requires-clause-circuit : goal.hear_with_room_settled-requires-clause-circuit
@@ -21,4 +21,4 @@ returns-clause-called g c = λ mode.
     heard_settled g.P.Station.observed g.P.Station.calls c.args.self.now c.settle.new.self c.settle.result c.settle.ensures.settles.settling mode (Heard c.args.c c.args.kind c.args.message.now) c.hear_with_room_settled.result c.hear_with_room_settled.new.self (c.hear_with_room_settled.ensures.called mode)
 
 pub returns-clause-cause : goal.returns-clause-cause
-returns-clause-cause g c = cause_then c.settle.result c.hear_with_room_settled.result _ _ _ _ _ _ c.settle.ensures.cause c.hear_with_room_settled.ensures.cause
+returns-clause-cause g c = cause_then c.settle.result c.hear_with_room_settled.result _ _ _ _ _ _ (no_device_done c.settle.result tt c.in_ok-settle.was) c.settle.ensures.cause c.hear_with_room_settled.ensures.cause

@@ -1,6 +1,7 @@
 use Rattle.std.proofs.Common.{◌≡◌, Err, ap, ◌∙◌}
 use Rattle.std.proofs.lemmas.Result.{err_from_is_err_and}
 use Rattle.gts_engine.specs.Cited.{IsDeviceFault, SayFault, Taken}
+use Rattle.gts_engine.proofs.AnsweringLemmas.{no_device_done}
 use Rattle.gts_engine.proofs.CallLemmas.{fails_first, fails_behind, done_behind, stops_behind, stops_done, cause_behind, cause_done, never_stopped, device_active, of_fault}
 use Rattle.gts_engine.proofs.engine.Engine.take.Goals as goal
 
@@ -28,10 +29,10 @@ returns-clause-stops g c = stops_done c.args.self.now.stopped c.gather_take.new.
 pub returns-in_err-settle-clause-cause : goal.returns-in_err-settle-clause-cause
 returns-in_err-settle-clause-cause g c =
     let p = err_from_is_err_and c.from_residual-in_err-settle.result c.from_residual-in_err-settle.ensures.1 in
-    rw (p.1, p.2) (cause_behind c.gather_take.result c.settle.result _ _ _ _ _ _ c.gather_take.ensures.cause c.settle.ensures.cause c.in_err-settle.field-0.0 c.in_err-settle.was)
+    rw (p.1, p.2) (cause_behind c.gather_take.result c.settle.result _ _ _ _ _ _ c.gather_take.ensures.cause c.settle.ensures.cause (no_device_done c.gather_take.result c.in_ok-outcome.outcome c.in_ok-outcome.was) c.in_err-settle.field-0.0 c.in_err-settle.was)
 
 pub returns-clause-cause : goal.returns-clause-cause
-returns-clause-cause g c = cause_done c.gather_take.result c.settle.result _ _ _ _ _ _ c.gather_take.ensures.cause c.settle.ensures.cause c.in_ok-outcome.outcome c.in_ok-settle.was
+returns-clause-cause g c = cause_done c.gather_take.result c.settle.result _ _ _ _ _ _ c.gather_take.ensures.cause c.settle.ensures.cause (no_device_done c.gather_take.result c.in_ok-outcome.outcome c.in_ok-outcome.was) c.in_ok-outcome.outcome c.in_ok-settle.was
 
 pub returns-in_err-settle-clause-stopped : goal.returns-in_err-settle-clause-stopped
 returns-in_err-settle-clause-stopped g c = never_stopped _ c.args.self.now.stopped c.gather_take.result c.in_ok-outcome.outcome _ c.in_ok-outcome.was c.gather_take.ensures.stopped

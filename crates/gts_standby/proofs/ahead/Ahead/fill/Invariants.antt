@@ -1,4 +1,4 @@
-use Rattle.std.proofs.Common.{◌≤◌, ℕ, cond, List, ◌+◌, ◌-◌, length}
+use Rattle.std.proofs.Common.{◌≡◌, ℕ, cond, List, ◌+◌, ◌-◌, length}
 use Rattle.gts_standby.specs.Reading.{HasRead}
 use Rattle.gts_standby.proofs.ahead.Ahead.fill.Given as goal
 
@@ -6,7 +6,7 @@ use Rattle.gts_standby.proofs.ahead.Ahead.fill.Given as goal
 abbrev pub invariant-loop-self : goal.invariant-loop-self
 invariant-loop-self g l = record {
   kept : g.S.Source.observed → (fed : List ℕ) → HasRead fed l.fn.self (g.S.Source.left l.fn.source) → HasRead fed l.self (g.S.Source.left l.source);
-  later : g.S.Source.faults l.fn.source ≤ g.S.Source.faults l.source;
+  sound : g.S.Source.faults l.source ≡ g.S.Source.faults l.fn.source;
 }
 
 abbrev pub decreases-loop-self : goal.decreases-loop-self
